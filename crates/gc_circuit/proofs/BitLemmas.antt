@@ -1,0 +1,90 @@
+-- Bits on the wires.
+use Rattle.std.proofs.Common.{◌≡◌, ◌≢◌, ℕ, zero, suc, ◌+◌, ◌-◌, ◌<◌, ◌≤◌, ◌&&◌, sum, length-append, List, [], ◌∷◌, length, map, set, take, drop, get_or, slice_get, slice_index_or, Some, None, not, refl, sym, ap, ◌∙◌, arith, Bool, true, false, replicate, ◌++◌}
+use Rattle.std.specs.List.{range_with_len}
+use Rattle.gc_circuit.specs.declared.circuit.Operation.{Operation}
+use Rattle.gc_circuit.specs.declared.circuit.Operation.TheVariants.{Xor, And, Inv, Eqw, Eq}
+use Rattle.gc_circuit.specs.declared.circuit.Gate.{Gate}
+use Rattle.gc_circuit.specs.Circuit.{Netlist, input_wires, EachRead, IsSetBefore, IsLawful}
+use Rattle.gc_circuit.specs.Solution.{IsLocal, values_after}
+use Rattle.gc_circuit.specs.Meaning.{bit_of, bit_rule, bits_of, xor}
+use Rattle.gc_circuit.proofs.SolutionLemmas.{EachRead-map}
+use Rattle.gc_circuit.proofs.Tables.{read-table, table_more, after-zero, EachRead-below}
+use Rattle.std.specs.List.{flat_map}
+use Rattle.std.proofs.lemmas.List.FromFn.{fill_by_all}
+use Rattle.std.proofs.lemmas.List.Concat.{length-flat_map}
+use Rattle.std.proofs.lemmas.List.Sums.{sum-map}
+use Rattle.std.proofs.lemmas.List.{take_more}
+use Rattle.std.proofs.lemmas.List.FromFn.{length-map-range_with_len}
+use Rattle.std.proofs.lemmas.Grind.{common_steps}
+
+pub bit_of_local : (u v : ℕ → Bool) (op : Operation) → EachRead (λ w. u w ≡ v w) op → bit_of u op ≡ bit_of v op
+bit_of_local u v (Xor a b) h = ap (λ x. xor x (u b)) h.0 ∙ ap (xor (v a)) h.1
+bit_of_local u v (And a b) h = ap (λ x. x && u b) h.0 ∙ ap (λ x. v a && x) h.1
+bit_of_local u v (Inv a) h = ap not h
+bit_of_local u v (Eqw a) h = h
+bit_of_local u v (Eq b) h = refl
+
+pub bit_local : IsLocal bit_rule
+bit_local u v i g h = bit_of_local u v g.operation h
+
+-- what the operation gives from a table
+pub bit_of-table : (f : ℕ → Bool) (n : ℕ) (op : Operation) → EachRead (λ w. w < n) op →
+    bit_of (bits_of (map f (range_with_len 0 n))) op ≡ bit_of f op
+bit_of-table f n op h =
+    bit_of_local (bits_of (map f (range_with_len 0 n))) f op
+    (EachRead-map (λ w. w < n) (λ w. bits_of (map f (range_with_len 0 n)) w ≡ f w) op (λ w below. read-table f n w false below) h)
+
+-- one more gate of the evaluation
+pub bits_more : (c : Netlist) (x : ℕ → Bool) (bits : List Bool) (i : ℕ) (g : Gate) (b : Bool) → IsLawful c →
+    bits ≡ map (values_after bit_rule c x i) (range_with_len 0 c.wires) → slice_get c.gates i ≡ Some g → b ≡ bit_of (bits_of bits) g.operation →
+    set bits g.set b ≡ map (values_after bit_rule c x (i + 1)) (range_with_len 0 c.wires)
+bits_more c x bits i g b lawful is at bit =
+    ap (λ l. set l g.set b) is
+    ∙ ap (set (map (values_after bit_rule c x i) (range_with_len 0 c.wires)) g.set)
+    (bit ∙ ap (λ l. bit_of (bits_of l) g.operation) is ∙ bit_of-table (values_after bit_rule c x i) c.wires g.operation (EachRead-below c lawful i g at))
+    ∙ table_more bit_rule c x lawful i g at
+
+false_past : (k w : ℕ) → get_or (replicate k false) w false ≡ false
+false_past zero w = refl
+false_past (suc k) zero = refl
+false_past (suc k) (suc w) = false_past k w
+
+padded : (x : List Bool) (k w : ℕ) → get_or (x ++ replicate k false) w false ≡ get_or x w false
+padded [] k w = false_past k w
+padded (b ∷ x) k zero = refl
+padded (b ∷ x) k (suc w) = padded x k w
+
+-- the start of the evaluation
+pub bits_start : (c : Netlist) (x bits : List Bool) → length x ≤ c.wires → bits ≡ x ++ replicate (c.wires - length x) false →
+    bits ≡ map (values_after bit_rule c (bits_of x) 0) (range_with_len 0 c.wires)
+bits_start c x bits fits is =
+    fill_by_all (bits_of x) bits c.wires false (ap length is ∙ grind (arith, common_steps)) (λ k below. ap (λ l. get_or l k false) is ∙ padded x (c.wires - length x) k)
+    ∙ ap (λ f. map f (range_with_len 0 c.wires)) (sym (after-zero bit_rule c (bits_of x)))
+
+-- how long the values are together, where they have these widths
+pub length-joined : {X : Type 0} (f : X → List Bool) (xs : List X) (widths : List ℕ) → map length (map f xs) ≡ widths → length (flat_map f xs) ≡ sum widths
+length-joined {X = X} f xs widths h = length-flat_map f xs ∙ sym (sum-map (λ x. length (f x)) xs) ∙ ap sum (sym (map-map xs) ∙ h)
+  where
+    map-map : (ys : List X) → map length (map f ys) ≡ map (λ x. length (f x)) ys
+    map-map [] = refl
+    map-map (y ∷ ys) = ap (λ l. length (f y) ∷ l) (map-map ys)
+
+-- one more value of the right width
+pub widths_more : {X : Type 0} (f : X → List Bool) (xs : List X) (widths : List ℕ) (i : ℕ) (x : X) → i < length xs → i < length widths → get_or xs i x ≡ x →
+    length (f x) ≡ get_or widths i 0 → map length (map f (take i xs)) ≡ take i widths → map length (map f (take (i + 1) xs)) ≡ take (i + 1) widths
+widths_more {X = X} f xs widths i x in_xs in_widths at same before =
+    rw (take_more xs i x in_xs, take_more widths i 0 in_widths, at)
+    (map-more (take i xs) ∙ ap (λ l. l ++ length (f x) ∷ []) before ∙ ap (λ n. take i widths ++ n ∷ []) same)
+  where
+    map-more : (ys : List X) → map length (map f (ys ++ x ∷ [])) ≡ map length (map f ys) ++ length (f x) ∷ []
+    map-more [] = refl
+    map-more (y ∷ ys) = ap (λ l. length (f y) ∷ l) (map-more ys)
+
+-- the width of one value
+pub width_at : {X : Type 0} (f : X → List Bool) (xs : List X) (widths : List ℕ) (i : ℕ) (x : X) → map length (map f xs) ≡ widths → i < length xs → get_or xs i x ≡ x → length (f x) ≡ get_or widths i 0
+width_at {X = X} f xs widths i x h within at = at_place xs i within at ∙ ap (λ l. get_or l i 0) h
+  where
+    at_place : (ys : List X) (k : ℕ) → k < length ys → get_or ys k x ≡ x → length (f x) ≡ get_or (map length (map f ys)) k 0
+    at_place [] k below e = absurd (omega arith)
+    at_place (y ∷ ys) zero below e = ap (λ z. length (f z)) (sym e)
+    at_place (y ∷ ys) (suc k) below e = at_place ys k (omega arith) e

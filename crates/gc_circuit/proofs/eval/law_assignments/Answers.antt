@@ -1,0 +1,11 @@
+use Rattle.gc_circuit.specs.Solution.{solution}
+use Rattle.gc_circuit.specs.Meaning.{bit_rule}
+use Rattle.gc_circuit.proofs.SolutionLemmas.{agree, solution_solves}
+use Rattle.gc_circuit.proofs.BitLemmas.{bit_local}
+use Rattle.gc_circuit.proofs.eval.law_assignments.Goals as goal
+
+pub returns : goal.returns
+returns c = λ n lawful x. record {
+  one = (solution bit_rule n x, solution_solves bit_rule bit_local n lawful x);
+  no_other = agree bit_rule bit_local n lawful x;
+}

@@ -1,0 +1,123 @@
+ghost use Rattle.std.specs.Prelude.{◌≡◌, ◌<◌, length, slice_get, Some};
+ghost use Rattle.gc_circuit.specs.Circuit.{is_and, and_count, input_wires, output_wires, IsLawful};
+
+use std::alloc::{Allocator, Global};
+use std::marker::Model;
+
+/// What a gate computes, and the wires that it reads. The names are those of the Bristol Fashion page.
+#[derive(Clone, Copy, PartialEq, Eq, Debug)]
+pub enum Operation {
+    /// The exclusive or of two wires.
+    Xor(u32, u32),
+    /// The conjunction of two wires.
+    And(u32, u32),
+    /// The negation of a wire.
+    Inv(u32),
+    /// A constant. It reads no wire.
+    Eq(bool),
+    /// A copy of a wire.
+    Eqw(u32),
+}
+
+impl Operation {
+    /// Whether the operation is AND.
+    pub fn is_and(self) -> bool
+        ensures { result ≡ is_and self }
+    {
+        matches!(self, Operation::And(_, _))
+    }
+}
+
+/// A gate: what it computes, and the wire that it sets.
+#[derive(Clone, Copy, PartialEq, Eq, Debug)]
+pub struct Gate {
+    pub operation: Operation,
+    pub set: u32,
+}
+
+/// A lawful circuit: within the limits, each gate reads only input wires and wires that gates before it
+/// set, each wire is set once at the most, and each output wire is an input wire or set by a gate.
+///
+/// The first wires are those of input value 0, then of value 1, and so on; the last wires are those of the
+/// output values in order.
+#[derive(Drop)]
+pub struct Circuit<A: Allocator = Global> {
+    wires: u32,
+    input_wires: u32,
+    output_wires: u32,
+    and_count: u32,
+    input_widths: Vec<u32, A>,
+    output_widths: Vec<u32, A>,
+    gates: Vec<Gate, A>,
+}
+
+impl<A: Allocator> Model for Circuit<A> {
+    ghost use Rattle.gc_circuit.specs.Circuit.{Netlist, IsLawful, IsSummary};
+
+    ghost Value = { Netlist };
+
+    ghost view = { λ c. record { wires = c.wires; input_widths = c.input_widths.items; output_widths = c.output_widths.items; gates = c.gates.items } };
+
+    ghost invariant = { λ c. IsSummary (record { wires = c.wires; input_widths = c.input_widths.items; output_widths = c.output_widths.items; gates = c.gates.items }) c.input_wires c.output_wires c.and_count };
+}
+
+impl<A: Allocator> Circuit<A> {
+    /// How many gates the circuit has.
+    pub fn gates(&self) -> u32
+        ensures count { result ≡ length self.now.gates }
+        ensures lawful { IsLawful self.now }
+    {
+        self.gates.len() as u32
+    }
+
+    /// How many wires the circuit has.
+    pub fn wires(&self) -> u32
+        ensures count { result ≡ self.now.wires }
+        ensures lawful { IsLawful self.now }
+    {
+        self.wires
+    }
+
+    /// How many of the gates are AND gates.
+    pub fn and_count(&self) -> u32
+        ensures { result ≡ and_count self.now }
+    {
+        self.and_count
+    }
+
+    /// The number of wires of each input value, in order.
+    pub fn input_widths(&self) -> &[u32]
+        ensures { result.now ≡ self.now.input_widths }
+    {
+        &self.input_widths
+    }
+
+    /// The number of wires of each output value, in order.
+    pub fn output_widths(&self) -> &[u32]
+        ensures { result.now ≡ self.now.output_widths }
+    {
+        &self.output_widths
+    }
+
+    /// How many input wires the circuit has: the sum of the input widths.
+    pub fn input_wires(&self) -> u32
+        ensures { result ≡ input_wires self.now }
+    {
+        self.input_wires
+    }
+
+    /// How many output wires the circuit has: the sum of the output widths.
+    pub fn output_wires(&self) -> u32
+        ensures { result ≡ output_wires self.now }
+    {
+        self.output_wires
+    }
+
+    /// The gate at place i of the file, counted from 0. That there is one is the caller's condition.
+    pub fn gate(&self, i: u32) -> Gate
+        requires { i < length self.now.gates }
+        ensures { slice_get self.now.gates i ≡ Some result }
+    {
+        self.gates[i as usize]
+    }
+}
