@@ -3,10 +3,12 @@
 
 mod circuit;
 mod eval;
+mod fault;
 mod limits;
 mod memory;
 
 pub use circuit::{Circuit, Gate, Operation};
 pub use eval::{fits, law_assignments, plain_eval};
+pub use fault::ReadFault;
 pub use limits::{MAX_GATES, MAX_VALUES, MAX_WIRES};
 pub use memory::Memory;
