@@ -1,6 +1,7 @@
-ghost use Rattle.std.specs.Prelude.{◌≡◌, ◌<◌, length, slice_get, Some};
+ghost use Rattle.std.specs.Prelude.{◌≡◌, ◌<◌, ◌↔◌, length, slice_get, Some, IsTrue, IfOk};
 ghost use Rattle.gc_circuit.specs.Circuit.{is_and, and_count, input_wires, output_wires, IsLawful};
 
+use crate::memory::Memory;
 use std::alloc::{Allocator, Global};
 use std::marker::Model;
 
@@ -120,4 +121,40 @@ impl<A: Allocator> Circuit<A> {
     {
         self.gates[i as usize]
     }
+    /// Whether both circuits have the same wires, widths and gates.
+    pub fn equals<B: Allocator>(&self, other: &Circuit<B>) -> bool
+        ensures { IsTrue result ↔ (self.now ≡ other.now) }
+    {
+        let wires = self.wires == other.wires;
+        let inputs = same_widths(&self.input_widths, &other.input_widths);
+        let outputs = same_widths(&self.output_widths, &other.output_widths);
+        wires && inputs && outputs && same_gates(&self.gates, &other.gates)
+    }
+
+    /// An equal circuit in memory of its own.
+    pub fn try_clone<B: Allocator + Copy>(&self, alloc: B) -> Result<Circuit<B>, Memory>
+        ensures { IfOk result (λ c. c ≡ self.now) }
+    {
+        Ok(Circuit {
+            wires: self.wires,
+            input_wires: self.input_wires,
+            output_wires: self.output_wires,
+            and_count: self.and_count,
+            input_widths: Vec::from_slice(alloc, &self.input_widths)?,
+            output_widths: Vec::from_slice(alloc, &self.output_widths)?,
+            gates: Vec::from_slice(alloc, &self.gates)?,
+        })
+    }
+}
+
+fn same_widths(left: &[u32], right: &[u32]) -> bool
+    ensures { IsTrue result ↔ (left.now ≡ right.now) }
+{
+    left == right
+}
+
+fn same_gates(left: &[Gate], right: &[Gate]) -> bool
+    ensures { IsTrue result ↔ (left.now ≡ right.now) }
+{
+    left == right
 }
