@@ -8,5 +8,5 @@ use Rattle.gc_label.specs.Label.{◌⊕◌, colour, times, label_of_bytes, bytes
 pub colour-bit_or : (label : ℕ) → IsTrue (colour (bit_or label (2 ^ 120)))
 colour-bit_or label =
     let one : bit_at (bit_or label (2 ^ 120)) 120 ≡ 1 =
-        omega (arith, bit_at_or label (2 ^ 120) 120, bit_at-pow_same 120, bit_at-lt label 120) in
+    omega (arith, bit_at_or label (2 ^ 120) 120, bit_at-pow_same 120, bit_at-lt label 120) in
     ap (λ b. nat_eq b 1) one
