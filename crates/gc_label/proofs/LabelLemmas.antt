@@ -43,7 +43,8 @@ value_after : ℕ → List ℕ → ℕ
 value_after n [] = n
 value_after n (b ∷ bytes) = value_after (n * 256 + b) bytes
 
-byte_at_is : (k n : ℕ) → byte_at k n ≡ n / 256 ^ k % 256
+-- byte k of a number, the lowest being byte 0
+pub byte_at_is : (k n : ℕ) → byte_at k n ≡ n / 256 ^ k % 256
 byte_at_is zero n = omega arith
 byte_at_is (suc k) n = refl
 
