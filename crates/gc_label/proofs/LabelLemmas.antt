@@ -1,14 +1,12 @@
 -- Laws of labels, for the crates above.
-use Rattle.std.proofs.Common.{◌≡◌, ℕ, zero, suc, ◌+◌, ◌*◌, ◌/◌, ◌%◌, ◌^◌, ◌<◌, IsTrue, Bool, true, false, bit_or, nat_eq, List, [], ◌∷◌, length, get_or, map, ap, ◌∙◌, sym, refl, arith}
-use Rattle.std.specs.Int.{w128, bit_at, byte_at, bytes_high_first, to_be_bytes, from_be_bytes}
+use Rattle.std.proofs.Common.{◌≡◌, ℕ, zero, suc, ◌+◌, ◌*◌, ◌/◌, ◌%◌, ◌^◌, ◌<◌, IsTrue, bit_or, nat_eq, List, [], ◌∷◌, length, get_or, map, ap, ◌∙◌, sym, refl, arith}
+use Rattle.std.specs.Int.{bit_at, byte_at, bytes_high_first}
 use Rattle.std.specs.List.{range_with_len}
 use Rattle.std.proofs.Math.Bool.{xor}
 use Rattle.std.proofs.Math.Nat.{div-div-eq-div-mul, pow-suc}
-use Rattle.std.proofs.lemmas.Nat.{xor_lt, pow_pos}
 use Rattle.std.proofs.lemmas.Nat.Bits.{bit_at_or, bit_at_xor, bit_at-pow_same, bit_at-lt}
-use Rattle.std.proofs.lemmas.Bool.Decides.{nat_tests}
 use Rattle.std.proofs.lemmas.List.FromFn.{fill_by_all}
-use Rattle.gc_label.specs.Label.{◌⊕◌, colour, times, label_of_bytes, bytes_of_label}
+use Rattle.gc_label.specs.Label.{◌⊕◌, colour, label_of_bytes, bytes_of_label}
 
 -- ---- the colour
 
@@ -16,7 +14,7 @@ use Rattle.gc_label.specs.Label.{◌⊕◌, colour, times, label_of_bytes, bytes
 pub colour-bit_or : (label : ℕ) → IsTrue (colour (bit_or label (2 ^ 120)))
 colour-bit_or label =
     let one : bit_at (bit_or label (2 ^ 120)) 120 ≡ 1 =
-        omega (arith, bit_at_or label (2 ^ 120) 120, bit_at-pow_same 120, bit_at-lt label 120) in
+    omega (arith, bit_at_or label (2 ^ 120) 120, bit_at-pow_same 120, bit_at-lt label 120) in
     ap (λ b. nat_eq b 1) one
 
 -- the lowest bit of the sum of two bits
@@ -54,7 +52,7 @@ unfolding value_after
 value_after-bytes_high_first zero n = omega arith
 value_after-bytes_high_first (suc k) n =
     let shorter : n / 256 ^ suc k ≡ n / 256 ^ k / 256 =
-        ap (λ p. n / p) (pow-suc 256 k) ∙ sym (div-div-eq-div-mul n (256 ^ k) 256) in
+    ap (λ p. n / p) (pow-suc 256 k) ∙ sym (div-div-eq-div-mul n (256 ^ k) 256) in
     let step : n / 256 ^ suc k * 256 + byte_at k n ≡ n / 256 ^ k = omega (arith, shorter, byte_at_is k n) in
     ap (λ m. value_after m (bytes_high_first k n)) step ∙ value_after-bytes_high_first k n
 
@@ -77,7 +75,7 @@ bytes_high_first-value_after n [] small = refl
 bytes_high_first-value_after n (b ∷ bytes) small =
     let first : b < 256 = small 0 in
     let digit : byte_at (length bytes) (value_after (n * 256 + b) bytes) ≡ b =
-        omega (arith, byte_at_is (length bytes) (value_after (n * 256 + b) bytes), value_after-div (n * 256 + b) bytes (λ i. small (suc i))) in
+    omega (arith, byte_at_is (length bytes) (value_after (n * 256 + b) bytes), value_after-div (n * 256 + b) bytes (λ i. small (suc i))) in
     rw (digit, bytes_high_first-value_after (n * 256 + b) bytes (λ i. small (suc i))) refl
 
 -- a label is the number that its 16 bytes spell to base 256

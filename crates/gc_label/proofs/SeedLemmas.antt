@@ -1,9 +1,9 @@
 -- Laws of the offset and of the input labels of a seed, for the crates above.
-use Rattle.std.proofs.Common.{◌≡◌, ℕ, zero, suc, ◌+◌, ◌^◌, ◌<◌, Bool, true, List, [], ◌∷◌, ◌++◌, get_or, refl, arith}
-use Rattle.std.specs.Int.{w32, byte_at, bytes_low_first, to_le_bytes}
+use Rattle.std.proofs.Common.{◌≡◌, ℕ, zero, suc, ◌^◌, ◌<◌, true, List, [], ◌∷◌, ◌++◌, get_or, refl, arith}
+use Rattle.std.specs.Int.{w32, bytes_low_first, to_le_bytes}
 use Rattle.std.proofs.lemmas.Nat.{or_lt}
 use Rattle.gc_label.specs.Label.{colour}
-use Rattle.gc_label.specs.Seed.{label_of_words, label_at, word, offset_of, input_label_of}
+use Rattle.gc_label.specs.Seed.{label_of_words, label_at, offset_of, input_label_of}
 use Rattle.gc_label.proofs.LabelLemmas.{colour-bit_or, label_of_bytes-lt, byte_at_is}
 
 -- the colour of an offset is 1
