@@ -124,7 +124,7 @@ one_misnamed (a ∷ []) name us rest e len s bad = absurd (omega arith)
 one_misnamed (a ∷ w ∷ []) name us rest e len s bad = one_told a w name us rest s ∙ ap (λ r. r >>= (λ (op : Operation). Ok (record { operation = op; set = w }, rest))) (bad a)
 one_misnamed (a ∷ b ∷ w ∷ more) name us rest e len s bad = absurd (omega arith)
 
--- Names that aren't those of an operation with these counts.
+-- A name that no operation has.
 differs : (a b : List ℕ) → (a ≡ b → ⊥) → bytes_eq a b ≡ false
 differs a b h = go (bytes_eq a b) refl
   where

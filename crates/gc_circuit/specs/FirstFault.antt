@@ -17,10 +17,11 @@ use Rattle.gc_circuit.specs.Reading.{circuit_of}
 abbrev pub without_outputs : Netlist → Netlist
 without_outputs c = record c { output_widths = [] }
 
--- c is the beginning of a circuit of n gates: but for outputs that are still to be set, its gates so far are a lawful circuit.
+-- c is the beginning of a circuit of n gates.
 pub record IsBegun (n : ℕ) (c : Netlist) : Type 0 where
   pub few_gates : n ≤ MAX_GATES
   pub so_far : length c.gates ≤ n
+  -- Its gates so far are a lawful circuit, but for outputs that are still to be set.
   pub lawful : IsLawful (without_outputs c)
   pub few_outputs : length c.output_widths ≤ MAX_VALUES
   pub outputs_fit : output_wires c ≤ c.wires
@@ -29,7 +30,7 @@ pub record IsBegun (n : ℕ) (c : Netlist) : Type 0 where
 abbrev pub words_so_far : ℕ → Netlist → List Word
 words_so_far n c = Number n ∷ Number c.wires ∷ (words_of_widths c.input_widths ++ words_of_widths c.output_widths ++ flat_map words_of_gate c.gates)
 
--- After these words, which are in order, the values of a side are due: the inputs first, and then the outputs.
+-- After these words, which are in order, the values of a side are due: after the two sizes the inputs, and after these the outputs.
 pub data SideDue (wires : ℕ) : List Word → Type 0 where
   input_side : (n : ℕ) → n ≤ MAX_GATES → wires ≤ MAX_WIRES → SideDue wires (Number n ∷ Number wires ∷ [])
   output_side : (n : ℕ) (widths : List ℕ) → n ≤ MAX_GATES → wires ≤ MAX_WIRES → length widths ≤ MAX_VALUES → sum widths ≤ wires → SideDue wires (Number n ∷ Number wires ∷ words_of_widths widths)
@@ -44,7 +45,7 @@ pub data LimitedDue : List Word → ℕ → Type 0 where
   number_of_wires : (n : ℕ) → n ≤ MAX_GATES → LimitedDue (Number n ∷ []) MAX_WIRES
   number_of_values : (wires : ℕ) (words : List Word) → SideDue wires words → LimitedDue words MAX_VALUES
 
--- The first count of a gate, which is the number of words before the wire that it sets.
+-- The first count of a gate: so many numbers stand between the two counts and the wire that it sets.
 abbrev pub IsCount : ℕ → Type 0
 IsCount r = (r ≡ 1) ⊎ (r ≡ 2)
 
@@ -84,6 +85,7 @@ abbrev pub IsFirstUnset : Netlist → List ℕ → ℕ → Type 0
 IsFirstUnset c [] w = ⊥
 IsFirstUnset c (a ∷ more) w = ((a ≡ w) × (IsSet c a → ⊥)) ⊎ (IsSet c a × IsFirstUnset c more w)
 
+-- The tokens are in order up to some place, and this is the fault there.
 pub data FirstFault (ts : List (List ℕ)) : ReadFault → Type 0 where
   -- The text ends where a number is due, or a name.
   no_number : (words : List Word) → NumberDue words → SpellWords ts words [] → FirstFault ts Truncated
@@ -107,12 +109,12 @@ pub data FirstFault (ts : List (List ℕ)) : ReadFault → Type 0 where
   -- The constant of an EQ gate is neither 0 nor 1.
   bad_constant : (c : Netlist) (words : List Word) (v w : ℕ) (rest : List (List ℕ)) → GateDue c words →
       SpellWords ts (words ++ Number 1 ∷ Number 1 ∷ Number v ∷ Number w ∷ Name (codes "EQ") ∷ []) rest → 1 < v → FirstFault ts BadConstant
-  -- The first wire that a gate reads and that isn't set is no wire, or is one.
+  -- A gate reads a wire that isn't set, and the first such wire isn't below the number of wires, or is.
   no_wire_to_read : (c : Netlist) (words : List Word) (g : Gate) (w : ℕ) (rest : List (List ℕ)) → GateDue c words → SpellWords ts (words ++ words_of_gate g) rest →
       IsFirstUnset c (wires_read g.operation) w → c.wires ≤ w → FirstFault ts NoSuchWire
   unset : (c : Netlist) (words : List Word) (g : Gate) (w : ℕ) (rest : List (List ℕ)) → GateDue c words → SpellWords ts (words ++ words_of_gate g) rest →
       IsFirstUnset c (wires_read g.operation) w → w < c.wires → FirstFault ts Unset
-  -- All wires that a gate reads are set, and the wire that it sets is no wire, or is set already.
+  -- All wires that a gate reads are set, and the wire that it sets isn't below the number of wires, or is set already.
   no_wire_to_set : (c : Netlist) (words : List Word) (g : Gate) (rest : List (List ℕ)) → GateDue c words → SpellWords ts (words ++ words_of_gate g) rest →
       EachRead (IsSet c) g.operation → c.wires ≤ g.set → FirstFault ts NoSuchWire
   set_twice : (c : Netlist) (words : List Word) (g : Gate) (rest : List (List ℕ)) → GateDue c words → SpellWords ts (words ++ words_of_gate g) rest →
@@ -120,14 +122,15 @@ pub data FirstFault (ts : List (List ℕ)) : ReadFault → Type 0 where
   -- All gates are in order, and an output wire isn't set.
   output_unset : (c : Netlist) (w : ℕ) (rest : List (List ℕ)) → IsBegun (length c.gates) c → SpellWords ts (words_of_circuit c) rest →
       c.wires ≤ w + output_wires c → w < c.wires → (IsSet c w → ⊥) → FirstFault ts OutputUnset
-  -- A token is left after a lawful circuit.
+  -- A token is left after the words of a lawful circuit.
   trailing : (c : Netlist) (token : List ℕ) (rest : List (List ℕ)) → IsLawful c → SpellWords ts (words_of_circuit c) (token ∷ rest) → FirstFault ts TrailingTokens
 
--- Each text spells one lawful circuit or has one first fault, and reading tells which.
+-- Each text spells one lawful circuit or has one first fault.
 pub record ReadingLaw (text : List ℕ) : Type 0 where
   pub either : ((c : Netlist) × IsLawful c × Spells text c) ⊎ ((e : ReadFault) × FirstFault (tokens text) e)
   pub not_both : (c : Netlist) (e : ReadFault) → IsLawful c → Spells text c → FirstFault (tokens text) e → ⊥
   pub one_circuit : (c d : Netlist) → IsLawful c → Spells text c → IsLawful d → Spells text d → c ≡ d
   pub one_fault : (e f : ReadFault) → FirstFault (tokens text) e → FirstFault (tokens text) f → e ≡ f
+  -- Reading from left to right tells that circuit or that fault.
   pub reads : (c : Netlist) → circuit_of (tokens text) ≡ Ok c ↔ IsLawful c × Spells text c
   pub faults : (e : ReadFault) → circuit_of (tokens text) ≡ Err e ↔ FirstFault (tokens text) e
