@@ -4,11 +4,13 @@
 mod circuit;
 mod eval;
 mod fault;
+mod laws;
 mod limits;
 mod memory;
 
 pub use circuit::{Circuit, Gate, Operation};
 pub use eval::{fits, law_assignments, plain_eval};
 pub use fault::ReadFault;
+pub use laws::law_reading;
 pub use limits::{MAX_GATES, MAX_VALUES, MAX_WIRES};
 pub use memory::Memory;
