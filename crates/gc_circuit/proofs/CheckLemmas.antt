@@ -10,9 +10,8 @@ use Rattle.gc_circuit.specs.declared.fault.ReadFault.{ReadFault}
 use Rattle.gc_circuit.specs.declared.fault.ReadFault.TheVariants.{NoSuchWire, Unset, SetTwice}
 use Rattle.gc_circuit.specs.declared.circuit.Gate.{Gate}
 use Rattle.gc_circuit.specs.declared.circuit.Operation.{Operation}
-use Rattle.gc_circuit.specs.declared.circuit.Operation.TheVariants.{Xor, And, Inv}
-use Rattle.gc_circuit.specs.Reading.{◌>>=◌, gate_at}
-use Rattle.gc_circuit.specs.Reading.{is_set, check_read, check_set, check_reads, check_gate, gates_at}
+use Rattle.gc_circuit.specs.declared.circuit.Operation.TheVariants.{Xor, And, Inv, Eq, Eqw}
+use Rattle.gc_circuit.specs.Reading.{◌>>=◌, gate_at, is_set, check_read, check_set, check_reads, check_gate, gates_at}
 
 module _ (n : ℕ) (s t : ℕ → Bool) (same : (w : ℕ) → w < n → s w ≡ t w) where
   read_same : (w : ℕ) → check_read n s w ≡ check_read n t w
@@ -42,6 +41,8 @@ module _ (n : ℕ) (s t : ℕ → Bool) (same : (w : ℕ) → w < n → s w ≡ 
   reads_same (Xor a b) = rw (read_same a, read_same b) refl
   reads_same (And a b) = rw (read_same a, read_same b) refl
   reads_same (Inv a) = read_same a
+  reads_same (Eq v) = refl
+  reads_same (Eqw a) = read_same a
 
   pub check_same : (g : Gate) → check_gate n s g ≡ check_gate n t g
   unfolding check_gate

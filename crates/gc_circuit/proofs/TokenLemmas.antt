@@ -1,12 +1,15 @@
 -- The tokens of a text, one after another.
-use Rattle.std.proofs.Common.{◌≡◌, ◌≢◌, ℕ, zero, suc, ◌+◌, ◌-◌, ◌*◌, ◌<◌, ◌≤◌, ◌++◌, List, [], ◌∷◌, length, filter, take, drop, get_or, slice_index, Bool, true, false, refl, sym, ap, ◌∙◌, subst, arith, All, cond}
+use Rattle.std.proofs.Common.{◌≡◌, ◌≢◌, ℕ, zero, suc, ◌+◌, ◌-◌, ◌*◌, ◌<◌, ◌≤◌, ◌==◌, ◌++◌, Result, Ok, Err, List, [], ◌∷◌, length, filter, take, drop, get_or, slice_index, Bool, true, false, refl, sym, ap, ◌∙◌, subst, arith, All, cond}
 use Rattle.std.specs.List.{slice_split}
+use Rattle.std.proofs.lemmas.Bool.Decides.{nat_tests}
 use Rattle.std.proofs.lemmas.Grind.{common_steps}
-use Rattle.std.proofs.Common.{append-nil, take-append-drop, drop-cons}
+use Rattle.std.proofs.Common.{append-nil, take-append-drop, drop-cons, append_assoc}
 use Rattle.std.proofs.lemmas.List.{take_more}
 use Rattle.std.proofs.lemmas.List.Elements.{All-push}
 use Rattle.std.proofs.lemmas.List.Splits.{slice_split-cons_yes, slice_split_none, slice_split_at}
+use Rattle.gc_circuit.specs.declared.fault.ReadFault.TheVariants.{TrailingTokens}
 use Rattle.gc_circuit.specs.Text.{is_blank, is_some_run, tokens}
+use Rattle.gc_circuit.specs.Reading.{check_end}
 
 -- a blank in front
 pub tokens-blank : (b : ℕ) (text : List ℕ) → is_blank b ≡ true → tokens (b ∷ text) ≡ tokens text
@@ -17,6 +20,7 @@ pub tokens-nil : tokens [] ≡ []
 unfolding tokens
 tokens-nil = refl
 
+-- no byte is a blank
 abbrev pub NoBlank : List ℕ → Type 0
 NoBlank = All (λ b. is_blank b ≡ false)
 
@@ -57,25 +61,70 @@ blank_passed text i within blank before =
 pub run_more : (text : List ℕ) (i : ℕ) → i < length text → NoBlank (take i text) → is_blank (get_or text i 0) ≡ false → NoBlank (take (i + 1) text)
 run_more text i within before here = rw (take_more text i 0 within) (All-push (λ b. is_blank b ≡ false) (take i text) (get_or text i 0) before here)
 
--- the next token
-pub next_some : (text from token rest : List ℕ) (now : List (List ℕ)) (start len : ℕ) → tokens text ≡ now → tokens (drop start text) ≡ tokens text → from ≡ drop start text →
-    len ≤ length from → NoBlank (take len from) → (len < length from → is_blank (slice_index from len) ≡ true) → token ≡ take len from → rest ≡ drop len from → len ≢ 0 →
-    now ≡ token ∷ tokens rest
-next_some text from token rest now start len seen same at fits none ends first others some =
-    sym seen ∙ sym same ∙ ap tokens (sym at) ∙ tokens_take len from (omega arith) fits none ends ∙ rw (first, others) refl
+-- Whatever comes after these bytes, the first token begins with them.
+pub record Begins (front rest : List ℕ) : Type 0 where
+  pub more : List ℕ
+  pub later : List (List ℕ)
+  pub is : tokens (front ++ rest) ≡ (front ++ more) ∷ later
 
-empty_from : (from : List ℕ) → (0 < length from → is_blank (slice_index from 0) ≡ true) → (0 < length from → is_blank (slice_index from 0) ≡ false) → from ≡ []
-empty_from [] h k = refl
-empty_from (b ∷ bs) h k = let one : 0 < length (b ∷ bs) = omega arith in let x = h one in let y = k one in absurd (let z : ⊥ = cc in z)
+begins_more : (front : List ℕ) (y : ℕ) (ys : List ℕ) (b : Bool) → 0 < length front → NoBlank front → is_blank y ≡ b →
+    (is_blank y ≡ false → Begins (front ++ y ∷ []) ys) → Begins front (y ∷ ys)
+begins_more front y ys true some none h longer = record {
+  more = [];
+  later = tokens (y ∷ ys);
+  is = tokens_join front (y ∷ ys) some none (λ z zs e. let same : y ≡ z = cc in ap is_blank (sym same) ∙ h) ∙ ap (λ l. l ∷ tokens (y ∷ ys)) (sym (append-nil front));
+}
+begins_more front y ys false some none h longer =
+    let b = longer h in
+    record {
+      more = y ∷ b.more;
+      later = b.later;
+      is = ap tokens (sym (append_assoc front (y ∷ []) ys)) ∙ b.is ∙ ap (λ l. l ∷ b.later) (append_assoc front (y ∷ []) b.more);
+    }
 
--- no token is left
-pub next_none : (text from rest : List ℕ) (now : List (List ℕ)) (start len : ℕ) → tokens text ≡ now → tokens (drop start text) ≡ tokens text → from ≡ drop start text → start ≤ length text →
-    (start < length text → is_blank (slice_index text start) ≡ false) → (len < length from → is_blank (slice_index from len) ≡ true) → rest ≡ drop len from → len ≡ 0 →
-    (now ≡ []) × (tokens rest ≡ [])
-next_none text from rest now start len seen same at within head ends others none =
-    let first : 0 < length from → is_blank (slice_index from 0) ≡ true = λ h. (let e = ends (omega arith) in let k = ap (λ i. is_blank (slice_index from i)) none in cc) in
-    let second : 0 < length from → is_blank (slice_index from 0) ≡ false =
-    λ h. (let e : start < length text = grind (arith, common_steps, ap length at) in
-    let k : slice_index from 0 ≡ slice_index text start = grind (arith, common_steps, at) in ap is_blank k ∙ head e) in
-    let empty : from ≡ [] = empty_from from first second in
-    (sym seen ∙ sym same ∙ ap tokens (sym at ∙ empty) ∙ tokens-nil, ap tokens (others ∙ ap (drop len) empty ∙ ap (λ k. drop k []) none) ∙ tokens-nil)
+pub tokens_begin : (front rest : List ℕ) → 0 < length front → NoBlank front → Begins front rest
+tokens_begin front [] some none = record {
+  more = [];
+  later = [];
+  is = tokens_join front [] some none (λ y ys e. absurd (let z : ⊥ = cc in z)) ∙ ap (λ l. l ∷ tokens []) (sym (append-nil front)) ∙ ap (λ ts. (front ++ []) ∷ ts) tokens-nil;
+}
+tokens_begin front (y ∷ ys) some none =
+    begins_more front y ys (is_blank y) some none refl
+    (λ h. tokens_begin (front ++ y ∷ []) ys (grind (arith, common_steps)) (All-push (λ b. is_blank b ≡ false) front y none h))
+
+-- whether there are bytes, by the test of their number
+pub empty_is_nil : (text : List ℕ) → (length text == 0) ≡ true → text ≡ []
+empty_is_nil [] h = refl
+empty_is_nil (b ∷ t) h = absurd (let z : length (b ∷ t) ≡ 0 = grind (arith, nat_tests) in omega (arith, z))
+
+pub some_bytes : (text : List ℕ) (b : Bool) → b ≡ (length text == 0) → b ≡ false → 0 < length text
+some_bytes [] b h empty = absurd (let z : ⊥ = cc in z)
+some_bytes (x ∷ xs) b h empty = omega arith
+
+nil_is_not : (a : Bool) → a ≡ true → a ≡ false → ⊥
+nil_is_not a h k = let z : ⊥ = cc in z
+
+some_run : (text : List ℕ) (n : ℕ) → 0 < length text → (0 < length text → is_blank (slice_index text 0) ≡ false) → (n < length text → is_blank (slice_index text n) ≡ true) → 0 < n
+some_run text zero some begins ends = absurd (nil_is_not (is_blank (slice_index text 0)) (ends some) (begins some))
+some_run text (suc n) some begins ends = omega arith
+
+-- A cursor at rest sees the tokens now, which are those of the text without the blanks in front.
+module _ (rest text : List ℕ) (now : List (List ℕ)) (seen : tokens rest ≡ now) (same : tokens text ≡ tokens rest) where
+  -- no byte, no token
+  pub none_left : (length text == 0) ≡ true → now ≡ []
+  none_left h = sym seen ∙ sym same ∙ ap tokens (empty_is_nil text h) ∙ tokens-nil
+
+  -- the token in front
+  pub one_left : (token after : List ℕ) (n : ℕ) → 0 < length text → (0 < length text → is_blank (slice_index text 0) ≡ false) → n ≤ length text → NoBlank (take n text) →
+      (n < length text → is_blank (slice_index text n) ≡ true) → token ≡ take n text → after ≡ drop n text → now ≡ token ∷ tokens after
+  one_left token after n some begins fits none ends first others =
+      sym seen ∙ sym same ∙ tokens_take n text (some_run text n some begins ends) fits none ends ∙ rw (first, others) refl
+
+starts : (b : ℕ) (t : List ℕ) → is_blank b ≡ false → Begins (b ∷ []) t
+starts b t h = tokens_begin (b ∷ []) t (omega arith) (All-push (λ b. is_blank b ≡ false) [] b (λ k d below. absurd (omega (arith, below))) h)
+
+-- a byte that is no blank is in a token
+pub some_left : (rest text : List ℕ) (now : List (List ℕ)) → tokens rest ≡ now → tokens text ≡ tokens rest → 0 < length text →
+    (0 < length text → is_blank (slice_index text 0) ≡ false) → check_end now ≡ Err TrailingTokens
+some_left rest [] now seen same some begins = absurd (omega (arith, some))
+some_left rest (b ∷ t) now seen same some begins = let h = starts b t (begins some) in ap check_end (sym seen ∙ sym same ∙ h.is)
