@@ -1,9 +1,12 @@
 -- Checking gates against a table of marks.
-use Rattle.std.proofs.Common.{inl, inr, ◌⊎◌, ◌≡◌, ◌≢◌, ℕ, zero, suc, ◌+◌, ◌-◌, ◌<◌, ◌≤◌, ◌||◌, ◌==◌, ◌++◌, List, [], ◌∷◌, Bool, true, false, cond, length, map, set, get_or, slice_index_or, nat_lt, Result, Ok, Err, refl, sym, ap, ◌∙◌, arith}
+use Rattle.std.proofs.Common.{inl, inr, ◌⊎◌, ◌≡◌, ◌≢◌, ℕ, zero, suc, ◌+◌, ◌-◌, ◌<◌, ◌≤◌, ◌||◌, ◌==◌, ◌++◌, List, [], ◌∷◌, Bool, true, false, cond, length, map, set, take, get_or, slice_index_or, replicate, count_by, nat_lt, Result, Ok, Err, refl, sym, ap, ◌∙◌, arith}
+use Rattle.std.specs.Int.{from_bool}
 use Rattle.std.specs.List.{list_any, range_with_len}
 use Rattle.std.proofs.lemmas.Bool.{cases_eq}
 use Rattle.std.proofs.lemmas.Bool.Decides.{nat_tests}
 use Rattle.std.proofs.lemmas.List.{length-set, get_or-set_same, get_or-set_other}
+use Rattle.std.proofs.lemmas.Grind.{common_steps}
+use Rattle.std.proofs.lemmas.List.Sums.{sum_by-append}
 use Rattle.std.proofs.lemmas.List.Folds.{list_any-append}
 use Rattle.std.proofs.lemmas.List.FromFn.{length-map-range_with_len, get_or-map-range_with_len, map-range_with_len_more, fill_by_all}
 use Rattle.gc_circuit.specs.declared.fault.ReadFault.{ReadFault}
@@ -11,6 +14,7 @@ use Rattle.gc_circuit.specs.declared.fault.ReadFault.TheVariants.{NoSuchWire, Un
 use Rattle.gc_circuit.specs.declared.circuit.Gate.{Gate}
 use Rattle.gc_circuit.specs.declared.circuit.Operation.{Operation}
 use Rattle.gc_circuit.specs.declared.circuit.Operation.TheVariants.{Xor, And, Inv, Eq, Eqw}
+use Rattle.gc_circuit.specs.Circuit.{is_and}
 use Rattle.gc_circuit.specs.Reading.{◌>>=◌, gate_at, is_set, check_read, check_set, check_reads, check_gate, gates_at}
 
 module _ (n : ℕ) (s t : ℕ → Bool) (same : (w : ℕ) → w < n → s w ≡ t w) where
@@ -158,13 +162,48 @@ found inputs n before table marks g r same is h = sym (marks_read inputs n befor
 pub marks_len : (inputs n : ℕ) (before : List Gate) (marks : List Bool) → marks ≡ map (is_set inputs before) (range_with_len 0 n) → length marks ≡ n
 marks_len inputs n before marks is = ap length is ∙ length-map-range_with_len (is_set inputs before) 0 n
 
-pub first_more : (inputs w : ℕ) (old new : List Bool) → new ≡ old ++ nat_lt w inputs ∷ [] → old ≡ map (is_set inputs []) (range_with_len 0 w) →
-    new ≡ map (is_set inputs []) (range_with_len 0 (w + 1))
-first_more inputs w old new pushed is =
-    pushed ∙ ap (λ l. l ++ nat_lt w inputs ∷ []) is
-    ∙ ap (λ b. map (is_set inputs []) (range_with_len 0 w) ++ b ∷ []) (or_nothing (nat_lt w inputs))
-    ∙ sym (map-range_with_len_more (is_set inputs []) 0 w w (omega arith))
+start_at : (inputs m k : ℕ) → get_or (replicate inputs true ++ replicate m false) k false ≡ (nat_lt k inputs || false)
+start_at zero m k = none_at m k ∙ ap (λ b. b || false) (let e : false ≡ nat_lt k zero = grind (arith, nat_tests) in e)
   where
-    or_nothing : (b : Bool) → b ≡ (b || false)
-    or_nothing true = refl
-    or_nothing false = refl
+    none_at : (n j : ℕ) → get_or (replicate n false) j false ≡ false
+    none_at zero j = refl
+    none_at (suc n) zero = refl
+    none_at (suc n) (suc j) = none_at n j
+start_at (suc n) m zero = ap (λ b. b || false) (let e : true ≡ nat_lt zero (suc n) = grind (arith, nat_tests) in e)
+start_at (suc n) m (suc k) = start_at n m k ∙ ap (λ b. b || false) (test_same (nat_lt k n) (nat_lt (suc k) (suc n)) refl refl)
+  where
+    test_same : (a b : Bool) → a ≡ nat_lt k n → b ≡ nat_lt (suc k) (suc n) → nat_lt k n ≡ nat_lt (suc k) (suc n)
+    test_same a b h j = grind (arith, nat_tests)
+
+-- the table before any gate, as two fillings of an empty list
+pub start_table : (inputs wires none first_len : ℕ) (empty first second : List Bool) → inputs ≤ wires → empty ≡ [] → none ≡ 0 →
+    first ≡ take inputs empty ++ replicate (inputs - none) true → first_len ≡ inputs →
+    second ≡ take wires first ++ replicate (wires - first_len) false → second ≡ map (is_set inputs []) (range_with_len 0 wires)
+start_table inputs wires none first_len empty first second fits e n is_first len is_second =
+    let first_is : first ≡ replicate inputs true = is_first ∙ rw (e, n) (grind (arith, common_steps)) in
+    is_second ∙ rw (first_is, len) (ap (λ l. l ++ replicate (wires - inputs) false) (whole inputs wires fits) ∙ start_is inputs wires fits)
+  where
+    whole : (m n : ℕ) → m ≤ n → take n (replicate m true) ≡ replicate m true
+    whole m n h = grind (arith, common_steps)
+
+    start_is : (m n : ℕ) → m ≤ n → replicate m true ++ replicate (n - m) false ≡ map (is_set m []) (range_with_len 0 n)
+    start_is m n h =
+        fill_by_all (is_set m []) (replicate m true ++ replicate (n - m) false) n false (grind (arith, common_steps)) (λ k below. start_at m (n - m) k)
+
+byte_of : (b : Bool) → from_bool b ≡ cond b 1 0
+byte_of true = refl
+byte_of false = refl
+
+small_byte : (b : Bool) → from_bool b ≤ 1
+small_byte true = omega arith
+small_byte false = omega arith
+
+-- how many AND gates there are with one gate more
+pub ands_more : (before : List Gate) (g : Gate) (n k : ℕ) → n ≡ count_by (λ x. is_and x.operation) before → (t : Bool) → t ≡ is_and g.operation → k ≡ from_bool t →
+    n + k ≡ count_by (λ x. is_and x.operation) (before ++ g ∷ [])
+ands_more before g n k so_far t is one =
+    let e = ap from_bool is ∙ byte_of (is_and g.operation) in
+    omega (arith, so_far, one, e, sum_by-append (λ (x : Gate). cond (is_and x.operation) 1 0) before (g ∷ []))
+
+pub ands_few : (n i k : ℕ) (t : Bool) → n ≤ i → k ≡ from_bool t → n + k ≤ i + 1
+ands_few n i k t few one = omega (arith, few, one, small_byte t)

@@ -9,7 +9,7 @@ use Rattle.std.proofs.lemmas.Bool.Decides.{nat_tests}
 use Rattle.gc_circuit.specs.declared.fault.ReadFault.{ReadFault}
 use Rattle.gc_circuit.specs.declared.fault.ReadFault.TheVariants.{BadNumber, Truncated}
 use Rattle.gc_circuit.specs.Text.{tokens, is_blank, is_digit, value_of, number_of}
-use Rattle.gc_circuit.specs.Reading.{number_at, numbered}
+use Rattle.gc_circuit.specs.Reading.{number_at, numbered, numbers_at}
 use Rattle.gc_circuit.proofs.TokenLemmas.{NoBlank, Begins, tokens_begin, tokens_take, tokens-nil, some_bytes}
 
 pub value-nil : value_of [] ≡ 0
@@ -88,3 +88,29 @@ pub number_whole : (text : List ℕ) (i value : ℕ) → length text ≡ i → 0
     number_at (tokens text) ≡ Ok (value, tokens (drop (length text) text))
 number_whole text i value whole some digits is small =
     number_read text i value (omega arith) (omega arith) digits is small (λ below. absurd (omega arith)) ∙ ap (λ n. Ok (value, tokens (drop n text))) (sym whole)
+
+numbers_next : (n : ℕ) (before : List ℕ) (ts : List (List ℕ)) (x : ℕ) (rest : List (List ℕ)) → number_at ts ≡ Ok (x, rest) → numbers_at (suc n) before ts ≡ numbers_at n (before ++ x ∷ []) rest
+unfolding numbers_at
+numbers_next n before ts x rest h = rw h refl
+
+numbers_refused : (n : ℕ) (before : List ℕ) (ts : List (List ℕ)) (e : ReadFault) → number_at ts ≡ Err e → numbers_at (suc n) before ts ≡ Err e
+unfolding numbers_at
+numbers_refused n before ts e h = rw h refl
+
+numbers_end : (before : List ℕ) (ts : List (List ℕ)) → numbers_at zero before ts ≡ Ok (before, ts)
+unfolding numbers_at
+numbers_end before ts = refl
+
+-- the turns of a loop, with i numbers read of count
+module _ (count i : ℕ) (before : List ℕ) (ts : List (List ℕ)) (whole : Result (List ℕ × List (List ℕ)) ReadFault) (so_far : numbers_at (count - i) before ts ≡ whole) where
+  left : i < count → count - i ≡ suc (count - (i + 1))
+  left h = omega arith
+
+  pub numbers_go_on : (x : ℕ) (rest : List (List ℕ)) → i < count → number_at ts ≡ Ok (x, rest) → numbers_at (count - (i + 1)) (before ++ x ∷ []) rest ≡ whole
+  numbers_go_on x rest below read = sym (numbers_next (count - (i + 1)) before ts x rest read) ∙ ap (λ n. numbers_at n before ts) (sym (left below)) ∙ so_far
+
+  pub numbers_stop : (e : ReadFault) → i < count → number_at ts ≡ Err e → whole ≡ Err e
+  numbers_stop e below read = sym so_far ∙ ap (λ n. numbers_at n before ts) (left below) ∙ numbers_refused (count - (i + 1)) before ts e read
+
+  pub numbers_done : count ≤ i → whole ≡ Ok (before, ts)
+  numbers_done past = let none : count - i ≡ 0 = omega arith in sym so_far ∙ ap (λ n. numbers_at n before ts) none ∙ numbers_end before ts

@@ -48,6 +48,14 @@ fn read_numbers<A: Allocator>(
     Ok(numbers)
 }
 
+/// The sum of the widths, of which there are not too many.
+fn sum_of(widths: &[u32]) -> u64
+    requires { length widths.now ≤ MAX_VALUES }
+    ensures { result ≡ sum widths.now }
+{
+    widths.iter().map(|width| u64::from(*width)).sum()
+}
+
 /// The widths of the values of one side: how many, each, and then their sum against the wires.
 #[tactic(auto, unfolding(crate::specs::Reading::widths_at))]
 fn read_widths<A: Allocator>(
@@ -61,7 +69,7 @@ fn read_widths<A: Allocator>(
 {
     let count = tokens.number_up_to(MAX_VALUES)?;
     let widths = read_numbers(alloc, tokens, count)?;
-    let sum: u64 = widths.iter().map(|width| u64::from(*width)).sum();
+    let sum = sum_of(&widths);
     if sum <= u64::from(wires) {
         Ok(Widths {
             widths,
@@ -114,13 +122,20 @@ fn read_gates<A: Allocator + Copy>(
     })
 }
 
+/// Whether each of these wires is set.
+fn all_set(is_set: &[bool]) -> bool
+    ensures { result ≡ list_all (λ b. b) is_set.now }
+{
+    is_set.iter().all(|set| *set)
+}
+
 /// Each output wire is set: the last wires, this many.
 fn check_outputs(is_set: &[bool], outputs: u32) -> Result<(), ReadFault>
     requires { outputs ≤ length is_set.now }
     ensures { result ≡ (if list_all (λ b. b) (drop (length is_set.now - outputs) is_set.now) then Ok tt else Err ReadFault.OutputUnset) }
 {
     let (_, last) = is_set.split_at(is_set.len() - outputs as usize);
-    if last.iter().all(|set| *set) {
+    if all_set(last) {
         Ok(())
     } else {
         Err(ReadFault::OutputUnset)
@@ -130,6 +145,7 @@ fn check_outputs(is_set: &[bool], outputs: u32) -> Result<(), ReadFault>
 impl<A: Allocator + Copy> Circuit<A> {
     /// Reads a circuit in Bristol Fashion. The error is the first fault of the text, from left to right;
     /// `Memory` stands in place of a later fault, or of the circuit, only where a growth was refused.
+    #[tactic(auto, unfolding(crate::specs::Reading::circuit_of))]
     pub fn read(alloc: A, text: &[u8]) -> Result<Circuit<A>, ReadFault>
         ensures reading { MatchResult result (λ c. circuit_of (tokens text.now) ≡ Ok c) (λ e. e ≢ ReadFault.Memory → circuit_of (tokens text.now) ≡ Err e) }
         ensures lawful { IfOk result IsLawful }
