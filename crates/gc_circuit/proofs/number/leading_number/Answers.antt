@@ -20,10 +20,11 @@ loop-i-preserved c =
 
 pub returns-then-is_blank : goal.returns-then-is_blank
 returns-then-is_blank c =
-    let blank = sym c.is_blank.ensures ∙ c.if-is_blank.true in
-    (omega arith,
-    number_read c.args.text.now c.loop-i.i c.loop-i.value (blank_later c.args.text.now c.loop-i.i c.loop-i-test.true c.requires blank) (omega arith) c.loop-i.invariant.digits
-    c.loop-i.invariant.value c.loop-i.invariant.small (λ _. blank))
+    let blank = sym c.is_blank.ensures ∙ c.if-is_blank.true in (
+      omega arith,
+      number_read c.args.text.now c.loop-i.i c.loop-i.value (blank_later c.args.text.now c.loop-i.i c.loop-i-test.true c.requires blank) (omega arith) c.loop-i.invariant.digits
+          c.loop-i.invariant.value c.loop-i.invariant.small (λ _. blank),
+    )
 
 pub returns-else-is_blank : goal.returns-else-is_blank
 returns-else-is_blank c =
@@ -47,7 +48,8 @@ pub returns-then-is_empty : goal.returns-then-is_empty
 returns-then-is_empty c = ap (λ t. number_at (tokens t)) (empty_is_nil c.args.text.now (sym c.is_empty.ensures ∙ c.if-is_empty.true)) ∙ number_missing
 
 pub returns : goal.returns
-returns c =
-    (omega arith,
-    number_whole c.args.text.now c.loop-i.i c.loop-i.value (omega arith) (some_bytes c.args.text.now c.is_empty.result c.is_empty.ensures c.if-is_empty.false)
-    c.loop-i.invariant.digits c.loop-i.invariant.value c.loop-i.invariant.small)
+returns c = (
+  omega arith,
+  number_whole c.args.text.now c.loop-i.i c.loop-i.value (omega arith) (some_bytes c.args.text.now c.is_empty.result c.is_empty.ensures c.if-is_empty.false)
+      c.loop-i.invariant.digits c.loop-i.invariant.value c.loop-i.invariant.small,
+)
