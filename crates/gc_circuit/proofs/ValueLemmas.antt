@@ -1,19 +1,20 @@
 -- Bits, digits and bytes of value texts.
-use Rattle.std.proofs.Common.{◌≡◌, ◌≢◌, ℕ, zero, suc, ◌+◌, ◌-◌, ◌*◌, ◌/◌, ◌%◌, ◌^◌, ◌<◌, ◌≤◌, ◌==◌, ◌&&◌, ◌||◌, min, Bool, true, false, not, List, [], ◌∷◌, ◌++◌, length, map, take, get_or, slice_index, is_some, unwrap_or, Option, Some, None, Result, Ok, Err, refl, sym, ap, ◌∙◌, arith, add-zero, zero-add, if◌then◌else◌}
+use Rattle.std.proofs.Common.{◌≡◌, ◌≢◌, ℕ, zero, suc, ◌+◌, ◌-◌, ◌*◌, ◌/◌, ◌%◌, ◌^◌, ◌<◌, ◌≤◌, ◌==◌, ◌&&◌, ◌||◌, ◌⊎◌, inl, inr, min, Bool, true, false, not, List, [], ◌∷◌, ◌++◌, length, map, take, get_or, slice_index, is_some, unwrap_or, Option, Some, None, Result, Ok, Err, refl, sym, ap, ◌∙◌, arith, add-zero, zero-add, if◌then◌else◌}
 use Rattle.std.specs.List.{range_with_len, list_all, list_any}
-use Rattle.std.specs.Int.{bit_at}
+use Rattle.std.specs.Int.{bit_at, trailing_zeros, w8}
+use Rattle.std.proofs.lemmas.Bool.{cases_lt}
 use Rattle.std.proofs.lemmas.Bool.Decides.{nat_tests}
 use Rattle.std.proofs.lemmas.List.{append_assoc, append-nil, get_or_past, length-map, take_all}
 use Rattle.std.proofs.lemmas.List.FromFn.{fill_by_all, get_or-range_with_len, length-range_with_len, map-range_with_len_more}
 use Rattle.std.proofs.lemmas.List.Folds.{list_all_more, list_any_at}
-use Rattle.std.proofs.lemmas.Nat.{pow-add}
+use Rattle.std.proofs.lemmas.Nat.{pow-add, pow_pos}
 use Rattle.std.proofs.lemmas.Nat.Bits.{bit_at_above, bit_at-trailing_zeros}
-use Rattle.std.proofs.Math.Nat.{div-div-eq-div-mul}
+use Rattle.std.proofs.Math.Nat.{div-div-eq-div-mul, div-le_self, lt-div-mul-add}
 use Rattle.hex.specs.Hex.{decode_pairs, decode_sized, digit_or_error, hex_digit_value, is_hex_digit, ◌>>=◌}
 use Rattle.hex.specs.declared.error.FromHexError.{FromHexError}
 use Rattle.gc_circuit.specs.declared.value.ValueFault.{ValueFault}
 use Rattle.gc_circuit.specs.declared.value.ValueFault.TheVariants.{WrongLength, BadDigit, SpareBits}
-use Rattle.gc_circuit.specs.Value.{ValueText, Binary, Hexadecimal, has_length, has_digits, has_spare_bit, is_binary_digit, digit_value, byte_at, byte_count, wire_bit, value_told}
+use Rattle.gc_circuit.specs.Value.{ValueText, Binary, Hexadecimal, has_length, has_digits, has_spare_bit, is_binary_digit, digit_value, byte_at, byte_count, low_bits, wire_bit, value_told}
 
 -- ---- a test over a range of places
 
@@ -148,3 +149,137 @@ pair_ok high low bytes e = two_ok high low (hex_digit_value high) (hex_digit_val
 pub pair_err : (high low : ℕ) (error : FromHexError) → Err error ≡ decode_sized (high ∷ low ∷ []) 1 → is_hex_digit high && is_hex_digit low ≡ false
 unfolding decode_pairs
 pair_err high low error e = two_err high low (hex_digit_value high) (hex_digit_value low) error e
+
+-- the bits of a byte
+pub wire_in_byte : (digits : List ℕ) (k j : ℕ) → j < 8 → wire_bit (Hexadecimal digits) (8 * k + j) ≡ (bit_at (byte_at digits k) j == 1)
+wire_in_byte digits k j below =
+    let byte : (8 * k + j) / 8 ≡ k = omega arith in
+    let place : (8 * k + j) % 8 ≡ j = omega arith in
+    ap (λ q. bit_at (byte_at digits q) ((8 * k + j) % 8) == 1) byte ∙ ap (λ r. bit_at (byte_at digits k) r == 1) place
+
+-- two more digits
+pub digits_more : (digits : List ℕ) (k : ℕ) → 2 * k + 1 < length digits →
+    is_hex_digit (slice_index digits (2 * k)) && is_hex_digit (slice_index digits (2 * k + 1)) ≡ true →
+    list_all is_hex_digit (take (2 * k) digits) ≡ true → list_all is_hex_digit (take (2 * (k + 1)) digits) ≡ true
+digits_more digits k within pair before =
+    let two : 2 * (k + 1) ≡ 2 * k + 1 + 1 = omega arith in
+    ap (λ n. list_all is_hex_digit (take n digits)) two
+    ∙ list_all_more is_hex_digit digits (2 * k + 1) 0 within
+    ∙ ap (λ b. b && is_hex_digit (slice_index digits (2 * k + 1)))
+    (list_all_more is_hex_digit digits (2 * k) 0 (omega arith) ∙ ap (λ b. b && is_hex_digit (slice_index digits (2 * k))) before)
+    ∙ pair
+
+-- the bits of one more byte
+pub bits_of_byte_more : (digits : List ℕ) (n k used byte : ℕ) (bits new : List Bool) → 8 * k < n → used ≡ min (n - 8 * k) 8 → byte ≡ byte_at digits k →
+    bits ≡ map (wire_bit (Hexadecimal digits)) (range_with_len 0 (min (8 * k) n)) → new ≡ bits ++ low_bits byte used →
+    new ≡ map (wire_bit (Hexadecimal digits)) (range_with_len 0 (min (8 * (k + 1)) n))
+bits_of_byte_more digits n k used byte bits new inside count is before pushed =
+    let f = wire_bit (Hexadecimal digits) in
+    let all_before : min (8 * k) n ≡ 8 * k = omega arith in
+    let all_now : 8 * k + used ≡ min (8 * (k + 1)) n = omega arith in
+    pushed ∙ ap (λ l. l ++ low_bits byte used) (before ∙ ap (λ m. map f (range_with_len 0 m)) all_before)
+    ∙ sym (map_joined f (λ j. bit_at byte j == 1) (8 * k) used
+    (λ j below. wire_in_byte digits k j (omega arith) ∙ ap (λ b. bit_at b j == 1) (sym is)))
+    ∙ ap (λ m. map f (range_with_len 0 m)) all_now
+
+-- a number without bits from u on
+below_power : (b u : ℕ) → b / 2 ^ u ≡ 0 → b < 2 ^ u
+below_power b u h =
+    let less = lt-div-mul-add {a = b} (pow_pos u) in
+    let bound = rw h at less in
+    omega arith
+
+-- one more byte without a spare bit
+pub rest_zero_more : (digits : List ℕ) (n k used byte : ℕ) → 8 * k < n → used ≡ min (n - 8 * k) 8 → byte ≡ byte_at digits k → byte / 2 ^ used ≡ 0 →
+    ((i : ℕ) → n ≤ i → i < 8 * k → wire_bit (Hexadecimal digits) i ≡ false) →
+    (i : ℕ) → n ≤ i → i < 8 * (k + 1) → wire_bit (Hexadecimal digits) i ≡ false
+rest_zero_more digits n k used byte inside count is none before i from below =
+    let place : i ≡ 8 * k + (i - 8 * k) = omega arith in
+    let past : used ≤ i - 8 * k = omega arith in
+    ap (wire_bit (Hexadecimal digits)) place
+    ∙ wire_in_byte digits k (i - 8 * k) (omega arith)
+    ∙ ap (λ b. bit_at b (i - 8 * k) == 1) (sym is)
+    ∙ ap (λ x. x == 1) (bit_at_above byte used (i - 8 * k) (below_power byte used none) past)
+
+-- a byte with a bit from u on has one below 8
+bit_from : (b u : ℕ) → b < 2 ^ 8 → (b / 2 ^ u ≡ 0 → ⊥) → (i : ℕ) × (u ≤ i) × (i < 8) × (bit_at b i ≡ 1)
+bit_from b u byte some =
+    let m : ℕ = b / 2 ^ u in
+    let small : b / 2 ^ u < 2 ^ 8 = omega (arith, div-le_self b (2 ^ u)) in
+    let found = bit_at-trailing_zeros w8 (b / 2 ^ u) (omega arith) small in
+    let j = trailing_zeros w8 (b / 2 ^ u) in
+    let same : bit_at (b / 2 ^ u) j ≡ bit_at b (u + j) =
+    ap (λ x. x % 2) (div-div-eq-div-mul b (2 ^ u) (2 ^ j) ∙ ap (λ x. b / x) (sym (pow-add 2 u j))) in
+    let set : bit_at b (u + j) ≡ 1 = sym same ∙ found.1 in
+    (u + j, omega arith, under_eight (u + j) set, set)
+  where
+    under_eight : (i : ℕ) → bit_at b i ≡ 1 → i < 8
+    under_eight i set = elim (cases_lt i 8) [
+      | inl below ↦ below
+      | inr past ↦ let none = bit_at_above b 8 i byte past in absurd (omega arith)
+    ]
+
+-- a byte with a spare bit is the last
+pub spare_in_byte : (digits : List ℕ) (n k used byte : ℕ) → 8 * k < n → k < byte_count n → used ≡ min (n - 8 * k) 8 → byte ≡ byte_at digits k → byte < 2 ^ 8 →
+    (byte / 2 ^ used ≡ 0 → ⊥) → (k + 1 ≡ byte_count n) × (has_spare_bit n (Hexadecimal digits) ≡ true)
+spare_in_byte digits n k used byte inside within count is small some =
+    let found = bit_from byte used small some in
+    let from = found.1 in
+    let below = found.2 in
+    let last : k + 1 ≡ byte_count n = omega arith in (
+      last,
+      any_at_place (wire_bit (Hexadecimal digits)) n (8 * byte_count n - n) (8 * k + found.0) (omega arith) (omega arith)
+      (wire_in_byte digits k found.0 below ∙ ap (λ b. bit_at b found.0 == 1) (sym is) ∙ ap (λ x. x == 1) found.3),
+    )
+
+pub hexadecimal_ok : (digits : List ℕ) (n : ℕ) (bits : List Bool) → length digits ≡ 2 * byte_count n → list_all is_hex_digit digits ≡ true →
+    ((i : ℕ) → n ≤ i → i < 8 * byte_count n → wire_bit (Hexadecimal digits) i ≡ false) →
+    bits ≡ map (wire_bit (Hexadecimal digits)) (range_with_len 0 n) → value_told (Hexadecimal digits) n ≡ Ok bits
+hexadecimal_ok digits n bits long all zero_past is =
+    let test : (length digits == 2 * byte_count n) ≡ true = grind (arith, nat_tests) in
+    told_ok (Hexadecimal digits) n bits test all
+    (none_in_range (wire_bit (Hexadecimal digits)) n (8 * byte_count n - n) (λ i from below. zero_past i from (omega arith))) is
+
+pub hexadecimal_spare : (digits : List ℕ) (n : ℕ) → length digits ≡ 2 * byte_count n → list_all is_hex_digit digits ≡ true →
+    has_spare_bit n (Hexadecimal digits) ≡ true → value_told (Hexadecimal digits) n ≡ Err SpareBits
+hexadecimal_spare digits n long all spare =
+    let test : (length digits == 2 * byte_count n) ≡ true = grind (arith, nat_tests) in
+    told_spare_bits (Hexadecimal digits) n test all spare
+
+-- ---- the law
+
+-- every byte past the digits is 0
+byte_past : (digits : List ℕ) (k : ℕ) → length digits ≤ 2 * k → byte_at digits k ≡ 0
+byte_past digits k past =
+    ap (λ c. 16 * digit_value c + digit_value (slice_index digits (2 * k + 1))) (get_or_past digits (2 * k) 0 past)
+    ∙ ap (λ c. 16 * digit_value 0 + digit_value c) (get_or_past digits (2 * k + 1) 0 (omega arith))
+
+hexadecimal_past : (digits : List ℕ) (i : ℕ) → 4 * length digits ≤ i → wire_bit (Hexadecimal digits) i ≡ false
+hexadecimal_past digits i past =
+    ap (λ b. bit_at b (i % 8) == 1) (byte_past digits (i / 8) (omega arith)) ∙ ap (λ x. x == 1) (bit_at-zero (i % 8))
+
+-- a bit that is 1 past n wires, in a text of the right length, is in the last byte
+within_last : (t : ValueText) (n i : ℕ) → has_length n t ≡ true → n ≤ i → wire_bit t i ≡ true → i < n + (8 * byte_count n - n)
+within_last (Binary digits) n i long from set =
+    let count : length digits ≡ n = eqb-true (length digits) n long in
+    let zero_there = binary_past digits i (omega arith) in
+    cc
+within_last (Hexadecimal digits) n i long from set =
+    let count : length digits ≡ 2 * byte_count n = eqb-true (length digits) (2 * byte_count n) long in
+    elim (cases_lt i (8 * byte_count n)) [
+      | inl below ↦ omega arith
+      | inr past ↦ let zero_there = hexadecimal_past digits i (omega arith) in cc
+    ]
+
+-- a spare bit is a bit past n wires that is 1
+spare_place : (t : ValueText) (n : ℕ) → has_spare_bit n t ≡ true → (i : ℕ) × (n ≤ i) × (wire_bit t i ≡ true)
+spare_place t n h = let found = any_place (wire_bit t) n (8 * byte_count n - n) h in (found.0, found.1, found.3)
+
+no_spare_place : (t : ValueText) (n : ℕ) → has_length n t ≡ true → has_spare_bit n t ≡ false → (i : ℕ) → n ≤ i → wire_bit t i ≡ false
+no_spare_place t n long none i from = by_bit (wire_bit t i) refl
+  where
+    by_bit : (b : Bool) → wire_bit t i ≡ b → b ≡ false
+    by_bit true set =
+        let some = any_at_place (wire_bit t) n (8 * byte_count n - n) i from (within_last t n i long from set) set in
+        cc
+    by_bit false e = refl

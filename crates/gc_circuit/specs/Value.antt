@@ -56,6 +56,10 @@ digit_value c = unwrap_or (hex_digit_value c) 0
 abbrev pub byte_at : List ℕ → ℕ → ℕ
 byte_at digits k = 16 * digit_value (slice_index digits (2 * k)) + digit_value (slice_index digits (2 * k + 1))
 
+-- the lowest bits of a byte, the lowest first
+abbrev pub low_bits : ℕ → ℕ → List Bool
+low_bits byte count = map (λ i. bit_at byte i == 1) (range_with_len 0 count)
+
 -- the bit of wire i: its own character, or bit i mod 8 of byte i / 8, where bit 0 is the lowest
 abbrev pub wire_bit : ValueText → ℕ → Bool
 wire_bit (Binary digits) i = slice_index digits i == 49

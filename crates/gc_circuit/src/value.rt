@@ -1,10 +1,10 @@
 //! Value texts: reading the bits of an input value, and writing those of an output value.
 
-ghost use Rattle.std.specs.Prelude.{◌≡◌, ◌≢◌, ◌+◌, ◌*◌, ◌^◌, ◌⊎◌, ◌<◌, ◌≤◌, ◌==◌, ◌&&◌, ◌++◌, true, false, map, List, IfOk, IfErr, OnOk, MatchResult};
+ghost use Rattle.std.specs.Prelude.{◌≡◌, ◌≢◌, ◌+◌, ◌*◌, ◌^◌, ◌⊎◌, ◌<◌, ◌≤◌, ◌==◌, ◌&&◌, ◌++◌, true, false, ℕ, Bool, List, length, map, Ok, IfOk, IfErr, OnOk, MatchResult};
 ghost use Rattle.std.specs.Int.{bit_at};
 ghost use Rattle.std.specs.List.{range_with_len};
 ghost use Rattle.hex.specs.Hex.{is_hex_digit};
-ghost use Rattle.gc_circuit.specs.Value.{Binary, Hexadecimal, fault_code, fault_name, digit_value, value_told, value_of_text, binary_digit};
+ghost use Rattle.gc_circuit.specs.Value.{Binary, Hexadecimal, fault_code, fault_name, digit_value, low_bits, value_told, value_of_text, binary_digit, ValueTextLaw};
 
 use hex::FromHex;
 use std::alloc::{AllocError, AllocFailed, Allocator};
@@ -101,6 +101,14 @@ pub fn show_value<A: Allocator + Copy>(alloc: A, bits: &[bool]) -> Result<Vec<u8
     Ok(digits.collect(alloc)?)
 }
 
+/// The law of value texts. A text tells bits exactly where it is the value with these bits, and a fault exactly
+/// where that is the first that it has. What `show_value` writes tells the bits shown.
+pub fn law_value_texts()
+    ensures meaning { (text : List ℕ) (n : ℕ) → ValueTextLaw text n }
+    ensures round_trip { (bits : List Bool) → value_of_text (map binary_digit bits) (length bits) ≡ Ok bits }
+{}
+
+/// The first form, which has a character for each wire.
 fn read_binary<A: Allocator + Copy>(
     alloc: A,
     digits: &[u8],
@@ -123,6 +131,7 @@ fn read_binary<A: Allocator + Copy>(
     Ok(bits)
 }
 
+/// The second form, from its digits.
 fn read_hexadecimal<A: Allocator + Copy>(
     alloc: A,
     digits: &[u8],
@@ -131,11 +140,12 @@ fn read_hexadecimal<A: Allocator + Copy>(
     requires { width < 2 ^ 32 }
     ensures { MatchResult result (λ v. value_told (Hexadecimal digits.now) width ≡ Ok v.items) (λ fault. (fault ≡ ValueFault.Memory) ⊎ (value_told (Hexadecimal digits.now) width ≡ Err fault)) }
 {
-    if digits.len() != 2 * width.div_ceil(8) {
+    let byte_count = width.div_ceil(8);
+    if digits.len() != 2 * byte_count {
         return Err(ValueFault::WrongLength);
     }
     let mut bits = Vec::with_capacity(alloc, width)?;
-    for k in 0..width.div_ceil(8) {
+    for k in 0..byte_count {
         let byte = byte_of(digits[2 * k], digits[2 * k + 1])?;
         let used = (width - 8 * k).min(8);
         if u32::from(byte) >> used != 0 {
@@ -160,7 +170,7 @@ fn byte_of(high: u8, low: u8) -> Result<u8, ValueFault>
 /// Adds the lowest `count` bits of a byte, the lowest first.
 fn push_bits<A: Allocator>(bits: &mut Vec<bool, A>, byte: u8, count: usize) -> Result<(), ValueFault>
     requires { count ≤ 8 }
-    ensures ok { OnOk result (bits.new.items ≡ bits.old.items ++ map (λ i. bit_at byte i == 1) (range_with_len 0 count)) }
+    ensures ok { OnOk result (bits.new.items ≡ bits.old.items ++ low_bits byte count) }
     ensures err { IfErr result (λ fault. fault ≡ ValueFault.Memory) }
 {
     for i in 0..count {
