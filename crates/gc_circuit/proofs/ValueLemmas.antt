@@ -1,20 +1,20 @@
 -- Bits, digits and bytes of value texts.
-use Rattle.std.proofs.Common.{◌≡◌, ◌≢◌, ℕ, zero, suc, ◌+◌, ◌-◌, ◌*◌, ◌/◌, ◌%◌, ◌^◌, ◌<◌, ◌≤◌, ◌==◌, ◌&&◌, ◌||◌, ◌⊎◌, inl, inr, min, Bool, true, false, not, List, [], ◌∷◌, ◌++◌, length, map, take, get_or, slice_index, is_some, unwrap_or, Option, Some, None, Result, Ok, Err, refl, sym, ap, ◌∙◌, arith, add-zero, zero-add, if◌then◌else◌}
+use Rattle.std.proofs.Common.{◌≡◌, ◌≢◌, ℕ, zero, suc, ◌+◌, ◌-◌, ◌*◌, ◌/◌, ◌%◌, ◌^◌, ◌<◌, ◌≤◌, ◌==◌, ◌&&◌, ◌||◌, ◌⊎◌, ◌↔◌, inl, inr, min, Bool, true, false, not, List, [], ◌∷◌, ◌++◌, length, map, take, get_or, slice_index, is_some, unwrap_or, Option, Some, None, Result, Ok, Err, refl, sym, ap, ◌∙◌, arith, add-zero, zero-add, if◌then◌else◌}
 use Rattle.std.specs.List.{range_with_len, list_all, list_any}
 use Rattle.std.specs.Int.{bit_at, trailing_zeros, w8}
-use Rattle.std.proofs.lemmas.Bool.{cases_lt}
+use Rattle.std.proofs.lemmas.Bool.{cases_lt, eqb-true}
 use Rattle.std.proofs.lemmas.Bool.Decides.{nat_tests}
 use Rattle.std.proofs.lemmas.List.{append_assoc, append-nil, get_or_past, length-map, take_all}
 use Rattle.std.proofs.lemmas.List.FromFn.{fill_by_all, get_or-range_with_len, length-range_with_len, map-range_with_len_more}
 use Rattle.std.proofs.lemmas.List.Folds.{list_all_more, list_any_at}
 use Rattle.std.proofs.lemmas.Nat.{pow-add, pow_pos}
-use Rattle.std.proofs.lemmas.Nat.Bits.{bit_at_above, bit_at-trailing_zeros}
+use Rattle.std.proofs.lemmas.Nat.Bits.{bit_at-zero, bit_at_above, bit_at-trailing_zeros}
 use Rattle.std.proofs.Math.Nat.{div-div-eq-div-mul, div-le_self, lt-div-mul-add}
 use Rattle.hex.specs.Hex.{decode_pairs, decode_sized, digit_or_error, hex_digit_value, is_hex_digit, ◌>>=◌}
 use Rattle.hex.specs.declared.error.FromHexError.{FromHexError}
 use Rattle.gc_circuit.specs.declared.value.ValueFault.{ValueFault}
-use Rattle.gc_circuit.specs.declared.value.ValueFault.TheVariants.{WrongLength, BadDigit, SpareBits}
-use Rattle.gc_circuit.specs.Value.{ValueText, Binary, Hexadecimal, has_length, has_digits, has_spare_bit, is_binary_digit, digit_value, byte_at, byte_count, low_bits, wire_bit, value_told}
+use Rattle.gc_circuit.specs.declared.value.ValueFault.TheVariants.{Memory, WrongLength, BadDigit, SpareBits}
+use Rattle.gc_circuit.specs.Value.{ValueText, Binary, Hexadecimal, has_length, has_digits, has_spare_bit, is_binary_digit, digit_value, byte_at, byte_count, low_bits, wire_bit, form_of, value_told, value_of_text, binary_digit, IsValue, IsFirstFault, ValueTextLaw}
 
 -- ---- a test over a range of places
 
@@ -254,9 +254,9 @@ byte_past digits k past =
     ap (λ c. 16 * digit_value c + digit_value (slice_index digits (2 * k + 1))) (get_or_past digits (2 * k) 0 past)
     ∙ ap (λ c. 16 * digit_value 0 + digit_value c) (get_or_past digits (2 * k + 1) 0 (omega arith))
 
-hexadecimal_past : (digits : List ℕ) (i : ℕ) → 4 * length digits ≤ i → wire_bit (Hexadecimal digits) i ≡ false
+hexadecimal_past : (digits : List ℕ) (i : ℕ) → length digits ≤ 2 * (i / 8) → wire_bit (Hexadecimal digits) i ≡ false
 hexadecimal_past digits i past =
-    ap (λ b. bit_at b (i % 8) == 1) (byte_past digits (i / 8) (omega arith)) ∙ ap (λ x. x == 1) (bit_at-zero (i % 8))
+    ap (λ b. bit_at b (i % 8) == 1) (byte_past digits (i / 8) past) ∙ ap (λ x. x == 1) (bit_at-zero (i % 8))
 
 -- a bit that is 1 past n wires, in a text of the right length, is in the last byte
 within_last : (t : ValueText) (n i : ℕ) → has_length n t ≡ true → n ≤ i → wire_bit t i ≡ true → i < n + (8 * byte_count n - n)
@@ -283,3 +283,91 @@ no_spare_place t n long none i from = by_bit (wire_bit t i) refl
         let some = any_at_place (wire_bit t) n (8 * byte_count n - n) i from (within_last t n i long from set) set in
         cc
     by_bit false e = refl
+
+-- a text's answer, from its three tests
+abbrev judged : Bool → Bool → Bool → List Bool → Result (List Bool) ValueFault
+judged long digits spare bits =
+    if not long then Err WrongLength
+    else if not digits then Err BadDigit
+    else if spare then Err SpareBits
+    else Ok bits
+
+value_judged : (t : ValueText) (n : ℕ) (l d s : Bool) → has_length n t ≡ l → has_digits t ≡ d → has_spare_bit n t ≡ s → (bits : List Bool) →
+    (judged l d s (map (wire_bit t) (range_with_len 0 n)) ≡ Ok bits) ↔ IsValue t n bits
+value_judged t n false d s hl hd hs bits = (λ h. cc, λ v. let long = v.right_length in cc)
+value_judged t n true false s hl hd hs bits = (λ h. cc, λ v. let digits = v.all_digits in cc)
+value_judged t n true true true hl hd hs bits = (
+  λ h. cc,
+  λ v.
+      let found = spare_place t n hs in
+      let none = v.rest_zero found.0 found.1 in
+      let set = found.2 in
+      cc,
+)
+value_judged t n true true false hl hd hs bits = (
+  λ h. record {
+    right_length = hl;
+    all_digits = hd;
+    rest_zero = no_spare_place t n hl hs;
+    in_wire_order = let same : map (wire_bit t) (range_with_len 0 n) ≡ bits = cc in sym same;
+  },
+  λ v. ap Ok (sym v.in_wire_order),
+)
+
+fault_judged : (t : ValueText) (n : ℕ) (l d s : Bool) → has_length n t ≡ l → has_digits t ≡ d → has_spare_bit n t ≡ s → (bits : List Bool) (e : ValueFault) →
+    (judged l d s bits ≡ Err e) ↔ IsFirstFault t n e
+fault_judged t n false d s hl hd hs bits WrongLength = (λ h long. let no = long in cc, λ f. refl)
+fault_judged t n false d s hl hd hs bits BadDigit = (λ h. cc, λ f. let long = f.0 in cc)
+fault_judged t n false d s hl hd hs bits SpareBits = (λ h. cc, λ f. let long = f.0 in cc)
+fault_judged t n false d s hl hd hs bits Memory = (λ h. cc, λ f. absurd f)
+fault_judged t n true false s hl hd hs bits WrongLength = (λ h. cc, λ f. absurd (f hl))
+fault_judged t n true false s hl hd hs bits BadDigit = (λ h. (hl, λ digits. cc), λ f. refl)
+fault_judged t n true false s hl hd hs bits SpareBits = (λ h. cc, λ f. let digits = f.1 in cc)
+fault_judged t n true false s hl hd hs bits Memory = (λ h. cc, λ f. absurd f)
+fault_judged t n true true true hl hd hs bits WrongLength = (λ h. cc, λ f. absurd (f hl))
+fault_judged t n true true true hl hd hs bits BadDigit = (λ h. cc, λ f. absurd (f.1 hd))
+fault_judged t n true true true hl hd hs bits SpareBits = (λ h. (hl, hd, spare_place t n hs), λ f. refl)
+fault_judged t n true true true hl hd hs bits Memory = (λ h. cc, λ f. absurd f)
+fault_judged t n true true false hl hd hs bits WrongLength = (λ h. cc, λ f. absurd (f hl))
+fault_judged t n true true false hl hd hs bits BadDigit = (λ h. cc, λ f. absurd (f.1 hd))
+fault_judged t n true true false hl hd hs bits SpareBits = (
+  λ h. cc,
+  λ f.
+      let place = f.2 in
+      let none = no_spare_place t n hl hs place.0 place.1 in
+      let set = place.2 in
+      cc,
+)
+fault_judged t n true true false hl hd hs bits Memory = (λ h. cc, λ f. absurd f)
+
+pub value_text_law : (text : List ℕ) (n : ℕ) → ValueTextLaw text n
+value_text_law text n =
+    let t = form_of text in
+    record {
+      value = value_judged t n (has_length n t) (has_digits t) (has_spare_bit n t) refl refl refl;
+      fault = fault_judged t n (has_length n t) (has_digits t) (has_spare_bit n t) refl refl refl (map (wire_bit t) (range_with_len 0 n));
+    }
+
+-- ---- what is shown is read back
+
+shown_form : (bits : List Bool) → form_of (map binary_digit bits) ≡ Binary (map binary_digit bits)
+shown_form [] = refl
+shown_form (false ∷ bits) = refl
+shown_form (true ∷ bits) = refl
+
+shown_digits : (bits : List Bool) → list_all is_binary_digit (map binary_digit bits) ≡ true
+shown_digits [] = refl
+shown_digits (false ∷ bits) = shown_digits bits
+shown_digits (true ∷ bits) = shown_digits bits
+
+shown_bit : (bits : List Bool) (k : ℕ) → get_or bits k false ≡ wire_bit (Binary (map binary_digit bits)) k
+shown_bit [] k = refl
+shown_bit (false ∷ bits) zero = refl
+shown_bit (true ∷ bits) zero = refl
+shown_bit (b ∷ bits) (suc k) = shown_bit bits k
+
+pub shown_is_read : (bits : List Bool) → value_of_text (map binary_digit bits) (length bits) ≡ Ok bits
+shown_is_read bits =
+    ap (λ t. value_told t (length bits)) (shown_form bits)
+    ∙ binary_ok (map binary_digit bits) (length bits) bits (length-map bits binary_digit) (shown_digits bits)
+    (fill_by_all (wire_bit (Binary (map binary_digit bits))) bits (length bits) false refl (λ k below. shown_bit bits k))
