@@ -1,10 +1,10 @@
 -- Bits, digits and bytes of value texts.
-use Rattle.std.proofs.Common.{◌≡◌, ◌≢◌, ℕ, zero, suc, ◌+◌, ◌-◌, ◌*◌, ◌/◌, ◌%◌, ◌^◌, ◌<◌, ◌≤◌, ◌==◌, ◌&&◌, ◌||◌, ◌⊎◌, ◌↔◌, inl, inr, min, Bool, true, false, not, List, [], ◌∷◌, ◌++◌, length, map, take, get_or, slice_index, is_some, unwrap_or, Option, Some, None, Result, Ok, Err, refl, sym, ap, ◌∙◌, arith, add-zero, zero-add, if◌then◌else◌}
+use Rattle.std.proofs.Common.{◌≡◌, ℕ, zero, suc, ◌+◌, ◌-◌, ◌*◌, ◌/◌, ◌%◌, ◌^◌, ◌<◌, ◌≤◌, ◌==◌, ◌&&◌, ◌||◌, ◌↔◌, inl, inr, min, Bool, true, false, not, List, [], ◌∷◌, ◌++◌, length, map, take, get_or, slice_index, is_some, unwrap_or, Option, Some, None, Result, Ok, Err, refl, sym, ap, ◌∙◌, arith, add-zero, zero-add, if◌then◌else◌}
 use Rattle.std.specs.List.{range_with_len, list_all, list_any}
 use Rattle.std.specs.Int.{bit_at, trailing_zeros, w8}
 use Rattle.std.proofs.lemmas.Bool.{cases_lt, eqb-true}
 use Rattle.std.proofs.lemmas.Bool.Decides.{nat_tests}
-use Rattle.std.proofs.lemmas.List.{append_assoc, append-nil, get_or_past, length-map, take_all}
+use Rattle.std.proofs.lemmas.List.{append_assoc, append-nil, get_or_past, length-map}
 use Rattle.std.proofs.lemmas.List.FromFn.{fill_by_all, get_or-range_with_len, length-range_with_len, map-range_with_len_more}
 use Rattle.std.proofs.lemmas.List.Folds.{list_all_more, list_any_at}
 use Rattle.std.proofs.lemmas.Nat.{pow-add, pow_pos}
@@ -229,7 +229,7 @@ spare_in_byte digits n k used byte inside within count is small some =
     let last : k + 1 ≡ byte_count n = omega arith in (
       last,
       any_at_place (wire_bit (Hexadecimal digits)) n (8 * byte_count n - n) (8 * k + found.0) (omega arith) (omega arith)
-      (wire_in_byte digits k found.0 below ∙ ap (λ b. bit_at b found.0 == 1) (sym is) ∙ ap (λ x. x == 1) found.3),
+          (wire_in_byte digits k found.0 below ∙ ap (λ b. bit_at b found.0 == 1) (sym is) ∙ ap (λ x. x == 1) found.3),
     )
 
 pub hexadecimal_ok : (digits : List ℕ) (n : ℕ) (bits : List Bool) → length digits ≡ 2 * byte_count n → list_all is_hex_digit digits ≡ true →

@@ -1,5 +1,5 @@
 -- Value texts: how the bits of a value are written.
-use Rattle.std.specs.Prelude.{◌≡◌, ℕ, ◌+◌, ◌-◌, ◌*◌, ◌/◌, ◌%◌, ◌≤◌, ◌==◌, ◌||◌, ◌↔◌, Bool, true, false, not, IsTrue, List, [], length, drop, map, slice_index, nat_eq, codes, unwrap_or, Result, Ok, Err, if◌then◌else◌}
+use Rattle.std.specs.Prelude.{◌≡◌, ℕ, ◌+◌, ◌-◌, ◌*◌, ◌/◌, ◌%◌, ◌≤◌, ◌==◌, ◌||◌, ◌↔◌, Bool, true, false, not, IsTrue, List, length, drop, map, slice_index, nat_eq, codes, unwrap_or, Result, Ok, Err, if◌then◌else◌}
 use Rattle.std.specs.List.{starts_with, range_with_len, list_all, list_any}
 use Rattle.std.specs.Int.{bit_at}
 use Rattle.hex.specs.Hex.{hex_digit_value, is_hex_digit}

@@ -1,4 +1,4 @@
-use Rattle.std.proofs.Common.{◌≡◌, ◌+◌, ◌*◌, ◌<◌, ◌^◌, length, take, sym, ap, ◌∙◌, inr, true, arith, min, map}
+use Rattle.std.proofs.Common.{◌≡◌, ◌+◌, ◌*◌, ◌<◌, length, sym, ap, ◌∙◌, inr, arith, min, map}
 use Rattle.std.specs.List.{list_all, range_with_len}
 use Rattle.std.proofs.lemmas.List.{take_all}
 use Rattle.hex.specs.Hex.{is_hex_digit}
@@ -6,8 +6,8 @@ use Rattle.gc_circuit.specs.Value.{Hexadecimal, byte_count, wire_bit}
 use Rattle.gc_circuit.proofs.ValueLemmas.{bits_of_byte_more, digits_more, hexadecimal_ok, hexadecimal_spare, rest_zero_more, spare_in_byte}
 use Rattle.gc_circuit.proofs.value.read_hexadecimal.Goals as goal
 
-pub returns-then-from-used-ne0 : goal.returns-then-from-used-ne0
-returns-then-from-used-ne0 g c =
+pub returns-then-from-used-ne0-clause-err : goal.returns-then-from-used-ne0-clause-err
+returns-then-from-used-ne0-clause-err g c =
     let digits = c.args.digits.now in
     let n = c.args.width in
     let k = c.loop-k.k in
@@ -38,8 +38,8 @@ loop-k-preserved g c =
           rest_zero_more digits n k used c.from.result inside c.min-used.ensures (c.from.ensures ∙ byte.1) c.if-from-used-ne0.false c.loop-k.invariant.unused;
     }
 
-pub returns : goal.returns
-returns g c =
+pub returns-clause-ok : goal.returns-clause-ok
+returns-clause-ok g c =
     let digits = c.args.digits.now in
     let n = c.args.width in
     let k = c.loop-k.k in
