@@ -12,6 +12,7 @@ mod memory;
 mod number;
 mod read;
 mod tokens;
+mod value;
 
 pub use circuit::{Circuit, Gate, Operation};
 pub use eval::{fits, law_assignments, plain_eval};
@@ -19,3 +20,4 @@ pub use fault::ReadFault;
 pub use laws::law_reading;
 pub use limits::{MAX_GATES, MAX_VALUES, MAX_WIRES};
 pub use memory::Memory;
+pub use value::{ValueFault, law_value_texts, read_value, show_value};
