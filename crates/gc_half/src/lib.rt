@@ -1,0 +1,6 @@
+//! Half gates.
+#![tactic(auto)]
+
+mod garbling;
+
+pub use garbling::RowPair;
