@@ -1,5 +1,5 @@
 -- What it is to evaluate garbled rows, and how bits are encoded as labels and decoded.
-use Rattle.std.specs.Prelude.{◌≡◌, ℕ, Bool, List, map, slice_index_or}
+use Rattle.std.specs.Prelude.{ℕ, Bool, List, map, slice_index_or}
 use Rattle.std.specs.List.{zip}
 use Rattle.gc_circuit.specs.declared.circuit.Operation.{Operation}
 use Rattle.gc_circuit.specs.declared.circuit.Operation.TheVariants.{Xor, And, Inv, Eq, Eqw}
@@ -35,11 +35,11 @@ module _ (hash : ℕ → ℕ → ℕ) where
 
 -- The label that stands for a bit on a wire with this zero label.
 abbrev pub encode : ℕ → ℕ → Bool → ℕ
-encode offset zero bit = zero ⊕ times bit offset
+encode offset zero_label bit = zero_label ⊕ times bit offset
 
 -- The decode bits of the circuit: the colours of the output wires' zero labels, in order.
 abbrev pub decode_bits : Netlist → (ℕ → ℕ) → List Bool
-decode_bits c zero = map colour (on_outputs c zero)
+decode_bits c zero_label = map colour (on_outputs c zero_label)
 
 -- The output bits: place by place, the decode bit xor the colour of the active label.
 abbrev pub decode : List Bool → List ℕ → List Bool

@@ -15,28 +15,28 @@ use Rattle.gc_half.specs.HalfGate.{and_zero, generator_row, evaluator_row}
 module _ (hash : ℕ → ℕ → ℕ) (r : ℕ) where
   -- The zero label of the wire that an operation sets, from the zero labels on the wires. An AND gate is the k-th.
   abbrev pub zero_of : (ℕ → ℕ) → ℕ → Operation → ℕ
-  zero_of zero k (Xor a b) = zero a ⊕ zero b
-  zero_of zero k (And a b) = and_zero hash k r (zero a) (zero b)
-  zero_of zero k (Inv a) = zero a ⊕ r
-  zero_of zero k (Eq v) = times v r
-  zero_of zero k (Eqw a) = zero a
+  zero_of zero_label k (Xor a b) = zero_label a ⊕ zero_label b
+  zero_of zero_label k (And a b) = and_zero hash k r (zero_label a) (zero_label b)
+  zero_of zero_label k (Inv a) = zero_label a ⊕ r
+  zero_of zero_label k (Eq v) = times v r
+  zero_of zero_label k (Eqw a) = zero_label a
 
   abbrev pub zero_rule : Netlist → (ℕ → ℕ) → ℕ → Gate → ℕ
-  zero_rule c zero i g = zero_of zero (and_number c i) g.operation
+  zero_rule c zero_label i g = zero_of zero_label (and_number c i) g.operation
 
   -- The row pair of the k-th AND gate, which reads the wires a and b.
   abbrev pub rows_of : (ℕ → ℕ) → ℕ → ℕ → ℕ → RowPair
-  rows_of zero k a b = record {
-    generator = generator_row hash k r (zero a) (zero b);
-    evaluator = evaluator_row hash k r (zero a) (zero b);
+  rows_of zero_label k a b = record {
+    generator = generator_row hash k r (zero_label a) (zero_label b);
+    evaluator = evaluator_row hash k r (zero_label a) (zero_label b);
   }
 
   -- A garbling with the offset r: zero labels on the wires, the given ones on the input wires, that meet each gate's
   -- equation; and as many row pairs as there are AND gates, that of each AND gate at its AND number.
-  pub record IsGarbling (c : Netlist) (given zero : ℕ → ℕ) (rows : List RowPair) : Type 0 where
-    pub labels : Solves (zero_rule c) c given zero
+  pub record IsGarbling (c : Netlist) (given zero_label : ℕ → ℕ) (rows : List RowPair) : Type 0 where
+    pub labels : Solves (zero_rule c) c given zero_label
     pub and_gates : (i : ℕ) (g : Gate) (a b : ℕ) → slice_get c.gates i ≡ Some g → g.operation ≡ And a b
-        → slice_get rows (and_number c i) ≡ Some (rows_of zero (and_number c i) a b)
+        → slice_get rows (and_number c i) ≡ Some (rows_of zero_label (and_number c i) a b)
     pub row_count : length rows ≡ and_count c
 
 -- The parts of a `Garbling`: the zero label of each wire, the row pair of each AND gate in file order, and how many of
