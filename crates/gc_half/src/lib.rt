@@ -2,5 +2,9 @@
 #![tactic(auto)]
 
 mod garbling;
+mod half_gate;
+mod hash;
 
-pub use garbling::RowPair;
+pub use garbling::{Garbling, RowPair};
+pub use half_gate::{eval_and, garble_and};
+pub use hash::tweak_hash;
