@@ -9,4 +9,4 @@ mod laws;
 pub use garbling::{Garbling, RowPair};
 pub use half_gate::{eval_and, garble_and};
 pub use hash::tweak_hash;
-pub use laws::law_half_gates;
+pub use laws::{law_garblings, law_half_gates};
