@@ -1,6 +1,6 @@
 //! Labels, and the offset between the two labels of a wire.
 
-ghost use Rattle.std.specs.Prelude.{◌≡◌, ◌^◌, IsTrue, bit_or};
+ghost use Rattle.std.specs.Prelude.{◌≡◌, ◌<◌, ◌^◌, IsTrue, bit_or};
 ghost use Rattle.gc_label.specs.Label.{◌⊕◌, colour, times, label_of_bytes, bytes_of_label};
 
 use std::fmt;
@@ -45,7 +45,8 @@ impl Label {
     #[tactic(auto, unfolding(crate::specs::Label::bytes_of_label))]
     #[inline]
     pub fn to_bytes(self) -> [u8; 16]
-        ensures { result ≡ bytes_of_label self }
+        ensures bytes { result ≡ bytes_of_label self }
+        ensures fits { self < 2 ^ 128 }
     {
         self.number.to_be_bytes()
     }

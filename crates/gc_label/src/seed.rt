@@ -39,7 +39,7 @@ impl Seed {
         ensures bytes { IfOk result (λ seed. decode_of text.now ≡ Ok seed) }
     {
         match <[u8; 32] as FromHex>::from_hex(text) {
-            Ok(bytes) => Ok(Seed { bytes }),
+            Ok(bytes) => Ok(Seed::from_bytes(bytes)),
             Err(_) => Err(BadSeed),
         }
     }

@@ -1,6 +1,6 @@
 use Rattle.std.proofs.Common.{◌≡◌, ◌+◌, ◌*◌, map, take}
 use Rattle.std.specs.List.{range_with_len}
-use Rattle.rand_chacha.specs.ChaCha.{ChaCha, key_of}
+use Rattle.rand_chacha.specs.ChaCha.{key_of}
 use Rattle.gc_label.specs.Seed.{input_label_of}
 use Rattle.gc_label.proofs.keystream.fill_input_labels.Given as goal
 

@@ -1,5 +1,4 @@
-use Rattle.std.proofs.Common.{◌≡◌, Ok, Err, is_ok, ap, refl, sym, ◌∙◌}
-use Rattle.hex.specs.Hex.{decode_sized}
+use Rattle.std.proofs.Common.{refl, sym, ◌∙◌}
 use Rattle.hex.proofs.HexLemmas.{IsOk-decode_sized}
 use Rattle.gc_label.proofs.seed.Seed.from_hex.Goals as goal
 
