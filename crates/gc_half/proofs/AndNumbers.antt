@@ -1,7 +1,8 @@
 -- AND numbers, gate after gate.
-use Rattle.std.proofs.Common.{◌≡◌, ℕ, suc, ◌+◌, ◌<◌, ◌⊎◌, inl, inr, Bool, true, false, length, slice_get, Some, refl, ap, ◌∙◌, arith, sym, count_by, take_all}
+use Rattle.std.proofs.Common.{◌≡◌, ℕ, suc, ◌+◌, ◌<◌, ◌≤◌, ◌⊎◌, inl, inr, Bool, true, false, length, slice_get, Some, refl, ap, ◌∙◌, arith, sym, count_by, take, take_all}
 use Rattle.std.proofs.lemmas.Option.{slice_get_within, get_or_from_slice_get, slice_get_cases}
-use Rattle.std.proofs.lemmas.List.Sums.{count_by_more_yes, count_by_more_no}
+use Rattle.std.proofs.lemmas.List.Sums.{count_by_more_yes, count_by_more_no, count_by-le-length}
+use Rattle.std.proofs.lemmas.List.{length-take}
 use Rattle.gc_circuit.specs.declared.circuit.Operation.{Operation}
 use Rattle.gc_circuit.specs.declared.circuit.Operation.TheVariants.{Xor, And, Inv, Eq, Eqw}
 use Rattle.gc_circuit.specs.declared.circuit.Gate.{Gate}
@@ -40,3 +41,7 @@ module _ (c : Netlist) where
   -- All gates passed, all AND gates are counted.
   pub and_number-end : and_number c (length c.gates) ≡ and_count c
   and_number-end = ap (count_by (λ (x : Gate). is_and x.operation)) (take_all (length c.gates) c.gates (omega arith))
+
+  -- An AND number is at most the number of gates before.
+  pub and_number-le : (i : ℕ) → and_number c i ≤ i
+  and_number-le i = omega (arith, count_by-le-length (λ (x : Gate). is_and x.operation) (take i c.gates), length-take i c.gates)

@@ -19,11 +19,18 @@ use Rattle.gc_half.specs.Law.{HasOneGarbled}
 use Rattle.gc_half.proofs.SetWires.{set_or_not, solution-not_set}
 use Rattle.gc_half.proofs.GarblingLemmas.{zero_local, IsGarbling-same, rows-garbling, garbling-rows, one_garbling}
 
+-- Parts are equal where each part is.
+pub parts-same : (g : GarblingParts) (zero_labels : List ℕ) (rows : List RowPair) (outputs : ℕ) → g.zero_labels ≡ zero_labels → g.rows ≡ rows
+    → g.outputs ≡ outputs → g ≡ record { zero_labels = zero_labels; rows = rows; outputs = outputs }
+parts-same g zero_labels rows outputs p q o =
+    let parts : List ℕ → List RowPair → ℕ → GarblingParts = λ x y z. record { zero_labels = x; rows = y; outputs = z } in
+    ap (λ x. parts x g.rows g.outputs) p ∙ ap (λ y. parts zero_labels y g.outputs) q ∙ ap (parts zero_labels rows) o
+
 module _ (c : Netlist) (seed : List ℕ) where
-  input_zero-input : (w : ℕ) → w < input_wires c → input_zero c seed w ≡ input_label_of seed w
+  pub input_zero-input : (w : ℕ) → w < input_wires c → input_zero c seed w ≡ input_label_of seed w
   input_zero-input w input = ap (λ b. if b then input_label_of seed w else 0) (lt-ltb w (input_wires c) input)
 
-  input_zero-other : (w : ℕ) → ¬ (w < input_wires c) → input_zero c seed w ≡ 0
+  pub input_zero-other : (w : ℕ) → ¬ (w < input_wires c) → input_zero c seed w ≡ 0
   input_zero-other w other = grind (arith, nat_tests)
 
   -- A wire that is not set has the zero label 0.
@@ -99,12 +106,6 @@ module _ (c : Netlist) (seed : List ℕ) where
         rows =
             (one_garbling hash (offset_of seed) c lawful (input_label_of seed)).same_rows
             (λ k. get_or g.zero_labels k 0) (zero_label_of c seed) g.rows (row_pairs_of c seed) garbled.garbling canonical-garbling
-
-        parts-same : (g : GarblingParts) (zero_labels : List ℕ) (rows : List RowPair) (outputs : ℕ) → g.zero_labels ≡ zero_labels → g.rows ≡ rows
-            → g.outputs ≡ outputs → g ≡ record { zero_labels = zero_labels; rows = rows; outputs = outputs }
-        parts-same g zero_labels rows outputs p q o =
-            let parts : List ℕ → List RowPair → ℕ → GarblingParts = λ x y z. record { zero_labels = x; rows = y; outputs = z } in
-            ap (λ x. parts x g.rows g.outputs) p ∙ ap (λ y. parts zero_labels y g.outputs) q ∙ ap (parts zero_labels rows) o
 
     pub one_garbled : HasOneGarbled c seed
     one_garbled = record {

@@ -21,7 +21,7 @@ use Rattle.gc_half.proofs.RowLemmas.{length-rows_after, rows_after-at, rows-take
 
 module _ (hash : ℕ → ℕ → ℕ) (r : ℕ) where
   -- The zero label of the wire that a gate sets looks at the wires that it reads alone,
-  zero_of_local : (u v : ℕ → ℕ) (k : ℕ) (op : Operation) → EachRead (λ w. u w ≡ v w) op → zero_of hash r u k op ≡ zero_of hash r v k op
+  pub zero_of_local : (u v : ℕ → ℕ) (k : ℕ) (op : Operation) → EachRead (λ w. u w ≡ v w) op → zero_of hash r u k op ≡ zero_of hash r v k op
   zero_of_local u v k (Xor a b) h = ap (λ x. x ⊕ u b) h.0 ∙ ap (λ x. v a ⊕ x) h.1
   zero_of_local u v k (And a b) h = ap (λ x. and_zero hash k r x (u b)) h.0 ∙ ap (λ x. and_zero hash k r (v a) x) h.1
   zero_of_local u v k (Inv a) h = ap (λ x. x ⊕ r) h

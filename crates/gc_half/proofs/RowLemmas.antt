@@ -22,19 +22,20 @@ slice_get-append (y ∷ xs) ys zero x h = h
 slice_get-append (y ∷ xs) ys (suc i) x h = slice_get-append xs ys i x h
 
 module _ (hash : ℕ → ℕ → ℕ) (r : ℕ) (c : Netlist) (label : ℕ → ℕ) where
-  -- An AND gate adds its row pair, and any other gate adds none.
-  pub rows_after-and : (i : ℕ) (g : Gate) (a b : ℕ) → slice_get c.gates i ≡ Some g → g.operation ≡ And a b →
-      rows_after hash r c label (suc i) ≡ rows_after hash r c label i ++ rows_of hash r label (and_number c i) a b ∷ []
+  -- One more gate: an AND gate adds its row pair, and any other gate adds none.
+  pub rows_after-next : (i : ℕ) (g : Gate) → slice_get c.gates i ≡ Some g →
+      rows_after hash r c label (suc i) ≡ with_operation hash r label (and_number c i) (rows_after hash r c label i) g.operation
   unfolding rows_after
-  rows_after-and i g a b at is =
-      ap (with_gate hash r label (and_number c i) (rows_after hash r c label i)) at
-      ∙ ap (with_operation hash r label (and_number c i) (rows_after hash r c label i)) is
+  rows_after-next i g at = ap (with_gate hash r label (and_number c i) (rows_after hash r c label i)) at
 
-  pub rows_after-other : (i : ℕ) (g : Gate) → slice_get c.gates i ≡ Some g → is_and g.operation ≡ false →
+  rows_after-and : (i : ℕ) (g : Gate) (a b : ℕ) → slice_get c.gates i ≡ Some g → g.operation ≡ And a b →
+      rows_after hash r c label (suc i) ≡ rows_after hash r c label i ++ rows_of hash r label (and_number c i) a b ∷ []
+  rows_after-and i g a b at is =
+      rows_after-next i g at ∙ ap (with_operation hash r label (and_number c i) (rows_after hash r c label i)) is
+
+  rows_after-other : (i : ℕ) (g : Gate) → slice_get c.gates i ≡ Some g → is_and g.operation ≡ false →
       rows_after hash r c label (suc i) ≡ rows_after hash r c label i
-  unfolding rows_after
-  rows_after-other i g at other =
-      ap (with_gate hash r label (and_number c i) (rows_after hash r c label i)) at ∙ same g.operation other
+  rows_after-other i g at other = rows_after-next i g at ∙ same g.operation other
     where
       same : (op : Operation) → is_and op ≡ false →
           with_operation hash r label (and_number c i) (rows_after hash r c label i) op ≡ rows_after hash r c label i
@@ -44,7 +45,7 @@ module _ (hash : ℕ → ℕ → ℕ) (r : ℕ) (c : Netlist) (label : ℕ → �
       same (Eq v) h = refl
       same (Eqw a) h = refl
 
-  rows_after-start : rows_after hash r c label 0 ≡ []
+  pub rows_after-start : rows_after hash r c label 0 ≡ []
   unfolding rows_after
   rows_after-start = refl
 

@@ -8,7 +8,8 @@ use Rattle.gc_circuit.specs.Circuit.{Netlist, input_wires, IsSetBy, IsSetBefore,
 use Rattle.gc_circuit.specs.Solution.{put, put_gate, values_after, solution}
 use Rattle.gc_circuit.proofs.SolutionLemmas.{IsSetBefore-more}
 
-lt_or_le : (m n : ℕ) → (m < n) ⊎ (n ≤ m)
+-- A number is below another or it is not.
+pub lt_or_le : (m n : ℕ) → (m < n) ⊎ (n ≤ m)
 lt_or_le m n = grind arith
 
 module _ (c : Netlist) (w : ℕ) where

@@ -1,11 +1,13 @@
 //! Half gates.
 #![tactic(auto)]
 
+mod garble;
 mod garbling;
 mod half_gate;
 mod hash;
 mod laws;
 
+pub use garble::garble_one_thread;
 pub use garbling::{Garbling, RowPair};
 pub use half_gate::{eval_and, garble_and};
 pub use hash::tweak_hash;
