@@ -1,5 +1,5 @@
 -- The garbling of a circuit under a seed, as functions: it is one, and there is no other.
-use Rattle.std.proofs.Common.{◌≡◌, ℕ, ◌+◌, ◌<◌, inl, inr, List, length, map, get_or, slice_get, Some, nat_lt, if◌then◌else◌, ltb, refl, sym, ap, ◌∙◌, arith}
+use Rattle.std.proofs.Common.{◌≡◌, ℕ, ◌<◌, inl, inr, List, length, map, get_or, slice_get, Some, if◌then◌else◌, refl, sym, ap, ◌∙◌, arith}
 use Rattle.std.specs.List.{range_with_len}
 use Rattle.std.proofs.lemmas.Bool.{lt-ltb}
 use Rattle.std.proofs.lemmas.Bool.Decides.{nat_tests}
@@ -7,7 +7,7 @@ use Rattle.std.proofs.lemmas.List.FromFn.{fill_by_all, length-map-range_with_len
 use Rattle.gc_circuit.specs.declared.circuit.Operation.TheVariants.{And}
 use Rattle.gc_circuit.specs.declared.circuit.Gate.{Gate}
 use Rattle.gc_circuit.specs.Circuit.{Netlist, input_wires, output_wires, IsLawful, IsSet, and_number, and_count}
-use Rattle.gc_circuit.specs.Solution.{Solves, solution}
+use Rattle.gc_circuit.specs.Solution.{Solves}
 use Rattle.gc_circuit.proofs.SolutionLemmas.{agree, solution_solves}
 use Rattle.gc_circuit.proofs.Tables.{read-table, IsSetBefore-below}
 use Rattle.gc_label.specs.Seed.{offset_of, input_label_of}
@@ -17,7 +17,7 @@ use Rattle.gc_half.specs.Garbling.{zero_of, zero_rule, rows_of, IsGarbling, Garb
 use Rattle.gc_half.specs.Canonical.{input_zero, zero_label_of, rows_after, row_pairs_of, garbling_of}
 use Rattle.gc_half.specs.Law.{HasOneGarbled}
 use Rattle.gc_half.proofs.SetWires.{set_or_not, solution-not_set}
-use Rattle.gc_half.proofs.GarblingLemmas.{zero_local, IsGarbling-same, rows-garbling, garbling-rows, one_garbling}
+use Rattle.gc_half.proofs.GarblingLemmas.{zero_local, IsGarbling-same, rows-garbling, one_garbling}
 
 -- Parts are equal where each part is.
 pub parts-same : (g : GarblingParts) (zero_labels : List ℕ) (rows : List RowPair) (outputs : ℕ) → g.zero_labels ≡ zero_labels → g.rows ≡ rows

@@ -1,5 +1,5 @@
 -- Garbling in file order: the table of zero labels and the row pairs, gate after gate.
-use Rattle.std.proofs.Common.{◌≡◌, ℕ, suc, ◌+◌, ◌-◌, ◌<◌, ◌≤◌, ◌++◌, ◌∷◌, [], ◌⊎◌, inl, inr, List, length, length-append, map, set, get_or, replicate, slice_get, slice_index, Some, refl, sym, ap, subst, ◌∙◌, arith}
+use Rattle.std.proofs.Common.{◌≡◌, ℕ, ◌+◌, ◌-◌, ◌<◌, ◌≤◌, ◌++◌, ◌∷◌, [], inl, inr, List, length, length-append, map, set, get_or, replicate, slice_get, slice_index, Some, refl, sym, ap, subst, ◌∙◌, arith}
 use Rattle.std.specs.List.{range_with_len}
 use Rattle.std.proofs.lemmas.List.{get_or_append_left, get_or-append_right, get_or-replicate, length-replicate}
 use Rattle.std.proofs.lemmas.List.FromFn.{fill_by_all, length-map-range_with_len}
@@ -14,8 +14,9 @@ use Rattle.gc_circuit.proofs.Tables.{read-table, table_more, after-zero, EachRea
 use Rattle.gc_label.specs.Seed.{offset_of, input_label_of}
 use Rattle.gc_half.specs.declared.garbling.RowPair.{RowPair}
 use Rattle.gc_half.specs.Hash.{hash}
-use Rattle.gc_half.specs.Garbling.{zero_of, zero_rule, rows_of, GarblingParts, IsGarbled}
-use Rattle.gc_half.specs.Canonical.{input_zero, zero_label_of, row_pairs_of, rows_after, with_operation, garbling_of}
+use Rattle.gc_half.specs.Garbling.{zero_of, zero_rule, GarblingParts, IsGarbled}
+use Rattle.gc_half.specs.Canonical.{input_zero, zero_label_of, row_pairs_of, rows_after, with_operation}
+use Rattle.gc_half.proofs.AndNumbers.{and_number-le}
 use Rattle.gc_half.proofs.GarblingLemmas.{zero_of_local, zero_local, rows_of_local}
 use Rattle.gc_half.proofs.RowLemmas.{rows_after-next, length-rows_after}
 use Rattle.gc_half.proofs.CanonicalLemmas.{input_zero-input, input_zero-other, parts-same, garbling_of-IsGarbled}
@@ -78,9 +79,23 @@ module _ (c : Netlist) (seed : List ℕ) where
         read-table (labels_after i) c.wires w 0 (IsSetBefore-below c lawful i w before)
         ∙ sym (after-keeps (zero_rule hash (offset_of seed) c) (zero_local hash (offset_of seed) c) c lawful (input_zero c seed) i (length c.gates) w within before)
 
-    -- It has a label for each wire.
-    pub length-label_table : (i : ℕ) → length (label_table i) ≡ c.wires
-    length-label_table i = length-map-range_with_len (labels_after i) 0 c.wires
+    -- It has a label for each wire,
+    pub table-length : (i : ℕ) (table : List ℕ) → table ≡ label_table i → length table ≡ c.wires
+    table-length i table is = ap length is ∙ length-map-range_with_len (labels_after i) 0 c.wires
+
+    -- so for each wire that a gate reads.
+    pub table-reads : (i : ℕ) (g : Gate) → slice_get c.gates i ≡ Some g → (table : List ℕ) → table ≡ label_table i →
+        EachRead (λ w. w < length table) g.operation
+    table-reads i g at table is =
+        let len = table-length i table is in
+        EachRead-map (λ w. w < c.wires) (λ w. w < length table) g.operation (λ w below. omega arith) (EachRead-below c lawful i g at)
+
+    -- There are at most as many row pairs as gates so far.
+    pub rows-few : (i : ℕ) → i ≤ length c.gates → (rows : List RowPair) → rows ≡ rows_after hash (offset_of seed) c (zero_label_of c seed) i →
+        length rows ≤ i
+    rows-few i within rows are =
+        let len = ap length are ∙ length-rows_after hash (offset_of seed) c (zero_label_of c seed) i within in
+        omega (arith, and_number-le c i)
 
     module _ (i : ℕ) (g : Gate) (at : slice_get c.gates i ≡ Some g) (table : List ℕ) (rows : List RowPair)
         (table_is : table ≡ label_table i) (rows_are : rows ≡ rows_after hash (offset_of seed) c (zero_label_of c seed) i) where
@@ -123,9 +138,12 @@ module _ (c : Netlist) (seed : List ℕ) where
           ∙ ap (rows_after hash (offset_of seed) c (zero_label_of c seed)) (omega arith)
 
     -- After the last gate the table and the row pairs are the garbling.
-    pub garbled-end : (g : GarblingParts) → g.zero_labels ≡ label_table (length c.gates) →
-        g.rows ≡ rows_after hash (offset_of seed) c (zero_label_of c seed) (length c.gates) → g.outputs ≡ output_wires c → IsGarbled c seed g
+    pub garbled-end : (i : ℕ) → i ≡ length c.gates → (g : GarblingParts) (table : List ℕ) (rows : List RowPair) (outputs : ℕ) →
+        g ≡ record { zero_labels = table; rows = rows; outputs = outputs } → table ≡ label_table i →
+        rows ≡ rows_after hash (offset_of seed) c (zero_label_of c seed) i → outputs ≡ output_wires c → IsGarbled c seed g
     unfolding zero_label_of row_pairs_of
-    garbled-end g labels rows outputs =
-        let same : g ≡ garbling_of c seed = parts-same g (label_table (length c.gates)) (row_pairs_of c seed) (output_wires c) labels rows outputs in
-        let P : GarblingParts → Type 0 = IsGarbled c seed in subst P (sym same) (garbling_of-IsGarbled c seed lawful)
+    garbled-end i all g table rows outputs is table_is rows_are outputs_are =
+        let P : GarblingParts → Type 0 = IsGarbled c seed in
+        subst P (sym (is ∙ parts-same (record { zero_labels = table; rows = rows; outputs = outputs }) (label_table (length c.gates)) (row_pairs_of c seed) (output_wires c)
+        (table_is ∙ ap label_table all) (rows_are ∙ ap (rows_after hash (offset_of seed) c (zero_label_of c seed)) all) outputs_are))
+        (garbling_of-IsGarbled c seed lawful)

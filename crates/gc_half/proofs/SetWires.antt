@@ -1,11 +1,10 @@
 -- Which wires are set, and the values of those that are not.
-use Rattle.std.proofs.Common.{◌≡◌, ◌≢◌, ℕ, zero, suc, ◌+◌, ◌<◌, ◌≤◌, ◌⊎◌, inl, inr, length, slice_get, Some, None, Option, if◌then◌else◌, ◌==◌, refl, sym, ap, subst, ◌∙◌, arith}
+use Rattle.std.proofs.Common.{◌≡◌, ◌≢◌, ℕ, zero, suc, ◌<◌, ◌≤◌, ◌⊎◌, inl, inr, length, slice_get, Some, None, Option, refl, sym, ap, subst, ◌∙◌, arith}
 use Rattle.std.proofs.lemmas.Bool.{cases_eq}
 use Rattle.std.proofs.lemmas.Bool.Decides.{nat_tests}
-use Rattle.std.proofs.lemmas.Option.{slice_get_cases}
 use Rattle.gc_circuit.specs.declared.circuit.Gate.{Gate}
 use Rattle.gc_circuit.specs.Circuit.{Netlist, input_wires, IsSetBy, IsSetBefore, IsSet}
-use Rattle.gc_circuit.specs.Solution.{put, put_gate, values_after, solution}
+use Rattle.gc_circuit.specs.Solution.{put_gate, values_after, solution}
 use Rattle.gc_circuit.proofs.SolutionLemmas.{IsSetBefore-more}
 
 -- A number is below another or it is not.

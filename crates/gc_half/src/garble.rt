@@ -31,11 +31,7 @@ pub fn garble_one_thread<A: Allocator + Copy, C: Allocator>(
         let zero_label = garble_operation(offset, &zero_labels, &mut rows, gate.operation)?;
         zero_labels[gate.set as usize] = zero_label;
     }
-    Ok(Garbling::from_parts(
-        zero_labels,
-        rows,
-        circuit.output_wires(),
-    ))
+    Ok(Garbling::from_parts(zero_labels, rows, circuit.output_wires()))
 }
 
 /// The zero labels of the input wires, and 16 zero bytes for each other wire.
@@ -71,8 +67,12 @@ fn garble_operation<A: Allocator>(
         Operation::Xor(a, b) => zero_labels[a as usize].xor(zero_labels[b as usize]),
         Operation::And(a, b) => {
             let k = rows.len() as u32;
-            let (zero_label, generator, evaluator) =
-                garble_and(k, offset, zero_labels[a as usize], zero_labels[b as usize]);
+            let (zero_label, generator, evaluator) = garble_and(
+                k,
+                offset,
+                zero_labels[a as usize],
+                zero_labels[b as usize],
+            );
             rows.push(RowPair {
                 generator,
                 evaluator,
