@@ -1,5 +1,5 @@
 -- The garbling of a circuit under a seed, as functions: it is one, and there is no other.
-use Rattle.std.proofs.Common.{◌≡◌, ℕ, ◌<◌, inl, inr, List, length, map, get_or, slice_get, Some, if◌then◌else◌, refl, sym, ap, ◌∙◌, arith}
+use Rattle.std.proofs.Common.{◌≡◌, ℕ, ◌-◌, ◌<◌, inl, inr, Bool, List, length, map, drop, get_or, slice_get, Some, if◌then◌else◌, refl, sym, ap, ◌∙◌, arith}
 use Rattle.std.specs.List.{range_with_len}
 use Rattle.std.proofs.lemmas.Bool.{lt-ltb}
 use Rattle.std.proofs.lemmas.Bool.Decides.{nat_tests}
@@ -9,13 +9,18 @@ use Rattle.gc_circuit.specs.declared.circuit.Gate.{Gate}
 use Rattle.gc_circuit.specs.Circuit.{Netlist, input_wires, output_wires, IsLawful, IsSet, and_number, and_count}
 use Rattle.gc_circuit.specs.Solution.{Solves}
 use Rattle.gc_circuit.proofs.SolutionLemmas.{agree, solution_solves}
-use Rattle.gc_circuit.proofs.Tables.{read-table, IsSetBefore-below}
+use Rattle.gc_circuit.specs.Meaning.{IsAssignment}
+use Rattle.gc_circuit.proofs.Tables.{read-table, table_end, IsSetBefore-below}
+use Rattle.gc_label.specs.Label.{colour}
 use Rattle.gc_label.specs.Seed.{offset_of, input_label_of}
+use Rattle.gc_label.proofs.SeedLemmas.{colour-offset_of}
 use Rattle.gc_half.specs.declared.garbling.RowPair.{RowPair}
 use Rattle.gc_half.specs.Hash.{hash}
-use Rattle.gc_half.specs.Garbling.{zero_of, zero_rule, rows_of, IsGarbling, GarblingParts, IsGarbled}
+use Rattle.gc_half.specs.Garbling.{zero_of, zero_rule, rows_of, IsGarbling, GarblingParts, decode_bits_of, IsGarbled}
+use Rattle.gc_half.specs.Evaluation.{IsEvaluation, encode, decode_bits}
 use Rattle.gc_half.specs.Canonical.{input_zero, zero_label_of, rows_after, row_pairs_of, garbling_of}
-use Rattle.gc_half.specs.Law.{HasOneGarbled}
+use Rattle.gc_half.specs.Law.{HasOneGarbled, Decodes}
+use Rattle.gc_half.proofs.CircuitLaw.{garbling-decodes}
 use Rattle.gc_half.proofs.SetWires.{set_or_not, solution-not_set}
 use Rattle.gc_half.proofs.GarblingLemmas.{zero_local, IsGarbling-same, rows-garbling, one_garbling}
 
@@ -106,6 +111,21 @@ module _ (c : Netlist) (seed : List ℕ) where
         rows =
             (one_garbling hash (offset_of seed) c lawful (input_label_of seed)).same_rows
             (λ k. get_or g.zero_labels k 0) (zero_label_of c seed) g.rows (row_pairs_of c seed) garbled.garbling canonical-garbling
+
+    -- Its decode bits are the colours of the output wires' zero labels,
+    pub IsGarbled-decode_bits : (g : GarblingParts) → IsGarbled c seed g → decode_bits_of g ≡ decode_bits c (zero_label_of c seed)
+    IsGarbled-decode_bits g garbled =
+        ap decode_bits_of (IsGarbled-same g garbled)
+        ∙ ap (λ n. map colour (drop (n - output_wires c) (map (zero_label_of c seed) (range_with_len 0 c.wires))))
+        (length-map-range_with_len (zero_label_of c seed) 0 c.wires)
+        ∙ ap (map colour) (table_end (zero_label_of c seed) c.wires (output_wires c) lawful.outputs_fit)
+
+    -- and what its rows evaluate to, on labels that stand for input bits, decodes to the output bits.
+    pub canonical-decodes : (input_bits bits : ℕ → Bool) → IsAssignment c input_bits bits → (active : ℕ → ℕ) →
+        IsEvaluation hash c (row_pairs_of c seed) (λ w. encode (offset_of seed) (input_label_of seed w) (input_bits w)) active →
+        Decodes c (offset_of seed) (zero_label_of c seed) bits active
+    canonical-decodes =
+        garbling-decodes hash (offset_of seed) (colour-offset_of seed) c lawful (input_label_of seed) (zero_label_of c seed) (row_pairs_of c seed) canonical-garbling
 
     pub one_garbled : HasOneGarbled c seed
     one_garbled = record {
