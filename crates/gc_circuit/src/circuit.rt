@@ -1,6 +1,8 @@
-ghost use Rattle.std.specs.Prelude.{◌≡◌, ◌<◌, length, slice_get, Some};
-ghost use Rattle.gc_circuit.specs.Circuit.{is_and, and_count, input_wires, output_wires, IsLawful};
+ghost use Rattle.std.specs.Prelude.{◌≡◌, ◌<◌, ◌↔◌, length, slice_get, Some, IsTrue, IfOk};
+ghost use Rattle.gc_circuit.specs.Circuit.{is_and, and_count, input_wires, output_wires, IsLawful, IsSummary};
 
+use crate::memory::Memory;
+use crate::read::Widths;
 use std::alloc::{Allocator, Global};
 use std::marker::Model;
 
@@ -62,6 +64,28 @@ impl<A: Allocator> Model for Circuit<A> {
 }
 
 impl<A: Allocator> Circuit<A> {
+    /// The circuit of these parts. That it is lawful, and what the sums are, is the caller's condition.
+    pub(crate) fn new(
+        wires: u32,
+        inputs: Widths<A>,
+        outputs: Widths<A>,
+        gates: Vec<Gate, A>,
+        and_count: u32,
+    ) -> Circuit<A>
+        requires { IsSummary (record { wires = wires; input_widths = inputs.widths.items; output_widths = outputs.widths.items; gates = gates.items }) inputs.sum outputs.sum and_count }
+        ensures { result ≡ record { wires = wires; input_widths = inputs.widths.items; output_widths = outputs.widths.items; gates = gates.items } }
+    {
+        Circuit {
+            wires,
+            input_wires: inputs.sum,
+            output_wires: outputs.sum,
+            and_count,
+            input_widths: inputs.widths,
+            output_widths: outputs.widths,
+            gates,
+        }
+    }
+
     /// How many gates the circuit has.
     pub fn gates(&self) -> u32
         ensures count { result ≡ length self.now.gates }
@@ -120,4 +144,40 @@ impl<A: Allocator> Circuit<A> {
     {
         self.gates[i as usize]
     }
+    /// Whether both circuits have the same wires, widths and gates.
+    pub fn equals<B: Allocator>(&self, other: &Circuit<B>) -> bool
+        ensures { IsTrue result ↔ (self.now ≡ other.now) }
+    {
+        let wires = self.wires == other.wires;
+        let inputs = same_widths(&self.input_widths, &other.input_widths);
+        let outputs = same_widths(&self.output_widths, &other.output_widths);
+        wires && inputs && outputs && same_gates(&self.gates, &other.gates)
+    }
+
+    /// An equal circuit in memory of its own.
+    pub fn try_clone<B: Allocator + Copy>(&self, alloc: B) -> Result<Circuit<B>, Memory>
+        ensures { IfOk result (λ c. c ≡ self.now) }
+    {
+        Ok(Circuit {
+            wires: self.wires,
+            input_wires: self.input_wires,
+            output_wires: self.output_wires,
+            and_count: self.and_count,
+            input_widths: Vec::from_slice(alloc, &self.input_widths)?,
+            output_widths: Vec::from_slice(alloc, &self.output_widths)?,
+            gates: Vec::from_slice(alloc, &self.gates)?,
+        })
+    }
+}
+
+fn same_widths(left: &[u32], right: &[u32]) -> bool
+    ensures { IsTrue result ↔ (left.now ≡ right.now) }
+{
+    left == right
+}
+
+fn same_gates(left: &[Gate], right: &[Gate]) -> bool
+    ensures { IsTrue result ↔ (left.now ≡ right.now) }
+{
+    left == right
 }
