@@ -1,0 +1,2 @@
+pub mod LabelLemmas
+pub mod SeedLemmas
