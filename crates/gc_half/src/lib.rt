@@ -1,0 +1,10 @@
+//! Half gates.
+#![tactic(auto)]
+
+mod garbling;
+mod half_gate;
+mod hash;
+
+pub use garbling::{Garbling, RowPair};
+pub use half_gate::{eval_and, garble_and};
+pub use hash::tweak_hash;
