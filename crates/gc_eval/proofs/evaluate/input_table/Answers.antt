@@ -1,4 +1,4 @@
-use Rattle.std.proofs.Common.{◌≡◌, ◌∙◌, ap, arith}
+use Rattle.std.proofs.Common.{◌∙◌, arith}
 use Rattle.std.proofs.lemmas.Grind.{common_steps}
 use Rattle.gc_circuit.proofs.Tables.{table_padded}
 use Rattle.gc_eval.proofs.evaluate.input_table.Goals as goal
