@@ -154,7 +154,7 @@ module _ (wires inputs count i : ℕ) (before : List Gate) (ts : List (List ℕ)
       let none : count - i ≡ 0 = omega arith in
       sym so_far ∙ ap (λ n. gates_at wires inputs n before ts) none ∙ gates_end wires inputs before ts
 
--- what the code found is what the check_gate says of the gates before
+-- What the code finds in the table is what the check says of the gates before.
 pub found : (inputs n : ℕ) (before : List Gate) (table marks : List Bool) (g : Gate) (r : Result (Unit {0}) ReadFault) → table ≡ marks →
     marks ≡ map (is_set inputs before) (range_with_len 0 n) → r ≡ check_gate (length table) (λ w. slice_index_or table w false) g → check_gate n (is_set inputs before) g ≡ r
 found inputs n before table marks g r same is h = sym (marks_read inputs n before table (same ∙ is) g) ∙ sym h
