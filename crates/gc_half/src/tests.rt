@@ -19,9 +19,6 @@
 //     print('%032x %032x %032x %032x' % (c, tg, te, c ^ R))
 //     print('%032x %032x %032x' % garble(1, c ^ R, A))
 
-ghost use Rattle.std.specs.Prelude.{◌≡◌};
-ghost use Rattle.gc_label.specs.Label.{label_of_bytes};
-
 use super::*;
 use gc_circuit::Circuit;
 use gc_label::{Label, Offset, Seed, input_label, offset};
