@@ -1,0 +1,4 @@
+pub mod ListLemmas
+pub mod CircuitLemmas
+pub mod StepLemmas
+pub mod TableLemmas

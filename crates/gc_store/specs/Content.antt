@@ -27,20 +27,20 @@ pub record Content : Type 0 where
 abbrev pub is_claimed : State → Bool
 is_claimed Free = false
 is_claimed Claimed = true
-is_claimed (Finished zero rows) = false
+is_claimed (Finished label rows) = false
 
 -- finished,
 abbrev pub is_finished : State → Bool
 is_finished Free = false
 is_finished Claimed = false
-is_finished (Finished zero rows) = true
+is_finished (Finished label rows) = true
 
 -- or finished with rows, which is the state of a finished AND gate
 abbrev pub has_rows : State → Bool
 has_rows Free = false
 has_rows Claimed = false
-has_rows (Finished zero None) = false
-has_rows (Finished zero (Some rows)) = true
+has_rows (Finished label None) = false
+has_rows (Finished label (Some rows)) = true
 
 -- Gate i is claimed.
 abbrev pub IsClaimed : Content → ℕ → Type 0
@@ -48,9 +48,9 @@ IsClaimed s i = slice_get s.states i ≡ Some Claimed
 
 -- Gate i is finished.
 pub record IsFinished (s : Content) (i : ℕ) : Type 0 where
-  pub zero : ℕ
+  pub label : ℕ
   pub rows : Option RowPair
-  pub at : slice_get s.states i ≡ Some (Finished zero rows)
+  pub at : slice_get s.states i ≡ Some (Finished label rows)
 
 -- The label of wire w is known: w is an input wire, or a finished gate sets it.
 abbrev pub IsKnown : Content → ℕ → Type 0
@@ -73,9 +73,9 @@ pub record IsLawfulContent (s : Content) : Type 0 where
   -- Each gate has a state.
   pub states : length s.states ≡ length s.circuit.gates
   -- A finished gate has the zero label and the rows of the half-gate garbling of that gate under the seed.
-  pub finished : (i : ℕ) (g : Gate) (zero : ℕ) (rows : Option RowPair) → slice_get s.circuit.gates i ≡ Some g
-      → slice_get s.states i ≡ Some (Finished zero rows)
-      → (zero ≡ zero_label_of s.circuit s.seed g.set) × (rows ≡ sealed_rows (task_of s.circuit s.seed i g))
+  pub finished : (i : ℕ) (g : Gate) (label : ℕ) (rows : Option RowPair) → slice_get s.circuit.gates i ≡ Some g
+      → slice_get s.states i ≡ Some (Finished label rows)
+      → (label ≡ zero_label_of s.circuit s.seed g.set) × (rows ≡ sealed_rows (task_of s.circuit s.seed i g))
   -- Each wire that a claimed or finished gate reads is known.
   pub reads : (i : ℕ) (g : Gate) (state : State) → slice_get s.circuit.gates i ≡ Some g
       → slice_get s.states i ≡ Some state → state ≢ Free → EachRead (IsKnown s) g.operation

@@ -29,28 +29,28 @@ pub record Tables : Type 0 where
 abbrev pub rows_at : List RowPair → ℕ → Operation → Option RowPair
 rows_at rows k op = if is_and op then slice_get rows k else None
 
--- the state of gate i, once it is finished
-abbrev pub finished_state : Netlist → Tables → ℕ → Option Gate → State
-finished_state c t i None = Free
-finished_state c t i (Some g) =
-    Finished (slice_index t.zero_labels g.set) (rows_at t.rows (and_number c i) g.operation)
+module _ (c : Netlist) (zero_labels : List ℕ) (rows : List RowPair) where
+  -- the state of gate i, once it is finished
+  abbrev pub finished_state : ℕ → Option Gate → State
+  finished_state i None = Free
+  finished_state i (Some g) = Finished (slice_index zero_labels g.set) (rows_at rows (and_number c i) g.operation)
 
--- the state of gate i, by its mark
-abbrev pub state_at : Netlist → Tables → ℕ → Mark → State
-state_at c t i mark.Free = Free
-state_at c t i mark.Claimed = Claimed
-state_at c t i mark.Finished = finished_state c t i (slice_get c.gates i)
+  -- the state of gate i, by its mark
+  abbrev pub state_at : ℕ → Mark → State
+  state_at i mark.Free = Free
+  state_at i mark.Claimed = Claimed
+  state_at i mark.Finished = finished_state i (slice_get c.gates i)
 
--- the state of each gate
-abbrev pub states_of : Netlist → Tables → List State
-states_of c t = map (λ i. state_at c t i (slice_index_or t.marks i mark.Free)) (range_with_len 0 (length c.gates))
+  -- the state of each gate
+  unfoldable pub states_of : List Mark → List State
+  states_of marks = map (λ i. state_at i (slice_index_or marks i mark.Free)) (range_with_len 0 (length c.gates))
 
 -- The content that the tables hold.
 abbrev pub content_of : Netlist → List ℕ → Tables → Content
 content_of c seed t = record {
   circuit = c;
   seed = seed;
-  states = states_of c t;
+  states = states_of c t.zero_labels t.rows t.marks;
   rows = 2 * t.finished_ands;
   tallies = t.tallies;
 }
@@ -66,7 +66,7 @@ pub record IsKept (c : Netlist) (seed : List ℕ) (offset : ℕ) (t : Tables) : 
   pub zero_labels : t.zero_labels ≡ map (λ w. if slice_index_or t.known w false then zero_label_of c seed w else 0) (range_with_len 0 c.wires)
   pub and_numbers : t.and_numbers ≡ map (and_number c) (range_with_len 0 (length c.gates))
   pub rows : length t.rows ≡ and_count c
-  pub finished : t.finished ≡ count_by is_finished (states_of c t)
+  pub finished : t.finished ≡ count_by is_finished (content_of c seed t).states
   pub first_free : t.first_free ≤ length c.gates
   pub none_free : (i : ℕ) → i < t.first_free → slice_get t.marks i ≢ Some mark.Free
 

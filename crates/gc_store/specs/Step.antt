@@ -52,7 +52,7 @@ Deals old (Some tally) new = (old.tallies < MAX_TALLIES) × (tally ≡ 0) × (ne
 abbrev pub reopened : State → State
 reopened Free = Free
 reopened Claimed = Free
-reopened (Finished zero rows) = Finished zero rows
+reopened (Finished label rows) = Finished label rows
 
 -- Reopening: claimed gates are free again, and the answer is how many they were.
 abbrev pub Reopens : Content → ℕ → Content → Type 0

@@ -1,10 +1,11 @@
 //! The store.
 
-ghost use Rattle.std.specs.Prelude.{◌≡◌, ◌↔◌, ◌<◌, ◌+◌, ℕ, IsTrue, IfOk, OnOk, OnErr, MatchResult, MatchOption, length, min, count_by, slice_get, Some};
+ghost use Rattle.std.specs.Prelude.{◌≡◌, ◌≢◌, ◌↔◌, ◌<◌, ◌≤◌, ◌+◌, ◌^◌, ℕ, IsTrue, IfOk, OnOk, OnErr, MatchResult, MatchOption, Some, length, min, count_by, false, slice_get, slice_index, slice_index_or};
+ghost use Rattle.gc_store.specs.declared.mark.Mark.TheVariants as mark;
 ghost use Rattle.gc_circuit.specs.Circuit.{EachRead};
 ghost use Rattle.gc_half.specs.Garbling.{IsGarbled};
-ghost use Rattle.gc_store.specs.Task.{task_of};
-ghost use Rattle.gc_store.specs.Content.{is_finished, IsClaimed, MayGoNext, AllFinished, IsKnown, IsLawfulContent, opened};
+ghost use Rattle.gc_store.specs.Task.{first_read, second_read};
+ghost use Rattle.gc_store.specs.Content.{is_finished, IsClaimed, MayGoNext, AllFinished, IsLawfulContent, opened};
 ghost use Rattle.gc_store.specs.Step.{IsOwnTask, with_sealed, Claims, Finishes, Deals};
 ghost use Rattle.gc_store.specs.Kept.{ReadsKnown};
 
@@ -120,7 +121,7 @@ impl<A: Allocator> Store<A> {
     pub fn claim(&mut self) -> Option<Task>
         ensures { Claims self.old result self.new }
     {
-        self.pass_taken();
+        self.first_free = first_free(&self.marks, self.first_free);
         let task = self.next_task()?;
         self.marks[task.gate as usize] = Mark::Claimed;
         Some(task)
@@ -177,17 +178,6 @@ impl<A: Allocator> Store<A> {
         ))
     }
 
-    /// Raises `first_free` past the gates that aren't free.
-    fn pass_taken(&mut self)
-        ensures { self.new ≡ self.old }
-    {
-        while self.first_free < self.circuit.gates()
-            && self.marks[self.first_free as usize] != Mark::Free
-        {
-            self.first_free += 1;
-        }
-    }
-
     /// The task of the first gate that may go next.
     fn next_task(&self) -> Option<Task>
         ensures { MatchOption result ((i : ℕ) → ¬ MayGoNext self.now i) (λ task. MayGoNext self.now task.gate × IsOwnTask self.now task) }
@@ -205,15 +195,16 @@ impl<A: Allocator> Store<A> {
         requires { i < length self.now.circuit.gates }
         ensures { IsTrue result ↔ MayGoNext self.now i }
     {
-        self.marks[i as usize] == Mark::Free
+        self.marks[i as usize].is_free()
             && reads_known(&self.known, self.circuit.gate(i).operation)
     }
 
     /// Whether a gate is claimed. There may be no such gate.
     fn is_claimed(&self, i: u32) -> bool
-        ensures { IsTrue result ↔ IsClaimed self.now i }
+        ensures claimed { IsTrue result ↔ IsClaimed self.now i }
+        ensures reads { IsTrue result → ReadsKnown self.now i }
     {
-        i < self.circuit.gates() && self.marks[i as usize] == Mark::Claimed
+        i < self.circuit.gates() && self.marks[i as usize].is_claimed()
     }
 
     /// The task of a gate that reads known wires alone.
@@ -253,10 +244,25 @@ impl<A: Allocator> Store<A> {
     }
 }
 
+/// The first free gate from gate `start` on, or how many gates there are.
+fn first_free(marks: &[Mark], start: u32) -> u32
+    requires small { length marks.now < 2 ^ 32 }
+    requires start { start ≤ length marks.now }
+    ensures bound { result ≤ length marks.now }
+    ensures taken { (i : ℕ) → start ≤ i → i < result → slice_get marks.now i ≢ Some mark.Free }
+{
+    for i in start..marks.len() as u32 {
+        if marks[i as usize].is_free() {
+            return i;
+        }
+    }
+    marks.len() as u32
+}
+
 /// Whether each wire that an operation reads is known.
 fn reads_known(known: &[bool], operation: Operation) -> bool
     requires { EachRead (λ w. w < length known.now) operation }
-    ensures { IsTrue result ↔ EachRead (λ w. slice_get known.now w ≡ Some true) operation }
+    ensures { IsTrue result ↔ EachRead (λ w. IsTrue (slice_index_or known.now w false)) operation }
 {
     match operation {
         Operation::Xor(a, b) => known[a as usize] && known[b as usize],

@@ -1,0 +1,4 @@
+use Rattle.gc_store.proofs.store.Store.next_task.Goals as goal
+
+pub returns : goal.returns
+returns g c = ?
