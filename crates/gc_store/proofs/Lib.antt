@@ -2,3 +2,5 @@ pub mod ListLemmas
 pub mod CircuitLemmas
 pub mod StepLemmas
 pub mod TableLemmas
+pub mod OpenLemmas
+pub mod GarblingLemmas

@@ -22,7 +22,7 @@ use Rattle.gc_store.specs.declared.task.Task.{Task}
 use Rattle.gc_store.specs.declared.tally.TheConstants.{MAX_TALLIES}
 use Rattle.gc_store.specs.Task.{first_read, second_read, task_of, rows_sealed, sealed_zero, sealed_rows}
 use Rattle.gc_store.specs.Content.{State, Free, Claimed, Finished, Content, is_finished, has_rows, IsClaimed, IsFinished, IsKnown, MayGoNext, AllFinished, IsLawfulContent}
-use Rattle.gc_store.specs.Step.{with_state, with_sealed, IsOwnTask}
+use Rattle.gc_store.specs.Step.{with_state, with_sealed, IsOwnTask, Claims}
 use Rattle.gc_store.specs.Kept.{Tables, rows_at, finished_state, state_at, states_of, content_of, IsKept, ReadsKnown}
 use Rattle.gc_store.proofs.ListLemmas.{slice_get-set_other, slice_get-set_same, count_by-set, count_by-set_more, slice_get-table, set-table_is}
 use Rattle.gc_store.proofs.CircuitLemmas.{set-apart, and_number-apart, and_number-lt}
@@ -538,14 +538,14 @@ reads_within c seed r t i g labels kept at len =
 
 -- ---- keeping a sealed task
 
--- what the tables are once a sealed task is kept, and that they keep what they keep
-pub record SealedKept (c : Netlist) (seed : List ℕ) (r : ℕ) (t : Tables) (now : Content) (task : Task) (g : Gate) (label : ℕ) (pair : Option RowPair) : Type 0 where
+-- the tables once a sealed task is kept: they keep what they kept, and hold the content that finishing it gives
+pub record KeepsSealed (c : Netlist) (seed : List ℕ) (r : ℕ) (t : Tables) (now : Content) (task sealed : Task) (g : Gate) (label : ℕ) (pair : Option RowPair) : Type 0 where
   pub keeps : IsKept c seed r (finished_tables t task.gate g.set task.and_number label pair)
-  pub content : content_of c seed (finished_tables t task.gate g.set task.and_number label pair) ≡ with_sealed now task
+  pub content : content_of c seed (finished_tables t task.gate g.set task.and_number label pair) ≡ with_sealed now sealed
 
 pub keep_sealed : (c : Netlist) (seed : List ℕ) (r : ℕ) (t : Tables) (now : Content) (task sealed : Task) (g : Gate) (label : ℕ) (pair : Option RowPair)
     → content_of c seed t ≡ now → IsKept c seed r t → task ≡ sealed → IsClaimed now sealed.gate → IsOwnTask now sealed → slice_get c.gates task.gate ≡ Some g
-    → label ≡ sealed_zero sealed → pair ≡ sealed_rows sealed → SealedKept c seed r t now sealed g label pair
+    → label ≡ sealed_zero sealed → pair ≡ sealed_rows sealed → KeepsSealed c seed r t now task sealed g label pair
 keep_sealed c seed r t now task sealed g label pair same kept told claimed owned at label_is pair_is =
     let P : Content → Type 0 = λ x. IsClaimed x sealed.gate in
     let Q : Content → Type 0 = λ x. IsOwnTask x sealed in
@@ -555,14 +555,41 @@ keep_sealed c seed r t now task sealed g label pair same kept told claimed owned
     let gates : own'.gate ≡ g = (let a = own'.at in cc) in
     let is : sealed ≡ task_of c seed sealed.gate g = own'.same ∙ ap (task_of c seed sealed.gate) gates in
     let i : ℕ = sealed.gate in
-    let R : Task → Type 0 = λ x. SealedKept c seed r t (content_of c seed t) (record x { gate = i }) g (sealed_zero x) (sealed_rows x) in
+    let R : Task → Type 0 = λ x. KeepsSealed c seed r t (content_of c seed t) (record x { gate = i }) (record x { gate = i }) g (sealed_zero x) (sealed_rows x) in
     let made : R (task_of c seed i g) = record {
       keeps = finish_keeps c seed r t kept i g at' claimed';
       content = content-finish c seed r t kept i g at' claimed';
     } in
-    let S : Content → Type 0 = λ x. SealedKept c seed r t x sealed g (sealed_zero sealed) (sealed_rows sealed) in
+    let S : Content → Type 0 = λ x. KeepsSealed c seed r t x sealed sealed g (sealed_zero sealed) (sealed_rows sealed) in
     let there : S now = subst S same (subst R (sym is) made) in
-    rw (label_is, pair_is) there
+    let T : Task → Type 0 = λ x. KeepsSealed c seed r t now x sealed g (sealed_zero sealed) (sealed_rows sealed) in
+    let U : ℕ → Type 0 = λ x. KeepsSealed c seed r t now task sealed g x (sealed_rows sealed) in
+    let V : Option RowPair → Type 0 = λ x. KeepsSealed c seed r t now task sealed g label x in
+    subst V (sym pair_is) (subst U (sym label_is) (subst T (sym told) there))
+
+-- an AND gate's number is a place of the table of rows
+pub number_within : (c : Netlist) (seed : List ℕ) (r : ℕ) (t : Tables) (now : Content) (task sealed : Task) (pair : RowPair) → content_of c seed t ≡ now → IsKept c seed r t
+    → task ≡ sealed → IsOwnTask now sealed → Some pair ≡ sealed_rows sealed → task.and_number < length t.rows
+number_within c seed r t now task sealed pair same kept told owned pair_is =
+    let Q : Content → Type 0 = λ x. IsOwnTask x sealed in
+    let own' = subst Q (sym same) owned in
+    let alone : true ≡ is_and own'.gate.operation =
+    ap is_some pair_is ∙ ap (λ (x : Task). is_some (sealed_rows x)) own'.same ∙ is_some-sealed _ _ _ _ own'.gate.operation in
+    let less = and_number-lt c sealed.gate own'.gate own'.at (sym alone) in
+    let number = ap (λ (x : Task). x.and_number) told ∙ ap (λ (x : Task). x.and_number) own'.same in
+    let count = kept.rows in omega (arith, less, number, count)
+
+-- ---- claiming, as the store does it
+
+pub claims : (c : Netlist) (seed : List ℕ) (r : ℕ) (t : Tables) (now : Content) (task : Task) → content_of c seed t ≡ now → IsKept c seed r t
+    → MayGoNext (content_of c seed t) task.gate → IsOwnTask (content_of c seed t) task → Claims now (Some task) (content_of c seed (claimed_tables t task.gate))
+claims c seed r t now task same kept next owned =
+    let P : Content → Type 0 = λ x. Claims x (Some task) (content_of c seed (claimed_tables t task.gate)) in
+    subst P same (next, owned, content-claim c seed r t kept task.gate next)
+
+pub claims_none : (s now : Content) (task : Option Task) → task ≡ None → s ≡ now → ((i : ℕ) → ¬ MayGoNext s i) → Claims now task s
+claims_none s now None is same none = let P : (i : ℕ) → Content → Type 0 = λ i x. MayGoNext x i in (λ i next. none i (subst (P i) (sym same) next), same)
+claims_none s now (Some task) is same none = cc
 
 -- the wire that the task's gate sets has a label
 pub set_within : (c : Netlist) (seed : List ℕ) (r : ℕ) (t : Tables) (i : ℕ) (g : Gate) → IsKept c seed r t → slice_get c.gates i ≡ Some g
@@ -570,3 +597,11 @@ pub set_within : (c : Netlist) (seed : List ℕ) (r : ℕ) (t : Tables) (i : ℕ
 set_within c seed r t i g kept at =
     let count = ap length kept.zero_labels ∙ length-map-range_with_len (known_label c seed t.known) 0 c.wires in
     let below = kept.lawful.circuit.sets i g at in omega (arith, count, below)
+
+-- a gate that may go next has a free mark
+pub mark_is_free : (c : Netlist) (seed : List ℕ) (r : ℕ) (t : Tables) (now : Content) (i : ℕ) (m : Mark) → content_of c seed t ≡ now → IsKept c seed r t
+    → m ≡ get_or t.marks i m → MayGoNext now i → m ≡ mark.Free
+mark_is_free c seed r t now i m same kept read next =
+    let P : Content → Type 0 = λ x. MayGoNext x i in
+    let here = subst P (sym same) next in
+    (mark_free c seed r t kept i (slice_get_within c.gates i here.gate here.at) m read).1 here.free
