@@ -1,6 +1,6 @@
 -- Two gates set two wires, and two AND gates have two AND numbers.
-use Rattle.std.proofs.Common.{◌≡◌, ◌≢◌, ℕ, zero, suc, ◌+◌, ◌<◌, ◌≤◌, ◌⊎◌, inl, inr, List, [], ◌∷◌, length, take, get_or, slice_get, Option, Some, count_by, sum_by, cond, true, refl, sym, ap, ◌∙◌, subst, arith}
-use Rattle.std.proofs.lemmas.List.Sums.{count_by_more_yes, sum_by-take-le, sum_by-cons}
+use Rattle.std.proofs.Common.{◌≡◌, ◌≢◌, ℕ, zero, suc, ◌+◌, ◌<◌, ◌≤◌, ◌⊎◌, inl, inr, List, [], ◌∷◌, length, take, get_or, slice_get, Option, Some, count_by, sum_by, cond, true, false, refl, sym, ap, ◌∙◌, subst, arith}
+use Rattle.std.proofs.lemmas.List.Sums.{count_by_more_yes, count_by_more_no, sum_by-take-le, sum_by-cons}
 use Rattle.std.proofs.lemmas.Option.{slice_get_within, get_or_from_slice_get}
 use Rattle.gc_circuit.specs.declared.circuit.Operation.{Operation}
 use Rattle.gc_circuit.specs.declared.circuit.Gate.{Gate}
@@ -23,6 +23,13 @@ pub and_number-more : (c : Netlist) (i : ℕ) (g : Gate) → slice_get c.gates i
     → and_number c (i + 1) ≡ and_number c i + 1
 and_number-more c i g at is =
     count_by_more_yes (λ (x : Gate). is_and x.operation) c.gates i g (slice_get_within c.gates i g at)
+    (ap (λ (x : Gate). is_and x.operation) (get_or_from_slice_get c.gates i g g at) ∙ is)
+
+-- and past another gate
+pub and_number-same : (c : Netlist) (i : ℕ) (g : Gate) → slice_get c.gates i ≡ Some g → is_and g.operation ≡ false
+    → and_number c (i + 1) ≡ and_number c i
+and_number-same c i g at is =
+    count_by_more_no (λ (x : Gate). is_and x.operation) c.gates i g (slice_get_within c.gates i g at)
     (ap (λ (x : Gate). is_and x.operation) (get_or_from_slice_get c.gates i g g at) ∙ is)
 
 -- a sum over the beginning of a list doesn't fall where there is more of it

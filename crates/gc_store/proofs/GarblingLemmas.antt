@@ -14,11 +14,12 @@ use Rattle.gc_circuit.proofs.Tables.{IsSetBefore-below}
 use Rattle.gc_label.specs.Seed.{offset_of, input_label_of}
 use Rattle.gc_half.specs.declared.garbling.RowPair.{RowPair}
 use Rattle.gc_half.specs.Hash.{hash}
+use Rattle.gc_half.specs.HalfGate.{generator_row, evaluator_row}
 use Rattle.gc_half.specs.Garbling.{zero_rule, rows_of, IsGarbling, GarblingParts, IsGarbled}
 use Rattle.gc_half.specs.Canonical.{zero_label_of, input_zero}
 use Rattle.gc_store.specs.declared.mark.Mark.{Mark}
 use Rattle.gc_store.specs.declared.mark.Mark.TheVariants as mark
-use Rattle.gc_store.specs.Task.{task_of, sealed_rows}
+use Rattle.gc_store.specs.Task.{first_read, second_read, task_of, rows_sealed, sealed_rows}
 use Rattle.gc_store.specs.Content.{State, Free, Claimed, Finished, Content, IsFinished, IsKnown, AllFinished, IsLawfulContent}
 use Rattle.gc_store.specs.Kept.{Tables, rows_at, finished_state, state_at, states_of, content_of, IsKept}
 use Rattle.gc_store.proofs.StepLemmas.{zero_labels_solve, zero_local, gate-same}
@@ -70,7 +71,18 @@ module _ (c : Netlist) (seed : List ℕ) (r : ℕ) (t : Tables) (kept : IsKept c
 
   and_rows : (i : ℕ) (g : Gate) (a b : ℕ) → slice_get c.gates i ≡ Some g → g.operation ≡ And a b
       → slice_get t.rows (and_number c i) ≡ Some (rows_of hash (offset_of seed) (slice_index t.zero_labels) (and_number c i) a b)
-  and_rows i g a b at is_and_gate = ?
+  and_rows i g a b at is =
+      let k : ℕ = and_number c i in
+      let zero : ℕ → ℕ = zero_label_of c seed in
+      let P : Operation → Type 0 = λ op. rows_at t.rows k op ≡ rows_sealed k (offset_of seed) (first_read zero op) (second_read zero op) op in
+      let R : Operation → Type 0 = EachRead (IsSetBefore c i) in
+      let within = slice_get_within c.gates i g at in
+      let reads = subst R is (kept.lawful.circuit.reads i g at) in
+      let label_a = sym (label_is a (set_later i (omega arith) a reads.0)) in
+      let label_b = sym (label_is b (set_later i (omega arith) b reads.1)) in
+      subst P is (rows_there i g at)
+      ∙ ap (λ x. Some (record { generator = generator_row hash k (offset_of seed) x (zero b); evaluator = evaluator_row hash k (offset_of seed) x (zero b) })) label_a
+      ∙ ap (λ x. Some (record { generator = generator_row hash k (offset_of seed) (slice_index t.zero_labels a) x; evaluator = evaluator_row hash k (offset_of seed) (slice_index t.zero_labels a) x })) label_b
 
   no_label : (w : ℕ) → ¬ IsSet c w → (b : Bool) → slice_index_or t.known w false ≡ b → (if b then zero_label_of c seed w else 0) ≡ 0
   no_label w not_set true known = absurd (not_set (set_of (( kept.tells_known w).0 known)))

@@ -1,10 +1,11 @@
 -- The tables that a store begins with.
-use Rattle.std.proofs.Common.{◌≡◌, ◌≢◌, ℕ, zero, suc, ◌+◌, ◌-◌, ◌*◌, ◌<◌, ◌≤◌, ◌⊎◌, ◌↔◌, inl, inr, IsTrue, nat_lt, List, [], ◌∷◌, ◌++◌, length, length-append, map, set, get_or, slice_get, slice_index_or, Option, Some, None, Bool, true, false, if◌then◌else◌, count_by, replicate, refl, sym, ap, ◌∙◌, subst, arith}
+use Rattle.std.proofs.Common.{◌≡◌, ◌≢◌, ℕ, zero, suc, ◌+◌, ◌-◌, ◌*◌, ◌<◌, ◌≤◌, ◌⊎◌, ◌↔◌, inl, inr, IsTrue, nat_lt, List, [], ◌∷◌, ◌++◌, length, length-append, map, take, get_or, slice_get, slice_index_or, Option, Some, None, Bool, true, false, if◌then◌else◌, count_by, replicate, refl, sym, ap, ◌∙◌, subst, arith}
 use Rattle.std.proofs.Math.ListN.{length-replicate}
 use Rattle.std.specs.List.{range_with_len}
 use Rattle.std.proofs.lemmas.Bool.Decides.{nat_tests}
 use Rattle.std.proofs.lemmas.List.{get_or-replicate, get_or-append_right, get_or_append_left}
 use Rattle.std.proofs.lemmas.List.FromFn.{length-map-range_with_len, get_or-map-range_with_len, fill_by_all}
+use Rattle.std.proofs.lemmas.Grind.{common_steps}
 use Rattle.gc_circuit.specs.declared.circuit.Gate.{Gate}
 use Rattle.gc_circuit.specs.Circuit.{Netlist, input_wires, EachRead, IsLawful, and_number, and_count}
 use Rattle.gc_label.specs.Seed.{offset_of, input_label_of}
@@ -130,7 +131,74 @@ opened_kept c lawful seed r no_rows offset =
       none_free = λ i below. absurd (omega arith);
     }
 
--- the tables as they were made
-pub opened_kept_as : (c : Netlist) → IsLawful c → (seed : List ℕ) (r : ℕ) (no_rows : RowPair) (t : Tables) → r ≡ offset_of seed → t ≡ opened_tables c seed no_rows → IsKept c seed r t
-opened_kept_as c lawful seed r no_rows t offset is =
-    let P : Tables → Type 0 = λ x. IsKept c seed r x in subst P (sym is) (opened_kept c lawful seed r no_rows offset)
+-- the tables of a new store, from lists
+abbrev pub new_tables : List Mark → List Bool → List ℕ → List ℕ → List RowPair → Tables
+new_tables marks known labels numbers rows = record {
+  marks = marks;
+  known = known;
+  zero_labels = labels;
+  and_numbers = numbers;
+  rows = rows;
+  finished = 0;
+  finished_ands = 0;
+  tallies = 0;
+  first_free = 0;
+}
+
+-- the lists are those that a store begins with
+pub record AreOpened (c : Netlist) (seed : List ℕ) (no_rows : RowPair) (marks : List Mark) (known : List Bool) (labels numbers : List ℕ) (rows : List RowPair) : Type 0 where
+  pub marks_are : marks ≡ replicate (length c.gates) mark.Free
+  pub known_are : known ≡ inputs_known c
+  pub labels_are : labels ≡ map (input_zero c seed) (range_with_len 0 c.wires)
+  pub numbers_are : numbers ≡ map (and_number c) (range_with_len 0 (length c.gates))
+  pub rows_are : rows ≡ replicate (and_count c) no_rows
+
+tables_are : (c : Netlist) (seed : List ℕ) (no_rows : RowPair) (marks : List Mark) (known : List Bool) (labels numbers : List ℕ) (rows : List RowPair)
+    → AreOpened c seed no_rows marks known labels numbers rows → new_tables marks known labels numbers rows ≡ opened_tables c seed no_rows
+tables_are c seed no_rows marks known labels numbers rows are =
+    ap (λ x. new_tables x known labels numbers rows) are.marks_are
+    ∙ ap (λ x. new_tables (opened_tables c seed no_rows).marks x labels numbers rows) are.known_are
+    ∙ ap (λ x. new_tables (opened_tables c seed no_rows).marks (inputs_known c) x numbers rows) are.labels_are
+    ∙ ap (λ x. new_tables (opened_tables c seed no_rows).marks (inputs_known c) (opened_tables c seed no_rows).zero_labels x rows) are.numbers_are
+    ∙ ap (λ x. record (opened_tables c seed no_rows) { rows = x }) are.rows_are
+
+-- a store opened with them keeps what stores keep,
+pub opened_kept_as : (c : Netlist) → IsLawful c → (seed : List ℕ) (r : ℕ) (no_rows : RowPair) (marks : List Mark) (known : List Bool) (labels numbers : List ℕ) (rows : List RowPair)
+    → r ≡ offset_of seed → AreOpened c seed no_rows marks known labels numbers rows → IsKept c seed r (new_tables marks known labels numbers rows)
+opened_kept_as c lawful seed r no_rows marks known labels numbers rows offset are =
+    let P : Tables → Type 0 = λ x. IsKept c seed r x in
+    subst P (sym (tables_are c seed no_rows marks known labels numbers rows are)) (opened_kept c lawful seed r no_rows offset)
+
+-- and has the content of a new store
+pub opened_content_as : (c : Netlist) (seed : List ℕ) (no_rows : RowPair) (marks : List Mark) (known : List Bool) (labels numbers : List ℕ) (rows : List RowPair)
+    → AreOpened c seed no_rows marks known labels numbers rows → content_of c seed (new_tables marks known labels numbers rows) ≡ opened c seed
+opened_content_as c seed no_rows marks known labels numbers rows are =
+    ap (content_of c seed) (tables_are c seed no_rows marks known labels numbers rows are) ∙ opened_content c seed no_rows
+
+-- the labels of the input wires, and 0 on the other wires
+pub labels_filled : (c : Netlist) → IsLawful c → (seed filled rest last : List ℕ) (n m : ℕ) → n ≡ input_wires c → m ≡ c.wires → filled ≡ map (input_label_of seed) (range_with_len 0 n)
+    → last ≡ take m (take n (filled ++ rest)) ++ replicate (m - n) 0 → last ≡ map (input_zero c seed) (range_with_len 0 c.wires)
+labels_filled c lawful seed filled rest last n m inputs wires is made =
+    fill_by_all (input_zero c seed) last c.wires 0 (ap length joined ∙ length-append filled (replicate (c.wires - n) 0) ∙ (let nought : ℕ = 0 in let z = length-replicate (c.wires - n) nought in omega (arith, z, len, fits)))
+    (λ w below. ap (λ l. get_or l w 0) joined ∙ by_order w below (order w n))
+  where
+    fits : n ≤ c.wires
+    fits = let f = lawful.inputs_fit in omega arith
+
+    len : length filled ≡ n
+    len = ap length is ∙ length-map-range_with_len (input_label_of seed) 0 n
+
+    joined : last ≡ filled ++ replicate (c.wires - n) 0
+    joined = let l = len in let f = fits in grind (arith, common_steps)
+
+    by_order : (w : ℕ) → w < c.wires → (w < n) ⊎ (n ≤ w) → get_or (filled ++ replicate (c.wires - n) 0) w 0 ≡ input_zero c seed w
+    by_order w below (inl input) =
+        let test : nat_lt w (input_wires c) ≡ true = grind (arith, nat_tests) in
+        get_or_append_left filled (replicate (c.wires - n) 0) 0 w (let l = len in omega arith)
+        ∙ ap (λ l. get_or l w 0) is ∙ get_or-map-range_with_len (input_label_of seed) 0 n w w 0 input (omega arith)
+        ∙ ap (λ b. if b then input_label_of seed w else 0) (sym test)
+    by_order w below (inr past) =
+        let test : nat_lt w (input_wires c) ≡ false = grind (arith, nat_tests) in
+        get_or-append_right filled (replicate (c.wires - n) 0) n w 0 len past
+        ∙ get_or-replicate (c.wires - n) (w - n) 0 0 (omega arith)
+        ∙ ap (λ b. if b then input_label_of seed w else 0) (sym test)

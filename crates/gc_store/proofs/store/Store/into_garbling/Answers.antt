@@ -12,4 +12,5 @@ from_parts-requires g c =
 
 pub returns-clause-garbling : goal.returns-clause-garbling
 returns-clause-garbling g c =
-    garbling_is _ _ _ _ _ c.from_parts.result c.self.view_is c.self.invariant (c.is_complete.ensures.complete.0 c.if-not-is_complete.false) ?
+    garbling_is _ _ _ _ _ c.from_parts.result c.self.view_is c.self.invariant (c.is_complete.ensures.complete.0 c.if-not-is_complete.false)
+    (c.from_parts.ensures ∙ ap (λ n. record { zero_labels = c.self.inside.zero_labels.items; rows = c.self.inside.rows.items; outputs = n }) c.output_wires.ensures)
