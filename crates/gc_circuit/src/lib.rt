@@ -1,14 +1,23 @@
 //! Boolean circuits in Bristol Fashion: reading them from bytes, and evaluating them in the plain.
 #![tactic(auto)]
 
+mod checks;
 mod circuit;
 mod eval;
 mod fault;
+mod gates;
+mod laws;
 mod limits;
 mod memory;
+mod number;
+mod read;
+mod tokens;
+mod value;
 
 pub use circuit::{Circuit, Gate, Operation};
 pub use eval::{fits, law_assignments, plain_eval};
 pub use fault::ReadFault;
+pub use laws::law_reading;
 pub use limits::{MAX_GATES, MAX_VALUES, MAX_WIRES};
 pub use memory::Memory;
+pub use value::{ValueFault, law_value_texts, read_value, show_value};
