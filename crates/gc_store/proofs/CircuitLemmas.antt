@@ -1,10 +1,10 @@
 -- Two gates set two wires, and two AND gates have two AND numbers.
 use Rattle.std.proofs.Common.{◌≡◌, ◌≢◌, ℕ, zero, suc, ◌+◌, ◌<◌, ◌≤◌, ◌⊎◌, inl, inr, List, [], ◌∷◌, length, take, get_or, slice_get, Option, Some, count_by, sum_by, cond, true, false, refl, sym, ap, ◌∙◌, subst, arith}
-use Rattle.std.proofs.lemmas.List.Sums.{count_by_more_yes, count_by_more_no, sum_by-take-le, sum_by-cons}
-use Rattle.std.proofs.lemmas.Option.{slice_get_within, get_or_from_slice_get}
+use Rattle.std.proofs.lemmas.List.Sums.{sum_by-take-le, sum_by-cons}
 use Rattle.gc_circuit.specs.declared.circuit.Operation.{Operation}
 use Rattle.gc_circuit.specs.declared.circuit.Gate.{Gate}
 use Rattle.gc_circuit.specs.Circuit.{Netlist, IsSetBefore, IsLawful, is_and, and_number, and_count}
+use Rattle.gc_half.proofs.AndNumbers.{and_number-and}
 
 order : (i j : ℕ) → i ≢ j → (i < j) ⊎ (j < i)
 order i j h = grind arith
@@ -17,20 +17,6 @@ set-apart c lawful i j g h at_i at_j apart same =
       | inl below ↦ lawful.sets_once j h at_j (inr (i, below, record { gate = g; at = at_i; wire = same }))
       | inr below ↦ lawful.sets_once i g at_i (inr (j, below, record { gate = h; at = at_j; wire = sym same }))
     ]
-
--- the AND number past an AND gate
-pub and_number-more : (c : Netlist) (i : ℕ) (g : Gate) → slice_get c.gates i ≡ Some g → is_and g.operation ≡ true
-    → and_number c (i + 1) ≡ and_number c i + 1
-and_number-more c i g at is =
-    count_by_more_yes (λ (x : Gate). is_and x.operation) c.gates i g (slice_get_within c.gates i g at)
-    (ap (λ (x : Gate). is_and x.operation) (get_or_from_slice_get c.gates i g g at) ∙ is)
-
--- and past another gate
-pub and_number-same : (c : Netlist) (i : ℕ) (g : Gate) → slice_get c.gates i ≡ Some g → is_and g.operation ≡ false
-    → and_number c (i + 1) ≡ and_number c i
-and_number-same c i g at is =
-    count_by_more_no (λ (x : Gate). is_and x.operation) c.gates i g (slice_get_within c.gates i g at)
-    (ap (λ (x : Gate). is_and x.operation) (get_or_from_slice_get c.gates i g g at) ∙ is)
 
 -- a sum over the beginning of a list doesn't fall where there is more of it
 sum_by-take_more : {X : Type 0} (f : X → ℕ) (xs : List X) (i j : ℕ) → i ≤ j → sum_by f (take i xs) ≤ sum_by f (take j xs)
@@ -45,8 +31,8 @@ sum_by-take_more f (x ∷ xs) (suc i) (suc j) h =
 and_number-after : (c : Netlist) (i j : ℕ) (g : Gate) → slice_get c.gates i ≡ Some g → is_and g.operation ≡ true → i < j
     → and_number c i < and_number c j
 and_number-after c i j g at is below =
-    let more = and_number-more c i g at is in
-    let rest = sum_by-take_more (λ (x : Gate). cond (is_and x.operation) 1 0) c.gates (i + 1) j (omega arith) in
+    let more = and_number-and c i g at is in
+    let rest = sum_by-take_more (λ (x : Gate). cond (is_and x.operation) 1 0) c.gates (suc i) j (omega arith) in
     omega (arith, more, rest)
 
 -- AND gates at two places have two AND numbers
@@ -61,5 +47,5 @@ and_number-apart c i j g h at_i at_j and_i and_j apart same =
 -- an AND gate's number is below the number of AND gates
 pub and_number-lt : (c : Netlist) (i : ℕ) (g : Gate) → slice_get c.gates i ≡ Some g → is_and g.operation ≡ true → and_number c i < and_count c
 and_number-lt c i g at is =
-    let more = and_number-more c i g at is in
-    let most = sum_by-take-le (λ (x : Gate). cond (is_and x.operation) 1 0) c.gates (i + 1) in omega (arith, more, most)
+    let more = and_number-and c i g at is in
+    let most = sum_by-take-le (λ (x : Gate). cond (is_and x.operation) 1 0) c.gates (suc i) in omega (arith, more, most)

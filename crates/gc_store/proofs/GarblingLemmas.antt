@@ -1,29 +1,27 @@
 -- The tables of a store whose gates are all finished are the garbling.
-use Rattle.std.proofs.Common.{◌≡◌, ◌≢◌, ℕ, ◌+◌, ◌<◌, ◌≤◌, ◌⊎◌, ◌↔◌, inl, inr, IsTrue, nat_lt, List, length, map, get_or, slice_get, slice_index, slice_index_or, Option, Some, None, Bool, true, false, if◌then◌else◌, refl, sym, ap, ◌∙◌, subst, arith}
+use Rattle.std.proofs.Common.{◌≡◌, ◌≢◌, ℕ, ◌+◌, ◌<◌, ◌≤◌, ◌⊎◌, ◌↔◌, inl, inr, IsTrue, List, length, map, get_or, slice_get, slice_index, slice_index_or, Option, Some, None, Bool, true, false, if◌then◌else◌, refl, sym, ap, ◌∙◌, subst, arith}
 use Rattle.std.specs.List.{range_with_len}
-use Rattle.std.proofs.lemmas.Bool.Decides.{nat_tests}
 use Rattle.std.proofs.lemmas.Option.{slice_get_within}
 use Rattle.std.proofs.lemmas.List.FromFn.{length-map-range_with_len, get_or-map-range_with_len}
 use Rattle.gc_circuit.specs.declared.circuit.Operation.{Operation}
 use Rattle.gc_circuit.specs.declared.circuit.Operation.TheVariants.{Xor, And, Inv, Eq, Eqw}
 use Rattle.gc_circuit.specs.declared.circuit.Gate.{Gate}
 use Rattle.gc_circuit.specs.Circuit.{Netlist, input_wires, output_wires, EachRead, IsSetBy, IsSetBefore, IsSet, IsLawful, is_and, and_number}
-use Rattle.gc_circuit.specs.Solution.{Solves}
-use Rattle.gc_circuit.proofs.SolutionLemmas.{EachRead-map}
 use Rattle.gc_circuit.proofs.Tables.{IsSetBefore-below}
 use Rattle.gc_label.specs.Seed.{offset_of, input_label_of}
 use Rattle.gc_half.specs.declared.garbling.RowPair.{RowPair}
 use Rattle.gc_half.specs.Hash.{hash}
-use Rattle.gc_half.specs.HalfGate.{generator_row, evaluator_row}
-use Rattle.gc_half.specs.Garbling.{zero_rule, rows_of, IsGarbling, GarblingParts, IsGarbled}
-use Rattle.gc_half.specs.Canonical.{zero_label_of, input_zero}
+use Rattle.gc_half.specs.Garbling.{rows_of, IsGarbling, GarblingParts, IsGarbled}
+use Rattle.gc_half.specs.Canonical.{zero_label_of}
+use Rattle.gc_half.proofs.GarblingLemmas.{IsGarbling-same}
+use Rattle.gc_half.proofs.CanonicalLemmas.{zero_label_of-input, zero_label_of-gate}
 use Rattle.gc_store.specs.declared.mark.Mark.{Mark}
 use Rattle.gc_store.specs.declared.mark.Mark.TheVariants as mark
 use Rattle.gc_store.specs.Task.{first_read, second_read, task_of, rows_sealed, sealed_rows}
 use Rattle.gc_store.specs.Content.{State, Free, Claimed, Finished, Content, IsFinished, IsKnown, AllFinished, IsLawfulContent}
 use Rattle.gc_store.specs.Kept.{Tables, rows_at, finished_state, state_at, states_of, content_of, IsKept}
-use Rattle.gc_store.proofs.StepLemmas.{zero_labels_solve, zero_local, gate-same}
-use Rattle.gc_store.proofs.TableLemmas.{state_is, known_label, known_label_is}
+use Rattle.gc_store.proofs.TableLemmas.{state_is, known_label}
+use Rattle.gc_store.proofs.StoreLemmas.{known_label_is}
 
 module _ (c : Netlist) (seed : List ℕ) (r : ℕ) (t : Tables) (kept : IsKept c seed r t) (all : AllFinished (content_of c seed t)) where
   -- a wire that is set is known
@@ -34,25 +32,6 @@ module _ (c : Netlist) (seed : List ℕ) (r : ℕ) (t : Tables) (kept : IsKept c
   -- the zero label in the table is the garbling's
   label_is : (w : ℕ) → IsSet c w → get_or t.zero_labels w 0 ≡ zero_label_of c seed w
   label_is w set = known_label_is c seed r t kept w (IsSetBefore-below c kept.lawful.circuit (length c.gates) w set) (known_set w set)
-
-  set_later : (i : ℕ) → i ≤ length c.gates → (w : ℕ) → IsSetBefore c i w → IsSet c w
-  set_later i few w (inl input) = inl input
-  set_later i few w (inr (j, below, by)) = inr (j, omega arith, by)
-
-  labels_solve : Solves (zero_rule hash (offset_of seed) c) c (input_label_of seed) (slice_index t.zero_labels)
-  labels_solve = record {
-    inputs = λ w input.
-        let test : nat_lt w (input_wires c) ≡ true = grind (arith, nat_tests) in
-        label_is w (inl input) ∙ (zero_labels_solve c kept.lawful.circuit seed).inputs w input
-        ∙ ap (λ b. if b then input_label_of seed w else 0) test;
-    gates = λ i g at.
-        let within = slice_get_within c.gates i g at in
-        label_is g.set (inr (i, within, record { gate = g; at = at; wire = refl }))
-        ∙ (zero_labels_solve c kept.lawful.circuit seed).gates i g at
-        ∙ zero_local (offset_of seed) c (zero_label_of c seed) (slice_index t.zero_labels) i g
-        (EachRead-map (IsSetBefore c i) (λ w. zero_label_of c seed w ≡ slice_index t.zero_labels w) g.operation
-        (λ w set. sym (label_is w (set_later i (omega arith) w set))) (kept.lawful.circuit.reads i g at));
-  }
 
   -- the row pair of an AND gate is in the table
   finished_by_mark : (i : ℕ) (g : Gate) (m : Mark) (label : ℕ) (pair : Option RowPair) → slice_get c.gates i ≡ Some g
@@ -70,19 +49,20 @@ module _ (c : Netlist) (seed : List ℕ) (r : ℕ) (t : Tables) (kept : IsKept c
       finished_by_mark i g (get_or t.marks i mark.Free) f.label f.rows at here ∙ (kept.lawful.finished i g f.label f.rows at f.at).1
 
   and_rows : (i : ℕ) (g : Gate) (a b : ℕ) → slice_get c.gates i ≡ Some g → g.operation ≡ And a b
-      → slice_get t.rows (and_number c i) ≡ Some (rows_of hash (offset_of seed) (slice_index t.zero_labels) (and_number c i) a b)
+      → slice_get t.rows (and_number c i) ≡ Some (rows_of hash (offset_of seed) (zero_label_of c seed) (and_number c i) a b)
   and_rows i g a b at is =
-      let k : ℕ = and_number c i in
       let zero : ℕ → ℕ = zero_label_of c seed in
-      let P : Operation → Type 0 = λ op. rows_at t.rows k op ≡ rows_sealed k (offset_of seed) (first_read zero op) (second_read zero op) op in
-      let R : Operation → Type 0 = EachRead (IsSetBefore c i) in
-      let within = slice_get_within c.gates i g at in
-      let reads = subst R is (kept.lawful.circuit.reads i g at) in
-      let label_a = sym (label_is a (set_later i (omega arith) a reads.0)) in
-      let label_b = sym (label_is b (set_later i (omega arith) b reads.1)) in
+      let P : Operation → Type 0 = λ op.
+      rows_at t.rows (and_number c i) op ≡ rows_sealed (and_number c i) (offset_of seed) (first_read zero op) (second_read zero op) op in
       subst P is (rows_there i g at)
-      ∙ ap (λ x. Some (record { generator = generator_row hash k (offset_of seed) x (zero b); evaluator = evaluator_row hash k (offset_of seed) x (zero b) })) label_a
-      ∙ ap (λ x. Some (record { generator = generator_row hash k (offset_of seed) (slice_index t.zero_labels a) x; evaluator = evaluator_row hash k (offset_of seed) (slice_index t.zero_labels a) x })) label_b
+
+  -- with the garbling's zero labels the rows are a garbling
+  garbling_of_rows : IsGarbling hash (offset_of seed) c (input_label_of seed) (zero_label_of c seed) t.rows
+  garbling_of_rows = record {
+    labels = record { inputs = zero_label_of-input c seed kept.lawful.circuit; gates = zero_label_of-gate c seed kept.lawful.circuit };
+    and_gates = and_rows;
+    row_count = kept.rows;
+  }
 
   no_label : (w : ℕ) → ¬ IsSet c w → (b : Bool) → slice_index_or t.known w false ≡ b → (if b then zero_label_of c seed w else 0) ≡ 0
   no_label w not_set true known = absurd (not_set (set_of (( kept.tells_known w).0 known)))
@@ -95,7 +75,8 @@ module _ (c : Netlist) (seed : List ℕ) (r : ℕ) (t : Tables) (kept : IsKept c
   -- the tables are the garbling
   pub complete_garbling : IsGarbled c seed (record { zero_labels = t.zero_labels; rows = t.rows; outputs = output_wires c })
   complete_garbling = record {
-    garbling = record { labels = labels_solve; and_gates = and_rows; row_count = kept.rows };
+    garbling = IsGarbling-same hash (offset_of seed) c kept.lawful.circuit (input_label_of seed) (zero_label_of c seed) (slice_index t.zero_labels) t.rows
+        (λ w set. sym (label_is w set)) garbling_of_rows;
     wires = ap length kept.zero_labels ∙ length-map-range_with_len (known_label c seed t.known) 0 c.wires;
     not_set = λ w below not_set. ap (λ l. get_or l w 0) kept.zero_labels
         ∙ get_or-map-range_with_len (known_label c seed t.known) 0 c.wires w w 0 below (omega arith)

@@ -1,8 +1,7 @@
 -- The tables that a store begins with.
-use Rattle.std.proofs.Common.{◌≡◌, ◌≢◌, ℕ, zero, suc, ◌+◌, ◌-◌, ◌*◌, ◌<◌, ◌≤◌, ◌⊎◌, ◌↔◌, inl, inr, IsTrue, nat_lt, List, [], ◌∷◌, ◌++◌, length, length-append, map, take, get_or, slice_get, slice_index_or, Option, Some, None, Bool, true, false, if◌then◌else◌, count_by, replicate, refl, sym, ap, ◌∙◌, subst, arith}
+use Rattle.std.proofs.Common.{◌≡◌, ◌≢◌, ℕ, zero, suc, ◌+◌, ◌-◌, ◌*◌, ◌<◌, ◌≤◌, ◌⊎◌, ◌↔◌, inl, inr, IsTrue, List, [], ◌∷◌, ◌++◌, length, length-append, map, take, get_or, slice_get, slice_index_or, Option, Some, None, Bool, true, false, if◌then◌else◌, count_by, replicate, refl, sym, ap, ◌∙◌, subst, arith}
 use Rattle.std.proofs.Math.ListN.{length-replicate}
 use Rattle.std.specs.List.{range_with_len}
-use Rattle.std.proofs.lemmas.Bool.Decides.{nat_tests}
 use Rattle.std.proofs.lemmas.List.{get_or-replicate, get_or-append_right, get_or_append_left}
 use Rattle.std.proofs.lemmas.List.FromFn.{length-map-range_with_len, get_or-map-range_with_len, fill_by_all}
 use Rattle.std.proofs.lemmas.Grind.{common_steps}
@@ -11,6 +10,7 @@ use Rattle.gc_circuit.specs.Circuit.{Netlist, input_wires, EachRead, IsLawful, a
 use Rattle.gc_label.specs.Seed.{offset_of, input_label_of}
 use Rattle.gc_half.specs.declared.garbling.RowPair.{RowPair}
 use Rattle.gc_half.specs.Canonical.{zero_label_of, input_zero}
+use Rattle.gc_half.proofs.CanonicalLemmas.{input_zero-input, input_zero-other, zero_label_of-input}
 use Rattle.gc_store.specs.declared.mark.Mark.{Mark}
 use Rattle.gc_store.specs.declared.mark.Mark.TheVariants as mark
 use Rattle.gc_store.specs.declared.tally.TheConstants.{MAX_TALLIES}
@@ -18,7 +18,6 @@ use Rattle.gc_store.specs.Task.{task_of, sealed_rows}
 use Rattle.gc_store.specs.Content.{State, Free, Claimed, Finished, Content, is_finished, has_rows, IsFinished, IsKnown, IsLawfulContent, opened}
 use Rattle.gc_store.specs.Kept.{Tables, state_at, states_of, content_of, IsKept}
 use Rattle.gc_store.proofs.ListLemmas.{count_by-replicate}
-use Rattle.gc_store.proofs.StepLemmas.{zero_labels_solve}
 use Rattle.gc_store.proofs.TableLemmas.{known_label}
 
 -- whether each wire is an input wire
@@ -102,10 +101,11 @@ tells_known c seed w (inr past) = (λ is. let e = not_known c w past in let z : 
 
 label_at_first : (c : Netlist) → IsLawful c → (seed : List ℕ) (w : ℕ) → (w < input_wires c) ⊎ (input_wires c ≤ w) → input_zero c seed w ≡ known_label c seed (inputs_known c) w
 label_at_first c lawful seed w (inl input) =
-    sym ((zero_labels_solve c lawful seed).inputs w input) ∙ ap (λ b. if b then zero_label_of c seed w else 0) (sym (known_input c w input))
+    input_zero-input c seed w input ∙ sym (zero_label_of-input c seed lawful w input)
+    ∙ ap (λ b. if b then zero_label_of c seed w else 0) (sym (known_input c w input))
 label_at_first c lawful seed w (inr past) =
-    let no_input : nat_lt w (input_wires c) ≡ false = grind (arith, nat_tests) in
-    ap (λ b. if b then input_label_of seed w else 0) no_input ∙ ap (λ b. if b then zero_label_of c seed w else 0) (sym (not_known c w past))
+    input_zero-other c seed w (λ input. let none : ⊥ = absurd (omega arith) in none)
+    ∙ ap (λ b. if b then zero_label_of c seed w else 0) (sym (not_known c w past))
 
 -- a new store keeps what stores keep
 pub opened_kept : (c : Netlist) → IsLawful c → (seed : List ℕ) (r : ℕ) (no_rows : RowPair) → r ≡ offset_of seed → IsKept c seed r (opened_tables c seed no_rows)
@@ -193,12 +193,10 @@ labels_filled c lawful seed filled rest last n m inputs wires is made =
 
     by_order : (w : ℕ) → w < c.wires → (w < n) ⊎ (n ≤ w) → get_or (filled ++ replicate (c.wires - n) 0) w 0 ≡ input_zero c seed w
     by_order w below (inl input) =
-        let test : nat_lt w (input_wires c) ≡ true = grind (arith, nat_tests) in
         get_or_append_left filled (replicate (c.wires - n) 0) 0 w (let l = len in omega arith)
         ∙ ap (λ l. get_or l w 0) is ∙ get_or-map-range_with_len (input_label_of seed) 0 n w w 0 input (omega arith)
-        ∙ ap (λ b. if b then input_label_of seed w else 0) (sym test)
+        ∙ sym (input_zero-input c seed w (omega arith))
     by_order w below (inr past) =
-        let test : nat_lt w (input_wires c) ≡ false = grind (arith, nat_tests) in
         get_or-append_right filled (replicate (c.wires - n) 0) n w 0 len past
         ∙ get_or-replicate (c.wires - n) (w - n) 0 0 (omega arith)
-        ∙ ap (λ b. if b then input_label_of seed w else 0) (sym test)
+        ∙ sym (input_zero-other c seed w (λ input. let none : ⊥ = absurd (omega arith) in none))

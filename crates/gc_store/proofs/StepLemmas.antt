@@ -6,15 +6,13 @@ use Rattle.gc_circuit.specs.declared.circuit.Operation.{Operation}
 use Rattle.gc_circuit.specs.declared.circuit.Operation.TheVariants.{Xor, And, Inv, Eq, Eqw}
 use Rattle.gc_circuit.specs.declared.circuit.Gate.{Gate}
 use Rattle.gc_circuit.specs.Circuit.{Netlist, EachRead, IsSetBy, IsLawful, is_and, and_number}
-use Rattle.gc_circuit.specs.Solution.{Solves, IsLocal, solution}
-use Rattle.gc_circuit.proofs.SolutionLemmas.{EachRead-map, solution_solves}
-use Rattle.gc_label.specs.Label.{◌⊕◌}
+use Rattle.gc_circuit.proofs.SolutionLemmas.{EachRead-map}
 use Rattle.gc_label.specs.Seed.{offset_of}
 use Rattle.gc_half.specs.declared.garbling.RowPair.{RowPair}
 use Rattle.gc_half.specs.Hash.{hash}
-use Rattle.gc_half.specs.HalfGate.{and_zero}
-use Rattle.gc_half.specs.Garbling.{zero_of, zero_rule}
-use Rattle.gc_half.specs.Canonical.{zero_label_of, input_zero}
+use Rattle.gc_half.specs.Garbling.{zero_of}
+use Rattle.gc_half.specs.Canonical.{zero_label_of}
+use Rattle.gc_half.proofs.CanonicalLemmas.{zero_label_of-gate}
 use Rattle.gc_store.specs.declared.task.Task.{Task}
 use Rattle.gc_store.specs.Task.{first_read, second_read, task_of, zero_sealed, rows_sealed, sealed_zero, sealed_rows}
 use Rattle.gc_store.specs.Content.{State, Free, Claimed, Finished, Content, is_finished, has_rows, IsClaimed, IsFinished, IsKnown, MayGoNext, AllFinished, IsLawfulContent}
@@ -22,23 +20,6 @@ use Rattle.gc_store.specs.Step.{with_state, with_sealed, IsOwnTask}
 use Rattle.gc_store.proofs.ListLemmas.{slice_get-set_other, slice_get-set_same, count_by-set, count_by-set_more, count_by-all, count_by-all_back}
 
 -- ---- what sealing a store's task gives
-
--- the garbling's rule looks at no wire but those that the gate reads
-zero_of_local : (r : ℕ) (u v : ℕ → ℕ) (k : ℕ) (op : Operation) → EachRead (λ w. u w ≡ v w) op → zero_of hash r u k op ≡ zero_of hash r v k op
-zero_of_local r u v k (Xor a b) e = ap (λ x. x ⊕ u b) e.0 ∙ ap (λ x. v a ⊕ x) e.1
-zero_of_local r u v k (And a b) e = ap (λ x. and_zero hash k r x (u b)) e.0 ∙ ap (λ x. and_zero hash k r (v a) x) e.1
-zero_of_local r u v k (Inv a) e = ap (λ x. x ⊕ r) e
-zero_of_local r u v k (Eq b) e = refl
-zero_of_local r u v k (Eqw a) e = e
-
-pub zero_local : (r : ℕ) (c : Netlist) → IsLocal (zero_rule hash r c)
-zero_local r c u v i g e = zero_of_local r u v (and_number c i) g.operation e
-
--- the zero labels solve the garbling's equations
-pub zero_labels_solve : (c : Netlist) → IsLawful c → (seed : List ℕ) → Solves (zero_rule hash (offset_of seed) c) c (input_zero c seed) (zero_label_of c seed)
-unfolding zero_label_of
-zero_labels_solve c lawful seed =
-    solution_solves (zero_rule hash (offset_of seed) c) (zero_local (offset_of seed) c) c lawful (input_zero c seed)
 
 zero_sealed_is : (r k : ℕ) (z : ℕ → ℕ) (op : Operation) → zero_sealed k r (first_read z op) (second_read z op) op ≡ zero_of hash r z k op
 zero_sealed_is r k z (Xor a b) = refl
@@ -51,7 +32,7 @@ zero_sealed_is r k z (Eqw a) = refl
 pub sealed_zero_is : (c : Netlist) → IsLawful c → (seed : List ℕ) (i : ℕ) (g : Gate) → slice_get c.gates i ≡ Some g
     → sealed_zero (task_of c seed i g) ≡ zero_label_of c seed g.set
 sealed_zero_is c lawful seed i g at =
-    zero_sealed_is (offset_of seed) (and_number c i) (zero_label_of c seed) g.operation ∙ sym ((zero_labels_solve c lawful seed).gates i g at)
+    zero_sealed_is (offset_of seed) (and_number c i) (zero_label_of c seed) g.operation ∙ sym (zero_label_of-gate c seed lawful i g at)
 
 -- an operation has rows where it is AND
 has_rows-sealed : (k r a b label : ℕ) (op : Operation) → has_rows (Finished label (rows_sealed k r a b op)) ≡ is_and op

@@ -1,6 +1,6 @@
 //! The store.
 
-ghost use Rattle.std.specs.Prelude.{◌≡◌, ◌≢◌, ◌↔◌, ◌<◌, ◌≤◌, ◌+◌, ◌^◌, ℕ, IsTrue, IfOk, OnOk, OnErr, MatchResult, MatchOption, Some, length, min, count_by, false, slice_get, slice_index, slice_index_or};
+ghost use Rattle.std.specs.Prelude.{◌≡◌, ◌≢◌, ◌↔◌, ◌<◌, ◌≤◌, ◌+◌, ◌^◌, ℕ, IsTrue, IfOk, IfErr, OnOk, OnErr, MatchOption, Some, length, min, count_by, false, slice_get, slice_index, slice_index_or};
 ghost use Rattle.gc_store.specs.declared.mark.Mark.TheVariants as mark;
 ghost use Rattle.gc_circuit.specs.Circuit.{EachRead};
 ghost use Rattle.gc_half.specs.Garbling.{IsGarbled};
@@ -150,9 +150,8 @@ impl<A: Allocator> Store<A> {
 
     /// The garbling, or the same store where a gate isn't finished.
     pub fn into_garbling(self) -> Result<Garbling<A>, Store<A>>
-        ensures garbling { IfOk result (IsGarbled self.circuit self.seed) }
-        ensures complete { OnOk result (AllFinished self) }
-        ensures incomplete { MatchResult result (λ _. AllFinished self) (λ store. (¬ AllFinished self) × (store ≡ self)) }
+        ensures complete { IfOk result (λ garbling. AllFinished self × IsGarbled self.circuit self.seed garbling) }
+        ensures incomplete { IfErr result (λ store. (¬ AllFinished self) × (store ≡ self)) }
     {
         if !self.is_complete() {
             return Err(self);

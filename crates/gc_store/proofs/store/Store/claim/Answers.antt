@@ -3,7 +3,8 @@ use Rattle.std.proofs.lemmas.Option.{slice_get_within}
 use Rattle.gc_store.specs.declared.task.Task.{Task}
 use Rattle.gc_store.specs.Content.{Content, MayGoNext}
 use Rattle.gc_store.specs.Step.{Claims}
-use Rattle.gc_store.proofs.TableLemmas.{claim_keeps, claims, claims_none, first_free_keeps}
+use Rattle.gc_store.proofs.TableLemmas.{claim_keeps}
+use Rattle.gc_store.proofs.StoreLemmas.{claims, claims_none, first_free_keeps}
 use Rattle.gc_store.proofs.store.Store.claim.Goals as goal
 
 pub returns-in_err-task : goal.returns-in_err-task

@@ -10,7 +10,9 @@ from_parts-requires g c =
     let count = ap length c.self.invariant.zero_labels ∙ length-map-range_with_len (known_label c.self.inside.circuit c.self.inside.seed c.self.inside.known.items) 0 c.self.inside.circuit.wires in
     omega (arith, count, c.output_wires.ensures, c.self.invariant.lawful.circuit.outputs_fit)
 
-pub returns-clause-garbling : goal.returns-clause-garbling
-returns-clause-garbling g c =
-    garbling_is _ _ _ _ _ c.from_parts.result c.self.view_is c.self.invariant (c.is_complete.ensures.complete.0 c.if-not-is_complete.false)
-    (c.from_parts.ensures ∙ ap (λ n. record { zero_labels = c.self.inside.zero_labels.items; rows = c.self.inside.rows.items; outputs = n }) c.output_wires.ensures)
+pub returns-clause-complete : goal.returns-clause-complete
+returns-clause-complete g c =
+    let all = c.is_complete.ensures.complete.0 c.if-not-is_complete.false in
+    let parts =
+    c.from_parts.ensures ∙ ap (λ n. record { zero_labels = c.self.inside.zero_labels.items; rows = c.self.inside.rows.items; outputs = n }) c.output_wires.ensures in
+    (all, garbling_is _ _ _ _ _ c.from_parts.result c.self.view_is c.self.invariant all parts)

@@ -1,6 +1,6 @@
 use Rattle.std.proofs.Common.{◌≡◌, arith, ltb, false}
 use Rattle.std.proofs.lemmas.Bool.Decides.{nat_tests}
-use Rattle.gc_store.proofs.TableLemmas.{claimed_is, not_claimed, claimed_reads}
+use Rattle.gc_store.proofs.StoreLemmas.{claimed_is, not_claimed, claimed_reads}
 use Rattle.gc_store.proofs.store.Store.is_claimed.Goals as goal
 
 pub returns-then-i-gates : goal.returns-then-i-gates

@@ -1,4 +1,4 @@
-use Rattle.gc_store.proofs.TableLemmas.{complete_is}
+use Rattle.gc_store.proofs.StoreLemmas.{complete_is}
 use Rattle.gc_store.proofs.store.Store.is_complete.Goals as goal
 
 pub returns-clause-complete : goal.returns-clause-complete

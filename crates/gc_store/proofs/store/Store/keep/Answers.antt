@@ -1,5 +1,5 @@
 use Rattle.std.proofs.Common.{◌≡◌, sym, ◌∙◌, arith}
-use Rattle.gc_store.proofs.TableLemmas.{keep_sealed, set_within, number_within}
+use Rattle.gc_store.proofs.StoreLemmas.{keep_sealed, set_within, number_within}
 use Rattle.gc_store.proofs.store.Store.keep.Goals as goal
 
 pub index_mut-requires-2 : goal.index_mut-requires-2

@@ -1,5 +1,5 @@
 use Rattle.std.proofs.Common.{◌≡◌, false, ◌∙◌, sym}
-use Rattle.gc_store.proofs.TableLemmas.{may_go, mark_is_free}
+use Rattle.gc_store.proofs.StoreLemmas.{may_go, mark_is_free}
 use Rattle.gc_store.proofs.store.Store.may_go_next.Goals as goal
 
 pub returns-then-is_free : goal.returns-then-is_free

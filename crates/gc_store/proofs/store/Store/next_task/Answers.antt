@@ -1,7 +1,7 @@
 use Rattle.std.proofs.Common.{◌≡◌, ◌<◌, length, ap, arith}
 use Rattle.std.proofs.lemmas.Option.{slice_get_within}
 use Rattle.gc_store.specs.Content.{Content}
-use Rattle.gc_store.proofs.TableLemmas.{none_before}
+use Rattle.gc_store.proofs.StoreLemmas.{none_before}
 use Rattle.gc_store.proofs.store.Store.next_task.Goals as goal
 
 pub loop-i-init : goal.loop-i-init

@@ -1,5 +1,5 @@
 use Rattle.std.proofs.Common.{arith}
-use Rattle.gc_store.proofs.TableLemmas.{tally_keeps}
+use Rattle.gc_store.proofs.StoreLemmas.{tally_keeps}
 use Rattle.gc_store.proofs.store.Store.tally.Goals as goal
 
 pub invariant_of-self : goal.invariant_of-self

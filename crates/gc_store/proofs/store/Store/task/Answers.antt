@@ -3,7 +3,7 @@ use Rattle.std.proofs.lemmas.Option.{slice_get_within}
 use Rattle.std.proofs.lemmas.List.FromFn.{length-map-range_with_len}
 use Rattle.gc_circuit.specs.Circuit.{and_number}
 use Rattle.gc_store.specs.Task.{first_read, second_read}
-use Rattle.gc_store.proofs.TableLemmas.{reads_within, own_task}
+use Rattle.gc_store.proofs.StoreLemmas.{reads_within, own_task}
 use Rattle.gc_store.proofs.store.Store.task.Goals as goal
 
 pub labels_read-first-requires : goal.labels_read-first-requires
