@@ -170,11 +170,7 @@ impl<A: Allocator> Store<A> {
             tallies: _,
             first_free: _,
         } = self;
-        Ok(Garbling::from_parts(
-            zero_labels,
-            rows,
-            circuit.output_wires(),
-        ))
+        Ok(Garbling::from_parts(zero_labels, rows, circuit.output_wires()))
     }
 
     /// The task of the first gate that may go next.
@@ -194,8 +190,7 @@ impl<A: Allocator> Store<A> {
         requires { i < length self.now.circuit.gates }
         ensures { IsTrue result ↔ MayGoNext self.now i }
     {
-        self.marks[i as usize].is_free()
-            && reads_known(&self.known, self.circuit.gate(i).operation)
+        self.marks[i as usize].is_free() && reads_known(&self.known, self.circuit.gate(i).operation)
     }
 
     /// Whether a gate is claimed. There may be no such gate.

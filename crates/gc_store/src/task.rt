@@ -62,8 +62,12 @@ impl Sealed {
         let (zero_label, rows) = match task.operation {
             Operation::Xor(_, _) => (first.xor(second), None),
             Operation::And(_, _) => {
-                let (zero_label, generator, evaluator) =
-                    garble_and(task.and_number, offset, first, second);
+                let (zero_label, generator, evaluator) = garble_and(
+                    task.and_number,
+                    offset,
+                    first,
+                    second,
+                );
                 let rows = RowPair {
                     generator,
                     evaluator,

@@ -101,7 +101,10 @@ fn refusals(rt: HostRuntime) -> Result<(), Fail> {
             gate,
             ..foreign.task()
         });
-        assert_eq!(rt; store.finish(unasked, &mut tally), Err(Refused::NotClaimed(unasked)));
+        assert_eq!(rt;
+            store.finish(unasked, &mut tally),
+            Err(Refused::NotClaimed(unasked))
+        );
     }
     Ok(())
 }
@@ -149,7 +152,11 @@ fn check_same<A: Allocator, B: Allocator>(
 ) {
     assert!(rt; left.fits(circuit) && right.fits(circuit));
     for wire in 0..circuit.wires() {
-        assert_eq!(rt; left.zero_label(wire), right.zero_label(wire), "wire {wire}");
+        assert_eq!(rt;
+            left.zero_label(wire),
+            right.zero_label(wire),
+            "wire {wire}"
+        );
     }
     assert_eq!(rt; left.rows(), right.rows());
     assert_eq!(rt; left.outputs(), right.outputs());
