@@ -9,6 +9,7 @@ use gc_eval::evaluate_labels;
 use gc_half::garble_one_thread;
 use gc_label::{Label, Seed, fill_input_labels};
 use gc_refusing::Refusing;
+use gc_store::{Sealed, Store};
 use std::alloc::Global;
 use std::process::Abort;
 use std::test::Fail;
@@ -144,5 +145,40 @@ fn evaluation(rt: HostRuntime) -> Result<(), Fail> {
         }
     });
     assert_eq!(rt; refused, 2);
+    Ok(())
+}
+
+#[test]
+fn opening_a_store(rt: HostRuntime) -> Result<(), Fail> {
+    let circuit = Circuit::read(rt.alloc(), FULL_ADDER)?;
+    let seed = Seed::from_bytes([0; 32]);
+    let refused = runs_refused(&rt, rt.alloc(), |heap| {
+        let Ok(copy) = circuit.try_clone(heap) else {
+            return Answer::Memory;
+        };
+        match Store::open(heap, copy, seed) {
+            Ok(store) => plain_if(store.finished() == 0),
+            Err(Memory) => Answer::Memory,
+        }
+    });
+    assert!(rt; refused > 5);
+    Ok(())
+}
+
+/// Garbling over an opened store asks for no memory.
+#[test]
+fn an_opened_store_grows_nothing(rt: HostRuntime) -> Result<(), Fail> {
+    let heap = Refusing::never(rt.alloc());
+    let circuit = Circuit::read(&heap, FULL_ADDER)?;
+    let mut store = Store::open(&heap, circuit, Seed::from_bytes([0; 32]))?;
+    let opened = heap.growths();
+    let mut tally = store.tally().ok_or("a tally is dealt")?;
+    for _ in 0..5 {
+        let task = store.claim().ok_or("a gate may go next")?;
+        assert!(rt; store.finish(Sealed::make(task), &mut tally).is_ok());
+    }
+    assert!(rt; store.is_complete());
+    assert!(rt; store.into_garbling().is_ok());
+    assert_eq!(rt; heap.growths(), opened);
     Ok(())
 }
