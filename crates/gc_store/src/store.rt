@@ -46,13 +46,15 @@ pub struct Store<A: Allocator = Global> {
 
 impl<A: Allocator> Model for Store<A> {
     ghost use Rattle.gc_store.specs.Content.{Content};
-    ghost use Rattle.gc_store.specs.Kept.{content_of, IsKept};
 
     ghost Value = { Content };
 
-    ghost view = { λ s. content_of s.circuit s.seed (record { marks = s.marks.items; known = s.known.items; zero_labels = s.zero_labels.items; and_numbers = s.and_numbers.items; rows = s.rows.items; finished = s.finished; finished_ands = s.finished_ands; tallies = s.tallies; first_free = s.first_free }) };
+    ghost use Rattle.gc_store.specs.Kept.{content_of, IsKept};
+    ghost use Rattle.gc_store.specs.Fields.{tables_of};
 
-    ghost invariant = { λ s. IsKept s.circuit s.seed s.offset (record { marks = s.marks.items; known = s.known.items; zero_labels = s.zero_labels.items; and_numbers = s.and_numbers.items; rows = s.rows.items; finished = s.finished; finished_ands = s.finished_ands; tallies = s.tallies; first_free = s.first_free }) };
+    ghost view = { λ s. content_of s.circuit s.seed (tables_of s) };
+
+    ghost invariant = { λ s. IsKept s.circuit s.seed s.offset (tables_of s) };
 }
 
 impl<A: Allocator + Copy> Store<A> {
