@@ -11,6 +11,6 @@ mod memory;
 pub use circuit::{Circuit, Gate, Operation};
 pub use eval::{fits, law_assignments, plain_eval};
 pub use fault::ReadFault;
-pub use laws::law_reading;
+pub use laws::{law_canonical_text, law_reading};
 pub use limits::{MAX_GATES, MAX_VALUES, MAX_WIRES};
 pub use memory::Memory;
