@@ -1,6 +1,7 @@
 //! Boolean circuits in Bristol Fashion: reading them from bytes, and evaluating them in the plain.
 #![tactic(auto)]
 
+mod canon;
 mod circuit;
 mod eval;
 mod fault;
