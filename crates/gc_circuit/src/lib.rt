@@ -2,12 +2,18 @@
 #![tactic(auto)]
 
 mod canon;
+mod checks;
 mod circuit;
 mod eval;
 mod fault;
+mod gates;
 mod laws;
 mod limits;
 mod memory;
+mod number;
+mod read;
+mod tokens;
+mod value;
 
 pub use circuit::{Circuit, Gate, Operation};
 pub use eval::{fits, law_assignments, plain_eval};
@@ -15,3 +21,4 @@ pub use fault::ReadFault;
 pub use laws::{law_canonical_text, law_reading};
 pub use limits::{MAX_GATES, MAX_VALUES, MAX_WIRES};
 pub use memory::Memory;
+pub use value::{ValueFault, law_value_texts, read_value, show_value};

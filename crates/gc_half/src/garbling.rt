@@ -1,0 +1,100 @@
+//! The garbling of a circuit.
+
+ghost use Rattle.std.specs.Prelude.{◌≡◌, ◌↔◌, ◌<◌, ◌≤◌, IsTrue, length, slice_get, Some};
+ghost use Rattle.gc_half.specs.Garbling.{decode_bits_of, FitsCircuit};
+
+use gc_circuit::Circuit;
+use gc_label::Label;
+use std::alloc::{Allocator, Global};
+use std::marker::Model;
+
+/// The two rows of an AND gate.
+#[derive(Clone, Copy, PartialEq, Eq, Debug)]
+pub struct RowPair {
+    /// The row of the half gate whose one input the generator knows.
+    pub generator: Label,
+    /// The row of the half gate whose one input the evaluator knows.
+    pub evaluator: Label,
+}
+
+/// The zero label of each wire of a circuit, the row pair of each AND gate in file order, and the number of
+/// output wires, which are the last ones. A wire that no gate sets and that is no input wire has the label
+/// of 16 zero bytes.
+#[derive(Drop)]
+pub struct Garbling<A: Allocator = Global> {
+    zero_labels: Vec<Label, A>,
+    rows: Vec<RowPair, A>,
+    outputs: u32,
+}
+
+impl<A: Allocator> Model for Garbling<A> {
+    ghost use Rattle.std.specs.Prelude.{◌≤◌, length};
+    ghost use Rattle.gc_half.specs.Garbling.{GarblingParts};
+
+    ghost Value = { GarblingParts };
+
+    ghost view = { λ g. record { zero_labels = g.zero_labels.items; rows = g.rows.items; outputs = g.outputs } };
+
+    ghost invariant = { λ g. g.outputs ≤ length g.zero_labels.items };
+}
+
+impl<A: Allocator> Garbling<A> {
+    /// A garbling of these parts, which are moved in. That there are as many wires as outputs is the
+    /// caller's condition.
+    pub fn from_parts(
+        zero_labels: Vec<Label, A>,
+        rows: Vec<RowPair, A>,
+        outputs: u32,
+    ) -> Garbling<A>
+        requires { outputs ≤ length zero_labels.items }
+        ensures { result ≡ record { zero_labels = zero_labels.items; rows = rows.items; outputs = outputs } }
+    {
+        Garbling {
+            zero_labels,
+            rows,
+            outputs,
+        }
+    }
+
+    /// The zero label of a wire. That there is such a wire is the caller's condition.
+    pub fn zero_label(&self, wire: u32) -> Label
+        requires { wire < length self.now.zero_labels }
+        ensures { slice_get self.now.zero_labels wire ≡ Some result }
+    {
+        self.zero_labels[wire as usize]
+    }
+
+    /// The row pair of each AND gate, in file order.
+    pub fn rows(&self) -> &[RowPair]
+        ensures { result.now ≡ self.now.rows }
+    {
+        &self.rows
+    }
+
+    /// How many output wires there are.
+    pub fn outputs(&self) -> u32
+        ensures count { result ≡ self.now.outputs }
+        ensures bound { self.now.outputs ≤ length self.now.zero_labels }
+    {
+        self.outputs
+    }
+
+    /// The decode bit of output wire i, counted from 0: the colour of its zero label. That there is such an
+    /// output wire is the caller's condition.
+    pub fn decode_bit(&self, i: u32) -> bool
+        requires { i < self.now.outputs }
+        ensures { slice_get (decode_bits_of self.now) i ≡ Some result }
+    {
+        let first = self.zero_labels.len() - self.outputs as usize;
+        self.zero_labels[first + i as usize].colour()
+    }
+
+    /// Whether the numbers of wires, of AND gates and of outputs are the circuit's.
+    pub fn fits<C: Allocator>(&self, circuit: &Circuit<C>) -> bool
+        ensures { IsTrue result ↔ FitsCircuit circuit.now self.now }
+    {
+        self.zero_labels.len() == circuit.wires() as usize
+            && self.rows.len() == circuit.and_count() as usize
+            && self.outputs == circuit.output_wires()
+    }
+}
