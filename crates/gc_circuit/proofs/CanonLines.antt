@@ -1,9 +1,9 @@
 -- Lines of the canonical text, as they are written.
-use Rattle.std.proofs.Common.{◌≡◌, ℕ, zero, suc, ◌+◌, ◌<◌, ◌≤◌, ◌^◌, ◌++◌, List, [], ◌∷◌, length, map, take, slice_get, length-append, append_assoc, append-nil, Some, codes, decimal, refl, sym, ap, ◌∙◌, arith}
+use Rattle.std.proofs.Common.{◌≡◌, ℕ, zero, suc, ◌+◌, ◌<◌, ◌≤◌, ◌^◌, ◌++◌, List, [], ◌∷◌, length, map, take, drop, slice_get, length-append, append_assoc, append-nil, Some, codes, decimal, refl, sym, ap, ◌∙◌, arith}
 use Rattle.std.specs.List.{flat_map, join_with_byte}
 use Rattle.std.proofs.lemmas.Fmt.{length-decimal-le}
 use Rattle.std.proofs.lemmas.Grind.{flat_map-append}
-use Rattle.std.proofs.lemmas.List.{take_all, take_more}
+use Rattle.std.proofs.lemmas.List.{drop_all, take_all, take_more}
 use Rattle.std.proofs.lemmas.List.Folds.{flat_map-map}
 use Rattle.std.proofs.lemmas.Option.{slice_get_within, get_or_from_slice_get}
 use Rattle.gc_circuit.specs.declared.circuit.Gate.{Gate}
@@ -79,3 +79,7 @@ text_before-next text piece c i g is at =
 pub text_before-end : (c : Netlist) (n : ℕ) → length c.gates ≤ n → text_before c n ≡ canonical_text c
 unfolding text_before canonical_text
 text_before-end c n done = rw (take_all n c.gates done, flat_map-map line words_of_gate c.gates) refl
+
+-- Digits at the end of the room
+pub digits_last : (n : ℕ) (digits room : List ℕ) → length room ≤ n → digits ++ drop n room ≡ digits
+digits_last n digits room full = ap (λ t. digits ++ t) (drop_all n room full) ∙ append-nil digits

@@ -48,129 +48,121 @@ impl TextSink for Sha256 {
     }
 }
 
-/// A line of at most five numbers and a name, or a part of one. It is written from its end to its beginning.
-#[derive(Drop)]
-struct Piece {
-    bytes: [u8; 64],
-    start: usize,
+/// How many bytes there is room for in a line. That of a gate has at most 41.
+const ROOM: usize = 64;
+
+/// Room for a line. It is written from its end to its beginning, so that the digits of a number fall into place,
+/// and ends where the room ends.
+type Room = [u8; ROOM];
+
+/// Writes a byte before the place `end`, and returns where it stands.
+fn write_byte(room: &mut Room, end: usize, byte: u8) -> usize
+    requires { (0 < end) × (end ≤ ROOM) }
+    ensures written { drop result room.new ≡ byte ∷ drop end room.old }
+    ensures start { result + 1 ≡ end }
+{
+    room[end - 1] = byte;
+    end - 1
 }
 
-impl Model for Piece {
-    ghost Value = { List ℕ };
-
-    ghost view = { λ p. drop p.start p.bytes };
-
-    ghost invariant = { λ p. p.start ≤ 64 };
+/// Writes the digits of a number before the place `end`, and returns where they start.
+fn write_digits_of(room: &mut Room, end: usize, number: u32) -> usize
+    requires { (10 ≤ end) × (end ≤ ROOM) }
+    ensures written { drop result room.new ≡ decimal number ++ drop end room.old }
+    ensures start { (result ≤ end) × (end ≤ result + 10) }
+{
+    write_digits(u64::from(number), room, end)
 }
 
-impl Piece {
-    fn new() -> Piece
-        ensures { result ≡ [] }
-    {
-        Piece {
-            bytes: [0; 64],
-            start: 64,
-        }
-    }
+/// Writes a number and a space before the place `end`, and returns where they start.
+fn write_number(room: &mut Room, end: usize, number: u32) -> usize
+    requires { (11 ≤ end) × (end ≤ ROOM) }
+    ensures written { drop result room.new ≡ decimal number ++ 32 ∷ drop end room.old }
+    ensures start { (result ≤ end) × (end ≤ result + 11) }
+{
+    let space = write_byte(room, end, b' ');
+    write_digits_of(room, space, number)
+}
 
-    fn as_bytes(&self) -> &[u8]
-        ensures { result.now ≡ self.now }
-    {
-        &self.bytes[self.start..]
+/// Writes a name and the end of its line, and returns where they start.
+fn write_name(room: &mut Room, name: &[u8]) -> usize
+    requires { length name.now ≤ 3 }
+    ensures written { drop result room.new ≡ name.now ++ 10 ∷ [] }
+    ensures start { result + length name.now ≡ 63 }
+{
+    let mut start = write_byte(room, ROOM, b'\n');
+    for i in (0..name.len()).rev() {
+        start = write_byte(room, start, name[i]);
     }
+    start
+}
 
-    /// Puts a byte before the others.
-    fn byte(&mut self, byte: u8)
-        requires { length self.old < 64 }
-        ensures { self.new ≡ byte ∷ self.old }
-    {
-        self.start -= 1;
-        self.bytes[self.start] = byte;
-    }
+/// The line of a gate that reads one number, a wire or a constant: its counts, the number, the wire set, the name.
+fn line_of_one<'a>(room: &'a mut Room, read: u32, set: u32, name: &[u8]) -> &'a [u8]
+    requires { length name.now ≤ 3 }
+    ensures { result.now ≡ line (Number 1 ∷ Number 1 ∷ Number read ∷ Number set ∷ Name name.now ∷ []) }
+{
+    let start = write_name(room, name);
+    let start = write_number(room, start, set);
+    let start = write_number(room, start, read);
+    let start = write_number(room, start, 1);
+    let start = write_number(room, start, 1);
+    &room[start..]
+}
 
-    /// Puts the digits of a number before the others.
-    fn digits(&mut self, number: u32)
-        requires { length self.old + 10 ≤ 64 }
-        ensures written { self.new ≡ decimal number ++ self.old }
-        ensures short { length self.new ≤ length self.old + 10 }
-    {
-        self.start = write_digits(u64::from(number), &mut self.bytes, self.start);
-    }
+/// The line of a gate that reads two wires: its counts, the wires, the wire set, the name.
+fn line_of_two<'a>(room: &'a mut Room, first: u32, second: u32, set: u32, name: &[u8]) -> &'a [u8]
+    requires { length name.now ≤ 3 }
+    ensures { result.now ≡ line (Number 2 ∷ Number 1 ∷ Number first ∷ Number second ∷ Number set ∷ Name name.now ∷ []) }
+{
+    let start = write_name(room, name);
+    let start = write_number(room, start, set);
+    let start = write_number(room, start, second);
+    let start = write_number(room, start, first);
+    let start = write_number(room, start, 1);
+    let start = write_number(room, start, 2);
+    &room[start..]
+}
 
-    /// Puts a number and a space before the others.
-    fn number(&mut self, number: u32)
-        requires { length self.old + 11 ≤ 64 }
-        ensures written { self.new ≡ decimal number ++ 32 ∷ self.old }
-        ensures short { length self.new ≤ length self.old + 11 }
-    {
-        self.byte(b' ');
-        self.digits(number);
-    }
-
-    /// A name of at most three letters, and the end of its line.
-    fn ending(name: &[u8]) -> Piece
-        requires { length name.now ≤ 3 }
-        ensures { result ≡ name.now ++ 10 ∷ [] }
-    {
-        let mut piece = Piece::new();
-        piece.byte(b'\n');
-        for i in (0..name.len()).rev() {
-            piece.byte(name[i]);
-        }
-        piece
+/// The line of a gate.
+fn gate_line(room: &mut Room, gate: Gate) -> &[u8]
+    ensures { result.now ≡ line (words_of_gate gate) }
+{
+    let set = gate.set;
+    match gate.operation {
+        Operation::Xor(a, b) => line_of_two(room, a, b, set, b"XOR"),
+        Operation::And(a, b) => line_of_two(room, a, b, set, b"AND"),
+        Operation::Inv(a) => line_of_one(room, a, set, b"INV"),
+        Operation::Eq(constant) => line_of_one(room, u32::from(constant), set, b"EQ"),
+        Operation::Eqw(a) => line_of_one(room, a, set, b"EQW"),
     }
 }
 
 /// The line of the numbers of gates and wires.
-fn sizes_line(gates: u32, wires: u32) -> Piece
-    ensures { result ≡ line (Number gates ∷ Number wires ∷ []) }
+fn sizes_line(room: &mut Room, gates: u32, wires: u32) -> &[u8]
+    ensures { result.now ≡ line (Number gates ∷ Number wires ∷ []) }
 {
-    let mut piece = Piece::new();
-    piece.byte(b'\n');
-    piece.digits(wires);
-    piece.byte(b' ');
-    piece.digits(gates);
-    piece
+    let end = write_byte(room, ROOM, b'\n');
+    let start = write_digits_of(room, end, wires);
+    let start = write_number(room, start, gates);
+    &room[start..]
 }
 
-/// The line of a gate that reads one number, a wire or a constant: its counts, the number, the wire set, the name.
-fn line_of_one(read: u32, set: u32, name: &[u8]) -> Piece
-    requires { length name.now ≤ 3 }
-    ensures { result ≡ line (Number 1 ∷ Number 1 ∷ Number read ∷ Number set ∷ Name name.now ∷ []) }
+/// The digits of a number.
+fn digits(room: &mut Room, number: u32) -> &[u8]
+    ensures { result.now ≡ decimal number }
 {
-    let mut piece = Piece::ending(name);
-    piece.number(set);
-    piece.number(read);
-    piece.number(1);
-    piece.number(1);
-    piece
+    let start = write_digits_of(room, ROOM, number);
+    &room[start..]
 }
 
-/// The line of a gate that reads two wires: its counts, the wires, the wire set, the name.
-fn line_of_two(first: u32, second: u32, set: u32, name: &[u8]) -> Piece
-    requires { length name.now ≤ 3 }
-    ensures { result ≡ line (Number 2 ∷ Number 1 ∷ Number first ∷ Number second ∷ Number set ∷ Name name.now ∷ []) }
+/// A space and the digits of a number.
+fn spaced_digits(room: &mut Room, number: u32) -> &[u8]
+    ensures { result.now ≡ 32 ∷ decimal number }
 {
-    let mut piece = Piece::ending(name);
-    piece.number(set);
-    piece.number(second);
-    piece.number(first);
-    piece.number(1);
-    piece.number(2);
-    piece
-}
-
-/// The line of a gate.
-fn gate_line(gate: Gate) -> Piece
-    ensures { result ≡ line (words_of_gate gate) }
-{
-    match gate.operation {
-        Operation::Xor(a, b) => line_of_two(a, b, gate.set, b"XOR"),
-        Operation::And(a, b) => line_of_two(a, b, gate.set, b"AND"),
-        Operation::Inv(a) => line_of_one(a, gate.set, b"INV"),
-        Operation::Eq(constant) => line_of_one(u32::from(constant), gate.set, b"EQ"),
-        Operation::Eqw(a) => line_of_one(a, gate.set, b"EQW"),
-    }
+    let start = write_digits_of(room, ROOM, number);
+    let start = write_byte(room, start, b' ');
+    &room[start..]
 }
 
 /// Gives the line of a side's widths to the sink.
@@ -178,14 +170,10 @@ fn write_widths<S: TextSink>(sink: &mut S, widths: &[u32]) -> Result<(), S::Faul
     requires { length widths.now ≤ MAX_VALUES }
     ensures { OnOk result ((text : List ℕ) → S.holds sink.old text → S.holds sink.new (text ++ line (words_of_widths widths.now))) }
 {
-    let mut count = Piece::new();
-    count.digits(widths.len() as u32);
-    sink.put(count.as_bytes())?;
+    let mut room = [0; ROOM];
+    sink.put(digits(&mut room, widths.len() as u32))?;
     for width in widths {
-        let mut piece = Piece::new();
-        piece.digits(*width);
-        piece.byte(b' ');
-        sink.put(piece.as_bytes())?;
+        sink.put(spaced_digits(&mut room, *width))?;
     }
     sink.put(b"\n")
 }
@@ -195,12 +183,13 @@ impl<A: Allocator> Circuit<A> {
     fn write_canonical_text<S: TextSink>(&self, sink: &mut S) -> Result<(), S::Fault>
         ensures { OnOk result ((text : List ℕ) → S.holds sink.old text → S.holds sink.new (text ++ canonical_text self.now)) }
     {
-        sink.put(sizes_line(self.gates(), self.wires()).as_bytes())?;
+        let mut room = [0; ROOM];
+        sink.put(sizes_line(&mut room, self.gates(), self.wires()))?;
         write_widths(sink, self.input_widths())?;
         write_widths(sink, self.output_widths())?;
         sink.put(b"\n")?;
         for i in 0..self.gates() {
-            sink.put(gate_line(self.gate(i)).as_bytes())?;
+            sink.put(gate_line(&mut room, self.gate(i)))?;
         }
         Ok(())
     }
@@ -228,3 +217,6 @@ impl<A: Allocator> Circuit<A> {
         }
     }
 }
+
+#[cfg(test)]
+mod tests;
