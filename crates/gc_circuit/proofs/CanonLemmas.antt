@@ -172,13 +172,21 @@ lines_plain c lawful =
     let inputs : length c.input_widths ≤ MAX_VALUES = lawful.few_inputs in
     let outputs : length c.output_widths ≤ MAX_VALUES = lawful.few_outputs in
     let inputs_fit : sum c.input_widths ≤ c.wires = lawful.inputs_fit in
-    let outputs_fit : sum c.output_widths ≤ c.wires = lawful.outputs_fit in
-    ((omega arith, (omega arith, tt)),
-    ((omega arith, numbers_plain c.input_widths (omega arith)),
-    ((omega arith, numbers_plain c.output_widths (omega arith)),
-    (tt, gates_plain c.gates (λ i g at.
-    let set : g.set < c.wires = lawful.sets i g at in
-    (omega arith, EachRead-map (λ w. w < c.wires) (λ w. w < 2 ^ 32) g.operation (λ w below. omega arith) (EachRead-below c lawful i g at)))))))
+    let outputs_fit : sum c.output_widths ≤ c.wires = lawful.outputs_fit in (
+      (omega arith, (omega arith, tt)),
+      (
+        (omega arith, numbers_plain c.input_widths (omega arith)),
+        (
+          (omega arith, numbers_plain c.output_widths (omega arith)),
+          (
+            tt,
+            gates_plain c.gates (λ i g at.
+                let set : g.set < c.wires = lawful.sets i g at in
+                (omega arith, EachRead-map (λ w. w < c.wires) (λ w. w < 2 ^ 32) g.operation (λ w below. omega arith) (EachRead-below c lawful i g at))),
+          ),
+        ),
+      ),
+    )
 
 canonical_spells : (c : Netlist) → IsLawful c → Spells (canonical_text c) c
 unfolding canonical_text

@@ -50,8 +50,15 @@ fn canonical_texts_and_digests(rt: HostRuntime) -> Result<(), Fail> {
         let circuit = Circuit::read(rt.alloc(), text.as_bytes())?;
         let written = circuit.canon(rt.alloc())?;
         assert_eq!(rt; written.as_slice(), canonical.as_bytes(), "{text}");
-        assert_eq!(rt; encode(rt.alloc(), circuit.digest())?.as_str(), digest, "{text}");
-        assert!(rt; Circuit::read(rt.alloc(), &written)?.equals(&circuit), "{text}");
+        assert_eq!(rt;
+            encode(rt.alloc(), circuit.digest())?.as_str(),
+            digest,
+            "{text}"
+        );
+        assert!(rt;
+            Circuit::read(rt.alloc(), &written)?.equals(&circuit),
+            "{text}"
+        );
     }
     Ok(())
 }
@@ -61,7 +68,20 @@ fn copies_are_equal_and_others_are_not(rt: HostRuntime) -> Result<(), Fail> {
     let circuit = Circuit::read(rt.alloc(), ADDER.as_bytes())?;
     assert!(rt; circuit.try_clone(rt.alloc())?.equals(&circuit));
     for (text, _, _) in [CASES[0], CASES[1], CASES[5]] {
-        assert!(rt; !Circuit::read(rt.alloc(), text.as_bytes())?.equals(&circuit), "{text}");
+        assert!(rt;
+            !Circuit::read(rt.alloc(), text.as_bytes())?.equals(&circuit),
+            "{text}"
+        );
     }
+    Ok(())
+}
+
+#[test]
+fn debug_shows_the_sizes(rt: HostRuntime) -> Result<(), Fail> {
+    let circuit = Circuit::read(rt.alloc(), ADDER.as_bytes())?;
+    assert_eq!(rt;
+        format!(in rt.alloc(); "{circuit:?}")?.as_str(),
+        "Circuit { gates: 5, wires: 8, input_widths: [1, 1, 1], output_widths: [2], .. }"
+    );
     Ok(())
 }
