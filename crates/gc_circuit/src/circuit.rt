@@ -156,6 +156,7 @@ impl<A: Allocator> Circuit<A> {
     {
         self.gates[i as usize]
     }
+
     /// Whether both circuits have the same wires, widths and gates.
     pub fn equals<B: Allocator>(&self, other: &Circuit<B>) -> bool
         ensures { IsTrue result ↔ (self.now ≡ other.now) }
