@@ -1,19 +1,18 @@
 -- The canonical text of a lawful circuit spells it.
-use Rattle.std.proofs.Common.{◌≡◌, ℕ, zero, suc, ◌+◌, ◌-◌, ◌*◌, ◌<◌, ◌≤◌, ◌^◌, ◌&&◌, ◌||◌, ◌==◌, ◌++◌, List, [], ◌∷◌, length, map, sum, slice_get, append_assoc, append-nil, nat_le, nat_lt, Bool, true, false, Some, Ok, codes, decimal, refl, sym, ap, subst, ◌∙◌, arith, rules}
-use Rattle.std.specs.List.{fold, flat_map, list_all, filter, slice_split, join_with_byte, All, AllByRecursion}
+use Rattle.std.proofs.Common.{◌≡◌, ℕ, suc, ◌+◌, ◌-◌, ◌*◌, ◌<◌, ◌≤◌, ◌^◌, ◌++◌, List, [], ◌∷◌, length, map, sum, slice_get, append_assoc, nat_lt, Bool, true, false, Some, decimal, refl, sym, ap, subst, ◌∙◌, arith, rules}
+use Rattle.std.specs.List.{fold, flat_map, list_all, filter, join_with_byte, AllByRecursion}
 use Rattle.std.proofs.lemmas.Bool.Decides.{nat_tests}
-use Rattle.std.proofs.lemmas.Grind.{common_steps}
 use Rattle.std.proofs.lemmas.List.Elements.{All-from_recursion}
 use Rattle.std.proofs.lemmas.List.Folds.{flat_map-map}
 use Rattle.std.proofs.lemmas.List.Sums.{sum_by-cons}
-use Rattle.std.proofs.lemmas.Str.Parse.{IsDigitsTest, FoldsDigits, IsNumeralModel, numerals_by_fold}
+use Rattle.std.proofs.lemmas.Str.Parse.{IsDigitsTest, IsNumeralModel, numerals_by_fold}
 use Rattle.std.proofs.lemmas.Fmt.{digits_decimal, digits_value-decimal, decimal_nonempty}
 use Rattle.std.proofs.lemmas.List.Splits.{slice_split_at, slice_split-cons_yes}
 use Rattle.gc_circuit.specs.declared.limits.TheConstants.{MAX_GATES, MAX_WIRES, MAX_VALUES}
 use Rattle.gc_circuit.specs.declared.circuit.Operation.{Operation}
 use Rattle.gc_circuit.specs.declared.circuit.Operation.TheVariants.{Xor, And, Inv, Eq, Eqw}
 use Rattle.gc_circuit.specs.declared.circuit.Gate.{Gate}
-use Rattle.gc_circuit.specs.Circuit.{Netlist, EachRead, IsSetBefore, IsLawful}
+use Rattle.gc_circuit.specs.Circuit.{Netlist, EachRead, IsLawful}
 use Rattle.gc_circuit.specs.Text.{is_blank, is_some_run, tokens, is_digit, value_of, number_of}
 use Rattle.gc_circuit.specs.Spelling.{Word, Number, Name, SpellsWord, SpellWords, Spells, bit_number, words_of_operation, words_of_gate, words_of_widths, words_of_circuit}
 use Rattle.gc_circuit.specs.Reading.{circuit_of}

@@ -1,4 +1,4 @@
-use Rattle.std.proofs.Common.{◌≤◌, ◌+◌, ◌<◌, ◌^◌, decimal, length, arith}
+use Rattle.std.proofs.Common.{◌<◌, ◌^◌, arith}
 use Rattle.gc_circuit.proofs.CanonLines.{short_decimal}
 use Rattle.gc_circuit.proofs.canon.write_digits_of.Goals as goal
 

@@ -1,4 +1,4 @@
-use Rattle.std.proofs.Common.{◌≡◌, ◌++◌, ◌+◌, ◌≤◌, List, [], ◌∷◌, ℕ, length, subst, arith, ◌∙◌, ap}
+use Rattle.std.proofs.Common.{◌≡◌, ◌++◌, List, [], ◌∷◌, ℕ, length, subst, arith, ◌∙◌, ap}
 use Rattle.gc_circuit.specs.Circuit.{Netlist}
 use Rattle.gc_circuit.specs.Spelling.{Number}
 use Rattle.gc_circuit.specs.Canon.{line}
