@@ -1,0 +1,114 @@
+-- The law of a garbled circuit: on each wire that is set the active label stands for the wire's bit, and the outputs
+-- decode to the bits of the output wires.
+use Rattle.std.proofs.Common.{◌≡◌, ℕ, zero, suc, ◌+◌, ◌-◌, ◌<◌, ◌≤◌, Bool, true, false, not, List, [], ◌∷◌, map, slice_get, refl, sym, ap, ◌∙◌, arith}
+use lib.Bits.{xor_self}
+use Rattle.std.specs.List.{range_with_len}
+use Rattle.std.proofs.lemmas.Option.{get_or_from_slice_get}
+use Rattle.gc_circuit.specs.declared.circuit.Operation.{Operation}
+use Rattle.gc_circuit.specs.declared.circuit.Operation.TheVariants.{Xor, And, Inv, Eq, Eqw}
+use Rattle.gc_circuit.specs.declared.circuit.Gate.{Gate}
+use Rattle.gc_circuit.specs.Circuit.{Netlist, output_wires, IsSet, IsLawful, EachRead, and_number}
+use Rattle.gc_circuit.specs.Solution.{IsLocal, on_outputs}
+use Rattle.gc_circuit.specs.Meaning.{bit_of, xor, IsAssignment}
+use Rattle.gc_circuit.proofs.SolutionLemmas.{agree}
+use Rattle.gc_label.specs.Label.{◌⊕◌, colour, times}
+use Rattle.gc_half.specs.declared.garbling.RowPair.{RowPair}
+use Rattle.gc_half.specs.HalfGate.{and_active}
+use Rattle.gc_half.specs.Garbling.{zero_of, zero_rule, rows_of, IsGarbling}
+use Rattle.gc_half.specs.Evaluation.{active_of, active_rule, IsEvaluation, encode, decode, decode_bits}
+use Rattle.gc_half.specs.Law.{Decodes}
+use Rattle.gc_half.proofs.XorSums.{Name, Plus, When, marks, none, sums_equal}
+use Rattle.gc_half.proofs.HalfGateLaw.{and_law, colour-encode}
+
+-- The active label of the wire that a gate sets looks at the wires that it reads alone.
+active_of_local : (hash : ℕ → ℕ → ℕ) (u v : ℕ → ℕ) (k : ℕ) (row : RowPair) (op : Operation) →
+    EachRead (λ w. u w ≡ v w) op → active_of hash u k row op ≡ active_of hash v k row op
+active_of_local hash u v k row (Xor a b) h = rw (h.0, h.1) refl
+active_of_local hash u v k row (And a b) h =
+    ap (λ x. and_active hash k row.generator row.evaluator x (u b)) h.0
+    ∙ ap (λ x. and_active hash k row.generator row.evaluator (v a) x) h.1
+active_of_local hash u v k row (Inv a) h = h
+active_of_local hash u v k row (Eq b) h = refl
+active_of_local hash u v k row (Eqw a) h = h
+
+pub active_local : (hash : ℕ → ℕ → ℕ) (c : Netlist) (rows : List RowPair) → IsLocal (active_rule hash c rows)
+active_local hash c rows u v i g h = active_of_local hash u v _ _ g.operation h
+
+-- The label of an exclusive or is the sum of the labels.
+encode-xor : (r a b : ℕ) (x y : Bool) → encode r (a ⊕ b) (xor x y) ≡ encode r a x ⊕ encode r b y
+encode-xor r a b x y =
+    sums_equal (a ∷ b ∷ r ∷ []) (Plus (Plus (Name 0) (Name 1)) (When (xor x y) (Name 2)))
+    (Plus (Plus (Name 0) (When x (Name 2))) (Plus (Name 1) (When y (Name 2)))) (balanced x y)
+  where
+    balanced : (x y : Bool) →
+        none (marks (Plus (Plus (Plus (Name 0) (Name 1)) (When (xor x y) (Name 2))) (Plus (Plus (Name 0) (When x (Name 2))) (Plus (Name 1) (When y (Name 2)))))) ≡ true
+    balanced true true = refl
+    balanced true false = refl
+    balanced false true = refl
+    balanced false false = refl
+
+-- The label of a negation is the label, where the zero label has the offset added.
+encode-not : (r a : ℕ) (x : Bool) → encode r (a ⊕ r) (not x) ≡ encode r a x
+encode-not r a true = sums_equal (a ∷ r ∷ []) (Plus (Plus (Name 0) (Name 1)) (When false (Name 1))) (Plus (Name 0) (Name 1)) refl
+encode-not r a false = sums_equal (a ∷ r ∷ []) (Plus (Plus (Name 0) (Name 1)) (Name 1)) (Plus (Name 0) (When false (Name 1))) refl
+
+-- A decode bit and the colour of the label that stands for a bit give the bit.
+decode-encode : (r a : ℕ) (x : Bool) → colour r ≡ true → xor (colour a) (colour (encode r a x)) ≡ x
+decode-encode r a x odd = ap (xor (colour a)) (colour-encode r a x odd) ∙ cases (colour a) x
+  where
+    cases : (p x : Bool) → xor p (xor x p) ≡ x
+    cases true true = refl
+    cases true false = refl
+    cases false true = refl
+    cases false false = refl
+
+-- So it is for wires in a row.
+decode-wires : (r : ℕ) → colour r ≡ true → (label active : ℕ → ℕ) (bits : ℕ → Bool) (first count : ℕ) →
+    ((w : ℕ) → first ≤ w → w < first + count → active w ≡ encode r (label w) (bits w)) →
+    decode (map colour (map label (range_with_len first count))) (map active (range_with_len first count)) ≡ map bits (range_with_len first count)
+decode-wires r odd label active bits first zero h = refl
+decode-wires r odd label active bits first (suc count) h =
+    ap (λ y. xor (colour (label first)) (colour y) ∷ decode (map colour (map label (range_with_len (first + 1) count))) (map active (range_with_len (first + 1) count))) (h first (omega arith) (omega arith))
+    ∙ ap (λ b. b ∷ decode (map colour (map label (range_with_len (first + 1) count))) (map active (range_with_len (first + 1) count))) (decode-encode r (label first) (bits first) odd)
+    ∙ ap (λ bs. bits first ∷ bs) (decode-wires r odd label active bits (first + 1) count (λ w low high. h w (omega arith) (omega arith)))
+
+module _ (hash : ℕ → ℕ → ℕ) (r : ℕ) (odd : colour r ≡ true) where
+  -- The labels that stand for the bits meet the active-label equation of each operation.
+  encode-operation : (label : ℕ → ℕ) (bits : ℕ → Bool) (k : ℕ) (row : RowPair) (op : Operation) →
+      ((a b : ℕ) → op ≡ And a b → row ≡ rows_of hash r label k a b) →
+      encode r (zero_of hash r label k op) (bit_of bits op) ≡ active_of hash (λ w. encode r (label w) (bits w)) k row op
+  encode-operation label bits k row (Xor a b) h = encode-xor r (label a) (label b) (bits a) (bits b)
+  encode-operation label bits k row (And a b) h =
+      sym (and_law hash k r (label a) (label b) (bits a) (bits b) odd)
+      ∙ ap (λ (w : RowPair). and_active hash k w.generator w.evaluator (encode r (label a) (bits a)) (encode r (label b) (bits b))) (sym (h a b refl))
+  encode-operation label bits k row (Inv a) h = encode-not r (label a) (bits a)
+  encode-operation label bits k row (Eq b) h = xor_self (times b r)
+  encode-operation label bits k row (Eqw a) h = refl
+
+  module _ (c : Netlist) (lawful : IsLawful c) (given label : ℕ → ℕ) (rows : List RowPair) (garbling : IsGarbling hash r c given label rows)
+      (input_bits bits : ℕ → Bool) (assignment : IsAssignment c input_bits bits) where
+    -- So they are an evaluation,
+    encode-evaluation : IsEvaluation hash c rows (λ w. encode r (given w) (input_bits w)) (λ w. encode r (label w) (bits w))
+    encode-evaluation = record {
+      inputs = λ w h. rw (garbling.labels.inputs w h, assignment.inputs w h) refl;
+      gates = λ i g at.
+          ap (λ l. encode r l (bits g.set)) (garbling.labels.gates i g at)
+          ∙ ap (encode r (zero_of hash r label (and_number c i) g.operation)) (assignment.gates i g at)
+          ∙ encode-operation label bits (and_number c i) _ g.operation
+          (λ a b is. get_or_from_slice_get rows (and_number c i) _ _ (garbling.and_gates i g a b at is));
+    }
+
+    -- and any other agrees with it.
+    pub garbling-decodes : (active : ℕ → ℕ) → IsEvaluation hash c rows (λ w. encode r (given w) (input_bits w)) active →
+        Decodes c r label bits active
+    garbling-decodes active evaluation = record {
+      labels = labels;
+      outputs =
+          decode-wires r odd label active bits (c.wires - output_wires c) (output_wires c)
+          (λ w low high. let fit = lawful.outputs_fit in labels w (lawful.outputs_set w (omega arith) (omega arith)));
+    }
+      where
+        labels : (w : ℕ) → IsSet c w → active w ≡ encode r (label w) (bits w)
+        labels w set =
+            agree (active_rule hash c rows) (active_local hash c rows) c lawful (λ w. encode r (given w) (input_bits w)) active
+            (λ w. encode r (label w) (bits w)) evaluation encode-evaluation w set
