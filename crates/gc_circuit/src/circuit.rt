@@ -1,7 +1,8 @@
 ghost use Rattle.std.specs.Prelude.{◌≡◌, ◌<◌, ◌↔◌, length, slice_get, Some, IsTrue, IfOk};
-ghost use Rattle.gc_circuit.specs.Circuit.{is_and, and_count, input_wires, output_wires, IsLawful};
+ghost use Rattle.gc_circuit.specs.Circuit.{is_and, and_count, input_wires, output_wires, IsLawful, IsSummary};
 
 use crate::memory::Memory;
+use crate::read::Widths;
 use std::alloc::{Allocator, Global};
 use std::marker::Model;
 
@@ -63,6 +64,28 @@ impl<A: Allocator> Model for Circuit<A> {
 }
 
 impl<A: Allocator> Circuit<A> {
+    /// The circuit of these parts. That it is lawful, and what the sums are, is the caller's condition.
+    pub(crate) fn new(
+        wires: u32,
+        inputs: Widths<A>,
+        outputs: Widths<A>,
+        gates: Vec<Gate, A>,
+        and_count: u32,
+    ) -> Circuit<A>
+        requires { IsSummary (record { wires = wires; input_widths = inputs.widths.items; output_widths = outputs.widths.items; gates = gates.items }) inputs.sum outputs.sum and_count }
+        ensures { result ≡ record { wires = wires; input_widths = inputs.widths.items; output_widths = outputs.widths.items; gates = gates.items } }
+    {
+        Circuit {
+            wires,
+            input_wires: inputs.sum,
+            output_wires: outputs.sum,
+            and_count,
+            input_widths: inputs.widths,
+            output_widths: outputs.widths,
+            gates,
+        }
+    }
+
     /// How many gates the circuit has.
     pub fn gates(&self) -> u32
         ensures count { result ≡ length self.now.gates }

@@ -1,11 +1,16 @@
 //! Boolean circuits in Bristol Fashion: reading them from bytes, and evaluating them in the plain.
 #![tactic(auto)]
 
+mod checks;
 mod circuit;
 mod eval;
 mod fault;
+mod gates;
 mod limits;
 mod memory;
+mod number;
+mod read;
+mod tokens;
 
 pub use circuit::{Circuit, Gate, Operation};
 pub use eval::{fits, law_assignments, plain_eval};

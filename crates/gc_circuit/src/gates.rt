@@ -1,0 +1,85 @@
+ghost use Rattle.std.specs.Prelude.{◌≡◌, MatchResult, Ok, Err};
+ghost use Rattle.gc_circuit.specs.Reading.{constant_of, operation_of_two, operation_of_one, two_at, one_at, gate_at};
+
+use crate::circuit::{Gate, Operation};
+use crate::fault::ReadFault;
+use crate::tokens::Tokens;
+
+/// The operation of this name that reads two wires.
+#[tactic(auto, unfolding(crate::specs::Reading::operation_of_two))]
+fn operation_of_two(name: &[u8], a: u32, b: u32) -> Result<Operation, ReadFault>
+    ensures { result ≡ operation_of_two name.now a b }
+{
+    match name {
+        b"XOR" => Ok(Operation::Xor(a, b)),
+        b"AND" => Ok(Operation::And(a, b)),
+        b"INV" | b"EQ" | b"EQW" => Err(ReadFault::BadShape),
+        _ => Err(ReadFault::UnknownOperation),
+    }
+}
+
+/// The constant of an EQ gate.
+fn constant_of(value: u32) -> Result<Operation, ReadFault>
+    ensures { result ≡ constant_of value }
+{
+    match value {
+        0 => Ok(Operation::Eq(false)),
+        1 => Ok(Operation::Eq(true)),
+        _ => Err(ReadFault::BadConstant),
+    }
+}
+
+/// The operation of this name that has one number before its wire set.
+#[tactic(auto, unfolding(crate::specs::Reading::operation_of_one))]
+fn operation_of_one(name: &[u8], a: u32) -> Result<Operation, ReadFault>
+    ensures { result ≡ operation_of_one name.now a }
+{
+    match name {
+        b"INV" => Ok(Operation::Inv(a)),
+        b"EQ" => constant_of(a),
+        b"EQW" => Ok(Operation::Eqw(a)),
+        b"XOR" | b"AND" => Err(ReadFault::BadShape),
+        _ => Err(ReadFault::UnknownOperation),
+    }
+}
+
+/// A gate after its counts 2 and 1.
+#[tactic(auto, unfolding(crate::specs::Reading::two_at))]
+fn read_two(tokens: &mut Tokens<'_>) -> Result<Gate, ReadFault>
+    ensures { MatchResult result (λ g. two_at tokens.old ≡ Ok (g, tokens.new)) (λ e. two_at tokens.old ≡ Err e) }
+{
+    let a = tokens.number()?;
+    let b = tokens.number()?;
+    let set = tokens.number()?;
+    let name = tokens.token()?;
+    let operation = operation_of_two(name, a, b)?;
+    Ok(Gate { operation, set })
+}
+
+/// A gate after its counts 1 and 1.
+#[tactic(auto, unfolding(crate::specs::Reading::one_at))]
+fn read_one(tokens: &mut Tokens<'_>) -> Result<Gate, ReadFault>
+    ensures { MatchResult result (λ g. one_at tokens.old ≡ Ok (g, tokens.new)) (λ e. one_at tokens.old ≡ Err e) }
+{
+    let a = tokens.number()?;
+    let set = tokens.number()?;
+    let name = tokens.token()?;
+    let operation = operation_of_one(name, a)?;
+    Ok(Gate { operation, set })
+}
+
+/// A gate: how many wires it reads and sets, and then the rest.
+#[tactic(auto, unfolding(crate::specs::Reading::gate_at))]
+pub(crate) fn read_gate(tokens: &mut Tokens<'_>) -> Result<Gate, ReadFault>
+    ensures { MatchResult result (λ g. gate_at tokens.old ≡ Ok (g, tokens.new)) (λ e. gate_at tokens.old ≡ Err e) }
+{
+    let reads = tokens.number()?;
+    let sets = tokens.number()?;
+    if reads == 2 && sets == 1 {
+        read_two(tokens)
+    } else if reads == 1 && sets == 1 {
+        read_one(tokens)
+    } else {
+        Err(ReadFault::BadShape)
+    }
+}

@@ -1,0 +1,38 @@
+ghost use Rattle.std.specs.Prelude.{◌≡◌, ◌<◌, ◌≤◌, length, drop, false, slice_index, MatchResult, Ok, Err};
+ghost use Rattle.gc_circuit.specs.Text.{tokens, is_blank};
+ghost use Rattle.gc_circuit.specs.Reading.{number_at};
+
+use crate::fault::ReadFault;
+
+/// Whether the byte stands between tokens: a tab, a line feed, a carriage return or a space.
+pub(crate) fn is_blank(byte: u8) -> bool
+    ensures { result ≡ is_blank byte }
+{
+    matches!(byte, b'\t' | b'\n' | b'\r' | b' ')
+}
+
+/// The number that the text begins with, and how many bytes it takes. Leading zeros are accepted.
+pub(crate) fn leading_number(text: &[u8]) -> Result<(u32, usize), ReadFault>
+    requires { 0 < length text.now → is_blank (slice_index text.now 0) ≡ false }
+    ensures { MatchResult result (λ r. (r.1 ≤ length text.now) × (number_at (tokens text.now) ≡ Ok (r.0, tokens (drop r.1 text.now))))
+        (λ e. number_at (tokens text.now) ≡ Err e) }
+{
+    let mut value = 0u64;
+    for (i, byte) in text.iter().enumerate() {
+        if !byte.is_ascii_digit() {
+            return if is_blank(*byte) {
+                Ok((value as u32, i))
+            } else {
+                Err(ReadFault::BadNumber)
+            };
+        }
+        value = value * 10 + u64::from(*byte - b'0');
+        if value > u64::from(u32::MAX) {
+            return Err(ReadFault::BadNumber);
+        }
+    }
+    if text.is_empty() {
+        return Err(ReadFault::Truncated);
+    }
+    Ok((value as u32, text.len()))
+}
