@@ -11,9 +11,11 @@ mod memory;
 mod number;
 mod read;
 mod tokens;
+mod value;
 
 pub use circuit::{Circuit, Gate, Operation};
 pub use eval::{fits, law_assignments, plain_eval};
 pub use fault::ReadFault;
 pub use limits::{MAX_GATES, MAX_VALUES, MAX_WIRES};
 pub use memory::Memory;
+pub use value::{ValueFault, read_value, show_value};

@@ -1,0 +1,83 @@
+-- Value texts: how the bits of a value are written.
+use Rattle.std.specs.Prelude.{◌≡◌, ℕ, ◌+◌, ◌-◌, ◌*◌, ◌/◌, ◌%◌, ◌≤◌, ◌==◌, ◌||◌, ◌×◌, ◌↔◌, Bool, true, false, not, IsTrue, List, [], length, drop, map, slice_index, nat_eq, codes, unwrap_or, Result, Ok, Err, if◌then◌else◌}
+use Rattle.std.specs.List.{starts_with, range_with_len, list_all, list_any}
+use Rattle.std.specs.Int.{bit_at}
+use Rattle.hex.specs.Hex.{hex_digit_value, is_hex_digit}
+use Rattle.gc_circuit.specs.declared.value.ValueFault.{ValueFault}
+use Rattle.gc_circuit.specs.declared.value.ValueFault.TheVariants.{Memory, BadDigit, WrongLength, SpareBits}
+
+-- the number of a fault
+abbrev pub fault_code : ValueFault → ℕ
+fault_code Memory = 13
+fault_code BadDigit = 15
+fault_code WrongLength = 16
+fault_code SpareBits = 17
+
+-- the name of a fault
+abbrev pub fault_name : ValueFault → List ℕ
+fault_name Memory = codes "Memory"
+fault_name BadDigit = codes "BadDigit"
+fault_name WrongLength = codes "WrongLength"
+fault_name SpareBits = codes "SpareBits"
+
+-- A text has one of two forms: a character `0` or `1` for each wire, in wire order, or two hexadecimal digits for
+-- each byte of eight wires.
+pub data ValueText : Type 0 where
+  Binary : List ℕ → ValueText
+  Hexadecimal : List ℕ → ValueText
+
+-- a text that begins with `x` has the second form
+abbrev pub form_of : List ℕ → ValueText
+form_of text = if starts_with nat_eq text (codes "x") then Hexadecimal (drop 1 text) else Binary text
+
+-- how many bytes n wires need
+abbrev pub byte_count : ℕ → ℕ
+byte_count n = (n + 7) / 8
+
+-- whether the text has as many digits as a value of n wires
+abbrev pub has_length : ℕ → ValueText → Bool
+has_length n (Binary digits) = length digits == n
+has_length n (Hexadecimal digits) = length digits == 2 * byte_count n
+
+-- whether a character is `0` or `1`
+abbrev pub is_binary_digit : ℕ → Bool
+is_binary_digit c = c == 48 || c == 49
+
+-- whether each character is a digit of the text's form
+abbrev pub has_digits : ValueText → Bool
+has_digits (Binary digits) = list_all is_binary_digit digits
+has_digits (Hexadecimal digits) = list_all is_hex_digit digits
+
+-- the value of a hexadecimal digit, in either case
+abbrev pub digit_value : ℕ → ℕ
+digit_value c = unwrap_or (hex_digit_value c) 0
+
+-- byte k of hexadecimal digits, of which the first of two has the higher four bits
+abbrev pub byte_at : List ℕ → ℕ → ℕ
+byte_at digits k = 16 * digit_value (slice_index digits (2 * k)) + digit_value (slice_index digits (2 * k + 1))
+
+-- the bit of wire i: its own character, or bit i mod 8 of byte i / 8, where bit 0 is the lowest
+abbrev pub wire_bit : ValueText → ℕ → Bool
+wire_bit (Binary digits) i = slice_index digits i == 49
+wire_bit (Hexadecimal digits) i = bit_at (byte_at digits (i / 8)) (i % 8) == 1
+
+-- whether one of the last byte's bits that no wire uses is 1
+abbrev pub has_spare_bit : ℕ → ValueText → Bool
+has_spare_bit n t = list_any (wire_bit t) (range_with_len n (8 * byte_count n - n))
+
+-- the bits of n wires, or the first fault
+abbrev pub value_told : ValueText → ℕ → Result (List Bool) ValueFault
+value_told t n =
+    if not (has_length n t) then Err WrongLength
+    else if not (has_digits t) then Err BadDigit
+    else if has_spare_bit n t then Err SpareBits
+    else Ok (map (wire_bit t) (range_with_len 0 n))
+
+-- what a text tells of a value of n wires
+abbrev pub value_of_text : List ℕ → ℕ → Result (List Bool) ValueFault
+value_of_text text n = value_told (form_of text) n
+
+-- the character of a bit
+abbrev pub binary_digit : Bool → ℕ
+binary_digit false = 48
+binary_digit true = 49
