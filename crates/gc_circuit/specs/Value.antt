@@ -1,5 +1,5 @@
 -- Value texts: how the bits of a value are written.
-use Rattle.std.specs.Prelude.{◌≡◌, ℕ, ◌+◌, ◌-◌, ◌*◌, ◌/◌, ◌%◌, ◌≤◌, ◌==◌, ◌||◌, ◌×◌, ◌↔◌, Bool, true, false, not, IsTrue, List, [], length, drop, map, slice_index, nat_eq, codes, unwrap_or, Result, Ok, Err, if◌then◌else◌}
+use Rattle.std.specs.Prelude.{◌≡◌, ℕ, ◌+◌, ◌-◌, ◌*◌, ◌/◌, ◌%◌, ◌≤◌, ◌==◌, ◌||◌, ◌↔◌, Bool, true, false, not, IsTrue, List, [], length, drop, map, slice_index, nat_eq, codes, unwrap_or, Result, Ok, Err, if◌then◌else◌}
 use Rattle.std.specs.List.{starts_with, range_with_len, list_all, list_any}
 use Rattle.std.specs.Int.{bit_at}
 use Rattle.hex.specs.Hex.{hex_digit_value, is_hex_digit}
@@ -81,3 +81,22 @@ value_of_text text n = value_told (form_of text) n
 abbrev pub binary_digit : Bool → ℕ
 binary_digit false = 48
 binary_digit true = 49
+
+-- The text is a value of n wires with these bits.
+pub record IsValue (t : ValueText) (n : ℕ) (bits : List Bool) : Type 0 where
+  pub right_length : IsTrue (has_length n t)
+  pub all_digits : IsTrue (has_digits t)
+  pub rest_zero : (i : ℕ) → n ≤ i → wire_bit t i ≡ false
+  pub in_wire_order : bits ≡ map (wire_bit t) (range_with_len 0 n)
+
+-- The fault is the first that the text has as a value of n wires.
+abbrev pub IsFirstFault : ValueText → ℕ → ValueFault → Type 0
+IsFirstFault t n WrongLength = ¬ IsTrue (has_length n t)
+IsFirstFault t n BadDigit = IsTrue (has_length n t) × ¬ IsTrue (has_digits t)
+IsFirstFault t n SpareBits = IsTrue (has_length n t) × IsTrue (has_digits t) × ((i : ℕ) × (n ≤ i) × (wire_bit t i ≡ true))
+IsFirstFault t n Memory = ⊥
+
+-- A text tells bits exactly where it is the value with these bits, and a fault exactly where that is its first.
+pub record ValueTextLaw (text : List ℕ) (n : ℕ) : Type 0 where
+  pub value : (bits : List Bool) → (value_of_text text n ≡ Ok bits) ↔ IsValue (form_of text) n bits
+  pub fault : (e : ValueFault) → (value_of_text text n ≡ Err e) ↔ IsFirstFault (form_of text) n e

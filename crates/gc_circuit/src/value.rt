@@ -1,6 +1,6 @@
 //! Value texts: reading the bits of an input value, and writing those of an output value.
 
-ghost use Rattle.std.specs.Prelude.{◌≡◌, ◌≢◌, ◌+◌, ◌*◌, ◌×◌, ◌⊎◌, ◌≤◌, ◌==◌, ◌&&◌, ◌++◌, true, false, map, List, IfOk, IfErr, OnOk, MatchResult};
+ghost use Rattle.std.specs.Prelude.{◌≡◌, ◌≢◌, ◌+◌, ◌*◌, ◌^◌, ◌⊎◌, ◌<◌, ◌≤◌, ◌==◌, ◌&&◌, ◌++◌, true, false, map, List, IfOk, IfErr, OnOk, MatchResult};
 ghost use Rattle.std.specs.Int.{bit_at};
 ghost use Rattle.std.specs.List.{range_with_len};
 ghost use Rattle.hex.specs.Hex.{is_hex_digit};
@@ -113,11 +113,12 @@ fn read_binary<A: Allocator + Copy>(
     }
     let mut bits = Vec::with_capacity(alloc, width)?;
     for digit in digits {
-        match *digit {
-            b'0' => bits.push(false)?,
-            b'1' => bits.push(true)?,
+        let bit = match *digit {
+            b'0' => false,
+            b'1' => true,
             _ => return Err(ValueFault::BadDigit),
-        }
+        };
+        bits.push(bit)?;
     }
     Ok(bits)
 }
@@ -151,7 +152,7 @@ fn byte_of(high: u8, low: u8) -> Result<u8, ValueFault>
     ensures err { IfErr result (λ fault. (is_hex_digit high && is_hex_digit low ≡ false) × (fault ≡ ValueFault.BadDigit)) }
 {
     match <[u8; 1]>::from_hex([high, low]) {
-        Ok([byte]) => Ok(byte),
+        Ok(bytes) => Ok(bytes[0]),
         Err(_) => Err(ValueFault::BadDigit),
     }
 }
