@@ -1,0 +1,4 @@
+pub mod Files
+pub mod Fault
+pub mod Order
+pub mod Lines

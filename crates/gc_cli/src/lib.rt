@@ -1,0 +1,13 @@
+//! The program `halfgates` as a library: its command line, its commands, and what they print.
+#![tactic(auto)]
+
+mod failures;
+mod fault;
+mod files;
+mod lines;
+mod order;
+
+pub use failures::FailureCount;
+pub use fault::Fault;
+pub use files::{FileError, Files, HostFiles};
+pub use order::{Order, order_of};
