@@ -1,6 +1,6 @@
-ghost use Rattle.std.specs.Prelude.{◌≡◌, ◌≢◌, ◌≤◌, ◌-◌, [], length, map, sum, IfOk, MatchResult, Ok, Err, list_all};
-ghost use Rattle.std.specs.List.{range_with_len};
-ghost use Rattle.gc_circuit.specs.Circuit.{IsLawful};
+ghost use Rattle.std.specs.Prelude.{◌≡◌, ◌≢◌, ◌≤◌, ◌-◌, [], length, map, sum, drop, count_by, if◌then◌else◌, IfOk, MatchResult, Ok, Err, vec_len};
+ghost use Rattle.std.specs.List.{range_with_len, list_all};
+ghost use Rattle.gc_circuit.specs.Circuit.{IsLawful, is_and};
 ghost use Rattle.gc_circuit.specs.Text.{tokens};
 ghost use Rattle.gc_circuit.specs.Spelling.{Spells};
 ghost use Rattle.gc_circuit.specs.Reading.{numbers_at, widths_at, gates_at, circuit_of, is_set};
@@ -31,28 +31,45 @@ struct Gates<A: Allocator> {
     is_set: Vec<bool, A>,
 }
 
-/// The next numbers.
+/// The next numbers, this many.
 fn read_numbers<A: Allocator>(
     alloc: A,
     tokens: &mut Tokens<'_>,
     count: u32,
-) -> Result<Vec<u32, A>, ReadFault> {
+) -> Result<Vec<u32, A>, ReadFault>
+    ensures all { MatchResult result (λ v. numbers_at count [] tokens.old ≡ Ok (v.items, tokens.new)) (λ e. e ≢ ReadFault.Memory → numbers_at count [] tokens.old ≡ Err e) }
+    ensures len { IfOk result (λ v. vec_len v ≡ count) }
+{
     let mut numbers = Vec::with_capacity(alloc, count as usize)?;
     for _i in 0..count {
-        numbers.push(tokens.number()?)?;
+        let number = tokens.number()?;
+        numbers.push(number)?;
     }
     Ok(numbers)
 }
 
+/// The sum of the widths, of which there are not too many.
+fn sum_of(widths: &[u32]) -> u64
+    requires { length widths.now ≤ MAX_VALUES }
+    ensures { result ≡ sum widths.now }
+{
+    widths.iter().map(|width| u64::from(*width)).sum()
+}
+
 /// The widths of the values of one side: how many, each, and then their sum against the wires.
+#[tactic(auto, unfolding(crate::specs::Reading::widths_at))]
 fn read_widths<A: Allocator>(
     alloc: A,
     tokens: &mut Tokens<'_>,
     wires: u32,
-) -> Result<Widths<A>, ReadFault> {
+) -> Result<Widths<A>, ReadFault>
+    ensures read { MatchResult result (λ w. widths_at wires tokens.old ≡ Ok (w.widths.items, tokens.new)) (λ e. e ≢ ReadFault.Memory → widths_at wires tokens.old ≡ Err e) }
+    ensures sums { IfOk result (λ w. w.sum ≡ sum w.widths.items) }
+    ensures fits { IfOk result (λ w. w.sum ≤ wires) }
+{
     let count = tokens.number_up_to(MAX_VALUES)?;
     let widths = read_numbers(alloc, tokens, count)?;
-    let sum: u64 = widths.iter().map(|width| u64::from(*width)).sum();
+    let sum = sum_of(&widths);
     if sum <= u64::from(wires) {
         Ok(Widths {
             widths,
@@ -64,14 +81,17 @@ fn read_widths<A: Allocator>(
 }
 
 /// The table of the wires that are set before any gate: the input wires.
-fn inputs_set<A: Allocator>(alloc: A, wires: u32, inputs: u32) -> Result<Vec<bool, A>, ReadFault> {
+fn inputs_set<A: Allocator>(alloc: A, wires: u32, inputs: u32) -> Result<Vec<bool, A>, ReadFault>
+    requires { inputs ≤ wires }
+    ensures { MatchResult result (λ v. v.items ≡ map (is_set inputs []) (range_with_len 0 wires)) (λ e. e ≡ ReadFault.Memory) }
+{
     let mut is_set = Vec::with_capacity(alloc, wires as usize)?;
     is_set.resize(inputs as usize, true)?;
     is_set.resize(wires as usize, false)?;
     Ok(is_set)
 }
 
-/// The next gates, each checked against those before it. There is room for the first gates from the start.
+/// The next gates, this many, each checked against those before it. Room for some is taken at once.
 fn read_gates<A: Allocator + Copy>(
     alloc: A,
     tokens: &mut Tokens<'_>,
@@ -79,7 +99,12 @@ fn read_gates<A: Allocator + Copy>(
     inputs: u32,
     count: u32,
     room: usize,
-) -> Result<Gates<A>, ReadFault> {
+) -> Result<Gates<A>, ReadFault>
+    requires { inputs ≤ wires }
+    ensures read { MatchResult result (λ g. gates_at wires inputs count [] tokens.old ≡ Ok (g.gates.items, tokens.new)) (λ e. e ≢ ReadFault.Memory → gates_at wires inputs count [] tokens.old ≡ Err e) }
+    ensures table { IfOk result (λ g. g.is_set.items ≡ map (is_set inputs g.gates.items) (range_with_len 0 wires)) }
+    ensures ands { IfOk result (λ g. g.and_count ≡ count_by (λ x. is_and x.operation) g.gates.items) }
+{
     let mut is_set = inputs_set(alloc, wires, inputs)?;
     let mut gates = Vec::with_capacity(alloc, room)?;
     let mut and_count = 0;
@@ -97,10 +122,20 @@ fn read_gates<A: Allocator + Copy>(
     })
 }
 
-/// Each output wire is set.
-fn check_outputs(is_set: &[bool], outputs: u32) -> Result<(), ReadFault> {
+/// Whether each of these wires is set.
+fn all_set(is_set: &[bool]) -> bool
+    ensures { result ≡ list_all (λ b. b) is_set.now }
+{
+    is_set.iter().all(|set| *set)
+}
+
+/// Each output wire is set: the last wires, this many.
+fn check_outputs(is_set: &[bool], outputs: u32) -> Result<(), ReadFault>
+    requires { outputs ≤ length is_set.now }
+    ensures { result ≡ (if list_all (λ b. b) (drop (length is_set.now - outputs) is_set.now) then Ok tt else Err ReadFault.OutputUnset) }
+{
     let (_, last) = is_set.split_at(is_set.len() - outputs as usize);
-    if last.iter().all(|set| *set) {
+    if all_set(last) {
         Ok(())
     } else {
         Err(ReadFault::OutputUnset)
@@ -110,6 +145,7 @@ fn check_outputs(is_set: &[bool], outputs: u32) -> Result<(), ReadFault> {
 impl<A: Allocator + Copy> Circuit<A> {
     /// Reads a circuit in Bristol Fashion. The error is the first fault of the text, from left to right;
     /// `Memory` stands in place of a later fault, or of the circuit, only where a growth was refused.
+    #[tactic(auto, unfolding(crate::specs::Reading::circuit_of))]
     pub fn read(alloc: A, text: &[u8]) -> Result<Circuit<A>, ReadFault>
         ensures reading { MatchResult result (λ c. circuit_of (tokens text.now) ≡ Ok c) (λ e. e ≢ ReadFault.Memory → circuit_of (tokens text.now) ≡ Err e) }
         ensures lawful { IfOk result IsLawful }

@@ -1,4 +1,4 @@
-ghost use Rattle.std.specs.Prelude.{◌≡◌, ◌<◌, ◌≤◌, length, take, true, false, slice_index, All, MatchResult, Ok, Err};
+ghost use Rattle.std.specs.Prelude.{◌≡◌, ◌<◌, ◌≤◌, length, take, true, false, slice_index, All, IfOk, MatchResult, Ok, Err};
 ghost use Rattle.gc_circuit.specs.Text.{tokens, is_blank};
 ghost use Rattle.gc_circuit.specs.Reading.{token_at, number_at, limited_at, check_end};
 
@@ -82,7 +82,8 @@ impl<'a> Tokens<'a> {
     /// Takes a number that is due and may not be above the limit.
     #[tactic(auto, unfolding(crate::specs::Reading::limited_at))]
     pub fn number_up_to(&mut self, limit: u32) -> Result<u32, ReadFault>
-        ensures { MatchResult result (λ n. limited_at limit self.old ≡ Ok (n, self.new)) (λ e. limited_at limit self.old ≡ Err e) }
+        ensures number { MatchResult result (λ n. limited_at limit self.old ≡ Ok (n, self.new)) (λ e. limited_at limit self.old ≡ Err e) }
+        ensures within { IfOk result (λ n. n ≤ limit) }
     {
         let value = self.number()?;
         if value <= limit {

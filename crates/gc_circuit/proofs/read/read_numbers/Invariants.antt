@@ -1,0 +1,10 @@
+use Rattle.std.proofs.Common.{◌≡◌, ◌-◌, []}
+use Rattle.std.specs.Vec.{vec_len}
+use Rattle.gc_circuit.specs.Reading.{numbers_at}
+use Rattle.gc_circuit.proofs.read.read_numbers.Given as goal
+
+abbrev pub invariant-loop-i : goal.invariant-loop-i
+invariant-loop-i g l = record {
+  so_far : numbers_at (l.count - l._i) l.numbers.items l.tokens ≡ numbers_at l.count [] l.fn.tokens;
+  len : vec_len l.numbers ≡ l._i;
+}
