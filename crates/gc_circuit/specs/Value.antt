@@ -1,5 +1,5 @@
--- Value texts: how the bits of a value are written.
-use Rattle.std.specs.Prelude.{◌≡◌, ℕ, ◌+◌, ◌-◌, ◌*◌, ◌/◌, ◌%◌, ◌≤◌, ◌==◌, ◌||◌, ◌↔◌, Bool, true, false, not, IsTrue, List, [], length, drop, map, slice_index, nat_eq, codes, unwrap_or, Result, Ok, Err, if◌then◌else◌}
+-- Value texts: how the bits of a value are written. The form is this project's own.
+use Rattle.std.specs.Prelude.{◌≡◌, ℕ, ◌+◌, ◌-◌, ◌*◌, ◌/◌, ◌%◌, ◌≤◌, ◌==◌, ◌||◌, ◌↔◌, Bool, true, false, not, IsTrue, List, length, drop, map, slice_index, nat_eq, codes, unwrap_or, Result, Ok, Err, if◌then◌else◌}
 use Rattle.std.specs.List.{starts_with, range_with_len, list_all, list_any}
 use Rattle.std.specs.Int.{bit_at}
 use Rattle.hex.specs.Hex.{hex_digit_value, is_hex_digit}
@@ -39,9 +39,14 @@ abbrev pub has_length : ℕ → ValueText → Bool
 has_length n (Binary digits) = length digits == n
 has_length n (Hexadecimal digits) = length digits == 2 * byte_count n
 
+-- the character of a bit: `0` or `1`
+abbrev pub binary_digit : Bool → ℕ
+binary_digit false = 48
+binary_digit true = 49
+
 -- whether a character is `0` or `1`
 abbrev pub is_binary_digit : ℕ → Bool
-is_binary_digit c = c == 48 || c == 49
+is_binary_digit c = c == binary_digit false || c == binary_digit true
 
 -- whether each character is a digit of the text's form
 abbrev pub has_digits : ValueText → Bool
@@ -56,9 +61,13 @@ digit_value c = unwrap_or (hex_digit_value c) 0
 abbrev pub byte_at : List ℕ → ℕ → ℕ
 byte_at digits k = 16 * digit_value (slice_index digits (2 * k)) + digit_value (slice_index digits (2 * k + 1))
 
+-- the lowest bits of a byte, the lowest first
+abbrev pub low_bits : ℕ → ℕ → List Bool
+low_bits byte count = map (λ i. bit_at byte i == 1) (range_with_len 0 count)
+
 -- the bit of wire i: its own character, or bit i mod 8 of byte i / 8, where bit 0 is the lowest
 abbrev pub wire_bit : ValueText → ℕ → Bool
-wire_bit (Binary digits) i = slice_index digits i == 49
+wire_bit (Binary digits) i = slice_index digits i == binary_digit true
 wire_bit (Hexadecimal digits) i = bit_at (byte_at digits (i / 8)) (i % 8) == 1
 
 -- whether one of the last byte's bits that no wire uses is 1
@@ -77,23 +86,19 @@ value_told t n =
 abbrev pub value_of_text : List ℕ → ℕ → Result (List Bool) ValueFault
 value_of_text text n = value_told (form_of text) n
 
--- the character of a bit
-abbrev pub binary_digit : Bool → ℕ
-binary_digit false = 48
-binary_digit true = 49
-
--- The text is a value of n wires with these bits.
+-- The text is the value of n wires with these bits.
 pub record IsValue (t : ValueText) (n : ℕ) (bits : List Bool) : Type 0 where
   pub right_length : IsTrue (has_length n t)
   pub all_digits : IsTrue (has_digits t)
   pub rest_zero : (i : ℕ) → n ≤ i → wire_bit t i ≡ false
   pub in_wire_order : bits ≡ map (wire_bit t) (range_with_len 0 n)
 
--- The fault is the first that the text has as a value of n wires.
+-- The fault is the first that the text has as a value of n wires. No text has the fault that memory ran out.
 abbrev pub IsFirstFault : ValueText → ℕ → ValueFault → Type 0
 IsFirstFault t n WrongLength = ¬ IsTrue (has_length n t)
 IsFirstFault t n BadDigit = IsTrue (has_length n t) × ¬ IsTrue (has_digits t)
-IsFirstFault t n SpareBits = IsTrue (has_length n t) × IsTrue (has_digits t) × ((i : ℕ) × (n ≤ i) × (wire_bit t i ≡ true))
+IsFirstFault t n SpareBits =
+    IsTrue (has_length n t) × IsTrue (has_digits t) × ((i : ℕ) × (n ≤ i) × (wire_bit t i ≡ true))
 IsFirstFault t n Memory = ⊥
 
 -- A text tells bits exactly where it is the value with these bits, and a fault exactly where that is its first.

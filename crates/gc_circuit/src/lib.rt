@@ -18,4 +18,4 @@ pub use eval::{fits, law_assignments, plain_eval};
 pub use fault::ReadFault;
 pub use limits::{MAX_GATES, MAX_VALUES, MAX_WIRES};
 pub use memory::Memory;
-pub use value::{ValueFault, read_value, show_value};
+pub use value::{ValueFault, law_value_texts, read_value, show_value};

@@ -1,15 +1,12 @@
 //! Value texts: reading the bits of an input value, and writing those of an output value.
 
-ghost use Rattle.std.specs.Prelude.{◌≡◌, ◌≢◌, ◌+◌, ◌*◌, ◌^◌, ◌⊎◌, ◌<◌, ◌≤◌, ◌==◌, ◌&&◌, ◌++◌, true, false, map, List, IfOk, IfErr, OnOk, MatchResult};
-ghost use Rattle.std.specs.Int.{bit_at};
-ghost use Rattle.std.specs.List.{range_with_len};
+ghost use Rattle.std.specs.Prelude.{◌≡◌, ◌+◌, ◌*◌, ◌^◌, ◌⊎◌, ◌<◌, ◌≤◌, ◌&&◌, ◌++◌, ℕ, Bool, List, length, map, IfOk, IfErr, OnOk, IsTrue, IsFalse};
 ghost use Rattle.hex.specs.Hex.{is_hex_digit};
-ghost use Rattle.gc_circuit.specs.Value.{Binary, Hexadecimal, fault_code, fault_name, digit_value, value_told, value_of_text, binary_digit};
-
-use hex::FromHex;
-use std::alloc::{AllocError, AllocFailed, Allocator};
+ghost use Rattle.gc_circuit.specs.Value.{Binary, Hexadecimal, form_of, has_length, value_told, value_of_text, digit_value, low_bits, binary_digit, fault_code, fault_name, ValueTextLaw};
 
 use crate::memory::Memory;
+use hex::FromHex;
+use std::alloc::{AllocError, AllocFailed, Allocator};
 
 /// Why a text is not a value of the width asked for.
 #[derive(Clone, Copy, Debug, PartialEq, Eq)]
@@ -85,7 +82,13 @@ pub fn read_value<A: Allocator + Copy>(
     text: &[u8],
     width: u32,
 ) -> Result<Vec<bool, A>, ValueFault>
-    ensures { MatchResult result (λ v. value_of_text text.now width ≡ Ok v.items) (λ fault. (fault ≡ ValueFault.Memory) ⊎ (value_of_text text.now width ≡ Err fault)) }
+    ensures ok { IfOk result (λ v. value_of_text text.now width ≡ Ok v.items) }
+    ensures err { IfErr result (λ fault.
+        (fault ≡ ValueFault.Memory) ⊎ (value_of_text text.now width ≡ Err fault)) }
+
+    // The length is judged before memory is taken.
+    ensures length_first { IsFalse (has_length width (form_of text.now)) →
+        result ≡ Err ValueFault.WrongLength }
 {
     match text {
         [b'x', digits @ ..] => read_hexadecimal(alloc, digits, width as usize),
@@ -101,12 +104,25 @@ pub fn show_value<A: Allocator + Copy>(alloc: A, bits: &[bool]) -> Result<Vec<u8
     Ok(digits.collect(alloc)?)
 }
 
+/// The law of value texts. A text tells bits exactly where it is the value with these bits, and a fault exactly
+/// where that is the first that it has. What `show_value` writes tells the bits shown.
+pub fn law_value_texts()
+    ensures meaning { (text : List ℕ) (n : ℕ) → ValueTextLaw text n }
+    ensures round_trip { (bits : List Bool) →
+        value_of_text (map binary_digit bits) (length bits) ≡ Ok bits }
+{}
+
+/// The first form, which has a character for each wire.
 fn read_binary<A: Allocator + Copy>(
     alloc: A,
     digits: &[u8],
     width: usize,
 ) -> Result<Vec<bool, A>, ValueFault>
-    ensures { MatchResult result (λ v. value_told (Binary digits.now) width ≡ Ok v.items) (λ fault. (fault ≡ ValueFault.Memory) ⊎ (value_told (Binary digits.now) width ≡ Err fault)) }
+    ensures ok { IfOk result (λ v. value_told (Binary digits.now) width ≡ Ok v.items) }
+    ensures err { IfErr result (λ fault.
+        (fault ≡ ValueFault.Memory) ⊎ (value_told (Binary digits.now) width ≡ Err fault)) }
+    ensures length_first { IsFalse (has_length width (Binary digits.now)) →
+        result ≡ Err ValueFault.WrongLength }
 {
     if digits.len() != width {
         return Err(ValueFault::WrongLength);
@@ -123,21 +139,29 @@ fn read_binary<A: Allocator + Copy>(
     Ok(bits)
 }
 
+/// The second form, from its digits.
 fn read_hexadecimal<A: Allocator + Copy>(
     alloc: A,
     digits: &[u8],
     width: usize,
 ) -> Result<Vec<bool, A>, ValueFault>
     requires { width < 2 ^ 32 }
-    ensures { MatchResult result (λ v. value_told (Hexadecimal digits.now) width ≡ Ok v.items) (λ fault. (fault ≡ ValueFault.Memory) ⊎ (value_told (Hexadecimal digits.now) width ≡ Err fault)) }
+    ensures ok { IfOk result (λ v. value_told (Hexadecimal digits.now) width ≡ Ok v.items) }
+    ensures err { IfErr result (λ fault.
+        (fault ≡ ValueFault.Memory) ⊎ (value_told (Hexadecimal digits.now) width ≡ Err fault)) }
+    ensures length_first { IsFalse (has_length width (Hexadecimal digits.now)) →
+        result ≡ Err ValueFault.WrongLength }
 {
-    if digits.len() != 2 * width.div_ceil(8) {
+    let byte_count = width.div_ceil(8);
+    if digits.len() != 2 * byte_count {
         return Err(ValueFault::WrongLength);
     }
     let mut bits = Vec::with_capacity(alloc, width)?;
-    for k in 0..width.div_ceil(8) {
+    for k in 0..byte_count {
         let byte = byte_of(digits[2 * k], digits[2 * k + 1])?;
         let used = (width - 8 * k).min(8);
+
+        // Only the last byte has bits that no wire uses.
         if u32::from(byte) >> used != 0 {
             return Err(ValueFault::SpareBits);
         }
@@ -148,8 +172,10 @@ fn read_hexadecimal<A: Allocator + Copy>(
 
 /// The byte of two hexadecimal digits.
 fn byte_of(high: u8, low: u8) -> Result<u8, ValueFault>
-    ensures ok { IfOk result (λ byte. (is_hex_digit high && is_hex_digit low ≡ true) × (byte ≡ 16 * digit_value high + digit_value low)) }
-    ensures err { IfErr result (λ fault. (is_hex_digit high && is_hex_digit low ≡ false) × (fault ≡ ValueFault.BadDigit)) }
+    ensures ok { IfOk result (λ byte. IsTrue (is_hex_digit high && is_hex_digit low)
+        × (byte ≡ 16 * digit_value high + digit_value low)) }
+    ensures err { IfErr result (λ fault. IsFalse (is_hex_digit high && is_hex_digit low)
+        × (fault ≡ ValueFault.BadDigit)) }
 {
     match <[u8; 1]>::from_hex([high, low]) {
         Ok(bytes) => Ok(bytes[0]),
@@ -158,9 +184,13 @@ fn byte_of(high: u8, low: u8) -> Result<u8, ValueFault>
 }
 
 /// Adds the lowest `count` bits of a byte, the lowest first.
-fn push_bits<A: Allocator>(bits: &mut Vec<bool, A>, byte: u8, count: usize) -> Result<(), ValueFault>
+fn push_bits<A: Allocator>(
+    bits: &mut Vec<bool, A>,
+    byte: u8,
+    count: usize,
+) -> Result<(), ValueFault>
     requires { count ≤ 8 }
-    ensures ok { OnOk result (bits.new.items ≡ bits.old.items ++ map (λ i. bit_at byte i == 1) (range_with_len 0 count)) }
+    ensures ok { OnOk result (bits.new.items ≡ bits.old.items ++ low_bits byte count) }
     ensures err { IfErr result (λ fault. fault ≡ ValueFault.Memory) }
 {
     for i in 0..count {
@@ -190,7 +220,11 @@ mod tests {
         ];
         for (text, width, bits) in cases {
             let value = read_value(alloc, text, width)?;
-            assert_eq!(rt; show_value(alloc, &value)?.as_slice(), bits, "at width {width}");
+            assert_eq!(rt;
+                show_value(alloc, &value)?.as_slice(),
+                bits,
+                "at width {width}"
+            );
         }
         Ok(())
     }
@@ -240,7 +274,10 @@ mod tests {
 
     #[test]
     fn shows_bits_in_wire_order(rt: HostRuntime) -> Result<(), Fail> {
-        assert_eq!(rt; show_value(rt.alloc(), &[true, false])?.as_slice(), b"10".as_slice());
+        assert_eq!(rt;
+            show_value(rt.alloc(), &[true, false])?.as_slice(),
+            b"10".as_slice()
+        );
         Ok(())
     }
 }

@@ -1,4 +1,4 @@
-use Rattle.std.proofs.Common.{◌≡◌, ℕ, ◌==◌, length, slice_index, take, refl, sym, ap, ◌∙◌, true, arith, rules}
+use Rattle.std.proofs.Common.{◌≡◌, ◌==◌, length, slice_index, sym, ap, ◌∙◌, true, arith}
 use Rattle.std.specs.List.{list_all}
 use Rattle.std.proofs.lemmas.List.{take_all}
 use Rattle.gc_circuit.specs.Value.{Binary, is_binary_digit, wire_bit}
@@ -19,8 +19,8 @@ loop-digit-preserved g c =
     c.loop-digit.invariant.bits c.in_ok-push.ensures.items in
     record { digits = more.0; bits = more.1 }
 
-pub returns : goal.returns
-returns g c =
+pub returns-clause-ok : goal.returns-clause-ok
+returns-clause-ok g c =
     let digits = c.args.digits.now in
     let all : c.loop-digit.digit-index ≡ c.args.width = omega arith in
     let long : length digits ≡ c.args.width = omega arith in

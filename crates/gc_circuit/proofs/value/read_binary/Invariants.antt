@@ -1,4 +1,4 @@
-use Rattle.std.proofs.Common.{◌≡◌, ◌==◌, true, map, take}
+use Rattle.std.proofs.Common.{◌≡◌, true, map, take}
 use Rattle.std.specs.List.{range_with_len, list_all}
 use Rattle.gc_circuit.specs.Value.{Binary, is_binary_digit, wire_bit}
 use Rattle.gc_circuit.proofs.value.read_binary.Given as goal

@@ -1,4 +1,4 @@
-use Rattle.std.proofs.Common.{◌≡◌, ◌==◌, ◌*◌, ◌≤◌, ◌<◌, ℕ, true, false, map, take, min}
+use Rattle.std.proofs.Common.{◌≡◌, ◌*◌, ◌≤◌, ◌<◌, ℕ, true, false, map, take, min}
 use Rattle.std.specs.List.{range_with_len, list_all}
 use Rattle.hex.specs.Hex.{is_hex_digit}
 use Rattle.gc_circuit.specs.Value.{Hexadecimal, wire_bit}
