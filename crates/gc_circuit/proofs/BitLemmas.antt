@@ -1,21 +1,17 @@
 -- Bits on the wires.
-use Rattle.std.proofs.Common.{◌≡◌, ◌≢◌, ℕ, zero, suc, ◌+◌, ◌-◌, ◌<◌, ◌≤◌, ◌&&◌, sum, length-append, List, [], ◌∷◌, length, map, set, take, drop, get_or, slice_get, slice_index_or, Some, None, not, refl, sym, ap, ◌∙◌, arith, Bool, true, false, replicate, ◌++◌}
+use Rattle.std.proofs.Common.{◌≡◌, ℕ, zero, suc, ◌+◌, ◌-◌, ◌<◌, ◌≤◌, ◌&&◌, sum, List, [], ◌∷◌, length, map, set, take, get_or, slice_get, Some, not, refl, sym, ap, ◌∙◌, arith, Bool, false, replicate, ◌++◌}
 use Rattle.std.specs.List.{range_with_len}
 use Rattle.gc_circuit.specs.declared.circuit.Operation.{Operation}
 use Rattle.gc_circuit.specs.declared.circuit.Operation.TheVariants.{Xor, And, Inv, Eqw, Eq}
 use Rattle.gc_circuit.specs.declared.circuit.Gate.{Gate}
-use Rattle.gc_circuit.specs.Circuit.{Netlist, input_wires, EachRead, IsSetBefore, IsLawful}
+use Rattle.gc_circuit.specs.Circuit.{Netlist, EachRead, IsLawful}
 use Rattle.gc_circuit.specs.Solution.{IsLocal, values_after}
 use Rattle.gc_circuit.specs.Meaning.{bit_of, bit_rule, bits_of, xor}
-use Rattle.gc_circuit.proofs.SolutionLemmas.{EachRead-map}
-use Rattle.gc_circuit.proofs.Tables.{read-table, table_more, after-zero, EachRead-below}
+use Rattle.gc_circuit.proofs.Tables.{table_step, table_padded, after-zero}
 use Rattle.std.specs.List.{flat_map}
-use Rattle.std.proofs.lemmas.List.FromFn.{fill_by_all}
 use Rattle.std.proofs.lemmas.List.Concat.{length-flat_map}
 use Rattle.std.proofs.lemmas.List.Sums.{sum-map}
 use Rattle.std.proofs.lemmas.List.{take_more}
-use Rattle.std.proofs.lemmas.List.FromFn.{length-map-range_with_len}
-use Rattle.std.proofs.lemmas.Grind.{common_steps}
 
 pub bit_of_local : (u v : ℕ → Bool) (op : Operation) → EachRead (λ w. u w ≡ v w) op → bit_of u op ≡ bit_of v op
 bit_of_local u v (Xor a b) h = ap (λ x. xor x (u b)) h.0 ∙ ap (xor (v a)) h.1
@@ -27,39 +23,17 @@ bit_of_local u v (Eq b) h = refl
 pub bit_local : IsLocal bit_rule
 bit_local u v i g h = bit_of_local u v g.operation h
 
--- what the operation gives from a table
-pub bit_of-table : (f : ℕ → Bool) (n : ℕ) (op : Operation) → EachRead (λ w. w < n) op →
-    bit_of (bits_of (map f (range_with_len 0 n))) op ≡ bit_of f op
-bit_of-table f n op h =
-    bit_of_local (bits_of (map f (range_with_len 0 n))) f op
-    (EachRead-map (λ w. w < n) (λ w. bits_of (map f (range_with_len 0 n)) w ≡ f w) op (λ w below. read-table f n w false below) h)
-
 -- one more gate of the evaluation
 pub bits_more : (c : Netlist) (x : ℕ → Bool) (bits : List Bool) (i : ℕ) (g : Gate) (b : Bool) → IsLawful c →
     bits ≡ map (values_after bit_rule c x i) (range_with_len 0 c.wires) → slice_get c.gates i ≡ Some g → b ≡ bit_of (bits_of bits) g.operation →
     set bits g.set b ≡ map (values_after bit_rule c x (i + 1)) (range_with_len 0 c.wires)
-bits_more c x bits i g b lawful is at bit =
-    ap (λ l. set l g.set b) is
-    ∙ ap (set (map (values_after bit_rule c x i) (range_with_len 0 c.wires)) g.set)
-    (bit ∙ ap (λ l. bit_of (bits_of l) g.operation) is ∙ bit_of-table (values_after bit_rule c x i) c.wires g.operation (EachRead-below c lawful i g at))
-    ∙ table_more bit_rule c x lawful i g at
-
-false_past : (k w : ℕ) → get_or (replicate k false) w false ≡ false
-false_past zero w = refl
-false_past (suc k) zero = refl
-false_past (suc k) (suc w) = false_past k w
-
-padded : (x : List Bool) (k w : ℕ) → get_or (x ++ replicate k false) w false ≡ get_or x w false
-padded [] k w = false_past k w
-padded (b ∷ x) k zero = refl
-padded (b ∷ x) k (suc w) = padded x k w
+bits_more c x bits i g b lawful is at bit = table_step bit_rule bit_local c lawful x bits i g false b is at bit
 
 -- the start of the evaluation
 pub bits_start : (c : Netlist) (x bits : List Bool) → length x ≤ c.wires → bits ≡ x ++ replicate (c.wires - length x) false →
     bits ≡ map (values_after bit_rule c (bits_of x) 0) (range_with_len 0 c.wires)
 bits_start c x bits fits is =
-    fill_by_all (bits_of x) bits c.wires false (ap length is ∙ grind (arith, common_steps)) (λ k below. ap (λ l. get_or l k false) is ∙ padded x (c.wires - length x) k)
-    ∙ ap (λ f. map f (range_with_len 0 c.wires)) (sym (after-zero bit_rule c (bits_of x)))
+    is ∙ table_padded x c.wires false fits ∙ ap (λ f. map f (range_with_len 0 c.wires)) (sym (after-zero bit_rule c (bits_of x)))
 
 -- how long the values are together, where they have these widths
 pub length-joined : {X : Type 0} (f : X → List Bool) (xs : List X) (widths : List ℕ) → map length (map f xs) ≡ widths → length (flat_map f xs) ≡ sum widths

@@ -47,7 +47,7 @@ among_any (h ∷ gates) (suc n) w (suc i) g below at is =
     or_true true b e = refl
     or_true false b e = e
 
--- The test for wires that are set says what it should: where it says yes,
+-- The test for wires that are set says yes of such wires alone,
 pub set_before : (c : Netlist) (n w : ℕ) → is_set (input_wires c) (take n c.gates) w ≡ true → IsSetBefore c n w
 set_before c n w h = go (nat_lt w (input_wires c)) refl h
   where
@@ -55,7 +55,7 @@ set_before c n w h = go (nat_lt w (input_wires c)) refl h
     go true e t = inl (let input : w < input_wires c = grind (arith, nat_tests) in input)
     go false e t = let (i, below, g, at, is) = any_among c.gates n w t in inr (i, below, record { gate = g; at = at; wire = is })
 
--- and where it says no.
+-- and of all of them.
 pub before_set : (c : Netlist) (n w : ℕ) → IsSetBefore c n w → is_set (input_wires c) (take n c.gates) w ≡ true
 before_set c n w (inl input) = let yes : nat_lt w (input_wires c) ≡ true = grind (arith, nat_tests) in ap (λ b. b || list_any (λ (x : Gate). x.set == w) (take n c.gates)) yes
 before_set c n w (inr (i, below, by)) = or_true (nat_lt w (input_wires c)) _ (among_any c.gates n w i by.gate below by.at by.wire)
@@ -65,7 +65,7 @@ before_set c n w (inr (i, below, by)) = or_true (nat_lt w (input_wires c)) _ (am
     or_true false b e = e
 
 module _ (wires : ℕ) (set : ℕ → Bool) where
-  read_passes : (w : ℕ) (u : Unit {0}) → check_read wires set w ≡ Ok u → set w ≡ true
+  pub read_passes : (w : ℕ) (u : Unit {0}) → check_read wires set w ≡ Ok u → set w ≡ true
   unfolding check_read
   read_passes w u h =
       chosen (nat_lt w wires) (cond (set w) (Ok tt) (Err Unset)) (Err NoSuchWire) (Ok u) h
@@ -81,7 +81,7 @@ module _ (wires : ℕ) (set : ℕ → Bool) where
       (λ no d. ((let fits : w < wires = grind (arith, nat_tests) in fits), no)))
       (λ above e. refused NoSuchWire u e)
 
-  reads_pass : (op : Operation) (u : Unit {0}) → check_reads wires set op ≡ Ok u → EachRead (λ w. set w ≡ true) op
+  pub reads_pass : (op : Operation) (u : Unit {0}) → check_reads wires set op ≡ Ok u → EachRead (λ w. set w ≡ true) op
   unfolding check_reads
   reads_pass (Xor a b) u h = bind_then (check_read wires set a) _ u h (λ v first second. (read_passes a v first, read_passes b u second))
   reads_pass (And a b) u h = bind_then (check_read wires set a) _ u h (λ v first second. (read_passes a v first, read_passes b u second))
@@ -118,7 +118,7 @@ get-front (x ∷ xs) ys (suc i) h = get-front xs ys i (omega arith)
 take-front : {X : Type 0} (xs ys : List X) (i : ℕ) → i ≤ length xs → take i (xs ++ ys) ≡ take i xs
 take-front xs ys i h = grind (arith, common_steps)
 
-checked_push : (wires inputs : ℕ) (gates : List Gate) (g : Gate) (u : Unit {0}) → AreChecked wires inputs gates → check_gate wires (is_set inputs gates) g ≡ Ok u →
+pub checked_push : (wires inputs : ℕ) (gates : List Gate) (g : Gate) (u : Unit {0}) → AreChecked wires inputs gates → check_gate wires (is_set inputs gates) g ≡ Ok u →
     AreChecked wires inputs (gates ++ g ∷ [])
 checked_push wires inputs gates g u before here i h at =
     elim (cases_eq i (length gates)) [
@@ -185,7 +185,7 @@ module _ (c : Netlist) where
       let no = p.fresh in
       cc
 
-  outputs_are_set : (u : Unit {0}) → check_outputs c ≡ Ok u → output_wires c ≤ c.wires → (w : ℕ) → c.wires ≤ w + output_wires c → w < c.wires → IsSet c w
+  pub outputs_are_set : (u : Unit {0}) → check_outputs c ≡ Ok u → output_wires c ≤ c.wires → (w : ℕ) → c.wires ≤ w + output_wires c → w < c.wires → IsSet c w
   outputs_are_set u h fits w last below =
       let yes : is_set (input_wires c) c.gates w ≡ true = in_range (is_set (input_wires c) c.gates) (c.wires - output_wires c) (output_wires c) w (outputs_pass c u h) (omega arith) (omega arith) in
       set_before c (length c.gates) w (ap (λ gs. is_set (input_wires c) gs w) (take-all c.gates) ∙ yes)

@@ -1,11 +1,11 @@
 -- Values that meet a local rule at each gate agree on the wires that are set, and there are such values.
-use Rattle.std.proofs.Common.{◌≡◌, ◌≢◌, ℕ, zero, suc, ◌+◌, ◌<◌, ◌≤◌, ◌⊎◌, inl, inr, List, length, slice_get, get_or, Some, None, Option, if◌then◌else◌, ◌==◌, refl, sym, ap, ◌∙◌, subst, arith, Bool, true, false, cond}
+use Rattle.std.proofs.Common.{◌≡◌, ◌≢◌, ℕ, zero, suc, ◌<◌, ◌≤◌, ◌⊎◌, inl, inr, length, slice_get, Some, None, Option, refl, sym, ap, ◌∙◌, subst, arith}
 use Rattle.std.proofs.lemmas.Bool.Decides.{nat_tests}
 use Rattle.std.proofs.lemmas.Option.{slice_get_within}
 use Rattle.gc_circuit.specs.declared.circuit.Operation.{Operation}
 use Rattle.gc_circuit.specs.declared.circuit.Operation.TheVariants.{Xor, And, Inv, Eqw, Eq}
 use Rattle.gc_circuit.specs.declared.circuit.Gate.{Gate}
-use Rattle.gc_circuit.specs.Circuit.{Netlist, input_wires, EachRead, IsSetBy, IsSetBefore, IsSet, IsLawful}
+use Rattle.gc_circuit.specs.Circuit.{Netlist, EachRead, IsSetBefore, IsSet, IsLawful}
 use Rattle.gc_circuit.specs.Solution.{Solves, IsLocal, put, put_gate, values_after}
 
 -- what is so of each wire, under P

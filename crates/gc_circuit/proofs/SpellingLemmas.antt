@@ -92,6 +92,17 @@ pub record TakesWidths (wires : ℕ) (ts : List (List ℕ)) (x : List ℕ × Lis
   pub fit : sum x.0 ≤ wires
   pub spelled : SpellWords ts (words_of_widths x.0) x.1
 
+-- a number and as many widths
+pub widths_spelled : (ts : List (List ℕ)) (count : ℕ × List (List ℕ)) (widths : List ℕ × List (List ℕ)) → (number_at ts ≡ Ok count) × (count.0 ≤ MAX_VALUES) →
+    TakesNumbers count.0 [] count.1 widths → (length widths.0 ≤ MAX_VALUES) × SpellWords ts (words_of_widths widths.0) widths.1
+widths_spelled ts count widths l r =
+    let len : length widths.0 ≡ count.0 = ap length r.all ∙ r.count in
+    let small : count.0 ≤ MAX_VALUES = l.1 in
+    let P : ℕ → List ℕ → Type 0 = λ n ws. SpellWords ts (Number n ∷ map Number ws) widths.1 in
+    let first : P count.0 r.added = Spell-number ts widths.1 (map Number r.added) count l.0 r.spelled in
+    let second : P (length widths.0) r.added = subst (λ (n : ℕ). P n r.added) (sym len) first in
+    ((let Q : ℕ → Type 0 = λ n. n ≤ MAX_VALUES in subst Q (sym len) small), subst (λ (ws : List ℕ). P (length widths.0) ws) (sym r.all) second)
+
 pub widths_takes : (wires : ℕ) (ts : List (List ℕ)) (x : List ℕ × List (List ℕ)) → widths_at wires ts ≡ Ok x → TakesWidths wires ts x
 unfolding widths_at
 widths_takes wires ts x h =
@@ -100,23 +111,10 @@ widths_takes wires ts x h =
     chosen (nat_le (sum widths.0) wires) (Ok widths) (Err WidthsExceedWires) (Ok x) h2
     (λ within e.
     let P : List ℕ × List (List ℕ) → Type 0 = TakesWidths wires ts in
-    subst P (ok_is widths x e) (taken count widths (limited_takes MAX_VALUES ts count hc) (numbers_takes count.0 [] count.1 widths hw) within))
+    let both = widths_spelled ts count widths (limited_takes MAX_VALUES ts count hc) (numbers_takes count.0 [] count.1 widths hw) in
+    let fit : sum widths.0 ≤ wires = grind (arith, nat_tests) in
+    subst P (ok_is widths x e) (record { few = both.0; fit = fit; spelled = both.1 }))
     (λ above e. refused WidthsExceedWires x e)))
-  where
-    taken : (count : ℕ × List (List ℕ)) (widths : List ℕ × List (List ℕ)) → (number_at ts ≡ Ok count) × (count.0 ≤ MAX_VALUES) → TakesNumbers count.0 [] count.1 widths →
-        nat_le (sum widths.0) wires ≡ true → TakesWidths wires ts widths
-    taken count widths l r within =
-        let len : length widths.0 ≡ count.0 = ap length r.all ∙ r.count in
-        let small : count.0 ≤ MAX_VALUES = l.1 in
-        record {
-          few = (let P : ℕ → Type 0 = λ n. n ≤ MAX_VALUES in subst P (sym len) small);
-          fit = grind (arith, nat_tests);
-          spelled =
-              (let P : ℕ → List ℕ → Type 0 = λ n ws. SpellWords ts (Number n ∷ map Number ws) widths.1 in
-              let first : P count.0 r.added = Spell-number ts widths.1 (map Number r.added) count l.0 r.spelled in
-              let second : P (length widths.0) r.added = subst (λ (n : ℕ). P n r.added) (sym len) first in
-              subst (λ (ws : List ℕ). P (length widths.0) ws) (sym r.all) second);
-        }
 
 name_is : (a b : List ℕ) → bytes_eq a b ≡ true → a ≡ b
 name_is a b h = (bytes_eq-Decides a b).0 h
@@ -259,7 +257,7 @@ end_takes (t ∷ ts) u h = absurd (let z : ⊥ = cc in z)
 
 -- The parts of a circuit that was read.
 module _ (ts : List (List ℕ)) (count wires : ℕ × List (List ℕ)) (inputs outputs : List ℕ × List (List ℕ)) (gates : List Gate × List (List ℕ)) where
-  parts_spelled : number_at ts ≡ Ok count → number_at count.1 ≡ Ok wires → TakesWidths wires.0 wires.1 inputs → TakesWidths wires.0 inputs.1 outputs →
+  pub parts_spelled : number_at ts ≡ Ok count → number_at count.1 ≡ Ok wires → TakesWidths wires.0 wires.1 inputs → TakesWidths wires.0 inputs.1 outputs →
       TakesGates count.0 [] outputs.1 gates →
       SpellWords ts (words_of_circuit (record { wires = wires.0; input_widths = inputs.0; output_widths = outputs.0; gates = gates.0 })) gates.1
   parts_spelled hc hw i o g =

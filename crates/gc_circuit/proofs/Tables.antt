@@ -1,16 +1,15 @@
 -- Tables of values on the wires, as lists.
-use Rattle.std.proofs.Common.{◌≡◌, ◌≢◌, ℕ, zero, suc, ◌+◌, ◌-◌, ◌<◌, ◌≤◌, ◌⊎◌, inl, inr, List, [], length, length-set, map, set, take, drop, get_or, slice_get, slice_index_or, Some, None, Option, if◌then◌else◌, ◌==◌, refl, sym, ap, ◌∙◌, subst, arith, Bool, true, false, cond, replicate, ◌++◌}
+use Rattle.std.proofs.Common.{◌≡◌, ℕ, zero, suc, ◌+◌, ◌-◌, ◌<◌, ◌≤◌, inl, inr, List, [], ◌∷◌, length, length-set, map, set, drop, get_or, slice_get, Some, refl, sym, ap, ◌∙◌, arith, replicate, ◌++◌}
 use Rattle.std.proofs.lemmas.Bool.Decides.{nat_tests}
 use Rattle.std.proofs.lemmas.Bool.{cases_eq}
 use Rattle.std.proofs.lemmas.List.{get_or-set_same, get_or-set_other}
 use Rattle.std.proofs.lemmas.List.FromFn.{length-map-range_with_len, get_or-map-range_with_len, fill_by_all}
 use Rattle.std.specs.List.{range_with_len}
-use Rattle.gc_circuit.specs.declared.circuit.Operation.{Operation}
-use Rattle.gc_circuit.specs.declared.circuit.Operation.TheVariants.{Xor, And, Inv, Eqw, Eq}
+use Rattle.std.proofs.lemmas.Grind.{common_steps}
 use Rattle.gc_circuit.specs.declared.circuit.Gate.{Gate}
-use Rattle.gc_circuit.specs.Circuit.{Netlist, input_wires, EachRead, IsSetBy, IsSetBefore, IsSet, IsLawful}
+use Rattle.gc_circuit.specs.Circuit.{Netlist, EachRead, IsSetBefore, IsLawful}
 use Rattle.gc_circuit.proofs.SolutionLemmas.{EachRead-map}
-use Rattle.gc_circuit.specs.Solution.{Solves, IsLocal, put, put_gate, values_after}
+use Rattle.gc_circuit.specs.Solution.{IsLocal, put, put_gate, values_after}
 
 -- what a table has at a place
 pub read-table : {A : Type 0} (f : ℕ → A) (n k : ℕ) (d : A) → k < n → get_or (map f (range_with_len 0 n)) k d ≡ f k
@@ -74,3 +73,35 @@ table_end f n m h =
     drop-table f (n - m) 0 n
     ∙ ap (λ x. map f (range_with_len x (n - (n - m)))) (let e : 0 + (n - m) ≡ n - m = omega arith in e)
     ∙ ap (λ x. map f (range_with_len (n - m) x)) (let e : n - (n - m) ≡ m = omega arith in e)
+
+-- One more gate, computed from the table: the step of every one-pass evaluator. The default d is never read.
+pub table_step : {A : Type 0} (rule : (ℕ → A) → ℕ → Gate → A) → IsLocal rule → (c : Netlist) → IsLawful c → (given : ℕ → A) →
+    (table : List A) (i : ℕ) (g : Gate) (d x : A) → table ≡ map (values_after rule c given i) (range_with_len 0 c.wires) → slice_get c.gates i ≡ Some g →
+    x ≡ rule (λ w. get_or table w d) i g → set table g.set x ≡ map (values_after rule c given (i + 1)) (range_with_len 0 c.wires)
+table_step rule local c lawful given table i g d x is at value =
+    ap (λ l. set l g.set x) is
+    ∙ ap (set (map (values_after rule c given i) (range_with_len 0 c.wires)) g.set)
+    (value
+    ∙ local (λ w. get_or table w d) (values_after rule c given i) i g
+    (EachRead-map (λ w. w < c.wires) (λ w. get_or table w d ≡ values_after rule c given i w) g.operation
+    (λ w below. ap (λ l. get_or l w d) is ∙ read-table (values_after rule c given i) c.wires w d below) (EachRead-below c lawful i g at)))
+    ∙ table_more rule c given lawful i g at
+
+-- how long a table is
+pub length-table : {A : Type 0} (f : ℕ → A) (n : ℕ) (table : List A) → table ≡ map f (range_with_len 0 n) → length table ≡ n
+length-table f n table is = ap length is ∙ length-map-range_with_len f 0 n
+
+-- a table in front, and one value in each place that is left
+pub table_padded : {A : Type 0} (xs : List A) (n : ℕ) (d : A) → length xs ≤ n → xs ++ replicate (n - length xs) d ≡ map (λ w. get_or xs w d) (range_with_len 0 n)
+table_padded {A = A} xs n d fits =
+    fill_by_all (λ w. get_or xs w d) (xs ++ replicate (n - length xs) d) n d (grind (arith, common_steps)) (λ k below. padded xs (n - length xs) k)
+  where
+    past : (k w : ℕ) → get_or (replicate k d) w d ≡ d
+    past zero w = refl
+    past (suc k) zero = refl
+    past (suc k) (suc w) = past k w
+
+    padded : (ys : List A) (k w : ℕ) → get_or (ys ++ replicate k d) w d ≡ get_or ys w d
+    padded [] k w = past k w
+    padded (y ∷ ys) k zero = refl
+    padded (y ∷ ys) k (suc w) = padded ys k w

@@ -1,9 +1,9 @@
 -- Values on all wires at once that meet an equation at each gate. Bits in the plain, zero labels of a garbling and
 -- active labels of an evaluation are such values, each for a rule of its own.
-use Rattle.std.specs.Prelude.{◌≡◌, ℕ, zero, suc, ◌<◌, ◌+◌, ◌-◌, length, List, map, slice_get, slice_index_or, Some, None, Option, if◌then◌else◌, ◌==◌}
+use Rattle.std.specs.Prelude.{◌≡◌, ℕ, zero, suc, ◌<◌, ◌-◌, length, List, map, slice_get, Some, None, Option, if◌then◌else◌, ◌==◌}
 use Rattle.std.specs.List.{range_with_len}
 use Rattle.gc_circuit.specs.declared.circuit.Gate.{Gate}
-use Rattle.gc_circuit.specs.Circuit.{Netlist, input_wires, output_wires, EachRead, IsSet, IsLawful}
+use Rattle.gc_circuit.specs.Circuit.{Netlist, input_wires, output_wires, EachRead}
 
 -- A rule gives the value of the wire that a gate sets, from the values on all wires and the gate's place in the file.
 -- The values solve the rule where input wires have the given values and the rule's equation holds at every gate.

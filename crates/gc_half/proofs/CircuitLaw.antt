@@ -1,21 +1,20 @@
 -- The law of a garbled circuit: on each wire that is set the active label stands for the wire's bit, and the outputs
 -- decode to the bits of the output wires.
-use Rattle.std.proofs.Common.{◌≡◌, ℕ, zero, suc, ◌+◌, ◌-◌, ◌<◌, ◌≤◌, Bool, true, false, not, List, [], ◌∷◌, map, slice_get, refl, sym, ap, ◌∙◌, arith}
+use Rattle.std.proofs.Common.{◌≡◌, ℕ, zero, suc, ◌+◌, ◌-◌, ◌<◌, ◌≤◌, Bool, true, false, not, List, [], ◌∷◌, map, refl, sym, ap, ◌∙◌, arith}
 use lib.Bits.{xor_self}
 use Rattle.std.specs.List.{range_with_len}
 use Rattle.std.proofs.lemmas.Option.{get_or_from_slice_get}
 use Rattle.gc_circuit.specs.declared.circuit.Operation.{Operation}
 use Rattle.gc_circuit.specs.declared.circuit.Operation.TheVariants.{Xor, And, Inv, Eq, Eqw}
-use Rattle.gc_circuit.specs.declared.circuit.Gate.{Gate}
 use Rattle.gc_circuit.specs.Circuit.{Netlist, output_wires, IsSet, IsLawful, EachRead, and_number}
-use Rattle.gc_circuit.specs.Solution.{IsLocal, on_outputs}
+use Rattle.gc_circuit.specs.Solution.{IsLocal}
 use Rattle.gc_circuit.specs.Meaning.{bit_of, xor, IsAssignment}
 use Rattle.gc_circuit.proofs.SolutionLemmas.{agree}
 use Rattle.gc_label.specs.Label.{◌⊕◌, colour, times}
 use Rattle.gc_half.specs.declared.garbling.RowPair.{RowPair}
 use Rattle.gc_half.specs.HalfGate.{and_active}
-use Rattle.gc_half.specs.Garbling.{zero_of, zero_rule, rows_of, IsGarbling}
-use Rattle.gc_half.specs.Evaluation.{active_of, active_rule, IsEvaluation, encode, decode, decode_bits}
+use Rattle.gc_half.specs.Garbling.{zero_of, rows_of, IsGarbling}
+use Rattle.gc_half.specs.Evaluation.{active_of, active_rule, IsEvaluation, encode, decode}
 use Rattle.gc_half.specs.Law.{Decodes}
 use Rattle.gc_half.proofs.XorSums.{Name, Plus, When, marks, none, sums_equal}
 use Rattle.gc_half.proofs.HalfGateLaw.{and_law, colour-encode}

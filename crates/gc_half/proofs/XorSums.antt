@@ -1,6 +1,6 @@
 -- Equations between sums of labels, decided by counting: two sums are equal where no summand stands an odd number of
 -- times in both together.
-use Rattle.std.proofs.Common.{◌≡◌, ℕ, zero, suc, Bool, true, false, not, ◌&&◌, cond, List, [], ◌∷◌, get_or, refl, sym, ap, ◌∙◌, arith, bit_xor, if◌then◌else◌}
+use Rattle.std.proofs.Common.{◌≡◌, ℕ, zero, suc, Bool, true, false, not, ◌&&◌, cond, List, [], ◌∷◌, get_or, refl, sym, ap, ◌∙◌, bit_xor, if◌then◌else◌}
 use lib.Bits.{xor_assoc, xor_self, xor_zero_l, xor_zero_r, xor_comm}
 use Rattle.gc_label.specs.Label.{◌⊕◌, times}
 

@@ -1,9 +1,21 @@
 //! The laws of garbled circuits. A law is a function whose contract is the law; a call of it does nothing.
 
-ghost use Rattle.gc_half.specs.Law.{HalfGatesLaw};
+ghost use Rattle.std.specs.Prelude.{ℕ, List};
+ghost use Rattle.gc_circuit.specs.Circuit.{Netlist, IsLawful};
+ghost use Rattle.gc_half.specs.declared.garbling.RowPair.{RowPair};
+ghost use Rattle.gc_half.specs.Law.{HalfGatesLaw, HasOneGarbling, HasOneEvaluation, HasOneGarbled};
 
 /// The law of half gates, for every hash: the evaluation of a garbling's rows on labels that stand for input
 /// bits gives each wire that is set the label that stands for its bit, and decodes to the output bits.
 pub fn law_half_gates()
     ensures { HalfGatesLaw }
+{}
+
+/// The law of garblings: for any hash each lawful circuit has a garbling, and any two agree on the wires that
+/// are set and have the same rows; any rows have an evaluation, and any two agree on the wires that are set.
+/// So under a seed a lawful circuit has one [`Garbling`](crate::Garbling).
+pub fn law_garblings()
+    ensures garblings { (hash : ℕ → ℕ → ℕ) (offset : ℕ) (c : Netlist) → IsLawful c → (given : ℕ → ℕ) → HasOneGarbling hash offset c given }
+    ensures evaluations { (hash : ℕ → ℕ → ℕ) (c : Netlist) → IsLawful c → (rows : List RowPair) (given : ℕ → ℕ) → HasOneEvaluation hash c rows given }
+    ensures under_seed { (c : Netlist) → IsLawful c → (seed : List ℕ) → HasOneGarbled c seed }
 {}

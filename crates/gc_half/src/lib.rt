@@ -1,12 +1,25 @@
-//! Half gates.
+//! Half gates: garbling a Boolean circuit so that XOR gates cost nothing and an AND gate costs two rows of 16
+//! bytes. After "Two Halves Make a Whole" (Zahur, Rosulek and Evans, 2015), with free XOR and point and
+//! permute.
+//!
+//! [`garble_one_thread`] makes the [`Garbling`] of a circuit under a seed: a zero label for each wire and a
+//! [`RowPair`] for each AND gate. The other label of a wire is its zero label plus the offset. Evaluation
+//! follows one label of each wire, the active one, through the gates: [`eval_and`] is its step at an AND gate.
+//!
+//! [`law_half_gates`] says that evaluation decodes to the output bits, and [`law_garblings`] that each circuit
+//! has one garbling under a seed.
 #![tactic(auto)]
 
+mod garble;
 mod garbling;
 mod half_gate;
 mod hash;
 mod laws;
+#[cfg(test)]
+mod tests;
 
+pub use garble::garble_one_thread;
 pub use garbling::{Garbling, RowPair};
 pub use half_gate::{eval_and, garble_and};
 pub use hash::tweak_hash;
-pub use laws::law_half_gates;
+pub use laws::{law_garblings, law_half_gates};

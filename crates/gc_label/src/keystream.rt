@@ -30,7 +30,7 @@ pub fn input_label(seed: &Seed, wire: u32) -> Label
 }
 
 /// Fills `labels` with the zero labels of the input wires from `first_wire` on, in one pass over
-/// the keystream.
+/// the keystream. All of these wires have numbers below 2^32.
 pub fn fill_input_labels(seed: &Seed, first_wire: u32, labels: &mut [Label])
     requires { first_wire + length labels.old ≤ 2 ^ 32 }
     ensures { labels.new ≡ map (input_label_of seed.now) (range_with_len first_wire (length labels.old)) }

@@ -80,8 +80,16 @@ impl Label {
 
 /// Writes the bytes as 32 hexadecimal digits, in lower case.
 impl fmt::Display for Label {
+    ghost use Rattle.std.specs.Prelude.{Some};
+    ghost use Rattle.hex.specs.Hex.{encode_lower};
+    ghost use Rattle.gc_label.specs.Label.{bytes_of_label};
+
+    ghost output = { λ label. Some (encode_lower (bytes_of_label label)) };
+
     fn fmt<W: fmt::Write>(&self, f: &mut fmt::Formatter<W>) -> fmt::Result {
-        write!(f, "{:032x}", self.number)
+        let mut digits = [0; 32];
+        hex::encode_to_slice(self.to_bytes(), &mut digits).map_err(|_| fmt::Error)?;
+        f.write_str(str::from_utf8(&digits).map_err(|_| fmt::Error)?)
     }
 }
 

@@ -57,6 +57,10 @@ impl Seed {
 pub struct BadSeed;
 
 impl fmt::Display for BadSeed {
+    ghost use Rattle.std.specs.Prelude.{Some, codes};
+
+    ghost output = { λ _. Some (codes "a seed is 64 hexadecimal digits") };
+
     fn fmt<W: fmt::Write>(&self, f: &mut fmt::Formatter<W>) -> fmt::Result {
         f.write_str("a seed is 64 hexadecimal digits")
     }

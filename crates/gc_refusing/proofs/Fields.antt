@@ -1,14 +1,14 @@
 -- A `&` to a `Refusing` holds a `&` to each of its fields. Assumes `Logic`.
-use Rattle.std.proofs.Common.{ℕ, ◌+◌, List, [], ◌∷◌, refl}
+use Rattle.std.proofs.Common.{ℕ, ◌+◌, [], ◌∷◌, refl}
 use seplogic.Ra.Ura.{Ura}
-use base.Logic.{ent, sep, id⊢}
+use base.Logic.{ent, sep}
 use base.Fml.{Lft}
 use prog.Memory.{size, align, up}
 use types.Logic.{Logic, sem}
-use types.Kit.{‵, ◌⊛◌, ◌$◌, ◌∵◌, !, qed, done, move, keep, use1, split, join, fsplit}
+use types.Kit.{‵, ◌$◌, ◌∵◌, !, qed, done, move, keep, join, fsplit}
 use denote.RattleType.{RattleType}
 use denote.Memory.{hidden_shr}
-use denote.Opens.{unhide, hide}
+use denote.Opens.{unhide}
 use denote.Builtin.{RawPtr}
 use denote.Param.{param, layout}
 use denote.Param.Laws.{Laws, of_field}

@@ -1,18 +1,36 @@
-//! An allocator for tests that refuses chosen growths and counts, so that each way of running out of memory can be tried.
+//! An allocator for tests, which refuses chosen growths and counts them all. So a test can let
+//! memory run out at each growth in turn.
 #![tactic(auto)]
+
+ghost use Rattle.std.specs.Prelude.{◌≡◌, ◌↔◌, IsTrue};
+ghost use Rattle.gc_refusing.specs.Growths.{AnswersSomeGrowth, IsRefused, inner_of, refusal_of};
+ghost use Rattle.gc_refusing.specs.declared.Refusal.TheVariants.{Always, Never, Nth};
 
 use std::alloc::{AllocError, Allocator};
 use std::sync::atomic::{AtomicU64, Ordering};
 
 /// Which growths are refused. The first growth has the number 1.
-#[derive(Clone, Copy)]
-enum Refusal {
+#[derive(Clone, Copy, Debug, PartialEq, Eq)]
+pub enum Refusal {
     Never,
     Nth(u64),
     Always,
 }
 
-/// What was asked for so far, and what is refused of it.
+impl Refusal {
+    /// Whether the growth of this number is refused.
+    pub fn refuses(self, growth: u64) -> bool
+        ensures { IsTrue result ↔ IsRefused self growth }
+    {
+        match self {
+            Refusal::Never => false,
+            Refusal::Nth(n) => growth == n,
+            Refusal::Always => true,
+        }
+    }
+}
+
+/// The growths so far: how many were asked for, and how many of these were refused.
 #[derive(Drop)]
 struct Tally {
     refusal: Refusal,
@@ -21,7 +39,9 @@ struct Tally {
 }
 
 impl Tally {
-    fn new(refusal: Refusal) -> Tally {
+    fn new(refusal: Refusal) -> Tally
+        ensures { result.refusal ≡ refusal }
+    {
         Tally {
             refusal,
             growths: AtomicU64::new(0),
@@ -29,29 +49,35 @@ impl Tally {
         }
     }
 
-    /// Counts a growth, and says whether it is refused.
-    fn refuses(&self) -> bool {
+    /// Counts one more growth, and says whether it is refused.
+    fn refuses_next(&self) -> bool
+        ensures { AnswersSomeGrowth self.now.refusal result }
+    {
         let growth = self.growths.fetch_add(1, Ordering::SeqCst).wrapping_add(1);
-        let refuses = match self.refusal {
-            Refusal::Never => false,
-            Refusal::Nth(n) => growth == n,
-            Refusal::Always => true,
-        };
-        if refuses {
+        let refused = self.refusal.refuses(growth);
+        if refused {
             self.refused.fetch_add(1, Ordering::SeqCst);
         }
-        refuses
+        refused
     }
 }
 
-/// An allocator that passes each call on to `inner`, but for the growths that it refuses.
+/// An allocator that refuses some growths, and hands the others to `inner`.
+///
+/// A growth is one call of `allocate`: each time that a collection takes a block, be it larger or
+/// smaller than the last. Lend it as `&heap` to the code under test, and read the counts after.
+/// Threads may share it, and each growth then has a number of its own.
 pub struct Refusing<B: Allocator> {
     inner: B,
     tally: Tally,
 }
 
 impl<B: Allocator> Refusing<B> {
-    fn new(inner: B, refusal: Refusal) -> Refusing<B> {
+    /// Refuses the growths that `refusal` says.
+    pub fn new(inner: B, refusal: Refusal) -> Refusing<B>
+        ensures refusal { refusal_of result ≡ refusal }
+        ensures inner { inner_of result ≡ inner }
+    {
         Refusing {
             inner,
             tally: Tally::new(refusal),
@@ -59,17 +85,26 @@ impl<B: Allocator> Refusing<B> {
     }
 
     /// Refuses no growth, and counts them.
-    pub fn never(inner: B) -> Refusing<B> {
+    pub fn never(inner: B) -> Refusing<B>
+        ensures refusal { refusal_of result ≡ Never }
+        ensures inner { inner_of result ≡ inner }
+    {
         Refusing::new(inner, Refusal::Never)
     }
 
-    /// Refuses the `n`-th growth, counted from 1, and no other.
-    pub fn nth(inner: B, n: u64) -> Refusing<B> {
+    /// Refuses the `n`-th growth, counted from 1, and no other. At 0 it refuses none.
+    pub fn nth(inner: B, n: u64) -> Refusing<B>
+        ensures refusal { refusal_of result ≡ Nth n }
+        ensures inner { inner_of result ≡ inner }
+    {
         Refusing::new(inner, Refusal::Nth(n))
     }
 
-    /// Refuses each growth.
-    pub fn always(inner: B) -> Refusing<B> {
+    /// Refuses every growth.
+    pub fn always(inner: B) -> Refusing<B>
+        ensures refusal { refusal_of result ≡ Always }
+        ensures inner { inner_of result ≡ inner }
+    {
         Refusing::new(inner, Refusal::Always)
     }
 
@@ -94,7 +129,7 @@ unsafe impl<B: Allocator> Allocator for Refusing<B> {
     ghost dealloc_token = { λ heap ty ptr. B.dealloc_token heap.inner ty ptr };
 
     fn allocate(&self, size: usize, align: usize) -> Result<*mut u8, AllocError> {
-        if self.tally.refuses() {
+        if self.tally.refuses_next() {
             return Err(AllocError);
         }
         self.inner.allocate(size, align)
@@ -104,3 +139,6 @@ unsafe impl<B: Allocator> Allocator for Refusing<B> {
         self.inner.deallocate(ptr, size, align);
     }
 }
+
+#[cfg(test)]
+mod tests;

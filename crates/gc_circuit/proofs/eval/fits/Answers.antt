@@ -1,4 +1,4 @@
-use Rattle.std.proofs.Common.{◌≡◌, ℕ, List, get_or, length, map, take, sym, refl, ◌∙◌, ap, arith}
+use Rattle.std.proofs.Common.{◌≡◌, get_or, length, take, sym, refl, ap, arith}
 use Rattle.std.proofs.lemmas.Grind.{common_steps}
 use Rattle.gc_circuit.proofs.BitLemmas.{widths_more, width_at}
 use Rattle.gc_circuit.proofs.eval.fits.Goals as goal

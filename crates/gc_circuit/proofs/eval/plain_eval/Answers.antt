@@ -1,4 +1,4 @@
-use Rattle.std.proofs.Common.{◌≡◌, ◌≤◌, ◌-◌, length, flat_map, drop, map, ap, ◌∙◌, arith, sym}
+use Rattle.std.proofs.Common.{length, flat_map, ap, ◌∙◌, arith}
 use Rattle.std.proofs.lemmas.List.FromFn.{length-map-range_with_len}
 use Rattle.gc_circuit.specs.Solution.{solution}
 use Rattle.gc_circuit.specs.Meaning.{bits_of, bit_rule}

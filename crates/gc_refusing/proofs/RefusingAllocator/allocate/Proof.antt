@@ -1,14 +1,15 @@
 -- A refusal owns nothing. Else the inner allocator is asked under the same lifetimes, and its answer is handed on. Assumes `Logic`.
-use Rattle.std.proofs.Common.{◌≡◌, Bool, List, [], ◌∷◌, Ok, Err, false, refl, ap, w64, lit<}
+use Rattle.std.proofs.Common.{Bool, List, [], ◌∷◌, Err, false, refl, ap, w64}
 use mir.Syntax.{a_type, dnil, dcons}
-use mir.Val.{Val, vptr, vbool}
+use mir.Val.{Val, vptr}
 use mir.MapTy.{inst_fn}
 use base.Logic.{id⊢}
 use base.Fml.{ftrue, flft}
+use contract.Monad.{fact}
 use contract.Running.{tables}
 use types.Kit.{Sq, prop, at_ret, ‵, raw, ◌⊛◌, some, later, ◌$◌, ◌∵◌, !, qed, by, move, keep, drop, use0, use1, use2, split, join, pick, fsplit, fjoin, feq_i, feq_l, await}
 use types.Part.{agg}
-use types.Run.{stop, fld, addr, lit, no_more, and_then, of_opd, first, branches, skips, exec, returns, returns_within, enter}
+use types.Run.{stop, fld, addr, lit, no_more, and_then, first, branches, skips, exec, returns, returns_within, enter}
 use types.ByLocal.{alloc_all, pass_all, free_all, look_at, get, through, sets, lands_as, env}
 use denote.Exit.{yes}
 use denote.Laws.{shows}
@@ -31,14 +32,14 @@ use Rattle.std.proofs.alloc.Calls.{Al, Answer, answer_val, Answer-err, Answer-ty
 use Rattle.std.proofs.raw_atomic.Walks.{proved, leaves}
 use Rattle.std.specs.contracts.alloc.Allocator.allocate as callee
 use Rattle.std.proofs.alloc.Shapes.{after}
-use Rattle.gc_refusing.proofs.Fields.{pointer_laws}
 use Rattle.std.proofs.result.Result.TheLaws.{the_row_laws as result_laws}
 use Rattle.std.proofs.alloc.AllocError.TheLaws.{the_row_laws as alloc_error_laws}
 use Rattle.std.specs.contracts.alloc.AllocError as alloc_error
-use Rattle.gc_refusing.proofs.Fields.{Refuser, inner_at, tally_at, lends_fields}
+use Rattle.gc_refusing.specs.Growths.{AnswersSomeGrowth}
+use Rattle.gc_refusing.proofs.Fields.{Refuser, inner_at, tally_at, lends_fields, pointer_laws}
 use Rattle.gc_refusing.specs.contracts.Tally as tally
-use Rattle.gc_refusing.specs.contracts.Tally.refuses as counts
-use Rattle.gc_refusing.proofs.Tally.refuses.Met.{met}
+use Rattle.gc_refusing.specs.contracts.Tally.refuses_next as counts
+use Rattle.gc_refusing.proofs.Tally.refuses_next.Met.{met}
 use Rattle.gc_refusing.specs.contracts.RefusingAllocator.allocate as f
 use Rattle.gc_refusing.specs.contracts.RefusingAllocator.allocate.Key as key
 use Rattle.gc_refusing.proofs.RefusingAllocator.allocate.Statement.{statement}
@@ -67,6 +68,7 @@ allocate_spec 𝓤 𝓛 𝓜 𝓡 wired B laws g d e bound _ =
     let z : Take.Ghost = ((κs, qs, bounds, (record { ref_ptr = p; now = h }, a.1), (vptr p.0 p.1 ∷ [], y.0.4.1)), τ) in
     let I = callee.ended B g d e in
     let answer_laws = result_laws RawPtr alloc_error.the_row pointer_laws alloc_error_laws in
+    -- the end of each way through the body: an answer, and the block that comes with it
     let answers : (v : Val) (r : Answer.Denot) → Sq 𝓛 (‵ (Answer.own_val r (v ∷ [])) ∷ ‵ (block_if_ok (token Z h) τ r) ∷ raw (alive 𝓛 S κs qs) ∷ []) (prop (W.post y v)) = λ v r.
     nothing ! $ nothing ! $ fjoin ! $ nothing ! $ fjoin ! $ nothing ! $ fjoin ! $ move ! (3 ∷ 0 ∷ 1 ∷ 2 ∷ []) $
     by ! (leaves 𝓛 T stayed c y v r (tt, (tt, (tt, tt))) (tt, (tt, (tt, tt)))) in
@@ -80,17 +82,20 @@ allocate_spec 𝓤 𝓛 𝓜 𝓡 wired B laws g d e bound _ =
     nothing ! $ move ! (3 ∷ []) $ feq_i ! (List Val) (vptr t.0 t.1 ∷ []) (vptr t.0 t.1 ∷ []) refl $ fjoin ! $ fjoin ! $
     nothing ! $ move ! (2 ∷ 0 ∷ []) $ join ! $ join ! $ nothing ! $ move ! (1 ∷ 0 ∷ []) $ use2 𝓛 (raw (Count.pre x)) (id⊢ 𝓤 _) $
     enter ! _ _ _ _ _ $ alloc_all ! (λ l. pass_all ! refl ((tt, tt), ((tt, record { fits = are.1.0.1 }), ((tt, record { fits = are.1.1.0.1 }), tt))) $
+    -- self.tally.refuses_next()
     sets ! (addr ! (through ! refl (fld ! refl (stop !)))) refl (tt, tt) $
-    calls_at ! (framed 𝓤 𝓛.H 𝓜 𝓣) Count (met 𝓤 𝓛 𝓜 𝓡 (code.calls-gc_refusing::Tally::refuses 𝓡.env wired)) x (and_then ! (get ! refl) (no_more !)) (λ v.
-    use1 𝓛 (later (some (λ (refused : Bool). ((‵ (flft κs.0 qs.0) ⊛ ‵ ftrue) ⊛ ‵ (bool.own_val refused (v ∷ []))) ⊛ some (λ (ws : Lasts counts.ended x.0.0 x.0.3). ‵ (lasts counts.ended x.0.0 x.0.3 ws) ⊛ ‵ ftrue)))) (id⊢ 𝓤 (Count.post x v)) $
+    calls_at ! (framed 𝓤 𝓛.H 𝓜 𝓣) Count (met 𝓤 𝓛 𝓜 𝓡 (code.calls-gc_refusing::Tally::refuses_next 𝓡.env wired)) x (and_then ! (get ! refl) (no_more !)) (λ v.
+    use1 𝓛 (later (some (λ (refused : Bool). ((‵ (flft κs.0 qs.0) ⊛ ‵ ftrue) ⊛ ‵ (bool.own_val refused (v ∷ []))) ⊛ some (λ (ws : Lasts counts.ended x.0.0 x.0.3). ‵ (lasts counts.ended x.0.0 x.0.3 ws) ⊛ raw (fact 𝓤 (AnswersSomeGrowth a.0.now.tally.refusal refused)))))) (id⊢ 𝓤 (Count.post x v)) $
     await ! tt $ pick ! (λ refused. split ! $ move ! (1 ∷ []) $ drop ! $ split ! $ split ! $ move ! (1 ∷ []) $ drop ! $ move ! (1 ∷ []) $ feq_l ! (λ is_bool. join ! $ use1 𝓛 (raw (alive 𝓛 S κs qs)) (id⊢ 𝓤 _) $
     lands_as ! (ap only is_bool) refl (tt, tt) $
     -- [the tokens; what the inner call takes; the `requires`]
     first ! $ branches ! (get ! refl)
+    -- return Err(AllocError)
     (λ _. sets ! (agg ! (no_more !)) refl (tt, tt) $
     sets ! (agg ! (and_then ! (lit ! tt) (and_then ! (get ! refl) (no_more !)))) refl (Answer-typed false 0 0) $
     returns_within ! (W.post y) refl (look_at ! 0 refl) $ free_all ! refl $ keep ! (0 ∷ []) $
     nothing ! $ use0 𝓛 (‵ (Answer.own_val (Err (record {})) (answer_val false 0 0 ∷ []))) (Answer-err 𝓛) $ answers (answer_val false 0 0) (Err (record {})))
+    -- self.inner.allocate(size, align)
     (λ _. skips ! $ exec ! 𝓣.C 𝓣.Λ (env fn.locals l) (after 3 fn.body) (at_ret _ (W.post y)) $
     sets ! (addr ! (through ! refl (fld ! refl (stop !)))) refl (tt, tt) $
     join ! $ join ! $ use1 𝓛 (raw (Take.pre z)) (id⊢ 𝓤 _) $

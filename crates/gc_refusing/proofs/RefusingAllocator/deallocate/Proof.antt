@@ -4,9 +4,9 @@ use mir.Syntax.{a_type, dnil, dcons}
 use mir.Val.{Val, vptr, vunit}
 use mir.MapTy.{inst_fn}
 use base.Logic.{id⊢}
-use base.Fml.{ftrue, flft}
+use base.Fml.{ftrue}
 use contract.Running.{tables}
-use types.Kit.{‵, raw, ◌⊛◌, some, later, ◌$◌, ◌∵◌, !, qed, by, move, keep, drop, use1, use2, split, join, pick, fsplit, fjoin, feq_i, feq_l, await}
+use types.Kit.{‵, raw, ◌⊛◌, some, later, ◌$◌, ◌∵◌, !, qed, by, move, drop, use1, split, join, pick, fsplit, fjoin, feq_i, feq_l, await}
 use types.Run.{stop, fld, addr, no_more, and_then, of_opd, unit_lit, returns, enter}
 use types.ByLocal.{alloc_all, pass_all, free_all, look_at, get, through, sets, lands_as}
 use denote.Exit.{yes}
@@ -54,8 +54,10 @@ deallocate_spec 𝓤 𝓛 𝓜 𝓡 wired B laws g d e bound _ =
     qed 𝓛 ((raw (alive 𝓛 S κs qs) ⊛ ‵ (owns (types_at S.params κs) a y.0.4)) ∷ raw ((c κs a).requires τ) ∷ []) ∵
     split ! $ move ! (1 ∷ []) $ fsplit ! $ fsplit ! $ drop ! $
     use1 𝓛 (‵ (hidden_shr B κs.0 z.0.3.0.now p.0 p.1) ⊛ ‵ (hidden_shr tally.the_row κs.0 a.0.now.tally (tally_at B a.0.ref_ptr).0 (tally_at B a.0.ref_ptr).1)) (lends_fields B 𝓛 κs.0 a.0.now a.0.ref_ptr) $ split ! $
+    -- [the handle; the tally; the other arguments; the tokens; the `requires`]
     move ! (1 ∷ []) $ drop ! $ feq_i ! (List Val) (vptr p.0 p.1 ∷ []) (vptr p.0 p.1 ∷ []) refl $ fjoin ! $ fjoin ! $ move ! (1 ∷ 0 ∷ []) $ join ! $ join ! $ use1 𝓛 (raw (G.pre z)) (id⊢ 𝓤 _) $
     enter ! _ _ _ _ _ $ alloc_all ! (λ l. pass_all ! refl ((tt, tt), (((rawptr_Lawful 𝓛).typed a.1.0 _ refl).0, ((tt, record { fits = are.1.1.0.1 }), ((tt, record { fits = are.1.1.1.0.1 }), tt)))) $
+    -- self.inner.deallocate(ptr, size, align)
     sets ! (addr ! (through ! refl (fld ! refl (stop !)))) refl (tt, tt) $
     calls_at ! (framed 𝓤 𝓛.H 𝓜 (tables 𝓤 𝓛.H 𝓜 𝓡 𝓡.env)) G (bound.deallocate e) z (and_then ! (get ! refl) (and_then ! (get ! refl) (and_then ! (get ! refl) (and_then ! (get ! refl) (no_more !))))) (λ v.
     use1 𝓛 (later (some (λ (r : Unit {0}). (raw (alive 𝓛 S κs qs) ⊛ ‵ (unit.own_val r (v ∷ []))) ⊛ some (λ (ws : Lasts I κs z.0.3). ‵ (lasts I κs z.0.3 ws) ⊛ ‵ ftrue)))) (id⊢ 𝓤 (G.post z v)) $

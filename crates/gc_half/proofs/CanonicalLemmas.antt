@@ -1,0 +1,134 @@
+-- The garbling of a circuit under a seed, as functions: it is one, and there is no other.
+use Rattle.std.proofs.Common.{◌≡◌, ℕ, ◌-◌, ◌<◌, inl, inr, Bool, List, length, map, drop, get_or, slice_get, Some, if◌then◌else◌, refl, sym, ap, ◌∙◌, arith}
+use Rattle.std.specs.List.{range_with_len}
+use Rattle.std.proofs.lemmas.Bool.{lt-ltb}
+use Rattle.std.proofs.lemmas.Bool.Decides.{nat_tests}
+use Rattle.std.proofs.lemmas.List.FromFn.{fill_by_all, length-map-range_with_len}
+use Rattle.gc_circuit.specs.declared.circuit.Operation.TheVariants.{And}
+use Rattle.gc_circuit.specs.declared.circuit.Gate.{Gate}
+use Rattle.gc_circuit.specs.Circuit.{Netlist, input_wires, output_wires, IsLawful, IsSet, and_number, and_count}
+use Rattle.gc_circuit.specs.Solution.{Solves}
+use Rattle.gc_circuit.proofs.SolutionLemmas.{agree, solution_solves}
+use Rattle.gc_circuit.specs.Meaning.{IsAssignment}
+use Rattle.gc_circuit.proofs.Tables.{read-table, table_end, IsSetBefore-below}
+use Rattle.gc_label.specs.Label.{colour}
+use Rattle.gc_label.specs.Seed.{offset_of, input_label_of}
+use Rattle.gc_label.proofs.SeedLemmas.{colour-offset_of}
+use Rattle.gc_half.specs.declared.garbling.RowPair.{RowPair}
+use Rattle.gc_half.specs.Hash.{hash}
+use Rattle.gc_half.specs.Garbling.{zero_of, zero_rule, rows_of, IsGarbling, GarblingParts, decode_bits_of, IsGarbled}
+use Rattle.gc_half.specs.Evaluation.{IsEvaluation, encode, decode_bits}
+use Rattle.gc_half.specs.Canonical.{input_zero, zero_label_of, rows_after, row_pairs_of, garbling_of}
+use Rattle.gc_half.specs.Law.{HasOneGarbled, Decodes}
+use Rattle.gc_half.proofs.CircuitLaw.{garbling-decodes}
+use Rattle.gc_half.proofs.SetWires.{set_or_not, solution-not_set}
+use Rattle.gc_half.proofs.GarblingLemmas.{zero_local, IsGarbling-same, rows-garbling, one_garbling}
+
+-- Parts are equal where each part is.
+pub parts-same : (g : GarblingParts) (zero_labels : List ℕ) (rows : List RowPair) (outputs : ℕ) → g.zero_labels ≡ zero_labels → g.rows ≡ rows
+    → g.outputs ≡ outputs → g ≡ record { zero_labels = zero_labels; rows = rows; outputs = outputs }
+parts-same g zero_labels rows outputs p q o =
+    let parts : List ℕ → List RowPair → ℕ → GarblingParts = λ x y z. record { zero_labels = x; rows = y; outputs = z } in
+    ap (λ x. parts x g.rows g.outputs) p ∙ ap (λ y. parts zero_labels y g.outputs) q ∙ ap (parts zero_labels rows) o
+
+module _ (c : Netlist) (seed : List ℕ) where
+  pub input_zero-input : (w : ℕ) → w < input_wires c → input_zero c seed w ≡ input_label_of seed w
+  input_zero-input w input = ap (λ b. if b then input_label_of seed w else 0) (lt-ltb w (input_wires c) input)
+
+  pub input_zero-other : (w : ℕ) → ¬ (w < input_wires c) → input_zero c seed w ≡ 0
+  input_zero-other w other = grind (arith, nat_tests)
+
+  -- A wire that is not set has the zero label 0.
+  pub zero_label_of-not_set : (w : ℕ) → ¬ IsSet c w → zero_label_of c seed w ≡ 0
+  unfolding zero_label_of
+  zero_label_of-not_set w unset =
+      solution-not_set (zero_rule hash (offset_of seed) c) c (input_zero c seed) w unset
+      ∙ input_zero-other w (λ input. unset (inl input))
+
+  -- The rows are those of the zero labels.
+  row_pairs_of-rows : row_pairs_of c seed ≡ rows_after hash (offset_of seed) c (zero_label_of c seed) (length c.gates)
+  unfolding row_pairs_of
+  row_pairs_of-rows = refl
+
+  module _ (lawful : IsLawful c) where
+    solves : Solves (zero_rule hash (offset_of seed) c) c (input_zero c seed) (zero_label_of c seed)
+    unfolding zero_label_of
+    solves = solution_solves (zero_rule hash (offset_of seed) c) (zero_local hash (offset_of seed) c) c lawful (input_zero c seed)
+
+    -- An input wire has its input label,
+    pub zero_label_of-input : (w : ℕ) → w < input_wires c → zero_label_of c seed w ≡ input_label_of seed w
+    zero_label_of-input w input = solves.inputs w input ∙ input_zero-input w input
+
+    -- and the wire that a gate sets has the label that the gate's equation says.
+    pub zero_label_of-gate : (i : ℕ) (g : Gate) → slice_get c.gates i ≡ Some g →
+        zero_label_of c seed g.set ≡ zero_of hash (offset_of seed) (zero_label_of c seed) (and_number c i) g.operation
+    zero_label_of-gate = solves.gates
+
+    -- So these labels and rows are a garbling.
+    pub canonical-garbling : IsGarbling hash (offset_of seed) c (input_label_of seed) (zero_label_of c seed) (row_pairs_of c seed)
+    canonical-garbling =
+        rw row_pairs_of-rows
+        (rows-garbling hash (offset_of seed) c lawful (input_label_of seed) (zero_label_of c seed)
+        (record { inputs = zero_label_of-input; gates = zero_label_of-gate }))
+
+    -- An AND gate's row pair stands at its AND number,
+    pub row_pairs_of-at : (i : ℕ) (g : Gate) (a b : ℕ) → slice_get c.gates i ≡ Some g → g.operation ≡ And a b →
+        slice_get (row_pairs_of c seed) (and_number c i) ≡ Some (rows_of hash (offset_of seed) (zero_label_of c seed) (and_number c i) a b)
+    row_pairs_of-at = canonical-garbling.and_gates
+
+    -- and there are no others.
+    pub length-row_pairs_of : length (row_pairs_of c seed) ≡ and_count c
+    length-row_pairs_of = canonical-garbling.row_count
+
+    -- The garbling, whole, is the garbling of the circuit under the seed,
+    pub garbling_of-IsGarbled : IsGarbled c seed (garbling_of c seed)
+    garbling_of-IsGarbled = record {
+      garbling =
+          IsGarbling-same hash (offset_of seed) c lawful (input_label_of seed) (zero_label_of c seed) _ (row_pairs_of c seed)
+          (λ w set. sym (read-table (zero_label_of c seed) c.wires w 0 (IsSetBefore-below c lawful (length c.gates) w set))) canonical-garbling;
+      wires = length-map-range_with_len (zero_label_of c seed) 0 c.wires;
+      not_set = λ w below unset. read-table (zero_label_of c seed) c.wires w 0 below ∙ zero_label_of-not_set w unset;
+      outputs = refl;
+    }
+
+    -- and it is the only one.
+    pub IsGarbled-same : (g : GarblingParts) → IsGarbled c seed g → g ≡ garbling_of c seed
+    IsGarbled-same g garbled =
+        parts-same g (map (zero_label_of c seed) (range_with_len 0 c.wires)) (row_pairs_of c seed) (output_wires c) labels rows garbled.outputs
+      where
+        label_at : (w : ℕ) → w < c.wires → get_or g.zero_labels w 0 ≡ zero_label_of c seed w
+        label_at w below = elim (set_or_not c w) [
+          | inl set ↦
+              agree (zero_rule hash (offset_of seed) c) (zero_local hash (offset_of seed) c) c lawful (input_label_of seed)
+              (λ k. get_or g.zero_labels k 0) (zero_label_of c seed) garbled.garbling.labels canonical-garbling.labels w set
+          | inr unset ↦ garbled.not_set w below unset ∙ sym (zero_label_of-not_set w unset)
+        ]
+
+        labels : g.zero_labels ≡ map (zero_label_of c seed) (range_with_len 0 c.wires)
+        labels = fill_by_all (zero_label_of c seed) g.zero_labels c.wires 0 garbled.wires label_at
+
+        rows : g.rows ≡ row_pairs_of c seed
+        rows =
+            (one_garbling hash (offset_of seed) c lawful (input_label_of seed)).same_rows
+            (λ k. get_or g.zero_labels k 0) (zero_label_of c seed) g.rows (row_pairs_of c seed) garbled.garbling canonical-garbling
+
+    -- Its decode bits are the colours of the output wires' zero labels,
+    pub IsGarbled-decode_bits : (g : GarblingParts) → IsGarbled c seed g → decode_bits_of g ≡ decode_bits c (zero_label_of c seed)
+    IsGarbled-decode_bits g garbled =
+        ap decode_bits_of (IsGarbled-same g garbled)
+        ∙ ap (λ n. map colour (drop (n - output_wires c) (map (zero_label_of c seed) (range_with_len 0 c.wires))))
+        (length-map-range_with_len (zero_label_of c seed) 0 c.wires)
+        ∙ ap (map colour) (table_end (zero_label_of c seed) c.wires (output_wires c) lawful.outputs_fit)
+
+    -- and what its rows evaluate to, on labels that stand for input bits, decodes to the output bits.
+    pub canonical-decodes : (input_bits bits : ℕ → Bool) → IsAssignment c input_bits bits → (active : ℕ → ℕ) →
+        IsEvaluation hash c (row_pairs_of c seed) (λ w. encode (offset_of seed) (input_label_of seed w) (input_bits w)) active →
+        Decodes c (offset_of seed) (zero_label_of c seed) bits active
+    canonical-decodes =
+        garbling-decodes hash (offset_of seed) (colour-offset_of seed) c lawful (input_label_of seed) (zero_label_of c seed) (row_pairs_of c seed) canonical-garbling
+
+    pub one_garbled : HasOneGarbled c seed
+    one_garbled = record {
+      one = (garbling_of c seed, garbling_of-IsGarbled);
+      no_other = λ g g' p q. IsGarbled-same g p ∙ sym (IsGarbled-same g' q);
+    }
