@@ -1,0 +1,2 @@
+pub mod AndNumberLemmas
+pub mod DecodeLemmas
