@@ -6,6 +6,7 @@ ghost use Rattle.gc_cli.specs.Fault.{code_of, name_of, text_of};
 use crate::files::FileError;
 use gc_circuit::{ReadFault, ValueFault};
 use gc_label::BadSeed;
+use std::alloc::{AllocError, AllocFailed};
 use std::fmt;
 
 /// Why a command has no answer: the first fault that its work meets.
@@ -119,5 +120,27 @@ impl From<FileError> for Fault {
             FileError::CannotRead => Fault::CannotRead,
             FileError::Memory => Fault::Memory,
         }
+    }
+}
+
+impl From<AllocError> for Fault {
+    ghost use Rattle.std.specs.Prelude.{◌≡◌};
+    ghost use Rattle.gc_cli.specs.declared.fault.Fault.TheVariants as faults;
+
+    ghost from_gives = { λ _ e. e ≡ faults.Memory };
+
+    fn from(_e: AllocError) -> Fault {
+        Fault::Memory
+    }
+}
+
+impl<T: Drop> From<AllocFailed<T>> for Fault {
+    ghost use Rattle.std.specs.Prelude.{◌≡◌};
+    ghost use Rattle.gc_cli.specs.declared.fault.Fault.TheVariants as faults;
+
+    ghost from_gives = { λ _ e. e ≡ faults.Memory };
+
+    fn from(_e: AllocFailed<T>) -> Fault {
+        Fault::Memory
     }
 }
