@@ -1,6 +1,7 @@
 -- Each text spells one lawful circuit or has one first fault.
-use Rattle.std.proofs.Common.{◌≡◌, ℕ, ◌⊎◌, inl, inr, List, Result, Ok, Err, refl, sym, ◌∙◌}
+use Rattle.std.proofs.Common.{◌≢◌, MatchResult, IfErr, ◌≡◌, ℕ, ◌⊎◌, inl, inr, List, Result, Ok, Err, refl, sym, ◌∙◌}
 use Rattle.gc_circuit.specs.declared.fault.ReadFault.{ReadFault}
+use Rattle.gc_circuit.specs.declared.fault.ReadFault.TheVariants.{Truncated, BadNumber, TooLarge, BadShape, UnknownOperation, BadConstant, NoSuchWire, Unset, SetTwice, OutputUnset, TrailingTokens, WidthsExceedWires, Memory}
 use Rattle.gc_circuit.specs.Circuit.{Netlist, IsLawful}
 use Rattle.gc_circuit.specs.Text.{tokens}
 use Rattle.gc_circuit.specs.Spelling.{Spells}
@@ -28,3 +29,33 @@ reading_law text = record {
         ((c : Netlist) × IsLawful c × Spells text c) ⊎ ((e : ReadFault) × FirstFault (tokens text) e)
     go (Ok c) h = inl (c, circuit_of-lawful (tokens text) c h, circuit_of-spelled (tokens text) c h)
     go (Err e) h = inr (e, circuit_of-fault (tokens text) e h)
+
+-- A fault that cannot be another one is Memory.
+only_memory : (e : ReadFault) → (e ≢ Memory → ⊥) → e ≡ Memory
+only_memory Truncated h = absurd (h (λ p. let no : ⊥ = cc in no))
+only_memory BadNumber h = absurd (h (λ p. let no : ⊥ = cc in no))
+only_memory TooLarge h = absurd (h (λ p. let no : ⊥ = cc in no))
+only_memory BadShape h = absurd (h (λ p. let no : ⊥ = cc in no))
+only_memory UnknownOperation h = absurd (h (λ p. let no : ⊥ = cc in no))
+only_memory BadConstant h = absurd (h (λ p. let no : ⊥ = cc in no))
+only_memory NoSuchWire h = absurd (h (λ p. let no : ⊥ = cc in no))
+only_memory Unset h = absurd (h (λ p. let no : ⊥ = cc in no))
+only_memory SetTwice h = absurd (h (λ p. let no : ⊥ = cc in no))
+only_memory OutputUnset h = absurd (h (λ p. let no : ⊥ = cc in no))
+only_memory TrailingTokens h = absurd (h (λ p. let no : ⊥ = cc in no))
+only_memory WidthsExceedWires h = absurd (h (λ p. let no : ⊥ = cc in no))
+only_memory Memory h = refl
+
+-- What reading gives, memory aside.
+abbrev pub IsRead : List ℕ → Result Netlist ReadFault → Type 0
+IsRead text r = MatchResult r (λ c. circuit_of (tokens text) ≡ Ok c) (λ e. e ≢ Memory → circuit_of (tokens text) ≡ Err e)
+
+-- A lawful circuit that the text spells is read, memory aside.
+pub read_exactly : (text : List ℕ) (r : Result Netlist ReadFault) → IsRead text r → (c : Netlist) → IsLawful c → Spells text c → MatchResult r (λ d. d ≡ c) (λ e. e ≡ Memory)
+read_exactly text (Ok d) read c lawful spelled = ok_is d c (sym read ∙ circuit_of-back (tokens text) c lawful spelled)
+read_exactly text (Err e) read c lawful spelled = only_memory e (λ other. accepted c e (sym (circuit_of-back (tokens text) c lawful spelled) ∙ read other))
+
+-- A fault is the first fault, memory aside.
+pub read_fault : (text : List ℕ) (r : Result Netlist ReadFault) → IsRead text r → IfErr r (λ e. e ≢ Memory → FirstFault (tokens text) e)
+read_fault text (Ok d) read = tt
+read_fault text (Err e) read = λ other. circuit_of-fault (tokens text) e (read other)

@@ -1,8 +1,9 @@
-ghost use Rattle.std.specs.Prelude.{◌≡◌, ◌≢◌, ◌≤◌, ◌-◌, [], length, map, sum, drop, count_by, if◌then◌else◌, IfOk, MatchResult, Ok, Err, vec_len};
+ghost use Rattle.std.specs.Prelude.{◌≡◌, ◌≢◌, ◌≤◌, ◌-◌, [], length, map, sum, drop, count_by, if◌then◌else◌, IfOk, IfErr, MatchResult, Ok, Err, vec_len};
 ghost use Rattle.std.specs.List.{range_with_len, list_all};
-ghost use Rattle.gc_circuit.specs.Circuit.{IsLawful, is_and};
+ghost use Rattle.gc_circuit.specs.Circuit.{Netlist, IsLawful, is_and};
 ghost use Rattle.gc_circuit.specs.Text.{tokens};
 ghost use Rattle.gc_circuit.specs.Spelling.{Spells};
+ghost use Rattle.gc_circuit.specs.FirstFault.{FirstFault};
 ghost use Rattle.gc_circuit.specs.Reading.{numbers_at, widths_at, gates_at, circuit_of, is_set};
 
 use crate::checks::check_gate;
@@ -143,10 +144,24 @@ fn check_outputs(is_set: &[bool], outputs: u32) -> Result<(), ReadFault>
 }
 
 impl<A: Allocator + Copy> Circuit<A> {
-    /// Reads a circuit in Bristol Fashion. The error is the first fault of the text, from left to right;
-    /// `Memory` stands in place of a later fault, or of the circuit, only where a growth was refused.
-    #[tactic(auto, unfolding(crate::specs::Reading::circuit_of))]
+    /// Reads a circuit in Bristol Fashion. The answer is the circuit exactly where the text spells a lawful one,
+    /// and otherwise the first fault of the text, from left to right; `Memory` stands in place of the circuit,
+    /// or of a later fault, only where a growth was refused.
     pub fn read(alloc: A, text: &[u8]) -> Result<Circuit<A>, ReadFault>
+        ensures lawful { IfOk result IsLawful }
+        ensures spelled { IfOk result (Spells text.now) }
+        ensures exactly { (c : Netlist) → IsLawful c → Spells text.now c → MatchResult result (λ d. d ≡ c) (λ e. e ≡ ReadFault.Memory) }
+        ensures first_fault { IfErr result (λ e. e ≢ ReadFault.Memory → FirstFault (tokens text.now) e) }
+
+        // What reading from left to right gives, which `law_reading` ties to the clauses above.
+        ensures reading { MatchResult result (λ c. circuit_of (tokens text.now) ≡ Ok c) (λ e. e ≢ ReadFault.Memory → circuit_of (tokens text.now) ≡ Err e) }
+    {
+        Circuit::read_in_order(alloc, text)
+    }
+
+    /// Reads the header, the gates and the end, in the order of the text.
+    #[tactic(auto, unfolding(crate::specs::Reading::circuit_of))]
+    fn read_in_order(alloc: A, text: &[u8]) -> Result<Circuit<A>, ReadFault>
         ensures reading { MatchResult result (λ c. circuit_of (tokens text.now) ≡ Ok c) (λ e. e ≢ ReadFault.Memory → circuit_of (tokens text.now) ≡ Err e) }
         ensures lawful { IfOk result IsLawful }
         ensures spelled { IfOk result (Spells text.now) }

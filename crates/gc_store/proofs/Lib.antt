@@ -1,0 +1,7 @@
+pub mod ListLemmas
+pub mod CircuitLemmas
+pub mod StepLemmas
+pub mod TableLemmas
+pub mod StoreLemmas
+pub mod OpenLemmas
+pub mod GarblingLemmas

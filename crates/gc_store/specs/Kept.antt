@@ -1,0 +1,77 @@
+-- How the tables of a store hold its content.
+use Rattle.std.specs.Prelude.{◌≡◌, ◌≢◌, ℕ, ◌*◌, ◌<◌, ◌≤◌, ◌↔◌, Bool, false, IsTrue, if◌then◌else◌, List, length, map, Option, Some, None, slice_get, slice_index, slice_index_or, count_by}
+use Rattle.std.specs.List.{range_with_len}
+use Rattle.gc_circuit.specs.declared.circuit.Operation.{Operation}
+use Rattle.gc_circuit.specs.declared.circuit.Gate.{Gate}
+use Rattle.gc_circuit.specs.Circuit.{Netlist, EachRead, is_and, and_number, and_count}
+use Rattle.gc_label.specs.Seed.{offset_of}
+use Rattle.gc_half.specs.declared.garbling.RowPair.{RowPair}
+use Rattle.gc_half.specs.Canonical.{zero_label_of}
+use Rattle.gc_store.specs.declared.mark.Mark.{Mark}
+use Rattle.gc_store.specs.declared.mark.Mark.TheVariants as mark
+use Rattle.gc_store.specs.Content.{State, Free, Claimed, Finished, Content, is_finished, IsKnown, IsLawfulContent}
+
+-- The tables: a mark for each gate, whether each wire's label is known, a zero label for each wire, the AND number of
+-- each gate and a row pair for each AND gate. Then how many gates are finished, how many of these are AND gates, how
+-- many tallies were dealt, and a gate that no free gate stands before.
+pub record Tables : Type 0 where
+  pub marks : List Mark
+  pub known : List Bool
+  pub zero_labels : List ℕ
+  pub and_numbers : List ℕ
+  pub rows : List RowPair
+  pub finished : ℕ
+  pub finished_ands : ℕ
+  pub tallies : ℕ
+  pub first_free : ℕ
+
+-- the row pair that a table has at an AND number, for an AND gate
+abbrev pub rows_at : List RowPair → ℕ → Operation → Option RowPair
+rows_at rows k op = if is_and op then slice_get rows k else None
+
+module _ (c : Netlist) (zero_labels : List ℕ) (rows : List RowPair) where
+  -- the state of gate i, once it is finished
+  abbrev pub finished_state : ℕ → Option Gate → State
+  finished_state i None = Free
+  finished_state i (Some g) = Finished (slice_index zero_labels g.set) (rows_at rows (and_number c i) g.operation)
+
+  -- the state of gate i, by its mark
+  abbrev pub state_at : ℕ → Mark → State
+  state_at i mark.Free = Free
+  state_at i mark.Claimed = Claimed
+  state_at i mark.Finished = finished_state i (slice_get c.gates i)
+
+  -- the state of each gate
+  unfoldable pub states_of : List Mark → List State
+  states_of marks = map (λ i. state_at i (slice_index_or marks i mark.Free)) (range_with_len 0 (length c.gates))
+
+-- The content that the tables hold.
+abbrev pub content_of : Netlist → List ℕ → Tables → Content
+content_of c seed t = record {
+  circuit = c;
+  seed = seed;
+  states = states_of c t.zero_labels t.rows t.marks;
+  rows = 2 * t.finished_ands;
+  tallies = t.tallies;
+}
+
+-- What the tables keep.
+pub record IsKept (c : Netlist) (seed : List ℕ) (offset : ℕ) (t : Tables) : Type 0 where
+  pub lawful : IsLawfulContent (content_of c seed t)
+  pub offset_is : offset ≡ offset_of seed
+  pub marks : length t.marks ≡ length c.gates
+  pub known : length t.known ≡ c.wires
+  pub tells_known : (w : ℕ) → IsTrue (slice_index_or t.known w false) ↔ IsKnown (content_of c seed t) w
+  -- a wire that is not known has 0
+  pub zero_labels : t.zero_labels ≡ map (λ w. if slice_index_or t.known w false then zero_label_of c seed w else 0) (range_with_len 0 c.wires)
+  pub and_numbers : t.and_numbers ≡ map (and_number c) (range_with_len 0 (length c.gates))
+  pub rows : length t.rows ≡ and_count c
+  pub finished : t.finished ≡ count_by is_finished (content_of c seed t).states
+  pub first_free : t.first_free ≤ length c.gates
+  pub none_free : (i : ℕ) → i < t.first_free → slice_get t.marks i ≢ Some mark.Free
+
+-- Gate i reads known wires alone.
+pub record ReadsKnown (s : Content) (i : ℕ) : Type 0 where
+  pub gate : Gate
+  pub at : slice_get s.circuit.gates i ≡ Some gate
+  pub reads : EachRead (IsKnown s) gate.operation

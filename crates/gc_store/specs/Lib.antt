@@ -1,0 +1,5 @@
+pub mod Task
+pub mod Content
+pub mod Step
+pub mod Refusal
+pub mod Kept

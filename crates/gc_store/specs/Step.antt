@@ -1,0 +1,60 @@
+-- The steps of a store, as relations between its content before a call, the call's answer and its content afterwards.
+-- No step changes the circuit or the seed.
+use Rattle.std.specs.Prelude.{◌≡◌, ℕ, ◌+◌, ◌<◌, ◌↔◌, Bool, IsTrue, if◌then◌else◌, List, map, count_by, Option, Some, None, Result, Ok, Err, slice_get, slice_set}
+use Rattle.gc_circuit.specs.declared.circuit.Gate.{Gate}
+use Rattle.gc_circuit.specs.Circuit.{is_and}
+use Rattle.gc_store.specs.declared.task.Task.{Task}
+use Rattle.gc_store.specs.declared.refusal.Refused.{Refused}
+use Rattle.gc_store.specs.declared.refusal.Refused.TheVariants.{NotClaimed, OtherInputs}
+use Rattle.gc_store.specs.declared.tally.TheConstants.{MAX_TALLIES}
+use Rattle.gc_store.specs.Task.{task_of, sealed_zero, sealed_rows}
+use Rattle.gc_store.specs.Content.{State, Free, Claimed, Finished, Content, is_claimed, IsClaimed, MayGoNext, AllFinished}
+
+-- The task is the store's task for its gate.
+pub record IsOwnTask (s : Content) (task : Task) : Type 0 where
+  pub gate : Gate
+  pub at : slice_get s.circuit.gates task.gate ≡ Some gate
+  pub same : task ≡ task_of s.circuit s.seed task.gate gate
+
+-- The content with gate i in another state.
+abbrev pub with_state : Content → ℕ → State → Content
+with_state s i state = record s { states = slice_set s.states i state }
+
+-- A claim: a gate that may go next is claimed from then on, and the answer is its task. Where no gate may go next the
+-- answer is None, and nothing changes.
+abbrev pub Claims : Content → Option Task → Content → Type 0
+Claims old None new = ((i : ℕ) → ¬ MayGoNext old i) × (new ≡ old)
+Claims old (Some task) new = MayGoNext old task.gate × IsOwnTask old task × (new ≡ with_state old task.gate Claimed)
+
+-- The content once a sealed task's gate is finished with its zero label and rows.
+abbrev pub with_sealed : Content → Task → Content
+with_sealed s task = record s {
+  states = slice_set s.states task.gate (Finished (sealed_zero task) (sealed_rows task));
+  rows = s.rows + (if is_and task.operation then 2 else 0);
+}
+
+-- Handing in a sealed task. Where its gate is not claimed it is refused as NotClaimed; else, where it is not the store's
+-- task for that gate, as OtherInputs. A refusal gives the sealed task back and changes nothing. Else the gate is
+-- finished, and the answer is whether every gate now is.
+abbrev pub Finishes : Content → Task → Result Bool Refused → Content → Type 0
+Finishes old task (Ok complete) new =
+    IsClaimed old task.gate × IsOwnTask old task × (new ≡ with_sealed old task) × (IsTrue complete ↔ AllFinished new)
+Finishes old task (Err (NotClaimed back)) new = (¬ IsClaimed old task.gate) × (back ≡ task) × (new ≡ old)
+Finishes old task (Err (OtherInputs back)) new =
+    IsClaimed old task.gate × (¬ IsOwnTask old task) × (back ≡ task) × (new ≡ old)
+
+-- Dealing a tally: a new one is 0, and there is none where all were dealt.
+abbrev pub Deals : Content → Option ℕ → Content → Type 0
+Deals old None new = (old.tallies ≡ MAX_TALLIES) × (new ≡ old)
+Deals old (Some tally) new = (old.tallies < MAX_TALLIES) × (tally ≡ 0) × (new ≡ record old { tallies = old.tallies + 1 })
+
+-- A claimed state is free again; others stay.
+abbrev pub reopened : State → State
+reopened Free = Free
+reopened Claimed = Free
+reopened (Finished label rows) = Finished label rows
+
+-- Reopening: claimed gates are free again, and the answer is how many they were.
+abbrev pub Reopens : Content → ℕ → Content → Type 0
+Reopens old answer new =
+    (answer ≡ count_by is_claimed old.states) × (new ≡ record old { states = map reopened old.states })

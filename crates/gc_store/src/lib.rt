@@ -1,0 +1,20 @@
+//! The store of a garbling in progress: how far each gate of a circuit is, and which gates may go next.
+//!
+//! A gate of a [`Store`] is free, claimed or finished. [`Store::claim`] hands out the [`Task`] of a free gate
+//! whose input labels are known, [`Sealed::make`] garbles it, apart from the store, and [`Store::finish`] takes
+//! it back. What the store keeps of a finished gate is always the half-gate garbling of that gate.
+#![tactic(auto)]
+
+mod mark;
+mod refusal;
+mod store;
+mod tables;
+mod tally;
+mod task;
+#[cfg(test)]
+mod tests;
+
+pub use refusal::Refused;
+pub use store::Store;
+pub use tally::{MAX_TALLIES, Tally};
+pub use task::{Sealed, Task};

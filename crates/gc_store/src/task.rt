@@ -1,0 +1,104 @@
+//! Tasks, and tasks that are sealed: garbled.
+
+ghost use Rattle.std.specs.Prelude.{◌≡◌};
+ghost use Rattle.gc_store.specs.Task.{sealed_zero, sealed_rows};
+
+use gc_circuit::Operation;
+use gc_half::{RowPair, garble_and};
+use gc_label::{Label, Offset};
+use std::marker::Model;
+
+/// All that garbling one gate takes.
+#[derive(Clone, Copy, PartialEq, Eq, Debug)]
+pub struct Task {
+    /// The gate's place in the file, counted from 0.
+    pub gate: u32,
+    /// What the gate computes: its wires, or for EQ its constant.
+    pub operation: Operation,
+    /// How many AND gates stand before the gate in the file.
+    pub and_number: u32,
+    /// The offset of the garbling.
+    pub offset: Offset,
+    /// The zero label of the wire that the gate reads first, [`Label::ZERO`] where it reads none.
+    pub first: Label,
+    /// The zero label of the wire that the gate reads second, [`Label::ZERO`] where it reads no second.
+    pub second: Label,
+}
+
+/// A task that is garbled: the zero label of the wire that its gate sets and, where it is AND, its row pair.
+/// A contract sees the task, which the label and the rows follow from.
+#[derive(Clone, Copy, PartialEq, Eq, Debug)]
+pub struct Sealed {
+    task: Task,
+    zero_label: Label,
+    rows: Option<RowPair>,
+}
+
+impl Model for Sealed {
+    ghost use Rattle.std.specs.Prelude.{◌≡◌};
+    ghost use Rattle.gc_store.specs.declared.task.Task.{Task};
+    ghost use Rattle.gc_store.specs.Task.{sealed_zero, sealed_rows};
+
+    ghost Value = { Task };
+
+    ghost view = { λ s. s.task };
+
+    ghost invariant = { λ s. (s.zero_label ≡ sealed_zero s.task) × (s.rows ≡ sealed_rows s.task) };
+
+    ghost inverse = { λ t. record { task = t; zero_label = sealed_zero t; rows = sealed_rows t } };
+}
+
+impl Sealed {
+    /// Garbles a task. It takes no memory.
+    pub fn make(task: Task) -> Sealed
+        ensures { result ≡ task }
+    {
+        let Task {
+            offset,
+            first,
+            second,
+            ..
+        } = task;
+        let (zero_label, rows) = match task.operation {
+            Operation::Xor(_, _) => (first.xor(second), None),
+            Operation::And(_, _) => {
+                let (zero_label, generator, evaluator) =
+                    garble_and(task.and_number, offset, first, second);
+                let rows = RowPair {
+                    generator,
+                    evaluator,
+                };
+                (zero_label, Some(rows))
+            }
+            Operation::Inv(_) => (first.xor(offset.label()), None),
+            Operation::Eq(constant) => (offset.label().times(constant), None),
+            Operation::Eqw(_) => (first, None),
+        };
+        Sealed {
+            task,
+            zero_label,
+            rows,
+        }
+    }
+
+    /// The task that was garbled.
+    pub fn task(&self) -> Task
+        ensures { result ≡ self.now }
+    {
+        self.task
+    }
+
+    /// The zero label of the wire that the task's gate sets.
+    pub fn zero_label(&self) -> Label
+        ensures { result ≡ sealed_zero self.now }
+    {
+        self.zero_label
+    }
+
+    /// The row pair, where the task's gate is AND.
+    pub fn rows(&self) -> Option<RowPair>
+        ensures { result ≡ sealed_rows self.now }
+    {
+        self.rows
+    }
+}
