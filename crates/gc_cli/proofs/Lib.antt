@@ -1,3 +1,4 @@
 pub mod OrderLemmas
 pub mod EncodingLemmas
 pub mod EvaluationLemmas
+pub mod SettledLemmas

@@ -6,3 +6,4 @@ pub mod Run
 pub mod CarryOut
 pub mod Serve
 pub mod Encoding
+pub mod Settled

@@ -5,6 +5,7 @@ mod evaluation;
 mod failures;
 mod fault;
 mod files;
+mod garbling;
 mod lines;
 mod order;
 mod run;

@@ -5,17 +5,16 @@ ghost use Rattle.gc_circuit.specs.Circuit.{IsLawful};
 ghost use Rattle.gc_circuit.specs.Text.{tokens};
 ghost use Rattle.gc_circuit.specs.Spelling.{Spells};
 ghost use Rattle.gc_circuit.specs.Reading.{circuit_of};
-ghost use Rattle.gc_half.specs.Garbling.{IsGarbled};
 ghost use Rattle.gc_cli.specs.Run.{AnswersRun, HasRunFault, IsCircuit, HasCircuitFault};
 ghost use Rattle.gc_cli.specs.CarryOut.{HasCause};
 
 use crate::evaluation::evaluate;
 use crate::fault::Fault;
 use crate::files::Files;
+use crate::garbling::garble;
 use crate::lines::output_lines;
 use crate::values::read_values;
-use gc_circuit::{Circuit, Memory};
-use gc_half::{Garbling, garble_one_thread};
+use gc_circuit::Circuit;
 use gc_label::Seed;
 use std::alloc::Allocator;
 
@@ -38,7 +37,7 @@ pub fn run<A: Allocator + Copy, F: Files>(
     let circuit = read_circuit(alloc, circuit, files)?;
     let seed = Seed::from_hex(seed)?;
     let values = read_values(alloc, circuit.input_widths(), values)?;
-    let garbling = garble(alloc, &circuit, &seed).map_err(|_| Fault::Garbling)?;
+    let garbling = garble(alloc, &circuit, seed).map_err(|_| Fault::Garbling)?;
     let outputs = evaluate(alloc, &circuit, &seed, &garbling, &values).map_err(|_| Fault::Evaluation)?;
     Ok(output_lines(alloc, circuit.output_widths(), &outputs)?)
 }
@@ -57,11 +56,4 @@ fn read_circuit<A: Allocator + Copy, F: Files>(
 {
     let bytes = files.read(alloc, name)?;
     Ok(Circuit::read(alloc, &bytes)?)
-}
-
-/// The garbling of the circuit under the seed.
-fn garble<A: Allocator + Copy>(alloc: A, circuit: &Circuit<A>, seed: &Seed) -> Result<Garbling<A>, Memory>
-    ensures { IfOk result (IsGarbled circuit.now seed.now) }
-{
-    garble_one_thread(alloc, circuit, seed)
 }
