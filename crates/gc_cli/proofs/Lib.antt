@@ -2,3 +2,4 @@ pub mod OrderLemmas
 pub mod EncodingLemmas
 pub mod EvaluationLemmas
 pub mod SettledLemmas
+pub mod RunLemmas
