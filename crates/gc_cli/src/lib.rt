@@ -1,0 +1,20 @@
+//! The program `halfgates` as a library: its command line, its commands, and what they print.
+#![tactic(auto)]
+
+mod evaluation;
+mod failures;
+mod fault;
+mod files;
+mod garbling;
+mod lines;
+mod order;
+mod run;
+mod serve;
+mod values;
+mod work;
+
+pub use failures::FailureCount;
+pub use fault::Fault;
+pub use files::{FileError, Files, HostFiles};
+pub use order::{Order, order_of};
+pub use work::carry_out;
