@@ -1,15 +1,12 @@
 //! The parts that are timed.
 
-ghost use Rattle.std.specs.Prelude.{◌≡◌, length, map, IfOk};
-ghost use Rattle.gc_circuit.specs.Circuit.{and_count, input_wires, output_wires};
-ghost use Rattle.gc_circuit.specs.Meaning.{Fits};
-
 use anyhow::{Result, anyhow};
 use gc_circuit::{Circuit, fits, plain_eval};
 use gc_eval::evaluate_labels;
 use gc_half::{Garbling, garble_one_thread, tweak_hash};
 use gc_label::{Label, Seed, fill_input_labels};
 use gc_store::{Sealed, Store, Task};
+use sha2::{Digest, Sha256};
 use std::alloc::Global;
 
 /// A part of the program's work.
@@ -29,6 +26,10 @@ pub enum Part {
     Store,
     /// Sealing the same tasks alone.
     Seal,
+    /// The digest of the circuit.
+    Digest,
+    /// SHA-256 over the circuit's canonical text, as it lies in memory.
+    Sha,
 }
 
 impl Part {
@@ -41,6 +42,8 @@ impl Part {
             "evaluate" => Some(Part::Evaluate),
             "store" => Some(Part::Store),
             "seal" => Some(Part::Seal),
+            "digest" => Some(Part::Digest),
+            "sha" => Some(Part::Sha),
             _ => None,
         }
     }
@@ -56,6 +59,7 @@ pub struct Subject {
     decode_bits: Vec<bool>,
     labels: Vec<Label>,
     tasks: Vec<Task>,
+    canonical_text: Vec<u8>,
 }
 
 impl Subject {
@@ -74,6 +78,7 @@ impl Subject {
             decode_bits.push(garbling.decode_bit(i))?;
         }
         let tasks = tasks_of(alloc, &circuit, seed)?;
+        let canonical_text = circuit.canon(alloc).map_err(|_| anyhow!("no memory"))?;
         Ok(Subject {
             circuit,
             seed,
@@ -82,6 +87,7 @@ impl Subject {
             decode_bits,
             labels,
             tasks,
+            canonical_text,
         })
     }
 
@@ -101,6 +107,8 @@ impl Subject {
             Part::Evaluate => self.evaluate(alloc)?,
             Part::Store => self.store(alloc)?,
             Part::Seal => self.seal()?,
+            Part::Digest => not_zeros(self.circuit.digest())?,
+            Part::Sha => not_zeros(Sha256::digest(&self.canonical_text))?,
         }
         Ok(())
     }
@@ -166,6 +174,14 @@ impl Subject {
         )?;
         Ok(())
     }
+}
+
+/// Uses a digest, so that it has to be computed.
+fn not_zeros(digest: [u8; 32]) -> Result<()> {
+    if digest == [0; 32] {
+        return Err(anyhow!("a digest of zeros"));
+    }
+    Ok(())
 }
 
 /// The tasks of the gates, in file order.
