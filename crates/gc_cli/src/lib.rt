@@ -8,8 +8,10 @@ mod files;
 mod garbling;
 mod lines;
 mod order;
+mod program;
 mod run;
-mod serve;
+#[cfg(test)]
+mod tests;
 mod values;
 mod work;
 
@@ -17,4 +19,5 @@ pub use failures::FailureCount;
 pub use fault::Fault;
 pub use files::{FileError, Files, HostFiles};
 pub use order::{Order, order_of};
+pub use program::serve;
 pub use work::carry_out;

@@ -38,7 +38,9 @@ pub fn run<A: Allocator + Copy, F: Files>(
     let seed = Seed::from_hex(seed)?;
     let values = read_values(alloc, circuit.input_widths(), values)?;
     let garbling = garble(alloc, &circuit, seed).map_err(|_| Fault::Garbling)?;
-    let outputs = evaluate(alloc, &circuit, &seed, &garbling, &values).map_err(|_| Fault::Evaluation)?;
+    let outputs = evaluate(alloc, &circuit, &seed, &garbling, &values).map_err(
+        |_| Fault::Evaluation,
+    )?;
     Ok(output_lines(alloc, circuit.output_widths(), &outputs)?)
 }
 
