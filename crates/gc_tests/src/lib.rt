@@ -4,4 +4,6 @@
 #[cfg(test)]
 mod circuits;
 #[cfg(test)]
+mod garblings;
+#[cfg(test)]
 mod growth;
