@@ -10,8 +10,6 @@ mod lines;
 mod order;
 mod program;
 mod run;
-#[cfg(test)]
-mod tests;
 mod values;
 mod work;
 

@@ -108,7 +108,7 @@ fn words_of(alloc: Global, found: &ArgMatches<'_>, id: &str) -> Result<Vec<Strin
     }
 }
 
-pub(crate) fn copies_of(alloc: Global, words: &[&str]) -> Result<Vec<String>, AllocError>
+fn copies_of(alloc: Global, words: &[&str]) -> Result<Vec<String>, AllocError>
     ensures { IfOk result (λ copies. map string_bytes copies.items ≡ map (λ word. word.now) words.now) }
 {
     let mut copies = Vec::with_capacity(alloc, words.len())?;

@@ -1,5 +1,7 @@
 //! The store garbles as one thread does, whatever the order in which gates are finished.
 
+ghost use Rattle.std.specs.Prelude.{◌<◌};
+
 use gc_circuit::Circuit;
 use gc_half::{Garbling, garble_one_thread};
 use gc_label::Seed;
@@ -18,6 +20,7 @@ impl Numbers {
     /// A number below the limit, which is not 0.
     fn below(&mut self, limit: u64) -> u64
         requires { 0 < limit }
+        ensures { result < limit }
     {
         self.state = self
             .state

@@ -1,12 +1,9 @@
 //! Tests of whole runs over files in memory.
 
-ghost use Rattle.std.specs.Prelude.{◌≡◌, find, option_map, bytes_eq};
-
-use crate::failures::FailureCount;
-use crate::order::copies_of;
-use crate::{Fault, FileError, Files, Order, carry_out, order_of, serve};
+use crate::mem_files::MemFiles;
+use gc_cli::{Fault, Order, carry_out, order_of, serve};
 use gc_refusing::Refusing;
-use std::alloc::{AllocError, Allocator, Global};
+use std::alloc::{AllocError, Global};
 use std::io::{self, Write};
 use std::process::Abort;
 use std::test::Fail;
@@ -22,43 +19,13 @@ const INV: &str = "1 2\n1 1\n1 1\n1 1 0 1 INV";
 
 const SEED: &str = "0000000000000000000000000000000000000000000000000000000000000000";
 
-/// Files in memory, by name. After `good_reads` reads, reading fails.
-#[derive(Drop)]
-struct MemFiles<'a> {
-    files: &'a [(&'a str, &'a str)],
-    good_reads: u32,
-    failures: FailureCount,
-}
-
-impl<'a> MemFiles<'a> {
-    fn new(files: &'a [(&'a str, &'a str)]) -> MemFiles<'a> {
-        MemFiles {
-            files,
-            good_reads: u32::MAX,
-            failures: FailureCount::new(),
-        }
+/// The words as a command line has them.
+fn copies_of(alloc: Global, words: &[&str]) -> Result<Vec<String>, AllocError> {
+    let mut copies = Vec::new(alloc);
+    for word in words {
+        copies.push(String::from_str(alloc, word)?)?;
     }
-}
-
-impl<'a> Files for MemFiles<'a> {
-    ghost bytes = { λ f name. option_map (λ file. file.1.now) (find (λ file. bytes_eq file.0.now name) f.files.now) };
-
-    ghost failures = { λ f. f.failures.count };
-
-    fn read<A: Allocator + Copy>(&mut self, alloc: A, name: &str) -> Result<Vec<u8, A>, FileError> {
-        if self.good_reads == 0 {
-            self.failures.add_one();
-            return Err(FileError::CannotRead);
-        }
-        self.good_reads -= 1;
-        match self.files.iter().find(|file| file.0 == name) {
-            Some(file) => Ok(Vec::from_slice(alloc, file.1.as_bytes())?),
-            None => {
-                self.failures.add_one();
-                Err(FileError::CannotRead)
-            }
-        }
-    }
+    Ok(copies)
 }
 
 /// A writer that takes nothing.
@@ -233,7 +200,6 @@ fn fails_where_reading_fails(rt: HostRuntime) -> Result<(), Fail> {
     )?;
     let file = [("c.txt", ADDER)];
     let mut files = MemFiles::new(&file);
-    files.good_reads = 1;
     assert_eq!(rt;
         carry_out(alloc, &order, &mut files)?.as_slice(),
         b"01\n".as_slice()
