@@ -1,0 +1,5 @@
+pub mod OrderLemmas
+pub mod EncodingLemmas
+pub mod EvaluationLemmas
+pub mod SettledLemmas
+pub mod RunLemmas

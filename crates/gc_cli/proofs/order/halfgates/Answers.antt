@@ -1,0 +1,22 @@
+use Rattle.std.proofs.Common.{ap, ◌∙◌, codes, true}
+use Rattle.std.proofs.lemmas.Result.{IfOk-weaker}
+use Rattle.clap.specs.Words.{App, new_app}
+use Rattle.clap.specs.Simple.{app_of_fields}
+use Rattle.gc_cli.specs.Order.{HasShape, named_program}
+use Rattle.gc_cli.proofs.OrderLemmas.{has_shape-subcommand}
+use Rattle.gc_cli.proofs.order.halfgates.Goals as goal
+
+pub returns : goal.returns
+returns c =
+    let needs = λ (a : App). record a { top = record a.top { subcommand_required = true } } in
+    let helps = λ (a : App). record a { top = record a.top { arg_required_else_help = true } } in
+    let plain = λ (a : App). record a { top = record a.top { disable_help_subcommand = true } } in
+    let empty : HasShape named_program c.disable_help_subcommand.result = record {
+      shape = ap app_of_fields c.disable_help_subcommand.ensures
+          ∙ ap plain (ap app_of_fields c.arg_required_else_help.ensures
+          ∙ ap helps (ap app_of_fields c.subcommand_required.ensures
+          ∙ ap needs (ap app_of_fields c.about.ensures ∙ c.new.ensures.app)));
+      no_globals = ap (λ f. f.has_globals) c.disable_help_subcommand.ensures ∙ ap (λ f. f.has_globals) c.arg_required_else_help.ensures
+          ∙ ap (λ f. f.has_globals) c.subcommand_required.ensures ∙ ap (λ f. f.has_globals) c.about.ensures ∙ c.new.ensures.local;
+    } in
+    IfOk-weaker c.subcommand.result _ _ (λ r adds. has_shape-subcommand _ _ _ _ _ empty c.in_ok-run.ensures adds) c.subcommand.ensures

@@ -1,0 +1,40 @@
+-- The numbers, names and texts of faults.
+use Rattle.std.specs.Prelude.{◌≡◌, ℕ, List, ◌∷◌, ◌++◌, codes}
+use Rattle.std.specs.Fmt.{decimal}
+use Rattle.gc_circuit.specs.Fault as read
+use Rattle.gc_circuit.specs.Value as value
+use Rattle.gc_cli.specs.declared.files.FileError.{FileError}
+use Rattle.gc_cli.specs.declared.files.FileError.TheVariants as file
+use Rattle.gc_cli.specs.declared.fault.Fault.{Fault}
+use Rattle.gc_cli.specs.declared.fault.Fault.TheVariants.{Circuit, WrongCount, Value, BadSeed, Garbling, Evaluation, CannotRead, CannotWrite, Memory}
+
+abbrev pub code_of : Fault → ℕ
+code_of (Circuit fault) = read.code_of fault
+code_of WrongCount = 14
+code_of (Value fault) = value.fault_code fault
+code_of BadSeed = 18
+code_of Garbling = 23
+code_of Evaluation = 46
+code_of CannotRead = 50
+code_of CannotWrite = 51
+code_of Memory = 52
+
+abbrev pub name_of : Fault → List ℕ
+name_of (Circuit fault) = read.name_of fault
+name_of WrongCount = codes "WrongCount"
+name_of (Value fault) = value.fault_name fault
+name_of BadSeed = codes "BadSeed"
+name_of Garbling = codes "Memory"
+name_of Evaluation = codes "Memory"
+name_of CannotRead = codes "CannotRead"
+name_of CannotWrite = codes "CannotWrite"
+name_of Memory = codes "Memory"
+
+-- `fault`, the number in decimal digits, and the name
+abbrev pub text_of : Fault → List ℕ
+text_of fault = codes "fault " ++ decimal (code_of fault) ++ 32 ∷ name_of fault
+
+-- the fault that an unread file is
+abbrev pub IsFaultOfFile : FileError → Fault → Type 0
+IsFaultOfFile file.CannotRead fault = fault ≡ CannotRead
+IsFaultOfFile file.Memory fault = fault ≡ Memory

@@ -1,0 +1,146 @@
+//! What can end a command early.
+
+ghost use Rattle.std.specs.Prelude.{◌≡◌, Some};
+ghost use Rattle.gc_cli.specs.Fault.{code_of, name_of, text_of};
+
+use crate::files::FileError;
+use gc_circuit::{ReadFault, ValueFault};
+use gc_label::BadSeed;
+use std::alloc::{AllocError, AllocFailed};
+use std::fmt;
+
+/// Why a command has no answer: the first fault that its work meets.
+#[derive(Clone, Copy, Debug, PartialEq, Eq)]
+pub enum Fault {
+    /// The file is no circuit.
+    Circuit(ReadFault),
+    /// There are not as many values as the circuit has input values.
+    WrongCount,
+    /// A text is no value of its input value's width.
+    Value(ValueFault),
+    /// The seed is not 64 hexadecimal digits.
+    BadSeed,
+    /// There is no memory for garbling.
+    Garbling,
+    /// There is no memory for evaluating.
+    Evaluation,
+    /// A file can't be read.
+    CannotRead,
+    /// Standard output can't be written.
+    CannotWrite,
+    /// There is no memory for the program's own buffers, a file's bytes among them.
+    Memory,
+}
+
+impl Fault {
+    /// The number of the fault, as users see it.
+    pub fn code(self) -> u32
+        ensures { result ≡ code_of self }
+    {
+        match self {
+            Fault::Circuit(fault) => fault.code(),
+            Fault::WrongCount => 14,
+            Fault::Value(fault) => fault.code(),
+            Fault::BadSeed => 18,
+            Fault::Garbling => 23,
+            Fault::Evaluation => 46,
+            Fault::CannotRead => 50,
+            Fault::CannotWrite => 51,
+            Fault::Memory => 52,
+        }
+    }
+
+    /// The name of the fault, as users see it.
+    pub fn name(self) -> &'static str
+        ensures { result.now ≡ name_of self }
+    {
+        match self {
+            Fault::Circuit(fault) => fault.name(),
+            Fault::WrongCount => "WrongCount",
+            Fault::Value(fault) => fault.name(),
+            Fault::BadSeed => "BadSeed",
+            Fault::Garbling | Fault::Evaluation | Fault::Memory => "Memory",
+            Fault::CannotRead => "CannotRead",
+            Fault::CannotWrite => "CannotWrite",
+        }
+    }
+}
+
+/// Writes `fault`, the number and the name.
+impl fmt::Display for Fault {
+    ghost output = { λ fault. Some (text_of fault) };
+
+    fn fmt<W: fmt::Write>(&self, f: &mut fmt::Formatter<W>) -> fmt::Result {
+        let code = self.code();
+        let name = self.name();
+        write!(f, "fault {code} {name}")
+    }
+}
+
+impl From<ReadFault> for Fault {
+    ghost use Rattle.std.specs.Prelude.{◌≡◌};
+    ghost use Rattle.gc_cli.specs.declared.fault.Fault.TheVariants as faults;
+
+    ghost from_gives = { λ fault e. e ≡ faults.Circuit fault };
+
+    fn from(fault: ReadFault) -> Fault {
+        Fault::Circuit(fault)
+    }
+}
+
+impl From<ValueFault> for Fault {
+    ghost use Rattle.std.specs.Prelude.{◌≡◌};
+    ghost use Rattle.gc_cli.specs.declared.fault.Fault.TheVariants as faults;
+
+    ghost from_gives = { λ fault e. e ≡ faults.Value fault };
+
+    fn from(fault: ValueFault) -> Fault {
+        Fault::Value(fault)
+    }
+}
+
+impl From<BadSeed> for Fault {
+    ghost use Rattle.std.specs.Prelude.{◌≡◌};
+    ghost use Rattle.gc_cli.specs.declared.fault.Fault.TheVariants as faults;
+
+    ghost from_gives = { λ _ e. e ≡ faults.BadSeed };
+
+    fn from(_e: BadSeed) -> Fault {
+        Fault::BadSeed
+    }
+}
+
+impl From<FileError> for Fault {
+    ghost use Rattle.gc_cli.specs.Fault.{IsFaultOfFile};
+
+    ghost from_gives = { IsFaultOfFile };
+
+    fn from(error: FileError) -> Fault {
+        match error {
+            FileError::CannotRead => Fault::CannotRead,
+            FileError::Memory => Fault::Memory,
+        }
+    }
+}
+
+impl From<AllocError> for Fault {
+    ghost use Rattle.std.specs.Prelude.{◌≡◌};
+    ghost use Rattle.gc_cli.specs.declared.fault.Fault.TheVariants as faults;
+
+    ghost from_gives = { λ _ e. e ≡ faults.Memory };
+
+    fn from(_e: AllocError) -> Fault {
+        Fault::Memory
+    }
+}
+
+impl<T: Drop> From<AllocFailed<T>> for Fault {
+    ghost use Rattle.std.specs.Prelude.{◌≡◌};
+    ghost use Rattle.gc_cli.specs.declared.fault.Fault.TheVariants as faults;
+
+    ghost from_gives = { λ _ e. e ≡ faults.Memory };
+
+    fn from(_e: AllocFailed<T>) -> Fault {
+        Fault::Memory
+    }
+}

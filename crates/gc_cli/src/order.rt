@@ -1,0 +1,119 @@
+//! The command line.
+
+ghost use Rattle.std.specs.Prelude.{◌≡◌, [], map, IfOk, Some, codes, string_bytes};
+ghost use Rattle.clap.specs.Words.{FailsBy, fault_of, found_of, rows_of};
+ghost use Rattle.gc_cli.specs.Order.{HasShape, program, run_command, run_told, told, text_of, word_of, words_of};
+
+use clap::{Arg, ArgAction, ArgMatches, Command, Error};
+use std::alloc::{AllocError, Global};
+
+/// A command with its words. What the words of a command name, as files, is the command's own affair.
+#[derive(Debug, PartialEq, Eq, Drop)]
+pub enum Order {
+    /// Garble a circuit and evaluate it on these values.
+    Run {
+        /// The name of the circuit's file.
+        circuit: String,
+        /// The text of the seed.
+        seed: String,
+        /// The text of each input value, in order.
+        values: Vec<String>,
+    },
+}
+
+const RUN_HELP: &str = "\
+Prints the output values, one a line: a character 0 or 1 for each wire, in wire order.
+
+Example, with a full adder in adder.txt that reads three bits:
+  halfgates run adder.txt 0000000000000000000000000000000000000000000000000000000000000000 1 0 1";
+
+const VALUES_HELP: &str = "\
+A value for each input value of the circuit: a character 0 or 1 for each wire, in wire order, or x and \
+two hexadecimal digits for each 8 wires, of which the first wire is the lowest bit";
+
+/// The order in the words of a command line, of which the first is the program's name. The words of a line that
+/// clap refuses, or that asks for help, are answered with clap's error, which has the text to show.
+pub fn order_of(alloc: Global, words: &[String]) -> Result<Order, Error>
+    ensures told { IfOk result (λ order. told (map string_bytes words.now) ≡ Some (text_of order)) }
+    ensures kinds { FailsBy (fault_of program (map string_bytes words.now)) result }
+{
+    let matches = halfgates(alloc)?.try_get_matches_from(words)?;
+    match matches.subcommand() {
+        Some((_, found)) => Ok(run_order(alloc, found)?),
+        None => unreachable!(),
+    }
+}
+
+/// The program, with its commands.
+fn halfgates<'a>(alloc: Global) -> Result<Command<'a>, AllocError>
+    ensures { IfOk result (HasShape program) }
+{
+    Command::new(alloc, "halfgates")
+        .about("Garbles Boolean circuits, and evaluates them garbled")
+        .subcommand_required(true)
+        .arg_required_else_help(true)
+        .disable_help_subcommand(true)
+        .subcommand(run(alloc)?)
+}
+
+/// The command `run`.
+fn run<'a>(alloc: Global) -> Result<Command<'a>, AllocError>
+    ensures { IfOk result (HasShape run_command) }
+{
+    let circuit = Arg::new(alloc, "circuit")
+        .value_name("CIRCUIT")
+        .help("The file of the circuit, in Bristol Fashion")
+        .required(true);
+    let seed = Arg::new(alloc, "seed")
+        .value_name("SEED")
+        .help("The seed of the garbling: 64 hexadecimal digits")
+        .required(true);
+    let values = Arg::new(alloc, "values")
+        .value_name("VALUES")
+        .help(VALUES_HELP)
+        .action(ArgAction::Append);
+    Command::new(alloc, "run")
+        .about("Garbles a circuit, and evaluates it garbled on the given values")
+        .after_help(RUN_HELP)
+        .arg(circuit)?
+        .arg(seed)?
+        .arg(values)
+}
+
+/// The order of `run`, from what clap found of its words.
+fn run_order(alloc: Global, found: &ArgMatches<'_>) -> Result<Order, AllocError>
+    ensures { IfOk result (λ order. text_of order ≡ run_told (rows_of (found_of found.now))) }
+{
+    Ok(Order::Run {
+        circuit: word_of(alloc, found, "circuit")?,
+        seed: word_of(alloc, found, "seed")?,
+        values: words_of(alloc, found, "values")?,
+    })
+}
+
+/// The word that clap found for an id. clap refuses a line that lacks a required one.
+fn word_of(alloc: Global, found: &ArgMatches<'_>, id: &str) -> Result<String, AllocError>
+    ensures { IfOk result (λ word. string_bytes word ≡ word_of id.now (rows_of (found_of found.now))) }
+{
+    String::from_str(alloc, found.get_str(id).unwrap_or(""))
+}
+
+/// The words that clap found for an id, in order.
+fn words_of(alloc: Global, found: &ArgMatches<'_>, id: &str) -> Result<Vec<String>, AllocError>
+    ensures { IfOk result (λ words. map string_bytes words.items ≡ words_of id.now (rows_of (found_of found.now))) }
+{
+    match found.get_strs(id) {
+        Some(words) => copies_of(alloc, words),
+        None => Ok(Vec::new(alloc)),
+    }
+}
+
+fn copies_of(alloc: Global, words: &[&str]) -> Result<Vec<String>, AllocError>
+    ensures { IfOk result (λ copies. map string_bytes copies.items ≡ map (λ word. word.now) words.now) }
+{
+    let mut copies = Vec::with_capacity(alloc, words.len())?;
+    for word in words {
+        copies.push(String::from_str(alloc, word)?)?;
+    }
+    Ok(copies)
+}

@@ -1,0 +1,28 @@
+//! The values of a command line.
+
+ghost use Rattle.std.specs.Prelude.{map, IfOk, IfErr, string_bytes};
+ghost use Rattle.gc_cli.specs.Run.{HasValueFault, TellValues};
+
+use crate::fault::Fault;
+use gc_circuit::read_value;
+use std::alloc::Allocator;
+
+/// The bits of each value, from one text for each of these widths.
+pub fn read_values<A: Allocator + Copy>(
+    alloc: A,
+    widths: &[u32],
+    texts: &[String],
+) -> Result<Vec<Vec<bool, A>, A>, Fault>
+    ensures told { IfOk result (λ values. TellValues widths.now (map string_bytes texts.now) (map (λ value. value.items) values.items)) }
+    ensures fault { IfErr result (HasValueFault widths.now (map string_bytes texts.now)) }
+{
+    if texts.len() != widths.len() {
+        return Err(Fault::WrongCount);
+    }
+    let mut values = Vec::with_capacity(alloc, texts.len())?;
+    for (i, text) in texts.iter().enumerate() {
+        let value = read_value(alloc, text.as_bytes(), widths[i])?;
+        values.push(value)?;
+    }
+    Ok(values)
+}

@@ -1,0 +1,33 @@
+//! Carrying out orders.
+
+ghost use Rattle.std.specs.Prelude.{◌≡◌, ℕ, List, IfOk, IfErr};
+ghost use Rattle.gc_cli.specs.Order.{text_of};
+ghost use Rattle.gc_cli.specs.CarryOut.{Answers, HasFault, HasCause};
+
+use crate::fault::Fault;
+use crate::files::Files;
+use crate::order::Order;
+use crate::run::run;
+use std::alloc::Allocator;
+
+/// Carries out an order, and answers the bytes for standard output, or the first fault of its work.
+pub fn carry_out<A: Allocator + Copy, F: Files>(
+    alloc: A,
+    order: &Order,
+    files: &mut F,
+) -> Result<Vec<u8, A>, Fault>
+    ensures answers { IfOk result (λ out. Answers (F.bytes files.old) (text_of order.now) out.items) }
+    ensures fault { IfErr result (HasFault (F.bytes files.old) (text_of order.now)) }
+
+    // Where a file's bytes are not known, a fault of a file has its cause all the same.
+    ensures cause { IfErr result (λ fault. HasCause fault (F.failures files.old) (F.failures files.new)) }
+    ensures same { (name : List ℕ) → F.bytes files.new name ≡ F.bytes files.old name }
+{
+    match order {
+        Order::Run {
+            circuit,
+            seed,
+            values,
+        } => run(alloc, circuit.as_str(), seed.as_str(), values, files),
+    }
+}
