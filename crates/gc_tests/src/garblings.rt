@@ -82,10 +82,17 @@ fn random_circuits(rt: HostRuntime) -> Result<(), Fail> {
         let circuit = Circuit::read(alloc, text.as_bytes())?;
         let one_thread = garble_one_thread(alloc, &circuit, &seed)?;
         let over_store = garble_over_store(&rt, alloc, &circuit, seed)?;
-        assert!(rt; over_store.fits(&circuit) && one_thread.fits(&circuit), "circuit {i}");
+        assert!(rt;
+            over_store.fits(&circuit) && one_thread.fits(&circuit),
+            "circuit {i}"
+        );
         assert_eq!(rt; over_store.rows(), one_thread.rows(), "circuit {i}");
         for wire in 0..circuit.wires() {
-            assert_eq!(rt; over_store.zero_label(wire), one_thread.zero_label(wire), "circuit {i}");
+            assert_eq!(rt;
+                over_store.zero_label(wire),
+                one_thread.zero_label(wire),
+                "circuit {i}"
+            );
         }
     }
     Ok(())

@@ -2,14 +2,13 @@
 //! garbled by the store and on one thread.
 #![tactic(auto)]
 
-mod mem_files;
-
 #[cfg(test)]
 mod circuits;
 #[cfg(test)]
 mod garblings;
 #[cfg(test)]
 mod growth;
+mod mem_files;
 #[cfg(test)]
 mod program;
 
