@@ -17,6 +17,14 @@ const AND: &str = "1 3\n2 1 1\n1 1\n2 1 0 1 2 AND";
 
 const INV: &str = "1 2\n1 1\n1 1\n1 1 0 1 INV";
 
+const CONSTANT_AND: &str = "2 3\n1 1\n1 1\n1 1 1 1 EQ\n2 1 0 1 2 AND";
+
+const NO_GATES: &str = "0 2\n1 2\n1 2";
+
+const SQUARE: &str = "1 2\n1 1\n1 1\n2 1 0 0 1 AND";
+
+const WIDE: &str = "1 13\n1 12\n2 1 12\n1 1 0 12 EQW";
+
 const SEED: &str = "0000000000000000000000000000000000000000000000000000000000000000";
 
 /// The words as a command line has them.
@@ -64,37 +72,34 @@ fn check(
     Ok(())
 }
 
+static RUNS: [(&str, &[&str], &str); 20] = [
+    (XOR, &["1", "1"], "0\n"),
+    (AND, &["0", "0"], "0\n"),
+    (AND, &["1", "0"], "0\n"),
+    (AND, &["0", "1"], "0\n"),
+    (AND, &["1", "1"], "1\n"),
+    (INV, &["0"], "1\n"),
+    (INV, &["1"], "0\n"),
+    ("1 1\n0\n1 1\n1 1 1 0 EQ", &[], "1\n"),
+    (CONSTANT_AND, &["0"], "0\n"),
+    (CONSTANT_AND, &["1"], "1\n"),
+    (NO_GATES, &["10"], "10\n"),
+    (SQUARE, &["0"], "0\n"),
+    (SQUARE, &["1"], "1\n"),
+    (ADDER, &["1", "0", "1"], "01\n"),
+    (ADDER, &["1", "1", "1"], "11\n"),
+    (ADDER, &["x01", "x00", "x01"], "01\n"),
+    // Values of no width.
+    ("0 0\n1 0\n1 0", &[""], "\n"),
+    ("0 0\n1 0\n0", &["x"], ""),
+    // Two output values.
+    ("0 3\n1 3\n2 1 2", &["011"], "0\n11\n"),
+    (WIDE, &["x0108"], "1\n000000000011\n"),
+];
+
 #[test]
 fn runs_circuits(rt: HostRuntime) -> Result<(), Fail> {
-    let constant_and = "2 3\n1 1\n1 1\n1 1 1 1 EQ\n2 1 0 1 2 AND";
-    let no_gates = "0 2\n1 2\n1 2";
-    let square = "1 2\n1 1\n1 1\n2 1 0 0 1 AND";
-    let wide = "1 13\n1 12\n2 1 12\n1 1 0 12 EQW";
-    let rows: [(&str, &[&str], &str); 20] = [
-        (XOR, &["1", "1"], "0\n"),
-        (AND, &["0", "0"], "0\n"),
-        (AND, &["1", "0"], "0\n"),
-        (AND, &["0", "1"], "0\n"),
-        (AND, &["1", "1"], "1\n"),
-        (INV, &["0"], "1\n"),
-        (INV, &["1"], "0\n"),
-        ("1 1\n0\n1 1\n1 1 1 0 EQ", &[], "1\n"),
-        (constant_and, &["0"], "0\n"),
-        (constant_and, &["1"], "1\n"),
-        (no_gates, &["10"], "10\n"),
-        (square, &["0"], "0\n"),
-        (square, &["1"], "1\n"),
-        (ADDER, &["1", "0", "1"], "01\n"),
-        (ADDER, &["1", "1", "1"], "11\n"),
-        (ADDER, &["x01", "x00", "x01"], "01\n"),
-        // Values of no width.
-        ("0 0\n1 0\n1 0", &[""], "\n"),
-        ("0 0\n1 0\n0", &["x"], ""),
-        // Two output values.
-        ("0 3\n1 3\n2 1 2", &["011"], "0\n11\n"),
-        (wide, &["x0108"], "1\n000000000011\n"),
-    ];
-    for (text, values, output) in rows {
+    for (text, values, output) in &RUNS {
         let words = run_words(rt.alloc(), SEED, values)?;
         check(&rt, rt.alloc(), text, &words, 0, output, "")?;
     }
@@ -113,63 +118,64 @@ fn run_words<'a>(
     Ok(words)
 }
 
+static FAULTS: [(&str, &str, &[&str], &str); 26] = [
+    ("", SEED, &[], "1 Truncated"),
+    ("4294967296", SEED, &[], "2 BadNumber"),
+    ("4294967295 1", SEED, &[], "3 TooLarge"),
+    (
+        "1 6\n1 4\n1 2\n4 2 0 1 2 3 4 5 MAND",
+        SEED,
+        &["0000"],
+        "4 BadShape",
+    ),
+    (
+        "1 3\n2 1 1\n1 1\n2 1 0 1 2 NAND",
+        SEED,
+        &["1", "1"],
+        "5 UnknownOperation",
+    ),
+    ("1 1\n0\n1 1\n1 1 2 0 EQ", SEED, &[], "6 BadConstant"),
+    (
+        "1 3\n2 1 1\n1 1\n2 1 0 1 9 XOR",
+        SEED,
+        &["1", "1"],
+        "7 NoSuchWire",
+    ),
+    (
+        "2 4\n1 1\n1 1\n2 1 0 2 3 XOR\n1 1 0 2 INV",
+        SEED,
+        &["1"],
+        "8 Unset",
+    ),
+    ("1 2\n1 2\n1 1\n1 1 1 0 INV", SEED, &["10"], "9 SetTwice"),
+    ("0 2\n1 1\n1 1", SEED, &["1"], "10 OutputUnset"),
+    (
+        "1 3\n2 1 1\n1 1\n2 1 0 1 2 XOR\n5",
+        SEED,
+        &["1", "1"],
+        "11 TrailingTokens",
+    ),
+    ("0 2\n1 3\n1 1", SEED, &["101"], "12 WidthsExceedWires"),
+    (ADDER, SEED, &["1", "0"], "14 WrongCount"),
+    (ADDER, SEED, &["1", "0", "1", "0"], "14 WrongCount"),
+    (ADDER, SEED, &[], "14 WrongCount"),
+    (ADDER, SEED, &["1", "2", "1"], "15 BadDigit"),
+    (ADDER, SEED, &["1", "11", "1"], "16 WrongLength"),
+    (ADDER, SEED, &["1", "0", ""], "16 WrongLength"),
+    (ADDER, SEED, &["x02", "0", "1"], "17 SpareBits"),
+    (ADDER, "0", &["1", "0", "1"], "18 BadSeed"),
+    (ADDER, "", &["1", "0", "1"], "18 BadSeed"),
+    // The circuit is judged first, then the seed, the number of values, and each value in turn.
+    ("0 2\n1 1\n1 1", "0", &["2", "2"], "10 OutputUnset"),
+    (ADDER, "0", &["2"], "18 BadSeed"),
+    (ADDER, SEED, &["2"], "14 WrongCount"),
+    (ADDER, SEED, &["2", "", "x02"], "15 BadDigit"),
+    (ADDER, SEED, &["1", "x02", "2"], "17 SpareBits"),
+];
+
 #[test]
 fn names_the_first_fault(rt: HostRuntime) -> Result<(), Fail> {
-    let rows: [(&str, &str, &[&str], &str); 26] = [
-        ("", SEED, &[], "1 Truncated"),
-        ("4294967296", SEED, &[], "2 BadNumber"),
-        ("4294967295 1", SEED, &[], "3 TooLarge"),
-        (
-            "1 6\n1 4\n1 2\n4 2 0 1 2 3 4 5 MAND",
-            SEED,
-            &["0000"],
-            "4 BadShape",
-        ),
-        (
-            "1 3\n2 1 1\n1 1\n2 1 0 1 2 NAND",
-            SEED,
-            &["1", "1"],
-            "5 UnknownOperation",
-        ),
-        ("1 1\n0\n1 1\n1 1 2 0 EQ", SEED, &[], "6 BadConstant"),
-        (
-            "1 3\n2 1 1\n1 1\n2 1 0 1 9 XOR",
-            SEED,
-            &["1", "1"],
-            "7 NoSuchWire",
-        ),
-        (
-            "2 4\n1 1\n1 1\n2 1 0 2 3 XOR\n1 1 0 2 INV",
-            SEED,
-            &["1"],
-            "8 Unset",
-        ),
-        ("1 2\n1 2\n1 1\n1 1 1 0 INV", SEED, &["10"], "9 SetTwice"),
-        ("0 2\n1 1\n1 1", SEED, &["1"], "10 OutputUnset"),
-        (
-            "1 3\n2 1 1\n1 1\n2 1 0 1 2 XOR\n5",
-            SEED,
-            &["1", "1"],
-            "11 TrailingTokens",
-        ),
-        ("0 2\n1 3\n1 1", SEED, &["101"], "12 WidthsExceedWires"),
-        (ADDER, SEED, &["1", "0"], "14 WrongCount"),
-        (ADDER, SEED, &["1", "0", "1", "0"], "14 WrongCount"),
-        (ADDER, SEED, &[], "14 WrongCount"),
-        (ADDER, SEED, &["1", "2", "1"], "15 BadDigit"),
-        (ADDER, SEED, &["1", "11", "1"], "16 WrongLength"),
-        (ADDER, SEED, &["1", "0", ""], "16 WrongLength"),
-        (ADDER, SEED, &["x02", "0", "1"], "17 SpareBits"),
-        (ADDER, "0", &["1", "0", "1"], "18 BadSeed"),
-        (ADDER, "", &["1", "0", "1"], "18 BadSeed"),
-        // The circuit is judged first, then the seed, the number of values, and each value in turn.
-        ("0 2\n1 1\n1 1", "0", &["2", "2"], "10 OutputUnset"),
-        (ADDER, "0", &["2"], "18 BadSeed"),
-        (ADDER, SEED, &["2"], "14 WrongCount"),
-        (ADDER, SEED, &["2", "", "x02"], "15 BadDigit"),
-        (ADDER, SEED, &["1", "x02", "2"], "17 SpareBits"),
-    ];
-    for (text, seed, values, fault) in rows {
+    for (text, seed, values, fault) in &FAULTS {
         let words = run_words(rt.alloc(), seed, values)?;
         let line = format!(in rt.alloc(); "halfgates: fault {fault}\n")?;
         check(&rt, rt.alloc(), text, &words, 1, "", &line)?;
@@ -199,7 +205,7 @@ fn fails_where_reading_fails(rt: HostRuntime) -> Result<(), Fail> {
         &copies_of(alloc, &run_words(alloc, SEED, &["1", "0", "1"])?)?,
     )?;
     let file = [("c.txt", ADDER)];
-    let mut files = MemFiles::new(&file);
+    let mut files = MemFiles::failing_after(&file, 1);
     assert_eq!(rt;
         carry_out(alloc, &order, &mut files)?.as_slice(),
         b"01\n".as_slice()
