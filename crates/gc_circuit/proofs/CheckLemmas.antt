@@ -1,14 +1,14 @@
 -- Checking gates against a table of marks.
-use Rattle.std.proofs.Common.{inl, inr, ◌⊎◌, ◌≡◌, ◌≢◌, ℕ, zero, suc, ◌+◌, ◌-◌, ◌<◌, ◌≤◌, ◌||◌, ◌==◌, ◌++◌, List, [], ◌∷◌, Bool, true, false, cond, length, map, set, take, get_or, slice_index_or, replicate, count_by, nat_lt, Result, Ok, Err, refl, sym, ap, ◌∙◌, arith}
+use Rattle.std.proofs.Common.{inl, inr, ◌≡◌, ℕ, zero, suc, ◌+◌, ◌-◌, ◌<◌, ◌≤◌, ◌||◌, ◌==◌, ◌++◌, List, [], ◌∷◌, Bool, true, false, cond, length, map, set, take, get_or, slice_index_or, replicate, count_by, nat_lt, Result, Ok, Err, refl, sym, ap, ◌∙◌, arith}
 use Rattle.std.specs.Int.{from_bool}
-use Rattle.std.specs.List.{list_any, range_with_len}
+use Rattle.std.specs.List.{range_with_len}
 use Rattle.std.proofs.lemmas.Bool.{cases_eq}
 use Rattle.std.proofs.lemmas.Bool.Decides.{nat_tests}
 use Rattle.std.proofs.lemmas.List.{length-set, get_or-set_same, get_or-set_other}
 use Rattle.std.proofs.lemmas.Grind.{common_steps}
 use Rattle.std.proofs.lemmas.List.Sums.{sum_by-append}
 use Rattle.std.proofs.lemmas.List.Folds.{list_any-append}
-use Rattle.std.proofs.lemmas.List.FromFn.{length-map-range_with_len, get_or-map-range_with_len, map-range_with_len_more, fill_by_all}
+use Rattle.std.proofs.lemmas.List.FromFn.{length-map-range_with_len, get_or-map-range_with_len, fill_by_all}
 use Rattle.gc_circuit.specs.declared.fault.ReadFault.{ReadFault}
 use Rattle.gc_circuit.specs.declared.fault.ReadFault.TheVariants.{NoSuchWire, Unset, SetTwice}
 use Rattle.gc_circuit.specs.declared.circuit.Gate.{Gate}
@@ -154,7 +154,7 @@ module _ (wires inputs count i : ℕ) (before : List Gate) (ts : List (List ℕ)
       let none : count - i ≡ 0 = omega arith in
       sym so_far ∙ ap (λ n. gates_at wires inputs n before ts) none ∙ gates_end wires inputs before ts
 
--- what the code found is what the check_gate says of the gates before
+-- What the code finds in the table is what the check says of the gates before.
 pub found : (inputs n : ℕ) (before : List Gate) (table marks : List Bool) (g : Gate) (r : Result (Unit {0}) ReadFault) → table ≡ marks →
     marks ≡ map (is_set inputs before) (range_with_len 0 n) → r ≡ check_gate (length table) (λ w. slice_index_or table w false) g → check_gate n (is_set inputs before) g ≡ r
 found inputs n before table marks g r same is h = sym (marks_read inputs n before table (same ∙ is) g) ∙ sym h

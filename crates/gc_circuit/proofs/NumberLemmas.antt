@@ -1,5 +1,5 @@
 -- Tokens as numbers.
-use Rattle.std.proofs.Common.{◌≡◌, ◌≢◌, ℕ, zero, suc, ◌+◌, ◌-◌, ◌*◌, ◌^◌, ◌<◌, ◌≤◌, ◌&&◌, ◌==◌, ◌++◌, List, [], ◌∷◌, length, take, drop, get_or, slice_index, fold, nat_lt, if◌then◌else◌, Bool, true, false, Some, None, Result, Ok, Err, refl, sym, ap, ◌∙◌, arith, take-append-drop}
+use Rattle.std.proofs.Common.{◌≡◌, ℕ, zero, suc, ◌+◌, ◌-◌, ◌*◌, ◌^◌, ◌<◌, ◌≤◌, ◌&&◌, ◌++◌, List, [], ◌∷◌, length, take, drop, get_or, slice_index, fold, nat_lt, if◌then◌else◌, Bool, true, false, Some, None, Result, Ok, Err, refl, sym, ap, ◌∙◌, arith, take-append-drop}
 use Rattle.std.specs.List.{list_all}
 use Rattle.std.proofs.lemmas.Grind.{common_steps}
 use Rattle.std.proofs.lemmas.List.{take_more}
@@ -10,7 +10,7 @@ use Rattle.gc_circuit.specs.declared.fault.ReadFault.{ReadFault}
 use Rattle.gc_circuit.specs.declared.fault.ReadFault.TheVariants.{BadNumber, Truncated}
 use Rattle.gc_circuit.specs.Text.{tokens, is_blank, is_digit, value_of, number_of}
 use Rattle.gc_circuit.specs.Reading.{number_at, numbered, numbers_at}
-use Rattle.gc_circuit.proofs.TokenLemmas.{NoBlank, Begins, tokens_begin, tokens_take, tokens-nil, some_bytes}
+use Rattle.gc_circuit.proofs.TokenLemmas.{NoBlank, tokens_begin, tokens_take, tokens-nil}
 
 pub value-nil : value_of [] ≡ 0
 unfolding value_of

@@ -1,11 +1,10 @@
 -- Reading a whole circuit, in its steps.
-use Rattle.std.proofs.Common.{◌≡◌, ℕ, ◌≤◌, ◌-◌, Bool, true, false, cond, List, [], length, map, drop, sum, Result, Ok, Err, refl, sym, ap, ◌∙◌, arith}
+use Rattle.std.proofs.Common.{◌≡◌, ℕ, ◌≤◌, ◌-◌, Bool, cond, List, [], length, map, drop, sum, Result, Ok, Err, refl, sym, ap, ◌∙◌, arith}
 use Rattle.std.specs.List.{list_all, range_with_len}
 use Rattle.std.proofs.lemmas.List.Folds.{list_all-map}
 use Rattle.gc_circuit.specs.declared.limits.TheConstants.{MAX_GATES, MAX_WIRES}
 use Rattle.gc_circuit.specs.declared.fault.ReadFault.{ReadFault}
 use Rattle.gc_circuit.specs.declared.fault.ReadFault.TheVariants.{OutputUnset}
-use Rattle.gc_circuit.specs.declared.circuit.Gate.{Gate}
 use Rattle.gc_circuit.specs.Circuit.{Netlist}
 use Rattle.gc_circuit.specs.Reading.{◌>>=◌, limited_at, widths_at, gates_at, is_set, check_outputs, check_end, circuit_of}
 use Rattle.gc_circuit.proofs.Tables.{table_end}

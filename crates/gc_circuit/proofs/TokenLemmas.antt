@@ -1,6 +1,5 @@
 -- The tokens of a text, one after another.
-use Rattle.std.proofs.Common.{◌≡◌, ◌≢◌, ℕ, zero, suc, ◌+◌, ◌-◌, ◌*◌, ◌<◌, ◌≤◌, ◌==◌, ◌++◌, Result, Ok, Err, List, [], ◌∷◌, length, filter, take, drop, get_or, slice_index, Bool, true, false, refl, sym, ap, ◌∙◌, subst, arith, All, cond}
-use Rattle.std.specs.List.{slice_split}
+use Rattle.std.proofs.Common.{◌≡◌, ℕ, zero, suc, ◌+◌, ◌<◌, ◌≤◌, ◌==◌, ◌++◌, Err, List, [], ◌∷◌, length, filter, take, drop, get_or, slice_index, Bool, true, false, refl, sym, ap, ◌∙◌, arith, All}
 use Rattle.std.proofs.lemmas.Bool.Decides.{nat_tests}
 use Rattle.std.proofs.lemmas.Grind.{common_steps}
 use Rattle.std.proofs.Common.{append-nil, take-append-drop, drop-cons, append_assoc}

@@ -4,6 +4,7 @@ ghost use Rattle.gc_circuit.specs.Circuit.{is_and, and_count, input_wires, outpu
 use crate::memory::Memory;
 use crate::read::Widths;
 use std::alloc::{Allocator, Global};
+use std::fmt;
 use std::marker::Model;
 
 /// What a gate computes, and the wires that it reads. The names are those of the Bristol Fashion page.
@@ -61,6 +62,17 @@ impl<A: Allocator> Model for Circuit<A> {
     ghost view = { λ c. record { wires = c.wires; input_widths = c.input_widths.items; output_widths = c.output_widths.items; gates = c.gates.items } };
 
     ghost invariant = { λ c. IsSummary (record { wires = c.wires; input_widths = c.input_widths.items; output_widths = c.output_widths.items; gates = c.gates.items }) c.input_wires c.output_wires c.and_count };
+}
+
+impl<A: Allocator> fmt::Debug for Circuit<A> {
+    fn fmt<W: fmt::Write>(&self, f: &mut fmt::Formatter<W>) -> fmt::Result {
+        f.debug_struct("Circuit")
+            .field("gates", &self.gates())
+            .field("wires", &self.wires())
+            .field("input_widths", &self.input_widths())
+            .field("output_widths", &self.output_widths())
+            .finish_non_exhaustive()
+    }
 }
 
 impl<A: Allocator> Circuit<A> {
@@ -144,6 +156,7 @@ impl<A: Allocator> Circuit<A> {
     {
         self.gates[i as usize]
     }
+
     /// Whether both circuits have the same wires, widths and gates.
     pub fn equals<B: Allocator>(&self, other: &Circuit<B>) -> bool
         ensures { IsTrue result ↔ (self.now ≡ other.now) }

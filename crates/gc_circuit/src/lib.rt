@@ -1,6 +1,7 @@
 //! Boolean circuits in Bristol Fashion: reading them from bytes, and evaluating them in the plain.
 #![tactic(auto)]
 
+mod canon;
 mod checks;
 mod circuit;
 mod eval;
@@ -17,7 +18,7 @@ mod value;
 pub use circuit::{Circuit, Gate, Operation};
 pub use eval::{fits, law_assignments, plain_eval};
 pub use fault::ReadFault;
-pub use laws::law_reading;
+pub use laws::{law_canonical_text, law_reading};
 pub use limits::{MAX_GATES, MAX_VALUES, MAX_WIRES};
 pub use memory::Memory;
 pub use value::{ValueFault, law_value_texts, read_value, show_value};

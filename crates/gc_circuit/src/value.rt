@@ -100,8 +100,11 @@ pub fn read_value<A: Allocator + Copy>(
 pub fn show_value<A: Allocator + Copy>(alloc: A, bits: &[bool]) -> Result<Vec<u8, A>, Memory>
     ensures { IfOk result (λ text. text.items ≡ map binary_digit bits.now) }
 {
-    let digits = bits.iter().map(|bit| if *bit { b'1' } else { b'0' });
-    Ok(digits.collect(alloc)?)
+    let mut text = Vec::with_capacity(alloc, bits.len())?;
+    for bit in bits {
+        text.push(if *bit { b'1' } else { b'0' })?;
+    }
+    Ok(text)
 }
 
 /// The law of value texts. A text tells bits exactly where it is the value with these bits, and a fault exactly

@@ -16,7 +16,7 @@ use std::alloc::Allocator;
 fn active_label(active: &[Label], rows: &[RowPair], k: u32, operation: Operation) -> Label
     requires reads { EachRead (λ w. w < length active.now) operation }
     requires row { IsTrue (is_and operation) → k < length rows.now }
-    ensures { result ≡ active_of hash (labels_of active.now) k (row_at hash rows.now k) operation }
+    ensures { result ≡ active_of hash (labels_of active.now) k (row_at rows.now k) operation }
 {
     match operation {
         Operation::Xor(a, b) => active[a as usize].xor(active[b as usize]),

@@ -67,8 +67,9 @@ decode-wires : (r : ℕ) → colour r ≡ true → (label active : ℕ → ℕ) 
     decode (map colour (map label (range_with_len first count))) (map active (range_with_len first count)) ≡ map bits (range_with_len first count)
 decode-wires r odd label active bits first zero h = refl
 decode-wires r odd label active bits first (suc count) h =
-    ap (λ y. xor (colour (label first)) (colour y) ∷ decode (map colour (map label (range_with_len (first + 1) count))) (map active (range_with_len (first + 1) count))) (h first (omega arith) (omega arith))
-    ∙ ap (λ b. b ∷ decode (map colour (map label (range_with_len (first + 1) count))) (map active (range_with_len (first + 1) count))) (decode-encode r (label first) (bits first) odd)
+    let rest = range_with_len (first + 1) count in
+    ap (λ y. xor (colour (label first)) (colour y) ∷ decode (map colour (map label rest)) (map active rest)) (h first (omega arith) (omega arith))
+    ∙ ap (λ b. b ∷ decode (map colour (map label rest)) (map active rest)) (decode-encode r (label first) (bits first) odd)
     ∙ ap (λ bs. bits first ∷ bs) (decode-wires r odd label active bits (first + 1) count (λ w low high. h w (omega arith) (omega arith)))
 
 module _ (hash : ℕ → ℕ → ℕ) (r : ℕ) (odd : colour r ≡ true) where

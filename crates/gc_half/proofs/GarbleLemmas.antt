@@ -144,6 +144,7 @@ module _ (c : Netlist) (seed : List ℕ) where
     unfolding zero_label_of row_pairs_of
     garbled-end i all g table rows outputs is table_is rows_are outputs_are =
         let P : GarblingParts → Type 0 = IsGarbled c seed in
-        subst P (sym (is ∙ parts-same (record { zero_labels = table; rows = rows; outputs = outputs }) (label_table (length c.gates)) (row_pairs_of c seed) (output_wires c)
+        subst P (sym (is ∙ parts-same (record { zero_labels = table; rows = rows; outputs = outputs })
+        (label_table (length c.gates)) (row_pairs_of c seed) (output_wires c)
         (table_is ∙ ap label_table all) (rows_are ∙ ap (rows_after hash (offset_of seed) c (zero_label_of c seed)) all) outputs_are))
         (garbling_of-IsGarbled c seed lawful)

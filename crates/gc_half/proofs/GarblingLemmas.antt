@@ -32,7 +32,8 @@ module _ (hash : ℕ → ℕ → ℕ) (r : ℕ) where
   zero_local c u v i g h = zero_of_local u v (and_number c i) g.operation h
 
   -- and so do its rows.
-  pub rows_of_local : (u v : ℕ → ℕ) (k a b : ℕ) (op : Operation) → op ≡ And a b → EachRead (λ w. u w ≡ v w) op → rows_of hash r u k a b ≡ rows_of hash r v k a b
+  pub rows_of_local : (u v : ℕ → ℕ) (k a b : ℕ) (op : Operation) → op ≡ And a b → EachRead (λ w. u w ≡ v w) op →
+      rows_of hash r u k a b ≡ rows_of hash r v k a b
   rows_of_local u v k a b op is h =
       let reads = let P : Operation → Type 0 = EachRead (λ w. u w ≡ v w) in subst P is h in
       let both : ℕ → ℕ → RowPair = λ x y. record { generator = generator_row hash k r x y; evaluator = evaluator_row hash k r x y } in

@@ -24,7 +24,9 @@ module _ (c : Netlist) (w : ℕ) where
   by_gate n None at = inr (λ by. let e : Some by.gate ≡ None = sym by.at ∙ at in cc)
   by_gate n (Some g) at = elim (cases_eq g.set w) [
     | inl e ↦ inl (inr (n, omega arith, record { gate = g; at = at; wire = e }))
-    | inr other ↦ inr (λ by. other (let e : Some by.gate ≡ Some g = sym by.at ∙ at in let same : by.gate ≡ g = cc in ap (λ (x : Gate). x.set) (sym same) ∙ by.wire))
+    | inr other ↦ inr (λ by.
+        let e : Some by.gate ≡ Some g = sym by.at ∙ at in
+        let same : by.gate ≡ g = cc in other (ap (λ (x : Gate). x.set) (sym same) ∙ by.wire))
   ]
 
   set_or_not_before : (n : ℕ) → IsSetBefore c n w ⊎ ¬ IsSetBefore c n w

@@ -11,6 +11,10 @@ use Rattle.gc_label.specs.Label.{◌⊕◌, colour, times}
 use Rattle.gc_half.specs.declared.garbling.RowPair.{RowPair}
 use Rattle.gc_half.specs.HalfGate.{and_active}
 
+-- The row pair at a gate's AND number, or zeros where there is none.
+abbrev pub row_at : List RowPair → ℕ → RowPair
+row_at rows k = slice_index_or rows k (record { generator = 0; evaluator = 0 })
+
 module _ (hash : ℕ → ℕ → ℕ) where
   -- The active label of the wire that an operation sets, from the active labels on the wires. An AND gate is the k-th
   -- and has this row pair.
@@ -20,10 +24,6 @@ module _ (hash : ℕ → ℕ → ℕ) where
   active_of active k row (Inv a) = active a
   active_of active k row (Eq v) = 0
   active_of active k row (Eqw a) = active a
-
-  -- The row pair at a gate's AND number, or zeros where there is none.
-  abbrev pub row_at : List RowPair → ℕ → RowPair
-  row_at rows k = slice_index_or rows k (record { generator = 0; evaluator = 0 })
 
   abbrev pub active_rule : Netlist → List RowPair → (ℕ → ℕ) → ℕ → Gate → ℕ
   active_rule c rows active i g = active_of active (and_number c i) (row_at rows (and_number c i)) g.operation

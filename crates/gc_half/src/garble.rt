@@ -1,6 +1,6 @@
 //! Garbling a whole circuit on one thread.
 
-ghost use Rattle.std.specs.Prelude.{◌≡◌, ◌<◌, ◌≤◌, ◌-◌, ◌++◌, ◌^◌, IfOk, length, map, replicate, slice_index};
+ghost use Rattle.std.specs.Prelude.{◌≡◌, ◌<◌, ◌-◌, ◌++◌, ◌^◌, IfOk, length, map, replicate, slice_index};
 ghost use Rattle.std.specs.List.{range_with_len};
 ghost use Rattle.gc_circuit.specs.Circuit.{EachRead, input_wires};
 ghost use Rattle.gc_label.specs.Seed.{input_label_of};
@@ -40,7 +40,9 @@ fn input_zero_labels<A: Allocator + Copy, C: Allocator>(
     circuit: &Circuit<C>,
     seed: &Seed,
 ) -> Result<Vec<Label, A>, Memory>
-    ensures { IfOk result (λ v. v.items ≡ map (input_label_of seed.now) (range_with_len 0 (input_wires circuit.now)) ++ replicate (circuit.now.wires - input_wires circuit.now) 0) }
+    ensures { IfOk result (λ v. v.items ≡
+        map (input_label_of seed.now) (range_with_len 0 (input_wires circuit.now))
+        ++ replicate (circuit.now.wires - input_wires circuit.now) 0) }
 {
     let mut labels = Vec::with_capacity(alloc, circuit.wires() as usize)?;
     labels.resize(circuit.input_wires() as usize, Label::ZERO)?;
@@ -60,8 +62,11 @@ fn garble_operation<A: Allocator>(
 ) -> Result<Label, Memory>
     requires reads { EachRead (λ w. w < length zero_labels.now) operation }
     requires few { length rows.old.items < 2 ^ 32 }
-    ensures zero_label { IfOk result (λ l. l ≡ zero_of hash offset (slice_index zero_labels.now) (length rows.old.items) operation) }
-    ensures rows { IfOk result (λ _. rows.new.items ≡ with_operation hash offset (slice_index zero_labels.now) (length rows.old.items) rows.old.items operation) }
+    ensures zero_label { IfOk result (λ l.
+        l ≡ zero_of hash offset (slice_index zero_labels.now) (length rows.old.items) operation) }
+    ensures rows { IfOk result (λ _. rows.new.items ≡
+        with_operation hash offset (slice_index zero_labels.now) (length rows.old.items)
+        rows.old.items operation) }
 {
     let zero_label = match operation {
         Operation::Xor(a, b) => zero_labels[a as usize].xor(zero_labels[b as usize]),

@@ -11,9 +11,9 @@ use std::marker::Model;
 /// The two rows of an AND gate.
 #[derive(Clone, Copy, PartialEq, Eq, Debug)]
 pub struct RowPair {
-    /// The row of the half gate whose one input the generator knows.
+    /// The row of the generator's half gate.
     pub generator: Label,
-    /// The row of the half gate whose one input the evaluator knows.
+    /// The row of the evaluator's half gate.
     pub evaluator: Label,
 }
 

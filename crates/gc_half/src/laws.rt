@@ -15,7 +15,9 @@ pub fn law_half_gates()
 /// are set and have the same rows; any rows have an evaluation, and any two agree on the wires that are set.
 /// So under a seed a lawful circuit has one [`Garbling`](crate::Garbling).
 pub fn law_garblings()
-    ensures garblings { (hash : ℕ → ℕ → ℕ) (offset : ℕ) (c : Netlist) → IsLawful c → (given : ℕ → ℕ) → HasOneGarbling hash offset c given }
-    ensures evaluations { (hash : ℕ → ℕ → ℕ) (c : Netlist) → IsLawful c → (rows : List RowPair) (given : ℕ → ℕ) → HasOneEvaluation hash c rows given }
+    ensures garblings { (hash : ℕ → ℕ → ℕ) (offset : ℕ) (c : Netlist) → IsLawful c → (given : ℕ → ℕ)
+        → HasOneGarbling hash offset c given }
+    ensures evaluations { (hash : ℕ → ℕ → ℕ) (c : Netlist) → IsLawful c → (rows : List RowPair)
+        (given : ℕ → ℕ) → HasOneEvaluation hash c rows given }
     ensures under_seed { (c : Netlist) → IsLawful c → (seed : List ℕ) → HasOneGarbled c seed }
 {}

@@ -12,12 +12,17 @@
 //     for l, j in ((A, 0), (A, 1), (B, 0x0102030405060708), (0, 2**64 - 1)): print('%032x' % H(l, j))
 //     for k, a, b in ((0, A, B), (0, B, A), (0, B, B ^ R), (2**32 - 1, A ^ R, B)):
 //         print('%032x %032x %032x' % garble(k, a, b))
-
-ghost use Rattle.std.specs.Prelude.{◌≡◌};
-ghost use Rattle.gc_label.specs.Label.{label_of_bytes};
+//
+// and, for the circuit of two AND gates,
+//
+//     c, tg, te = garble(0, A, B)
+//     print('%032x %032x %032x %032x' % (c, tg, te, c ^ R))
+//     print('%032x %032x %032x' % garble(1, c ^ R, A))
 
 use super::*;
+use gc_circuit::Circuit;
 use gc_label::{Label, Offset, Seed, input_label, offset};
+use std::alloc::Global;
 use std::process::Abort;
 use std::test::Fail;
 
@@ -138,6 +143,150 @@ fn parts_of_a_garbling(rt: HostRuntime) -> Result<(), Fail> {
     // The colours of B and of R.
     assert!(rt; !garbling.decode_bit(0));
     assert!(rt; garbling.decode_bit(1));
+    Ok(())
+}
+
+// The garbling of a circuit under the seed of 32 zero bytes has these zero labels, rows and decode bits.
+fn check_garbling(
+    rt: &impl Abort,
+    alloc: Global,
+    text: &[u8],
+    zero_labels: &[u128],
+    rows: &[(u128, u128)],
+    decode_bits: &[bool],
+) -> Result<(), Fail> {
+    let circuit = Circuit::read(alloc, text)?;
+    let garbling = garble_one_thread(alloc, &circuit, &Seed::from_bytes([0; 32]))?;
+    assert!(rt; garbling.fits(&circuit));
+    assert_eq!(rt; circuit.wires() as usize, zero_labels.len());
+    for (wire, want) in zero_labels.iter().enumerate() {
+        assert_eq!(rt;
+            garbling.zero_label(wire as u32),
+            label(*want),
+            "wire {wire}"
+        );
+    }
+    assert_eq!(rt; garbling.rows().len(), rows.len());
+    for (pair, want) in garbling.rows().iter().zip(rows) {
+        assert_eq!(rt; pair.generator, label(want.0));
+        assert_eq!(rt; pair.evaluator, label(want.1));
+    }
+    assert_eq!(rt; garbling.outputs() as usize, decode_bits.len());
+    for (i, want) in decode_bits.iter().enumerate() {
+        assert_eq!(rt; garbling.decode_bit(i as u32), *want, "output {i}");
+    }
+    Ok(())
+}
+
+#[test]
+fn circuits(rt: HostRuntime) -> Result<(), Fail> {
+    let alloc = rt.alloc();
+    let and = (
+        0xdd11d0a73fd8455816559c223b1bca52,
+        0x7a962e6d92d4a4db49c46e62392ddf4e,
+    );
+    let second_and = (
+        0x7c91c10f0f06f82fa77ce8a4a76f1353,
+        0x7cc5cc60c5dc38e3f18ba8c6cccbf215,
+    );
+    let c = 0x4da3522f101cbfa705f185f57f1b9538;
+    let d = 0xac8baad75250441b55d9dcef8de4d978;
+    let xor = b"1 3\n2 1 1\n1 1\n\n2 1 0 1 2 XOR\n";
+    check_garbling(
+        &rt,
+        alloc,
+        xor,
+        &[A, B, 0x679340c4f1daa597df120ff333af47f0],
+        &[],
+        &[true],
+    )?;
+    check_garbling(
+        &rt,
+        alloc,
+        b"1 3\n2 1 1\n1 1\n\n2 1 0 1 2 AND\n",
+        &[A, B, c],
+        &[and],
+        &[true],
+    )?;
+    let inv = b"1 2\n1 1\n1 1\n\n1 1 0 1 INV\n";
+    check_garbling(
+        &rt,
+        alloc,
+        inv,
+        &[A, 0xca6af915007cd08ae86b8529d8f1b0ef],
+        &[],
+        &[false],
+    )?;
+    check_garbling(
+        &rt,
+        alloc,
+        b"1 1\n0\n1 1\n\n1 1 1 0 EQ\n",
+        &[R],
+        &[],
+        &[true],
+    )?;
+    check_garbling(
+        &rt,
+        alloc,
+        b"1 1\n0\n1 1\n\n1 1 0 0 EQ\n",
+        &[0],
+        &[],
+        &[false],
+    )?;
+    // Wires 1 and 2 are not set.
+    check_garbling(
+        &rt,
+        alloc,
+        b"1 4\n1 1\n1 1\n\n1 1 0 3 EQW\n",
+        &[A, 0, 0, A],
+        &[],
+        &[true],
+    )?;
+    // No gates: the input wires are the output wires.
+    check_garbling(
+        &rt,
+        alloc,
+        b"0 2\n1 2\n1 2\n\n",
+        &[A, B],
+        &[],
+        &[true, false],
+    )?;
+    let two = b"3 5\n2 1 1\n2 1 1\n\n2 1 0 1 2 AND\n1 1 2 3 INV\n2 1 3 0 4 AND\n";
+    check_garbling(
+        &rt,
+        alloc,
+        two,
+        &[A, B, c, c ^ R, d],
+        &[and, second_and],
+        &[false, false],
+    )
+}
+
+#[test]
+fn other_numbers_do_not_fit(rt: HostRuntime) -> Result<(), Fail> {
+    let circuit = Circuit::read(rt.alloc(), b"1 3\n2 1 1\n1 1\n\n2 1 0 1 2 AND\n")?;
+    for (wires, rows, outputs, want) in [
+        (3, 1, 1, true),
+        (4, 1, 1, false),
+        (2, 1, 1, false),
+        (3, 0, 1, false),
+        (3, 2, 1, false),
+        (3, 1, 2, false),
+        (3, 1, 0, false),
+    ] {
+        let pair = RowPair {
+            generator: Label::ZERO,
+            evaluator: Label::ZERO,
+        };
+        let zero_labels = vec![in rt.alloc(); Label::ZERO; wires]?;
+        assert!(rt; outputs as usize <= zero_labels.len());
+        let garbling = Garbling::from_parts(zero_labels, vec![in rt.alloc(); pair; rows]?, outputs);
+        assert_eq!(rt;
+            garbling.fits(&circuit),
+            want,
+            "{wires} wires, {rows} rows, {outputs} outputs"
+        );
+    }
     Ok(())
 }
 

@@ -11,13 +11,14 @@ use Rattle.gc_circuit.proofs.Tables.{IsSetBefore-below}
 use Rattle.gc_label.specs.Seed.{offset_of, input_label_of}
 use Rattle.gc_half.specs.declared.garbling.RowPair.{RowPair}
 use Rattle.gc_half.specs.Hash.{hash}
+use Rattle.gc_half.specs.HalfGate.{generator_row, evaluator_row}
 use Rattle.gc_half.specs.Garbling.{rows_of, IsGarbling, GarblingParts, IsGarbled}
 use Rattle.gc_half.specs.Canonical.{zero_label_of}
 use Rattle.gc_half.proofs.GarblingLemmas.{IsGarbling-same}
 use Rattle.gc_half.proofs.CanonicalLemmas.{zero_label_of-input, zero_label_of-gate}
 use Rattle.gc_store.specs.declared.mark.Mark.{Mark}
 use Rattle.gc_store.specs.declared.mark.Mark.TheVariants as mark
-use Rattle.gc_store.specs.Task.{first_read, second_read, task_of, rows_sealed, sealed_rows}
+use Rattle.gc_store.specs.Task.{first_read, second_read, task_of, rows_by, sealed_rows}
 use Rattle.gc_store.specs.Content.{State, Free, Claimed, Finished, Content, IsFinished, IsKnown, AllFinished, IsLawfulContent}
 use Rattle.gc_store.specs.Kept.{Tables, rows_at, finished_state, state_at, states_of, content_of, IsKept}
 use Rattle.gc_store.proofs.TableLemmas.{state_is, known_label}
@@ -51,10 +52,12 @@ module _ (c : Netlist) (seed : List ℕ) (r : ℕ) (t : Tables) (kept : IsKept c
   and_rows : (i : ℕ) (g : Gate) (a b : ℕ) → slice_get c.gates i ≡ Some g → g.operation ≡ And a b
       → slice_get t.rows (and_number c i) ≡ Some (rows_of hash (offset_of seed) (zero_label_of c seed) (and_number c i) a b)
   and_rows i g a b at is =
+      let k : ℕ = and_number c i in
       let zero : ℕ → ℕ = zero_label_of c seed in
-      let P : Operation → Type 0 = λ op.
-      rows_at t.rows (and_number c i) op ≡ rows_sealed (and_number c i) (offset_of seed) (first_read zero op) (second_read zero op) op in
-      subst P is (rows_there i g at)
+      let both : ℕ → ℕ → RowPair = λ x y.
+      record { generator = generator_row hash k (offset_of seed) x y; evaluator = evaluator_row hash k (offset_of seed) x y } in
+      let P : Operation → Type 0 = λ op. rows_at t.rows k op ≡ rows_by op (task_of c seed i g) in
+      subst P is (rows_there i g at) ∙ ap (λ op. Some (both (first_read zero op) (second_read zero op))) is
 
   -- with the garbling's zero labels the rows are a garbling
   garbling_of_rows : IsGarbling hash (offset_of seed) c (input_label_of seed) (zero_label_of c seed) t.rows
@@ -65,7 +68,7 @@ module _ (c : Netlist) (seed : List ℕ) (r : ℕ) (t : Tables) (kept : IsKept c
   }
 
   no_label : (w : ℕ) → ¬ IsSet c w → (b : Bool) → slice_index_or t.known w false ≡ b → (if b then zero_label_of c seed w else 0) ≡ 0
-  no_label w not_set true known = absurd (not_set (set_of (( kept.tells_known w).0 known)))
+  no_label w not_set true known = absurd (not_set (set_of ((kept.tells_known w).0 known)))
     where
       set_of : IsKnown (content_of c seed t) w → IsSet c w
       set_of (inl input) = inl input

@@ -7,40 +7,45 @@ use Rattle.gc_circuit.specs.declared.circuit.Operation.TheVariants.{Xor, And, In
 use Rattle.gc_circuit.specs.declared.circuit.Gate.{Gate}
 use Rattle.gc_circuit.specs.Circuit.{Netlist, EachRead, IsSetBy, IsLawful, is_and, and_number}
 use Rattle.gc_circuit.proofs.SolutionLemmas.{EachRead-map}
+use Rattle.gc_label.specs.Label.{◌⊕◌}
 use Rattle.gc_label.specs.Seed.{offset_of}
 use Rattle.gc_half.specs.declared.garbling.RowPair.{RowPair}
 use Rattle.gc_half.specs.Hash.{hash}
+use Rattle.gc_half.specs.HalfGate.{and_zero}
 use Rattle.gc_half.specs.Garbling.{zero_of}
 use Rattle.gc_half.specs.Canonical.{zero_label_of}
 use Rattle.gc_half.proofs.CanonicalLemmas.{zero_label_of-gate}
 use Rattle.gc_store.specs.declared.task.Task.{Task}
-use Rattle.gc_store.specs.Task.{first_read, second_read, task_of, zero_sealed, rows_sealed, sealed_zero, sealed_rows}
+use Rattle.gc_store.specs.Task.{first_read, second_read, task_of, zero_label_by, rows_by, sealed_zero_label, sealed_rows}
 use Rattle.gc_store.specs.Content.{State, Free, Claimed, Finished, Content, is_finished, has_rows, IsClaimed, IsFinished, IsKnown, MayGoNext, AllFinished, IsLawfulContent}
 use Rattle.gc_store.specs.Step.{with_state, with_sealed, IsOwnTask}
 use Rattle.gc_store.proofs.ListLemmas.{slice_get-set_other, slice_get-set_same, count_by-set, count_by-set_more, count_by-all, count_by-all_back}
 
 -- ---- what sealing a store's task gives
 
-zero_sealed_is : (r k : ℕ) (z : ℕ → ℕ) (op : Operation) → zero_sealed k r (first_read z op) (second_read z op) op ≡ zero_of hash r z k op
-zero_sealed_is r k z (Xor a b) = refl
-zero_sealed_is r k z (And a b) = refl
-zero_sealed_is r k z (Inv a) = refl
-zero_sealed_is r k z (Eq b) = refl
-zero_sealed_is r k z (Eqw a) = refl
+zero_label_by-own : (c : Netlist) (seed : List ℕ) (i : ℕ) (g : Gate) (op : Operation) → g.operation ≡ op
+    → zero_label_by op (task_of c seed i g) ≡ zero_of hash (offset_of seed) (zero_label_of c seed) (and_number c i) op
+zero_label_by-own c seed i g (Xor a b) is =
+    ap (λ x. first_read (zero_label_of c seed) x ⊕ second_read (zero_label_of c seed) x) is
+zero_label_by-own c seed i g (And a b) is =
+    ap (λ x. and_zero hash (and_number c i) (offset_of seed) (first_read (zero_label_of c seed) x) (second_read (zero_label_of c seed) x)) is
+zero_label_by-own c seed i g (Inv a) is = ap (λ x. first_read (zero_label_of c seed) x ⊕ offset_of seed) is
+zero_label_by-own c seed i g (Eq v) is = refl
+zero_label_by-own c seed i g (Eqw a) is = ap (first_read (zero_label_of c seed)) is
 
 -- sealing the task of a gate gives the garbling's zero label of the wire that it sets
-pub sealed_zero_is : (c : Netlist) → IsLawful c → (seed : List ℕ) (i : ℕ) (g : Gate) → slice_get c.gates i ≡ Some g
-    → sealed_zero (task_of c seed i g) ≡ zero_label_of c seed g.set
-sealed_zero_is c lawful seed i g at =
-    zero_sealed_is (offset_of seed) (and_number c i) (zero_label_of c seed) g.operation ∙ sym (zero_label_of-gate c seed lawful i g at)
+pub sealed_zero_label_is : (c : Netlist) → IsLawful c → (seed : List ℕ) (i : ℕ) (g : Gate) → slice_get c.gates i ≡ Some g
+    → sealed_zero_label (task_of c seed i g) ≡ zero_label_of c seed g.set
+sealed_zero_label_is c lawful seed i g at =
+    zero_label_by-own c seed i g g.operation refl ∙ sym (zero_label_of-gate c seed lawful i g at)
 
 -- an operation has rows where it is AND
-has_rows-sealed : (k r a b label : ℕ) (op : Operation) → has_rows (Finished label (rows_sealed k r a b op)) ≡ is_and op
-has_rows-sealed k r a b label (Xor v w) = refl
-has_rows-sealed k r a b label (And v w) = refl
-has_rows-sealed k r a b label (Inv v) = refl
-has_rows-sealed k r a b label (Eq v) = refl
-has_rows-sealed k r a b label (Eqw v) = refl
+has_rows-rows_by : (t : Task) (label : ℕ) (op : Operation) → has_rows (Finished label (rows_by op t)) ≡ is_and op
+has_rows-rows_by t label (Xor a b) = refl
+has_rows-rows_by t label (And a b) = refl
+has_rows-rows_by t label (Inv a) = refl
+has_rows-rows_by t label (Eq v) = refl
+has_rows-rows_by t label (Eqw a) = refl
 
 -- ---- a gate in another state
 
@@ -114,7 +119,7 @@ module _ (s : Content) (lawful : IsLawfulContent s) (i : ℕ) (g : Gate) (at : s
   task = task_of s.circuit s.seed i g
 
   abbrev done : State
-  done = Finished (sealed_zero (task_of s.circuit s.seed i g)) (sealed_rows (task_of s.circuit s.seed i g))
+  done = Finished (sealed_zero_label (task_of s.circuit s.seed i g)) (sealed_rows (task_of s.circuit s.seed i g))
 
   abbrev after : Content
   after = with_sealed s (task_of s.circuit s.seed i g)
@@ -143,10 +148,10 @@ module _ (s : Content) (lawful : IsLawfulContent s) (i : ℕ) (g : Gate) (at : s
       elim (cases_eq j i) [
         | inl e ↦
             let same = ap (slice_get (set s.states i done)) e in
-            let first : label ≡ sealed_zero task = (let z = here in cc) in
+            let first : label ≡ sealed_zero_label task = (let z = here in cc) in
             let second : rows ≡ sealed_rows task = (let z = here in cc) in
             let gates : g ≡ h = gate-same s.circuit i j g h at at_j (sym e) in (
-              first ∙ sealed_zero_is s.circuit lawful.circuit s.seed i g at ∙ ap (λ (x : Gate). zero_label_of s.circuit s.seed x.set) gates,
+              first ∙ sealed_zero_label_is s.circuit lawful.circuit s.seed i g at ∙ ap (λ (x : Gate). zero_label_of s.circuit s.seed x.set) gates,
               second ∙ ap (λ (x : Gate). sealed_rows (task_of s.circuit s.seed i x)) gates
                   ∙ ap (λ k. sealed_rows (task_of s.circuit s.seed k h)) (sym e),
             )
@@ -164,10 +169,10 @@ module _ (s : Content) (lawful : IsLawfulContent s) (i : ℕ) (g : Gate) (at : s
 
   rows-finish : (b : Bool) → is_and g.operation ≡ b → s.rows + (if b then 2 else 0) ≡ 2 * count_by has_rows (set s.states i done)
   rows-finish true is =
-      let more = count_by-set_more has_rows s.states i Claimed done claimed refl (has_rows-sealed _ _ _ _ (sealed_zero (task_of s.circuit s.seed i g)) g.operation ∙ is) in
+      let more = count_by-set_more has_rows s.states i Claimed done claimed refl (has_rows-rows_by (task_of s.circuit s.seed i g) (sealed_zero_label (task_of s.circuit s.seed i g)) g.operation ∙ is) in
       let before = lawful.rows in omega (arith, more, before)
   rows-finish false is =
-      let same = count_by-set has_rows s.states i Claimed done claimed (sym (has_rows-sealed _ _ _ _ (sealed_zero (task_of s.circuit s.seed i g)) g.operation ∙ is)) in
+      let same = count_by-set has_rows s.states i Claimed done claimed (sym (has_rows-rows_by (task_of s.circuit s.seed i g) (sealed_zero_label (task_of s.circuit s.seed i g)) g.operation ∙ is)) in
       let before = lawful.rows in omega (arith, same, before)
 
   -- finishing a claimed gate with what sealing its task gives keeps a content lawful

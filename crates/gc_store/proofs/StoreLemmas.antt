@@ -20,14 +20,14 @@ use Rattle.gc_store.specs.declared.mark.Mark.{Mark}
 use Rattle.gc_store.specs.declared.mark.Mark.TheVariants as mark
 use Rattle.gc_store.specs.declared.task.Task.{Task}
 use Rattle.gc_store.specs.declared.tally.TheConstants.{MAX_TALLIES}
-use Rattle.gc_store.specs.Task.{first_read, second_read, task_of, rows_sealed, sealed_zero, sealed_rows}
+use Rattle.gc_store.specs.Task.{first_read, second_read, task_of, rows_by, sealed_zero_label, sealed_rows}
 use Rattle.gc_store.specs.Content.{State, Free, Claimed, Finished, Content, is_finished, has_rows, IsClaimed, IsFinished, IsKnown, MayGoNext, AllFinished, IsLawfulContent}
 use Rattle.gc_store.specs.Step.{with_state, with_sealed, IsOwnTask, Claims}
 use Rattle.gc_store.specs.Kept.{Tables, rows_at, finished_state, state_at, states_of, content_of, IsKept, ReadsKnown}
 use Rattle.gc_store.proofs.ListLemmas.{slice_get-set_other, slice_get-set_same, count_by-set, count_by-set_more, slice_get-table, set-table_is}
 use Rattle.gc_store.proofs.CircuitLemmas.{set-apart, and_number-apart, and_number-lt}
-use Rattle.gc_store.proofs.StepLemmas.{sealed_zero_is, known-claim, known-claim_back, claim_lawful, known-finish, known-finish_set, known-finish_back, finish_lawful, all_finished, all_finished_back}
-use Rattle.gc_store.proofs.TableLemmas.{state_is, known_label, claimed_tables, finished_tables, is_some-sealed, claim_keeps, content-claim, finish_keeps, content-finish}
+use Rattle.gc_store.proofs.StepLemmas.{sealed_zero_label_is, known-claim, known-claim_back, claim_lawful, known-finish, known-finish_set, known-finish_back, finish_lawful, all_finished, all_finished_back}
+use Rattle.gc_store.proofs.TableLemmas.{state_is, known_label, claimed_tables, finished_tables, is_some-rows_by, claim_keeps, content-claim, finish_keeps, content-finish}
 
 -- ---- what the store's calls tell
 
@@ -289,7 +289,7 @@ pub record KeepsSealed (c : Netlist) (seed : List ℕ) (r : ℕ) (t : Tables) (n
 
 pub keep_sealed : (c : Netlist) (seed : List ℕ) (r : ℕ) (t : Tables) (now : Content) (task sealed : Task) (g : Gate) (label : ℕ) (pair : Option RowPair)
     → content_of c seed t ≡ now → IsKept c seed r t → task ≡ sealed → IsClaimed now sealed.gate → IsOwnTask now sealed → slice_get c.gates task.gate ≡ Some g
-    → label ≡ sealed_zero sealed → pair ≡ sealed_rows sealed → KeepsSealed c seed r t now task sealed g label pair
+    → label ≡ sealed_zero_label sealed → pair ≡ sealed_rows sealed → KeepsSealed c seed r t now task sealed g label pair
 keep_sealed c seed r t now task sealed g label pair same kept told claimed owned at label_is pair_is =
     let P : Content → Type 0 = λ x. IsClaimed x sealed.gate in
     let Q : Content → Type 0 = λ x. IsOwnTask x sealed in
@@ -299,14 +299,14 @@ keep_sealed c seed r t now task sealed g label pair same kept told claimed owned
     let gates : own'.gate ≡ g = (let a = own'.at in cc) in
     let is : sealed ≡ task_of c seed sealed.gate g = own'.same ∙ ap (task_of c seed sealed.gate) gates in
     let i : ℕ = sealed.gate in
-    let R : Task → Type 0 = λ x. KeepsSealed c seed r t (content_of c seed t) (record x { gate = i }) (record x { gate = i }) g (sealed_zero x) (sealed_rows x) in
+    let R : Task → Type 0 = λ x. KeepsSealed c seed r t (content_of c seed t) (record x { gate = i }) (record x { gate = i }) g (sealed_zero_label x) (sealed_rows x) in
     let made : R (task_of c seed i g) = record {
       keeps = finish_keeps c seed r t kept i g at' claimed';
       content = content-finish c seed r t kept i g at' claimed';
     } in
-    let S : Content → Type 0 = λ x. KeepsSealed c seed r t x sealed sealed g (sealed_zero sealed) (sealed_rows sealed) in
+    let S : Content → Type 0 = λ x. KeepsSealed c seed r t x sealed sealed g (sealed_zero_label sealed) (sealed_rows sealed) in
     let there : S now = subst S same (subst R (sym is) made) in
-    let T : Task → Type 0 = λ x. KeepsSealed c seed r t now x sealed g (sealed_zero sealed) (sealed_rows sealed) in
+    let T : Task → Type 0 = λ x. KeepsSealed c seed r t now x sealed g (sealed_zero_label sealed) (sealed_rows sealed) in
     let U : ℕ → Type 0 = λ x. KeepsSealed c seed r t now task sealed g x (sealed_rows sealed) in
     let V : Option RowPair → Type 0 = λ x. KeepsSealed c seed r t now task sealed g label x in
     subst V (sym pair_is) (subst U (sym label_is) (subst T (sym told) there))
@@ -318,7 +318,7 @@ number_within c seed r t now task sealed pair same kept told owned pair_is =
     let Q : Content → Type 0 = λ x. IsOwnTask x sealed in
     let own' = subst Q (sym same) owned in
     let alone : true ≡ is_and own'.gate.operation =
-    ap is_some pair_is ∙ ap (λ (x : Task). is_some (sealed_rows x)) own'.same ∙ is_some-sealed _ _ _ _ own'.gate.operation in
+    ap is_some pair_is ∙ ap (λ (x : Task). is_some (sealed_rows x)) own'.same ∙ is_some-rows_by (task_of c seed sealed.gate own'.gate) own'.gate.operation in
     let less = and_number-lt c sealed.gate own'.gate own'.at (sym alone) in
     let number = ap (λ (x : Task). x.and_number) told ∙ ap (λ (x : Task). x.and_number) own'.same in
     let count = kept.rows in omega (arith, less, number, count)

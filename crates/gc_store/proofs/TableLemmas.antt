@@ -20,13 +20,13 @@ use Rattle.gc_store.specs.declared.mark.Mark.{Mark}
 use Rattle.gc_store.specs.declared.mark.Mark.TheVariants as mark
 use Rattle.gc_store.specs.declared.task.Task.{Task}
 use Rattle.gc_store.specs.declared.tally.TheConstants.{MAX_TALLIES}
-use Rattle.gc_store.specs.Task.{first_read, second_read, task_of, rows_sealed, sealed_zero, sealed_rows}
+use Rattle.gc_store.specs.Task.{first_read, second_read, task_of, rows_by, sealed_zero_label, sealed_rows}
 use Rattle.gc_store.specs.Content.{State, Free, Claimed, Finished, Content, is_finished, has_rows, IsClaimed, IsFinished, IsKnown, MayGoNext, AllFinished, IsLawfulContent}
 use Rattle.gc_store.specs.Step.{with_state, with_sealed, IsOwnTask, Claims}
 use Rattle.gc_store.specs.Kept.{Tables, rows_at, finished_state, state_at, states_of, content_of, IsKept, ReadsKnown}
 use Rattle.gc_store.proofs.ListLemmas.{slice_get-set_other, slice_get-set_same, count_by-set, count_by-set_more, slice_get-table, set-table_is}
 use Rattle.gc_store.proofs.CircuitLemmas.{set-apart, and_number-apart, and_number-lt}
-use Rattle.gc_store.proofs.StepLemmas.{sealed_zero_is, known-claim, known-claim_back, claim_lawful, known-finish, known-finish_set, known-finish_back, finish_lawful, all_finished, all_finished_back}
+use Rattle.gc_store.proofs.StepLemmas.{sealed_zero_label_is, known-claim, known-claim_back, claim_lawful, known-finish, known-finish_set, known-finish_back, finish_lawful, all_finished, all_finished_back}
 
 -- ---- the states
 
@@ -72,12 +72,12 @@ finished_tables t i w k label pair = record t {
 }
 
 -- an AND gate alone has a row pair
-pub is_some-sealed : (k r a b : ℕ) (op : Operation) → is_some (rows_sealed k r a b op) ≡ is_and op
-is_some-sealed k r a b (Xor v w) = refl
-is_some-sealed k r a b (And v w) = refl
-is_some-sealed k r a b (Inv v) = refl
-is_some-sealed k r a b (Eq v) = refl
-is_some-sealed k r a b (Eqw v) = refl
+pub is_some-rows_by : (t : Task) (op : Operation) → is_some (rows_by op t) ≡ is_and op
+is_some-rows_by t (Xor a b) = refl
+is_some-rows_by t (And a b) = refl
+is_some-rows_by t (Inv a) = refl
+is_some-rows_by t (Eq v) = refl
+is_some-rows_by t (Eqw a) = refl
 
 -- the row pair put in is there
 rows_at-set_same : (rows : List RowPair) (k : ℕ) (op : Operation) (pair : Option RowPair) → is_some pair ≡ is_and op
@@ -191,12 +191,12 @@ abbrev pub known_label : Netlist → List ℕ → List Bool → ℕ → ℕ
 known_label c seed known w = if slice_index_or known w false then zero_label_of c seed w else 0
 
 -- two rows for a row pair
-two_rows : (k r a b : ℕ) (op : Operation) (n : ℕ) → 2 * ands_set n (rows_sealed k r a b op) ≡ 2 * n + (if is_and op then 2 else 0)
-two_rows k r a b (Xor v w) n = omega arith
-two_rows k r a b (And v w) n = omega arith
-two_rows k r a b (Inv v) n = omega arith
-two_rows k r a b (Eq v) n = omega arith
-two_rows k r a b (Eqw v) n = omega arith
+two_rows : (t : Task) (op : Operation) (n : ℕ) → 2 * ands_set n (rows_by op t) ≡ 2 * n + (if is_and op then 2 else 0)
+two_rows t (Xor a b) n = omega arith
+two_rows t (And a b) n = omega arith
+two_rows t (Inv a) n = omega arith
+two_rows t (Eq v) n = omega arith
+two_rows t (Eqw a) n = omega arith
 
 module _ (c : Netlist) (seed : List ℕ) (r : ℕ) (t : Tables) (kept : IsKept c seed r t) (i : ℕ) (g : Gate) (at : slice_get c.gates i ≡ Some g)
     (claimed : IsClaimed (content_of c seed t) i) where
@@ -208,23 +208,23 @@ module _ (c : Netlist) (seed : List ℕ) (r : ℕ) (t : Tables) (kept : IsKept c
 
   -- the tables once gate i is finished with what sealing its task gives
   abbrev pub sealed_tables : Tables
-  sealed_tables = finished_tables t i g.set (and_number c i) (sealed_zero (task_of c seed i g)) (sealed_rows (task_of c seed i g))
+  sealed_tables = finished_tables t i g.set (and_number c i) (sealed_zero_label (task_of c seed i g)) (sealed_rows (task_of c seed i g))
 
   label_count : length t.zero_labels ≡ c.wires
   label_count = ap length kept.zero_labels ∙ length-map-range_with_len (known_label c seed t.known) 0 c.wires
 
-  states-finish : states_of c sealed_tables.zero_labels sealed_tables.rows sealed_tables.marks ≡ set (states_of c t.zero_labels t.rows t.marks) i (Finished (sealed_zero own) (sealed_rows own))
+  states-finish : states_of c sealed_tables.zero_labels sealed_tables.rows sealed_tables.marks ≡ set (states_of c t.zero_labels t.rows t.marks) i (Finished (sealed_zero_label own) (sealed_rows own))
   states-finish =
-      states_of-finish c kept.lawful.circuit t i g at kept.marks label_count kept.rows (sealed_zero own) (sealed_rows own)
-      (is_some-sealed _ _ _ _ g.operation)
+      states_of-finish c kept.lawful.circuit t i g at kept.marks label_count kept.rows (sealed_zero_label own) (sealed_rows own)
+      (is_some-rows_by own g.operation)
 
   -- the content once gate i is finished
-  pub content-finish : content_of c seed (finished_tables t i g.set (and_number c i) (sealed_zero (task_of c seed i g)) (sealed_rows (task_of c seed i g)))
+  pub content-finish : content_of c seed (finished_tables t i g.set (and_number c i) (sealed_zero_label (task_of c seed i g)) (sealed_rows (task_of c seed i g)))
       ≡ with_sealed (content_of c seed t) (task_of c seed i g)
   content-finish =
       ap (λ states. record s' { states = states; rows = 2 * ands_set t.finished_ands (sealed_rows own) }) states-finish
-      ∙ ap (λ rows. record s' { states = set (states_of c t.zero_labels t.rows t.marks) i (Finished (sealed_zero own) (sealed_rows own)); rows = rows })
-      (two_rows _ _ _ _ g.operation t.finished_ands)
+      ∙ ap (λ rows. record s' { states = set (states_of c t.zero_labels t.rows t.marks) i (Finished (sealed_zero_label own) (sealed_rows own)); rows = rows })
+      (two_rows own g.operation t.finished_ands)
 
   known_within : g.set < length t.known
   known_within = let e = kept.known in let l = kept.lawful.circuit.sets i g at in omega arith
@@ -243,13 +243,13 @@ module _ (c : Netlist) (seed : List ℕ) (r : ℕ) (t : Tables) (kept : IsKept c
         )
       ]
 
-  zero_labels-finish : set t.zero_labels g.set (sealed_zero own) ≡ map (known_label c seed (set t.known g.set true)) (range_with_len 0 c.wires)
+  zero_labels-finish : set t.zero_labels g.set (sealed_zero_label own) ≡ map (known_label c seed (set t.known g.set true)) (range_with_len 0 c.wires)
   zero_labels-finish =
-      ap (λ l. set l g.set (sealed_zero own)) kept.zero_labels
-      ∙ set-table_is (known_label c seed t.known) (known_label c seed (set t.known g.set true)) c.wires g.set (sealed_zero own)
+      ap (λ l. set l g.set (sealed_zero_label own)) kept.zero_labels
+      ∙ set-table_is (known_label c seed t.known) (known_label c seed (set t.known g.set true)) c.wires g.set (sealed_zero_label own)
       (kept.lawful.circuit.sets i g at)
       (ap (λ b. if b then zero_label_of c seed g.set else 0) (get_or-set_same t.known g.set true false known_within)
-      ∙ sym (sealed_zero_is c kept.lawful.circuit seed i g at))
+      ∙ sym (sealed_zero_label_is c kept.lawful.circuit seed i g at))
       (λ w below other. ap (λ b. if b then zero_label_of c seed w else 0) (sym (get_or-set_other t.known g.set w true false other)))
 
   none_free-finish : (j : ℕ) → j < t.first_free → slice_get (set t.marks i mark.Finished) j ≢ Some mark.Free
@@ -268,7 +268,7 @@ module _ (c : Netlist) (seed : List ℕ) (r : ℕ) (t : Tables) (kept : IsKept c
   length-rows_set (Some pair) k = length-set t.rows k pair
 
   -- finishing keeps what the tables keep
-  pub finish_keeps : IsKept c seed r (finished_tables t i g.set (and_number c i) (sealed_zero (task_of c seed i g)) (sealed_rows (task_of c seed i g)))
+  pub finish_keeps : IsKept c seed r (finished_tables t i g.set (and_number c i) (sealed_zero_label (task_of c seed i g)) (sealed_rows (task_of c seed i g)))
   finish_keeps = record {
     lawful = subst IsLawfulContent (sym content-finish) (finish_lawful s' kept.lawful i g at claimed);
     offset_is = kept.offset_is;
@@ -279,7 +279,7 @@ module _ (c : Netlist) (seed : List ℕ) (r : ℕ) (t : Tables) (kept : IsKept c
     and_numbers = kept.and_numbers;
     rows = length-rows_set (sealed_rows own) (and_number c i) ∙ kept.rows;
     finished = ap (λ n. n + 1) kept.finished
-        ∙ sym (count_by-set_more is_finished (states_of c t.zero_labels t.rows t.marks) i Claimed (Finished (sealed_zero own) (sealed_rows own)) claimed refl refl)
+        ∙ sym (count_by-set_more is_finished (states_of c t.zero_labels t.rows t.marks) i Claimed (Finished (sealed_zero_label own) (sealed_rows own)) claimed refl refl)
         ∙ ap (count_by is_finished) (sym states-finish);
     first_free = kept.first_free;
     none_free = none_free-finish;

@@ -3,3 +3,4 @@ pub mod Content
 pub mod Step
 pub mod Refusal
 pub mod Kept
+pub mod Fields

@@ -7,7 +7,7 @@ use Rattle.gc_store.specs.declared.task.Task.{Task}
 use Rattle.gc_store.specs.declared.refusal.Refused.{Refused}
 use Rattle.gc_store.specs.declared.refusal.Refused.TheVariants.{NotClaimed, OtherInputs}
 use Rattle.gc_store.specs.declared.tally.TheConstants.{MAX_TALLIES}
-use Rattle.gc_store.specs.Task.{task_of, sealed_zero, sealed_rows}
+use Rattle.gc_store.specs.Task.{task_of, sealed_zero_label, sealed_rows}
 use Rattle.gc_store.specs.Content.{State, Free, Claimed, Finished, Content, is_claimed, IsClaimed, MayGoNext, AllFinished}
 
 -- The task is the store's task for its gate.
@@ -29,7 +29,7 @@ Claims old (Some task) new = MayGoNext old task.gate × IsOwnTask old task × (n
 -- The content once a sealed task's gate is finished with its zero label and rows.
 abbrev pub with_sealed : Content → Task → Content
 with_sealed s task = record s {
-  states = slice_set s.states task.gate (Finished (sealed_zero task) (sealed_rows task));
+  states = slice_set s.states task.gate (Finished (sealed_zero_label task) (sealed_rows task));
   rows = s.rows + (if is_and task.operation then 2 else 0);
 }
 

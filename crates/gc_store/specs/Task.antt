@@ -41,27 +41,29 @@ task_of c seed i g = record {
   second = second_read (zero_label_of c seed) g.operation;
 }
 
--- The zero label of the wire that an operation sets. It is the k-th AND gate where it is AND, r is the offset, and a
--- and b are the zero labels of the wires read.
-abbrev pub zero_sealed : ℕ → ℕ → ℕ → ℕ → Operation → ℕ
-zero_sealed k r a b (Xor v w) = a ⊕ b
-zero_sealed k r a b (And v w) = and_zero hash k r a b
-zero_sealed k r a b (Inv v) = a ⊕ r
-zero_sealed k r a b (Eq v) = times v r
-zero_sealed k r a b (Eqw v) = a
+-- The zero label of the wire that a task's gate sets, by its operation,
+abbrev pub zero_label_by : Operation → Task → ℕ
+zero_label_by (Xor a b) t = t.first ⊕ t.second
+zero_label_by (And a b) t = and_zero hash t.and_number t.offset t.first t.second
+zero_label_by (Inv a) t = t.first ⊕ t.offset
+zero_label_by (Eq v) t = times v t.offset
+zero_label_by (Eqw a) t = t.first
 
--- Its row pair, which AND alone has.
-abbrev pub rows_sealed : ℕ → ℕ → ℕ → ℕ → Operation → Option RowPair
-rows_sealed k r a b (Xor v w) = None
-rows_sealed k r a b (And v w) = Some (record { generator = generator_row hash k r a b; evaluator = evaluator_row hash k r a b })
-rows_sealed k r a b (Inv v) = None
-rows_sealed k r a b (Eq v) = None
-rows_sealed k r a b (Eqw v) = None
+-- and its row pair, which AND alone has.
+abbrev pub rows_by : Operation → Task → Option RowPair
+rows_by (Xor a b) t = None
+rows_by (And a b) t = Some (record {
+  generator = generator_row hash t.and_number t.offset t.first t.second;
+  evaluator = evaluator_row hash t.and_number t.offset t.first t.second;
+})
+rows_by (Inv a) t = None
+rows_by (Eq v) t = None
+rows_by (Eqw a) t = None
 
 -- What sealing a task gives: the zero label of the wire that its gate sets,
-abbrev pub sealed_zero : Task → ℕ
-sealed_zero t = zero_sealed t.and_number t.offset t.first t.second t.operation
+abbrev pub sealed_zero_label : Task → ℕ
+sealed_zero_label t = zero_label_by t.operation t
 
 -- and its row pair, where it is AND.
 abbrev pub sealed_rows : Task → Option RowPair
-sealed_rows t = rows_sealed t.and_number t.offset t.first t.second t.operation
+sealed_rows t = rows_by t.operation t

@@ -46,13 +46,15 @@ pub struct Store<A: Allocator = Global> {
 
 impl<A: Allocator> Model for Store<A> {
     ghost use Rattle.gc_store.specs.Content.{Content};
-    ghost use Rattle.gc_store.specs.Kept.{content_of, IsKept};
 
     ghost Value = { Content };
 
-    ghost view = { λ s. content_of s.circuit s.seed (record { marks = s.marks.items; known = s.known.items; zero_labels = s.zero_labels.items; and_numbers = s.and_numbers.items; rows = s.rows.items; finished = s.finished; finished_ands = s.finished_ands; tallies = s.tallies; first_free = s.first_free }) };
+    ghost use Rattle.gc_store.specs.Kept.{content_of, IsKept};
+    ghost use Rattle.gc_store.specs.Fields.{tables_of};
 
-    ghost invariant = { λ s. IsKept s.circuit s.seed s.offset (record { marks = s.marks.items; known = s.known.items; zero_labels = s.zero_labels.items; and_numbers = s.and_numbers.items; rows = s.rows.items; finished = s.finished; finished_ands = s.finished_ands; tallies = s.tallies; first_free = s.first_free }) };
+    ghost view = { λ s. content_of s.circuit s.seed (tables_of s) };
+
+    ghost invariant = { λ s. IsKept s.circuit s.seed s.offset (tables_of s) };
 }
 
 impl<A: Allocator + Copy> Store<A> {
@@ -170,11 +172,7 @@ impl<A: Allocator> Store<A> {
             tallies: _,
             first_free: _,
         } = self;
-        Ok(Garbling::from_parts(
-            zero_labels,
-            rows,
-            circuit.output_wires(),
-        ))
+        Ok(Garbling::from_parts(zero_labels, rows, circuit.output_wires()))
     }
 
     /// The task of the first gate that may go next.
@@ -194,8 +192,7 @@ impl<A: Allocator> Store<A> {
         requires { i < length self.now.circuit.gates }
         ensures { IsTrue result ↔ MayGoNext self.now i }
     {
-        self.marks[i as usize].is_free()
-            && reads_known(&self.known, self.circuit.gate(i).operation)
+        self.marks[i as usize].is_free() && reads_known(&self.known, self.circuit.gate(i).operation)
     }
 
     /// Whether a gate is claimed. There may be no such gate.

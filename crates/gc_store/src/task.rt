@@ -1,7 +1,7 @@
 //! Tasks, and tasks that are sealed: garbled.
 
 ghost use Rattle.std.specs.Prelude.{◌≡◌};
-ghost use Rattle.gc_store.specs.Task.{sealed_zero, sealed_rows};
+ghost use Rattle.gc_store.specs.Task.{sealed_zero_label, sealed_rows};
 
 use gc_circuit::Operation;
 use gc_half::{RowPair, garble_and};
@@ -37,15 +37,15 @@ pub struct Sealed {
 impl Model for Sealed {
     ghost use Rattle.std.specs.Prelude.{◌≡◌};
     ghost use Rattle.gc_store.specs.declared.task.Task.{Task};
-    ghost use Rattle.gc_store.specs.Task.{sealed_zero, sealed_rows};
+    ghost use Rattle.gc_store.specs.Task.{sealed_zero_label, sealed_rows};
 
     ghost Value = { Task };
 
     ghost view = { λ s. s.task };
 
-    ghost invariant = { λ s. (s.zero_label ≡ sealed_zero s.task) × (s.rows ≡ sealed_rows s.task) };
+    ghost invariant = { λ s. (s.zero_label ≡ sealed_zero_label s.task) × (s.rows ≡ sealed_rows s.task) };
 
-    ghost inverse = { λ t. record { task = t; zero_label = sealed_zero t; rows = sealed_rows t } };
+    ghost inverse = { λ t. record { task = t; zero_label = sealed_zero_label t; rows = sealed_rows t } };
 }
 
 impl Sealed {
@@ -62,8 +62,12 @@ impl Sealed {
         let (zero_label, rows) = match task.operation {
             Operation::Xor(_, _) => (first.xor(second), None),
             Operation::And(_, _) => {
-                let (zero_label, generator, evaluator) =
-                    garble_and(task.and_number, offset, first, second);
+                let (zero_label, generator, evaluator) = garble_and(
+                    task.and_number,
+                    offset,
+                    first,
+                    second,
+                );
                 let rows = RowPair {
                     generator,
                     evaluator,
@@ -90,7 +94,7 @@ impl Sealed {
 
     /// The zero label of the wire that the task's gate sets.
     pub fn zero_label(&self) -> Label
-        ensures { result ≡ sealed_zero self.now }
+        ensures { result ≡ sealed_zero_label self.now }
     {
         self.zero_label
     }

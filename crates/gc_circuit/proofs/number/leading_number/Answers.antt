@@ -1,4 +1,4 @@
-use Rattle.std.proofs.Common.{◌≡◌, ◌<◌, ◌≤◌, ◌+◌, ◌^◌, length, take, get_or, true, false, refl, sym, ap, ◌∙◌, arith}
+use Rattle.std.proofs.Common.{◌≡◌, ◌≤◌, ◌+◌, ◌^◌, take, get_or, true, false, refl, sym, ap, ◌∙◌, arith}
 use Rattle.gc_circuit.specs.Text.{tokens, is_digit, value_of}
 use Rattle.gc_circuit.specs.Reading.{number_at}
 use Rattle.gc_circuit.proofs.TokenLemmas.{run_more, empty_is_nil, some_bytes}

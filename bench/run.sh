@@ -1,0 +1,47 @@
+#!/usr/bin/env bash
+# Times the parts of the program on circuits of a million gates, and sets them beside what they are measured by.
+#
+#   bench/run.sh [CIRCUIT]
+#
+# CIRCUIT is a file in Bristol Fashion; without it one of a million gates is made, half of them AND. Where BASELINE
+# names a C source that takes the words `garble CIRCUIT SEED - --repeat N` and reports parse_ns=, it is built and run
+# beside. Times are the fastest of several runs, in nanoseconds.
+set -euo pipefail
+top=$(cd "$(dirname "$0")/.." && pwd)
+tmp=$(mktemp -d)
+trap 'rm -rf "$tmp"' EXIT
+
+(cd "$top/crates/gc_bench" && rt run >/dev/null)
+bench=$top/crates/gc_bench/out/gc_bench
+zero=$(printf '0%.0s' $(seq 64))
+
+circuit=${1:-$tmp/half.txt}
+[ -n "${1:-}" ] || python3 "$top/bench/make_circuit.py" 1000000 0.5 "$circuit"
+python3 "$top/bench/make_circuit.py" 1000000 0 "$tmp/xor.txt"
+
+fastest() { "$bench" "$1" "$2" "$3" | sed 's/.*fastest_ns=//'; }
+gates=$("$bench" read "$circuit" 1 | sed 's/gates=\([0-9]*\).*/\1/')
+per_gate() { awk -v t="$1" -v n="$2" 'BEGIN { printf "%.1f", t / n }'; }
+ratio() { awk -v a="$1" -v b="$2" 'BEGIN { printf "%.2f", a / b }'; }
+
+read_ns=$(fastest read "$circuit" 7)
+echo "reading: $read_ns ns, $(per_gate "$read_ns" "$gates") a gate"
+if [ -n "${BASELINE:-}" ]; then
+    cc -O2 -msha -msse4.1 -mssse3 -I"$(dirname "$BASELINE")" "$BASELINE" -o "$tmp/baseline" -lcrypto
+    parse_ns=$(for _ in 1 2 3 4 5 6 7; do
+        "$tmp/baseline" garble "$circuit" "$zero" - --repeat 1 2>&1 >/dev/null | grep -o 'parse_ns=[0-9]*' | cut -d= -f2
+    done | sort -n | head -n 1)
+    echo "  the C baseline: $parse_ns ns; reading takes $(ratio "$read_ns" "$parse_ns") times as long (at most 2)"
+fi
+
+plain_ns=$(fastest plain "$circuit" 7)
+echo "plain evaluation: $(per_gate "$plain_ns" "$gates") ns a gate (at most 10)"
+
+hashes_ns=$(fastest hashes "$circuit" 3)
+garble_ns=$(fastest garble "$circuit" 3)
+echo "garbling on one thread: $garble_ns ns, $(ratio "$garble_ns" "$hashes_ns") times its hashes alone (at most 1.1)"
+xor_ns=$(fastest garble "$tmp/xor.txt" 7)
+echo "garbling XOR gates: $(per_gate "$xor_ns" 1000000) ns a gate (at most 8)"
+
+evaluate_ns=$(fastest evaluate "$circuit" 3)
+echo "evaluation from labels: $evaluate_ns ns, $(ratio "$((2 * evaluate_ns))" "$hashes_ns") times its hashes alone"

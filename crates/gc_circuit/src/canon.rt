@@ -1,0 +1,222 @@
+//! The canonical text of a circuit, and its digest.
+
+ghost use Rattle.std.specs.Prelude.{◌≡◌, ◌+◌, ◌<◌, ◌≤◌, ◌++◌, ℕ, List, [], ◌∷◌, length, map, drop, decimal, OnOk, IfOk};
+ghost use Rattle.sha2.specs.Hashers.{Holds256};
+ghost use Rattle.sha2.specs.Sha256.{sha256};
+ghost use Rattle.gc_circuit.specs.Spelling.{Number, Name, words_of_gate, words_of_widths};
+ghost use Rattle.gc_circuit.specs.Canon.{line, canonical_text};
+
+use crate::circuit::{Circuit, Gate, Operation};
+use crate::limits::MAX_VALUES;
+use crate::memory::Memory;
+use itoa::write_digits;
+use sha2::{Digest, Sha256};
+use std::alloc::{AllocError, Allocator};
+use std::convert::Infallible;
+use std::marker::Model;
+
+/// Takes a text piece by piece.
+trait TextSink {
+    type Fault;
+
+    // The text that was taken.
+    ghost holds: { Self → List ℕ → Type 0 };
+
+    /// Takes the piece after the text so far.
+    fn put(&mut self, piece: &[u8]) -> Result<(), Self::Fault>
+        ensures { OnOk result ((text : List ℕ) → holds self.old text → holds self.new (text ++ piece.now)) };
+}
+
+impl<B: Allocator> TextSink for Vec<u8, B> {
+    type Fault = AllocError;
+
+    ghost holds = { λ v text. v.items ≡ text };
+
+    fn put(&mut self, piece: &[u8]) -> Result<(), AllocError> {
+        self.extend_from_slice(piece)
+    }
+}
+
+impl TextSink for Sha256 {
+    type Fault = Infallible;
+
+    ghost holds = { λ s text. Holds256 s text };
+
+    fn put(&mut self, piece: &[u8]) -> Result<(), Infallible> {
+        self.update(piece);
+        Ok(())
+    }
+}
+
+/// How many bytes there is room for in a line. That of a gate has at most 41.
+const ROOM: usize = 64;
+
+/// Room for a line. It is written from its end to its beginning, so that the digits of a number fall into place,
+/// and ends where the room ends.
+type Room = [u8; ROOM];
+
+/// Writes a byte before the place `end`, and returns where it stands.
+fn write_byte(room: &mut Room, end: usize, byte: u8) -> usize
+    requires { (0 < end) × (end ≤ ROOM) }
+    ensures written { drop result room.new ≡ byte ∷ drop end room.old }
+    ensures start { result + 1 ≡ end }
+{
+    room[end - 1] = byte;
+    end - 1
+}
+
+/// Writes the digits of a number before the place `end`, and returns where they start.
+fn write_digits_of(room: &mut Room, end: usize, number: u32) -> usize
+    requires { (10 ≤ end) × (end ≤ ROOM) }
+    ensures written { drop result room.new ≡ decimal number ++ drop end room.old }
+    ensures start { (result ≤ end) × (end ≤ result + 10) }
+{
+    write_digits(u64::from(number), room, end)
+}
+
+/// Writes a number and a space before the place `end`, and returns where they start.
+fn write_number(room: &mut Room, end: usize, number: u32) -> usize
+    requires { (11 ≤ end) × (end ≤ ROOM) }
+    ensures written { drop result room.new ≡ decimal number ++ 32 ∷ drop end room.old }
+    ensures start { (result ≤ end) × (end ≤ result + 11) }
+{
+    let space = write_byte(room, end, b' ');
+    write_digits_of(room, space, number)
+}
+
+/// Writes a name and the end of its line, and returns where they start.
+fn write_name(room: &mut Room, name: &[u8]) -> usize
+    requires { length name.now ≤ 3 }
+    ensures written { drop result room.new ≡ name.now ++ 10 ∷ [] }
+    ensures start { result + length name.now ≡ 63 }
+{
+    let mut start = write_byte(room, ROOM, b'\n');
+    for i in (0..name.len()).rev() {
+        start = write_byte(room, start, name[i]);
+    }
+    start
+}
+
+/// The line of a gate that reads one number, a wire or a constant: its counts, the number, the wire set, the name.
+fn line_of_one<'a>(room: &'a mut Room, read: u32, set: u32, name: &[u8]) -> &'a [u8]
+    requires { length name.now ≤ 3 }
+    ensures { result.now ≡ line (Number 1 ∷ Number 1 ∷ Number read ∷ Number set ∷ Name name.now ∷ []) }
+{
+    let start = write_name(room, name);
+    let start = write_number(room, start, set);
+    let start = write_number(room, start, read);
+    let start = write_number(room, start, 1);
+    let start = write_number(room, start, 1);
+    &room[start..]
+}
+
+/// The line of a gate that reads two wires: its counts, the wires, the wire set, the name.
+fn line_of_two<'a>(room: &'a mut Room, first: u32, second: u32, set: u32, name: &[u8]) -> &'a [u8]
+    requires { length name.now ≤ 3 }
+    ensures { result.now ≡ line (Number 2 ∷ Number 1 ∷ Number first ∷ Number second ∷ Number set ∷ Name name.now ∷ []) }
+{
+    let start = write_name(room, name);
+    let start = write_number(room, start, set);
+    let start = write_number(room, start, second);
+    let start = write_number(room, start, first);
+    let start = write_number(room, start, 1);
+    let start = write_number(room, start, 2);
+    &room[start..]
+}
+
+/// The line of a gate.
+fn gate_line(room: &mut Room, gate: Gate) -> &[u8]
+    ensures { result.now ≡ line (words_of_gate gate) }
+{
+    let set = gate.set;
+    match gate.operation {
+        Operation::Xor(a, b) => line_of_two(room, a, b, set, b"XOR"),
+        Operation::And(a, b) => line_of_two(room, a, b, set, b"AND"),
+        Operation::Inv(a) => line_of_one(room, a, set, b"INV"),
+        Operation::Eq(constant) => line_of_one(room, u32::from(constant), set, b"EQ"),
+        Operation::Eqw(a) => line_of_one(room, a, set, b"EQW"),
+    }
+}
+
+/// The line of the numbers of gates and wires.
+fn sizes_line(room: &mut Room, gates: u32, wires: u32) -> &[u8]
+    ensures { result.now ≡ line (Number gates ∷ Number wires ∷ []) }
+{
+    let end = write_byte(room, ROOM, b'\n');
+    let start = write_digits_of(room, end, wires);
+    let start = write_number(room, start, gates);
+    &room[start..]
+}
+
+/// The digits of a number.
+fn digits(room: &mut Room, number: u32) -> &[u8]
+    ensures { result.now ≡ decimal number }
+{
+    let start = write_digits_of(room, ROOM, number);
+    &room[start..]
+}
+
+/// A space and the digits of a number.
+fn spaced_digits(room: &mut Room, number: u32) -> &[u8]
+    ensures { result.now ≡ 32 ∷ decimal number }
+{
+    let start = write_digits_of(room, ROOM, number);
+    let start = write_byte(room, start, b' ');
+    &room[start..]
+}
+
+/// Gives the line of a side's widths to the sink.
+fn write_widths<S: TextSink>(sink: &mut S, widths: &[u32]) -> Result<(), S::Fault>
+    requires { length widths.now ≤ MAX_VALUES }
+    ensures { OnOk result ((text : List ℕ) → S.holds sink.old text → S.holds sink.new (text ++ line (words_of_widths widths.now))) }
+{
+    let mut room = [0; ROOM];
+    sink.put(digits(&mut room, widths.len() as u32))?;
+    for width in widths {
+        sink.put(spaced_digits(&mut room, *width))?;
+    }
+    sink.put(b"\n")
+}
+
+impl<A: Allocator> Circuit<A> {
+    /// Gives the canonical text to the sink.
+    fn write_canonical_text<S: TextSink>(&self, sink: &mut S) -> Result<(), S::Fault>
+        ensures { OnOk result ((text : List ℕ) → S.holds sink.old text → S.holds sink.new (text ++ canonical_text self.now)) }
+    {
+        let mut room = [0; ROOM];
+        sink.put(sizes_line(&mut room, self.gates(), self.wires()))?;
+        write_widths(sink, self.input_widths())?;
+        write_widths(sink, self.output_widths())?;
+        sink.put(b"\n")?;
+        for i in 0..self.gates() {
+            sink.put(gate_line(&mut room, self.gate(i)))?;
+        }
+        Ok(())
+    }
+
+    /// The canonical text of the circuit: the line of its numbers of gates and wires, the line of its input
+    /// widths, the line of its output widths, an empty line, and a line for each gate.
+    ///
+    /// Numbers have no leading zeros, one space stands between two words, and each line ends with a line feed.
+    pub fn canon<B: Allocator + Copy>(&self, alloc: B) -> Result<Vec<u8, B>, Memory>
+        ensures { IfOk result (λ text. text.items ≡ canonical_text self.now) }
+    {
+        let mut text = Vec::new(alloc);
+        self.write_canonical_text(&mut text)?;
+        Ok(text)
+    }
+
+    /// The digest of the circuit: SHA-256 (FIPS 180-4) of its canonical text. It takes no memory.
+    pub fn digest(&self) -> [u8; 32]
+        ensures { result ≡ sha256 (canonical_text self.now) }
+    {
+        let mut hasher = Sha256::new();
+        match self.write_canonical_text(&mut hasher) {
+            Ok(()) => hasher.finalize(),
+            Err(never) => match never {},
+        }
+    }
+}
+
+#[cfg(test)]
+mod tests;

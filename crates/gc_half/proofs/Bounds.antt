@@ -1,0 +1,177 @@
+-- Hashes, zero labels, rows and active labels are 16 bytes long: as numbers they are below 2 ^ 128.
+use Rattle.std.proofs.Common.{◌≡◌, ℕ, zero, suc, ◌+◌, ◌*◌, ◌^◌, ◌<◌, ◌⊎◌, inl, inr, Bool, true, false, if◌then◌else◌, ◌==◌, List, [], ◌∷◌, ◌++◌, length, take, get_or, slice_get, Option, Some, None, subst, arith}
+use Rattle.std.specs.Int.{w32, bytes_high_first, to_be_bytes}
+use Rattle.std.proofs.lemmas.Nat.{xor_lt}
+use Rattle.std.proofs.lemmas.List.{length-take-le}
+use Rattle.sha2.specs.Sha256.{sha256, digest_bytes}
+use Rattle.sha2.proofs.Facts256.{length-sha256}
+use Rattle.gc_circuit.specs.declared.circuit.Operation.{Operation}
+use Rattle.gc_circuit.specs.declared.circuit.Operation.TheVariants.{Xor, And, Inv, Eq, Eqw}
+use Rattle.gc_circuit.specs.declared.circuit.Gate.{Gate}
+use Rattle.gc_circuit.specs.Circuit.{Netlist, and_number}
+use Rattle.gc_circuit.specs.Solution.{put_gate, values_after}
+use Rattle.gc_label.specs.Label.{◌⊕◌, colour, times, bytes_of_label}
+use Rattle.gc_label.specs.Seed.{offset_of, input_label_of}
+use Rattle.gc_label.proofs.LabelLemmas.{byte_at_is, label_of_bytes-lt}
+use Rattle.gc_label.proofs.SeedLemmas.{offset_of-lt, input_label_of-lt}
+use Rattle.gc_half.specs.declared.garbling.RowPair.{RowPair}
+use Rattle.gc_half.specs.Hash.{hash, tweak_bytes}
+use Rattle.gc_half.specs.HalfGate.{generator_row, evaluator_row, and_zero}
+use Rattle.gc_half.specs.Garbling.{zero_of, zero_rule, rows_of}
+use Rattle.gc_half.specs.Canonical.{input_zero, zero_label_of, row_pairs_of, rows_after, with_operation, with_gate}
+
+-- The number is that of 16 bytes.
+abbrev pub IsSmall : ℕ → Type 0
+IsSmall label = label < 2 ^ 128
+
+-- ---- the hash
+
+-- each of these is a byte
+AreBytes : List ℕ → Type 0
+AreBytes bytes = (i : ℕ) → get_or bytes i 0 < 256
+
+AreBytes-append : (xs ys : List ℕ) → AreBytes xs → AreBytes ys → AreBytes (xs ++ ys)
+unfolding AreBytes
+AreBytes-append [] ys hx hy i = hy i
+AreBytes-append (x ∷ xs) ys hx hy zero = hx zero
+AreBytes-append (x ∷ xs) ys hx hy (suc i) = AreBytes-append xs ys (λ k. hx (suc k)) hy i
+
+AreBytes-take : (n : ℕ) (xs : List ℕ) → AreBytes xs → AreBytes (take n xs)
+unfolding AreBytes
+AreBytes-take zero xs h i = omega arith
+AreBytes-take (suc n) [] h i = omega arith
+AreBytes-take (suc n) (x ∷ xs) h zero = h zero
+AreBytes-take (suc n) (x ∷ xs) h (suc i) = AreBytes-take n xs (λ k. h (suc k)) i
+
+AreBytes-bytes_high_first : (k n : ℕ) → AreBytes (bytes_high_first k n)
+unfolding AreBytes
+AreBytes-bytes_high_first zero n i = omega arith
+AreBytes-bytes_high_first (suc k) n zero = omega (arith, byte_at_is k n)
+AreBytes-bytes_high_first (suc k) n (suc i) = AreBytes-bytes_high_first k n i
+
+AreBytes-digest_bytes : (h : List ℕ) (n : ℕ) → AreBytes (digest_bytes h n)
+unfolding digest_bytes AreBytes
+AreBytes-digest_bytes h zero i = omega arith
+AreBytes-digest_bytes h (suc n) i =
+    AreBytes-append (digest_bytes h n) (to_be_bytes w32 (get_or h n 0)) (λ k. AreBytes-digest_bytes h n k) (AreBytes-bytes_high_first 4 (get_or h n 0)) i
+
+pub IsSmall-hash : (label tweak : ℕ) → IsSmall (hash label tweak)
+unfolding hash sha256 AreBytes
+IsSmall-hash label tweak =
+    let text = bytes_of_label label ++ tweak_bytes tweak in
+    let len = length-sha256 text in
+    label_of_bytes-lt (take 16 (sha256 text)) (length-take-le 16 (sha256 text) (omega (arith, len)))
+    (AreBytes-take 16 (sha256 text) (AreBytes-digest_bytes _ 8))
+
+-- ---- gates
+
+pub IsSmall-⊕ : (a b : ℕ) → IsSmall a → IsSmall b → IsSmall (a ⊕ b)
+IsSmall-⊕ a b ha hb = xor_lt 128 a b ha hb
+
+pub IsSmall-times : (bit : Bool) (label : ℕ) → IsSmall label → IsSmall (times bit label)
+IsSmall-times true label h = h
+IsSmall-times false label h = omega arith
+
+module _ (k r : ℕ) (small : IsSmall r) (a b : ℕ) (ha : IsSmall a) (hb : IsSmall b) where
+  pub IsSmall-generator_row : IsSmall (generator_row hash k r a b)
+  IsSmall-generator_row = IsSmall-⊕ _ _ (IsSmall-⊕ _ _ (IsSmall-hash a (2 * k)) (IsSmall-hash (a ⊕ r) (2 * k))) (IsSmall-times (colour b) r small)
+
+  pub IsSmall-evaluator_row : IsSmall (evaluator_row hash k r a b)
+  IsSmall-evaluator_row = IsSmall-⊕ _ _ (IsSmall-⊕ _ _ (IsSmall-hash b (2 * k + 1)) (IsSmall-hash (b ⊕ r) (2 * k + 1))) ha
+
+  pub IsSmall-and_zero : IsSmall (and_zero hash k r a b)
+  IsSmall-and_zero =
+      IsSmall-⊕ _ _ (IsSmall-⊕ _ _ (IsSmall-hash a (2 * k)) (IsSmall-times (colour a) _ IsSmall-generator_row))
+      (IsSmall-⊕ _ _ (IsSmall-hash b (2 * k + 1)) (IsSmall-times (colour b) _ (IsSmall-⊕ _ _ IsSmall-evaluator_row ha)))
+
+pub IsSmall-zero_of : (r : ℕ) → IsSmall r → (label : ℕ → ℕ) → ((w : ℕ) → IsSmall (label w)) → (k : ℕ) (op : Operation) →
+    IsSmall (zero_of hash r label k op)
+IsSmall-zero_of r small label h k (Xor a b) = IsSmall-⊕ (label a) (label b) (h a) (h b)
+IsSmall-zero_of r small label h k (And a b) = IsSmall-and_zero k r small (label a) (label b) (h a) (h b)
+IsSmall-zero_of r small label h k (Inv a) = IsSmall-⊕ (label a) r (h a) small
+IsSmall-zero_of r small label h k (Eq v) = IsSmall-times v r small
+IsSmall-zero_of r small label h k (Eqw a) = h a
+
+-- ---- the garbling under a seed
+
+module _ (rule : (ℕ → ℕ) → ℕ → Gate → ℕ)
+    (keeps : (values : ℕ → ℕ) (i : ℕ) (g : Gate) → ((w : ℕ) → IsSmall (values w)) → IsSmall (rule values i g)) where
+  small-put_gate : (values : ℕ → ℕ) (i : ℕ) (o : Option Gate) → ((w : ℕ) → IsSmall (values w)) → (w : ℕ) → IsSmall (put_gate rule values i o w)
+  small-put_gate values i None h w = h w
+  small-put_gate values i (Some g) h w = choice (w == g.set)
+    where
+      choice : (same : Bool) → IsSmall (if same then rule values i g else values w)
+      choice true = keeps values i g h
+      choice false = h w
+
+  small-values_after : (c : Netlist) (given : ℕ → ℕ) → ((w : ℕ) → IsSmall (given w)) → (n w : ℕ) → IsSmall (values_after rule c given n w)
+  unfolding values_after
+  small-values_after c given h zero w = h w
+  small-values_after c given h (suc n) w =
+      small-put_gate (values_after rule c given n) n (slice_get c.gates n) (small-values_after c given h n) w
+
+module _ (c : Netlist) (seed : List ℕ) where
+  pub IsSmall-zero_label_of : (w : ℕ) → IsSmall (zero_label_of c seed w)
+  unfolding zero_label_of
+  IsSmall-zero_label_of w =
+      small-values_after (zero_rule hash (offset_of seed) c)
+      (λ values i g h. IsSmall-zero_of (offset_of seed) (offset_of-lt seed) values h (and_number c i) g.operation) c (input_zero c seed)
+      (λ u. given u) (length c.gates) w
+    where
+      choice : (u : ℕ) (input : Bool) → IsSmall (if input then input_label_of seed u else 0)
+      choice u true = input_label_of-lt seed u
+      choice u false = omega arith
+
+      given : (u : ℕ) → IsSmall (input_zero c seed u)
+      given u = choice u _
+
+  -- both rows of a pair
+  abbrev pub AreSmallRows : RowPair → Type 0
+  AreSmallRows pair = IsSmall pair.generator × IsSmall pair.evaluator
+
+  pushed : (pairs : List RowPair) (pair last : RowPair) (k : ℕ) → slice_get (pairs ++ last ∷ []) k ≡ Some pair →
+      (slice_get pairs k ≡ Some pair) ⊎ (last ≡ pair)
+  pushed [] pair last zero h = inr (let e : Some last ≡ Some pair = h in cc)
+  pushed [] pair last (suc k) h = cc
+  pushed (x ∷ pairs) pair last zero h = inl h
+  pushed (x ∷ pairs) pair last (suc k) h = pushed pairs pair last k h
+
+  -- each pair that stands in a list is small
+  abbrev pub AllSmall : List RowPair → Type 0
+  AllSmall pairs = (k : ℕ) (pair : RowPair) → slice_get pairs k ≡ Some pair → AreSmallRows pair
+
+  small-push : (pairs : List RowPair) → AllSmall pairs → (last : RowPair) → AreSmallRows last → AllSmall (pairs ++ last ∷ [])
+  small-push pairs h last small k pair at = elim (pushed pairs pair last k at) [
+    | inl before ↦ h k pair before
+    | inr same ↦ let P : RowPair → Type 0 = AreSmallRows in subst P same small
+  ]
+
+  small-with_operation : (number : ℕ) (pairs : List RowPair) → AllSmall pairs → (op : Operation) →
+      AllSmall (with_operation hash (offset_of seed) (zero_label_of c seed) number pairs op)
+  small-with_operation number pairs h (Xor a b) = h
+  small-with_operation number pairs h (And a b) =
+      small-push pairs h (rows_of hash (offset_of seed) (zero_label_of c seed) number a b) (
+        IsSmall-generator_row number (offset_of seed) (offset_of-lt seed) (zero_label_of c seed a) (zero_label_of c seed b)
+            (IsSmall-zero_label_of a) (IsSmall-zero_label_of b),
+        IsSmall-evaluator_row number (offset_of seed) (offset_of-lt seed) (zero_label_of c seed a) (zero_label_of c seed b)
+            (IsSmall-zero_label_of a) (IsSmall-zero_label_of b),
+      )
+  small-with_operation number pairs h (Inv a) = h
+  small-with_operation number pairs h (Eq v) = h
+  small-with_operation number pairs h (Eqw a) = h
+
+  small-with_gate : (number : ℕ) (pairs : List RowPair) → AllSmall pairs → (o : Option Gate) →
+      AllSmall (with_gate hash (offset_of seed) (zero_label_of c seed) number pairs o)
+  small-with_gate number pairs h None = h
+  small-with_gate number pairs h (Some g) = small-with_operation number pairs h g.operation
+
+  small-rows_after : (n : ℕ) → AllSmall (rows_after hash (offset_of seed) c (zero_label_of c seed) n)
+  unfolding rows_after
+  small-rows_after zero k pair at = cc
+  small-rows_after (suc n) k pair at =
+      small-with_gate (and_number c n) (rows_after hash (offset_of seed) c (zero_label_of c seed) n) (λ j p. small-rows_after n j p)
+      (slice_get c.gates n) k pair at
+
+  pub IsSmall-row_pairs_of : AllSmall (row_pairs_of c seed)
+  unfolding row_pairs_of
+  IsSmall-row_pairs_of = small-rows_after (length c.gates)
