@@ -10,7 +10,7 @@ use Rattle.gc_half.specs.declared.garbling.RowPair.{RowPair}
 use Rattle.gc_store.specs.declared.task.Task.{Task}
 use Rattle.gc_store.specs.declared.refusal.Refused.{Refused}
 use Rattle.gc_store.specs.declared.refusal.Refused.TheVariants.{NotClaimed, OtherInputs}
-use Rattle.gc_store.specs.Task.{sealed_zero, sealed_rows}
+use Rattle.gc_store.specs.Task.{sealed_zero_label, sealed_rows}
 use Rattle.gc_store.specs.Content.{State, Free, Claimed, Finished, Content, is_finished, IsClaimed, IsFinished, IsKnown, MayGoNext, AllFinished, IsLawfulContent}
 use Rattle.gc_store.specs.Step.{with_state, with_sealed, IsOwnTask, Claims, Finishes}
 use Rattle.gc_store.proofs.ListLemmas.{slice_get-set_same, slice_get-set_other, count_by-set, count_by-set_more}
@@ -82,7 +82,7 @@ module _ (s claimed new : Content) (task : Task) (claims : Claims s (Some task) 
 
   module _ (complete : Bool) (step : Finishes claimed task (Ok complete) new) where
     abbrev state : State
-    state = Finished (sealed_zero task) (sealed_rows task)
+    state = Finished (sealed_zero_label task) (sealed_rows task)
 
     twice : new ≡ with_sealed (with_state s task.gate Claimed) task
     twice = step.2 ∙ ap (λ c. with_sealed c task) claims.2

@@ -35,7 +35,10 @@ pub fn evaluate<A: Allocator + Copy>(
 }
 
 /// The decode bit of each output wire.
-fn decode_bits<A: Allocator + Copy>(alloc: A, garbling: &Garbling<A>) -> Result<Vec<bool, A>, Memory>
+fn decode_bits<A: Allocator + Copy>(
+    alloc: A,
+    garbling: &Garbling<A>,
+) -> Result<Vec<bool, A>, Memory>
     ensures { IfOk result (λ bits. bits.items ≡ decode_bits_of garbling.now) }
 {
     let mut bits = Vec::with_capacity(alloc, garbling.outputs() as usize)?;

@@ -5,9 +5,8 @@ ghost use Rattle.gc_cli.specs.Files.{GivesFile, CountsFailure};
 
 use crate::failures::FailureCount;
 use std::alloc::{AllocError, Allocator};
-use std::fs;
 use std::io::{self, Read};
-use std::rt;
+use std::{fs, rt};
 
 /// Why a file's bytes could not be had.
 #[derive(Clone, Copy, Debug, PartialEq, Eq)]

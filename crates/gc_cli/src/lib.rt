@@ -8,6 +8,7 @@ mod files;
 mod garbling;
 mod lines;
 mod order;
+mod plain;
 mod run;
 mod serve;
 mod values;

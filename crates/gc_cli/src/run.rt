@@ -38,12 +38,14 @@ pub fn run<A: Allocator + Copy, F: Files>(
     let seed = Seed::from_hex(seed)?;
     let values = read_values(alloc, circuit.input_widths(), values)?;
     let garbling = garble(alloc, &circuit, seed).map_err(|_| Fault::Garbling)?;
-    let outputs = evaluate(alloc, &circuit, &seed, &garbling, &values).map_err(|_| Fault::Evaluation)?;
+    let outputs = evaluate(alloc, &circuit, &seed, &garbling, &values).map_err(
+        |_| Fault::Evaluation,
+    )?;
     Ok(output_lines(alloc, circuit.output_widths(), &outputs)?)
 }
 
 /// The circuit of a file. The file's bytes are let go.
-fn read_circuit<A: Allocator + Copy, F: Files>(
+pub(crate) fn read_circuit<A: Allocator + Copy, F: Files>(
     alloc: A,
     name: &str,
     files: &mut F,

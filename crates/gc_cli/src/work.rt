@@ -7,6 +7,7 @@ ghost use Rattle.gc_cli.specs.CarryOut.{Answers, HasFault, HasCause};
 use crate::fault::Fault;
 use crate::files::Files;
 use crate::order::Order;
+use crate::plain::plain;
 use crate::run::run;
 use std::alloc::Allocator;
 
@@ -29,5 +30,6 @@ pub fn carry_out<A: Allocator + Copy, F: Files>(
             seed,
             values,
         } => run(alloc, circuit.as_str(), seed.as_str(), values, files),
+        Order::Plain { circuit, values } => plain(alloc, circuit.as_str(), values, files),
     }
 }

@@ -20,5 +20,5 @@ returns g c =
     let all : length bits ≡ input_wires c.args.circuit.now = length-joined (λ value. value.items) c.args.values.now c.args.circuit.now.input_widths c.requires.fits in
     IfOk-weaker c.evaluate_labels.result _ _
     (λ outputs is. outputs-decoded c.args.circuit.now c.args.seed.now c.args.garbling.now c.requires.lawful c.requires.garbled bits all outputs.items
-      (rw (← c.rows.ensures, ← c.in_ok-decode_bits.ensures, ← c.in_ok-inputs.ensures, ← c.deref.ensures.value, ← c.deref-2.ensures.value) is))
+    (rw (← c.rows.ensures, ← c.in_ok-decode_bits.ensures, ← c.in_ok-inputs.ensures, ← c.deref.ensures.value, ← c.deref-2.ensures.value) is))
     c.evaluate_labels.ensures

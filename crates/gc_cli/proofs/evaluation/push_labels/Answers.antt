@@ -18,7 +18,7 @@ loop-bit-preserved g c =
           let so_far = c.loop-bit.invariant.labels before is in
           let known = before ++ take i c.args.value.now in
           let here : slice_get zeros (length (encoded c.args.offset zeros known)) ≡ Some label =
-              rw (← so_far) (let place : length c.loop-bit.labels.items ≡ c.len.result = search rules in ap (slice_get zeros) place ∙ c.zero_label-zero_label.ensures) in
+          rw (← so_far) (let place : length c.loop-bit.labels.items ≡ c.len.result = search rules in ap (slice_get zeros) place ∙ c.zero_label-zero_label.ensures) in
           let pushed : c.xor.result ≡ encode c.args.offset label bit = c.xor.ensures ∙ ap (λ t. label ⊕ t) (c.times.ensures ∙ ap (times bit) c.label.ensures.same) in
           c.in_ok-push.ensures.items
           ∙ rw (pushed, so_far) (encoded-push c.args.offset zeros known bit label here)

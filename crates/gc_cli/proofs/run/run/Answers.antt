@@ -20,20 +20,20 @@ evaluate-requires-clause-fits g c =
 pub output_lines-requires : goal.output_lines-requires
 output_lines-requires g c =
     let are : AreOutputs c.in_ok-circuit.circuit (flat_map (λ value. value.items) c.deref.result.now) c.in_ok-outputs.outputs.items =
-        map_err-ok c.evaluate.result c.map_err-2.result _ (λ outputs. AreOutputs c.in_ok-circuit.circuit (flat_map (λ value. value.items) c.deref.result.now) outputs.items) c.in_ok-outputs.outputs
-        c.map_err-2.ensures.cases c.map_err-2.ensures.variant c.evaluate.ensures c.in_ok-outputs.was in
+    map_err-ok c.evaluate.result c.map_err-2.result _ (λ outputs. AreOutputs c.in_ok-circuit.circuit (flat_map (λ value. value.items) c.deref.result.now) outputs.items) c.in_ok-outputs.outputs
+    c.map_err-2.ensures.cases c.map_err-2.ensures.variant c.evaluate.ensures c.in_ok-outputs.was in
     rw (c.output_widths.ensures, c.deref-2.ensures.value) (length-outputs c.in_ok-circuit.circuit _ c.in_ok-outputs.outputs.items are)
 
 pub returns-clause-answers : goal.returns-clause-answers
 returns-clause-answers g c =
     let are : AreOutputs c.in_ok-circuit.circuit (flat_map (λ value. value.items) c.deref.result.now) c.in_ok-outputs.outputs.items =
-        map_err-ok c.evaluate.result c.map_err-2.result _ (λ outputs. AreOutputs c.in_ok-circuit.circuit (flat_map (λ value. value.items) c.deref.result.now) outputs.items) c.in_ok-outputs.outputs
-        c.map_err-2.ensures.cases c.map_err-2.ensures.variant c.evaluate.ensures c.in_ok-outputs.was in
+    map_err-ok c.evaluate.result c.map_err-2.result _ (λ outputs. AreOutputs c.in_ok-circuit.circuit (flat_map (λ value. value.items) c.deref.result.now) outputs.items) c.in_ok-outputs.outputs
+    c.map_err-2.ensures.cases c.map_err-2.ensures.variant c.evaluate.ensures c.in_ok-outputs.was in
     let seed_text : IsSeedText c.args.seed.now = c.in_ok-seed.ensures.accepts.0 refl in
     IfSome-map (g.F.Files.bytes c.args.files.now c.args.circuit.now) (λ bytes. IsCircuit bytes c.in_ok-circuit.circuit) _
     (λ bytes circuit. answers-run (λ value. value.items) bytes c.args.seed.now (map string_bytes c.args.values.now) c.in_ok-circuit.circuit c.in_ok-values.values.items
-      c.in_ok-outputs.outputs.items c.in_ok-output_lines.field-0.items circuit seed_text
-      (rw (← c.input_widths.ensures) c.in_ok-values.ensures.told)
-      (rw (← c.deref.ensures.value) are)
-      (c.in_ok-output_lines.ensures ∙ ap₂ output_lines c.output_widths.ensures c.deref-2.ensures.value))
+    c.in_ok-outputs.outputs.items c.in_ok-output_lines.field-0.items circuit seed_text
+    (rw (← c.input_widths.ensures) c.in_ok-values.ensures.told)
+    (rw (← c.deref.ensures.value) are)
+    (c.in_ok-output_lines.ensures ∙ ap₂ output_lines c.output_widths.ensures c.deref-2.ensures.value))
     c.in_ok-circuit.ensures.circuit
