@@ -4,3 +4,4 @@ pub mod EvaluationLemmas
 pub mod SettledLemmas
 pub mod RunLemmas
 pub mod PlainLemmas
+pub mod CheckLemmas

@@ -4,6 +4,7 @@ pub mod Order
 pub mod Lines
 pub mod Run
 pub mod Plain
+pub mod Check
 pub mod CarryOut
 pub mod Serve
 pub mod Encoding

@@ -6,7 +6,7 @@ use Rattle.clap.specs.declared.builder.arg.Arg.{Arg}
 use Rattle.clap.specs.declared.builder.command.Command.{Command}
 use Rattle.clap.specs.declared.builder.command.Command.TheViews.{out-Command}
 use Rattle.gc_cli.specs.declared.order.Order.{Order}
-use Rattle.gc_cli.specs.declared.order.Order.TheVariants.{Run, Plain}
+use Rattle.gc_cli.specs.declared.order.Order.TheVariants.{Run, Plain, Check}
 
 -- a positional word that has to be there
 abbrev pub required_word : List ℕ → Rule
@@ -24,6 +24,10 @@ run_command = with_rule (with_rule (with_rule (new_app (codes "run")) (required_
 abbrev pub plain_command : App
 plain_command = with_rule (with_rule (new_app (codes "plain")) (required_word (codes "circuit"))) (more_words (codes "values"))
 
+-- `check CIRCUIT`
+abbrev pub check_command : App
+check_command = with_rule (new_app (codes "check")) (required_word (codes "circuit"))
+
 -- The program, which needs a command, before it has any.
 abbrev pub named_program : App
 named_program =
@@ -32,7 +36,7 @@ named_program =
 
 -- The program with its commands.
 abbrev pub program : App
-program = with_subcommand (with_subcommand named_program run_command.top) plain_command.top
+program = with_subcommand (with_subcommand (with_subcommand named_program run_command.top) plain_command.top) check_command.top
 
 -- What clap reads of the argument, which is not global.
 pub record HasRule (rule : Rule) (a : Arg) : Type 0 where
@@ -48,10 +52,12 @@ pub record HasShape (app : App) (c : Command) : Type 0 where
 pub data OrderText : Type 0 where
   run : List ℕ → List ℕ → List (List ℕ) → OrderText
   plain : List ℕ → List (List ℕ) → OrderText
+  check : List ℕ → OrderText
 
 abbrev pub text_of : Order → OrderText
 text_of (Run circuit seed values) = run (string_bytes circuit) (string_bytes seed) (map string_bytes values.items)
 text_of (Plain circuit values) = plain (string_bytes circuit) (map string_bytes values.items)
+text_of (Check circuit) = check (string_bytes circuit)
 
 -- The word that clap found for an id that has one word,
 abbrev pub word_of : List ℕ → List Row → List ℕ
@@ -69,9 +75,13 @@ run_told rows = run (word_of (codes "circuit") rows) (word_of (codes "seed") row
 abbrev pub plain_told : List Row → OrderText
 plain_told rows = plain (word_of (codes "circuit") rows) (words_of (codes "values") rows)
 
+-- The order of `check` in what clap found.
+abbrev pub check_told : List Row → OrderText
+check_told rows = check (word_of (codes "circuit") rows)
+
 -- The order of the command of a name, which is one of the program's.
 abbrev pub command_told : List ℕ → List Row → OrderText
-command_told name rows = if bytes_eq name (codes "plain") then plain_told rows else run_told rows
+command_told name rows = if bytes_eq name (codes "plain") then plain_told rows else (if bytes_eq name (codes "check") then check_told rows else run_told rows)
 
 -- The order that a command line tells: that of the command that clap finds in it.
 abbrev pub told : List (List ℕ) → Option OrderText

@@ -1,6 +1,7 @@
 //! The program `halfgates` as a library: its command line, its commands, and what they print.
 #![tactic(auto)]
 
+mod check;
 mod evaluation;
 mod failures;
 mod fault;

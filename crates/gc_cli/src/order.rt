@@ -2,7 +2,7 @@
 
 ghost use Rattle.std.specs.Prelude.{◌≡◌, [], map, IfOk, Some, codes, string_bytes};
 ghost use Rattle.clap.specs.Words.{FailsBy, fault_of, found_of, rows_of};
-ghost use Rattle.gc_cli.specs.Order.{HasRule, HasShape, command_told, more_words, plain_command, plain_told, program, required_word, run_command, run_told, told, text_of, word_of, words_of};
+ghost use Rattle.gc_cli.specs.Order.{HasRule, HasShape, check_command, check_told, command_told, more_words, plain_command, plain_told, program, required_word, run_command, run_told, told, text_of, word_of, words_of};
 
 use clap::{Arg, ArgAction, ArgMatches, Command, Error};
 use std::alloc::{AllocError, Global};
@@ -19,6 +19,11 @@ pub enum Order {
         /// The text of each input value, in order.
         values: Vec<String>,
     },
+    /// Tell a circuit's numbers and digest.
+    Check {
+        /// The name of the circuit's file.
+        circuit: String,
+    },
     /// Evaluate a circuit on these values, without garbling.
     Plain {
         /// The name of the circuit's file.
@@ -33,6 +38,14 @@ Prints the output values, one a line: a character 0 or 1 for each wire, in wire 
 
 Example, with a full adder in adder.txt that reads three bits:
   halfgates run adder.txt 0000000000000000000000000000000000000000000000000000000000000000 1 0 1";
+
+const CHECK_HELP: &str = "\
+Prints six lines: `gates`, `wires` and `and` with the number of gates, wires and AND gates, `inputs` and `outputs` with \
+the number of values and the number of wires of each, and `digest` with the SHA-256 of the circuit's canonical text \
+in hexadecimal digits. Two files of one circuit have one digest.
+
+Example:
+  halfgates check adder.txt";
 
 const PLAIN_HELP: &str = "\
 Prints the output values, one a line: a character 0 or 1 for each wire, in wire order.
@@ -67,7 +80,8 @@ fn halfgates<'a>(alloc: Global) -> Result<Command<'a>, AllocError>
         .arg_required_else_help(true)
         .disable_help_subcommand(true)
         .subcommand(run(alloc)?)?
-        .subcommand(plain(alloc)?)
+        .subcommand(plain(alloc)?)?
+        .subcommand(check(alloc)?)
 }
 
 /// The command `run`.
@@ -97,6 +111,16 @@ fn plain<'a>(alloc: Global) -> Result<Command<'a>, AllocError>
         .arg(values_arg(alloc))
 }
 
+/// The command `check`.
+fn check<'a>(alloc: Global) -> Result<Command<'a>, AllocError>
+    ensures { IfOk result (HasShape check_command) }
+{
+    Command::new(alloc, "check")
+        .about("Tells a circuit's numbers and its digest")
+        .after_help(CHECK_HELP)
+        .arg(circuit_arg(alloc))
+}
+
 /// The word for the circuit.
 fn circuit_arg<'a>(alloc: Global) -> Arg<'a>
     ensures { HasRule (required_word (codes "circuit")) result }
@@ -123,6 +147,7 @@ fn named_order(alloc: Global, name: &str, found: &ArgMatches<'_>) -> Result<Orde
 {
     match name {
         "plain" => plain_order(alloc, found),
+        "check" => check_order(alloc, found),
         _ => run_order(alloc, found),
     }
 }
@@ -145,6 +170,15 @@ fn plain_order(alloc: Global, found: &ArgMatches<'_>) -> Result<Order, AllocErro
     Ok(Order::Plain {
         circuit: word_of(alloc, found, "circuit")?,
         values: words_of(alloc, found, "values")?,
+    })
+}
+
+/// The order of `check`, from what clap found of its words.
+fn check_order(alloc: Global, found: &ArgMatches<'_>) -> Result<Order, AllocError>
+    ensures { IfOk result (λ order. text_of order ≡ check_told (rows_of (found_of found.now))) }
+{
+    Ok(Order::Check {
+        circuit: word_of(alloc, found, "circuit")?,
     })
 }
 
