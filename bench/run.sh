@@ -45,3 +45,28 @@ echo "garbling XOR gates: $(per_gate "$xor_ns" 1000000) ns a gate (at most 8)"
 
 evaluate_ns=$(fastest evaluate "$circuit" 3)
 echo "evaluation from labels: $evaluate_ns ns, $(ratio "$((2 * evaluate_ns))" "$hashes_ns") times its hashes alone"
+
+seal_ns=$(fastest seal "$tmp/xor.txt" 7)
+store_ns=$(fastest store "$tmp/xor.txt" 7)
+echo "the store above sealing, its opening among it: $(per_gate "$((store_ns - seal_ns))" 1000000) ns a gate (at most 30 without the opening)"
+
+digest_ns=$(fastest digest "$circuit" 5)
+sha_ns=$(fastest sha "$circuit" 5)
+echo "digest: $digest_ns ns, $(ratio "$digest_ns" "$sha_ns") times SHA-256 over the canonical text (at most 1.5)"
+
+# The program itself: its time beside the sum of its parts, and its peak memory beyond the file.
+"$top/halfgates" --help >/dev/null
+python3 - "$top/halfgates" "$circuit" "$zero" "$gates" "$((read_ns + hashes_ns + hashes_ns / 2))" <<'PYTHON'
+import os
+import resource
+import subprocess
+import sys
+import time
+
+program, circuit, seed, gates, parts = sys.argv[1:4] + [int(n) for n in sys.argv[4:]]
+start = time.monotonic_ns()
+subprocess.run([program, "run", circuit, seed, "x" + 16 * "0", "x" + 16 * "0"], check=True, stdout=subprocess.DEVNULL)
+took = time.monotonic_ns() - start
+peak = resource.getrusage(resource.RUSAGE_CHILDREN).ru_maxrss * 1024 - os.path.getsize(circuit)
+print(f"run: {took} ns, {took / parts:.2f} times reading and hashing (at most 1.5); peak memory beyond the file: {peak / gates:.0f} bytes a gate (at most 140)")
+PYTHON

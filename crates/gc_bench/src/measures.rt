@@ -1,14 +1,12 @@
 //! The parts that are timed.
 
-ghost use Rattle.std.specs.Prelude.{◌≡◌, length, map, IfOk};
-ghost use Rattle.gc_circuit.specs.Circuit.{and_count, input_wires, output_wires};
-ghost use Rattle.gc_circuit.specs.Meaning.{Fits};
-
 use anyhow::{Result, anyhow};
 use gc_circuit::{Circuit, fits, plain_eval};
 use gc_eval::evaluate_labels;
 use gc_half::{Garbling, garble_one_thread, tweak_hash};
 use gc_label::{Label, Seed, fill_input_labels};
+use gc_store::{Sealed, Store, Task};
+use sha2::{Digest, Sha256};
 use std::alloc::Global;
 
 /// A part of the program's work.
@@ -24,6 +22,14 @@ pub enum Part {
     Hashes,
     /// Evaluation from labels.
     Evaluate,
+    /// Garbling through a store: opening it, and claiming, sealing and finishing each gate in file order.
+    Store,
+    /// Sealing the same tasks alone.
+    Seal,
+    /// The digest of the circuit.
+    Digest,
+    /// SHA-256 over the circuit's canonical text, as it lies in memory.
+    Sha,
 }
 
 impl Part {
@@ -34,6 +40,10 @@ impl Part {
             "garble" => Some(Part::Garble),
             "hashes" => Some(Part::Hashes),
             "evaluate" => Some(Part::Evaluate),
+            "store" => Some(Part::Store),
+            "seal" => Some(Part::Seal),
+            "digest" => Some(Part::Digest),
+            "sha" => Some(Part::Sha),
             _ => None,
         }
     }
@@ -48,6 +58,8 @@ pub struct Subject {
     garbling: Garbling,
     decode_bits: Vec<bool>,
     labels: Vec<Label>,
+    tasks: Vec<Task>,
+    canonical_text: Vec<u8>,
 }
 
 impl Subject {
@@ -65,6 +77,8 @@ impl Subject {
         for i in 0..garbling.outputs() {
             decode_bits.push(garbling.decode_bit(i))?;
         }
+        let tasks = tasks_of(alloc, &circuit, seed)?;
+        let canonical_text = circuit.canon(alloc).map_err(|_| anyhow!("no memory"))?;
         Ok(Subject {
             circuit,
             seed,
@@ -72,6 +86,8 @@ impl Subject {
             garbling,
             decode_bits,
             labels,
+            tasks,
+            canonical_text,
         })
     }
 
@@ -89,6 +105,10 @@ impl Subject {
             }
             Part::Hashes => self.hashes()?,
             Part::Evaluate => self.evaluate(alloc)?,
+            Part::Store => self.store(alloc)?,
+            Part::Seal => self.seal()?,
+            Part::Digest => not_zeros(self.circuit.digest())?,
+            Part::Sha => not_zeros(Sha256::digest(&self.canonical_text))?,
         }
         Ok(())
     }
@@ -113,6 +133,34 @@ impl Subject {
         Ok(())
     }
 
+    fn store(&self, alloc: Global) -> Result<()> {
+        let copy = self
+            .circuit
+            .try_clone(alloc)
+            .map_err(|_| anyhow!("no memory"))?;
+        let mut store = Store::open(alloc, copy, self.seed).map_err(|_| anyhow!("no memory"))?;
+        let mut tally = store.tally().ok_or_else(|| anyhow!("no tally"))?;
+        for _ in 0..self.circuit.gates() {
+            let task = store.claim().ok_or_else(|| anyhow!("no gate may go next"))?;
+            store
+                .finish(Sealed::make(task), &mut tally)
+                .map_err(|_| anyhow!("refused"))?;
+        }
+        store.into_garbling().map_err(|_| anyhow!("not complete"))?;
+        Ok(())
+    }
+
+    fn seal(&self) -> Result<()> {
+        let mut last = None;
+        for task in &self.tasks {
+            last = Some(Sealed::make(*task));
+        }
+        if last.is_none() {
+            return Err(anyhow!("no tasks"));
+        }
+        Ok(())
+    }
+
     fn evaluate(&self, alloc: Global) -> Result<()> {
         let rows = self.garbling.rows();
         let fit = self.garbling.fits(&self.circuit)
@@ -126,6 +174,31 @@ impl Subject {
         )?;
         Ok(())
     }
+}
+
+/// Uses a digest, so that it has to be computed.
+fn not_zeros(digest: [u8; 32]) -> Result<()> {
+    if digest == [0; 32] {
+        return Err(anyhow!("a digest of zeros"));
+    }
+    Ok(())
+}
+
+/// The tasks of the gates, in file order.
+fn tasks_of(alloc: Global, circuit: &Circuit, seed: Seed) -> Result<Vec<Task>> {
+    let copy = circuit.try_clone(alloc).map_err(|_| anyhow!("no memory"))?;
+    let mut store = Store::open(alloc, copy, seed).map_err(|_| anyhow!("no memory"))?;
+    let mut tally = store.tally().ok_or_else(|| anyhow!("no tally"))?;
+    let mut tasks = Vec::with_capacity(alloc, circuit.gates() as usize)?;
+    for _ in 0..circuit.gates() {
+        let task = store.claim().ok_or_else(|| anyhow!("no gate may go next"))?;
+        let sealed = Sealed::make(task);
+        tasks.push(sealed.task())?;
+        store
+            .finish(sealed, &mut tally)
+            .map_err(|_| anyhow!("refused"))?;
+    }
+    Ok(tasks)
 }
 
 fn read(alloc: Global, text: &[u8]) -> Result<Circuit> {

@@ -13,7 +13,6 @@ use itoa::write_digits;
 use sha2::{Digest, Sha256};
 use std::alloc::{AllocError, Allocator};
 use std::convert::Infallible;
-use std::marker::Model;
 
 /// Takes a text piece by piece.
 trait TextSink {
@@ -66,7 +65,7 @@ fn write_byte(room: &mut Room, end: usize, byte: u8) -> usize
 }
 
 /// Writes the digits of a number before the place `end`, and returns where they start.
-fn write_digits_of(room: &mut Room, end: usize, number: u32) -> usize
+fn write_decimal(room: &mut Room, end: usize, number: u32) -> usize
     requires { (10 ≤ end) × (end ≤ ROOM) }
     ensures written { drop result room.new ≡ decimal number ++ drop end room.old }
     ensures start { (result ≤ end) × (end ≤ result + 10) }
@@ -81,7 +80,7 @@ fn write_number(room: &mut Room, end: usize, number: u32) -> usize
     ensures start { (result ≤ end) × (end ≤ result + 11) }
 {
     let space = write_byte(room, end, b' ');
-    write_digits_of(room, space, number)
+    write_decimal(room, space, number)
 }
 
 /// Writes a name and the end of its line, and returns where they start.
@@ -143,7 +142,7 @@ fn sizes_line(room: &mut Room, gates: u32, wires: u32) -> &[u8]
     ensures { result.now ≡ line (Number gates ∷ Number wires ∷ []) }
 {
     let end = write_byte(room, ROOM, b'\n');
-    let start = write_digits_of(room, end, wires);
+    let start = write_decimal(room, end, wires);
     let start = write_number(room, start, gates);
     &room[start..]
 }
@@ -152,7 +151,7 @@ fn sizes_line(room: &mut Room, gates: u32, wires: u32) -> &[u8]
 fn digits(room: &mut Room, number: u32) -> &[u8]
     ensures { result.now ≡ decimal number }
 {
-    let start = write_digits_of(room, ROOM, number);
+    let start = write_decimal(room, ROOM, number);
     &room[start..]
 }
 
@@ -160,7 +159,7 @@ fn digits(room: &mut Room, number: u32) -> &[u8]
 fn spaced_digits(room: &mut Room, number: u32) -> &[u8]
     ensures { result.now ≡ 32 ∷ decimal number }
 {
-    let start = write_digits_of(room, ROOM, number);
+    let start = write_decimal(room, ROOM, number);
     let start = write_byte(room, start, b' ');
     &room[start..]
 }

@@ -10,8 +10,8 @@ mod garbling;
 mod lines;
 mod order;
 mod plain;
+mod program;
 mod run;
-mod serve;
 mod values;
 mod work;
 
@@ -19,4 +19,5 @@ pub use failures::FailureCount;
 pub use fault::Fault;
 pub use files::{FileError, Files, HostFiles};
 pub use order::{Order, order_of};
+pub use program::serve;
 pub use work::carry_out;

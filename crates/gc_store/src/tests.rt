@@ -1,8 +1,7 @@
 use super::*;
-use gc_circuit::{Circuit, Memory, ReadFault};
+use gc_circuit::Circuit;
 use gc_half::{Garbling, garble_one_thread};
 use gc_label::Seed;
-use gc_refusing::Refusing;
 use std::alloc::{Allocator, Global};
 use std::process::Abort;
 use std::test::Fail;
@@ -176,30 +175,5 @@ fn the_garbling_of_one_thread(rt: HostRuntime) -> Result<(), Fail> {
         let garbling = store.into_garbling().ok().ok_or("not complete")?;
         check_same(&rt, &circuit, &garbling, &one_thread);
     }
-    Ok(())
-}
-
-// Memory runs out at each growth in turn: `open` fails exactly where a growth was refused, and no later call
-// of the store takes memory.
-#[test]
-fn memory(rt: HostRuntime) -> Result<(), Fail> {
-    let mut opened = false;
-    for n in 1..30u64 {
-        let heap = Refusing::nth(rt.alloc(), n);
-        match Circuit::read(&heap, EACH_OPERATION.as_bytes()) {
-            Err(fault) => assert_eq!(rt; fault, ReadFault::Memory),
-            Ok(circuit) => match Store::open(&heap, circuit, Seed::from_bytes(SEED)) {
-                Err(Memory) => assert_eq!(rt; heap.refused(), 1),
-                Ok(mut store) => {
-                    let growths = heap.growths();
-                    finish_all(&rt, &mut store)?;
-                    assert!(rt; store.into_garbling().is_ok());
-                    assert_eq!(rt; (heap.refused(), heap.growths()), (0, growths));
-                    opened = true;
-                }
-            },
-        }
-    }
-    assert!(rt; opened);
     Ok(())
 }

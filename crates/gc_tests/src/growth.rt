@@ -71,6 +71,18 @@ fn copying(rt: HostRuntime) -> Result<(), Fail> {
 }
 
 #[test]
+fn canonical_text(rt: HostRuntime) -> Result<(), Fail> {
+    let circuit = Circuit::read(rt.alloc(), FULL_ADDER)?;
+    let text = circuit.canon(rt.alloc())?;
+    let refused = runs_refused(&rt, rt.alloc(), |heap| match circuit.canon(heap) {
+        Ok(same) => plain_if(same.as_slice() == text.as_slice()),
+        Err(Memory) => Answer::Memory,
+    });
+    assert!(rt; refused > 0);
+    Ok(())
+}
+
+#[test]
 fn values(rt: HostRuntime) {
     for text in [b"100000000001".as_slice(), b"x0108".as_slice()] {
         let refused = runs_refused(&rt, rt.alloc(), |heap| match read_value(heap, text, 12) {

@@ -1,7 +1,15 @@
-//! Tests that cross crates: each growth refused in turn, and gates garbled by the store and on one thread.
+//! Tests that cross crates: whole runs of the program over files in memory, each growth refused in turn, and gates
+//! garbled by the store and on one thread.
 #![tactic(auto)]
 
 #[cfg(test)]
 mod circuits;
 #[cfg(test)]
+mod garblings;
+#[cfg(test)]
 mod growth;
+mod mem_files;
+#[cfg(test)]
+mod program;
+
+pub use mem_files::MemFiles;

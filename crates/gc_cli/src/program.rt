@@ -2,7 +2,7 @@
 
 ghost use Rattle.std.specs.Prelude.{◌≡◌, ◌≤◌, map, string_bytes, IsOk};
 ghost use Rattle.std.specs.Io.KnownBytes.{Appends, Keeps};
-ghost use Rattle.gc_cli.specs.Serve.{AnswersLine};
+ghost use Rattle.gc_cli.specs.Serve.{IsDone, IsMistaken};
 
 use crate::fault::Fault;
 use crate::files::Files;
@@ -34,9 +34,12 @@ pub fn serve<F: Files, O: Write, E: Write>(
     err: &mut E,
 ) -> u8
     ensures status { result ≤ 2 }
-    ensures answered { result ≡ DONE → AnswersLine (F.bytes files.old) (map string_bytes words.now) (Appends (O.contents out.old) (O.contents out.new)) }
-    ensures quiet { result ≡ DONE → Keeps (E.contents err.old) (E.contents err.new) }
-    ensures usage { result ≡ USAGE → Keeps (O.contents out.old) (O.contents out.new) }
+    ensures done { result ≡ DONE → IsDone (F.bytes files.old) (map string_bytes words.now) (Appends (O.contents out.old) (O.contents out.new)) }
+    ensures usage { IsMistaken (map string_bytes words.now) → result ≡ USAGE }
+
+    // What is known of the outputs stays where nothing is written to them.
+    ensures no_errors { result ≡ DONE → Keeps (E.contents err.old) (E.contents err.new) }
+    ensures no_output { result ≡ USAGE → Keeps (O.contents out.old) (O.contents out.new) }
 {
     match order_of(alloc, words) {
         Ok(order) => match carry_out(alloc, &order, files) {

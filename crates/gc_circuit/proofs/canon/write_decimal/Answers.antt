@@ -1,6 +1,6 @@
 use Rattle.std.proofs.Common.{◌<◌, ◌^◌, arith}
 use Rattle.gc_circuit.proofs.CanonLines.{short_decimal}
-use Rattle.gc_circuit.proofs.canon.write_digits_of.Goals as goal
+use Rattle.gc_circuit.proofs.canon.write_decimal.Goals as goal
 
 pub write_digits-requires : goal.write_digits-requires
 write_digits-requires c =
