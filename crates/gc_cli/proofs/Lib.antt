@@ -3,3 +3,5 @@ pub mod EncodingLemmas
 pub mod EvaluationLemmas
 pub mod SettledLemmas
 pub mod RunLemmas
+pub mod PlainLemmas
+pub mod CheckLemmas

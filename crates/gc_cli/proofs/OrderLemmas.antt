@@ -1,15 +1,10 @@
 -- Building clap's command, step by step.
 use Rattle.std.proofs.Common.{◌≡◌, ap, ap₂, ◌∙◌, false, List, ℕ, Option, Some, None, option_map, unwrap_or, Bor, ◌||◌}
-use Rattle.clap.specs.Words.{AddsArg, AddsSubcommand, App, Rule, app_of, rule_of, with_rule, with_subcommand}
+use Rattle.clap.specs.Words.{AddsArg, AddsSubcommand, App, Rule, app_of, with_rule, with_subcommand}
 use Rattle.clap.specs.declared.builder.command.Command.{Command}
 use Rattle.clap.specs.declared.builder.command.Command.TheViews.{out-Command}
 use Rattle.clap.specs.declared.builder.arg.Arg.{Arg}
-use Rattle.gc_cli.specs.Order.{HasShape}
-
--- An argument that is not global, with what clap reads of it.
-pub record HasRule (rule : Rule) (a : Arg) : Type 0 where
-  pub rule_is : rule_of a ≡ rule
-  pub local : a.global ≡ false
+use Rattle.gc_cli.specs.Order.{HasRule, HasShape}
 
 pub has_shape-arg : (old new : Command) (a : Arg) (app : App) (rule : Rule) → HasShape app old → HasRule rule a → AddsArg old a new → HasShape (with_rule app rule) new
 has_shape-arg old new a app rule was is adds = record {

@@ -3,6 +3,8 @@ pub mod Fault
 pub mod Order
 pub mod Lines
 pub mod Run
+pub mod Plain
+pub mod Check
 pub mod CarryOut
 pub mod Serve
 pub mod Encoding

@@ -1,6 +1,7 @@
 //! The program `halfgates` as a library: its command line, its commands, and what they print.
 #![tactic(auto)]
 
+mod check;
 mod evaluation;
 mod failures;
 mod fault;
@@ -8,6 +9,7 @@ mod files;
 mod garbling;
 mod lines;
 mod order;
+mod plain;
 mod program;
 mod run;
 mod values;

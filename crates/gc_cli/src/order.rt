@@ -2,7 +2,7 @@
 
 ghost use Rattle.std.specs.Prelude.{◌≡◌, [], map, IfOk, Some, codes, string_bytes};
 ghost use Rattle.clap.specs.Words.{FailsBy, fault_of, found_of, rows_of};
-ghost use Rattle.gc_cli.specs.Order.{HasShape, program, run_command, run_told, told, text_of, word_of, words_of};
+ghost use Rattle.gc_cli.specs.Order.{HasRule, HasShape, check_command, check_told, command_told, more_words, plain_command, plain_told, program, required_word, run_command, run_told, told, text_of, word_of, words_of};
 
 use clap::{Arg, ArgAction, ArgMatches, Command, Error};
 use std::alloc::{AllocError, Global};
@@ -19,6 +19,18 @@ pub enum Order {
         /// The text of each input value, in order.
         values: Vec<String>,
     },
+    /// Tell a circuit's numbers and digest.
+    Check {
+        /// The name of the circuit's file.
+        circuit: String,
+    },
+    /// Evaluate a circuit on these values, without garbling.
+    Plain {
+        /// The name of the circuit's file.
+        circuit: String,
+        /// The text of each input value, in order.
+        values: Vec<String>,
+    },
 }
 
 const RUN_HELP: &str = "\
@@ -26,6 +38,20 @@ Prints the output values, one a line: a character 0 or 1 for each wire, in wire 
 
 Example, with a full adder in adder.txt that reads three bits:
   halfgates run adder.txt 0000000000000000000000000000000000000000000000000000000000000000 1 0 1";
+
+const CHECK_HELP: &str = "\
+Prints six lines: `gates`, `wires` and `and` with the number of gates, wires and AND gates, `inputs` and `outputs` with \
+the number of values and the number of wires of each, and `digest` with the SHA-256 of the circuit's canonical text \
+in hexadecimal digits. Two files of one circuit have one digest.
+
+Example:
+  halfgates check adder.txt";
+
+const PLAIN_HELP: &str = "\
+Prints the output values, one a line: a character 0 or 1 for each wire, in wire order.
+
+Example, with a full adder in adder.txt that reads three bits:
+  halfgates plain adder.txt 1 0 1";
 
 const VALUES_HELP: &str = "\
 A value for each input value of the circuit: a character 0 or 1 for each wire, in wire order, or x and \
@@ -39,7 +65,7 @@ pub fn order_of(alloc: Global, words: &[String]) -> Result<Order, Error>
 {
     let matches = halfgates(alloc)?.try_get_matches_from(words)?;
     match matches.subcommand() {
-        Some((_, found)) => Ok(run_order(alloc, found)?),
+        Some((name, found)) => Ok(named_order(alloc, name, found)?),
         None => unreachable!(),
     }
 }
@@ -53,31 +79,77 @@ fn halfgates<'a>(alloc: Global) -> Result<Command<'a>, AllocError>
         .subcommand_required(true)
         .arg_required_else_help(true)
         .disable_help_subcommand(true)
-        .subcommand(run(alloc)?)
+        .subcommand(run(alloc)?)?
+        .subcommand(plain(alloc)?)?
+        .subcommand(check(alloc)?)
 }
 
 /// The command `run`.
 fn run<'a>(alloc: Global) -> Result<Command<'a>, AllocError>
     ensures { IfOk result (HasShape run_command) }
 {
-    let circuit = Arg::new(alloc, "circuit")
-        .value_name("CIRCUIT")
-        .help("The file of the circuit, in Bristol Fashion")
-        .required(true);
     let seed = Arg::new(alloc, "seed")
         .value_name("SEED")
         .help("The seed of the garbling: 64 hexadecimal digits")
         .required(true);
-    let values = Arg::new(alloc, "values")
-        .value_name("VALUES")
-        .help(VALUES_HELP)
-        .action(ArgAction::Append);
     Command::new(alloc, "run")
         .about("Garbles a circuit, and evaluates it garbled on the given values")
         .after_help(RUN_HELP)
-        .arg(circuit)?
+        .arg(circuit_arg(alloc))?
         .arg(seed)?
-        .arg(values)
+        .arg(values_arg(alloc))
+}
+
+/// The command `plain`.
+fn plain<'a>(alloc: Global) -> Result<Command<'a>, AllocError>
+    ensures { IfOk result (HasShape plain_command) }
+{
+    Command::new(alloc, "plain")
+        .about("Evaluates a circuit on the given values, without garbling")
+        .after_help(PLAIN_HELP)
+        .arg(circuit_arg(alloc))?
+        .arg(values_arg(alloc))
+}
+
+/// The command `check`.
+fn check<'a>(alloc: Global) -> Result<Command<'a>, AllocError>
+    ensures { IfOk result (HasShape check_command) }
+{
+    Command::new(alloc, "check")
+        .about("Tells a circuit's numbers and its digest")
+        .after_help(CHECK_HELP)
+        .arg(circuit_arg(alloc))
+}
+
+/// The word for the circuit.
+fn circuit_arg<'a>(alloc: Global) -> Arg<'a>
+    ensures { HasRule (required_word (codes "circuit")) result }
+{
+    Arg::new(alloc, "circuit")
+        .value_name("CIRCUIT")
+        .help("The file of the circuit, in Bristol Fashion")
+        .required(true)
+}
+
+/// The words for the input values.
+fn values_arg<'a>(alloc: Global) -> Arg<'a>
+    ensures { HasRule (more_words (codes "values")) result }
+{
+    Arg::new(alloc, "values")
+        .value_name("VALUES")
+        .help(VALUES_HELP)
+        .action(ArgAction::Append)
+}
+
+/// The order of the command of this name, from what clap found of its words.
+fn named_order(alloc: Global, name: &str, found: &ArgMatches<'_>) -> Result<Order, AllocError>
+    ensures { IfOk result (λ order. text_of order ≡ command_told name.now (rows_of (found_of found.now))) }
+{
+    match name {
+        "plain" => plain_order(alloc, found),
+        "check" => check_order(alloc, found),
+        _ => run_order(alloc, found),
+    }
 }
 
 /// The order of `run`, from what clap found of its words.
@@ -88,6 +160,25 @@ fn run_order(alloc: Global, found: &ArgMatches<'_>) -> Result<Order, AllocError>
         circuit: word_of(alloc, found, "circuit")?,
         seed: word_of(alloc, found, "seed")?,
         values: words_of(alloc, found, "values")?,
+    })
+}
+
+/// The order of `plain`, from what clap found of its words.
+fn plain_order(alloc: Global, found: &ArgMatches<'_>) -> Result<Order, AllocError>
+    ensures { IfOk result (λ order. text_of order ≡ plain_told (rows_of (found_of found.now))) }
+{
+    Ok(Order::Plain {
+        circuit: word_of(alloc, found, "circuit")?,
+        values: words_of(alloc, found, "values")?,
+    })
+}
+
+/// The order of `check`, from what clap found of its words.
+fn check_order(alloc: Global, found: &ArgMatches<'_>) -> Result<Order, AllocError>
+    ensures { IfOk result (λ order. text_of order ≡ check_told (rows_of (found_of found.now))) }
+{
+    Ok(Order::Check {
+        circuit: word_of(alloc, found, "circuit")?,
     })
 }
 

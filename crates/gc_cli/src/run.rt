@@ -45,7 +45,7 @@ pub fn run<A: Allocator + Copy, F: Files>(
 }
 
 /// The circuit of a file. The file's bytes are let go.
-fn read_circuit<A: Allocator + Copy, F: Files>(
+pub(crate) fn read_circuit<A: Allocator + Copy, F: Files>(
     alloc: A,
     name: &str,
     files: &mut F,

@@ -4,9 +4,11 @@ ghost use Rattle.std.specs.Prelude.{◌≡◌, ℕ, List, IfOk, IfErr};
 ghost use Rattle.gc_cli.specs.Order.{text_of};
 ghost use Rattle.gc_cli.specs.CarryOut.{Answers, HasFault, HasCause};
 
+use crate::check::check;
 use crate::fault::Fault;
 use crate::files::Files;
 use crate::order::Order;
+use crate::plain::plain;
 use crate::run::run;
 use std::alloc::Allocator;
 
@@ -29,5 +31,7 @@ pub fn carry_out<A: Allocator + Copy, F: Files>(
             seed,
             values,
         } => run(alloc, circuit.as_str(), seed.as_str(), values, files),
+        Order::Check { circuit } => check(alloc, circuit.as_str(), files),
+        Order::Plain { circuit, values } => plain(alloc, circuit.as_str(), values, files),
     }
 }

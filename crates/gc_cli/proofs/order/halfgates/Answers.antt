@@ -19,4 +19,6 @@ returns c =
       no_globals = ap (λ f. f.has_globals) c.disable_help_subcommand.ensures ∙ ap (λ f. f.has_globals) c.arg_required_else_help.ensures
           ∙ ap (λ f. f.has_globals) c.subcommand_required.ensures ∙ ap (λ f. f.has_globals) c.about.ensures ∙ c.new.ensures.local;
     } in
-    IfOk-weaker c.subcommand.result _ _ (λ r adds. has_shape-subcommand _ _ _ _ _ empty c.in_ok-run.ensures adds) c.subcommand.ensures
+    let one = has_shape-subcommand _ _ _ _ _ empty c.in_ok-run.ensures c.in_ok-subcommand.ensures in
+    let two = has_shape-subcommand _ _ _ _ _ one c.in_ok-plain.ensures c.in_ok-subcommand-2.ensures in
+    IfOk-weaker c.subcommand-3.result _ _ (λ r adds. has_shape-subcommand _ _ _ _ _ two c.in_ok-check.ensures adds) c.subcommand-3.ensures

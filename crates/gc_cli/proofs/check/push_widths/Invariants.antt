@@ -1,0 +1,7 @@
+use Rattle.std.proofs.Common.{◌≡◌, ◌++◌, ◌∷◌, length, decimal, take}
+use Rattle.gc_circuit.proofs.CanonLines.{numbers_after}
+use Rattle.gc_cli.proofs.check.push_widths.Given as goal
+
+abbrev pub invariant-loop-width : goal.invariant-loop-width
+invariant-loop-width g l =
+    l.lines.items ≡ l.fn.lines.items ++ l.name ++ 32 ∷ decimal (length l.widths) ++ numbers_after (take l.width-index l.widths)
