@@ -277,7 +277,9 @@ Garbles Boolean circuits, and evaluates them garbled
 Usage: halfgates <COMMAND>
 
 Commands:
-  run  Garbles a circuit, and evaluates it garbled on the given values
+  run    Garbles a circuit, and evaluates it garbled on the given values
+  plain  Evaluates a circuit on the given values, without garbling
+  check  Tells a circuit's numbers and its digest
 
 Options:
   -h, --help  Print help
@@ -324,7 +326,10 @@ fn reads_an_order(rt: HostRuntime) -> Result<(), Fail> {
         circuit,
         seed,
         values,
-    } = order_of(alloc, &words)?;
+    } = order_of(alloc, &words)?
+    else {
+        return Err(Fail::from("another order"));
+    };
     assert_eq!(rt; (circuit.as_str(), seed.as_str()), ("-c", "s"));
     assert_eq!(rt; values.len(), 3);
     assert_eq!(rt; values[0].as_str(), "1");
