@@ -1,14 +1,14 @@
 -- Lines of the canonical text, as they are written.
-use Rattle.std.proofs.Common.{◌≡◌, ℕ, ◌+◌, ◌<◌, ◌≤◌, ◌^◌, ◌++◌, List, [], ◌∷◌, length, map, take, drop, slice_get, append_assoc, append-nil, Some, decimal, refl, sym, ap, ◌∙◌, arith}
+use Rattle.std.proofs.Common.{◌≡◌, ℕ, zero, suc, ◌+◌, ◌<◌, ◌≤◌, ◌^◌, ◌++◌, List, [], ◌∷◌, length, map, take, drop, slice_get, append_assoc, append-nil, Some, decimal, refl, sym, ap, ◌∙◌, arith}
+use Rattle.std.specs.Fmt.{digits}
 use Rattle.std.specs.List.{flat_map, join_with_byte}
 use Rattle.std.proofs.lemmas.Fmt.{length-decimal-le}
 use Rattle.std.proofs.lemmas.Grind.{flat_map-append}
-use Rattle.std.proofs.lemmas.List.{drop_all, take_all, take_more}
-use Rattle.std.proofs.lemmas.List.Folds.{flat_map-map}
-use Rattle.std.proofs.lemmas.Option.{slice_get_within, get_or_from_slice_get}
+use Rattle.std.proofs.lemmas.List.{drop_all, take_all, map-append, length-take-le}
+use Rattle.std.proofs.lemmas.Option.{slice_get_within}
 use Rattle.gc_circuit.specs.declared.circuit.Gate.{Gate}
 use Rattle.gc_circuit.specs.Circuit.{Netlist}
-use Rattle.gc_circuit.specs.Spelling.{Number, words_of_gate, words_of_widths}
+use Rattle.gc_circuit.specs.Spelling.{Number, Name, words_of_gate, words_of_widths}
 use Rattle.gc_circuit.specs.Canon.{written, line, canonical_text}
 
 -- A number of 32 bits has at most ten digits.
@@ -37,11 +37,15 @@ widths_done text widths i done =
     ∙ append_assoc text (count ++ numbers_after widths) (10 ∷ [])
     ∙ ap (λ t. text ++ t) (sym (line-widths widths))
 
+-- The lines of gates
+abbrev pub lines_of_gates : List Gate → List ℕ
+lines_of_gates gs = flat_map line (map words_of_gate gs)
+
 -- The canonical text up to the gate at place n
 pub text_before : Netlist → ℕ → List ℕ
 text_before c n =
     line (Number (length c.gates) ∷ Number c.wires ∷ []) ++ (line (words_of_widths c.input_widths) ++ (line (words_of_widths c.output_widths)
-    ++ (10 ∷ flat_map (λ g. line (words_of_gate g)) (take n c.gates))))
+    ++ (10 ∷ lines_of_gates (take n c.gates))))
 
 first_regrouped : (text h a b : List ℕ) → (((text ++ h) ++ a) ++ b) ++ 10 ∷ [] ≡ text ++ (h ++ (a ++ (b ++ 10 ∷ [])))
 first_regrouped text h a b = simp append_assoc
@@ -59,26 +63,61 @@ text_before-first text sizes inputs outputs c h i o =
 next_regrouped : (text h a b x y : List ℕ) → (text ++ (h ++ (a ++ (b ++ 10 ∷ x)))) ++ y ≡ text ++ (h ++ (a ++ (b ++ 10 ∷ (x ++ y))))
 next_regrouped text h a b x y = simp append_assoc
 
-gates_next : (gs : List Gate) (i : ℕ) (g : Gate) → slice_get gs i ≡ Some g →
-    flat_map (λ k. line (words_of_gate k)) (take (i + 1) gs) ≡ flat_map (λ k. line (words_of_gate k)) (take i gs) ++ line (words_of_gate g)
-gates_next gs i g at =
-    let lines : List Gate → List ℕ = flat_map (λ k. line (words_of_gate k)) in
-    ap lines (take_more gs i g (slice_get_within gs i g at) ∙ ap (λ k. take i gs ++ k ∷ []) (get_or_from_slice_get gs i g g at))
-    ∙ flat_map-append (λ k. line (words_of_gate k)) (take i gs) (g ∷ [])
-    ∙ ap (λ t. lines (take i gs) ++ t) (append-nil (line (words_of_gate g)))
+two_parts : (gs : List Gate) (i next : ℕ) → i ≤ next → take i gs ++ drop i (take next gs) ≡ take next gs
+two_parts gs zero next h = refl
+two_parts gs (suc i) zero h = absurd (omega arith)
+two_parts [] (suc i) (suc next) h = refl
+two_parts (g ∷ gs) (suc i) (suc next) h = ap (λ t. g ∷ t) (two_parts gs i next (omega arith))
 
-pub text_before-next : (text piece : List ℕ) (c : Netlist) (i : ℕ) (g : Gate) → piece ≡ line (words_of_gate g) → slice_get c.gates i ≡ Some g →
-    (text ++ text_before c i) ++ piece ≡ text ++ text_before c (i + 1)
+lines_next : (gs : List Gate) (i next : ℕ) → i ≤ next →
+    lines_of_gates (take i gs) ++ lines_of_gates (drop i (take next gs)) ≡ lines_of_gates (take next gs)
+lines_next gs i next h =
+    sym (ap (flat_map line) (map-append words_of_gate (take i gs) (drop i (take next gs)))
+    ∙ flat_map-append line (map words_of_gate (take i gs)) (map words_of_gate (drop i (take next gs))))
+    ∙ ap lines_of_gates (two_parts gs i next h)
+
+-- The lines of the gates up to the next place follow.
+pub text_before-next : (text piece : List ℕ) (c : Netlist) (i next : ℕ) → i ≤ next → piece ≡ lines_of_gates (drop i (take next c.gates)) →
+    (text ++ text_before c i) ++ piece ≡ text ++ text_before c next
 unfolding text_before
-text_before-next text piece c i g is at =
+text_before-next text piece c i next h is =
     ap (λ t. (text ++ text_before c i) ++ t) is
-    ∙ rw (gates_next c.gates i g at)
-    (next_regrouped text (line (Number (length c.gates) ∷ Number c.wires ∷ [])) (line (words_of_widths c.input_widths)) (line (words_of_widths c.output_widths))
-    (flat_map (λ k. line (words_of_gate k)) (take i c.gates)) (line (words_of_gate g)))
+    ∙ next_regrouped text (line (Number (length c.gates) ∷ Number c.wires ∷ [])) (line (words_of_widths c.input_widths)) (line (words_of_widths c.output_widths))
+    (lines_of_gates (take i c.gates)) (lines_of_gates (drop i (take next c.gates)))
+    ∙ ap (λ t. text ++ (line (Number (length c.gates) ∷ Number c.wires ∷ []) ++ (line (words_of_widths c.input_widths) ++ (line (words_of_widths c.output_widths) ++ 10 ∷ t)))) (lines_next c.gates i next h)
 
 pub text_before-end : (c : Netlist) (n : ℕ) → length c.gates ≤ n → text_before c n ≡ canonical_text c
 unfolding text_before canonical_text
-text_before-end c n done = rw (take_all n c.gates done, flat_map-map line words_of_gate c.gates) refl
+text_before-end c n done = rw (take_all n c.gates done) refl
+
+-- The lines of gates from one place on are written from the last one to the first: none,
+pub lines_none : (gs : List Gate) (to : ℕ) → to ≤ length gs → lines_of_gates (drop to (take to gs)) ≡ []
+lines_none gs to h =
+    let short : length (take to gs) ≡ to = length-take-le to gs h in
+    ap lines_of_gates (drop_all to (take to gs) (omega arith))
+
+-- and one more.
+pub lines_from : (gs : List Gate) (i to : ℕ) (g : Gate) → slice_get gs i ≡ Some g → i < to →
+    lines_of_gates (drop i (take to gs)) ≡ line (words_of_gate g) ++ lines_of_gates (drop (suc i) (take to gs))
+lines_from [] i to g at below = let inside = slice_get_within [] i g at in absurd (omega arith)
+lines_from (h ∷ gs) i zero g at below = absurd (omega arith)
+lines_from (h ∷ gs) zero (suc to) g at below =
+    let same : h ≡ g = cc in
+    ap (λ k. line (words_of_gate k) ++ lines_of_gates (take to gs)) same
+lines_from (h ∷ gs) (suc i) (suc to) g at below = lines_from gs i to g at (omega arith)
+
+-- The line of a gate before what follows it
+pub line_of_one : (read set : ℕ) (name after : List ℕ) →
+    line (Number 1 ∷ Number 1 ∷ Number read ∷ Number set ∷ Name name ∷ []) ++ after
+    ≡ 49 ∷ 32 ∷ 49 ∷ 32 ∷ (decimal read ++ 32 ∷ (decimal set ++ 32 ∷ (name ++ 10 ∷ after)))
+unfolding digits
+line_of_one read set name after = simp append_assoc refl
+
+pub line_of_two : (first second set : ℕ) (name after : List ℕ) →
+    line (Number 2 ∷ Number 1 ∷ Number first ∷ Number second ∷ Number set ∷ Name name ∷ []) ++ after
+    ≡ 50 ∷ 32 ∷ 49 ∷ 32 ∷ (decimal first ++ 32 ∷ (decimal second ++ 32 ∷ (decimal set ++ 32 ∷ (name ++ 10 ∷ after))))
+unfolding digits
+line_of_two first second set name after = simp append_assoc refl
 
 -- Digits at the end of the room
 pub digits_last : (n : ℕ) (digits room : List ℕ) → length room ≤ n → digits ++ drop n room ≡ digits

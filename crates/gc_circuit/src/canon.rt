@@ -1,6 +1,6 @@
 //! The canonical text of a circuit, and its digest.
 
-ghost use Rattle.std.specs.Prelude.{◌≡◌, ◌+◌, ◌<◌, ◌≤◌, ◌++◌, ℕ, List, [], ◌∷◌, length, map, drop, decimal, OnOk, IfOk};
+ghost use Rattle.std.specs.Prelude.{◌≡◌, ◌+◌, ◌≤◌, ◌++◌, ℕ, List, [], ◌∷◌, length, map, flat_map, take, drop, decimal, OnOk, IfOk};
 ghost use Rattle.sha2.specs.Hashers.{Holds256};
 ghost use Rattle.sha2.specs.Sha256.{sha256};
 ghost use Rattle.gc_circuit.specs.Spelling.{Number, Name, words_of_gate, words_of_widths};
@@ -47,21 +47,28 @@ impl TextSink for Sha256 {
     }
 }
 
-/// How many bytes there is room for in a line. That of a gate has at most 41.
-const ROOM: usize = 64;
+/// How many bytes there is room for.
+const ROOM: usize = 512;
 
-/// Room for a line. It is written from its end to its beginning, so that the digits of a number fall into place,
-/// and ends where the room ends.
+/// The most bytes in the line of a gate.
+const LONGEST: usize = 41;
+
+/// The lines of how many gates are given to a sink at once. There is room for as many of the longest.
+const GATES_AT_ONCE: u32 = 12;
+
+/// Room for text. It is written from its end to its beginning, so that the digits of a number fall into place, and
+/// ends where the room ends.
 type Room = [u8; ROOM];
 
-/// Writes a byte before the place `end`, and returns where it stands.
-fn write_byte(room: &mut Room, end: usize, byte: u8) -> usize
-    requires { (0 < end) × (end ≤ ROOM) }
-    ensures written { drop result room.new ≡ byte ∷ drop end room.old }
-    ensures start { result + 1 ≡ end }
+/// Writes bytes before the place `end`, and returns where they start.
+fn write_bytes(room: &mut Room, end: usize, bytes: &[u8]) -> usize
+    requires { (length bytes.now ≤ end) × (end ≤ ROOM) }
+    ensures written { drop result room.new ≡ bytes.now ++ drop end room.old }
+    ensures start { result + length bytes.now ≡ end }
 {
-    room[end - 1] = byte;
-    end - 1
+    let start = end - bytes.len();
+    room[start..end].copy_from_slice(bytes);
+    start
 }
 
 /// Writes the digits of a number before the place `end`, and returns where they start.
@@ -79,61 +86,66 @@ fn write_number(room: &mut Room, end: usize, number: u32) -> usize
     ensures written { drop result room.new ≡ decimal number ++ 32 ∷ drop end room.old }
     ensures start { (result ≤ end) × (end ≤ result + 11) }
 {
-    let space = write_byte(room, end, b' ');
+    let space = write_bytes(room, end, b" ");
     write_decimal(room, space, number)
 }
 
-/// Writes a name and the end of its line, and returns where they start.
-fn write_name(room: &mut Room, name: &[u8]) -> usize
-    requires { length name.now ≤ 3 }
-    ensures written { drop result room.new ≡ name.now ++ 10 ∷ [] }
-    ensures start { result + length name.now ≡ 63 }
+/// Writes a name and the end of its line before the place `end`, and returns where they start.
+fn write_name(room: &mut Room, end: usize, name: &[u8]) -> usize
+    requires { (length name.now + 1 ≤ end) × (end ≤ ROOM) }
+    ensures written { drop result room.new ≡ name.now ++ 10 ∷ drop end room.old }
+    ensures start { result + length name.now + 1 ≡ end }
 {
-    let mut start = write_byte(room, ROOM, b'\n');
-    for i in (0..name.len()).rev() {
-        start = write_byte(room, start, name[i]);
-    }
-    start
+    let line_end = write_bytes(room, end, b"\n");
+    write_bytes(room, line_end, name)
 }
 
-/// The line of a gate that reads one number, a wire or a constant: its counts, the number, the wire set, the name.
-fn line_of_one<'a>(room: &'a mut Room, read: u32, set: u32, name: &[u8]) -> &'a [u8]
-    requires { length name.now ≤ 3 }
-    ensures { result.now ≡ line (Number 1 ∷ Number 1 ∷ Number read ∷ Number set ∷ Name name.now ∷ []) }
+/// Writes the line of a gate that reads one number, a wire or a constant: its counts, the number, the wire set, the
+/// name.
+fn write_line_of_one(room: &mut Room, end: usize, read: u32, set: u32, name: &[u8]) -> usize
+    requires { (length name.now ≤ 3) × (LONGEST ≤ end) × (end ≤ ROOM) }
+    ensures written { drop result room.new ≡ line (Number 1 ∷ Number 1 ∷ Number read ∷ Number set ∷ Name name.now ∷ []) ++ drop end room.old }
+    ensures start { (result ≤ end) × (end ≤ result + LONGEST) }
 {
-    let start = write_name(room, name);
+    let start = write_name(room, end, name);
     let start = write_number(room, start, set);
     let start = write_number(room, start, read);
-    let start = write_number(room, start, 1);
-    let start = write_number(room, start, 1);
-    &room[start..]
+    write_bytes(room, start, b"1 1 ")
 }
 
-/// The line of a gate that reads two wires: its counts, the wires, the wire set, the name.
-fn line_of_two<'a>(room: &'a mut Room, first: u32, second: u32, set: u32, name: &[u8]) -> &'a [u8]
-    requires { length name.now ≤ 3 }
-    ensures { result.now ≡ line (Number 2 ∷ Number 1 ∷ Number first ∷ Number second ∷ Number set ∷ Name name.now ∷ []) }
+/// Writes the line of a gate that reads two wires: its counts, the wires, the wire set, the name.
+fn write_line_of_two(
+    room: &mut Room,
+    end: usize,
+    first: u32,
+    second: u32,
+    set: u32,
+    name: &[u8],
+) -> usize
+    requires { (length name.now ≤ 3) × (LONGEST ≤ end) × (end ≤ ROOM) }
+    ensures written { drop result room.new ≡ line (Number 2 ∷ Number 1 ∷ Number first ∷ Number second ∷ Number set ∷ Name name.now ∷ []) ++ drop end room.old }
+    ensures start { (result ≤ end) × (end ≤ result + LONGEST) }
 {
-    let start = write_name(room, name);
+    let start = write_name(room, end, name);
     let start = write_number(room, start, set);
     let start = write_number(room, start, second);
     let start = write_number(room, start, first);
-    let start = write_number(room, start, 1);
-    let start = write_number(room, start, 2);
-    &room[start..]
+    write_bytes(room, start, b"2 1 ")
 }
 
-/// The line of a gate.
-fn gate_line(room: &mut Room, gate: Gate) -> &[u8]
-    ensures { result.now ≡ line (words_of_gate gate) }
+/// Writes the line of a gate before the place `end`, and returns where it starts.
+fn write_gate(room: &mut Room, end: usize, gate: Gate) -> usize
+    requires { (LONGEST ≤ end) × (end ≤ ROOM) }
+    ensures written { drop result room.new ≡ line (words_of_gate gate) ++ drop end room.old }
+    ensures start { (result ≤ end) × (end ≤ result + LONGEST) }
 {
     let set = gate.set;
     match gate.operation {
-        Operation::Xor(a, b) => line_of_two(room, a, b, set, b"XOR"),
-        Operation::And(a, b) => line_of_two(room, a, b, set, b"AND"),
-        Operation::Inv(a) => line_of_one(room, a, set, b"INV"),
-        Operation::Eq(constant) => line_of_one(room, u32::from(constant), set, b"EQ"),
-        Operation::Eqw(a) => line_of_one(room, a, set, b"EQW"),
+        Operation::Xor(a, b) => write_line_of_two(room, end, a, b, set, b"XOR"),
+        Operation::And(a, b) => write_line_of_two(room, end, a, b, set, b"AND"),
+        Operation::Inv(a) => write_line_of_one(room, end, a, set, b"INV"),
+        Operation::Eq(constant) => write_line_of_one(room, end, u32::from(constant), set, b"EQ"),
+        Operation::Eqw(a) => write_line_of_one(room, end, a, set, b"EQW"),
     }
 }
 
@@ -141,7 +153,7 @@ fn gate_line(room: &mut Room, gate: Gate) -> &[u8]
 fn sizes_line(room: &mut Room, gates: u32, wires: u32) -> &[u8]
     ensures { result.now ≡ line (Number gates ∷ Number wires ∷ []) }
 {
-    let end = write_byte(room, ROOM, b'\n');
+    let end = write_bytes(room, ROOM, b"\n");
     let start = write_decimal(room, end, wires);
     let start = write_number(room, start, gates);
     &room[start..]
@@ -160,7 +172,7 @@ fn spaced_digits(room: &mut Room, number: u32) -> &[u8]
     ensures { result.now ≡ 32 ∷ decimal number }
 {
     let start = write_decimal(room, ROOM, number);
-    let start = write_byte(room, start, b' ');
+    let start = write_bytes(room, start, b" ");
     &room[start..]
 }
 
@@ -178,6 +190,18 @@ fn write_widths<S: TextSink>(sink: &mut S, widths: &[u32]) -> Result<(), S::Faul
 }
 
 impl<A: Allocator> Circuit<A> {
+    /// The lines of the gates from place `from` up to place `to`.
+    fn gate_lines<'a>(&self, room: &'a mut Room, from: u32, to: u32) -> &'a [u8]
+        requires { (from ≤ to) × (to ≤ from + GATES_AT_ONCE) × (to ≤ length self.now.gates) }
+        ensures { result.now ≡ flat_map line (map words_of_gate (drop from (take to self.now.gates))) }
+    {
+        let mut start = ROOM;
+        for i in (from..to).rev() {
+            start = write_gate(room, start, self.gate(i));
+        }
+        &room[start..]
+    }
+
     /// Gives the canonical text to the sink.
     fn write_canonical_text<S: TextSink>(&self, sink: &mut S) -> Result<(), S::Fault>
         ensures { OnOk result ((text : List ℕ) → S.holds sink.old text → S.holds sink.new (text ++ canonical_text self.now)) }
@@ -187,8 +211,11 @@ impl<A: Allocator> Circuit<A> {
         write_widths(sink, self.input_widths())?;
         write_widths(sink, self.output_widths())?;
         sink.put(b"\n")?;
-        for i in 0..self.gates() {
-            sink.put(gate_line(&mut room, self.gate(i)))?;
+        let mut done = 0;
+        while done < self.gates() {
+            let next = (done + GATES_AT_ONCE).min(self.gates());
+            sink.put(self.gate_lines(&mut room, done, next))?;
+            done = next;
         }
         Ok(())
     }

@@ -4,4 +4,4 @@ use Rattle.gc_circuit.proofs.CanonLines.{digits_last}
 use Rattle.gc_circuit.proofs.canon.spaced_digits.Goals as goal
 
 pub returns : goal.returns
-returns c = grind (arith, common_steps, digits_last 64 (decimal c.args.number) c.args.room.now)
+returns c = grind (arith, common_steps, digits_last 512 (decimal c.args.number) c.args.room.now)
