@@ -2,9 +2,13 @@
 //! plain answer where none was.
 
 use crate::circuits::{FULL_ADDER, one_zero_one};
+use crate::mem_files::MemFiles;
+use crate::serving::{SEED, copies_of, plain_words, run_words};
 use gc_circuit::{
-    Circuit, Memory, ReadFault, ValueFault, fits, plain_eval, read_value, show_value,
+    Circuit, Gate, Memory, Operation, ReadFault, ValueFault, fits, plain_eval, read_value,
+    show_value,
 };
+use gc_cli::{carry_out, order_of};
 use gc_eval::evaluate_labels;
 use gc_half::garble_one_thread;
 use gc_label::{Label, Seed, fill_input_labels};
@@ -50,7 +54,7 @@ fn reading(rt: HostRuntime) {
     let refused = runs_refused(
         &rt,
         rt.alloc(),
-        |heap| match Circuit::read(heap, FULL_ADDER) {
+        |heap| match Circuit::read(heap, FULL_ADDER.as_bytes()) {
             Ok(circuit) => plain_if(circuit.gates() == 5),
             Err(ReadFault::Memory) => Answer::Memory,
             Err(_) => Answer::Other,
@@ -61,7 +65,7 @@ fn reading(rt: HostRuntime) {
 
 #[test]
 fn copying(rt: HostRuntime) -> Result<(), Fail> {
-    let circuit = Circuit::read(rt.alloc(), FULL_ADDER)?;
+    let circuit = Circuit::read(rt.alloc(), FULL_ADDER.as_bytes())?;
     let refused = runs_refused(&rt, rt.alloc(), |heap| match circuit.try_clone(heap) {
         Ok(copy) => plain_if(copy.equals(&circuit)),
         Err(Memory) => Answer::Memory,
@@ -72,7 +76,7 @@ fn copying(rt: HostRuntime) -> Result<(), Fail> {
 
 #[test]
 fn canonical_text(rt: HostRuntime) -> Result<(), Fail> {
-    let circuit = Circuit::read(rt.alloc(), FULL_ADDER)?;
+    let circuit = Circuit::read(rt.alloc(), FULL_ADDER.as_bytes())?;
     let text = circuit.canon(rt.alloc())?;
     let refused = runs_refused(&rt, rt.alloc(), |heap| match circuit.canon(heap) {
         Ok(same) => plain_if(same.as_slice() == text.as_slice()),
@@ -105,7 +109,7 @@ fn values(rt: HostRuntime) {
 
 #[test]
 fn plain_evaluation(rt: HostRuntime) -> Result<(), Fail> {
-    let circuit = Circuit::read(rt.alloc(), FULL_ADDER)?;
+    let circuit = Circuit::read(rt.alloc(), FULL_ADDER.as_bytes())?;
     let values = one_zero_one(rt.alloc())?;
     let refused = runs_refused(&rt, rt.alloc(), |heap| {
         if !fits(&circuit, &values) {
@@ -122,7 +126,7 @@ fn plain_evaluation(rt: HostRuntime) -> Result<(), Fail> {
 
 #[test]
 fn garbling(rt: HostRuntime) -> Result<(), Fail> {
-    let circuit = Circuit::read(rt.alloc(), FULL_ADDER)?;
+    let circuit = Circuit::read(rt.alloc(), FULL_ADDER.as_bytes())?;
     let seed = Seed::from_bytes([0; 32]);
     let refused = runs_refused(
         &rt,
@@ -139,7 +143,7 @@ fn garbling(rt: HostRuntime) -> Result<(), Fail> {
 /// The evaluation of the full adder on input labels that stand for zeros.
 #[test]
 fn evaluation(rt: HostRuntime) -> Result<(), Fail> {
-    let circuit = Circuit::read(rt.alloc(), FULL_ADDER)?;
+    let circuit = Circuit::read(rt.alloc(), FULL_ADDER.as_bytes())?;
     let seed = Seed::from_bytes([0; 32]);
     let garbling = garble_one_thread(rt.alloc(), &circuit, &seed)?;
     let mut labels = [Label::ZERO; 3];
@@ -162,7 +166,7 @@ fn evaluation(rt: HostRuntime) -> Result<(), Fail> {
 
 #[test]
 fn opening_a_store(rt: HostRuntime) -> Result<(), Fail> {
-    let circuit = Circuit::read(rt.alloc(), FULL_ADDER)?;
+    let circuit = Circuit::read(rt.alloc(), FULL_ADDER.as_bytes())?;
     let seed = Seed::from_bytes([0; 32]);
     let refused = runs_refused(&rt, rt.alloc(), |heap| {
         let Ok(copy) = circuit.try_clone(heap) else {
@@ -181,7 +185,7 @@ fn opening_a_store(rt: HostRuntime) -> Result<(), Fail> {
 #[test]
 fn an_opened_store_grows_nothing(rt: HostRuntime) -> Result<(), Fail> {
     let heap = Refusing::never(rt.alloc());
-    let circuit = Circuit::read(&heap, FULL_ADDER)?;
+    let circuit = Circuit::read(&heap, FULL_ADDER.as_bytes())?;
     let mut store = Store::open(&heap, circuit, Seed::from_bytes([0; 32]))?;
     let opened = heap.growths();
     let mut tally = store.tally().ok_or("a tally is dealt")?;
@@ -193,4 +197,78 @@ fn an_opened_store_grows_nothing(rt: HostRuntime) -> Result<(), Fail> {
     assert!(rt; store.into_garbling().is_ok());
     assert_eq!(rt; heap.growths(), opened);
     Ok(())
+}
+
+/// Carries out the words' order with growth 1, 2, 3, .. refused, and asserts that the fault codes come in this order,
+/// each for one growth or several one after another.
+fn codes_of_refusals(
+    rt: &impl Abort,
+    alloc: Global,
+    words: &[&str],
+    answer: &[u8],
+    codes: &[u32],
+) -> Result<(), Fail> {
+    let order = order_of(alloc, &copies_of(alloc, words)?)?;
+    let file = [("c.txt", FULL_ADDER)];
+    let mut found = Vec::new(alloc);
+    for n in 1..100u64 {
+        let heap = Refusing::nth(alloc, n);
+        match carry_out(&heap, &order, &mut MemFiles::new(&file)) {
+            Ok(lines) => {
+                assert_eq!(rt; lines.as_slice(), answer);
+                assert_eq!(rt; heap.refused(), 0);
+            }
+            Err(fault) => {
+                assert_eq!(rt; heap.refused(), 1);
+                if found.last() != Some(&fault.code()) {
+                    found.push(fault.code())?;
+                }
+            }
+        }
+    }
+    assert_eq!(rt; found.as_slice(), codes);
+    Ok(())
+}
+
+/// A circuit over memory of which each further growth is refused still tells all that it has.
+#[test]
+fn a_circuit_that_is_read_grows_nothing(rt: HostRuntime) -> Result<(), Fail> {
+    let counting = Refusing::never(rt.alloc());
+    Circuit::read(&counting, FULL_ADDER.as_bytes())?;
+    let heap = Refusing::nth(rt.alloc(), counting.growths().saturating_add(1));
+    let circuit = Circuit::read(&heap, FULL_ADDER.as_bytes())?;
+    let digest = hex::encode(rt.alloc(), circuit.digest())?;
+    assert_eq!(rt;
+        digest.as_str(),
+        "c07940d5ed062a112dc9abe072fab1395a72f675da449ef95ea0515ec8df7c76"
+    );
+    assert!(rt; fits(&circuit, &one_zero_one(rt.alloc())?));
+    assert_eq!(rt; circuit.gates(), 5);
+    assert_eq!(rt; (circuit.wires(), circuit.and_count()), (8, 1));
+    assert_eq!(rt; circuit.input_widths(), [1, 1, 1].as_slice());
+    assert_eq!(rt; circuit.output_widths(), [2].as_slice());
+    assert_eq!(rt; (circuit.input_wires(), circuit.output_wires()), (3, 2));
+    assert!(rt; circuit.equals(&circuit));
+    let third = Gate {
+        operation: Operation::And(3, 4),
+        set: 5,
+    };
+    assert_eq!(rt; circuit.gate(2), third);
+    assert_eq!(rt; heap.refused(), 0);
+    Ok(())
+}
+
+/// The memory of each step of the work has its own fault.
+#[test]
+fn carrying_out(rt: HostRuntime) -> Result<(), Fail> {
+    let alloc = rt.alloc();
+    // The file's bytes, the circuit, the list of values, a value, that list's growth, garbling, evaluation, the lines.
+    let run = run_words(alloc, SEED, &["1", "0", "1"])?;
+    codes_of_refusals(&rt, alloc, &run, b"01\n", &[52, 13, 52, 13, 23, 46, 52])?;
+    let plain = plain_words(alloc, &["1", "0", "1"])?;
+    codes_of_refusals(&rt, alloc, &plain, b"01\n", &[52, 13, 52, 13, 52])?;
+    let check = ["halfgates", "check", "c.txt"];
+    let lines =
+        b"gates 5\nwires 8\nand 1\ninputs 3 1 1 1\noutputs 1 2\ndigest c07940d5ed062a112dc9abe072fab1395a72f675da449ef95ea0515ec8df7c76\n";
+    codes_of_refusals(&rt, alloc, &check, lines, &[52, 13, 52])
 }

@@ -3,7 +3,11 @@
 #![tactic(auto)]
 
 #[cfg(test)]
+mod checks;
+#[cfg(test)]
 mod circuits;
+#[cfg(test)]
+mod command_line;
 #[cfg(test)]
 mod garblings;
 #[cfg(test)]
@@ -11,5 +15,7 @@ mod growth;
 mod mem_files;
 #[cfg(test)]
 mod program;
+#[cfg(test)]
+mod serving;
 
 pub use mem_files::MemFiles;
