@@ -47,8 +47,9 @@ evaluate_ns=$(fastest evaluate "$circuit" 3)
 echo "evaluation from labels: $evaluate_ns ns, $(ratio "$((2 * evaluate_ns))" "$hashes_ns") times its hashes alone"
 
 seal_ns=$(fastest seal "$tmp/xor.txt" 7)
+open_ns=$(fastest open "$tmp/xor.txt" 7)
 store_ns=$(fastest store "$tmp/xor.txt" 7)
-echo "the store above sealing, its opening among it: $(per_gate "$((store_ns - seal_ns))" 1000000) ns a gate (at most 30 without the opening)"
+echo "the store above sealing: $(per_gate "$((store_ns - open_ns - seal_ns))" 1000000) ns a gate (at most 30), and its opening with a copy of the circuit $(per_gate "$open_ns" 1000000) ns a gate"
 
 digest_ns=$(fastest digest "$circuit" 5)
 sha_ns=$(fastest sha "$circuit" 5)

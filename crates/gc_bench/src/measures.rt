@@ -22,6 +22,8 @@ pub enum Part {
     Hashes,
     /// Evaluation from labels.
     Evaluate,
+    /// Opening a store of a copy of the circuit.
+    Open,
     /// Garbling through a store: opening it, and claiming, sealing and finishing each gate in file order.
     Store,
     /// Sealing the same tasks alone.
@@ -40,6 +42,7 @@ impl Part {
             "garble" => Some(Part::Garble),
             "hashes" => Some(Part::Hashes),
             "evaluate" => Some(Part::Evaluate),
+            "open" => Some(Part::Open),
             "store" => Some(Part::Store),
             "seal" => Some(Part::Seal),
             "digest" => Some(Part::Digest),
@@ -105,6 +108,9 @@ impl Subject {
             }
             Part::Hashes => self.hashes()?,
             Part::Evaluate => self.evaluate(alloc)?,
+            Part::Open => {
+                open(alloc, &self.circuit, self.seed)?;
+            }
             Part::Store => self.store(alloc)?,
             Part::Seal => self.seal()?,
             Part::Digest => not_zeros(self.circuit.digest())?,
@@ -134,11 +140,7 @@ impl Subject {
     }
 
     fn store(&self, alloc: Global) -> Result<()> {
-        let copy = self
-            .circuit
-            .try_clone(alloc)
-            .map_err(|_| anyhow!("no memory"))?;
-        let mut store = Store::open(alloc, copy, self.seed).map_err(|_| anyhow!("no memory"))?;
+        let mut store = open(alloc, &self.circuit, self.seed)?;
         let mut tally = store.tally().ok_or_else(|| anyhow!("no tally"))?;
         for _ in 0..self.circuit.gates() {
             let task = store.claim().ok_or_else(|| anyhow!("no gate may go next"))?;
@@ -184,10 +186,15 @@ fn not_zeros(digest: [u8; 32]) -> Result<()> {
     Ok(())
 }
 
+/// A store of a copy of the circuit.
+fn open(alloc: Global, circuit: &Circuit, seed: Seed) -> Result<Store> {
+    let copy = circuit.try_clone(alloc).map_err(|_| anyhow!("no memory"))?;
+    Store::open(alloc, copy, seed).map_err(|_| anyhow!("no memory"))
+}
+
 /// The tasks of the gates, in file order.
 fn tasks_of(alloc: Global, circuit: &Circuit, seed: Seed) -> Result<Vec<Task>> {
-    let copy = circuit.try_clone(alloc).map_err(|_| anyhow!("no memory"))?;
-    let mut store = Store::open(alloc, copy, seed).map_err(|_| anyhow!("no memory"))?;
+    let mut store = open(alloc, circuit, seed)?;
     let mut tally = store.tally().ok_or_else(|| anyhow!("no tally"))?;
     let mut tasks = Vec::with_capacity(alloc, circuit.gates() as usize)?;
     for _ in 0..circuit.gates() {
