@@ -120,6 +120,7 @@ impl<A: Allocator> Store<A> {
 
     /// Claims a gate that may go next, the first in the file, and answers its task; or None, exactly where no
     /// gate may go next.
+    #[inline]
     pub fn claim(&mut self) -> Option<Task>
         ensures { Claims self.old result self.new }
     {
@@ -133,6 +134,7 @@ impl<A: Allocator> Store<A> {
     ///
     /// It refuses a task whose gate isn't claimed, and else one that isn't the store's own task for its gate.
     /// A refusal changes nothing.
+    #[inline]
     pub fn finish(&mut self, sealed: Sealed, tally: &mut Tally) -> Result<bool, Refused>
         ensures step { Finishes self.old sealed result self.new }
         ensures raised { OnOk result (tally.new ≡ min (tally.old + 1) u64.MAX) }

@@ -50,6 +50,7 @@ impl Model for Sealed {
 
 impl Sealed {
     /// Garbles a task. It takes no memory.
+    #[inline]
     pub fn make(task: Task) -> Sealed
         ensures { result ≡ task }
     {
