@@ -9,26 +9,34 @@ use std::io::Read;
 use std::time::Instant;
 use std::{env, fs};
 
-/// `gc_bench PART FILE REPEATS` runs one part on a circuit, and prints the fastest run in nanoseconds. Without
-/// words it does nothing.
+/// `gc_bench FILE REPEATS PART..` runs the parts on a circuit, one after another and this often, so that each meets
+/// the machine in the same moods. It prints the numbers of gates and AND gates, and each part with its fastest run in
+/// nanoseconds. Without words it does nothing.
 fn main(rt: HostRuntime) -> Result<()> {
     let mut words = env::args(&rt)?.skip(1);
-    let (Some(part), Some(file), Some(repeats)) = (words.next(), words.next(), words.next()) else {
+    let (Some(file), Some(repeats)) = (words.next(), words.next()) else {
         return Ok(());
     };
-    let part = Part::named(part.as_str()).ok_or_else(|| anyhow!("no part has this name"))?;
     let repeats = repeats.as_str().parse::<u32>()?;
+    let mut timings = Vec::new(rt.alloc());
+    for name in words {
+        let part = Part::named(name.as_str()).ok_or_else(|| anyhow!("no part has this name"))?;
+        timings.push((name, part, u128::MAX))?;
+    }
     let mut text = Vec::new(rt.alloc());
     fs::open(&rt, file.as_str())?.read_to_end(&mut text)?;
     let subject = Subject::new(rt.alloc(), &text)?;
-    let mut fastest = u128::MAX;
     for _ in 0..repeats {
-        let start = Instant::now(&rt)?;
-        subject.run(rt.alloc(), part, &text)?;
-        fastest = fastest.min(start.elapsed(&rt)?.as_nanos());
+        for (_, part, fastest) in &mut timings {
+            let start = Instant::now(&rt)?;
+            subject.run(rt.alloc(), *part, &text)?;
+            *fastest = (*fastest).min(start.elapsed(&rt)?.as_nanos());
+        }
     }
-    let gates = subject.circuit.gates();
-    let ands = subject.circuit.and_count();
-    println!(rt; "gates={gates} and={ands} fastest_ns={fastest}")?;
+    println!(rt; "gates {}", subject.circuit.gates())?;
+    println!(rt; "and {}", subject.circuit.and_count())?;
+    for (name, _, fastest) in &timings {
+        println!(rt; "{name} {fastest}")?;
+    }
     Ok(())
 }

@@ -67,7 +67,7 @@ pub struct Subject {
 
 impl Subject {
     pub fn new(alloc: Global, text: &[u8]) -> Result<Subject> {
-        let circuit = read(alloc, text)?;
+        let circuit = Circuit::read(alloc, text)?;
         let seed = Seed::from_bytes([0; 32]);
         let mut values = Vec::new(alloc);
         for width in circuit.input_widths() {
@@ -75,13 +75,13 @@ impl Subject {
         }
         let mut labels = vec![in alloc; Label::ZERO; circuit.input_wires() as usize]?;
         fill_input_labels(&seed, 0, &mut labels);
-        let garbling = garble_one_thread(alloc, &circuit, &seed).map_err(|_| anyhow!("no memory"))?;
+        let garbling = garble_one_thread(alloc, &circuit, &seed)?;
         let mut decode_bits = Vec::new(alloc);
         for i in 0..garbling.outputs() {
             decode_bits.push(garbling.decode_bit(i))?;
         }
         let tasks = tasks_of(alloc, &circuit, seed)?;
-        let canonical_text = circuit.canon(alloc).map_err(|_| anyhow!("no memory"))?;
+        let canonical_text = circuit.canon(alloc)?;
         Ok(Subject {
             circuit,
             seed,
@@ -98,13 +98,11 @@ impl Subject {
     pub fn run(&self, alloc: Global, part: Part, text: &[u8]) -> Result<()> {
         match part {
             Part::Read => {
-                read(alloc, text)?;
+                Circuit::read(alloc, text)?;
             }
             Part::Plain => self.plain(alloc)?,
             Part::Garble => {
-                garble_one_thread(alloc, &self.circuit, &self.seed).map_err(|_| anyhow!(
-                    "no memory"
-                ))?;
+                garble_one_thread(alloc, &self.circuit, &self.seed)?;
             }
             Part::Hashes => self.hashes()?,
             Part::Evaluate => self.evaluate(alloc)?,
@@ -123,7 +121,7 @@ impl Subject {
         if !fits(&self.circuit, &self.values) {
             return Err(anyhow!("the values do not fit"));
         }
-        plain_eval(alloc, &self.circuit, &self.values).map_err(|_| anyhow!("no memory"))?;
+        plain_eval(alloc, &self.circuit, &self.values)?;
         Ok(())
     }
 
@@ -144,9 +142,7 @@ impl Subject {
         let mut tally = store.tally().ok_or_else(|| anyhow!("no tally"))?;
         for _ in 0..self.circuit.gates() {
             let task = store.claim().ok_or_else(|| anyhow!("no gate may go next"))?;
-            store
-                .finish(Sealed::make(task), &mut tally)
-                .map_err(|_| anyhow!("refused"))?;
+            store.finish(Sealed::make(task), &mut tally)?;
         }
         store.into_garbling().map_err(|_| anyhow!("not complete"))?;
         Ok(())
@@ -171,9 +167,7 @@ impl Subject {
         if !fit {
             return Err(anyhow!("the parts do not fit"));
         }
-        evaluate_labels(alloc, &self.circuit, rows, &self.decode_bits, &self.labels).map_err(
-            |_| anyhow!("no memory"),
-        )?;
+        evaluate_labels(alloc, &self.circuit, rows, &self.decode_bits, &self.labels)?;
         Ok(())
     }
 }
@@ -188,8 +182,8 @@ fn not_zeros(digest: [u8; 32]) -> Result<()> {
 
 /// A store of a copy of the circuit.
 fn open(alloc: Global, circuit: &Circuit, seed: Seed) -> Result<Store> {
-    let copy = circuit.try_clone(alloc).map_err(|_| anyhow!("no memory"))?;
-    Store::open(alloc, copy, seed).map_err(|_| anyhow!("no memory"))
+    let copy = circuit.try_clone(alloc)?;
+    Ok(Store::open(alloc, copy, seed)?)
 }
 
 /// The tasks of the gates, in file order.
@@ -201,13 +195,7 @@ fn tasks_of(alloc: Global, circuit: &Circuit, seed: Seed) -> Result<Vec<Task>> {
         let task = store.claim().ok_or_else(|| anyhow!("no gate may go next"))?;
         let sealed = Sealed::make(task);
         tasks.push(sealed.task())?;
-        store
-            .finish(sealed, &mut tally)
-            .map_err(|_| anyhow!("refused"))?;
+        store.finish(sealed, &mut tally)?;
     }
     Ok(tasks)
-}
-
-fn read(alloc: Global, text: &[u8]) -> Result<Circuit> {
-    Circuit::read(alloc, text).map_err(|fault| anyhow!("the file is no circuit: {}", fault.name()))
 }

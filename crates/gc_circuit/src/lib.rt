@@ -1,4 +1,4 @@
-//! Boolean circuits in Bristol Fashion: reading them from bytes, and evaluating them in the plain.
+//! Boolean circuits in Bristol Fashion: reading and writing them, their digests, and evaluating them in the plain.
 #![tactic(auto)]
 
 mod canon;

@@ -7,6 +7,8 @@ ghost use Rattle.gc_circuit.specs.Value.{Binary, Hexadecimal, form_of, has_lengt
 use crate::memory::Memory;
 use hex::FromHex;
 use std::alloc::{AllocError, AllocFailed, Allocator};
+use std::error::Error;
+use std::fmt;
 
 /// Why a text is not a value of the width asked for.
 #[derive(Clone, Copy, Debug, PartialEq, Eq)]
@@ -46,6 +48,19 @@ impl ValueFault {
         }
     }
 }
+
+/// Writes the name.
+impl fmt::Display for ValueFault {
+    ghost use Rattle.std.specs.Prelude.{Some};
+
+    ghost output = { λ fault. Some (fault_name fault) };
+
+    fn fmt<W: fmt::Write>(&self, f: &mut fmt::Formatter<W>) -> fmt::Result {
+        f.write_str(self.name())
+    }
+}
+
+impl Error for ValueFault {}
 
 impl From<AllocError> for ValueFault {
     ghost use Rattle.std.specs.Prelude.{◌≡◌};

@@ -49,6 +49,10 @@ impl Refused {
 }
 
 impl fmt::Display for Refused {
+    ghost use Rattle.std.specs.Prelude.{Some};
+
+    ghost output = { λ refused. Some (name_of refused) };
+
     fn fmt<W: fmt::Write>(&self, f: &mut fmt::Formatter<W>) -> fmt::Result {
         f.write_str(self.name())
     }

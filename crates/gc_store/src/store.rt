@@ -134,7 +134,8 @@ impl<A: Allocator> Store<A> {
     ///
     /// It refuses a task whose gate isn't claimed, and else one that isn't the store's own task for its gate.
     /// A refusal changes nothing.
-    #[inline]
+    // A refusal is so large that returning it costs more than the work where the call is not inlined.
+    #[inline(always)]
     pub fn finish(&mut self, sealed: Sealed, tally: &mut Tally) -> Result<bool, Refused>
         ensures step { Finishes self.old sealed result self.new }
         ensures raised { OnOk result (tally.new ≡ min (tally.old + 1) u64.MAX) }
