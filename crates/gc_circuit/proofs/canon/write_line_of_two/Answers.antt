@@ -1,4 +1,4 @@
-use Rattle.std.proofs.Common.{◌∙◌, sym, ap, drop, arith}
+use Rattle.std.proofs.Common.{drop, arith}
 use Rattle.std.proofs.lemmas.Grind.{common_steps}
 use Rattle.gc_circuit.proofs.CanonLines.{line_of_two}
 use Rattle.gc_circuit.proofs.canon.write_line_of_two.Goals as goal
