@@ -33,6 +33,3 @@ pub fn plain<A: Allocator + Copy, F: Files>(
     ))?;
     Ok(output_lines(alloc, circuit.output_widths(), &outputs)?)
 }
-
-#[cfg(test)]
-mod tests;

@@ -58,14 +58,17 @@ fn refuses_words_that_are_no_order(rt: HostRuntime) -> Result<(), Fail> {
         "error: unrecognized subcommand 'walk'\n\nUsage: halfgates <COMMAND>\n\nFor more information, try '--help'.\n";
     let no_seed =
         "error: the following required arguments were not provided:\n  <SEED>\n\nUsage: halfgates run <CIRCUIT> <SEED> [VALUES]...\n\nFor more information, try '--help'.\n";
+    let no_circuit =
+        "error: the following required arguments were not provided:\n  <CIRCUIT>\n\nUsage: halfgates plain <CIRCUIT> [VALUES]...\n\nFor more information, try '--help'.\n";
     let no_option =
         "error: unexpected argument '--walk' found\n\n  tip: to pass '--walk' as a value, use '-- --walk'\n\nUsage: halfgates run <CIRCUIT> <SEED> [VALUES]...\n\nFor more information, try '--help'.\n";
     let no_values =
         "error: unexpected argument '1' found\n\nUsage: halfgates check <CIRCUIT>\n\nFor more information, try '--help'.\n";
-    let rows: [(&[&str], &str); 5] = [
+    let rows: [(&[&str], &str); 6] = [
         (&["halfgates"], HELP),
         (&["halfgates", "walk"], unknown),
         (&["halfgates", "run", "c.txt"], no_seed),
+        (&["halfgates", "plain"], no_circuit),
         (&["halfgates", "run", "c.txt", SEED, "--walk"], no_option),
         (&["halfgates", "check", "c.txt", "1"], no_values),
     ];

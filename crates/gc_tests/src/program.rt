@@ -8,7 +8,7 @@ use std::alloc::Global;
 use std::process::Abort;
 use std::test::Fail;
 
-static RUNS: [(&str, &[&str], &str); 20] = [
+static RUNS: [(&str, &[&str], &str); 21] = [
     (XOR, &["1", "1"], "0\n"),
     (AND, &["0", "0"], "0\n"),
     (AND, &["1", "0"], "0\n"),
@@ -30,6 +30,8 @@ static RUNS: [(&str, &[&str], &str); 20] = [
     ("0 0\n1 0\n0", &["x"], ""),
     // Two output values.
     ("0 3\n1 3\n2 1 2", &["011"], "0\n11\n"),
+    // Two values on either side.
+    ("0 3\n2 1 2\n2 2 1", &["0", "11"], "01\n1\n"),
     (WIDE, &["x0108"], "1\n000000000011\n"),
 ];
 
