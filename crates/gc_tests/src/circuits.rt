@@ -3,33 +3,33 @@
 use std::alloc::{AllocError, Global};
 
 /// A full adder: three bits of input, and their sum and carry as one value.
-pub const FULL_ADDER: &str =
+pub(crate) const FULL_ADDER: &str =
     "5 8\n3 1 1 1\n1 2\n\n2 1 0 2 3 XOR\n2 1 1 2 4 XOR\n2 1 3 4 5 AND\n2 1 3 1 6 XOR\n2 1 5 2 7 XOR\n";
 
 /// The full adder in another spelling.
-pub const SPACED_ADDER: &str =
+pub(crate) const SPACED_ADDER: &str =
     "\r\n 0005\t8 \r\n3 01 1 1\r\n\r\n1 2  \r\n2 1 0 2 00003 XOR\r\n2\n1\n1\n2\n4\nXOR 2 1 3 4 5 AND\t\r\n\r\n2 1 3 1 6 XOR\r\n2 1 5 2 7 XOR";
 
-pub const XOR: &str = "1 3\n2 1 1\n1 1\n2 1 0 1 2 XOR";
+pub(crate) const XOR: &str = "1 3\n2 1 1\n1 1\n2 1 0 1 2 XOR";
 
-pub const AND: &str = "1 3\n2 1 1\n1 1\n2 1 0 1 2 AND";
+pub(crate) const AND: &str = "1 3\n2 1 1\n1 1\n2 1 0 1 2 AND";
 
-pub const INV: &str = "1 2\n1 1\n1 1\n1 1 0 1 INV";
+pub(crate) const INV: &str = "1 2\n1 1\n1 1\n1 1 0 1 INV";
 
 /// A constant 1, without input values.
-pub const CONSTANT: &str = "1 1\n0\n1 1\n1 1 1 0 EQ";
+pub(crate) const CONSTANT: &str = "1 1\n0\n1 1\n1 1 1 0 EQ";
 
-pub const CONSTANT_AND: &str = "2 3\n1 1\n1 1\n1 1 1 1 EQ\n2 1 0 1 2 AND";
+pub(crate) const CONSTANT_AND: &str = "2 3\n1 1\n1 1\n1 1 1 1 EQ\n2 1 0 1 2 AND";
 
-pub const NO_GATES: &str = "0 2\n1 2\n1 2";
+pub(crate) const NO_GATES: &str = "0 2\n1 2\n1 2";
 
-pub const SQUARE: &str = "1 2\n1 1\n1 1\n2 1 0 0 1 AND";
+pub(crate) const SQUARE: &str = "1 2\n1 1\n1 1\n2 1 0 0 1 AND";
 
 /// A value of twelve wires, and two output values of one and twelve wires.
-pub const WIDE: &str = "1 13\n1 12\n2 1 12\n1 1 0 12 EQW";
+pub(crate) const WIDE: &str = "1 13\n1 12\n2 1 12\n1 1 0 12 EQW";
 
 /// The input values 1, 0 and 1.
-pub fn one_zero_one(alloc: Global) -> Result<Vec<Vec<bool>>, AllocError> {
+pub(crate) fn one_zero_one(alloc: Global) -> Result<Vec<Vec<bool>>, AllocError> {
     let mut values = Vec::new(alloc);
     for bit in [true, false, true] {
         values.push(vec![in alloc; bit; 1]?)?;

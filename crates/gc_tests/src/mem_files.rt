@@ -15,12 +15,21 @@ pub struct MemFiles<'a> {
 }
 
 impl<'a> MemFiles<'a> {
-    pub fn new(files: &'a [(&'a str, &'a str)]) -> MemFiles<'a> {
+    /// Files that can always be read.
+    pub fn new(files: &'a [(&'a str, &'a str)]) -> MemFiles<'a>
+        ensures files { result.files.now ≡ files.now }
+        ensures reads { result.good_reads ≡ u32.MAX }
+        ensures failures { result.failures.count ≡ 0 }
+    {
         MemFiles::failing_after(files, u32::MAX)
     }
 
     /// Files that can be read so many times.
-    pub fn failing_after(files: &'a [(&'a str, &'a str)], good_reads: u32) -> MemFiles<'a> {
+    pub fn failing_after(files: &'a [(&'a str, &'a str)], good_reads: u32) -> MemFiles<'a>
+        ensures files { result.files.now ≡ files.now }
+        ensures reads { result.good_reads ≡ good_reads }
+        ensures failures { result.failures.count ≡ 0 }
+    {
         MemFiles {
             files,
             good_reads,

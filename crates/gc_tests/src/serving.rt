@@ -8,10 +8,10 @@ use std::process::Abort;
 use std::test::Fail;
 
 /// A seed of zeros.
-pub const SEED: &str = "0000000000000000000000000000000000000000000000000000000000000000";
+pub(crate) const SEED: &str = "0000000000000000000000000000000000000000000000000000000000000000";
 
 /// The words as a command line has them.
-pub fn copies_of(alloc: Global, words: &[&str]) -> Result<Vec<String>, AllocError> {
+pub(crate) fn copies_of(alloc: Global, words: &[&str]) -> Result<Vec<String>, AllocError> {
     let mut copies = Vec::new(alloc);
     for word in words {
         copies.push(String::from_str(alloc, word)?)?;
@@ -21,7 +21,7 @@ pub fn copies_of(alloc: Global, words: &[&str]) -> Result<Vec<String>, AllocErro
 
 /// A writer that takes nothing.
 #[derive(Drop)]
-pub struct Closed;
+pub(crate) struct Closed;
 
 impl Write for Closed {
     fn write(&mut self, _buf: &[u8]) -> io::Result<usize> {
@@ -34,7 +34,7 @@ impl Write for Closed {
 }
 
 /// Serves the words over one file `c.txt`, and asserts the status and what was written.
-pub fn serves(
+pub(crate) fn serves(
     rt: &impl Abort,
     alloc: Global,
     text: &str,
@@ -56,7 +56,7 @@ pub fn serves(
 }
 
 /// The words of a run over `c.txt`.
-pub fn run_words<'a>(
+pub(crate) fn run_words<'a>(
     alloc: Global,
     seed: &'a str,
     values: &[&'a str],
@@ -65,7 +65,10 @@ pub fn run_words<'a>(
 }
 
 /// The words of a plain evaluation of `c.txt`.
-pub fn plain_words<'a>(alloc: Global, values: &[&'a str]) -> Result<Vec<&'a str>, AllocError> {
+pub(crate) fn plain_words<'a>(
+    alloc: Global,
+    values: &[&'a str],
+) -> Result<Vec<&'a str>, AllocError> {
     words_of(alloc, &["halfgates", "plain", "c.txt"], values)
 }
 
