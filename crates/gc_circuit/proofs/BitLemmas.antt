@@ -13,7 +13,8 @@ use Rattle.std.proofs.lemmas.List.Concat.{length-flat_map}
 use Rattle.std.proofs.lemmas.List.Sums.{sum-map}
 use Rattle.std.proofs.lemmas.List.{take_more}
 
-pub bit_of_local : (u v : ℕ → Bool) (op : Operation) → EachRead (λ w. u w ≡ v w) op → bit_of u op ≡ bit_of v op
+pub bit_of_local : (u v : ℕ → Bool) (op : Operation) → EachRead (λ w. u w ≡ v w) op →
+    bit_of u op ≡ bit_of v op
 bit_of_local u v (Xor a b) h = ap (λ x. xor x (u b)) h.0 ∙ ap (xor (v a)) h.1
 bit_of_local u v (And a b) h = ap (λ x. x && u b) h.0 ∙ ap (λ x. v a && x) h.1
 bit_of_local u v (Inv a) h = ap not h
@@ -25,27 +26,35 @@ bit_local u v i g h = bit_of_local u v g.operation h
 
 -- one more gate of the evaluation
 pub bits_more : (c : Netlist) (x : ℕ → Bool) (bits : List Bool) (i : ℕ) (g : Gate) (b : Bool) → IsLawful c →
-    bits ≡ map (values_after bit_rule c x i) (range_with_len 0 c.wires) → slice_get c.gates i ≡ Some g → b ≡ bit_of (bits_of bits) g.operation →
+    bits ≡ map (values_after bit_rule c x i) (range_with_len 0 c.wires) →
+    slice_get c.gates i ≡ Some g → b ≡ bit_of (bits_of bits) g.operation →
     set bits g.set b ≡ map (values_after bit_rule c x (i + 1)) (range_with_len 0 c.wires)
-bits_more c x bits i g b lawful is at bit = table_step bit_rule bit_local c lawful x bits i g false b is at bit
+bits_more c x bits i g b lawful is at bit =
+    table_step bit_rule bit_local c lawful x bits i g false b is at bit
 
 -- the start of the evaluation
-pub bits_start : (c : Netlist) (x bits : List Bool) → length x ≤ c.wires → bits ≡ x ++ replicate (c.wires - length x) false →
+pub bits_start : (c : Netlist) (x bits : List Bool) → length x ≤ c.wires →
+    bits ≡ x ++ replicate (c.wires - length x) false →
     bits ≡ map (values_after bit_rule c (bits_of x) 0) (range_with_len 0 c.wires)
 bits_start c x bits fits is =
-    is ∙ table_padded x c.wires false fits ∙ ap (λ f. map f (range_with_len 0 c.wires)) (sym (after-zero bit_rule c (bits_of x)))
+    is ∙ table_padded x c.wires false fits
+    ∙ ap (λ f. map f (range_with_len 0 c.wires)) (sym (after-zero bit_rule c (bits_of x)))
 
 -- how long the values are together, where they have these widths
-pub length-joined : {X : Type 0} (f : X → List Bool) (xs : List X) (widths : List ℕ) → map length (map f xs) ≡ widths → length (flat_map f xs) ≡ sum widths
-length-joined {X = X} f xs widths h = length-flat_map f xs ∙ sym (sum-map (λ x. length (f x)) xs) ∙ ap sum (sym (map-map xs) ∙ h)
+pub length-joined : {X : Type 0} (f : X → List Bool) (xs : List X) (widths : List ℕ) →
+    map length (map f xs) ≡ widths → length (flat_map f xs) ≡ sum widths
+length-joined {X = X} f xs widths h =
+    length-flat_map f xs ∙ sym (sum-map (λ x. length (f x)) xs) ∙ ap sum (sym (map-map xs) ∙ h)
   where
     map-map : (ys : List X) → map length (map f ys) ≡ map (λ x. length (f x)) ys
     map-map [] = refl
     map-map (y ∷ ys) = ap (λ l. length (f y) ∷ l) (map-map ys)
 
 -- one more value of the right width
-pub widths_more : {X : Type 0} (f : X → List Bool) (xs : List X) (widths : List ℕ) (i : ℕ) (x : X) → i < length xs → i < length widths → get_or xs i x ≡ x →
-    length (f x) ≡ get_or widths i 0 → map length (map f (take i xs)) ≡ take i widths → map length (map f (take (i + 1) xs)) ≡ take (i + 1) widths
+pub widths_more : {X : Type 0} (f : X → List Bool) (xs : List X) (widths : List ℕ) (i : ℕ) (x : X) →
+    i < length xs → i < length widths → get_or xs i x ≡ x →
+    length (f x) ≡ get_or widths i 0 → map length (map f (take i xs)) ≡ take i widths →
+    map length (map f (take (i + 1) xs)) ≡ take (i + 1) widths
 widths_more {X = X} f xs widths i x in_xs in_widths at same before =
     rw (take_more xs i x in_xs, take_more widths i 0 in_widths, at)
     (map-more (take i xs) ∙ ap (λ l. l ++ length (f x) ∷ []) before ∙ ap (λ n. take i widths ++ n ∷ []) same)
@@ -55,10 +64,13 @@ widths_more {X = X} f xs widths i x in_xs in_widths at same before =
     map-more (y ∷ ys) = ap (λ l. length (f y) ∷ l) (map-more ys)
 
 -- the width of one value
-pub width_at : {X : Type 0} (f : X → List Bool) (xs : List X) (widths : List ℕ) (i : ℕ) (x : X) → map length (map f xs) ≡ widths → i < length xs → get_or xs i x ≡ x → length (f x) ≡ get_or widths i 0
+pub width_at : {X : Type 0} (f : X → List Bool) (xs : List X) (widths : List ℕ) (i : ℕ) (x : X) →
+    map length (map f xs) ≡ widths → i < length xs → get_or xs i x ≡ x →
+    length (f x) ≡ get_or widths i 0
 width_at {X = X} f xs widths i x h within at = at_place xs i within at ∙ ap (λ l. get_or l i 0) h
   where
-    at_place : (ys : List X) (k : ℕ) → k < length ys → get_or ys k x ≡ x → length (f x) ≡ get_or (map length (map f ys)) k 0
+    at_place : (ys : List X) (k : ℕ) → k < length ys → get_or ys k x ≡ x →
+        length (f x) ≡ get_or (map length (map f ys)) k 0
     at_place [] k below e = absurd (omega arith)
     at_place (y ∷ ys) zero below e = ap (λ z. length (f z)) (sym e)
     at_place (y ∷ ys) (suc k) below e = at_place ys k (omega arith) e

@@ -29,10 +29,12 @@ pub record IsRun (t : List ℕ) : Type 0 where
   pub solid : AllByRecursion (λ b. is_blank b ≡ false) t
 
 -- Such a run before a blank is the first token,
-pub tokens-run : (t rest : List ℕ) (b : ℕ) → IsRun t → is_blank b ≡ true → tokens (t ++ b ∷ rest) ≡ t ∷ tokens rest
+pub tokens-run : (t rest : List ℕ) (b : ℕ) → IsRun t → is_blank b ≡ true
+    → tokens (t ++ b ∷ rest) ≡ t ∷ tokens rest
 unfolding tokens
 tokens-run t rest b run blank =
-    ap (filter is_some_run) (slice_split_at is_blank t b rest (All-from_recursion _ t run.solid) blank) ∙ rw run.some refl
+    ap (filter is_some_run) (slice_split_at is_blank t b rest (All-from_recursion _ t run.solid)
+    blank) ∙ rw run.some refl
 
 -- and a blank alone is no token.
 pub tokens-blank : (rest : List ℕ) (b : ℕ) → is_blank b ≡ true → tokens (b ∷ rest) ≡ tokens rest
@@ -44,12 +46,16 @@ unfolding tokens
 tokens-nil = refl
 
 -- The tokens of a line are its words as they are written.
-pub tokens-line : (words : List Word) (rest : List ℕ) → AllByRecursion (λ w. IsRun (written w)) words → tokens (line words ++ rest) ≡ map written words ++ tokens rest
+pub tokens-line : (words : List Word) (rest : List ℕ)
+    → AllByRecursion (λ w. IsRun (written w)) words
+    → tokens (line words ++ rest) ≡ map written words ++ tokens rest
 tokens-line [] rest runs = tokens-blank rest 10 refl
-tokens-line (w ∷ []) rest runs = ap tokens (append_assoc (written w) (10 ∷ []) rest) ∙ tokens-run (written w) rest 10 runs.0 refl
+tokens-line (w ∷ []) rest runs =
+    ap tokens (append_assoc (written w) (10 ∷ []) rest) ∙ tokens-run (written w) rest 10 runs.0 refl
 tokens-line (w ∷ v ∷ words) rest runs =
     let more : List ℕ = join_with_byte 32 (map written (v ∷ words)) in
-    ap tokens (ap (λ t. t ++ rest) (append_assoc (written w) (32 ∷ more) (10 ∷ [])) ∙ append_assoc (written w) (32 ∷ line (v ∷ words)) rest)
+    ap tokens (ap (λ t. t ++ rest) (append_assoc (written w) (32 ∷ more) (10 ∷ []))
+    ∙ append_assoc (written w) (32 ∷ line (v ∷ words)) rest)
     ∙ tokens-run (written w) (line (v ∷ words) ++ rest) 32 runs.0 refl
     ∙ ap (λ ts. written w ∷ ts) (tokens-line (v ∷ words) rest runs.1)
 
@@ -63,7 +69,8 @@ own_digits = record {
 
 own_value : IsNumeralModel (λ ds. list_all is_digit ds ≡ true) value_of
 unfolding value_of
-own_value = numerals_by_fold (λ ds. list_all is_digit ds ≡ true) own_digits (λ n token. fold (λ m b. m * 10 + (b - 48)) n token) (search rules)
+own_value = numerals_by_fold (λ ds. list_all is_digit ds ≡ true) own_digits
+    (λ n token. fold (λ m b. m * 10 + (b - 48)) n token) (search rules)
 
 -- spell it,
 pub number_of-decimal : (n : ℕ) → n < 2 ^ 32 → number_of (decimal n) ≡ Some n
@@ -73,7 +80,8 @@ number_of-decimal n small =
     let below : nat_lt n (2 ^ 32) ≡ true = grind (arith, nat_tests) in
     rw (digits, value, below) refl
 
-own_parts : (d : ℕ) (ds : List ℕ) → list_all is_digit (d ∷ ds) ≡ true → (is_digit d ≡ true) × (list_all is_digit ds ≡ true)
+own_parts : (d : ℕ) (ds : List ℕ) → list_all is_digit (d ∷ ds) ≡ true
+    → (is_digit d ≡ true) × (list_all is_digit ds ≡ true)
 own_parts d ds h = grind (arith, nat_tests)
 
 digits_solid : (ds : List ℕ) → list_all is_digit ds ≡ true → AllByRecursion (λ b. is_blank b ≡ false) ds
@@ -106,16 +114,19 @@ plain_spelled : (w : Word) → IsPlain w → SpellsWord (written w) w
 plain_spelled (Number n) h = number_of-decimal n h
 plain_spelled (Name name) h = refl
 
-plain_runs : (words : List Word) → AllByRecursion IsPlain words → AllByRecursion (λ w. IsRun (written w)) words
+plain_runs : (words : List Word) → AllByRecursion IsPlain words
+    → AllByRecursion (λ w. IsRun (written w)) words
 plain_runs [] h = tt
 plain_runs (w ∷ words) h = (plain_run w h.0, plain_runs words h.1)
 
-words_spelled : (words : List Word) (ts : List (List ℕ)) → AllByRecursion IsPlain words → SpellWords (map written words ++ ts) words ts
+words_spelled : (words : List Word) (ts : List (List ℕ)) → AllByRecursion IsPlain words
+    → SpellWords (map written words ++ ts) words ts
 words_spelled [] ts h = refl
 words_spelled (w ∷ words) ts h = (plain_spelled w h.0, words_spelled words ts h.1)
 
 -- Lines of plain words spell these words.
-pub lines_spelled : (lines : List (List Word)) → AllByRecursion (AllByRecursion IsPlain) lines → SpellWords (tokens (flat_map line lines)) (flat_map (λ l. l) lines) []
+pub lines_spelled : (lines : List (List Word)) → AllByRecursion (AllByRecursion IsPlain) lines
+    → SpellWords (tokens (flat_map line lines)) (flat_map (λ l. l) lines) []
 lines_spelled [] h = tokens-nil
 lines_spelled (l ∷ lines) h =
     let P : List (List ℕ) → Type 0 = λ ts. SpellWords ts l (tokens (flat_map line lines)) in
@@ -129,28 +140,33 @@ words_of_lines : (c : Netlist) → flat_map (λ l. l) (lines_of_circuit c) ≡ w
 words_of_lines c =
     let inputs : List Word = words_of_widths c.input_widths in
     let outputs : List Word = words_of_widths c.output_widths in
-    ap (λ ws. Number (length c.gates) ∷ Number c.wires ∷ (inputs ++ (outputs ++ ws))) (flat_map-map (λ l. l) words_of_gate c.gates)
-    ∙ ap (λ ws. Number (length c.gates) ∷ Number c.wires ∷ ws) (sym (append_assoc inputs outputs (flat_map words_of_gate c.gates)))
+    ap (λ ws. Number (length c.gates) ∷ Number c.wires ∷ (inputs ++ (outputs ++ ws))) (flat_map-map
+    (λ l. l) words_of_gate c.gates)
+    ∙ ap (λ ws. Number (length c.gates) ∷ Number c.wires ∷ ws)
+    (sym (append_assoc inputs outputs (flat_map words_of_gate c.gates)))
 
 -- The words of lawful circuits are plain: those of a gate,
 abbrev IsSmallGate : Gate → Type 0
 IsSmallGate g = (g.set < 2 ^ 32) × EachRead (λ w. w < 2 ^ 32) g.operation
 
-name_plain : (a b c : ℕ) → is_blank a ≡ false → is_blank b ≡ false → is_blank c ≡ false → IsPlain (Name (a ∷ b ∷ c ∷ []))
+name_plain : (a b c : ℕ) → is_blank a ≡ false → is_blank b ≡ false → is_blank c ≡ false
+    → IsPlain (Name (a ∷ b ∷ c ∷ []))
 name_plain a b c p q r = record { some = refl; solid = (p, (q, (r, tt))) }
 
 bit_small : (v : Bool) → bit_number v < 2 ^ 32
 bit_small true = omega arith
 bit_small false = omega arith
 
-operation_plain : (op : Operation) (c : ℕ) → c < 2 ^ 32 → EachRead (λ w. w < 2 ^ 32) op → AllByRecursion IsPlain (words_of_operation c op)
+operation_plain : (op : Operation) (c : ℕ) → c < 2 ^ 32 → EachRead (λ w. w < 2 ^ 32) op
+    → AllByRecursion IsPlain (words_of_operation c op)
 operation_plain (Xor a b) c small reads = (omega arith, (omega arith, (reads.0, (reads.1, (small, (name_plain 88 79 82 refl refl refl, tt))))))
 operation_plain (And a b) c small reads = (omega arith, (omega arith, (reads.0, (reads.1, (small, (name_plain 65 78 68 refl refl refl, tt))))))
 operation_plain (Inv a) c small reads = (omega arith, (omega arith, (reads, (small, (name_plain 73 78 86 refl refl refl, tt)))))
 operation_plain (Eq v) c small reads = (omega arith, (omega arith, (bit_small v, (small, (record { some = refl; solid = (refl, (refl, tt)) }, tt)))))
 operation_plain (Eqw a) c small reads = (omega arith, (omega arith, (reads, (small, (name_plain 69 81 87 refl refl refl, tt)))))
 
-gates_plain : (gs : List Gate) → ((i : ℕ) (g : Gate) → slice_get gs i ≡ Some g → IsSmallGate g) → AllByRecursion (AllByRecursion IsPlain) (map words_of_gate gs)
+gates_plain : (gs : List Gate) → ((i : ℕ) (g : Gate) → slice_get gs i ≡ Some g → IsSmallGate g)
+    → AllByRecursion (AllByRecursion IsPlain) (map words_of_gate gs)
 gates_plain [] h = tt
 gates_plain (g ∷ gs) h =
     let first = h 0 g refl in
@@ -180,8 +196,11 @@ lines_plain c lawful =
           (
             tt,
             gates_plain c.gates (λ i g at.
-                let set : g.set < c.wires = lawful.sets i g at in
-                (omega arith, EachRead-map (λ w. w < c.wires) (λ w. w < 2 ^ 32) g.operation (λ w below. omega arith) (EachRead-below c lawful i g at))),
+                let set : g.set < c.wires = lawful.sets i g at in (
+                  omega arith,
+                  EachRead-map (λ w. w < c.wires) (λ w. w < 2 ^ 32) g.operation
+                      (λ w below. omega arith) (EachRead-below c lawful i g at),
+                )),
           ),
         ),
       ),
@@ -195,9 +214,11 @@ canonical_spells c lawful =
 
 pub canonical_law : (c : Netlist) → IsLawful c → CanonicalLaw c
 canonical_law c lawful =
-    let back = λ (d : Netlist) (h : IsLawful d). circuit_of-back (tokens (canonical_text d)) d h (canonical_spells d h) in
+    let back = λ (d : Netlist) (h : IsLawful d). circuit_of-back (tokens (canonical_text d)) d h
+    (canonical_spells d h) in
     record {
       spells = canonical_spells c lawful;
       reads = back c lawful;
-      one_circuit = λ d lawful_d same. ok_is d c (sym (back d lawful_d) ∙ ap (λ text. circuit_of (tokens text)) same ∙ back c lawful);
+      one_circuit = λ d lawful_d same. ok_is d c (sym (back d lawful_d)
+          ∙ ap (λ text. circuit_of (tokens text)) same ∙ back c lawful);
     }

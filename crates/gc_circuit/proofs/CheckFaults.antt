@@ -23,20 +23,28 @@ UnsetFault c w e = ((c.wires ≤ w) × (NoSuchWire ≡ e)) ⊎ ((w < c.wires) ×
 
 module _ (c : Netlist) (lawful : IsLawful (without_outputs c)) where
   tested_set : (w : ℕ) → is_set (input_wires c) c.gates w ≡ true → IsSet c w
-  tested_set w h = set_with c (length c.gates) w (set_before (without_outputs c) (length c.gates) w (is_set-whole (without_outputs c) w ∙ h))
+  tested_set w h = set_with c (length c.gates) w
+      (set_before (without_outputs c) (length c.gates) w (is_set-whole (without_outputs c) w ∙ h))
 
   tested_unset : (w : ℕ) → is_set (input_wires c) c.gates w ≡ false → IsSet c w → ⊥
   tested_unset w h set =
-      let is = sym (is_set-whole (without_outputs c) w) ∙ before_set (without_outputs c) (length c.gates) w (set_without c (length c.gates) w set) in
+      let is = sym (is_set-whole (without_outputs c) w)
+      ∙ before_set (without_outputs c) (length c.gates) w
+      (set_without c (length c.gates) w set) in
       cc
 
   no_wire_unset : (w : ℕ) → c.wires ≤ w → IsSet c w → ⊥
-  no_wire_unset w above set = let below = IsSetBefore-below (without_outputs c) lawful (length c.gates) w (set_without c (length c.gates) w set) in omega arith
+  no_wire_unset w above set = let below =
+      IsSetBefore-below (without_outputs c) lawful (length c.gates) w
+      (set_without c (length c.gates) w set) in omega arith
 
-  read_fault : (w : ℕ) (e : ReadFault) → check_read c.wires (is_set (input_wires c) c.gates) w ≡ Err e → (IsSet c w → ⊥) × UnsetFault c w e
+  read_fault : (w : ℕ) (e : ReadFault) →
+      check_read c.wires (is_set (input_wires c) c.gates) w ≡ Err e →
+      (IsSet c w → ⊥) × UnsetFault c w e
   unfolding check_read UnsetFault
   read_fault w e h =
-      chosen (nat_lt w c.wires) (cond (is_set (input_wires c) c.gates w) (Ok tt) (Err Unset)) (Err NoSuchWire) (Err e) h
+      chosen (nat_lt w c.wires) (cond (is_set (input_wires c) c.gates w) (Ok tt) (Err Unset))
+      (Err NoSuchWire) (Err e) h
       (λ is d.
       let below : w < c.wires = grind (arith, nat_tests) in
       chosen (is_set (input_wires c) c.gates w) (Ok tt) (Err Unset) (Err e) d
@@ -47,16 +55,26 @@ module _ (c : Netlist) (lawful : IsLawful (without_outputs c)) where
       (no_wire_unset w above, inl (above, fault_is NoSuchWire e d)))
 
   both_fault : (a b : ℕ) (e : ReadFault) →
-      (check_read c.wires (is_set (input_wires c) c.gates) a >>= (λ u. check_read c.wires (is_set (input_wires c) c.gates) b)) ≡ Err e →
+      (check_read c.wires (is_set (input_wires c) c.gates) a >>=
+      (λ u. check_read c.wires (is_set (input_wires c) c.gates) b)) ≡ Err e →
       (w : ℕ) × IsFirstUnset c (a ∷ b ∷ []) w × UnsetFault c w e
   both_fault a b e h =
       bind_fails (check_read c.wires (is_set (input_wires c) c.gates) a) _ e h
       (λ bad. let r = read_fault a e bad in (a, inl (refl, r.0), r.1))
       (λ u hu h1.
-      let r = read_fault b e h1 in
-      (b, inr (tested_set a (read_passes c.wires (is_set (input_wires c) c.gates) a u hu), inl (refl, r.0)), r.1))
+      let r = read_fault b e h1 in (
+        b,
+        inr (
+          tested_set a (read_passes c.wires (is_set (input_wires c) c.gates) a u hu),
+          inl
+              (refl, r.0),
+        ),
+        r.1,
+      ))
 
-  reads_fault : (op : Operation) (e : ReadFault) → check_reads c.wires (is_set (input_wires c) c.gates) op ≡ Err e → (w : ℕ) × IsFirstUnset c (wires_read op) w × UnsetFault c w e
+  reads_fault : (op : Operation) (e : ReadFault) →
+      check_reads c.wires (is_set (input_wires c) c.gates) op ≡ Err e →
+      (w : ℕ) × IsFirstUnset c (wires_read op) w × UnsetFault c w e
   unfolding check_reads
   reads_fault (Xor a b) e h = both_fault a b e h
   reads_fault (And a b) e h = both_fault a b e h
@@ -65,8 +83,10 @@ module _ (c : Netlist) (lawful : IsLawful (without_outputs c)) where
   reads_fault (Eqw a) e h = let r = read_fault a e h in (a, inl (refl, r.0), r.1)
 
 -- What fails the check has its first fault there.
-pub check_fault : (ts : List (List ℕ)) (c : Netlist) (words : List Word) (g : Gate) (rest : List (List ℕ)) (e : ReadFault) → IsLawful (without_outputs c) → GateDue c words →
-    SpellWords ts (words ++ words_of_gate g) rest → check_gate c.wires (is_set (input_wires c) c.gates) g ≡ Err e → FirstFault ts e
+pub check_fault : (ts : List (List ℕ)) (c : Netlist) (words : List Word) (g : Gate)
+    (rest : List (List ℕ)) (e : ReadFault) → IsLawful (without_outputs c) → GateDue c words →
+    SpellWords ts (words ++ words_of_gate g) rest →
+    check_gate c.wires (is_set (input_wires c) c.gates) g ≡ Err e → FirstFault ts e
 unfolding check_gate check_set UnsetFault
 check_fault ts c words g rest e lawful due s h =
     bind_fails (check_reads c.wires (is_set (input_wires c) c.gates) g.operation) _ e h
@@ -80,10 +100,12 @@ check_fault ts c words g rest e lawful due s h =
     let reads : EachRead (IsSet c) g.operation =
     EachRead-map (λ w. is_set (input_wires c) c.gates w ≡ true) (IsSet c) g.operation (tested_set c lawful)
     (reads_pass c.wires (is_set (input_wires c) c.gates) g.operation u hu) in
-    chosen (nat_lt g.set c.wires) (cond (is_set (input_wires c) c.gates g.set) (Err SetTwice) (Ok tt)) (Err NoSuchWire) (Err e) h1
+    chosen (nat_lt g.set c.wires) (cond (is_set (input_wires c) c.gates g.set) (Err SetTwice)
+    (Ok tt)) (Err NoSuchWire) (Err e) h1
     (λ is d.
     chosen (is_set (input_wires c) c.gates g.set) (Err SetTwice) (Ok tt) (Err e) d
-    (λ twice f. fault ts SetTwice e f (set_twice c words g rest due s reads (tested_set c lawful g.set twice)))
+    (λ twice f. fault ts SetTwice e f
+    (set_twice c words g rest due s reads (tested_set c lawful g.set twice)))
     (λ fresh f. accepted tt e f))
     (λ differ d.
     let above : c.wires ≤ g.set = grind (arith, nat_tests) in

@@ -25,7 +25,8 @@ module _ (n : ℕ) (s t : ℕ → Bool) (same : (w : ℕ) → w < n → s w ≡ 
       pick : Bool → Result (Unit {0}) ReadFault
       pick b = cond b (Ok tt) (Err Unset)
 
-      go : (b : Bool) → nat_lt w n ≡ b → cond b (pick (s w)) (Err NoSuchWire) ≡ cond b (pick (t w)) (Err NoSuchWire)
+      go : (b : Bool) → nat_lt w n ≡ b →
+          cond b (pick (s w)) (Err NoSuchWire) ≡ cond b (pick (t w)) (Err NoSuchWire)
       go true h = ap pick (same w (grind (arith, nat_tests)))
       go false h = refl
 
@@ -36,7 +37,8 @@ module _ (n : ℕ) (s t : ℕ → Bool) (same : (w : ℕ) → w < n → s w ≡ 
       pick : Bool → Result (Unit {0}) ReadFault
       pick b = cond b (Err SetTwice) (Ok tt)
 
-      go : (b : Bool) → nat_lt w n ≡ b → cond b (pick (s w)) (Err NoSuchWire) ≡ cond b (pick (t w)) (Err NoSuchWire)
+      go : (b : Bool) → nat_lt w n ≡ b →
+          cond b (pick (s w)) (Err NoSuchWire) ≡ cond b (pick (t w)) (Err NoSuchWire)
       go true h = ap pick (same w (grind (arith, nat_tests)))
       go false h = refl
 
@@ -53,26 +55,34 @@ module _ (n : ℕ) (s t : ℕ → Bool) (same : (w : ℕ) → w < n → s w ≡ 
   check_same g = rw (reads_same g.operation, set_same g.set) refl
 
 -- the marks of a table
-pub marks_read : (inputs n : ℕ) (before : List Gate) (marks : List Bool) → marks ≡ map (is_set inputs before) (range_with_len 0 n) →
-    (g : Gate) → check_gate (length marks) (λ w. slice_index_or marks w false) g ≡ check_gate n (is_set inputs before) g
+pub marks_read : (inputs n : ℕ) (before : List Gate) (marks : List Bool) →
+    marks ≡ map (is_set inputs before) (range_with_len 0 n) →
+    (g : Gate) → check_gate (length marks) (λ w. slice_index_or marks w false) g
+    ≡ check_gate n (is_set inputs before) g
 marks_read inputs n before marks is g =
     let len : length marks ≡ n = ap length is ∙ length-map-range_with_len (is_set inputs before) 0 n in
     ap (λ k. check_gate k (λ w. slice_index_or marks w false) g) len
     ∙ check_same n (λ w. slice_index_or marks w false) (is_set inputs before)
-    (λ w below. ap (λ m. get_or m w false) is ∙ get_or-map-range_with_len (is_set inputs before) 0 n w w false below (omega arith)) g
+    (λ w below. ap (λ m. get_or m w false) is
+    ∙ get_or-map-range_with_len (is_set inputs before) 0 n w w false below (omega arith)) g
 
 -- a gate more
-set_more : (inputs : ℕ) (before : List Gate) (g : Gate) (w : ℕ) → is_set inputs (before ++ g ∷ []) w ≡ (is_set inputs before w || (g.set == w || false))
-set_more inputs before g w = ap (λ b. nat_lt w inputs || b) (list_any-append (λ (x : Gate). x.set == w) before (g ∷ [])) ∙ or_assoc (nat_lt w inputs) _ _
+set_more : (inputs : ℕ) (before : List Gate) (g : Gate) (w : ℕ) →
+    is_set inputs (before ++ g ∷ []) w ≡ (is_set inputs before w || (g.set == w || false))
+set_more inputs before g w =
+    ap (λ b. nat_lt w inputs || b) (list_any-append (λ (x : Gate). x.set == w) before (g ∷ []))
+    ∙ or_assoc (nat_lt w inputs) _ _
   where
     or_assoc : (a b c : Bool) → (a || (b || c)) ≡ ((a || b) || c)
     or_assoc true b c = refl
     or_assoc false b c = refl
 
-pub marks_more : (inputs n : ℕ) (before : List Gate) (g : Gate) (marks : List Bool) → marks ≡ map (is_set inputs before) (range_with_len 0 n) → g.set < n →
+pub marks_more : (inputs n : ℕ) (before : List Gate) (g : Gate) (marks : List Bool) →
+    marks ≡ map (is_set inputs before) (range_with_len 0 n) → g.set < n →
     set marks g.set true ≡ map (is_set inputs (before ++ g ∷ [])) (range_with_len 0 n)
 marks_more inputs n before g marks is within =
-    fill_by_all (is_set inputs (before ++ g ∷ [])) (set marks g.set true) n false (length-set marks g.set true ∙ len) at_each
+    fill_by_all (is_set inputs (before ++ g ∷ [])) (set marks g.set true) n false
+    (length-set marks g.set true ∙ len) at_each
   where
     len : length marks ≡ n
     len = ap length is ∙ length-map-range_with_len (is_set inputs before) 0 n
@@ -92,11 +102,13 @@ marks_more inputs n before g marks is within =
       | inl e ↦
           let inside : g.set < length marks = omega (arith, len) in
           ap (λ j. get_or (set marks g.set true) j false) e ∙ get_or-set_same marks g.set true false inside
-          ∙ sym (set_more inputs before g k ∙ or_true _ _ (let t : (g.set == k) ≡ true = grind (arith, nat_tests) in t))
+          ∙ sym (set_more inputs before g k
+          ∙ or_true _ _ (let t : (g.set == k) ≡ true = grind (arith, nat_tests) in t))
       | inr ne ↦
           get_or-set_other marks g.set k true false ne ∙ ap (λ m. get_or m k false) is
           ∙ get_or-map-range_with_len (is_set inputs before) 0 n k k false below (omega arith)
-          ∙ sym (set_more inputs before g k ∙ or_false _ _ (let t : (g.set == k) ≡ false = grind (arith, nat_tests) in t))
+          ∙ sym (set_more inputs before g k
+          ∙ or_false _ _ (let t : (g.set == k) ≡ false = grind (arith, nat_tests) in t))
     ]
 
 -- a gate that is accepted sets a wire
@@ -107,13 +119,15 @@ check_in_range n s g h = go (check_reads n s g.operation) (nat_lt g.set n) refl 
     last : Bool → Result (Unit {0}) ReadFault
     last b = cond b (cond (s g.set) (Err SetTwice) (Ok tt)) (Err NoSuchWire)
 
-    go : (r : Result (Unit {0}) ReadFault) (b : Bool) → nat_lt g.set n ≡ b → (r >>= λ _. last b) ≡ Ok tt → g.set < n
+    go : (r : Result (Unit {0}) ReadFault) (b : Bool) → nat_lt g.set n ≡ b →
+        (r >>= λ _. last b) ≡ Ok tt → g.set < n
     go (Err e) b t h = absurd (let z : ⊥ = cc in z)
     go (Ok x) true t h = grind (arith, nat_tests)
     go (Ok x) false t h = absurd (let z : ⊥ = cc in z)
 
 module _ (wires inputs n : ℕ) (before : List Gate) (ts : List (List ℕ)) where
-  pub gates_next : (g : Gate) (rest : List (List ℕ)) → gate_at ts ≡ Ok (g, rest) → check_gate wires (is_set inputs before) g ≡ Ok tt →
+  pub gates_next : (g : Gate) (rest : List (List ℕ)) → gate_at ts ≡ Ok (g, rest) →
+      check_gate wires (is_set inputs before) g ≡ Ok tt →
       gates_at wires inputs (suc n) before ts ≡ gates_at wires inputs n (before ++ g ∷ []) rest
   unfolding gates_at
   gates_next g rest h k = rw (h, k) refl
@@ -122,32 +136,43 @@ module _ (wires inputs n : ℕ) (before : List Gate) (ts : List (List ℕ)) wher
   unfolding gates_at
   gates_no_gate e h = rw h refl
 
-  pub gates_refused : (g : Gate) (rest : List (List ℕ)) (e : ReadFault) → gate_at ts ≡ Ok (g, rest) → check_gate wires (is_set inputs before) g ≡ Err e → gates_at wires inputs (suc n) before ts ≡ Err e
+  pub gates_refused : (g : Gate) (rest : List (List ℕ)) (e : ReadFault) →
+      gate_at ts ≡ Ok (g, rest) → check_gate wires (is_set inputs before) g ≡ Err e →
+      gates_at wires inputs (suc n) before ts ≡ Err e
   unfolding gates_at
   gates_refused g rest e h k = rw (h, k) refl
 
-pub gates_end : (wires inputs : ℕ) (before : List Gate) (ts : List (List ℕ)) → gates_at wires inputs zero before ts ≡ Ok (before, ts)
+pub gates_end : (wires inputs : ℕ) (before : List Gate) (ts : List (List ℕ)) →
+    gates_at wires inputs zero before ts ≡ Ok (before, ts)
 unfolding gates_at
 gates_end wires inputs before ts = refl
 
 -- the loop's turns, with i gates read of count
-module _ (wires inputs count i : ℕ) (before : List Gate) (ts : List (List ℕ)) (whole : Result (List Gate × List (List ℕ)) ReadFault) where
+module _ (wires inputs count i : ℕ) (before : List Gate) (ts : List (List ℕ))
+    (whole : Result (List Gate × List (List ℕ)) ReadFault) where
   left : i < count → count - i ≡ suc (count - (i + 1))
   left h = omega arith
 
-  pub turn_goes_on : (g : Gate) (rest : List (List ℕ)) → i < count → gate_at ts ≡ Ok (g, rest) → check_gate wires (is_set inputs before) g ≡ Ok tt →
-      gates_at wires inputs (count - i) before ts ≡ whole → gates_at wires inputs (count - (i + 1)) (before ++ g ∷ []) rest ≡ whole
+  pub turn_goes_on : (g : Gate) (rest : List (List ℕ)) → i < count → gate_at ts ≡ Ok (g, rest) →
+      check_gate wires (is_set inputs before) g ≡ Ok tt →
+      gates_at wires inputs (count - i) before ts ≡ whole →
+      gates_at wires inputs (count - (i + 1)) (before ++ g ∷ []) rest ≡ whole
   turn_goes_on g rest below read good so_far =
-      sym (gates_next wires inputs (count - (i + 1)) before ts g rest read good) ∙ ap (λ n. gates_at wires inputs n before ts) (sym (left below)) ∙ so_far
+      sym (gates_next wires inputs (count - (i + 1)) before ts g rest read good)
+      ∙ ap (λ n. gates_at wires inputs n before ts) (sym (left below)) ∙ so_far
 
-  pub turn_no_gate : (e : ReadFault) → i < count → gate_at ts ≡ Err e → gates_at wires inputs (count - i) before ts ≡ whole → whole ≡ Err e
+  pub turn_no_gate : (e : ReadFault) → i < count → gate_at ts ≡ Err e →
+      gates_at wires inputs (count - i) before ts ≡ whole → whole ≡ Err e
   turn_no_gate e below read so_far =
-      sym so_far ∙ ap (λ n. gates_at wires inputs n before ts) (left below) ∙ gates_no_gate wires inputs (count - (i + 1)) before ts e read
+      sym so_far ∙ ap (λ n. gates_at wires inputs n before ts) (left below)
+      ∙ gates_no_gate wires inputs (count - (i + 1)) before ts e read
 
-  pub turn_refused : (g : Gate) (rest : List (List ℕ)) (e : ReadFault) → i < count → gate_at ts ≡ Ok (g, rest) → check_gate wires (is_set inputs before) g ≡ Err e →
+  pub turn_refused : (g : Gate) (rest : List (List ℕ)) (e : ReadFault) → i < count →
+      gate_at ts ≡ Ok (g, rest) → check_gate wires (is_set inputs before) g ≡ Err e →
       gates_at wires inputs (count - i) before ts ≡ whole → whole ≡ Err e
   turn_refused g rest e below read bad so_far =
-      sym so_far ∙ ap (λ n. gates_at wires inputs n before ts) (left below) ∙ gates_refused wires inputs (count - (i + 1)) before ts g rest e read bad
+      sym so_far ∙ ap (λ n. gates_at wires inputs n before ts) (left below)
+      ∙ gates_refused wires inputs (count - (i + 1)) before ts g rest e read bad
 
   pub turns_done : count ≤ i → gates_at wires inputs (count - i) before ts ≡ whole → whole ≡ Ok (before, ts)
   turns_done past so_far =
@@ -155,40 +180,55 @@ module _ (wires inputs count i : ℕ) (before : List Gate) (ts : List (List ℕ)
       sym so_far ∙ ap (λ n. gates_at wires inputs n before ts) none ∙ gates_end wires inputs before ts
 
 -- What the code finds in the table is what the check says of the gates before.
-pub found : (inputs n : ℕ) (before : List Gate) (table marks : List Bool) (g : Gate) (r : Result (Unit {0}) ReadFault) → table ≡ marks →
-    marks ≡ map (is_set inputs before) (range_with_len 0 n) → r ≡ check_gate (length table) (λ w. slice_index_or table w false) g → check_gate n (is_set inputs before) g ≡ r
+pub found : (inputs n : ℕ) (before : List Gate) (table marks : List Bool) (g : Gate)
+    (r : Result (Unit {0}) ReadFault) → table ≡ marks →
+    marks ≡ map (is_set inputs before) (range_with_len 0 n) →
+    r ≡ check_gate (length table) (λ w. slice_index_or table w false) g →
+    check_gate n (is_set inputs before) g ≡ r
 found inputs n before table marks g r same is h = sym (marks_read inputs n before table (same ∙ is) g) ∙ sym h
 
-pub marks_len : (inputs n : ℕ) (before : List Gate) (marks : List Bool) → marks ≡ map (is_set inputs before) (range_with_len 0 n) → length marks ≡ n
+pub marks_len : (inputs n : ℕ) (before : List Gate) (marks : List Bool) →
+    marks ≡ map (is_set inputs before) (range_with_len 0 n) → length marks ≡ n
 marks_len inputs n before marks is = ap length is ∙ length-map-range_with_len (is_set inputs before) 0 n
 
-start_at : (inputs m k : ℕ) → get_or (replicate inputs true ++ replicate m false) k false ≡ (nat_lt k inputs || false)
-start_at zero m k = none_at m k ∙ ap (λ b. b || false) (let e : false ≡ nat_lt k zero = grind (arith, nat_tests) in e)
+start_at : (inputs m k : ℕ) → get_or (replicate inputs true ++ replicate m false) k false
+    ≡ (nat_lt k inputs || false)
+start_at zero m k = none_at m k
+    ∙ ap (λ b. b || false) (let e : false ≡ nat_lt k zero = grind (arith, nat_tests) in e)
   where
     none_at : (n j : ℕ) → get_or (replicate n false) j false ≡ false
     none_at zero j = refl
     none_at (suc n) zero = refl
     none_at (suc n) (suc j) = none_at n j
-start_at (suc n) m zero = ap (λ b. b || false) (let e : true ≡ nat_lt zero (suc n) = grind (arith, nat_tests) in e)
-start_at (suc n) m (suc k) = start_at n m k ∙ ap (λ b. b || false) (test_same (nat_lt k n) (nat_lt (suc k) (suc n)) refl refl)
+start_at (suc n) m zero =
+    ap (λ b. b || false) (let e : true ≡ nat_lt zero (suc n) = grind (arith, nat_tests) in e)
+start_at (suc n) m (suc k) = start_at n m k
+    ∙ ap (λ b. b || false) (test_same (nat_lt k n) (nat_lt (suc k) (suc n)) refl refl)
   where
-    test_same : (a b : Bool) → a ≡ nat_lt k n → b ≡ nat_lt (suc k) (suc n) → nat_lt k n ≡ nat_lt (suc k) (suc n)
+    test_same : (a b : Bool) → a ≡ nat_lt k n → b ≡ nat_lt (suc k) (suc n) →
+        nat_lt k n ≡ nat_lt (suc k) (suc n)
     test_same a b h j = grind (arith, nat_tests)
 
 -- the table before any gate, as two fillings of an empty list
-pub start_table : (inputs wires none first_len : ℕ) (empty first second : List Bool) → inputs ≤ wires → empty ≡ [] → none ≡ 0 →
+pub start_table : (inputs wires none first_len : ℕ) (empty first second : List Bool) →
+    inputs ≤ wires → empty ≡ [] → none ≡ 0 →
     first ≡ take inputs empty ++ replicate (inputs - none) true → first_len ≡ inputs →
-    second ≡ take wires first ++ replicate (wires - first_len) false → second ≡ map (is_set inputs []) (range_with_len 0 wires)
+    second ≡ take wires first ++ replicate (wires - first_len) false →
+    second ≡ map (is_set inputs []) (range_with_len 0 wires)
 start_table inputs wires none first_len empty first second fits e n is_first len is_second =
     let first_is : first ≡ replicate inputs true = is_first ∙ rw (e, n) (grind (arith, common_steps)) in
-    is_second ∙ rw (first_is, len) (ap (λ l. l ++ replicate (wires - inputs) false) (whole inputs wires fits) ∙ start_is inputs wires fits)
+    is_second ∙ rw (first_is, len)
+    (ap (λ l. l ++ replicate (wires - inputs) false) (whole inputs wires fits)
+    ∙ start_is inputs wires fits)
   where
     whole : (m n : ℕ) → m ≤ n → take n (replicate m true) ≡ replicate m true
     whole m n h = grind (arith, common_steps)
 
-    start_is : (m n : ℕ) → m ≤ n → replicate m true ++ replicate (n - m) false ≡ map (is_set m []) (range_with_len 0 n)
+    start_is : (m n : ℕ) → m ≤ n → replicate m true ++ replicate (n - m) false
+        ≡ map (is_set m []) (range_with_len 0 n)
     start_is m n h =
-        fill_by_all (is_set m []) (replicate m true ++ replicate (n - m) false) n false (grind (arith, common_steps)) (λ k below. start_at m (n - m) k)
+        fill_by_all (is_set m []) (replicate m true ++ replicate (n - m) false) n false
+        (grind (arith, common_steps)) (λ k below. start_at m (n - m) k)
 
 byte_of : (b : Bool) → from_bool b ≡ cond b 1 0
 byte_of true = refl
@@ -199,7 +239,9 @@ small_byte true = omega arith
 small_byte false = omega arith
 
 -- how many AND gates there are with one gate more
-pub ands_more : (before : List Gate) (g : Gate) (n k : ℕ) → n ≡ count_by (λ x. is_and x.operation) before → (t : Bool) → t ≡ is_and g.operation → k ≡ from_bool t →
+pub ands_more : (before : List Gate) (g : Gate) (n k : ℕ) →
+    n ≡ count_by (λ x. is_and x.operation) before → (t : Bool) → t ≡ is_and g.operation →
+    k ≡ from_bool t →
     n + k ≡ count_by (λ x. is_and x.operation) (before ++ g ∷ [])
 ands_more before g n k so_far t is one =
     let e = ap from_bool is ∙ byte_of (is_and g.operation) in

@@ -23,40 +23,56 @@ pub record Told (ts : List (List ℕ)) (c : Netlist) (rest : List (List ℕ)) : 
   pub told_outputs : widths_at c.wires after_inputs ≡ Ok (c.output_widths, after_outputs)
   pub told_gates : gates_at c.wires (sum c.input_widths) count [] after_outputs ≡ Ok (c.gates, rest)
 
-pub tell : (all ts after_count after_wires after_inputs after_outputs rest : List (List ℕ)) (c : Netlist) (count inputs : ℕ) → ts ≡ all →
-    limited_at MAX_GATES ts ≡ Ok (count, after_count) → limited_at MAX_WIRES after_count ≡ Ok (c.wires, after_wires) → widths_at c.wires after_wires ≡ Ok (c.input_widths, after_inputs) →
-    widths_at c.wires after_inputs ≡ Ok (c.output_widths, after_outputs) → inputs ≡ sum c.input_widths → gates_at c.wires inputs count [] after_outputs ≡ Ok (c.gates, rest) → Told all c rest
-tell all ts after_count after_wires after_inputs after_outputs rest c count inputs same h_count h_wires h_inputs h_outputs is h_gates = record {
-  after_count = after_count;
-  after_wires = after_wires;
-  after_inputs = after_inputs;
-  after_outputs = after_outputs;
-  count = count;
-  told_count = ap (limited_at MAX_GATES) (sym same) ∙ h_count;
-  told_wires = h_wires;
-  told_inputs = h_inputs;
-  told_outputs = h_outputs;
-  told_gates = ap (λ n. gates_at c.wires n count [] after_outputs) (sym is) ∙ h_gates;
-}
+pub tell : (all ts after_count after_wires after_inputs after_outputs rest : List (List ℕ))
+    (c : Netlist) (count inputs : ℕ) → ts ≡ all →
+    limited_at MAX_GATES ts ≡ Ok (count, after_count) →
+    limited_at MAX_WIRES after_count ≡ Ok (c.wires, after_wires) →
+    widths_at c.wires after_wires ≡ Ok (c.input_widths, after_inputs) →
+    widths_at c.wires after_inputs ≡ Ok (c.output_widths, after_outputs) →
+    inputs ≡ sum c.input_widths → gates_at c.wires inputs count [] after_outputs
+    ≡ Ok (c.gates, rest) → Told all c rest
+tell all ts after_count after_wires after_inputs after_outputs rest c count inputs same h_count h_wires h_inputs h_outputs is h_gates =
+    record {
+      after_count = after_count;
+      after_wires = after_wires;
+      after_inputs = after_inputs;
+      after_outputs = after_outputs;
+      count = count;
+      told_count = ap (limited_at MAX_GATES) (sym same) ∙ h_count;
+      told_wires = h_wires;
+      told_inputs = h_inputs;
+      told_outputs = h_outputs;
+      told_gates = ap (λ n. gates_at c.wires n count [] after_outputs) (sym is) ∙ h_gates;
+    }
 
 module _ (ts : List (List ℕ)) (c : Netlist) (rest : List (List ℕ)) (told : Told ts c rest) where
   last_steps : circuit_of ts ≡ (check_outputs c >>= (λ u. check_end rest >>= (λ v. Ok c)))
   unfolding circuit_of
-  last_steps = rw (told.told_count, told.told_wires, told.told_inputs, told.told_outputs, told.told_gates) refl
+  last_steps = rw (
+    told.told_count,
+    told.told_wires,
+    told.told_inputs,
+    told.told_outputs,
+    told.told_gates,
+  ) refl
 
   pub outputs_refused : (e : ReadFault) → check_outputs c ≡ Err e → circuit_of ts ≡ Err e
   outputs_refused e bad = last_steps ∙ rw bad refl
 
-  pub end_refused : (u : Unit {0}) (e : ReadFault) → check_outputs c ≡ Ok u → check_end rest ≡ Err e → circuit_of ts ≡ Err e
+  pub end_refused : (u : Unit {0}) (e : ReadFault) → check_outputs c ≡ Ok u →
+      check_end rest ≡ Err e → circuit_of ts ≡ Err e
   end_refused u e good bad = last_steps ∙ rw (good, bad) refl
 
   pub read_whole : (u v : Unit {0}) → check_outputs c ≡ Ok u → check_end rest ≡ Ok v → circuit_of ts ≡ Ok c
   read_whole u v good end = last_steps ∙ rw (good, end) refl
 
 -- What the code finds in the table of set wires is what the check of the outputs says.
-pub outputs_found : (c : Netlist) (inputs outputs : ℕ) (items table : List Bool) (r : Result (Unit {0}) ReadFault) → inputs ≡ sum c.input_widths → outputs ≡ sum c.output_widths → outputs ≤ c.wires →
+pub outputs_found : (c : Netlist) (inputs outputs : ℕ) (items table : List Bool)
+    (r : Result (Unit {0}) ReadFault) → inputs ≡ sum c.input_widths →
+    outputs ≡ sum c.output_widths → outputs ≤ c.wires →
     items ≡ map (is_set inputs c.gates) (range_with_len 0 c.wires) → table ≡ items →
-    r ≡ cond (list_all (λ b. b) (drop (length table - outputs) table)) (Ok tt) (Err OutputUnset) → check_outputs c ≡ r
+    r ≡ cond (list_all (λ b. b) (drop (length table - outputs) table)) (Ok tt) (Err OutputUnset) →
+    check_outputs c ≡ r
 unfolding check_outputs
 outputs_found c inputs outputs items table r ins outs fits is same found =
     ap pick (sym same_test) ∙ sym found
@@ -73,9 +89,11 @@ outputs_found c inputs outputs items table r ins outs fits is same found =
     fits_too : sum c.output_widths ≤ c.wires
     fits_too = omega (arith, outs, fits)
 
-    same_test : list_all (λ b. b) (drop (length table - outputs) table) ≡ list_all set_now (range_with_len (c.wires - sum c.output_widths) (sum c.output_widths))
+    same_test : list_all (λ b. b) (drop (length table - outputs) table)
+        ≡ list_all set_now (range_with_len (c.wires - sum c.output_widths) (sum c.output_widths))
     same_test =
-        ap (λ n. list_all (λ b. b) (drop (n - outputs) table)) (marks_len (sum c.input_widths) c.wires c.gates table table_is)
+        ap (λ n. list_all (λ b. b) (drop (n - outputs) table))
+        (marks_len (sum c.input_widths) c.wires c.gates table table_is)
         ∙ ap (λ n. list_all (λ b. b) (drop (c.wires - n) table)) outs
         ∙ ap (λ t. list_all (λ b. b) (drop (c.wires - sum c.output_widths) t)) table_is
         ∙ ap (list_all (λ b. b)) (table_end set_now c.wires (sum c.output_widths) fits_too)

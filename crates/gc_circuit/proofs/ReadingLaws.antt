@@ -17,11 +17,18 @@ use Rattle.gc_circuit.proofs.CircuitFaultsBack.{first_fault-met}
 pub reading_law : (text : List ℕ) → ReadingLaw text
 reading_law text = record {
   either = go (circuit_of (tokens text)) refl;
-  not_both = λ c e lawful spelled first. accepted c e (sym (circuit_of-back (tokens text) c lawful spelled) ∙ first_fault-met (tokens text) e first);
+  not_both = λ c e lawful spelled first.
+      accepted c e (sym (circuit_of-back (tokens text) c lawful spelled)
+      ∙ first_fault-met (tokens text) e first);
   one_circuit = λ c d lawful_c spelled_c lawful_d spelled_d.
-      ok_is c d (sym (circuit_of-back (tokens text) c lawful_c spelled_c) ∙ circuit_of-back (tokens text) d lawful_d spelled_d);
-  one_fault = λ e f first_e first_f. fault_is e f (sym (first_fault-met (tokens text) e first_e) ∙ first_fault-met (tokens text) f first_f);
-  reads = λ c. (λ h. (circuit_of-lawful (tokens text) c h, circuit_of-spelled (tokens text) c h), λ p. circuit_of-back (tokens text) c p.0 p.1);
+      ok_is c d (sym (circuit_of-back (tokens text) c lawful_c spelled_c)
+      ∙ circuit_of-back (tokens text) d lawful_d spelled_d);
+  one_fault = λ e f first_e first_f. fault_is e f (sym (first_fault-met (tokens text) e first_e)
+      ∙ first_fault-met (tokens text) f first_f);
+  reads = λ c. (
+    λ h. (circuit_of-lawful (tokens text) c h, circuit_of-spelled (tokens text) c h),
+    λ p. circuit_of-back (tokens text) c p.0 p.1,
+  );
   faults = λ e. (λ h. circuit_of-fault (tokens text) e h, λ first. first_fault-met (tokens text) e first);
 }
   where
@@ -48,14 +55,19 @@ only_memory Memory h = refl
 
 -- What reading gives, memory aside.
 abbrev pub IsRead : List ℕ → Result Netlist ReadFault → Type 0
-IsRead text r = MatchResult r (λ c. circuit_of (tokens text) ≡ Ok c) (λ e. e ≢ Memory → circuit_of (tokens text) ≡ Err e)
+IsRead text r = MatchResult r (λ c. circuit_of (tokens text) ≡ Ok c)
+    (λ e. e ≢ Memory → circuit_of (tokens text) ≡ Err e)
 
 -- A lawful circuit that the text spells is read, memory aside.
-pub read_exactly : (text : List ℕ) (r : Result Netlist ReadFault) → IsRead text r → (c : Netlist) → IsLawful c → Spells text c → MatchResult r (λ d. d ≡ c) (λ e. e ≡ Memory)
-read_exactly text (Ok d) read c lawful spelled = ok_is d c (sym read ∙ circuit_of-back (tokens text) c lawful spelled)
-read_exactly text (Err e) read c lawful spelled = only_memory e (λ other. accepted c e (sym (circuit_of-back (tokens text) c lawful spelled) ∙ read other))
+pub read_exactly : (text : List ℕ) (r : Result Netlist ReadFault) → IsRead text r → (c : Netlist) →
+    IsLawful c → Spells text c → MatchResult r (λ d. d ≡ c) (λ e. e ≡ Memory)
+read_exactly text (Ok d) read c lawful spelled =
+    ok_is d c (sym read ∙ circuit_of-back (tokens text) c lawful spelled)
+read_exactly text (Err e) read c lawful spelled = only_memory e
+    (λ other. accepted c e (sym (circuit_of-back (tokens text) c lawful spelled) ∙ read other))
 
 -- A fault is the first fault, memory aside.
-pub read_fault : (text : List ℕ) (r : Result Netlist ReadFault) → IsRead text r → IfErr r (λ e. e ≢ Memory → FirstFault (tokens text) e)
+pub read_fault : (text : List ℕ) (r : Result Netlist ReadFault) → IsRead text r →
+    IfErr r (λ e. e ≢ Memory → FirstFault (tokens text) e)
 read_fault text (Ok d) read = tt
 read_fault text (Err e) read = λ other. circuit_of-fault (tokens text) e (read other)

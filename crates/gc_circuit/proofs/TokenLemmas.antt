@@ -28,18 +28,24 @@ pub tokens_last : (b : ℕ) (t : List ℕ) → NoBlank (b ∷ t) → tokens (b �
 unfolding tokens
 tokens_last b t h = ap (filter is_some_run) (slice_split_none is_blank (b ∷ t) h)
 
-pub tokens_first : (b : ℕ) (t : List ℕ) (y : ℕ) (ys : List ℕ) → NoBlank (b ∷ t) → is_blank y ≡ true → tokens ((b ∷ t) ++ y ∷ ys) ≡ (b ∷ t) ∷ tokens (y ∷ ys)
+pub tokens_first : (b : ℕ) (t : List ℕ) (y : ℕ) (ys : List ℕ) → NoBlank (b ∷ t) →
+    is_blank y ≡ true → tokens ((b ∷ t) ++ y ∷ ys) ≡ (b ∷ t) ∷ tokens (y ∷ ys)
 unfolding tokens
-tokens_first b t y ys h blank = ap (filter is_some_run) (slice_split_at is_blank (b ∷ t) y ys h blank) ∙ ap (λ ts. (b ∷ t) ∷ ts) (sym (tokens-blank y ys blank))
+tokens_first b t y ys h blank =
+    ap (filter is_some_run) (slice_split_at is_blank (b ∷ t) y ys h blank)
+    ∙ ap (λ ts. (b ∷ t) ∷ ts) (sym (tokens-blank y ys blank))
 
-tokens_join : (front rest : List ℕ) → 0 < length front → NoBlank front → ((y : ℕ) (ys : List ℕ) → rest ≡ y ∷ ys → is_blank y ≡ true) →
+tokens_join : (front rest : List ℕ) → 0 < length front → NoBlank front →
+    ((y : ℕ) (ys : List ℕ) → rest ≡ y ∷ ys → is_blank y ≡ true) →
     tokens (front ++ rest) ≡ front ∷ tokens rest
 tokens_join [] rest some none ends = absurd (omega (arith, some))
-tokens_join (b ∷ t) [] some none ends = ap tokens (append-nil (b ∷ t)) ∙ tokens_last b t none ∙ ap (λ ts. (b ∷ t) ∷ ts) (sym tokens-nil)
+tokens_join (b ∷ t) [] some none ends =
+    ap tokens (append-nil (b ∷ t)) ∙ tokens_last b t none ∙ ap (λ ts. (b ∷ t) ∷ ts) (sym tokens-nil)
 tokens_join (b ∷ t) (y ∷ ys) some none ends = tokens_first b t y ys none (ends y ys refl)
 
 -- what a reader takes: the first n bytes are no blanks, and there is a blank after them or none of the text
-pub tokens_take : (n : ℕ) (text : List ℕ) → 0 < n → n ≤ length text → NoBlank (take n text) → (n < length text → is_blank (slice_index text n) ≡ true) →
+pub tokens_take : (n : ℕ) (text : List ℕ) → 0 < n → n ≤ length text → NoBlank (take n text) →
+    (n < length text → is_blank (slice_index text n) ≡ true) →
     tokens text ≡ take n text ∷ tokens (drop n text)
 tokens_take n text some fits none ends =
     ap tokens (sym (take-append-drop n text))
@@ -50,15 +56,21 @@ tokens_take n text some fits none ends =
     sym (ap is_blank head) ∙ ends longer)
 
 -- one more blank passed
-pub blank_passed : (text : List ℕ) (i : ℕ) → i < length text → is_blank (get_or text i 0) ≡ true → tokens (drop i text) ≡ tokens text → tokens (drop (i + 1) text) ≡ tokens text
+pub blank_passed : (text : List ℕ) (i : ℕ) → i < length text → is_blank (get_or text i 0) ≡ true →
+    tokens (drop i text) ≡ tokens text → tokens (drop (i + 1) text) ≡ tokens text
 blank_passed text i within blank before =
     let e : drop i text ≡ get_or text i 0 ∷ drop (suc i) text = drop-cons text i 0 within in
     let n : suc i ≡ i + 1 = omega arith in
-    ap (λ k. tokens (drop k text)) (sym n) ∙ sym (tokens-blank (get_or text i 0) (drop (suc i) text) blank) ∙ ap tokens (sym e) ∙ before
+    ap (λ k. tokens (drop k text)) (sym n)
+    ∙ sym (tokens-blank (get_or text i 0) (drop (suc i) text) blank)
+    ∙ ap tokens (sym e) ∙ before
 
 -- one more byte of a run
-pub run_more : (text : List ℕ) (i : ℕ) → i < length text → NoBlank (take i text) → is_blank (get_or text i 0) ≡ false → NoBlank (take (i + 1) text)
-run_more text i within before here = rw (take_more text i 0 within) (All-push (λ b. is_blank b ≡ false) (take i text) (get_or text i 0) before here)
+pub run_more : (text : List ℕ) (i : ℕ) → i < length text → NoBlank (take i text) →
+    is_blank (get_or text i 0) ≡ false → NoBlank (take (i + 1) text)
+run_more text i within before here =
+    rw (take_more text i 0 within) (All-push
+    (λ b. is_blank b ≡ false) (take i text) (get_or text i 0) before here)
 
 -- Whatever comes after these bytes, the first token begins with them.
 pub record Begins (front rest : List ℕ) : Type 0 where
@@ -66,30 +78,36 @@ pub record Begins (front rest : List ℕ) : Type 0 where
   pub later : List (List ℕ)
   pub is : tokens (front ++ rest) ≡ (front ++ more) ∷ later
 
-begins_more : (front : List ℕ) (y : ℕ) (ys : List ℕ) (b : Bool) → 0 < length front → NoBlank front → is_blank y ≡ b →
+begins_more : (front : List ℕ) (y : ℕ) (ys : List ℕ) (b : Bool) → 0 < length front → NoBlank front →
+    is_blank y ≡ b →
     (is_blank y ≡ false → Begins (front ++ y ∷ []) ys) → Begins front (y ∷ ys)
 begins_more front y ys true some none h longer = record {
   more = [];
   later = tokens (y ∷ ys);
-  is = tokens_join front (y ∷ ys) some none (λ z zs e. let same : y ≡ z = cc in ap is_blank (sym same) ∙ h) ∙ ap (λ l. l ∷ tokens (y ∷ ys)) (sym (append-nil front));
+  is = tokens_join front (y ∷ ys) some none
+      (λ z zs e. let same : y ≡ z = cc in ap is_blank (sym same) ∙ h)
+      ∙ ap (λ l. l ∷ tokens (y ∷ ys)) (sym (append-nil front));
 }
 begins_more front y ys false some none h longer =
     let b = longer h in
     record {
       more = y ∷ b.more;
       later = b.later;
-      is = ap tokens (sym (append_assoc front (y ∷ []) ys)) ∙ b.is ∙ ap (λ l. l ∷ b.later) (append_assoc front (y ∷ []) b.more);
+      is = ap tokens (sym (append_assoc front (y ∷ []) ys)) ∙ b.is
+          ∙ ap (λ l. l ∷ b.later) (append_assoc front (y ∷ []) b.more);
     }
 
 pub tokens_begin : (front rest : List ℕ) → 0 < length front → NoBlank front → Begins front rest
 tokens_begin front [] some none = record {
   more = [];
   later = [];
-  is = tokens_join front [] some none (λ y ys e. absurd (let z : ⊥ = cc in z)) ∙ ap (λ l. l ∷ tokens []) (sym (append-nil front)) ∙ ap (λ ts. (front ++ []) ∷ ts) tokens-nil;
+  is = tokens_join front [] some none (λ y ys e. absurd (let z : ⊥ = cc in z))
+      ∙ ap (λ l. l ∷ tokens []) (sym (append-nil front)) ∙ ap (λ ts. (front ++ []) ∷ ts) tokens-nil;
 }
 tokens_begin front (y ∷ ys) some none =
     begins_more front y ys (is_blank y) some none refl
-    (λ h. tokens_begin (front ++ y ∷ []) ys (grind (arith, common_steps)) (All-push (λ b. is_blank b ≡ false) front y none h))
+    (λ h. tokens_begin (front ++ y ∷ []) ys (grind (arith, common_steps)) (All-push
+    (λ b. is_blank b ≡ false) front y none h))
 
 -- whether there are bytes, by the test of their number
 pub empty_is_nil : (text : List ℕ) → (length text == 0) ≡ true → text ≡ []
@@ -103,27 +121,38 @@ some_bytes (x ∷ xs) b h empty = omega arith
 nil_is_not : (a : Bool) → a ≡ true → a ≡ false → ⊥
 nil_is_not a h k = let z : ⊥ = cc in z
 
-some_run : (text : List ℕ) (n : ℕ) → 0 < length text → (0 < length text → is_blank (slice_index text 0) ≡ false) → (n < length text → is_blank (slice_index text n) ≡ true) → 0 < n
-some_run text zero some begins ends = absurd (nil_is_not (is_blank (slice_index text 0)) (ends some) (begins some))
+some_run : (text : List ℕ) (n : ℕ) → 0 < length text →
+    (0 < length text → is_blank (slice_index text 0) ≡ false) →
+    (n < length text → is_blank (slice_index text n) ≡ true) → 0 < n
+some_run text zero some begins ends =
+    absurd (nil_is_not (is_blank (slice_index text 0)) (ends some) (begins some))
 some_run text (suc n) some begins ends = omega arith
 
 -- A cursor at rest sees the tokens now, which are those of the text without the blanks in front.
-module _ (rest text : List ℕ) (now : List (List ℕ)) (seen : tokens rest ≡ now) (same : tokens text ≡ tokens rest) where
+module _ (rest text : List ℕ) (now : List (List ℕ)) (seen : tokens rest ≡ now)
+    (same : tokens text ≡ tokens rest) where
   -- no byte, no token
   pub none_left : (length text == 0) ≡ true → now ≡ []
   none_left h = sym seen ∙ sym same ∙ ap tokens (empty_is_nil text h) ∙ tokens-nil
 
   -- the token in front
-  pub one_left : (token after : List ℕ) (n : ℕ) → 0 < length text → (0 < length text → is_blank (slice_index text 0) ≡ false) → n ≤ length text → NoBlank (take n text) →
-      (n < length text → is_blank (slice_index text n) ≡ true) → token ≡ take n text → after ≡ drop n text → now ≡ token ∷ tokens after
+  pub one_left : (token after : List ℕ) (n : ℕ) → 0 < length text →
+      (0 < length text → is_blank (slice_index text 0) ≡ false) → n ≤ length text →
+      NoBlank (take n text) →
+      (n < length text → is_blank (slice_index text n) ≡ true) → token ≡ take n text →
+      after ≡ drop n text → now ≡ token ∷ tokens after
   one_left token after n some begins fits none ends first others =
-      sym seen ∙ sym same ∙ tokens_take n text (some_run text n some begins ends) fits none ends ∙ rw (first, others) refl
+      sym seen ∙ sym same ∙ tokens_take n text (some_run text n some begins ends) fits none ends
+      ∙ rw (first, others) refl
 
 starts : (b : ℕ) (t : List ℕ) → is_blank b ≡ false → Begins (b ∷ []) t
-starts b t h = tokens_begin (b ∷ []) t (omega arith) (All-push (λ b. is_blank b ≡ false) [] b (λ k d below. absurd (omega (arith, below))) h)
+starts b t h = tokens_begin (b ∷ []) t (omega arith) (All-push (λ b. is_blank b ≡ false) [] b
+    (λ k d below. absurd (omega (arith, below))) h)
 
 -- a byte that is no blank is in a token
-pub some_left : (rest text : List ℕ) (now : List (List ℕ)) → tokens rest ≡ now → tokens text ≡ tokens rest → 0 < length text →
+pub some_left : (rest text : List ℕ) (now : List (List ℕ)) → tokens rest ≡ now →
+    tokens text ≡ tokens rest → 0 < length text →
     (0 < length text → is_blank (slice_index text 0) ≡ false) → check_end now ≡ Err TrailingTokens
 some_left rest [] now seen same some begins = absurd (omega (arith, some))
-some_left rest (b ∷ t) now seen same some begins = let h = starts b t (begins some) in ap check_end (sym seen ∙ sym same ∙ h.is)
+some_left rest (b ∷ t) now seen same some begins =
+    let h = starts b t (begins some) in ap check_end (sym seen ∙ sym same ∙ h.is)

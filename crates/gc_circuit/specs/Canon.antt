@@ -18,7 +18,8 @@ line words = join_with_byte 32 (map written words) ++ 10 ∷ []
 -- The lines of a circuit: its numbers of gates and wires, its input values, its output values, an empty line, and each gate.
 abbrev pub lines_of_circuit : Netlist → List (List Word)
 lines_of_circuit c =
-    (Number (length c.gates) ∷ Number c.wires ∷ []) ∷ words_of_widths c.input_widths ∷ words_of_widths c.output_widths ∷ [] ∷ map words_of_gate c.gates
+    (Number (length c.gates) ∷ Number c.wires ∷ []) ∷ words_of_widths c.input_widths
+    ∷ words_of_widths c.output_widths ∷ [] ∷ map words_of_gate c.gates
 
 -- The canonical text of a circuit is its lines, one after another.
 unfoldable pub canonical_text : Netlist → List ℕ

@@ -12,6 +12,15 @@ pub record Netlist : Type 0 where
   pub output_widths : List ℕ
   pub gates : List Gate
 
+-- The circuit of these parts.
+abbrev pub netlist_of : ℕ → List ℕ → List ℕ → List Gate → Netlist
+netlist_of wires inputs outputs gates = record {
+  wires = wires;
+  input_widths = inputs;
+  output_widths = outputs;
+  gates = gates;
+}
+
 -- The first wires are the input wires,
 abbrev pub input_wires : Netlist → ℕ
 input_wires c = sum c.input_widths

@@ -28,12 +28,16 @@ pub record IsBegun (n : ℕ) (c : Netlist) : Type 0 where
 
 -- The words of a circuit of n gates as far as the gates of c.
 abbrev pub words_so_far : ℕ → Netlist → List Word
-words_so_far n c = Number n ∷ Number c.wires ∷ (words_of_widths c.input_widths ++ words_of_widths c.output_widths ++ flat_map words_of_gate c.gates)
+words_so_far n c = Number n ∷ Number c.wires
+    ∷ (words_of_widths c.input_widths ++ words_of_widths c.output_widths
+    ++ flat_map words_of_gate c.gates)
 
 -- After these words, which are in order, the values of a side are due: after the two sizes the inputs, and after these the outputs.
 pub data SideDue (wires : ℕ) : List Word → Type 0 where
   input_side : (n : ℕ) → n ≤ MAX_GATES → wires ≤ MAX_WIRES → SideDue wires (Number n ∷ Number wires ∷ [])
-  output_side : (n : ℕ) (widths : List ℕ) → n ≤ MAX_GATES → wires ≤ MAX_WIRES → length widths ≤ MAX_VALUES → sum widths ≤ wires → SideDue wires (Number n ∷ Number wires ∷ words_of_widths widths)
+  output_side : (n : ℕ) (widths : List ℕ) → n ≤ MAX_GATES → wires ≤ MAX_WIRES →
+      length widths ≤ MAX_VALUES → sum widths ≤ wires →
+      SideDue wires (Number n ∷ Number wires ∷ words_of_widths widths)
 
 -- After these words, which are in order, a gate is due, c being the circuit so far.
 pub data GateDue (c : Netlist) : List Word → Type 0 where
@@ -58,13 +62,16 @@ pub data GateNumberDue : List ℕ → Type 0 where
 -- After these words, which are in order, a number is due.
 pub data NumberDue : List Word → Type 0 where
   due_with_limit : (words : List Word) (limit : ℕ) → LimitedDue words limit → NumberDue words
-  due_as_width : (wires : ℕ) (words : List Word) (count : ℕ) (widths : List ℕ) → SideDue wires words → count ≤ MAX_VALUES → length widths < count →
+  due_as_width : (wires : ℕ) (words : List Word) (count : ℕ) (widths : List ℕ) →
+      SideDue wires words → count ≤ MAX_VALUES → length widths < count →
       NumberDue (words ++ Number count ∷ map Number widths)
-  due_in_gate : (c : Netlist) (words : List Word) (numbers : List ℕ) → GateDue c words → GateNumberDue numbers → NumberDue (words ++ map Number numbers)
+  due_in_gate : (c : Netlist) (words : List Word) (numbers : List ℕ) → GateDue c words →
+      GateNumberDue numbers → NumberDue (words ++ map Number numbers)
 
 -- After these words, which are in order, the name of an operation is due whose counts are r and 1.
 pub data NameDue (r : ℕ) : List Word → Type 0 where
-  due_as_name : (c : Netlist) (words : List Word) (numbers : List ℕ) → GateDue c words → IsCount r → length numbers ≡ r + 1 → NameDue r (words ++ map Number (r ∷ 1 ∷ numbers))
+  due_as_name : (c : Netlist) (words : List Word) (numbers : List ℕ) → GateDue c words → IsCount r →
+      length numbers ≡ r + 1 → NameDue r (words ++ map Number (r ∷ 1 ∷ numbers))
 
 -- An operation of this name has the counts r and 1.
 abbrev pub IsNamed : ℕ → List ℕ → Type 0
@@ -91,39 +98,53 @@ pub data FirstFault (ts : List (List ℕ)) : ReadFault → Type 0 where
   no_number : (words : List Word) → NumberDue words → SpellWords ts words [] → FirstFault ts Truncated
   no_name : (r : ℕ) (words : List Word) → NameDue r words → SpellWords ts words [] → FirstFault ts Truncated
   -- The token where a number is due spells none.
-  bad_number : (words : List Word) (token : List ℕ) (rest : List (List ℕ)) → NumberDue words → SpellWords ts words (token ∷ rest) → number_of token ≡ None → FirstFault ts BadNumber
+  bad_number : (words : List Word) (token : List ℕ) (rest : List (List ℕ)) → NumberDue words →
+      SpellWords ts words (token ∷ rest) → number_of token ≡ None → FirstFault ts BadNumber
   -- A number is above its limit.
-  too_large : (words : List Word) (limit n : ℕ) (rest : List (List ℕ)) → LimitedDue words limit → SpellWords ts (words ++ Number n ∷ []) rest → limit < n → FirstFault ts TooLarge
+  too_large : (words : List Word) (limit n : ℕ) (rest : List (List ℕ)) → LimitedDue words limit →
+      SpellWords ts (words ++ Number n ∷ []) rest → limit < n → FirstFault ts TooLarge
   -- The widths of a side are together more than the wires.
-  widths_exceed : (wires : ℕ) (words : List Word) (widths : List ℕ) (rest : List (List ℕ)) → SideDue wires words → length widths ≤ MAX_VALUES →
-      SpellWords ts (words ++ words_of_widths widths) rest → wires < sum widths → FirstFault ts WidthsExceedWires
+  widths_exceed : (wires : ℕ) (words : List Word) (widths : List ℕ) (rest : List (List ℕ)) →
+      SideDue wires words → length widths ≤ MAX_VALUES →
+      SpellWords ts (words ++ words_of_widths widths) rest → wires < sum widths →
+      FirstFault ts WidthsExceedWires
   -- The counts of a gate are neither 2 and 1 nor 1 and 1.
-  bad_counts : (c : Netlist) (words : List Word) (r s : ℕ) (rest : List (List ℕ)) → GateDue c words → SpellWords ts (words ++ Number r ∷ Number s ∷ []) rest →
+  bad_counts : (c : Netlist) (words : List Word) (r s : ℕ) (rest : List (List ℕ)) →
+      GateDue c words → SpellWords ts (words ++ Number r ∷ Number s ∷ []) rest →
       (IsCount r × (s ≡ 1) → ⊥) → FirstFault ts BadShape
   -- No operation has this name,
-  unknown : (r : ℕ) (words : List Word) (name : List ℕ) (rest : List (List ℕ)) → NameDue r words → SpellWords ts (words ++ Name name ∷ []) rest →
+  unknown : (r : ℕ) (words : List Word) (name : List ℕ) (rest : List (List ℕ)) → NameDue r words →
+      SpellWords ts (words ++ Name name ∷ []) rest →
       ((k : ℕ) → IsNamed k name → ⊥) → FirstFault ts UnknownOperation
   -- or one with other counts has it.
-  other_counts : (r k : ℕ) (words : List Word) (name : List ℕ) (rest : List (List ℕ)) → NameDue r words → SpellWords ts (words ++ Name name ∷ []) rest →
+  other_counts : (r k : ℕ) (words : List Word) (name : List ℕ) (rest : List (List ℕ)) →
+      NameDue r words → SpellWords ts (words ++ Name name ∷ []) rest →
       IsNamed k name → k ≢ r → FirstFault ts BadShape
   -- The constant of an EQ gate is neither 0 nor 1.
   bad_constant : (c : Netlist) (words : List Word) (v w : ℕ) (rest : List (List ℕ)) → GateDue c words →
-      SpellWords ts (words ++ Number 1 ∷ Number 1 ∷ Number v ∷ Number w ∷ Name (codes "EQ") ∷ []) rest → 1 < v → FirstFault ts BadConstant
+      SpellWords ts (words ++ Number 1 ∷ Number 1 ∷ Number v ∷ Number w ∷ Name (codes "EQ") ∷ [])
+      rest → 1 < v → FirstFault ts BadConstant
   -- A gate reads a wire that isn't set, and the first such wire isn't below the number of wires, or is.
-  no_wire_to_read : (c : Netlist) (words : List Word) (g : Gate) (w : ℕ) (rest : List (List ℕ)) → GateDue c words → SpellWords ts (words ++ words_of_gate g) rest →
+  no_wire_to_read : (c : Netlist) (words : List Word) (g : Gate) (w : ℕ) (rest : List (List ℕ)) →
+      GateDue c words → SpellWords ts (words ++ words_of_gate g) rest →
       IsFirstUnset c (wires_read g.operation) w → c.wires ≤ w → FirstFault ts NoSuchWire
-  unset : (c : Netlist) (words : List Word) (g : Gate) (w : ℕ) (rest : List (List ℕ)) → GateDue c words → SpellWords ts (words ++ words_of_gate g) rest →
+  unset : (c : Netlist) (words : List Word) (g : Gate) (w : ℕ) (rest : List (List ℕ)) →
+      GateDue c words → SpellWords ts (words ++ words_of_gate g) rest →
       IsFirstUnset c (wires_read g.operation) w → w < c.wires → FirstFault ts Unset
   -- All wires that a gate reads are set, and the wire that it sets isn't below the number of wires, or is set already.
-  no_wire_to_set : (c : Netlist) (words : List Word) (g : Gate) (rest : List (List ℕ)) → GateDue c words → SpellWords ts (words ++ words_of_gate g) rest →
+  no_wire_to_set : (c : Netlist) (words : List Word) (g : Gate) (rest : List (List ℕ)) →
+      GateDue c words → SpellWords ts (words ++ words_of_gate g) rest →
       EachRead (IsSet c) g.operation → c.wires ≤ g.set → FirstFault ts NoSuchWire
-  set_twice : (c : Netlist) (words : List Word) (g : Gate) (rest : List (List ℕ)) → GateDue c words → SpellWords ts (words ++ words_of_gate g) rest →
+  set_twice : (c : Netlist) (words : List Word) (g : Gate) (rest : List (List ℕ)) →
+      GateDue c words → SpellWords ts (words ++ words_of_gate g) rest →
       EachRead (IsSet c) g.operation → IsSet c g.set → FirstFault ts SetTwice
   -- All gates are in order, and an output wire isn't set.
-  output_unset : (c : Netlist) (w : ℕ) (rest : List (List ℕ)) → IsBegun (length c.gates) c → SpellWords ts (words_of_circuit c) rest →
+  output_unset : (c : Netlist) (w : ℕ) (rest : List (List ℕ)) → IsBegun (length c.gates) c →
+      SpellWords ts (words_of_circuit c) rest →
       c.wires ≤ w + output_wires c → w < c.wires → (IsSet c w → ⊥) → FirstFault ts OutputUnset
   -- A token is left after the words of a lawful circuit.
-  trailing : (c : Netlist) (token : List ℕ) (rest : List (List ℕ)) → IsLawful c → SpellWords ts (words_of_circuit c) (token ∷ rest) → FirstFault ts TrailingTokens
+  trailing : (c : Netlist) (token : List ℕ) (rest : List (List ℕ)) → IsLawful c →
+      SpellWords ts (words_of_circuit c) (token ∷ rest) → FirstFault ts TrailingTokens
 
 -- Each text spells one lawful circuit or has one first fault.
 pub record ReadingLaw (text : List ℕ) : Type 0 where

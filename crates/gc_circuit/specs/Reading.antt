@@ -7,7 +7,7 @@ use Rattle.gc_circuit.specs.declared.fault.ReadFault.TheVariants.{Truncated, Bad
 use Rattle.gc_circuit.specs.declared.circuit.Operation.{Operation}
 use Rattle.gc_circuit.specs.declared.circuit.Operation.TheVariants.{Xor, And, Inv, Eq, Eqw}
 use Rattle.gc_circuit.specs.declared.circuit.Gate.{Gate}
-use Rattle.gc_circuit.specs.Circuit.{Netlist}
+use Rattle.gc_circuit.specs.Circuit.{Netlist, netlist_of}
 use Rattle.gc_circuit.specs.Text.{number_of}
 
 -- One step after another: the first fault ends it.
@@ -54,8 +54,10 @@ widths_at wires ts = do
 unfoldable pub operation_of_two : List ℕ → ℕ → ℕ → Result Operation ReadFault
 operation_of_two name a b =
     if bytes_eq name (codes "XOR") then Ok (Xor a b)
-    else (if bytes_eq name (codes "AND") then Ok (And a b)
-    else (if bytes_eq name (codes "INV") || bytes_eq name (codes "EQ") || bytes_eq name (codes "EQW") then Err BadShape else Err UnknownOperation))
+    else if bytes_eq name (codes "AND") then Ok (And a b)
+    else if bytes_eq name (codes "INV") || bytes_eq name (codes "EQ") || bytes_eq name (codes "EQW")
+    then Err BadShape
+    else Err UnknownOperation
 
 -- The constant of an EQ gate.
 abbrev pub constant_of : ℕ → Result Operation ReadFault
@@ -65,9 +67,10 @@ constant_of v = if v == 0 then Ok (Eq false) else (if v == 1 then Ok (Eq true) e
 unfoldable pub operation_of_one : List ℕ → ℕ → Result Operation ReadFault
 operation_of_one name a =
     if bytes_eq name (codes "INV") then Ok (Inv a)
-    else (if bytes_eq name (codes "EQ") then constant_of a
-    else (if bytes_eq name (codes "EQW") then Ok (Eqw a)
-    else (if bytes_eq name (codes "XOR") || bytes_eq name (codes "AND") then Err BadShape else Err UnknownOperation)))
+    else if bytes_eq name (codes "EQ") then constant_of a
+    else if bytes_eq name (codes "EQW") then Ok (Eqw a)
+    else if bytes_eq name (codes "XOR") || bytes_eq name (codes "AND") then Err BadShape
+    else Err UnknownOperation
 
 -- A gate after its counts 2 and 1: the wires and the name come first, and are judged then.
 unfoldable pub two_at : List (List ℕ) → Result (Gate × List (List ℕ)) ReadFault
@@ -138,7 +141,8 @@ gates_at wires inputs (suc n) before ts = do
 -- Each output wire is set.
 unfoldable pub check_outputs : Netlist → Result (Unit {0}) ReadFault
 check_outputs c =
-    if list_all (is_set (sum c.input_widths) c.gates) (range_with_len (c.wires - sum c.output_widths) (sum c.output_widths)) then Ok tt else Err OutputUnset
+    let outputs = range_with_len (c.wires - sum c.output_widths) (sum c.output_widths) in
+    if list_all (is_set (sum c.input_widths) c.gates) outputs then Ok tt else Err OutputUnset
 
 -- No token is left.
 abbrev pub check_end : List (List ℕ) → Result (Unit {0}) ReadFault
@@ -153,6 +157,6 @@ circuit_of ts = do
   inputs ← widths_at wires.0 wires.1
   outputs ← widths_at wires.0 inputs.1
   gates ← gates_at wires.0 (sum inputs.0) count.0 [] outputs.1
-  set ← check_outputs (record { wires = wires.0; input_widths = inputs.0; output_widths = outputs.0; gates = gates.0 })
+  set ← check_outputs (netlist_of wires.0 inputs.0 outputs.0 gates.0)
   end ← check_end gates.1
-  Ok (record { wires = wires.0; input_widths = inputs.0; output_widths = outputs.0; gates = gates.0 })
+  Ok (netlist_of wires.0 inputs.0 outputs.0 gates.0)

@@ -7,13 +7,15 @@ use Rattle.gc_circuit.specs.Circuit.{Netlist, input_wires, output_wires, EachRea
 
 -- A rule gives the value of the wire that a gate sets, from the values on all wires and the gate's place in the file.
 -- The values solve the rule where input wires have the given values and the rule's equation holds at every gate.
-pub record Solves {A : Type 0} (rule : (ℕ → A) → ℕ → Gate → A) (c : Netlist) (given values : ℕ → A) : Type 0 where
+pub record Solves {A : Type 0} (rule : (ℕ → A) → ℕ → Gate → A) (c : Netlist)
+    (given values : ℕ → A) : Type 0 where
   pub inputs : (w : ℕ) → w < input_wires c → values w ≡ given w
   pub gates : (i : ℕ) (g : Gate) → slice_get c.gates i ≡ Some g → values g.set ≡ rule values i g
 
 -- The rule looks at no wire but those that the gate reads.
 abbrev pub IsLocal : {A : Type 0} → ((ℕ → A) → ℕ → Gate → A) → Type 0
-IsLocal {A} rule = (u v : ℕ → A) (i : ℕ) (g : Gate) → EachRead (λ w. u w ≡ v w) g.operation → rule u i g ≡ rule v i g
+IsLocal {A} rule = (u v : ℕ → A) (i : ℕ) (g : Gate) → EachRead (λ w. u w ≡ v w) g.operation
+    → rule u i g ≡ rule v i g
 
 -- the values on the output wires, in order
 abbrev pub on_outputs : {A : Type 0} → Netlist → (ℕ → A) → List A

@@ -29,8 +29,10 @@ bit_number true = 1
 
 -- The words of a gate that sets wire c: the numbers of wires read and set, the wires, and the operation's name.
 abbrev pub words_of_operation : ℕ → Operation → List Word
-words_of_operation c (Xor a b) = Number 2 ∷ Number 1 ∷ Number a ∷ Number b ∷ Number c ∷ Name (codes "XOR") ∷ []
-words_of_operation c (And a b) = Number 2 ∷ Number 1 ∷ Number a ∷ Number b ∷ Number c ∷ Name (codes "AND") ∷ []
+words_of_operation c (Xor a b) =
+    Number 2 ∷ Number 1 ∷ Number a ∷ Number b ∷ Number c ∷ Name (codes "XOR") ∷ []
+words_of_operation c (And a b) =
+    Number 2 ∷ Number 1 ∷ Number a ∷ Number b ∷ Number c ∷ Name (codes "AND") ∷ []
 words_of_operation c (Inv a) = Number 1 ∷ Number 1 ∷ Number a ∷ Number c ∷ Name (codes "INV") ∷ []
 words_of_operation c (Eq v) = Number 1 ∷ Number 1 ∷ Number (bit_number v) ∷ Number c ∷ Name (codes "EQ") ∷ []
 words_of_operation c (Eqw a) = Number 1 ∷ Number 1 ∷ Number a ∷ Number c ∷ Name (codes "EQW") ∷ []
@@ -45,7 +47,9 @@ words_of_widths widths = Number (length widths) ∷ map Number widths
 -- The words of a circuit: its numbers of gates and wires, its input values, its output values, and its gates.
 abbrev pub words_of_circuit : Netlist → List Word
 words_of_circuit c =
-    Number (length c.gates) ∷ Number c.wires ∷ (words_of_widths c.input_widths ++ words_of_widths c.output_widths ++ flat_map words_of_gate c.gates)
+    Number (length c.gates) ∷ Number c.wires
+    ∷ (words_of_widths c.input_widths ++ words_of_widths c.output_widths
+    ++ flat_map words_of_gate c.gates)
 
 -- The text spells the circuit: each token spells its word, and none is left.
 abbrev pub Spells : List ℕ → Netlist → Type 0

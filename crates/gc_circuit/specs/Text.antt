@@ -23,4 +23,6 @@ value_of token = fold (λ n b. n * 10 + (b - 48)) 0 token
 
 -- The number that a token spells: its value, where it is all digits and not above 4,294,967,295.
 abbrev pub number_of : List ℕ → Option ℕ
-number_of token = if list_all is_digit token && nat_lt (value_of token) (2 ^ 32) then Some (value_of token) else None
+number_of token =
+    if list_all is_digit token && nat_lt (value_of token) (2 ^ 32) then Some (value_of token)
+    else None

@@ -7,18 +7,18 @@ use Rattle.gc_circuit.specs.declared.value.ValueFault.{ValueFault}
 use Rattle.gc_circuit.specs.declared.value.ValueFault.TheVariants.{Memory, BadDigit, WrongLength, SpareBits}
 
 -- the number of a fault
-abbrev pub fault_code : ValueFault → ℕ
-fault_code Memory = 13
-fault_code BadDigit = 15
-fault_code WrongLength = 16
-fault_code SpareBits = 17
+abbrev pub code_of : ValueFault → ℕ
+code_of Memory = 13
+code_of BadDigit = 15
+code_of WrongLength = 16
+code_of SpareBits = 17
 
 -- the name of a fault
-abbrev pub fault_name : ValueFault → List ℕ
-fault_name Memory = codes "Memory"
-fault_name BadDigit = codes "BadDigit"
-fault_name WrongLength = codes "WrongLength"
-fault_name SpareBits = codes "SpareBits"
+abbrev pub name_of : ValueFault → List ℕ
+name_of Memory = codes "Memory"
+name_of BadDigit = codes "BadDigit"
+name_of WrongLength = codes "WrongLength"
+name_of SpareBits = codes "SpareBits"
 
 -- A text has one of two forms: a character `0` or `1` for each wire, in wire order, or two hexadecimal digits for
 -- each byte of eight wires.
@@ -59,7 +59,8 @@ digit_value c = unwrap_or (hex_digit_value c) 0
 
 -- byte k of hexadecimal digits, of which the first of two has the higher four bits
 abbrev pub byte_at : List ℕ → ℕ → ℕ
-byte_at digits k = 16 * digit_value (slice_index digits (2 * k)) + digit_value (slice_index digits (2 * k + 1))
+byte_at digits k =
+    16 * digit_value (slice_index digits (2 * k)) + digit_value (slice_index digits (2 * k + 1))
 
 -- the lowest bits of a byte, the lowest first
 abbrev pub low_bits : ℕ → ℕ → List Bool

@@ -104,7 +104,9 @@ fn write_name(room: &mut Room, end: usize, name: &[u8]) -> usize
 /// name.
 fn write_line_of_one(room: &mut Room, end: usize, read: u32, set: u32, name: &[u8]) -> usize
     requires { (length name.now ≤ 3) × (LONGEST ≤ end) × (end ≤ ROOM) }
-    ensures written { drop result room.new ≡ line (Number 1 ∷ Number 1 ∷ Number read ∷ Number set ∷ Name name.now ∷ []) ++ drop end room.old }
+    ensures written { drop result room.new
+        ≡ line (Number 1 ∷ Number 1 ∷ Number read ∷ Number set ∷ Name name.now ∷ [])
+        ++ drop end room.old }
     ensures start { (result ≤ end) × (end ≤ result + LONGEST) }
 {
     let start = write_name(room, end, name);
@@ -123,7 +125,10 @@ fn write_line_of_two(
     name: &[u8],
 ) -> usize
     requires { (length name.now ≤ 3) × (LONGEST ≤ end) × (end ≤ ROOM) }
-    ensures written { drop result room.new ≡ line (Number 2 ∷ Number 1 ∷ Number first ∷ Number second ∷ Number set ∷ Name name.now ∷ []) ++ drop end room.old }
+    ensures written { drop result room.new
+        ≡ line
+        (Number 2 ∷ Number 1 ∷ Number first ∷ Number second ∷ Number set ∷ Name name.now ∷ [])
+        ++ drop end room.old }
     ensures start { (result ≤ end) × (end ≤ result + LONGEST) }
 {
     let start = write_name(room, end, name);
@@ -179,7 +184,8 @@ fn spaced_digits(room: &mut Room, number: u32) -> &[u8]
 /// Gives the line of a side's widths to the sink.
 fn write_widths<S: TextSink>(sink: &mut S, widths: &[u32]) -> Result<(), S::Fault>
     requires { length widths.now ≤ MAX_VALUES }
-    ensures { OnOk result ((text : List ℕ) → S.holds sink.old text → S.holds sink.new (text ++ line (words_of_widths widths.now))) }
+    ensures { OnOk result ((text : List ℕ) → S.holds sink.old text
+        → S.holds sink.new (text ++ line (words_of_widths widths.now))) }
 {
     let mut room = [0; ROOM];
     sink.put(digits(&mut room, widths.len() as u32))?;
@@ -204,7 +210,8 @@ impl<A: Allocator> Circuit<A> {
 
     /// Gives the canonical text to the sink.
     fn write_canonical_text<S: TextSink>(&self, sink: &mut S) -> Result<(), S::Fault>
-        ensures { OnOk result ((text : List ℕ) → S.holds sink.old text → S.holds sink.new (text ++ canonical_text self.now)) }
+        ensures { OnOk result ((text : List ℕ) → S.holds sink.old text
+            → S.holds sink.new (text ++ canonical_text self.now)) }
     {
         let mut room = [0; ROOM];
         sink.put(sizes_line(&mut room, self.gates(), self.wires()))?;
@@ -243,6 +250,3 @@ impl<A: Allocator> Circuit<A> {
         }
     }
 }
-
-#[cfg(test)]
-mod tests;

@@ -1,5 +1,5 @@
 ghost use Rattle.std.specs.Prelude.{◌≡◌, ◌<◌, ◌↔◌, length, slice_get, Some, IsTrue, IfOk};
-ghost use Rattle.gc_circuit.specs.Circuit.{is_and, and_count, input_wires, output_wires, IsLawful, IsSummary};
+ghost use Rattle.gc_circuit.specs.Circuit.{netlist_of, is_and, and_count, input_wires, output_wires, IsLawful, IsSummary};
 
 use crate::memory::Memory;
 use crate::read::Widths;
@@ -55,13 +55,15 @@ pub struct Circuit<A: Allocator = Global> {
 }
 
 impl<A: Allocator> Model for Circuit<A> {
-    ghost use Rattle.gc_circuit.specs.Circuit.{Netlist, IsLawful, IsSummary};
+    ghost use Rattle.gc_circuit.specs.Circuit.{Netlist, netlist_of, IsSummary};
 
     ghost Value = { Netlist };
 
-    ghost view = { λ c. record { wires = c.wires; input_widths = c.input_widths.items; output_widths = c.output_widths.items; gates = c.gates.items } };
+    ghost view = { λ c. netlist_of c.wires c.input_widths.items c.output_widths.items c.gates.items };
 
-    ghost invariant = { λ c. IsSummary (record { wires = c.wires; input_widths = c.input_widths.items; output_widths = c.output_widths.items; gates = c.gates.items }) c.input_wires c.output_wires c.and_count };
+    ghost invariant = { λ c. IsSummary
+        (netlist_of c.wires c.input_widths.items c.output_widths.items c.gates.items)
+        c.input_wires c.output_wires c.and_count };
 }
 
 impl<A: Allocator> fmt::Debug for Circuit<A> {
@@ -84,8 +86,9 @@ impl<A: Allocator> Circuit<A> {
         gates: Vec<Gate, A>,
         and_count: u32,
     ) -> Circuit<A>
-        requires { IsSummary (record { wires = wires; input_widths = inputs.widths.items; output_widths = outputs.widths.items; gates = gates.items }) inputs.sum outputs.sum and_count }
-        ensures { result ≡ record { wires = wires; input_widths = inputs.widths.items; output_widths = outputs.widths.items; gates = gates.items } }
+        requires { IsSummary (netlist_of wires inputs.widths.items outputs.widths.items gates.items)
+            inputs.sum outputs.sum and_count }
+        ensures { result ≡ netlist_of wires inputs.widths.items outputs.widths.items gates.items }
     {
         Circuit {
             wires,

@@ -66,7 +66,9 @@ fn wire_bits<A: Allocator + Copy, C: Allocator, V: Allocator>(
     values: &[Vec<bool, V>],
 ) -> Result<Vec<bool, A>, Memory>
     requires { Fits circuit.now (map (λ v. v.items) values.now) }
-    ensures { IfOk result (λ v. v.items ≡ map (solution bit_rule circuit.now (bits_of (flat_map (λ x. x.items) values.now))) (range_with_len 0 circuit.now.wires)) }
+    ensures { IfOk result (λ v. v.items
+        ≡ map (solution bit_rule circuit.now (bits_of (flat_map (λ x. x.items) values.now)))
+        (range_with_len 0 circuit.now.wires)) }
 {
     let mut bits = input_bits(alloc, circuit, values)?;
     bits.resize(circuit.wires() as usize, false)?;

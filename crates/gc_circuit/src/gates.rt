@@ -46,7 +46,8 @@ fn operation_of_one(name: &[u8], a: u32) -> Result<Operation, ReadFault>
 /// A gate after its counts 2 and 1.
 #[tactic(auto, unfolding(crate::specs::Reading::two_at))]
 fn read_two(tokens: &mut Tokens<'_>) -> Result<Gate, ReadFault>
-    ensures { MatchResult result (λ g. two_at tokens.old ≡ Ok (g, tokens.new)) (λ e. two_at tokens.old ≡ Err e) }
+    ensures { MatchResult result (λ g. two_at tokens.old ≡ Ok (g, tokens.new))
+        (λ e. two_at tokens.old ≡ Err e) }
 {
     let a = tokens.number()?;
     let b = tokens.number()?;
@@ -59,7 +60,8 @@ fn read_two(tokens: &mut Tokens<'_>) -> Result<Gate, ReadFault>
 /// A gate after its counts 1 and 1.
 #[tactic(auto, unfolding(crate::specs::Reading::one_at))]
 fn read_one(tokens: &mut Tokens<'_>) -> Result<Gate, ReadFault>
-    ensures { MatchResult result (λ g. one_at tokens.old ≡ Ok (g, tokens.new)) (λ e. one_at tokens.old ≡ Err e) }
+    ensures { MatchResult result (λ g. one_at tokens.old ≡ Ok (g, tokens.new))
+        (λ e. one_at tokens.old ≡ Err e) }
 {
     let a = tokens.number()?;
     let set = tokens.number()?;
@@ -71,7 +73,8 @@ fn read_one(tokens: &mut Tokens<'_>) -> Result<Gate, ReadFault>
 /// A gate: how many wires it reads and sets, and then the rest.
 #[tactic(auto, unfolding(crate::specs::Reading::gate_at))]
 pub(crate) fn read_gate(tokens: &mut Tokens<'_>) -> Result<Gate, ReadFault>
-    ensures { MatchResult result (λ g. gate_at tokens.old ≡ Ok (g, tokens.new)) (λ e. gate_at tokens.old ≡ Err e) }
+    ensures { MatchResult result (λ g. gate_at tokens.old ≡ Ok (g, tokens.new))
+        (λ e. gate_at tokens.old ≡ Err e) }
 {
     let reads = tokens.number()?;
     let sets = tokens.number()?;

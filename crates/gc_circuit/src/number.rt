@@ -14,7 +14,8 @@ pub(crate) fn is_blank(byte: u8) -> bool
 /// The number that the text begins with, and how many bytes it takes. Leading zeros are accepted.
 pub(crate) fn leading_number(text: &[u8]) -> Result<(u32, usize), ReadFault>
     requires { 0 < length text.now → is_blank (slice_index text.now 0) ≡ false }
-    ensures { MatchResult result (λ r. (r.1 ≤ length text.now) × (number_at (tokens text.now) ≡ Ok (r.0, tokens (drop r.1 text.now))))
+    ensures { MatchResult result (λ r. (r.1 ≤ length text.now)
+        × (number_at (tokens text.now) ≡ Ok (r.0, tokens (drop r.1 text.now))))
         (λ e. number_at (tokens text.now) ≡ Err e) }
 {
     let mut value = 0u64;

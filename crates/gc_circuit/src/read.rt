@@ -38,7 +38,9 @@ fn read_numbers<A: Allocator>(
     tokens: &mut Tokens<'_>,
     count: u32,
 ) -> Result<Vec<u32, A>, ReadFault>
-    ensures all { MatchResult result (λ v. numbers_at count [] tokens.old ≡ Ok (v.items, tokens.new)) (λ e. e ≢ ReadFault.Memory → numbers_at count [] tokens.old ≡ Err e) }
+    ensures all { MatchResult result
+        (λ v. numbers_at count [] tokens.old ≡ Ok (v.items, tokens.new))
+        (λ e. e ≢ ReadFault.Memory → numbers_at count [] tokens.old ≡ Err e) }
     ensures len { IfOk result (λ v. vec_len v ≡ count) }
 {
     let mut numbers = Vec::with_capacity(alloc, count as usize)?;
@@ -64,7 +66,9 @@ fn read_widths<A: Allocator>(
     tokens: &mut Tokens<'_>,
     wires: u32,
 ) -> Result<Widths<A>, ReadFault>
-    ensures read { MatchResult result (λ w. widths_at wires tokens.old ≡ Ok (w.widths.items, tokens.new)) (λ e. e ≢ ReadFault.Memory → widths_at wires tokens.old ≡ Err e) }
+    ensures read { MatchResult result
+        (λ w. widths_at wires tokens.old ≡ Ok (w.widths.items, tokens.new))
+        (λ e. e ≢ ReadFault.Memory → widths_at wires tokens.old ≡ Err e) }
     ensures sums { IfOk result (λ w. w.sum ≡ sum w.widths.items) }
     ensures fits { IfOk result (λ w. w.sum ≤ wires) }
 {
@@ -84,7 +88,8 @@ fn read_widths<A: Allocator>(
 /// The table of the wires that are set before any gate: the input wires.
 fn inputs_set<A: Allocator>(alloc: A, wires: u32, inputs: u32) -> Result<Vec<bool, A>, ReadFault>
     requires { inputs ≤ wires }
-    ensures { MatchResult result (λ v. v.items ≡ map (is_set inputs []) (range_with_len 0 wires)) (λ e. e ≡ ReadFault.Memory) }
+    ensures { MatchResult result (λ v. v.items ≡ map (is_set inputs []) (range_with_len 0 wires))
+        (λ e. e ≡ ReadFault.Memory) }
 {
     let mut is_set = Vec::with_capacity(alloc, wires as usize)?;
     is_set.resize(inputs as usize, true)?;
@@ -102,8 +107,11 @@ fn read_gates<A: Allocator + Copy>(
     room: usize,
 ) -> Result<Gates<A>, ReadFault>
     requires { inputs ≤ wires }
-    ensures read { MatchResult result (λ g. gates_at wires inputs count [] tokens.old ≡ Ok (g.gates.items, tokens.new)) (λ e. e ≢ ReadFault.Memory → gates_at wires inputs count [] tokens.old ≡ Err e) }
-    ensures table { IfOk result (λ g. g.is_set.items ≡ map (is_set inputs g.gates.items) (range_with_len 0 wires)) }
+    ensures read { MatchResult result
+        (λ g. gates_at wires inputs count [] tokens.old ≡ Ok (g.gates.items, tokens.new))
+        (λ e. e ≢ ReadFault.Memory → gates_at wires inputs count [] tokens.old ≡ Err e) }
+    ensures table { IfOk result (λ g. g.is_set.items
+        ≡ map (is_set inputs g.gates.items) (range_with_len 0 wires)) }
     ensures ands { IfOk result (λ g. g.and_count ≡ count_by (λ x. is_and x.operation) g.gates.items) }
 {
     let mut is_set = inputs_set(alloc, wires, inputs)?;
@@ -133,7 +141,8 @@ fn all_set(is_set: &[bool]) -> bool
 /// Each output wire is set: the last wires, this many.
 fn check_outputs(is_set: &[bool], outputs: u32) -> Result<(), ReadFault>
     requires { outputs ≤ length is_set.now }
-    ensures { result ≡ (if list_all (λ b. b) (drop (length is_set.now - outputs) is_set.now) then Ok tt else Err ReadFault.OutputUnset) }
+    ensures { result ≡ (if list_all (λ b. b) (drop (length is_set.now - outputs) is_set.now)
+        then Ok tt else Err ReadFault.OutputUnset) }
 {
     let (_, last) = is_set.split_at(is_set.len() - outputs as usize);
     if all_set(last) {
@@ -150,11 +159,13 @@ impl<A: Allocator + Copy> Circuit<A> {
     pub fn read(alloc: A, text: &[u8]) -> Result<Circuit<A>, ReadFault>
         ensures lawful { IfOk result IsLawful }
         ensures spelled { IfOk result (Spells text.now) }
-        ensures exactly { (c : Netlist) → IsLawful c → Spells text.now c → MatchResult result (λ d. d ≡ c) (λ e. e ≡ ReadFault.Memory) }
+        ensures exactly { (c : Netlist) → IsLawful c → Spells text.now c
+            → MatchResult result (λ d. d ≡ c) (λ e. e ≡ ReadFault.Memory) }
         ensures first_fault { IfErr result (λ e. e ≢ ReadFault.Memory → FirstFault (tokens text.now) e) }
 
         // What reading from left to right gives, which `law_reading` ties to the clauses above.
-        ensures reading { MatchResult result (λ c. circuit_of (tokens text.now) ≡ Ok c) (λ e. e ≢ ReadFault.Memory → circuit_of (tokens text.now) ≡ Err e) }
+        ensures reading { MatchResult result (λ c. circuit_of (tokens text.now) ≡ Ok c)
+            (λ e. e ≢ ReadFault.Memory → circuit_of (tokens text.now) ≡ Err e) }
     {
         Circuit::read_in_order(alloc, text)
     }
@@ -162,7 +173,8 @@ impl<A: Allocator + Copy> Circuit<A> {
     /// Reads the header, the gates and the end, in the order of the text.
     #[tactic(auto, unfolding(crate::specs::Reading::circuit_of))]
     fn read_in_order(alloc: A, text: &[u8]) -> Result<Circuit<A>, ReadFault>
-        ensures reading { MatchResult result (λ c. circuit_of (tokens text.now) ≡ Ok c) (λ e. e ≢ ReadFault.Memory → circuit_of (tokens text.now) ≡ Err e) }
+        ensures reading { MatchResult result (λ c. circuit_of (tokens text.now) ≡ Ok c)
+            (λ e. e ≢ ReadFault.Memory → circuit_of (tokens text.now) ≡ Err e) }
         ensures lawful { IfOk result IsLawful }
         ensures spelled { IfOk result (Spells text.now) }
     {
@@ -178,6 +190,3 @@ impl<A: Allocator + Copy> Circuit<A> {
         Ok(Circuit::new(wires, inputs, outputs, body.gates, body.and_count))
     }
 }
-
-#[cfg(test)]
-mod tests;

@@ -58,7 +58,8 @@ impl<'a> Tokens<'a> {
 
     /// Takes a token that is due.
     pub fn token(&mut self) -> Result<&'a [u8], ReadFault>
-        ensures { MatchResult result (λ t. token_at self.old ≡ Ok (t.now, self.new)) (λ e. token_at self.old ≡ Err e) }
+        ensures { MatchResult result (λ t. token_at self.old ≡ Ok (t.now, self.new))
+            (λ e. token_at self.old ≡ Err e) }
     {
         let text = skip_blanks(self.rest);
         if text.is_empty() {
@@ -71,7 +72,8 @@ impl<'a> Tokens<'a> {
 
     /// Takes a number that is due.
     pub fn number(&mut self) -> Result<u32, ReadFault>
-        ensures { MatchResult result (λ n. number_at self.old ≡ Ok (n, self.new)) (λ e. number_at self.old ≡ Err e) }
+        ensures { MatchResult result (λ n. number_at self.old ≡ Ok (n, self.new))
+            (λ e. number_at self.old ≡ Err e) }
     {
         let text = skip_blanks(self.rest);
         let (value, len) = leading_number(text)?;
@@ -82,7 +84,8 @@ impl<'a> Tokens<'a> {
     /// Takes a number that is due and may not be above the limit.
     #[tactic(auto, unfolding(crate::specs::Reading::limited_at))]
     pub fn number_up_to(&mut self, limit: u32) -> Result<u32, ReadFault>
-        ensures number { MatchResult result (λ n. limited_at limit self.old ≡ Ok (n, self.new)) (λ e. limited_at limit self.old ≡ Err e) }
+        ensures number { MatchResult result (λ n. limited_at limit self.old ≡ Ok (n, self.new))
+            (λ e. limited_at limit self.old ≡ Err e) }
         ensures within { IfOk result (λ n. n ≤ limit) }
     {
         let value = self.number()?;

@@ -2,7 +2,7 @@
 
 ghost use Rattle.std.specs.Prelude.{◌≡◌, ◌+◌, ◌*◌, ◌^◌, ◌⊎◌, ◌<◌, ◌≤◌, ◌&&◌, ◌++◌, ℕ, Bool, List, length, map, IfOk, IfErr, OnOk, IsTrue, IsFalse};
 ghost use Rattle.hex.specs.Hex.{is_hex_digit};
-ghost use Rattle.gc_circuit.specs.Value.{Binary, Hexadecimal, form_of, has_length, value_told, value_of_text, digit_value, low_bits, binary_digit, fault_code, fault_name, ValueTextLaw};
+ghost use Rattle.gc_circuit.specs.Value.{Binary, Hexadecimal, form_of, has_length, value_told, value_of_text, digit_value, low_bits, binary_digit, code_of, name_of, ValueTextLaw};
 
 use crate::memory::Memory;
 use hex::FromHex;
@@ -26,7 +26,7 @@ pub enum ValueFault {
 impl ValueFault {
     /// The fault's number.
     pub fn code(self) -> u32
-        ensures { result ≡ fault_code self }
+        ensures { result ≡ code_of self }
     {
         match self {
             ValueFault::Memory => 13,
@@ -38,7 +38,7 @@ impl ValueFault {
 
     /// The fault's name.
     pub fn name(self) -> &'static str
-        ensures { result.now ≡ fault_name self }
+        ensures { result.now ≡ name_of self }
     {
         match self {
             ValueFault::Memory => "Memory",
@@ -53,7 +53,7 @@ impl ValueFault {
 impl fmt::Display for ValueFault {
     ghost use Rattle.std.specs.Prelude.{Some};
 
-    ghost output = { λ fault. Some (fault_name fault) };
+    ghost output = { λ fault. Some (name_of fault) };
 
     fn fmt<W: fmt::Write>(&self, f: &mut fmt::Formatter<W>) -> fmt::Result {
         f.write_str(self.name())
@@ -215,87 +215,4 @@ fn push_bits<A: Allocator>(
         bits.push((byte >> i) & 1 == 1)?;
     }
     Ok(())
-}
-
-#[cfg(test)]
-mod tests {
-    use super::*;
-    use std::test::Fail;
-
-    #[test]
-    fn reads_what_a_text_tells(rt: HostRuntime) -> Result<(), Fail> {
-        let alloc = rt.alloc();
-        let wires_0_and_11 = b"100000000001".as_slice();
-        let cases = [
-            (b"x0108".as_slice(), 12, wires_0_and_11),
-            (wires_0_and_11, 12, wires_0_and_11),
-            (b"", 0, b""),
-            (b"x", 0, b""),
-            (b"101", 3, b"101"),
-            (b"xaF", 8, b"11110101"),
-            (b"xAf", 8, b"11110101"),
-            (b"x01", 1, b"1"),
-        ];
-        for (text, width, bits) in cases {
-            let value = read_value(alloc, text, width)?;
-            assert_eq!(rt;
-                show_value(alloc, &value)?.as_slice(),
-                bits,
-                "at width {width}"
-            );
-        }
-        Ok(())
-    }
-
-    #[test]
-    fn answers_the_first_fault(rt: HostRuntime) -> Result<(), Fail> {
-        let cases = [
-            (b"x0110".as_slice(), 12, ValueFault::SpareBits),
-            (b"x02", 1, ValueFault::SpareBits),
-            (b"x01", 12, ValueFault::WrongLength),
-            (b"01", 3, ValueFault::WrongLength),
-            (b"2", 2, ValueFault::WrongLength),
-            (b"0", 0, ValueFault::WrongLength),
-            (b"x0", 1, ValueFault::WrongLength),
-            ("é".as_bytes(), 1, ValueFault::WrongLength),
-            ("é".as_bytes(), 2, ValueFault::BadDigit),
-            (b"x0g08", 12, ValueFault::BadDigit),
-            (b"xg110", 12, ValueFault::BadDigit),
-            (b"x011g", 12, ValueFault::BadDigit),
-            (b"X00", 3, ValueFault::BadDigit),
-            (b"2", 1, ValueFault::BadDigit),
-            (b"01", u32::MAX, ValueFault::WrongLength),
-            (b"x01", u32::MAX, ValueFault::WrongLength),
-        ];
-        for (text, width, fault) in cases {
-            match read_value(rt.alloc(), text, width) {
-                Ok(_) => assert!(rt; false, "a value at width {width}"),
-                Err(found) => assert_eq!(rt; found, fault, "at width {width}"),
-            }
-        }
-        Ok(())
-    }
-
-    #[test]
-    fn faults_have_numbers_and_names(rt: HostRuntime) {
-        let faults = [
-            (ValueFault::Memory, 13, "Memory"),
-            (ValueFault::BadDigit, 15, "BadDigit"),
-            (ValueFault::WrongLength, 16, "WrongLength"),
-            (ValueFault::SpareBits, 17, "SpareBits"),
-        ];
-        for (fault, code, name) in faults {
-            assert_eq!(rt; fault.code(), code);
-            assert_eq!(rt; fault.name(), name);
-        }
-    }
-
-    #[test]
-    fn shows_bits_in_wire_order(rt: HostRuntime) -> Result<(), Fail> {
-        assert_eq!(rt;
-            show_value(rt.alloc(), &[true, false])?.as_slice(),
-            b"10".as_slice()
-        );
-        Ok(())
-    }
 }

@@ -5,4 +5,9 @@ use Rattle.gc_circuit.proofs.canon.write_line_of_one.Goals as goal
 
 pub returns-clause-written : goal.returns-clause-written
 returns-clause-written c =
-    grind (arith, common_steps, line_of_one c.args.read c.args.set c.args.name.now (drop c.args.end c.args.room.now))
+    grind (
+      arith,
+      common_steps,
+      line_of_one c.args.read c.args.set c.args.name.now
+          (drop c.args.end c.args.room.now),
+    )

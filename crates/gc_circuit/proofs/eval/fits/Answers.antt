@@ -7,19 +7,28 @@ pub returns-then-len-widths : goal.returns-then-len-widths
 returns-then-len-widths g c = (
   λ no. let z : ⊥ = cc in absurd z,
   λ h.
-      let wide = width_at (λ v. v.items) c.args.values.now c.args.circuit.now.input_widths c.loop-i.i c.index-values-i.result h c.loop-i-test.true (sym c.index-values-i.is) in
-      absurd (c.if-len-widths.true (omega (arith, wide, c.len.ensures, ap (λ l. get_or l c.loop-i.i 0) c.input_widths-widths.ensures))),
+      let wide = width_at (λ v. v.items) c.args.values.now c.args.circuit.now.input_widths
+      c.loop-i.i c.index-values-i.result h c.loop-i-test.true (sym c.index-values-i.is) in
+      absurd (c.if-len-widths.true (omega (
+        arith,
+        wide,
+        c.len.ensures,
+        ap (λ l. get_or l c.loop-i.i 0) c.input_widths-widths.ensures,
+      ))),
 )
 
 pub loop-i-preserved : goal.loop-i-preserved
 loop-i-preserved g c =
-    widths_more (λ v. v.items) c.args.values.now c.input_widths-widths.result.now c.loop-i.i c.index-values-i.result c.loop-i-test.true
-    (omega arith) (sym c.index-values-i.is) (omega (arith, c.len.ensures, c.if-len-widths.false)) c.loop-i.invariant
+    widths_more (λ v. v.items) c.args.values.now c.input_widths-widths.result.now c.loop-i.i
+    c.index-values-i.result c.loop-i-test.true
+    (omega arith) (sym c.index-values-i.is) (omega (arith, c.len.ensures, c.if-len-widths.false))
+    c.loop-i.invariant
 
 pub returns : goal.returns
 returns g c =
     let whole : c.loop-i.i ≡ length c.args.values.now = omega arith in
     let values : take c.loop-i.i c.args.values.now ≡ c.args.values.now = grind (arith, common_steps) in
-    let widths : take c.loop-i.i c.input_widths-widths.result.now ≡ c.input_widths-widths.result.now = grind (arith, common_steps) in
+    let widths : take c.loop-i.i c.input_widths-widths.result.now ≡ c.input_widths-widths.result.now =
+    grind (arith, common_steps) in
     let h = rw (values, widths, c.input_widths-widths.ensures) at c.loop-i.invariant in
     (λ _. h, λ _. refl)

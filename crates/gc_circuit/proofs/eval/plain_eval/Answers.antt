@@ -15,7 +15,14 @@ split_at-requires g c =
 pub returns : goal.returns
 returns g c = record {
   bits = solution bit_rule c.args.circuit.now (bits_of (flat_map (λ v. v.items) c.args.values.now));
-  assignment = solution_solves bit_rule bit_local c.args.circuit.now c.wires.ensures.lawful (bits_of (flat_map (λ v. v.items) c.args.values.now));
+  assignment = solution_solves bit_rule bit_local c.args.circuit.now c.wires.ensures.lawful
+      (bits_of (flat_map (λ v. v.items) c.args.values.now));
   last = c.in_ok-from_slice.ensures.items ∙ c.split_at.ensures.back
-      ∙ rw (c.deref.ensures.value, c.in_ok-bits.ensures, c.wires.ensures.count, c.output_wires.ensures) (table_end _ c.args.circuit.now.wires _ c.wires.ensures.lawful.outputs_fit);
+      ∙ rw (
+        c.deref.ensures.value,
+        c.in_ok-bits.ensures,
+        c.wires.ensures.count,
+        c.output_wires.ensures,
+      ) (table_end _ c.args.circuit.now.wires _
+      c.wires.ensures.lawful.outputs_fit);
 }

@@ -7,7 +7,8 @@ use Rattle.gc_circuit.proofs.read.read_gates.Given as goal
 abbrev pub invariant-loop-i : goal.invariant-loop-i
 invariant-loop-i g l = record {
   table : l.is_set.items ≡ map (is_set l.inputs l.gates.items) (range_with_len 0 l.wires);
-  so_far : gates_at l.wires l.inputs (l.count - l._i) l.gates.items l.tokens ≡ gates_at l.wires l.inputs l.count [] l.fn.tokens;
+  so_far : gates_at l.wires l.inputs (l.count - l._i) l.gates.items l.tokens
+      ≡ gates_at l.wires l.inputs l.count [] l.fn.tokens;
   ands : l.and_count ≡ count_by (λ x. is_and x.operation) l.gates.items;
   few : l.and_count ≤ l._i;
 }

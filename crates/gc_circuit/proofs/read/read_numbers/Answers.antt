@@ -5,12 +5,16 @@ use Rattle.gc_circuit.proofs.read.read_numbers.Goals as goal
 
 pub returns-in_err-number-clause-all : goal.returns-in_err-number-clause-all
 returns-in_err-number-clause-all g c =
-    let p = err_from_is_err_and c.from_residual-in_err-number.result c.from_residual-in_err-number.ensures.1 in
-    rw (p.1, p.2) (λ _. numbers_stop _ _ _ _ _ c.loop-i.invariant.so_far _ c.loop-i-test.true c.in_err-number.ensures)
+    let p = err_from_is_err_and c.from_residual-in_err-number.result
+    c.from_residual-in_err-number.ensures.1 in
+    rw (p.1, p.2) (λ _. numbers_stop _ _ _ _ _ c.loop-i.invariant.so_far _ c.loop-i-test.true
+    c.in_err-number.ensures)
 
 pub loop-i-preserved : goal.loop-i-preserved
 loop-i-preserved g c = record {
-  so_far = rw c.in_ok-push.ensures.items (numbers_go_on _ _ _ _ _ c.loop-i.invariant.so_far c.in_ok-number.number _ c.loop-i-test.true c.in_ok-number.ensures);
+  so_far = rw c.in_ok-push.ensures.items
+      (numbers_go_on _ _ _ _ _ c.loop-i.invariant.so_far c.in_ok-number.number _ c.loop-i-test.true
+      c.in_ok-number.ensures);
   len = omega (arith, c.in_ok-push.ensures.len);
 }
 

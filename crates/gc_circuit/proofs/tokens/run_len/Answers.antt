@@ -3,4 +3,5 @@ use Rattle.gc_circuit.proofs.TokenLemmas.{run_more}
 use Rattle.gc_circuit.proofs.tokens.run_len.Goals as goal
 
 pub loop-i-preserved : goal.loop-i-preserved
-loop-i-preserved c = run_more c.args.text.now c.loop-i.i (omega arith) c.loop-i.invariant (sym c.is_blank.ensures ∙ c.if-is_blank.false)
+loop-i-preserved c = run_more c.args.text.now c.loop-i.i (omega arith) c.loop-i.invariant
+    (sym c.is_blank.ensures ∙ c.if-is_blank.false)

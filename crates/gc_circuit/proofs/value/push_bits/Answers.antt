@@ -6,5 +6,6 @@ use Rattle.gc_circuit.proofs.value.push_bits.Goals as goal
 
 pub loop-i-preserved : goal.loop-i-preserved
 loop-i-preserved g c =
-    map_pushed (λ i. bit_at c.args.byte i == 1) c.loop-i.i c.args.bits.now.items c.loop-i.bits.items c.push.new.self.items _
+    map_pushed (λ i. bit_at c.args.byte i == 1) c.loop-i.i c.args.bits.now.items c.loop-i.bits.items
+    c.push.new.self.items _
     c.loop-i.invariant c.in_ok-push.ensures.items (ap (λ x. x == 1) (shr_and_one c.args.byte c.loop-i.i))

@@ -16,10 +16,12 @@ returns-then-from-used-ne0-clause-err g c =
     let within : k < byte_count n = omega arith in
     let long : length digits ≡ 2 * byte_count n = omega arith in
     let spare =
-    spare_in_byte digits n k c.min-used.result c.from.result inside within c.min-used.ensures (c.from.ensures ∙ byte.1) (omega arith) c.if-from-used-ne0.true in
+    spare_in_byte digits n k c.min-used.result c.from.result inside within c.min-used.ensures
+    (c.from.ensures ∙ byte.1) (omega arith) c.if-from-used-ne0.true in
     let last = spare.0 in
     inr (hexadecimal_spare digits n long
-    (ap (list_all is_hex_digit) (sym (take_all (2 * (k + 1)) digits (omega arith))) ∙ digits_more digits k (omega arith) byte.0 c.loop-k.invariant.digits) spare.1)
+    (ap (list_all is_hex_digit) (sym (take_all (2 * (k + 1)) digits (omega arith)))
+    ∙ digits_more digits k (omega arith) byte.0 c.loop-k.invariant.digits) spare.1)
 
 pub loop-k-preserved : goal.loop-k-preserved
 loop-k-preserved g c =
@@ -32,10 +34,12 @@ loop-k-preserved g c =
     record {
       digits = digits_more digits k (omega arith) byte.0 c.loop-k.invariant.digits;
       bits =
-          bits_of_byte_more digits n k used c.in_ok-byte.byte c.loop-k.bits.items c.push_bits.new.bits.items inside c.min-used.ensures byte.1
+          bits_of_byte_more digits n k used c.in_ok-byte.byte c.loop-k.bits.items
+          c.push_bits.new.bits.items inside c.min-used.ensures byte.1
           c.loop-k.invariant.bits c.in_ok-push_bits.ensures.ok;
       unused =
-          rest_zero_more digits n k used c.from.result inside c.min-used.ensures (c.from.ensures ∙ byte.1) c.if-from-used-ne0.false c.loop-k.invariant.unused;
+          rest_zero_more digits n k used c.from.result inside c.min-used.ensures (c.from.ensures
+          ∙ byte.1) c.if-from-used-ne0.false c.loop-k.invariant.unused;
     }
 
 pub returns-clause-ok : goal.returns-clause-ok

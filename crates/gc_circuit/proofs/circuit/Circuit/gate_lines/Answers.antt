@@ -9,7 +9,13 @@ use Rattle.gc_circuit.proofs.circuit.Circuit.gate_lines.Goals as goal
 
 pub loop-i-init : goal.loop-i-init
 loop-i-init g c = record {
-  written = grind (arith, common_steps, drop_all 512 c.args.room.now, lines_none c.args.self.now.gates c.args.to);
+  written = grind (
+    arith,
+    common_steps,
+    drop_all 512 c.args.room.now,
+    lines_none
+        c.args.self.now.gates c.args.to,
+  );
   place = omega arith;
   start = (omega arith, omega arith);
 }
@@ -23,7 +29,8 @@ loop-i-preserved g c =
     record {
       written =
           c.write_gate-start.ensures.written
-          ∙ ap (λ t. line (words_of_gate c.gate.result) ++ t) (c.loop-i.invariant.written ∙ ap (λ k. lines_of_gates (drop k (take to gs))) (sym place))
+          ∙ ap (λ t. line (words_of_gate c.gate.result) ++ t) (c.loop-i.invariant.written
+          ∙ ap (λ k. lines_of_gates (drop k (take to gs))) (sym place))
           ∙ sym (lines_from gs before to c.gate.result c.gate.ensures (omega arith));
       place = omega arith;
       start = (omega arith, omega arith);

@@ -15,8 +15,10 @@ loop-done-init g c =
       bound = omega arith;
       written = λ text held.
           subst (g.S.TextSink.holds c.put-2.new.self)
-          (text_before-first text c.sizes_line.result.now c.input_widths.result.now c.output_widths.result.now s sizes c.input_widths.ensures c.output_widths.ensures)
-          (c.in_ok-put-2.ensures _ (c.in_ok-write_widths-2.ensures _ (c.in_ok-write_widths.ensures _ (c.in_ok-put.ensures text held))));
+          (text_before-first text c.sizes_line.result.now c.input_widths.result.now
+          c.output_widths.result.now s sizes c.input_widths.ensures c.output_widths.ensures)
+          (c.in_ok-put-2.ensures _ (c.in_ok-write_widths-2.ensures _
+          (c.in_ok-write_widths.ensures _ (c.in_ok-put.ensures text held))));
     }
 
 pub loop-done-preserved : goal.loop-done-preserved
@@ -27,10 +29,14 @@ loop-done-preserved g c =
       bound = grind arith;
       written = λ text held.
           subst (g.S.TextSink.holds c.put-in-loop-done.new.self)
-          (text_before-next text c.gate_lines.result.now s c.loop-done.done c.min-next.result on c.gate_lines.ensures)
-          (c.in_ok-put-3.ensures (text ++ text_before s c.loop-done.done) (c.loop-done.invariant.written text held));
+          (text_before-next text c.gate_lines.result.now s c.loop-done.done c.min-next.result on
+          c.gate_lines.ensures)
+          (c.in_ok-put-3.ensures (text ++ text_before s c.loop-done.done)
+          (c.loop-done.invariant.written text held));
     }
 
 pub returns : goal.returns
 returns g c = λ text held.
-    subst (λ (t : List ℕ). g.S.TextSink.holds c.loop-done.sink (text ++ t)) (text_before-end c.args.self.now c.loop-done.done (omega arith)) (c.loop-done.invariant.written text held)
+    subst (λ (t : List ℕ). g.S.TextSink.holds c.loop-done.sink (text ++ t))
+    (text_before-end c.args.self.now c.loop-done.done (omega arith))
+    (c.loop-done.invariant.written text held)
