@@ -75,7 +75,11 @@ bytes_high_first-value_after n [] small = refl
 bytes_high_first-value_after n (b ∷ bytes) small =
     let first : b < 256 = small 0 in
     let digit : byte_at (length bytes) (value_after (n * 256 + b) bytes) ≡ b =
-    omega (arith, byte_at_is (length bytes) (value_after (n * 256 + b) bytes), value_after-div (n * 256 + b) bytes (λ i. small (suc i))) in
+    omega (
+      arith,
+      byte_at_is (length bytes) (value_after (n * 256 + b) bytes),
+      value_after-div (n * 256 + b) bytes (λ i. small (suc i)),
+    ) in
     rw (digit, bytes_high_first-value_after (n * 256 + b) bytes (λ i. small (suc i))) refl
 
 -- a label is the number that its 16 bytes spell to base 256

@@ -13,8 +13,6 @@
 mod keystream;
 mod label;
 mod seed;
-#[cfg(test)]
-mod tests;
 
 pub use keystream::{fill_input_labels, input_label, offset};
 pub use label::{Label, Offset};

@@ -24,8 +24,14 @@ loop-label-preserved c =
     let i = c.loop-label.label-index in
     let within : i < length c.loop-label.labels = omega arith in
     let next : 4 * (first + i + 1) + 4 ≡ 4 * (first + (i + 1) + 1) = omega arith in
-    let label = c.next_label.ensures.label ∙ next_is_input_label seed c.loop-label.keystream (first + i) c.loop-label.invariant.0 in (
+    let label = c.next_label.ensures.label ∙ next_is_input_label seed c.loop-label.keystream
+    (first + i) c.loop-label.invariant.0 in (
       rw (c.next_label.ensures.advanced, c.loop-label.invariant.0) (ap (generator_at seed) next),
-      rw (take_more_set c.loop-label.labels i c.next_label.result within, map-range_with_len_more (input_label_of seed) first i (first + i) refl, c.loop-label.invariant.1, label)
+      rw (
+        take_more_set c.loop-label.labels i c.next_label.result within,
+        map-range_with_len_more (input_label_of seed) first i (first + i) refl,
+        c.loop-label.invariant.1,
+        label,
+      )
           refl,
     )
