@@ -44,4 +44,8 @@ module _ (c : Netlist) where
 
   -- An AND number is at most the number of gates before.
   pub and_number-le : (i : ℕ) → and_number c i ≤ i
-  and_number-le i = omega (arith, count_by-le-length (λ (x : Gate). is_and x.operation) (take i c.gates), length-take i c.gates)
+  and_number-le i = omega (
+    arith,
+    count_by-le-length (λ (x : Gate). is_and x.operation) (take i c.gates),
+    length-take i c.gates,
+  )

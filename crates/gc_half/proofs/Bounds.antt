@@ -53,7 +53,8 @@ AreBytes-digest_bytes : (h : List ℕ) (n : ℕ) → AreBytes (digest_bytes h n)
 unfolding digest_bytes AreBytes
 AreBytes-digest_bytes h zero i = omega arith
 AreBytes-digest_bytes h (suc n) i =
-    AreBytes-append (digest_bytes h n) (to_be_bytes w32 (get_or h n 0)) (λ k. AreBytes-digest_bytes h n k) (AreBytes-bytes_high_first 4 (get_or h n 0)) i
+    AreBytes-append (digest_bytes h n) (to_be_bytes w32 (get_or h n 0)) (λ k. AreBytes-digest_bytes h n k)
+    (AreBytes-bytes_high_first 4 (get_or h n 0)) i
 
 pub IsSmall-hash : (label tweak : ℕ) → IsSmall (hash label tweak)
 unfolding hash sha256 AreBytes
@@ -74,7 +75,9 @@ IsSmall-times false label h = omega arith
 
 module _ (k r : ℕ) (small : IsSmall r) (a b : ℕ) (ha : IsSmall a) (hb : IsSmall b) where
   pub IsSmall-generator_row : IsSmall (generator_row hash k r a b)
-  IsSmall-generator_row = IsSmall-⊕ _ _ (IsSmall-⊕ _ _ (IsSmall-hash a (2 * k)) (IsSmall-hash (a ⊕ r) (2 * k))) (IsSmall-times (colour b) r small)
+  IsSmall-generator_row =
+      IsSmall-⊕ _ _ (IsSmall-⊕ _ _ (IsSmall-hash a (2 * k)) (IsSmall-hash (a ⊕ r) (2 * k)))
+      (IsSmall-times (colour b) r small)
 
   pub IsSmall-evaluator_row : IsSmall (evaluator_row hash k r a b)
   IsSmall-evaluator_row = IsSmall-⊕ _ _ (IsSmall-⊕ _ _ (IsSmall-hash b (2 * k + 1)) (IsSmall-hash (b ⊕ r) (2 * k + 1))) ha
@@ -96,7 +99,8 @@ IsSmall-zero_of r small label h k (Eqw a) = h a
 
 module _ (rule : (ℕ → ℕ) → ℕ → Gate → ℕ)
     (keeps : (values : ℕ → ℕ) (i : ℕ) (g : Gate) → ((w : ℕ) → IsSmall (values w)) → IsSmall (rule values i g)) where
-  small-put_gate : (values : ℕ → ℕ) (i : ℕ) (o : Option Gate) → ((w : ℕ) → IsSmall (values w)) → (w : ℕ) → IsSmall (put_gate rule values i o w)
+  small-put_gate : (values : ℕ → ℕ) (i : ℕ) (o : Option Gate) → ((w : ℕ) → IsSmall (values w)) → (w : ℕ)
+      → IsSmall (put_gate rule values i o w)
   small-put_gate values i None h w = h w
   small-put_gate values i (Some g) h w = choice (w == g.set)
     where
@@ -104,7 +108,8 @@ module _ (rule : (ℕ → ℕ) → ℕ → Gate → ℕ)
       choice true = keeps values i g h
       choice false = h w
 
-  small-values_after : (c : Netlist) (given : ℕ → ℕ) → ((w : ℕ) → IsSmall (given w)) → (n w : ℕ) → IsSmall (values_after rule c given n w)
+  small-values_after : (c : Netlist) (given : ℕ → ℕ) → ((w : ℕ) → IsSmall (given w)) → (n w : ℕ)
+      → IsSmall (values_after rule c given n w)
   unfolding values_after
   small-values_after c given h zero w = h w
   small-values_after c given h (suc n) w =
@@ -115,7 +120,8 @@ module _ (c : Netlist) (seed : List ℕ) where
   unfolding zero_label_of
   IsSmall-zero_label_of w =
       small-values_after (zero_rule hash (offset_of seed) c)
-      (λ values i g h. IsSmall-zero_of (offset_of seed) (offset_of-lt seed) values h (and_number c i) g.operation) c (input_zero c seed)
+      (λ values i g h. IsSmall-zero_of (offset_of seed) (offset_of-lt seed) values h
+      (and_number c i) g.operation) c (input_zero c seed)
       (λ u. given u) (length c.gates) w
     where
       choice : (u : ℕ) (input : Bool) → IsSmall (if input then input_label_of seed u else 0)
@@ -140,7 +146,8 @@ module _ (c : Netlist) (seed : List ℕ) where
   abbrev pub AllSmall : List RowPair → Type 0
   AllSmall pairs = (k : ℕ) (pair : RowPair) → slice_get pairs k ≡ Some pair → AreSmallRows pair
 
-  small-push : (pairs : List RowPair) → AllSmall pairs → (last : RowPair) → AreSmallRows last → AllSmall (pairs ++ last ∷ [])
+  small-push : (pairs : List RowPair) → AllSmall pairs → (last : RowPair) → AreSmallRows last
+      → AllSmall (pairs ++ last ∷ [])
   small-push pairs h last small k pair at = elim (pushed pairs pair last k at) [
     | inl before ↦ h k pair before
     | inr same ↦ let P : RowPair → Type 0 = AreSmallRows in subst P same small
@@ -151,9 +158,11 @@ module _ (c : Netlist) (seed : List ℕ) where
   small-with_operation number pairs h (Xor a b) = h
   small-with_operation number pairs h (And a b) =
       small-push pairs h (rows_of hash (offset_of seed) (zero_label_of c seed) number a b) (
-        IsSmall-generator_row number (offset_of seed) (offset_of-lt seed) (zero_label_of c seed a) (zero_label_of c seed b)
+        IsSmall-generator_row number (offset_of seed) (offset_of-lt seed) (zero_label_of c seed a)
+            (zero_label_of c seed b)
             (IsSmall-zero_label_of a) (IsSmall-zero_label_of b),
-        IsSmall-evaluator_row number (offset_of seed) (offset_of-lt seed) (zero_label_of c seed a) (zero_label_of c seed b)
+        IsSmall-evaluator_row number (offset_of seed) (offset_of-lt seed) (zero_label_of c seed a)
+            (zero_label_of c seed b)
             (IsSmall-zero_label_of a) (IsSmall-zero_label_of b),
       )
   small-with_operation number pairs h (Inv a) = h
@@ -169,7 +178,8 @@ module _ (c : Netlist) (seed : List ℕ) where
   unfolding rows_after
   small-rows_after zero k pair at = cc
   small-rows_after (suc n) k pair at =
-      small-with_gate (and_number c n) (rows_after hash (offset_of seed) c (zero_label_of c seed) n) (λ j p. small-rows_after n j p)
+      small-with_gate (and_number c n) (rows_after hash (offset_of seed) c (zero_label_of c seed) n)
+      (λ j p. small-rows_after n j p)
       (slice_get c.gates n) k pair at
 
   pub IsSmall-row_pairs_of : AllSmall (row_pairs_of c seed)

@@ -25,7 +25,8 @@ use Rattle.gc_half.proofs.SetWires.{set_or_not, solution-not_set}
 use Rattle.gc_half.proofs.GarblingLemmas.{zero_local, IsGarbling-same, rows-garbling, one_garbling}
 
 -- Parts are equal where each part is.
-pub parts-same : (g : GarblingParts) (zero_labels : List ℕ) (rows : List RowPair) (outputs : ℕ) → g.zero_labels ≡ zero_labels → g.rows ≡ rows
+pub parts-same : (g : GarblingParts) (zero_labels : List ℕ) (rows : List RowPair) (outputs : ℕ)
+    → g.zero_labels ≡ zero_labels → g.rows ≡ rows
     → g.outputs ≡ outputs → g ≡ record { zero_labels = zero_labels; rows = rows; outputs = outputs }
 parts-same g zero_labels rows outputs p q o =
     let parts : List ℕ → List RowPair → ℕ → GarblingParts = λ x y z. record { zero_labels = x; rows = y; outputs = z } in
@@ -53,7 +54,8 @@ module _ (c : Netlist) (seed : List ℕ) where
   module _ (lawful : IsLawful c) where
     solves : Solves (zero_rule hash (offset_of seed) c) c (input_zero c seed) (zero_label_of c seed)
     unfolding zero_label_of
-    solves = solution_solves (zero_rule hash (offset_of seed) c) (zero_local hash (offset_of seed) c) c lawful (input_zero c seed)
+    solves = solution_solves (zero_rule hash (offset_of seed) c)
+        (zero_local hash (offset_of seed) c) c lawful (input_zero c seed)
 
     -- An input wire has its input label,
     pub zero_label_of-input : (w : ℕ) → w < input_wires c → zero_label_of c seed w ≡ input_label_of seed w
@@ -65,7 +67,8 @@ module _ (c : Netlist) (seed : List ℕ) where
     zero_label_of-gate = solves.gates
 
     -- So these labels and rows are a garbling.
-    pub canonical-garbling : IsGarbling hash (offset_of seed) c (input_label_of seed) (zero_label_of c seed) (row_pairs_of c seed)
+    pub canonical-garbling : IsGarbling hash (offset_of seed) c (input_label_of seed)
+        (zero_label_of c seed) (row_pairs_of c seed)
     canonical-garbling =
         rw row_pairs_of-rows
         (rows-garbling hash (offset_of seed) c lawful (input_label_of seed) (zero_label_of c seed)
@@ -73,7 +76,8 @@ module _ (c : Netlist) (seed : List ℕ) where
 
     -- An AND gate's row pair stands at its AND number,
     pub row_pairs_of-at : (i : ℕ) (g : Gate) (a b : ℕ) → slice_get c.gates i ≡ Some g → g.operation ≡ And a b →
-        slice_get (row_pairs_of c seed) (and_number c i) ≡ Some (rows_of hash (offset_of seed) (zero_label_of c seed) (and_number c i) a b)
+        slice_get (row_pairs_of c seed) (and_number c i) ≡ Some
+        (rows_of hash (offset_of seed) (zero_label_of c seed) (and_number c i) a b)
     row_pairs_of-at = canonical-garbling.and_gates
 
     -- and there are no others.
@@ -84,8 +88,10 @@ module _ (c : Netlist) (seed : List ℕ) where
     pub garbling_of-IsGarbled : IsGarbled c seed (garbling_of c seed)
     garbling_of-IsGarbled = record {
       garbling =
-          IsGarbling-same hash (offset_of seed) c lawful (input_label_of seed) (zero_label_of c seed) _ (row_pairs_of c seed)
-          (λ w set. sym (read-table (zero_label_of c seed) c.wires w 0 (IsSetBefore-below c lawful (length c.gates) w set))) canonical-garbling;
+          IsGarbling-same hash (offset_of seed) c lawful (input_label_of seed) (zero_label_of c seed) _
+          (row_pairs_of c seed)
+          (λ w set. sym (read-table (zero_label_of c seed) c.wires w 0
+          (IsSetBefore-below c lawful (length c.gates) w set))) canonical-garbling;
       wires = length-map-range_with_len (zero_label_of c seed) 0 c.wires;
       not_set = λ w below unset. read-table (zero_label_of c seed) c.wires w 0 below ∙ zero_label_of-not_set w unset;
       outputs = refl;
@@ -94,13 +100,16 @@ module _ (c : Netlist) (seed : List ℕ) where
     -- and it is the only one.
     pub IsGarbled-same : (g : GarblingParts) → IsGarbled c seed g → g ≡ garbling_of c seed
     IsGarbled-same g garbled =
-        parts-same g (map (zero_label_of c seed) (range_with_len 0 c.wires)) (row_pairs_of c seed) (output_wires c) labels rows garbled.outputs
+        parts-same g (map (zero_label_of c seed) (range_with_len 0 c.wires)) (row_pairs_of c seed)
+        (output_wires c) labels rows garbled.outputs
       where
         label_at : (w : ℕ) → w < c.wires → get_or g.zero_labels w 0 ≡ zero_label_of c seed w
         label_at w below = elim (set_or_not c w) [
           | inl set ↦
-              agree (zero_rule hash (offset_of seed) c) (zero_local hash (offset_of seed) c) c lawful (input_label_of seed)
-              (λ k. get_or g.zero_labels k 0) (zero_label_of c seed) garbled.garbling.labels canonical-garbling.labels w set
+              agree (zero_rule hash (offset_of seed) c) (zero_local hash (offset_of seed) c) c lawful
+              (input_label_of seed)
+              (λ k. get_or g.zero_labels k 0)
+              (zero_label_of c seed) garbled.garbling.labels canonical-garbling.labels w set
           | inr unset ↦ garbled.not_set w below unset ∙ sym (zero_label_of-not_set w unset)
         ]
 
@@ -110,10 +119,12 @@ module _ (c : Netlist) (seed : List ℕ) where
         rows : g.rows ≡ row_pairs_of c seed
         rows =
             (one_garbling hash (offset_of seed) c lawful (input_label_of seed)).same_rows
-            (λ k. get_or g.zero_labels k 0) (zero_label_of c seed) g.rows (row_pairs_of c seed) garbled.garbling canonical-garbling
+            (λ k. get_or g.zero_labels k 0) (zero_label_of c seed) g.rows
+            (row_pairs_of c seed) garbled.garbling canonical-garbling
 
     -- Its decode bits are the colours of the output wires' zero labels,
-    pub IsGarbled-decode_bits : (g : GarblingParts) → IsGarbled c seed g → decode_bits_of g ≡ decode_bits c (zero_label_of c seed)
+    pub IsGarbled-decode_bits : (g : GarblingParts) → IsGarbled c seed g
+        → decode_bits_of g ≡ decode_bits c (zero_label_of c seed)
     IsGarbled-decode_bits g garbled =
         ap decode_bits_of (IsGarbled-same g garbled)
         ∙ ap (λ n. map colour (drop (n - output_wires c) (map (zero_label_of c seed) (range_with_len 0 c.wires))))
@@ -122,13 +133,12 @@ module _ (c : Netlist) (seed : List ℕ) where
 
     -- and what its rows evaluate to, on labels that stand for input bits, decodes to the output bits.
     pub canonical-decodes : (input_bits bits : ℕ → Bool) → IsAssignment c input_bits bits → (active : ℕ → ℕ) →
-        IsEvaluation hash c (row_pairs_of c seed) (λ w. encode (offset_of seed) (input_label_of seed w) (input_bits w)) active →
+        IsEvaluation hash c (row_pairs_of c seed) (λ w. encode (offset_of seed) (input_label_of seed w)
+        (input_bits w)) active →
         Decodes c (offset_of seed) (zero_label_of c seed) bits active
     canonical-decodes =
-        garbling-decodes hash (offset_of seed) (colour-offset_of seed) c lawful (input_label_of seed) (zero_label_of c seed) (row_pairs_of c seed) canonical-garbling
+        garbling-decodes hash (offset_of seed) (colour-offset_of seed) c lawful (input_label_of seed)
+        (zero_label_of c seed) (row_pairs_of c seed) canonical-garbling
 
     pub one_garbled : HasOneGarbled c seed
-    one_garbled = record {
-      one = (garbling_of c seed, garbling_of-IsGarbled);
-      no_other = λ g g' p q. IsGarbled-same g p ∙ sym (IsGarbled-same g' q);
-    }
+    one_garbled = record { computed = garbling_of-IsGarbled; no_other = IsGarbled-same }

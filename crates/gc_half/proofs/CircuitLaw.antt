@@ -13,22 +13,20 @@ use Rattle.gc_circuit.proofs.SolutionLemmas.{agree}
 use Rattle.gc_label.specs.Label.{◌⊕◌, colour, times}
 use Rattle.gc_half.specs.declared.garbling.RowPair.{RowPair}
 use Rattle.gc_half.specs.HalfGate.{and_active}
+use Rattle.gc_half.specs.OneGate.{first_read, second_read, gate_active}
 use Rattle.gc_half.specs.Garbling.{zero_of, rows_of, IsGarbling}
 use Rattle.gc_half.specs.Evaluation.{active_of, active_rule, IsEvaluation, encode, decode}
 use Rattle.gc_half.specs.Law.{Decodes}
+use Rattle.gc_half.proofs.OneGateLemmas.{first_read-local, second_read-local}
 use Rattle.gc_half.proofs.XorSums.{Name, Plus, When, marks, none, sums_equal}
 use Rattle.gc_half.proofs.HalfGateLaw.{and_law, colour-encode}
 
 -- The active label of the wire that a gate sets looks at the wires that it reads alone.
 active_of_local : (hash : ℕ → ℕ → ℕ) (u v : ℕ → ℕ) (k : ℕ) (row : RowPair) (op : Operation) →
     EachRead (λ w. u w ≡ v w) op → active_of hash u k row op ≡ active_of hash v k row op
-active_of_local hash u v k row (Xor a b) h = rw (h.0, h.1) refl
-active_of_local hash u v k row (And a b) h =
-    ap (λ x. and_active hash k row.generator row.evaluator x (u b)) h.0
-    ∙ ap (λ x. and_active hash k row.generator row.evaluator (v a) x) h.1
-active_of_local hash u v k row (Inv a) h = h
-active_of_local hash u v k row (Eq b) h = refl
-active_of_local hash u v k row (Eqw a) h = h
+active_of_local hash u v k row op h =
+    ap (λ first. gate_active hash k row op first (second_read u op)) (first_read-local u v op h)
+    ∙ ap (gate_active hash k row op (first_read v op)) (second_read-local u v op h)
 
 pub active_local : (hash : ℕ → ℕ → ℕ) (c : Netlist) (rows : List RowPair) → IsLocal (active_rule hash c rows)
 active_local hash c rows u v i g h = active_of_local hash u v _ _ g.operation h
@@ -40,7 +38,8 @@ encode-xor r a b x y =
     (Plus (Plus (Name 0) (When x (Name 2))) (Plus (Name 1) (When y (Name 2)))) (balanced x y)
   where
     balanced : (x y : Bool) →
-        none (marks (Plus (Plus (Plus (Name 0) (Name 1)) (When (xor x y) (Name 2))) (Plus (Plus (Name 0) (When x (Name 2))) (Plus (Name 1) (When y (Name 2)))))) ≡ true
+        none (marks (Plus (Plus (Plus (Name 0) (Name 1)) (When (xor x y) (Name 2)))
+        (Plus (Plus (Name 0) (When x (Name 2))) (Plus (Name 1) (When y (Name 2)))))) ≡ true
     balanced true true = refl
     balanced true false = refl
     balanced false true = refl
@@ -48,8 +47,10 @@ encode-xor r a b x y =
 
 -- The label of a negation is the label, where the zero label has the offset added.
 encode-not : (r a : ℕ) (x : Bool) → encode r (a ⊕ r) (not x) ≡ encode r a x
-encode-not r a true = sums_equal (a ∷ r ∷ []) (Plus (Plus (Name 0) (Name 1)) (When false (Name 1))) (Plus (Name 0) (Name 1)) refl
-encode-not r a false = sums_equal (a ∷ r ∷ []) (Plus (Plus (Name 0) (Name 1)) (Name 1)) (Plus (Name 0) (When false (Name 1))) refl
+encode-not r a true = sums_equal (a ∷ r ∷ []) (Plus (Plus (Name 0) (Name 1)) (When false (Name 1)))
+    (Plus (Name 0) (Name 1)) refl
+encode-not r a false = sums_equal (a ∷ r ∷ []) (Plus (Plus (Name 0) (Name 1)) (Name 1))
+    (Plus (Name 0) (When false (Name 1))) refl
 
 -- A decode bit and the colour of the label that stands for a bit give the bit.
 decode-encode : (r a : ℕ) (x : Bool) → colour r ≡ true → xor (colour a) (colour (encode r a x)) ≡ x
@@ -64,13 +65,17 @@ decode-encode r a x odd = ap (xor (colour a)) (colour-encode r a x odd) ∙ case
 -- So it is for wires in a row.
 decode-wires : (r : ℕ) → colour r ≡ true → (label active : ℕ → ℕ) (bits : ℕ → Bool) (first count : ℕ) →
     ((w : ℕ) → first ≤ w → w < first + count → active w ≡ encode r (label w) (bits w)) →
-    decode (map colour (map label (range_with_len first count))) (map active (range_with_len first count)) ≡ map bits (range_with_len first count)
+    decode (map colour (map label (range_with_len first count))) (map active (range_with_len first count))
+    ≡ map bits (range_with_len first count)
 decode-wires r odd label active bits first zero h = refl
 decode-wires r odd label active bits first (suc count) h =
     let rest = range_with_len (first + 1) count in
-    ap (λ y. xor (colour (label first)) (colour y) ∷ decode (map colour (map label rest)) (map active rest)) (h first (omega arith) (omega arith))
-    ∙ ap (λ b. b ∷ decode (map colour (map label rest)) (map active rest)) (decode-encode r (label first) (bits first) odd)
-    ∙ ap (λ bs. bits first ∷ bs) (decode-wires r odd label active bits (first + 1) count (λ w low high. h w (omega arith) (omega arith)))
+    ap (λ y. xor (colour (label first)) (colour y) ∷ decode (map colour (map label rest))
+    (map active rest)) (h first (omega arith) (omega arith))
+    ∙ ap (λ b. b ∷ decode (map colour (map label rest)) (map active rest))
+    (decode-encode r (label first) (bits first) odd)
+    ∙ ap (λ bs. bits first ∷ bs) (decode-wires r odd label active bits (first + 1) count
+    (λ w low high. h w (omega arith) (omega arith)))
 
 module _ (hash : ℕ → ℕ → ℕ) (r : ℕ) (odd : colour r ≡ true) where
   -- The labels that stand for the bits meet the active-label equation of each operation.
@@ -80,15 +85,18 @@ module _ (hash : ℕ → ℕ → ℕ) (r : ℕ) (odd : colour r ≡ true) where
   encode-operation label bits k row (Xor a b) h = encode-xor r (label a) (label b) (bits a) (bits b)
   encode-operation label bits k row (And a b) h =
       sym (and_law hash k r (label a) (label b) (bits a) (bits b) odd)
-      ∙ ap (λ (w : RowPair). and_active hash k w.generator w.evaluator (encode r (label a) (bits a)) (encode r (label b) (bits b))) (sym (h a b refl))
+      ∙ ap (λ (w : RowPair). and_active hash k w.generator w.evaluator (encode r (label a) (bits a))
+      (encode r (label b) (bits b))) (sym (h a b refl))
   encode-operation label bits k row (Inv a) h = encode-not r (label a) (bits a)
   encode-operation label bits k row (Eq b) h = xor_self (times b r)
   encode-operation label bits k row (Eqw a) h = refl
 
-  module _ (c : Netlist) (lawful : IsLawful c) (given label : ℕ → ℕ) (rows : List RowPair) (garbling : IsGarbling hash r c given label rows)
+  module _ (c : Netlist) (lawful : IsLawful c) (given label : ℕ → ℕ) (rows : List RowPair)
+      (garbling : IsGarbling hash r c given label rows)
       (input_bits bits : ℕ → Bool) (assignment : IsAssignment c input_bits bits) where
     -- So they are an evaluation,
-    encode-evaluation : IsEvaluation hash c rows (λ w. encode r (given w) (input_bits w)) (λ w. encode r (label w) (bits w))
+    encode-evaluation : IsEvaluation hash c rows (λ w. encode r (given w) (input_bits w))
+        (λ w. encode r (label w) (bits w))
     encode-evaluation = record {
       inputs = λ w h. rw (garbling.labels.inputs w h, assignment.inputs w h) refl;
       gates = λ i g at.
@@ -110,5 +118,6 @@ module _ (hash : ℕ → ℕ → ℕ) (r : ℕ) (odd : colour r ≡ true) where
       where
         labels : (w : ℕ) → IsSet c w → active w ≡ encode r (label w) (bits w)
         labels w set =
-            agree (active_rule hash c rows) (active_local hash c rows) c lawful (λ w. encode r (given w) (input_bits w)) active
+            agree (active_rule hash c rows) (active_local hash c rows) c lawful
+            (λ w. encode r (given w) (input_bits w)) active
             (λ w. encode r (label w) (bits w)) evaluation encode-evaluation w set

@@ -3,30 +3,29 @@ use Rattle.std.proofs.Common.{◌≡◌, ℕ, ◌<◌, List, length, slice_get, 
 use Rattle.std.proofs.lemmas.List.{take_all}
 use Rattle.std.proofs.lemmas.Option.{slice_get_within}
 use Rattle.gc_circuit.specs.declared.circuit.Operation.{Operation}
-use Rattle.gc_circuit.specs.declared.circuit.Operation.TheVariants.{Xor, And, Inv, Eq, Eqw}
+use Rattle.gc_circuit.specs.declared.circuit.Operation.TheVariants.{And}
 use Rattle.gc_circuit.specs.declared.circuit.Gate.{Gate}
 use Rattle.gc_circuit.specs.Circuit.{Netlist, IsLawful, IsSet, IsSetBefore, EachRead, and_number}
 use Rattle.gc_circuit.specs.Solution.{Solves, IsLocal, solution}
 use Rattle.gc_circuit.proofs.SolutionLemmas.{agree, solution_solves, EachRead-map, IsSetBefore-more}
-use Rattle.gc_label.specs.Label.{◌⊕◌}
 use Rattle.gc_half.specs.declared.garbling.RowPair.{RowPair}
-use Rattle.gc_half.specs.HalfGate.{and_zero, generator_row, evaluator_row}
+use Rattle.gc_half.specs.OneGate.{first_read, second_read, row_pair, gate_zero}
 use Rattle.gc_half.specs.Garbling.{zero_of, zero_rule, rows_of, IsGarbling}
 use Rattle.gc_half.specs.Evaluation.{active_rule}
 use Rattle.gc_half.specs.Canonical.{rows_after}
 use Rattle.gc_half.specs.Law.{HasOneGarbling, HasOneEvaluation}
 use Rattle.gc_half.proofs.AndNumbers.{and_number-end}
+use Rattle.gc_half.proofs.OneGateLemmas.{first_read-local, second_read-local}
 use Rattle.gc_half.proofs.CircuitLaw.{active_local}
 use Rattle.gc_half.proofs.RowLemmas.{length-rows_after, rows_after-at, rows-take}
 
 module _ (hash : ℕ → ℕ → ℕ) (r : ℕ) where
   -- The zero label of the wire that a gate sets looks at the wires that it reads alone,
-  pub zero_of_local : (u v : ℕ → ℕ) (k : ℕ) (op : Operation) → EachRead (λ w. u w ≡ v w) op → zero_of hash r u k op ≡ zero_of hash r v k op
-  zero_of_local u v k (Xor a b) h = ap (λ x. x ⊕ u b) h.0 ∙ ap (λ x. v a ⊕ x) h.1
-  zero_of_local u v k (And a b) h = ap (λ x. and_zero hash k r x (u b)) h.0 ∙ ap (λ x. and_zero hash k r (v a) x) h.1
-  zero_of_local u v k (Inv a) h = ap (λ x. x ⊕ r) h
-  zero_of_local u v k (Eq b) h = refl
-  zero_of_local u v k (Eqw a) h = h
+  pub zero_of_local : (u v : ℕ → ℕ) (k : ℕ) (op : Operation) → EachRead (λ w. u w ≡ v w) op →
+      zero_of hash r u k op ≡ zero_of hash r v k op
+  zero_of_local u v k op h =
+      ap (λ first. gate_zero hash r k op first (second_read u op)) (first_read-local u v op h)
+      ∙ ap (gate_zero hash r k op (first_read v op)) (second_read-local u v op h)
 
   pub zero_local : (c : Netlist) → IsLocal (zero_rule hash r c)
   zero_local c u v i g h = zero_of_local u v (and_number c i) g.operation h
@@ -36,11 +35,11 @@ module _ (hash : ℕ → ℕ → ℕ) (r : ℕ) where
       rows_of hash r u k a b ≡ rows_of hash r v k a b
   rows_of_local u v k a b op is h =
       let reads = let P : Operation → Type 0 = EachRead (λ w. u w ≡ v w) in subst P is h in
-      let both : ℕ → ℕ → RowPair = λ x y. record { generator = generator_row hash k r x y; evaluator = evaluator_row hash k r x y } in
-      ap (λ x. both x (u b)) reads.0 ∙ ap (both (v a)) reads.1
+      ap (λ x. row_pair hash r k x (u b)) reads.0 ∙ ap (row_pair hash r k (v a)) reads.1
 
   -- A garbling is one at other zero labels too that are the same on the wires that are set.
-  pub IsGarbling-same : (c : Netlist) → IsLawful c → (given u v : ℕ → ℕ) (rows : List RowPair) → ((w : ℕ) → IsSet c w → u w ≡ v w) →
+  pub IsGarbling-same : (c : Netlist) → IsLawful c → (given u v : ℕ → ℕ) (rows : List RowPair)
+      → ((w : ℕ) → IsSet c w → u w ≡ v w) →
       IsGarbling hash r c given u rows → IsGarbling hash r c given v rows
   IsGarbling-same c lawful given u v rows same garbling = record {
     labels = record {
@@ -72,12 +71,14 @@ module _ (hash : ℕ → ℕ → ℕ) (r : ℕ) where
     }
 
     -- The rows of a garbling are those of its zero labels.
-    pub garbling-rows : (label : ℕ → ℕ) (rows : List RowPair) → IsGarbling hash r c given label rows → rows ≡ rows_after hash r c label (length c.gates)
+    pub garbling-rows : (label : ℕ → ℕ) (rows : List RowPair) → IsGarbling hash r c given label rows
+        → rows ≡ rows_after hash r c label (length c.gates)
     garbling-rows label rows garbling =
         sym (take_all (and_number c (length c.gates)) rows (omega (arith, garbling.row_count, and_number-end c)))
         ∙ rows-take hash r c label given rows garbling (length c.gates) (omega arith)
 
-    same_labels : (u v : ℕ → ℕ) (p q : List RowPair) → IsGarbling hash r c given u p → IsGarbling hash r c given v q → (w : ℕ) → IsSet c w → u w ≡ v w
+    same_labels : (u v : ℕ → ℕ) (p q : List RowPair) → IsGarbling hash r c given u p
+        → IsGarbling hash r c given v q → (w : ℕ) → IsSet c w → u w ≡ v w
     same_labels u v p q f g w set = agree (zero_rule hash r c) (zero_local c) c lawful given u v f.labels g.labels w set
 
     same_rows : (u v : ℕ → ℕ) (p q : List RowPair) → IsGarbling hash r c given u p → IsGarbling hash r c given v q → p ≡ q
@@ -87,15 +88,25 @@ module _ (hash : ℕ → ℕ → ℕ) (r : ℕ) where
     pub one_garbling : HasOneGarbling hash r c given
     one_garbling = record {
       one =
-          let label = solution (zero_rule hash r c) c given in
-          (label, (rows_after hash r c label (length c.gates), rows-garbling label (solution_solves (zero_rule hash r c) (zero_local c) c lawful given)));
+          let label = solution (zero_rule hash r c) c given in (
+            label,
+            (
+              rows_after hash r c label (length c.gates),
+              rows-garbling label (solution_solves (zero_rule hash r c) (zero_local c) c lawful given),
+            ),
+          );
       same_labels = same_labels;
       same_rows = same_rows;
     }
 
 -- Any rows have one evaluation.
-pub one_evaluation : (hash : ℕ → ℕ → ℕ) (c : Netlist) → IsLawful c → (rows : List RowPair) (given : ℕ → ℕ) → HasOneEvaluation hash c rows given
+pub one_evaluation : (hash : ℕ → ℕ → ℕ) (c : Netlist) → IsLawful c → (rows : List RowPair) (given : ℕ → ℕ)
+    → HasOneEvaluation hash c rows given
 one_evaluation hash c lawful rows given = record {
-  one = (solution (active_rule hash c rows) c given, solution_solves (active_rule hash c rows) (active_local hash c rows) c lawful given);
+  one = (
+    solution (active_rule hash c rows) c given,
+    solution_solves (active_rule hash c rows)
+        (active_local hash c rows) c lawful given,
+  );
   same_labels = agree (active_rule hash c rows) (active_local hash c rows) c lawful given;
 }

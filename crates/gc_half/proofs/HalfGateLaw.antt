@@ -10,7 +10,8 @@ use Rattle.gc_half.specs.Evaluation.{encode}
 use Rattle.gc_half.proofs.XorSums.{Sum, Name, Plus, When, marks, none, sums_equal}
 
 -- The colour of a label that stands for a bit.
-pub colour-encode : (offset label : ℕ) (bit : Bool) → colour offset ≡ true → colour (encode offset label bit) ≡ xor bit (colour label)
+pub colour-encode : (offset label : ℕ) (bit : Bool) → colour offset ≡ true
+    → colour (encode offset label bit) ≡ xor bit (colour label)
 colour-encode offset label true odd = grind (arith, nat_tests, bit_at_xor label offset 120)
 colour-encode offset label false odd = ap colour (xor_zero_r label)
 
@@ -32,7 +33,8 @@ evaluator = Plus (Plus (Name 2) (Name 3)) (Name 4)
 abbrev active_side : Bool → Bool → Bool → Bool → Sum
 active_side pa pb x y =
     Plus (Plus (Plus (When (not x) (Name 0)) (When x (Name 1))) (When (xor x pa) (generator pb)))
-    (Plus (Plus (When (not y) (Name 2)) (When y (Name 3))) (When (xor y pb) (Plus evaluator (Plus (Name 4) (When x (Name 5))))))
+    (Plus (Plus (When (not y) (Name 2)) (When y (Name 3)))
+    (When (xor y pb) (Plus evaluator (Plus (Name 4) (When x (Name 5))))))
 
 abbrev zero_side : Bool → Bool → Bool → Bool → Sum
 zero_side pa pb x y =
@@ -61,6 +63,11 @@ pub and_law : (hash : ℕ → ℕ → ℕ) (k r a b : ℕ) (x y : Bool) → colo
     and_active hash k (generator_row hash k r a b) (evaluator_row hash k r a b) (encode r a x) (encode r b y)
     ≡ encode r (and_zero hash k r a b) (x && y)
 and_law hash k r a b x y odd =
-    rw (hash-encode hash r a (2 * k) x, hash-encode hash r b (2 * k + 1) y, colour-encode r a x odd, colour-encode r b y odd)
+    rw (
+      hash-encode hash r a (2 * k) x,
+      hash-encode hash r b (2 * k + 1) y,
+      colour-encode r a x odd,
+      colour-encode r b y odd,
+    )
     (sums_equal (hash a (2 * k) ∷ hash (a ⊕ r) (2 * k) ∷ hash b (2 * k + 1) ∷ hash (b ⊕ r) (2 * k + 1) ∷ a ∷ r ∷ [])
     (active_side (colour a) (colour b) x y) (zero_side (colour a) (colour b) x y) (balanced (colour a) (colour b) x y))

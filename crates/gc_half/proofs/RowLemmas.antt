@@ -16,7 +16,8 @@ slice_get-push : {X : Type 0} (xs : List X) (x : X) → slice_get (xs ++ x ∷ [
 slice_get-push [] x = refl
 slice_get-push (y ∷ xs) x = slice_get-push xs x
 
-slice_get-append : {X : Type 0} (xs ys : List X) (i : ℕ) (x : X) → slice_get xs i ≡ Some x → slice_get (xs ++ ys) i ≡ Some x
+slice_get-append : {X : Type 0} (xs ys : List X) (i : ℕ) (x : X) → slice_get xs i ≡ Some x
+    → slice_get (xs ++ ys) i ≡ Some x
 slice_get-append [] ys i x h = cc
 slice_get-append (y ∷ xs) ys zero x h = h
 slice_get-append (y ∷ xs) ys (suc i) x h = slice_get-append xs ys i x h
@@ -24,7 +25,8 @@ slice_get-append (y ∷ xs) ys (suc i) x h = slice_get-append xs ys i x h
 module _ (hash : ℕ → ℕ → ℕ) (r : ℕ) (c : Netlist) (label : ℕ → ℕ) where
   -- One more gate: an AND gate adds its row pair, and any other gate adds none.
   pub rows_after-next : (i : ℕ) (g : Gate) → slice_get c.gates i ≡ Some g →
-      rows_after hash r c label (suc i) ≡ with_operation hash r label (and_number c i) (rows_after hash r c label i) g.operation
+      rows_after hash r c label (suc i) ≡ with_operation hash r label (and_number c i)
+      (rows_after hash r c label i) g.operation
   unfolding rows_after
   rows_after-next i g at = ap (with_gate hash r label (and_number c i) (rows_after hash r c label i)) at
 
@@ -60,11 +62,13 @@ module _ (hash : ℕ → ℕ → ℕ) (r : ℕ) (c : Netlist) (label : ℕ → �
             ap length (rows_after-and n gate.0 a b gate.1 is)
             ∙ length-append (rows_after hash r c label n) (rows_of hash r label (and_number c n) a b ∷ [])
             ∙ ap (λ k. k + 1) before ∙ sym (and_number-and c n gate.0 gate.1 (ap is_and is))
-        | inr other ↦ ap length (rows_after-other n gate.0 gate.1 other) ∙ before ∙ sym (and_number-other c n gate.0 gate.1 other)
+        | inr other ↦ ap length (rows_after-other n gate.0 gate.1 other) ∙ before
+            ∙ sym (and_number-other c n gate.0 gate.1 other)
       ]
 
   -- and that of an AND gate stands at its AND number.
-  pub rows_after-at : (n i : ℕ) (g : Gate) (a b : ℕ) → i < n → n ≤ length c.gates → slice_get c.gates i ≡ Some g → g.operation ≡ And a b →
+  pub rows_after-at : (n i : ℕ) (g : Gate) (a b : ℕ) → i < n → n ≤ length c.gates
+      → slice_get c.gates i ≡ Some g → g.operation ≡ And a b →
       slice_get (rows_after hash r c label n) (and_number c i) ≡ Some (rows_of hash r label (and_number c i) a b)
   rows_after-at zero i g a b below h at is = absurd (omega arith)
   rows_after-at (suc n) i g a b below h at is =
@@ -73,7 +77,8 @@ module _ (hash : ℕ → ℕ → ℕ) (r : ℕ) (c : Netlist) (label : ℕ → �
             let rows = rows_after hash r c label i in
             ap (λ m. slice_get (rows_after hash r c label (suc m)) (and_number c i)) (sym e)
             ∙ ap (λ l. slice_get l (and_number c i)) (rows_after-and i g a b at is)
-            ∙ ap (slice_get (rows ++ rows_of hash r label (and_number c i) a b ∷ [])) (sym (length-rows_after i (omega arith)))
+            ∙ ap (slice_get (rows ++ rows_of hash r label (and_number c i) a b ∷ []))
+            (sym (length-rows_after i (omega arith)))
             ∙ slice_get-push rows (rows_of hash r label (and_number c i) a b)
         | inr ne ↦ kept (rows_after-at n i g a b (omega arith) (omega arith) at is)
       ]
@@ -85,12 +90,14 @@ module _ (hash : ℕ → ℕ → ℕ) (r : ℕ) (c : Netlist) (label : ℕ → �
           elim (and_or_other gate.0.operation) [
             | inl (a', (b', is')) ↦
                 ap (λ l. slice_get l (and_number c i)) (rows_after-and n gate.0 a' b' gate.1 is')
-                ∙ slice_get-append (rows_after hash r c label n) (rows_of hash r label (and_number c n) a' b' ∷ []) (and_number c i) x found
+                ∙ slice_get-append (rows_after hash r c label n)
+                (rows_of hash r label (and_number c n) a' b' ∷ []) (and_number c i) x found
             | inr other ↦ ap (λ l. slice_get l (and_number c i)) (rows_after-other n gate.0 gate.1 other) ∙ found
           ]
 
   -- The rows of any garbling with these zero labels are these.
-  pub rows-take : (given : ℕ → ℕ) (rows : List RowPair) → IsGarbling hash r c given label rows → (n : ℕ) → n ≤ length c.gates →
+  pub rows-take : (given : ℕ → ℕ) (rows : List RowPair) → IsGarbling hash r c given label rows → (n : ℕ)
+      → n ≤ length c.gates →
       take (and_number c n) rows ≡ rows_after hash r c label n
   rows-take given rows garbling zero h = sym rows_after-start
   rows-take given rows garbling (suc n) h =
@@ -107,5 +114,6 @@ module _ (hash : ℕ → ℕ → ℕ) (r : ℕ) (c : Netlist) (label : ℕ → �
             ∙ ap (λ x. rows_after hash r c label n ++ x ∷ []) (get_or_from_slice_get rows k row row found)
             ∙ sym (rows_after-and n gate.0 a b gate.1 is)
         | inr other ↦
-            ap (λ m. take m rows) (and_number-other c n gate.0 gate.1 other) ∙ before ∙ sym (rows_after-other n gate.0 gate.1 other)
+            ap (λ m. take m rows) (and_number-other c n gate.0 gate.1 other) ∙ before
+            ∙ sym (rows_after-other n gate.0 gate.1 other)
       ]

@@ -56,7 +56,8 @@ cond_xor true false n = sym (xor_zero_r n)
 cond_xor false true n = sym (xor_zero_l n)
 cond_xor false false n = sym (xor_zero_r 0)
 
-marked-both : (bs cs : List Bool) (labels : List ℕ) → marked (both bs cs) labels ≡ bit_xor (marked bs labels) (marked cs labels)
+marked-both : (bs cs : List Bool) (labels : List ℕ) → marked (both bs cs) labels ≡ bit_xor
+    (marked bs labels) (marked cs labels)
 marked-both [] cs labels = sym (xor_zero_l (marked cs labels))
 marked-both (b ∷ bs) [] labels = sym (xor_zero_r (marked (b ∷ bs) labels))
 marked-both (b ∷ bs) (c ∷ cs) [] = sym (xor_zero_r 0)

@@ -3,14 +3,14 @@
 use Rattle.std.specs.Prelude.{ℕ, zero, suc, List, [], ◌∷◌, ◌++◌, length, map, slice_get, Option, Some, None, nat_lt, if◌then◌else◌}
 use Rattle.std.specs.List.{range_with_len}
 use Rattle.gc_circuit.specs.declared.circuit.Operation.{Operation}
-use Rattle.gc_circuit.specs.declared.circuit.Operation.TheVariants.{Xor, And, Inv, Eq, Eqw}
 use Rattle.gc_circuit.specs.declared.circuit.Gate.{Gate}
 use Rattle.gc_circuit.specs.Circuit.{Netlist, input_wires, output_wires, and_number}
 use Rattle.gc_circuit.specs.Solution.{solution}
 use Rattle.gc_label.specs.Seed.{offset_of, input_label_of}
 use Rattle.gc_half.specs.declared.garbling.RowPair.{RowPair}
 use Rattle.gc_half.specs.Hash.{hash}
-use Rattle.gc_half.specs.Garbling.{zero_rule, rows_of, GarblingParts}
+use Rattle.gc_half.specs.OneGate.{first_read, second_read, gate_rows}
+use Rattle.gc_half.specs.Garbling.{zero_rule, GarblingParts}
 
 -- The zero labels of the input wires, and 0 on every other wire.
 abbrev pub input_zero : Netlist → List ℕ → ℕ → ℕ
@@ -20,14 +20,17 @@ input_zero c seed w = if nat_lt w (input_wires c) then input_label_of seed w els
 unfoldable pub zero_label_of : Netlist → List ℕ → ℕ → ℕ
 zero_label_of c seed = solution (zero_rule hash (offset_of seed) c) c (input_zero c seed)
 
+-- the row pairs, with one more where there is one
+abbrev pub with_row_pair : List RowPair → Option RowPair → List RowPair
+with_row_pair rows None = rows
+with_row_pair rows (Some pair) = rows ++ pair ∷ []
+
 module _ (hash : ℕ → ℕ → ℕ) (r : ℕ) where
   -- the row pairs, with that of one more operation
   abbrev pub with_operation : (ℕ → ℕ) → ℕ → List RowPair → Operation → List RowPair
-  with_operation zero_label k rows (Xor a b) = rows
-  with_operation zero_label k rows (And a b) = rows ++ rows_of hash r zero_label k a b ∷ []
-  with_operation zero_label k rows (Inv a) = rows
-  with_operation zero_label k rows (Eq v) = rows
-  with_operation zero_label k rows (Eqw a) = rows
+  with_operation zero_label k rows operation =
+      with_row_pair rows (gate_rows hash r k operation (first_read zero_label operation)
+      (second_read zero_label operation))
 
   abbrev pub with_gate : (ℕ → ℕ) → ℕ → List RowPair → Option Gate → List RowPair
   with_gate zero_label k rows None = rows

@@ -2,14 +2,13 @@
 use Rattle.std.specs.Prelude.{ℕ, Bool, List, map, slice_index_or}
 use Rattle.std.specs.List.{zip}
 use Rattle.gc_circuit.specs.declared.circuit.Operation.{Operation}
-use Rattle.gc_circuit.specs.declared.circuit.Operation.TheVariants.{Xor, And, Inv, Eq, Eqw}
 use Rattle.gc_circuit.specs.declared.circuit.Gate.{Gate}
 use Rattle.gc_circuit.specs.Circuit.{Netlist, and_number}
 use Rattle.gc_circuit.specs.Solution.{Solves, on_outputs}
 use Rattle.gc_circuit.specs.Meaning.{xor}
 use Rattle.gc_label.specs.Label.{◌⊕◌, colour, times}
 use Rattle.gc_half.specs.declared.garbling.RowPair.{RowPair}
-use Rattle.gc_half.specs.HalfGate.{and_active}
+use Rattle.gc_half.specs.OneGate.{first_read, second_read, gate_active}
 
 -- The row pair at a gate's AND number, or zeros where there is none.
 abbrev pub row_at : List RowPair → ℕ → RowPair
@@ -19,11 +18,8 @@ module _ (hash : ℕ → ℕ → ℕ) where
   -- The active label of the wire that an operation sets, from the active labels on the wires. An AND gate is the k-th
   -- and has this row pair.
   abbrev pub active_of : (ℕ → ℕ) → ℕ → RowPair → Operation → ℕ
-  active_of active k row (Xor a b) = active a ⊕ active b
-  active_of active k row (And a b) = and_active hash k row.generator row.evaluator (active a) (active b)
-  active_of active k row (Inv a) = active a
-  active_of active k row (Eq v) = 0
-  active_of active k row (Eqw a) = active a
+  active_of active k row operation =
+      gate_active hash k row operation (first_read active operation) (second_read active operation)
 
   abbrev pub active_rule : Netlist → List RowPair → (ℕ → ℕ) → ℕ → Gate → ℕ
   active_rule c rows active i g = active_of active (and_number c i) (row_at rows (and_number c i)) g.operation

@@ -1,35 +1,29 @@
 -- What it is to garble a circuit: zero labels on all wires at once that meet an equation at each gate, and a row pair
--- for each AND gate. XOR, INV, EQ and EQW gates have no rows (free XOR).
+-- for each AND gate.
 use Rattle.std.specs.Prelude.{◌≡◌, ℕ, ◌<◌, ◌-◌, Bool, List, length, map, drop, slice_get, slice_index, Some}
 use Rattle.gc_circuit.specs.declared.circuit.Operation.{Operation}
-use Rattle.gc_circuit.specs.declared.circuit.Operation.TheVariants.{Xor, And, Inv, Eq, Eqw}
+use Rattle.gc_circuit.specs.declared.circuit.Operation.TheVariants.{And}
 use Rattle.gc_circuit.specs.declared.circuit.Gate.{Gate}
 use Rattle.gc_circuit.specs.Circuit.{Netlist, IsSet, and_number, and_count, output_wires}
 use Rattle.gc_circuit.specs.Solution.{Solves}
-use Rattle.gc_label.specs.Label.{◌⊕◌, colour, times}
+use Rattle.gc_label.specs.Label.{colour}
 use Rattle.gc_label.specs.Seed.{offset_of, input_label_of}
 use Rattle.gc_half.specs.declared.garbling.RowPair.{RowPair}
 use Rattle.gc_half.specs.Hash.{hash}
-use Rattle.gc_half.specs.HalfGate.{and_zero, generator_row, evaluator_row}
+use Rattle.gc_half.specs.OneGate.{first_read, second_read, row_pair, gate_zero}
 
 module _ (hash : ℕ → ℕ → ℕ) (r : ℕ) where
   -- The zero label of the wire that an operation sets, from the zero labels on the wires. An AND gate is the k-th.
   abbrev pub zero_of : (ℕ → ℕ) → ℕ → Operation → ℕ
-  zero_of zero_label k (Xor a b) = zero_label a ⊕ zero_label b
-  zero_of zero_label k (And a b) = and_zero hash k r (zero_label a) (zero_label b)
-  zero_of zero_label k (Inv a) = zero_label a ⊕ r
-  zero_of zero_label k (Eq v) = times v r
-  zero_of zero_label k (Eqw a) = zero_label a
+  zero_of zero_label k operation =
+      gate_zero hash r k operation (first_read zero_label operation) (second_read zero_label operation)
 
   abbrev pub zero_rule : Netlist → (ℕ → ℕ) → ℕ → Gate → ℕ
   zero_rule c zero_label i g = zero_of zero_label (and_number c i) g.operation
 
   -- The row pair of the k-th AND gate, which reads the wires a and b.
   abbrev pub rows_of : (ℕ → ℕ) → ℕ → ℕ → ℕ → RowPair
-  rows_of zero_label k a b = record {
-    generator = generator_row hash k r (zero_label a) (zero_label b);
-    evaluator = evaluator_row hash k r (zero_label a) (zero_label b);
-  }
+  rows_of zero_label k a b = row_pair hash r k (zero_label a) (zero_label b)
 
   -- A garbling with the offset r: zero labels on the wires, the given ones on the input wires, that meet each gate's
   -- equation; and as many row pairs as there are AND gates, that of each AND gate at its AND number.

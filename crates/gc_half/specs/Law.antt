@@ -6,6 +6,7 @@ use Rattle.gc_circuit.specs.Meaning.{IsAssignment}
 use Rattle.gc_label.specs.Label.{colour}
 use Rattle.gc_half.specs.declared.garbling.RowPair.{RowPair}
 use Rattle.gc_half.specs.Garbling.{IsGarbling, GarblingParts, IsGarbled}
+use Rattle.gc_half.specs.Canonical.{garbling_of}
 use Rattle.gc_half.specs.Evaluation.{IsEvaluation, encode, decode, decode_bits}
 
 -- Each wire that is set has the active label that stands for its bit, and the outputs decode to the bits of the output
@@ -22,14 +23,17 @@ HalfGatesLaw =
     (hash : ℕ → ℕ → ℕ) (offset : ℕ) → IsTrue (colour offset) → (c : Netlist) → IsLawful c → (given zero_label : ℕ → ℕ)
     (rows : List RowPair) → IsGarbling hash offset c given zero_label rows → (input_bits bits : ℕ → Bool)
     → IsAssignment c input_bits bits → (active : ℕ → ℕ)
-    → IsEvaluation hash c rows (λ w. encode offset (given w) (input_bits w)) active → Decodes c offset zero_label bits active
+    → IsEvaluation hash c rows (λ w. encode offset (given w) (input_bits w)) active
+    → Decodes c offset zero_label bits active
 
 -- There is a garbling, and any two have the same rows and agree on the wires that are set.
 pub record HasOneGarbling (hash : ℕ → ℕ → ℕ) (offset : ℕ) (c : Netlist) (given : ℕ → ℕ) : Type 0 where
   pub one : (zero_label : ℕ → ℕ) × ((rows : List RowPair) × IsGarbling hash offset c given zero_label rows)
-  pub same_labels : (zero_label zero_label' : ℕ → ℕ) (rows rows' : List RowPair) → IsGarbling hash offset c given zero_label rows
+  pub same_labels : (zero_label zero_label' : ℕ → ℕ) (rows rows' : List RowPair)
+      → IsGarbling hash offset c given zero_label rows
       → IsGarbling hash offset c given zero_label' rows' → (w : ℕ) → IsSet c w → zero_label w ≡ zero_label' w
-  pub same_rows : (zero_label zero_label' : ℕ → ℕ) (rows rows' : List RowPair) → IsGarbling hash offset c given zero_label rows
+  pub same_rows : (zero_label zero_label' : ℕ → ℕ) (rows rows' : List RowPair)
+      → IsGarbling hash offset c given zero_label rows
       → IsGarbling hash offset c given zero_label' rows' → rows ≡ rows'
 
 -- There is an evaluation of any rows, and any two agree on the wires that are set.
@@ -38,7 +42,7 @@ pub record HasOneEvaluation (hash : ℕ → ℕ → ℕ) (c : Netlist) (rows : L
   pub same_labels : (active active' : ℕ → ℕ) → IsEvaluation hash c rows given active
       → IsEvaluation hash c rows given active' → (w : ℕ) → IsSet c w → active w ≡ active' w
 
--- There are parts that are the garbling of the circuit under the seed, and no others.
+-- What is computed (`garbling_of`) is the garbling of the circuit under the seed, and there is no other.
 pub record HasOneGarbled (c : Netlist) (seed : List ℕ) : Type 0 where
-  pub one : (g : GarblingParts) × IsGarbled c seed g
-  pub no_other : (g g' : GarblingParts) → IsGarbled c seed g → IsGarbled c seed g' → g ≡ g'
+  pub computed : IsGarbled c seed (garbling_of c seed)
+  pub no_other : (g : GarblingParts) → IsGarbled c seed g → g ≡ garbling_of c seed

@@ -1,17 +1,14 @@
 //! Garbling a whole circuit on one thread.
 
-ghost use Rattle.std.specs.Prelude.{◌≡◌, ◌<◌, ◌-◌, ◌++◌, ◌^◌, IfOk, length, map, replicate, slice_index};
+ghost use Rattle.std.specs.Prelude.{◌≡◌, IfOk, OnOk, map};
 ghost use Rattle.std.specs.List.{range_with_len};
-ghost use Rattle.gc_circuit.specs.Circuit.{EachRead, input_wires};
-ghost use Rattle.gc_label.specs.Seed.{input_label_of};
-ghost use Rattle.gc_half.specs.Hash.{hash};
-ghost use Rattle.gc_half.specs.Garbling.{zero_of, IsGarbled};
-ghost use Rattle.gc_half.specs.Canonical.{with_operation};
+ghost use Rattle.gc_half.specs.Garbling.{IsGarbled};
+ghost use Rattle.gc_half.specs.Canonical.{input_zero, with_row_pair};
 
 use crate::garbling::{Garbling, RowPair};
-use crate::half_gate::garble_and;
-use gc_circuit::{Circuit, Memory, Operation};
-use gc_label::{Label, Offset, Seed, fill_input_labels, offset};
+use crate::one_gate::{garble_gate, labels_read};
+use gc_circuit::{Circuit, Memory};
+use gc_label::{Label, Seed, fill_input_labels, offset};
 use std::alloc::Allocator;
 
 /// The garbling of a circuit under a seed, gate by gate in file order. It takes memory for the labels and for
@@ -28,21 +25,24 @@ pub fn garble_one_thread<A: Allocator + Copy, C: Allocator>(
     let mut rows = Vec::with_capacity(alloc, circuit.and_count() as usize)?;
     for i in 0..circuit.gates() {
         let gate = circuit.gate(i);
-        let zero_label = garble_operation(offset, &zero_labels, &mut rows, gate.operation)?;
+        let (first, second) = labels_read(&zero_labels, gate.operation);
+        let number = rows.len() as u32;
+        let (zero_label, pair) = garble_gate(number, offset, gate.operation, first, second);
         zero_labels[gate.set as usize] = zero_label;
+        push_pair(&mut rows, pair)?;
     }
     Ok(Garbling::from_parts(zero_labels, rows, circuit.output_wires()))
 }
 
-/// The zero labels of the input wires, and 16 zero bytes for each other wire.
-fn input_zero_labels<A: Allocator + Copy, C: Allocator>(
+/// The zero labels of the input wires under a seed, and 16 zero bytes for each other wire: the table that garbling
+/// begins with. It takes memory once, for all wires.
+pub fn input_zero_labels<A: Allocator + Copy, C: Allocator>(
     alloc: A,
     circuit: &Circuit<C>,
     seed: &Seed,
 ) -> Result<Vec<Label, A>, Memory>
     ensures { IfOk result (λ v. v.items ≡
-        map (input_label_of seed.now) (range_with_len 0 (input_wires circuit.now))
-        ++ replicate (circuit.now.wires - input_wires circuit.now) 0) }
+        map (input_zero circuit.now seed.now) (range_with_len 0 circuit.now.wires)) }
 {
     let mut labels = Vec::with_capacity(alloc, circuit.wires() as usize)?;
     labels.resize(circuit.input_wires() as usize, Label::ZERO)?;
@@ -51,42 +51,13 @@ fn input_zero_labels<A: Allocator + Copy, C: Allocator>(
     Ok(labels)
 }
 
-/// The zero label of the wire that an operation sets, from the zero labels on the wires. The row pair of an
-/// AND gate is pushed: it is the next one in file order.
+/// Adds the row pair of one more gate, where it has one.
 #[inline]
-fn garble_operation<A: Allocator>(
-    offset: Offset,
-    zero_labels: &[Label],
-    rows: &mut Vec<RowPair, A>,
-    operation: Operation,
-) -> Result<Label, Memory>
-    requires reads { EachRead (λ w. w < length zero_labels.now) operation }
-    requires few { length rows.old.items < 2 ^ 32 }
-    ensures zero_label { IfOk result (λ l.
-        l ≡ zero_of hash offset (slice_index zero_labels.now) (length rows.old.items) operation) }
-    ensures rows { IfOk result (λ _. rows.new.items ≡
-        with_operation hash offset (slice_index zero_labels.now) (length rows.old.items)
-        rows.old.items operation) }
+fn push_pair<A: Allocator>(rows: &mut Vec<RowPair, A>, pair: Option<RowPair>) -> Result<(), Memory>
+    ensures { OnOk result (rows.new.items ≡ with_row_pair rows.old.items pair) }
 {
-    let zero_label = match operation {
-        Operation::Xor(a, b) => zero_labels[a as usize].xor(zero_labels[b as usize]),
-        Operation::And(a, b) => {
-            let k = rows.len() as u32;
-            let (zero_label, generator, evaluator) = garble_and(
-                k,
-                offset,
-                zero_labels[a as usize],
-                zero_labels[b as usize],
-            );
-            rows.push(RowPair {
-                generator,
-                evaluator,
-            })?;
-            zero_label
-        }
-        Operation::Inv(a) => zero_labels[a as usize].xor(offset.label()),
-        Operation::Eq(v) => offset.label().times(v),
-        Operation::Eqw(a) => zero_labels[a as usize],
-    };
-    Ok(zero_label)
+    if let Some(pair) = pair {
+        rows.push(pair)?;
+    }
+    Ok(())
 }

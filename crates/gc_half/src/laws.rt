@@ -13,7 +13,7 @@ pub fn law_half_gates()
 
 /// The law of garblings: for any hash each lawful circuit has a garbling, and any two agree on the wires that
 /// are set and have the same rows; any rows have an evaluation, and any two agree on the wires that are set.
-/// So under a seed a lawful circuit has one [`Garbling`](crate::Garbling).
+/// So under a seed a lawful circuit has one [`Garbling`](crate::Garbling): the one that `garbling_of` computes.
 pub fn law_garblings()
     ensures garblings { (hash : ℕ → ℕ → ℕ) (offset : ℕ) (c : Netlist) → IsLawful c → (given : ℕ → ℕ)
         → HasOneGarbling hash offset c given }

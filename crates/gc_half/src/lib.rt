@@ -10,16 +10,18 @@
 //! has one garbling under a seed.
 #![tactic(auto)]
 
+mod entry;
 mod garble;
 mod garbling;
 mod half_gate;
 mod hash;
 mod laws;
-#[cfg(test)]
-mod tests;
+mod one_gate;
 
-pub use garble::garble_one_thread;
+pub use entry::output_entry;
+pub use garble::{garble_one_thread, input_zero_labels};
 pub use garbling::{Garbling, RowPair};
 pub use half_gate::{eval_and, garble_and};
 pub use hash::tweak_hash;
 pub use laws::{law_garblings, law_half_gates};
+pub use one_gate::{evaluate_gate, garble_gate, labels_read};

@@ -9,18 +9,25 @@ use Rattle.gc_half.proofs.garble.garble_one_thread.Goals as goal
 pub loop-i-init : goal.loop-i-init
 loop-i-init g c = record {
   labels = c.in_ok-zero_labels.ensures ∙ table-start c.args.circuit.now c.args.seed.now c.gates-i-end.ensures.lawful;
-  rows = c.in_ok-rows.ensures.items ∙ sym (rows_after-start hash (offset_of c.args.seed.now) c.args.circuit.now (zero_label_of c.args.circuit.now c.args.seed.now));
+  rows = c.in_ok-rows.ensures.items
+      ∙ sym (rows_after-start hash (offset_of c.args.seed.now) c.args.circuit.now
+      (zero_label_of c.args.circuit.now c.args.seed.now));
 }
 
-pub garble_operation-requires-clause-reads : goal.garble_operation-requires-clause-reads
-garble_operation-requires-clause-reads g c =
+pub labels_read-first-requires : goal.labels_read-first-requires
+labels_read-first-requires g c =
     table-reads c.args.circuit.now c.args.seed.now c.gates-i-end.ensures.lawful c.loop-i.i c.gate-gate.result c.gate-gate.ensures
     c.deref.result.now (c.deref.ensures.value ∙ c.loop-i.invariant.labels)
 
-pub garble_operation-requires-clause-few : goal.garble_operation-requires-clause-few
-garble_operation-requires-clause-few g c =
+pub overflow_cast-number : goal.overflow_cast-number
+overflow_cast-number g c =
     let within : c.loop-i.i ≤ length c.args.circuit.now.gates = omega (arith, c.gates-i-end.ensures.count) in
-    omega (arith, rows-few c.args.circuit.now c.args.seed.now c.gates-i-end.ensures.lawful c.loop-i.i within c.loop-i.rows.items c.loop-i.invariant.rows)
+    omega (
+      arith,
+      rows-few c.args.circuit.now c.args.seed.now c.gates-i-end.ensures.lawful c.loop-i.i within c.loop-i.rows.items c.loop-i.invariant.rows,
+      c.gates-i-end.ensures.count,
+      c.len-number.ensures,
+    )
 
 pub index_mut-requires : goal.index_mut-requires
 index_mut-requires g c =
@@ -33,16 +40,19 @@ index_mut-requires g c =
 
 pub loop-i-preserved : goal.loop-i-preserved
 loop-i-preserved g c =
-    let label = c.in_ok-zero_label.ensures.zero_label in
-    let rows = c.in_ok-zero_label.ensures.rows in record {
+    let gate = c.garble_gate-zero_label.ensures in
+    let read = c.labels_read-first.ensures in
+    let number : c.len-number.result ≡ length c.loop-i.rows.items = c.len-number.ensures ∙ c.loop-i.rows.ok.0 in record {
       labels =
           table-next c.args.circuit.now c.args.seed.now c.gates-i-end.ensures.lawful c.loop-i.i c.gate-gate.result c.gate-gate.ensures
           c.loop-i.zero_labels.items c.loop-i.rows.items c.loop-i.invariant.labels c.loop-i.invariant.rows
-          c.in_ok-zero_label.zero_label (rw (c.offset-offset.ensures, c.deref.ensures.value) at label);
+          c.garble_gate-zero_label.result.0
+          (rw (read.first, read.second, c.offset-offset.ensures, number, c.deref.ensures.value) at gate.zero_label);
       rows =
           rows-next c.args.circuit.now c.args.seed.now c.gates-i-end.ensures.lawful c.loop-i.i c.gate-gate.result c.gate-gate.ensures
           c.loop-i.zero_labels.items c.loop-i.rows.items c.loop-i.invariant.labels c.loop-i.invariant.rows
-          c.garble_operation.new.rows.items (rw (c.offset-offset.ensures, c.deref.ensures.value) at rows);
+          c.push_pair.new.rows.items c.garble_gate-zero_label.result.1 c.in_ok-push_pair.ensures
+          (rw (read.first, read.second, c.offset-offset.ensures, number, c.deref.ensures.value) at gate.rows);
     }
 
 pub from_parts-requires : goal.from_parts-requires
