@@ -10,7 +10,8 @@ order : (i j : ℕ) → i ≢ j → (i < j) ⊎ (j < i)
 order i j h = grind arith
 
 -- gates at two places set two wires
-pub set-apart : (c : Netlist) → IsLawful c → (i j : ℕ) (g h : Gate) → slice_get c.gates i ≡ Some g → slice_get c.gates j ≡ Some h
+pub set-apart : (c : Netlist) → IsLawful c → (i j : ℕ) (g h : Gate) → slice_get c.gates i ≡ Some g
+    → slice_get c.gates j ≡ Some h
     → i ≢ j → g.set ≢ h.set
 set-apart c lawful i j g h at_i at_j apart same =
     elim (order i j apart) [
@@ -45,7 +46,8 @@ and_number-apart c i j g h at_i at_j and_i and_j apart same =
     ]
 
 -- an AND gate's number is below the number of AND gates
-pub and_number-lt : (c : Netlist) (i : ℕ) (g : Gate) → slice_get c.gates i ≡ Some g → is_and g.operation ≡ true → and_number c i < and_count c
+pub and_number-lt : (c : Netlist) (i : ℕ) (g : Gate) → slice_get c.gates i ≡ Some g
+    → is_and g.operation ≡ true → and_number c i < and_count c
 and_number-lt c i g at is =
     let more = and_number-and c i g at is in
     let most = sum_by-take-le (λ (x : Gate). cond (is_and x.operation) 1 0) c.gates (suc i) in omega (arith, more, most)

@@ -11,20 +11,21 @@ use Rattle.gc_circuit.proofs.Tables.{IsSetBefore-below}
 use Rattle.gc_label.specs.Seed.{offset_of, input_label_of}
 use Rattle.gc_half.specs.declared.garbling.RowPair.{RowPair}
 use Rattle.gc_half.specs.Hash.{hash}
-use Rattle.gc_half.specs.HalfGate.{generator_row, evaluator_row}
+use Rattle.gc_half.specs.OneGate.{first_read, second_read, gate_rows}
 use Rattle.gc_half.specs.Garbling.{rows_of, IsGarbling, GarblingParts, IsGarbled}
 use Rattle.gc_half.specs.Canonical.{zero_label_of}
 use Rattle.gc_half.proofs.GarblingLemmas.{IsGarbling-same}
 use Rattle.gc_half.proofs.CanonicalLemmas.{zero_label_of-input, zero_label_of-gate}
 use Rattle.gc_store.specs.declared.mark.Mark.{Mark}
 use Rattle.gc_store.specs.declared.mark.Mark.TheVariants as mark
-use Rattle.gc_store.specs.Task.{first_read, second_read, task_of, rows_by, sealed_rows}
+use Rattle.gc_store.specs.Task.{task_of, sealed_rows}
 use Rattle.gc_store.specs.Content.{State, Free, Claimed, Finished, Content, IsFinished, IsKnown, AllFinished, IsLawfulContent}
 use Rattle.gc_store.specs.Kept.{Tables, rows_at, finished_state, state_at, states_of, content_of, IsKept}
 use Rattle.gc_store.proofs.TableLemmas.{state_is, known_label}
 use Rattle.gc_store.proofs.StoreLemmas.{known_label_is}
 
-module _ (c : Netlist) (seed : List ℕ) (r : ℕ) (t : Tables) (kept : IsKept c seed r t) (all : AllFinished (content_of c seed t)) where
+module _ (c : Netlist) (seed : List ℕ) (r : ℕ) (t : Tables) (kept : IsKept c seed r t)
+    (all : AllFinished (content_of c seed t)) where
   -- a wire that is set is known
   known_set : (w : ℕ) → IsSet c w → IsKnown (content_of c seed t) w
   known_set w (inl input) = inl input
@@ -32,7 +33,8 @@ module _ (c : Netlist) (seed : List ℕ) (r : ℕ) (t : Tables) (kept : IsKept c
 
   -- the zero label in the table is the garbling's
   label_is : (w : ℕ) → IsSet c w → get_or t.zero_labels w 0 ≡ zero_label_of c seed w
-  label_is w set = known_label_is c seed r t kept w (IsSetBefore-below c kept.lawful.circuit (length c.gates) w set) (known_set w set)
+  label_is w set = known_label_is c seed r t kept w
+      (IsSetBefore-below c kept.lawful.circuit (length c.gates) w set) (known_set w set)
 
   -- the row pair of an AND gate is in the table
   finished_by_mark : (i : ℕ) (g : Gate) (m : Mark) (label : ℕ) (pair : Option RowPair) → slice_get c.gates i ≡ Some g
@@ -41,33 +43,40 @@ module _ (c : Netlist) (seed : List ℕ) (r : ℕ) (t : Tables) (kept : IsKept c
   finished_by_mark i g mark.Claimed label pair at is = cc
   finished_by_mark i g mark.Finished label pair at is = let e = ap (finished_state c t.zero_labels t.rows i) at in cc
 
-  rows_there : (i : ℕ) (g : Gate) → slice_get c.gates i ≡ Some g → rows_at t.rows (and_number c i) g.operation ≡ sealed_rows (task_of c seed i g)
+  rows_there : (i : ℕ) (g : Gate) → slice_get c.gates i ≡ Some g
+      → rows_at t.rows (and_number c i) g.operation ≡ sealed_rows (task_of c seed i g)
   rows_there i g at =
       let within = slice_get_within c.gates i g at in
       let f = all i within in
       let state = state_is c t i within in
-      let here : state_at c t.zero_labels t.rows i (get_or t.marks i mark.Free) ≡ Finished f.label f.rows = (let has = f.at in cc) in
-      finished_by_mark i g (get_or t.marks i mark.Free) f.label f.rows at here ∙ (kept.lawful.finished i g f.label f.rows at f.at).1
+      let here : state_at c t.zero_labels t.rows i (get_or t.marks i mark.Free) ≡ Finished f.label f.rows =
+      (let has = f.at in cc) in
+      finished_by_mark i g (get_or t.marks i mark.Free) f.label f.rows at here
+      ∙ (kept.lawful.finished i g f.label f.rows at f.at).1
 
   and_rows : (i : ℕ) (g : Gate) (a b : ℕ) → slice_get c.gates i ≡ Some g → g.operation ≡ And a b
-      → slice_get t.rows (and_number c i) ≡ Some (rows_of hash (offset_of seed) (zero_label_of c seed) (and_number c i) a b)
+      → slice_get t.rows (and_number c i) ≡ Some (rows_of hash (offset_of seed) (zero_label_of c seed)
+      (and_number c i) a b)
   and_rows i g a b at is =
       let k : ℕ = and_number c i in
       let zero : ℕ → ℕ = zero_label_of c seed in
-      let both : ℕ → ℕ → RowPair = λ x y.
-      record { generator = generator_row hash k (offset_of seed) x y; evaluator = evaluator_row hash k (offset_of seed) x y } in
-      let P : Operation → Type 0 = λ op. rows_at t.rows k op ≡ rows_by op (task_of c seed i g) in
-      subst P is (rows_there i g at) ∙ ap (λ op. Some (both (first_read zero op) (second_read zero op))) is
+      let P : Operation → Type 0 = λ op. rows_at t.rows k op ≡ gate_rows hash (offset_of seed) k op
+      (first_read zero op) (second_read zero op) in
+      subst P is (rows_there i g at)
 
   -- with the garbling's zero labels the rows are a garbling
   garbling_of_rows : IsGarbling hash (offset_of seed) c (input_label_of seed) (zero_label_of c seed) t.rows
   garbling_of_rows = record {
-    labels = record { inputs = zero_label_of-input c seed kept.lawful.circuit; gates = zero_label_of-gate c seed kept.lawful.circuit };
+    labels = record {
+      inputs = zero_label_of-input c seed kept.lawful.circuit;
+      gates = zero_label_of-gate c seed kept.lawful.circuit;
+    };
     and_gates = and_rows;
     row_count = kept.rows;
   }
 
-  no_label : (w : ℕ) → ¬ IsSet c w → (b : Bool) → slice_index_or t.known w false ≡ b → (if b then zero_label_of c seed w else 0) ≡ 0
+  no_label : (w : ℕ) → ¬ IsSet c w → (b : Bool) → slice_index_or t.known w false ≡ b
+      → (if b then zero_label_of c seed w else 0) ≡ 0
   no_label w not_set true known = absurd (not_set (set_of ((kept.tells_known w).0 known)))
     where
       set_of : IsKnown (content_of c seed t) w → IsSet c w
@@ -76,9 +85,11 @@ module _ (c : Netlist) (seed : List ℕ) (r : ℕ) (t : Tables) (kept : IsKept c
   no_label w not_set false known = refl
 
   -- the tables are the garbling
-  pub complete_garbling : IsGarbled c seed (record { zero_labels = t.zero_labels; rows = t.rows; outputs = output_wires c })
+  pub complete_garbling : IsGarbled c seed
+      (record { zero_labels = t.zero_labels; rows = t.rows; outputs = output_wires c })
   complete_garbling = record {
-    garbling = IsGarbling-same hash (offset_of seed) c kept.lawful.circuit (input_label_of seed) (zero_label_of c seed) (slice_index t.zero_labels) t.rows
+    garbling = IsGarbling-same hash (offset_of seed) c kept.lawful.circuit (input_label_of seed)
+        (zero_label_of c seed) (slice_index t.zero_labels) t.rows
         (λ w set. sym (label_is w set)) garbling_of_rows;
     wires = ap length kept.zero_labels ∙ length-map-range_with_len (known_label c seed t.known) 0 c.wires;
     not_set = λ w below not_set. ap (λ l. get_or l w 0) kept.zero_labels
@@ -88,8 +99,10 @@ module _ (c : Netlist) (seed : List ℕ) (r : ℕ) (t : Tables) (kept : IsKept c
   }
 
 -- the same, of a store's content and of the parts that were moved out
-pub garbling_is : (c : Netlist) (seed : List ℕ) (r : ℕ) (t : Tables) (now : Content) (parts : GarblingParts) → content_of c seed t ≡ now → IsKept c seed r t → AllFinished now
-    → parts ≡ record { zero_labels = t.zero_labels; rows = t.rows; outputs = output_wires c } → IsGarbled now.circuit now.seed parts
+pub garbling_is : (c : Netlist) (seed : List ℕ) (r : ℕ) (t : Tables) (now : Content)
+    (parts : GarblingParts) → content_of c seed t ≡ now → IsKept c seed r t → AllFinished now
+    → parts ≡ record { zero_labels = t.zero_labels; rows = t.rows; outputs = output_wires c }
+    → IsGarbled now.circuit now.seed parts
 garbling_is c seed r t now parts same kept all is =
     let P : Content → Type 0 = AllFinished in
     let Q : Content → Type 0 = λ x. IsGarbled x.circuit x.seed parts in

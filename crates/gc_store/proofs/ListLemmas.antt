@@ -35,7 +35,8 @@ count_by-set p xs i x y at same =
     omega (arith, step, old)
 
 -- and where the old one did not pass and the new one does
-pub count_by-set_more : {X : Type 0} (p : X → Bool) (xs : List X) (i : ℕ) (x y : X) → slice_get xs i ≡ Some x → p x ≡ false
+pub count_by-set_more : {X : Type 0} (p : X → Bool) (xs : List X) (i : ℕ) (x y : X)
+    → slice_get xs i ≡ Some x → p x ≡ false
     → p y ≡ true → count_by p (set xs i y) ≡ count_by p xs + 1
 count_by-set_more p xs i x y at fails passes =
     let step = sum_by-set (λ z. one_if (p z)) xs i y x (slice_get_within xs i x at) in

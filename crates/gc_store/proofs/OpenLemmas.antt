@@ -39,16 +39,19 @@ opened_tables c seed no_rows = record {
 }
 
 -- every gate is free
-opened_states : (c : Netlist) (labels : List ℕ) (rows : List RowPair) → states_of c labels rows (replicate (length c.gates) mark.Free) ≡ replicate (length c.gates) Free
+opened_states : (c : Netlist) (labels : List ℕ) (rows : List RowPair)
+    → states_of c labels rows (replicate (length c.gates) mark.Free) ≡ replicate (length c.gates) Free
 unfolding states_of
 opened_states c labels rows =
     sym
-    (fill_by_all (λ k. state_at c labels rows k (get_or (replicate (length c.gates) mark.Free) k mark.Free)) (replicate (length c.gates) Free) (length c.gates) Free
+    (fill_by_all (λ k. state_at c labels rows k
+    (get_or (replicate (length c.gates) mark.Free) k mark.Free)) (replicate (length c.gates) Free) (length c.gates) Free
     (length-replicate (length c.gates) Free)
     (λ k below. get_or-replicate (length c.gates) k Free Free below
     ∙ ap (state_at c labels rows k) (sym (get_or-replicate (length c.gates) k mark.Free mark.Free below))))
 
-pub opened_content : (c : Netlist) (seed : List ℕ) (no_rows : RowPair) → content_of c seed (opened_tables c seed no_rows) ≡ opened c seed
+pub opened_content : (c : Netlist) (seed : List ℕ) (no_rows : RowPair)
+    → content_of c seed (opened_tables c seed no_rows) ≡ opened c seed
 opened_content c seed no_rows = ap (λ states. record (opened c seed) { states = states }) (opened_states c _ _)
 
 slice_get-replicate : {X : Type 0} (n i : ℕ) (x y : X) → slice_get (replicate n x) i ≡ Some y → y ≡ x
@@ -81,17 +84,20 @@ false_past (suc k) (suc w) = false_past k w
 known_input : (c : Netlist) (w : ℕ) → w < input_wires c → get_or (inputs_known c) w false ≡ true
 known_input c w input =
     let len = length-replicate (input_wires c) true in
-    get_or_append_left (replicate (input_wires c) true) (replicate (c.wires - input_wires c) false) false w (omega (arith, len, input))
+    get_or_append_left (replicate (input_wires c) true) (replicate (c.wires - input_wires c) false) false w
+    (omega (arith, len, input))
     ∙ get_or-replicate (input_wires c) w true false input
 
 -- and no other
 not_known : (c : Netlist) (w : ℕ) → input_wires c ≤ w → get_or (inputs_known c) w false ≡ false
 not_known c w past =
-    get_or-append_right (replicate (input_wires c) true) (replicate (c.wires - input_wires c) false) (input_wires c) w false
+    get_or-append_right (replicate (input_wires c) true) (replicate (c.wires - input_wires c) false)
+    (input_wires c) w false
     (length-replicate (input_wires c) true) past
     ∙ false_past (c.wires - input_wires c) (w - input_wires c)
 
-tells_known : (c : Netlist) (seed : List ℕ) (w : ℕ) → (w < input_wires c) ⊎ (input_wires c ≤ w) → IsTrue (get_or (inputs_known c) w false) ↔ IsKnown (opened c seed) w
+tells_known : (c : Netlist) (seed : List ℕ) (w : ℕ) → (w < input_wires c) ⊎ (input_wires c ≤ w)
+    → IsTrue (get_or (inputs_known c) w false) ↔ IsKnown (opened c seed) w
 tells_known c seed w (inl input) = (λ is. inl input, λ known. known_input c w input)
 tells_known c seed w (inr past) = (λ is. let e = not_known c w past in let z : ⊥ = cc in absurd z, back)
   where
@@ -99,7 +105,8 @@ tells_known c seed w (inr past) = (λ is. let e = not_known c w past in let z : 
     back (inl input) = absurd (omega arith)
     back (inr (i, by, f)) = absurd (none_finished c seed i f)
 
-label_at_first : (c : Netlist) → IsLawful c → (seed : List ℕ) (w : ℕ) → (w < input_wires c) ⊎ (input_wires c ≤ w) → input_zero c seed w ≡ known_label c seed (inputs_known c) w
+label_at_first : (c : Netlist) → IsLawful c → (seed : List ℕ) (w : ℕ)
+    → (w < input_wires c) ⊎ (input_wires c ≤ w) → input_zero c seed w ≡ known_label c seed (inputs_known c) w
 label_at_first c lawful seed w (inl input) =
     input_zero-input c seed w input ∙ sym (zero_label_of-input c seed lawful w input)
     ∙ ap (λ b. if b then zero_label_of c seed w else 0) (sym (known_input c w input))
@@ -108,7 +115,8 @@ label_at_first c lawful seed w (inr past) =
     ∙ ap (λ b. if b then zero_label_of c seed w else 0) (sym (not_known c w past))
 
 -- a new store keeps what stores keep
-pub opened_kept : (c : Netlist) → IsLawful c → (seed : List ℕ) (r : ℕ) (no_rows : RowPair) → r ≡ offset_of seed → IsKept c seed r (opened_tables c seed no_rows)
+pub opened_kept : (c : Netlist) → IsLawful c → (seed : List ℕ) (r : ℕ) (no_rows : RowPair)
+    → r ≡ offset_of seed → IsKept c seed r (opened_tables c seed no_rows)
 opened_kept c lawful seed r no_rows offset =
     let P : Content → Type 0 = IsLawfulContent in
     let content = opened_content c seed no_rows in
@@ -118,15 +126,18 @@ opened_kept c lawful seed r no_rows offset =
       offset_is = offset;
       marks = length-replicate (length c.gates) mark.Free;
       known = length-append (replicate (input_wires c) true) (replicate (c.wires - input_wires c) false)
-          ∙ (let a = length-replicate (input_wires c) true in let b = length-replicate (c.wires - input_wires c) false in let fits = lawful.inputs_fit in omega (arith, a, b, fits));
+          ∙ (let a = length-replicate (input_wires c) true in let b = length-replicate
+          (c.wires - input_wires c) false in let fits = lawful.inputs_fit in omega (arith, a, b, fits));
       tells_known = λ w. subst (Q w) (sym content) (tells_known c seed w (order w (input_wires c)));
-      zero_labels = fill_by_all (known_label c seed (inputs_known c)) (map (input_zero c seed) (range_with_len 0 c.wires)) c.wires 0
+      zero_labels = fill_by_all (known_label c seed (inputs_known c))
+          (map (input_zero c seed) (range_with_len 0 c.wires)) c.wires 0
           (length-map-range_with_len (input_zero c seed) 0 c.wires)
           (λ w below. get_or-map-range_with_len (input_zero c seed) 0 c.wires w w 0 below (omega arith)
           ∙ label_at_first c lawful seed w (order w (input_wires c)));
       and_numbers = refl;
       rows = length-replicate (and_count c) no_rows;
-      finished = let none = count_by-replicate is_finished (length c.gates) Free refl in sym (ap (λ (x : Content). count_by is_finished x.states) content ∙ none);
+      finished = let none = count_by-replicate is_finished (length c.gates) Free refl in
+          sym (ap (λ (x : Content). count_by is_finished x.states) content ∙ none);
       first_free = omega arith;
       none_free = λ i below. absurd (omega arith);
     }
@@ -146,57 +157,40 @@ new_tables marks known labels numbers rows = record {
 }
 
 -- the lists are those that a store begins with
-pub record AreOpened (c : Netlist) (seed : List ℕ) (no_rows : RowPair) (marks : List Mark) (known : List Bool) (labels numbers : List ℕ) (rows : List RowPair) : Type 0 where
+pub record AreOpened (c : Netlist) (seed : List ℕ) (no_rows : RowPair) (marks : List Mark)
+    (known : List Bool) (labels numbers : List ℕ) (rows : List RowPair) : Type 0 where
   pub marks_are : marks ≡ replicate (length c.gates) mark.Free
   pub known_are : known ≡ inputs_known c
   pub labels_are : labels ≡ map (input_zero c seed) (range_with_len 0 c.wires)
   pub numbers_are : numbers ≡ map (and_number c) (range_with_len 0 (length c.gates))
   pub rows_are : rows ≡ replicate (and_count c) no_rows
 
-tables_are : (c : Netlist) (seed : List ℕ) (no_rows : RowPair) (marks : List Mark) (known : List Bool) (labels numbers : List ℕ) (rows : List RowPair)
-    → AreOpened c seed no_rows marks known labels numbers rows → new_tables marks known labels numbers rows ≡ opened_tables c seed no_rows
+tables_are : (c : Netlist) (seed : List ℕ) (no_rows : RowPair) (marks : List Mark) (known : List Bool)
+    (labels numbers : List ℕ) (rows : List RowPair)
+    → AreOpened c seed no_rows marks known labels numbers rows → new_tables marks known labels numbers rows
+    ≡ opened_tables c seed no_rows
 tables_are c seed no_rows marks known labels numbers rows are =
     ap (λ x. new_tables x known labels numbers rows) are.marks_are
     ∙ ap (λ x. new_tables (opened_tables c seed no_rows).marks x labels numbers rows) are.known_are
     ∙ ap (λ x. new_tables (opened_tables c seed no_rows).marks (inputs_known c) x numbers rows) are.labels_are
-    ∙ ap (λ x. new_tables (opened_tables c seed no_rows).marks (inputs_known c) (opened_tables c seed no_rows).zero_labels x rows) are.numbers_are
+    ∙ ap (λ x. new_tables (opened_tables c seed no_rows).marks (inputs_known c)
+    (opened_tables c seed no_rows).zero_labels x rows) are.numbers_are
     ∙ ap (λ x. record (opened_tables c seed no_rows) { rows = x }) are.rows_are
 
 -- a store opened with them keeps what stores keep,
-pub opened_kept_as : (c : Netlist) → IsLawful c → (seed : List ℕ) (r : ℕ) (no_rows : RowPair) (marks : List Mark) (known : List Bool) (labels numbers : List ℕ) (rows : List RowPair)
-    → r ≡ offset_of seed → AreOpened c seed no_rows marks known labels numbers rows → IsKept c seed r (new_tables marks known labels numbers rows)
+pub opened_kept_as : (c : Netlist) → IsLawful c → (seed : List ℕ) (r : ℕ) (no_rows : RowPair)
+    (marks : List Mark) (known : List Bool) (labels numbers : List ℕ) (rows : List RowPair)
+    → r ≡ offset_of seed → AreOpened c seed no_rows marks known labels numbers rows
+    → IsKept c seed r (new_tables marks known labels numbers rows)
 opened_kept_as c lawful seed r no_rows marks known labels numbers rows offset are =
     let P : Tables → Type 0 = λ x. IsKept c seed r x in
-    subst P (sym (tables_are c seed no_rows marks known labels numbers rows are)) (opened_kept c lawful seed r no_rows offset)
+    subst P (sym (tables_are c seed no_rows marks known labels numbers rows are))
+    (opened_kept c lawful seed r no_rows offset)
 
 -- and has the content of a new store
-pub opened_content_as : (c : Netlist) (seed : List ℕ) (no_rows : RowPair) (marks : List Mark) (known : List Bool) (labels numbers : List ℕ) (rows : List RowPair)
-    → AreOpened c seed no_rows marks known labels numbers rows → content_of c seed (new_tables marks known labels numbers rows) ≡ opened c seed
+pub opened_content_as : (c : Netlist) (seed : List ℕ) (no_rows : RowPair) (marks : List Mark)
+    (known : List Bool) (labels numbers : List ℕ) (rows : List RowPair)
+    → AreOpened c seed no_rows marks known labels numbers rows
+    → content_of c seed (new_tables marks known labels numbers rows) ≡ opened c seed
 opened_content_as c seed no_rows marks known labels numbers rows are =
     ap (content_of c seed) (tables_are c seed no_rows marks known labels numbers rows are) ∙ opened_content c seed no_rows
-
--- the labels of the input wires, and 0 on the other wires
-pub labels_filled : (c : Netlist) → IsLawful c → (seed filled rest last : List ℕ) (n m : ℕ) → n ≡ input_wires c → m ≡ c.wires → filled ≡ map (input_label_of seed) (range_with_len 0 n)
-    → last ≡ take m (take n (filled ++ rest)) ++ replicate (m - n) 0 → last ≡ map (input_zero c seed) (range_with_len 0 c.wires)
-labels_filled c lawful seed filled rest last n m inputs wires is made =
-    fill_by_all (input_zero c seed) last c.wires 0 (ap length joined ∙ length-append filled (replicate (c.wires - n) 0) ∙ (let nought : ℕ = 0 in let z = length-replicate (c.wires - n) nought in omega (arith, z, len, fits)))
-    (λ w below. ap (λ l. get_or l w 0) joined ∙ by_order w below (order w n))
-  where
-    fits : n ≤ c.wires
-    fits = let f = lawful.inputs_fit in omega arith
-
-    len : length filled ≡ n
-    len = ap length is ∙ length-map-range_with_len (input_label_of seed) 0 n
-
-    joined : last ≡ filled ++ replicate (c.wires - n) 0
-    joined = let l = len in let f = fits in grind (arith, common_steps)
-
-    by_order : (w : ℕ) → w < c.wires → (w < n) ⊎ (n ≤ w) → get_or (filled ++ replicate (c.wires - n) 0) w 0 ≡ input_zero c seed w
-    by_order w below (inl input) =
-        get_or_append_left filled (replicate (c.wires - n) 0) 0 w (let l = len in omega arith)
-        ∙ ap (λ l. get_or l w 0) is ∙ get_or-map-range_with_len (input_label_of seed) 0 n w w 0 input (omega arith)
-        ∙ sym (input_zero-input c seed w (omega arith))
-    by_order w below (inr past) =
-        get_or-append_right filled (replicate (c.wires - n) 0) n w 0 len past
-        ∙ get_or-replicate (c.wires - n) (w - n) 0 0 (omega arith)
-        ∙ sym (input_zero-other c seed w (λ input. let none : ⊥ = absurd (omega arith) in none))

@@ -16,55 +16,50 @@ use Rattle.gc_half.specs.Garbling.{zero_of}
 use Rattle.gc_half.specs.Canonical.{zero_label_of}
 use Rattle.gc_half.proofs.CanonicalLemmas.{zero_label_of-gate}
 use Rattle.gc_store.specs.declared.task.Task.{Task}
-use Rattle.gc_store.specs.Task.{first_read, second_read, task_of, zero_label_by, rows_by, sealed_zero_label, sealed_rows}
+use Rattle.gc_half.specs.OneGate.{gate_rows}
+use Rattle.gc_store.specs.Task.{task_of, sealed_zero_label, sealed_rows}
 use Rattle.gc_store.specs.Content.{State, Free, Claimed, Finished, Content, is_finished, has_rows, IsClaimed, IsFinished, IsKnown, MayGoNext, AllFinished, IsLawfulContent}
 use Rattle.gc_store.specs.Step.{with_state, with_sealed, IsOwnTask}
 use Rattle.gc_store.proofs.ListLemmas.{slice_get-set_other, slice_get-set_same, count_by-set, count_by-set_more, count_by-all, count_by-all_back}
 
 -- ---- what sealing a store's task gives
 
-zero_label_by-own : (c : Netlist) (seed : List ℕ) (i : ℕ) (g : Gate) (op : Operation) → g.operation ≡ op
-    → zero_label_by op (task_of c seed i g) ≡ zero_of hash (offset_of seed) (zero_label_of c seed) (and_number c i) op
-zero_label_by-own c seed i g (Xor a b) is =
-    ap (λ x. first_read (zero_label_of c seed) x ⊕ second_read (zero_label_of c seed) x) is
-zero_label_by-own c seed i g (And a b) is =
-    ap (λ x. and_zero hash (and_number c i) (offset_of seed) (first_read (zero_label_of c seed) x) (second_read (zero_label_of c seed) x)) is
-zero_label_by-own c seed i g (Inv a) is = ap (λ x. first_read (zero_label_of c seed) x ⊕ offset_of seed) is
-zero_label_by-own c seed i g (Eq v) is = refl
-zero_label_by-own c seed i g (Eqw a) is = ap (first_read (zero_label_of c seed)) is
-
 -- sealing the task of a gate gives the garbling's zero label of the wire that it sets
 pub sealed_zero_label_is : (c : Netlist) → IsLawful c → (seed : List ℕ) (i : ℕ) (g : Gate) → slice_get c.gates i ≡ Some g
     → sealed_zero_label (task_of c seed i g) ≡ zero_label_of c seed g.set
-sealed_zero_label_is c lawful seed i g at =
-    zero_label_by-own c seed i g g.operation refl ∙ sym (zero_label_of-gate c seed lawful i g at)
+sealed_zero_label_is c lawful seed i g at = sym (zero_label_of-gate c seed lawful i g at)
 
 -- an operation has rows where it is AND
-has_rows-rows_by : (t : Task) (label : ℕ) (op : Operation) → has_rows (Finished label (rows_by op t)) ≡ is_and op
-has_rows-rows_by t label (Xor a b) = refl
-has_rows-rows_by t label (And a b) = refl
-has_rows-rows_by t label (Inv a) = refl
-has_rows-rows_by t label (Eq v) = refl
-has_rows-rows_by t label (Eqw a) = refl
+has_rows-gate_rows : (r k a b label : ℕ) (op : Operation)
+    → has_rows (Finished label (gate_rows hash r k op a b)) ≡ is_and op
+has_rows-gate_rows r k a b label (Xor u v) = refl
+has_rows-gate_rows r k a b label (And u v) = refl
+has_rows-gate_rows r k a b label (Inv u) = refl
+has_rows-gate_rows r k a b label (Eq bit) = refl
+has_rows-gate_rows r k a b label (Eqw u) = refl
 
 -- ---- a gate in another state
 
 -- a gate is one gate
-pub gate-same : (c : Netlist) (i j : ℕ) (g h : Gate) → slice_get c.gates i ≡ Some g → slice_get c.gates j ≡ Some h → i ≡ j → g ≡ h
+pub gate-same : (c : Netlist) (i j : ℕ) (g h : Gate) → slice_get c.gates i ≡ Some g
+    → slice_get c.gates j ≡ Some h → i ≡ j → g ≡ h
 gate-same c i j g h at_i at_j e = let same = ap (slice_get c.gates) e in cc
 
-module _ (s : Content) (i : ℕ) (was : State) (at : slice_get s.states i ≡ Some was) (not_finished : is_finished was ≡ false) where
+module _ (s : Content) (i : ℕ) (was : State) (at : slice_get s.states i ≡ Some was)
+    (not_finished : is_finished was ≡ false) where
   inside : i < length s.states
   inside = slice_get_within s.states i was at
 
   -- what was finished is finished
-  pub finished_stays : (state : State) (j : ℕ) → IsFinished s j → slice_get (set s.states i state) j ≡ slice_get s.states j
+  pub finished_stays : (state : State) (j : ℕ) → IsFinished s j → slice_get (set s.states i state) j
+      ≡ slice_get s.states j
   finished_stays state j f =
       slice_get-set_other s.states i j state
       (λ e. let same = ap (slice_get s.states) e in let here : Finished f.label f.rows ≡ was = (let b = f.at in cc) in
       let differ : true ≡ false = ap is_finished here ∙ not_finished in cc)
 
-  pub known_stays : (rows : ℕ) (state : State) (w : ℕ) → IsKnown s w → IsKnown (record s { states = set s.states i state; rows = rows }) w
+  pub known_stays : (rows : ℕ) (state : State) (w : ℕ) → IsKnown s w
+      → IsKnown (record s { states = set s.states i state; rows = rows }) w
   known_stays rows state w (inl input) = inl input
   known_stays rows state w (inr (j, by, f)) =
       inr (j, by, record { label = f.label; rows = f.rows; at = finished_stays state j f ∙ f.at })
@@ -72,7 +67,8 @@ module _ (s : Content) (i : ℕ) (was : State) (at : slice_get s.states i ≡ So
 -- ---- claiming
 
 module _ (s : Content) (i : ℕ) (next : MayGoNext s i) where
-  not_finished_later : (j : ℕ) (label : ℕ) (rows : Option RowPair) → slice_get (set s.states i Claimed) j ≡ Some (Finished label rows)
+  not_finished_later : (j : ℕ) (label : ℕ) (rows : Option RowPair) → slice_get (set s.states i Claimed) j
+      ≡ Some (Finished label rows)
       → slice_get s.states j ≡ Some (Finished label rows)
   not_finished_later j label rows h =
       elim (cases_eq j i) [
@@ -91,7 +87,8 @@ module _ (s : Content) (i : ℕ) (next : MayGoNext s i) where
       inr (j, by, record { label = f.label; rows = f.rows; at = not_finished_later j f.label f.rows f.at })
 
   reads-claim : IsLawfulContent s → (j : ℕ) (g : Gate) (state : State) → slice_get s.circuit.gates j ≡ Some g
-      → slice_get (set s.states i Claimed) j ≡ Some state → state ≢ Free → EachRead (IsKnown (with_state s i Claimed)) g.operation
+      → slice_get (set s.states i Claimed) j ≡ Some state → state ≢ Free
+      → EachRead (IsKnown (with_state s i Claimed)) g.operation
   reads-claim lawful j g state at has busy =
       EachRead-map (IsKnown s) (IsKnown (with_state s i Claimed)) g.operation known-claim
       (elim (cases_eq j i) [
@@ -114,7 +111,8 @@ module _ (s : Content) (i : ℕ) (next : MayGoNext s i) where
 
 -- ---- finishing
 
-module _ (s : Content) (lawful : IsLawfulContent s) (i : ℕ) (g : Gate) (at : slice_get s.circuit.gates i ≡ Some g) (claimed : IsClaimed s i) where
+module _ (s : Content) (lawful : IsLawfulContent s) (i : ℕ) (g : Gate)
+    (at : slice_get s.circuit.gates i ≡ Some g) (claimed : IsClaimed s i) where
   abbrev task : Task
   task = task_of s.circuit s.seed i g
 
@@ -128,7 +126,8 @@ module _ (s : Content) (lawful : IsLawfulContent s) (i : ℕ) (g : Gate) (at : s
   here = slice_get-set_same s.states i done (slice_get_within s.states i Claimed claimed)
 
   pub known-finish : (w : ℕ) → IsKnown s w → IsKnown (with_sealed s (task_of s.circuit s.seed i g)) w
-  known-finish w known = known_stays s i Claimed claimed refl (with_sealed s (task_of s.circuit s.seed i g)).rows done w known
+  known-finish w known = known_stays s i Claimed claimed refl
+      (with_sealed s (task_of s.circuit s.seed i g)).rows done w known
 
   pub known-finish_set : IsKnown (with_sealed s (task_of s.circuit s.seed i g)) g.set
   known-finish_set = inr (i, record { gate = g; at = at; wire = refl }, record { label = _; rows = _; at = here })
@@ -138,7 +137,11 @@ module _ (s : Content) (lawful : IsLawfulContent s) (i : ℕ) (g : Gate) (at : s
   known-finish_back w other (inr (j, by, f)) =
       elim (cases_eq j i) [
         | inl e ↦ absurd (other (sym by.wire ∙ ap (λ (x : Gate). x.set) (gate-same s.circuit j i by.gate g by.at at e)))
-        | inr apart ↦ inr (j, by, record { label = f.label; rows = f.rows; at = sym (slice_get-set_other s.states i j done apart) ∙ f.at })
+        | inr apart ↦ inr (
+          j,
+          by,
+          record { label = f.label; rows = f.rows; at = sym (slice_get-set_other s.states i j done apart) ∙ f.at },
+        )
       ]
 
   finished-finish : (j : ℕ) (h : Gate) (label : ℕ) (rows : Option RowPair) → slice_get s.circuit.gates j ≡ Some h
@@ -151,14 +154,16 @@ module _ (s : Content) (lawful : IsLawfulContent s) (i : ℕ) (g : Gate) (at : s
             let first : label ≡ sealed_zero_label task = (let z = here in cc) in
             let second : rows ≡ sealed_rows task = (let z = here in cc) in
             let gates : g ≡ h = gate-same s.circuit i j g h at at_j (sym e) in (
-              first ∙ sealed_zero_label_is s.circuit lawful.circuit s.seed i g at ∙ ap (λ (x : Gate). zero_label_of s.circuit s.seed x.set) gates,
+              first ∙ sealed_zero_label_is s.circuit lawful.circuit s.seed i g at
+                  ∙ ap (λ (x : Gate). zero_label_of s.circuit s.seed x.set) gates,
               second ∙ ap (λ (x : Gate). sealed_rows (task_of s.circuit s.seed i x)) gates
                   ∙ ap (λ k. sealed_rows (task_of s.circuit s.seed k h)) (sym e),
             )
         | inr apart ↦ lawful.finished j h label rows at_j (sym (slice_get-set_other s.states i j done apart) ∙ has)
       ]
 
-  reads-finish : (j : ℕ) (h : Gate) (state : State) → slice_get s.circuit.gates j ≡ Some h → slice_get (set s.states i done) j ≡ Some state
+  reads-finish : (j : ℕ) (h : Gate) (state : State) → slice_get s.circuit.gates j ≡ Some h
+      → slice_get (set s.states i done) j ≡ Some state
       → state ≢ Free → EachRead (IsKnown (with_sealed s (task_of s.circuit s.seed i g))) h.operation
   reads-finish j h state at_j has busy =
       EachRead-map (IsKnown s) (IsKnown (with_sealed s (task_of s.circuit s.seed i g))) h.operation known-finish
@@ -167,12 +172,15 @@ module _ (s : Content) (lawful : IsLawfulContent s) (i : ℕ) (g : Gate) (at : s
         | inr apart ↦ lawful.reads j h state at_j (sym (slice_get-set_other s.states i j done apart) ∙ has) busy
       ])
 
-  rows-finish : (b : Bool) → is_and g.operation ≡ b → s.rows + (if b then 2 else 0) ≡ 2 * count_by has_rows (set s.states i done)
+  rows-finish : (b : Bool) → is_and g.operation ≡ b → s.rows + (if b then 2 else 0) ≡ 2 * count_by has_rows
+      (set s.states i done)
   rows-finish true is =
-      let more = count_by-set_more has_rows s.states i Claimed done claimed refl (has_rows-rows_by (task_of s.circuit s.seed i g) (sealed_zero_label (task_of s.circuit s.seed i g)) g.operation ∙ is) in
+      let more = count_by-set_more has_rows s.states i Claimed done claimed refl
+      (has_rows-gate_rows _ _ _ _ (sealed_zero_label (task_of s.circuit s.seed i g)) g.operation ∙ is) in
       let before = lawful.rows in omega (arith, more, before)
   rows-finish false is =
-      let same = count_by-set has_rows s.states i Claimed done claimed (sym (has_rows-rows_by (task_of s.circuit s.seed i g) (sealed_zero_label (task_of s.circuit s.seed i g)) g.operation ∙ is)) in
+      let same = count_by-set has_rows s.states i Claimed done claimed
+      (sym (has_rows-gate_rows _ _ _ _ (sealed_zero_label (task_of s.circuit s.seed i g)) g.operation ∙ is)) in
       let before = lawful.rows in omega (arith, same, before)
 
   -- finishing a claimed gate with what sealing its task gives keeps a content lawful
@@ -188,19 +196,23 @@ module _ (s : Content) (lawful : IsLawfulContent s) (i : ℕ) (g : Gate) (at : s
 
 -- ---- every gate finished
 
-finished_from : (s : Content) (i : ℕ) (state : State) → slice_get s.states i ≡ Some state → is_finished state ≡ true → IsFinished s i
+finished_from : (s : Content) (i : ℕ) (state : State) → slice_get s.states i ≡ Some state
+    → is_finished state ≡ true → IsFinished s i
 finished_from s i Free at is = cc
 finished_from s i Claimed at is = cc
 finished_from s i (Finished label rows) at is = record { label = label; rows = rows; at = at }
 
 -- every gate is finished where as many are as there are gates
-pub all_finished : (s : Content) → IsLawfulContent s → count_by is_finished s.states ≡ length s.circuit.gates → AllFinished s
+pub all_finished : (s : Content) → IsLawfulContent s
+    → count_by is_finished s.states ≡ length s.circuit.gates → AllFinished s
 all_finished s lawful count i within =
     let inside : i < length s.states = (let e = lawful.states in omega arith) in
     let at = slice_get-get_or s.states i Free inside in
-    finished_from s i (get_or s.states i Free) at (count_by-all_back is_finished s.states (count ∙ sym lawful.states) i (get_or s.states i Free) at)
+    finished_from s i (get_or s.states i Free) at
+    (count_by-all_back is_finished s.states (count ∙ sym lawful.states) i (get_or s.states i Free) at)
 
-pub all_finished_back : (s : Content) → IsLawfulContent s → AllFinished s → count_by is_finished s.states ≡ length s.circuit.gates
+pub all_finished_back : (s : Content) → IsLawfulContent s → AllFinished s
+    → count_by is_finished s.states ≡ length s.circuit.gates
 all_finished_back s lawful all =
     count_by-all is_finished s.states
     (λ i state at. let f = all i (let n = slice_get_within s.states i state at in omega (arith, n, lawful.states)) in

@@ -20,7 +20,9 @@ use Rattle.gc_store.specs.declared.mark.Mark.{Mark}
 use Rattle.gc_store.specs.declared.mark.Mark.TheVariants as mark
 use Rattle.gc_store.specs.declared.task.Task.{Task}
 use Rattle.gc_store.specs.declared.tally.TheConstants.{MAX_TALLIES}
-use Rattle.gc_store.specs.Task.{first_read, second_read, task_of, rows_by, sealed_zero_label, sealed_rows}
+use Rattle.gc_half.specs.Hash.{hash}
+use Rattle.gc_half.specs.OneGate.{gate_rows}
+use Rattle.gc_store.specs.Task.{task_of, sealed_zero_label, sealed_rows}
 use Rattle.gc_store.specs.Content.{State, Free, Claimed, Finished, Content, is_finished, has_rows, IsClaimed, IsFinished, IsKnown, MayGoNext, AllFinished, IsLawfulContent}
 use Rattle.gc_store.specs.Step.{with_state, with_sealed, IsOwnTask, Claims}
 use Rattle.gc_store.specs.Kept.{Tables, rows_at, finished_state, state_at, states_of, content_of, IsKept, ReadsKnown}
@@ -32,23 +34,29 @@ use Rattle.gc_store.proofs.StepLemmas.{sealed_zero_label_is, known-claim, known-
 
 -- the state of gate i
 pub state_is : (c : Netlist) (t : Tables) (i : ℕ) → i < length c.gates
-    → slice_get (states_of c t.zero_labels t.rows t.marks) i ≡ Some (state_at c t.zero_labels t.rows i (get_or t.marks i mark.Free))
+    → slice_get (states_of c t.zero_labels t.rows t.marks) i ≡ Some
+    (state_at c t.zero_labels t.rows i (get_or t.marks i mark.Free))
 unfolding states_of
-state_is c t i within = slice_get-table (λ k. state_at c t.zero_labels t.rows k (get_or t.marks k mark.Free)) (length c.gates) i within
+state_is c t i within =
+    slice_get-table (λ k. state_at c t.zero_labels t.rows k (get_or t.marks k mark.Free)) (length c.gates) i within
 
 -- the tables once gate i is claimed
 abbrev pub claimed_tables : Tables → ℕ → Tables
 claimed_tables t i = record t { marks = set t.marks i mark.Claimed }
 
 states_of-claim : (c : Netlist) (t : Tables) (i : ℕ) → i < length c.gates → length t.marks ≡ length c.gates
-    → states_of c t.zero_labels t.rows (set t.marks i mark.Claimed) ≡ set (states_of c t.zero_labels t.rows t.marks) i Claimed
+    → states_of c t.zero_labels t.rows (set t.marks i mark.Claimed) ≡ set
+    (states_of c t.zero_labels t.rows t.marks) i Claimed
 unfolding states_of
 states_of-claim c t i within marks =
     let inside : i < length t.marks = omega arith in
     sym
-    (set-table_is (λ k. state_at c t.zero_labels t.rows k (get_or t.marks k mark.Free)) (λ k. state_at c t.zero_labels t.rows k (get_or (set t.marks i mark.Claimed) k mark.Free))
-    (length c.gates) i Claimed within (ap (state_at c t.zero_labels t.rows i) (get_or-set_same t.marks i mark.Claimed mark.Free inside))
-    (λ k below other. ap (state_at c t.zero_labels t.rows k) (sym (get_or-set_other t.marks i k mark.Claimed mark.Free other))))
+    (set-table_is (λ k. state_at c t.zero_labels t.rows k (get_or t.marks k mark.Free))
+    (λ k. state_at c t.zero_labels t.rows k (get_or (set t.marks i mark.Claimed) k mark.Free))
+    (length c.gates) i Claimed within
+    (ap (state_at c t.zero_labels t.rows i) (get_or-set_same t.marks i mark.Claimed mark.Free inside))
+    (λ k below other. ap (state_at c t.zero_labels t.rows k)
+    (sym (get_or-set_other t.marks i k mark.Claimed mark.Free other))))
 
 -- rows with a row pair put in at an AND number, if there is one
 abbrev pub rows_set : List RowPair → ℕ → Option RowPair → List RowPair
@@ -72,32 +80,36 @@ finished_tables t i w k label pair = record t {
 }
 
 -- an AND gate alone has a row pair
-pub is_some-rows_by : (t : Task) (op : Operation) → is_some (rows_by op t) ≡ is_and op
-is_some-rows_by t (Xor a b) = refl
-is_some-rows_by t (And a b) = refl
-is_some-rows_by t (Inv a) = refl
-is_some-rows_by t (Eq v) = refl
-is_some-rows_by t (Eqw a) = refl
+pub is_some-gate_rows : (r k a b : ℕ) (op : Operation) → is_some (gate_rows hash r k op a b) ≡ is_and op
+is_some-gate_rows r k a b (Xor u v) = refl
+is_some-gate_rows r k a b (And u v) = refl
+is_some-gate_rows r k a b (Inv u) = refl
+is_some-gate_rows r k a b (Eq bit) = refl
+is_some-gate_rows r k a b (Eqw u) = refl
 
 -- the row pair put in is there
 rows_at-set_same : (rows : List RowPair) (k : ℕ) (op : Operation) (pair : Option RowPair) → is_some pair ≡ is_and op
     → (is_and op ≡ true → k < length rows) → rows_at (rows_set rows k pair) k op ≡ pair
 rows_at-set_same rows k op None same within = ap (λ b. if b then slice_get rows k else None) (sym same)
 rows_at-set_same rows k op (Some pair) same within =
-    ap (λ b. if b then slice_get (set rows k pair) k else None) (sym same) ∙ slice_get-set_same rows k pair (within (sym same))
+    ap (λ b. if b then slice_get (set rows k pair) k else None) (sym same)
+    ∙ slice_get-set_same rows k pair (within (sym same))
 
 -- and others are as they were
-rows_at-set_other : (rows : List RowPair) (k j : ℕ) (op other : Operation) (pair : Option RowPair) → is_some pair ≡ is_and op
+rows_at-set_other : (rows : List RowPair) (k j : ℕ) (op other : Operation) (pair : Option RowPair)
+    → is_some pair ≡ is_and op
     → (is_and op ≡ true → is_and other ≡ true → j ≢ k) → rows_at (rows_set rows k pair) j other ≡ rows_at rows j other
 rows_at-set_other rows k j op other None same apart = refl
 rows_at-set_other rows k j op other (Some pair) same apart = by_and (is_and other) refl
   where
-    by_and : (b : Bool) → is_and other ≡ b → (if b then slice_get (set rows k pair) j else None) ≡ (if b then slice_get rows j else None)
+    by_and : (b : Bool) → is_and other ≡ b → (if b then slice_get (set rows k pair) j else None) ≡
+        (if b then slice_get rows j else None)
     by_and true is = slice_get-set_other rows k j pair (apart (sym same) is)
     by_and false is = refl
 
 module _ (c : Netlist) (lawful : IsLawful c) (t : Tables) (i : ℕ) (g : Gate) (at : slice_get c.gates i ≡ Some g)
-    (marks : length t.marks ≡ length c.gates) (labels : length t.zero_labels ≡ c.wires) (row_count : length t.rows ≡ and_count c)
+    (marks : length t.marks ≡ length c.gates) (labels : length t.zero_labels ≡ c.wires)
+    (row_count : length t.rows ≡ and_count c)
     (label : ℕ) (pair : Option RowPair) (and_alone : is_some pair ≡ is_and g.operation) where
   abbrev after : Tables
   after = finished_tables t i g.set (and_number c i) label pair
@@ -109,45 +121,57 @@ module _ (c : Netlist) (lawful : IsLawful c) (t : Tables) (i : ℕ) (g : Gate) (
   here =
       let set_in : g.set < length t.zero_labels = (let e = lawful.sets i g at in omega arith) in
       ap (finished_state c after.zero_labels after.rows i) at
-      ∙ ap (λ l. Finished l (rows_at (rows_set t.rows (and_number c i) pair) (and_number c i) g.operation)) (get_or-set_same t.zero_labels g.set label 0 set_in)
+      ∙ ap (λ l. Finished l (rows_at (rows_set t.rows (and_number c i) pair) (and_number c i) g.operation))
+      (get_or-set_same t.zero_labels g.set label 0 set_in)
       ∙ ap (Finished label) (rows_at-set_same t.rows (and_number c i) g.operation pair and_alone
       (λ is. let less = and_number-lt c i g at is in omega arith))
 
-  elsewhere_at : (j : ℕ) (h : Gate) → slice_get c.gates j ≡ Some h → j ≢ i → finished_state c after.zero_labels after.rows j (Some h) ≡ finished_state c t.zero_labels t.rows j (Some h)
+  elsewhere_at : (j : ℕ) (h : Gate) → slice_get c.gates j ≡ Some h → j ≢ i
+      → finished_state c after.zero_labels after.rows j (Some h) ≡ finished_state c t.zero_labels t.rows j (Some h)
   elsewhere_at j h at_j other =
       ap (λ l. Finished l (rows_at (rows_set t.rows (and_number c i) pair) (and_number c j) h.operation))
       (get_or-set_other t.zero_labels g.set h.set label 0 (set-apart c lawful j i h g at_j at other))
-      ∙ ap (Finished (get_or t.zero_labels h.set 0)) (rows_at-set_other t.rows (and_number c i) (and_number c j) g.operation h.operation pair and_alone
+      ∙ ap (Finished (get_or t.zero_labels h.set 0))
+      (rows_at-set_other t.rows (and_number c i) (and_number c j) g.operation h.operation pair and_alone
       (λ and_i and_j. and_number-apart c j i h g at_j at and_j and_i other))
 
-  elsewhere : (j : ℕ) → j < length c.gates → j ≢ i → (m : Mark) → state_at c after.zero_labels after.rows j m ≡ state_at c t.zero_labels t.rows j m
+  elsewhere : (j : ℕ) → j < length c.gates → j ≢ i → (m : Mark)
+      → state_at c after.zero_labels after.rows j m ≡ state_at c t.zero_labels t.rows j m
   elsewhere j below other mark.Free = refl
   elsewhere j below other mark.Claimed = refl
   elsewhere j below other mark.Finished =
       let at_j = slice_get-get_or c.gates j g below in
-      ap (finished_state c after.zero_labels after.rows j) at_j ∙ elsewhere_at j (get_or c.gates j g) at_j other ∙ ap (finished_state c t.zero_labels t.rows j) (sym at_j)
+      ap (finished_state c after.zero_labels after.rows j) at_j
+      ∙ elsewhere_at j (get_or c.gates j g) at_j other ∙ ap (finished_state c t.zero_labels t.rows j) (sym at_j)
 
-  pub states_of-finish : states_of c (set t.zero_labels g.set label) (rows_set t.rows (and_number c i) pair) (set t.marks i mark.Finished) ≡ set (states_of c t.zero_labels t.rows t.marks) i (Finished label pair)
+  pub states_of-finish : states_of c (set t.zero_labels g.set label)
+      (rows_set t.rows (and_number c i) pair) (set t.marks i mark.Finished) ≡ set
+      (states_of c t.zero_labels t.rows t.marks) i (Finished label pair)
   unfolding states_of
   states_of-finish =
       let inside : i < length t.marks = (let w = within in omega arith) in
       sym
-      (set-table_is (λ k. state_at c t.zero_labels t.rows k (get_or t.marks k mark.Free)) (λ k. state_at c after.zero_labels after.rows k (get_or (set t.marks i mark.Finished) k mark.Free))
+      (set-table_is (λ k. state_at c t.zero_labels t.rows k (get_or t.marks k mark.Free))
+      (λ k. state_at c after.zero_labels after.rows k (get_or (set t.marks i mark.Finished) k mark.Free))
       (length c.gates) i (Finished label pair) within
       (ap (state_at c after.zero_labels after.rows i) (get_or-set_same t.marks i mark.Finished mark.Free inside) ∙ here)
       (λ k below other. sym
-      (ap (state_at c after.zero_labels after.rows k) (get_or-set_other t.marks i k mark.Finished mark.Free other) ∙ elsewhere k below other (get_or t.marks k mark.Free))))
+      (ap (state_at c after.zero_labels after.rows k)
+      (get_or-set_other t.marks i k mark.Finished mark.Free other)
+      ∙ elsewhere k below other (get_or t.marks k mark.Free))))
 
 -- ---- claiming
 
-module _ (c : Netlist) (seed : List ℕ) (r : ℕ) (t : Tables) (kept : IsKept c seed r t) (i : ℕ) (next : MayGoNext (content_of c seed t) i) where
+module _ (c : Netlist) (seed : List ℕ) (r : ℕ) (t : Tables) (kept : IsKept c seed r t) (i : ℕ)
+    (next : MayGoNext (content_of c seed t) i) where
   abbrev s : Content
   s = content_of c seed t
 
   within_gates : i < length c.gates
   within_gates = slice_get_within c.gates i next.gate next.at
 
-  states-claim : states_of c t.zero_labels t.rows (set t.marks i mark.Claimed) ≡ set (states_of c t.zero_labels t.rows t.marks) i Claimed
+  states-claim : states_of c t.zero_labels t.rows (set t.marks i mark.Claimed) ≡ set
+      (states_of c t.zero_labels t.rows t.marks) i Claimed
   states-claim = states_of-claim c t i within_gates kept.marks
 
   -- the content once gate i is claimed
@@ -179,7 +203,10 @@ module _ (c : Netlist) (seed : List ℕ) (r : ℕ) (t : Tables) (kept : IsKept c
     zero_labels = kept.zero_labels;
     and_numbers = kept.and_numbers;
     rows = kept.rows;
-    finished = kept.finished ∙ sym (count_by-set is_finished (states_of c t.zero_labels t.rows t.marks) i Free Claimed next.free refl) ∙ ap (count_by is_finished) (sym states-claim);
+    finished = kept.finished
+        ∙ sym (count_by-set is_finished
+        (states_of c t.zero_labels t.rows t.marks) i Free Claimed next.free refl)
+        ∙ ap (count_by is_finished) (sym states-claim);
     first_free = kept.first_free;
     none_free = none_free-claim;
   }
@@ -191,14 +218,16 @@ abbrev pub known_label : Netlist → List ℕ → List Bool → ℕ → ℕ
 known_label c seed known w = if slice_index_or known w false then zero_label_of c seed w else 0
 
 -- two rows for a row pair
-two_rows : (t : Task) (op : Operation) (n : ℕ) → 2 * ands_set n (rows_by op t) ≡ 2 * n + (if is_and op then 2 else 0)
-two_rows t (Xor a b) n = omega arith
-two_rows t (And a b) n = omega arith
-two_rows t (Inv a) n = omega arith
-two_rows t (Eq v) n = omega arith
-two_rows t (Eqw a) n = omega arith
+two_rows : (r k a b n : ℕ) (op : Operation) →
+    2 * ands_set n (gate_rows hash r k op a b) ≡ 2 * n + (if is_and op then 2 else 0)
+two_rows r k a b n (Xor u v) = omega arith
+two_rows r k a b n (And u v) = omega arith
+two_rows r k a b n (Inv u) = omega arith
+two_rows r k a b n (Eq bit) = omega arith
+two_rows r k a b n (Eqw u) = omega arith
 
-module _ (c : Netlist) (seed : List ℕ) (r : ℕ) (t : Tables) (kept : IsKept c seed r t) (i : ℕ) (g : Gate) (at : slice_get c.gates i ≡ Some g)
+module _ (c : Netlist) (seed : List ℕ) (r : ℕ) (t : Tables) (kept : IsKept c seed r t) (i : ℕ) (g : Gate)
+    (at : slice_get c.gates i ≡ Some g)
     (claimed : IsClaimed (content_of c seed t) i) where
   abbrev s' : Content
   s' = content_of c seed t
@@ -208,23 +237,32 @@ module _ (c : Netlist) (seed : List ℕ) (r : ℕ) (t : Tables) (kept : IsKept c
 
   -- the tables once gate i is finished with what sealing its task gives
   abbrev pub sealed_tables : Tables
-  sealed_tables = finished_tables t i g.set (and_number c i) (sealed_zero_label (task_of c seed i g)) (sealed_rows (task_of c seed i g))
+  sealed_tables = finished_tables t i g.set (and_number c i) (sealed_zero_label (task_of c seed i g))
+      (sealed_rows (task_of c seed i g))
 
   label_count : length t.zero_labels ≡ c.wires
   label_count = ap length kept.zero_labels ∙ length-map-range_with_len (known_label c seed t.known) 0 c.wires
 
-  states-finish : states_of c sealed_tables.zero_labels sealed_tables.rows sealed_tables.marks ≡ set (states_of c t.zero_labels t.rows t.marks) i (Finished (sealed_zero_label own) (sealed_rows own))
+  states-finish : states_of c sealed_tables.zero_labels sealed_tables.rows sealed_tables.marks ≡ set
+      (states_of c t.zero_labels t.rows t.marks) i (Finished (sealed_zero_label own) (sealed_rows own))
   states-finish =
-      states_of-finish c kept.lawful.circuit t i g at kept.marks label_count kept.rows (sealed_zero_label own) (sealed_rows own)
-      (is_some-rows_by own g.operation)
+      states_of-finish c kept.lawful.circuit t i g at kept.marks label_count kept.rows
+      (sealed_zero_label own) (sealed_rows own)
+      (is_some-gate_rows _ _ _ _ g.operation)
 
   -- the content once gate i is finished
-  pub content-finish : content_of c seed (finished_tables t i g.set (and_number c i) (sealed_zero_label (task_of c seed i g)) (sealed_rows (task_of c seed i g)))
+  pub content-finish : content_of c seed
+      (finished_tables t i g.set (and_number c i) (sealed_zero_label (task_of c seed i g))
+      (sealed_rows (task_of c seed i g)))
       ≡ with_sealed (content_of c seed t) (task_of c seed i g)
   content-finish =
       ap (λ states. record s' { states = states; rows = 2 * ands_set t.finished_ands (sealed_rows own) }) states-finish
-      ∙ ap (λ rows. record s' { states = set (states_of c t.zero_labels t.rows t.marks) i (Finished (sealed_zero_label own) (sealed_rows own)); rows = rows })
-      (two_rows own g.operation t.finished_ands)
+      ∙ ap (λ rows. record s' {
+        states = set (states_of c t.zero_labels t.rows t.marks) i
+            (Finished (sealed_zero_label own) (sealed_rows own));
+        rows = rows;
+      })
+      (two_rows _ _ _ _ t.finished_ands g.operation)
 
   known_within : g.set < length t.known
   known_within = let e = kept.known in let l = kept.lawful.circuit.sets i g at in omega arith
@@ -234,29 +272,35 @@ module _ (c : Netlist) (seed : List ℕ) (r : ℕ) (t : Tables) (kept : IsKept c
       elim (cases_eq w g.set) [
         | inl e ↦ (
           λ _. subst (λ x. IsKnown (with_sealed s' own) x) (sym e) (known-finish_set s' kept.lawful i g at claimed),
-          λ _. ap (λ x. get_or (set t.known g.set true) x false) e ∙ get_or-set_same t.known g.set true false known_within,
+          λ _. ap (λ x. get_or (set t.known g.set true) x false) e
+              ∙ get_or-set_same t.known g.set true false known_within,
         )
         | inr other ↦ (
-          λ is. known-finish s' kept.lawful i g at claimed w ((kept.tells_known w).0 (sym (get_or-set_other t.known g.set w true false other) ∙ is)),
+          λ is. known-finish s' kept.lawful i g at claimed w
+              ((kept.tells_known w).0 (sym (get_or-set_other t.known g.set w true false other) ∙ is)),
           λ known. get_or-set_other t.known g.set w true false other
               ∙ (kept.tells_known w).1 (known-finish_back s' kept.lawful i g at claimed w other known),
         )
       ]
 
-  zero_labels-finish : set t.zero_labels g.set (sealed_zero_label own) ≡ map (known_label c seed (set t.known g.set true)) (range_with_len 0 c.wires)
+  zero_labels-finish : set t.zero_labels g.set (sealed_zero_label own) ≡ map
+      (known_label c seed (set t.known g.set true)) (range_with_len 0 c.wires)
   zero_labels-finish =
       ap (λ l. set l g.set (sealed_zero_label own)) kept.zero_labels
-      ∙ set-table_is (known_label c seed t.known) (known_label c seed (set t.known g.set true)) c.wires g.set (sealed_zero_label own)
+      ∙ set-table_is (known_label c seed t.known)
+      (known_label c seed (set t.known g.set true)) c.wires g.set (sealed_zero_label own)
       (kept.lawful.circuit.sets i g at)
       (ap (λ b. if b then zero_label_of c seed g.set else 0) (get_or-set_same t.known g.set true false known_within)
       ∙ sym (sealed_zero_label_is c kept.lawful.circuit seed i g at))
-      (λ w below other. ap (λ b. if b then zero_label_of c seed w else 0) (sym (get_or-set_other t.known g.set w true false other)))
+      (λ w below other. ap (λ b. if b then zero_label_of c seed w else 0)
+      (sym (get_or-set_other t.known g.set w true false other)))
 
   none_free-finish : (j : ℕ) → j < t.first_free → slice_get (set t.marks i mark.Finished) j ≢ Some mark.Free
   none_free-finish j below free =
       elim (cases_eq j i) [
         | inl e ↦
-            let inside : i < length t.marks = (let m = kept.marks in let w = slice_get_within c.gates i g at in omega arith) in
+            let inside : i < length t.marks =
+            (let m = kept.marks in let w = slice_get_within c.gates i g at in omega arith) in
             let here = slice_get-set_same t.marks i mark.Finished inside in
             let same = ap (slice_get (set t.marks i mark.Finished)) e in
             let differ : Some mark.Finished ≡ Some mark.Free = cc in cc
@@ -268,18 +312,22 @@ module _ (c : Netlist) (seed : List ℕ) (r : ℕ) (t : Tables) (kept : IsKept c
   length-rows_set (Some pair) k = length-set t.rows k pair
 
   -- finishing keeps what the tables keep
-  pub finish_keeps : IsKept c seed r (finished_tables t i g.set (and_number c i) (sealed_zero_label (task_of c seed i g)) (sealed_rows (task_of c seed i g)))
+  pub finish_keeps : IsKept c seed r
+      (finished_tables t i g.set (and_number c i) (sealed_zero_label (task_of c seed i g))
+      (sealed_rows (task_of c seed i g)))
   finish_keeps = record {
     lawful = subst IsLawfulContent (sym content-finish) (finish_lawful s' kept.lawful i g at claimed);
     offset_is = kept.offset_is;
     marks = length-set t.marks i mark.Finished ∙ kept.marks;
     known = length-set t.known g.set true ∙ kept.known;
-    tells_known = λ w. subst (λ x. IsTrue (get_or (set t.known g.set true) w false) ↔ IsKnown x w) (sym content-finish) (tells_known-finish w);
+    tells_known = λ w. subst (λ x. IsTrue (get_or (set t.known g.set true) w false) ↔ IsKnown x w)
+        (sym content-finish) (tells_known-finish w);
     zero_labels = zero_labels-finish;
     and_numbers = kept.and_numbers;
     rows = length-rows_set (sealed_rows own) (and_number c i) ∙ kept.rows;
     finished = ap (λ n. n + 1) kept.finished
-        ∙ sym (count_by-set_more is_finished (states_of c t.zero_labels t.rows t.marks) i Claimed (Finished (sealed_zero_label own) (sealed_rows own)) claimed refl refl)
+        ∙ sym (count_by-set_more is_finished (states_of c t.zero_labels t.rows t.marks) i Claimed
+        (Finished (sealed_zero_label own) (sealed_rows own)) claimed refl refl)
         ∙ ap (count_by is_finished) (sym states-finish);
     first_free = kept.first_free;
     none_free = none_free-finish;

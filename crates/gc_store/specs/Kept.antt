@@ -63,7 +63,8 @@ pub record IsKept (c : Netlist) (seed : List ℕ) (offset : ℕ) (t : Tables) : 
   pub known : length t.known ≡ c.wires
   pub tells_known : (w : ℕ) → IsTrue (slice_index_or t.known w false) ↔ IsKnown (content_of c seed t) w
   -- a wire that is not known has 0
-  pub zero_labels : t.zero_labels ≡ map (λ w. if slice_index_or t.known w false then zero_label_of c seed w else 0) (range_with_len 0 c.wires)
+  pub zero_labels : t.zero_labels ≡ map
+      (λ w. if slice_index_or t.known w false then zero_label_of c seed w else 0) (range_with_len 0 c.wires)
   pub and_numbers : t.and_numbers ≡ map (and_number c) (range_with_len 0 (length c.gates))
   pub rows : length t.rows ≡ and_count c
   pub finished : t.finished ≡ count_by is_finished (content_of c seed t).states

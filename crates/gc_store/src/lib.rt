@@ -11,8 +11,6 @@ mod store;
 mod tables;
 mod tally;
 mod task;
-#[cfg(test)]
-mod tests;
 
 pub use refusal::Refused;
 pub use store::Store;

@@ -1,21 +1,20 @@
 //! The store.
 
-ghost use Rattle.std.specs.Prelude.{◌≡◌, ◌≢◌, ◌↔◌, ◌<◌, ◌≤◌, ◌+◌, ◌^◌, ℕ, IsTrue, IfOk, IfErr, OnOk, OnErr, MatchOption, Some, length, min, count_by, false, slice_get, slice_index, slice_index_or};
+ghost use Rattle.std.specs.Prelude.{◌≡◌, ◌≢◌, ◌↔◌, ◌<◌, ◌≤◌, ◌+◌, ◌^◌, ℕ, IsTrue, IfOk, IfErr, OnOk, OnErr, MatchOption, Some, length, min, count_by, false, slice_get, slice_index_or};
 ghost use Rattle.gc_store.specs.declared.mark.Mark.TheVariants as mark;
 ghost use Rattle.gc_circuit.specs.Circuit.{EachRead};
 ghost use Rattle.gc_half.specs.Garbling.{IsGarbled};
-ghost use Rattle.gc_store.specs.Task.{first_read, second_read};
 ghost use Rattle.gc_store.specs.Content.{is_finished, IsClaimed, MayGoNext, AllFinished, IsLawfulContent, opened};
 ghost use Rattle.gc_store.specs.Step.{IsOwnTask, with_sealed, Claims, Finishes, Deals};
 ghost use Rattle.gc_store.specs.Kept.{ReadsKnown};
 
 use crate::mark::Mark;
 use crate::refusal::Refused;
-use crate::tables::{and_numbers, input_labels, input_marks, repeated};
+use crate::tables::{and_numbers, input_marks, repeated};
 use crate::tally::{MAX_TALLIES, Tally};
 use crate::task::{Sealed, Task};
 use gc_circuit::{Circuit, Memory, Operation};
-use gc_half::{Garbling, RowPair};
+use gc_half::{Garbling, RowPair, input_zero_labels, labels_read};
 use gc_label::{Label, Offset, Seed, offset};
 use std::alloc::{Allocator, Global};
 use std::marker::Model;
@@ -70,7 +69,7 @@ impl<A: Allocator + Copy> Store<A> {
             marks: repeated(alloc, Mark::Free, circuit.gates())?,
             and_numbers: and_numbers(alloc, &circuit)?,
             known: input_marks(alloc, &circuit)?,
-            zero_labels: input_labels(alloc, &circuit, &seed)?,
+            zero_labels: input_zero_labels(alloc, &circuit, &seed)?,
             rows: repeated(alloc, no_rows, circuit.and_count())?,
             offset: offset(&seed),
             circuit,
@@ -180,7 +179,8 @@ impl<A: Allocator> Store<A> {
 
     /// The task of the first gate that may go next.
     fn next_task(&self) -> Option<Task>
-        ensures { MatchOption result ((i : ℕ) → ¬ MayGoNext self.now i) (λ task. MayGoNext self.now task.gate × IsOwnTask self.now task) }
+        ensures { MatchOption result ((i : ℕ) → ¬ MayGoNext self.now i)
+            (λ task. MayGoNext self.now task.gate × IsOwnTask self.now task) }
     {
         for i in self.first_free..self.circuit.gates() {
             if self.may_go_next(i) {
@@ -269,20 +269,5 @@ fn reads_known(known: &[bool], operation: Operation) -> bool
         Operation::Inv(a) => known[a as usize],
         Operation::Eq(_) => true,
         Operation::Eqw(a) => known[a as usize],
-    }
-}
-
-/// The labels of the wires that an operation reads, zero where it reads none.
-fn labels_read(labels: &[Label], operation: Operation) -> (Label, Label)
-    requires { EachRead (λ w. w < length labels.now) operation }
-    ensures first { result.0 ≡ first_read (slice_index labels.now) operation }
-    ensures second { result.1 ≡ second_read (slice_index labels.now) operation }
-{
-    match operation {
-        Operation::Xor(a, b) => (labels[a as usize], labels[b as usize]),
-        Operation::And(a, b) => (labels[a as usize], labels[b as usize]),
-        Operation::Inv(a) => (labels[a as usize], Label::ZERO),
-        Operation::Eq(_) => (Label::ZERO, Label::ZERO),
-        Operation::Eqw(a) => (labels[a as usize], Label::ZERO),
     }
 }

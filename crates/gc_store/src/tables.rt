@@ -3,10 +3,8 @@
 ghost use Rattle.std.specs.Prelude.{◌≡◌, ◌+◌, ◌-◌, ◌++◌, Bool, true, false, IfOk, length, map, replicate};
 ghost use Rattle.std.specs.List.{range_with_len};
 ghost use Rattle.gc_circuit.specs.Circuit.{input_wires, and_number};
-ghost use Rattle.gc_half.specs.Canonical.{input_zero};
 
 use gc_circuit::{Circuit, Memory};
-use gc_label::{Label, Seed, fill_input_labels};
 use std::alloc::Allocator;
 
 /// A vector of one value, `len` times.
@@ -22,27 +20,13 @@ pub(crate) fn repeated<T: Copy, A: Allocator + Copy>(
     Ok(items)
 }
 
-/// The zero labels of the input wires, and [`Label::ZERO`] on every other wire.
-pub(crate) fn input_labels<A: Allocator + Copy, C: Allocator>(
-    alloc: A,
-    circuit: &Circuit<C>,
-    seed: &Seed,
-) -> Result<Vec<Label, A>, Memory>
-    ensures { IfOk result (λ v. v.items ≡ map (input_zero circuit.now seed.now) (range_with_len 0 circuit.now.wires)) }
-{
-    let mut labels = Vec::with_capacity(alloc, circuit.wires() as usize)?;
-    labels.resize(circuit.input_wires() as usize, Label::ZERO)?;
-    fill_input_labels(seed, 0, &mut labels);
-    labels.resize(circuit.wires() as usize, Label::ZERO)?;
-    Ok(labels)
-}
-
 /// Whether each wire is an input wire.
 pub(crate) fn input_marks<A: Allocator + Copy, C: Allocator>(
     alloc: A,
     circuit: &Circuit<C>,
 ) -> Result<Vec<bool, A>, Memory>
-    ensures { IfOk result (λ v. v.items ≡ replicate (input_wires circuit.now) true ++ replicate (circuit.now.wires - input_wires circuit.now) false) }
+    ensures { IfOk result (λ v. v.items ≡ replicate (input_wires circuit.now) true ++ replicate
+        (circuit.now.wires - input_wires circuit.now) false) }
 {
     let mut known = Vec::with_capacity(alloc, circuit.wires() as usize)?;
     known.resize(circuit.input_wires() as usize, true)?;

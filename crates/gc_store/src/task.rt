@@ -4,7 +4,7 @@ ghost use Rattle.std.specs.Prelude.{◌≡◌};
 ghost use Rattle.gc_store.specs.Task.{sealed_zero_label, sealed_rows};
 
 use gc_circuit::Operation;
-use gc_half::{RowPair, garble_and};
+use gc_half::{RowPair, garble_gate};
 use gc_label::{Label, Offset};
 use std::marker::Model;
 
@@ -54,31 +54,13 @@ impl Sealed {
     pub fn make(task: Task) -> Sealed
         ensures { result ≡ task }
     {
-        let Task {
-            offset,
-            first,
-            second,
-            ..
-        } = task;
-        let (zero_label, rows) = match task.operation {
-            Operation::Xor(_, _) => (first.xor(second), None),
-            Operation::And(_, _) => {
-                let (zero_label, generator, evaluator) = garble_and(
-                    task.and_number,
-                    offset,
-                    first,
-                    second,
-                );
-                let rows = RowPair {
-                    generator,
-                    evaluator,
-                };
-                (zero_label, Some(rows))
-            }
-            Operation::Inv(_) => (first.xor(offset.label()), None),
-            Operation::Eq(constant) => (offset.label().times(constant), None),
-            Operation::Eqw(_) => (first, None),
-        };
+        let (zero_label, rows) = garble_gate(
+            task.and_number,
+            task.offset,
+            task.operation,
+            task.first,
+            task.second,
+        );
         Sealed {
             task,
             zero_label,

@@ -5,7 +5,8 @@ use Rattle.gc_store.proofs.store.Store.is_claimed.Goals as goal
 
 pub returns-then-i-gates : goal.returns-then-i-gates
 returns-then-i-gates g c =
-    let is = claimed_is _ _ _ _ _ c.args.i c.index.result.now c.self.view_is c.self.invariant (omega (arith, c.gates.ensures.count)) c.index.ensures in
+    let is = claimed_is _ _ _ _ _ c.args.i c.index.result.now c.self.view_is c.self.invariant
+    (omega (arith, c.gates.ensures.count)) c.index.ensures in
     record {
       claimed = (λ yes. is.0 (c.is_claimed.ensures.0 yes), λ claimed. c.is_claimed.ensures.1 (is.1 claimed));
       reads = λ yes. claimed_reads _ _ _ _ _ c.args.i c.self.view_is c.self.invariant (is.0 (c.is_claimed.ensures.0 yes));
@@ -18,7 +19,8 @@ returns-else-i-gates g c =
     record {
       claimed = (
         λ yes. let z : ⊥ = cc in absurd z,
-        λ claimed. absurd (not_claimed _ _ _ _ _ c.args.i c.self.view_is c.self.invariant (omega (arith, c.gates.ensures.count)) claimed),
+        λ claimed. absurd (not_claimed _ _ _ _ _ c.args.i c.self.view_is c.self.invariant
+            (omega (arith, c.gates.ensures.count)) claimed),
       );
       reads = λ yes. let z : ⊥ = cc in absurd z;
     }

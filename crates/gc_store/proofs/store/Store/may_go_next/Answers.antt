@@ -1,4 +1,3 @@
-use Rattle.std.proofs.Common.{◌≡◌, false, ◌∙◌, sym}
 use Rattle.gc_store.proofs.StoreLemmas.{may_go, mark_is_free}
 use Rattle.gc_store.proofs.store.Store.may_go_next.Goals as goal
 
@@ -12,5 +11,6 @@ returns-then-is_free g c =
 pub returns-else-is_free : goal.returns-else-is_free
 returns-else-is_free g c = (
   λ is. let no_test : ⊥ = (let e = c.if-is_free.false in cc) in absurd no_test,
-  λ next. c.is_free.ensures.1 (mark_is_free _ _ _ _ _ c.args.i c.index.result.now c.self.view_is c.self.invariant c.index.ensures next),
+  λ next. c.is_free.ensures.1
+      (mark_is_free _ _ _ _ _ c.args.i c.index.result.now c.self.view_is c.self.invariant c.index.ensures next),
 )

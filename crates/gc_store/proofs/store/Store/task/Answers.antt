@@ -1,8 +1,8 @@
-use Rattle.std.proofs.Common.{◌≡◌, ℕ, List, length, slice_index, ap, ◌∙◌, refl, arith}
+use Rattle.std.proofs.Common.{ℕ, List, length, slice_index, ap, ◌∙◌, refl, arith}
 use Rattle.std.proofs.lemmas.Option.{slice_get_within}
 use Rattle.std.proofs.lemmas.List.FromFn.{length-map-range_with_len}
 use Rattle.gc_circuit.specs.Circuit.{and_number}
-use Rattle.gc_store.specs.Task.{first_read, second_read}
+use Rattle.gc_half.specs.OneGate.{first_read, second_read}
 use Rattle.gc_store.proofs.StoreLemmas.{reads_within, own_task}
 use Rattle.gc_store.proofs.store.Store.task.Goals as goal
 
@@ -13,7 +13,8 @@ labels_read-first-requires g c =
 pub index-requires : goal.index-requires
 index-requires g c =
     let within = slice_get_within c.self.inside.circuit.gates c.args.i c.gate-operation.result c.gate-operation.ensures in
-    let numbers = ap length c.self.invariant.and_numbers ∙ length-map-range_with_len (and_number c.self.inside.circuit) 0 (length c.self.inside.circuit.gates) in
+    let numbers = ap length c.self.invariant.and_numbers
+    ∙ length-map-range_with_len (and_number c.self.inside.circuit) 0 (length c.self.inside.circuit.gates) in
     omega (arith, within, numbers)
 
 pub returns-clause-own : goal.returns-clause-own
