@@ -1,0 +1,13 @@
+-- A sink in memory.
+use Rattle.std.specs.Prelude.{ℕ, ◌-◌, min, List, Option, Some, None}
+
+-- What it holds: the bytes taken, the limit of their number if there is one, and the number of failures.
+pub record Held : Type 0 where
+  pub bytes : List ℕ
+  pub limit : Option ℕ
+  pub failures : ℕ
+
+-- How many of so many bytes still fit under the limit, where so many are held.
+abbrev pub fitting : Option ℕ → ℕ → ℕ → ℕ
+fitting (Some limit) held count = min count (limit - held)
+fitting None held count = count

@@ -1,0 +1,19 @@
+-- A source in memory.
+use Rattle.std.specs.Prelude.{ℕ, ◌-◌, min, List, Option, Some, None}
+
+-- What it has: the bytes that are left, how many of them it gives before it fails if there is a limit, and the number
+-- of failures.
+pub record Left : Type 0 where
+  pub left : List ℕ
+  pub limit : Option ℕ
+  pub failures : ℕ
+
+-- How many bytes it gives, where so many are left and there is room for so many.
+abbrev pub given : Option ℕ → ℕ → ℕ → ℕ
+given (Some limit) left room = min (min left room) limit
+given None left room = min left room
+
+-- The limit after so many bytes were given.
+abbrev pub limit_after : Option ℕ → ℕ → Option ℕ
+limit_after (Some limit) n = Some (limit - n)
+limit_after None n = None
