@@ -9,8 +9,11 @@ use Rattle.gc_half.proofs.AndNumbers.{and_number-and}
 count_by-take : {X : Type 0} (p : X → Bool) (n : ℕ) (xs : List X) → count_by p (take n xs) ≤ count_by p xs
 count_by-take {X = X} p n xs =
     let one : X → ℕ = λ x. cond (p x) 1 0 in
-    let split : sum_by one xs ≡ sum_by one (take n xs) + sum_by one (drop n xs) = ap (sum_by one) (sym (take-append-drop n xs)) ∙ sum_by-append one (take n xs) (drop n xs) in
+    let split : sum_by one xs ≡ sum_by one (take n xs) + sum_by one (drop n xs) =
+    ap (sum_by one) (sym (take-append-drop n xs)) ∙ sum_by-append one (take n xs) (drop n xs) in
     omega (arith, split)
 
-pub and_number-below : (c : Netlist) (i : ℕ) (g : Gate) → slice_get c.gates i ≡ Some g → is_and g.operation ≡ true → and_number c i < and_count c
-and_number-below c i g at and = omega (arith, and_number-and c i g at and, count_by-take (λ (x : Gate). is_and x.operation) (suc i) c.gates)
+pub and_number-below : (c : Netlist) (i : ℕ) (g : Gate) → slice_get c.gates i ≡ Some g
+    → is_and g.operation ≡ true → and_number c i < and_count c
+and_number-below c i g at and =
+    omega (arith, and_number-and c i g at and, count_by-take (λ (x : Gate). is_and x.operation) (suc i) c.gates)

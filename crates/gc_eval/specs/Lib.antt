@@ -1,1 +1,6 @@
+pub mod Fault
+pub mod Job
+pub mod Binding
+pub mod Places
 pub mod Evaluate
+pub mod Honest

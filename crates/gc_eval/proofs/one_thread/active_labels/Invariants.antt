@@ -1,0 +1,15 @@
+use Rattle.std.proofs.Common.{◌≡◌, map}
+use Rattle.std.specs.List.{range_with_len}
+use Rattle.gc_circuit.specs.Circuit.{and_number}
+use Rattle.gc_circuit.specs.Solution.{values_after}
+use Rattle.gc_half.specs.Hash.{hash}
+use Rattle.gc_half.specs.Evaluation.{active_rule}
+use Rattle.gc_eval.specs.Evaluate.{labels_of}
+use Rattle.gc_eval.proofs.one_thread.active_labels.Given as goal
+
+abbrev pub invariant-loop-i : goal.invariant-loop-i
+invariant-loop-i g l = record {
+  labels : l.active.items ≡ map (values_after (active_rule hash l.circuit l.rows) l.circuit
+      (labels_of l.inputs) l.i) (range_with_len 0 l.circuit.wires);
+  numbered : l.and_number ≡ and_number l.circuit l.i;
+}
