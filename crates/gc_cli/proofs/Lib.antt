@@ -1,7 +1,11 @@
 pub mod OrderLemmas
+pub mod NumberLemmas
+pub mod WroteLemmas
 pub mod EncodingLemmas
 pub mod EvaluationLemmas
 pub mod SettledLemmas
+pub mod ValuesLemmas
+pub mod AnswerLemmas
 pub mod RunLemmas
 pub mod PlainLemmas
 pub mod CheckLemmas

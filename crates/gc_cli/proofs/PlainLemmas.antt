@@ -4,13 +4,16 @@ use Rattle.std.specs.List.{flat_map}
 use Rattle.std.proofs.lemmas.List.Folds.{flat_map-map}
 use Rattle.gc_circuit.specs.Circuit.{Netlist}
 use Rattle.gc_circuit.specs.Meaning.{AreOutputs}
+use Rattle.gc_cli.specs.CircuitFile.{IsCircuit}
+use Rattle.gc_cli.specs.Values.{TellValues}
 use Rattle.gc_cli.specs.Lines.{output_lines}
-use Rattle.gc_cli.specs.Run.{TellValues, IsCircuit}
 use Rattle.gc_cli.specs.Plain.{AnswersPlain}
 
 -- the steps, each answered
-pub answers-plain : {X : Type 0} (f : X → List Bool) (bytes : List ℕ) (texts : List (List ℕ)) (c : Netlist) (values : List X) (outputs : List Bool) (lines : List ℕ)
-    → IsCircuit bytes c → TellValues c.input_widths texts (map f values) → AreOutputs c (flat_map f values) outputs
+pub answers-plain : {X : Type 0} (f : X → List Bool) (bytes : List ℕ) (texts : List (List ℕ))
+    (c : Netlist) (values : List X) (outputs : List Bool) (lines : List ℕ)
+    → IsCircuit bytes c → TellValues c.input_widths texts (map f values)
+    → AreOutputs c (flat_map f values) outputs
     → lines ≡ output_lines c.output_widths outputs → AnswersPlain bytes texts lines
 answers-plain f bytes texts c values outputs lines circuit told are printed = record {
   circuit = c;

@@ -1,23 +1,43 @@
--- What a command answers, and which fault it has, where the files' bytes are known.
-use Rattle.std.specs.Prelude.{ℕ, ◌<◌, List, Option, IfSome}
+-- What a command answers and writes, and which fault it has, where the files' bytes are known.
+use Rattle.std.specs.Prelude.{◌≡◌, ℕ, ◌<◌, List, Option, IfSome}
 use Rattle.gc_cli.specs.declared.fault.Fault.{Fault}
 use Rattle.gc_cli.specs.declared.fault.Fault.TheVariants.{CannotRead, CannotWrite}
-use Rattle.gc_cli.specs.Order.{OrderText, run, plain, check}
+use Rattle.gc_cli.specs.Order.{OrderText, run, plain, check, garble, deal}
 use Rattle.gc_cli.specs.Run.{AnswersRun, HasRunFault}
 use Rattle.gc_cli.specs.Plain.{AnswersPlain, HasPlainFault}
 use Rattle.gc_cli.specs.Check.{AnswersCheck, HasCheckFault}
+use Rattle.gc_cli.specs.Garble.{AnswersGarble, HasGarbleFault}
+use Rattle.gc_cli.specs.Deal.{AnswersDeal, HasDealFault}
 
--- The bytes for standard output are the order's answer.
-abbrev pub Answers : (List ℕ → Option (List ℕ)) → OrderText → List ℕ → Type 0
-Answers bytes (run circuit seed values) out = IfSome (bytes circuit) (λ file. AnswersRun file seed values out)
-Answers bytes (plain circuit values) out = IfSome (bytes circuit) (λ file. AnswersPlain file values out)
-Answers bytes (check circuit) out = IfSome (bytes circuit) (λ file. AnswersCheck file out)
+-- The bytes of files by name, where they are known.
+abbrev pub FileBytes : Type 0
+FileBytes = List ℕ → Option (List ℕ)
+
+-- The order is done: the bytes for standard output are its answer, and where it writes a file, that is written. `old` and
+-- `new` are the bytes of the files before and after it.
+abbrev pub Answers : FileBytes → FileBytes → OrderText → List ℕ → Type 0
+Answers old new (run circuit seed values) out = IfSome (old circuit) (λ file. AnswersRun file seed values out)
+Answers old new (plain circuit values) out = IfSome (old circuit) (λ file. AnswersPlain file values out)
+Answers old new (check circuit) out = IfSome (old circuit) (λ file. AnswersCheck file out)
+Answers old new (garble circuit seed name version) out =
+    IfSome (old circuit) (λ file. AnswersGarble file seed version (new name) out)
+Answers old new (deal circuit seed index value name) out =
+    IfSome (old circuit) (λ file. AnswersDeal file seed index value (new name) out)
 
 -- The order has this fault.
-abbrev pub HasFault : (List ℕ → Option (List ℕ)) → OrderText → Fault → Type 0
+abbrev pub HasFault : FileBytes → OrderText → Fault → Type 0
 HasFault bytes (run circuit seed values) fault = IfSome (bytes circuit) (λ file. HasRunFault file seed values fault)
 HasFault bytes (plain circuit values) fault = IfSome (bytes circuit) (λ file. HasPlainFault file values fault)
 HasFault bytes (check circuit) fault = IfSome (bytes circuit) (λ file. HasCheckFault file fault)
+HasFault bytes (garble circuit seed name version) fault = IfSome (bytes circuit) (λ file. HasGarbleFault file seed fault)
+HasFault bytes (deal circuit seed index value name) fault =
+    IfSome (bytes circuit) (λ file. HasDealFault file seed index value fault)
+
+-- The order writes the file of this name.
+abbrev pub Writes : OrderText → List ℕ → Type 0
+Writes (garble circuit seed out version) name = name ≡ out
+Writes (deal circuit seed index value out) name = name ≡ out
+Writes order name = ⊥
 
 -- A fault of a file comes only where the number of failures rose.
 abbrev pub HasCause : Fault → ℕ → ℕ → Type 0

@@ -6,7 +6,7 @@ use Rattle.gc_circuit.specs.Circuit.{Netlist, and_count}
 use Rattle.gc_circuit.specs.Spelling.{Number, Name, words_of_widths}
 use Rattle.gc_circuit.specs.Canon.{line, canonical_text}
 use Rattle.gc_cli.specs.declared.fault.Fault.{Fault}
-use Rattle.gc_cli.specs.Run.{IsCircuit, HasCircuitFault}
+use Rattle.gc_cli.specs.CircuitFile.{IsCircuit, HasCircuitFault}
 
 -- The lines of a circuit's numbers of gates, wires and AND gates, of its input and output values, and of its digest:
 -- SHA-256 of the canonical text, in lower case hexadecimal digits.

@@ -6,13 +6,14 @@ use Rattle.gc_circuit.specs.Value as value
 use Rattle.gc_cli.specs.declared.files.FileError.{FileError}
 use Rattle.gc_cli.specs.declared.files.FileError.TheVariants as file
 use Rattle.gc_cli.specs.declared.fault.Fault.{Fault}
-use Rattle.gc_cli.specs.declared.fault.Fault.TheVariants.{Circuit, WrongCount, Value, BadSeed, Garbling, Evaluation, CannotRead, CannotWrite, Memory}
+use Rattle.gc_cli.specs.declared.fault.Fault.TheVariants.{Circuit, WrongCount, Value, BadSeed, NoSuchValue, Garbling, Evaluation, CannotRead, CannotWrite, Memory}
 
 abbrev pub code_of : Fault → ℕ
 code_of (Circuit fault) = read.code_of fault
 code_of WrongCount = 14
-code_of (Value fault) = value.fault_code fault
+code_of (Value fault) = value.code_of fault
 code_of BadSeed = 18
+code_of NoSuchValue = 42
 code_of Garbling = 23
 code_of Evaluation = 46
 code_of CannotRead = 50
@@ -22,8 +23,9 @@ code_of Memory = 52
 abbrev pub name_of : Fault → List ℕ
 name_of (Circuit fault) = read.name_of fault
 name_of WrongCount = codes "WrongCount"
-name_of (Value fault) = value.fault_name fault
+name_of (Value fault) = value.name_of fault
 name_of BadSeed = codes "BadSeed"
+name_of NoSuchValue = codes "NoSuchValue"
 name_of Garbling = codes "Memory"
 name_of Evaluation = codes "Memory"
 name_of CannotRead = codes "CannotRead"
@@ -34,7 +36,8 @@ name_of Memory = codes "Memory"
 abbrev pub text_of : Fault → List ℕ
 text_of fault = codes "fault " ++ decimal (code_of fault) ++ 32 ∷ name_of fault
 
--- the fault that an unread file is
+-- the fault that a call on a file comes to
 abbrev pub IsFaultOfFile : FileError → Fault → Type 0
 IsFaultOfFile file.CannotRead fault = fault ≡ CannotRead
+IsFaultOfFile file.CannotWrite fault = fault ≡ CannotWrite
 IsFaultOfFile file.Memory fault = fault ≡ Memory

@@ -1,10 +1,17 @@
 pub mod Files
+pub mod FileFailures
 pub mod Fault
 pub mod Order
+pub mod CircuitFile
+pub mod Values
 pub mod Lines
 pub mod Run
 pub mod Plain
 pub mod Check
+pub mod SeedText
+pub mod Wrote
+pub mod Garble
+pub mod Deal
 pub mod CarryOut
 pub mod Serve
 pub mod Encoding

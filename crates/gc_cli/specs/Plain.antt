@@ -4,9 +4,10 @@ use Rattle.std.specs.List.{flat_map}
 use Rattle.gc_circuit.specs.Circuit.{Netlist}
 use Rattle.gc_circuit.specs.Meaning.{AreOutputs}
 use Rattle.gc_cli.specs.declared.fault.Fault.{Fault}
-use Rattle.gc_cli.specs.declared.fault.Fault.TheVariants.{Circuit, WrongCount, Value, BadSeed, Garbling, Evaluation, CannotRead, CannotWrite, Memory}
+use Rattle.gc_cli.specs.declared.fault.Fault.TheVariants.{Circuit, WrongCount, Value, CannotRead, Memory}
+use Rattle.gc_cli.specs.CircuitFile.{IsCircuit, HasCircuitFault}
+use Rattle.gc_cli.specs.Values.{TellValues, HasValueFault}
 use Rattle.gc_cli.specs.Lines.{output_lines}
-use Rattle.gc_cli.specs.Run.{TellValues, IsCircuit, HasCircuitFault, HasValueFault}
 
 -- What `plain` answers: the lines of the circuit's outputs on the values that the texts tell.
 pub record AnswersPlain (bytes : List ℕ) (texts : List (List ℕ)) (lines : List ℕ) : Type 0 where
@@ -23,10 +24,9 @@ pub record AnswersPlain (bytes : List ℕ) (texts : List (List ℕ)) (lines : Li
 abbrev pub HasPlainFault : List ℕ → List (List ℕ) → Fault → Type 0
 HasPlainFault bytes texts CannotRead = HasCircuitFault bytes CannotRead
 HasPlainFault bytes texts (Circuit fault) = HasCircuitFault bytes (Circuit fault)
-HasPlainFault bytes texts WrongCount = (c : Netlist) × IsCircuit bytes c × HasValueFault c.input_widths texts WrongCount
-HasPlainFault bytes texts (Value fault) = (c : Netlist) × IsCircuit bytes c × HasValueFault c.input_widths texts (Value fault)
+HasPlainFault bytes texts WrongCount =
+    (c : Netlist) × IsCircuit bytes c × HasValueFault c.input_widths texts WrongCount
+HasPlainFault bytes texts (Value fault) =
+    (c : Netlist) × IsCircuit bytes c × HasValueFault c.input_widths texts (Value fault)
 HasPlainFault bytes texts Memory = Unit {0}
-HasPlainFault bytes texts BadSeed = ⊥
-HasPlainFault bytes texts Garbling = ⊥
-HasPlainFault bytes texts Evaluation = ⊥
-HasPlainFault bytes texts CannotWrite = ⊥
+HasPlainFault bytes texts _ = ⊥

@@ -7,9 +7,9 @@ ghost use Rattle.gc_circuit.specs.Canon.{line};
 ghost use Rattle.gc_cli.specs.Check.{AnswersCheck, HasCheckFault, check_lines};
 ghost use Rattle.gc_cli.specs.CarryOut.{HasCause};
 
+use crate::circuit_file::read_circuit;
 use crate::fault::Fault;
 use crate::files::Files;
-use crate::run::read_circuit;
 use gc_circuit::Circuit;
 use itoa::Buffer;
 use std::alloc::{AllocError, Allocator};
@@ -20,8 +20,10 @@ pub fn check<A: Allocator + Copy, F: Files>(
     circuit: &str,
     files: &mut F,
 ) -> Result<Vec<u8, A>, Fault>
-    ensures answers { IfOk result (λ lines. IfSome (F.bytes files.old circuit.now) (λ bytes. AnswersCheck bytes lines.items)) }
-    ensures fault { IfErr result (λ fault. IfSome (F.bytes files.old circuit.now) (λ bytes. HasCheckFault bytes fault)) }
+    ensures answers { IfOk result (λ lines. IfSome (F.bytes files.old circuit.now)
+        (λ bytes. AnswersCheck bytes lines.items)) }
+    ensures fault { IfErr result (λ fault. IfSome (F.bytes files.old circuit.now)
+        (λ bytes. HasCheckFault bytes fault)) }
     ensures cause { IfErr result (λ fault. HasCause fault (F.failures files.old) (F.failures files.new)) }
     ensures same { (name : List ℕ) → F.bytes files.new name ≡ F.bytes files.old name }
 {
@@ -66,7 +68,8 @@ fn push_widths<A: Allocator>(
     name: &str,
     widths: &[u32],
 ) -> Result<(), AllocError>
-    ensures { OnOk result (lines.new.items ≡ lines.old.items ++ line (Name name.now ∷ words_of_widths widths.now)) }
+    ensures { OnOk result (lines.new.items
+        ≡ lines.old.items ++ line (Name name.now ∷ words_of_widths widths.now)) }
 {
     lines.extend_from_slice(name.as_bytes())?;
     push_number(lines, widths.len() as u64)?;
@@ -88,7 +91,8 @@ fn push_number<A: Allocator>(lines: &mut Vec<u8, A>, number: u64) -> Result<(), 
 
 /// Adds the line of a digest.
 fn push_digest<A: Allocator>(lines: &mut Vec<u8, A>, digest: &[u8; 32]) -> Result<(), AllocError>
-    ensures { OnOk result (lines.new.items ≡ lines.old.items ++ line (Name (codes "digest") ∷ Name (encode_lower digest.now) ∷ [])) }
+    ensures { OnOk result (lines.new.items
+        ≡ lines.old.items ++ line (Name (codes "digest") ∷ Name (encode_lower digest.now) ∷ [])) }
 {
     let mut digits = [0; 64];
     let _ = hex::encode_to_slice(*digest, &mut digits);

@@ -27,7 +27,8 @@ pub fn evaluate<A: Allocator + Copy>(
     requires lawful { IsLawful circuit.now }
     requires garbled { IsGarbled circuit.now seed.now garbling.now }
     requires fits { Fits circuit.now (map (λ value. value.items) values.now) }
-    ensures { IfOk result (λ outputs. AreOutputs circuit.now (flat_map (λ value. value.items) values.now) outputs.items) }
+    ensures { IfOk result (λ outputs.
+        AreOutputs circuit.now (flat_map (λ value. value.items) values.now) outputs.items) }
 {
     let decode_bits = decode_bits(alloc, garbling)?;
     let inputs = input_labels(alloc, circuit, seed, garbling, values)?;
@@ -59,7 +60,9 @@ fn input_labels<A: Allocator + Copy>(
     requires lawful { IsLawful circuit.now }
     requires fits { Fits circuit.now (map (λ value. value.items) values.now) }
     requires wires { length garbling.now.zero_labels ≡ circuit.now.wires }
-    ensures { IfOk result (λ labels. labels.items ≡ encoded (offset_of seed.now) garbling.now.zero_labels (flat_map (λ value. value.items) values.now)) }
+    ensures { IfOk result (λ labels. labels.items
+        ≡ encoded (offset_of seed.now) garbling.now.zero_labels
+        (flat_map (λ value. value.items) values.now)) }
 {
     let offset = offset(seed);
     let mut labels = Vec::with_capacity(alloc, circuit.input_wires() as usize)?;
@@ -79,7 +82,8 @@ fn push_labels<A: Allocator>(
     requires room { length labels.old.items + length value.now ≤ length garbling.now.zero_labels }
     requires wires { length garbling.now.zero_labels < 2 ^ 32 }
     ensures count { OnOk result (length labels.new.items ≡ length labels.old.items + length value.now) }
-    ensures labels { OnOk result ((before : List Bool) → labels.old.items ≡ encoded offset garbling.now.zero_labels before
+    ensures labels { OnOk result ((before : List Bool)
+        → labels.old.items ≡ encoded offset garbling.now.zero_labels before
         → labels.new.items ≡ encoded offset garbling.now.zero_labels (before ++ value.now)) }
 {
     for bit in value {

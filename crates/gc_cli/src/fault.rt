@@ -5,6 +5,7 @@ ghost use Rattle.gc_cli.specs.Fault.{code_of, name_of, text_of};
 
 use crate::files::FileError;
 use gc_circuit::{ReadFault, ValueFault};
+use gc_file::WriteFault;
 use gc_label::BadSeed;
 use std::alloc::{AllocError, AllocFailed};
 use std::fmt;
@@ -20,13 +21,15 @@ pub enum Fault {
     Value(ValueFault),
     /// The seed is not 64 hexadecimal digits.
     BadSeed,
+    /// The circuit has no input value of this index.
+    NoSuchValue,
     /// There is no memory for garbling.
     Garbling,
     /// There is no memory for evaluating.
     Evaluation,
     /// A file can't be read.
     CannotRead,
-    /// Standard output can't be written.
+    /// A file, or standard output, can't be written.
     CannotWrite,
     /// There is no memory for the program's own buffers, a file's bytes among them.
     Memory,
@@ -43,6 +46,7 @@ impl Fault {
             Fault::Value(fault) => fault.code(),
             Fault::BadSeed => 18,
             Fault::Garbling => 23,
+            Fault::NoSuchValue => 42,
             Fault::Evaluation => 46,
             Fault::CannotRead => 50,
             Fault::CannotWrite => 51,
@@ -59,6 +63,7 @@ impl Fault {
             Fault::WrongCount => "WrongCount",
             Fault::Value(fault) => fault.name(),
             Fault::BadSeed => "BadSeed",
+            Fault::NoSuchValue => "NoSuchValue",
             Fault::Garbling | Fault::Evaluation | Fault::Memory => "Memory",
             Fault::CannotRead => "CannotRead",
             Fault::CannotWrite => "CannotWrite",
@@ -118,8 +123,21 @@ impl From<FileError> for Fault {
     fn from(error: FileError) -> Fault {
         match error {
             FileError::CannotRead => Fault::CannotRead,
+            FileError::CannotWrite => Fault::CannotWrite,
             FileError::Memory => Fault::Memory,
         }
+    }
+}
+
+/// A file whose sink failed can't be written.
+impl From<WriteFault> for Fault {
+    ghost use Rattle.std.specs.Prelude.{◌≡◌};
+    ghost use Rattle.gc_cli.specs.declared.fault.Fault.TheVariants as faults;
+
+    ghost from_gives = { λ _ e. e ≡ faults.CannotWrite };
+
+    fn from(_fault: WriteFault) -> Fault {
+        Fault::CannotWrite
     }
 }
 

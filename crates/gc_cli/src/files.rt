@@ -1,19 +1,18 @@
-//! The files that a command reads.
+//! The files that commands read and write.
 
-ghost use Rattle.std.specs.Prelude.{◌≡◌, ℕ, List, Option, None, IfOk};
-ghost use Rattle.gc_cli.specs.Files.{GivesFile, CountsFailure};
+ghost use Rattle.std.specs.Prelude.{◌≡◌, ◌≢◌, ◌+◌, ℕ, List, [], Option, Some, IfOk, IfErr, OnOk, IfSome};
+ghost use Rattle.gc_cli.specs.Files.{GivesFile, CountsRead, CountsWrite};
 
-use crate::failures::FailureCount;
 use std::alloc::{AllocError, Allocator};
-use std::io::{self, Read};
-use std::{fs, rt};
 
-/// Why a file's bytes could not be had.
+/// Why a call on a file failed.
 #[derive(Clone, Copy, Debug, PartialEq, Eq)]
 pub enum FileError {
     /// There is no such file, or reading it failed.
     CannotRead,
-    /// There is no memory for its bytes.
+    /// The file can't be made, or writing it failed.
+    CannotWrite,
+    /// There is no memory for it.
     Memory,
 }
 
@@ -30,64 +29,55 @@ impl From<AllocError> for FileError {
 
 /// Files by name, on a disk or in memory.
 pub trait Files {
+    /// Takes the bytes of a file that is written.
+    type Sink: gc_file::Sink + Drop;
+
+    /// Gives the bytes of a file that is read in pieces.
+    type Source: gc_file::Source + Drop;
+
     // The bytes of the file of a name, where they are known. `None` claims nothing.
     ghost bytes: { Self → List ℕ → Option (List ℕ) };
 
-    // How many calls have failed so far.
+    // How many calls have failed so far, those of the sinks and sources that came back among them.
     ghost failures: { Self → ℕ };
 
     /// The bytes of the file of this name. A file that can't be read is a failure, and is counted; memory that is
     /// refused is none.
     fn read<A: Allocator + Copy>(&mut self, alloc: A, name: &str) -> Result<Vec<u8, A>, FileError>
         ensures given { IfOk result (λ v. GivesFile (bytes self.old name.now) v.items) }
-        ensures counted { CountsFailure result (failures self.old) (failures self.new) }
+        ensures counted { CountsRead result (failures self.old) (failures self.new) }
         ensures same { (n : List ℕ) → bytes self.new n ≡ bytes self.old n };
-}
 
-/// The files of a runtime. Nothing is known of their bytes.
-#[derive(Drop)]
-pub struct HostFiles<'r, R> {
-    rt: &'r R,
-    failures: FailureCount,
-}
+    /// A sink for the file of this name, whose old content is gone. Nothing is known of the file until the sink is
+    /// kept. Where memory is refused, which is no failure, the old content stays. Files that tell any bytes tell
+    /// what their sinks take.
+    fn create(&mut self, name: &str) -> Result<Self::Sink, FileError>
+        ensures empty { IfOk result (λ sink. (n : List ℕ) → IfSome (bytes self.old n)
+            (λ _. Self.Sink.taken sink ≡ Some [])) }
+        ensures unfailed { IfOk result (λ sink. Self.Sink.failures sink ≡ 0) }
+        ensures counted { CountsWrite result (failures self.old) (failures self.new) }
+        ensures others { (n : List ℕ) → n ≢ name.now → bytes self.new n ≡ bytes self.old n }
+        ensures memory { IfErr result (λ e. e ≡ FileError.Memory
+            → (n : List ℕ) → bytes self.new n ≡ bytes self.old n) };
 
-impl<'r, R: rt::Files> HostFiles<'r, R> {
-    pub fn new(rt: &'r R) -> HostFiles<'r, R> {
-        HostFiles {
-            rt,
-            failures: FailureCount::new(),
-        }
-    }
-}
+    /// The file of this name holds what the sink took, which was created for it. The sink's failures count.
+    fn keep(&mut self, name: &str, sink: Self::Sink) -> Result<(), FileError>
+        ensures held { OnOk result (IfSome (bytes self.new name.now) (λ held. Self.Sink.taken sink ≡ Some held)) }
+        ensures counted { CountsWrite result (failures self.old + Self.Sink.failures sink) (failures self.new) }
+        ensures no_memory { IfErr result (λ e. e ≢ FileError.Memory) }
+        ensures others { (n : List ℕ) → n ≢ name.now → bytes self.new n ≡ bytes self.old n };
 
-impl<'r, R: rt::Files> Files for HostFiles<'r, R> {
-    ghost bytes = { λ _ _. None };
+    /// A source of the file of this name. A file that can't be opened is a failure, and is counted; memory that is
+    /// refused is none.
+    fn open(&mut self, name: &str) -> Result<Self::Source, FileError>
+        ensures given { IfOk result (λ source. IfSome (bytes self.old name.now)
+            (λ known. Self.Source.left source ≡ Some known)) }
+        ensures unfailed { IfOk result (λ source. Self.Source.failures source ≡ 0) }
+        ensures counted { CountsRead result (failures self.old) (failures self.new) }
+        ensures same { (n : List ℕ) → bytes self.new n ≡ bytes self.old n };
 
-    ghost failures = { λ f. f.failures.count };
-
-    fn read<A: Allocator + Copy>(&mut self, alloc: A, name: &str) -> Result<Vec<u8, A>, FileError> {
-        let outcome = read_file(self.rt, alloc, name);
-        if let Err(FileError::CannotRead) = outcome {
-            self.failures.add_one();
-        }
-        outcome
-    }
-}
-
-fn read_file<A: Allocator + Copy>(
-    rt: &impl rt::Files,
-    alloc: A,
-    name: &str,
-) -> Result<Vec<u8, A>, FileError> {
-    let mut file = fs::open(rt, name).map_err(|e| cause_of(&e))?;
-    let mut bytes = Vec::new(alloc);
-    file.read_to_end(&mut bytes).map_err(|e| cause_of(&e))?;
-    Ok(bytes)
-}
-
-fn cause_of(error: &io::Error) -> FileError {
-    match error.kind() {
-        io::ErrorKind::OutOfMemory => FileError::Memory,
-        _ => FileError::CannotRead,
-    }
+    /// Lets a source go. Its failures count.
+    fn shut(&mut self, source: Self::Source)
+        ensures counted { failures self.new ≡ failures self.old + Self.Source.failures source }
+        ensures same { (n : List ℕ) → bytes self.new n ≡ bytes self.old n };
 }

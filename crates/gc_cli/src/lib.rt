@@ -2,11 +2,15 @@
 #![tactic(auto)]
 
 mod check;
+mod circuit_file;
+mod deal;
 mod evaluation;
-mod failures;
 mod fault;
+mod file_failures;
 mod files;
+mod garble;
 mod garbling;
+mod host_files;
 mod lines;
 mod order;
 mod plain;
@@ -14,10 +18,12 @@ mod program;
 mod run;
 mod values;
 mod work;
+mod wrote;
 
-pub use failures::FailureCount;
 pub use fault::Fault;
-pub use files::{FileError, Files, HostFiles};
+pub use file_failures::FileFailures;
+pub use files::{FileError, Files};
+pub use host_files::{HostFiles, read_all};
 pub use order::{Order, order_of};
-pub use program::serve;
+pub use program::{refuse_line, serve};
 pub use work::carry_out;

@@ -4,10 +4,10 @@ ghost use Rattle.std.specs.Prelude.{◌≡◌, ℕ, List, map, IfOk, IfErr, IfSo
 ghost use Rattle.gc_cli.specs.Plain.{AnswersPlain, HasPlainFault};
 ghost use Rattle.gc_cli.specs.CarryOut.{HasCause};
 
+use crate::circuit_file::read_circuit;
 use crate::fault::Fault;
 use crate::files::Files;
 use crate::lines::output_lines;
-use crate::run::read_circuit;
 use crate::values::read_values;
 use gc_circuit::{ReadFault, plain_eval};
 use std::alloc::Allocator;

@@ -1,15 +1,15 @@
 //! A whole run of the program, from the words of its command line to its status.
 
-ghost use Rattle.std.specs.Prelude.{◌≡◌, ◌≤◌, map, string_bytes, IsOk};
+ghost use Rattle.std.specs.Prelude.{◌≡◌, ◌↔◌, ◌⊎◌, map, string_bytes, IsOk, OnOk};
 ghost use Rattle.std.specs.Io.KnownBytes.{Appends, Keeps};
-ghost use Rattle.gc_cli.specs.Serve.{IsDone, IsMistaken};
+ghost use Rattle.gc_cli.specs.Serve.{IsDone, IsFaulty, IsMistaken, fault_line};
 
 use crate::fault::Fault;
 use crate::files::Files;
 use crate::order::order_of;
 use crate::work::carry_out;
 use std::alloc::Global;
-use std::io::{self, Write};
+use std::io::{self, ErrorKind, Write};
 
 /// The status of a run that did what it was asked.
 const DONE: u8 = 0;
@@ -22,7 +22,7 @@ const USAGE: u8 = 2;
 
 /// Does what the words say, of which the first is the program's name, and answers the status to end with.
 ///
-/// - What the order answers, or help that was asked for, goes to `out`: status 0.
+/// - What the order answers, or the help or the version that was asked for, goes to `out`: status 0.
 /// - A fault goes to `err`, as the line `halfgates: fault CODE NAME`, and nothing to `out`: status 1. So does an
 ///   `out` that can't be written.
 /// - What clap says of words that are no order goes to `err`: status 2. So does the word that clap ran out of memory.
@@ -33,8 +33,11 @@ pub fn serve<F: Files, O: Write, E: Write>(
     out: &mut O,
     err: &mut E,
 ) -> u8
-    ensures status { result ≤ 2 }
-    ensures done { result ≡ DONE → IsDone (F.bytes files.old) (map string_bytes words.now) (Appends (O.contents out.old) (O.contents out.new)) }
+    ensures status { (result ≡ DONE) ⊎ ((result ≡ FAULT) ⊎ (result ≡ USAGE)) }
+    ensures done { result ≡ DONE → IsDone (F.bytes files.old) (F.bytes files.new) (map string_bytes words.now)
+        (Appends (O.contents out.old) (O.contents out.new)) }
+    ensures fault { result ≡ FAULT → IsFaulty (F.bytes files.old) (F.bytes files.new) (map string_bytes words.now)
+        (Keeps (O.contents out.old) (O.contents out.new)) }
     ensures usage { IsMistaken (map string_bytes words.now) → result ≡ USAGE }
 
     // What is known of the outputs stays where nothing is written to them.
@@ -54,11 +57,25 @@ pub fn serve<F: Files, O: Write, E: Write>(
     }
 }
 
+/// Says on `err` that the words of a command line can't be had, as where one is not UTF-8, and answers the status of
+/// words that are no order.
+pub fn refuse_line<E: Write>(error: &io::Error, err: &mut E) -> u8
+    ensures { result ≡ USAGE }
+{
+    let reason = match error.kind() {
+        ErrorKind::InvalidData => "a word is not UTF-8",
+        ErrorKind::OutOfMemory => "out of memory",
+        _ => "its words can't be had",
+    };
+    let _ = writeln!(err, "error: the command line can't be read: {reason}");
+    USAGE
+}
+
 /// The status of a run whose last step was to write to standard output.
 fn status_of<E: Write>(written: io::Result<()>, err: &mut E) -> u8
-    ensures done { result ≡ DONE → IsOk written }
+    ensures status { (result ≡ DONE) ⊎ (result ≡ FAULT) }
+    ensures done { (result ≡ DONE) ↔ IsOk written }
     ensures quiet { result ≡ DONE → Keeps (E.contents err.old) (E.contents err.new) }
-    ensures status { result ≤ 1 }
 {
     match written {
         Ok(()) => DONE,
@@ -70,6 +87,13 @@ fn status_of<E: Write>(written: io::Result<()>, err: &mut E) -> u8
 fn report<E: Write>(fault: Fault, err: &mut E) -> u8
     ensures { result ≡ FAULT }
 {
-    let _ = writeln!(err, "halfgates: {fault}");
+    let _ = write_fault(fault, err);
     FAULT
+}
+
+/// Writes the line of a fault.
+fn write_fault<E: Write>(fault: Fault, err: &mut E) -> io::Result<()>
+    ensures { OnOk result (Appends (E.contents err.old) (E.contents err.new) (fault_line fault)) }
+{
+    writeln!(err, "halfgates: {fault}")
 }

@@ -1,7 +1,7 @@
 //! The values of a command line.
 
 ghost use Rattle.std.specs.Prelude.{map, IfOk, IfErr, string_bytes};
-ghost use Rattle.gc_cli.specs.Run.{HasValueFault, TellValues};
+ghost use Rattle.gc_cli.specs.Values.{HasInputValueFault, HasValueFault, IsInputValue, TellValues};
 
 use crate::fault::Fault;
 use gc_circuit::read_value;
@@ -13,7 +13,8 @@ pub fn read_values<A: Allocator + Copy>(
     widths: &[u32],
     texts: &[String],
 ) -> Result<Vec<Vec<bool, A>, A>, Fault>
-    ensures told { IfOk result (λ values. TellValues widths.now (map string_bytes texts.now) (map (λ value. value.items) values.items)) }
+    ensures told { IfOk result (λ values. TellValues widths.now (map string_bytes texts.now)
+        (map (λ value. value.items) values.items)) }
     ensures fault { IfErr result (HasValueFault widths.now (map string_bytes texts.now)) }
 {
     if texts.len() != widths.len() {
@@ -25,4 +26,20 @@ pub fn read_values<A: Allocator + Copy>(
         values.push(value)?;
     }
     Ok(values)
+}
+
+/// The bits of the input value of this index, among values of these widths.
+pub fn read_input_value<A: Allocator + Copy>(
+    alloc: A,
+    widths: &[u32],
+    index: u32,
+    text: &str,
+) -> Result<Vec<bool, A>, Fault>
+    ensures told { IfOk result (λ bits. IsInputValue widths.now index text.now bits.items) }
+    ensures fault { IfErr result (HasInputValueFault widths.now index text.now) }
+{
+    match widths.get(index as usize) {
+        Some(width) => Ok(read_value(alloc, text.as_bytes(), *width)?),
+        None => Err(Fault::NoSuchValue),
+    }
 }

@@ -1,12 +1,14 @@
 //! Carrying out orders.
 
-ghost use Rattle.std.specs.Prelude.{◌≡◌, ℕ, List, IfOk, IfErr};
+ghost use Rattle.std.specs.Prelude.{◌≡◌, ◌≢◌, ℕ, List, IfOk, IfErr};
 ghost use Rattle.gc_cli.specs.Order.{text_of};
-ghost use Rattle.gc_cli.specs.CarryOut.{Answers, HasFault, HasCause};
+ghost use Rattle.gc_cli.specs.CarryOut.{Answers, HasFault, HasCause, Writes};
 
 use crate::check::check;
+use crate::deal::deal;
 use crate::fault::Fault;
 use crate::files::Files;
+use crate::garble::garble;
 use crate::order::Order;
 use crate::plain::plain;
 use crate::run::run;
@@ -18,12 +20,18 @@ pub fn carry_out<A: Allocator + Copy, F: Files>(
     order: &Order,
     files: &mut F,
 ) -> Result<Vec<u8, A>, Fault>
-    ensures answers { IfOk result (λ out. Answers (F.bytes files.old) (text_of order.now) out.items) }
+    ensures answers { IfOk result (λ out.
+        Answers (F.bytes files.old) (F.bytes files.new) (text_of order.now) out.items) }
     ensures fault { IfErr result (HasFault (F.bytes files.old) (text_of order.now)) }
 
     // Where a file's bytes are not known, a fault of a file has its cause all the same.
     ensures cause { IfErr result (λ fault. HasCause fault (F.failures files.old) (F.failures files.new)) }
-    ensures same { (name : List ℕ) → F.bytes files.new name ≡ F.bytes files.old name }
+
+    // A file changes only where the order writes it, and is as it was after any fault but that it can't be written.
+    ensures others { (name : List ℕ) → ¬ Writes (text_of order.now) name
+        → F.bytes files.new name ≡ F.bytes files.old name }
+    ensures unwritten { IfErr result (λ fault. fault ≢ Fault.CannotWrite
+        → (name : List ℕ) → F.bytes files.new name ≡ F.bytes files.old name) }
 {
     match order {
         Order::Run {
@@ -33,5 +41,33 @@ pub fn carry_out<A: Allocator + Copy, F: Files>(
         } => run(alloc, circuit.as_str(), seed.as_str(), values, files),
         Order::Check { circuit } => check(alloc, circuit.as_str(), files),
         Order::Plain { circuit, values } => plain(alloc, circuit.as_str(), values, files),
+        Order::Garble {
+            circuit,
+            seed,
+            out,
+            version,
+        } => garble(
+            alloc,
+            circuit.as_str(),
+            seed.as_str(),
+            out.as_str(),
+            *version,
+            files,
+        ),
+        Order::Deal {
+            circuit,
+            seed,
+            index,
+            value,
+            out,
+        } => deal(
+            alloc,
+            circuit.as_str(),
+            seed.as_str(),
+            *index,
+            value.as_str(),
+            out.as_str(),
+            files,
+        ),
     }
 }

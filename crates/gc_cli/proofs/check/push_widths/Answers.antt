@@ -3,4 +3,5 @@ use Rattle.gc_cli.proofs.CheckLemmas.{widths_done}
 use Rattle.gc_cli.proofs.check.push_widths.Goals as goal
 
 pub returns : goal.returns
-returns g c = c.in_ok-push.ensures.items ∙ ap (λ t. t ++ 10 ∷ []) c.loop-width.invariant ∙ widths_done _ _ c.args.widths.now c.loop-width.width-index (omega arith)
+returns g c = c.in_ok-push.ensures.items ∙ ap (λ t. t ++ 10 ∷ []) c.loop-width.invariant
+    ∙ widths_done _ _ c.args.widths.now c.loop-width.width-index (omega arith)

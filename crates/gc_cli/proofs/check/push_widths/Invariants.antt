@@ -4,4 +4,5 @@ use Rattle.gc_cli.proofs.check.push_widths.Given as goal
 
 abbrev pub invariant-loop-width : goal.invariant-loop-width
 invariant-loop-width g l =
-    l.lines.items ≡ l.fn.lines.items ++ l.name ++ 32 ∷ decimal (length l.widths) ++ numbers_after (take l.width-index l.widths)
+    l.lines.items ≡ l.fn.lines.items ++ l.name ++ 32 ∷ decimal (length l.widths)
+    ++ numbers_after (take l.width-index l.widths)

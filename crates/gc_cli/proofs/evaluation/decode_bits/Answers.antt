@@ -1,4 +1,4 @@
-use Rattle.std.proofs.Common.{◌≡◌, ◌++◌, [], ◌∷◌, false, take, sym, ap, ◌∙◌}
+use Rattle.std.proofs.Common.{◌++◌, [], ◌∷◌, false, take, sym, ap, ◌∙◌}
 use Rattle.std.proofs.lemmas.List.{take_more}
 use Rattle.std.proofs.lemmas.Option.{slice_get_within, get_or_from_slice_get}
 use Rattle.gc_half.specs.Garbling.{decode_bits_of}
@@ -11,4 +11,5 @@ loop-i-preserved g c =
     let bit = c.decode_bit.result in
     let here = c.decode_bit.ensures in
     rw (c.in_ok-push.ensures.items, c.loop-i.invariant)
-    (ap (λ b. take i all ++ b ∷ []) (sym (get_or_from_slice_get all i bit false here)) ∙ sym (take_more all i false (slice_get_within all i bit here)))
+    (ap (λ b. take i all ++ b ∷ []) (sym (get_or_from_slice_get all i bit false here))
+    ∙ sym (take_more all i false (slice_get_within all i bit here)))

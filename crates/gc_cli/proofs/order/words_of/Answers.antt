@@ -1,4 +1,4 @@
-use Rattle.std.proofs.Common.{[], ap, ◌∙◌, sym, map, unwrap_or, string_bytes}
+use Rattle.std.proofs.Common.{[], ap, ◌∙◌, map, unwrap_or, string_bytes}
 use Rattle.std.proofs.lemmas.Result.{IfOk-weaker}
 use Rattle.clap.specs.Words.{found_of}
 use Rattle.clap.proofs.WalkLemmas.{raw_values-rows}
@@ -7,7 +7,8 @@ use Rattle.gc_cli.proofs.order.words_of.Goals as goal
 pub returns-in-Some : goal.returns-in-Some
 returns-in-Some c =
     let rows = c.in-Some.ensures ∙ raw_values-rows (found_of c.args.found.now) c.args.id.now in
-    IfOk-weaker c.copies_of.result _ _ (λ words copied. copied ∙ ap (λ o. unwrap_or o []) rows) c.copies_of.ensures
+    IfOk-weaker c.copies_of.result _ _
+    (λ words copied. copied ∙ ap (λ o. unwrap_or o []) rows) c.copies_of.ensures
 
 pub returns-in-None : goal.returns-in-None
 returns-in-None c =

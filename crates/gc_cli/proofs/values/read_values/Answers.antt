@@ -1,11 +1,12 @@
-use Rattle.std.proofs.Common.{◌≡◌, [], drop, length, map, string_bytes, subst, arith}
+use Rattle.std.proofs.Common.{◌≡◌, [], drop, arith}
 use Rattle.std.proofs.lemmas.List.{append-nil, drop_all}
-use Rattle.gc_cli.specs.Run.{TellValues}
 use Rattle.gc_cli.proofs.values.read_values.Goals as goal
 
 pub returns-clause-told : goal.returns-clause-told
 returns-clause-told g c =
     let told = c.loop-i.invariant.values [] in
-    let no_width : drop c.loop-i.i c.args.widths.now ≡ [] = drop_all c.loop-i.i c.args.widths.now (omega arith) in
-    let no_text : drop c.loop-i.i c.args.texts.now ≡ [] = drop_all c.loop-i.i c.args.texts.now (omega arith) in
+    let no_width : drop c.loop-i.i c.args.widths.now ≡ [] =
+    drop_all c.loop-i.i c.args.widths.now (omega arith) in
+    let no_text : drop c.loop-i.i c.args.texts.now ≡ [] =
+    drop_all c.loop-i.i c.args.texts.now (omega arith) in
     rw append-nil at (told (rw (no_width, no_text) tt))

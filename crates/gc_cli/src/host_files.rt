@@ -1,0 +1,125 @@
+//! The files of the system that the program runs on.
+
+ghost use Rattle.std.specs.Prelude.{◌≡◌, ◌≢◌, ◌↔◌, None, IfOk, IfErr, IfSome, OnOk};
+ghost use Rattle.std.specs.Io.KnownBytes.{IsAtEnd};
+ghost use Rattle.std.specs.IoError.{error_kind};
+
+use crate::file_failures::FileFailures;
+use crate::files::{FileError, Files};
+use gc_file::{InSource, OutSink};
+use std::alloc::Allocator;
+use std::io::{self, ErrorKind, Read, Write};
+use std::{fs, rt};
+
+/// The files of a runtime. Nothing is known of their bytes.
+#[derive(Drop)]
+pub struct HostFiles<'r, R: rt::Files> {
+    rt: &'r R,
+    failures: FileFailures<OutSink<R::File>, InSource<R::File>>,
+}
+
+impl<'r, R: rt::Files> HostFiles<'r, R> {
+    /// The files of this runtime. No failure is counted yet.
+    pub fn new(rt: &'r R) -> HostFiles<'r, R>
+        ensures { result.failures ≡ 0 }
+    {
+        HostFiles {
+            rt,
+            failures: FileFailures::new(),
+        }
+    }
+}
+
+impl<'r, R: rt::Files> Files for HostFiles<'r, R> {
+    type Sink = OutSink<R::File>;
+
+    type Source = InSource<R::File>;
+
+    ghost bytes = { λ _ _. None };
+
+    ghost failures = { λ f. f.failures };
+
+    fn read<A: Allocator + Copy>(&mut self, alloc: A, name: &str) -> Result<Vec<u8, A>, FileError> {
+        let outcome = read_file(self.rt, alloc, name);
+        if let Err(FileError::CannotRead) = outcome {
+            self.failures.add_one();
+        }
+        outcome
+    }
+
+    fn create(&mut self, name: &str) -> Result<OutSink<R::File>, FileError> {
+        match fs::create(self.rt, name) {
+            Ok(file) => Ok(OutSink::new(file)),
+            Err(_) => {
+                self.failures.add_one();
+                Err(FileError::CannotWrite)
+            }
+        }
+    }
+
+    fn keep(&mut self, _name: &str, sink: OutSink<R::File>) -> Result<(), FileError> {
+        self.failures.add_sink(&sink);
+        match sink.into_inner().flush() {
+            Ok(()) => Ok(()),
+            Err(_) => {
+                self.failures.add_one();
+                Err(FileError::CannotWrite)
+            }
+        }
+    }
+
+    fn open(&mut self, name: &str) -> Result<InSource<R::File>, FileError> {
+        match fs::open(self.rt, name) {
+            Ok(file) => Ok(InSource::new(file)),
+            Err(error) => {
+                let cause = cause_of(&error);
+                if let FileError::CannotRead = cause {
+                    self.failures.add_one();
+                }
+                Err(cause)
+            }
+        }
+    }
+
+    fn shut(&mut self, source: InSource<R::File>) {
+        self.failures.add_source(&source);
+    }
+}
+
+fn read_file<A: Allocator>(
+    rt: &impl rt::Files,
+    alloc: A,
+    name: &str,
+) -> Result<Vec<u8, A>, FileError>
+    ensures { IfErr result (λ e. e ≢ FileError.CannotWrite) }
+{
+    match fs::open(rt, name) {
+        Ok(mut file) => read_all(alloc, &mut file),
+        Err(error) => Err(cause_of(&error)),
+    }
+}
+
+/// All the bytes that a reader has left. `Memory` comes where they could not be kept, and `CannotRead` where the
+/// reader failed otherwise.
+pub fn read_all<A: Allocator, R: Read>(alloc: A, reader: &mut R) -> Result<Vec<u8, A>, FileError>
+    ensures bytes { IfOk result (λ v. IfSome (R.remaining reader.old) (λ bytes. v.items ≡ bytes)) }
+    ensures end { OnOk result (IsAtEnd (R.remaining reader.new)) }
+    ensures error { IfErr result (λ e. e ≢ FileError.CannotWrite) }
+{
+    let mut bytes = Vec::new(alloc);
+    match reader.read_to_end(&mut bytes) {
+        Ok(_) => Ok(bytes),
+        Err(error) => Err(cause_of(&error)),
+    }
+}
+
+/// Why a file's bytes could not be had, where this was the error.
+fn cause_of(error: &io::Error) -> FileError
+    ensures memory { (result ≡ FileError.Memory) ↔ (error_kind error.now ≡ ErrorKind.OutOfMemory) }
+    ensures reading { result ≢ FileError.CannotWrite }
+{
+    match error.kind() {
+        ErrorKind::OutOfMemory => FileError::Memory,
+        _ => FileError::CannotRead,
+    }
+}
