@@ -1,8 +1,10 @@
 //! Tests of the words of command lines: help, orders, and words that are neither.
 
 use crate::circuits::FULL_ADDER;
-use crate::serving::{SEED, copies_of, serves};
-use gc_cli::{Order, order_of};
+use crate::serving::{Closed, SEED, copies_of, serve_over};
+use gc_cli::{Order, order_of, refuse_line};
+use std::alloc::Global;
+use std::io::ErrorKind;
 use std::test::Fail;
 
 const RUN_HELP: &str = "\
@@ -31,23 +33,31 @@ Garbles Boolean circuits, and evaluates them garbled
 Usage: halfgates <COMMAND>
 
 Commands:
-  run    Garbles a circuit, and evaluates it garbled on the given values
-  plain  Evaluates a circuit on the given values, without garbling
-  check  Tells a circuit's numbers and its digest
+  run     Garbles a circuit, and evaluates it garbled on the given values
+  plain   Evaluates a circuit on the given values, without garbling
+  check   Tells a circuit's numbers and its digest
+  garble  Garbles a circuit into a file
+  deal    Writes the labels of an input value into a file
 
 Options:
-  -h, --help  Print help
+  -h, --help     Print help
+  -V, --version  Print version
 ";
 
+const VERSION: &str = "halfgates 0.1.0\n";
+
 #[test]
-fn prints_help_that_is_asked_for(rt: HostRuntime) -> Result<(), Fail> {
-    let rows: [(&[&str], &str); 3] = [
+fn prints_a_text_that_is_asked_for(rt: HostRuntime) -> Result<(), Fail> {
+    let rows: [(&[&str], &str); 5] = [
         (&["halfgates", "--help"], HELP),
         (&["halfgates", "-h"], HELP),
         (&["halfgates", "run", "--help"], RUN_HELP),
+        (&["halfgates", "--version"], VERSION),
+        (&["halfgates", "-V"], VERSION),
     ];
-    for (words, help) in rows {
-        serves(&rt, rt.alloc(), FULL_ADDER, words, 0, help, "")?;
+    for (words, text) in rows {
+        let served = serve_over(rt.alloc(), FULL_ADDER, words)?;
+        assert_eq!(rt; served.parts(), (0, text, ""));
     }
     Ok(())
 }
@@ -73,9 +83,40 @@ fn refuses_words_that_are_no_order(rt: HostRuntime) -> Result<(), Fail> {
         (&["halfgates", "check", "c.txt", "1"], no_values),
     ];
     for (words, errors) in rows {
-        serves(&rt, rt.alloc(), FULL_ADDER, words, 2, "", errors)?;
+        let served = serve_over(rt.alloc(), FULL_ADDER, words)?;
+        assert_eq!(rt; served.parts(), (2, "", errors));
     }
     Ok(())
+}
+
+/// A line whose words can't be had is a line that can't be read, whether or not that can be said.
+#[test]
+fn refuses_words_that_cannot_be_had(rt: HostRuntime) {
+    let rows = [
+        (
+            ErrorKind::InvalidData,
+            "error: the command line can't be read: a word is not UTF-8\n",
+        ),
+        (
+            ErrorKind::OutOfMemory,
+            "error: the command line can't be read: out of memory\n",
+        ),
+        (
+            ErrorKind::Other,
+            "error: the command line can't be read: its words can't be had\n",
+        ),
+    ];
+    for (kind, errors) in rows {
+        let mut err = Vec::new(rt.alloc());
+        assert_eq!(rt; refuse_line(&kind.into(), &mut err), 2);
+        assert_eq!(rt; err.as_slice(), errors.as_bytes());
+        assert_eq!(rt; refuse_line(&kind.into(), &mut Closed), 2);
+    }
+}
+
+/// The order that these words give.
+fn order_told(alloc: Global, words: &[&str]) -> Result<Order, Fail> {
+    Ok(order_of(alloc, &copies_of(alloc, words)?)?)
 }
 
 #[test]
@@ -86,20 +127,17 @@ fn reads_an_order(rt: HostRuntime) -> Result<(), Fail> {
         seed: String::from_str(alloc, "s")?,
         values: copies_of(alloc, &["1", "x0", ""])?,
     };
+    let words = ["halfgates", "run", "--", "-c", "s", "1", "x0", ""];
+    assert_eq!(rt; order_told(alloc, &words)?, run);
     let plain = Order::Plain {
         circuit: String::from_str(alloc, "c.txt")?,
         values: copies_of(alloc, &["1", "--"])?,
     };
+    let words = ["halfgates", "plain", "c.txt", "1", "--", "--"];
+    assert_eq!(rt; order_told(alloc, &words)?, plain);
     let check = Order::Check {
         circuit: String::from_str(alloc, "c.txt")?,
     };
-    let lines: [(&[&str], Order); 3] = [
-        (&["halfgates", "run", "--", "-c", "s", "1", "x0", ""], run),
-        (&["halfgates", "plain", "c.txt", "1", "--", "--"], plain),
-        (&["halfgates", "check", "c.txt"], check),
-    ];
-    for (words, order) in &lines {
-        assert_eq!(rt; &order_of(alloc, &copies_of(alloc, words)?)?, order);
-    }
+    assert_eq!(rt; order_told(alloc, &["halfgates", "check", "c.txt"])?, check);
     Ok(())
 }

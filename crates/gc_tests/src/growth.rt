@@ -1,7 +1,7 @@
 //! Each growth of a call refused in turn: the call answers its Memory fault exactly where a growth was refused, and the
-//! plain answer where none was.
+//! plain answer where none was, also after a refusal.
 
-use crate::circuits::{FULL_ADDER, one_zero_one};
+use crate::circuits::{ADDER_DIGEST, ADDER_LINES, FULL_ADDER, one_zero_one};
 use crate::mem_files::MemFiles;
 use crate::serving::{SEED, copies_of, plain_words, run_words};
 use gc_circuit::{
@@ -14,13 +14,13 @@ use gc_half::garble_one_thread;
 use gc_label::{Label, Seed, fill_input_labels};
 use gc_refusing::Refusing;
 use gc_store::{Sealed, Store};
-use std::alloc::Global;
+use std::alloc::{AllocError, Global};
 use std::process::Abort;
 use std::test::Fail;
 
 /// What a call answered.
 #[derive(Clone, Copy, PartialEq, Eq, Debug)]
-enum Answer {
+pub(crate) enum Answer {
     /// What it answers with ample memory.
     Plain,
     /// Its Memory fault.
@@ -29,12 +29,17 @@ enum Answer {
     Other,
 }
 
-fn plain_if(holds: bool) -> Answer {
+pub(crate) fn plain_if(holds: bool) -> Answer {
     if holds { Answer::Plain } else { Answer::Other }
 }
 
-/// Makes the call with growth 1, 2, 3, .. refused, until a run meets no refusal. The answer is how many runs met one.
-fn runs_refused<F: Fn(&Refusing<Global>) -> Answer>(rt: &impl Abort, alloc: Global, call: F) -> u64
+/// Makes the call with growth 1, 2, 3, .. refused, until a run meets no refusal. The same call with ample memory then gives
+/// the plain answer. The answer is how many runs met a refusal.
+pub(crate) fn runs_refused<F: Fn(&Refusing<Global>) -> Answer>(
+    rt: &impl Abort,
+    alloc: Global,
+    call: F,
+) -> u64
     requires { F.IsAlwaysCallable call }
 {
     for n in 1..64 {
@@ -45,6 +50,7 @@ fn runs_refused<F: Fn(&Refusing<Global>) -> Answer>(rt: &impl Abort, alloc: Glob
             return n - 1;
         }
         assert_eq!(rt; answer, Answer::Memory, "growth {n} refused");
+        assert_eq!(rt; call(&heap), Answer::Plain, "after growth {n} was refused");
     }
     0
 }
@@ -199,35 +205,31 @@ fn an_opened_store_grows_nothing(rt: HostRuntime) -> Result<(), Fail> {
     Ok(())
 }
 
-/// Carries out the words' order with growth 1, 2, 3, .. refused, and asserts that the fault codes come in this order,
-/// each for one growth or several one after another.
+/// Carries out the words' order with growth 1, 2, 3, .. refused, until a run meets no refusal and has the answer. The
+/// fault codes of the runs before it are told, one for each growth.
 fn codes_of_refusals(
     rt: &impl Abort,
     alloc: Global,
     words: &[&str],
-    answer: &[u8],
-    codes: &[u32],
-) -> Result<(), Fail> {
+    answer: &str,
+) -> Result<Vec<u32>, Fail> {
     let order = order_of(alloc, &copies_of(alloc, words)?)?;
     let file = [("c.txt", FULL_ADDER)];
-    let mut found = Vec::new(alloc);
-    for n in 1..100u64 {
+    let mut codes = Vec::new(alloc);
+    for n in 1..64 {
         let heap = Refusing::nth(alloc, n);
         match carry_out(&heap, &order, &mut MemFiles::new(&file)) {
             Ok(lines) => {
-                assert_eq!(rt; lines.as_slice(), answer);
-                assert_eq!(rt; heap.refused(), 0);
+                assert_eq!(rt; (lines.as_slice(), heap.refused()), (answer.as_bytes(), 0));
+                return Ok(codes);
             }
             Err(fault) => {
                 assert_eq!(rt; heap.refused(), 1);
-                if found.last() != Some(&fault.code()) {
-                    found.push(fault.code())?;
-                }
+                codes.push(fault.code())?;
             }
         }
     }
-    assert_eq!(rt; found.as_slice(), codes);
-    Ok(())
+    Err(Fail::new("each run met a refusal"))
 }
 
 /// A circuit over memory of which each further growth is refused still tells all that it has.
@@ -238,10 +240,7 @@ fn a_circuit_that_is_read_grows_nothing(rt: HostRuntime) -> Result<(), Fail> {
     let heap = Refusing::nth(rt.alloc(), counting.growths().saturating_add(1));
     let circuit = Circuit::read(&heap, FULL_ADDER.as_bytes())?;
     let digest = hex::encode(rt.alloc(), circuit.digest())?;
-    assert_eq!(rt;
-        digest.as_str(),
-        "c07940d5ed062a112dc9abe072fab1395a72f675da449ef95ea0515ec8df7c76"
-    );
+    assert_eq!(rt; digest.as_str(), ADDER_DIGEST);
     assert!(rt; fits(&circuit, &one_zero_one(rt.alloc())?));
     assert_eq!(rt; circuit.gates(), 5);
     assert_eq!(rt; (circuit.wires(), circuit.and_count()), (8, 1));
@@ -258,17 +257,69 @@ fn a_circuit_that_is_read_grows_nothing(rt: HostRuntime) -> Result<(), Fail> {
     Ok(())
 }
 
-/// The memory of each step of the work has its own fault.
+/// A part of the work: the code of its Memory fault, and how many growths it has.
+type Part = (u32, usize);
+
+const FILE: Part = (52, 1);
+
+/// The widths of either side, the gates, and which wires are set.
+const CIRCUIT: Part = (13, 4);
+
+const LIST_OF_VALUES: Part = (52, 1);
+
+const THREE_VALUES: Part = (13, 3);
+
+const PLAIN_EVALUATION: Part = (13, 2);
+
+/// The three lists of the store's circuit, and the store's five tables.
+const GARBLING: Part = (23, 8);
+
+/// The decode bits, the input labels, and the evaluation of these.
+const EVALUATION: Part = (46, 4);
+
+const OUTPUT_LINE: Part = (52, 1);
+
+/// 121 bytes, in room for 8, 16, 32, 64 and 128.
+const CHECK_LINES: Part = (52, 5);
+
+/// The code of each growth of the parts.
+fn codes_of(alloc: Global, parts: &[Part]) -> Result<Vec<u32>, AllocError> {
+    let mut codes = Vec::new(alloc);
+    for (code, growths) in parts {
+        codes.resize(codes.len().saturating_add(*growths), *code)?;
+    }
+    Ok(codes)
+}
+
+/// The memory of each part of the work has its own fault.
 #[test]
 fn carrying_out(rt: HostRuntime) -> Result<(), Fail> {
     let alloc = rt.alloc();
-    // The file's bytes, the circuit, the list of values, a value, that list's growth, garbling, evaluation, the lines.
-    let run = run_words(alloc, SEED, &["1", "0", "1"])?;
-    codes_of_refusals(&rt, alloc, &run, b"01\n", &[52, 13, 52, 13, 23, 46, 52])?;
-    let plain = plain_words(alloc, &["1", "0", "1"])?;
-    codes_of_refusals(&rt, alloc, &plain, b"01\n", &[52, 13, 52, 13, 52])?;
-    let check = ["halfgates", "check", "c.txt"];
-    let lines =
-        b"gates 5\nwires 8\nand 1\ninputs 3 1 1 1\noutputs 1 2\ndigest c07940d5ed062a112dc9abe072fab1395a72f675da449ef95ea0515ec8df7c76\n";
-    codes_of_refusals(&rt, alloc, &check, lines, &[52, 13, 52])
+    let words = run_words(alloc, SEED, &["1", "0", "1"])?;
+    let parts = [
+        FILE,
+        CIRCUIT,
+        LIST_OF_VALUES,
+        THREE_VALUES,
+        GARBLING,
+        EVALUATION,
+        OUTPUT_LINE,
+    ];
+    let codes = codes_of_refusals(&rt, alloc, &words, "01\n")?;
+    assert_eq!(rt; codes, codes_of(alloc, &parts)?);
+    let words = plain_words(alloc, &["1", "0", "1"])?;
+    let parts = [
+        FILE,
+        CIRCUIT,
+        LIST_OF_VALUES,
+        THREE_VALUES,
+        PLAIN_EVALUATION,
+        OUTPUT_LINE,
+    ];
+    let codes = codes_of_refusals(&rt, alloc, &words, "01\n")?;
+    assert_eq!(rt; codes, codes_of(alloc, &parts)?);
+    let words = ["halfgates", "check", "c.txt"];
+    let codes = codes_of_refusals(&rt, alloc, &words, ADDER_LINES)?;
+    assert_eq!(rt; codes, codes_of(alloc, &[FILE, CIRCUIT, CHECK_LINES])?);
+    Ok(())
 }

@@ -1,14 +1,20 @@
 //! Tests of whole runs over files in memory.
 
-use crate::circuits::{AND, CONSTANT, CONSTANT_AND, FULL_ADDER, INV, NO_GATES, SQUARE, WIDE, XOR};
+use crate::circuits::{
+    AND, CONSTANT, CONSTANT_AND, FAR_COPY, FULL_ADDER, INV, NO_GATES, SQUARE, WIDE, XOR,
+    ZERO_CONSTANT,
+};
 use crate::mem_files::MemFiles;
-use crate::serving::{Closed, SEED, copies_of, plain_words, run_words, serves};
+use crate::serving::{Closed, SEED, copies_of, plain_words, run_words, serve_over};
+use gc_circuit::{ReadFault, ValueFault};
 use gc_cli::{Fault, carry_out, order_of, serve};
-use std::alloc::Global;
-use std::process::Abort;
+use std::alloc::{AllocError, Global};
 use std::test::Fail;
 
-static RUNS: [(&str, &[&str], &str); 21] = [
+static RUNS: [(&str, &[&str], &str); 27] = [
+    (XOR, &["0", "0"], "0\n"),
+    (XOR, &["1", "0"], "1\n"),
+    (XOR, &["0", "1"], "1\n"),
     (XOR, &["1", "1"], "0\n"),
     (AND, &["0", "0"], "0\n"),
     (AND, &["1", "0"], "0\n"),
@@ -16,7 +22,10 @@ static RUNS: [(&str, &[&str], &str); 21] = [
     (AND, &["1", "1"], "1\n"),
     (INV, &["0"], "1\n"),
     (INV, &["1"], "0\n"),
+    (FAR_COPY, &["0"], "0\n"),
+    (FAR_COPY, &["1"], "1\n"),
     (CONSTANT, &[], "1\n"),
+    (ZERO_CONSTANT, &[], "0\n"),
     (CONSTANT_AND, &["0"], "0\n"),
     (CONSTANT_AND, &["1"], "1\n"),
     (NO_GATES, &["10"], "10\n"),
@@ -40,10 +49,10 @@ static RUNS: [(&str, &[&str], &str); 21] = [
 fn runs_circuits(rt: HostRuntime) -> Result<(), Fail> {
     let alloc = rt.alloc();
     for (text, values, output) in &RUNS {
-        let run = run_words(alloc, SEED, values)?;
-        serves(&rt, alloc, text, &run, 0, output, "")?;
-        let plain = plain_words(alloc, values)?;
-        serves(&rt, alloc, text, &plain, 0, output, "")?;
+        let run = serve_over(alloc, text, &run_words(alloc, SEED, values)?)?;
+        let plain = serve_over(alloc, text, &plain_words(alloc, values)?)?;
+        assert_eq!(rt; run.parts(), (0, *output, ""), "of {text:?}");
+        assert_eq!(rt; plain.parts(), (0, *output, ""), "of {text:?}");
     }
     Ok(())
 }
@@ -79,16 +88,9 @@ static VALUE_FAULTS: [(&[&str], &str); 10] = [
     (&["1", "x02", "2"], "17 SpareBits"),
 ];
 
-/// The words end with the fault.
-fn faults(
-    rt: &impl Abort,
-    alloc: Global,
-    text: &str,
-    words: &[&str],
-    fault: &str,
-) -> Result<(), Fail> {
-    let line = format!(in alloc; "halfgates: fault {fault}\n")?;
-    serves(rt, alloc, text, words, 1, "", &line)
+/// The line that tells a fault.
+fn line_of(alloc: Global, fault: &str) -> Result<String, AllocError> {
+    Ok(format!(in alloc; "halfgates: fault {fault}\n")?)
 }
 
 /// The circuit is judged before the seed and the values.
@@ -102,8 +104,10 @@ fn names_the_first_fault_of_a_circuit(rt: HostRuntime) -> Result<(), Fail> {
         &["halfgates", "run", "c.txt", "0", "2"],
     ];
     for (text, fault) in &CIRCUIT_FAULTS {
+        let line = line_of(alloc, fault)?;
         for words in &lines {
-            faults(&rt, alloc, text, words, fault)?;
+            let served = serve_over(alloc, text, words)?;
+            assert_eq!(rt; served.parts(), (1, "", line.as_str()), "of {text:?}");
         }
     }
     Ok(())
@@ -113,10 +117,11 @@ fn names_the_first_fault_of_a_circuit(rt: HostRuntime) -> Result<(), Fail> {
 fn names_the_first_fault_of_values(rt: HostRuntime) -> Result<(), Fail> {
     let alloc = rt.alloc();
     for (values, fault) in &VALUE_FAULTS {
-        let plain = plain_words(alloc, values)?;
-        faults(&rt, alloc, FULL_ADDER, &plain, fault)?;
-        let run = run_words(alloc, SEED, values)?;
-        faults(&rt, alloc, FULL_ADDER, &run, fault)?;
+        let line = line_of(alloc, fault)?;
+        let run = serve_over(alloc, FULL_ADDER, &run_words(alloc, SEED, values)?)?;
+        let plain = serve_over(alloc, FULL_ADDER, &plain_words(alloc, values)?)?;
+        assert_eq!(rt; run.parts(), (1, "", line.as_str()));
+        assert_eq!(rt; plain.parts(), (1, "", line.as_str()));
     }
     Ok(())
 }
@@ -125,13 +130,10 @@ fn names_the_first_fault_of_values(rt: HostRuntime) -> Result<(), Fail> {
 #[test]
 fn names_a_bad_seed(rt: HostRuntime) -> Result<(), Fail> {
     let alloc = rt.alloc();
-    let long = "00000000000000000000000000000000000000000000000000000000000000000";
-    let letter = "000000000000000000000000000000000000000000000000000000000000000g";
-    for seed in ["", "0", long, letter] {
-        for value in ["1", "2"] {
-            let words = run_words(alloc, seed, &[value])?;
-            faults(&rt, alloc, FULL_ADDER, &words, "18 BadSeed")?;
-        }
+    let line = line_of(alloc, "18 BadSeed")?;
+    for (seed, value) in [("", "1"), ("0", "2")] {
+        let served = serve_over(alloc, FULL_ADDER, &run_words(alloc, seed, &[value])?)?;
+        assert_eq!(rt; served.parts(), (1, "", line.as_str()));
     }
     Ok(())
 }
@@ -143,8 +145,10 @@ fn names_a_file_that_is_not_there(rt: HostRuntime) -> Result<(), Fail> {
         &["halfgates", "plain", "other.txt", "1", "0", "1"],
         &["halfgates", "run", "other.txt", SEED, "1", "0", "1"],
     ];
+    let line = line_of(rt.alloc(), "50 CannotRead")?;
     for words in lines {
-        faults(&rt, rt.alloc(), FULL_ADDER, words, "50 CannotRead")?;
+        let served = serve_over(rt.alloc(), FULL_ADDER, words)?;
+        assert_eq!(rt; served.parts(), (1, "", line.as_str()));
     }
     Ok(())
 }
@@ -203,18 +207,17 @@ fn names_an_output_that_takes_nothing(rt: HostRuntime) -> Result<(), Fail> {
     Ok(())
 }
 
+/// The faults that no run above tells.
 #[test]
-fn faults_have_numbers_and_names(rt: HostRuntime) {
+fn want_of_memory_has_numbers(rt: HostRuntime) {
     let faults = [
-        (Fault::WrongCount, 14, "WrongCount"),
-        (Fault::BadSeed, 18, "BadSeed"),
-        (Fault::Garbling, 23, "Memory"),
-        (Fault::Evaluation, 46, "Memory"),
-        (Fault::CannotRead, 50, "CannotRead"),
-        (Fault::CannotWrite, 51, "CannotWrite"),
-        (Fault::Memory, 52, "Memory"),
+        (Fault::Circuit(ReadFault::Memory), 13),
+        (Fault::Value(ValueFault::Memory), 13),
+        (Fault::Garbling, 23),
+        (Fault::Evaluation, 46),
+        (Fault::Memory, 52),
     ];
-    for (fault, code, name) in faults {
-        assert_eq!(rt; (fault.code(), fault.name()), (code, name));
+    for (fault, code) in faults {
+        assert_eq!(rt; (fault.code(), fault.name()), (code, "Memory"));
     }
 }

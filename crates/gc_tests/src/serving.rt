@@ -4,7 +4,6 @@ use crate::mem_files::MemFiles;
 use gc_cli::serve;
 use std::alloc::{AllocError, Global};
 use std::io::{self, Write};
-use std::process::Abort;
 use std::test::Fail;
 
 /// A seed of zeros.
@@ -33,26 +32,34 @@ impl Write for Closed {
     }
 }
 
-/// Serves the words over one file `c.txt`, and asserts the status and what was written.
-pub(crate) fn serves(
-    rt: &impl Abort,
-    alloc: Global,
-    text: &str,
-    words: &[&str],
+/// What serving words gives.
+#[derive(Drop)]
+pub(crate) struct Served {
     status: u8,
-    output: &str,
-    errors: &str,
-) -> Result<(), Fail> {
+    output: String,
+    errors: String,
+}
+
+impl Served {
+    /// The status, and what was written on standard output and on standard error.
+    pub(crate) fn parts(&self) -> (u8, &str, &str) {
+        (self.status, &self.output, &self.errors)
+    }
+}
+
+/// Serves the words over one file `c.txt`.
+pub(crate) fn serve_over(alloc: Global, text: &str, words: &[&str]) -> Result<Served, Fail> {
     let words = copies_of(alloc, words)?;
     let file = [("c.txt", text)];
     let mut files = MemFiles::new(&file);
-    let mut out = Vec::new(alloc);
-    let mut err = Vec::new(alloc);
-    let ended = serve(alloc, &words, &mut files, &mut out, &mut err);
-    assert_eq!(rt; out.as_slice(), output.as_bytes(), "of {text:?}");
-    assert_eq!(rt; err.as_slice(), errors.as_bytes(), "of {text:?}");
-    assert_eq!(rt; ended, status, "of {text:?}");
-    Ok(())
+    let mut output = Vec::new(alloc);
+    let mut errors = Vec::new(alloc);
+    let status = serve(alloc, &words, &mut files, &mut output, &mut errors);
+    Ok(Served {
+        status,
+        output: String::from_utf8(output)?,
+        errors: String::from_utf8(errors)?,
+    })
 }
 
 /// The words of a run over `c.txt`.

@@ -1,0 +1,259 @@
+//! Tests of half gates: the hash, the rows of AND gates, and the garblings of small circuits.
+//!
+//! The expected hashes, zero labels and rows are what this Python prints, with the labels R, A and B:
+//!
+//! ```text
+//! from hashlib import sha256
+//! def H(l, j):
+//!     text = l.to_bytes(16, 'big') + j.to_bytes(8, 'little')
+//!     return int.from_bytes(sha256(text).digest()[:16], 'big')
+//! def p(l): return l >> 120 & 1
+//! def garble(k, a, b):
+//!     tg = H(a, 2 * k) ^ H(a ^ R, 2 * k) ^ p(b) * R
+//!     te = H(b, 2 * k + 1) ^ H(b ^ R, 2 * k + 1) ^ a
+//!     return H(a, 2 * k) ^ p(a) * tg ^ H(b, 2 * k + 1) ^ p(b) * (te ^ a), tg, te
+//! for l, j in ((A, 0), (A, 1), (B, 0x0102030405060708), (0, 2**64 - 1)): print('%032x' % H(l, j))
+//! for k, a, b in ((0, A, B), (0, B, A), (0, B, B ^ R), (2**32 - 1, A ^ R, B)):
+//!     print('%032x %032x %032x' % garble(k, a, b))
+//! c, _, _ = garble(0, A, B)
+//! print('%032x %032x %032x' % garble(1, c ^ R, A))
+//! ```
+
+use crate::circuits::{AND, AND_INV_AND, CONSTANT, FAR_COPY, INV, NO_GATES, XOR, ZERO_CONSTANT};
+use crate::labels::{A, B, R, label};
+use gc_circuit::Circuit;
+use gc_half::{Garbling, RowPair, eval_and, garble_and, garble_one_thread, tweak_hash};
+use gc_label::{Label, Seed, offset};
+use std::process::Abort;
+use std::test::Fail;
+
+#[test]
+fn hashes(rt: HostRuntime) {
+    for (number, tweak, want) in [
+        (A, 0, 0x47a995366fc0b328c6cbf8e2cb0ec6a2),
+        (A, 1, 0x614667d2b623ff2769bc29992d732048),
+        (B, 0x0102030405060708, 0xe429e4d3233a1964d3d1f847f936cf19),
+        (0, u64::MAX, 0x0fba003e5d62756059b291c7aeefed2b),
+    ] {
+        assert_eq!(rt;
+            tweak_hash(label(number), tweak),
+            label(want),
+            "tweak {tweak}"
+        );
+    }
+}
+
+/// The zero label of the first AND gate's wire where it reads the input wires 0 and 1, and its rows.
+const FIRST_AND: (u128, u128, u128) = (
+    0x4da3522f101cbfa705f185f57f1b9538,
+    0xdd11d0a73fd8455816559c223b1bca52,
+    0x7a962e6d92d4a4db49c46e62392ddf4e,
+);
+
+/// The number of an AND gate, the zero labels that it reads, and what they give. They have both colours, and the gates
+/// are the first and the last that have a number.
+static AND_GATES: [(u32, u128, u128, (u128, u128, u128)); 4] = [
+    (0, A, B, FIRST_AND),
+    (
+        0,
+        B,
+        A,
+        (
+            0xf4f64ce145290daac0e2062f3fa1f0e7,
+            0x04892532a3fd5817fe0107eaed42ca17,
+            0x1d6a50b8b2a30b3bdb65767f3ca460eb,
+        ),
+    ),
+    (
+        0,
+        B,
+        B ^ R,
+        (
+            0x8580354950faf8ecd07058c319a063bb,
+            0x04892532a3fd5817fe0107eaed42ca17,
+            0x1d056ea9630e014c96d661910a8298be,
+        ),
+    ),
+    (
+        u32::MAX,
+        A ^ R,
+        B,
+        (
+            0x25eb6478bc5ca3dc61a65a3988feaae4,
+            0xb558cc438b74ce8f252a1a716273f552,
+            0x738ed97f714af708f7cae09ee5fd9f60,
+        ),
+    ),
+];
+
+/// The rows take the labels of two bits to the label of their conjunction.
+#[test]
+fn and_gates(rt: HostRuntime) {
+    let offset = offset(&Seed::from_bytes([0; 32]));
+    for (k, a, b, (zero, generator, evaluator)) in AND_GATES {
+        let rows = (label(generator), label(evaluator));
+        let garbled = garble_and(k, offset, label(a), label(b));
+        assert_eq!(rt; garbled, (label(zero), rows.0, rows.1));
+        for (x, y, active) in [
+            (a, b, zero),
+            (a ^ R, b, zero),
+            (a, b ^ R, zero),
+            (a ^ R, b ^ R, zero ^ R),
+        ] {
+            assert_eq!(rt;
+                eval_and(k, rows.0, rows.1, label(x), label(y)),
+                label(active)
+            );
+        }
+    }
+}
+
+/// The garbling of a circuit under the seed of 32 zero bytes.
+#[derive(Clone, Copy)]
+struct Expected {
+    text: &'static str,
+    zero_labels: &'static [u128],
+    rows: &'static [(u128, u128)],
+    decode_bits: &'static [bool],
+}
+
+const SECOND_AND: (u128, u128, u128) = (
+    0xac8baad75250441b55d9dcef8de4d978,
+    0x7c91c10f0f06f82fa77ce8a4a76f1353,
+    0x7cc5cc60c5dc38e3f18ba8c6cccbf215,
+);
+
+static GARBLINGS: [Expected; 8] = [
+    Expected {
+        text: XOR,
+        zero_labels: &[A, B, A ^ B],
+        rows: &[],
+        decode_bits: &[true],
+    },
+    Expected {
+        text: AND,
+        zero_labels: &[A, B, FIRST_AND.0],
+        rows: &[(FIRST_AND.1, FIRST_AND.2)],
+        decode_bits: &[true],
+    },
+    Expected {
+        text: INV,
+        zero_labels: &[A, A ^ R],
+        rows: &[],
+        decode_bits: &[false],
+    },
+    Expected {
+        text: CONSTANT,
+        zero_labels: &[R],
+        rows: &[],
+        decode_bits: &[true],
+    },
+    Expected {
+        text: ZERO_CONSTANT,
+        zero_labels: &[0],
+        rows: &[],
+        decode_bits: &[false],
+    },
+    // Wires 1 and 2 are not set.
+    Expected {
+        text: FAR_COPY,
+        zero_labels: &[A, 0, 0, A],
+        rows: &[],
+        decode_bits: &[true],
+    },
+    Expected {
+        text: NO_GATES,
+        zero_labels: &[A, B],
+        rows: &[],
+        decode_bits: &[true, false],
+    },
+    Expected {
+        text: AND_INV_AND,
+        zero_labels: &[A, B, FIRST_AND.0, FIRST_AND.0 ^ R, SECOND_AND.0],
+        rows: &[(FIRST_AND.1, FIRST_AND.2), (SECOND_AND.1, SECOND_AND.2)],
+        decode_bits: &[false, false],
+    },
+];
+
+fn has_zero_labels(rt: &impl Abort, garbling: &Garbling, circuit: &Circuit, expected: &Expected) {
+    assert!(rt; garbling.fits(circuit));
+    assert_eq!(rt; circuit.wires() as usize, expected.zero_labels.len());
+    for wire in 0..circuit.wires() {
+        let want = expected.zero_labels[wire as usize];
+        assert_eq!(rt;
+            garbling.zero_label(wire),
+            label(want),
+            "wire {wire} of {}",
+            expected.text
+        );
+    }
+}
+
+fn has_rows(rt: &impl Abort, garbling: &Garbling, expected: &Expected) {
+    assert_eq!(rt; garbling.rows().len(), expected.rows.len());
+    for (pair, (generator, evaluator)) in garbling.rows().iter().zip(expected.rows) {
+        let want = RowPair {
+            generator: label(*generator),
+            evaluator: label(*evaluator),
+        };
+        assert_eq!(rt; *pair, want, "of {}", expected.text);
+    }
+}
+
+fn has_decode_bits(rt: &impl Abort, garbling: &Garbling, expected: &Expected) {
+    assert_eq!(rt; garbling.outputs() as usize, expected.decode_bits.len());
+    for i in 0..garbling.outputs() {
+        let want = expected.decode_bits[i as usize];
+        assert_eq!(rt;
+            garbling.decode_bit(i),
+            want,
+            "output {i} of {}",
+            expected.text
+        );
+    }
+}
+
+#[test]
+fn circuits(rt: HostRuntime) -> Result<(), Fail> {
+    let seed = Seed::from_bytes([0; 32]);
+    for expected in &GARBLINGS {
+        let circuit = Circuit::read(rt.alloc(), expected.text.as_bytes())?;
+        let garbling = garble_one_thread(rt.alloc(), &circuit, &seed)?;
+        has_zero_labels(&rt, &garbling, &circuit, expected);
+        has_rows(&rt, &garbling, expected);
+        has_decode_bits(&rt, &garbling, expected);
+    }
+    Ok(())
+}
+
+/// Numbers of wires, rows and outputs that fit a circuit of one AND gate, or not.
+static NUMBERS: [(usize, usize, u32, bool); 7] = [
+    (3, 1, 1, true),
+    (4, 1, 1, false),
+    (2, 1, 1, false),
+    (3, 0, 1, false),
+    (3, 2, 1, false),
+    (3, 1, 2, false),
+    (3, 1, 0, false),
+];
+
+#[test]
+fn garblings_of_other_numbers_do_not_fit(rt: HostRuntime) -> Result<(), Fail> {
+    let alloc = rt.alloc();
+    let circuit = Circuit::read(alloc, AND.as_bytes())?;
+    let pair = RowPair {
+        generator: Label::ZERO,
+        evaluator: Label::ZERO,
+    };
+    for (wires, rows, outputs, fits) in NUMBERS {
+        let zero_labels = vec![in alloc; Label::ZERO; wires]?;
+        assert!(rt; outputs as usize <= zero_labels.len());
+        let garbling = Garbling::from_parts(zero_labels, vec![in alloc; pair; rows]?, outputs);
+        assert_eq!(rt;
+            garbling.fits(&circuit),
+            fits,
+            "{wires} wires, {rows} rows, {outputs} outputs"
+        );
+    }
+    Ok(())
+}

@@ -1,0 +1,116 @@
+//! Tests of label files: what is written and read, and the faults of bytes that are no file.
+//!
+//! The expected labels are rows of the keystream of the seed of 32 zero bytes, as in the tests of labels: the zero label of
+//! a wire where its bit is 0, and that plus the offset where it is 1.
+
+use crate::circuits::{NO_GATES, XOR};
+use crate::hostile::{each_flip, each_length};
+use crate::labels::{A, B, R, label};
+use gc_circuit::Circuit;
+use gc_file::{FileFault, LabelFile, MemSink, read_labels, write_labels};
+use gc_label::Seed;
+use std::alloc::Global;
+use std::process::Abort;
+use std::test::Fail;
+
+/// The file of the value 1 of one wire, for input value 0: magic, index, width and label.
+const ONE_LABEL: &str = concat!(
+    "484c4142454c5331",
+    "00000000",
+    "01000000",
+    "ca6af915007cd08ae86b8529d8f1b0ef",
+);
+
+/// Circuits, indices and bits of input values, and their files, of 32 and of 48 bytes.
+static FILES: [(&str, u32, &[bool], &str); 3] = [
+    (XOR, 0, &[true], ONE_LABEL),
+    (
+        XOR,
+        1,
+        &[true],
+        concat!(
+            "484c4142454c5331",
+            "01000000",
+            "01000000",
+            "adf9b9d1f1a6751d37798adaeb5ef71f",
+        ),
+    ),
+    (
+        NO_GATES,
+        0,
+        &[true, false],
+        concat!(
+            "484c4142454c5331",
+            "00000000",
+            "02000000",
+            "ca6af915007cd08ae86b8529d8f1b0ef",
+            "da41597c5157488d7724e03fb8d84a37",
+        ),
+    ),
+];
+
+/// The bytes of the label file of an input value under the seed of 32 zero bytes.
+pub(crate) fn label_file(
+    rt: &impl Abort,
+    alloc: Global,
+    circuit: &Circuit,
+    index: u32,
+    bits: &[bool],
+) -> Result<Vec<u8>, Fail> {
+    let seed = Seed::from_bytes([0; 32]);
+    let mut sink = MemSink::new(alloc, None);
+    let widths = circuit.input_widths();
+    assert!(rt; (index as usize) < widths.len() && widths[index as usize] as usize == bits.len());
+    let answer = write_labels(&mut sink, circuit, &seed, index, bits);
+    let bytes = sink.into_bytes();
+    assert_eq!(rt; answer, Ok(bytes.len() as u64));
+    Ok(bytes)
+}
+
+#[test]
+fn are_written(rt: HostRuntime) -> Result<(), Fail> {
+    for (text, index, bits, file) in &FILES {
+        let circuit = Circuit::read(rt.alloc(), text.as_bytes())?;
+        let bytes = label_file(&rt, rt.alloc(), &circuit, *index, bits)?;
+        let shown = hex::encode(rt.alloc(), bytes.as_slice())?;
+        assert_eq!(rt; shown.as_str(), *file, "value {index} of {text:?}");
+    }
+    Ok(())
+}
+
+#[test]
+fn are_read(rt: HostRuntime) -> Result<(), Fail> {
+    let labels = [label(A ^ R), label(B)];
+    for (_, index, bits, file) in &FILES {
+        let labels_of = read_labels(rt.alloc(), &hex::decode(rt.alloc(), *file)?)?;
+        assert_eq!(rt;
+            (labels_of.index(), labels_of.labels().len()),
+            (*index, bits.len())
+        );
+        if bits.len() == 2 {
+            assert_eq!(rt; labels_of.labels(), labels.as_slice());
+        }
+    }
+    Ok(())
+}
+
+/// The faults of the file of one label with one bit flipped, up to each bit: those of the magic, of the index, of the
+/// width and of the label.
+static FLIPS: [(usize, Option<FileFault>); 6] = [
+    (64, Some(FileFault::BadMagic)),
+    (96, None),
+    (97, Some(FileFault::Trailing)),
+    (121, Some(FileFault::Truncated)),
+    (128, Some(FileFault::CountTooLarge)),
+    (256, None),
+];
+
+#[test]
+fn of_other_bytes(rt: HostRuntime) -> Result<(), Fail> {
+    let alloc = rt.alloc();
+    let file = hex::decode(alloc, ONE_LABEL)?;
+    let fault_of = |bytes: &[u8]| read_labels(alloc, bytes).err();
+    each_length(&rt, alloc, &file, &fault_of)?;
+    each_flip(&rt, alloc, &file, &FLIPS, &fault_of)?;
+    Ok(())
+}

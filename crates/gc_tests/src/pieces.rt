@@ -1,0 +1,147 @@
+//! Tests of garbled files that come in pieces, and of sinks and sources that fail.
+
+ghost use Rattle.std.specs.Prelude.{◌≤◌, length};
+
+use crate::circuits::AND;
+use crate::garbled_files::{and_file, write};
+use crate::hostile::flipped;
+use gc_file::{
+    FileFault, Garbled, GarbledReader, InSource, MemSource, TakeFault, Version, WriteFault,
+    read_garbled, read_garbled_from,
+};
+use gc_refusing::Refusing;
+use std::alloc::{Allocator, Global};
+use std::process::Abort;
+use std::test::Fail;
+
+/// Whether both hold the same.
+pub(crate) fn same<A: Allocator, B: Allocator>(one: &Garbled<A>, other: &Garbled<B>) -> bool {
+    one.version() == other.version()
+        && one.digest() == other.digest()
+        && one.rows() == other.rows()
+        && one.decode_bits() == other.decode_bits()
+        && one.entries() == other.entries()
+}
+
+/// Reads a file that is cut in two at this place.
+fn read_in_two(alloc: Global, file: &[u8], place: usize) -> Result<Garbled, FileFault>
+    requires { place ≤ length file.now }
+{
+    let (first, rest) = file.split_at(place);
+    let mut reader = GarbledReader::new(alloc);
+    reader.feed(first)?;
+    reader.feed(rest)?;
+    reader.end()
+}
+
+/// Reads a file byte by byte.
+fn read_by_bytes(alloc: Global, file: &[u8]) -> Result<Garbled, FileFault> {
+    let mut reader = GarbledReader::new(alloc);
+    for byte in file {
+        reader.feed(&[*byte])?;
+    }
+    reader.end()
+}
+
+/// The same file is read whatever its pieces.
+#[test]
+fn of_a_file(rt: HostRuntime) -> Result<(), Fail> {
+    let alloc = rt.alloc();
+    for version in [Version::One, Version::Two] {
+        let file = and_file(alloc, version)?;
+        let whole = read_garbled(alloc, &file)?;
+        assert!(rt; same(&read_by_bytes(alloc, &file)?, &whole));
+        for place in 0..=file.len() {
+            let read = read_in_two(alloc, &file, place)?;
+            assert!(rt; same(&read, &whole), "cut at {place}");
+        }
+    }
+    Ok(())
+}
+
+/// A fault comes at the same byte as in one piece, and is answered again from then on.
+#[test]
+fn after_a_fault(rt: HostRuntime) -> Result<(), Fail> {
+    let alloc = rt.alloc();
+    let file = and_file(alloc, Version::One)?;
+    // A bit of the version, of the number of row pairs, of the decode byte and of the digest, the byte with which the
+    // fault comes, and the fault.
+    for (bit, last, fault) in [
+        (57, 7, FileFault::BadMagic),
+        (351, 43, FileFault::CountTooLarge),
+        (647, 80, FileFault::SpareBits),
+        (64, 112, FileFault::BadTrailer),
+    ] {
+        let bad = flipped(alloc, &file, bit)?;
+        let mut reader = GarbledReader::new(alloc);
+        for (place, byte) in bad.iter().enumerate() {
+            let wanted = if place < last { Ok(()) } else { Err(fault) };
+            assert_eq!(rt; reader.feed(&[*byte]), wanted, "bit {bit}, byte {place}");
+        }
+        assert_eq!(rt; reader.feed(&[]), Err(fault), "bit {bit}");
+        assert_eq!(rt; reader.end().err(), Some(fault), "bit {bit}");
+    }
+    Ok(())
+}
+
+/// A header with the digest of one AND gate, 1,048,576 row pairs and one output.
+const FORGED_HEADER: &str = concat!(
+    "48474152424c4531",
+    "48b39dc66f66f62d8630058dfe655fa07dd8d4398fd1acb1f6ce2a22c3a8fe00",
+    "0000100001000000",
+);
+
+/// A count in a header takes no memory.
+#[test]
+fn of_a_forged_header(rt: HostRuntime) -> Result<(), Fail> {
+    let heap = Refusing::always(rt.alloc());
+    let header = hex::decode(rt.alloc(), FORGED_HEADER)?;
+    let mut reader = GarbledReader::new(&heap);
+    assert_eq!(rt; (header.len(), reader.feed(&header)), (48, Ok(())));
+    assert_eq!(rt; reader.end().err(), Some(FileFault::Truncated));
+    assert_eq!(rt; heap.growths(), 0);
+    Ok(())
+}
+
+/// A sink that fails after some bytes holds just these.
+#[test]
+fn to_a_sink_that_fails(rt: HostRuntime) -> Result<(), Fail> {
+    let alloc = rt.alloc();
+    for version in [Version::One, Version::Two] {
+        let file = and_file(alloc, version)?;
+        for limit in 0..=file.len() {
+            let written = write(&rt, alloc, AND, version, Some(limit))?;
+            let wanted = if limit < file.len() {
+                Err(WriteFault { sent: limit as u64 })
+            } else {
+                Ok(file.len() as u64)
+            };
+            assert_eq!(rt;
+                (written.answer, written.bytes.as_slice()),
+                (wanted, &file[..limit])
+            );
+        }
+    }
+    Ok(())
+}
+
+/// A source that fails after some bytes, its last one too, gives no file.
+#[test]
+fn from_a_source(rt: HostRuntime) -> Result<(), Fail> {
+    let alloc = rt.alloc();
+    for version in [Version::One, Version::Two] {
+        let file = and_file(alloc, version)?;
+        for limit in 0..=file.len() {
+            let mut source = MemSource::new(&file, Some(limit));
+            let wanted = TakeFault::ReadFault { got: limit as u64 };
+            let taken = read_garbled_from(alloc, &mut source);
+            assert_eq!(rt; taken.err(), Some(wanted));
+        }
+        let whole = read_garbled(alloc, &file)?;
+        let taken = read_garbled_from(alloc, &mut MemSource::new(&file, None))?;
+        assert!(rt; same(&taken, &whole));
+        let taken = read_garbled_from(alloc, &mut InSource::new(file.as_slice()))?;
+        assert!(rt; same(&taken, &whole));
+    }
+    Ok(())
+}
