@@ -28,6 +28,7 @@ times() { "$bench" "$2" "$3" "${@:4}" | sed "s/^/$1_/; s/ /=/"; }
 eval "$(times half "$circuit" 9 read plain hashes garble evaluate digest sha)"
 eval "$(times xor "$tmp/xor.txt" 25 open seal store)"
 eval "$(times xor "$tmp/xor.txt" 25 garble)"
+eval "$(times file "$circuit" 9 file_sha write digest read_file pieces)"
 
 per_gate() { awk -v t="$1" -v n="$2" 'BEGIN { printf "%.1f ns a gate", t / n }'; }
 ratio() { awk -v a="$1" -v b="$2" 'BEGIN { printf "%.2f times", a / b }'; }
@@ -49,6 +50,8 @@ echo "garbling XOR gates: $(per_gate "$xor_garble" "$xor_gates") (at most 8)"
 echo "evaluation from labels: $half_evaluate ns, $(ratio "$((2 * half_evaluate))" "$half_hashes") its hashes alone"
 echo "the store above sealing: $(per_gate "$((xor_store - xor_open - xor_seal))" "$xor_gates") (at most 30), and its opening with a copy of the circuit $(per_gate "$xor_open" "$xor_gates")"
 echo "digest: $half_digest ns, $(ratio "$half_digest" "$half_sha") SHA-256 over the canonical text (at most 1.5)"
+echo "writing the garbled file, but for the circuit's digest: $(ratio "$((file_write - file_digest))" "$file_file_sha") SHA-256 over its bytes (at most 1.15)"
+echo "reading it: whole $(ratio "$file_read_file" "$file_file_sha"), in pieces of 4,096 bytes $(ratio "$file_pieces" "$file_file_sha") (at most 1.15)"
 
 # The program itself: its time beside the sum of its parts, and its peak memory beyond the file.
 "$top/halfgates" --help >/dev/null

@@ -3,6 +3,7 @@
 use anyhow::{Result, anyhow};
 use gc_circuit::{Circuit, fits, plain_eval};
 use gc_eval::evaluate_labels;
+use gc_file::{GarbledReader, MemSink, Sink, SinkFault, read_garbled, write_garbled2};
 use gc_half::{Garbling, garble_one_thread, tweak_hash};
 use gc_label::{Label, Seed, fill_input_labels};
 use gc_store::{Sealed, Store, Task};
@@ -32,6 +33,14 @@ pub enum Part {
     Digest,
     /// SHA-256 over the circuit's canonical text, as it lies in memory.
     Sha,
+    /// Writing the garbled file to a sink that takes all. The digest of the circuit is part of it.
+    Write,
+    /// Reading the garbled file whole.
+    ReadFile,
+    /// Reading the garbled file in pieces of 4,096 bytes.
+    Pieces,
+    /// SHA-256 over the bytes of the garbled file.
+    FileSha,
 }
 
 impl Part {
@@ -47,6 +56,10 @@ impl Part {
             "seal" => Some(Part::Seal),
             "digest" => Some(Part::Digest),
             "sha" => Some(Part::Sha),
+            "write" => Some(Part::Write),
+            "read_file" => Some(Part::ReadFile),
+            "pieces" => Some(Part::Pieces),
+            "file_sha" => Some(Part::FileSha),
             _ => None,
         }
     }
@@ -63,6 +76,23 @@ pub struct Subject {
     labels: Vec<Label>,
     tasks: Vec<Task>,
     canonical_text: Vec<u8>,
+    garbled_file: Vec<u8>,
+}
+
+/// A sink that takes all and keeps nothing.
+#[derive(Drop)]
+struct Nowhere;
+
+impl Sink for Nowhere {
+    ghost use Rattle.std.specs.Prelude.{None};
+
+    ghost taken = { λ _. None };
+
+    ghost failures = { λ _. 0 };
+
+    fn put(&mut self, piece: &[u8]) -> Result<usize, SinkFault> {
+        Ok(piece.len())
+    }
 }
 
 impl Subject {
@@ -82,6 +112,7 @@ impl Subject {
         }
         let tasks = tasks_of(alloc, &circuit, seed)?;
         let canonical_text = circuit.canon(alloc)?;
+        let garbled_file = file_of(alloc, &circuit, &garbling, &seed)?;
         Ok(Subject {
             circuit,
             seed,
@@ -91,6 +122,7 @@ impl Subject {
             labels,
             tasks,
             canonical_text,
+            garbled_file,
         })
     }
 
@@ -113,6 +145,12 @@ impl Subject {
             Part::Seal => self.seal()?,
             Part::Digest => not_zeros(self.circuit.digest())?,
             Part::Sha => not_zeros(Sha256::digest(&self.canonical_text))?,
+            Part::Write => {
+                write(&mut Nowhere, &self.circuit, &self.garbling, &self.seed)?;
+            }
+            Part::ReadFile => not_zeros(read_garbled(alloc, &self.garbled_file)?.digest())?,
+            Part::Pieces => self.pieces(alloc)?,
+            Part::FileSha => not_zeros(Sha256::digest(&self.garbled_file))?,
         }
         Ok(())
     }
@@ -148,6 +186,14 @@ impl Subject {
         Ok(())
     }
 
+    fn pieces(&self, alloc: Global) -> Result<()> {
+        let mut reader = GarbledReader::new(alloc);
+        for piece in self.garbled_file.chunks(4096) {
+            reader.feed(piece)?;
+        }
+        not_zeros(reader.end()?.digest())
+    }
+
     fn seal(&self) -> Result<()> {
         let mut last = None;
         for task in &self.tasks {
@@ -170,6 +216,22 @@ impl Subject {
         evaluate_labels(alloc, &self.circuit, rows, &self.decode_bits, &self.labels)?;
         Ok(())
     }
+}
+
+/// Writes the garbled file of version 2.
+fn write<S: Sink>(sink: &mut S, circuit: &Circuit, garbling: &Garbling, seed: &Seed) -> Result<()> {
+    if !garbling.fits(circuit) {
+        return Err(anyhow!("the garbling does not fit"));
+    }
+    write_garbled2(sink, circuit, garbling, seed)?;
+    Ok(())
+}
+
+/// The garbled file of version 2, in memory.
+fn file_of(alloc: Global, circuit: &Circuit, garbling: &Garbling, seed: &Seed) -> Result<Vec<u8>> {
+    let mut sink = MemSink::new(alloc, None);
+    write(&mut sink, circuit, garbling, seed)?;
+    Ok(sink.into_bytes())
 }
 
 /// Uses a digest, so that it has to be computed.
