@@ -159,11 +159,21 @@ bit_small false = omega arith
 
 operation_plain : (op : Operation) (c : ℕ) → c < 2 ^ 32 → EachRead (λ w. w < 2 ^ 32) op
     → AllByRecursion IsPlain (words_of_operation c op)
-operation_plain (Xor a b) c small reads = (omega arith, (omega arith, (reads.0, (reads.1, (small, (name_plain 88 79 82 refl refl refl, tt))))))
-operation_plain (And a b) c small reads = (omega arith, (omega arith, (reads.0, (reads.1, (small, (name_plain 65 78 68 refl refl refl, tt))))))
-operation_plain (Inv a) c small reads = (omega arith, (omega arith, (reads, (small, (name_plain 73 78 86 refl refl refl, tt)))))
-operation_plain (Eq v) c small reads = (omega arith, (omega arith, (bit_small v, (small, (record { some = refl; solid = (refl, (refl, tt)) }, tt)))))
-operation_plain (Eqw a) c small reads = (omega arith, (omega arith, (reads, (small, (name_plain 69 81 87 refl refl refl, tt)))))
+operation_plain (Xor a b) c small reads =
+    (omega arith, (omega arith, (reads.0, (reads.1, (small, (name_plain 88 79 82 refl refl refl, tt))))))
+operation_plain (And a b) c small reads =
+    (omega arith, (omega arith, (reads.0, (reads.1, (small, (name_plain 65 78 68 refl refl refl, tt))))))
+operation_plain (Inv a) c small reads =
+    (omega arith, (omega arith, (reads, (small, (name_plain 73 78 86 refl refl refl, tt)))))
+operation_plain (Eq v) c small reads = (
+  omega arith,
+  (
+    omega arith,
+    (bit_small v, (small, (record { some = refl; solid = (refl, (refl, tt)) }, tt))),
+  ),
+)
+operation_plain (Eqw a) c small reads =
+    (omega arith, (omega arith, (reads, (small, (name_plain 69 81 87 refl refl refl, tt)))))
 
 gates_plain : (gs : List Gate) → ((i : ℕ) (g : Gate) → slice_get gs i ≡ Some g → IsSmallGate g)
     → AllByRecursion (AllByRecursion IsPlain) (map words_of_gate gs)

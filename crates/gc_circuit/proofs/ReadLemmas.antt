@@ -31,7 +31,8 @@ pub tell : (all ts after_count after_wires after_inputs after_outputs rest : Lis
     widths_at c.wires after_inputs ≡ Ok (c.output_widths, after_outputs) →
     inputs ≡ sum c.input_widths → gates_at c.wires inputs count [] after_outputs
     ≡ Ok (c.gates, rest) → Told all c rest
-tell all ts after_count after_wires after_inputs after_outputs rest c count inputs same h_count h_wires h_inputs h_outputs is h_gates =
+tell all ts after_count after_wires after_inputs after_outputs rest c count inputs same h_count h_wires
+    h_inputs h_outputs is h_gates =
     record {
       after_count = after_count;
       after_wires = after_wires;

@@ -40,7 +40,8 @@ module _ (c : Netlist) where
 
   -- All gates passed, all AND gates are counted.
   pub and_number-end : and_number c (length c.gates) ≡ and_count c
-  and_number-end = ap (count_by (λ (x : Gate). is_and x.operation)) (take_all (length c.gates) c.gates (omega arith))
+  and_number-end = ap (count_by (λ (x : Gate). is_and x.operation))
+      (take_all (length c.gates) c.gates (omega arith))
 
   -- An AND number is at most the number of gates before.
   pub and_number-le : (i : ℕ) → and_number c i ≤ i

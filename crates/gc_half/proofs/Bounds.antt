@@ -80,14 +80,18 @@ module _ (k r : ℕ) (small : IsSmall r) (a b : ℕ) (ha : IsSmall a) (hb : IsSm
       (IsSmall-times (colour b) r small)
 
   pub IsSmall-evaluator_row : IsSmall (evaluator_row hash k r a b)
-  IsSmall-evaluator_row = IsSmall-⊕ _ _ (IsSmall-⊕ _ _ (IsSmall-hash b (2 * k + 1)) (IsSmall-hash (b ⊕ r) (2 * k + 1))) ha
+  IsSmall-evaluator_row = IsSmall-⊕ _ _
+      (IsSmall-⊕ _ _ (IsSmall-hash b (2 * k + 1)) (IsSmall-hash (b ⊕ r) (2 * k + 1))) ha
 
   pub IsSmall-and_zero : IsSmall (and_zero hash k r a b)
   IsSmall-and_zero =
-      IsSmall-⊕ _ _ (IsSmall-⊕ _ _ (IsSmall-hash a (2 * k)) (IsSmall-times (colour a) _ IsSmall-generator_row))
-      (IsSmall-⊕ _ _ (IsSmall-hash b (2 * k + 1)) (IsSmall-times (colour b) _ (IsSmall-⊕ _ _ IsSmall-evaluator_row ha)))
+      IsSmall-⊕ _ _ (IsSmall-⊕ _ _ (IsSmall-hash a (2 * k))
+      (IsSmall-times (colour a) _ IsSmall-generator_row))
+      (IsSmall-⊕ _ _ (IsSmall-hash b (2 * k + 1))
+      (IsSmall-times (colour b) _ (IsSmall-⊕ _ _ IsSmall-evaluator_row ha)))
 
-pub IsSmall-zero_of : (r : ℕ) → IsSmall r → (label : ℕ → ℕ) → ((w : ℕ) → IsSmall (label w)) → (k : ℕ) (op : Operation) →
+pub IsSmall-zero_of : (r : ℕ) → IsSmall r → (label : ℕ → ℕ) → ((w : ℕ) → IsSmall (label w))
+    → (k : ℕ) (op : Operation) →
     IsSmall (zero_of hash r label k op)
 IsSmall-zero_of r small label h k (Xor a b) = IsSmall-⊕ (label a) (label b) (h a) (h b)
 IsSmall-zero_of r small label h k (And a b) = IsSmall-and_zero k r small (label a) (label b) (h a) (h b)
@@ -98,7 +102,8 @@ IsSmall-zero_of r small label h k (Eqw a) = h a
 -- ---- the garbling under a seed
 
 module _ (rule : (ℕ → ℕ) → ℕ → Gate → ℕ)
-    (keeps : (values : ℕ → ℕ) (i : ℕ) (g : Gate) → ((w : ℕ) → IsSmall (values w)) → IsSmall (rule values i g)) where
+    (keeps : (values : ℕ → ℕ) (i : ℕ) (g : Gate) → ((w : ℕ) → IsSmall (values w))
+    → IsSmall (rule values i g)) where
   small-put_gate : (values : ℕ → ℕ) (i : ℕ) (o : Option Gate) → ((w : ℕ) → IsSmall (values w)) → (w : ℕ)
       → IsSmall (put_gate rule values i o w)
   small-put_gate values i None h w = h w
@@ -135,7 +140,8 @@ module _ (c : Netlist) (seed : List ℕ) where
   abbrev pub AreSmallRows : RowPair → Type 0
   AreSmallRows pair = IsSmall pair.generator × IsSmall pair.evaluator
 
-  pushed : (pairs : List RowPair) (pair last : RowPair) (k : ℕ) → slice_get (pairs ++ last ∷ []) k ≡ Some pair →
+  pushed : (pairs : List RowPair) (pair last : RowPair) (k : ℕ)
+      → slice_get (pairs ++ last ∷ []) k ≡ Some pair →
       (slice_get pairs k ≡ Some pair) ⊎ (last ≡ pair)
   pushed [] pair last zero h = inr (let e : Some last ≡ Some pair = h in cc)
   pushed [] pair last (suc k) h = cc

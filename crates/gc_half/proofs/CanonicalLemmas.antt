@@ -29,8 +29,10 @@ pub parts-same : (g : GarblingParts) (zero_labels : List ℕ) (rows : List RowPa
     → g.zero_labels ≡ zero_labels → g.rows ≡ rows
     → g.outputs ≡ outputs → g ≡ record { zero_labels = zero_labels; rows = rows; outputs = outputs }
 parts-same g zero_labels rows outputs p q o =
-    let parts : List ℕ → List RowPair → ℕ → GarblingParts = λ x y z. record { zero_labels = x; rows = y; outputs = z } in
-    ap (λ x. parts x g.rows g.outputs) p ∙ ap (λ y. parts zero_labels y g.outputs) q ∙ ap (parts zero_labels rows) o
+    let parts : List ℕ → List RowPair → ℕ → GarblingParts =
+    λ x y z. record { zero_labels = x; rows = y; outputs = z } in
+    ap (λ x. parts x g.rows g.outputs) p ∙ ap (λ y. parts zero_labels y g.outputs) q
+    ∙ ap (parts zero_labels rows) o
 
 module _ (c : Netlist) (seed : List ℕ) where
   pub input_zero-input : (w : ℕ) → w < input_wires c → input_zero c seed w ≡ input_label_of seed w
@@ -47,7 +49,8 @@ module _ (c : Netlist) (seed : List ℕ) where
       ∙ input_zero-other w (λ input. unset (inl input))
 
   -- The rows are those of the zero labels.
-  row_pairs_of-rows : row_pairs_of c seed ≡ rows_after hash (offset_of seed) c (zero_label_of c seed) (length c.gates)
+  row_pairs_of-rows : row_pairs_of c seed ≡ rows_after hash (offset_of seed) c (zero_label_of c seed)
+      (length c.gates)
   unfolding row_pairs_of
   row_pairs_of-rows = refl
 
@@ -63,7 +66,8 @@ module _ (c : Netlist) (seed : List ℕ) where
 
     -- and the wire that a gate sets has the label that the gate's equation says.
     pub zero_label_of-gate : (i : ℕ) (g : Gate) → slice_get c.gates i ≡ Some g →
-        zero_label_of c seed g.set ≡ zero_of hash (offset_of seed) (zero_label_of c seed) (and_number c i) g.operation
+        zero_label_of c seed g.set ≡ zero_of hash (offset_of seed) (zero_label_of c seed) (and_number c i)
+        g.operation
     zero_label_of-gate = solves.gates
 
     -- So these labels and rows are a garbling.
@@ -75,7 +79,8 @@ module _ (c : Netlist) (seed : List ℕ) where
         (record { inputs = zero_label_of-input; gates = zero_label_of-gate }))
 
     -- An AND gate's row pair stands at its AND number,
-    pub row_pairs_of-at : (i : ℕ) (g : Gate) (a b : ℕ) → slice_get c.gates i ≡ Some g → g.operation ≡ And a b →
+    pub row_pairs_of-at : (i : ℕ) (g : Gate) (a b : ℕ) → slice_get c.gates i ≡ Some g
+        → g.operation ≡ And a b →
         slice_get (row_pairs_of c seed) (and_number c i) ≡ Some
         (rows_of hash (offset_of seed) (zero_label_of c seed) (and_number c i) a b)
     row_pairs_of-at = canonical-garbling.and_gates
@@ -93,7 +98,8 @@ module _ (c : Netlist) (seed : List ℕ) where
           (λ w set. sym (read-table (zero_label_of c seed) c.wires w 0
           (IsSetBefore-below c lawful (length c.gates) w set))) canonical-garbling;
       wires = length-map-range_with_len (zero_label_of c seed) 0 c.wires;
-      not_set = λ w below unset. read-table (zero_label_of c seed) c.wires w 0 below ∙ zero_label_of-not_set w unset;
+      not_set = λ w below unset. read-table (zero_label_of c seed) c.wires w 0 below
+          ∙ zero_label_of-not_set w unset;
       outputs = refl;
     }
 
@@ -127,7 +133,8 @@ module _ (c : Netlist) (seed : List ℕ) where
         → decode_bits_of g ≡ decode_bits c (zero_label_of c seed)
     IsGarbled-decode_bits g garbled =
         ap decode_bits_of (IsGarbled-same g garbled)
-        ∙ ap (λ n. map colour (drop (n - output_wires c) (map (zero_label_of c seed) (range_with_len 0 c.wires))))
+        ∙ ap (λ n. map colour (drop (n - output_wires c)
+        (map (zero_label_of c seed) (range_with_len 0 c.wires))))
         (length-map-range_with_len (zero_label_of c seed) 0 c.wires)
         ∙ ap (map colour) (table_end (zero_label_of c seed) c.wires (output_wires c) lawful.outputs_fit)
 

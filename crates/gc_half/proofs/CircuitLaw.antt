@@ -81,7 +81,8 @@ module _ (hash : ℕ → ℕ → ℕ) (r : ℕ) (odd : colour r ≡ true) where
   -- The labels that stand for the bits meet the active-label equation of each operation.
   encode-operation : (label : ℕ → ℕ) (bits : ℕ → Bool) (k : ℕ) (row : RowPair) (op : Operation) →
       ((a b : ℕ) → op ≡ And a b → row ≡ rows_of hash r label k a b) →
-      encode r (zero_of hash r label k op) (bit_of bits op) ≡ active_of hash (λ w. encode r (label w) (bits w)) k row op
+      encode r (zero_of hash r label k op) (bit_of bits op) ≡ active_of hash
+      (λ w. encode r (label w) (bits w)) k row op
   encode-operation label bits k row (Xor a b) h = encode-xor r (label a) (label b) (bits a) (bits b)
   encode-operation label bits k row (And a b) h =
       sym (and_law hash k r (label a) (label b) (bits a) (bits b) odd)
@@ -107,13 +108,15 @@ module _ (hash : ℕ → ℕ → ℕ) (r : ℕ) (odd : colour r ≡ true) where
     }
 
     -- and any other agrees with it.
-    pub garbling-decodes : (active : ℕ → ℕ) → IsEvaluation hash c rows (λ w. encode r (given w) (input_bits w)) active →
+    pub garbling-decodes : (active : ℕ → ℕ)
+        → IsEvaluation hash c rows (λ w. encode r (given w) (input_bits w)) active →
         Decodes c r label bits active
     garbling-decodes active evaluation = record {
       labels = labels;
       outputs =
           decode-wires r odd label active bits (c.wires - output_wires c) (output_wires c)
-          (λ w low high. let fit = lawful.outputs_fit in labels w (lawful.outputs_set w (omega arith) (omega arith)));
+          (λ w low high. let fit = lawful.outputs_fit in
+          labels w (lawful.outputs_set w (omega arith) (omega arith)));
     }
       where
         labels : (w : ℕ) → IsSet c w → active w ≡ encode r (label w) (bits w)

@@ -24,7 +24,8 @@ colour-label_of_colour offset zero_label s odd =
 -- It is the zero label, plus the offset where the zero label has the other colour.
 pub label_of_colour-sum : (offset zero_label : ℕ) (s : Bool) →
     zero_label ⊕ times (not (beq (colour zero_label) s)) offset ≡ label_of_colour offset zero_label s
-label_of_colour-sum offset zero_label s = ap (λ b. zero_label ⊕ times b offset) (differs (colour zero_label) s)
+label_of_colour-sum offset zero_label s = ap (λ b. zero_label ⊕ times b offset)
+    (differs (colour zero_label) s)
   where
     differs : (a b : Bool) → not (beq a b) ≡ xor a b
     differs false false = refl
@@ -38,6 +39,7 @@ pub entry_of-hash : (offset : ℕ) (g : GarblingParts) (i : ℕ) (s : Bool) (wir
     tweak ≡ output_tweak (length g.rows) i →
     hash (label_of_colour offset zero_label s) tweak ≡ entry_of offset g i s
 entry_of-hash offset g i s wire zero_label tweak place at tweak_is =
-    let read = sym (get_or_from_slice_get g.zero_labels wire zero_label 0 at) ∙ ap (slice_index g.zero_labels) place in
+    let read = sym (get_or_from_slice_get g.zero_labels wire zero_label 0 at)
+    ∙ ap (slice_index g.zero_labels) place in
     ap (λ t. hash (label_of_colour offset zero_label s) t) tweak_is
     ∙ ap (λ z. hash (label_of_colour offset z s) (output_tweak (length g.rows) i)) read

@@ -25,14 +25,18 @@ use Rattle.gc_half.proofs.CanonicalLemmas.{input_zero-input, input_zero-other, p
 use Rattle.gc_half.proofs.SetWires.{lt_or_le}
 
 -- the row pairs that an operation adds look at the wires that it reads alone
-with_operation_local : (hash : ℕ → ℕ → ℕ) (r : ℕ) (u v : ℕ → ℕ) (k : ℕ) (rows : List RowPair) (op : Operation) →
+with_operation_local : (hash : ℕ → ℕ → ℕ) (r : ℕ) (u v : ℕ → ℕ) (k : ℕ) (rows : List RowPair)
+    (op : Operation) →
     EachRead (λ w. u w ≡ v w) op → with_operation hash r u k rows op ≡ with_operation hash r v k rows op
 with_operation_local hash r u v k rows op h =
-    ap (λ first. with_row_pair rows (gate_rows hash r k op first (second_read u op))) (first_read-local u v op h)
-    ∙ ap (λ second. with_row_pair rows (gate_rows hash r k op (first_read v op) second)) (second_read-local u v op h)
+    ap (λ first. with_row_pair rows (gate_rows hash r k op first (second_read u op)))
+    (first_read-local u v op h)
+    ∙ ap (λ second. with_row_pair rows (gate_rows hash r k op (first_read v op) second))
+    (second_read-local u v op h)
 
 -- The labels of n input wires, filled in at the front of a table that then grows to all wires.
-pub inputs-filled : (c : Netlist) → IsLawful c → (seed filled rest table : List ℕ) (n wires : ℕ) → n ≡ input_wires c →
+pub inputs-filled : (c : Netlist) → IsLawful c → (seed filled rest table : List ℕ) (n wires : ℕ)
+    → n ≡ input_wires c →
     wires ≡ c.wires → filled ≡ map (input_label_of seed) (range_with_len 0 n) →
     table ≡ take wires (take n (filled ++ rest)) ++ replicate (wires - n) 0 →
     table ≡ map (input_zero c seed) (range_with_len 0 c.wires)
@@ -59,7 +63,8 @@ inputs-filled c lawful seed filled rest table n wires inputs all is made =
 
     by_order : (w : ℕ) → w < c.wires → (w < n) ⊎ (n ≤ w) → get_or (filled ++ others) w 0 ≡ input_zero c seed w
     by_order w below (inl input) =
-        get_or_append_left filled others 0 w (let l = filled_length in omega arith) ∙ ap (λ l. get_or l w 0) is
+        get_or_append_left filled others 0 w (let l = filled_length in omega arith)
+        ∙ ap (λ l. get_or l w 0) is
         ∙ read-table (input_label_of seed) n w 0 input ∙ sym (input_zero-input c seed w (omega arith))
     by_order w below (inr past) =
         get_or-append_right filled others n w 0 filled_length past
@@ -95,7 +100,8 @@ module _ (c : Netlist) (seed : List ℕ) where
     table-length i table is = ap length is ∙ length-map-range_with_len (labels_after i) 0 c.wires
 
     -- so for each wire that a gate reads.
-    pub table-reads : (i : ℕ) (g : Gate) → slice_get c.gates i ≡ Some g → (table : List ℕ) → table ≡ label_table i →
+    pub table-reads : (i : ℕ) (g : Gate) → slice_get c.gates i ≡ Some g → (table : List ℕ)
+        → table ≡ label_table i →
         EachRead (λ w. w < length table) g.operation
     table-reads i g at table is =
         let len = table-length i table is in
@@ -117,16 +123,19 @@ module _ (c : Netlist) (seed : List ℕ) where
       number : length rows ≡ and_number c i
       number =
           let within : i < length c.gates = slice_get_within c.gates i g at in
-          ap length rows_are ∙ length-rows_after hash (offset_of seed) c (zero_label_of c seed) i (omega arith)
+          ap length rows_are ∙ length-rows_after hash (offset_of seed) c (zero_label_of c seed) i
+          (omega arith)
 
       -- The gate's label is written,
-      pub table-next : (label : ℕ) → label ≡ zero_of hash (offset_of seed) (slice_index table) (length rows) g.operation →
+      pub table-next : (label : ℕ) → label ≡ zero_of hash (offset_of seed) (slice_index table) (length rows)
+          g.operation →
           set table g.set label ≡ label_table (i + 1)
       table-next label gives =
           ap (λ l. set l g.set label) table_is
           ∙ ap (set (label_table i) g.set)
           (gives ∙ ap (λ k. zero_of hash (offset_of seed) (slice_index table) k g.operation) number
-          ∙ ap (λ l. zero_of hash (offset_of seed) (slice_index l) (and_number c i) g.operation) table_is ∙ read)
+          ∙ ap (λ l. zero_of hash (offset_of seed) (slice_index l) (and_number c i) g.operation) table_is
+          ∙ read)
           ∙ table_more (zero_rule hash (offset_of seed) c) c (input_zero c seed) lawful i g at
         where
           read : zero_of hash (offset_of seed) (slice_index (label_table i)) (and_number c i) g.operation
@@ -134,25 +143,30 @@ module _ (c : Netlist) (seed : List ℕ) where
           read =
               zero_of_local hash (offset_of seed) (slice_index (label_table i)) (labels_after i)
               (and_number c i) g.operation
-              (EachRead-map (λ w. w < c.wires) (λ w. slice_index (label_table i) w ≡ labels_after i w) g.operation
+              (EachRead-map (λ w. w < c.wires) (λ w. slice_index (label_table i) w ≡ labels_after i w)
+              g.operation
               (λ w below. read-table (labels_after i) c.wires w 0 below) (EachRead-below c lawful i g at))
 
       -- and its row pair is pushed.
       pub rows-next : (new : List RowPair) (pair : Option RowPair) → new ≡ with_row_pair rows pair →
-          pair ≡ gate_rows hash (offset_of seed) (length rows) g.operation (first_read (slice_index table) g.operation)
+          pair ≡ gate_rows hash (offset_of seed) (length rows) g.operation
+          (first_read (slice_index table) g.operation)
           (second_read (slice_index table) g.operation) →
           new ≡ rows_after hash (offset_of seed) c (zero_label_of c seed) (i + 1)
       rows-next new pair pushed gives =
           let within : i < length c.gates = slice_get_within c.gates i g at in
           let before = rows_after hash (offset_of seed) c (zero_label_of c seed) i in
           pushed ∙ ap (with_row_pair rows) gives
-          ∙ ap (λ l. with_operation hash (offset_of seed) (slice_index l) (length rows) rows g.operation) table_is
-          ∙ ap (λ k. with_operation hash (offset_of seed) (slice_index (label_table i)) k rows g.operation) number
+          ∙ ap (λ l. with_operation hash (offset_of seed) (slice_index l) (length rows) rows g.operation)
+          table_is
+          ∙ ap (λ k. with_operation hash (offset_of seed) (slice_index (label_table i)) k rows g.operation)
+          number
           ∙ ap (λ l. with_operation hash (offset_of seed) (slice_index (label_table i))
           (and_number c i) l g.operation) rows_are
           ∙ with_operation_local hash (offset_of seed) (slice_index (label_table i)) (zero_label_of c seed)
           (and_number c i) before g.operation
-          (EachRead-map (IsSetBefore c i) (λ w. slice_index (label_table i) w ≡ zero_label_of c seed w) g.operation
+          (EachRead-map (IsSetBefore c i) (λ w. slice_index (label_table i) w ≡ zero_label_of c seed w)
+          g.operation
           (λ w set. table-final i w (omega arith) set) (lawful.reads i g at))
           ∙ sym (rows_after-next hash (offset_of seed) c (zero_label_of c seed) i g at)
           ∙ ap (rows_after hash (offset_of seed) c (zero_label_of c seed)) (omega arith)
@@ -161,7 +175,8 @@ module _ (c : Netlist) (seed : List ℕ) where
     pub garbled-end : (i : ℕ) → i ≡ length c.gates → (g : GarblingParts) (table : List ℕ)
         (rows : List RowPair) (outputs : ℕ) →
         g ≡ record { zero_labels = table; rows = rows; outputs = outputs } → table ≡ label_table i →
-        rows ≡ rows_after hash (offset_of seed) c (zero_label_of c seed) i → outputs ≡ output_wires c → IsGarbled c seed g
+        rows ≡ rows_after hash (offset_of seed) c (zero_label_of c seed) i → outputs ≡ output_wires c
+        → IsGarbled c seed g
     unfolding zero_label_of row_pairs_of
     garbled-end i all g table rows outputs is table_is rows_are outputs_are =
         let P : GarblingParts → Type 0 = IsGarbled c seed in

@@ -31,7 +31,8 @@ module _ (hash : ℕ → ℕ → ℕ) (r : ℕ) where
   zero_local c u v i g h = zero_of_local u v (and_number c i) g.operation h
 
   -- and so do its rows.
-  pub rows_of_local : (u v : ℕ → ℕ) (k a b : ℕ) (op : Operation) → op ≡ And a b → EachRead (λ w. u w ≡ v w) op →
+  pub rows_of_local : (u v : ℕ → ℕ) (k a b : ℕ) (op : Operation) → op ≡ And a b
+      → EachRead (λ w. u w ≡ v w) op →
       rows_of hash r u k a b ≡ rows_of hash r v k a b
   rows_of_local u v k a b op is h =
       let reads = let P : Operation → Type 0 = EachRead (λ w. u w ≡ v w) in subst P is h in
@@ -45,11 +46,16 @@ module _ (hash : ℕ → ℕ → ℕ) (r : ℕ) where
     labels = record {
       inputs = λ w h. sym (same w (inl h)) ∙ garbling.labels.inputs w h;
       gates = λ i g at.
-          sym (same g.set (inr (i, slice_get_within c.gates i g at, record { gate = g; at = at; wire = refl })))
+          sym (same g.set (inr (
+            i,
+            slice_get_within c.gates i g at,
+            record { gate = g; at = at; wire = refl },
+          )))
           ∙ garbling.labels.gates i g at ∙ zero_local c u v i g (reads i g at);
     };
     and_gates = λ i g a b at is.
-        garbling.and_gates i g a b at is ∙ ap Some (rows_of_local u v (and_number c i) a b g.operation is (reads i g at));
+        garbling.and_gates i g a b at is
+        ∙ ap Some (rows_of_local u v (and_number c i) a b g.operation is (reads i g at));
     row_count = garbling.row_count;
   }
     where
@@ -66,7 +72,8 @@ module _ (hash : ℕ → ℕ → ℕ) (r : ℕ) where
     rows-garbling label solves = record {
       labels = solves;
       and_gates = λ i g a b at is.
-          rows_after-at hash r c label (length c.gates) i g a b (slice_get_within c.gates i g at) (omega arith) at is;
+          rows_after-at hash r c label (length c.gates) i g a b (slice_get_within c.gates i g at)
+          (omega arith) at is;
       row_count = length-rows_after hash r c label (length c.gates) (omega arith) ∙ and_number-end c;
     }
 
@@ -74,16 +81,20 @@ module _ (hash : ℕ → ℕ → ℕ) (r : ℕ) where
     pub garbling-rows : (label : ℕ → ℕ) (rows : List RowPair) → IsGarbling hash r c given label rows
         → rows ≡ rows_after hash r c label (length c.gates)
     garbling-rows label rows garbling =
-        sym (take_all (and_number c (length c.gates)) rows (omega (arith, garbling.row_count, and_number-end c)))
+        sym (take_all (and_number c (length c.gates)) rows
+        (omega (arith, garbling.row_count, and_number-end c)))
         ∙ rows-take hash r c label given rows garbling (length c.gates) (omega arith)
 
     same_labels : (u v : ℕ → ℕ) (p q : List RowPair) → IsGarbling hash r c given u p
         → IsGarbling hash r c given v q → (w : ℕ) → IsSet c w → u w ≡ v w
-    same_labels u v p q f g w set = agree (zero_rule hash r c) (zero_local c) c lawful given u v f.labels g.labels w set
+    same_labels u v p q f g w set = agree (zero_rule hash r c) (zero_local c) c lawful given u v f.labels
+        g.labels w set
 
-    same_rows : (u v : ℕ → ℕ) (p q : List RowPair) → IsGarbling hash r c given u p → IsGarbling hash r c given v q → p ≡ q
+    same_rows : (u v : ℕ → ℕ) (p q : List RowPair) → IsGarbling hash r c given u p
+        → IsGarbling hash r c given v q → p ≡ q
     same_rows u v p q f g =
-        garbling-rows v p (IsGarbling-same c lawful given u v p (same_labels u v p q f g) f) ∙ sym (garbling-rows v q g)
+        garbling-rows v p (IsGarbling-same c lawful given u v p (same_labels u v p q f g) f)
+        ∙ sym (garbling-rows v q g)
 
     pub one_garbling : HasOneGarbling hash r c given
     one_garbling = record {

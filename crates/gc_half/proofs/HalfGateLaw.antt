@@ -19,7 +19,8 @@ colour-encode offset label false odd = ap colour (xor_zero_r label)
 hash-encode : (hash : ℕ → ℕ → ℕ) (offset label j : ℕ) (bit : Bool) →
     hash (encode offset label bit) j ≡ times (not bit) (hash label j) ⊕ times bit (hash (label ⊕ offset) j)
 hash-encode hash offset label j true = sym (xor_zero_l (hash (label ⊕ offset) j))
-hash-encode hash offset label j false = ap (λ l. hash l j) (xor_zero_r label) ∙ sym (xor_zero_r (hash label j))
+hash-encode hash offset label j false = ap (λ l. hash l j) (xor_zero_r label)
+    ∙ sym (xor_zero_r (hash label j))
 
 -- Both sides of the law as sums of the hashes of a and of the other label of its wire (places 0 and 1), those of b and
 -- of the other label of its wire (2 and 3), the label a (4) and the offset (5). The bits are the colours of a and b and
@@ -69,5 +70,7 @@ and_law hash k r a b x y odd =
       colour-encode r a x odd,
       colour-encode r b y odd,
     )
-    (sums_equal (hash a (2 * k) ∷ hash (a ⊕ r) (2 * k) ∷ hash b (2 * k + 1) ∷ hash (b ⊕ r) (2 * k + 1) ∷ a ∷ r ∷ [])
-    (active_side (colour a) (colour b) x y) (zero_side (colour a) (colour b) x y) (balanced (colour a) (colour b) x y))
+    (sums_equal (hash a (2 * k) ∷ hash (a ⊕ r) (2 * k) ∷ hash b (2 * k + 1) ∷ hash (b ⊕ r) (2 * k + 1) ∷ a ∷
+    r ∷ [])
+    (active_side (colour a) (colour b) x y) (zero_side (colour a) (colour b) x y)
+    (balanced (colour a) (colour b) x y))

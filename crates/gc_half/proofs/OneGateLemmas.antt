@@ -5,7 +5,8 @@ use Rattle.gc_circuit.specs.declared.circuit.Operation.TheVariants.{Xor, And, In
 use Rattle.gc_circuit.specs.Circuit.{EachRead}
 use Rattle.gc_half.specs.OneGate.{first_read, second_read}
 
-pub first_read-local : (u v : ℕ → ℕ) (op : Operation) → EachRead (λ w. u w ≡ v w) op → first_read u op ≡ first_read v op
+pub first_read-local : (u v : ℕ → ℕ) (op : Operation) → EachRead (λ w. u w ≡ v w) op
+    → first_read u op ≡ first_read v op
 first_read-local u v (Xor a b) h = h.0
 first_read-local u v (And a b) h = h.0
 first_read-local u v (Inv a) h = h

@@ -31,16 +31,19 @@ module _ (hash : ℕ → ℕ → ℕ) (r : ℕ) (c : Netlist) (label : ℕ → �
   rows_after-next i g at = ap (with_gate hash r label (and_number c i) (rows_after hash r c label i)) at
 
   rows_after-and : (i : ℕ) (g : Gate) (a b : ℕ) → slice_get c.gates i ≡ Some g → g.operation ≡ And a b →
-      rows_after hash r c label (suc i) ≡ rows_after hash r c label i ++ rows_of hash r label (and_number c i) a b ∷ []
+      rows_after hash r c label (suc i) ≡ rows_after hash r c label i ++ rows_of hash r label
+      (and_number c i) a b ∷ []
   rows_after-and i g a b at is =
-      rows_after-next i g at ∙ ap (with_operation hash r label (and_number c i) (rows_after hash r c label i)) is
+      rows_after-next i g at ∙ ap (with_operation hash r label (and_number c i)
+      (rows_after hash r c label i)) is
 
   rows_after-other : (i : ℕ) (g : Gate) → slice_get c.gates i ≡ Some g → is_and g.operation ≡ false →
       rows_after hash r c label (suc i) ≡ rows_after hash r c label i
   rows_after-other i g at other = rows_after-next i g at ∙ same g.operation other
     where
       same : (op : Operation) → is_and op ≡ false →
-          with_operation hash r label (and_number c i) (rows_after hash r c label i) op ≡ rows_after hash r c label i
+          with_operation hash r label (and_number c i) (rows_after hash r c label i) op ≡ rows_after hash r
+          c label i
       same (Xor a b) h = refl
       same (And a b) h = cc
       same (Inv a) h = refl
@@ -69,7 +72,8 @@ module _ (hash : ℕ → ℕ → ℕ) (r : ℕ) (c : Netlist) (label : ℕ → �
   -- and that of an AND gate stands at its AND number.
   pub rows_after-at : (n i : ℕ) (g : Gate) (a b : ℕ) → i < n → n ≤ length c.gates
       → slice_get c.gates i ≡ Some g → g.operation ≡ And a b →
-      slice_get (rows_after hash r c label n) (and_number c i) ≡ Some (rows_of hash r label (and_number c i) a b)
+      slice_get (rows_after hash r c label n) (and_number c i) ≡ Some
+      (rows_of hash r label (and_number c i) a b)
   rows_after-at zero i g a b below h at is = absurd (omega arith)
   rows_after-at (suc n) i g a b below h at is =
       elim (cases_eq i n) [
@@ -92,7 +96,8 @@ module _ (hash : ℕ → ℕ → ℕ) (r : ℕ) (c : Netlist) (label : ℕ → �
                 ap (λ l. slice_get l (and_number c i)) (rows_after-and n gate.0 a' b' gate.1 is')
                 ∙ slice_get-append (rows_after hash r c label n)
                 (rows_of hash r label (and_number c n) a' b' ∷ []) (and_number c i) x found
-            | inr other ↦ ap (λ l. slice_get l (and_number c i)) (rows_after-other n gate.0 gate.1 other) ∙ found
+            | inr other ↦ ap (λ l. slice_get l (and_number c i)) (rows_after-other n gate.0 gate.1 other)
+                ∙ found
           ]
 
   -- The rows of any garbling with these zero labels are these.

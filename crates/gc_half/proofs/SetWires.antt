@@ -42,7 +42,11 @@ module _ (c : Netlist) (w : ℕ) where
     | inl set ↦ inl (IsSetBefore-more c n (suc n) w (omega arith) set)
     | inr unset ↦ elim (by_gate n (slice_get c.gates n) refl) [
       | inl set ↦ inl set
-      | inr not_by ↦ inr (λ set. elim (last_or_before n set) [ inl before ↦ unset before | inr by ↦ not_by by ])
+      | inr not_by ↦ inr (λ set. elim (last_or_before n set) [
+        | inl before ↦ unset before
+        | inr by ↦ not_by
+            by
+      ])
     ]
   ]
 
@@ -51,7 +55,8 @@ module _ (c : Netlist) (w : ℕ) where
   set_or_not = set_or_not_before (length c.gates)
 
 module _ {A : Type 0} (rule : (ℕ → A) → ℕ → Gate → A) (c : Netlist) (given : ℕ → A) (w : ℕ) where
-  put_other : (values : ℕ → A) (n : ℕ) (o : Option Gate) → slice_get c.gates n ≡ o → ¬ IsSetBefore c (suc n) w →
+  put_other : (values : ℕ → A) (n : ℕ) (o : Option Gate) → slice_get c.gates n ≡ o
+      → ¬ IsSetBefore c (suc n) w →
       put_gate rule values n o w ≡ values w
   put_other values n None at unset = refl
   put_other values n (Some g) at unset =

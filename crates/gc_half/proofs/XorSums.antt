@@ -93,6 +93,7 @@ same_from_zero a b h =
     ∙ ap (λ x. bit_xor x b) h ∙ xor_zero_l b
 
 -- Two sums are equal where no label stands an odd number of times in both together.
-pub sums_equal : (labels : List ℕ) (s t : Sum) → none (marks (Plus s t)) ≡ true → value labels s ≡ value labels t
+pub sums_equal : (labels : List ℕ) (s t : Sum) → none (marks (Plus s t)) ≡ true
+    → value labels s ≡ value labels t
 sums_equal labels s t h =
     same_from_zero _ _ (value-marks labels (Plus s t) ∙ marked-none (marks (Plus s t)) labels h)

@@ -35,5 +35,7 @@ module _ (B : RattleType) where
 
   module _ {M : Type 1} {𝓤 : Ura M} (𝓛 : Logic 𝓤) (κ : Lft) (r : Refuser.Denot) (p : ℕ × ℕ) where
     pub lends_fields : ent 𝓤 (sem 𝓛 (hidden_shr Refuser κ r p.0 p.1))
-        (sep 𝓤 (sem 𝓛 (hidden_shr B κ r.inner (inner_at p).0 (inner_at p).1)) (sem 𝓛 (hidden_shr tally.the_row κ r.tally (tally_at p).0 (tally_at p).1)))
-    lends_fields = qed 𝓛 (‵ (hidden_shr Refuser κ r p.0 p.1) ∷ []) ∵ unhide ! $ fsplit ! $ fsplit ! $ move ! (1 ∷ []) $ fsplit ! $ keep ! (2 ∷ 0 ∷ []) $ join ! $ done !
+        (sep 𝓤 (sem 𝓛 (hidden_shr B κ r.inner (inner_at p).0 (inner_at p).1))
+        (sem 𝓛 (hidden_shr tally.the_row κ r.tally (tally_at p).0 (tally_at p).1)))
+    lends_fields = qed 𝓛 (‵ (hidden_shr Refuser κ r p.0 p.1) ∷ []) ∵ unhide ! $ fsplit ! $ fsplit ! $ move !
+        (1 ∷ []) $ fsplit ! $ keep ! (2 ∷ 0 ∷ []) $ join ! $ done !

@@ -10,7 +10,8 @@ pub loop-digit-preserved : goal.loop-digit-preserved
 loop-digit-preserved g c =
     let digits = c.args.digits.now in
     let i = c.loop-digit.digit-index in
-    let read : (is_binary_digit (slice_index digits i) ≡ true) × (c.match-digit.bit ≡ wire_bit (Binary digits) i) =
+    let read : (is_binary_digit (slice_index digits i) ≡ true) ×
+    (c.match-digit.bit ≡ wire_bit (Binary digits) i) =
     elim c.match-digit.branch [
       | in-48 w ↦ (ap is_binary_digit w.in-48.is, w.bit-is ∙ sym (ap (λ x. x == 49) w.in-48.is))
       | in-49 w ↦ (ap is_binary_digit w.in-49.is, w.bit-is ∙ sym (ap (λ x. x == 49) w.in-49.is))

@@ -8,7 +8,8 @@ use Rattle.gc_half.proofs.garble.garble_one_thread.Goals as goal
 
 pub loop-i-init : goal.loop-i-init
 loop-i-init g c = record {
-  labels = c.in_ok-zero_labels.ensures ∙ table-start c.args.circuit.now c.args.seed.now c.gates-i-end.ensures.lawful;
+  labels = c.in_ok-zero_labels.ensures
+      ∙ table-start c.args.circuit.now c.args.seed.now c.gates-i-end.ensures.lawful;
   rows = c.in_ok-rows.ensures.items
       ∙ sym (rows_after-start hash (offset_of c.args.seed.now) c.args.circuit.now
       (zero_label_of c.args.circuit.now c.args.seed.now));
@@ -16,7 +17,8 @@ loop-i-init g c = record {
 
 pub labels_read-first-requires : goal.labels_read-first-requires
 labels_read-first-requires g c =
-    table-reads c.args.circuit.now c.args.seed.now c.gates-i-end.ensures.lawful c.loop-i.i c.gate-gate.result c.gate-gate.ensures
+    table-reads c.args.circuit.now c.args.seed.now c.gates-i-end.ensures.lawful c.loop-i.i
+    c.gate-gate.result c.gate-gate.ensures
     c.deref.result.now (c.deref.ensures.value ∙ c.loop-i.invariant.labels)
 
 pub overflow_cast-number : goal.overflow_cast-number
@@ -24,7 +26,8 @@ overflow_cast-number g c =
     let within : c.loop-i.i ≤ length c.args.circuit.now.gates = omega (arith, c.gates-i-end.ensures.count) in
     omega (
       arith,
-      rows-few c.args.circuit.now c.args.seed.now c.gates-i-end.ensures.lawful c.loop-i.i within c.loop-i.rows.items c.loop-i.invariant.rows,
+      rows-few c.args.circuit.now c.args.seed.now c.gates-i-end.ensures.lawful c.loop-i.i within
+          c.loop-i.rows.items c.loop-i.invariant.rows,
       c.gates-i-end.ensures.count,
       c.len-number.ensures,
     )
@@ -34,7 +37,8 @@ index_mut-requires g c =
     let lawful = c.gates-i-end.ensures.lawful in
     omega (
       arith,
-      table-length c.args.circuit.now c.args.seed.now lawful c.loop-i.i c.loop-i.zero_labels.items c.loop-i.invariant.labels,
+      table-length c.args.circuit.now c.args.seed.now lawful c.loop-i.i c.loop-i.zero_labels.items
+          c.loop-i.invariant.labels,
       lawful.sets c.loop-i.i c.gate-gate.result c.gate-gate.ensures,
     )
 
@@ -42,14 +46,18 @@ pub loop-i-preserved : goal.loop-i-preserved
 loop-i-preserved g c =
     let gate = c.garble_gate-zero_label.ensures in
     let read = c.labels_read-first.ensures in
-    let number : c.len-number.result ≡ length c.loop-i.rows.items = c.len-number.ensures ∙ c.loop-i.rows.ok.0 in record {
+    let number : c.len-number.result ≡ length c.loop-i.rows.items = c.len-number.ensures
+    ∙ c.loop-i.rows.ok.0 in record {
       labels =
-          table-next c.args.circuit.now c.args.seed.now c.gates-i-end.ensures.lawful c.loop-i.i c.gate-gate.result c.gate-gate.ensures
+          table-next c.args.circuit.now c.args.seed.now c.gates-i-end.ensures.lawful c.loop-i.i
+          c.gate-gate.result c.gate-gate.ensures
           c.loop-i.zero_labels.items c.loop-i.rows.items c.loop-i.invariant.labels c.loop-i.invariant.rows
           c.garble_gate-zero_label.result.0
-          (rw (read.first, read.second, c.offset-offset.ensures, number, c.deref.ensures.value) at gate.zero_label);
+          (rw (read.first, read.second, c.offset-offset.ensures, number, c.deref.ensures.value) at
+          gate.zero_label);
       rows =
-          rows-next c.args.circuit.now c.args.seed.now c.gates-i-end.ensures.lawful c.loop-i.i c.gate-gate.result c.gate-gate.ensures
+          rows-next c.args.circuit.now c.args.seed.now c.gates-i-end.ensures.lawful c.loop-i.i
+          c.gate-gate.result c.gate-gate.ensures
           c.loop-i.zero_labels.items c.loop-i.rows.items c.loop-i.invariant.labels c.loop-i.invariant.rows
           c.push_pair.new.rows.items c.garble_gate-zero_label.result.1 c.in_ok-push_pair.ensures
           (rw (read.first, read.second, c.offset-offset.ensures, number, c.deref.ensures.value) at gate.rows);
@@ -60,7 +68,8 @@ from_parts-requires g c =
     let lawful = c.gates-i-end.ensures.lawful in
     omega (
       arith,
-      table-length c.args.circuit.now c.args.seed.now lawful c.loop-i.i c.loop-i.zero_labels.items c.loop-i.invariant.labels,
+      table-length c.args.circuit.now c.args.seed.now lawful c.loop-i.i c.loop-i.zero_labels.items
+          c.loop-i.invariant.labels,
       lawful.outputs_fit,
       c.output_wires.ensures,
     )
@@ -68,5 +77,7 @@ from_parts-requires g c =
 pub returns : goal.returns
 returns g c =
     let all : c.loop-i.i ≡ length c.args.circuit.now.gates = omega (arith, c.gates-i-end.ensures.count) in
-    garbled-end c.args.circuit.now c.args.seed.now c.gates-i-end.ensures.lawful c.loop-i.i all c.from_parts.result c.loop-i.zero_labels.items c.loop-i.rows.items
-    c.output_wires.result c.from_parts.ensures c.loop-i.invariant.labels c.loop-i.invariant.rows c.output_wires.ensures
+    garbled-end c.args.circuit.now c.args.seed.now c.gates-i-end.ensures.lawful c.loop-i.i all
+    c.from_parts.result c.loop-i.zero_labels.items c.loop-i.rows.items
+    c.output_wires.result c.from_parts.ensures c.loop-i.invariant.labels c.loop-i.invariant.rows
+    c.output_wires.ensures
