@@ -64,7 +64,12 @@ value_after-div n [] small = omega arith
 value_after-div n (b ∷ bytes) small =
     let first : b < 256 = small 0 in
     let rest = value_after-div (n * 256 + b) bytes (λ i. small (suc i)) in
-    rw (pow-suc 256 (length bytes), ← div-div-eq-div-mul (value_after (n * 256 + b) bytes) (256 ^ length bytes) 256, rest)
+    rw (
+      pow-suc 256 (length bytes),
+      ← div-div-eq-div-mul (value_after (n * 256 + b) bytes)
+          (256 ^ length bytes) 256,
+      rest,
+    )
     (omega arith)
 
 -- the last bytes of a number that ends with some bytes are these
@@ -87,7 +92,8 @@ label_of_bytes_is : (bytes : List ℕ) → length bytes ≡ 16 → label_of_byte
 unfolding label_of_bytes value_after
 label_of_bytes_is bytes len =
     let spelled = fill_by_all (λ i. get_or bytes i 0) bytes 16 0 len (λ k h. refl) in
-    let same : label_of_bytes bytes ≡ value_after 0 (map (λ i. get_or bytes i 0) (range_with_len 0 16)) = omega arith in
+    let same : label_of_bytes bytes ≡ value_after 0 (map (λ i. get_or bytes i 0) (range_with_len 0 16)) =
+    omega arith in
     same ∙ ap (value_after 0) (sym spelled)
 
 -- a label has 16 bytes
@@ -96,7 +102,8 @@ unfolding bytes_of_label
 length-bytes_of_label label = refl
 
 -- the label of a label's bytes is the label
-pub label_of_bytes-bytes_of_label : (label : ℕ) → label < 2 ^ 128 → label_of_bytes (bytes_of_label label) ≡ label
+pub label_of_bytes-bytes_of_label : (label : ℕ) → label < 2 ^ 128
+    → label_of_bytes (bytes_of_label label) ≡ label
 unfolding bytes_of_label
 label_of_bytes-bytes_of_label label fits =
     let none : label / 256 ^ 16 ≡ 0 = omega arith in

@@ -1,2 +1,3 @@
 pub mod LabelLemmas
 pub mod SeedLemmas
+pub mod HalvesLemmas

@@ -3,8 +3,8 @@
 -- A label is 16 bytes. A contract sees it as the number below 2 ^ 128 that these bytes spell, the
 -- first byte highest. So the order of labels is that of their bytes, and bit i of byte k (bit 0 the
 -- lowest of its byte) is bit 120 - 8 * k + i of the number.
-use Rattle.std.specs.Prelude.{ℕ, ◌==◌, Bool, if◌then◌else◌, List, bit_xor}
-use Rattle.std.specs.Int.{w128, bit_at, to_be_bytes, from_be_bytes}
+use Rattle.std.specs.Prelude.{ℕ, ◌==◌, ◌++◌, Bool, if◌then◌else◌, List, bit_xor, take, drop}
+use Rattle.std.specs.Int.{w64, w128, bit_at, to_be_bytes, from_be_bytes, to_le_bytes, from_le_bytes}
 
 -- the sum of two labels: each bit is the exclusive or of theirs
 infixl 20 ◌⊕◌
@@ -26,3 +26,15 @@ label_of_bytes bytes = from_be_bytes w128 bytes
 -- the 16 bytes of a label
 unfoldable pub bytes_of_label : ℕ → List ℕ
 bytes_of_label label = to_be_bytes w128 label
+
+-- A label in two words of 64 bits. The low half is its bytes 0 to 7, little-endian,
+abbrev pub low_half : ℕ → ℕ
+low_half label = from_le_bytes w64 (take 8 (bytes_of_label label))
+
+-- and the high half its bytes 8 to 15.
+abbrev pub high_half : ℕ → ℕ
+high_half label = from_le_bytes w64 (drop 8 (bytes_of_label label))
+
+-- the label of two halves
+abbrev pub label_of_halves : ℕ → ℕ → ℕ
+label_of_halves low high = label_of_bytes (to_le_bytes w64 low ++ to_le_bytes w64 high)

@@ -1,7 +1,7 @@
 //! Labels, and the offset between the two labels of a wire.
 
 ghost use Rattle.std.specs.Prelude.{◌≡◌, ◌<◌, ◌^◌, IsTrue, bit_or};
-ghost use Rattle.gc_label.specs.Label.{◌⊕◌, colour, times, label_of_bytes, bytes_of_label};
+ghost use Rattle.gc_label.specs.Label.{◌⊕◌, colour, times, label_of_bytes, bytes_of_label, low_half, high_half, label_of_halves};
 
 use std::fmt;
 use std::marker::Model;
@@ -49,6 +49,34 @@ impl Label {
         ensures fits { self < 2 ^ 128 }
     {
         self.number.to_be_bytes()
+    }
+
+    /// The label in two words: its bytes 0 to 7, and its bytes 8 to 15, both little-endian.
+    #[tactic(auto, unfolding(crate::specs::Label::bytes_of_label))]
+    #[inline]
+    pub fn halves(self) -> (u64, u64)
+        ensures low { result.0 ≡ low_half self }
+        ensures high { result.1 ≡ high_half self }
+        ensures fits { self < 2 ^ 128 }
+    {
+        let b = self.to_bytes();
+        (
+            u64::from_le_bytes([b[0], b[1], b[2], b[3], b[4], b[5], b[6], b[7]]),
+            u64::from_le_bytes([b[8], b[9], b[10], b[11], b[12], b[13], b[14], b[15]]),
+        )
+    }
+
+    /// The label of two such words.
+    #[inline]
+    pub fn from_halves(low: u64, high: u64) -> Label
+        ensures { result ≡ label_of_halves low high }
+    {
+        let l = low.to_le_bytes();
+        let h = high.to_le_bytes();
+        Label::from_bytes([
+            l[0], l[1], l[2], l[3], l[4], l[5], l[6], l[7], h[0], h[1], h[2], h[3], h[4], h[5],
+            h[6], h[7],
+        ])
     }
 
     /// The bitwise exclusive or of two labels.
