@@ -8,7 +8,8 @@ use Rattle.gc_file.specs.Body.{IsSpare}
 -- A byte shifted is not 0 exactly where it is as large as the power.
 shifted : (x p : ℕ) → 0 < p → IsTrue (not (nat_eq (x / p) 0)) → p ≤ x
 shifted x p some is = elim (lt_or_le x p) [
-  | inl below ↦ (let P : ℕ → Type 0 = λ n. IsTrue (not (nat_eq n 0)) in let no : false ≡ true = subst P (div-eq_of_lt below) is in cc)
+  | inl below ↦ (let P : ℕ → Type 0 = λ n. IsTrue (not (nat_eq n 0)) in let no : false ≡ true =
+      subst P (div-eq_of_lt below) is in cc)
   | inr above ↦ above
 ]
 
@@ -23,7 +24,8 @@ not_zero : (q : ℕ) → q ≢ 0 → IsTrue (not (nat_eq q 0))
 not_zero q some = grind (arith, nat_tests)
 
 pub spare_iff : (outputs : ℕ) (decode : List ℕ) → outputs % 8 ≢ 0
-    → IsTrue (not (nat_eq (slice_index decode (length decode - 1) / 2 ^ (outputs % 8)) 0)) ↔ IsSpare outputs decode
+    → IsTrue (not (nat_eq (slice_index decode (length decode - 1) / 2 ^ (outputs % 8)) 0)) ↔ IsSpare outputs
+    decode
 spare_iff outputs decode part =
     let last = slice_index decode (length decode - 1) in
     let some : 0 < 2 ^ (outputs % 8) = one-le-pow (outputs % 8) 2 (omega arith) in (

@@ -26,23 +26,32 @@ positive (suc n) = omega (arith, positive n, pow-suc 2 n)
 pub bits_number-below : (n : ℕ) (bits : List Bool) → length bits ≤ n → bits_number bits < 2 ^ n
 bits_number-below n [] few = positive n
 bits_number-below zero (bit ∷ bits) few = absurd (omega arith)
-bits_number-below (suc n) (true ∷ bits) few = omega (arith, bits_number-below n bits (omega arith), pow-suc 2 n)
-bits_number-below (suc n) (false ∷ bits) few = omega (arith, bits_number-below n bits (omega arith), pow-suc 2 n)
+bits_number-below (suc n) (true ∷ bits) few =
+    omega (arith, bits_number-below n bits (omega arith), pow-suc 2 n)
+bits_number-below (suc n) (false ∷ bits) few = omega (
+  arith,
+  bits_number-below n bits (omega arith),
+  pow-suc 2 n,
+)
 
 -- The last bits of a byte, from one that is among the first eight from a place on.
-pub bits_number-last : (bits : List Bool) (first i : ℕ) (bit : Bool) → slice_get bits (first + i) ≡ Some bit → i < 8 →
+pub bits_number-last : (bits : List Bool) (first i : ℕ) (bit : Bool) → slice_get bits (first + i) ≡ Some bit
+    → i < 8 →
     bits_number (drop i (take 8 (drop first bits)))
     ≡ bool_byte bit + 2 * bits_number (drop (suc i) (take 8 (drop first bits)))
 bits_number-last bits first i bit at low =
     let here = slice_get_within bits (first + i) bit at in
-    let within : i < length (take 8 (drop first bits)) = omega (arith, length-take 8 (drop first bits), length-drop first bits) in
+    let within : i < length (take 8 (drop first bits)) =
+    omega (arith, length-take 8 (drop first bits), length-drop first bits) in
     let is : get_or (take 8 (drop first bits)) i false ≡ bit =
-    get_or-take 8 (drop first bits) i false low ∙ get_or-drop first bits i false ∙ get_or_from_slice_get bits (first + i) bit false at
+    get_or-take 8 (drop first bits) i false low ∙ get_or-drop first bits i false
+    ∙ get_or_from_slice_get bits (first + i) bit false at
     in
     ap bits_number (drop-cons (take 8 (drop first bits)) i false within)
     ∙ cases _ bit (drop (suc i) (take 8 (drop first bits))) is
   where
-    cases : (a b : Bool) (rest : List Bool) → a ≡ b → bits_number (a ∷ rest) ≡ bool_byte b + 2 * bits_number rest
+    cases : (a b : Bool) (rest : List Bool) → a ≡ b → bits_number (a ∷ rest) ≡ bool_byte b + 2 * bits_number
+        rest
     cases a false rest is = ap (λ x. bits_number (x ∷ rest)) is
     cases a true rest is = ap (λ x. bits_number (x ∷ rest)) is
 
@@ -50,7 +59,8 @@ bits_number-last bits first i bit at low =
 pub bits_number-end : (bits : List Bool) (first count : ℕ) → count ≡ min 8 (length bits - first) →
     bits_number (drop count (take 8 (drop first bits))) ≡ 0
 bits_number-end bits first count is =
-    ap bits_number (drop_all count (take 8 (drop first bits)) (omega (arith, length-take 8 (drop first bits), length-drop first bits)))
+    ap bits_number (drop_all count (take 8 (drop first bits))
+    (omega (arith, length-take 8 (drop first bits), length-drop first bits)))
 
 -- What stands in each byte.
 pub packed-at : (bits : List Bool) (k d : ℕ) → k < bytes_for (length bits) →
@@ -59,7 +69,8 @@ unfolding packed
 packed-at bits k d within = get_or-map-range_with_len _ 0 (bytes_for (length bits)) k k d within (omega arith)
 
 -- There are as many decode bits as output wires.
-pub length-decode_bits : (g : GarblingParts) → g.outputs ≤ length g.zero_labels → length (decode_bits_of g) ≡ g.outputs
+pub length-decode_bits : (g : GarblingParts) → g.outputs ≤ length g.zero_labels
+    → length (decode_bits_of g) ≡ g.outputs
 length-decode_bits g fits =
     length-map (drop (length g.zero_labels - g.outputs) g.zero_labels) _
     ∙ omega (arith, length-drop (length g.zero_labels - g.outputs) g.zero_labels)
@@ -70,8 +81,10 @@ bool_byte-le false = omega arith
 
 -- The entry pairs, one for each output wire.
 pub length-entry_pairs : (offset : ℕ) (g : GarblingParts) → length (entry_pairs_of offset g) ≡ g.outputs
-length-entry_pairs offset g = length-map (range_with_len 0 g.outputs) (entry_pair_of offset g) ∙ length-range_with_len 0 g.outputs
+length-entry_pairs offset g = length-map (range_with_len 0 g.outputs) (entry_pair_of offset g)
+    ∙ length-range_with_len 0 g.outputs
 
 pub entry_pairs-at : (offset : ℕ) (g : GarblingParts) (i : ℕ) (d : EntryPair) → i < g.outputs →
     get_or (entry_pairs_of offset g) i d ≡ entry_pair_of offset g i
-entry_pairs-at offset g i d within = get_or-map-range_with_len (entry_pair_of offset g) 0 g.outputs i i d within (omega arith)
+entry_pairs-at offset g i d within = get_or-map-range_with_len (entry_pair_of offset g) 0 g.outputs i i d
+    within (omega arith)

@@ -20,8 +20,9 @@ module _ (seed : List ℕ) where
   abbrev pub label_bytes : ℕ → List Bool → List ℕ
   label_bytes first bits = flat_map bytes_of_label (encoded_from first seed bits)
 
-  encoded_from-append : (first : ℕ) (xs ys : List Bool) →
-      encoded_from first seed (xs ++ ys) ≡ encoded_from first seed xs ++ encoded_from (first + length xs) seed ys
+  pub encoded_from-append : (first : ℕ) (xs ys : List Bool) →
+      encoded_from first seed (xs ++ ys) ≡ encoded_from first seed xs ++ encoded_from (first + length xs)
+      seed ys
   encoded_from-append first [] ys = ap (λ n. encoded_from n seed ys) (omega arith)
   encoded_from-append first (x ∷ xs) ys =
       ap (λ l. encode (offset_of seed) (input_label_of seed first) x ∷ l)
@@ -46,23 +47,29 @@ module _ (seed : List ℕ) where
 
   -- Some bits, and the rest.
   pub label_bytes-rest : (first : ℕ) (bits : List Bool) (done : ℕ) → done ≤ length bits →
-      label_bytes first (take done bits) ++ label_bytes (first + done) (drop done bits) ≡ label_bytes first bits
+      label_bytes first (take done bits) ++ label_bytes (first + done) (drop done bits) ≡ label_bytes first
+      bits
   label_bytes-rest first bits done within =
-      ap (λ n. label_bytes first (take done bits) ++ label_bytes (first + n) (drop done bits)) (omega (arith, length-take done bits))
-      ∙ sym (label_bytes-append first (take done bits) (drop done bits)) ∙ ap (label_bytes first) (take-append-drop done bits)
+      ap (λ n. label_bytes first (take done bits) ++ label_bytes (first + n) (drop done bits))
+      (omega (arith, length-take done bits))
+      ∙ sym (label_bytes-append first (take done bits) (drop done bits))
+      ∙ ap (label_bytes first) (take-append-drop done bits)
 
   -- One bit more.
   pub label_bytes-one : (first : ℕ) (bits : List Bool) (i : ℕ) → i < length bits →
-      label_bytes first (take i bits) ++ bytes_of_label (encode (offset_of seed) (input_label_of seed (first + i)) (get_or bits i false))
+      label_bytes first (take i bits) ++ bytes_of_label
+      (encode (offset_of seed) (input_label_of seed (first + i)) (get_or bits i false))
       ≡ label_bytes first (take (i + 1) bits)
   label_bytes-one first bits i within =
-      ap (λ l. label_bytes first (take i bits) ++ l) (sym (append-nil _) ∙ ap (label_bytes (first + i)) (sym one))
+      ap (λ l. label_bytes first (take i bits) ++ l) (sym (append-nil _)
+      ∙ ap (label_bytes (first + i)) (sym one))
       ∙ label_bytes-next first bits i 1 (omega arith)
     where
       one : take 1 (drop i bits) ≡ get_or bits i false ∷ []
       one = ap (take 1) (drop-cons bits i false within)
 
-pub length-encoded_from : (first : ℕ) (seed : List ℕ) (bits : List Bool) → length (encoded_from first seed bits) ≡ length bits
+pub length-encoded_from : (first : ℕ) (seed : List ℕ) (bits : List Bool)
+    → length (encoded_from first seed bits) ≡ length bits
 length-encoded_from first seed [] = refl
 length-encoded_from first seed (bit ∷ bits) = ap suc (length-encoded_from (first + 1) seed bits)
 
@@ -76,7 +83,8 @@ label_file-is c seed index bits first width first_is width_is =
     let at = sum (take index c.input_widths) in
     ap (λ n. (label_magic ++ number_bytes index ++ number_bytes n) ++ label_bytes seed first bits)
     (width_is ∙ sym (length-encoded_from at seed bits))
-    ∙ ap (λ f. (label_magic ++ number_bytes index ++ number_bytes (length (encoded_from at seed bits))) ++ label_bytes seed f bits) first_is
+    ∙ ap (λ f. (label_magic ++ number_bytes index ++ number_bytes (length (encoded_from at seed bits))) ++
+    label_bytes seed f bits) first_is
 
 -- The file of fewer than 2 ^ 32 labels has fewer than 2 ^ 64 bytes.
 pub label_file-size : (c : Netlist) (seed : List ℕ) (index : ℕ) (bits : List Bool) → length bits < 2 ^ 32 →
@@ -97,7 +105,8 @@ label_file-size c seed index bits few =
     )
 
 -- The wires of an input value stand before the number of wires.
-pub first_wire-room : (c : Netlist) → IsLawful c → (index width : ℕ) → slice_get c.input_widths index ≡ Some width →
+pub first_wire-room : (c : Netlist) → IsLawful c → (index width : ℕ)
+    → slice_get c.input_widths index ≡ Some width →
     sum (take index c.input_widths) + width ≤ c.wires
 first_wire-room c lawful index width at =
     let within = slice_get_within c.input_widths index width at in

@@ -10,18 +10,21 @@ use Rattle.gc_file.specs.Writing.{counted, IsUnderWay, IsStopped, Proceeds, Ends
 use Rattle.gc_file.proofs.WritingLemmas.{IsStopped-more}
 
 -- Where nothing is held, the sink took the file.
-IsUnderWay-whole : {O : Type 0} {Saw : O → List ℕ → Type 0} (w : FileWriter O) (now before : Option (List ℕ)) (file : List ℕ)
+IsUnderWay-whole : {O : Type 0} {Saw : O → List ℕ → Type 0} (w : FileWriter O)
+    (now before : Option (List ℕ)) (file : List ℕ)
     (u : IsUnderWay Saw w now before (file ++ [])) → w.held.items ≡ [] → u.beginning ≡ file
 IsUnderWay-whole w now before file u empty =
     sym (append-nil u.beginning) ∙ ap (λ l. u.beginning ++ l) (sym empty) ∙ u.whole ∙ append-nil file
 
 module _ {O : Type 0} {Saw : O → List ℕ → Type 0} {w w' : FileWriter O} {taken now : Option (List ℕ)} where
   -- All that was held is handed over, and the file has ended.
-  pub Ends-sent : Proceeds Saw w w' taken now (Ok tt) [] → w'.held.items ≡ [] → Ends Saw w taken now (Ok w'.sent) (λ _. [])
+  pub Ends-sent : Proceeds Saw w w' taken now (Ok tt) [] → w'.held.items ≡ []
+      → Ends Saw w taken now (Ok w'.sent) (λ _. [])
   Ends-sent sent empty = record {
     goes = λ before file a.
         let u = sent.goes before file a in
-        let is : u.beginning ≡ file ++ [] = IsUnderWay-whole w' now before file u empty ∙ sym (append-nil file) in
+        let is : u.beginning ≡ file ++ [] = IsUnderWay-whole w' now before file u empty
+        ∙ sym (append-nil file) in
         (subst (Appends before now) is u.taken, u.count ∙ ap (λ l. counted (length l)) is);
   }
 
@@ -49,7 +52,8 @@ module _
     (same_held : v.held ≡ w'.held)
     (same_sent : v.sent ≡ w'.sent)
     (sent : Proceeds Holds256 w w' taken now (Ok tt) []) where
-  begun : (before : Option (List ℕ)) (file : List ℕ) → IsUnderWay Holds256 w taken before file → IsUnderWay Saw v now before file
+  begun : (before : Option (List ℕ)) (file : List ℕ) → IsUnderWay Holds256 w taken before file
+      → IsUnderWay Saw v now before file
   begun before file a =
       let u = sent.goes before file a in
       record {
@@ -60,7 +64,8 @@ module _
         count = same_sent ∙ u.count;
       }
 
-  right : (before : Option (List ℕ)) (file : List ℕ) → IsUnderWay Holds256 w taken before file → digest ≡ sha256 file
+  right : (before : Option (List ℕ)) (file : List ℕ) → IsUnderWay Holds256 w taken before file
+      → digest ≡ sha256 file
   right before file a =
       let u = sent.goes before file a in
       digested u.beginning u.seen ∙ ap sha256 (IsUnderWay-whole w' now before file u empty)
@@ -71,16 +76,19 @@ module _
   Ends-digest_exit r e is stopped =
       subst (λ (r' : Result ℕ WriteFault). Ends Holds256 w taken now' r' sha256) (sym is) (record {
         goes = λ before file a.
-            subst (λ d. IsStopped before now' (file ++ d) e.sent) (right before file a) (stopped.goes before file (begun before file a));
+            subst (λ d. IsStopped before now' (file ++ d) e.sent) (right before file a)
+            (stopped.goes before file (begun before file a));
       })
 
   -- The digest is written, and the file has ended.
   pub Ends-digest : (end : Option (List ℕ)) (r : Result ℕ WriteFault) →
-      Proceeds Saw v v' now now' (Ok tt) digest → Ends Saw v' now' end r (λ _. []) → Ends Holds256 w taken end r sha256
+      Proceeds Saw v v' now now' (Ok tt) digest → Ends Saw v' now' end r (λ _. [])
+      → Ends Holds256 w taken end r sha256
   Ends-digest end r written ended = record {
     goes = λ before file a.
         let P : List ℕ → Type 0 = λ whole.
-        MatchResult r (λ n. Appends before end whole × (n ≡ counted (length whole))) (λ fault. IsStopped before end whole fault.sent)
+        MatchResult r (λ n. Appends before end whole × (n ≡ counted (length whole)))
+        (λ fault. IsStopped before end whole fault.sent)
         in
         let whole : (file ++ digest) ++ [] ≡ file ++ sha256 file =
         append-nil (file ++ digest) ∙ ap (λ d. file ++ d) (right before file a)

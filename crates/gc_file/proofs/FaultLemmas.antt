@@ -20,47 +20,79 @@ one_version v w b is is' = one_magic v w (sym is ∙ is')
 -- A fault that stays is the only one.
 one_lasting : (b : List ℕ) (e f : FileFault) → LastingFault b e → LastingFault b f → e ≡ f
 one_lasting b _ _ (bad_magic none) (bad_magic none') = refl
-one_lasting b _ _ (bad_magic none) (too_many_rows v' is' long' many') = absurd (none v' (begun v' b (omega arith) is'))
-one_lasting b _ _ (bad_magic none) (too_many_outputs v' is' long' many') = absurd (none v' (begun v' b (omega arith) is'))
-one_lasting b _ _ (bad_magic none) (spare_bits v' header' reaches' spare') = absurd (none v' (begun v' b (let long = header'.whole in omega arith) header'.begins))
-one_lasting b _ _ (bad_magic none) (bad_trailer v' has' reaches' wrong') = absurd (none v' (begun v' b (let long = has'.header.whole in omega arith) has'.header.begins))
-one_lasting b _ _ (bad_magic none) (trailing v' has' reaches' is') = absurd (none v' (begun v' b (let long = has'.header.whole in omega arith) has'.header.begins))
-one_lasting b _ _ (too_many_rows v is long many) (bad_magic none') = absurd (none' v (begun v b (omega arith) is))
+one_lasting b _ _ (bad_magic none) (too_many_rows v' is' long' many') =
+    absurd (none v' (begun v' b (omega arith) is'))
+one_lasting b _ _ (bad_magic none) (too_many_outputs v' is' long' many') =
+    absurd (none v' (begun v' b (omega arith) is'))
+one_lasting b _ _ (bad_magic none) (spare_bits v' header' reaches' spare') =
+    absurd (none v' (begun v' b (let long = header'.whole in omega arith) header'.begins))
+one_lasting b _ _ (bad_magic none) (bad_trailer v' has' reaches' wrong') =
+    absurd (none v' (begun v' b (let long = has'.header.whole in omega arith) has'.header.begins))
+one_lasting b _ _ (bad_magic none) (trailing v' has' reaches' is') =
+    absurd (none v' (begun v' b (let long = has'.header.whole in omega arith) has'.header.begins))
+one_lasting b _ _ (too_many_rows v is long many) (bad_magic none') =
+    absurd (none' v (begun v b (omega arith) is))
 one_lasting b _ _ (too_many_rows v is long many) (too_many_rows v' is' long' many') = refl
 one_lasting b _ _ (too_many_rows v is long many) (too_many_outputs v' is' long' many') = refl
-one_lasting b _ _ (too_many_rows v is long many) (spare_bits v' header' reaches' spare') = absurd (let few = header'.few_rows in omega arith)
-one_lasting b _ _ (too_many_rows v is long many) (bad_trailer v' has' reaches' wrong') = absurd (let few = has'.header.few_rows in omega arith)
-one_lasting b _ _ (too_many_rows v is long many) (trailing v' has' reaches' is') = absurd (let few = has'.header.few_rows in omega arith)
-one_lasting b _ _ (too_many_outputs v is long many) (bad_magic none') = absurd (none' v (begun v b (omega arith) is))
+one_lasting b _ _ (too_many_rows v is long many) (spare_bits v' header' reaches' spare') =
+    absurd (let few = header'.few_rows in omega arith)
+one_lasting b _ _ (too_many_rows v is long many) (bad_trailer v' has' reaches' wrong') =
+    absurd (let few = has'.header.few_rows in omega arith)
+one_lasting b _ _ (too_many_rows v is long many) (trailing v' has' reaches' is') =
+    absurd (let few = has'.header.few_rows in omega arith)
+one_lasting b _ _ (too_many_outputs v is long many) (bad_magic none') =
+    absurd (none' v (begun v b (omega arith) is))
 one_lasting b _ _ (too_many_outputs v is long many) (too_many_rows v' is' long' many') = refl
 one_lasting b _ _ (too_many_outputs v is long many) (too_many_outputs v' is' long' many') = refl
-one_lasting b _ _ (too_many_outputs v is long many) (spare_bits v' header' reaches' spare') = absurd (let few = header'.few_outputs in omega arith)
-one_lasting b _ _ (too_many_outputs v is long many) (bad_trailer v' has' reaches' wrong') = absurd (let few = has'.header.few_outputs in omega arith)
-one_lasting b _ _ (too_many_outputs v is long many) (trailing v' has' reaches' is') = absurd (let few = has'.header.few_outputs in omega arith)
-one_lasting b _ _ (spare_bits v header reaches spare) (bad_magic none') = absurd (none' v (begun v b (let long = header.whole in omega arith) header.begins))
-one_lasting b _ _ (spare_bits v header reaches spare) (too_many_rows v' is' long' many') = absurd (let few = header.few_rows in omega arith)
-one_lasting b _ _ (spare_bits v header reaches spare) (too_many_outputs v' is' long' many') = absurd (let few = header.few_outputs in omega arith)
+one_lasting b _ _ (too_many_outputs v is long many) (spare_bits v' header' reaches' spare') =
+    absurd (let few = header'.few_outputs in omega arith)
+one_lasting b _ _ (too_many_outputs v is long many) (bad_trailer v' has' reaches' wrong') =
+    absurd (let few = has'.header.few_outputs in omega arith)
+one_lasting b _ _ (too_many_outputs v is long many) (trailing v' has' reaches' is') =
+    absurd (let few = has'.header.few_outputs in omega arith)
+one_lasting b _ _ (spare_bits v header reaches spare) (bad_magic none') =
+    absurd (none' v (begun v b (let long = header.whole in omega arith) header.begins))
+one_lasting b _ _ (spare_bits v header reaches spare) (too_many_rows v' is' long' many') =
+    absurd (let few = header.few_rows in omega arith)
+one_lasting b _ _ (spare_bits v header reaches spare) (too_many_outputs v' is' long' many') =
+    absurd (let few = header.few_outputs in omega arith)
 one_lasting b _ _ (spare_bits v header reaches spare) (spare_bits v' header' reaches' spare') = refl
-one_lasting b _ _ (spare_bits v header reaches spare) (bad_trailer v' has' reaches' wrong') = absurd (has'.no_spare_bit spare)
-one_lasting b _ _ (spare_bits v header reaches spare) (trailing v' has' reaches' is') = absurd (has'.no_spare_bit spare)
-one_lasting b _ _ (bad_trailer v has reaches wrong) (bad_magic none') = absurd (none' v (begun v b (let long = has.header.whole in omega arith) has.header.begins))
-one_lasting b _ _ (bad_trailer v has reaches wrong) (too_many_rows v' is' long' many') = absurd (let few = has.header.few_rows in omega arith)
-one_lasting b _ _ (bad_trailer v has reaches wrong) (too_many_outputs v' is' long' many') = absurd (let few = has.header.few_outputs in omega arith)
-one_lasting b _ _ (bad_trailer v has reaches wrong) (spare_bits v' header' reaches' spare') = absurd (has.no_spare_bit spare')
+one_lasting b _ _ (spare_bits v header reaches spare) (bad_trailer v' has' reaches' wrong') =
+    absurd (has'.no_spare_bit spare)
+one_lasting b _ _ (spare_bits v header reaches spare) (trailing v' has' reaches' is') =
+    absurd (has'.no_spare_bit spare)
+one_lasting b _ _ (bad_trailer v has reaches wrong) (bad_magic none') =
+    absurd (none' v (begun v b (let long = has.header.whole in omega arith) has.header.begins))
+one_lasting b _ _ (bad_trailer v has reaches wrong) (too_many_rows v' is' long' many') =
+    absurd (let few = has.header.few_rows in omega arith)
+one_lasting b _ _ (bad_trailer v has reaches wrong) (too_many_outputs v' is' long' many') =
+    absurd (let few = has.header.few_outputs in omega arith)
+one_lasting b _ _ (bad_trailer v has reaches wrong) (spare_bits v' header' reaches' spare') =
+    absurd (has.no_spare_bit spare')
 one_lasting b _ _ (bad_trailer v has reaches wrong) (bad_trailer v' has' reaches' wrong') = refl
-one_lasting b _ _ (bad_trailer v has reaches wrong) (trailing v' has' reaches' is') = absurd (wrong (let P : Version → Type 0 = λ w. IsTrailerRight w b in subst P (one_version v' v b has'.header.begins has.header.begins) is'))
-one_lasting b _ _ (trailing v has reaches is) (bad_magic none') = absurd (none' v (begun v b (let long = has.header.whole in omega arith) has.header.begins))
-one_lasting b _ _ (trailing v has reaches is) (too_many_rows v' is' long' many') = absurd (let few = has.header.few_rows in omega arith)
-one_lasting b _ _ (trailing v has reaches is) (too_many_outputs v' is' long' many') = absurd (let few = has.header.few_outputs in omega arith)
-one_lasting b _ _ (trailing v has reaches is) (spare_bits v' header' reaches' spare') = absurd (has.no_spare_bit spare')
-one_lasting b _ _ (trailing v has reaches is) (bad_trailer v' has' reaches' wrong') = absurd (wrong' (let P : Version → Type 0 = λ w. IsTrailerRight w b in subst P (one_version v v' b has.header.begins has'.header.begins) is))
+one_lasting b _ _ (bad_trailer v has reaches wrong) (trailing v' has' reaches' is') =
+    absurd (wrong (let P : Version → Type 0 = λ w. IsTrailerRight w b in
+    subst P (one_version v' v b has'.header.begins has.header.begins) is'))
+one_lasting b _ _ (trailing v has reaches is) (bad_magic none') =
+    absurd (none' v (begun v b (let long = has.header.whole in omega arith) has.header.begins))
+one_lasting b _ _ (trailing v has reaches is) (too_many_rows v' is' long' many') =
+    absurd (let few = has.header.few_rows in omega arith)
+one_lasting b _ _ (trailing v has reaches is) (too_many_outputs v' is' long' many') =
+    absurd (let few = has.header.few_outputs in omega arith)
+one_lasting b _ _ (trailing v has reaches is) (spare_bits v' header' reaches' spare') =
+    absurd (has.no_spare_bit spare')
+one_lasting b _ _ (trailing v has reaches is) (bad_trailer v' has' reaches' wrong') =
+    absurd (wrong' (let P : Version → Type 0 = λ w. IsTrailerRight w b in
+    subst P (one_version v v' b has.header.begins has'.header.begins) is))
 one_lasting b _ _ (trailing v has reaches is) (trailing v' has' reaches' is') = refl
 
 -- Bytes that are in order have no fault that stays.
 pub no_lasting : (v : Version) (b : List ℕ) → IsInOrder v b → (e : FileFault) → LastingFault b e → ⊥
 no_lasting v b in_order _ (bad_magic none) = none v in_order.header.begun
-no_lasting v b in_order _ (too_many_rows w is long many) = let few = in_order.header.few_rows long in omega arith
-no_lasting v b in_order _ (too_many_outputs w is long many) = let few = in_order.header.few_outputs long in omega arith
+no_lasting v b in_order _ (too_many_rows w is long many) = let few = in_order.header.few_rows long in
+    omega arith
+no_lasting v b in_order _ (too_many_outputs w is long many) = let few = in_order.header.few_outputs long in
+    omega arith
 no_lasting v b in_order _ (spare_bits w header reaches spare) = in_order.no_spare_bit reaches spare
 no_lasting v b in_order _ (bad_trailer w has reaches wrong) =
     let long = has.header.whole in

@@ -19,10 +19,12 @@ use Rattle.gc_file.proofs.PackLemmas.{packed-unpacked}
 pub take_plus : {X : Type 0} (a b : ℕ) (xs : List X) → take a xs ++ take b (drop a xs) ≡ take (a + b) xs
 take_plus a b xs =
     rw (← drop-take a b xs)
-    (ap (λ l. l ++ drop a (take (a + b) xs)) (sym (take-take a (a + b) xs (omega arith))) ∙ take-append-drop a (take (a + b) xs))
+    (ap (λ l. l ++ drop a (take (a + b) xs)) (sym (take-take a (a + b) xs (omega arith)))
+    ∙ take-append-drop a (take (a + b) xs))
 
 -- A header, in its parts.
-pub header_parts : (h digest : List ℕ) → length h ≡ 48 → IsHeaderInOrder (version_of h) h → ((i : ℕ) → get_or h i 0 < 256)
+pub header_parts : (h digest : List ℕ) → length h ≡ 48 → IsHeaderInOrder (version_of h) h
+    → ((i : ℕ) → get_or h i 0 < 256)
     → digest ≡ take 32 (drop 8 h)
     → magic (version_of h) ++ digest ++ number_bytes (row_count h) ++ number_bytes (output_count h) ≡ h
 header_parts h digest whole in_order small is =
@@ -37,30 +39,36 @@ header_parts h digest whole in_order small is =
     )
     (take_all 48 h (omega arith))
 
-module _ (h r d e t : List ℕ) (p : GarbledParts) (whole : length h ≡ 48) (in_order : IsHeaderInOrder (version_of h) h)
-    (rows_full : length r ≡ row_size h) (decode_full : length d ≡ decode_size h) (entries_full : length e ≡ entry_size h)
+module _ (h r d e t : List ℕ) (p : GarbledParts) (whole : length h ≡ 48)
+    (in_order : IsHeaderInOrder (version_of h) h)
+    (rows_full : length r ≡ row_size h) (decode_full : length d ≡ decode_size h)
+    (entries_full : length e ≡ entry_size h)
     (none : IsSpare (output_count h) d → ⊥) (right : t ≡ sha256 (h ++ r ++ d ++ e))
     (small_header : (i : ℕ) → get_or h i 0 < 256) (small_decode : (i : ℕ) → get_or d i 0 < 256)
     (version_is : p.version ≡ version_of h) (digest_is : p.digest ≡ take 32 (drop 8 h))
     (rows_are : flat_map row_bytes p.rows ≡ r) (entries_are : flat_map entry_bytes p.entries ≡ e)
     (bits_are : p.decode_bits ≡ map (bit_in d) (range_with_len 0 (output_count h))) where
   row_number : length p.rows ≡ row_count h
-  row_number = let size = length-pairs row_bytes length-row_bytes p.rows in let same = ap length rows_are in omega arith
+  row_number = let size = length-pairs row_bytes length-row_bytes p.rows in let same = ap length rows_are in
+      omega arith
 
   bit_number : length p.decode_bits ≡ output_count h
   bit_number = ap length bits_are ∙ length-map-range_with_len (bit_in d) 0 (output_count h)
 
   entry_number : length p.entries ≡ entry_count (version_of h) (output_count h)
-  entry_number = let size = length-pairs entry_bytes length-entry_bytes p.entries in let same = ap length entries_are in omega arith
+  entry_number = let size = length-pairs entry_bytes length-entry_bytes p.entries in let same =
+      ap length entries_are in omega arith
 
   body_is : body p ≡ h ++ r ++ d ++ e
   body_is =
-      let bits : packed p.decode_bits ≡ d = ap packed bits_are ∙ packed-unpacked d (output_count h) decode_full small_decode none in
+      let bits : packed p.decode_bits ≡ d = ap packed bits_are
+      ∙ packed-unpacked d (output_count h) decode_full small_decode none in
       rw (row_number, bit_number, version_is, rows_are, bits, entries_are)
       (ap (λ l. l ++ r ++ d ++ e) (header_parts h p.digest whole in_order small_header digest_is))
 
   pub file_is : All (λ row. IsLabel row.generator × IsLabel row.evaluator) p.rows
-      → All (λ pair. IsLabel pair.entry_zero × IsLabel pair.entry_one) p.entries → IsGarbledFile (h ++ r ++ d ++ e ++ t) p
+      → All (λ pair. IsLabel pair.entry_zero × IsLabel pair.entry_one) p.entries
+      → IsGarbledFile (h ++ r ++ d ++ e ++ t) p
   unfolding garbled_file
   file_is row_labels entry_labels = record {
     few_rows = rw row_number (in_order.few_rows (omega arith));

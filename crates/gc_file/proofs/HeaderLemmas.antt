@@ -30,7 +30,8 @@ begun_before m bytes more begun =
     take-whole (x ∷ xs) = ap (λ l. x ∷ l) (take-whole xs)
 
 -- A beginning of a header that is in order is a beginning of a file that is.
-pub header_in_order : (v : Version) (bytes : List ℕ) → length bytes < 48 → IsHeaderInOrder v bytes → IsInOrder v bytes
+pub header_in_order : (v : Version) (bytes : List ℕ) → length bytes < 48 → IsHeaderInOrder v bytes
+    → IsInOrder v bytes
 header_in_order v bytes short header = record {
   header = header;
   no_spare_bit = λ reaches. absurd (omega arith);
@@ -50,11 +51,13 @@ module _ (bytes more : List ℕ) where
   rows-more long = number_at-append 40 bytes more (omega arith)
 
   decode_end-more : 48 ≤ length bytes → decode_end (bytes ++ more) ≡ decode_end bytes
-  decode_end-more long = ap (λ n. 48 + 32 * n + bytes_for (output_count (bytes ++ more))) (rows-more (omega arith))
+  decode_end-more long = ap (λ n. 48 + 32 * n + bytes_for (output_count (bytes ++ more)))
+      (rows-more (omega arith))
       ∙ ap (λ n. 48 + 32 * row_count bytes + bytes_for n) (outputs-more long)
 
   entries_end-more : (v : Version) → 48 ≤ length bytes → entries_end v (bytes ++ more) ≡ entries_end v bytes
-  entries_end-more v long = ap (λ n. n + 32 * entry_count v (output_count (bytes ++ more))) (decode_end-more long)
+  entries_end-more v long = ap (λ n. n + 32 * entry_count v (output_count (bytes ++ more)))
+      (decode_end-more long)
       ∙ ap (λ n. decode_end bytes + 32 * entry_count v n) (outputs-more long)
 
   header-more : (v : Version) → HasHeader v bytes → HasHeader v (bytes ++ more)
@@ -68,17 +71,20 @@ module _ (bytes more : List ℕ) where
       }
 
   last-more : 48 ≤ length bytes → decode_end bytes ≤ length bytes
-      → slice_index (bytes ++ more) (decode_end (bytes ++ more) - 1) ≡ slice_index bytes (decode_end bytes - 1)
+      → slice_index (bytes ++ more) (decode_end (bytes ++ more) - 1) ≡ slice_index bytes
+      (decode_end bytes - 1)
   last-more long reaches = ap (λ n. slice_index (bytes ++ more) (n - 1)) (decode_end-more long)
       ∙ get_or_append_left bytes more 0 (decode_end bytes - 1) (omega arith)
 
-  spare-more : 48 ≤ length bytes → decode_end bytes ≤ length bytes → HasSpareBit bytes → HasSpareBit (bytes ++ more)
+  spare-more : 48 ≤ length bytes → decode_end bytes ≤ length bytes → HasSpareBit bytes
+      → HasSpareBit (bytes ++ more)
   spare-more long reaches spare = record {
     not_full = rw (outputs-more long) spare.not_full;
     bit = rw (last-more long reaches, outputs-more long) spare.bit;
   }
 
-  spare-less : 48 ≤ length bytes → decode_end bytes ≤ length bytes → HasSpareBit (bytes ++ more) → HasSpareBit bytes
+  spare-less : 48 ≤ length bytes → decode_end bytes ≤ length bytes → HasSpareBit (bytes ++ more)
+      → HasSpareBit bytes
   spare-less long reaches spare = record {
     not_full = rw (outputs-more long) at spare.not_full;
     bit = rw (last-more long reaches, outputs-more long) at spare.bit;
@@ -93,13 +99,16 @@ module _ (bytes more : List ℕ) where
         no_spare_bit = λ spare. has.no_spare_bit (spare-less long has.whole spare);
       }
 
-  trailer-more : (v : Version) → 48 ≤ length bytes → trailer_end v bytes ≤ length bytes → trailer v (bytes ++ more) ≡ trailer v bytes
+  trailer-more : (v : Version) → 48 ≤ length bytes → trailer_end v bytes ≤ length bytes
+      → trailer v (bytes ++ more) ≡ trailer v bytes
   trailer-more v long reaches = ap (λ n. take 32 (drop n (bytes ++ more))) (entries_end-more v long)
       ∙ ap (take 32) (drop-append-le (entries_end v bytes) bytes more (omega arith))
-      ∙ take-append-le 32 (drop (entries_end v bytes) bytes) more (omega (arith, length-drop (entries_end v bytes) bytes))
+      ∙ take-append-le 32 (drop (entries_end v bytes) bytes) more
+      (omega (arith, length-drop (entries_end v bytes) bytes))
 
   message-more : (v : Version) → 48 ≤ length bytes → trailer_end v bytes ≤ length bytes
-      → sha256 (take (entries_end v (bytes ++ more)) (bytes ++ more)) ≡ sha256 (take (entries_end v bytes) bytes)
+      → sha256 (take (entries_end v (bytes ++ more)) (bytes ++ more)) ≡ sha256
+      (take (entries_end v bytes) bytes)
   message-more v long reaches = ap sha256 (ap (λ n. take n (bytes ++ more)) (entries_end-more v long)
       ∙ take-append-le (entries_end v bytes) bytes more (omega arith))
 
@@ -107,15 +116,19 @@ module _ (bytes more : List ℕ) where
   pub lasts : (e : FileFault) → LastingFault bytes e → LastingFault (bytes ++ more) e
   lasts _ (bad_magic none) = bad_magic (λ v begun. none v (begun_before (magic v) bytes more begun))
   lasts _ (too_many_rows v is long many) =
-      too_many_rows v (magic-more (omega arith) ∙ is) (omega (arith, length-append bytes more)) (rw (rows-more long) many)
+      too_many_rows v (magic-more (omega arith) ∙ is) (omega (arith, length-append bytes more))
+      (rw (rows-more long) many)
   lasts _ (too_many_outputs v is long many) =
-      too_many_outputs v (magic-more (omega arith) ∙ is) (omega (arith, length-append bytes more)) (rw (outputs-more long) many)
+      too_many_outputs v (magic-more (omega arith) ∙ is) (omega (arith, length-append bytes more))
+      (rw (outputs-more long) many)
   lasts _ (spare_bits v header reaches spare) =
-      spare_bits v (header-more v header) (omega (arith, decode_end-more header.whole, length-append bytes more))
+      spare_bits v (header-more v header)
+      (omega (arith, decode_end-more header.whole, length-append bytes more))
       (spare-more header.whole reaches spare)
   lasts _ (bad_trailer v has reaches wrong) =
       let long = has.header.whole in
-      bad_trailer v (decode_bits-more v has) (omega (arith, entries_end-more v long, length-append bytes more))
+      bad_trailer v (decode_bits-more v has)
+      (omega (arith, entries_end-more v long, length-append bytes more))
       (λ is. wrong (sym (trailer-more v long reaches) ∙ is ∙ message-more v long reaches))
   lasts _ (trailing v has reaches is) =
       let long = has.header.whole in
@@ -123,8 +136,10 @@ module _ (bytes more : List ℕ) where
       (trailer-more v long (omega arith) ∙ is ∙ sym (message-more v long (omega arith)))
 
 -- A lasting fault of the first bytes of a piece is that of the whole piece.
-pub lasts_piece : (header piece : List ℕ) (n : ℕ) (e : FileFault) → LastingFault (header ++ take n piece) e → LastingFault (header ++ piece) e
+pub lasts_piece : (header piece : List ℕ) (n : ℕ) (e : FileFault) → LastingFault (header ++ take n piece) e
+    → LastingFault (header ++ piece) e
 lasts_piece header piece n e fault =
     let P : List ℕ → Type 0 = λ b. LastingFault b e in
-    subst P (append_assoc header (take n piece) (drop n piece) ∙ ap (λ l. header ++ l) (take-append-drop n piece))
+    subst P (append_assoc header (take n piece) (drop n piece)
+    ∙ ap (λ l. header ++ l) (take-append-drop n piece))
     (lasts (header ++ take n piece) (drop n piece) e fault)

@@ -5,7 +5,8 @@ use Rattle.std.proofs.lemmas.List.{take_all}
 use Rattle.std.specs.Io.KnownBytes.{Appends}
 
 -- Some bytes, and then more.
-pub Appends-Appends : (a b c : Option (List ℕ)) (bs more : List ℕ) → Appends a b bs → Appends b c more → Appends a c (bs ++ more)
+pub Appends-Appends : (a b c : Option (List ℕ)) (bs more : List ℕ) → Appends a b bs → Appends b c more
+    → Appends a c (bs ++ more)
 Appends-Appends None b c bs more first second = tt
 Appends-Appends (Some xs) None c bs more first second = absurd first
 Appends-Appends (Some xs) (Some ys) None bs more first second = absurd second
@@ -16,6 +17,7 @@ Appends-Appends (Some xs) (Some ys) (Some zs) bs more first second =
 pub Appends-take : (a b c : Option (List ℕ)) (piece : List ℕ) (done n : ℕ) → Appends a b (take done piece) →
     Appends b c (take n (take (length piece - done) (drop done piece))) → Appends a c (take (done + n) piece)
 Appends-take a b c piece done n first second =
-    let rest : take (length piece - done) (drop done piece) ≡ drop done piece = take_all _ _ (omega (arith, length-drop done piece)) in
+    let rest : take (length piece - done) (drop done piece) ≡ drop done piece =
+    take_all _ _ (omega (arith, length-drop done piece)) in
     subst (Appends a c) (ap (λ l. take done piece ++ take n l) rest ∙ sym (take-add done n piece))
     (Appends-Appends a b c (take done piece) _ first second)

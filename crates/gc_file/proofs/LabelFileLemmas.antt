@@ -24,8 +24,10 @@ begins : (b : List ℕ) → 8 ≤ length b → IsBegun label_magic b → take 8 
 begins b long begun = begun ∙ take_all (length b) label_magic long
 
 -- Bytes of the form of a label file are the one with these labels.
-pub label_file_is : (b : List ℕ) → AreSmall b → IsLabelForm b → (index : ℕ) → index ≡ number_at 8 b → (labels : List ℕ)
-    → flat_map bytes_of_label labels ≡ drop 16 b → All IsLabel labels → IsLabelFile b (record { index = index; labels = labels })
+pub label_file_is : (b : List ℕ) → AreSmall b → IsLabelForm b → (index : ℕ) → index ≡ number_at 8 b
+    → (labels : List ℕ)
+    → flat_map bytes_of_label labels ≡ drop 16 b → All IsLabel labels
+    → IsLabelFile b (record { index = index; labels = labels })
 unfolding label_file
 label_file_is b are form index index_is labels labels_are each =
     let long = form.header in
@@ -38,7 +40,8 @@ label_file_is b are form index index_is labels labels_are each =
       index = let fits = number_at-lt 8 b are in omega arith;
       few_labels = let few = form.few_labels in omega arith;
       labels = each;
-      spelled = sym (ap (λ m. m ++ number_bytes index ++ number_bytes (length labels) ++ flat_map bytes_of_label labels) (sym (begins b (omega arith) form.begun))
+      spelled = sym (ap (λ m. m ++ number_bytes index ++ number_bytes (length labels) ++ flat_map
+          bytes_of_label labels) (sym (begins b (omega arith) form.begun))
           ∙ rw (
             index_is,
             count,
@@ -53,7 +56,8 @@ label_file_is b are form index index_is labels labels_are each =
 -- ---- a label file has its form
 
 module _ (b : List ℕ) (p : LabelFileParts) (file : IsLabelFile b p) where
-  nested : b ≡ label_magic ++ (number_bytes p.index ++ (number_bytes (length p.labels) ++ flat_map bytes_of_label p.labels))
+  nested : b ≡ label_magic ++
+      (number_bytes p.index ++ (number_bytes (length p.labels) ++ flat_map bytes_of_label p.labels))
   unfolding label_file
   nested = file.spelled ∙ simp append_assoc refl
 
@@ -64,25 +68,34 @@ module _ (b : List ℕ) (p : LabelFileParts) (file : IsLabelFile b p) where
       let n2 = length-number_bytes (length p.labels) in
       ap length nested ∙ omega (
         arith,
-        length-append label_magic (number_bytes p.index ++ (number_bytes (length p.labels) ++ flat_map bytes_of_label p.labels)),
-        length-append (number_bytes p.index) (number_bytes (length p.labels) ++ flat_map bytes_of_label p.labels),
+        length-append label_magic
+            (number_bytes p.index ++ (number_bytes (length p.labels) ++ flat_map bytes_of_label p.labels)),
+        length-append (number_bytes p.index) (number_bytes (length p.labels) ++ flat_map bytes_of_label
+            p.labels),
         length-append (number_bytes (length p.labels)) (flat_map bytes_of_label p.labels),
       )
 
   file_count : label_count b ≡ length p.labels
   file_count =
       let n1 = length-number_bytes p.index in
-      ap label_count (nested ∙ sym (append_assoc label_magic (number_bytes p.index) (number_bytes (length p.labels) ++ flat_map bytes_of_label p.labels)))
-      ∙ number_at-number_bytes 12 (length p.labels) (label_magic ++ number_bytes p.index) (flat_map bytes_of_label p.labels)
-      (omega (arith, length-append label_magic (number_bytes p.index))) (let few = file.few_labels in omega arith)
+      ap label_count (nested ∙ sym (append_assoc label_magic (number_bytes p.index)
+      (number_bytes (length p.labels) ++ flat_map bytes_of_label p.labels)))
+      ∙ number_at-number_bytes 12 (length p.labels) (label_magic ++ number_bytes p.index)
+      (flat_map bytes_of_label p.labels)
+      (omega (arith, length-append label_magic (number_bytes p.index))) (let few = file.few_labels in
+      omega arith)
 
   file_index : number_at 8 b ≡ p.index
   file_index = ap (number_at 8) nested
-      ∙ number_at-number_bytes 8 p.index label_magic (number_bytes (length p.labels) ++ flat_map bytes_of_label p.labels) refl file.index
+      ∙ number_at-number_bytes 8 p.index label_magic
+      (number_bytes (length p.labels) ++ flat_map bytes_of_label p.labels) refl file.index
 
   file_form : IsLabelForm b
   file_form = record {
-    begun = ap (take 8) nested ∙ take_at label_magic (number_bytes p.index ++ (number_bytes (length p.labels) ++ flat_map bytes_of_label p.labels)) 8 refl ∙ sym (take_all (length b) label_magic (omega (arith, file_length)));
+    begun = ap (take 8) nested
+        ∙ take_at label_magic (number_bytes p.index ++
+        (number_bytes (length p.labels) ++ flat_map bytes_of_label p.labels)) 8 refl
+        ∙ sym (take_all (length b) label_magic (omega (arith, file_length)));
     header = omega (arith, file_length);
     few_labels = rw file_count file.few_labels;
     whole = omega (arith, file_length, file_count);
@@ -96,10 +109,12 @@ one_label_file b p q fp fq =
     let index : p.index ≡ q.index = sym (file_index b p fp) ∙ file_index b q fq in
     let count : length p.labels ≡ length q.labels = sym (file_count b p fp) ∙ file_count b q fq in
     let s1 = split label_magic _ label_magic _ refl (sym (nested b p fp) ∙ nested b q fq) in
-    let s2 = split (number_bytes p.index) _ (number_bytes q.index) _ (length-number_bytes p.index ∙ sym (length-number_bytes q.index)) s1.1 in
+    let s2 = split (number_bytes p.index) _ (number_bytes q.index) _ (length-number_bytes p.index
+    ∙ sym (length-number_bytes q.index)) s1.1 in
     let s3 = split (number_bytes (length p.labels)) _ (number_bytes (length q.labels)) _
     (length-number_bytes (length p.labels) ∙ sym (length-number_bytes (length q.labels))) s2.1 in
-    let labels = one_list bytes_of_label 16 length-bytes_of_label IsLabel one_label p.labels q.labels count fp.labels fq.labels s3.1 in
+    let labels = one_list bytes_of_label 16 length-bytes_of_label IsLabel one_label p.labels q.labels count
+    fp.labels fq.labels s3.1 in
     ap (λ i. labels_with i p.labels) index ∙ ap (labels_with q.index) labels
 
 -- ---- the faults
@@ -112,22 +127,29 @@ one_fault b _ _ (bad_label_magic none) (header_truncated begun' short') = absurd
 one_fault b _ _ (bad_label_magic none) (labels_truncated begun' long' few' less') = absurd (none begun')
 one_fault b _ _ (too_many_labels begun long many) (bad_label_magic none') = absurd (none' begun)
 one_fault b _ _ (too_many_labels begun long many) (too_many_labels begun' long' many') = refl
-one_fault b _ _ (too_many_labels begun long many) (labels_trailing begun' long' few' more') = absurd (omega arith)
+one_fault b _ _ (too_many_labels begun long many) (labels_trailing begun' long' few' more') =
+    absurd (omega arith)
 one_fault b _ _ (too_many_labels begun long many) (header_truncated begun' short') = absurd (omega arith)
-one_fault b _ _ (too_many_labels begun long many) (labels_truncated begun' long' few' less') = absurd (omega arith)
+one_fault b _ _ (too_many_labels begun long many) (labels_truncated begun' long' few' less') =
+    absurd (omega arith)
 one_fault b _ _ (labels_trailing begun long few more) (bad_label_magic none') = absurd (none' begun)
-one_fault b _ _ (labels_trailing begun long few more) (too_many_labels begun' long' many') = absurd (omega arith)
+one_fault b _ _ (labels_trailing begun long few more) (too_many_labels begun' long' many') =
+    absurd (omega arith)
 one_fault b _ _ (labels_trailing begun long few more) (labels_trailing begun' long' few' more') = refl
 one_fault b _ _ (labels_trailing begun long few more) (header_truncated begun' short') = absurd (omega arith)
-one_fault b _ _ (labels_trailing begun long few more) (labels_truncated begun' long' few' less') = absurd (omega arith)
+one_fault b _ _ (labels_trailing begun long few more) (labels_truncated begun' long' few' less') =
+    absurd (omega arith)
 one_fault b _ _ (header_truncated begun short) (bad_label_magic none') = absurd (none' begun)
 one_fault b _ _ (header_truncated begun short) (too_many_labels begun' long' many') = absurd (omega arith)
-one_fault b _ _ (header_truncated begun short) (labels_trailing begun' long' few' more') = absurd (omega arith)
+one_fault b _ _ (header_truncated begun short) (labels_trailing begun' long' few' more') =
+    absurd (omega arith)
 one_fault b _ _ (header_truncated begun short) (header_truncated begun' short') = refl
 one_fault b _ _ (header_truncated begun short) (labels_truncated begun' long' few' less') = refl
 one_fault b _ _ (labels_truncated begun long few less) (bad_label_magic none') = absurd (none' begun)
-one_fault b _ _ (labels_truncated begun long few less) (too_many_labels begun' long' many') = absurd (omega arith)
-one_fault b _ _ (labels_truncated begun long few less) (labels_trailing begun' long' few' more') = absurd (omega arith)
+one_fault b _ _ (labels_truncated begun long few less) (too_many_labels begun' long' many') =
+    absurd (omega arith)
+one_fault b _ _ (labels_truncated begun long few less) (labels_trailing begun' long' few' more') =
+    absurd (omega arith)
 one_fault b _ _ (labels_truncated begun long few less) (header_truncated begun' short') = refl
 one_fault b _ _ (labels_truncated begun long few less) (labels_truncated begun' long' few' less') = refl
 
@@ -146,13 +168,17 @@ still b more long begun = take-append-le 8 b more long ∙ begins b long begun
     ∙ sym (take_all (length (b ++ more)) label_magic (omega (arith, length-append b more)))
 
 -- Each fault but Truncated is that of all longer bytes.
-pub lasts : (b : List ℕ) (e : FileFault) (more : List ℕ) → e ≢ Truncated → FirstLabelFault b e → FirstLabelFault (b ++ more) e
-lasts b _ more other (bad_label_magic none) = bad_label_magic (λ is. none (begun_before label_magic b more is))
+pub lasts : (b : List ℕ) (e : FileFault) (more : List ℕ) → e ≢ Truncated → FirstLabelFault b e
+    → FirstLabelFault (b ++ more) e
+lasts b _ more other (bad_label_magic none) =
+    bad_label_magic (λ is. none (begun_before label_magic b more is))
 lasts b _ more other (too_many_labels begun long many) =
-    too_many_labels (still b more (omega arith) begun) (omega (arith, length-append b more)) (rw (number_at-append 12 b more (omega arith)) many)
+    too_many_labels (still b more (omega arith) begun) (omega (arith, length-append b more))
+    (rw (number_at-append 12 b more (omega arith)) many)
 lasts b _ more other (labels_trailing begun long few after) =
     let count : label_count (b ++ more) ≡ label_count b = number_at-append 12 b more (omega arith) in
-    labels_trailing (still b more (omega arith) begun) (omega (arith, length-append b more)) (rw count few) (omega (arith, length-append b more))
+    labels_trailing (still b more (omega arith) begun) (omega (arith, length-append b more)) (rw count few)
+    (omega (arith, length-append b more))
 lasts b _ more other (header_truncated begun short) = absurd (other refl)
 lasts b _ more other (labels_truncated begun long few less) = absurd (other refl)
 
@@ -163,24 +189,31 @@ labels_from : ℕ → List ℕ → List ℕ
 labels_from zero bytes = []
 labels_from (suc n) bytes = label_of_bytes (take 16 bytes) ∷ labels_from n (drop 16 bytes)
 
-bytes-labels_from : (n : ℕ) (bytes : List ℕ) → length bytes ≡ 16 * n → AreSmall bytes → flat_map bytes_of_label (labels_from n bytes) ≡ bytes
+bytes-labels_from : (n : ℕ) (bytes : List ℕ) → length bytes ≡ 16 * n → AreSmall bytes
+    → flat_map bytes_of_label (labels_from n bytes) ≡ bytes
 unfolding labels_from
 bytes-labels_from zero [] len are = refl
 bytes-labels_from zero (x ∷ bytes) len are = absurd (omega arith)
 bytes-labels_from (suc n) bytes len are =
-    let first = bytes_of_label-label_of_bytes (take 16 bytes) (length-take-le 16 bytes (omega arith)) (small-take 16 bytes are) in
-    let rest = bytes-labels_from n (drop 16 bytes) (omega (arith, length-drop 16 bytes)) (small-drop 16 bytes are) in
+    let first = bytes_of_label-label_of_bytes (take 16 bytes) (length-take-le 16 bytes (omega arith))
+    (small-take 16 bytes are) in
+    let rest = bytes-labels_from n (drop 16 bytes) (omega (arith, length-drop 16 bytes))
+    (small-drop 16 bytes are) in
     rw (first, rest) (take-append-drop 16 bytes)
 
-are-labels_from : (n : ℕ) (bytes : List ℕ) → length bytes ≡ 16 * n → AreSmall bytes → All IsLabel (labels_from n bytes)
+are-labels_from : (n : ℕ) (bytes : List ℕ) → length bytes ≡ 16 * n → AreSmall bytes
+    → All IsLabel (labels_from n bytes)
 unfolding labels_from
 are-labels_from zero bytes len are k d within = absurd (omega arith)
-are-labels_from (suc n) bytes len are zero d within = label_of_bytes-lt (take 16 bytes) (length-take-le 16 bytes (omega arith)) (small-take 16 bytes are)
+are-labels_from (suc n) bytes len are zero d within = label_of_bytes-lt (take 16 bytes)
+    (length-take-le 16 bytes (omega arith)) (small-take 16 bytes are)
 are-labels_from (suc n) bytes len are (suc k) d within =
-    are-labels_from n (drop 16 bytes) (omega (arith, length-drop 16 bytes)) (small-drop 16 bytes are) k d (omega arith)
+    are-labels_from n (drop 16 bytes) (omega (arith, length-drop 16 bytes)) (small-drop 16 bytes are) k d
+    (omega arith)
 
 -- Bytes are a label file or have a first fault.
-pub judged : (b : List ℕ) → AreBytes b → ((p : LabelFileParts) × IsLabelFile b p) ⊎ ((e : FileFault) × FirstLabelFault b e)
+pub judged : (b : List ℕ) → AreBytes b → ((p : LabelFileParts) × IsLabelFile b p) ⊎
+    ((e : FileFault) × FirstLabelFault b e)
 judged b are =
     elim (same_list (take 8 b) (take (length b) label_magic)) [
       | inr other ↦ inr (BadMagic, bad_label_magic other)
@@ -197,8 +230,11 @@ judged b are =
                   let tail = small-drop 16 b (small b are) in
                   inl (
                     record { index = number_at 8 b; labels = labels_from (label_count b) (drop 16 b) },
-                    label_file_is b (small b are) (record { begun = begun; header = long; few_labels = few; whole = omega arith }) (number_at 8 b) refl
-                        (labels_from (label_count b) (drop 16 b)) (bytes-labels_from (label_count b) (drop 16 b) rest tail)
+                    label_file_is b (small b are)
+                        (record { begun = begun; header = long; few_labels = few; whole = omega arith })
+                        (number_at 8 b) refl
+                        (labels_from (label_count b) (drop 16 b))
+                        (bytes-labels_from (label_count b) (drop 16 b) rest tail)
                         (are-labels_from (label_count b) (drop 16 b) rest tail),
                   ))
             ]

@@ -9,7 +9,8 @@ use Rattle.gc_half.proofs.SetWires.{lt_or_le}
 use Rattle.gc_file.specs.Number.{number_bytes, number_at}
 
 -- A number stays the same whatever follows.
-pub number_at-append : (place : ℕ) (xs ys : List ℕ) → place + 4 ≤ length xs → number_at place (xs ++ ys) ≡ number_at place xs
+pub number_at-append : (place : ℕ) (xs ys : List ℕ) → place + 4 ≤ length xs
+    → number_at place (xs ++ ys) ≡ number_at place xs
 unfolding number_at
 number_at-append place xs ys within =
     ap (little_number 4) (drop-append-le place xs ys (omega arith))
@@ -28,22 +29,32 @@ number_at-number_bytes place n before after at fits =
     ∙ little_number-reads_back 4 n after fits
 
 -- The bytes of a number that was read are those that it was read from.
-pub number_bytes-number_at : (place : ℕ) (bytes : List ℕ) → place + 4 ≤ length bytes → ((i : ℕ) → get_or bytes i 0 < 256)
+pub number_bytes-number_at : (place : ℕ) (bytes : List ℕ) → place + 4 ≤ length bytes
+    → ((i : ℕ) → get_or bytes i 0 < 256)
     → number_bytes (number_at place bytes) ≡ take 4 (drop place bytes)
 unfolding number_at number_bytes
 number_bytes-number_at place bytes within small =
     let xs = drop place bytes in
     let same : little_number 4 xs ≡ from_le_bytes w32 (take 4 xs) =
-    omega (arith, get_or-take 4 xs 0 0 (omega arith), get_or-take 4 xs 1 0 (omega arith), get_or-take 4 xs 2 0 (omega arith), get_or-take 4 xs 3 0 (omega arith)) in
+    omega (
+      arith,
+      get_or-take 4 xs 0 0 (omega arith),
+      get_or-take 4 xs 1 0 (omega arith),
+      get_or-take 4 xs 2 0 (omega arith),
+      get_or-take 4 xs 3 0 (omega arith),
+    ) in
     le_bytes_4 (take 4 xs) (little_number 4 xs) (length-take-le 4 xs (omega (arith, length-drop place bytes)))
     (λ i. elim (lt_or_le i 4) [
       | inl below ↦ rw (get_or-take 4 xs i 0 below, get_or-drop place bytes i 0) (small (place + i))
-      | inr past ↦ rw (get_or_past (take 4 xs) i 0 (omega (arith, length-take-le 4 xs (omega (arith, length-drop place bytes))))) (omega arith)
+      | inr past ↦ rw (get_or_past (take 4 xs) i 0
+          (omega (arith, length-take-le 4 xs (omega (arith, length-drop place bytes))))) (omega arith)
     ]) same
 
 -- A number that was read fits into its four bytes.
-pub number_at-lt : (place : ℕ) (bytes : List ℕ) → ((i : ℕ) → get_or bytes i 0 < 256) → number_at place bytes < 2 ^ 32
+pub number_at-lt : (place : ℕ) (bytes : List ℕ) → ((i : ℕ) → get_or bytes i 0 < 256)
+    → number_at place bytes < 2 ^ 32
 unfolding number_at
 number_at-lt place bytes small =
-    let fits = little_from-lt 0 4 (drop place bytes) (λ i. rw (get_or-drop place bytes i 0) (small (place + i))) in
+    let fits = little_from-lt 0 4 (drop place bytes)
+    (λ i. rw (get_or-drop place bytes i 0) (small (place + i))) in
     omega arith

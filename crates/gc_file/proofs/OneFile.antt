@@ -35,7 +35,8 @@ split (x ∷ a) b (y ∷ c) d len is =
     (ap (λ z. z ∷ a) head ∙ ap (λ l. y ∷ l) rest.0, rest.1)
 
 pub one_label : (a b : ℕ) → IsLabel a → IsLabel b → bytes_of_label a ≡ bytes_of_label b → a ≡ b
-one_label a b ha hb is = sym (label_of_bytes-bytes_of_label a ha) ∙ ap label_of_bytes is ∙ label_of_bytes-bytes_of_label b hb
+one_label a b ha hb is = sym (label_of_bytes-bytes_of_label a ha) ∙ ap label_of_bytes is
+    ∙ label_of_bytes-bytes_of_label b hb
 
 two_labels : (a b c d : ℕ) → IsLabel a → IsLabel b → IsLabel c → IsLabel d
     → bytes_of_label a ++ bytes_of_label b ≡ bytes_of_label c ++ bytes_of_label d → (a ≡ c) × (b ≡ d)
@@ -47,7 +48,8 @@ two_labels a b c d ha hb hc hd is =
 abbrev pub row_of : ℕ → ℕ → RowPair
 row_of g e = record { generator = g; evaluator = e }
 
-one_row : (p q : RowPair) → IsLabel p.generator × IsLabel p.evaluator → IsLabel q.generator × IsLabel q.evaluator
+one_row : (p q : RowPair) → IsLabel p.generator × IsLabel p.evaluator
+    → IsLabel q.generator × IsLabel q.evaluator
     → row_bytes p ≡ row_bytes q → p ≡ q
 one_row p q hp hq is =
     let same = two_labels p.generator p.evaluator q.generator q.evaluator hp.0 hp.1 hq.0 hq.1 is in
@@ -56,13 +58,15 @@ one_row p q hp hq is =
 abbrev pub entry_of : ℕ → ℕ → EntryPair
 entry_of a b = record { entry_zero = a; entry_one = b }
 
-one_entry : (p q : EntryPair) → IsLabel p.entry_zero × IsLabel p.entry_one → IsLabel q.entry_zero × IsLabel q.entry_one
+one_entry : (p q : EntryPair) → IsLabel p.entry_zero × IsLabel p.entry_one
+    → IsLabel q.entry_zero × IsLabel q.entry_one
     → entry_bytes p ≡ entry_bytes q → p ≡ q
 one_entry p q hp hq is =
     let same = two_labels p.entry_zero p.entry_one q.entry_zero q.entry_one hp.0 hp.1 hq.0 hq.1 is in
     ap (λ a. entry_of a p.entry_one) same.0 ∙ ap (entry_of q.entry_zero) same.1
 
-module _ {P : Type 0} (bytes_of : P → List ℕ) (size : ℕ) (length_is : (p : P) → length (bytes_of p) ≡ size) (IsPair : P → Type 0)
+module _ {P : Type 0} (bytes_of : P → List ℕ) (size : ℕ) (length_is : (p : P) → length (bytes_of p) ≡ size)
+    (IsPair : P → Type 0)
     (one : (p q : P) → IsPair p → IsPair q → bytes_of p ≡ bytes_of q → p ≡ q) where
   -- Items of one size are determined by their bytes.
   pub one_list : (xs ys : List P) → length xs ≡ length ys → All IsPair xs → All IsPair ys
@@ -71,9 +75,11 @@ module _ {P : Type 0} (bytes_of : P → List ℕ) (size : ℕ) (length_is : (p :
   one_list [] (y ∷ ys) len hx hy is = absurd (omega arith)
   one_list (x ∷ xs) [] len hx hy is = absurd (omega arith)
   one_list (x ∷ xs) (y ∷ ys) len hx hy is =
-      let pieces = split (bytes_of x) (flat_map bytes_of xs) (bytes_of y) (flat_map bytes_of ys) (length_is x ∙ sym (length_is y)) is in
+      let pieces = split (bytes_of x) (flat_map bytes_of xs) (bytes_of y) (flat_map bytes_of ys)
+      (length_is x ∙ sym (length_is y)) is in
       let head = one x y (hx 0 x (omega arith)) (hy 0 y (omega arith)) pieces.0 in
-      let tail = one_list xs ys (omega arith) (λ k d h. hx (suc k) d (omega arith)) (λ k d h. hy (suc k) d (omega arith)) pieces.1 in
+      let tail = one_list xs ys (omega arith) (λ k d h. hx (suc k) d (omega arith))
+      (λ k d h. hy (suc k) d (omega arith)) pieces.1 in
       ap (λ z. z ∷ xs) head ∙ ap (λ l. y ∷ l) tail
 
 -- ---- the header of a file
@@ -87,27 +93,35 @@ module _ (b : List ℕ) (p : GarbledParts) (file : IsGarbledFile b p) where
       let d = file.digest in
       omega (
         arith,
-        length-append (magic p.version ++ p.digest ++ number_bytes (length p.rows)) (number_bytes (length p.decode_bits)),
+        length-append (magic p.version ++ p.digest ++ number_bytes (length p.rows))
+            (number_bytes (length p.decode_bits)),
         length-append (magic p.version ++ p.digest) (number_bytes (length p.rows)),
         length-append (magic p.version) p.digest,
       )
 
   before_rows : length (magic p.version ++ p.digest) ≡ 40
-  before_rows = let m = length-magic p.version in let d = file.digest in omega (arith, length-append (magic p.version) p.digest)
+  before_rows = let m = length-magic p.version in let d = file.digest in
+      omega (arith, length-append (magic p.version) p.digest)
 
   before_outputs : length (magic p.version ++ p.digest ++ number_bytes (length p.rows)) ≡ 44
-  before_outputs = let n = length-number_bytes (length p.rows) in omega (arith, before_rows, length-append (magic p.version ++ p.digest) (number_bytes (length p.rows)))
+  before_outputs = let n = length-number_bytes (length p.rows) in
+      omega (arith, before_rows, length-append (magic p.version ++ p.digest) (number_bytes (length p.rows)))
 
   header_magic : take 8 (header p) ≡ magic p.version
   header_magic = rw (append_assoc, append_assoc) (take_at (magic p.version) _ 8 (length-magic p.version))
 
   header_rows : row_count (header p) ≡ length p.rows
-  header_rows = ap row_count (append_assoc (magic p.version ++ p.digest) (number_bytes (length p.rows)) (number_bytes (length p.decode_bits)))
-      ∙ number_at-number_bytes 40 (length p.rows) (magic p.version ++ p.digest) (number_bytes (length p.decode_bits)) before_rows (let few = file.few_rows in omega arith)
+  header_rows = ap row_count (append_assoc (magic p.version ++ p.digest) (number_bytes (length p.rows))
+      (number_bytes (length p.decode_bits)))
+      ∙ number_at-number_bytes 40 (length p.rows) (magic p.version ++ p.digest)
+      (number_bytes (length p.decode_bits)) before_rows (let few = file.few_rows in omega arith)
 
   header_outputs : output_count (header p) ≡ length p.decode_bits
-  header_outputs = ap (λ l. output_count (magic p.version ++ p.digest ++ number_bytes (length p.rows) ++ l)) (sym (append-nil (number_bytes (length p.decode_bits))))
-      ∙ number_at-number_bytes 44 (length p.decode_bits) (magic p.version ++ p.digest ++ number_bytes (length p.rows)) [] before_outputs (let few = file.few_outputs in omega arith)
+  header_outputs = ap (λ l. output_count (magic p.version ++ p.digest ++ number_bytes (length p.rows) ++ l))
+      (sym (append-nil (number_bytes (length p.decode_bits))))
+      ∙ number_at-number_bytes 44 (length p.decode_bits)
+      (magic p.version ++ p.digest ++ number_bytes (length p.rows)) [] before_outputs
+      (let few = file.few_outputs in omega arith)
 
   header_version : version_of (header p) ≡ p.version
   header_version = version_of-begun p.version (header p) header_magic
@@ -127,7 +141,8 @@ module _ (b : List ℕ) (p : GarbledParts) (file : IsGarbledFile b p) where
 
   entries_full : length (flat_map entry_bytes p.entries) ≡ entry_size (header p)
   entries_full = length-pairs entry_bytes length-entry_bytes p.entries
-      ∙ ap (λ n. 32 * n) (file.entry_pairs ∙ ap (entry_count p.version) (sym header_outputs) ∙ ap (λ v. entry_count v (output_count (header p))) (sym header_version))
+      ∙ ap (λ n. 32 * n) (file.entry_pairs ∙ ap (entry_count p.version) (sym header_outputs)
+      ∙ ap (λ v. entry_count v (output_count (header p))) (sym header_version))
 
   filled : IsFilled (row_size (header p)) (decode_size (header p)) (entry_size (header p))
       (flat_map row_bytes p.rows) (packed p.decode_bits) (flat_map entry_bytes p.entries) (sha256 (body p))
@@ -144,14 +159,18 @@ module _ (b : List ℕ) (p : GarbledParts) (file : IsGarbledFile b p) where
   -- A file is in order, and whole.
   pub file_in_order : IsInOrder (version_of (header p)) (garbled_file p)
   unfolding garbled_file
-  file_in_order = parts_in_order (header p) (flat_map row_bytes p.rows) (packed p.decode_bits) (flat_map entry_bytes p.entries) (sha256 (body p))
-      length-header header_in_order filled (λ full spare. packed-not_spare p.decode_bits (rw header_outputs at spare)) (λ full. refl)
+  file_in_order = parts_in_order (header p) (flat_map row_bytes p.rows) (packed p.decode_bits)
+      (flat_map entry_bytes p.entries) (sha256 (body p))
+      length-header header_in_order filled (λ full spare. packed-not_spare p.decode_bits
+      (rw header_outputs at spare)) (λ full. refl)
 
   pub file_whole : length (garbled_file p) ≡ trailer_end (version_of (header p)) (garbled_file p)
   unfolding garbled_file
   file_whole =
-      let ends = entries_end_is (header p) (flat_map row_bytes p.rows) (packed p.decode_bits) (flat_map entry_bytes p.entries) (sha256 (body p)) length-header in
-      let long = length_is (header p) (flat_map row_bytes p.rows) (packed p.decode_bits) (flat_map entry_bytes p.entries) (sha256 (body p)) length-header in
+      let ends = entries_end_is (header p) (flat_map row_bytes p.rows) (packed p.decode_bits)
+      (flat_map entry_bytes p.entries) (sha256 (body p)) length-header in
+      let long = length_is (header p) (flat_map row_bytes p.rows) (packed p.decode_bits)
+      (flat_map entry_bytes p.entries) (sha256 (body p)) length-header in
       omega (arith, rows_full, decode_full, entries_full, length-sha256 (body p))
 
 -- A file has no fault.
@@ -162,9 +181,11 @@ file_not_fault b p _ file (lasting e is) =
 file_not_fault b p _ file (truncated v in_order short) =
     let long : 48 ≤ length b = omega (arith, ap length file.spelled, file_whole b p file) in
     let P : List ℕ → Type 0 = λ l. take 8 l ≡ magic v in
-    let told : take 8 (garbled_file p) ≡ magic v = subst P file.spelled (begins v b (omega arith) in_order.header.begun) in
+    let told : take 8 (garbled_file p) ≡ magic v =
+    subst P file.spelled (begins v b (omega arith) in_order.header.begun) in
     let own : take 8 (garbled_file p) ≡ magic (version_of (header p)) =
-    begins (version_of (header p)) (garbled_file p) (omega (arith, file_whole b p file)) (file_in_order b p file).header.begun in
+    begins (version_of (header p)) (garbled_file p) (omega (arith, file_whole b p file))
+    (file_in_order b p file).header.begun in
     let same = one_version v (version_of (header p)) (garbled_file p) told own in
     let Q : List ℕ → Type 0 = λ l. length l < trailer_end v l in
     let R : Version → Type 0 = λ w. length (garbled_file p) < trailer_end w (garbled_file p) in
@@ -178,29 +199,41 @@ pub one_file : (b : List ℕ) (p q : GarbledParts) → IsGarbledFile b p → IsG
 unfolding garbled_file
 one_file b p q fp fq =
     let same : garbled_file p ≡ garbled_file q = sym fp.spelled ∙ fq.spelled in
-    let nested : header p ++ (flat_map row_bytes p.rows ++ (packed p.decode_bits ++ (flat_map entry_bytes p.entries ++ sha256 (body p))))
-    ≡ header q ++ (flat_map row_bytes q.rows ++ (packed q.decode_bits ++ (flat_map entry_bytes q.entries ++ sha256 (body q)))) =
+    let nested : header p ++ (flat_map row_bytes p.rows ++
+    (packed p.decode_bits ++ (flat_map entry_bytes p.entries ++ sha256 (body p))))
+    ≡ header q ++ (flat_map row_bytes q.rows ++
+    (packed q.decode_bits ++ (flat_map entry_bytes q.entries ++ sha256 (body q)))) =
     sym (nest p) ∙ same ∙ nest q in
     let s1 = split (header p) _ (header q) _ (length-header b p fp ∙ sym (length-header b q fq)) nested in
-    let version : p.version ≡ q.version = one_magic p.version q.version (sym (header_magic b p fp) ∙ ap (take 8) s1.0 ∙ header_magic b q fq) in
-    let rows : length p.rows ≡ length q.rows = sym (header_rows b p fp) ∙ ap row_count s1.0 ∙ header_rows b q fq in
-    let outputs : length p.decode_bits ≡ length q.decode_bits = sym (header_outputs b p fp) ∙ ap output_count s1.0 ∙ header_outputs b q fq in
+    let version : p.version ≡ q.version = one_magic p.version q.version (sym (header_magic b p fp)
+    ∙ ap (take 8) s1.0 ∙ header_magic b q fq) in
+    let rows : length p.rows ≡ length q.rows = sym (header_rows b p fp) ∙ ap row_count s1.0
+    ∙ header_rows b q fq in
+    let outputs : length p.decode_bits ≡ length q.decode_bits = sym (header_outputs b p fp)
+    ∙ ap output_count s1.0 ∙ header_outputs b q fq in
     let entries : length p.entries ≡ length q.entries = fp.entry_pairs ∙ ap (entry_count p.version) outputs
     ∙ ap (λ v. entry_count v (length q.decode_bits)) version ∙ sym fq.entry_pairs in
     let h0 = simp append_assoc at s1.0 in
-    let h1 = split (magic p.version) _ (magic q.version) _ (length-magic p.version ∙ sym (length-magic q.version)) h0 in
+    let h1 = split (magic p.version) _ (magic q.version) _ (length-magic p.version
+    ∙ sym (length-magic q.version)) h0 in
     let h2 = split p.digest _ q.digest _ (fp.digest ∙ sym fq.digest) h1.1 in
     let s2 = split (flat_map row_bytes p.rows) _ (flat_map row_bytes q.rows) _
-    (length-pairs row_bytes length-row_bytes p.rows ∙ ap (λ n. 32 * n) rows ∙ sym (length-pairs row_bytes length-row_bytes q.rows)) s1.1 in
+    (length-pairs row_bytes length-row_bytes p.rows ∙ ap (λ n. 32 * n) rows
+    ∙ sym (length-pairs row_bytes length-row_bytes q.rows)) s1.1 in
     let s3 = split (packed p.decode_bits) _ (packed q.decode_bits) _
     (length-packed p.decode_bits ∙ ap bytes_for outputs ∙ sym (length-packed q.decode_bits)) s2.1 in
     let s4 = split (flat_map entry_bytes p.entries) _ (flat_map entry_bytes q.entries) _
-    (length-pairs entry_bytes length-entry_bytes p.entries ∙ ap (λ n. 32 * n) entries ∙ sym (length-pairs entry_bytes length-entry_bytes q.entries)) s3.1 in
-    let e1 = one_list row_bytes 32 length-row_bytes (λ row. IsLabel row.generator × IsLabel row.evaluator) one_row p.rows q.rows rows fp.rows fq.rows s2.0 in
+    (length-pairs entry_bytes length-entry_bytes p.entries ∙ ap (λ n. 32 * n) entries
+    ∙ sym (length-pairs entry_bytes length-entry_bytes q.entries)) s3.1 in
+    let e1 = one_list row_bytes 32 length-row_bytes (λ row. IsLabel row.generator × IsLabel row.evaluator)
+    one_row p.rows q.rows rows fp.rows fq.rows s2.0 in
     let e2 : p.decode_bits ≡ q.decode_bits = sym (unpacked-packed p.decode_bits)
     ∙ ap (λ n. map (bit_in (packed p.decode_bits)) (range_with_len 0 n)) outputs
-    ∙ ap (λ l. map (bit_in l) (range_with_len 0 (length q.decode_bits))) s3.0 ∙ unpacked-packed q.decode_bits in
-    let e3 = one_list entry_bytes 32 length-entry_bytes (λ pair. IsLabel pair.entry_zero × IsLabel pair.entry_one) one_entry p.entries q.entries entries fp.entries fq.entries s4.0 in
+    ∙ ap (λ l. map (bit_in l) (range_with_len 0 (length q.decode_bits))) s3.0
+    ∙ unpacked-packed q.decode_bits in
+    let e3 = one_list entry_bytes 32 length-entry_bytes
+    (λ pair. IsLabel pair.entry_zero × IsLabel pair.entry_one) one_entry p.entries q.entries entries
+    fp.entries fq.entries s4.0 in
     ap (λ v. parts_with v p.digest p.rows p.decode_bits p.entries) version
     ∙ ap (λ d. parts_with q.version d p.rows p.decode_bits p.entries) h2.0
     ∙ ap (λ r. parts_with q.version q.digest r p.decode_bits p.entries) e1
@@ -208,7 +241,11 @@ one_file b p q fp fq =
     ∙ ap (λ e. parts_with q.version q.digest q.rows q.decode_bits e) e3
   where
     nest : (p : GarbledParts) → body p ++ sha256 (body p)
-        ≡ header p ++ (flat_map row_bytes p.rows ++ (packed p.decode_bits ++ (flat_map entry_bytes p.entries ++ sha256 (body p))))
-    nest p = append_assoc (header p ++ flat_map row_bytes p.rows ++ packed p.decode_bits) (flat_map entry_bytes p.entries) (sha256 (body p))
-        ∙ append_assoc (header p ++ flat_map row_bytes p.rows) (packed p.decode_bits) (flat_map entry_bytes p.entries ++ sha256 (body p))
-        ∙ append_assoc (header p) (flat_map row_bytes p.rows) (packed p.decode_bits ++ (flat_map entry_bytes p.entries ++ sha256 (body p)))
+        ≡ header p ++ (flat_map row_bytes p.rows ++
+        (packed p.decode_bits ++ (flat_map entry_bytes p.entries ++ sha256 (body p))))
+    nest p = append_assoc (header p ++ flat_map row_bytes p.rows ++ packed p.decode_bits)
+        (flat_map entry_bytes p.entries) (sha256 (body p))
+        ∙ append_assoc (header p ++ flat_map row_bytes p.rows) (packed p.decode_bits)
+        (flat_map entry_bytes p.entries ++ sha256 (body p))
+        ∙ append_assoc (header p) (flat_map row_bytes p.rows)
+        (packed p.decode_bits ++ (flat_map entry_bytes p.entries ++ sha256 (body p)))

@@ -7,15 +7,19 @@ use Rattle.std.proofs.lemmas.Grind.{flat_map-append}
 use Rattle.gc_file.proofs.PieceLemmas.{empty_list}
 
 -- The bytes of items, so many each.
-pub length-items : {P : Type 0} (size : ℕ) (bytes_of : P → List ℕ) → ((p : P) → length (bytes_of p) ≡ size) → (items : List P)
+pub length-items : {P : Type 0} (size : ℕ) (bytes_of : P → List ℕ) → ((p : P) → length (bytes_of p) ≡ size)
+    → (items : List P)
     → length (flat_map bytes_of items) ≡ size * length items
 length-items size bytes_of each [] = omega arith
 length-items size bytes_of each (p ∷ items) =
-    length-append (bytes_of p) (flat_map bytes_of items) ∙ ap (λ n. n + length (flat_map bytes_of items)) (each p)
-    ∙ ap (λ n. size + n) (length-items size bytes_of each items) ∙ add_comm size (size * length items) ∙ sym (mul-suc size (length items))
+    length-append (bytes_of p) (flat_map bytes_of items) ∙ ap (λ n. n + length (flat_map bytes_of items))
+    (each p)
+    ∙ ap (λ n. size + n) (length-items size bytes_of each items) ∙ add_comm size (size * length items)
+    ∙ sym (mul-suc size (length items))
 
 -- The bytes of pairs, 32 each.
-pub length-pairs : {P : Type 0} (bytes_of : P → List ℕ) → ((p : P) → length (bytes_of p) ≡ 32) → (pairs : List P)
+pub length-pairs : {P : Type 0} (bytes_of : P → List ℕ) → ((p : P) → length (bytes_of p) ≡ 32)
+    → (pairs : List P)
     → length (flat_map bytes_of pairs) ≡ 32 * length pairs
 length-pairs bytes_of size pairs = length-items 32 bytes_of size pairs
 
@@ -35,10 +39,13 @@ take_item size at next bytes is =
     ∙ take-append-drop at (take (at + size) bytes))
 
 -- Whole pairs leave no bytes of another.
-pub whole_pairs : {P : Type 0} (bytes_of : P → List ℕ) → ((p : P) → length (bytes_of p) ≡ 32) → (pairs : List P) (partial bytes : List ℕ)
-    → flat_map bytes_of pairs ++ partial ≡ bytes → length partial < 32 → length bytes % 32 ≡ 0 → flat_map bytes_of pairs ≡ bytes
+pub whole_pairs : {P : Type 0} (bytes_of : P → List ℕ) → ((p : P) → length (bytes_of p) ≡ 32)
+    → (pairs : List P) (partial bytes : List ℕ)
+    → flat_map bytes_of pairs ++ partial ≡ bytes → length partial < 32 → length bytes % 32 ≡ 0
+    → flat_map bytes_of pairs ≡ bytes
 whole_pairs bytes_of size pairs partial bytes is short whole =
     let total = ap length is in
     let none : length partial ≡ 0 =
     omega (arith, length-append (flat_map bytes_of pairs) partial, length-pairs bytes_of size pairs, total) in
-    sym (append-nil (flat_map bytes_of pairs)) ∙ ap (λ l. flat_map bytes_of pairs ++ l) (sym (empty_list partial none)) ∙ is
+    sym (append-nil (flat_map bytes_of pairs)) ∙ ap (λ l. flat_map bytes_of pairs ++ l)
+    (sym (empty_list partial none)) ∙ is

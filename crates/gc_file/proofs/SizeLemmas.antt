@@ -20,11 +20,17 @@ use Rattle.gc_file.specs.Written.{front, parts_one, parts_two}
 pub length-flat_map : {X A : Type 0} (f : X → List A) (n : ℕ) → ((x : X) → length (f x) ≡ n) → (xs : List X) →
     length (flat_map f xs) ≡ n * length xs
 length-flat_map f n each [] = omega arith
-length-flat_map f n each (x ∷ xs) = omega (arith, length-append (f x) (flat_map f xs), each x, length-flat_map f n each xs)
+length-flat_map f n each (x ∷ xs) = omega (
+  arith,
+  length-append (f x) (flat_map f xs),
+  each x,
+  length-flat_map f n each xs,
+)
 
 -- The header as it is written, from the counts of the circuit.
 pub header-is : (version : Version) (c : Netlist) (g : GarblingParts) (digest : List ℕ) (rows outputs : ℕ) →
-    digest ≡ sha256 (canonical_text c) → rows ≡ length g.rows → outputs ≡ g.outputs → g.outputs ≤ length g.zero_labels →
+    digest ≡ sha256 (canonical_text c) → rows ≡ length g.rows → outputs ≡ g.outputs
+    → g.outputs ≤ length g.zero_labels →
     magic version ++ digest ++ number_bytes rows ++ number_bytes outputs ≡ header (parts_of version c g [])
 header-is version c g digest rows outputs digest_is rows_is outputs_is fits =
     ap (λ d. magic version ++ d ++ number_bytes rows ++ number_bytes outputs) digest_is
@@ -33,11 +39,13 @@ header-is version c g digest rows outputs digest_is rows_is outputs_is fits =
     (outputs_is ∙ sym (length-decode_bits g fits))
 
 -- A garbled file has fewer than 2 ^ 64 bytes.
-pub garbled_file-size : (p : GarbledParts) → length p.digest ≡ 32 → length p.rows < 2 ^ 32 → length p.decode_bits < 2 ^ 32 →
+pub garbled_file-size : (p : GarbledParts) → length p.digest ≡ 32 → length p.rows < 2 ^ 32
+    → length p.decode_bits < 2 ^ 32 →
     length p.entries < 2 ^ 32 → length (garbled_file p) < 2 ^ 64
 unfolding garbled_file
 garbled_file-size p digest rows bits entries =
-    let h = header p in let r = flat_map row_bytes p.rows in let b = packed p.decode_bits in let e = flat_map entry_bytes p.entries in
+    let h = header p in let r = flat_map row_bytes p.rows in let b = packed p.decode_bits in let e =
+    flat_map entry_bytes p.entries in
     let m = magic p.version ++ p.digest in let counts = m ++ number_bytes (length p.rows) in
     omega (
       arith,
@@ -63,7 +71,8 @@ garbled_file-size p digest rows bits entries =
     length-magic Two = refl
 
 -- A garbled file is what stands before its entries, its entries and its trailer.
-pub garbled_file-front : (p : GarbledParts) → front p ++ (flat_map entry_bytes p.entries ++ sha256 (body p)) ≡ garbled_file p
+pub garbled_file-front : (p : GarbledParts) → front p ++ (flat_map entry_bytes p.entries ++ sha256 (body p))
+    ≡ garbled_file p
 unfolding garbled_file
 garbled_file-front p = sym (append_assoc (front p) (flat_map entry_bytes p.entries) (sha256 (body p)))
 
@@ -81,10 +90,13 @@ garbled_file-one c g = ap (λ l. l ++ sha256 l) (sym (append-nil (front (parts_o
 pub parts_one-size : (c : Netlist) (g : GarblingParts) → length g.rows < 2 ^ 32 → g.outputs < 2 ^ 32 →
     g.outputs ≤ length g.zero_labels → length (garbled_file (parts_one c g)) < 2 ^ 64
 parts_one-size c g rows outputs fits =
-    garbled_file-size (parts_one c g) (length-sha256 (canonical_text c)) rows (omega (arith, length-decode_bits g fits)) (omega arith)
+    garbled_file-size (parts_one c g) (length-sha256 (canonical_text c)) rows
+    (omega (arith, length-decode_bits g fits)) (omega arith)
 
-pub parts_two-size : (c : Netlist) (g : GarblingParts) (seed : List ℕ) → length g.rows < 2 ^ 32 → g.outputs < 2 ^ 32 →
+pub parts_two-size : (c : Netlist) (g : GarblingParts) (seed : List ℕ) → length g.rows < 2 ^ 32
+    → g.outputs < 2 ^ 32 →
     g.outputs ≤ length g.zero_labels → length (garbled_file (parts_two c g seed)) < 2 ^ 64
 parts_two-size c g seed rows outputs fits =
-    garbled_file-size (parts_two c g seed) (length-sha256 (canonical_text c)) rows (omega (arith, length-decode_bits g fits))
+    garbled_file-size (parts_two c g seed) (length-sha256 (canonical_text c)) rows
+    (omega (arith, length-decode_bits g fits))
     (omega (arith, length-entry_pairs (offset_of seed) g))

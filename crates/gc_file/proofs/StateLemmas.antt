@@ -10,7 +10,8 @@ use Rattle.gc_file.specs.State.{fed_of, IsState, IsAdvanced}
 use Rattle.gc_file.proofs.HeaderLemmas.{header_in_order}
 
 -- What a state has taken is in order.
-state_sound : {A : Type 0} (state : State A) (bytes : List ℕ) → fed_of state ≡ Ok bytes → IsState state → IsSound bytes
+state_sound : {A : Type 0} (state : State A) (bytes : List ℕ) → fed_of state ≡ Ok bytes → IsState state
+    → IsSound bytes
 state_sound (Header header) bytes is (short, (v, in_order)) =
     let same : header.items ≡ bytes = cc in
     subst IsSound same (v, header_in_order v header.items short in_order)
@@ -18,12 +19,15 @@ state_sound (Body body) bytes is sound = let same : body ≡ bytes = cc in subst
 state_sound (Failed fault) bytes is holds = cc
 
 -- A state that took a piece.
-pub fed_ok : {A : Type 0} (state : State A) (piece : List ℕ) (after : State A) → IsAdvanced state piece (Ok after)
+pub fed_ok : {A : Type 0} (state : State A) (piece : List ℕ) (after : State A)
+    → IsAdvanced state piece (Ok after)
     → IsFed (fed_of state) piece (Ok tt) (fed_of after)
 fed_ok (Header header) piece after (is, holds) = (is, state_sound after (header.items ++ piece) is holds)
 fed_ok (Body body) piece after (is, holds) = (is, state_sound after (body ++ piece) is holds)
 fed_ok (Failed fault) piece after is = cc
 
 -- A header that isn't whole is no file.
-pub header_ended : (v : Version) (bytes : List ℕ) → length bytes < 48 → IsHeaderInOrder v bytes → IsEnded (Ok bytes) (Err Truncated)
-header_ended v bytes short in_order = λ other. truncated v (header_in_order v bytes short in_order) (omega arith)
+pub header_ended : (v : Version) (bytes : List ℕ) → length bytes < 48 → IsHeaderInOrder v bytes
+    → IsEnded (Ok bytes) (Err Truncated)
+header_ended v bytes short in_order = λ other. truncated v (header_in_order v bytes short in_order)
+    (omega arith)

@@ -55,11 +55,13 @@ pub Consumes-none : (a : Option (List ℕ)) → Consumes a a []
 Consumes-none None = tt
 Consumes-none (Some xs) = refl
 
-pub Consumes-more : (a b c : Option (List ℕ)) (xs ys : List ℕ) → Consumes a b xs → Consumes b c ys → Consumes a c (xs ++ ys)
+pub Consumes-more : (a b c : Option (List ℕ)) (xs ys : List ℕ) → Consumes a b xs → Consumes b c ys
+    → Consumes a c (xs ++ ys)
 Consumes-more None b c xs ys first second = tt
 Consumes-more (Some us) None c xs ys first second = absurd first
 Consumes-more (Some us) (Some vs) None xs ys first second = absurd second
-Consumes-more (Some us) (Some vs) (Some ws) xs ys first second = first ∙ ap (λ l. xs ++ l) second ∙ sym (append_assoc xs ys ws)
+Consumes-more (Some us) (Some vs) (Some ws) xs ys first second = first ∙ ap (λ l. xs ++ l) second
+    ∙ sym (append_assoc xs ys ws)
 
 -- What is answered of the bytes given is answered of all.
 answer_of_all : (given left bytes : List ℕ) (result : Result GarbledParts TakeFault) → bytes ≡ given ++ left
@@ -71,7 +73,8 @@ answer_of_all given left bytes (Err (File fault)) all answer = λ other.
     let P : List ℕ → Type 0 = λ l. FirstFault l fault in
     elim (answer other) [
       | inl stays ↦ subst P (sym all) (lasting fault (lasts given left fault stays))
-      | inr (first, at_end) ↦ subst P (sym (append-nil given) ∙ ap (λ l. given ++ l) (sym at_end) ∙ sym all) first
+      | inr (first, at_end) ↦ subst P (sym (append-nil given) ∙ ap (λ l. given ++ l) (sym at_end) ∙ sym all)
+          first
     ]
 answer_of_all given left bytes (Err (ReadFault got)) all answer = tt
 
@@ -84,11 +87,15 @@ taken_all (Some xs) (Some left) result taken bytes is =
     answer_of_all taken.given left bytes result (sym same ∙ taken.consumed) taken.answer
 
 -- A piece that was given and fed.
-pub taking_more : (reader after : Fed) (piece : List ℕ) (answer : Result (Unit {0}) FileFault) (a b d : Option (List ℕ)) (got more : ℕ)
-    → IsTaking reader a b got → IsFed reader piece answer after → ((e : FileFault) → answer ≡ Err e → ⊥) → Consumes b d piece
+pub taking_more : (reader after : Fed) (piece : List ℕ) (answer : Result (Unit {0}) FileFault)
+    (a b d : Option (List ℕ)) (got more : ℕ)
+    → IsTaking reader a b got → IsFed reader piece answer after → ((e : FileFault) → answer ≡ Err e → ⊥)
+    → Consumes b d piece
     → more ≡ counted (got + length piece) → IsTaking after a d more
-taking_more (Err e) after piece answer a b d got more taking fed not_err consumed count = let is = taking.fed in cc
-taking_more (Ok bytes) after piece (Err e) a b d got more taking fed not_err consumed count = absurd (not_err e refl)
+taking_more (Err e) after piece answer a b d got more taking fed not_err consumed count = let is =
+    taking.fed in cc
+taking_more (Ok bytes) after piece (Err e) a b d got more taking fed not_err consumed count =
+    absurd (not_err e refl)
 taking_more (Ok bytes) after piece (Ok done) a b d got more taking fed not_err consumed count =
     let is : bytes ≡ taking.given = let h = taking.fed in cc in
     let P : List ℕ → Type 0 = λ l. Consumes a b l in
@@ -102,7 +109,8 @@ taking_more (Ok bytes) after piece (Ok done) a b d got more taking fed not_err c
 
 -- A piece that was given, and has a fault.
 pub taken_fault : (reader after : Fed) (piece : List ℕ) (e : FileFault) (a b d : Option (List ℕ)) (got : ℕ)
-    → IsTaking reader a b got → IsFed reader piece (Err e) after → Consumes b d piece → IsTaken a d (Err (File e))
+    → IsTaking reader a b got → IsFed reader piece (Err e) after → Consumes b d piece
+    → IsTaken a d (Err (File e))
 taken_fault (Err f) after piece e a b d got taking fed consumed = let is = taking.fed in cc
 taken_fault (Ok bytes) after piece e a b d got taking fed consumed =
     let is : bytes ≡ taking.given = let h = taking.fed in cc in
@@ -115,7 +123,8 @@ taken_fault (Ok bytes) after piece e a b d got taking fed consumed =
 
 -- The end of what there was: the file that it is,
 pub taken_file : (reader : Fed) (parts : GarbledParts) (a b d : Option (List ℕ)) (none : List ℕ) (got : ℕ)
-    → IsTaking reader a b got → IsEnded reader (Ok parts) → Consumes b d none → none ≡ [] → IsAtEnd d → IsTaken a d (Ok parts)
+    → IsTaking reader a b got → IsEnded reader (Ok parts) → Consumes b d none → none ≡ [] → IsAtEnd d
+    → IsTaken a d (Ok parts)
 taken_file (Err f) parts a b d none got taking ended consumed empty at_end = let is = taking.fed in cc
 taken_file (Ok bytes) parts a b d none got taking ended consumed empty at_end =
     let is : bytes ≡ taking.given = let h = taking.fed in cc in
@@ -123,13 +132,15 @@ taken_file (Ok bytes) parts a b d none got taking ended consumed empty at_end =
     let Q : List ℕ → Type 0 = λ l. Consumes a d l in
     record {
       given = bytes;
-      consumed = subst Q (ap (λ l. bytes ++ l) empty ∙ append-nil bytes) (Consumes-more a b d bytes none (subst P (sym is) taking.consumed) consumed);
+      consumed = subst Q (ap (λ l. bytes ++ l) empty ∙ append-nil bytes)
+          (Consumes-more a b d bytes none (subst P (sym is) taking.consumed) consumed);
       answer = (ended, at_end);
     }
 
 -- or its first fault.
 pub taken_short : (reader : Fed) (e : FileFault) (a b d : Option (List ℕ)) (none : List ℕ) (got : ℕ)
-    → IsTaking reader a b got → IsEnded reader (Err e) → Consumes b d none → none ≡ [] → IsAtEnd d → IsTaken a d (Err (File e))
+    → IsTaking reader a b got → IsEnded reader (Err e) → Consumes b d none → none ≡ [] → IsAtEnd d
+    → IsTaken a d (Err (File e))
 taken_short (Err f) e a b d none got taking ended consumed empty at_end = let is = taking.fed in cc
 taken_short (Ok bytes) e a b d none got taking ended consumed empty at_end =
     let is : bytes ≡ taking.given = let h = taking.fed in cc in
@@ -137,7 +148,8 @@ taken_short (Ok bytes) e a b d none got taking ended consumed empty at_end =
     let Q : List ℕ → Type 0 = λ l. Consumes a d l in
     record {
       given = bytes;
-      consumed = subst Q (ap (λ l. bytes ++ l) empty ∙ append-nil bytes) (Consumes-more a b d bytes none (subst P (sym is) taking.consumed) consumed);
+      consumed = subst Q (ap (λ l. bytes ++ l) empty ∙ append-nil bytes)
+          (Consumes-more a b d bytes none (subst P (sym is) taking.consumed) consumed);
       answer = λ other. inr (ended other, at_end);
     }
 

@@ -44,7 +44,8 @@ are_files c lawful seed =
         few_outputs = omega (arith, bits, garbled.outputs, lawful.outputs_fit, lawful.few_wires);
         digest = length-sha256 (canonical_text c);
         rows = rows;
-        entries = All-map (λ pair. IsLabel pair.entry_zero × IsLabel pair.entry_one) (entry_pair_of (offset_of seed) g)
+        entries = All-map (λ pair. IsLabel pair.entry_zero × IsLabel pair.entry_one)
+            (entry_pair_of (offset_of seed) g)
             (range_with_len 0 g.outputs)
             (λ k i within. (IsSmall-hash _ _, IsSmall-hash _ _));
         entry_pairs = length-entry_pairs (offset_of seed) g ∙ sym bits;
@@ -52,9 +53,15 @@ are_files c lawful seed =
       };
       labels = λ index bits small at. record {
         index = small;
-        few_labels = omega (arith, length-encoded_from (sum (take index c.input_widths)) seed bits, first_wire-room c lawful index (length bits) at, lawful.few_wires);
+        few_labels = omega (
+          arith,
+          length-encoded_from (sum (take index c.input_widths)) seed bits,
+          first_wire-room c lawful index (length bits) at,
+          lawful.few_wires,
+        );
         labels = All-map IsLabel _ (zip (range_with_len (sum (take index c.input_widths)) (length bits)) bits)
-            (λ k pair within. IsSmall-⊕ _ _ (input_label_of-lt seed _) (IsSmall-times _ (offset_of seed) (offset_of-lt seed)));
+            (λ k pair within. IsSmall-⊕ _ _ (input_label_of-lt seed _)
+            (IsSmall-times _ (offset_of seed) (offset_of-lt seed)));
         spelled = refl;
       };
     }

@@ -24,14 +24,15 @@ abbrev pub entry_size : List ℕ → ℕ
 entry_size header = 32 * entry_count (version_of header) (output_count header)
 
 -- The four parts after a header have no more bytes than these, and none before the parts that stand before it are whole.
-pub record IsFilled (row_size decode_size entry_size : ℕ) (rows decode entries trailer : List ℕ) : Type 0 where
-  pub rows_fit : length rows ≤ row_size
-  pub decode_fits : length decode ≤ decode_size
-  pub entries_fit : length entries ≤ entry_size
-  pub trailer_fits : length trailer ≤ 32
-  pub rows_first : 0 < length decode + length entries + length trailer → length rows ≡ row_size
-  pub decode_first : 0 < length entries + length trailer → length decode ≡ decode_size
-  pub entries_first : 0 < length trailer → length entries ≡ entry_size
+pub record IsFilled (row_size decode_size entry_size : ℕ) (rows decode entries trailer : List ℕ) : Type 0
+  where
+    pub rows_fit : length rows ≤ row_size
+    pub decode_fits : length decode ≤ decode_size
+    pub entries_fit : length entries ≤ entry_size
+    pub trailer_fits : length trailer ≤ 32
+    pub rows_first : 0 < length decode + length entries + length trailer → length rows ≡ row_size
+    pub decode_first : 0 < length entries + length trailer → length decode ≡ decode_size
+    pub entries_first : 0 < length trailer → length entries ≡ entry_size
 
 -- The last decode byte has a bit set that stands for no output wire.
 pub record IsSpare (outputs : ℕ) (decode : List ℕ) : Type 0 where

@@ -63,12 +63,15 @@ pub data LastingFault (bytes : List ℕ) : FileFault → Type 0 where
   -- The first bytes are those of no magic.
   bad_magic : ((version : Version) → IsBegun (magic version) bytes → ⊥) → LastingFault bytes BadMagic
   -- A count is above its limit.
-  too_many_rows : (version : Version) → take 8 bytes ≡ magic version → 44 ≤ length bytes → MAX_GATES < row_count bytes
+  too_many_rows : (version : Version) → take 8 bytes ≡ magic version → 44 ≤ length bytes
+      → MAX_GATES < row_count bytes
       → LastingFault bytes CountTooLarge
-  too_many_outputs : (version : Version) → take 8 bytes ≡ magic version → 48 ≤ length bytes → MAX_WIRES < output_count bytes
+  too_many_outputs : (version : Version) → take 8 bytes ≡ magic version → 48 ≤ length bytes
+      → MAX_WIRES < output_count bytes
       → LastingFault bytes CountTooLarge
   -- The last decode byte is there, and has a bit too many.
-  spare_bits : (version : Version) → HasHeader version bytes → decode_end bytes ≤ length bytes → HasSpareBit bytes
+  spare_bits : (version : Version) → HasHeader version bytes → decode_end bytes ≤ length bytes
+      → HasSpareBit bytes
       → LastingFault bytes SpareBits
   -- The trailer is there, and is another.
   bad_trailer : (version : Version) → HasDecodeBits version bytes → trailer_end version bytes ≤ length bytes

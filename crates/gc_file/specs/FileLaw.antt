@@ -26,4 +26,5 @@ pub record LabelFileLaw (bytes : List ℕ) : Type 0 where
   pub one_file : (p q : LabelFileParts) → IsLabelFile bytes p → IsLabelFile bytes q → p ≡ q
   pub one_fault : (e f : FileFault) → FirstLabelFault bytes e → FirstLabelFault bytes f → e ≡ f
   -- A fault other than Truncated is that of all longer bytes.
-  pub lasts : (e : FileFault) (more : List ℕ) → e ≢ Truncated → FirstLabelFault bytes e → FirstLabelFault (bytes ++ more) e
+  pub lasts : (e : FileFault) (more : List ℕ) → e ≢ Truncated → FirstLabelFault bytes e
+      → FirstLabelFault (bytes ++ more) e

@@ -7,7 +7,8 @@ use Rattle.gc_file.specs.declared.garbled.EntryPair.{EntryPair}
 use Rattle.gc_file.specs.GarbledFile.{row_bytes, entry_bytes}
 
 length-two : (a b : ℕ) → length (bytes_of_label a ++ bytes_of_label b) ≡ 32
-length-two a b = length-append (bytes_of_label a) (bytes_of_label b) ∙ rw (length-bytes_of_label a, length-bytes_of_label b)
+length-two a b = length-append (bytes_of_label a) (bytes_of_label b)
+    ∙ rw (length-bytes_of_label a, length-bytes_of_label b)
 
 pub length-row_bytes : (row : RowPair) → length (row_bytes row) ≡ 32
 length-row_bytes row = length-two row.generator row.evaluator

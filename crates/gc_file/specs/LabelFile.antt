@@ -19,7 +19,8 @@ label_magic = codes "HLABELS1"
 
 -- The label file: the magic, the index, how many labels there are, and the labels.
 unfoldable pub label_file : LabelFileParts → List ℕ
-label_file p = label_magic ++ number_bytes p.index ++ number_bytes (length p.labels) ++ flat_map bytes_of_label p.labels
+label_file p = label_magic ++ number_bytes p.index ++ number_bytes (length p.labels) ++ flat_map
+    bytes_of_label p.labels
 
 -- The bytes are the label file with these parts.
 pub record IsLabelFile (bytes : List ℕ) (p : LabelFileParts) : Type 0 where
@@ -31,7 +32,8 @@ pub record IsLabelFile (bytes : List ℕ) (p : LabelFileParts) : Type 0 where
 -- The labels that stand for these bits on the input wires from the first one on.
 abbrev pub encoded_from : ℕ → List ℕ → List Bool → List ℕ
 encoded_from first seed bits =
-    map (λ (p : ℕ × Bool). encode (offset_of seed) (input_label_of seed p.0) p.1) (zip (range_with_len first (length bits)) bits)
+    map (λ (p : ℕ × Bool). encode (offset_of seed) (input_label_of seed p.0) p.1)
+    (zip (range_with_len first (length bits)) bits)
 
 -- The parts of the label file of an input value with these bits: the encoded labels of its wires.
 abbrev pub label_parts_of : Netlist → List ℕ → ℕ → List Bool → LabelFileParts

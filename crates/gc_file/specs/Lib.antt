@@ -17,5 +17,6 @@ pub mod MemSource
 pub mod InSource
 pub mod Writing
 pub mod Written
+pub mod Honest
 pub mod Taking
 pub mod WrittenLaw

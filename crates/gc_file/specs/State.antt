@@ -16,7 +16,8 @@ fed_of (Failed fault) = Err fault
 
 -- What came is in order as far as it goes.
 abbrev pub IsState : {A : Type 0} → State A → Type 0
-IsState (Header header) = (length header.items < 48) × ((version : Version) × IsHeaderInOrder version header.items)
+IsState (Header header) =
+    (length header.items < 48) × ((version : Version) × IsHeaderInOrder version header.items)
 IsState (Body bytes) = IsSound bytes
 IsState (Failed fault) = Unit {0}
 

@@ -22,7 +22,8 @@ name_of (ReadFault got) = codes "ReadFault"
 -- after them can mend, or there are none; a source that failed gave so many bytes, which are in order as far as they go.
 abbrev pub IsAnswer : List ℕ → Option (List ℕ) → Result GarbledParts TakeFault → Type 0
 IsAnswer given left (Ok parts) = IsGarbledFile given parts × IsAtEnd left
-IsAnswer given left (Err (File fault)) = fault ≢ Memory → LastingFault given fault ⊎ (FirstFault given fault × IsAtEnd left)
+IsAnswer given left (Err (File fault)) = fault ≢ Memory
+    → LastingFault given fault ⊎ (FirstFault given fault × IsAtEnd left)
 IsAnswer given left (Err (ReadFault got)) = IsSound given × (got ≡ counted (length given))
 
 -- A garbled file is taken from a source: which bytes the source gave, and what is answered of them.

@@ -10,7 +10,8 @@ counted n = min n (2 ^ 64 - 1)
 
 -- The file was written so far: the sink took a beginning of it, which the observer has seen, and the rest is held. The sink
 -- had taken `before` ahead of the file, and has taken `now`.
-pub record IsUnderWay {O : Type 0} (Saw : O → List ℕ → Type 0) (writer : FileWriter O) (now before : Option (List ℕ))
+pub record IsUnderWay {O : Type 0} (Saw : O → List ℕ → Type 0) (writer : FileWriter O)
+    (now before : Option (List ℕ))
     (file : List ℕ) : Type 0 where
   pub beginning : List ℕ
   pub whole : beginning ++ writer.held.items ≡ file
@@ -28,17 +29,20 @@ pub record IsStopped (before now : Option (List ℕ)) (file : List ℕ) (sent : 
   pub count : sent ≡ counted (length beginning)
 
 -- These bytes were written after whatever file was under way, or the sink stopped before their end.
-pub record Proceeds {O : Type 0} (Saw : O → List ℕ → Type 0) (old new : FileWriter O) (taken now : Option (List ℕ))
+pub record Proceeds {O : Type 0} (Saw : O → List ℕ → Type 0) (old new : FileWriter O)
+    (taken now : Option (List ℕ))
     (result : Result (Unit {0}) WriteFault) (bytes : List ℕ) : Type 0 where
   pub goes : (before : Option (List ℕ)) (file : List ℕ) → IsUnderWay Saw old taken before file →
-      MatchResult result (λ _. IsUnderWay Saw new now before (file ++ bytes)) (λ fault. IsStopped before now (file ++ bytes) fault.sent)
+      MatchResult result (λ _. IsUnderWay Saw new now before (file ++ bytes))
+      (λ fault. IsStopped before now (file ++ bytes) fault.sent)
 
 -- These last bytes were written after whatever file was under way, and the sink took all of it; or it stopped before.
 pub record Ends {O : Type 0} (Saw : O → List ℕ → Type 0) (writer : FileWriter O) (taken now : Option (List ℕ))
     (result : Result ℕ WriteFault) (last : List ℕ → List ℕ) : Type 0 where
   pub goes : (before : Option (List ℕ)) (file : List ℕ) → IsUnderWay Saw writer taken before file →
       let whole = file ++ last file in
-      MatchResult result (λ n. Appends before now whole × (n ≡ counted (length whole))) (λ fault. IsStopped before now whole fault.sent)
+      MatchResult result (λ n. Appends before now whole × (n ≡ counted (length whole)))
+      (λ fault. IsStopped before now whole fault.sent)
 
 -- An observer that looks away may have seen any bytes.
 abbrev pub Unseen : {O : Type 0} → O → List ℕ → Type 0

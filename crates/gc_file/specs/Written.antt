@@ -26,7 +26,11 @@ pub record IsSmall (g : GarblingParts) : Type 0 where
 
 -- The entry pair of an output wire,
 abbrev pub entry_pair_of : ℕ → GarblingParts → ℕ → EntryPair
-entry_pair_of offset g i = record { entry_zero = entry_of offset g i false; entry_one = entry_of offset g i true }
+entry_pair_of offset g i = record {
+  entry_zero = entry_of offset g i false;
+  entry_one =
+      entry_of offset g i true;
+}
 
 -- and of each of them, in order.
 abbrev pub entry_pairs_of : ℕ → GarblingParts → List EntryPair

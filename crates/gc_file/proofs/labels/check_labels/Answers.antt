@@ -9,10 +9,13 @@ pub returns-then-bytes-lt-HEADER : goal.returns-then-bytes-lt-HEADER
 returns-then-bytes-lt-HEADER c = header_truncated (c.if-not-is_begun.ensures.0 refl) (omega arith)
 
 pub returns-then-count-gt-MAX_WIRES : goal.returns-then-count-gt-MAX_WIRES
-returns-then-count-gt-MAX_WIRES c = too_many_labels (c.if-not-is_begun.ensures.0 refl) (omega arith) (omega arith)
+returns-then-count-gt-MAX_WIRES c = too_many_labels (c.if-not-is_begun.ensures.0 refl) (omega arith)
+    (omega arith)
 
 pub returns-then-bytes-end : goal.returns-then-bytes-end
-returns-then-bytes-end c = labels_truncated (c.if-not-is_begun.ensures.0 refl) (omega arith) (omega arith) (omega arith)
+returns-then-bytes-end c = labels_truncated (c.if-not-is_begun.ensures.0 refl) (omega arith) (omega arith)
+    (omega arith)
 
 pub returns-then-bytes-end-2 : goal.returns-then-bytes-end-2
-returns-then-bytes-end-2 c = labels_trailing (c.if-not-is_begun.ensures.0 refl) (omega arith) (omega arith) (omega arith)
+returns-then-bytes-end-2 c = labels_trailing (c.if-not-is_begun.ensures.0 refl) (omega arith) (omega arith)
+    (omega arith)

@@ -17,5 +17,6 @@ loop-i-preserved g c =
           ∙ ap (λ l. take (16 * i) bytes ++ l) c.label_from_bytes.ensures.bytes
           ∙ take_item 16 (16 * i) (16 * (i + 1)) bytes (omega arith);
       labels = rw c.in_ok-push.ensures.items
-          (All-push IsLabel c.loop-i.labels.items label c.loop-i.invariant.labels c.label_from_bytes.ensures.fits);
+          (All-push IsLabel c.loop-i.labels.items label c.loop-i.invariant.labels
+          c.label_from_bytes.ensures.fits);
     }

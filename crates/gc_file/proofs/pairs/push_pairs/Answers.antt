@@ -15,7 +15,9 @@ loop-i-preserved g c =
           ∙ pairs_push bytes_of c.loop-i.pairs.items pair
           ∙ ap (λ l. l ++ bytes_of pair) c.loop-i.invariant.bytes
           ∙ append_assoc first (take (32 * i) bytes) (bytes_of pair)
-          ∙ ap (λ l. first ++ l) (ap (λ l. take (32 * i) bytes ++ l) c.pair_from_bytes.ensures.bytes ∙ take_item 32 (32 * i) (32 * (i + 1)) bytes (omega arith));
+          ∙ ap (λ l. first ++ l) (ap (λ l. take (32 * i) bytes ++ l) c.pair_from_bytes.ensures.bytes
+          ∙ take_item 32 (32 * i) (32 * (i + 1)) bytes (omega arith));
       labels = rw c.in_ok-push.ensures.items
-          (All-push g.P.LabelPair.are_labels c.loop-i.pairs.items pair c.loop-i.invariant.labels c.pair_from_bytes.ensures.labels);
+          (All-push g.P.LabelPair.are_labels c.loop-i.pairs.items pair c.loop-i.invariant.labels
+          c.pair_from_bytes.ensures.labels);
     }

@@ -9,7 +9,11 @@ overflow_mul-byte g c =
     let byte = take 8 (drop (8 * c.args.k) (decode_bits_of c.args.garbling.now)) in
     let below : bits_number (drop c.loop-i.i byte) < 2 ^ 7 =
     bits_number-below 7 (drop c.loop-i.i byte)
-    (omega (arith, length-drop c.loop-i.i byte, length-take 8 (drop (8 * c.args.k) (decode_bits_of c.args.garbling.now))))
+    (omega (
+      arith,
+      length-drop c.loop-i.i byte,
+      length-take 8 (drop (8 * c.args.k) (decode_bits_of c.args.garbling.now)),
+    ))
     in
     record { fits = omega arith }
 
@@ -18,7 +22,11 @@ overflow_add-byte g c =
     let byte = take 8 (drop (8 * c.args.k) (decode_bits_of c.args.garbling.now)) in
     let below : bits_number (drop c.loop-i.i byte) < 2 ^ 7 =
     bits_number-below 7 (drop c.loop-i.i byte)
-    (omega (arith, length-drop c.loop-i.i byte, length-take 8 (drop (8 * c.args.k) (decode_bits_of c.args.garbling.now))))
+    (omega (
+      arith,
+      length-drop c.loop-i.i byte,
+      length-take 8 (drop (8 * c.args.k) (decode_bits_of c.args.garbling.now)),
+    ))
     in
     record { fits = omega (arith, bool_byte-le c.decode_bit.result) }
 
@@ -26,7 +34,11 @@ pub loop-i-init : goal.loop-i-init
 loop-i-init g c =
     let bits = decode_bits_of c.args.garbling.now in
     let count : c.min-count.result ≡ min 8 (length bits - 8 * c.args.k) =
-    omega (arith, ord_min-nat 8 (c.outputs-outputs.result - 8 * c.args.k), length-decode_bits c.args.garbling.now c.outputs-outputs.ensures.bound)
+    omega (
+      arith,
+      ord_min-nat 8 (c.outputs-outputs.result - 8 * c.args.k),
+      length-decode_bits c.args.garbling.now c.outputs-outputs.ensures.bound,
+    )
     in
     (omega arith, sym (bits_number-end bits (8 * c.args.k) c.min-count.result count))
 
@@ -42,4 +54,5 @@ loop-i-preserved g c =
 pub returns : goal.returns
 returns g c =
     let none : c.loop-i.i ≡ 0 = omega arith in
-    c.loop-i.invariant.1 ∙ ap (λ n. bits_number (drop n (take 8 (drop (8 * c.args.k) (decode_bits_of c.args.garbling.now))))) none
+    c.loop-i.invariant.1 ∙ ap
+    (λ n. bits_number (drop n (take 8 (drop (8 * c.args.k) (decode_bits_of c.args.garbling.now))))) none

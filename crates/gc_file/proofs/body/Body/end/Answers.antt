@@ -17,7 +17,8 @@ returns-then-not-is_full g c =
     let e = c.self.inside.entries in
     let t = c.self.inside.trailer.items in
     let short : length t < 32 = grind (arith, nat_tests) in
-    λ other. rw (← c.self.view_is) (truncated (version_of h) (in_order h r d e t c.self.inside.hasher c.self.invariant)
+    λ other. rw (← c.self.view_is)
+    (truncated (version_of h) (in_order h r d e t c.self.inside.hasher c.self.invariant)
     (ends_early h r d e t c.self.inside.hasher c.self.invariant short))
 
 pub returns : goal.returns
@@ -42,10 +43,14 @@ returns g c =
     let small_header : (i : ℕ) → get_or h i 0 < 256 = rw (← header) c.digest_in-digest.ensures.bytes in
     let small_decode : (i : ℕ) → get_or d i 0 < 256 = rw (← decode) c.in_ok-decode_bits.ensures.bytes in
     let version_is : c.of-counts.result.version ≡ version_of h = rw (← header) c.of-counts.ensures.version in
-    let digest_is : c.digest_in-digest.result ≡ take 32 (drop 8 h) = rw (← header) c.digest_in-digest.ensures.digest in
-    let bits_are : c.in_ok-decode_bits.decode_bits.items ≡ map (bit_in d) (range_with_len 0 (output_count h)) =
+    let digest_is : c.digest_in-digest.result ≡ take 32 (drop 8 h) =
+    rw (← header) c.digest_in-digest.ensures.digest in
+    let bits_are : c.in_ok-decode_bits.decode_bits.items ≡ map (bit_in d)
+    (range_with_len 0 (output_count h)) =
     rw (← decode, ← header, ← c.of-counts.ensures.outputs) c.in_ok-decode_bits.ensures.bits in
     rw (← c.self.view_is)
-    (file_is h r d e t parts body.whole body.in_order (body.filled.rows_first (omega arith)) decode_full (body.filled.entries_first (omega arith))
+    (file_is h r d e t parts body.whole body.in_order (body.filled.rows_first (omega arith)) decode_full
+    (body.filled.entries_first (omega arith))
     (body.no_spare_bit decode_full) (body.hashed.right full) small_header small_decode version_is digest_is
-    c.into_pairs.ensures.bytes c.into_pairs-2.ensures.bytes bits_are c.into_pairs.ensures.labels c.into_pairs-2.ensures.labels)
+    c.into_pairs.ensures.bytes c.into_pairs-2.ensures.bytes bits_are c.into_pairs.ensures.labels
+    c.into_pairs-2.ensures.labels)

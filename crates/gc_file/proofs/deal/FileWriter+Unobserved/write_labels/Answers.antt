@@ -17,7 +17,8 @@ returns-in_err-write_some_labels-clause-bytes g c =
     let so_far = label_bytes seed first (take done bits) in
     let written = label_bytes seed (first + done) (take (next - done) (drop done bits)) in
     let rest = label_bytes seed (first + next) (drop next bits) in
-    Proceeds-stop c.from_residual.result c.in_err-write_some_labels.field-0.0 so_far written rest (label_bytes seed first bits)
+    Proceeds-stop c.from_residual.result c.in_err-write_some_labels.field-0.0 so_far written rest
+    (label_bytes seed first bits)
     (p.1 ∙ ap Err p.2)
     (ap (λ l. l ++ rest) (label_bytes-next seed first bits done (next - done) c.loop-done.invariant.0
     ∙ ap (λ n. label_bytes seed first (take n bits)) on)
@@ -31,14 +32,18 @@ loop-done-preserved g c =
     let least = ord_min-nat (done + 64) (length bits) in
     let on : done + (next - done) ≡ next = omega arith in (
       omega arith,
-      Proceeds-step (label_bytes seed first (take done bits)) (label_bytes seed (first + done) (take (next - done) (drop done bits)))
+      Proceeds-step (label_bytes seed first (take done bits))
+          (label_bytes seed (first + done) (take (next - done) (drop done bits)))
           (label_bytes seed first (take next bits))
-          (label_bytes-next seed first bits done (next - done) c.loop-done.invariant.0 ∙ ap (λ n. label_bytes seed first (take n bits)) on)
+          (label_bytes-next seed first bits done (next - done) c.loop-done.invariant.0
+          ∙ ap (λ n. label_bytes seed first (take n bits)) on)
           c.loop-done.invariant.1 c.in_ok-write_some_labels.ensures.bytes,
       c.in_ok-write_some_labels.ensures.counted ∙ c.loop-done.invariant.2,
     )
 
 pub returns-clause-bytes : goal.returns-clause-bytes
 returns-clause-bytes g c =
-    let all : take c.loop-done.done c.args.bits.now ≡ c.args.bits.now = take_all c.loop-done.done c.args.bits.now (omega arith) in
-    subst (Proceeds Unseen _ _ _ _ (Ok tt)) (ap (label_bytes c.args.seed.now c.args.first) all) c.loop-done.invariant.1
+    let all : take c.loop-done.done c.args.bits.now ≡ c.args.bits.now =
+    take_all c.loop-done.done c.args.bits.now (omega arith) in
+    subst (Proceeds Unseen _ _ _ _ (Ok tt)) (ap (label_bytes c.args.seed.now c.args.first) all)
+    c.loop-done.invariant.1

@@ -5,20 +5,23 @@ use Rattle.gc_file.proofs.pairs.Pairs.len.Goals as goal
 pub returns : goal.returns
 returns g c =
     let pairs = length-pairs g.P.LabelPair.bytes_of g.P.LabelPair.length_bytes c.self.inside.pairs.items in
-    let parts = length-append (flat_map g.P.LabelPair.bytes_of c.self.inside.pairs.items) c.self.inside.partial.items in
+    let parts = length-append (flat_map g.P.LabelPair.bytes_of c.self.inside.pairs.items)
+    c.self.inside.partial.items in
     let all = ap length c.self.view_is in
     omega (arith, pairs, parts, all)
 
 pub overflow_add-result : goal.overflow_add-result
 overflow_add-result g c =
     let pairs = length-pairs g.P.LabelPair.bytes_of g.P.LabelPair.length_bytes c.self.inside.pairs.items in
-    let parts = length-append (flat_map g.P.LabelPair.bytes_of c.self.inside.pairs.items) c.self.inside.partial.items in
+    let parts = length-append (flat_map g.P.LabelPair.bytes_of c.self.inside.pairs.items)
+    c.self.inside.partial.items in
     let all = ap length c.self.view_is in
     omega (arith, pairs, parts, all)
 
 pub overflow_mul-result : goal.overflow_mul-result
 overflow_mul-result g c =
     let pairs = length-pairs g.P.LabelPair.bytes_of g.P.LabelPair.length_bytes c.self.inside.pairs.items in
-    let parts = length-append (flat_map g.P.LabelPair.bytes_of c.self.inside.pairs.items) c.self.inside.partial.items in
+    let parts = length-append (flat_map g.P.LabelPair.bytes_of c.self.inside.pairs.items)
+    c.self.inside.partial.items in
     let all = ap length c.self.view_is in
     omega (arith, pairs, parts, all)

@@ -19,9 +19,11 @@ returns-in_err-write-clause-bytes g c =
     let within : k < bytes_for (length bits) = omega (arith, count) in
     let inside : k < length (packed bits) = omega (arith, within, length-packed bits) in
     let here : byte ≡ get_or (packed bits) k 0 = c.decode_byte.ensures ∙ sym (packed-at bits k 0 within) in
-    Proceeds-stop c.from_residual.result c.in_err-write.field-0.0 (take k (packed bits)) (byte ∷ []) (drop (k + 1) (packed bits)) (packed bits)
+    Proceeds-stop c.from_residual.result c.in_err-write.field-0.0 (take k (packed bits)) (byte ∷ [])
+    (drop (k + 1) (packed bits)) (packed bits)
     (p.1 ∙ ap Err p.2)
-    (ap (λ x. (take k (packed bits) ++ x ∷ []) ++ drop (k + 1) (packed bits)) here ∙ take-rest (packed bits) k 0 inside)
+    (ap (λ x. (take k (packed bits) ++ x ∷ []) ++ drop (k + 1) (packed bits)) here
+    ∙ take-rest (packed bits) k 0 inside)
     c.loop-k.invariant.0 c.in_err-write.ensures.bytes
 
 pub loop-k-preserved : goal.loop-k-preserved

@@ -18,14 +18,17 @@ returns-in_err-write-clause-bytes g c =
     let one = entry_pair_of o c.args.garbling.now i in
     let within : i < length pairs = omega (arith, length-entry_pairs o c.args.garbling.now) in
     let made : c.pair_bytes.result ≡ entry_bytes one =
-    c.pair_bytes.ensures ∙ ap (λ l. bytes_of_label l ++ bytes_of_label c.output_entry-entry_one.result) c.output_entry-entry_zero.ensures
+    c.pair_bytes.ensures ∙ ap (λ l. bytes_of_label l ++ bytes_of_label c.output_entry-entry_one.result)
+    c.output_entry-entry_zero.ensures
     ∙ ap (λ l. bytes_of_label one.entry_zero ++ bytes_of_label l) c.output_entry-entry_one.ensures
     in
     let here : c.pair_bytes.result ≡ entry_bytes (get_or pairs i one) =
     made ∙ ap entry_bytes (sym (entry_pairs-at o c.args.garbling.now i one (omega arith)))
     in
-    let so_far = flat_map entry_bytes (take i pairs) in let rest = flat_map entry_bytes (drop (i + 1) pairs) in
-    Proceeds-stop c.from_residual.result c.in_err-write.field-0.0 so_far c.pair_bytes.result rest _ (p.1 ∙ ap Err p.2)
+    let so_far = flat_map entry_bytes (take i pairs) in let rest =
+    flat_map entry_bytes (drop (i + 1) pairs) in
+    Proceeds-stop c.from_residual.result c.in_err-write.field-0.0 so_far c.pair_bytes.result rest _ (p.1
+    ∙ ap Err p.2)
     (ap (λ l. (so_far ++ l) ++ rest) here ∙ flat_map-rest entry_bytes pairs i one within)
     c.loop-i.invariant.0 c.in_err-write.ensures.bytes
 
@@ -35,14 +38,16 @@ loop-i-preserved g c =
     let one = entry_pair_of o c.args.garbling.now i in
     let within : i < length pairs = omega (arith, length-entry_pairs o c.args.garbling.now) in
     let made : c.pair_bytes.result ≡ entry_bytes one =
-    c.pair_bytes.ensures ∙ ap (λ l. bytes_of_label l ++ bytes_of_label c.output_entry-entry_one.result) c.output_entry-entry_zero.ensures
+    c.pair_bytes.ensures ∙ ap (λ l. bytes_of_label l ++ bytes_of_label c.output_entry-entry_one.result)
+    c.output_entry-entry_zero.ensures
     ∙ ap (λ l. bytes_of_label one.entry_zero ++ bytes_of_label l) c.output_entry-entry_one.ensures
     in
     let here : c.pair_bytes.result ≡ entry_bytes (get_or pairs i one) =
     made ∙ ap entry_bytes (sym (entry_pairs-at o c.args.garbling.now i one (omega arith)))
     in
     let so_far = flat_map entry_bytes (take i pairs) in (
-      Proceeds-step so_far c.pair_bytes.result _ (ap (λ l. so_far ++ l) here ∙ flat_map-step entry_bytes pairs i one within)
+      Proceeds-step so_far c.pair_bytes.result _ (ap (λ l. so_far ++ l) here
+          ∙ flat_map-step entry_bytes pairs i one within)
           c.loop-i.invariant.0 c.in_ok-write.ensures.bytes,
       c.in_ok-write.ensures.counted ∙ c.loop-i.invariant.1,
     )
@@ -50,5 +55,6 @@ loop-i-preserved g c =
 pub returns-clause-bytes : goal.returns-clause-bytes
 returns-clause-bytes g c =
     let pairs = entry_pairs_of c.args.offset c.args.garbling.now in
-    let all : take c.loop-i.i pairs ≡ pairs = take_all c.loop-i.i pairs (omega (arith, length-entry_pairs c.args.offset c.args.garbling.now)) in
+    let all : take c.loop-i.i pairs ≡ pairs =
+    take_all c.loop-i.i pairs (omega (arith, length-entry_pairs c.args.offset c.args.garbling.now)) in
     subst (Proceeds Holds256 _ _ _ _ (Ok tt)) (ap (flat_map entry_bytes) all) c.loop-i.invariant.0

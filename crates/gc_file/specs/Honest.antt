@@ -1,0 +1,19 @@
+-- What the garbled file of an honest garbler holds.
+use Rattle.std.specs.Prelude.{ℕ, List, []}
+use Rattle.gc_circuit.specs.Circuit.{Netlist}
+use Rattle.gc_label.specs.Seed.{offset_of}
+use Rattle.gc_half.specs.Garbling.{GarblingParts}
+use Rattle.gc_file.specs.declared.garbled.Version.{Version}
+use Rattle.gc_file.specs.declared.garbled.Version.TheVariants.{One, Two}
+use Rattle.gc_file.specs.declared.garbled.EntryPair.{EntryPair}
+use Rattle.gc_file.specs.GarbledFile.{GarbledParts, parts_of}
+use Rattle.gc_file.specs.Written.{entry_pairs_of}
+
+-- The entry pairs of a garbling's file of a version: version 1 has none.
+abbrev pub version_entries : Version → ℕ → GarblingParts → List EntryPair
+version_entries One offset g = []
+version_entries Two offset g = entry_pairs_of offset g
+
+-- What the garbled file of a version holds, of a circuit's garbling under a seed.
+abbrev pub honest_parts : Version → Netlist → GarblingParts → List ℕ → GarbledParts
+honest_parts version c g seed = parts_of version c g (version_entries version (offset_of seed) g)
