@@ -1,12 +1,11 @@
 -- The tables of a store whose gates are all finished are the garbling.
-use Rattle.std.proofs.Common.{◌≡◌, ◌≢◌, ℕ, ◌+◌, ◌<◌, ◌≤◌, ◌⊎◌, ◌↔◌, inl, inr, IsTrue, List, length, map, get_or, slice_get, slice_index, slice_index_or, Option, Some, None, Bool, true, false, if◌then◌else◌, refl, sym, ap, ◌∙◌, subst, arith}
-use Rattle.std.specs.List.{range_with_len}
+use Rattle.std.proofs.Common.{◌≡◌, ℕ, inl, inr, List, length, get_or, slice_get, slice_index, Option, Some, Bool, true, false, if◌then◌else◌, refl, sym, ap, ◌∙◌, subst, arith}
 use Rattle.std.proofs.lemmas.Option.{slice_get_within}
 use Rattle.std.proofs.lemmas.List.FromFn.{length-map-range_with_len, get_or-map-range_with_len}
 use Rattle.gc_circuit.specs.declared.circuit.Operation.{Operation}
-use Rattle.gc_circuit.specs.declared.circuit.Operation.TheVariants.{Xor, And, Inv, Eq, Eqw}
+use Rattle.gc_circuit.specs.declared.circuit.Operation.TheVariants.{And}
 use Rattle.gc_circuit.specs.declared.circuit.Gate.{Gate}
-use Rattle.gc_circuit.specs.Circuit.{Netlist, input_wires, output_wires, EachRead, IsSetBy, IsSetBefore, IsSet, IsLawful, is_and, and_number}
+use Rattle.gc_circuit.specs.Circuit.{Netlist, output_wires, IsSet, and_number}
 use Rattle.gc_circuit.proofs.Tables.{IsSetBefore-below}
 use Rattle.gc_label.specs.Seed.{offset_of, input_label_of}
 use Rattle.gc_half.specs.declared.garbling.RowPair.{RowPair}
@@ -19,8 +18,8 @@ use Rattle.gc_half.proofs.CanonicalLemmas.{zero_label_of-input, zero_label_of-ga
 use Rattle.gc_store.specs.declared.mark.Mark.{Mark}
 use Rattle.gc_store.specs.declared.mark.Mark.TheVariants as mark
 use Rattle.gc_store.specs.Task.{task_of, sealed_rows}
-use Rattle.gc_store.specs.Content.{State, Free, Claimed, Finished, Content, IsFinished, IsKnown, AllFinished, IsLawfulContent}
-use Rattle.gc_store.specs.Kept.{Tables, rows_at, finished_state, state_at, states_of, content_of, IsKept}
+use Rattle.gc_store.specs.Content.{Finished, Content, IsKnown, AllFinished}
+use Rattle.gc_store.specs.Kept.{Tables, rows_at, finished_state, state_at, content_of, IsKept}
 use Rattle.gc_store.proofs.TableLemmas.{state_is, known_label}
 use Rattle.gc_store.proofs.StoreLemmas.{known_label_is}
 
@@ -75,7 +74,7 @@ module _ (c : Netlist) (seed : List ℕ) (r : ℕ) (t : Tables) (kept : IsKept c
     row_count = kept.rows;
   }
 
-  no_label : (w : ℕ) → ¬ IsSet c w → (b : Bool) → slice_index_or t.known w false ≡ b
+  no_label : (w : ℕ) → ¬ IsSet c w → (b : Bool) → kept.known w ≡ b
       → (if b then zero_label_of c seed w else 0) ≡ 0
   no_label w not_set true known = absurd (not_set (set_of ((kept.tells_known w).0 known)))
     where
@@ -91,10 +90,10 @@ module _ (c : Netlist) (seed : List ℕ) (r : ℕ) (t : Tables) (kept : IsKept c
     garbling = IsGarbling-same hash (offset_of seed) c kept.lawful.circuit (input_label_of seed)
         (zero_label_of c seed) (slice_index t.zero_labels) t.rows
         (λ w set. sym (label_is w set)) garbling_of_rows;
-    wires = ap length kept.zero_labels ∙ length-map-range_with_len (known_label c seed t.known) 0 c.wires;
+    wires = ap length kept.zero_labels ∙ length-map-range_with_len (known_label c seed kept.known) 0 c.wires;
     not_set = λ w below not_set. ap (λ l. get_or l w 0) kept.zero_labels
-        ∙ get_or-map-range_with_len (known_label c seed t.known) 0 c.wires w w 0 below (omega arith)
-        ∙ no_label w not_set (slice_index_or t.known w false) refl;
+        ∙ get_or-map-range_with_len (known_label c seed kept.known) 0 c.wires w w 0 below (omega arith)
+        ∙ no_label w not_set (kept.known w) refl;
     outputs = refl;
   }
 

@@ -1,7 +1,15 @@
 pub mod ListLemmas
+pub mod BatchLemmas
 pub mod CircuitLemmas
+pub mod QueueLemmas
+pub mod ReadersLemmas
+pub mod WalkLemmas
 pub mod StepLemmas
 pub mod TableLemmas
 pub mod StoreLemmas
 pub mod OpenLemmas
 pub mod GarblingLemmas
+pub mod CountLemmas
+pub mod ReopenLemmas
+pub mod AwaitedLemmas
+pub mod ClaimLemmas

@@ -1,5 +1,5 @@
 -- Lists with one place set, counts, and tables over the numbers below n.
-use Rattle.std.proofs.Common.{◌≡◌, ◌≢◌, ℕ, zero, suc, ◌+◌, ◌*◌, ◌<◌, ◌≤◌, List, [], ◌∷◌, length, length-set, map, set, take, get_or, slice_get, Option, Some, None, Bool, true, false, cond, count_by, sum_by, replicate, ◌⊎◌, inl, inr, refl, sym, ap, ◌∙◌, arith}
+use Rattle.std.proofs.Common.{◌≡◌, ◌≢◌, ℕ, zero, suc, ◌+◌, ◌*◌, ◌<◌, ◌≤◌, List, [], ◌∷◌, length, length-set, map, set, get_or, slice_get, Some, Bool, true, false, cond, count_by, replicate, inl, inr, refl, sym, ap, ◌∙◌, arith}
 use Rattle.std.specs.List.{range_with_len}
 use Rattle.std.proofs.lemmas.Bool.{cases_eq}
 use Rattle.std.proofs.lemmas.List.{get_or-set_same, get_or-set_other}
@@ -43,7 +43,28 @@ count_by-set_more p xs i x y at fails passes =
     let old = ap (λ z. one_if (p z)) (get_or_from_slice_get xs i x x at) ∙ ap one_if fails in
     let new = ap one_if passes in omega (arith, step, old, new)
 
+-- and where the old one passed and the new one does not
+pub count_by-set_less : {X : Type 0} (p : X → Bool) (xs : List X) (i : ℕ) (x y : X)
+    → slice_get xs i ≡ Some x → p x ≡ true
+    → p y ≡ false → count_by p (set xs i y) + 1 ≡ count_by p xs
+count_by-set_less p xs i x y at passes fails =
+    let step = sum_by-set (λ z. one_if (p z)) xs i y x (slice_get_within xs i x at) in
+    let old = ap (λ z. one_if (p z)) (get_or_from_slice_get xs i x x at) ∙ ap one_if passes in
+    let new = ap one_if fails in omega (arith, step, old, new)
+
 -- ---- counts
+
+-- some pass where one does
+pub count_by-some : {X : Type 0} (p : X → Bool) (xs : List X) (i : ℕ) (x : X) → slice_get xs i ≡ Some x → p x ≡ true
+    → 0 < count_by p xs
+count_by-some p [] i x at passes = cc
+count_by-some p (y ∷ ys) zero x at passes =
+    let same : y ≡ x = cc in
+    let one = ap one_if (ap p same ∙ passes) in
+    let split = sum_by-cons (λ z. one_if (p z)) y ys in omega (arith, split, one)
+count_by-some p (y ∷ ys) (suc i) x at passes =
+    let split = sum_by-cons (λ z. one_if (p z)) y ys in
+    let some = count_by-some p ys i x at passes in omega (arith, split, some)
 
 bit : (b : Bool) → one_if b ≤ 1
 bit true = omega arith
@@ -80,6 +101,51 @@ pub count_by-replicate : {X : Type 0} (p : X → Bool) (n : ℕ) (x : X) → p x
 count_by-replicate p n x fails =
     sum_by-replicate (λ y. one_if (p y)) n x ∙ ap (λ b. n * one_if b) fails ∙ omega arith
 
+-- an element that passes, where some do
+pub record Found {X : Type 0} (p : X → Bool) (xs : List X) : Type 0 where
+  pub place : ℕ
+  pub element : X
+  pub at : slice_get xs place ≡ Some element
+  pub passes : p element ≡ true
+
+pub count_by-found : {X : Type 0} (p : X → Bool) (xs : List X) → 0 < count_by p xs → Found p xs
+count_by-found p [] some = absurd (omega arith)
+count_by-found {X = X} p (x ∷ xs) some = by_first (p x) refl (count_by-found p xs)
+  where
+    by_first : (b : Bool) → p x ≡ b → (0 < count_by p xs → Found p xs) → Found p (x ∷ xs)
+    by_first true is rest = record { place = 0; element = x; at = refl; passes = is }
+    by_first false is rest =
+        let split = sum_by-cons (λ z. one_if (p z)) x xs in
+        let none = ap one_if is in
+        let found = rest (omega (arith, split, none, some)) in
+        record { place = suc found.place; element = found.element; at = found.at; passes = found.passes }
+
+-- a count of a mapped list
+pub count_by-map : {X Y : Type 0} (p : Y → Bool) (q : X → Bool) (f : X → Y) (xs : List X)
+    → ((x : X) → p (f x) ≡ q x) → count_by p (map f xs) ≡ count_by q xs
+count_by-map p q f [] same = refl
+count_by-map p q f (x ∷ xs) same =
+    let rest = count_by-map p q f xs same in
+    let first = ap one_if (same x) in
+    let left = sum_by-cons (λ z. one_if (p z)) (f x) (map f xs) in
+    let right = sum_by-cons (λ z. one_if (q z)) x xs in omega (arith, rest, first, left, right)
+
+-- as many pass one test as pass either of two, where that holds place by place
+pub count_by-both : {X Y : Type 0} (p : X → Bool) (q r : Y → Bool) (xs : List X) (ys : List Y)
+    → length xs ≡ length ys
+    → ((i : ℕ) (x : X) (y : Y) → slice_get xs i ≡ Some x → slice_get ys i ≡ Some y
+    → cond (p x) 1 0 ≡ cond (q y) 1 0 + cond (r y) 1 0)
+    → count_by p xs ≡ count_by q ys + count_by r ys
+count_by-both p q r [] [] count each = refl
+count_by-both p q r [] (y ∷ ys) count each = absurd (omega (arith, count))
+count_by-both p q r (x ∷ xs) [] count each = absurd (omega (arith, count))
+count_by-both p q r (x ∷ xs) (y ∷ ys) count each =
+    let rest = count_by-both p q r xs ys (omega (arith, count)) (λ i. each (suc i)) in
+    let first = each 0 x y refl refl in
+    let one = sum_by-cons (λ z. one_if (p z)) x xs in
+    let two = sum_by-cons (λ z. one_if (q z)) y ys in
+    let three = sum_by-cons (λ z. one_if (r z)) y ys in omega (arith, rest, first, one, two, three)
+
 -- ---- tables
 
 pub slice_get-table : {X : Type 0} (f : ℕ → X) (n i : ℕ) → i < n → slice_get (map f (range_with_len 0 n)) i ≡ Some (f i)
@@ -104,3 +170,8 @@ set-table_is f g n i x within here others =
           get_or-set_other (map f (range_with_len 0 n)) i k x x other
           ∙ get_or-map-range_with_len f 0 n k k x below (omega arith) ∙ others k below other
     ]
+
+pub slice_get-replicate : {X : Type 0} (n i : ℕ) (x y : X) → slice_get (replicate n x) i ≡ Some y → y ≡ x
+slice_get-replicate zero i x y at = cc
+slice_get-replicate (suc n) zero x y at = cc
+slice_get-replicate (suc n) (suc i) x y at = slice_get-replicate n i x y at

@@ -1,25 +1,21 @@
 -- What claiming and finishing a gate keeps, on contents.
-use Rattle.std.proofs.Common.{◌≡◌, ◌≢◌, ℕ, zero, suc, ◌+◌, ◌*◌, ◌<◌, ◌≤◌, ◌⊎◌, inl, inr, List, length, length-set, set, get_or, slice_get, slice_set, Option, Some, None, Bool, true, false, if◌then◌else◌, count_by, refl, sym, ap, ◌∙◌, subst, arith}
+use Rattle.std.proofs.Common.{◌≡◌, ◌≢◌, ℕ, ◌+◌, ◌*◌, ◌<◌, inl, inr, List, length, length-set, set, get_or, slice_get, Option, Some, Bool, true, false, if◌then◌else◌, count_by, refl, sym, ap, ◌∙◌, subst, arith}
 use Rattle.std.proofs.lemmas.Bool.{cases_eq}
 use Rattle.std.proofs.lemmas.Option.{slice_get_within, slice_get-get_or}
 use Rattle.gc_circuit.specs.declared.circuit.Operation.{Operation}
 use Rattle.gc_circuit.specs.declared.circuit.Operation.TheVariants.{Xor, And, Inv, Eq, Eqw}
 use Rattle.gc_circuit.specs.declared.circuit.Gate.{Gate}
-use Rattle.gc_circuit.specs.Circuit.{Netlist, EachRead, IsSetBy, IsLawful, is_and, and_number}
+use Rattle.gc_circuit.specs.Circuit.{Netlist, EachRead, IsLawful, is_and}
 use Rattle.gc_circuit.proofs.SolutionLemmas.{EachRead-map}
-use Rattle.gc_label.specs.Label.{◌⊕◌}
-use Rattle.gc_label.specs.Seed.{offset_of}
 use Rattle.gc_half.specs.declared.garbling.RowPair.{RowPair}
 use Rattle.gc_half.specs.Hash.{hash}
-use Rattle.gc_half.specs.HalfGate.{and_zero}
-use Rattle.gc_half.specs.Garbling.{zero_of}
 use Rattle.gc_half.specs.Canonical.{zero_label_of}
 use Rattle.gc_half.proofs.CanonicalLemmas.{zero_label_of-gate}
 use Rattle.gc_store.specs.declared.task.Task.{Task}
 use Rattle.gc_half.specs.OneGate.{gate_rows}
 use Rattle.gc_store.specs.Task.{task_of, sealed_zero_label, sealed_rows}
 use Rattle.gc_store.specs.Content.{State, Free, Claimed, Finished, Content, is_finished, has_rows, IsClaimed, IsFinished, IsKnown, MayGoNext, AllFinished, IsLawfulContent}
-use Rattle.gc_store.specs.Step.{with_state, with_sealed, IsOwnTask}
+use Rattle.gc_store.specs.Step.{with_state, with_sealed}
 use Rattle.gc_store.proofs.ListLemmas.{slice_get-set_other, slice_get-set_same, count_by-set, count_by-set_more, count_by-all, count_by-all_back}
 
 -- ---- what sealing a store's task gives
@@ -106,7 +102,6 @@ module _ (s : Content) (i : ℕ) (next : MayGoNext s i) where
     finished = λ j g label rows at has. lawful.finished j g label rows at (not_finished_later j label rows has);
     reads = reads-claim lawful;
     rows = lawful.rows ∙ ap (λ n. 2 * n) (sym (count_by-set has_rows s.states i Free Claimed next.free refl));
-    tallies = lawful.tallies;
   }
 
 -- ---- finishing
@@ -191,7 +186,6 @@ module _ (s : Content) (lawful : IsLawfulContent s) (i : ℕ) (g : Gate)
     finished = finished-finish;
     reads = reads-finish;
     rows = rows-finish (is_and g.operation) refl;
-    tallies = lawful.tallies;
   }
 
 -- ---- every gate finished

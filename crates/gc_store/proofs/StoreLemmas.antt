@@ -1,35 +1,32 @@
 -- What the calls of a store tell of its content, from its tables.
-use Rattle.std.proofs.Common.{◌≡◌, ◌≢◌, ℕ, zero, suc, ◌+◌, ◌*◌, ◌<◌, ◌≤◌, ◌⊎◌, ◌↔◌, ◌==◌, inl, inr, IsTrue, List, length, length-set, map, set, get_or, slice_get, slice_set, slice_index, slice_index_or, Option, Some, None, is_some, Bool, true, false, if◌then◌else◌, count_by, refl, sym, ap, ◌∙◌, subst, arith}
-use Rattle.std.specs.List.{range_with_len}
-use Rattle.std.proofs.lemmas.Bool.{cases_eq}
+use Rattle.std.proofs.Common.{◌≡◌, ℕ, ◌+◌, ◌<◌, ◌≤◌, ◌↔◌, ◌==◌, IsTrue, List, length, set, get_or, slice_get, slice_index, Option, Some, None, is_some, Bool, true, false, if◌then◌else◌, count_by, refl, sym, ap, ◌∙◌, subst, arith}
 use Rattle.std.proofs.lemmas.Bool.Decides.{nat_tests}
-use Rattle.std.proofs.lemmas.List.{get_or-set_same, get_or-set_other, get_or_read, get_or_default}
+use Rattle.std.proofs.lemmas.List.{get_or_read, get_or_default}
 use Rattle.std.proofs.lemmas.List.FromFn.{length-map-range_with_len, get_or-map-range_with_len}
-use Rattle.std.proofs.lemmas.List.Sums.{count_by-le-length}
-use Rattle.std.proofs.lemmas.Option.{slice_get_within, slice_get-get_or}
+use Rattle.std.proofs.lemmas.Option.{slice_get_within, slice_get-get_or, get_or_from_slice_get}
 use Rattle.gc_circuit.specs.declared.circuit.Operation.{Operation}
 use Rattle.gc_circuit.specs.declared.circuit.Operation.TheVariants.{Xor, And, Inv, Eq, Eqw}
 use Rattle.gc_circuit.specs.declared.circuit.Gate.{Gate}
-use Rattle.gc_circuit.specs.Circuit.{Netlist, input_wires, EachRead, IsSetBy, IsSetBefore, IsLawful, is_and, and_number, and_count}
+use Rattle.gc_circuit.specs.Circuit.{Netlist, EachRead, is_and, and_number}
 use Rattle.gc_circuit.proofs.SolutionLemmas.{EachRead-map}
-use Rattle.gc_circuit.proofs.Tables.{IsSetBefore-below, EachRead-below}
+use Rattle.gc_circuit.proofs.Tables.{EachRead-below}
 use Rattle.gc_label.specs.Seed.{offset_of}
 use Rattle.gc_half.specs.declared.garbling.RowPair.{RowPair}
 use Rattle.gc_half.specs.Canonical.{zero_label_of}
 use Rattle.gc_store.specs.declared.mark.Mark.{Mark}
 use Rattle.gc_store.specs.declared.mark.Mark.TheVariants as mark
 use Rattle.gc_store.specs.declared.task.Task.{Task}
-use Rattle.gc_store.specs.declared.tally.TheConstants.{MAX_TALLIES}
 use Rattle.gc_half.specs.OneGate.{first_read, second_read}
 use Rattle.gc_half.proofs.OneGateLemmas.{first_read-local, second_read-local}
 use Rattle.gc_store.specs.Task.{task_of, sealed_zero_label, sealed_rows}
-use Rattle.gc_store.specs.Content.{State, Free, Claimed, Finished, Content, is_finished, has_rows, IsClaimed, IsFinished, IsKnown, MayGoNext, AllFinished, IsLawfulContent}
+use Rattle.gc_store.specs.Queue.{Standing, IsReady, with_mark, Takes}
+use Rattle.gc_store.specs.Readers.{reads_of, unknown, unknown_reads}
+use Rattle.gc_store.specs.Content.{Free, Claimed, Content, is_finished, IsClaimed, IsKnown, MayGoNext, AllFinished, IsLawfulContent}
 use Rattle.gc_store.specs.Step.{with_state, with_sealed, IsOwnTask, Claims}
-use Rattle.gc_store.specs.Kept.{Tables, rows_at, finished_state, state_at, states_of, content_of, IsKept, ReadsKnown}
-use Rattle.gc_store.proofs.ListLemmas.{slice_get-set_other, slice_get-set_same, count_by-set, count_by-set_more, slice_get-table, set-table_is}
-use Rattle.gc_store.proofs.CircuitLemmas.{set-apart, and_number-apart, and_number-lt}
-use Rattle.gc_store.proofs.StepLemmas.{sealed_zero_label_is, known-claim, known-claim_back, claim_lawful, known-finish, known-finish_set, known-finish_back, finish_lawful, all_finished, all_finished_back}
-use Rattle.gc_store.proofs.TableLemmas.{state_is, known_label, claimed_tables, finished_tables, is_some-gate_rows, claim_keeps, content-claim, finish_keeps, content-finish}
+use Rattle.gc_store.specs.Kept.{Tables, finished_state, state_at, content_of, IsKept, ReadsKnown}
+use Rattle.gc_store.proofs.CircuitLemmas.{and_number-lt}
+use Rattle.gc_store.proofs.StepLemmas.{known-claim, all_finished, all_finished_back}
+use Rattle.gc_store.proofs.TableLemmas.{state_is, known_label, finished_queue, finished_tables, is_some-gate_rows, claim_keeps, content-claim, finish_keeps, content-finish, counts_set}
 
 -- ---- what the store's calls tell
 
@@ -47,76 +44,6 @@ complete_is s now finished gates same lawful count all =
       λ every. (eqb_is finished gates).1 (count ∙ all_finished_back s lawful every ∙ sym all),
     )
 
--- what is known goes by the circuit and the states alone
-known_along : (s new : Content) → new.circuit ≡ s.circuit → new.states ≡ s.states → (w : ℕ) → IsKnown s w → IsKnown new w
-known_along s new circuit states w (inl input) =
-    inl (let P : Netlist → Type 0 = λ x. w < input_wires x in subst P (sym circuit) input)
-known_along s new circuit states w (inr (j, by, f)) =
-    let P : Netlist → Type 0 = λ x. IsSetBy x w j in
-    inr (
-      j,
-      subst P (sym circuit) by,
-      record { label = f.label; rows = f.rows; at = ap (λ l. slice_get l j) states ∙ f.at },
-    )
-
--- one more tally
-pub tally_keeps : (c : Netlist) (seed : List ℕ) (r : ℕ) (t : Tables) → IsKept c seed r t → t.tallies + 1 ≤ MAX_TALLIES
-    → IsKept c seed r (record t { tallies = t.tallies + 1 })
-tally_keeps c seed r t kept few = record {
-  lawful = record {
-    circuit = kept.lawful.circuit;
-    states = kept.lawful.states;
-    finished = kept.lawful.finished;
-    reads = λ i g state at has busy.
-        EachRead-map (IsKnown (content_of c seed t))
-        (IsKnown (content_of c seed (record t { tallies = t.tallies + 1 }))) g.operation
-        (known_along (content_of c seed t) (content_of c seed (record t { tallies = t.tallies + 1 })) refl refl)
-        (kept.lawful.reads i g state at has busy);
-    rows = kept.lawful.rows;
-    tallies = few;
-  };
-  offset_is = kept.offset_is;
-  marks = kept.marks;
-  known = kept.known;
-  tells_known = λ w. (
-    λ is. known_along (content_of c seed t)
-        (content_of c seed (record t { tallies = t.tallies + 1 })) refl refl w ((kept.tells_known w).0 is),
-    λ known. (kept.tells_known w).1 (known_along (content_of c seed (record t { tallies = t.tallies + 1 }))
-        (content_of c seed t) refl refl w known),
-  );
-  zero_labels = kept.zero_labels;
-  and_numbers = kept.and_numbers;
-  rows = kept.rows;
-  finished = kept.finished;
-  first_free = kept.first_free;
-  none_free = kept.none_free;
-}
-
--- the first free gate found anew
-pub first_free_keeps : (c : Netlist) (seed : List ℕ) (r : ℕ) (t : Tables) (n : ℕ) → IsKept c seed r t → n ≤ length t.marks
-    → ((i : ℕ) → t.first_free ≤ i → i < n → slice_get t.marks i ≢ Some mark.Free)
-    → IsKept c seed r (record t { first_free = n })
-first_free_keeps c seed r t n kept bound taken = record {
-  lawful = kept.lawful;
-  offset_is = kept.offset_is;
-  marks = kept.marks;
-  known = kept.known;
-  tells_known = kept.tells_known;
-  zero_labels = kept.zero_labels;
-  and_numbers = kept.and_numbers;
-  rows = kept.rows;
-  finished = kept.finished;
-  first_free = let e = kept.marks in omega arith;
-  none_free = λ i below free. by_order i below free (order i);
-}
-  where
-    order : (i : ℕ) → (i < t.first_free) ⊎ (t.first_free ≤ i)
-    order i = grind arith
-
-    by_order : (i : ℕ) → i < n → slice_get t.marks i ≡ Some mark.Free → (i < t.first_free) ⊎ (t.first_free ≤ i) → ⊥
-    by_order i below free (inl before) = kept.none_free i before free
-    by_order i below free (inr later) = taken i later below free
-
 -- ---- reading the tables
 
 -- the table has the zero label of a wire that is known
@@ -124,7 +51,7 @@ pub known_label_is : (c : Netlist) (seed : List ℕ) (r : ℕ) (t : Tables) → 
     → IsKnown (content_of c seed t) w → get_or t.zero_labels w 0 ≡ zero_label_of c seed w
 known_label_is c seed r t kept w below known =
     ap (λ l. get_or l w 0) kept.zero_labels
-    ∙ get_or-map-range_with_len (known_label c seed t.known) 0 c.wires w w 0 below (omega arith)
+    ∙ get_or-map-range_with_len (known_label c seed kept.known) 0 c.wires w w 0 below (omega arith)
     ∙ ap (λ b. if b then zero_label_of c seed w else 0) ((kept.tells_known w).1 known)
 
 EachRead-both : (P Q R : ℕ → Type 0) (op : Operation) → ((w : ℕ) → P w → Q w → R w) → EachRead P op
@@ -224,56 +151,100 @@ module _ (c : Netlist) (seed : List ℕ) (r : ℕ) (t : Tables) (kept : IsKept c
     λ claimed. claimed_back m (let by = state_by m read in cc),
   )
 
--- no gate before the first free one may go next
-pub none_before : (c : Netlist) (seed : List ℕ) (r : ℕ) (t : Tables) (now : Content)
-    → content_of c seed t ≡ now → IsKept c seed r t → (i : ℕ)
-    → i < t.first_free → ¬ MayGoNext now i
-none_before c seed r t now same kept i below next =
-    let P : Content → Type 0 = λ x. MayGoNext x i in
-    let here = subst P (sym same) next in
-    let within = slice_get_within c.gates i here.gate here.at in
-    let inside : i < length t.marks = (let e = kept.marks in omega arith) in
-    let at = slice_get-get_or t.marks i mark.Free inside in
-    let free = (mark_free c seed r t kept i within (get_or t.marks i mark.Free)
-    (get_or_default t.marks i mark.Free (get_or t.marks i mark.Free) inside)).1 here.free in
-    kept.none_free i below (at ∙ ap Some free)
+-- ---- which gates may go next
 
--- a gate may go next where it is free and the wires that it reads are known
-pub may_go : (c : Netlist) (seed : List ℕ) (r : ℕ) (t : Tables) (now : Content) (i : ℕ) (m : Mark)
-    (g : Gate) (known : List Bool) → content_of c seed t ≡ now
-    → IsKept c seed r t → m ≡ get_or t.marks i m → slice_get c.gates i ≡ Some g → known ≡ t.known
-    → ((m ≡ mark.Free) × EachRead (λ w. IsTrue (get_or known w false)) g.operation) ↔ MayGoNext now i
-may_go c seed r t now i m g known same kept read at table =
-    let within = slice_get_within c.gates i g at in
-    let P : Content → Type 0 = λ x. MayGoNext x i in
-    let tells : (w : ℕ) → IsTrue (get_or known w false) ↔ IsKnown (content_of c seed t) w = λ w. (
-      λ is. (kept.tells_known w).0 (ap (λ l. get_or l w false) (sym table) ∙ is),
-      λ is. ap (λ l. get_or l w false) table ∙ (kept.tells_known w).1 is,
-    ) in (
-      λ h. subst P same (record {
-        gate = g;
-        at = at;
-        free = (mark_free c seed r t kept i within m read).0 h.0;
-        reads = EachRead-map (λ w. IsTrue (get_or known w false))
-            (IsKnown (content_of c seed t)) g.operation (λ w. (tells w).0) h.1;
-      }),
-      λ next.
-          let here = subst P (sym same) next in
-          let gates : here.gate ≡ g = (let a = here.at in cc) in
-          let Q : Gate → Type 0 = λ x. EachRead (IsKnown (content_of c seed t)) x.operation in (
-            (mark_free c seed r t kept i within m read).1 here.free,
-            EachRead-map (IsKnown (content_of c seed t)) (λ w. IsTrue (get_or known w false)) g.operation
-                (λ w. (tells w).1) (subst Q gates here.reads),
-          ),
+known_counts : (known : ℕ → Bool) (w : ℕ) → IsTrue (known w) → unknown known (Some w) ≡ 0
+known_counts known w is = ap {B = ℕ} (λ b. if b then 0 else 1) is
+
+counts_known : (known : ℕ → Bool) (w : ℕ) → unknown known (Some w) ≡ 0 → IsTrue (known w)
+counts_known known w none = by_test (known w) refl
+  where
+    by_test : (b : Bool) → known w ≡ b → known w ≡ true
+    by_test true is = is
+    by_test false is = let one = ap {B = ℕ} (λ b. if b then 0 else 1) is in absurd (omega (arith, one, none))
+
+-- no read is unknown where each is known,
+none_unknown : (known : ℕ → Bool) (op : Operation) → EachRead (λ w. IsTrue (known w)) op → unknown_reads known op ≡ 0
+none_unknown known (Xor a b) each =
+    let first = known_counts known a each.0 in let second = known_counts known b each.1 in omega (arith, first, second)
+none_unknown known (And a b) each =
+    let first = known_counts known a each.0 in let second = known_counts known b each.1 in omega (arith, first, second)
+none_unknown known (Inv a) each = let first = known_counts known a each in omega (arith, first)
+none_unknown known (Eq v) each = omega arith
+none_unknown known (Eqw a) each = let first = known_counts known a each in omega (arith, first)
+
+-- and only there
+each_known : (known : ℕ → Bool) (op : Operation) → unknown_reads known op ≡ 0 → EachRead (λ w. IsTrue (known w)) op
+each_known known (Xor a b) none = (counts_known known a (omega (arith, none)), counts_known known b (omega (arith, none)))
+each_known known (And a b) none = (counts_known known a (omega (arith, none)), counts_known known b (omega (arith, none)))
+each_known known (Inv a) none = counts_known known a (omega (arith, none))
+each_known known (Eq v) none = tt
+each_known known (Eqw a) none = counts_known known a (omega (arith, none))
+
+-- the marks and countdowns among the tables
+abbrev pub queue_of : Tables → Standing
+queue_of t = record { marks = t.marks; countdowns = t.countdowns }
+
+-- a gate may go next where it is ready,
+pub ready_may_go : (c : Netlist) (seed : List ℕ) (r : ℕ) (t : Tables) → IsKept c seed r t → (i : ℕ)
+    → IsReady (queue_of t) i → MayGoNext (content_of c seed t) i
+ready_may_go c seed r t kept i ready =
+    let within : i < length c.gates =
+    (let w = slice_get_within t.marks i mark.Free ready.0 in let e = kept.marks in omega (arith, w, e)) in
+    let g : Gate = get_or c.gates i (record { operation = Eq false; set = 0 }) in
+    let at = slice_get-get_or c.gates i (record { operation = Eq false; set = 0 }) within in
+    let none = kept.counted i g at in
+    let zero_at = get_or_from_slice_get t.countdowns i 0 0 ready.1 in
+    record {
+      gate = g;
+      at = at;
+      free = (mark_free c seed r t kept i within mark.Free
+          (sym (get_or_from_slice_get t.marks i mark.Free mark.Free ready.0))).0 refl;
+      reads = EachRead-map (λ w. IsTrue (kept.known w)) (IsKnown (content_of c seed t)) g.operation
+          (λ w. (kept.tells_known w).0) (each_known kept.known g.operation (omega (arith, none, zero_at)));
+    }
+
+-- and only there
+pub may_go_ready : (c : Netlist) (seed : List ℕ) (r : ℕ) (t : Tables) → IsKept c seed r t → (i : ℕ)
+    → MayGoNext (content_of c seed t) i → IsReady (queue_of t) i
+may_go_ready c seed r t kept i next =
+    let within = slice_get_within c.gates i next.gate next.at in
+    let inside : i < length t.marks = (let e = kept.marks in omega (arith, within, e)) in
+    let counted : i < length t.countdowns = (let e = kept.countdowns in omega (arith, within, e)) in
+    let read = get_or_default t.marks i mark.Free (get_or t.marks i mark.Free) inside in
+    let free = (mark_free c seed r t kept i within (get_or t.marks i mark.Free) read).1 next.free in
+    let none = none_unknown kept.known next.gate.operation
+    (EachRead-map (IsKnown (content_of c seed t)) (λ w. IsTrue (kept.known w)) next.gate.operation
+    (λ w. (kept.tells_known w).1) next.reads) in (
+      slice_get-get_or t.marks i mark.Free inside ∙ ap Some free,
+      slice_get-get_or t.countdowns i 0 counted
+          ∙ ap Some (kept.counted i next.gate next.at ∙ none),
     )
 
 -- a claimed gate has a claimed mark
-pub claimed_is : (c : Netlist) (seed : List ℕ) (r : ℕ) (t : Tables) (now : Content) (i : ℕ) (m : Mark)
+pub claimed_is : (c : Netlist) (seed : List ℕ) (r : ℕ) (t : Tables) (now : Content) (i : ℕ)
     → content_of c seed t ≡ now → IsKept c seed r t
-    → i < length c.gates → m ≡ get_or t.marks i m → (m ≡ mark.Claimed) ↔ IsClaimed now i
-claimed_is c seed r t now i m same kept within read =
-    let P : Content → Type 0 = λ x. (m ≡ mark.Claimed) ↔ IsClaimed x i in
-    subst P same (mark_claimed c seed r t kept i within m read)
+    → (slice_get t.marks i ≡ Some mark.Claimed) ↔ IsClaimed now i
+claimed_is c seed r t now i same kept =
+    let P : Content → Type 0 = λ x. (slice_get t.marks i ≡ Some mark.Claimed) ↔ IsClaimed x i in
+    subst P same (to, back)
+  where
+    to : slice_get t.marks i ≡ Some mark.Claimed → IsClaimed (content_of c seed t) i
+    to at =
+        let within : i < length c.gates =
+        (let w = slice_get_within t.marks i mark.Claimed at in let e = kept.marks in omega (arith, w, e)) in
+        (mark_claimed c seed r t kept i within mark.Claimed
+        (sym (get_or_from_slice_get t.marks i mark.Claimed mark.Claimed at))).0 refl
+
+    back : IsClaimed (content_of c seed t) i → slice_get t.marks i ≡ Some mark.Claimed
+    back claimed =
+        let within : i < length c.gates =
+        (let w = slice_get_within (content_of c seed t).states i Claimed claimed in
+        let e = kept.lawful.states in omega (arith, w, e)) in
+        let inside : i < length t.marks = (let e = kept.marks in omega (arith, within, e)) in
+        let read = get_or_default t.marks i mark.Free (get_or t.marks i mark.Free) inside in
+        slice_get-get_or t.marks i mark.Free inside
+        ∙ ap Some ((mark_claimed c seed r t kept i within (get_or t.marks i mark.Free) read).1 claimed)
 
 -- a gate that there isn't is not claimed
 pub not_claimed : (c : Netlist) (seed : List ℕ) (r : ℕ) (t : Tables) (now : Content) (i : ℕ)
@@ -304,24 +275,32 @@ pub reads_within : (c : Netlist) (seed : List ℕ) (r : ℕ) (t : Tables) (i : �
     → IsKept c seed r t → slice_get c.gates i ≡ Some g
     → length labels ≡ length t.zero_labels → EachRead (λ w. w < length labels) g.operation
 reads_within c seed r t i g labels kept at len =
-    let count = ap length kept.zero_labels ∙ length-map-range_with_len (known_label c seed t.known) 0 c.wires in
+    let count = ap length kept.zero_labels ∙ length-map-range_with_len (known_label c seed kept.known) 0 c.wires in
     EachRead-map (λ w. w < c.wires) (λ w. w < length labels) g.operation (λ w below. omega (arith, len, count, below))
     (EachRead-below c kept.lawful.circuit i g at)
 
 -- ---- keeping a sealed task
 
 -- the tables once a sealed task is kept: they keep what they kept, and hold the content that finishing it gives
-pub record KeepsSealed (c : Netlist) (seed : List ℕ) (r : ℕ) (t : Tables) (now : Content)
+pub record KeepsSealed (c : Netlist) (seed : List ℕ) (r : ℕ) (t : Tables) (now : Content) (q : Standing)
     (task sealed : Task) (g : Gate) (label : ℕ) (pair : Option RowPair) : Type 0 where
-  pub keeps : IsKept c seed r (finished_tables t task.gate g.set task.and_number label pair)
-  pub content : content_of c seed (finished_tables t task.gate g.set task.and_number label pair) ≡ with_sealed now sealed
+  pub keeps : IsKept c seed r (finished_tables t q g.set task.and_number label pair)
+  pub content : content_of c seed (finished_tables t q g.set task.and_number label pair) ≡ with_sealed now sealed
 
-pub keep_sealed : (c : Netlist) (seed : List ℕ) (r : ℕ) (t : Tables) (now : Content) (task sealed : Task)
+-- the queue once gate i, which sets wire w, is finished: the gates that read w were counted down
+pub record IsFinishedQueue (c : Netlist) (t : Tables) (i w : ℕ) (q : Standing) : Type 0 where
+  pub marks : q.marks ≡ set t.marks i mark.Finished
+  pub countdowns : length q.countdowns ≡ length t.countdowns
+  pub counted : (j : ℕ) (h : Gate) → slice_get c.gates j ≡ Some h
+      → get_or q.countdowns j 0 + reads_of w h.operation ≡ get_or t.countdowns j 0
+
+pub keep_sealed : (c : Netlist) (seed : List ℕ) (r : ℕ) (t : Tables) (now : Content) (q : Standing) (task sealed : Task)
     (g : Gate) (label : ℕ) (pair : Option RowPair)
     → content_of c seed t ≡ now → IsKept c seed r t → task ≡ sealed → IsClaimed now sealed.gate
     → IsOwnTask now sealed → slice_get c.gates task.gate ≡ Some g
-    → label ≡ sealed_zero_label sealed → pair ≡ sealed_rows sealed → KeepsSealed c seed r t now task sealed g label pair
-keep_sealed c seed r t now task sealed g label pair same kept told claimed owned at label_is pair_is =
+    → IsFinishedQueue c t task.gate g.set q
+    → label ≡ sealed_zero_label sealed → pair ≡ sealed_rows sealed → KeepsSealed c seed r t now q task sealed g label pair
+keep_sealed c seed r t now q task sealed g label pair same kept told claimed owned at queue label_is pair_is =
     let P : Content → Type 0 = λ x. IsClaimed x sealed.gate in
     let Q : Content → Type 0 = λ x. IsOwnTask x sealed in
     let claimed' = subst P (sym same) claimed in
@@ -330,19 +309,25 @@ keep_sealed c seed r t now task sealed g label pair same kept told claimed owned
     let gates : own'.gate ≡ g = (let a = own'.at in cc) in
     let is : sealed ≡ task_of c seed sealed.gate g = own'.same ∙ ap (task_of c seed sealed.gate) gates in
     let i : ℕ = sealed.gate in
-    let R : Task → Type 0 = λ x. KeepsSealed c seed r t (content_of c seed t) (record x { gate = i })
+    let p : Standing = finished_queue t i q.countdowns in
+    let R : Task → Type 0 = λ x. KeepsSealed c seed r t (content_of c seed t) p (record x { gate = i })
     (record x { gate = i }) g (sealed_zero_label x) (sealed_rows x) in
     let made : R (task_of c seed i g) = record {
-      keeps = finish_keeps c seed r t kept i g at' claimed';
-      content = content-finish c seed r t kept i g at' claimed';
+      keeps = finish_keeps c seed r t kept i g at' claimed' q.countdowns queue.countdowns queue.counted;
+      content = content-finish c seed r t kept i g at' claimed' q.countdowns;
     } in
-    let S : Content → Type 0 = λ x. KeepsSealed c seed r t x sealed sealed g (sealed_zero_label sealed)
+    let S : Content → Type 0 = λ x. KeepsSealed c seed r t x p sealed sealed g (sealed_zero_label sealed)
     (sealed_rows sealed) in
     let there : S now = subst S same (subst R (sym is) made) in
-    let T : Task → Type 0 = λ x. KeepsSealed c seed r t now x sealed g (sealed_zero_label sealed) (sealed_rows sealed) in
-    let U : ℕ → Type 0 = λ x. KeepsSealed c seed r t now task sealed g x (sealed_rows sealed) in
-    let V : Option RowPair → Type 0 = λ x. KeepsSealed c seed r t now task sealed g label x in
-    subst V (sym pair_is) (subst U (sym label_is) (subst T (sym told) there))
+    let marks : q.marks ≡ set t.marks i mark.Finished =
+    queue.marks ∙ ap (λ (x : Task). set t.marks x.gate mark.Finished) told in
+    let W : List Mark → Type 0 = λ x. KeepsSealed c seed r t now (record { marks = x; countdowns = q.countdowns })
+    sealed sealed g (sealed_zero_label sealed) (sealed_rows sealed) in
+    let queued : W q.marks = subst W (sym marks) there in
+    let T : Task → Type 0 = λ x. KeepsSealed c seed r t now q x sealed g (sealed_zero_label sealed) (sealed_rows sealed) in
+    let U : ℕ → Type 0 = λ x. KeepsSealed c seed r t now q task sealed g x (sealed_rows sealed) in
+    let V : Option RowPair → Type 0 = λ x. KeepsSealed c seed r t now q task sealed g label x in
+    subst V (sym pair_is) (subst U (sym label_is) (subst T (sym told) queued))
 
 -- an AND gate's number is a place of the table of rows
 pub number_within : (c : Netlist) (seed : List ℕ) (r : ℕ) (t : Tables) (now : Content) (task sealed : Task)
@@ -358,35 +343,100 @@ number_within c seed r t now task sealed pair same kept told owned pair_is =
     let number = ap (λ (x : Task). x.and_number) told ∙ ap (λ (x : Task). x.and_number) own'.same in
     let count = kept.rows in omega (arith, less, number, count)
 
+-- the queue once the gate is marked as finished, and the gates that read its wire are counted down
+pub finished_queue_is : (c : Netlist) (t : Tables) (i w : ℕ) (marked q : Standing)
+    → marked ≡ with_mark (queue_of t) i mark.Finished
+    → q.marks ≡ marked.marks → length q.countdowns ≡ length marked.countdowns
+    → ((j : ℕ) (h : Gate) → slice_get c.gates j ≡ Some h
+    → get_or q.countdowns j 0 + reads_of w h.operation ≡ get_or marked.countdowns j 0)
+    → IsFinishedQueue c t i w q
+finished_queue_is c t i w marked q is marks count counted = record {
+  marks = marks ∙ ap (λ (x : Standing). x.marks) is;
+  countdowns = count ∙ ap (λ (x : Standing). length x.countdowns) is;
+  counted = λ j h at. counted j h at ∙ ap (λ (x : Standing). get_or x.countdowns j 0) is;
+}
+
+module _ (c : Netlist) (seed : List ℕ) (r : ℕ) (t : Tables) (now : Content) (same : content_of c seed t ≡ now)
+    (kept : IsKept c seed r t) (task sealed : Task) (told : task ≡ sealed) (claimed : IsClaimed now sealed.gate) where
+  -- the task's gate has a claimed mark
+  pub claimed_mark : slice_get t.marks task.gate ≡ Some mark.Claimed
+  claimed_mark =
+      let P : Task → Type 0 = λ x. slice_get t.marks x.gate ≡ Some mark.Claimed in
+      subst P (sym told) ((claimed_is c seed r t now sealed.gate same kept).1 claimed)
+
+  -- and no countdown is less than its gate's reads of the wire that the task's gate sets
+  pub counts_fit : (g : Gate) (marked : Standing) → slice_get c.gates task.gate ≡ Some g
+      → marked ≡ with_mark (queue_of t) task.gate mark.Finished → (j : ℕ) (h : Gate) → slice_get c.gates j ≡ Some h
+      → reads_of g.set h.operation ≤ get_or marked.countdowns j 0
+  counts_fit g marked at is j h at_j =
+      let P : Content → Type 0 = λ x. IsClaimed x task.gate in
+      let here = (claimed_is c seed r t now task.gate same kept).0 claimed_mark in
+      let fits = counts_set c seed r t kept task.gate g at (subst P (sym same) here) t.countdowns j h at_j in
+      let Q : Standing → Type 0 = λ x. reads_of g.set h.operation ≤ get_or x.countdowns j 0 in
+      subst Q (sym is) fits
+
 -- ---- claiming, as the store does it
 
-pub claims : (c : Netlist) (seed : List ℕ) (r : ℕ) (t : Tables) (now : Content) (task : Task)
-    → content_of c seed t ≡ now → IsKept c seed r t
-    → MayGoNext (content_of c seed t) task.gate → IsOwnTask (content_of c seed t) task
-    → Claims now (Some task) (content_of c seed (claimed_tables t task.gate))
-claims c seed r t now task same kept next owned =
-    let P : Content → Type 0 = λ x. Claims x (Some task) (content_of c seed (claimed_tables t task.gate)) in
-    subst P same (next, owned, content-claim c seed r t kept task.gate next)
+-- the tables with another queue
+abbrev pub with_queue : Tables → Standing → Tables
+with_queue t q = record t { marks = q.marks; countdowns = q.countdowns }
 
-pub claims_none : (s now : Content) (task : Option Task) → task ≡ None → s ≡ now
-    → ((i : ℕ) → ¬ MayGoNext s i) → Claims now task s
-claims_none s now None is same none = let P : (i : ℕ) → Content → Type 0 = λ i x. MayGoNext x i in
-    (λ i next. none i (subst (P i) (sym same) next), same)
-claims_none s now (Some task) is same none = cc
+module _ (c : Netlist) (seed : List ℕ) (r : ℕ) (t : Tables) (now : Content) (q : Standing)
+    (same : content_of c seed t ≡ now) (kept : IsKept c seed r t) where
+  module _ (i : ℕ) (takes : Takes (queue_of t) (Some i) q) where
+    next : MayGoNext (content_of c seed t) i
+    next = ready_may_go c seed r t kept i takes.0
+
+    -- a ready gate that was taken is claimed,
+    pub take_keeps : IsKept c seed r (with_queue t q)
+    take_keeps =
+        let P : Standing → Type 0 = λ x. IsKept c seed r (with_queue t x) in
+        subst P (sym takes.1) (claim_keeps c seed r t kept i next)
+
+    taken : content_of c seed (with_queue t q) ≡ with_state (content_of c seed t) i Claimed
+    taken =
+        let P : Standing → Type 0 =
+        λ x. content_of c seed (with_queue t x) ≡ with_state (content_of c seed t) i Claimed in
+        subst P (sym takes.1) (content-claim c seed r t kept i next)
+
+    -- reads known wires alone,
+    pub taken_reads : ReadsKnown (content_of c seed (with_queue t q)) i
+    taken_reads =
+        let P : Content → Type 0 = λ x. ReadsKnown x i in
+        subst P (sym taken) (record {
+          gate = next.gate;
+          at = next.at;
+          reads = EachRead-map (IsKnown (content_of c seed t)) (IsKnown (with_state (content_of c seed t) i Claimed))
+              next.gate.operation (known-claim (content_of c seed t) i next) next.reads;
+        })
+
+    -- and so it is a claim
+    pub claims : (task : Task) → task.gate ≡ i → IsOwnTask (content_of c seed (with_queue t q)) task
+        → Claims now (Some task) (content_of c seed (with_queue t q))
+    claims task gate owned =
+        let P : ℕ → Type 0 = MayGoNext (content_of c seed t) in
+        let Q : ℕ → Type 0 =
+        λ x. content_of c seed (with_queue t q) ≡ with_state (content_of c seed t) x Claimed in
+        let R : Content → Type 0 = λ x. Claims x (Some task) (content_of c seed (with_queue t q)) in
+        subst R same (
+          subst P (sym gate) next,
+          record { gate = owned.gate; at = owned.at; same = owned.same },
+          subst Q (sym gate) taken,
+        )
+
+  pub claims_none : (task : Option Task) → task ≡ None → Takes (queue_of t) None q
+      → Claims now task (content_of c seed (with_queue t q))
+  claims_none None is takes =
+      let P : (i : ℕ) → Content → Type 0 = λ i x. MayGoNext x i in (
+        λ i next. takes.0 i (may_go_ready c seed r t kept i (subst (P i) (sym same) next)),
+        ap (λ x. content_of c seed (with_queue t x)) takes.1 ∙ same,
+      )
+  claims_none (Some task) is takes = cc
 
 -- the wire that the task's gate sets has a label
 pub set_within : (c : Netlist) (seed : List ℕ) (r : ℕ) (t : Tables) (i : ℕ) (g : Gate) → IsKept c seed r t
     → slice_get c.gates i ≡ Some g
     → g.set < length t.zero_labels
 set_within c seed r t i g kept at =
-    let count = ap length kept.zero_labels ∙ length-map-range_with_len (known_label c seed t.known) 0 c.wires in
+    let count = ap length kept.zero_labels ∙ length-map-range_with_len (known_label c seed kept.known) 0 c.wires in
     let below = kept.lawful.circuit.sets i g at in omega (arith, count, below)
-
--- a gate that may go next has a free mark
-pub mark_is_free : (c : Netlist) (seed : List ℕ) (r : ℕ) (t : Tables) (now : Content) (i : ℕ) (m : Mark)
-    → content_of c seed t ≡ now → IsKept c seed r t
-    → m ≡ get_or t.marks i m → MayGoNext now i → m ≡ mark.Free
-mark_is_free c seed r t now i m same kept read next =
-    let P : Content → Type 0 = λ x. MayGoNext x i in
-    let here = subst P (sym same) next in
-    (mark_free c seed r t kept i (slice_get_within c.gates i here.gate here.at) m read).1 here.free

@@ -1,34 +1,31 @@
 -- What claiming and finishing a gate keeps, on the tables of a store.
-use Rattle.std.proofs.Common.{◌≡◌, ◌≢◌, ℕ, zero, suc, ◌+◌, ◌*◌, ◌<◌, ◌≤◌, ◌⊎◌, ◌↔◌, ◌==◌, inl, inr, IsTrue, List, length, length-set, map, set, get_or, slice_get, slice_set, slice_index, slice_index_or, Option, Some, None, is_some, Bool, true, false, if◌then◌else◌, count_by, refl, sym, ap, ◌∙◌, subst, arith}
+use Rattle.std.proofs.Common.{◌≡◌, ◌≢◌, ℕ, ◌+◌, ◌*◌, ◌<◌, ◌≤◌, ◌↔◌, ◌==◌, inl, inr, IsTrue, List, length, length-set, map, set, get_or, slice_get, Option, Some, None, is_some, Bool, true, false, if◌then◌else◌, count_by, refl, sym, ap, ◌∙◌, subst, arith}
 use Rattle.std.specs.List.{range_with_len}
 use Rattle.std.proofs.lemmas.Bool.{cases_eq}
 use Rattle.std.proofs.lemmas.Bool.Decides.{nat_tests}
-use Rattle.std.proofs.lemmas.List.{get_or-set_same, get_or-set_other, get_or_read, get_or_default}
-use Rattle.std.proofs.lemmas.List.FromFn.{length-map-range_with_len, get_or-map-range_with_len}
-use Rattle.std.proofs.lemmas.List.Sums.{count_by-le-length}
+use Rattle.std.proofs.lemmas.List.{get_or-set_same, get_or-set_other}
+use Rattle.std.proofs.lemmas.List.FromFn.{length-map-range_with_len}
 use Rattle.std.proofs.lemmas.Option.{slice_get_within, slice_get-get_or}
 use Rattle.gc_circuit.specs.declared.circuit.Operation.{Operation}
 use Rattle.gc_circuit.specs.declared.circuit.Operation.TheVariants.{Xor, And, Inv, Eq, Eqw}
 use Rattle.gc_circuit.specs.declared.circuit.Gate.{Gate}
-use Rattle.gc_circuit.specs.Circuit.{Netlist, input_wires, EachRead, IsSetBy, IsSetBefore, IsLawful, is_and, and_number, and_count}
-use Rattle.gc_circuit.proofs.SolutionLemmas.{EachRead-map}
-use Rattle.gc_circuit.proofs.Tables.{IsSetBefore-below, EachRead-below}
-use Rattle.gc_label.specs.Seed.{offset_of}
+use Rattle.gc_circuit.specs.Circuit.{Netlist, IsLawful, is_and, and_number, and_count}
 use Rattle.gc_half.specs.declared.garbling.RowPair.{RowPair}
 use Rattle.gc_half.specs.Canonical.{zero_label_of}
 use Rattle.gc_store.specs.declared.mark.Mark.{Mark}
 use Rattle.gc_store.specs.declared.mark.Mark.TheVariants as mark
 use Rattle.gc_store.specs.declared.task.Task.{Task}
-use Rattle.gc_store.specs.declared.tally.TheConstants.{MAX_TALLIES}
 use Rattle.gc_half.specs.Hash.{hash}
 use Rattle.gc_half.specs.OneGate.{gate_rows}
 use Rattle.gc_store.specs.Task.{task_of, sealed_zero_label, sealed_rows}
-use Rattle.gc_store.specs.Content.{State, Free, Claimed, Finished, Content, is_finished, has_rows, IsClaimed, IsFinished, IsKnown, MayGoNext, AllFinished, IsLawfulContent}
-use Rattle.gc_store.specs.Step.{with_state, with_sealed, IsOwnTask, Claims}
-use Rattle.gc_store.specs.Kept.{Tables, rows_at, finished_state, state_at, states_of, content_of, IsKept, ReadsKnown}
+use Rattle.gc_store.specs.Queue.{Standing}
+use Rattle.gc_store.specs.Readers.{first_wire, second_wire, is_wire, reads_of, unknown, unknown_reads}
+use Rattle.gc_store.specs.Content.{Free, Claimed, Finished, Content, is_finished, IsClaimed, IsKnown, MayGoNext, IsLawfulContent}
+use Rattle.gc_store.specs.Step.{with_state, with_sealed}
+use Rattle.gc_store.specs.Kept.{Tables, rows_at, finished_state, state_at, states_of, content_of, IsKept}
 use Rattle.gc_store.proofs.ListLemmas.{slice_get-set_other, slice_get-set_same, count_by-set, count_by-set_more, slice_get-table, set-table_is}
 use Rattle.gc_store.proofs.CircuitLemmas.{set-apart, and_number-apart, and_number-lt}
-use Rattle.gc_store.proofs.StepLemmas.{sealed_zero_label_is, known-claim, known-claim_back, claim_lawful, known-finish, known-finish_set, known-finish_back, finish_lawful, all_finished, all_finished_back}
+use Rattle.gc_store.proofs.StepLemmas.{sealed_zero_label_is, known-claim, known-claim_back, claim_lawful, known-finish, known-finish_set, known-finish_back, finish_lawful}
 
 -- ---- the states
 
@@ -68,11 +65,16 @@ abbrev pub ands_set : ℕ → Option RowPair → ℕ
 ands_set n None = n
 ands_set n (Some pair) = n + 1
 
--- the tables once gate i, which sets wire w and has the AND number k, is finished with a label and perhaps a row pair
-abbrev pub finished_tables : Tables → ℕ → ℕ → ℕ → ℕ → Option RowPair → Tables
-finished_tables t i w k label pair = record t {
-  marks = set t.marks i mark.Finished;
-  known = set t.known w true;
+-- the marks and countdowns once gate i is finished
+abbrev pub finished_queue : Tables → ℕ → List ℕ → Standing
+finished_queue t i countdowns = record { marks = set t.marks i mark.Finished; countdowns = countdowns }
+
+-- the tables with these marks and countdowns, once a gate that sets wire w and has the AND number k is finished with a
+-- label and perhaps a row pair
+abbrev pub finished_tables : Tables → Standing → ℕ → ℕ → ℕ → Option RowPair → Tables
+finished_tables t q w k label pair = record t {
+  marks = q.marks;
+  countdowns = q.countdowns;
   zero_labels = set t.zero_labels w label;
   rows = rows_set t.rows k pair;
   finished = t.finished + 1;
@@ -112,7 +114,7 @@ module _ (c : Netlist) (lawful : IsLawful c) (t : Tables) (i : ℕ) (g : Gate) (
     (row_count : length t.rows ≡ and_count c)
     (label : ℕ) (pair : Option RowPair) (and_alone : is_some pair ≡ is_and g.operation) where
   abbrev after : Tables
-  after = finished_tables t i g.set (and_number c i) label pair
+  after = finished_tables t (finished_queue t i t.countdowns) g.set (and_number c i) label pair
 
   within : i < length c.gates
   within = slice_get_within c.gates i g at
@@ -178,28 +180,20 @@ module _ (c : Netlist) (seed : List ℕ) (r : ℕ) (t : Tables) (kept : IsKept c
   pub content-claim : content_of c seed (claimed_tables t i) ≡ with_state (content_of c seed t) i Claimed
   content-claim = ap (λ states. record s { states = states }) states-claim
 
-  none_free-claim : (j : ℕ) → j < t.first_free → slice_get (set t.marks i mark.Claimed) j ≢ Some mark.Free
-  none_free-claim j below free =
-      elim (cases_eq j i) [
-        | inl e ↦
-            let inside : i < length t.marks = (let m = kept.marks in let w = within_gates in omega arith) in
-            let here = slice_get-set_same t.marks i mark.Claimed inside in
-            let same = ap (slice_get (set t.marks i mark.Claimed)) e in
-            let differ : Some mark.Claimed ≡ Some mark.Free = cc in cc
-        | inr other ↦ kept.none_free j below (sym (slice_get-set_other t.marks i j mark.Claimed other) ∙ free)
-      ]
-
   -- claiming keeps what the tables keep
   pub claim_keeps : IsKept c seed r (claimed_tables t i)
   claim_keeps = record {
     lawful = subst IsLawfulContent (sym content-claim) (claim_lawful s i next kept.lawful);
     offset_is = kept.offset_is;
     marks = length-set t.marks i mark.Claimed ∙ kept.marks;
+    links = kept.links;
     known = kept.known;
     tells_known = λ w. (
       λ is. subst (λ x. IsKnown x w) (sym content-claim) (known-claim s i next w ((kept.tells_known w).0 is)),
       λ known. (kept.tells_known w).1 (known-claim_back s i next w (subst (λ x. IsKnown x w) content-claim known)),
     );
+    countdowns = kept.countdowns;
+    counted = kept.counted;
     zero_labels = kept.zero_labels;
     and_numbers = kept.and_numbers;
     rows = kept.rows;
@@ -207,15 +201,50 @@ module _ (c : Netlist) (seed : List ℕ) (r : ℕ) (t : Tables) (kept : IsKept c
         ∙ sym (count_by-set is_finished
         (states_of c t.zero_labels t.rows t.marks) i Free Claimed next.free refl)
         ∙ ap (count_by is_finished) (sym states-claim);
-    first_free = kept.first_free;
-    none_free = none_free-claim;
   }
 
 -- ---- finishing
 
 -- the zero label that a table has, where it is known
-abbrev pub known_label : Netlist → List ℕ → List Bool → ℕ → ℕ
-known_label c seed known w = if slice_index_or known w false then zero_label_of c seed w else 0
+abbrev pub known_label : Netlist → List ℕ → (ℕ → Bool) → ℕ → ℕ
+known_label c seed known w = if known w then zero_label_of c seed w else 0
+
+-- what is known once wire w is, too
+abbrev pub with_known : (ℕ → Bool) → ℕ → ℕ → Bool
+with_known known w v = if v == w then true else known v
+
+with_known-same : (known : ℕ → Bool) (v w : ℕ) → v ≡ w → with_known known w v ≡ true
+with_known-same known v w same =
+    let is : (v == w) ≡ true = grind (arith, nat_tests) in ap (λ b. if b then true else known v) is
+
+with_known-other : (known : ℕ → Bool) (v w : ℕ) → v ≢ w → with_known known w v ≡ known v
+with_known-other known v w other =
+    let is : (v == w) ≡ false = grind (arith, nat_tests) in ap (λ b. if b then true else known v) is
+
+-- the reads of a wire that was not known are unknown no more
+unknown-less : (known : ℕ → Bool) (w : ℕ) → known w ≡ false → (o : Option ℕ)
+    → unknown (with_known known w) o + is_wire w o ≡ unknown known o
+unknown-less known w new None = omega arith
+unknown-less known w new (Some v) = elim (cases_eq v w) [
+  | inl same ↦
+      let now = ap {B = ℕ} (λ b. if b then 0 else 1) (with_known-same known v w same) in
+      let was = ap {B = ℕ} (λ b. if b then 0 else 1) (ap known same ∙ new) in
+      let one : (v == w) ≡ true = grind (arith, nat_tests) in
+      let is = ap {B = ℕ} (λ b. if b then 1 else 0) one in
+      omega (arith, now, was, is)
+  | inr other ↦
+      let now = ap {B = ℕ} (λ b. if b then 0 else 1) (with_known-other known v w other) in
+      let none : (v == w) ≡ false = grind (arith, nat_tests) in
+      let is = ap {B = ℕ} (λ b. if b then 1 else 0) none in
+      omega (arith, now, is)
+]
+
+pub unknown_reads-less : (known : ℕ → Bool) (w : ℕ) → known w ≡ false → (op : Operation)
+    → unknown_reads (with_known known w) op + reads_of w op ≡ unknown_reads known op
+unknown_reads-less known w new op =
+    let first = unknown-less known w new (first_wire op) in
+    let second = unknown-less known w new (second_wire op) in
+    omega (arith, first, second)
 
 -- two rows for a row pair
 two_rows : (r k a b n : ℕ) (op : Operation) →
@@ -228,7 +257,7 @@ two_rows r k a b n (Eqw u) = omega arith
 
 module _ (c : Netlist) (seed : List ℕ) (r : ℕ) (t : Tables) (kept : IsKept c seed r t) (i : ℕ) (g : Gate)
     (at : slice_get c.gates i ≡ Some g)
-    (claimed : IsClaimed (content_of c seed t) i) where
+    (claimed : IsClaimed (content_of c seed t) i) (countdowns : List ℕ) where
   abbrev s' : Content
   s' = content_of c seed t
 
@@ -237,11 +266,11 @@ module _ (c : Netlist) (seed : List ℕ) (r : ℕ) (t : Tables) (kept : IsKept c
 
   -- the tables once gate i is finished with what sealing its task gives
   abbrev pub sealed_tables : Tables
-  sealed_tables = finished_tables t i g.set (and_number c i) (sealed_zero_label (task_of c seed i g))
+  sealed_tables = finished_tables t (finished_queue t i countdowns) g.set (and_number c i) (sealed_zero_label (task_of c seed i g))
       (sealed_rows (task_of c seed i g))
 
   label_count : length t.zero_labels ≡ c.wires
-  label_count = ap length kept.zero_labels ∙ length-map-range_with_len (known_label c seed t.known) 0 c.wires
+  label_count = ap length kept.zero_labels ∙ length-map-range_with_len (known_label c seed kept.known) 0 c.wires
 
   states-finish : states_of c sealed_tables.zero_labels sealed_tables.rows sealed_tables.marks ≡ set
       (states_of c t.zero_labels t.rows t.marks) i (Finished (sealed_zero_label own) (sealed_rows own))
@@ -252,7 +281,7 @@ module _ (c : Netlist) (seed : List ℕ) (r : ℕ) (t : Tables) (kept : IsKept c
 
   -- the content once gate i is finished
   pub content-finish : content_of c seed
-      (finished_tables t i g.set (and_number c i) (sealed_zero_label (task_of c seed i g))
+      (finished_tables t (finished_queue t i countdowns) g.set (and_number c i) (sealed_zero_label (task_of c seed i g))
       (sealed_rows (task_of c seed i g)))
       ≡ with_sealed (content_of c seed t) (task_of c seed i g)
   content-finish =
@@ -264,64 +293,74 @@ module _ (c : Netlist) (seed : List ℕ) (r : ℕ) (t : Tables) (kept : IsKept c
       })
       (two_rows _ _ _ _ t.finished_ands g.operation)
 
-  known_within : g.set < length t.known
-  known_within = let e = kept.known in let l = kept.lawful.circuit.sets i g at in omega arith
+  abbrev known' : ℕ → Bool
+  known' = with_known kept.known g.set
 
-  tells_known-finish : (w : ℕ) → IsTrue (get_or (set t.known g.set true) w false) ↔ IsKnown (with_sealed s' own) w
+  tells_known-finish : (w : ℕ) → IsTrue (known' w) ↔ IsKnown (with_sealed s' own) w
   tells_known-finish w =
       elim (cases_eq w g.set) [
         | inl e ↦ (
           λ _. subst (λ x. IsKnown (with_sealed s' own) x) (sym e) (known-finish_set s' kept.lawful i g at claimed),
-          λ _. ap (λ x. get_or (set t.known g.set true) x false) e
-              ∙ get_or-set_same t.known g.set true false known_within,
+          λ _. with_known-same kept.known w g.set e,
         )
         | inr other ↦ (
           λ is. known-finish s' kept.lawful i g at claimed w
-              ((kept.tells_known w).0 (sym (get_or-set_other t.known g.set w true false other) ∙ is)),
-          λ known. get_or-set_other t.known g.set w true false other
+              ((kept.tells_known w).0 (sym (with_known-other kept.known w g.set other) ∙ is)),
+          λ known. with_known-other kept.known w g.set other
               ∙ (kept.tells_known w).1 (known-finish_back s' kept.lawful i g at claimed w other known),
         )
       ]
 
+  -- the wire that a claimed gate sets is not known
+  pub set_unknown : kept.known g.set ≡ false
+  set_unknown = by_test (kept.known g.set) refl
+    where
+      no : IsKnown (content_of c seed t) g.set → ⊥
+      no (inl input) = kept.lawful.circuit.sets_once i g at (inl input)
+      no (inr (j, by, f)) = elim (cases_eq j i) [
+        | inl same ↦
+            let e = ap (slice_get (content_of c seed t).states) same in let z = f.at in let y = claimed in cc
+        | inr other ↦ set-apart c kept.lawful.circuit j i by.gate g by.at at other by.wire
+      ]
+
+      by_test : (b : Bool) → kept.known g.set ≡ b → kept.known g.set ≡ false
+      by_test true is = absurd (no ((kept.tells_known g.set).0 is))
+      by_test false is = is
+
   zero_labels-finish : set t.zero_labels g.set (sealed_zero_label own) ≡ map
-      (known_label c seed (set t.known g.set true)) (range_with_len 0 c.wires)
+      (known_label c seed known') (range_with_len 0 c.wires)
   zero_labels-finish =
       ap (λ l. set l g.set (sealed_zero_label own)) kept.zero_labels
-      ∙ set-table_is (known_label c seed t.known)
-      (known_label c seed (set t.known g.set true)) c.wires g.set (sealed_zero_label own)
+      ∙ set-table_is (known_label c seed kept.known)
+      (known_label c seed known') c.wires g.set (sealed_zero_label own)
       (kept.lawful.circuit.sets i g at)
-      (ap (λ b. if b then zero_label_of c seed g.set else 0) (get_or-set_same t.known g.set true false known_within)
+      (ap (λ b. if b then zero_label_of c seed g.set else 0) (with_known-same kept.known g.set g.set refl)
       ∙ sym (sealed_zero_label_is c kept.lawful.circuit seed i g at))
       (λ w below other. ap (λ b. if b then zero_label_of c seed w else 0)
-      (sym (get_or-set_other t.known g.set w true false other)))
-
-  none_free-finish : (j : ℕ) → j < t.first_free → slice_get (set t.marks i mark.Finished) j ≢ Some mark.Free
-  none_free-finish j below free =
-      elim (cases_eq j i) [
-        | inl e ↦
-            let inside : i < length t.marks =
-            (let m = kept.marks in let w = slice_get_within c.gates i g at in omega arith) in
-            let here = slice_get-set_same t.marks i mark.Finished inside in
-            let same = ap (slice_get (set t.marks i mark.Finished)) e in
-            let differ : Some mark.Finished ≡ Some mark.Free = cc in cc
-        | inr other ↦ kept.none_free j below (sym (slice_get-set_other t.marks i j mark.Finished other) ∙ free)
-      ]
+      (sym (with_known-other kept.known w g.set other)))
 
   length-rows_set : (pair : Option RowPair) (k : ℕ) → length (rows_set t.rows k pair) ≡ length t.rows
   length-rows_set None k = refl
   length-rows_set (Some pair) k = length-set t.rows k pair
 
   -- finishing keeps what the tables keep
-  pub finish_keeps : IsKept c seed r
-      (finished_tables t i g.set (and_number c i) (sealed_zero_label (task_of c seed i g))
+  pub finish_keeps : length countdowns ≡ length t.countdowns
+      → ((j : ℕ) (h : Gate) → slice_get c.gates j ≡ Some h
+      → get_or countdowns j 0 + reads_of g.set h.operation ≡ get_or t.countdowns j 0)
+      → IsKept c seed r
+      (finished_tables t (finished_queue t i countdowns) g.set (and_number c i) (sealed_zero_label (task_of c seed i g))
       (sealed_rows (task_of c seed i g)))
-  finish_keeps = record {
+  finish_keeps count counted = record {
     lawful = subst IsLawfulContent (sym content-finish) (finish_lawful s' kept.lawful i g at claimed);
     offset_is = kept.offset_is;
     marks = length-set t.marks i mark.Finished ∙ kept.marks;
-    known = length-set t.known g.set true ∙ kept.known;
-    tells_known = λ w. subst (λ x. IsTrue (get_or (set t.known g.set true) w false) ↔ IsKnown x w)
-        (sym content-finish) (tells_known-finish w);
+    links = kept.links;
+    known = known';
+    tells_known = λ w. subst (λ x. IsTrue (known' w) ↔ IsKnown x w) (sym content-finish) (tells_known-finish w);
+    countdowns = count ∙ kept.countdowns;
+    counted = λ j h at_j.
+        let less = unknown_reads-less kept.known g.set set_unknown h.operation in
+        omega (arith, less, counted j h at_j, kept.counted j h at_j);
     zero_labels = zero_labels-finish;
     and_numbers = kept.and_numbers;
     rows = length-rows_set (sealed_rows own) (and_number c i) ∙ kept.rows;
@@ -329,6 +368,11 @@ module _ (c : Netlist) (seed : List ℕ) (r : ℕ) (t : Tables) (kept : IsKept c
         ∙ sym (count_by-set_more is_finished (states_of c t.zero_labels t.rows t.marks) i Claimed
         (Finished (sealed_zero_label own) (sealed_rows own)) claimed refl refl)
         ∙ ap (count_by is_finished) (sym states-finish);
-    first_free = kept.first_free;
-    none_free = none_free-finish;
   }
+
+  -- a gate's countdown is no less than its reads of the wire
+  pub counts_set : (j : ℕ) (h : Gate) → slice_get c.gates j ≡ Some h
+      → reads_of g.set h.operation ≤ get_or t.countdowns j 0
+  counts_set j h at_j =
+      let less = unknown_reads-less kept.known g.set set_unknown h.operation in
+      omega (arith, less, kept.counted j h at_j)

@@ -1,10 +1,9 @@
 -- What a store holds: a circuit, a seed, and how far each gate is.
-use Rattle.std.specs.Prelude.{◌≡◌, ◌≢◌, ℕ, ◌*◌, ◌<◌, ◌≤◌, ◌⊎◌, Bool, true, false, List, length, Option, Some, None, slice_get, count_by, replicate}
+use Rattle.std.specs.Prelude.{◌≡◌, ◌≢◌, ℕ, ◌*◌, ◌<◌, ◌⊎◌, Bool, true, false, List, length, Option, Some, None, slice_get, count_by, replicate}
 use Rattle.gc_circuit.specs.declared.circuit.Gate.{Gate}
 use Rattle.gc_circuit.specs.Circuit.{Netlist, input_wires, EachRead, IsSetBy, IsLawful}
 use Rattle.gc_half.specs.declared.garbling.RowPair.{RowPair}
 use Rattle.gc_half.specs.Canonical.{zero_label_of}
-use Rattle.gc_store.specs.declared.tally.TheConstants.{MAX_TALLIES}
 use Rattle.gc_store.specs.Task.{task_of, sealed_rows}
 
 -- How far a gate is: free, claimed, or finished with the zero label of the wire that it sets and its row pair, where it
@@ -14,14 +13,12 @@ pub data State : Type 0 where
   Claimed : State
   Finished : ℕ → Option RowPair → State
 
--- The content of a store: the circuit, the seed, the state of each gate, how many rows there are, and how many tallies
--- were dealt.
+-- The content of a store: the circuit, the seed, the state of each gate, and how many rows there are.
 pub record Content : Type 0 where
   pub circuit : Netlist
   pub seed : List ℕ
   pub states : List State
   pub rows : ℕ
-  pub tallies : ℕ
 
 -- whether a state is claimed,
 abbrev pub is_claimed : State → Bool
@@ -81,7 +78,6 @@ pub record IsLawfulContent (s : Content) : Type 0 where
       → slice_get s.states i ≡ Some state → state ≢ Free → EachRead (IsKnown s) g.operation
   -- There are two rows for each finished AND gate.
   pub rows : s.rows ≡ 2 * count_by has_rows s.states
-  pub tallies : s.tallies ≤ MAX_TALLIES
 
 -- The content of a store that was opened for a circuit and a seed: every gate is free.
 abbrev pub opened : Netlist → List ℕ → Content
@@ -90,5 +86,4 @@ opened c seed = record {
   seed = seed;
   states = replicate (length c.gates) Free;
   rows = 0;
-  tallies = 0;
 }

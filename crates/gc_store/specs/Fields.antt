@@ -1,16 +1,16 @@
--- The tables among a store's fields.
-use Rattle.gc_store.specs.declared.store.Store.TheInside.{Inside}
+-- The tables among the fields of the store's progress.
+use Rattle.gc_store.specs.declared.progress.Progress.TheInside.{Inside}
 use Rattle.gc_store.specs.Kept.{Tables}
 
 abbrev pub tables_of : {A : Type 0} → Inside A → Tables
 tables_of s = record {
-  marks = s.marks.items;
-  known = s.known.items;
+  marks = s.queue.marks;
+  countdowns = s.queue.countdowns;
+  firsts = s.readers.firsts.items;
+  nexts = s.readers.nexts.items;
   zero_labels = s.zero_labels.items;
   and_numbers = s.and_numbers.items;
   rows = s.rows.items;
   finished = s.finished;
   finished_ands = s.finished_ands;
-  tallies = s.tallies;
-  first_free = s.first_free;
 }

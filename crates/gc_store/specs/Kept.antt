@@ -1,29 +1,30 @@
 -- How the tables of a store hold its content.
-use Rattle.std.specs.Prelude.{◌≡◌, ◌≢◌, ℕ, ◌*◌, ◌<◌, ◌≤◌, ◌↔◌, Bool, false, IsTrue, if◌then◌else◌, List, length, map, Option, Some, None, slice_get, slice_index, slice_index_or, count_by}
+use Rattle.std.specs.Prelude.{◌≡◌, ℕ, ◌*◌, ◌↔◌, Bool, IsTrue, if◌then◌else◌, List, length, map, Option, Some, None, slice_get, slice_index, slice_index_or, count_by}
 use Rattle.std.specs.List.{range_with_len}
 use Rattle.gc_circuit.specs.declared.circuit.Operation.{Operation}
 use Rattle.gc_circuit.specs.declared.circuit.Gate.{Gate}
-use Rattle.gc_circuit.specs.Circuit.{Netlist, EachRead, is_and, and_number, and_count}
+use Rattle.gc_circuit.specs.Circuit.{Netlist, EachRead, IsSetBy, is_and, and_number, and_count}
 use Rattle.gc_label.specs.Seed.{offset_of}
 use Rattle.gc_half.specs.declared.garbling.RowPair.{RowPair}
 use Rattle.gc_half.specs.Canonical.{zero_label_of}
 use Rattle.gc_store.specs.declared.mark.Mark.{Mark}
 use Rattle.gc_store.specs.declared.mark.Mark.TheVariants as mark
-use Rattle.gc_store.specs.Content.{State, Free, Claimed, Finished, Content, is_finished, IsKnown, IsLawfulContent}
+use Rattle.gc_store.specs.Readers.{unknown_reads, IsLinked}
+use Rattle.gc_store.specs.Content.{State, Free, Claimed, Finished, Content, is_finished, IsFinished, IsKnown, IsLawfulContent}
 
--- The tables: a mark for each gate, whether each wire's label is known, a zero label for each wire, the AND number of
--- each gate and a row pair for each AND gate. Then how many gates are finished, how many of these are AND gates, how
--- many tallies were dealt, and a gate that no free gate stands before.
+-- The tables: a mark and a countdown for each gate, the first read of each wire and the next read after each, a zero
+-- label for each wire, the AND number of each gate and a row pair for each AND gate. Then how many gates are finished,
+-- and how many of these are AND gates.
 pub record Tables : Type 0 where
   pub marks : List Mark
-  pub known : List Bool
+  pub countdowns : List ℕ
+  pub firsts : List ℕ
+  pub nexts : List ℕ
   pub zero_labels : List ℕ
   pub and_numbers : List ℕ
   pub rows : List RowPair
   pub finished : ℕ
   pub finished_ands : ℕ
-  pub tallies : ℕ
-  pub first_free : ℕ
 
 -- the row pair that a table has at an AND number, for an AND gate
 abbrev pub rows_at : List RowPair → ℕ → Operation → Option RowPair
@@ -52,24 +53,32 @@ content_of c seed t = record {
   seed = seed;
   states = states_of c t.zero_labels t.rows t.marks;
   rows = 2 * t.finished_ands;
-  tallies = t.tallies;
 }
+
+-- An unfinished gate sets wire w. Of the wires that a gate reads these are the ones that are not known.
+abbrev pub IsAwaited : Content → ℕ → Type 0
+IsAwaited s w = (i : ℕ) × IsSetBy s.circuit w i × (¬ IsFinished s i)
 
 -- What the tables keep.
 pub record IsKept (c : Netlist) (seed : List ℕ) (offset : ℕ) (t : Tables) : Type 0 where
   pub lawful : IsLawfulContent (content_of c seed t)
   pub offset_is : offset ≡ offset_of seed
   pub marks : length t.marks ≡ length c.gates
-  pub known : length t.known ≡ c.wires
-  pub tells_known : (w : ℕ) → IsTrue (slice_index_or t.known w false) ↔ IsKnown (content_of c seed t) w
-  -- a wire that is not known has 0
+  pub links : IsLinked c t.firsts t.nexts
+  -- whether each wire is known
+  pub known : ℕ → Bool
+  pub tells_known : (w : ℕ) → IsTrue (known w) ↔ IsKnown (content_of c seed t) w
+  -- A gate's countdown is the number of its reads of wires that are not known, which are those that an unfinished
+  -- gate sets (IsAwaited).
+  pub countdowns : length t.countdowns ≡ length c.gates
+  pub counted : (i : ℕ) (g : Gate) → slice_get c.gates i ≡ Some g
+      → slice_index_or t.countdowns i 0 ≡ unknown_reads known g.operation
+  -- A wire that is not known has 0.
   pub zero_labels : t.zero_labels ≡ map
-      (λ w. if slice_index_or t.known w false then zero_label_of c seed w else 0) (range_with_len 0 c.wires)
+      (λ w. if known w then zero_label_of c seed w else 0) (range_with_len 0 c.wires)
   pub and_numbers : t.and_numbers ≡ map (and_number c) (range_with_len 0 (length c.gates))
   pub rows : length t.rows ≡ and_count c
   pub finished : t.finished ≡ count_by is_finished (content_of c seed t).states
-  pub first_free : t.first_free ≤ length c.gates
-  pub none_free : (i : ℕ) → i < t.first_free → slice_get t.marks i ≢ Some mark.Free
 
 -- Gate i reads known wires alone.
 pub record ReadsKnown (s : Content) (i : ℕ) : Type 0 where

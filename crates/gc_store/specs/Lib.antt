@@ -1,6 +1,12 @@
 pub mod Task
 pub mod Content
+pub mod Account
+pub mod Batch
 pub mod Step
 pub mod Refusal
+pub mod Queue
+pub mod Readers
+pub mod Opening
 pub mod Kept
 pub mod Fields
+pub mod Shared

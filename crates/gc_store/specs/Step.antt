@@ -1,14 +1,17 @@
 -- The steps of a store, as relations between its content before a call, the call's answer and its content afterwards.
 -- No step changes the circuit or the seed.
-use Rattle.std.specs.Prelude.{◌≡◌, ℕ, ◌+◌, ◌<◌, ◌↔◌, Bool, IsTrue, if◌then◌else◌, List, map, count_by, Option, Some, None, Result, Ok, Err, slice_get, slice_set}
+use Rattle.std.specs.Prelude.{◌≡◌, ℕ, ◌+◌, ◌<◌, ◌↔◌, Bool, IsTrue, if◌then◌else◌, List, map, sum, count_by, Option, Some, None, Result, Ok, Err, slice_get, slice_set, ◌⊎◌, [], ◌∷◌, ◌++◌, length}
 use Rattle.gc_circuit.specs.declared.circuit.Gate.{Gate}
 use Rattle.gc_circuit.specs.Circuit.{is_and}
 use Rattle.gc_store.specs.declared.task.Task.{Task}
 use Rattle.gc_store.specs.declared.refusal.Refused.{Refused}
 use Rattle.gc_store.specs.declared.refusal.Refused.TheVariants.{NotClaimed, OtherInputs}
+use Rattle.gc_store.specs.declared.tally.TallyMissing.{TallyMissing}
 use Rattle.gc_store.specs.declared.tally.TheConstants.{MAX_TALLIES}
 use Rattle.gc_store.specs.Task.{task_of, sealed_zero_label, sealed_rows}
-use Rattle.gc_store.specs.Content.{State, Free, Claimed, Finished, Content, is_claimed, IsClaimed, MayGoNext, AllFinished}
+use Rattle.gc_store.specs.declared.batch.TheConstants.{BATCH_SIZE}
+use Rattle.gc_store.specs.Account.{Account}
+use Rattle.gc_store.specs.Content.{State, Free, Claimed, Finished, Content, is_claimed, is_finished, IsClaimed, MayGoNext, AllFinished}
 
 -- The task is the store's task for its gate.
 pub record IsOwnTask (s : Content) (task : Task) : Type 0 where
@@ -25,6 +28,20 @@ with_state s i state = record s { states = slice_set s.states i state }
 abbrev pub Claims : Content → Option Task → Content → Type 0
 Claims old None new = ((i : ℕ) → ¬ MayGoNext old i) × (new ≡ old)
 Claims old (Some task) new = MayGoNext old task.gate × IsOwnTask old task × (new ≡ with_state old task.gate Claimed)
+
+-- Claims one after the other, with these tasks as their answers.
+abbrev pub ClaimsAll : Content → List Task → Content → Type 0
+ClaimsAll old [] new = new ≡ old
+ClaimsAll old (task ∷ tasks) new = (next : Content) × Claims old (Some task) next × ClaimsAll next tasks new
+
+-- Claiming into a batch: tasks are claimed one after the other and put at the end of the batch, until it is full or no
+-- gate may go next. The answer is how many this call claimed.
+pub record ClaimsSome (old : Content) (before : List Task) (answer : ℕ) (new : Content) (after : List Task) : Type 0 where
+  pub tasks : List Task
+  pub claims : ClaimsAll old tasks new
+  pub answer_is : answer ≡ length tasks
+  pub batch : after ≡ before ++ tasks
+  pub ends : (length after ≡ BATCH_SIZE) ⊎ ((i : ℕ) → ¬ MayGoNext new i)
 
 -- The content once a sealed task's gate is finished with its zero label and rows.
 abbrev pub with_sealed : Content → Task → Content
@@ -43,10 +60,17 @@ Finishes old task (Err (NotClaimed back)) new = (¬ IsClaimed old task.gate) × 
 Finishes old task (Err (OtherInputs back)) new =
     IsClaimed old task.gate × (¬ IsOwnTask old task) × (back ≡ task) × (new ≡ old)
 
--- Dealing a tally: a new one is 0, and there is none where all were dealt.
-abbrev pub Deals : Content → Option ℕ → Content → Type 0
+-- Dealing a tally: a new one is 0, and there is none where all were dealt. The content stays.
+abbrev pub Deals : Account → Option ℕ → Account → Type 0
 Deals old None new = (old.tallies ≡ MAX_TALLIES) × (new ≡ old)
 Deals old (Some tally) new = (old.tallies < MAX_TALLIES) × (tally ≡ 0) × (new ≡ record old { tallies = old.tallies + 1 })
+
+-- Settling: with all the tallies that were dealt the answer is their sum, which is the number of finished gates. Where
+-- one is missing it is refused.
+abbrev pub Settles : Account → List ℕ → Result ℕ TallyMissing → Type 0
+Settles s tallies (Ok n) =
+    (length tallies ≡ s.tallies) × (n ≡ sum tallies) × (n ≡ count_by is_finished s.content.states)
+Settles s tallies (Err _) = length tallies < s.tallies
 
 -- A claimed state is free again; others stay.
 abbrev pub reopened : State → State

@@ -5,14 +5,21 @@
 //! it back. What the store keeps of a finished gate is always the half-gate garbling of that gate.
 #![tactic(auto)]
 
+mod batch;
 mod mark;
+mod progress;
+mod queue;
+mod readers;
 mod refusal;
+mod shared;
 mod store;
 mod tables;
 mod tally;
 mod task;
 
+pub use batch::{BATCH_SIZE, Batch};
 pub use refusal::Refused;
+pub use shared::SharedStore;
 pub use store::Store;
-pub use tally::{MAX_TALLIES, Tally};
+pub use tally::{MAX_TALLIES, Tally, TallyMissing};
 pub use task::{Sealed, Task};

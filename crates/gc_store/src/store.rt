@@ -1,132 +1,150 @@
-//! The store.
+//! The store: the progress of a garbling, and the tallies of those who work at it.
 
-ghost use Rattle.std.specs.Prelude.{◌≡◌, ◌≢◌, ◌↔◌, ◌<◌, ◌≤◌, ◌+◌, ◌^◌, ℕ, IsTrue, IfOk, IfErr, OnOk, OnErr, MatchOption, Some, length, min, count_by, false, slice_get, slice_index_or};
-ghost use Rattle.gc_store.specs.declared.mark.Mark.TheVariants as mark;
-ghost use Rattle.gc_circuit.specs.Circuit.{EachRead};
+ghost use Rattle.std.specs.Prelude.{◌≡◌, ◌↔◌, ◌+◌, IsTrue, IfOk, IfErr, OnOk, OnErr, count_by};
 ghost use Rattle.gc_half.specs.Garbling.{IsGarbled};
-ghost use Rattle.gc_store.specs.Content.{is_finished, IsClaimed, MayGoNext, AllFinished, IsLawfulContent, opened};
-ghost use Rattle.gc_store.specs.Step.{IsOwnTask, with_sealed, Claims, Finishes, Deals};
-ghost use Rattle.gc_store.specs.Kept.{ReadsKnown};
+ghost use Rattle.gc_store.specs.Content.{is_finished, AllFinished, opened};
+ghost use Rattle.gc_store.specs.Account.{IsLawfulAccount};
+ghost use Rattle.gc_store.specs.declared.tally.TheConstants.{MAX_TALLIES};
+ghost use Rattle.gc_store.specs.Step.{Claims, ClaimsSome, Finishes, Deals, Settles, Reopens};
 
-use crate::mark::Mark;
+use crate::batch::Batch;
+use crate::progress::Progress;
 use crate::refusal::Refused;
-use crate::tables::{and_numbers, input_marks, repeated};
-use crate::tally::{MAX_TALLIES, Tally};
+use crate::tally::{MAX_TALLIES, Tally, TallyMissing, add_up};
 use crate::task::{Sealed, Task};
-use gc_circuit::{Circuit, Memory, Operation};
-use gc_half::{Garbling, RowPair, input_zero_labels, labels_read};
-use gc_label::{Label, Offset, Seed, offset};
+use gc_circuit::{Circuit, Memory};
+use gc_half::Garbling;
+use gc_label::Seed;
 use std::alloc::{Allocator, Global};
 use std::marker::Model;
+use std::sync::ledger::{Blank, Book, Ledger, Share};
 
 /// The gates of a circuit under a seed, and how far each is: free, claimed, or finished with its zero label
 /// and its rows. What it keeps of a finished gate is the half-gate garbling of that gate.
 ///
+/// The ledger `L` ties the store to the tallies that it deals, which are its own by their type: what they count is
+/// the number of finished gates.
+///
 /// [`Store::open`] takes all its memory, and no later call takes any.
 #[derive(Drop)]
-pub struct Store<A: Allocator = Global> {
-    circuit: Circuit<A>,
-    seed: Seed,
-    offset: Offset,
-    // By gate.
-    marks: Vec<Mark, A>,
-    and_numbers: Vec<u32, A>,
-    // By wire.
-    known: Vec<bool, A>,
-    zero_labels: Vec<Label, A>,
-    // By AND number.
-    rows: Vec<RowPair, A>,
-    finished: u32,
-    finished_ands: u32,
+pub struct Store<L: Ledger, A: Allocator = Global> {
+    progress: Progress<A>,
     tallies: u32,
-    // No gate before it is free.
-    first_free: u32,
+    book: Book<L>,
+    // The shares of the tallies that were not dealt, each of nothing.
+    rest: Share<L>,
 }
 
-impl<A: Allocator> Model for Store<A> {
-    ghost use Rattle.gc_store.specs.Content.{Content};
+impl<L: Ledger, A: Allocator> Model for Store<L, A> {
+    ghost use Rattle.std.specs.Prelude.{◌≡◌, ◌+◌, count_by};
+    ghost use Rattle.gc_store.specs.Account.{Account};
+    ghost use Rattle.gc_store.specs.Content.{is_finished};
+    ghost use Rattle.gc_store.specs.declared.tally.TheConstants.{MAX_TALLIES};
 
-    ghost Value = { Content };
+    ghost Value = { Account };
 
-    ghost use Rattle.gc_store.specs.Kept.{content_of, IsKept};
-    ghost use Rattle.gc_store.specs.Fields.{tables_of};
+    ghost view = { λ s. record { content = s.progress; tallies = s.tallies } };
 
-    ghost view = { λ s. content_of s.circuit s.seed (tables_of s) };
-
-    ghost invariant = { λ s. IsKept s.circuit s.seed s.offset (tables_of s) };
+    ghost invariant = { λ s. (s.book.total ≡ count_by is_finished s.progress.states)
+        × (s.rest.parts + s.tallies ≡ MAX_TALLIES) × (s.rest.amount ≡ 0) };
 }
 
-impl<A: Allocator + Copy> Store<A> {
-    /// A store of this circuit and seed with every gate free. It takes all the memory that the store needs.
-    pub fn open(alloc: A, circuit: Circuit<A>, seed: Seed) -> Result<Store<A>, Memory>
-        ensures { IfOk result (λ s. s ≡ opened circuit seed) }
+impl<L: Ledger, A: Allocator + Copy> Store<L, A> {
+    /// A store of this circuit and seed with every gate free, which begins the ledger. It takes all the memory that
+    /// the store needs.
+    pub fn open(
+        alloc: A,
+        ledger: Blank,
+        circuit: Circuit<A>,
+        seed: Seed,
+    ) -> Result<Store<L, A>, Memory>
+        requires name { ledger.name ≡ L.name }
+        requires parts { (ledger.parts ≡ L.parts) × (ledger.parts ≡ MAX_TALLIES) }
+        ensures content { IfOk result (λ s. s.content ≡ opened circuit seed) }
+        ensures tallies { IfOk result (λ s. s.tallies ≡ 0) }
     {
-        let no_rows = RowPair {
-            generator: Label::ZERO,
-            evaluator: Label::ZERO,
-        };
+        let progress = Progress::open(alloc, circuit, seed)?;
+        let (book, rest) = ledger.open::<L>();
         Ok(Store {
-            marks: repeated(alloc, Mark::Free, circuit.gates())?,
-            and_numbers: and_numbers(alloc, &circuit)?,
-            known: input_marks(alloc, &circuit)?,
-            zero_labels: input_zero_labels(alloc, &circuit, &seed)?,
-            rows: repeated(alloc, no_rows, circuit.and_count())?,
-            offset: offset(&seed),
-            circuit,
-            seed,
-            finished: 0,
-            finished_ands: 0,
+            progress,
             tallies: 0,
-            first_free: 0,
+            book,
+            rest,
         })
     }
 }
 
-impl<A: Allocator> Store<A> {
+impl<L: Ledger, A: Allocator> Store<L, A> {
     /// How many gates are finished.
     pub fn finished(&self) -> u32
-        ensures count { result ≡ count_by is_finished self.now.states }
-        ensures lawful { IsLawfulContent self.now }
+        ensures count { result ≡ count_by is_finished self.now.content.states }
+        ensures lawful { IsLawfulAccount self.now }
     {
-        self.finished
+        self.progress.finished()
     }
 
     /// Whether every gate is finished.
     pub fn is_complete(&self) -> bool
-        ensures complete { IsTrue result ↔ AllFinished self.now }
-        ensures lawful { IsLawfulContent self.now }
+        ensures complete { IsTrue result ↔ AllFinished self.now.content }
+        ensures lawful { IsLawfulAccount self.now }
     {
-        self.finished == self.circuit.gates()
+        self.progress.is_complete()
     }
 
     /// Whether this is the store of this circuit and this seed.
     pub fn is_for<C: Allocator>(&self, circuit: &Circuit<C>, seed: &Seed) -> bool
-        ensures { IsTrue result ↔ (self.now.circuit ≡ circuit.now) × (self.now.seed ≡ seed.now) }
+        ensures { IsTrue result ↔ (self.now.content.circuit ≡ circuit.now) × (self.now.content.seed ≡ seed.now) }
     {
-        self.circuit.equals(circuit) && self.seed == *seed
+        self.progress.is_for(circuit, seed)
     }
 
     /// Deals a new tally, or None where [`MAX_TALLIES`] were dealt.
-    pub fn tally(&mut self) -> Option<Tally>
+    pub fn tally(&mut self) -> Option<Tally<L>>
         ensures { Deals self.old result self.new }
     {
         if self.tallies == MAX_TALLIES {
             return None;
         }
+        let share = self.rest.split_off(1, 0);
         self.tallies += 1;
-        Some(Tally::new())
+        Some(Tally::new(share))
     }
 
-    /// Claims a gate that may go next, the first in the file, and answers its task; or None, exactly where no
-    /// gate may go next.
+    /// Claims a gate that may go next, the one that may do so for longest, and answers its task; or None, exactly
+    /// where no gate may go next.
     #[inline]
     pub fn claim(&mut self) -> Option<Task>
-        ensures { Claims self.old result self.new }
+        ensures step { Claims self.old.content result self.new.content }
+        ensures tallies { self.new.tallies ≡ self.old.tallies }
     {
-        self.first_free = first_free(&self.marks, self.first_free);
-        let task = self.next_task()?;
-        self.marks[task.gate as usize] = Mark::Claimed;
-        Some(task)
+        self.progress.claim()
+    }
+
+    /// Claims gates that may go next, and puts their tasks into the batch, until it is full or no gate may go next. The
+    /// answer is how many this call claimed.
+    pub fn claim_some(&mut self, batch: &mut Batch) -> u32
+        ensures step { ClaimsSome self.old.content batch.old result self.new.content batch.new }
+        ensures tallies { self.new.tallies ≡ self.old.tallies }
+    {
+        self.progress.claim_some(batch)
+    }
+
+    /// Makes each claimed gate free again. The answer is how many they were.
+    pub fn reopen(&mut self) -> u32
+        ensures step { Reopens self.old.content result self.new.content }
+        ensures tallies { self.new.tallies ≡ self.old.tallies }
+    {
+        self.progress.reopen()
+    }
+
+    /// Whether a gate may go next.
+    pub(crate) fn has_ready(&self) -> bool {
+        self.progress.has_ready()
+    }
+
+    /// Whether a gate is claimed.
+    pub(crate) fn has_claimed(&self) -> bool {
+        self.progress.has_claimed()
     }
 
     /// Takes a sealed task back, and raises the tally by one. The answer is whether the store is now complete.
@@ -135,139 +153,58 @@ impl<A: Allocator> Store<A> {
     /// A refusal changes nothing.
     // A refusal is so large that returning it costs more than the work where the call is not inlined.
     #[inline(always)]
-    pub fn finish(&mut self, sealed: Sealed, tally: &mut Tally) -> Result<bool, Refused>
-        ensures step { Finishes self.old sealed result self.new }
-        ensures raised { OnOk result (tally.new ≡ min (tally.old + 1) u64.MAX) }
+    pub fn finish(&mut self, sealed: Sealed, tally: &mut Tally<L>) -> Result<bool, Refused>
+        ensures step { Finishes self.old.content sealed result self.new.content }
+        ensures tallies { self.new.tallies ≡ self.old.tallies }
+        ensures raised { OnOk result (tally.new ≡ tally.old + 1) }
         ensures kept { OnErr result (tally.new ≡ tally.old) }
     {
-        let task = sealed.task();
-        if !self.is_claimed(task.gate) {
-            return Err(Refused::NotClaimed(sealed));
+        // It fits in a u32, so there is room for one more.
+        let _finished = self.progress.finished();
+        let complete = self.progress.finish(sealed)?;
+        tally.raise(&mut self.book);
+        Ok(complete)
+    }
+
+    /// The sum of the tallies, which is the number of finished gates, where all the tallies that were dealt are there.
+    /// Nothing changes.
+    pub fn settle<C: Allocator>(
+        &mut self,
+        tallies: &mut Vec<Tally<L>, C>,
+    ) -> Result<u64, TallyMissing>
+        requires { L.parts ≡ MAX_TALLIES }
+        ensures answer { Settles self.old tallies.old.items result }
+        ensures same { (self.new ≡ self.old) × (tallies.new.items ≡ tallies.old.items) }
+    {
+        if tallies.len() < self.tallies as usize {
+            return Err(TallyMissing);
         }
-        if task != self.task(task.gate) {
-            return Err(Refused::OtherInputs(sealed));
-        }
-        self.keep(sealed);
-        tally.raise();
-        Ok(self.is_complete())
+        // It fits in a u32, and so does what the tallies add up to.
+        let _finished = self.progress.finished();
+        let sum = add_up(&mut self.book, &mut self.rest, tallies.as_mut_slice(), 0);
+        Ok(sum)
     }
 
     /// The garbling, or the same store where a gate isn't finished.
-    pub fn into_garbling(self) -> Result<Garbling<A>, Store<A>>
-        ensures complete { IfOk result (λ garbling. AllFinished self × IsGarbled self.circuit self.seed garbling) }
-        ensures incomplete { IfErr result (λ store. (¬ AllFinished self) × (store ≡ self)) }
+    pub fn into_garbling(self) -> Result<Garbling<A>, Store<L, A>>
+        ensures complete { IfOk result (λ garbling.
+            AllFinished self.content × IsGarbled self.content.circuit self.content.seed garbling) }
+        ensures incomplete { IfErr result (λ store. (¬ AllFinished self.content) × (store ≡ self)) }
     {
-        if !self.is_complete() {
-            return Err(self);
-        }
         let Store {
-            circuit,
-            seed: _,
-            offset: _,
-            marks: _,
-            and_numbers: _,
-            known: _,
-            zero_labels,
-            rows,
-            finished: _,
-            finished_ands: _,
-            tallies: _,
-            first_free: _,
+            progress,
+            tallies,
+            book,
+            rest,
         } = self;
-        Ok(Garbling::from_parts(zero_labels, rows, circuit.output_wires()))
-    }
-
-    /// The task of the first gate that may go next.
-    fn next_task(&self) -> Option<Task>
-        ensures { MatchOption result ((i : ℕ) → ¬ MayGoNext self.now i)
-            (λ task. MayGoNext self.now task.gate × IsOwnTask self.now task) }
-    {
-        for i in self.first_free..self.circuit.gates() {
-            if self.may_go_next(i) {
-                return Some(self.task(i));
-            }
+        match progress.into_garbling() {
+            Ok(garbling) => Ok(garbling),
+            Err(progress) => Err(Store {
+                progress,
+                tallies,
+                book,
+                rest,
+            }),
         }
-        None
-    }
-
-    /// Whether a gate is free and each wire that it reads is known.
-    fn may_go_next(&self, i: u32) -> bool
-        requires { i < length self.now.circuit.gates }
-        ensures { IsTrue result ↔ MayGoNext self.now i }
-    {
-        self.marks[i as usize].is_free() && reads_known(&self.known, self.circuit.gate(i).operation)
-    }
-
-    /// Whether a gate is claimed. There may be no such gate.
-    fn is_claimed(&self, i: u32) -> bool
-        ensures claimed { IsTrue result ↔ IsClaimed self.now i }
-        ensures reads { IsTrue result → ReadsKnown self.now i }
-    {
-        i < self.circuit.gates() && self.marks[i as usize].is_claimed()
-    }
-
-    /// The task of a gate that reads known wires alone.
-    fn task(&self, i: u32) -> Task
-        requires { ReadsKnown self.now i }
-        ensures gate { result.gate ≡ i }
-        ensures own { IsOwnTask self.now result }
-    {
-        let operation = self.circuit.gate(i).operation;
-        let (first, second) = labels_read(&self.zero_labels, operation);
-        Task {
-            gate: i,
-            operation,
-            and_number: self.and_numbers[i as usize],
-            offset: self.offset,
-            first,
-            second,
-        }
-    }
-
-    /// Keeps what a sealed task gives for a gate that is claimed.
-    fn keep(&mut self, sealed: Sealed)
-        requires claimed { IsClaimed self.old sealed.gate }
-        requires own { IsOwnTask self.old sealed }
-        ensures { self.new ≡ with_sealed self.old sealed }
-    {
-        let task = sealed.task();
-        let wire = self.circuit.gate(task.gate).set;
-        self.marks[task.gate as usize] = Mark::Finished;
-        self.zero_labels[wire as usize] = sealed.zero_label();
-        self.known[wire as usize] = true;
-        self.finished += 1;
-        if let Some(rows) = sealed.rows() {
-            self.rows[task.and_number as usize] = rows;
-            self.finished_ands += 1;
-        }
-    }
-}
-
-/// The first free gate from gate `start` on, or how many gates there are.
-fn first_free(marks: &[Mark], start: u32) -> u32
-    requires small { length marks.now < 2 ^ 32 }
-    requires start { start ≤ length marks.now }
-    ensures bound { result ≤ length marks.now }
-    ensures taken { (i : ℕ) → start ≤ i → i < result → slice_get marks.now i ≢ Some mark.Free }
-{
-    for i in start..marks.len() as u32 {
-        if marks[i as usize].is_free() {
-            return i;
-        }
-    }
-    marks.len() as u32
-}
-
-/// Whether each wire that an operation reads is known.
-fn reads_known(known: &[bool], operation: Operation) -> bool
-    requires { EachRead (λ w. w < length known.now) operation }
-    ensures { IsTrue result ↔ EachRead (λ w. IsTrue (slice_index_or known.now w false)) operation }
-{
-    match operation {
-        Operation::Xor(a, b) => known[a as usize] && known[b as usize],
-        Operation::And(a, b) => known[a as usize] && known[b as usize],
-        Operation::Inv(a) => known[a as usize],
-        Operation::Eq(_) => true,
-        Operation::Eqw(a) => known[a as usize],
     }
 }

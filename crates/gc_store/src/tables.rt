@@ -1,10 +1,12 @@
 //! The tables that a store begins with.
 
-ghost use Rattle.std.specs.Prelude.{◌≡◌, ◌+◌, ◌-◌, ◌++◌, Bool, true, false, IfOk, length, map, replicate};
+ghost use Rattle.std.specs.Prelude.{◌≡◌, ◌≤◌, IfOk, length, map, replicate};
 ghost use Rattle.std.specs.List.{range_with_len};
-ghost use Rattle.gc_circuit.specs.Circuit.{input_wires, and_number};
+ghost use Rattle.gc_circuit.specs.Circuit.{and_number};
+ghost use Rattle.gc_store.specs.Readers.{unknown_reads};
+ghost use Rattle.gc_store.specs.Opening.{is_below, opening_countdown};
 
-use gc_circuit::{Circuit, Memory};
+use gc_circuit::{Circuit, Memory, Operation};
 use std::alloc::Allocator;
 
 /// A vector of one value, `len` times.
@@ -20,18 +22,35 @@ pub(crate) fn repeated<T: Copy, A: Allocator + Copy>(
     Ok(items)
 }
 
-/// Whether each wire is an input wire.
-pub(crate) fn input_marks<A: Allocator + Copy, C: Allocator>(
+/// For each gate, one more than the number of its reads of wires that are no input wires.
+pub(crate) fn opening_countdowns<A: Allocator + Copy, C: Allocator>(
     alloc: A,
     circuit: &Circuit<C>,
-) -> Result<Vec<bool, A>, Memory>
-    ensures { IfOk result (λ v. v.items ≡ replicate (input_wires circuit.now) true ++ replicate
-        (circuit.now.wires - input_wires circuit.now) false) }
+) -> Result<Vec<u8, A>, Memory>
+    ensures { IfOk result (λ v. v.items ≡
+        map (opening_countdown circuit.now) (range_with_len 0 (length circuit.now.gates))) }
 {
-    let mut known = Vec::with_capacity(alloc, circuit.wires() as usize)?;
-    known.resize(circuit.input_wires() as usize, true)?;
-    known.resize(circuit.wires() as usize, false)?;
-    Ok(known)
+    let inputs = circuit.input_wires();
+    let mut countdowns = Vec::with_capacity(alloc, circuit.gates() as usize)?;
+    for i in 0..circuit.gates() {
+        countdowns.push(1 + reads_past(circuit.gate(i).operation, inputs))?;
+    }
+    Ok(countdowns)
+}
+
+/// How many reads of an operation are of wires from wire `inputs` on.
+#[inline]
+fn reads_past(operation: Operation, inputs: u32) -> u8
+    ensures reads { result ≡ unknown_reads (is_below inputs) operation }
+    ensures few { result ≤ 2 }
+{
+    match operation {
+        Operation::Xor(a, b) => u8::from(a >= inputs) + u8::from(b >= inputs),
+        Operation::And(a, b) => u8::from(a >= inputs) + u8::from(b >= inputs),
+        Operation::Inv(a) => u8::from(a >= inputs),
+        Operation::Eq(_) => 0,
+        Operation::Eqw(a) => u8::from(a >= inputs),
+    }
 }
 
 /// For each gate, how many AND gates stand before it in the file.

@@ -1,4 +1,13 @@
+use Rattle.std.proofs.Common.{arith}
+use Rattle.gc_store.proofs.CountLemmas.{finishes-count}
 use Rattle.gc_store.proofs.store.Store.finish.Goals as goal
 
-pub task-requires : goal.task-requires
-task-requires g c = c.is_claimed.ensures.reads c.if-not-is_claimed.false
+pub raise-requires : goal.raise-requires
+raise-requires g c = omega (arith, c.self.invariant, c.finished-finished.ensures.count)
+
+pub invariant_of-self-2 : goal.invariant_of-self-2
+invariant_of-self-2 g c = (
+  omega (arith, c.self.invariant, c.raise.ensures.total, finishes-count _ _ _ _ c.in_ok-complete.ensures),
+  c.self.invariant.1,
+  c.self.invariant.2,
+)

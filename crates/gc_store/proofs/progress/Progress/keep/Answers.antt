@@ -1,0 +1,54 @@
+use Rattle.std.proofs.Common.{sym, ◌∙◌, arith}
+use Rattle.gc_store.proofs.StoreLemmas.{claimed_mark, counts_fit, finished_queue_is, keep_sealed, set_within, number_within}
+use Rattle.gc_store.proofs.progress.Progress.keep.Goals as goal
+
+pub finish-requires : goal.finish-requires
+finish-requires g c =
+    claimed_mark _ _ _ _ _ c.self.view_is c.self.invariant c.task-task.result c.args.sealed c.task-task.ensures
+    c.requires.claimed
+
+pub count_down-requires-clause-counted : goal.count_down-requires-clause-counted
+count_down-requires-clause-counted g c =
+    counts_fit _ _ _ _ _ c.self.view_is c.self.invariant c.task-task.result c.args.sealed c.task-task.ensures
+    c.requires.claimed c.gate-wire.result c.finish.new.self c.gate-wire.ensures c.finish.ensures
+
+pub index_mut-requires : goal.index_mut-requires
+index_mut-requires g c =
+    let within = set_within _ _ _ _ _ c.gate-wire.result c.self.invariant c.gate-wire.ensures in omega (arith, within)
+
+pub index_mut-requires-in-Some : goal.index_mut-requires-in-Some
+index_mut-requires-in-Some g c =
+    let within = number_within _ _ _ _ _ c.task-task.result c.args.sealed c.in-Some.rows c.self.view_is c.self.invariant c.task-task.ensures c.requires.own (sym c.in-Some.is ∙ c.rows.ensures) in
+    omega (arith, within)
+
+pub invariant_of-self : goal.invariant_of-self
+invariant_of-self g c =
+    (keep_sealed _ _ _ _ _ c.count_down.new.queue c.task-task.result c.args.sealed c.gate-wire.result _ _ c.self.view_is
+    c.self.invariant c.task-task.ensures c.requires.claimed c.requires.own c.gate-wire.ensures
+    (finished_queue_is _ _ c.task-task.result.gate c.gate-wire.result.set c.finish.new.self c.count_down.new.queue
+    c.finish.ensures c.count_down.ensures.marks c.count_down.ensures.countdowns c.count_down.ensures.counted)
+    c.zero_label.ensures (sym c.in-Some.is ∙ c.rows.ensures)).keeps
+
+pub invariant_of-self-in_default : goal.invariant_of-self-in_default
+invariant_of-self-in_default g c =
+    (keep_sealed _ _ _ _ _ c.count_down.new.queue c.task-task.result c.args.sealed c.gate-wire.result _ _ c.self.view_is
+    c.self.invariant c.task-task.ensures c.requires.claimed c.requires.own c.gate-wire.ensures
+    (finished_queue_is _ _ c.task-task.result.gate c.gate-wire.result.set c.finish.new.self c.count_down.new.queue
+    c.finish.ensures c.count_down.ensures.marks c.count_down.ensures.countdowns c.count_down.ensures.counted)
+    c.zero_label.ensures (sym c.in_default.is ∙ c.rows.ensures)).keeps
+
+pub returns-in-Some : goal.returns-in-Some
+returns-in-Some g c =
+    (keep_sealed _ _ _ _ _ c.count_down.new.queue c.task-task.result c.args.sealed c.gate-wire.result _ _ c.self.view_is
+    c.self.invariant c.task-task.ensures c.requires.claimed c.requires.own c.gate-wire.ensures
+    (finished_queue_is _ _ c.task-task.result.gate c.gate-wire.result.set c.finish.new.self c.count_down.new.queue
+    c.finish.ensures c.count_down.ensures.marks c.count_down.ensures.countdowns c.count_down.ensures.counted)
+    c.zero_label.ensures (sym c.in-Some.is ∙ c.rows.ensures)).content
+
+pub returns-in_default : goal.returns-in_default
+returns-in_default g c =
+    (keep_sealed _ _ _ _ _ c.count_down.new.queue c.task-task.result c.args.sealed c.gate-wire.result _ _ c.self.view_is
+    c.self.invariant c.task-task.ensures c.requires.claimed c.requires.own c.gate-wire.ensures
+    (finished_queue_is _ _ c.task-task.result.gate c.gate-wire.result.set c.finish.new.self c.count_down.new.queue
+    c.finish.ensures c.count_down.ensures.marks c.count_down.ensures.countdowns c.count_down.ensures.counted)
+    c.zero_label.ensures (sym c.in_default.is ∙ c.rows.ensures)).content

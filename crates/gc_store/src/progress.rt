@@ -1,0 +1,248 @@
+//! How far each gate of a circuit is under a seed.
+
+ghost use Rattle.std.specs.Prelude.{◌≡◌, ◌↔◌, ℕ, IsTrue, IfOk, IfErr, count_by};
+ghost use Rattle.gc_half.specs.Garbling.{IsGarbled};
+ghost use Rattle.gc_store.specs.Content.{is_claimed, is_finished, IsClaimed, AllFinished, IsLawfulContent, opened};
+ghost use Rattle.gc_store.specs.Step.{IsOwnTask, with_sealed, Claims, ClaimsSome, Finishes, Reopens};
+ghost use Rattle.gc_store.specs.Kept.{ReadsKnown};
+
+use crate::batch::Batch;
+use crate::queue::Queue;
+use crate::readers::Readers;
+use crate::refusal::Refused;
+use crate::tables::{and_numbers, opening_countdowns, repeated};
+use crate::task::{Sealed, Task};
+use gc_circuit::{Circuit, Memory};
+use gc_half::{Garbling, RowPair, input_zero_labels, labels_read};
+use gc_label::{Label, Offset, Seed, offset};
+use std::alloc::{Allocator, Global};
+use std::marker::Model;
+
+/// The gates of a circuit under a seed, and how far each is: free, claimed, or finished with its zero label
+/// and its rows. What it keeps of a finished gate is the half-gate garbling of that gate.
+///
+/// [`Progress::open`] takes all its memory, and no later call takes any.
+#[derive(Drop)]
+pub(crate) struct Progress<A: Allocator = Global> {
+    circuit: Circuit<A>,
+    seed: Seed,
+    offset: Offset,
+    // How far each gate is, and which may go next.
+    queue: Queue<A>,
+    readers: Readers<A>,
+    // By gate.
+    and_numbers: Vec<u32, A>,
+    // By wire.
+    zero_labels: Vec<Label, A>,
+    // By AND number.
+    rows: Vec<RowPair, A>,
+    finished: u32,
+    finished_ands: u32,
+}
+
+impl<A: Allocator> Model for Progress<A> {
+    ghost use Rattle.gc_store.specs.Content.{Content};
+
+    ghost Value = { Content };
+
+    ghost use Rattle.gc_store.specs.Kept.{content_of, IsKept};
+    ghost use Rattle.gc_store.specs.Fields.{tables_of};
+
+    ghost view = { λ s. content_of s.circuit s.seed (tables_of s) };
+
+    ghost invariant = { λ s. IsKept s.circuit s.seed s.offset (tables_of s) };
+}
+
+impl<A: Allocator + Copy> Progress<A> {
+    /// This circuit and seed with every gate free. It takes all the memory that is needed.
+    pub(crate) fn open(alloc: A, circuit: Circuit<A>, seed: Seed) -> Result<Progress<A>, Memory>
+        ensures { IfOk result (λ s. s ≡ opened circuit seed) }
+    {
+        let no_rows = RowPair {
+            generator: Label::ZERO,
+            evaluator: Label::ZERO,
+        };
+        Ok(Progress {
+            queue: Queue::open(alloc, opening_countdowns(alloc, &circuit)?)?,
+            readers: Readers::of(alloc, &circuit)?,
+            and_numbers: and_numbers(alloc, &circuit)?,
+            zero_labels: input_zero_labels(alloc, &circuit, &seed)?,
+            rows: repeated(alloc, no_rows, circuit.and_count())?,
+            offset: offset(&seed),
+            circuit,
+            seed,
+            finished: 0,
+            finished_ands: 0,
+        })
+    }
+}
+
+impl<A: Allocator> Progress<A> {
+    /// How many gates are finished.
+    pub(crate) fn finished(&self) -> u32
+        ensures count { result ≡ count_by is_finished self.now.states }
+        ensures lawful { IsLawfulContent self.now }
+    {
+        self.finished
+    }
+
+    /// Whether every gate is finished.
+    pub(crate) fn is_complete(&self) -> bool
+        ensures complete { IsTrue result ↔ AllFinished self.now }
+        ensures lawful { IsLawfulContent self.now }
+    {
+        self.finished == self.circuit.gates()
+    }
+
+    /// Whether these are the gates of this circuit under this seed.
+    pub(crate) fn is_for<C: Allocator>(&self, circuit: &Circuit<C>, seed: &Seed) -> bool
+        ensures { IsTrue result ↔ (self.now.circuit ≡ circuit.now) × (self.now.seed ≡ seed.now) }
+    {
+        self.circuit.equals(circuit) && self.seed == *seed
+    }
+
+    /// Claims a gate that may go next, the one that may do so for longest, and answers its task; or None, exactly
+    /// where no gate may go next.
+    #[inline]
+    pub(crate) fn claim(&mut self) -> Option<Task>
+        ensures { Claims self.old result self.new }
+    {
+        let gate = self.queue.take()?;
+        Some(self.task(gate))
+    }
+
+    /// Claims gates until the batch is full or no gate may go next, and puts their tasks into the batch. The
+    /// answer is how many gates this call claimed.
+    pub(crate) fn claim_some(&mut self, batch: &mut Batch) -> u32
+        ensures { ClaimsSome self.old batch.old result self.new batch.new }
+    {
+        let mut count = 0;
+        while !batch.is_full() {
+            let Some(task) = self.claim() else {
+                break;
+            };
+            batch.push(task);
+            count += 1;
+        }
+        count
+    }
+
+    /// Whether a gate may go next.
+    #[inline]
+    pub(crate) fn has_ready(&self) -> bool {
+        !self.queue.is_empty()
+    }
+
+    /// Whether a gate is claimed.
+    #[inline]
+    pub(crate) fn has_claimed(&self) -> bool
+        ensures { IsTrue result ↔ ((i : ℕ) × IsClaimed self.now i) }
+    {
+        self.claimed() > 0
+    }
+
+    /// Frees all claimed gates. The answer is how many they were.
+    pub(crate) fn reopen(&mut self) -> u32
+        ensures { Reopens self.old result self.new }
+    {
+        let count = self.claimed();
+        self.queue.reopen();
+        count
+    }
+
+    /// Takes a sealed task back. The answer is whether every gate is now finished.
+    ///
+    /// It refuses a task whose gate isn't claimed, and else one that isn't the own task of its gate. A refusal
+    /// changes nothing.
+    // A refusal is so large that returning it costs more than the work where the call is not inlined.
+    #[inline(always)]
+    pub(crate) fn finish(&mut self, sealed: Sealed) -> Result<bool, Refused>
+        ensures { Finishes self.old sealed result self.new }
+    {
+        let task = sealed.task();
+        if !self.is_claimed(task.gate) {
+            return Err(Refused::NotClaimed(sealed));
+        }
+        if task != self.task(task.gate) {
+            return Err(Refused::OtherInputs(sealed));
+        }
+        self.keep(sealed);
+        Ok(self.is_complete())
+    }
+
+    /// The garbling, or the same progress where a gate isn't finished.
+    pub(crate) fn into_garbling(self) -> Result<Garbling<A>, Progress<A>>
+        ensures complete { IfOk result (λ garbling. AllFinished self × IsGarbled self.circuit self.seed garbling) }
+        ensures incomplete { IfErr result (λ back. (¬ AllFinished self) × (back ≡ self)) }
+    {
+        if !self.is_complete() {
+            return Err(self);
+        }
+        let Progress {
+            circuit,
+            seed: _,
+            offset: _,
+            queue: _,
+            readers: _,
+            and_numbers: _,
+            zero_labels,
+            rows,
+            finished: _,
+            finished_ands: _,
+        } = self;
+        Ok(Garbling::from_parts(zero_labels, rows, circuit.output_wires()))
+    }
+
+    /// How many gates are claimed.
+    #[inline]
+    fn claimed(&self) -> u32
+        ensures { result ≡ count_by is_claimed self.now.states }
+    {
+        self.queue.busy() - self.finished
+    }
+
+    /// Whether a gate is claimed. There may be no such gate.
+    fn is_claimed(&self, i: u32) -> bool
+        ensures claimed { IsTrue result ↔ IsClaimed self.now i }
+        ensures reads { IsTrue result → ReadsKnown self.now i }
+    {
+        i < self.circuit.gates() && self.queue.is_claimed(i)
+    }
+
+    /// The task of a gate that reads known wires alone.
+    fn task(&self, i: u32) -> Task
+        requires { ReadsKnown self.now i }
+        ensures gate { result.gate ≡ i }
+        ensures own { IsOwnTask self.now result }
+    {
+        let operation = self.circuit.gate(i).operation;
+        let (first, second) = labels_read(&self.zero_labels, operation);
+        Task {
+            gate: i,
+            operation,
+            and_number: self.and_numbers[i as usize],
+            offset: self.offset,
+            first,
+            second,
+        }
+    }
+
+    /// Keeps what a sealed task gives for a gate that is claimed.
+    fn keep(&mut self, sealed: Sealed)
+        requires claimed { IsClaimed self.old sealed.gate }
+        requires own { IsOwnTask self.old sealed }
+        ensures { self.new ≡ with_sealed self.old sealed }
+    {
+        let task = sealed.task();
+        let wire = self.circuit.gate(task.gate).set;
+        self.queue.finish(task.gate);
+        self.readers
+            .count_down(&mut self.queue, &self.circuit, wire);
+        self.zero_labels[wire as usize] = sealed.zero_label();
+        self.finished += 1;
+        if let Some(rows) = sealed.rows() {
+            self.rows[task.and_number as usize] = rows;
+            self.finished_ands += 1;
+        }
+    }
+}
