@@ -1,0 +1,3 @@
+pub mod PoolMoves
+pub mod PlaceLemmas
+pub mod SweepLemmas

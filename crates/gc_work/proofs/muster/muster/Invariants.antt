@@ -1,0 +1,15 @@
+use Rattle.std.proofs.Common.{All, length}
+use Rattle.gc_work.specs.Places.{AreRows}
+use Rattle.gc_work.specs.Ready.{IsReady}
+use Rattle.gc_work.specs.Seats.{AreHeld}
+use Rattle.gc_work.proofs.muster.muster.Given as goal
+
+abbrev pub invariant-loop-seat : goal.invariant-loop-seat
+invariant-loop-seat g l = record {
+  seats : AreHeld l.pools l.seats.items;
+  rows : AreRows l.pools l.rows.items;
+  members : All (λ m. IsReady l.pools m) l.members.items;
+}
+
+abbrev pub decreases-loop-seat : goal.decreases-loop-seat
+decreases-loop-seat g l = length l.seats.items

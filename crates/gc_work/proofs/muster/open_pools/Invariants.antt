@@ -1,0 +1,9 @@
+use Rattle.gc_work.specs.Places.{AreRows}
+use Rattle.gc_work.specs.Seats.{AreHeld}
+use Rattle.gc_work.proofs.muster.open_pools.Given as goal
+
+abbrev pub invariant-loop-i : goal.invariant-loop-i
+invariant-loop-i g l = record {
+  seats : AreHeld l.pools.items l.seats.items;
+  rows : AreRows l.pools.items l.rows.items;
+}

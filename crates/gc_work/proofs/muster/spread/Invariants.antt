@@ -1,0 +1,13 @@
+use Rattle.std.proofs.Common.{[], ◌∷◌, ◌++◌}
+use Rattle.std.specs.Vec.Iter.{into_iter_items}
+use Rattle.gc_work.specs.Pool.{AllOf}
+use Rattle.gc_work.specs.Places.{AreRows}
+use Rattle.gc_work.proofs.muster.spread.Given as goal
+
+abbrev pub invariant-loop-thief : goal.invariant-loop-thief
+invariant-loop-thief g l = record {
+  can : (goal.iterator-loop-thief g).can_next l.thief-iterator;
+  finite : (goal.iterator-loop-thief g).is_finite l.thief-iterator;
+  thieves : AllOf l.pool (into_iter_items l.thief-iterator);
+  rows : AreRows (l.pools ++ l.pool ∷ []) l.rows;
+}

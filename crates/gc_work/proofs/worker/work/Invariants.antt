@@ -1,0 +1,9 @@
+use Rattle.std.proofs.Common.{◌≡◌}
+use Rattle.gc_work.specs.Ready.{IsReady}
+use Rattle.gc_work.proofs.worker.work.Given as goal
+
+abbrev pub invariant-loop : goal.invariant-loop
+invariant-loop g l = record {
+  ready : IsReady l.pools l.member;
+  own : l.member.owner.pool ≡ l.pool;
+}

@@ -1,0 +1,7 @@
+pub mod Pool
+pub mod PoolRule
+pub mod Kept
+pub mod Places
+pub mod Ready
+pub mod Seats
+pub mod WorkFault

@@ -1,0 +1,47 @@
+-- The rule of a pool, over the tasks in it and an account for each of its holders.
+use Rattle.std.specs.Prelude.{◌≡◌, ℕ, ◌+◌, ◌^◌, ◌≤◌, List, [], sum_by}
+use mathlib.Core.Option.{some}
+use lib.ListN.{get_elem?}
+use Rattle.gc_store.specs.declared.task.Task.{Task}
+use Rattle.gc_work.specs.declared.account.PoolAccount.{PoolAccount}
+use Rattle.gc_work.specs.Pool.{weigh}
+
+-- all parts of the right to know the whole
+abbrev pub all_parts : ℕ
+all_parts = 2 ^ 33
+
+abbrev pub account : ℕ → List Task → List Task → List Task → List Task → PoolAccount
+account parts pushed popped stolen handed = record {
+  parts = parts;
+  pushed = pushed;
+  popped = popped;
+  stolen = stolen;
+  handed = handed;
+}
+
+-- a number for each account, added up
+abbrev pub total : (PoolAccount → ℕ) → List PoolAccount → ℕ
+total f accounts = sum_by f accounts
+
+-- what an account's holder took, weighed
+abbrev pub gone : (Task → ℕ) → PoolAccount → ℕ
+gone h v = weigh h v.popped + weigh h v.stolen + weigh h v.handed
+
+-- A holder with no part has done nothing.
+abbrev pub IsIdle : PoolAccount → Type 0
+IsIdle v = v.parts ≡ 0 → v ≡ account 0 [] [] [] []
+
+abbrev pub IdleIsEmpty : List PoolAccount → Type 0
+IdleIsEmpty accounts = (port : ℕ) (v : PoolAccount) → get_elem? accounts port ≡ some v → IsIdle v
+
+-- What was pushed is what was taken and what the pool holds, however tasks are weighed.
+abbrev pub IsBalanced : List Task → List PoolAccount → Type 0
+IsBalanced tasks accounts =
+    (total (λ v. v.parts) accounts ≡ all_parts)
+    × ((h : Task → ℕ) → total (λ v. weigh h v.pushed) accounts ≡ total (gone h) accounts + weigh h tasks)
+    × IdleIsEmpty accounts
+
+-- What an account tells of the tasks in the pool: with all parts, they are those pushed and not taken.
+pub record Knows (v : PoolAccount) (tasks : List Task) : Type 0 where
+  pub bound : v.parts ≤ all_parts
+  pub whole : v.parts ≡ all_parts → (h : Task → ℕ) → weigh h v.pushed ≡ gone h v + weigh h tasks

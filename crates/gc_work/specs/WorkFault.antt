@@ -1,0 +1,27 @@
+-- The numbers and names of the faults of garbling on many threads, and when each comes.
+use Rattle.std.specs.Prelude.{◌≡◌, ℕ, ◌<◌, ◌≤◌, ◌⊎◌, List, Result, Ok, Err, codes}
+use Rattle.gc_work.specs.declared.fault.WorkFault.{WorkFault}
+use Rattle.gc_work.specs.declared.fault.WorkFault.TheVariants.{BadWorkers, Memory}
+use Rattle.gc_work.specs.declared.garbling.TheConstants.{MAX_WORKERS}
+
+abbrev pub code_of : WorkFault → ℕ
+code_of BadWorkers = 22
+code_of Memory = 23
+
+abbrev pub name_of : WorkFault → List ℕ
+name_of BadWorkers = codes "BadWorkers"
+name_of Memory = codes "Memory"
+
+-- There is a worker, and there are not too many.
+abbrev pub AreFew : ℕ → Type 0
+AreFew workers = (0 < workers) × (workers ≤ MAX_WORKERS)
+
+-- With so many workers there is this fault: their number is wrong, or it isn't and memory ran out.
+abbrev pub HasWorkFault : ℕ → WorkFault → Type 0
+HasWorkFault workers BadWorkers = (workers ≡ 0) ⊎ (MAX_WORKERS < workers)
+HasWorkFault workers Memory = AreFew workers
+
+-- The number of workers is refused exactly where it is 0 or above the limit.
+abbrev pub JudgesWorkers : {X : Type 0} → ℕ → Result X WorkFault → Type 0
+JudgesWorkers workers (Ok _) = AreFew workers
+JudgesWorkers workers (Err fault) = HasWorkFault workers fault

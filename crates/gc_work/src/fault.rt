@@ -1,0 +1,62 @@
+//! Why there is no garbling.
+
+ghost use Rattle.std.specs.Prelude.{◌≡◌};
+ghost use Rattle.gc_work.specs.WorkFault.{code_of, name_of};
+
+use gc_circuit::Memory;
+use std::error::Error;
+use std::fmt;
+
+/// Why there is no garbling.
+#[derive(Clone, Copy, PartialEq, Eq, Debug)]
+pub enum WorkFault {
+    /// The number of workers is 0 or above [`MAX_WORKERS`](crate::MAX_WORKERS).
+    BadWorkers,
+    /// Memory ran out.
+    Memory,
+}
+
+impl WorkFault {
+    /// The number of the fault: 22 or 23.
+    pub fn code(&self) -> u32
+        ensures { result ≡ code_of self.now }
+    {
+        match self {
+            WorkFault::BadWorkers => 22,
+            WorkFault::Memory => 23,
+        }
+    }
+
+    /// The name of the fault.
+    pub fn name(&self) -> &'static str
+        ensures { result.now ≡ name_of self.now }
+    {
+        match self {
+            WorkFault::BadWorkers => "BadWorkers",
+            WorkFault::Memory => "Memory",
+        }
+    }
+}
+
+impl fmt::Display for WorkFault {
+    ghost use Rattle.std.specs.Prelude.{Some};
+
+    ghost output = { λ fault. Some (name_of fault) };
+
+    fn fmt<W: fmt::Write>(&self, f: &mut fmt::Formatter<W>) -> fmt::Result {
+        f.write_str(self.name())
+    }
+}
+
+impl Error for WorkFault {}
+
+impl From<Memory> for WorkFault {
+    ghost use Rattle.std.specs.Prelude.{◌≡◌};
+    ghost use Rattle.gc_work.specs.declared.fault.WorkFault.TheVariants as fault;
+
+    ghost from_gives = { λ _ made. made ≡ fault.Memory };
+
+    fn from(_e: Memory) -> WorkFault {
+        WorkFault::Memory
+    }
+}

@@ -1,0 +1,165 @@
+//! Garbling on many threads.
+
+ghost use Rattle.std.specs.Prelude.{◌≡◌, ◌<◌, ◌≤◌, All, IfOk};
+ghost use Rattle.gc_half.specs.Garbling.{IsGarbled};
+ghost use Rattle.gc_store.specs.declared.tally.TheConstants.{MAX_TALLIES};
+ghost use Rattle.gc_work.specs.Ready.{IsReady};
+ghost use Rattle.gc_work.specs.WorkFault.{JudgesWorkers};
+
+use crate::fault::WorkFault;
+use crate::gatehouse::Gatehouse;
+use crate::gather::gather;
+use crate::muster::{muster, open_pools};
+use crate::pool::TaskPool;
+use crate::sweep::sweep;
+use crate::worker::{Member, work};
+use gc_circuit::{Circuit, Memory};
+use gc_half::{Garbling, garble_one_thread};
+use gc_label::Seed;
+use gc_store::{MAX_TALLIES, SharedStore, Store, Tally};
+use std::alloc::Allocator;
+use std::marker::Brand;
+use std::sync::Wait;
+use std::sync::ledger::{Blank, Ledger};
+use std::thread;
+use std::thread::Threads;
+
+/// The most workers that garble together.
+pub const MAX_WORKERS: u32 = 64;
+
+/// The room of a worker's pool, in tasks.
+const POOL_CAPACITY: u32 = 1024;
+
+/// The garbling of a circuit under a seed, made by so many workers. The calling thread is worker 0; a thread is started
+/// for each other worker, and where one can't be started the calling thread does its work too. `house` is told of each
+/// gate before it is sealed.
+///
+/// It refuses 0 workers and more than [`MAX_WORKERS`]. Memory is the other fault.
+pub fn garble<
+    A: Allocator + Copy + Send + Sync,
+    C: Allocator,
+    H: Gatehouse + Sync,
+    R: Threads + Wait + Sync,
+>(
+    rt: &R,
+    alloc: A,
+    circuit: &Circuit<C>,
+    seed: &Seed,
+    workers: u32,
+    house: &H,
+) -> Result<Garbling<A>, WorkFault>
+    ensures garbled { IfOk result (IsGarbled circuit.now seed.now) }
+    ensures workers { JudgesWorkers workers result }
+{
+    if workers == 0 || workers > MAX_WORKERS {
+        return Err(WorkFault::BadWorkers);
+    }
+    if workers == 1 {
+        return Ok(garble_alone(alloc, circuit, seed, house)?);
+    }
+    let ledger = Blank::new(u64::from(MAX_TALLIES));
+    let garbling = garble_by::<Brand, A, C, H, R>(
+        rt, alloc, ledger, circuit, seed, workers, house,
+    )?;
+    Ok(garbling)
+}
+
+/// The same, by several workers over a store that begins the ledger.
+fn garble_by<
+    L: Ledger + Send + Sync,
+    A: Allocator + Copy + Send + Sync,
+    C: Allocator,
+    H: Gatehouse + Sync,
+    R: Threads + Wait + Sync,
+>(
+    rt: &R,
+    alloc: A,
+    ledger: Blank,
+    circuit: &Circuit<C>,
+    seed: &Seed,
+    workers: u32,
+    house: &H,
+) -> Result<Garbling<A>, Memory>
+    requires name { ledger.name ≡ L.name }
+    requires parts { (ledger.parts ≡ L.parts) × (ledger.parts ≡ MAX_TALLIES) }
+    ensures { IfOk result (IsGarbled circuit.now seed.now) }
+{
+    let store = Store::<L, A>::open(alloc, ledger, circuit.try_clone(alloc)?, *seed)?;
+    let capacity = circuit.gates().min(POOL_CAPACITY);
+    let (mut store, tally) = work_together(rt, alloc, store, workers, capacity, house)?;
+    if let Some(mut tally) = tally {
+        sweep(&mut store, &mut tally, house);
+    }
+    if store.is_for(circuit, seed) {
+        if let Ok(garbling) = store.into_garbling() {
+            return Ok(garbling);
+        }
+    }
+    garble_alone(alloc, circuit, seed, house)
+}
+
+/// The calling thread garbles alone, as worker 0.
+fn garble_alone<A: Allocator + Copy, C: Allocator, H: Gatehouse>(
+    alloc: A,
+    circuit: &Circuit<C>,
+    seed: &Seed,
+    house: &H,
+) -> Result<Garbling<A>, Memory>
+    ensures { IfOk result (IsGarbled circuit.now seed.now) }
+{
+    for gate in 0..circuit.gates() {
+        house.before(0, gate);
+    }
+    garble_one_thread(alloc, circuit, seed)
+}
+
+/// Lets the workers finish what they can, each with a pool of this capacity. The answer is the store and worker 0's
+/// tally.
+fn work_together<
+    L: Ledger + Send + Sync,
+    A: Allocator + Copy + Send + Sync,
+    H: Gatehouse + Sync,
+    R: Threads + Wait + Sync,
+>(
+    rt: &R,
+    alloc: A,
+    mut store: Store<L, A>,
+    workers: u32,
+    capacity: u32,
+    house: &H,
+) -> Result<(Store<L, A>, Option<Tally<L>>), Memory> {
+    let (pools, seats, rows) = open_pools(alloc, workers, capacity)?;
+    let mut members = muster(alloc, &mut store, pools.as_slice(), seats, rows)?;
+    let shared = SharedStore::new(store);
+    run_all(rt, &shared, pools.as_slice(), members.as_mut_slice(), house);
+    let tally = gather(alloc, pools, members)?;
+    Ok((shared.into_store(), tally))
+}
+
+/// Runs all workers, the last one on the calling thread and each other in a thread of its own, where one can be started.
+fn run_all<
+    L: Ledger + Send + Sync,
+    A: Allocator + Send + Sync,
+    H: Gatehouse + Sync,
+    R: Threads + Wait + Sync,
+>(
+    rt: &R,
+    shared: &SharedStore<L, A>,
+    pools: &[TaskPool<A>],
+    members: &mut [Member<L, A>],
+    house: &H,
+)
+    requires { All (λ m. IsReady pools.now m) members.old }
+    ensures { All (λ m. IsReady pools.now m) members.new }
+{
+    let count = members.len().max(1);
+    thread::for_each_mut(
+        rt,
+        members,
+        count,
+        &|_i: usize, member: &mut Member<L, A>|
+            requires { IsReady pools.now member.now }
+            ensures { IsReady pools.entry.now member.exit.now }
+        { work(rt, shared, pools, member, house) },
+    );
+}

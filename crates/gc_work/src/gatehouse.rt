@@ -1,0 +1,16 @@
+//! Who is told of each gate before it is sealed.
+
+/// Is told of each gate before it is sealed.
+pub trait Gatehouse {
+    /// Worker `worker`, counted from 0, is about to seal gate `gate` of the file. It holds no lock.
+    fn before(&self, worker: u32, gate: u32);
+}
+
+/// A gatehouse that lets every worker pass.
+#[derive(Clone, Copy, Debug)]
+pub struct Open;
+
+impl Gatehouse for Open {
+    #[inline]
+    fn before(&self, _worker: u32, _gate: u32) {}
+}

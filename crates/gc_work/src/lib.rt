@@ -1,0 +1,25 @@
+//! Garbling on many threads, and the pools of tasks that its workers take from.
+//!
+//! [`garble`] lets workers claim, seal and hand in the gates of one store, under a lock. What the store keeps at every
+//! moment makes the answer right, whatever the threads did.
+//!
+//! A [`TaskPool`] is filled and emptied by one [`Owner`] and emptied by any number of [`Thief`]s, with no lock.
+//! What was pushed to it is what was taken from it and what is left, whatever the threads did.
+#![tactic(auto)]
+
+mod account;
+mod fault;
+mod garbling;
+mod gatehouse;
+mod gather;
+mod muster;
+mod pool;
+mod raid;
+mod sweep;
+mod worker;
+
+pub use account::{PoolAccount, PoolRule};
+pub use fault::WorkFault;
+pub use garbling::{MAX_WORKERS, garble};
+pub use gatehouse::{Gatehouse, Open};
+pub use pool::{Gathered, NoRoom, Owner, TaskPool, Thief};

@@ -1,0 +1,130 @@
+//! One worker: where its tasks come from, and where they go when they are sealed.
+
+ghost use Rattle.std.specs.Prelude.{◌≡◌};
+ghost use Rattle.gc_work.specs.Ready.{IsReady};
+
+use crate::gatehouse::Gatehouse;
+use crate::pool::{NoRoom, Owner, TaskPool};
+use crate::raid::{Raid, rob_each};
+use gc_store::{BATCH_SIZE, Batch, Sealed, SharedStore, Tally, Task};
+use std::alloc::Allocator;
+use std::sync::Wait;
+use std::sync::ledger::Ledger;
+
+/// What a worker has of its own: the place of its pool among all pools, its number, its tally, its pool's owner, a
+/// thief at each other pool, and room for the tasks that it has sealed and not handed in.
+#[derive(Drop)]
+pub(crate) struct Member<L: Ledger, A: Allocator> {
+    pub place: usize,
+    pub number: u32,
+    pub tally: Tally<L>,
+    pub owner: Owner<A>,
+    pub raids: Vec<Raid<A>, A>,
+    pub sealed: Vec<Sealed, A>,
+}
+
+/// Pushes the tasks of a batch but one. A task that the pool has no room for comes back.
+fn share<A: Allocator>(pool: &TaskPool<A>, owner: &mut Owner<A>, batch: &mut Batch) -> Option<Task>
+    requires { owner.old.pool ≡ pool.now }
+    ensures { owner.new.pool ≡ owner.old.pool }
+{
+    for _i in 0..BATCH_SIZE {
+        if batch.len() < 2 {
+            return None;
+        }
+        let task = batch.pop()?;
+        if let Err(NoRoom { task }) = pool.push(owner, task) {
+            return Some(task);
+        }
+    }
+    None
+}
+
+/// The next task: of the batch, of the worker's own pool, of another's, or of the store. It may wait there.
+fn next_task<L: Ledger, A: Allocator, R: Wait>(
+    rt: &R,
+    shared: &SharedStore<L, A>,
+    pool: &TaskPool<A>,
+    pools: &[TaskPool<A>],
+    member: &mut Member<L, A>,
+    batch: &mut Batch,
+) -> Option<Task>
+    requires ready { IsReady pools.now member.old }
+    requires own { member.old.owner.pool ≡ pool.now }
+    ensures ready { IsReady pools.now member.new }
+    ensures own { member.new.owner.pool ≡ member.old.owner.pool }
+{
+    if let Some(task) = batch.pop() {
+        return Some(task);
+    }
+    if let Some(task) = pool.pop(&mut member.owner) {
+        return Some(task);
+    }
+    if let Some(task) = rob_each(pools, member.raids.as_mut_slice()) {
+        return Some(task);
+    }
+    shared.take(rt)
+}
+
+/// Seals a task, and then those of the worker's own pool, up to as many as a batch holds. The answer is whether there
+/// was room for them.
+fn seal_some<L: Ledger, A: Allocator, H: Gatehouse>(
+    pool: &TaskPool<A>,
+    member: &mut Member<L, A>,
+    house: &H,
+    task: Task,
+) -> bool
+    requires { member.old.owner.pool ≡ pool.now }
+    ensures same { member.new.place ≡ member.old.place }
+    ensures pool { member.new.owner.pool ≡ member.old.owner.pool }
+    ensures raids { member.new.raids ≡ member.old.raids }
+{
+    member.sealed.clear();
+    let mut next = Some(task);
+    for _i in 0..BATCH_SIZE {
+        let Some(task) = next else {
+            return true;
+        };
+        house.before(member.number, task.gate);
+        if let Err(_full) = member.sealed.push(Sealed::make(task)) {
+            return false;
+        }
+        next = pool.pop(&mut member.owner);
+    }
+    true
+}
+
+/// Works until nothing is left to do, or until the store is stopped. Where a task can't be handed in it stops the store.
+pub(crate) fn work<L: Ledger, A: Allocator, H: Gatehouse, R: Wait>(
+    rt: &R,
+    shared: &SharedStore<L, A>,
+    pools: &[TaskPool<A>],
+    member: &mut Member<L, A>,
+    house: &H,
+)
+    requires { IsReady pools.now member.old }
+    ensures { IsReady pools.now member.new }
+{
+    let Some(pool) = pools.get(member.place) else {
+        return;
+    };
+    let mut batch = Batch::new();
+    let mut kept: Option<Task> = None;
+    for _ in rt.forever() {
+        if kept.is_none() {
+            kept = next_task(rt, shared, pool, pools, member, &mut batch);
+        }
+        let Some(task) = kept else {
+            return;
+        };
+        if !seal_some(pool, member, house, task)
+            || shared
+                .hand_in_all(rt, member.sealed.as_slice(), &mut member.tally, &mut batch)
+                .is_err()
+        {
+            shared.stop(rt);
+            return;
+        }
+        kept = share(pool, &mut member.owner, &mut batch);
+    }
+}
