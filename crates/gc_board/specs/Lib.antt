@@ -1,0 +1,5 @@
+pub mod Counts
+pub mod Board
+pub mod Steps
+pub mod Places
+pub mod Fault

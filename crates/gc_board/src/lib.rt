@@ -1,0 +1,19 @@
+//! The words of a board on which many seats work at the same gates, and the six kinds of atomic step on them.
+//!
+//! A board has three words for each gate: its state (0 free, 1 in hand, 2 done) and two halves of what is found out of
+//! it. [`Rule`] is what holds of these words, and of what the seats know of them, between any two atomic steps. Nothing
+//! here knows of circuits: [`Work`] tells what the words are about.
+#![tactic(auto)]
+
+mod fault;
+mod kinds;
+mod rule;
+mod seats;
+mod steps;
+
+pub use fault::OpenFault;
+pub use rule::{Hand, Key, Rule, View, Work};
+pub use seats::{WordTable, close_table, deal_place, join_place, open_table, tell_place};
+pub use steps::{
+    Place, Words, claim, load_high, load_low, load_state, store_done, store_high, store_low,
+};

@@ -1,0 +1,83 @@
+//! The table of a board's words: how it is opened and closed, and how its seats are dealt, told of one another and
+//! joined.
+
+ghost use Rattle.std.specs.Prelude.{◌≡◌, ℕ, ◌<◌, [], IfOk};
+ghost use Rattle.std.specs.Slots.{slots_items, slots_len, IsFull};
+ghost use Rattle.gc_board.specs.declared.rule.Hand.TheVariants.{Empty};
+ghost use Rattle.gc_board.specs.Board.{starting, Settled};
+ghost use Rattle.gc_board.specs.Steps.{one_less, newcomer, note_of, merged};
+ghost use Rattle.gc_board.specs.Places.{IsTable, IsPlaceOf, IsSamePlace};
+
+use crate::fault::OpenFault;
+use crate::kinds::{Deal, Merge, Note};
+use crate::rule::{Key, Rule, View, Work};
+use crate::steps::{Place, Words};
+use atomic_table::{Closed, Table};
+use std::alloc::Allocator;
+
+/// The words with their memory.
+pub type WordTable<J, A> = Table<u8, View<J>, Key<J>, Rule, A>;
+
+/// A table with all gates free, and a place that stands for all seats. It takes memory for the words twice over, and
+/// gives half of it back: 46 or 49 where it gets none.
+pub fn open_table<J: Work, A: Allocator + Copy>(
+    alloc: A,
+    key: &Key<J>,
+    gates: u32,
+) -> Result<(WordTable<J, A>, Place<J>), OpenFault>
+    requires gates { J.gates key.now.work ≡ gates }
+    requires seats { 0 < key.now.seats }
+    ensures { IfOk result (λ t. (t.0.shared.key ≡ key.now)
+        × IsTable J.gates t.0.shared.table_id key.now
+        × (t.1.table_id ≡ t.0.shared.table_id)
+        × (t.1.me ≡ (starting key.now.work key.now.seats, []))) }
+{
+    let words = Vec::from_elem(alloc, 0u64, 3 * gates as usize + 1)?;
+    match Table::of_words(alloc, &words, key) {
+        Ok(opened) => Ok(opened),
+        Err(_) => Err(OpenFault::NoTable),
+    }
+}
+
+/// A new seat, out of a place that stands for several.
+pub fn deal_place<J: Work>(words: &Words<J>, place: &mut Place<J>) -> Place<J>
+    requires place { IsPlaceOf J.gates words.now.table_id words.now.key place.old }
+    requires several { 1 < place.old.me.0.seats }
+    ensures kept { IsSamePlace place.old place.new × (place.new.me.0 ≡ one_less place.old.me.0) }
+    ensures given { (result.table_id ≡ place.old.table_id) × (result.me ≡ (newcomer place.old.me.0, [])) }
+{
+    words.split_seat::<Deal>(place)
+}
+
+/// `to` learns what `from` knows.
+pub fn tell_place<J: Work>(words: &Words<J>, from: &mut Place<J>, to: &mut Place<J>)
+    requires from { IsPlaceOf J.gates words.now.table_id words.now.key from.old }
+    requires to { IsPlaceOf J.gates words.now.table_id words.now.key to.old }
+    ensures from { IsSamePlace from.old from.new × (from.new.me.0 ≡ from.old.me.0) }
+    ensures to { IsSamePlace to.old to.new × (to.new.me.0 ≡ merged to.old.me.0 (note_of from.old.me.0)) }
+{
+    let note = words.split_seat::<Note>(from);
+    words.join_seat::<Merge>(to, note);
+}
+
+/// `other` ends, and `place` has what it had.
+pub fn join_place<J: Work>(words: &Words<J>, place: &mut Place<J>, other: Place<J>)
+    requires place { IsPlaceOf J.gates words.now.table_id words.now.key place.old }
+    requires other { IsPlaceOf J.gates words.now.table_id words.now.key other }
+    requires empty { (other.me.0.hand ≡ Empty) × (other.me.1 ≡ []) }
+    ensures { IsSamePlace place.old place.new × (place.new.me.0 ≡ merged place.old.me.0 other.me.0) }
+{
+    words.join_seat::<Merge>(place, other);
+}
+
+/// The words at the end, from the place that stands for all seats.
+pub fn close_table<J: Work, A: Allocator>(table: WordTable<J, A>, place: Place<J>) -> Closed<u8, A>
+    requires place { IsPlaceOf J.gates table.shared.table_id table.shared.key place }
+    requires all { place.me.0.seats ≡ place.me.0.all }
+    ensures words { (slots_len result.words ≡ table.shared.table_id.words)
+        × (slots_len result.slots ≡ table.shared.table_id.slots)
+        × IsFull result.words }
+    ensures right { Settled J.gates J.right table.shared.key.work (slots_items result.words) place.me.0.made }
+{
+    table.close_with(place)
+}
