@@ -30,7 +30,8 @@ use Rattle.gc_eval.specs.declared.fault.EvalFault.{EvalFault}
 use Rattle.gc_eval.specs.declared.fault.EvalFault.TheVariants.{UnknownOutputLabel, Memory}
 use Rattle.gc_eval.specs.Job.{JobParts, IsWhole}
 use Rattle.gc_eval.specs.Evaluate.{labels_of, entry, IsRecognised, IsEvaluated}
-use Rattle.gc_eval.specs.Honest.{version_entries, IsHonest}
+use Rattle.gc_file.specs.Honest.{version_entries}
+use Rattle.gc_eval.specs.Honest.{IsHonest}
 use Rattle.gc_eval.proofs.OutputLemmas.{output-at}
 
 -- The label that stands for a bit on an input wire.

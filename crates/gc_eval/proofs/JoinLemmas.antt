@@ -32,7 +32,7 @@ joined_more files places i k file room is at =
     ∙ ap (λ ls. flat_map (labels_at files) (take i places) ++ ls)
     (append-nil (labels_at files (get_or places i None)) ∙ ap (labels_at files) is ∙ ap labels_in at))
 
-sum-cons : (n : ℕ) (ns : List ℕ) → sum (n ∷ ns) ≡ n + sum ns
+pub sum-cons : (n : ℕ) (ns : List ℕ) → sum (n ∷ ns) ≡ n + sum ns
 sum-cons n ns = sum_by-cons (λ m. m) n ns
 
 module _ {X : Type 0} (f : X → List ℕ) where

@@ -1,7 +1,9 @@
 -- The labels of the output wires.
-use Rattle.std.proofs.Common.{◌≡◌, ℕ, ◌+◌, ◌-◌, ◌<◌, List, length, map, drop, slice_get, Some, Bool, Result, Err, sym, ap, subst, ◌∙◌, arith}
-use Rattle.std.specs.List.{range_with_len}
+use Rattle.std.proofs.Common.{◌≡◌, ℕ, ◌+◌, ◌-◌, ◌<◌, List, length, map, drop, slice_get, Some, Bool, Result, Ok, Err, refl, sym, ap, subst, ◌∙◌, arith}
+use Rattle.std.specs.List.{range_with_len, zip}
 use Rattle.std.proofs.lemmas.List.FromFn.{length-map-range_with_len, get_or-map-range_with_len}
+use Rattle.std.proofs.lemmas.List.{length-map}
+use Rattle.std.proofs.lemmas.Slice.Zip.{length-zip}
 use Rattle.std.proofs.lemmas.Option.{slice_get_within, get_or_from_slice_get}
 use Rattle.gc_circuit.specs.Circuit.{Netlist, output_wires, IsLawful}
 use Rattle.gc_circuit.specs.Solution.{solution, on_outputs}
@@ -13,7 +15,10 @@ use Rattle.gc_half.specs.Evaluation.{active_rule, IsEvaluation}
 use Rattle.gc_half.proofs.CircuitLaw.{active_local}
 use Rattle.gc_eval.specs.declared.fault.EvalFault.{EvalFault}
 use Rattle.gc_eval.specs.declared.fault.EvalFault.TheVariants.{Memory}
+use Rattle.gc_file.specs.GarbledFile.{GarbledParts}
+use Rattle.gc_file.specs.LabelFile.{LabelFileParts}
 use Rattle.gc_eval.specs.Job.{JobParts, IsWhole}
+use Rattle.gc_eval.specs.Binding.{IsBound}
 use Rattle.gc_eval.specs.Evaluate.{labels_of, AreActive, IsDecodingOf, IsEvaluated}
 
 module _ (c : Netlist) (lawful : IsLawful c) (values : ℕ → ℕ) where
@@ -65,3 +70,20 @@ no_memory job whole = record {
       job.circuit whole.lawful (labels_of job.inputs);
   decoding = tt;
 }
+
+-- A job that is bound is whole.
+pub bound-whole : (c : Netlist) → IsLawful c → (g : GarbledParts) (files : List LabelFileParts) (job : JobParts)
+    → IsBound c g files job → IsWhole job
+bound-whole c lawful g files job bound =
+    subst IsWhole (sym bound.parts)
+    (record { lawful = lawful; rows = bound.counts.rows; decode_bits = bound.counts.decode_bits; inputs = bound.labels.count })
+
+-- An evaluation answers a bit for each output wire.
+pub length-evaluated : (job : JobParts) → IsWhole job → (bits : List Bool) → IsEvaluated job (Ok bits)
+    → length bits ≡ output_wires job.circuit
+length-evaluated job whole bits is =
+    let labels = on_outputs job.circuit is.active in
+    let long : length labels ≡ output_wires job.circuit =
+    length-outputs job.circuit whole.lawful is.active labels refl in
+    ap length is.decoding.0 ∙ length-map (zip job.decode_bits labels) _ ∙ length-zip job.decode_bits labels
+    ∙ omega (arith, long, whole.decode_bits)

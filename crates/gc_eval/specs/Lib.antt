@@ -4,3 +4,8 @@ pub mod Binding
 pub mod Places
 pub mod Evaluate
 pub mod Honest
+pub mod Wiring
+pub mod ActiveLabels
+pub mod Views
+pub mod Seats
+pub mod Done

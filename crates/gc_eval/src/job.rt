@@ -6,6 +6,7 @@ ghost use Rattle.gc_circuit.specs.Circuit.{output_wires};
 
 use crate::bind::{bound_labels, has_counts};
 use crate::decode::{decoded, first_unknown};
+use crate::facts::Facts;
 use crate::fault::{BindFault, EvalFault};
 use gc_circuit::Circuit;
 use gc_file::{Garbled, LabelFile, Version};
@@ -13,6 +14,7 @@ use gc_half::RowPair;
 use gc_label::Label;
 use std::alloc::{Allocator, Global};
 use std::marker::Model;
+use std::snapshot::Snapshot;
 
 /// What the evaluator of a garbled circuit is given: the circuit, what a garbled file of it holds, and a label for each
 /// input wire. The type keeps that there are as many row pairs, decode bits and input labels as the circuit has AND
@@ -93,6 +95,17 @@ impl<'c, A: Allocator, C: Allocator> Job<'c, A, C> {
         ensures { result.now ≡ self.now.inputs }
     {
         &self.inputs
+    }
+
+    /// The job as contracts see it.
+    pub(crate) fn facts(&self) -> Facts<A, C>
+        ensures { result ≡ self.now }
+    {
+        Facts {
+            circuit: Snapshot::of(self.circuit),
+            garbled: Snapshot::of(&self.garbled),
+            inputs: Snapshot::of(&self.inputs),
+        }
     }
 
     /// The output bits that these active labels of the output wires decode to ("Two Halves Make a Whole", the procedure

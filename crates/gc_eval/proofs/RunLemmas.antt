@@ -1,0 +1,208 @@
+-- Calls one after another.
+use Rattle.std.proofs.Common.{◌≡◌, ◌≢◌, ℕ, zero, suc, ◌+◌, ◌*◌, ◌<◌, ◌≤◌, inl, inr, List, [], ◌∷◌, ◌++◌, refl, ap, ◌∙◌, subst, arith, ⊎_elim, append_assoc, length-append, sym, slice_get, Some, ◌⊎◌}
+use mathlib.Core.Logic.{dite}
+use native.Mathlib.Decide.{dec_le}
+use Rattle.atomic_table.specs.Seated.{TableId}
+use Rattle.atomic_table.specs.declared.shared.Seat.{Seat}
+use Rattle.gc_board.specs.Counts.{only, times}
+use Rattle.gc_board.specs.Places.{IsPlaceOf, IsSamePlace}
+use Rattle.gc_board.specs.declared.rule.View.{View}
+use Rattle.gc_board.specs.declared.rule.Key.{Key}
+use Rattle.gc_board.proofs.Sums.{total-append, only_same}
+use Rattle.gc_eval.specs.Job.{JobParts}
+use Rattle.gc_eval.specs.declared.seat.Answer.{Answer}
+use Rattle.gc_eval.specs.declared.seat.Answer.TheVariants.{Made, Done, Taken, NotYet}
+use Rattle.gc_circuit.specs.Circuit.{Netlist}
+use Rattle.gc_circuit.specs.declared.circuit.Gate.{Gate}
+use Rattle.gc_eval.specs.Views.{IsAlone, IsMadeNow, SetsMade, ReadsMade, FirstLacking, AnswersAlone, first_of, second_of, sightings, Ran, Saw, SawUndone, Lacks, Answers}
+
+module _ {J : Type 0} where
+  pub ran_then : (a b c : View J) (list : List ℕ) (m n : ℕ) → Ran a b a.made m → Ran b c list n
+      → Ran a c list (m + n)
+  ran_then a b c list m n p q = record {
+    job = q.job ∙ p.job;
+    all = q.all ∙ p.all;
+    seats = q.seats ∙ p.seats;
+    hand = q.hand ∙ p.hand;
+    made = q.made;
+    known = λ g. omega (arith, p.known g, q.known g);
+    added = p.added ++ q.added;
+    short = omega (arith, p.short, q.short, length-append p.added q.added);
+    steps = q.steps ∙ ap (λ l. l ++ q.added) p.steps ∙ append_assoc a.steps p.added q.added;
+  }
+
+  -- the sightings of a call are those of what it added
+  sightings_more : (a b : View J) (list : List ℕ) (m word found : ℕ) → Ran a b list m
+      → sightings word found a.steps ≤ sightings word found b.steps
+  sightings_more a b list m word found p = omega (
+    arith,
+    ap (sightings word found) p.steps,
+    total-append
+        (λ s. only word s.0 * only found s.1) a.steps p.added,
+  )
+
+  pub longer : (a b : View J) (list : List ℕ) (m n : ℕ) → m ≤ n → Ran a b list m → Ran a b list n
+  longer a b list m n le p = record {
+    job = p.job;
+    all = p.all;
+    seats = p.seats;
+    hand = p.hand;
+    made =
+        p.made;
+    known = p.known;
+    added = p.added;
+    short = omega (arith, p.short);
+    steps = p.steps;
+  }
+
+  pub saw_later : (a b c : View J) (m word found : ℕ) → Ran a b a.made m → Saw b c word found
+      → Saw a c word found
+  saw_later a b c m word found p s = omega (arith, sightings_more a b a.made m word found p)
+
+  pub saw_before : (a b c : View J) (list : List ℕ) (m word found : ℕ) → Saw a b word found
+      → Ran b c list m → Saw a c word found
+  saw_before a b c list m word found s p = omega (arith, sightings_more b c list m word found p)
+
+  pub saw_step : (old new : View J) (word found : ℕ) → new.steps ≡ old.steps ++ (word, found) ∷ []
+      → Saw old new word found
+  saw_step old new word found e =
+      let one : only word word * only found found ≡ 1 =
+      λ i. only_same word word refl i * only_same found found refl i in
+      omega (
+        arith,
+        ap (sightings word found) e,
+        total-append
+            (λ s. only word s.0 * only found s.1) old.steps ((word, found) ∷ []),
+        one,
+      )
+
+  pub saw_undone : (old new : View J) (g found : ℕ) → new.steps ≡ old.steps ++ (3 * g, found) ∷ []
+      → found < 3 → found ≢ 2 → SawUndone old new g
+  saw_undone old new g zero e lt ne = inl (saw_step old new (3 * g) 0 e)
+  saw_undone old new g (suc zero) e lt ne = inr (saw_step old new (3 * g) 1 e)
+  saw_undone old new g (suc (suc zero)) e lt ne = absurd (ne refl)
+  saw_undone old new g (suc (suc (suc n))) e lt ne = absurd (omega arith)
+
+  pub still_at : {S : Type 0} (gates : J → ℕ) (table : TableId) (key : Key J) (old new : Seat S (View J))
+      (m : ℕ) → IsPlaceOf gates table key old → IsSamePlace old new → Ran old.me.0 new.me.0 old.me.0.made m
+      → IsPlaceOf gates table key new
+  still_at gates table key old new m p same ran = record {
+    fits = p.fits;
+    table_id = same.table_id
+        ∙ p.table_id;
+    about = ran.job ∙ p.about;
+    whole = ran.all ∙ p.whole;
+  }
+
+-- what is not found done was not known
+pub unknown : (n found : ℕ) → (0 < n → found ≡ 2) → found ≢ 2 → n ≡ 0
+unknown n found known ne = dite (dec_le 1 n) (λ y. absurd (ne (known y))) (λ z. omega arith)
+
+pub moved_at : {S : Type 0} (gates : JobParts → ℕ) (table : TableId) (key : Key JobParts)
+    (old new : Seat S (View JobParts)) → IsPlaceOf gates table key old → IsSamePlace old new
+    → new.me.0.job ≡ old.me.0.job → new.me.0.all ≡ old.me.0.all → IsPlaceOf gates table key new
+moved_at gates table key old new p same job all = record {
+  fits = p.fits;
+  table_id = same.table_id
+      ∙ p.table_id;
+  about = job ∙ p.about;
+  whole = all ∙ p.whole;
+}
+
+lacks_later : (f : JobParts) (w m : ℕ) (a b c : View JobParts) → Ran a b a.made m → Lacks f w b c
+    → Lacks f w a c
+lacks_later f w m a b c p l = record {
+  no_input = l.no_input;
+  unknown = λ h set. let t = l.unknown h set in (
+    omega (arith, p.known h, t.0),
+    ⊎_elim (λ s. inl (saw_later a b c m (3 * h) 0 p s))
+        (λ s. inr (saw_later a b c m (3 * h) 1 p s)) t.1,
+  );
+}
+
+pub lacks_then : (f : JobParts) (w m : ℕ) (a b c : View JobParts) → Ran a b a.made m → Lacks f w b c
+    → Lacks f w a c
+lacks_then = lacks_later
+
+-- an answer after steps that made nothing
+pub answers_later : (f : JobParts) (g m n : ℕ) (a b c : View JobParts) (answer : Answer) → Ran a b a.made m
+    → Answers f g n b c answer → Answers f g (m + n) a c answer
+answers_later f g m n a b c (Made label) p h = (
+  h.0,
+  h.1,
+  omega (arith, p.known g, h.2),
+  subst (λ l. Ran a c (l ++ g ∷ []) (m + n)) p.made (ran_then a b c (b.made ++ g ∷ []) m n p h.3),
+)
+answers_later f g m n a b c (Done label) p h = (
+  h.0,
+  h.1,
+  subst (λ l. Ran a c l (m + n)) p.made
+      (ran_then a b c b.made m n p h.2),
+)
+answers_later f g m n a b c Taken p h = (
+  omega (arith, p.known g, h.0),
+  saw_later a b c m (3 * g) 1 p h.1,
+  subst (λ l. Ran a c l (m + n)) p.made (ran_then a b c b.made m n p h.2),
+)
+answers_later f g m n a b c (NotYet w) p h = (
+  omega (arith, p.known g, h.0),
+  h.1,
+  lacks_later f w m a b c p h.2,
+  subst (λ l. Ran a c l (m + n)) p.made (ran_then a b c b.made m n p h.3),
+)
+
+pub answer_same : (f : JobParts) (g m : ℕ) (a b : View JobParts) (answer : Answer)
+    → Answers f g m a b answer → (b.job ≡ a.job) × (b.all ≡ a.all)
+answer_same f g m a b (Made label) h = (h.3.job, h.3.all)
+answer_same f g m a b (Done label) h = (h.2.job, h.2.all)
+answer_same f g m a b Taken h = (h.2.job, h.2.all)
+answer_same f g m a b (NotYet w) h = (h.3.job, h.3.all)
+
+-- a board with one seat
+pub alone_later : (a b : View JobParts) (m : ℕ) → Ran a b a.made m → IsAlone a → IsAlone b
+alone_later a b m p alone = p.seats ∙ alone ∙ sym p.all
+
+sets_back : (f : JobParts) (w n m : ℕ) (a b : View JobParts) → Ran a b a.made m → SetsMade f w b n
+    → SetsMade f w a n
+sets_back f w n m a b p s h set = ap (times h) (sym p.made) ∙ s h set
+
+same_gate : (c : Netlist) (g : ℕ) (x y : Gate) → slice_get c.gates g ≡ Some x
+    → slice_get c.gates g ≡ Some y → x ≡ y
+same_gate c g x y p q = let e : Some x ≡ Some y = sym p ∙ q in cc
+
+pub both_err : (f : JobParts) (g m : ℕ) (x : Gate) (w : ℕ) (a b : View JobParts)
+    → slice_get f.circuit.gates g ≡ Some x → Ran a b a.made m → second_of x.operation ≡ Some w
+    → SetsMade f w b 0 → ((u : ℕ) → first_of x.operation ≡ Some u → SetsMade f u a 1) → FirstLacking f g a w
+both_err f g m x w a b at p is none_yet firsts gate at' =
+    subst (λ (y : Gate). ((first_of y.operation ≡ Some w) × SetsMade f w a 0) ⊎
+    ((second_of y.operation ≡ Some w) × SetsMade f w a 0 × ((u : ℕ) → first_of y.operation ≡ Some u
+    → SetsMade f u a 1))) (same_gate f.circuit g x gate at at')
+    (inr (is, sets_back f w 0 m a b p none_yet, firsts))
+
+pub both_ok : (f : JobParts) (g m : ℕ) (x : Gate) (a b : View JobParts)
+    → slice_get f.circuit.gates g ≡ Some x → Ran a b a.made m → ((u : ℕ) → first_of x.operation ≡ Some u
+    → SetsMade f u a 1) → ((u : ℕ) → second_of x.operation ≡ Some u → SetsMade f u b 1) → ReadsMade f g a
+both_ok f g m x a b at p firsts seconds gate w at' reads = let same = same_gate f.circuit g gate x at' at in
+    ⊎_elim (λ (e : first_of gate.operation ≡ Some w). firsts w (ap (λ (y : Gate). first_of y.operation)
+    (sym same) ∙ e)) (λ (e : second_of gate.operation ≡ Some w). sets_back f w 1 m a b p
+    (seconds w (ap (λ (y : Gate). second_of y.operation) (sym same) ∙ e))) reads
+
+pub lacking_back : (f : JobParts) (g m w : ℕ) (a b : View JobParts) → Ran a b a.made m
+    → FirstLacking f g b w → FirstLacking f g a w
+lacking_back f g m w a b p l gate at =
+    ⊎_elim (λ t. inl (t.0, sets_back f w 0 m a b p t.1)) (λ t. inr (
+      t.0,
+      sets_back f w 0 m a b p t.1,
+      λ u e. sets_back f u 1 m a b p (t.2 u e),
+    )) (l gate at)
+
+pub alone_made : (f : JobParts) (g m : ℕ) (a b : View JobParts) (answer : Answer) → Ran a b a.made m
+    → IsMadeNow answer → times g a.made ≡ 0 → ReadsMade f g b → AnswersAlone f g a answer
+alone_made f g m a b (Made label) p now none_yet reads = (
+  none_yet,
+  λ gate w at e. sets_back f w 1 m a b p
+      (reads gate w at e),
+)
+alone_made f g m a b (Done label) p now none_yet reads = absurd now
+alone_made f g m a b Taken p now none_yet reads = now
+alone_made f g m a b (NotYet w) p now none_yet reads = absurd now

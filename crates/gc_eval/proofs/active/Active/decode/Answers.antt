@@ -1,0 +1,47 @@
+use Rattle.std.proofs.Common.{◌≡◌, ◌∙◌, Vec, Ok, Err, MatchOption, subst}
+use Rattle.std.proofs.lemmas.Result.{err_from_is_err_and}
+use Rattle.gc_circuit.specs.Solution.{on_outputs}
+use Rattle.gc_eval.specs.ActiveLabels.{active}
+use Rattle.gc_eval.specs.Done.{HasOutputs, LacksOutput}
+use Rattle.gc_eval.proofs.ClosedLemmas.{evaluated_outputs}
+use Rattle.gc_eval.proofs.OutputLemmas.{length-outputs, no_memory}
+use Rattle.gc_eval.proofs.active.Active.decode.Goals as goal
+
+pub returns-in_err-labels-clause-err : goal.returns-in_err-labels-clause-err
+returns-in_err-labels-clause-err g c =
+    let p = err_from_is_err_and c.from_residual.result c.from_residual.ensures.1 in
+    rw (p.1, p.2) (no_memory c.args.self.now.job.now c.circuit.ensures.whole)
+
+pub decode-requires : goal.decode-requires
+decode-requires g c =
+    let self = c.args.self.now in
+    let job = self.job.now in
+    let told = subst (λ o. MatchOption o (LacksOutput self)
+    (λ (v : Vec _ _). (v.items ≡ on_outputs job.circuit (active job))
+    × HasOutputs self)) c.in-Some.is c.in_ok-labels.ensures in
+    length-outputs job.circuit c.circuit.ensures.whole.lawful (active job) c.deref.result.now
+    (c.deref.ensures.value ∙ told.0)
+
+pub returns-in-Ok-clause-ok : goal.returns-in-Ok-clause-ok
+returns-in-Ok-clause-ok g c =
+    let self = c.args.self.now in
+    let job = self.job.now in
+    let told = subst (λ o. MatchOption o (LacksOutput self)
+    (λ (v : Vec _ _). (v.items ≡ on_outputs job.circuit (active job))
+    × HasOutputs self)) c.in-Some.is c.in_ok-labels.ensures in (
+      evaluated_outputs job c.deref.result.now (Ok c.in-Ok.bits.items) c.circuit.ensures.whole
+          (c.deref.ensures.value ∙ told.0)
+          c.in-Ok.ensures,
+      told.1,
+    )
+
+pub returns-clause-err : goal.returns-clause-err
+returns-clause-err g c =
+    let self = c.args.self.now in
+    let job = self.job.now in
+    let told = subst (λ o. MatchOption o (LacksOutput self)
+    (λ (v : Vec _ _). (v.items ≡ on_outputs job.circuit (active job))
+    × HasOutputs self)) c.in-Some.is c.in_ok-labels.ensures in
+    evaluated_outputs job c.deref.result.now (Err c.in-Err.fault) c.circuit.ensures.whole
+    (c.deref.ensures.value ∙ told.0)
+    c.in-Err.ensures

@@ -1,0 +1,44 @@
+use Rattle.std.proofs.Common.{◌≡◌, ◌*◌, arith, ap, sym}
+use Rattle.std.specs.Slots.{slots_items}
+use Rattle.gc_board.specs.Board.{state_of}
+use Rattle.gc_board.specs.Counts.{only}
+use Rattle.gc_board.proofs.Sums.{only_same, only_other}
+use Rattle.gc_eval.proofs.BoardLabels.{word_is}
+use Rattle.gc_eval.proofs.ClosedLemmas.{total-range}
+use Rattle.gc_eval.proofs.active.Active.done.Goals as goal
+use Rattle.gc_eval.proofs.active.Active.done.Goals.{then-word-eq2, else-word-eq2}
+
+pub loop-gate-preserved : goal.loop-gate-preserved
+loop-gate-preserved g c =
+    let words = slots_items c.args.self.now.closed.words in
+    let gate = c.loop-gate.gate in
+    let found : state_of words gate ≡ c.word.result = word_is words
+    (3 * gate) c.word.result c.word.ensures in
+    let more = total-range (λ k. only 2 (state_of words k)) gate in
+    let i = c.loop-gate.invariant in
+    elim c.if-word-eq2.branch [
+      | then-word-eq2 w ↦ (
+        omega (
+          arith,
+          more,
+          i.0,
+          w.done-is,
+          ap (only 2) found,
+          only_same 2 c.word.result
+              (sym w.if-word-eq2.true),
+        ),
+        omega (arith, i.1, w.done-is),
+      )
+      | else-word-eq2 w ↦ (
+        omega (
+          arith,
+          more,
+          i.0,
+          w.done-is,
+          ap (only 2) found,
+          only_other 2 c.word.result
+              (λ e. w.if-word-eq2.false (sym e)),
+        ),
+        omega (arith, i.1, w.done-is),
+      )
+    ]

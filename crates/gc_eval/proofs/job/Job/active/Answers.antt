@@ -1,0 +1,19 @@
+use Rattle.std.proofs.Common.{◌≡◌, ◌∙◌, length, slice_get, Some, sym, ap, arith}
+use Rattle.gc_circuit.specs.Circuit.{Netlist, and_number}
+use Rattle.gc_eval.proofs.AndNumberLemmas.{and_number-below}
+use Rattle.gc_eval.proofs.job.Job.active.Goals as goal
+
+pub evaluate_gate-requires : goal.evaluate_gate-requires
+evaluate_gate-requires g c = λ is_and.
+    let job = c.args.self.now in
+    let at : slice_get job.circuit.gates c.args.gate ≡ Some c.gate-operation.result =
+    ap (λ (x : Netlist). slice_get x.gates c.args.gate) (sym c.circuit.ensures.circuit)
+    ∙ c.gate-operation.ensures in
+    omega (
+      arith,
+      and_number-below job.circuit c.args.gate c.gate-operation.result at is_and,
+      c.and_number.ensures,
+      ap (λ (x : Netlist). and_number x c.args.gate) c.requires.wiring,
+      ap length c.rows.ensures,
+      c.circuit.ensures.whole.rows,
+    )

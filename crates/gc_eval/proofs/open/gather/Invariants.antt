@@ -1,0 +1,18 @@
+use Rattle.std.proofs.Common.{◌≡◌, ℕ, ◌+◌, length, All}
+use Rattle.gc_board.specs.Counts.{total, times}
+use Rattle.gc_board.specs.Places.{IsPlaceOf}
+use Rattle.gc_eval.specs.ActiveLabels.{gates_of}
+use Rattle.gc_eval.specs.declared.seat.EvalSeat.{EvalSeat}
+use Rattle.gc_eval.proofs.open.gather.Given as goal
+
+abbrev pub invariant-loop-place : goal.invariant-loop-place
+invariant-loop-place g l =
+    IsPlaceOf gates_of l.words.table_id l.words.key l.whole
+    × All (λ (s : EvalSeat _ _). IsPlaceOf gates_of l.words.table_id l.words.key s.place) l.seats.items
+    × (l.whole.me.0.seats + length l.seats.items ≡ length l.fn.seats.items)
+    × ((g' : ℕ) → times g' l.whole.me.0.made + total
+    (λ (s : EvalSeat _ _). times g' s.place.me.0.made) l.seats.items
+    ≡ total (λ (s : EvalSeat _ _). times g' s.place.me.0.made) l.fn.seats.items)
+
+abbrev pub decreases-loop-place : goal.decreases-loop-place
+decreases-loop-place g l = goal.left-loop-place g l

@@ -1,0 +1,9 @@
+use Rattle.std.proofs.Common.{◌∙◌}
+use Rattle.gc_eval.proofs.BoardLabels.{joined}
+use Rattle.gc_eval.proofs.step.load_label.Goals as goal
+
+pub returns-clause-right : goal.returns-clause-right
+returns-clause-right g c =
+    c.from_halves.ensures
+    ∙ joined c.args.words.now.key.work c.args.gate c.load_low-low.result c.load_high-high.result c.load_low-low.ensures.found
+    c.load_high-high.ensures.found

@@ -1,0 +1,10 @@
+use Rattle.std.proofs.Common.{◌≡◌, map}
+use Rattle.std.specs.List.{range_with_len}
+use Rattle.gc_circuit.specs.Circuit.{and_number}
+use Rattle.gc_eval.proofs.wiring.and_numbers.Given as goal
+
+abbrev pub invariant-loop-i : goal.invariant-loop-i
+invariant-loop-i g l = record {
+  written : l.numbers.items ≡ map (and_number l.circuit) (range_with_len 0 l.i);
+  next : l.next ≡ and_number l.circuit l.i;
+}

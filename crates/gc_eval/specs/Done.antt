@@ -1,0 +1,35 @@
+-- What a closed board tells.
+use Rattle.std.specs.Prelude.{◌≡◌, ℕ, ◌+◌, ◌<◌, ◌≤◌, ◌⊎◌}
+use Rattle.std.specs.Slots.{slots_items}
+use Rattle.std.specs.List.{range_with_len}
+use Rattle.gc_circuit.specs.Circuit.{IsSetBy, input_wires, output_wires}
+use Rattle.gc_board.specs.Board.{state_of}
+use Rattle.gc_board.specs.Counts.{total, only}
+use Rattle.gc_eval.specs.Job.{JobParts}
+use Rattle.gc_eval.specs.declared.active.Active.{Active}
+
+-- Gate g is done.
+abbrev pub IsDone : {A B C : Type 0} → Active B A C → ℕ → Type 0
+IsDone active g = state_of (slots_items active.closed.words) g ≡ 2
+
+-- how many of the first n gates are done
+abbrev pub done_of : {A B C : Type 0} → Active B A C → ℕ → ℕ
+done_of active n = total (λ g. only 2 (state_of (slots_items active.closed.words) g)) (range_with_len 0 n)
+
+-- A wire has a label: it is an input wire, or a gate that is done sets it.
+abbrev pub HasLabel : {A B C : Type 0} → Active B A C → ℕ → Type 0
+HasLabel active w =
+    (w < input_wires active.job.now.circuit) ⊎ ((g : ℕ) × IsSetBy active.job.now.circuit w g
+    × IsDone active g)
+
+-- Wire w is an output wire.
+abbrev pub IsOutput : JobParts → ℕ → Type 0
+IsOutput job w = (job.circuit.wires ≤ w + output_wires job.circuit) × (w < job.circuit.wires)
+
+-- Each output wire has a label.
+abbrev pub HasOutputs : {A B C : Type 0} → Active B A C → Type 0
+HasOutputs active = (w : ℕ) → IsOutput active.job.now w → HasLabel active w
+
+-- An output wire has none.
+abbrev pub LacksOutput : {A B C : Type 0} → Active B A C → Type 0
+LacksOutput active = (w : ℕ) × IsOutput active.job.now w × (HasLabel active w → ⊥)

@@ -1,0 +1,89 @@
+//! What a board that is closed tells: labels, how many gates are done, and the output bits.
+
+ghost use Rattle.std.specs.Prelude.{◌≡◌, ◌<◌, IfSome, IfNone, IfOk, IfErr, MatchOption, Ok, Err};
+ghost use Rattle.gc_circuit.specs.Solution.{on_outputs};
+ghost use Rattle.gc_eval.specs.ActiveLabels.{active, gates_of};
+ghost use Rattle.gc_eval.specs.Evaluate.{IsEvaluated};
+ghost use Rattle.gc_eval.specs.Done.{HasLabel, HasOutputs, LacksOutput, done_of};
+
+use crate::active::Active;
+use crate::fault::EvalFault;
+use gc_circuit::Memory;
+use gc_label::Label;
+use std::alloc::Allocator;
+
+impl<'j, 'c, B: Allocator, A: Allocator, C: Allocator> Active<'j, 'c, B, A, C> {
+    /// The active label of a wire, exactly where it is an input wire or the gate that sets it is done. That there is such
+    /// a wire is the caller's condition.
+    pub fn label(&self, wire: u32) -> Option<Label>
+        requires { wire < self.now.job.now.circuit.wires }
+        ensures some { IfSome result (λ label. (label ≡ active self.now.job.now wire) × HasLabel self.now wire) }
+        ensures none { IfNone result (HasLabel self.now wire → ⊥) }
+    {
+        let job = self.job;
+        if wire < job.circuit().input_wires() {
+            return Some(job.input(wire));
+        }
+        let Some(gate) = self.wiring.setter(wire) else {
+            return None;
+        };
+        let first = 3 * gate as usize;
+        if self.closed.word(first) == 2 {
+            let low = self.closed.word(first + 1);
+            let high = self.closed.word(first + 2);
+            Some(Label::from_halves(low, high))
+        } else {
+            None
+        }
+    }
+
+    /// How many gates are done.
+    pub fn done(&self) -> u32
+        ensures { result ≡ done_of self.now (gates_of self.now.job.now) }
+    {
+        let mut done = 0;
+        for gate in 0..self.job.circuit().gates() {
+            if self.closed.word(3 * gate as usize) == 2 {
+                done += 1;
+            }
+        }
+        done
+    }
+
+    /// The labels of the output wires, in order, where each has one.
+    fn output_labels<D: Allocator + Copy>(&self, alloc: D) -> Result<Option<Vec<Label, D>>, Memory>
+        ensures { IfOk result (λ o. MatchOption o (LacksOutput self.now)
+            (λ v. (v.items ≡ on_outputs self.now.job.now.circuit (active self.now.job.now)) × HasOutputs self.now)) }
+    {
+        let circuit = self.job.circuit();
+        let count = circuit.output_wires();
+        let first = circuit.wires() - count;
+        let mut labels = Vec::with_capacity(alloc, count as usize)?;
+        for i in 0..count {
+            let Some(label) = self.label(first + i) else {
+                return Ok(None);
+            };
+            labels.push(label)?;
+        }
+        Ok(Some(labels))
+    }
+
+    /// The output bits, in wire order: what the active labels of the output wires decode to, as `evaluate` answers it.
+    /// None exactly where an output wire has no label; in version 2 it is 48 at the first output whose label the garbled
+    /// file doesn't recognise.
+    pub fn decode<D: Allocator + Copy>(&self, alloc: D) -> Result<Option<Vec<bool, D>>, EvalFault>
+        ensures ok { IfOk result (λ o. MatchOption o (LacksOutput self.now)
+            (λ v. IsEvaluated self.now.job.now (Ok v.items) × HasOutputs self.now)) }
+        ensures err { IfErr result (λ fault. IsEvaluated self.now.job.now (Err fault)) }
+    {
+        // A job is whole, which its circuit is told with.
+        let _ = self.job.circuit();
+        let Some(labels) = self.output_labels(alloc)? else {
+            return Ok(None);
+        };
+        match self.job.decode(alloc, &labels) {
+            Ok(bits) => Ok(Some(bits)),
+            Err(fault) => Err(fault),
+        }
+    }
+}

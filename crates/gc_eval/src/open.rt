@@ -1,0 +1,169 @@
+//! Opening and closing a board.
+
+ghost use Rattle.std.specs.Prelude.{◌≡◌, ℕ, ◌<◌, ◌≤◌, ◌↔◌, [], length, IfOk, IfErr, IsOk, All, codes};
+ghost use Rattle.std.specs.Slots.{slots_items};
+ghost use Rattle.gc_board.specs.Counts.{total, times, only};
+ghost use Rattle.gc_board.specs.Board.{state_of};
+ghost use Rattle.gc_board.specs.Places.{IsPlaceOf};
+ghost use Rattle.gc_eval.specs.ActiveLabels.{gates_of};
+ghost use Rattle.gc_eval.specs.Seats.{IsSeatOf, IsNew, view, job_on};
+
+use crate::active::Active;
+use crate::facts::Facts;
+use crate::job::Job;
+use crate::seat::{EvalBoard, EvalSeat};
+use crate::wiring::Wiring;
+use gc_board::{Key, OpenFault, Place, Words, close_table, deal_place, join_place, open_table};
+use std::alloc::{Allocator, Global};
+
+/// The most seats of a board.
+pub const MAX_SEATS: u32 = 64;
+
+/// A seat was missing, so the board was not closed. It comes back with all seats that were passed.
+#[derive(Drop)]
+pub struct CloseRefused<
+    'j,
+    'c,
+    B: Allocator = Global,
+    A: Allocator = Global,
+    C: Allocator = Global,
+> {
+    pub board: EvalBoard<'j, 'c, B, A, C>,
+    pub seats: Vec<EvalSeat<A, C>, B>,
+}
+
+impl<'j, 'c, B: Allocator, A: Allocator, C: Allocator> CloseRefused<'j, 'c, B, A, C> {
+    /// The number of the refusal: 47.
+    pub fn code(&self) -> u32
+        ensures { result ≡ 47 }
+    {
+        47
+    }
+
+    /// The name of the refusal.
+    pub fn name(&self) -> &'static str
+        ensures { result.now ≡ codes "SeatMissing" }
+    {
+        "SeatMissing"
+    }
+}
+
+/// So many new seats, out of a place that stands for them all.
+fn deal_all<A: Allocator, B: Allocator, C: Allocator>(
+    words: &Words<Facts<A, C>>,
+    first: Place<Facts<A, C>>,
+    count: u32,
+    mut seats: Vec<EvalSeat<A, C>, B>,
+) -> Result<Vec<EvalSeat<A, C>, B>, OpenFault>
+    requires first { IsPlaceOf gates_of words.now.table_id words.now.key first
+        × IsNew first.me.0 × (first.me.1 ≡ []) × (first.me.0.seats ≡ count) }
+    requires some { 0 < count }
+    requires none { seats.items ≡ [] }
+    ensures { IfOk result (λ v. (length v.items ≡ count)
+        × All (λ s. IsPlaceOf gates_of words.now.table_id words.now.key s.place × IsNew s.place.me.0) v.items) }
+{
+    let mut first = first;
+    let mut left = count;
+    while left > 1 {
+        let place = deal_place(words, &mut first);
+        seats.push(EvalSeat { place, count: 0 })?;
+        left -= 1;
+    }
+    seats.push(EvalSeat {
+        place: first,
+        count: 0,
+    })?;
+    Ok(seats)
+}
+
+impl<'j, 'c, B: Allocator + Copy, A: Allocator, C: Allocator> EvalBoard<'j, 'c, B, A, C> {
+    /// A board for a job, and its seats, which have done nothing. It takes all the memory that the board needs: 46 where
+    /// there is none for the seats and the tables of the circuit, 49 where there is none for the table of the shared
+    /// words. That there are 1 to 64 seats is the caller's condition.
+    pub fn open(
+        alloc: B,
+        job: &'j Job<'c, A, C>,
+        seats: u32,
+    ) -> Result<(EvalBoard<'j, 'c, B, A, C>, Vec<EvalSeat<A, C>, B>), OpenFault>
+        requires { (0 < seats) × (seats ≤ MAX_SEATS) }
+        ensures job { IfOk result (λ b. job_on b.0 ≡ job.now) }
+        ensures count { IfOk result (λ b. (b.0.seats ≡ seats) × (length b.1.items ≡ seats)) }
+        ensures seats { IfOk result (λ b. All (λ s. IsSeatOf b.0 s × IsNew (view s)) b.1.items) }
+    {
+        let key = Key {
+            work: job.facts(),
+            seats,
+        };
+        let room = Vec::with_capacity(alloc, seats as usize)?;
+        let wiring = Wiring::of(alloc, job.circuit())?;
+        let (table, first) = open_table(alloc, &key, job.circuit().gates())?;
+        let dealt = deal_all(&table.shared, first, seats, room)?;
+        let board = EvalBoard {
+            job,
+            wiring,
+            table,
+            seats,
+        };
+        Ok((board, dealt))
+    }
+}
+
+impl<'j, 'c, B: Allocator, A: Allocator, C: Allocator> EvalBoard<'j, 'c, B, A, C> {
+    /// Ends the board, exactly where all its seats are there: else 47, with all that was passed. The made lists of the
+    /// seats, taken together, are the gates that are done, each once. It takes no memory. That the seats are this board's
+    /// is the caller's condition.
+    pub fn close(
+        self,
+        seats: Vec<EvalSeat<A, C>, B>,
+    ) -> Result<Active<'j, 'c, B, A, C>, CloseRefused<'j, 'c, B, A, C>>
+        requires { All (IsSeatOf self) seats.items }
+        ensures exact { IsOk result ↔ (length seats.items ≡ self.entry.seats) }
+        ensures job { IfOk result (λ a. a.job.now ≡ job_on self.entry) }
+        ensures made { IfOk result (λ a. (g : ℕ) → total (λ s. times g (view s).made) seats.items
+            ≡ only 2 (state_of (slots_items a.closed.words) g)) }
+        ensures err { IfErr result (λ r. (r.board ≡ self.entry) × (r.seats ≡ seats)) }
+    {
+        if seats.len() != self.seats as usize {
+            return Err(CloseRefused { board: self, seats });
+        }
+        let EvalBoard {
+            job,
+            wiring,
+            table,
+            seats: _,
+        } = self;
+        let whole = gather(&table.shared, seats);
+        let closed = close_table(table, whole);
+        Ok(Active {
+            job,
+            wiring,
+            closed,
+        })
+    }
+}
+
+/// All seats joined in one.
+fn gather<A: Allocator, B: Allocator, C: Allocator>(
+    words: &Words<Facts<A, C>>,
+    mut seats: Vec<EvalSeat<A, C>, B>,
+) -> Place<Facts<A, C>>
+    requires own { All (λ s. IsPlaceOf gates_of words.now.table_id words.now.key s.place) seats.items }
+    requires some { 0 < length seats.items }
+    ensures at { IsPlaceOf gates_of words.now.table_id words.now.key result }
+    ensures seats { result.me.0.seats ≡ length seats.items }
+    ensures made { (g : ℕ) → times g result.me.0.made ≡ total (λ s. times g (view s).made) seats.items }
+{
+    let Some(
+        EvalSeat {
+            place: mut whole,
+            count: _,
+        },
+    ) = seats.pop()
+    else {
+        unreachable!()
+    };
+    while let Some(EvalSeat { place, count: _ }) = seats.pop() {
+        join_place(words, &mut whole, place);
+    }
+    whole
+}

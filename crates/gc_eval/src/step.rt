@@ -1,0 +1,242 @@
+//! What a seat does on a board: it steps a gate, asks for a label, and tells another seat.
+
+ghost use Rattle.std.specs.Prelude.{◌≡◌, ℕ, ◌+◌, ◌-◌, ◌^◌, ◌<◌, [], length, min, IfSome, IfNone, IfOk, IfErr, MatchOption, MatchResult, Some, None};
+ghost use Rattle.gc_board.specs.declared.rule.Hand.TheVariants.{Empty};
+ghost use Rattle.gc_board.specs.Counts.{times};
+ghost use Rattle.gc_board.specs.Places.{IsPlaceOf, IsPlaceAt, IsSamePlace};
+ghost use Rattle.gc_eval.specs.ActiveLabels.{gates_of, active, set_of, active_from};
+ghost use Rattle.gc_eval.specs.Views.{Ran, Got, Lacks, Answers, IsAlone, IsMadeNow, SetsMade, ReadsMade, FirstLacking, AnswersAlone, Knows, Reads, first_of, second_of};
+ghost use Rattle.gc_eval.specs.Seats.{IsSeatOf, IsSameSeat, view, job_on};
+
+use crate::facts::Facts;
+use crate::seat::{Answer, EvalBoard, EvalSeat};
+use gc_board::{
+    Place, Words, claim, load_high, load_low, load_state, store_done, store_high, store_low,
+    tell_place,
+};
+use gc_circuit::Operation;
+use gc_label::Label;
+use std::alloc::Allocator;
+
+/// The label of a known gate, in two loads.
+fn load_label<A: Allocator, C: Allocator>(
+    words: &Words<Facts<A, C>>,
+    place: &mut Place<Facts<A, C>>,
+    gate: u32,
+) -> Label
+    requires place { IsPlaceAt gates_of words.now.table_id words.now.key place.old gate }
+    requires known { Knows place.old.me.0 gate }
+    ensures same { IsSamePlace place.old place.new }
+    ensures ran { Ran place.old.me.0 place.new.me.0 place.old.me.0.made 2 }
+    ensures right { result ≡ active words.now.key.work (set_of words.now.key.work gate) }
+{
+    let low = load_low(words, place, gate);
+    let high = load_high(words, place, gate);
+    Label::from_halves(low, high)
+}
+
+/// The wire that an operation reads first.
+fn first(operation: Operation) -> Option<u32>
+    ensures { result ≡ first_of operation }
+{
+    match operation {
+        Operation::Xor(a, _) => Some(a),
+        Operation::And(a, _) => Some(a),
+        Operation::Inv(a) => Some(a),
+        Operation::Eqw(a) => Some(a),
+        Operation::Eq(_) => None,
+    }
+}
+
+/// The wire that it reads second.
+fn second(operation: Operation) -> Option<u32>
+    ensures { result ≡ second_of operation }
+{
+    match operation {
+        Operation::Xor(_, b) => Some(b),
+        Operation::And(_, b) => Some(b),
+        _ => None,
+    }
+}
+
+impl<A: Allocator, C: Allocator> EvalSeat<A, C> {
+    /// How many gates the seat made. It stays at `u64::MAX`, which no board reaches.
+    pub fn made(&self) -> u64
+        ensures { result ≡ min (length (view self.now).made) (2 ^ 64 - 1) }
+    {
+        self.count
+    }
+}
+
+impl<'j, 'c, B: Allocator, A: Allocator, C: Allocator> EvalBoard<'j, 'c, B, A, C> {
+    /// The label of a wire, where it is an input wire or the gate that sets it is found done.
+    fn read(&self, place: &mut Place<Facts<A, C>>, wire: u32) -> Option<Label>
+        requires place { IsPlaceOf gates_of self.now.table.shared.table_id self.now.table.shared.key place.old }
+        requires wire { wire < (job_on self.now).circuit.wires }
+        ensures same { IsSamePlace place.old place.new }
+        ensures ran { Ran place.old.me.0 place.new.me.0 place.old.me.0.made 3 }
+        ensures some { IfSome result (Got (job_on self.now) wire place.new.me.0) }
+        ensures none { IfNone result (Lacks (job_on self.now) wire place.old.me.0 place.new.me.0) }
+        ensures alone { IsAlone place.old.me.0
+            → MatchOption result (SetsMade (job_on self.now) wire place.old.me.0 0)
+            (λ _. SetsMade (job_on self.now) wire place.old.me.0 1) }
+    {
+        let job = self.job;
+        if wire < job.circuit().input_wires() {
+            return Some(job.input(wire));
+        }
+        let Some(gate) = self.wiring.setter(wire) else {
+            return None;
+        };
+        let words = &self.table.shared;
+        if load_state(words, place, gate) == 2 {
+            Some(load_label(words, place, gate))
+        } else {
+            None
+        }
+    }
+
+    /// The label of a wire that a gate may read. The fault is the wire, where it has none.
+    fn read_some(&self, place: &mut Place<Facts<A, C>>, wire: Option<u32>) -> Result<Label, u32>
+        requires place { IsPlaceOf gates_of self.now.table.shared.table_id self.now.table.shared.key place.old }
+        requires wire { IfSome wire (λ w. w < (job_on self.now).circuit.wires) }
+        ensures same { IsSamePlace place.old place.new }
+        ensures ran { Ran place.old.me.0 place.new.me.0 place.old.me.0.made 3 }
+        ensures ok { IfOk result (λ l. (w : ℕ) → wire ≡ Some w → l ≡ active (job_on self.now) w) }
+        ensures err { IfErr result (λ w. (wire ≡ Some w)
+            × Lacks (job_on self.now) w place.old.me.0 place.new.me.0) }
+        ensures alone { IsAlone place.old.me.0
+            → MatchResult result (λ _. (w : ℕ) → wire ≡ Some w → SetsMade (job_on self.now) w place.old.me.0 1)
+            (λ w. SetsMade (job_on self.now) w place.old.me.0 0) }
+    {
+        let Some(wire) = wire else {
+            return Ok(Label::ZERO);
+        };
+        match self.read(place, wire) {
+            Some(label) => Ok(label),
+            None => Err(wire),
+        }
+    }
+
+    /// The labels that a gate reads. The fault is the first wire that has none.
+    fn read_both(&self, place: &mut Place<Facts<A, C>>, gate: u32) -> Result<(Label, Label), u32>
+        requires place { IsPlaceAt gates_of self.now.table.shared.table_id self.now.table.shared.key place.old gate }
+        ensures same { IsSamePlace place.old place.new }
+        ensures ran { Ran place.old.me.0 place.new.me.0 place.old.me.0.made 6 }
+        ensures ok { IfOk result (λ l. active_from (job_on self.now) gate l.0 l.1
+            ≡ active (job_on self.now) (set_of (job_on self.now) gate)) }
+        ensures err { IfErr result (λ w. Reads (job_on self.now).circuit gate w
+            × Lacks (job_on self.now) w place.old.me.0 place.new.me.0) }
+        ensures alone { IsAlone place.old.me.0
+            → MatchResult result (λ _. ReadsMade (job_on self.now) gate place.old.me.0)
+            (λ w. FirstLacking (job_on self.now) gate place.old.me.0 w) }
+    {
+        let operation = self.job.circuit().gate(gate).operation;
+        let a = match self.read_some(place, first(operation)) {
+            Ok(label) => label,
+            Err(wire) => return Err(wire),
+        };
+        let b = match self.read_some(place, second(operation)) {
+            Ok(label) => label,
+            Err(wire) => return Err(wire),
+        };
+        Ok((a, b))
+    }
+
+    /// Makes a gate whose labels were read, where no seat has it.
+    fn make(&self, place: &mut Place<Facts<A, C>>, gate: u32, a: Label, b: Label) -> Answer
+        requires place { IsPlaceAt gates_of self.now.table.shared.table_id self.now.table.shared.key place.old gate }
+        requires empty { (place.old.me.0.hand ≡ Empty) × (0 < place.old.me.0.seats) }
+        requires labels { active_from (job_on self.now) gate a b
+            ≡ active (job_on self.now) (set_of (job_on self.now) gate) }
+        ensures same { IsSamePlace place.old place.new }
+        ensures answer { Answers (job_on self.now) gate 4 place.old.me.0 place.new.me.0 result }
+        ensures alone { IsAlone place.old.me.0 → times gate place.old.me.0.made ≡ 0 → IsMadeNow result }
+    {
+        let words = &self.table.shared;
+        let found = claim(words, place, gate);
+        if found == 2 {
+            return Answer::Done(load_label(words, place, gate));
+        }
+        if found == 1 {
+            return Answer::Taken;
+        }
+        let label = self.job.active(&self.wiring, gate, a, b);
+        let (low, high) = label.halves();
+        store_low(words, place, gate, low);
+        store_high(words, place, gate, high);
+        store_done(words, place, gate);
+        Answer::Made(label)
+    }
+
+    /// A step, at the place of a seat.
+    fn step_at(&self, place: &mut Place<Facts<A, C>>, gate: u32) -> Answer
+        requires place { IsPlaceAt gates_of self.now.table.shared.table_id self.now.table.shared.key place.old gate }
+        requires empty { (place.old.me.0.hand ≡ Empty) × (0 < place.old.me.0.seats) }
+        ensures same { IsSamePlace place.old place.new }
+        ensures answer { Answers (job_on self.now) gate 11 place.old.me.0 place.new.me.0 result }
+        ensures alone { IsAlone place.old.me.0 → AnswersAlone (job_on self.now) gate place.old.me.0 result }
+    {
+        let words = &self.table.shared;
+        let found = load_state(words, place, gate);
+        if found == 2 {
+            return Answer::Done(load_label(words, place, gate));
+        }
+        if found == 1 {
+            return Answer::Taken;
+        }
+        match self.read_both(place, gate) {
+            Ok((a, b)) => self.make(place, gate, a, b),
+            Err(wire) => Answer::NotYet(wire),
+        }
+    }
+
+    /// Makes a gate, or says why not, in at most 11 atomic steps. A label that is answered is the gate's active label, and
+    /// the seat knows the gate from then on. A gate that the seat knows is answered by Done. It waits for nobody and takes
+    /// no memory. That the seat is this board's, and that there is such a gate, is the caller's condition.
+    pub fn step(&self, seat: &mut EvalSeat<A, C>, gate: u32) -> Answer
+        requires own { IsSeatOf self.now seat.old }
+        requires gate { gate < gates_of (job_on self.now) }
+        ensures own { IsSeatOf self.now seat.new }
+        ensures same { IsSameSeat seat.old seat.new }
+        ensures answer { Answers (job_on self.now) gate 11 (view seat.old) (view seat.new) result }
+        ensures alone { self.now.seats ≡ 1 → AnswersAlone (job_on self.now) gate (view seat.old) result }
+    {
+        let answer = self.step_at(&mut seat.place, gate);
+        if let Answer::Made(_) = answer {
+            seat.count = seat.count.saturating_add(1);
+        }
+        answer
+    }
+
+    /// The active label of a wire, if it is an input wire or the gate that sets it is done; the seat knows that gate from
+    /// then on, and a gate that it knew gives its label. It waits for nobody and takes no memory. That the seat is this
+    /// board's, and that there is such a wire, is the caller's condition.
+    pub fn label(&self, seat: &mut EvalSeat<A, C>, wire: u32) -> Option<Label>
+        requires own { IsSeatOf self.now seat.old }
+        requires wire { wire < (job_on self.now).circuit.wires }
+        ensures own { IsSeatOf self.now seat.new }
+        ensures same { IsSameSeat seat.old seat.new }
+        ensures ran { Ran (view seat.old) (view seat.new) (view seat.old).made 3 }
+        ensures some { IfSome result (Got (job_on self.now) wire (view seat.new)) }
+        ensures none { IfNone result (Lacks (job_on self.now) wire (view seat.old) (view seat.new)) }
+    {
+        self.read(&mut seat.place, wire)
+    }
+
+    /// `to` learns what `from` knows. It waits for nobody and takes no memory. That both seats are this board's is the
+    /// caller's condition.
+    pub fn tell(&self, from: &mut EvalSeat<A, C>, to: &mut EvalSeat<A, C>)
+        requires from { IsSeatOf self.now from.old }
+        requires to { IsSeatOf self.now to.old }
+        ensures own { IsSeatOf self.now from.new × IsSeatOf self.now to.new }
+        ensures from { IsSameSeat from.old from.new × (view from.new ≡ view from.old) }
+        ensures same { IsSameSeat to.old to.new }
+        ensures made { (view to.new).made ≡ (view to.old).made }
+        ensures steps { (view to.new).steps ≡ (view to.old).steps }
+        ensures told { (g : ℕ) → times g (view to.new).known
+            ≡ times g (view to.old).known + times g (view from.old).known }
+    {
+        tell_place(&self.table.shared, &mut from.place, &mut to.place);
+    }
+}
