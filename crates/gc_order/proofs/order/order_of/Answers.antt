@@ -1,0 +1,47 @@
+use Rattle.std.proofs.Common.{rules, ◌≡◌, ap, ◌∙◌, sym, subst, refl, true, ℕ, List, Option, map, string_bytes}
+use Rattle.std.specs.Prelude.{option_and_then}
+use Rattle.std.proofs.lemmas.Result.{err_from_is_err_and}
+use Rattle.clap.specs.Words.{App, HasKind, Row, app_of, fault_of, found_of, is_simple, rows_of, subcommand_of}
+use Rattle.clap.specs.Faults.{is_simple_and_free}
+use Rattle.clap.proofs.OnLiterals.{clap_on_literals}
+use Rattle.gc_order.specs.Order.{command_told, program}
+use Rattle.gc_order.proofs.OrderLemmas.{subcommand-pair}
+use Rattle.gc_order.proofs.order.order_of.Goals as goal
+
+-- clap's rules say what it makes of every line
+is_simple-program : is_simple_and_free program ≡ true
+unfolding clap_on_literals
+is_simple-program = refl
+
+pub returns-clause-kinds : goal.returns-clause-kinds
+returns-clause-kinds c =
+    let shape = c.in_ok-halfgates.ensures.shape in
+    ap (λ a. fault_of a (map string_bytes c.args.words.now)) (sym shape)
+    ∙ c.in_ok-matches.ensures.kinds (ap is_simple_and_free shape ∙ is_simple-program)
+
+is_simple-alone : is_simple program ≡ true
+unfolding clap_on_literals
+is_simple-alone = refl
+
+pub returns-in_err-matches-clause-kinds : goal.returns-in_err-matches-clause-kinds
+returns-in_err-matches-clause-kinds c =
+    let shape = c.in_ok-halfgates.ensures.shape in
+    let free : is_simple_and_free (app_of c.in_ok-halfgates.field-0) ≡ true = ap is_simple_and_free shape ∙ is_simple-program in
+    let Fails : App → Type 0 = λ a. HasKind (fault_of a (map string_bytes c.args.words.now)) c.in_err-matches.field-0.0 in
+    let fails : Fails program = subst Fails shape (c.in_err-matches.ensures.kinds free) in
+    let p = err_from_is_err_and c.from_residual-in_err-matches.result c.from_residual-in_err-matches.ensures.1 in
+    rw (p.1, p.2) fails
+
+pub returns-clause-told : goal.returns-clause-told
+returns-clause-told c =
+    let shape = c.in_ok-halfgates.ensures.shape in
+    let simple : is_simple (app_of c.in_ok-halfgates.field-0) ≡ true = ap is_simple shape ∙ is_simple-alone in
+    let found = c.in_ok-matches.ensures.matches simple in
+    let command = λ (o : Option (List ℕ × List Row)). option_and_then (λ p. command_told p.0 p.1) o in
+    ap (λ (a : App). command (subcommand_of a (map string_bytes c.args.words.now))) (sym shape)
+    ∙ ap command (sym found.1
+    ∙ subcommand-pair _ c.in-Some.name.now (rows_of (found_of c.in-Some.found.now)) c.in-Some.ensures.name c.in-Some.ensures.rows)
+    ∙ c.in_ok-named_order-in-Some.ensures
+
+pub named_order-requires : goal.named_order-requires
+named_order-requires c = search rules

@@ -1,0 +1,204 @@
+-- The command line, by clap's rules.
+use Rattle.std.specs.Prelude.{◌≡◌, ◌==◌, ℕ, List, [], ◌∷◌, true, false, IsTrue, Option, Some, None, map, option_and_then, unwrap_or, codes, string_bytes, bytes_eq, if◌then◌else◌}
+use Rattle.std.specs.List.{list_any}
+use Rattle.clap.specs.Words.{App, Row, Rule, Shape, all_of, app_of, first_of, new_app, new_rule, rule_of, subcommand_of, with_rule, with_subcommand}
+use Rattle.std.specs.Str.Parse.{digits_value, without_leading_plus}
+use Rattle.clap.specs.ValueTests.{accepts}
+use Rattle.clap.specs.declared.builder.value_parser.ValueParser.TheVariants.{Unsigned}
+use Rattle.clap.specs.declared.builder.action.ArgAction.TheVariants.{Append}
+use Rattle.clap.specs.declared.builder.arg.Arg.{Arg}
+use Rattle.clap.specs.declared.builder.command.Command.{Command}
+use Rattle.clap.specs.declared.builder.command.Command.TheViews.{out-Command}
+use Rattle.gc_file.specs.declared.garbled.Version.{Version}
+use Rattle.gc_file.specs.declared.garbled.Version.TheVariants.{One, Two}
+use Rattle.gc_order.specs.declared.order.Order.{Order}
+use Rattle.gc_order.specs.declared.order.Order.TheVariants.{Run, Plain, Check, Garble, Deal, Eval}
+
+-- a positional word that has to be there
+abbrev pub required_word : List ℕ → Rule
+required_word id = record (new_rule id) { value_names = 1; required = true }
+
+-- positional words, any number of them
+abbrev pub more_words : List ℕ → Rule
+more_words id = record (new_rule id) { value_names = 1; action = Some Append }
+
+-- a positional word that has to be there, and is a number from `low` to `high`
+abbrev pub number_word : List ℕ → ℕ → ℕ → Rule
+number_word id low high = record (new_rule id) { value_names = 1; parser = Some (Unsigned low high); required = true }
+
+-- an option that is a number from `low` to `high`, and is `default` where it isn't given
+abbrev pub number_option : List ℕ → ℕ → ℕ → List ℕ → Rule
+number_option id low high default =
+    record (new_rule id) { long = Some id; value_names = 1; parser = Some (Unsigned low high); defaults = default ∷ [] }
+
+-- the option `--workers WORKERS`
+abbrev pub workers_option : Rule
+workers_option = number_option (codes "workers") 0 4294967295 (codes "1")
+
+-- `run CIRCUIT SEED [--workers WORKERS] [VALUES]...`
+abbrev pub run_command : App
+run_command =
+    let with_circuit = with_rule (new_app (codes "run")) (required_word (codes "circuit")) in
+    let with_seed = with_rule with_circuit (required_word (codes "seed")) in
+    let with_workers = with_rule with_seed workers_option in
+    with_rule with_workers (more_words (codes "values"))
+
+-- `plain CIRCUIT [VALUES]...`
+abbrev pub plain_command : App
+plain_command =
+    let with_circuit = with_rule (new_app (codes "plain")) (required_word (codes "circuit")) in
+    with_rule with_circuit (more_words (codes "values"))
+
+-- `check CIRCUIT`
+abbrev pub check_command : App
+check_command = with_rule (new_app (codes "check")) (required_word (codes "circuit"))
+
+-- `garble CIRCUIT SEED OUT [--format FORMAT] [--workers WORKERS]`
+abbrev pub garble_command : App
+garble_command =
+    let with_circuit = with_rule (new_app (codes "garble")) (required_word (codes "circuit")) in
+    let with_seed = with_rule with_circuit (required_word (codes "seed")) in
+    let with_out = with_rule with_seed (required_word (codes "out")) in
+    let with_format = with_rule with_out (number_option (codes "format") 1 2 (codes "2")) in
+    with_rule with_format workers_option
+
+-- `deal CIRCUIT SEED INDEX VALUE OUT`
+abbrev pub deal_command : App
+deal_command =
+    let with_circuit = with_rule (new_app (codes "deal")) (required_word (codes "circuit")) in
+    let with_seed = with_rule with_circuit (required_word (codes "seed")) in
+    let with_index = with_rule with_seed (number_word (codes "index") 0 4294967295) in
+    let with_value = with_rule with_index (required_word (codes "value")) in
+    with_rule with_value (required_word (codes "out"))
+
+-- `eval CIRCUIT GARBLED [LABELS]...`
+abbrev pub eval_command : App
+eval_command =
+    let with_circuit = with_rule (new_app (codes "eval")) (required_word (codes "circuit")) in
+    let with_garbled = with_rule with_circuit (required_word (codes "garbled")) in
+    with_rule with_garbled (more_words (codes "labels"))
+
+-- The program, which needs a command, before it has any.
+abbrev pub named_program : App
+named_program =
+    let name = new_app (codes "halfgates") in
+    record name {
+      top = record name.top {
+        has_version = true;
+        subcommand_required = true;
+        arg_required_else_help = true;
+        disable_help_subcommand = true;
+      };
+    }
+
+-- The program with its commands.
+abbrev pub program : App
+program =
+    let with_run = with_subcommand named_program run_command.top in
+    let with_plain = with_subcommand with_run plain_command.top in
+    let with_check = with_subcommand with_plain check_command.top in
+    let with_garble = with_subcommand with_check garble_command.top in
+    let with_deal = with_subcommand with_garble deal_command.top in
+    with_subcommand with_deal eval_command.top
+
+-- The program has a command of this name.
+abbrev pub IsCommandName : List ℕ → Type 0
+IsCommandName name = IsTrue (list_any (λ (s : Shape). bytes_eq name s.name) program.subs)
+
+-- What clap reads of the argument, which is not global.
+pub record HasRule (rule : Rule) (a : Arg) : Type 0 where
+  pub rule_is : rule_of a ≡ rule
+  pub local : a.global ≡ false
+
+-- What clap reads of the command, none of whose arguments is global.
+pub record HasShape (app : App) (c : Command) : Type 0 where
+  pub shape : app_of c ≡ app
+  pub no_globals : (out-Command c).has_globals ≡ false
+
+-- An order as texts.
+pub data OrderText : Type 0 where
+  run : List ℕ → List ℕ → ℕ → List (List ℕ) → OrderText
+  plain : List ℕ → List (List ℕ) → OrderText
+  check : List ℕ → OrderText
+  garble : List ℕ → List ℕ → List ℕ → Version → ℕ → OrderText
+  deal : List ℕ → List ℕ → ℕ → List ℕ → List ℕ → OrderText
+  eval : List ℕ → List ℕ → List (List ℕ) → OrderText
+
+abbrev pub text_of : Order → OrderText
+text_of (Run circuit seed workers values) =
+    run (string_bytes circuit) (string_bytes seed) workers (map string_bytes values.items)
+text_of (Plain circuit values) = plain (string_bytes circuit) (map string_bytes values.items)
+text_of (Check circuit) = check (string_bytes circuit)
+text_of (Garble circuit seed out version workers) =
+    garble (string_bytes circuit) (string_bytes seed) (string_bytes out) version workers
+text_of (Deal circuit seed index value out) =
+    deal (string_bytes circuit) (string_bytes seed) index (string_bytes value) (string_bytes out)
+text_of (Eval circuit garbled labels) =
+    eval (string_bytes circuit) (string_bytes garbled) (map string_bytes labels.items)
+
+-- The word that clap found for an id that has one word,
+abbrev pub word_of : List ℕ → List Row → List ℕ
+word_of id rows = unwrap_or (first_of id rows) []
+
+-- and the words for an id that has any number of them.
+abbrev pub words_of : List ℕ → List Row → List (List ℕ)
+words_of id rows = unwrap_or (all_of id rows) []
+
+-- The number that a text tells in decimal digits, perhaps after a plus; 0 where it tells none below 2 ^ 32.
+abbrev pub number_told : List ℕ → ℕ
+number_told text =
+    if accepts false (Unsigned 0 4294967295) text then digits_value 10 (without_leading_plus text) else 0
+
+-- The version of garbled files that a number names.
+abbrev pub version_told : ℕ → Version
+version_told number = if number == 1 then One else Two
+
+-- The order of `run` in what clap found.
+abbrev pub run_told : List Row → OrderText
+run_told rows = run
+    (word_of (codes "circuit") rows)
+    (word_of (codes "seed") rows)
+    (number_told (word_of (codes "workers") rows))
+    (words_of (codes "values") rows)
+
+-- The order of `plain` in what clap found.
+abbrev pub plain_told : List Row → OrderText
+plain_told rows = plain (word_of (codes "circuit") rows) (words_of (codes "values") rows)
+
+-- The order of `check` in what clap found.
+abbrev pub check_told : List Row → OrderText
+check_told rows = check (word_of (codes "circuit") rows)
+
+-- The order of `garble` in what clap found.
+abbrev pub garble_told : List Row → OrderText
+garble_told rows =
+    garble (word_of (codes "circuit") rows) (word_of (codes "seed") rows) (word_of (codes "out") rows)
+    (version_told (number_told (word_of (codes "format") rows))) (number_told (word_of (codes "workers") rows))
+
+-- The order of `deal` in what clap found.
+abbrev pub deal_told : List Row → OrderText
+deal_told rows =
+    deal (word_of (codes "circuit") rows) (word_of (codes "seed") rows) (number_told (word_of (codes "index") rows))
+    (word_of (codes "value") rows) (word_of (codes "out") rows)
+
+-- The order of `eval` in what clap found.
+abbrev pub eval_told : List Row → OrderText
+eval_told rows = eval
+    (word_of (codes "circuit") rows)
+    (word_of (codes "garbled") rows)
+    (words_of (codes "labels") rows)
+
+-- The order of the command of a name, where the program has one.
+abbrev pub command_told : List ℕ → List Row → Option OrderText
+command_told name rows =
+    if bytes_eq name (codes "run") then Some (run_told rows)
+    else if bytes_eq name (codes "plain") then Some (plain_told rows)
+    else if bytes_eq name (codes "check") then Some (check_told rows)
+    else if bytes_eq name (codes "garble") then Some (garble_told rows)
+    else if bytes_eq name (codes "deal") then Some (deal_told rows)
+    else if bytes_eq name (codes "eval") then Some (eval_told rows)
+    else None
+
+-- The order that a command line tells: that of the command that clap finds in it.
+abbrev pub told : List (List ℕ) → Option OrderText
+told words = option_and_then (λ command. command_told command.0 command.1) (subcommand_of program words)

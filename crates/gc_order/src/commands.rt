@@ -1,0 +1,240 @@
+//! The program's commands, as clap knows them, with their help.
+
+ghost use Rattle.std.specs.Prelude.{IfOk, codes};
+ghost use Rattle.gc_order.specs.Order.{HasRule, HasShape, check_command, deal_command, eval_command, garble_command};
+ghost use Rattle.gc_order.specs.Order.{more_words, number_option, number_word, plain_command, program, required_word, run_command};
+ghost use Rattle.gc_order.specs.Order.{workers_option};
+
+use clap::builder::ValueParser;
+use clap::{Arg, ArgAction, Command};
+use std::alloc::{AllocError, Global};
+
+/// The version of the program.
+const VERSION: &str = "0.1.0";
+
+const RUN_HELP: &str = "\
+Prints the output values, one a line: a character 0 or 1 for each wire, in wire order.
+
+Example, with a full adder in adder.txt that reads three bits:
+  halfgates run adder.txt 0000000000000000000000000000000000000000000000000000000000000000 1 0 1";
+
+const CHECK_HELP: &str = "\
+Prints six lines: `gates`, `wires` and `and` with the number of gates, wires and AND gates, `inputs` and `outputs` with \
+the number of values and the number of wires of each, and `digest` with the SHA-256 of the circuit's canonical text \
+in hexadecimal digits. Two files of one circuit have one digest.
+
+Example:
+  halfgates check adder.txt";
+
+const PLAIN_HELP: &str = "\
+Prints the output values, one a line: a character 0 or 1 for each wire, in wire order.
+
+Example, with a full adder in adder.txt that reads three bits:
+  halfgates plain adder.txt 1 0 1";
+
+const GARBLE_HELP: &str = "\
+Writes the garbled file OUT, and prints `wrote` with the number of its bytes. Whoever has it, the circuit and a label \
+file for each input value can evaluate the circuit, without the seed or the values.
+
+Example:
+  halfgates garble adder.txt 0000000000000000000000000000000000000000000000000000000000000000 adder.garbled";
+
+const DEAL_HELP: &str = "\
+Writes the label file OUT, with a label for each wire of the input value, and prints `wrote` with the number of its \
+bytes. The seed has to be that of the garbled file.
+
+Example, with a full adder in adder.txt that reads three bits, of which the first is 1:
+  halfgates deal adder.txt 0000000000000000000000000000000000000000000000000000000000000000 0 1 first.labels";
+
+const EVAL_HELP: &str = "\
+Prints the output values, one a line: a character 0 or 1 for each wire, in wire order. There has to be a label file for \
+each input value of the circuit, in any order. Neither the seed nor the values are needed.
+
+Example, with a full adder in adder.txt that reads three bits:
+  halfgates eval adder.txt adder.garbled first.labels second.labels third.labels";
+
+const LABELS_HELP: &str = "A label file for each input value of the circuit, in any order";
+
+const SEED_HELP: &str = "The seed of the garbling: 64 hexadecimal digits";
+
+const VALUE_HELP: &str = "\
+The input value: a character 0 or 1 for each wire, in wire order, or x and two hexadecimal digits for each 8 wires, \
+of which the first wire is the lowest bit";
+
+const VALUES_HELP: &str = "\
+A value for each input value of the circuit: a character 0 or 1 for each wire, in wire order, or x and \
+two hexadecimal digits for each 8 wires, of which the first wire is the lowest bit";
+
+/// The program, with its commands.
+pub(crate) fn halfgates<'a>(alloc: Global) -> Result<Command<'a>, AllocError>
+    ensures { IfOk result (HasShape program) }
+{
+    Command::new(alloc, "halfgates")
+        .about("Garbles Boolean circuits, and evaluates them garbled")
+        .version(VERSION)
+        .subcommand_required(true)
+        .arg_required_else_help(true)
+        .disable_help_subcommand(true)
+        .subcommand(run(alloc)?)?
+        .subcommand(plain(alloc)?)?
+        .subcommand(check(alloc)?)?
+        .subcommand(garble(alloc)?)?
+        .subcommand(deal(alloc)?)?
+        .subcommand(eval(alloc)?)
+}
+
+/// The command `run`.
+fn run<'a>(alloc: Global) -> Result<Command<'a>, AllocError>
+    ensures { IfOk result (HasShape run_command) }
+{
+    Command::new(alloc, "run")
+        .about("Garbles a circuit, and evaluates it garbled on the given values")
+        .after_help(RUN_HELP)
+        .arg(circuit_arg(alloc))?
+        .arg(word_arg(alloc, "seed", "SEED", SEED_HELP))?
+        .arg(workers_arg(alloc))?
+        .arg(more_arg(alloc, "values", "VALUES", VALUES_HELP))
+}
+
+/// The command `plain`.
+fn plain<'a>(alloc: Global) -> Result<Command<'a>, AllocError>
+    ensures { IfOk result (HasShape plain_command) }
+{
+    Command::new(alloc, "plain")
+        .about("Evaluates a circuit on the given values, without garbling")
+        .after_help(PLAIN_HELP)
+        .arg(circuit_arg(alloc))?
+        .arg(more_arg(alloc, "values", "VALUES", VALUES_HELP))
+}
+
+/// The command `check`.
+fn check<'a>(alloc: Global) -> Result<Command<'a>, AllocError>
+    ensures { IfOk result (HasShape check_command) }
+{
+    Command::new(alloc, "check")
+        .about("Tells a circuit's numbers and its digest")
+        .after_help(CHECK_HELP)
+        .arg(circuit_arg(alloc))
+}
+
+/// The command `garble`.
+fn garble<'a>(alloc: Global) -> Result<Command<'a>, AllocError>
+    ensures { IfOk result (HasShape garble_command) }
+{
+    Command::new(alloc, "garble")
+        .about("Garbles a circuit into a file")
+        .after_help(GARBLE_HELP)
+        .arg(circuit_arg(alloc))?
+        .arg(word_arg(alloc, "seed", "SEED", SEED_HELP))?
+        .arg(word_arg(alloc, "out", "OUT", "The garbled file, which is written"))?
+        .arg(format_arg(alloc))?
+        .arg(workers_arg(alloc))
+}
+
+/// The command `deal`.
+fn deal<'a>(alloc: Global) -> Result<Command<'a>, AllocError>
+    ensures { IfOk result (HasShape deal_command) }
+{
+    Command::new(alloc, "deal")
+        .about("Writes the labels of an input value into a file")
+        .after_help(DEAL_HELP)
+        .arg(circuit_arg(alloc))?
+        .arg(word_arg(alloc, "seed", "SEED", SEED_HELP))?
+        .arg(index_arg(alloc))?
+        .arg(word_arg(alloc, "value", "VALUE", VALUE_HELP))?
+        .arg(word_arg(alloc, "out", "OUT", "The label file, which is written"))
+}
+
+/// The command `eval`.
+fn eval<'a>(alloc: Global) -> Result<Command<'a>, AllocError>
+    ensures { IfOk result (HasShape eval_command) }
+{
+    Command::new(alloc, "eval")
+        .about("Evaluates a circuit garbled, from a garbled file and label files")
+        .after_help(EVAL_HELP)
+        .arg(circuit_arg(alloc))?
+        .arg(word_arg(
+            alloc,
+            "garbled",
+            "GARBLED",
+            "The garbled file of the circuit",
+        ))?
+        .arg(more_arg(alloc, "labels", "LABELS", LABELS_HELP))
+}
+
+/// A word that has to be there.
+fn word_arg<'a>(alloc: Global, id: &'a str, name: &'a str, help: &'a str) -> Arg<'a>
+    ensures { HasRule (required_word id.entry.now) result }
+{
+    Arg::new(alloc, id)
+        .value_name(name)
+        .help(help)
+        .required(true)
+}
+
+/// The word for the index of an input value.
+fn index_arg<'a>(alloc: Global) -> Arg<'a>
+    ensures { HasRule (number_word (codes "index") 0 4294967295) result }
+{
+    Arg::new(alloc, "index")
+        .value_name("INDEX")
+        .help("The index of the input value, counted from 0")
+        .value_parser(ValueParser::unsigned(0, 4_294_967_295))
+        .required(true)
+}
+
+/// The option for the format of a garbled file.
+fn format_arg<'a>(alloc: Global) -> Arg<'a>
+    ensures { HasRule (number_option (codes "format") 1 2 (codes "2")) result }
+{
+    let help = "The version of the garbled file: 1, or 2, by which output labels are recognised";
+    number_arg(alloc, "format", "FORMAT", help, 1, 2, "2")
+}
+
+/// The option for the number of workers.
+fn workers_arg<'a>(alloc: Global) -> Arg<'a>
+    ensures { HasRule workers_option result }
+{
+    let help = "How many threads work, from 1 to 64; what they make is the same";
+    number_arg(alloc, "workers", "WORKERS", help, 0, 4_294_967_295, "1")
+}
+
+/// An option that is a number from `low` to `high`, and is `default` where it isn't given.
+fn number_arg<'a>(
+    alloc: Global,
+    id: &'a str,
+    name: &'a str,
+    help: &'a str,
+    low: u64,
+    high: u64,
+    default: &'a str,
+) -> Arg<'a>
+    ensures { HasRule (number_option id.entry.now low high default.entry.now) result }
+{
+    Arg::new(alloc, id)
+        .long(id)
+        .value_name(name)
+        .help(help)
+        .value_parser(ValueParser::unsigned(low, high))
+        .default_value(default)
+}
+
+/// The word for the circuit.
+fn circuit_arg<'a>(alloc: Global) -> Arg<'a>
+    ensures { HasRule (required_word (codes "circuit")) result }
+{
+    Arg::new(alloc, "circuit")
+        .value_name("CIRCUIT")
+        .help("The file of the circuit, in Bristol Fashion")
+        .required(true)
+}
+
+/// Any number of words.
+fn more_arg<'a>(alloc: Global, id: &'a str, name: &'a str, help: &'a str) -> Arg<'a>
+    ensures { HasRule (more_words id.entry.now) result }
+{
+    Arg::new(alloc, id)
+        .value_name(name)
+        .help(help)
+        .action(ArgAction::Append)
+}

@@ -1,0 +1,8 @@
+//! The command line of `halfgates`: the order that its words tell, by clap's rules.
+#![tactic(auto)]
+
+mod commands;
+mod order;
+mod words;
+
+pub use order::{Order, order_of};

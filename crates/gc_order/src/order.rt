@@ -1,0 +1,174 @@
+//! Orders: what the words of a command line ask for.
+
+ghost use Rattle.std.specs.Prelude.{◌≡◌, map, IfOk, Some, string_bytes};
+ghost use Rattle.clap.specs.Words.{FailsBy, fault_of, found_of, rows_of};
+ghost use Rattle.gc_order.specs.Order.{IsCommandName, check_told, command_told, deal_told, eval_told, garble_told};
+ghost use Rattle.gc_order.specs.Order.{plain_told, program, run_told, text_of, told};
+
+use crate::commands::halfgates;
+use crate::words::{number_of, version_of, word_of, words_of};
+use clap::{ArgMatches, Error};
+use gc_file::Version;
+use std::alloc::{AllocError, Global};
+
+/// A command with its words. What the words of a command name, as files, is the command's own affair.
+#[derive(Debug, PartialEq, Eq, Drop)]
+pub enum Order {
+    /// Garble a circuit and evaluate it on these values.
+    Run {
+        /// The name of the circuit's file.
+        circuit: String,
+        /// The text of the seed.
+        seed: String,
+        /// How many workers garble.
+        workers: u32,
+        /// The text of each input value, in order.
+        values: Vec<String>,
+    },
+    /// Tell a circuit's numbers and digest.
+    Check {
+        /// The name of the circuit's file.
+        circuit: String,
+    },
+    /// Evaluate a circuit on these values, without garbling.
+    Plain {
+        /// The name of the circuit's file.
+        circuit: String,
+        /// The text of each input value, in order.
+        values: Vec<String>,
+    },
+    /// Garble a circuit into a file.
+    Garble {
+        /// The name of the circuit's file.
+        circuit: String,
+        /// The text of the seed.
+        seed: String,
+        /// The name of the garbled file.
+        out: String,
+        /// The version of the garbled file.
+        version: Version,
+        /// How many workers garble.
+        workers: u32,
+    },
+    /// Write the labels of an input value into a file.
+    Deal {
+        /// The name of the circuit's file.
+        circuit: String,
+        /// The text of the seed.
+        seed: String,
+        /// The index of the input value.
+        index: u32,
+        /// The text of the input value.
+        value: String,
+        /// The name of the label file.
+        out: String,
+    },
+    /// Evaluate a circuit from a garbled file and label files.
+    Eval {
+        /// The name of the circuit's file.
+        circuit: String,
+        /// The name of the garbled file.
+        garbled: String,
+        /// The name of each label file, in the order of the words.
+        labels: Vec<String>,
+    },
+}
+
+/// The order in the words of a command line, of which the first is the program's name. The words of a line that
+/// clap refuses, or that asks for help or the version, are answered with clap's error, which has the text to show.
+pub fn order_of(alloc: Global, words: &[String]) -> Result<Order, Error>
+    ensures told { IfOk result (λ order. told (map string_bytes words.now) ≡ Some (text_of order)) }
+    ensures kinds { FailsBy (fault_of program (map string_bytes words.now)) result }
+{
+    let matches = halfgates(alloc)?.try_get_matches_from(words)?;
+    match matches.subcommand() {
+        Some((name, found)) => Ok(named_order(alloc, name, found)?),
+        None => unreachable!(),
+    }
+}
+
+/// The order of the command of this name, from what clap found of its words. That the program has one is the
+/// caller's condition.
+fn named_order(alloc: Global, name: &str, found: &ArgMatches<'_>) -> Result<Order, AllocError>
+    requires { IsCommandName name.now }
+    ensures { IfOk result (λ order. command_told name.now (rows_of (found_of found.now))
+        ≡ Some (text_of order)) }
+{
+    match name {
+        "run" => run_order(alloc, found),
+        "plain" => plain_order(alloc, found),
+        "check" => check_order(alloc, found),
+        "garble" => garble_order(alloc, found),
+        "deal" => deal_order(alloc, found),
+        "eval" => eval_order(alloc, found),
+        _ => unreachable!(),
+    }
+}
+
+/// The order of `run`, from what clap found of its words.
+fn run_order(alloc: Global, found: &ArgMatches<'_>) -> Result<Order, AllocError>
+    ensures { IfOk result (λ order. text_of order ≡ run_told (rows_of (found_of found.now))) }
+{
+    Ok(Order::Run {
+        circuit: word_of(alloc, found, "circuit")?,
+        seed: word_of(alloc, found, "seed")?,
+        workers: number_of(found, "workers"),
+        values: words_of(alloc, found, "values")?,
+    })
+}
+
+/// The order of `plain`, from what clap found of its words.
+fn plain_order(alloc: Global, found: &ArgMatches<'_>) -> Result<Order, AllocError>
+    ensures { IfOk result (λ order. text_of order ≡ plain_told (rows_of (found_of found.now))) }
+{
+    Ok(Order::Plain {
+        circuit: word_of(alloc, found, "circuit")?,
+        values: words_of(alloc, found, "values")?,
+    })
+}
+
+/// The order of `check`, from what clap found of its words.
+fn check_order(alloc: Global, found: &ArgMatches<'_>) -> Result<Order, AllocError>
+    ensures { IfOk result (λ order. text_of order ≡ check_told (rows_of (found_of found.now))) }
+{
+    Ok(Order::Check {
+        circuit: word_of(alloc, found, "circuit")?,
+    })
+}
+
+/// The order of `garble`, from what clap found of its words.
+fn garble_order(alloc: Global, found: &ArgMatches<'_>) -> Result<Order, AllocError>
+    ensures { IfOk result (λ order. text_of order ≡ garble_told (rows_of (found_of found.now))) }
+{
+    Ok(Order::Garble {
+        circuit: word_of(alloc, found, "circuit")?,
+        seed: word_of(alloc, found, "seed")?,
+        out: word_of(alloc, found, "out")?,
+        version: version_of(number_of(found, "format")),
+        workers: number_of(found, "workers"),
+    })
+}
+
+/// The order of `deal`, from what clap found of its words.
+fn deal_order(alloc: Global, found: &ArgMatches<'_>) -> Result<Order, AllocError>
+    ensures { IfOk result (λ order. text_of order ≡ deal_told (rows_of (found_of found.now))) }
+{
+    Ok(Order::Deal {
+        circuit: word_of(alloc, found, "circuit")?,
+        seed: word_of(alloc, found, "seed")?,
+        index: number_of(found, "index"),
+        value: word_of(alloc, found, "value")?,
+        out: word_of(alloc, found, "out")?,
+    })
+}
+
+/// The order of `eval`, from what clap found of its words.
+fn eval_order(alloc: Global, found: &ArgMatches<'_>) -> Result<Order, AllocError>
+    ensures { IfOk result (λ order. text_of order ≡ eval_told (rows_of (found_of found.now))) }
+{
+    Ok(Order::Eval {
+        circuit: word_of(alloc, found, "circuit")?,
+        garbled: word_of(alloc, found, "garbled")?,
+        labels: words_of(alloc, found, "labels")?,
+    })
+}
