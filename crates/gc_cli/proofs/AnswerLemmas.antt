@@ -2,8 +2,13 @@
 use Rattle.std.proofs.Common.{◌≡◌, Bool, true, false, List, length, Option, Some, None, Result, Ok, Err, is_ok, sum, sym, subst, ap, ◌∙◌}
 use Rattle.std.specs.Prelude.{IfOk, IfSome, MatchResult}
 use Rattle.std.proofs.lemmas.List.FromFn.{length-map-range_with_len}
-use Rattle.gc_circuit.specs.Circuit.{Netlist, output_wires}
+use Rattle.gc_circuit.specs.Circuit.{Netlist, IsLawful, output_wires}
 use Rattle.gc_circuit.specs.Meaning.{AreOutputs}
+use Rattle.gc_file.specs.GarbledFile.{GarbledParts}
+use Rattle.gc_file.specs.LabelFile.{LabelFileParts}
+use Rattle.gc_eval.specs.Job.{JobParts}
+use Rattle.gc_eval.proofs.OutputLemmas.{bound-whole, length-evaluated}
+use Rattle.gc_cli.specs.Job.{DecodeTo}
 
 -- what holds of an answer holds of it where `map_err` passes it on
 pub map_err-ok : {T E D : Type 0} (r : Result T E) (s : Result T D) (Q : E → Type 0)
@@ -23,3 +28,10 @@ pub length-outputs : (c : Netlist) (x outputs : List Bool) → AreOutputs c x ou
     → sum c.output_widths ≡ length outputs
 length-outputs c x outputs are =
     sym (ap length are.last ∙ length-map-range_with_len are.bits _ (output_wires c))
+
+-- and so have those that files decode to
+pub length-decoded : (c : Netlist) → IsLawful c → (g : GarbledParts) (files : List LabelFileParts) (bits : List Bool)
+    → DecodeTo c g files bits → sum c.output_widths ≡ length bits
+length-decoded c lawful g files bits is =
+    sym (length-evaluated is.job (bound-whole c lawful g files is.job is.bound) bits is.evaluated
+    ∙ ap (λ (j : JobParts). output_wires j.circuit) is.bound.parts)

@@ -1,11 +1,9 @@
-pub mod OrderLemmas
-pub mod NumberLemmas
 pub mod WroteLemmas
-pub mod EncodingLemmas
-pub mod EvaluationLemmas
-pub mod SettledLemmas
 pub mod ValuesLemmas
 pub mod AnswerLemmas
 pub mod RunLemmas
+pub mod EvalLemmas
+pub mod FaultLemmas
+pub mod OwnFilesLemmas
 pub mod PlainLemmas
 pub mod CheckLemmas

@@ -1,26 +1,72 @@
 -- What a run's steps tell, joined.
-use Rattle.std.proofs.Common.{◌≡◌, ℕ, Bool, List, map, sym, subst}
-use Rattle.std.specs.List.{flat_map}
-use Rattle.std.proofs.lemmas.List.Folds.{flat_map-map}
-use Rattle.gc_circuit.specs.Circuit.{Netlist}
+use Rattle.std.proofs.Common.{ℕ, List, Bool, Ok, Err, flat_map}
+use Rattle.gc_circuit.specs.Circuit.{Netlist, IsLawful}
 use Rattle.gc_circuit.specs.Meaning.{AreOutputs}
-use Rattle.gc_label.specs.Seed.{IsSeedText}
-use Rattle.gc_cli.specs.CircuitFile.{IsCircuit}
-use Rattle.gc_cli.specs.Values.{TellValues}
-use Rattle.gc_cli.specs.Lines.{output_lines}
-use Rattle.gc_cli.specs.Run.{AnswersRun}
+use Rattle.gc_file.specs.GarbledFile.{GarbledParts}
+use Rattle.gc_file.specs.LabelFile.{LabelFileParts}
+use Rattle.gc_eval.specs.Binding.{FirstBindFault}
+use Rattle.gc_eval.specs.Honest.{AreHonestFiles}
+use Rattle.gc_eval.proofs.HonestFiles.{honest-files}
+use Rattle.gc_cli.specs.declared.fault.Fault.{Fault}
+use Rattle.gc_cli.specs.declared.fault.Fault.TheVariants as faults
+use Rattle.gc_cli.specs.Job.{DecodeTo, HasJobFault}
+use Rattle.gc_work.specs.WorkFault.{AreFew}
+use Rattle.gc_cli.specs.Run.{IsTold, IsOwnFault, IsWantOfMemory, HasRunFault}
+use Rattle.gc_cli.proofs.FaultLemmas.{bind-memory}
 
--- the steps of a run, each answered
-pub answers-run : {X : Type 0} (f : X → List Bool) (bytes seed : List ℕ) (texts : List (List ℕ))
-    (c : Netlist) (values : List X) (outputs : List Bool) (lines : List ℕ)
-    → IsCircuit bytes c → IsSeedText seed → TellValues c.input_widths texts (map f values)
-    → AreOutputs c (flat_map f values) outputs
-    → lines ≡ output_lines c.output_widths outputs → AnswersRun bytes seed texts lines
-answers-run f bytes seed texts c values outputs lines circuit seed_text told are printed = record {
-  circuit = c;
-  values = map f values;
-  told = record { circuit = circuit; seed_text = seed_text; input_values = told };
-  outputs = outputs;
-  computed = subst (λ bits. AreOutputs c bits outputs) (sym (flat_map-map (λ value. value) f values)) are;
-  printed = printed;
-}
+module _ (c : Netlist) (lawful : IsLawful c) (seed : List ℕ) (values : List (List Bool)) (g : GarbledParts)
+    (files : List LabelFileParts) (honest : AreHonestFiles c seed values g files) where
+  -- Honest files decode to the circuit's outputs,
+  pub honest-decode : (outputs : List Bool) → DecodeTo c g files outputs
+      → AreOutputs c (flat_map (λ value. value) values) outputs
+  honest-decode outputs is =
+      (honest-files c lawful seed values g files honest).outputs is.job is.bound (Ok outputs) is.evaluated
+
+  -- and only memory may be missing.
+  pub honest-fault : (fault : Fault) → HasJobFault c g files fault → IsWantOfMemory fault
+  honest-fault (faults.Binding fault) has =
+      bind-memory (FirstBindFault c g files) (honest-files c lawful seed values g files honest).no_fault fault has
+  honest-fault (faults.Evaluation fault) has =
+      (honest-files c lawful seed values g files honest).outputs has.0 has.1 (Err fault) has.2
+  honest-fault (faults.Circuit fault) has = absurd has
+  honest-fault faults.WrongCount has = absurd has
+  honest-fault (faults.Value fault) has = absurd has
+  honest-fault faults.BadSeed has = absurd has
+  honest-fault faults.NoSuchValue has = absurd has
+  honest-fault (faults.Garbling fault) has = absurd has
+  honest-fault (faults.File fault) has = absurd has
+  honest-fault faults.CannotRead has = absurd has
+  honest-fault faults.CannotWrite has = absurd has
+  honest-fault faults.Memory has = absurd has
+
+-- Where memory is missing, a run has that fault.
+pub want-of-memory : (bytes seed : List ℕ) (workers : ℕ) (texts : List (List ℕ)) → IsTold bytes seed texts
+    → AreFew workers → (fault : Fault) → IsWantOfMemory fault → HasRunFault bytes seed workers texts fault
+want-of-memory bytes seed workers texts told few (faults.Garbling fault) want = (told, rw want few)
+want-of-memory bytes seed workers texts told few (faults.File fault) want = (want, told)
+want-of-memory bytes seed workers texts told few (faults.Binding fault) want = (want, told)
+want-of-memory bytes seed workers texts told few (faults.Evaluation fault) want = (want, told)
+want-of-memory bytes seed workers texts told few faults.Memory want = tt
+want-of-memory bytes seed workers texts told few (faults.Circuit fault) want = absurd want
+want-of-memory bytes seed workers texts told few faults.WrongCount want = absurd want
+want-of-memory bytes seed workers texts told few (faults.Value fault) want = absurd want
+want-of-memory bytes seed workers texts told few faults.BadSeed want = absurd want
+want-of-memory bytes seed workers texts told few faults.NoSuchValue want = absurd want
+want-of-memory bytes seed workers texts told few faults.CannotRead want = absurd want
+want-of-memory bytes seed workers texts told few faults.CannotWrite want = absurd want
+
+-- Where garbling has a fault, a run has it.
+pub own-fault : (bytes seed : List ℕ) (workers : ℕ) (texts : List (List ℕ)) → IsTold bytes seed texts
+    → (fault : Fault) → IsOwnFault workers fault → HasRunFault bytes seed workers texts fault
+own-fault bytes seed workers texts told (faults.Garbling fault) own = (told, own)
+own-fault bytes seed workers texts told (faults.File fault) own = (own, told)
+own-fault bytes seed workers texts told (faults.Binding fault) own = (own, told)
+own-fault bytes seed workers texts told (faults.Evaluation fault) own = (own, told)
+own-fault bytes seed workers texts told faults.Memory own = tt
+own-fault bytes seed workers texts told (faults.Circuit fault) own = absurd own
+own-fault bytes seed workers texts told faults.WrongCount own = absurd own
+own-fault bytes seed workers texts told (faults.Value fault) own = absurd own
+own-fault bytes seed workers texts told faults.BadSeed own = absurd own
+own-fault bytes seed workers texts told faults.NoSuchValue own = absurd own
+own-fault bytes seed workers texts told faults.CannotRead own = absurd own
+own-fault bytes seed workers texts told faults.CannotWrite own = absurd own

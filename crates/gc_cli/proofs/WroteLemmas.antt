@@ -1,22 +1,17 @@
 -- What a command tells where its file is written, and where it can't be.
-use Rattle.std.proofs.Common.{◌≡◌, ℕ, Bool, List, Option, Some, None, length, Ok, ap, ◌∙◌}
+use Rattle.std.proofs.Common.{◌≡◌, ℕ, Bool, List, Option, Some, None, length, ap, ◌∙◌}
 use Rattle.std.specs.Prelude.{IfSome}
 use Rattle.std.specs.List.{slice_get}
 use Rattle.std.proofs.lemmas.List.FromFn.{length-map-range_with_len}
 use Rattle.gc_circuit.specs.Circuit.{Netlist}
 use Rattle.gc_circuit.proofs.ValueLemmas.{value_text_law}
 use Rattle.gc_half.specs.Garbling.{GarblingParts, IsGarbled, FitsCircuit}
-use Rattle.gc_file.specs.declared.garbled.Version.{Version}
-use Rattle.gc_file.specs.GarbledFile.{garbled_file}
-use Rattle.gc_file.specs.LabelFile.{label_file, label_parts_of}
 use Rattle.gc_cli.specs.declared.fault.Fault.{Fault}
 use Rattle.gc_cli.specs.declared.fault.Fault.TheVariants as faults
-use Rattle.gc_cli.specs.CircuitFile.{IsCircuit}
-use Rattle.gc_cli.specs.SeedText.{IsSeed}
 use Rattle.gc_cli.specs.Values.{IsInputValue}
-use Rattle.gc_cli.specs.Wrote.{HasWritten, IsUnwritten}
-use Rattle.gc_cli.specs.Deal.{TellDeal, AnswersDeal, HasDealFault}
-use Rattle.gc_cli.specs.Garble.{TellGarble, AnswersGarble, HasGarbleFault, honest_parts}
+use Rattle.gc_cli.specs.Wrote.{IsUnwritten}
+use Rattle.gc_cli.specs.Deal.{TellDeal, HasDealFault}
+use Rattle.gc_cli.specs.Garble.{TellGarble, HasGarbleFault}
 
 -- two facts of one known value, joined
 pub IfSome-both : {T : Type 0} (o : Option T) (P Q R : T → Type 0) → ((x : T) → P x → Q x → R x) → IfSome o P → IfSome o Q → IfSome o R
@@ -39,22 +34,27 @@ deal-unwritten bytes seed_text index text c seed bits told faults.WrongCount h =
 deal-unwritten bytes seed_text index text c seed bits told (faults.Value fault) h = absurd h
 deal-unwritten bytes seed_text index text c seed bits told faults.BadSeed h = absurd h
 deal-unwritten bytes seed_text index text c seed bits told faults.NoSuchValue h = absurd h
-deal-unwritten bytes seed_text index text c seed bits told faults.Garbling h = absurd h
-deal-unwritten bytes seed_text index text c seed bits told faults.Evaluation h = absurd h
+deal-unwritten bytes seed_text index text c seed bits told (faults.Garbling fault) h = absurd h
+deal-unwritten bytes seed_text index text c seed bits told (faults.File fault) h = absurd h
+deal-unwritten bytes seed_text index text c seed bits told (faults.Binding fault) h = absurd h
+deal-unwritten bytes seed_text index text c seed bits told (faults.Evaluation fault) h = absurd h
 deal-unwritten bytes seed_text index text c seed bits told faults.CannotRead h = absurd h
 
-pub garble-unwritten : (bytes seed_text : List ℕ) (c : Netlist) (seed : List ℕ) → TellGarble bytes seed_text c seed
-    → (fault : Fault) → IsUnwritten fault → HasGarbleFault bytes seed_text fault
-garble-unwritten bytes seed_text c seed told faults.CannotWrite h = (c, (seed, told))
-garble-unwritten bytes seed_text c seed told faults.Memory h = tt
-garble-unwritten bytes seed_text c seed told (faults.Circuit fault) h = absurd h
-garble-unwritten bytes seed_text c seed told faults.WrongCount h = absurd h
-garble-unwritten bytes seed_text c seed told (faults.Value fault) h = absurd h
-garble-unwritten bytes seed_text c seed told faults.BadSeed h = absurd h
-garble-unwritten bytes seed_text c seed told faults.NoSuchValue h = absurd h
-garble-unwritten bytes seed_text c seed told faults.Garbling h = absurd h
-garble-unwritten bytes seed_text c seed told faults.Evaluation h = absurd h
-garble-unwritten bytes seed_text c seed told faults.CannotRead h = absurd h
+pub garble-unwritten : (bytes seed_text : List ℕ) (workers : ℕ) (c : Netlist) (seed : List ℕ)
+    → TellGarble bytes seed_text c seed → (fault : Fault) → IsUnwritten fault
+    → HasGarbleFault bytes seed_text workers fault
+garble-unwritten bytes seed_text workers c seed told faults.CannotWrite h = (c, (seed, told))
+garble-unwritten bytes seed_text workers c seed told faults.Memory h = tt
+garble-unwritten bytes seed_text workers c seed told (faults.Circuit fault) h = absurd h
+garble-unwritten bytes seed_text workers c seed told faults.WrongCount h = absurd h
+garble-unwritten bytes seed_text workers c seed told (faults.Value fault) h = absurd h
+garble-unwritten bytes seed_text workers c seed told faults.BadSeed h = absurd h
+garble-unwritten bytes seed_text workers c seed told faults.NoSuchValue h = absurd h
+garble-unwritten bytes seed_text workers c seed told (faults.Garbling fault) h = absurd h
+garble-unwritten bytes seed_text workers c seed told (faults.File fault) h = absurd h
+garble-unwritten bytes seed_text workers c seed told (faults.Binding fault) h = absurd h
+garble-unwritten bytes seed_text workers c seed told (faults.Evaluation fault) h = absurd h
+garble-unwritten bytes seed_text workers c seed told faults.CannotRead h = absurd h
 
 -- a garbling of the circuit fits it
 pub garbled-fits : (c : Netlist) (seed : List ℕ) (g : GarblingParts) → IsGarbled c seed g → FitsCircuit c g

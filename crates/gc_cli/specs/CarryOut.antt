@@ -1,41 +1,44 @@
 -- What a command answers and writes, and which fault it has, where the files' bytes are known.
-use Rattle.std.specs.Prelude.{◌≡◌, ℕ, ◌<◌, List, Option, IfSome}
+use Rattle.std.specs.Prelude.{◌≡◌, ℕ, ◌<◌, List, IfSome}
 use Rattle.gc_cli.specs.declared.fault.Fault.{Fault}
 use Rattle.gc_cli.specs.declared.fault.Fault.TheVariants.{CannotRead, CannotWrite}
-use Rattle.gc_cli.specs.Order.{OrderText, run, plain, check, garble, deal}
+use Rattle.gc_order.specs.Order.{OrderText, run, plain, check, garble, deal, eval}
+use Rattle.gc_cli.specs.Files.{FileBytes}
 use Rattle.gc_cli.specs.Run.{AnswersRun, HasRunFault}
 use Rattle.gc_cli.specs.Plain.{AnswersPlain, HasPlainFault}
 use Rattle.gc_cli.specs.Check.{AnswersCheck, HasCheckFault}
 use Rattle.gc_cli.specs.Garble.{AnswersGarble, HasGarbleFault}
 use Rattle.gc_cli.specs.Deal.{AnswersDeal, HasDealFault}
-
--- The bytes of files by name, where they are known.
-abbrev pub FileBytes : Type 0
-FileBytes = List ℕ → Option (List ℕ)
+use Rattle.gc_cli.specs.Eval.{AnswersEval, HasEvalFault}
 
 -- The order is done: the bytes for standard output are its answer, and where it writes a file, that is written. `old` and
 -- `new` are the bytes of the files before and after it.
 abbrev pub Answers : FileBytes → FileBytes → OrderText → List ℕ → Type 0
-Answers old new (run circuit seed values) out = IfSome (old circuit) (λ file. AnswersRun file seed values out)
+Answers old new (run circuit seed workers values) out =
+    IfSome (old circuit) (λ file. AnswersRun file seed workers values out)
 Answers old new (plain circuit values) out = IfSome (old circuit) (λ file. AnswersPlain file values out)
 Answers old new (check circuit) out = IfSome (old circuit) (λ file. AnswersCheck file out)
-Answers old new (garble circuit seed name version) out =
-    IfSome (old circuit) (λ file. AnswersGarble file seed version (new name) out)
+Answers old new (garble circuit seed name version workers) out =
+    IfSome (old circuit) (λ file. AnswersGarble file seed version workers (new name) out)
 Answers old new (deal circuit seed index value name) out =
     IfSome (old circuit) (λ file. AnswersDeal file seed index value (new name) out)
+Answers old new (eval circuit garbled labels) out = AnswersEval old circuit garbled labels out
 
 -- The order has this fault.
 abbrev pub HasFault : FileBytes → OrderText → Fault → Type 0
-HasFault bytes (run circuit seed values) fault = IfSome (bytes circuit) (λ file. HasRunFault file seed values fault)
+HasFault bytes (run circuit seed workers values) fault =
+    IfSome (bytes circuit) (λ file. HasRunFault file seed workers values fault)
 HasFault bytes (plain circuit values) fault = IfSome (bytes circuit) (λ file. HasPlainFault file values fault)
 HasFault bytes (check circuit) fault = IfSome (bytes circuit) (λ file. HasCheckFault file fault)
-HasFault bytes (garble circuit seed name version) fault = IfSome (bytes circuit) (λ file. HasGarbleFault file seed fault)
+HasFault bytes (garble circuit seed name version workers) fault =
+    IfSome (bytes circuit) (λ file. HasGarbleFault file seed workers fault)
 HasFault bytes (deal circuit seed index value name) fault =
     IfSome (bytes circuit) (λ file. HasDealFault file seed index value fault)
+HasFault bytes (eval circuit garbled labels) fault = HasEvalFault bytes circuit garbled labels fault
 
 -- The order writes the file of this name.
 abbrev pub Writes : OrderText → List ℕ → Type 0
-Writes (garble circuit seed out version) name = name ≡ out
+Writes (garble circuit seed out version workers) name = name ≡ out
 Writes (deal circuit seed index value out) name = name ≡ out
 Writes order name = ⊥
 

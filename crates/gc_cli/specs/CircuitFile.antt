@@ -14,6 +14,13 @@ pub record IsCircuit (bytes : List ℕ) (c : Netlist) : Type 0 where
   pub spelled : Spells bytes c
   pub lawful : IsLawful c
 
+-- The fault is one that a circuit's file may have.
+abbrev pub IsCircuitFault : Fault → Type 0
+IsCircuitFault CannotRead = Unit {0}
+IsCircuitFault (Circuit fault) = Unit {0}
+IsCircuitFault Memory = Unit {0}
+IsCircuitFault _ = ⊥
+
 -- The faults of a circuit's file, where its bytes are known: memory aside, the first fault of reading them.
 abbrev pub HasCircuitFault : List ℕ → Fault → Type 0
 HasCircuitFault bytes CannotRead = Unit {0}

@@ -3,6 +3,10 @@ use Rattle.std.specs.Prelude.{◌≡◌, ℕ, ◌+◌, List, Option, Some, None,
 use Rattle.gc_cli.specs.declared.files.FileError.{FileError}
 use Rattle.gc_cli.specs.declared.files.FileError.TheVariants.{CannotRead, CannotWrite, Memory}
 
+-- The bytes of files by name, where they are known.
+abbrev pub FileBytes : Type 0
+FileBytes = List ℕ → Option (List ℕ)
+
 -- Where the file's bytes are known, these are they.
 abbrev pub GivesFile : Option (List ℕ) → List ℕ → Type 0
 GivesFile None bytes = Unit {0}

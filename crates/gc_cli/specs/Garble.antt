@@ -1,12 +1,12 @@
 -- The command `garble`: what it writes and answers, and which fault it has.
-use Rattle.std.specs.Prelude.{◌≡◌, ℕ, List, Option}
+use Rattle.std.specs.Prelude.{ℕ, List, Option}
 use Rattle.gc_circuit.specs.Circuit.{Netlist}
 use Rattle.gc_label.specs.Seed.{IsSeedText}
 use Rattle.gc_half.specs.Garbling.{GarblingParts, IsGarbled}
+use Rattle.gc_work.specs.WorkFault.{AreFew, HasWorkFault}
 use Rattle.gc_file.specs.declared.garbled.Version.{Version}
-use Rattle.gc_file.specs.declared.garbled.Version.TheVariants.{One, Two}
-use Rattle.gc_file.specs.GarbledFile.{GarbledParts, garbled_file}
-use Rattle.gc_file.specs.Written.{parts_one, parts_two}
+use Rattle.gc_file.specs.GarbledFile.{garbled_file}
+use Rattle.gc_file.specs.Honest.{honest_parts}
 use Rattle.gc_cli.specs.declared.fault.Fault.{Fault}
 use Rattle.gc_cli.specs.declared.fault.Fault.TheVariants.{Circuit, BadSeed, Garbling, CannotRead, CannotWrite, Memory}
 use Rattle.gc_cli.specs.CircuitFile.{IsCircuit, HasCircuitFault}
@@ -18,28 +18,25 @@ pub record TellGarble (bytes seed_text : List ℕ) (c : Netlist) (seed : List �
   pub circuit : IsCircuit bytes c
   pub seed_told : IsSeed seed_text seed
 
--- What the garbled file of a version holds.
-abbrev pub honest_parts : Version → Netlist → GarblingParts → List ℕ → GarbledParts
-honest_parts One c g seed = parts_one c g
-honest_parts Two c g seed = parts_two c g seed
-
--- What `garble` does: it writes the garbled file of the version, of the circuit's garbling under the seed, and tells its
--- number of bytes.
-pub record AnswersGarble (bytes seed_text : List ℕ) (version : Version) (held : Option (List ℕ)) (lines : List ℕ)
-    : Type 0 where
+-- What `garble` does, whatever the number of workers: it writes the garbled file of the version, of the circuit's garbling
+-- under the seed, and tells its number of bytes.
+pub record AnswersGarble (bytes seed_text : List ℕ) (version : Version) (workers : ℕ) (held : Option (List ℕ))
+    (lines : List ℕ) : Type 0 where
   pub circuit : Netlist
   pub seed : List ℕ
   pub told : TellGarble bytes seed_text circuit seed
+  pub few : AreFew workers
   pub garbling : GarblingParts
   pub garbled : IsGarbled circuit seed garbling
   pub written : HasWritten (garbled_file (honest_parts version circuit garbling seed)) held lines
 
 -- When `garble` has which fault: it is the first in the order of the work, but that memory may run out at each step.
-abbrev pub HasGarbleFault : List ℕ → List ℕ → Fault → Type 0
-HasGarbleFault bytes seed CannotRead = HasCircuitFault bytes CannotRead
-HasGarbleFault bytes seed (Circuit fault) = HasCircuitFault bytes (Circuit fault)
-HasGarbleFault bytes seed BadSeed = ((c : Netlist) × IsCircuit bytes c) × ¬ IsSeedText seed
-HasGarbleFault bytes seed Garbling = (c : Netlist) × ((key : List ℕ) × TellGarble bytes seed c key)
-HasGarbleFault bytes seed CannotWrite = (c : Netlist) × ((key : List ℕ) × TellGarble bytes seed c key)
-HasGarbleFault bytes seed Memory = Unit {0}
-HasGarbleFault bytes seed _ = ⊥
+abbrev pub HasGarbleFault : List ℕ → List ℕ → ℕ → Fault → Type 0
+HasGarbleFault bytes seed workers CannotRead = HasCircuitFault bytes CannotRead
+HasGarbleFault bytes seed workers (Circuit fault) = HasCircuitFault bytes (Circuit fault)
+HasGarbleFault bytes seed workers BadSeed = ((c : Netlist) × IsCircuit bytes c) × ¬ IsSeedText seed
+HasGarbleFault bytes seed workers (Garbling fault) =
+    ((c : Netlist) × ((key : List ℕ) × TellGarble bytes seed c key)) × HasWorkFault workers fault
+HasGarbleFault bytes seed workers CannotWrite = (c : Netlist) × ((key : List ℕ) × TellGarble bytes seed c key)
+HasGarbleFault bytes seed workers Memory = Unit {0}
+HasGarbleFault bytes seed workers _ = ⊥

@@ -1,7 +1,6 @@
 pub mod Files
 pub mod FileFailures
 pub mod Fault
-pub mod Order
 pub mod CircuitFile
 pub mod Values
 pub mod Lines
@@ -12,7 +11,8 @@ pub mod SeedText
 pub mod Wrote
 pub mod Garble
 pub mod Deal
+pub mod Job
+pub mod Eval
 pub mod CarryOut
 pub mod Serve
-pub mod Encoding
-pub mod Settled
+pub mod OwnFiles

@@ -2,7 +2,7 @@
 
 ghost use Rattle.std.specs.Prelude.{◌≡◌, ℕ, List, IfOk, IfErr, IfSome, OnOk};
 ghost use Rattle.gc_circuit.specs.Circuit.{IsLawful};
-ghost use Rattle.gc_cli.specs.CircuitFile.{IsCircuit, HasCircuitFault};
+ghost use Rattle.gc_cli.specs.CircuitFile.{IsCircuit, IsCircuitFault, HasCircuitFault};
 ghost use Rattle.gc_cli.specs.CarryOut.{HasCause};
 
 use crate::fault::Fault;
@@ -20,6 +20,7 @@ pub fn read_circuit<A: Allocator + Copy, F: Files>(
     ensures lawful { IfOk result IsLawful }
     ensures fault { IfErr result (λ fault. IfSome (F.bytes files.old name.now)
         (λ bytes. HasCircuitFault bytes fault)) }
+    ensures kind { IfErr result IsCircuitFault }
     ensures cause { IfErr result (λ fault. HasCause fault (F.failures files.old) (F.failures files.new)) }
     ensures counted { OnOk result (F.failures files.new ≡ F.failures files.old) }
     ensures same { (n : List ℕ) → F.bytes files.new n ≡ F.bytes files.old n }

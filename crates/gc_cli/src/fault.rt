@@ -5,8 +5,10 @@ ghost use Rattle.gc_cli.specs.Fault.{code_of, name_of, text_of};
 
 use crate::files::FileError;
 use gc_circuit::{ReadFault, ValueFault};
-use gc_file::WriteFault;
+use gc_eval::{BindFault, EvalFault};
+use gc_file::{FileFault, TakeFault, WriteFault};
 use gc_label::BadSeed;
+use gc_work::WorkFault;
 use std::alloc::{AllocError, AllocFailed};
 use std::fmt;
 
@@ -23,10 +25,14 @@ pub enum Fault {
     BadSeed,
     /// The circuit has no input value of this index.
     NoSuchValue,
-    /// There is no memory for garbling.
-    Garbling,
-    /// There is no memory for evaluating.
-    Evaluation,
+    /// The number of workers is wrong, or there is no memory for garbling.
+    Garbling(WorkFault),
+    /// A file is no garbled file, or no label file.
+    File(FileFault),
+    /// The garbled file and the label files are no job for the circuit.
+    Binding(BindFault),
+    /// The job has no output bits.
+    Evaluation(EvalFault),
     /// A file can't be read.
     CannotRead,
     /// A file, or standard output, can't be written.
@@ -45,9 +51,11 @@ impl Fault {
             Fault::WrongCount => 14,
             Fault::Value(fault) => fault.code(),
             Fault::BadSeed => 18,
-            Fault::Garbling => 23,
+            Fault::Garbling(fault) => fault.code(),
+            Fault::File(fault) => fault.code(),
             Fault::NoSuchValue => 42,
-            Fault::Evaluation => 46,
+            Fault::Binding(fault) => fault.code(),
+            Fault::Evaluation(fault) => fault.code(),
             Fault::CannotRead => 50,
             Fault::CannotWrite => 51,
             Fault::Memory => 52,
@@ -64,7 +72,11 @@ impl Fault {
             Fault::Value(fault) => fault.name(),
             Fault::BadSeed => "BadSeed",
             Fault::NoSuchValue => "NoSuchValue",
-            Fault::Garbling | Fault::Evaluation | Fault::Memory => "Memory",
+            Fault::Garbling(fault) => fault.name(),
+            Fault::Memory => "Memory",
+            Fault::File(fault) => fault.name(),
+            Fault::Binding(fault) => fault.name(),
+            Fault::Evaluation(fault) => fault.name(),
             Fault::CannotRead => "CannotRead",
             Fault::CannotWrite => "CannotWrite",
         }
@@ -112,6 +124,64 @@ impl From<BadSeed> for Fault {
 
     fn from(_e: BadSeed) -> Fault {
         Fault::BadSeed
+    }
+}
+
+impl From<FileFault> for Fault {
+    ghost use Rattle.std.specs.Prelude.{◌≡◌};
+    ghost use Rattle.gc_cli.specs.declared.fault.Fault.TheVariants as faults;
+
+    ghost from_gives = { λ fault e. e ≡ faults.File fault };
+
+    fn from(fault: FileFault) -> Fault {
+        Fault::File(fault)
+    }
+}
+
+/// A file whose source failed can't be read.
+impl From<TakeFault> for Fault {
+    ghost use Rattle.gc_cli.specs.Fault.{IsFaultOfTaking};
+
+    ghost from_gives = { IsFaultOfTaking };
+
+    fn from(fault: TakeFault) -> Fault {
+        match fault {
+            TakeFault::File(fault) => Fault::File(fault),
+            TakeFault::ReadFault { .. } => Fault::CannotRead,
+        }
+    }
+}
+
+impl From<BindFault> for Fault {
+    ghost use Rattle.std.specs.Prelude.{◌≡◌};
+    ghost use Rattle.gc_cli.specs.declared.fault.Fault.TheVariants as faults;
+
+    ghost from_gives = { λ fault e. e ≡ faults.Binding fault };
+
+    fn from(fault: BindFault) -> Fault {
+        Fault::Binding(fault)
+    }
+}
+
+impl From<EvalFault> for Fault {
+    ghost use Rattle.std.specs.Prelude.{◌≡◌};
+    ghost use Rattle.gc_cli.specs.declared.fault.Fault.TheVariants as faults;
+
+    ghost from_gives = { λ fault e. e ≡ faults.Evaluation fault };
+
+    fn from(fault: EvalFault) -> Fault {
+        Fault::Evaluation(fault)
+    }
+}
+
+impl From<WorkFault> for Fault {
+    ghost use Rattle.std.specs.Prelude.{◌≡◌};
+    ghost use Rattle.gc_cli.specs.declared.fault.Fault.TheVariants as faults;
+
+    ghost from_gives = { λ fault e. e ≡ faults.Garbling fault };
+
+    fn from(fault: WorkFault) -> Fault {
+        Fault::Garbling(fault)
     }
 }
 

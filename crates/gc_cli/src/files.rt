@@ -60,9 +60,10 @@ pub trait Files {
         ensures memory { IfErr result (λ e. e ≡ FileError.Memory
             → (n : List ℕ) → bytes self.new n ≡ bytes self.old n) };
 
-    /// The file of this name holds what the sink took, which was created for it. The sink's failures count.
+    /// The file of this name holds what the sink took, which was created for it, wherever the sink tells that. The
+    /// sink's failures count.
     fn keep(&mut self, name: &str, sink: Self::Sink) -> Result<(), FileError>
-        ensures held { OnOk result (IfSome (bytes self.new name.now) (λ held. Self.Sink.taken sink ≡ Some held)) }
+        ensures held { OnOk result (IfSome (Self.Sink.taken sink) (λ taken. bytes self.new name.now ≡ Some taken)) }
         ensures counted { CountsWrite result (failures self.old + Self.Sink.failures sink) (failures self.new) }
         ensures no_memory { IfErr result (λ e. e ≢ FileError.Memory) }
         ensures others { (n : List ℕ) → n ≢ name.now → bytes self.new n ≡ bytes self.old n };

@@ -4,35 +4,40 @@ ghost use Rattle.std.specs.Prelude.{◌≡◌, ◌≢◌, ℕ, List, IfOk, IfErr
 ghost use Rattle.gc_half.specs.Garbling.{FitsCircuit};
 ghost use Rattle.gc_file.specs.Counted.{CountsFailure};
 ghost use Rattle.gc_file.specs.GarbledFile.{garbled_file};
+ghost use Rattle.gc_file.specs.Honest.{honest_parts};
 ghost use Rattle.gc_file.specs.Written.{IsWritten};
-ghost use Rattle.gc_cli.specs.Garble.{AnswersGarble, HasGarbleFault, honest_parts};
+ghost use Rattle.gc_cli.specs.Garble.{AnswersGarble, HasGarbleFault};
 ghost use Rattle.gc_cli.specs.Wrote.{HasWritten, IsUnwritten};
 ghost use Rattle.gc_cli.specs.CarryOut.{HasCause};
 
 use crate::circuit_file::read_circuit;
 use crate::fault::Fault;
 use crate::files::Files;
-use crate::garbling;
 use crate::wrote::{ROOM, create_file, keep_written};
 use gc_circuit::Circuit;
 use gc_file::{Sink, Version, WriteFault, write_garbled, write_garbled2};
 use gc_half::Garbling;
 use gc_label::Seed;
+use gc_work::Open;
 use std::alloc::Allocator;
+use std::sync::Wait;
+use std::thread::Threads;
 
-/// Garbles the circuit of a file under a seed, writes the garbled file, and answers the line that tells its bytes.
-pub fn garble<A: Allocator + Copy, F: Files>(
+/// Garbles the circuit of a file under a seed by so many workers, writes the garbled file, and answers the line that tells its bytes.
+pub fn garble<R: Threads + Wait + Sync, A: Allocator + Copy + Send + Sync, F: Files>(
+    rt: &R,
     alloc: A,
     circuit: &str,
     seed: &str,
     out: &str,
     version: Version,
+    workers: u32,
     files: &mut F,
 ) -> Result<Vec<u8, A>, Fault>
     ensures answers { IfOk result (λ lines. IfSome (F.bytes files.old circuit.now)
-        (λ bytes. AnswersGarble bytes seed.now version (F.bytes files.new out.now) lines.items)) }
+        (λ bytes. AnswersGarble bytes seed.now version workers (F.bytes files.new out.now) lines.items)) }
     ensures fault { IfErr result (λ fault. IfSome (F.bytes files.old circuit.now)
-        (λ bytes. HasGarbleFault bytes seed.now fault)) }
+        (λ bytes. HasGarbleFault bytes seed.now workers fault)) }
     ensures cause { IfErr result (λ fault. HasCause fault (F.failures files.old) (F.failures files.new)) }
     ensures others { (n : List ℕ) → n ≢ out.now → F.bytes files.new n ≡ F.bytes files.old n }
     ensures unwritten { IfErr result (λ fault. fault ≢ Fault.CannotWrite
@@ -40,7 +45,7 @@ pub fn garble<A: Allocator + Copy, F: Files>(
 {
     let circuit = read_circuit(alloc, circuit, files)?;
     let seed = Seed::from_hex(seed)?;
-    let garbling = garbling::garble(alloc, &circuit, seed).map_err(|_| Fault::Garbling)?;
+    let garbling = gc_work::garble(rt, alloc, &circuit, &seed, workers, &Open)?;
     write_garbling(alloc, version, &circuit, &garbling, &seed, out, files)
 }
 

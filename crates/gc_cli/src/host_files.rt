@@ -6,16 +6,32 @@ ghost use Rattle.std.specs.IoError.{error_kind};
 
 use crate::file_failures::FileFailures;
 use crate::files::{FileError, Files};
-use gc_file::{InSource, OutSink};
+use gc_file::{InSource, OutSink, Sink, SinkFault};
 use std::alloc::Allocator;
 use std::io::{self, ErrorKind, Read, Write};
 use std::{fs, rt};
+
+/// A sink of a file that the system keeps. Nothing is known of what it took.
+#[derive(Drop)]
+pub struct HostSink<W> {
+    sink: OutSink<W>,
+}
+
+impl<W: Write> Sink for HostSink<W> {
+    ghost taken = { λ _. None };
+
+    ghost failures = { λ s. s.sink.failures };
+
+    fn put(&mut self, piece: &[u8]) -> Result<usize, SinkFault> {
+        self.sink.put(piece)
+    }
+}
 
 /// The files of a runtime. Nothing is known of their bytes.
 #[derive(Drop)]
 pub struct HostFiles<'r, R: rt::Files> {
     rt: &'r R,
-    failures: FileFailures<OutSink<R::File>, InSource<R::File>>,
+    failures: FileFailures<HostSink<R::File>, InSource<R::File>>,
 }
 
 impl<'r, R: rt::Files> HostFiles<'r, R> {
@@ -31,7 +47,7 @@ impl<'r, R: rt::Files> HostFiles<'r, R> {
 }
 
 impl<'r, R: rt::Files> Files for HostFiles<'r, R> {
-    type Sink = OutSink<R::File>;
+    type Sink = HostSink<R::File>;
 
     type Source = InSource<R::File>;
 
@@ -47,9 +63,11 @@ impl<'r, R: rt::Files> Files for HostFiles<'r, R> {
         outcome
     }
 
-    fn create(&mut self, name: &str) -> Result<OutSink<R::File>, FileError> {
+    fn create(&mut self, name: &str) -> Result<HostSink<R::File>, FileError> {
         match fs::create(self.rt, name) {
-            Ok(file) => Ok(OutSink::new(file)),
+            Ok(file) => Ok(HostSink {
+                sink: OutSink::new(file),
+            }),
             Err(_) => {
                 self.failures.add_one();
                 Err(FileError::CannotWrite)
@@ -57,9 +75,9 @@ impl<'r, R: rt::Files> Files for HostFiles<'r, R> {
         }
     }
 
-    fn keep(&mut self, _name: &str, sink: OutSink<R::File>) -> Result<(), FileError> {
+    fn keep(&mut self, _name: &str, sink: HostSink<R::File>) -> Result<(), FileError> {
         self.failures.add_sink(&sink);
-        match sink.into_inner().flush() {
+        match sink.sink.into_inner().flush() {
             Ok(()) => Ok(()),
             Err(_) => {
                 self.failures.add_one();

@@ -2,14 +2,17 @@
 
 ghost use Rattle.std.specs.Prelude.{◌≡◌, ◌↔◌, ◌⊎◌, map, string_bytes, IsOk, OnOk};
 ghost use Rattle.std.specs.Io.KnownBytes.{Appends, Keeps};
+ghost use Rattle.gc_cli.specs.CarryOut.{HasCause};
 ghost use Rattle.gc_cli.specs.Serve.{IsDone, IsFaulty, IsMistaken, fault_line};
 
 use crate::fault::Fault;
 use crate::files::Files;
-use crate::order::order_of;
 use crate::work::carry_out;
+use gc_order::order_of;
 use std::alloc::Global;
 use std::io::{self, ErrorKind, Write};
+use std::sync::Wait;
+use std::thread::Threads;
 
 /// The status of a run that did what it was asked.
 const DONE: u8 = 0;
@@ -26,7 +29,8 @@ const USAGE: u8 = 2;
 /// - A fault goes to `err`, as the line `halfgates: fault CODE NAME`, and nothing to `out`: status 1. So does an
 ///   `out` that can't be written.
 /// - What clap says of words that are no order goes to `err`: status 2. So does the word that clap ran out of memory.
-pub fn serve<F: Files, O: Write, E: Write>(
+pub fn serve<R: Threads + Wait + Sync, F: Files, O: Write, E: Write>(
+    rt: &R,
     alloc: Global,
     words: &[String],
     files: &mut F,
@@ -36,7 +40,8 @@ pub fn serve<F: Files, O: Write, E: Write>(
     ensures status { (result ≡ DONE) ⊎ ((result ≡ FAULT) ⊎ (result ≡ USAGE)) }
     ensures done { result ≡ DONE → IsDone (F.bytes files.old) (F.bytes files.new) (map string_bytes words.now)
         (Appends (O.contents out.old) (O.contents out.new)) }
-    ensures fault { result ≡ FAULT → IsFaulty (F.bytes files.old) (F.bytes files.new) (map string_bytes words.now)
+    ensures fault { result ≡ FAULT → IsFaulty (F.bytes files.old) (F.bytes files.new)
+        (λ fault. HasCause fault (F.failures files.old) (F.failures files.new)) (map string_bytes words.now)
         (Keeps (O.contents out.old) (O.contents out.new)) }
     ensures usage { IsMistaken (map string_bytes words.now) → result ≡ USAGE }
 
@@ -45,7 +50,7 @@ pub fn serve<F: Files, O: Write, E: Write>(
     ensures no_output { result ≡ USAGE → Keeps (O.contents out.old) (O.contents out.new) }
 {
     match order_of(alloc, words) {
-        Ok(order) => match carry_out(alloc, &order, files) {
+        Ok(order) => match carry_out(rt, alloc, &order, files) {
             Ok(bytes) => status_of(out.write_all(&bytes), err),
             Err(fault) => report(fault, err),
         },

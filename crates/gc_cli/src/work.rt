@@ -1,21 +1,25 @@
 //! Carrying out orders.
 
 ghost use Rattle.std.specs.Prelude.{◌≡◌, ◌≢◌, ℕ, List, IfOk, IfErr};
-ghost use Rattle.gc_cli.specs.Order.{text_of};
+ghost use Rattle.gc_order.specs.Order.{text_of};
 ghost use Rattle.gc_cli.specs.CarryOut.{Answers, HasFault, HasCause, Writes};
 
 use crate::check::check;
 use crate::deal::deal;
+use crate::eval::eval;
 use crate::fault::Fault;
 use crate::files::Files;
 use crate::garble::garble;
-use crate::order::Order;
 use crate::plain::plain;
 use crate::run::run;
+use gc_order::Order;
 use std::alloc::Allocator;
+use std::sync::Wait;
+use std::thread::Threads;
 
 /// Carries out an order, and answers the bytes for standard output, or the first fault of its work.
-pub fn carry_out<A: Allocator + Copy, F: Files>(
+pub fn carry_out<R: Threads + Wait + Sync, A: Allocator + Copy + Send + Sync, F: Files>(
+    rt: &R,
     alloc: A,
     order: &Order,
     files: &mut F,
@@ -37,8 +41,17 @@ pub fn carry_out<A: Allocator + Copy, F: Files>(
         Order::Run {
             circuit,
             seed,
+            workers,
             values,
-        } => run(alloc, circuit.as_str(), seed.as_str(), values, files),
+        } => run(
+            rt,
+            alloc,
+            circuit.as_str(),
+            seed.as_str(),
+            *workers,
+            values,
+            files,
+        ),
         Order::Check { circuit } => check(alloc, circuit.as_str(), files),
         Order::Plain { circuit, values } => plain(alloc, circuit.as_str(), values, files),
         Order::Garble {
@@ -46,12 +59,15 @@ pub fn carry_out<A: Allocator + Copy, F: Files>(
             seed,
             out,
             version,
+            workers,
         } => garble(
+            rt,
             alloc,
             circuit.as_str(),
             seed.as_str(),
             out.as_str(),
             *version,
+            *workers,
             files,
         ),
         Order::Deal {
@@ -69,5 +85,10 @@ pub fn carry_out<A: Allocator + Copy, F: Files>(
             out.as_str(),
             files,
         ),
+        Order::Eval {
+            circuit,
+            garbled,
+            labels,
+        } => eval(alloc, circuit.as_str(), garbled.as_str(), labels, files),
     }
 }

@@ -1,7 +1,6 @@
 use Rattle.std.proofs.Common.{◌∙◌, refl}
 use Rattle.std.proofs.lemmas.Result.{IfOk-weaker, IfErr-weaker}
 use Rattle.gc_cli.specs.CircuitFile.{IsCircuit}
-use Rattle.gc_cli.specs.Deal.{TellDeal}
 use Rattle.gc_cli.proofs.AnswerLemmas.{IfSome-map}
 use Rattle.gc_cli.proofs.WroteLemmas.{IfSome-both, input_value-width, deal-unwritten}
 use Rattle.gc_cli.proofs.deal.deal.Goals as goal

@@ -1,4 +1,3 @@
-use Rattle.std.proofs.Common.{◌≡◌, Some, []}
 use Rattle.std.proofs.lemmas.Result.{IfOk-weaker}
 use Rattle.gc_file.specs.LabelFile.{label_file, label_parts_of}
 use Rattle.gc_cli.proofs.AnswerLemmas.{IfSome-map}

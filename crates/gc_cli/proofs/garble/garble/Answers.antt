@@ -1,16 +1,14 @@
 use Rattle.std.proofs.Common.{◌∙◌, refl}
 use Rattle.std.proofs.lemmas.Result.{IfOk-weaker, IfErr-weaker}
-use Rattle.gc_half.specs.Garbling.{IsGarbled}
 use Rattle.gc_cli.specs.CircuitFile.{IsCircuit}
-use Rattle.gc_cli.proofs.AnswerLemmas.{map_err-ok, IfSome-map}
+use Rattle.gc_cli.proofs.AnswerLemmas.{IfSome-map}
 use Rattle.gc_cli.proofs.WroteLemmas.{IfSome-both, garble-unwritten, garbled-fits}
 use Rattle.gc_cli.proofs.garble.garble.Goals as goal
 
 pub write_garbling-requires : goal.write_garbling-requires
 write_garbling-requires g c =
     garbled-fits c.in_ok-circuit.circuit c.in_ok-seed.seed c.in_ok-garbling.garbling
-    (map_err-ok c.garble.result c.map_err.result _ (IsGarbled c.in_ok-circuit.circuit c.in_ok-seed.seed) c.in_ok-garbling.garbling
-    c.map_err.ensures.cases c.map_err.ensures.variant c.garble.ensures c.in_ok-garbling.was)
+    c.in_ok-garbling.ensures.garbled
 
 pub returns-clause-answers : goal.returns-clause-answers
 returns-clause-answers g c = IfOk-weaker c.write_garbling.result _ _
@@ -23,8 +21,8 @@ returns-clause-answers g c = IfOk-weaker c.write_garbling.result _ _
         seed_told = record { accepted = c.in_ok-seed.ensures.accepts.0 refl; spelled = c.in_ok-seed.ensures.bytes };
       };
       garbling = c.in_ok-garbling.garbling;
-      garbled = map_err-ok c.garble.result c.map_err.result _ (IsGarbled c.in_ok-circuit.circuit c.in_ok-seed.seed) c.in_ok-garbling.garbling
-          c.map_err.ensures.cases c.map_err.ensures.variant c.garble.ensures c.in_ok-garbling.was;
+      few = c.in_ok-garbling.ensures.workers;
+      garbled = c.in_ok-garbling.ensures.garbled;
       written = wrote;
     })
     c.in_ok-circuit.ensures.circuit
@@ -34,7 +32,7 @@ returns-clause-answers g c = IfOk-weaker c.write_garbling.result _ _
 pub returns-clause-fault : goal.returns-clause-fault
 returns-clause-fault g c = IfErr-weaker c.write_garbling.result _ _
     (λ fault unwritten. IfSome-map (g.F.Files.bytes c.args.files.now c.args.circuit.now) (λ bytes. IsCircuit bytes c.in_ok-circuit.circuit) _
-    (λ bytes circuit. garble-unwritten bytes c.args.seed.now c.in_ok-circuit.circuit c.in_ok-seed.seed
+    (λ bytes circuit. garble-unwritten bytes c.args.seed.now c.args.workers c.in_ok-circuit.circuit c.in_ok-seed.seed
     (record {
       circuit = circuit;
       seed_told = record { accepted = c.in_ok-seed.ensures.accepts.0 refl; spelled = c.in_ok-seed.ensures.bytes };

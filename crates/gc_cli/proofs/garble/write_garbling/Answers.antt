@@ -1,7 +1,6 @@
-use Rattle.std.proofs.Common.{◌≡◌, Some, []}
 use Rattle.std.proofs.lemmas.Result.{IfOk-weaker}
 use Rattle.gc_file.specs.GarbledFile.{garbled_file}
-use Rattle.gc_cli.specs.Garble.{honest_parts}
+use Rattle.gc_file.specs.Honest.{honest_parts}
 use Rattle.gc_cli.proofs.AnswerLemmas.{IfSome-map}
 use Rattle.gc_cli.proofs.garble.write_garbling.Goals as goal
 

@@ -1,6 +1,0 @@
-use Rattle.std.proofs.Common.{◌∙◌}
-use Rattle.gc_cli.proofs.NumberLemmas.{number-parsed}
-use Rattle.gc_cli.proofs.order.number_told.Goals as goal
-
-pub returns : goal.returns
-returns c = c.unwrap_or.ensures ∙ number-parsed c.args.text.now c.parse.result c.parse.ensures.value.0
