@@ -1,19 +1,23 @@
 //! The store garbles as one thread does, whatever the order in which gates are finished.
 
-ghost use Rattle.std.specs.Prelude.{◌<◌};
+ghost use Rattle.std.specs.Prelude.{◌≡◌, ◌<◌};
+ghost use Rattle.gc_store.specs.declared.tally.TheConstants.{MAX_TALLIES};
 
+use crate::stores::ledger;
 use gc_circuit::Circuit;
 use gc_half::{Garbling, garble_one_thread};
 use gc_label::Seed;
 use gc_store::{Sealed, Store};
-use std::alloc::Global;
+use std::alloc::{Allocator, Global};
+use std::marker::Brand;
 use std::process::Abort;
+use std::sync::ledger::{Blank, Ledger};
 use std::test::Fail;
 
 /// Numbers that look random, always the same ones.
 #[derive(Drop)]
-struct Numbers {
-    state: u64,
+pub(crate) struct Numbers {
+    pub state: u64,
 }
 
 impl Numbers {
@@ -31,7 +35,7 @@ impl Numbers {
 }
 
 /// A circuit of up to 16 gates with three input wires and two output wires, in Bristol Fashion.
-fn random_circuit(alloc: Global, numbers: &mut Numbers) -> Result<String, Fail> {
+pub(crate) fn random_circuit(alloc: Global, numbers: &mut Numbers) -> Result<String, Fail> {
     let gates = 1 + numbers.below(16);
     let mut text = format!(in alloc; "{gates} {}\n1 3\n1 2\n\n", gates + 3)?;
     for set in 3..gates + 3 {
@@ -50,13 +54,17 @@ fn random_circuit(alloc: Global, numbers: &mut Numbers) -> Result<String, Fail> 
 }
 
 /// Garbles over a store: all gates that may go next are claimed, and finished from the last to the first.
-fn garble_over_store(
+fn garble_over_store<L: Ledger>(
     rt: &impl Abort,
     alloc: Global,
+    ledger: Blank,
     circuit: &Circuit,
     seed: Seed,
-) -> Result<Garbling, Fail> {
-    let mut store = Store::open(alloc, circuit.try_clone(alloc)?, seed)?;
+) -> Result<Garbling, Fail>
+    requires name { ledger.name ≡ L.name }
+    requires parts { (ledger.parts ≡ L.parts) × (ledger.parts ≡ MAX_TALLIES) }
+{
+    let mut store = Store::<L>::open(alloc, ledger, circuit.try_clone(alloc)?, seed)?;
     let mut tally = store.tally().ok_or("a tally is dealt")?;
     for _ in 0..circuit.gates() {
         let mut claimed = Vec::new(alloc);
@@ -72,6 +80,23 @@ fn garble_over_store(
     Ok(store.into_garbling().ok().ok_or("every gate is finished")?)
 }
 
+/// Whether two garblings of a circuit are the same, byte for byte.
+pub(crate) fn are_same<A: Allocator, B: Allocator>(
+    circuit: &Circuit,
+    one: &Garbling<A>,
+    other: &Garbling<B>,
+) -> bool {
+    if !(one.fits(circuit) && other.fits(circuit)) || one.rows() != other.rows() {
+        return false;
+    }
+    for wire in 0..circuit.wires() {
+        if one.zero_label(wire) != other.zero_label(wire) {
+            return false;
+        }
+    }
+    true
+}
+
 #[test]
 fn random_circuits(rt: HostRuntime) -> Result<(), Fail> {
     let alloc = rt.alloc();
@@ -81,19 +106,8 @@ fn random_circuits(rt: HostRuntime) -> Result<(), Fail> {
         let text = random_circuit(alloc, &mut numbers)?;
         let circuit = Circuit::read(alloc, text.as_bytes())?;
         let one_thread = garble_one_thread(alloc, &circuit, &seed)?;
-        let over_store = garble_over_store(&rt, alloc, &circuit, seed)?;
-        assert!(rt;
-            over_store.fits(&circuit) && one_thread.fits(&circuit),
-            "circuit {i}"
-        );
-        assert_eq!(rt; over_store.rows(), one_thread.rows(), "circuit {i}");
-        for wire in 0..circuit.wires() {
-            assert_eq!(rt;
-                over_store.zero_label(wire),
-                one_thread.zero_label(wire),
-                "circuit {i}"
-            );
-        }
+        let over_store = garble_over_store::<Brand>(&rt, alloc, ledger(), &circuit, seed)?;
+        assert!(rt; are_same(&circuit, &over_store, &one_thread), "circuit {i}");
     }
     Ok(())
 }

@@ -1,21 +1,24 @@
 //! Each growth of a call refused in turn: the call answers its Memory fault exactly where a growth was refused, and the
 //! plain answer where none was, also after a refusal.
 
-use crate::circuits::{ADDER_DIGEST, ADDER_LINES, FULL_ADDER, one_zero_one};
-use crate::mem_files::MemFiles;
-use crate::serving::{SEED, copies_of, plain_words, run_words};
+ghost use Rattle.std.specs.Prelude.{◌≡◌};
+ghost use Rattle.gc_store.specs.declared.tally.TheConstants.{MAX_TALLIES};
+
+use crate::circuits::{ADDER_DIGEST, FULL_ADDER, one_zero_one};
+use crate::stores::ledger;
 use gc_circuit::{
     Circuit, Gate, Memory, Operation, ReadFault, ValueFault, fits, plain_eval, read_value,
     show_value,
 };
-use gc_cli::{carry_out, order_of};
 use gc_eval::evaluate_labels;
 use gc_half::garble_one_thread;
 use gc_label::{Label, Seed, fill_input_labels};
 use gc_refusing::Refusing;
 use gc_store::{Sealed, Store};
-use std::alloc::{AllocError, Global};
+use std::alloc::Global;
+use std::marker::Brand;
 use std::process::Abort;
+use std::sync::ledger::{Blank, Ledger};
 use std::test::Fail;
 
 /// What a call answered.
@@ -170,29 +173,49 @@ fn evaluation(rt: HostRuntime) -> Result<(), Fail> {
     Ok(())
 }
 
+/// Whether a store of the circuit opens with no gate finished.
+fn opens<L: Ledger>(heap: &Refusing<Global>, ledger: Blank, circuit: &Circuit) -> Answer
+    requires name { ledger.name ≡ L.name }
+    requires parts { (ledger.parts ≡ L.parts) × (ledger.parts ≡ MAX_TALLIES) }
+{
+    let Ok(copy) = circuit.try_clone(heap) else {
+        return Answer::Memory;
+    };
+    match Store::<L, &Refusing<Global>>::open(heap, ledger, copy, Seed::from_bytes([0; 32])) {
+        Ok(store) => plain_if(store.finished() == 0),
+        Err(Memory) => Answer::Memory,
+    }
+}
+
+/// The same, with a ledger of its own.
+fn opens_anew(heap: &Refusing<Global>, circuit: &Circuit) -> Answer {
+    opens::<Brand>(heap, ledger(), circuit)
+}
+
 #[test]
 fn opening_a_store(rt: HostRuntime) -> Result<(), Fail> {
     let circuit = Circuit::read(rt.alloc(), FULL_ADDER.as_bytes())?;
-    let seed = Seed::from_bytes([0; 32]);
-    let refused = runs_refused(&rt, rt.alloc(), |heap| {
-        let Ok(copy) = circuit.try_clone(heap) else {
-            return Answer::Memory;
-        };
-        match Store::open(heap, copy, seed) {
-            Ok(store) => plain_if(store.finished() == 0),
-            Err(Memory) => Answer::Memory,
-        }
-    });
+    let refused = runs_refused(&rt, rt.alloc(), |heap| opens_anew(heap, &circuit));
     assert!(rt; refused > 5);
     Ok(())
 }
 
-/// Garbling over an opened store asks for no memory.
-#[test]
-fn an_opened_store_grows_nothing(rt: HostRuntime) -> Result<(), Fail> {
-    let heap = Refusing::never(rt.alloc());
-    let circuit = Circuit::read(&heap, FULL_ADDER.as_bytes())?;
-    let mut store = Store::open(&heap, circuit, Seed::from_bytes([0; 32]))?;
+/// Garbles the full adder over an opened store, which asks for no memory.
+fn grows_nothing<L: Ledger>(
+    rt: &impl Abort,
+    heap: &Refusing<Global>,
+    ledger: Blank,
+) -> Result<(), Fail>
+    requires name { ledger.name ≡ L.name }
+    requires parts { (ledger.parts ≡ L.parts) × (ledger.parts ≡ MAX_TALLIES) }
+{
+    let circuit = Circuit::read(heap, FULL_ADDER.as_bytes())?;
+    let mut store = Store::<L, &Refusing<Global>>::open(
+        heap,
+        ledger,
+        circuit,
+        Seed::from_bytes([0; 32]),
+    )?;
     let opened = heap.growths();
     let mut tally = store.tally().ok_or("a tally is dealt")?;
     for _ in 0..5 {
@@ -205,31 +228,9 @@ fn an_opened_store_grows_nothing(rt: HostRuntime) -> Result<(), Fail> {
     Ok(())
 }
 
-/// Carries out the words' order with growth 1, 2, 3, .. refused, until a run meets no refusal and has the answer. The
-/// fault codes of the runs before it are told, one for each growth.
-fn codes_of_refusals(
-    rt: &impl Abort,
-    alloc: Global,
-    words: &[&str],
-    answer: &str,
-) -> Result<Vec<u32>, Fail> {
-    let order = order_of(alloc, &copies_of(alloc, words)?)?;
-    let file = [("c.txt", FULL_ADDER)];
-    let mut codes = Vec::new(alloc);
-    for n in 1..64 {
-        let heap = Refusing::nth(alloc, n);
-        match carry_out(&heap, &order, &mut MemFiles::new(&file)) {
-            Ok(lines) => {
-                assert_eq!(rt; (lines.as_slice(), heap.refused()), (answer.as_bytes(), 0));
-                return Ok(codes);
-            }
-            Err(fault) => {
-                assert_eq!(rt; heap.refused(), 1);
-                codes.push(fault.code())?;
-            }
-        }
-    }
-    Err(Fail::new("each run met a refusal"))
+#[test]
+fn an_opened_store_grows_nothing(rt: HostRuntime) -> Result<(), Fail> {
+    grows_nothing::<Brand>(&rt, &Refusing::never(rt.alloc()), ledger())
 }
 
 /// A circuit over memory of which each further growth is refused still tells all that it has.
@@ -254,72 +255,5 @@ fn a_circuit_that_is_read_grows_nothing(rt: HostRuntime) -> Result<(), Fail> {
     };
     assert_eq!(rt; circuit.gate(2), third);
     assert_eq!(rt; heap.refused(), 0);
-    Ok(())
-}
-
-/// A part of the work: the code of its Memory fault, and how many growths it has.
-type Part = (u32, usize);
-
-const FILE: Part = (52, 1);
-
-/// The widths of either side, the gates, and which wires are set.
-const CIRCUIT: Part = (13, 4);
-
-const LIST_OF_VALUES: Part = (52, 1);
-
-const THREE_VALUES: Part = (13, 3);
-
-const PLAIN_EVALUATION: Part = (13, 2);
-
-/// The three lists of the store's circuit, and the store's five tables.
-const GARBLING: Part = (23, 8);
-
-/// The decode bits, the input labels, and the evaluation of these.
-const EVALUATION: Part = (46, 4);
-
-const OUTPUT_LINE: Part = (52, 1);
-
-/// 121 bytes, in room for 8, 16, 32, 64 and 128.
-const CHECK_LINES: Part = (52, 5);
-
-/// The code of each growth of the parts.
-fn codes_of(alloc: Global, parts: &[Part]) -> Result<Vec<u32>, AllocError> {
-    let mut codes = Vec::new(alloc);
-    for (code, growths) in parts {
-        codes.resize(codes.len().saturating_add(*growths), *code)?;
-    }
-    Ok(codes)
-}
-
-/// The memory of each part of the work has its own fault.
-#[test]
-fn carrying_out(rt: HostRuntime) -> Result<(), Fail> {
-    let alloc = rt.alloc();
-    let words = run_words(alloc, SEED, &["1", "0", "1"])?;
-    let parts = [
-        FILE,
-        CIRCUIT,
-        LIST_OF_VALUES,
-        THREE_VALUES,
-        GARBLING,
-        EVALUATION,
-        OUTPUT_LINE,
-    ];
-    let codes = codes_of_refusals(&rt, alloc, &words, "01\n")?;
-    assert_eq!(rt; codes, codes_of(alloc, &parts)?);
-    let words = plain_words(alloc, &["1", "0", "1"])?;
-    let parts = [
-        FILE,
-        CIRCUIT,
-        LIST_OF_VALUES,
-        THREE_VALUES,
-        PLAIN_EVALUATION,
-        OUTPUT_LINE,
-    ];
-    let codes = codes_of_refusals(&rt, alloc, &words, "01\n")?;
-    assert_eq!(rt; codes, codes_of(alloc, &parts)?);
-    let words = ["halfgates", "check", "c.txt"];
-    let codes = codes_of_refusals(&rt, alloc, &words, ADDER_LINES)?;
-    assert_eq!(rt; codes, codes_of(alloc, &[FILE, CIRCUIT, CHECK_LINES])?);
     Ok(())
 }

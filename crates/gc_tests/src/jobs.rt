@@ -1,8 +1,9 @@
 //! Tests of jobs: garbled files and label files bound to their circuit, and evaluated.
 
 use crate::circuits::{AND, CONSTANT, CONSTANT_AND, FULL_ADDER, INV, NO_GATES, SQUARE, XOR};
-use crate::garbled_files::{AND_FILE, XOR_FILE, XOR_FILE_2, write};
+use crate::garbled_files::write;
 use crate::label_files::label_file;
+use crate::worked_files::{AND_FILE, OTHER_DECODE_BIT, XOR_FILE, XOR_FILE_2};
 use gc_circuit::{Circuit, read_value, show_value};
 use gc_eval::{BindFault, EvalFault, Job, evaluate};
 use gc_file::{LabelFile, Version, read_garbled, read_labels};
@@ -27,7 +28,7 @@ pub(crate) fn job_files(
 }
 
 /// Circuits, input values, and output bits.
-static ROWS: [(&str, &[&str], &str); 21] = [
+pub(crate) static ROWS: [(&str, &[&str], &str); 21] = [
     (XOR, &["1", "1"], "0"),
     (AND, &["0", "0"], "0"),
     (AND, &["1", "0"], "0"),
@@ -183,15 +184,6 @@ fn of_files_that_do_not_fit(rt: HostRuntime) -> Result<(), Fail> {
     }
     Ok(())
 }
-
-/// The file of one XOR gate with the decode bit 0.
-const OTHER_DECODE_BIT: &str = concat!(
-    "48474152424c4531",
-    "40d7ff849fbcd20c663afc979ad955358a6a933e166bb385919e9f36ba1ebfc0",
-    "0000000001000000",
-    "00",
-    "2cf00ee93681ba3be5c5e4c1c4ff5c1a662b94f01bb10914ffc8dc94be3a2cdb",
-);
 
 /// The file of one AND gate with the colour of its generator row flipped.
 const OTHER_ROW: &str = concat!(

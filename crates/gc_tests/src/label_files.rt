@@ -1,53 +1,14 @@
 //! Tests of label files: what is written and read, and the faults of bytes that are no file.
-//!
-//! The expected labels are rows of the keystream of the seed of 32 zero bytes, as in the tests of labels: the zero label of
-//! a wire where its bit is 0, and that plus the offset where it is 1.
 
-use crate::circuits::{NO_GATES, XOR};
 use crate::hostile::{each_flip, each_length};
 use crate::labels::{A, B, R, label};
+use crate::worked_files::{LABEL_FILES, ONE_LABEL};
 use gc_circuit::Circuit;
 use gc_file::{FileFault, LabelFile, MemSink, read_labels, write_labels};
 use gc_label::Seed;
 use std::alloc::Global;
 use std::process::Abort;
 use std::test::Fail;
-
-/// The file of the value 1 of one wire, for input value 0: magic, index, width and label.
-const ONE_LABEL: &str = concat!(
-    "484c4142454c5331",
-    "00000000",
-    "01000000",
-    "ca6af915007cd08ae86b8529d8f1b0ef",
-);
-
-/// Circuits, indices and bits of input values, and their files, of 32 and of 48 bytes.
-static FILES: [(&str, u32, &[bool], &str); 3] = [
-    (XOR, 0, &[true], ONE_LABEL),
-    (
-        XOR,
-        1,
-        &[true],
-        concat!(
-            "484c4142454c5331",
-            "01000000",
-            "01000000",
-            "adf9b9d1f1a6751d37798adaeb5ef71f",
-        ),
-    ),
-    (
-        NO_GATES,
-        0,
-        &[true, false],
-        concat!(
-            "484c4142454c5331",
-            "00000000",
-            "02000000",
-            "ca6af915007cd08ae86b8529d8f1b0ef",
-            "da41597c5157488d7724e03fb8d84a37",
-        ),
-    ),
-];
 
 /// The bytes of the label file of an input value under the seed of 32 zero bytes.
 pub(crate) fn label_file(
@@ -69,7 +30,7 @@ pub(crate) fn label_file(
 
 #[test]
 fn are_written(rt: HostRuntime) -> Result<(), Fail> {
-    for (text, index, bits, file) in &FILES {
+    for (text, index, bits, file) in &LABEL_FILES {
         let circuit = Circuit::read(rt.alloc(), text.as_bytes())?;
         let bytes = label_file(&rt, rt.alloc(), &circuit, *index, bits)?;
         let shown = hex::encode(rt.alloc(), bytes.as_slice())?;
@@ -81,7 +42,7 @@ fn are_written(rt: HostRuntime) -> Result<(), Fail> {
 #[test]
 fn are_read(rt: HostRuntime) -> Result<(), Fail> {
     let labels = [label(A ^ R), label(B)];
-    for (_, index, bits, file) in &FILES {
+    for (_, index, bits, file) in &LABEL_FILES {
         let labels_of = read_labels(rt.alloc(), &hex::decode(rt.alloc(), *file)?)?;
         assert_eq!(rt;
             (labels_of.index(), labels_of.labels().len()),

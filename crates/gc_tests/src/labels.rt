@@ -1,6 +1,6 @@
 //! Tests of labels, of seeds, and of the offset and the input labels that a seed gives.
 
-use crate::serving::SEED;
+use crate::circuits::SEED;
 use gc_label::{BadSeed, Label, Seed, fill_input_labels, input_label, offset};
 use std::test::Fail;
 

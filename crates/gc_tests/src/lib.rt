@@ -1,15 +1,12 @@
-//! The tests of all crates but `gc_refusing`: each crate against values from outside, whole runs of the program over
-//! files in memory, files on a disk, and each growth of a call refused in turn.
+//! The tests of the libraries below the commands, but `gc_refusing`: each crate against values from outside, and each growth
+//! of a call refused in turn.
 #![tactic(auto)]
 
 #[cfg(test)]
+mod boards;
+#[cfg(test)]
 mod canonical_texts;
-#[cfg(test)]
-mod checks;
-#[cfg(test)]
-mod circuits;
-#[cfg(test)]
-mod command_line;
+pub mod circuits;
 #[cfg(test)]
 mod file_growth;
 #[cfg(test)]
@@ -21,8 +18,6 @@ mod growth;
 #[cfg(test)]
 mod half_gates;
 #[cfg(test)]
-mod host_files;
-#[cfg(test)]
 mod hostile;
 #[cfg(test)]
 mod jobs;
@@ -32,18 +27,18 @@ mod label_files;
 mod labels;
 #[cfg(test)]
 mod long_chain;
-mod mem_files;
 #[cfg(test)]
 mod pieces;
 #[cfg(test)]
-mod program;
+mod pools;
 #[cfg(test)]
 mod reading;
 #[cfg(test)]
-mod serving;
+mod shared_stores;
 #[cfg(test)]
 mod stores;
 #[cfg(test)]
 mod values;
-
-pub use mem_files::MemFiles;
+pub mod worked_files;
+#[cfg(test)]
+mod workers;

@@ -1,25 +1,56 @@
 //! Tests of the store: the order in which gates may go, refusals, tallies, and whose store it is.
 
+ghost use Rattle.std.specs.Prelude.{◌≡◌};
+ghost use Rattle.gc_store.specs.declared.tally.TheConstants.{MAX_TALLIES};
+
 use crate::circuits::{FULL_ADDER, NO_GATES};
 use gc_circuit::Circuit;
 use gc_label::Seed;
-use gc_store::{Refused, Sealed, Store, Task};
+use gc_store::{MAX_TALLIES, Refused, Sealed, Store, Task};
 use std::alloc::Global;
+use std::marker::Brand;
 use std::process::Abort;
+use std::sync::ledger::{Blank, Ledger};
 use std::test::Fail;
 
-fn open(alloc: Global, text: &str, seed: [u8; 32]) -> Result<Store, Fail> {
+/// What begins the ledger of a store.
+pub(crate) fn ledger() -> Blank
+    ensures { result.parts ≡ MAX_TALLIES }
+{
+    Blank::new(u64::from(MAX_TALLIES))
+}
+
+pub(crate) fn open<L: Ledger>(
+    alloc: Global,
+    ledger: Blank,
+    text: &str,
+    seed: [u8; 32],
+) -> Result<Store<L>, Fail>
+    requires name { ledger.name ≡ L.name }
+    requires parts { (ledger.parts ≡ L.parts) × (ledger.parts ≡ MAX_TALLIES) }
+{
     let circuit = Circuit::read(alloc, text.as_bytes())?;
-    Ok(Store::open(alloc, circuit, Seed::from_bytes(seed))?)
+    Ok(Store::<L>::open(alloc, ledger, circuit, Seed::from_bytes(seed))?)
+}
+
+/// The first task of a full adder's store under another seed.
+pub(crate) fn foreign_task<L: Ledger>(alloc: Global, ledger: Blank) -> Result<Task, Fail>
+    requires name { ledger.name ≡ L.name }
+    requires parts { (ledger.parts ≡ L.parts) × (ledger.parts ≡ MAX_TALLIES) }
+{
+    let mut store = open::<L>(alloc, ledger, FULL_ADDER, [1; 32])?;
+    Ok(store.claim().ok_or("a gate may go next")?)
 }
 
 /// A step of the work on a circuit.
 #[derive(Clone, Copy)]
 enum Step {
-    /// The store's claim answers this gate.
+    /// These gates may go next, and no others: they are claimed, in whatever order.
+    Ready(&'static [u32]),
+    /// All claimed gates go again; they are so many.
+    Reopens(u32),
+    /// The store's claim answers this gate, the first in the file of those that go again.
     Claims(u32),
-    /// No gate may go next.
-    HasNone,
     /// This gate is finished, and the store isn't complete.
     Finishes(u32),
     /// This gate is finished, the last one.
@@ -29,56 +60,47 @@ enum Step {
 /// Orders of work on the full adder. Its gates 0 and 1 read input wires alone, gates 2 and 3 read what gate 0 sets, gate
 /// 2 also what gate 1 sets, and gate 4 reads what gate 2 sets.
 static ORDERS: [&[Step]; 4] = [
-    // After gate 2 the gates 3 and 4 are ready.
-    &[
-        Step::Claims(0),
-        Step::Claims(1),
-        Step::HasNone,
-        Step::Finishes(0),
-        Step::Finishes(1),
-        Step::Claims(2),
-        Step::Finishes(2),
-        Step::Claims(3),
-        Step::Claims(4),
-        Step::HasNone,
-        Step::Finishes(3),
-        Step::Completes(4),
-    ],
     // After gate 0 gate 3 is ready; where it is claimed on the way, gate 4 alone is ready after gate 2.
     &[
-        Step::Claims(0),
-        Step::Claims(1),
-        Step::HasNone,
+        Step::Ready(&[0, 1]),
         Step::Finishes(0),
-        Step::Claims(3),
-        Step::HasNone,
+        Step::Ready(&[3]),
         Step::Finishes(1),
-        Step::Claims(2),
-        Step::HasNone,
+        Step::Ready(&[2]),
         Step::Finishes(2),
-        Step::Claims(4),
-        Step::HasNone,
+        Step::Ready(&[4]),
         Step::Finishes(4),
         Step::Completes(3),
     ],
     // After gates 0 and 1 the gates 2 and 3 are ready.
     &[
-        Step::Claims(0),
-        Step::Claims(1),
+        Step::Ready(&[0, 1]),
         Step::Finishes(0),
         Step::Finishes(1),
-        Step::Claims(2),
-        Step::Claims(3),
-        Step::HasNone,
+        Step::Ready(&[2, 3]),
     ],
-    // After gate 1 alone none is ready.
+    // After gate 2 the gates 3 and 4 are ready, where 3 was not claimed on the way.
     &[
-        Step::Claims(0),
-        Step::Claims(1),
+        Step::Ready(&[0, 1]),
         Step::Finishes(1),
-        Step::HasNone,
+        Step::Ready(&[]),
         Step::Finishes(0),
+        Step::Ready(&[2, 3]),
+        Step::Reopens(2),
         Step::Claims(2),
+        Step::Finishes(2),
+        Step::Ready(&[3, 4]),
+        Step::Finishes(3),
+        Step::Completes(4),
+    ],
+    // What goes again is ready as before.
+    &[
+        Step::Ready(&[0, 1]),
+        Step::Reopens(2),
+        Step::Ready(&[0, 1]),
+        Step::Finishes(0),
+        Step::Reopens(1),
+        Step::Ready(&[1, 3]),
     ],
 ];
 
@@ -88,19 +110,43 @@ fn task_of(claimed: &[Task], gate: u32) -> Result<Task, Fail> {
     Ok(*task.ok_or("the gate was claimed")?)
 }
 
+/// Claims all gates that may go next. Their tasks are put to those of gates that were claimed before.
+fn claim_ready<L: Ledger>(
+    rt: &impl Abort,
+    store: &mut Store<L>,
+    claimed: &mut Vec<Task>,
+    gates: &[u32],
+) -> Result<(), Fail> {
+    for _ in 0..gates.len() {
+        let task = store.claim().ok_or("a gate may go next")?;
+        assert!(rt; gates.iter().any(|gate| *gate == task.gate));
+        claimed.push(task)?;
+    }
+    assert_eq!(rt; store.claim(), None);
+    Ok(())
+}
+
 /// A store of the full adder takes these steps.
-fn takes(rt: &impl Abort, alloc: Global, steps: &[Step]) -> Result<(), Fail> {
-    let mut store = open(alloc, FULL_ADDER, [0; 32])?;
+fn takes<L: Ledger>(
+    rt: &impl Abort,
+    alloc: Global,
+    ledger: Blank,
+    steps: &[Step],
+) -> Result<(), Fail>
+    requires name { ledger.name ≡ L.name }
+    requires parts { (ledger.parts ≡ L.parts) × (ledger.parts ≡ MAX_TALLIES) }
+{
+    let mut store = open::<L>(alloc, ledger, FULL_ADDER, [0; 32])?;
     let mut tally = store.tally().ok_or("a tally is dealt")?;
     let mut claimed = Vec::new(alloc);
     for step in steps {
         match *step {
+            Step::Ready(gates) => claim_ready(rt, &mut store, &mut claimed, gates)?,
+            Step::Reopens(count) => assert_eq!(rt; store.reopen(), count),
             Step::Claims(gate) => {
                 let task = store.claim().ok_or("a gate may go next")?;
                 assert_eq!(rt; task.gate, gate);
-                claimed.push(task)?;
             }
-            Step::HasNone => assert_eq!(rt; store.claim(), None),
             Step::Finishes(gate) => {
                 let sealed = Sealed::make(task_of(&claimed, gate)?);
                 assert_eq!(rt; store.finish(sealed, &mut tally), Ok(false));
@@ -118,18 +164,24 @@ fn takes(rt: &impl Abort, alloc: Global, steps: &[Step]) -> Result<(), Fail> {
 #[test]
 fn gates_go_in_order(rt: HostRuntime) -> Result<(), Fail> {
     for steps in ORDERS {
-        takes(&rt, rt.alloc(), steps)?;
+        takes::<Brand>(&rt, rt.alloc(), ledger(), steps)?;
     }
     Ok(())
 }
 
-#[test]
-fn refuses_a_task_of_other_inputs(rt: HostRuntime) -> Result<(), Fail> {
-    let mut store = open(rt.alloc(), FULL_ADDER, [0; 32])?;
-    let mut other = open(rt.alloc(), FULL_ADDER, [1; 32])?;
+fn refuses_other_inputs<L: Ledger>(
+    rt: &impl Abort,
+    alloc: Global,
+    ledger: Blank,
+    foreign: Task,
+) -> Result<(), Fail>
+    requires name { ledger.name ≡ L.name }
+    requires parts { (ledger.parts ≡ L.parts) × (ledger.parts ≡ MAX_TALLIES) }
+{
+    let mut store = open::<L>(alloc, ledger, FULL_ADDER, [0; 32])?;
     let mut tally = store.tally().ok_or("a tally is dealt")?;
     let own = Sealed::make(store.claim().ok_or("a gate may go next")?);
-    let foreign = Sealed::make(other.claim().ok_or("a gate may go next")?);
+    let foreign = Sealed::make(foreign);
     let refused = Refused::OtherInputs(foreign);
     assert_eq!(rt; store.finish(foreign, &mut tally), Err(refused));
     assert_eq!(rt; (refused.code(), refused.name()), (21, "OtherInputs"));
@@ -139,10 +191,18 @@ fn refuses_a_task_of_other_inputs(rt: HostRuntime) -> Result<(), Fail> {
     Ok(())
 }
 
-/// A task is refused whose gate is finished, free, or not there. It is not asked for its inputs.
 #[test]
-fn refuses_a_gate_that_is_not_claimed(rt: HostRuntime) -> Result<(), Fail> {
-    let mut store = open(rt.alloc(), FULL_ADDER, [0; 32])?;
+fn refuses_a_task_of_other_inputs(rt: HostRuntime) -> Result<(), Fail> {
+    let foreign = foreign_task::<Brand>(rt.alloc(), ledger())?;
+    refuses_other_inputs::<Brand>(&rt, rt.alloc(), ledger(), foreign)
+}
+
+/// A task is refused whose gate is finished, free, or not there. It is not asked for its inputs.
+fn refuses_unclaimed<L: Ledger>(rt: &impl Abort, alloc: Global, ledger: Blank) -> Result<(), Fail>
+    requires name { ledger.name ≡ L.name }
+    requires parts { (ledger.parts ≡ L.parts) × (ledger.parts ≡ MAX_TALLIES) }
+{
+    let mut store = open::<L>(alloc, ledger, FULL_ADDER, [0; 32])?;
     let mut tally = store.tally().ok_or("a tally is dealt")?;
     let own = Sealed::make(store.claim().ok_or("a gate may go next")?);
     assert_eq!(rt; store.finish(own, &mut tally), Ok(false));
@@ -157,8 +217,15 @@ fn refuses_a_gate_that_is_not_claimed(rt: HostRuntime) -> Result<(), Fail> {
 }
 
 #[test]
-fn deals_64_tallies(rt: HostRuntime) -> Result<(), Fail> {
-    let mut store = open(rt.alloc(), FULL_ADDER, [0; 32])?;
+fn refuses_a_gate_that_is_not_claimed(rt: HostRuntime) -> Result<(), Fail> {
+    refuses_unclaimed::<Brand>(&rt, rt.alloc(), ledger())
+}
+
+fn deals_64<L: Ledger>(rt: &impl Abort, alloc: Global, ledger: Blank) -> Result<(), Fail>
+    requires name { ledger.name ≡ L.name }
+    requires parts { (ledger.parts ≡ L.parts) × (ledger.parts ≡ MAX_TALLIES) }
+{
+    let mut store = open::<L>(alloc, ledger, FULL_ADDER, [0; 32])?;
     for i in 0..64 {
         let count = store.tally().map(|tally| tally.count());
         assert_eq!(rt; count, Some(0), "tally {i}");
@@ -168,10 +235,17 @@ fn deals_64_tallies(rt: HostRuntime) -> Result<(), Fail> {
 }
 
 #[test]
-fn is_for_its_circuit_and_seed(rt: HostRuntime) -> Result<(), Fail> {
-    let store = open(rt.alloc(), FULL_ADDER, [0; 32])?;
-    let own = Circuit::read(rt.alloc(), FULL_ADDER.as_bytes())?;
-    let other = Circuit::read(rt.alloc(), NO_GATES.as_bytes())?;
+fn deals_64_tallies(rt: HostRuntime) -> Result<(), Fail> {
+    deals_64::<Brand>(&rt, rt.alloc(), ledger())
+}
+
+fn is_for_its_own<L: Ledger>(rt: &impl Abort, alloc: Global, ledger: Blank) -> Result<(), Fail>
+    requires name { ledger.name ≡ L.name }
+    requires parts { (ledger.parts ≡ L.parts) × (ledger.parts ≡ MAX_TALLIES) }
+{
+    let store = open::<L>(alloc, ledger, FULL_ADDER, [0; 32])?;
+    let own = Circuit::read(alloc, FULL_ADDER.as_bytes())?;
+    let other = Circuit::read(alloc, NO_GATES.as_bytes())?;
     for (circuit, seed, answer) in [(&own, 0, true), (&own, 1, false), (&other, 0, false)] {
         assert_eq!(rt;
             store.is_for(circuit, &Seed::from_bytes([seed; 32])),
@@ -182,12 +256,24 @@ fn is_for_its_circuit_and_seed(rt: HostRuntime) -> Result<(), Fail> {
 }
 
 #[test]
-fn an_incomplete_store_is_given_back(rt: HostRuntime) -> Result<(), Fail> {
-    let mut store = open(rt.alloc(), FULL_ADDER, [0; 32])?;
+fn is_for_its_circuit_and_seed(rt: HostRuntime) -> Result<(), Fail> {
+    is_for_its_own::<Brand>(&rt, rt.alloc(), ledger())
+}
+
+fn is_given_back<L: Ledger>(rt: &impl Abort, alloc: Global, ledger: Blank) -> Result<(), Fail>
+    requires name { ledger.name ≡ L.name }
+    requires parts { (ledger.parts ≡ L.parts) × (ledger.parts ≡ MAX_TALLIES) }
+{
+    let mut store = open::<L>(alloc, ledger, FULL_ADDER, [0; 32])?;
     let task = store.claim().ok_or("a gate may go next")?;
     let mut store = store.into_garbling().err().ok_or("garbled too early")?;
     let mut tally = store.tally().ok_or("a tally is dealt")?;
     assert_eq!(rt; store.finish(Sealed::make(task), &mut tally), Ok(false));
     assert_eq!(rt; store.finished(), 1);
     Ok(())
+}
+
+#[test]
+fn an_incomplete_store_is_given_back(rt: HostRuntime) -> Result<(), Fail> {
+    is_given_back::<Brand>(&rt, rt.alloc(), ledger())
 }

@@ -4,10 +4,9 @@ use crate::mem_files::MemFiles;
 use gc_cli::serve;
 use std::alloc::{AllocError, Global};
 use std::io::{self, Write};
+use std::sync::Wait;
 use std::test::Fail;
-
-/// A seed of zeros.
-pub(crate) const SEED: &str = "0000000000000000000000000000000000000000000000000000000000000000";
+use std::thread::Threads;
 
 /// The words as a command line has them.
 pub(crate) fn copies_of(alloc: Global, words: &[&str]) -> Result<Vec<String>, AllocError> {
@@ -48,13 +47,27 @@ impl Served {
 }
 
 /// Serves the words over one file `c.txt`.
-pub(crate) fn serve_over(alloc: Global, text: &str, words: &[&str]) -> Result<Served, Fail> {
+pub(crate) fn serve_over<R: Threads + Wait + Sync>(
+    rt: &R,
+    alloc: Global,
+    text: &str,
+    words: &[&str],
+) -> Result<Served, Fail> {
+    let file = [("c.txt", text.as_bytes())];
+    serve_files(rt, alloc, &mut MemFiles::new(alloc, &file), words)
+}
+
+/// Serves the words over files.
+pub(crate) fn serve_files<R: Threads + Wait + Sync>(
+    rt: &R,
+    alloc: Global,
+    files: &mut MemFiles<'_>,
+    words: &[&str],
+) -> Result<Served, Fail> {
     let words = copies_of(alloc, words)?;
-    let file = [("c.txt", text)];
-    let mut files = MemFiles::new(&file);
     let mut output = Vec::new(alloc);
     let mut errors = Vec::new(alloc);
-    let status = serve(alloc, &words, &mut files, &mut output, &mut errors);
+    let status = serve(rt, alloc, &words, files, &mut output, &mut errors);
     Ok(Served {
         status,
         output: String::from_utf8(output)?,
@@ -79,12 +92,13 @@ pub(crate) fn plain_words<'a>(
     words_of(alloc, &["halfgates", "plain", "c.txt"], values)
 }
 
-fn words_of<'a>(
+/// The first words, and more.
+pub(crate) fn words_of<'a>(
     alloc: Global,
     first: &[&'a str],
-    values: &[&'a str],
+    more: &[&'a str],
 ) -> Result<Vec<&'a str>, AllocError> {
     let mut words = Vec::from_slice(alloc, first)?;
-    words.extend_from_slice(values)?;
+    words.extend_from_slice(more)?;
     Ok(words)
 }

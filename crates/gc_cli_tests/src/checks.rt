@@ -1,9 +1,9 @@
 //! Tests of the command `check`.
 
-use crate::circuits::{
+use crate::serving::serve_over;
+use gc_tests::circuits::{
     ADDER_LINES, AND, CONSTANT, EMPTY, FULL_ADDER, MANY_WIRES, NO_GATES, SPACED_ADDER, WIDE, XOR,
 };
-use crate::serving::serve_over;
 use std::test::Fail;
 
 /// Circuits and what `check` prints of them. The digests are those of `sha256sum` over the canonical texts.
@@ -44,7 +44,7 @@ static CHECKS: [(&str, &str); 9] = [
 #[test]
 fn tells_numbers_and_digests(rt: HostRuntime) -> Result<(), Fail> {
     for (text, lines) in &CHECKS {
-        let served = serve_over(rt.alloc(), text, &["halfgates", "check", "c.txt"])?;
+        let served = serve_over(&rt, rt.alloc(), text, &["halfgates", "check", "c.txt"])?;
         assert_eq!(rt; served.parts(), (0, *lines, ""), "of {text:?}");
     }
     Ok(())

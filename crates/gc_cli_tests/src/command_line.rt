@@ -1,8 +1,8 @@
 //! Tests of the words of command lines: help, orders, and words that are neither.
 
-use crate::circuits::FULL_ADDER;
-use crate::serving::{Closed, SEED, copies_of, serve_over};
+use crate::serving::{Closed, copies_of, serve_over};
 use gc_cli::{Order, order_of, refuse_line};
+use gc_tests::circuits::{FULL_ADDER, SEED};
 use std::alloc::Global;
 use std::io::ErrorKind;
 use std::test::Fail;
@@ -10,7 +10,7 @@ use std::test::Fail;
 const RUN_HELP: &str = "\
 Garbles a circuit, and evaluates it garbled on the given values
 
-Usage: halfgates run <CIRCUIT> <SEED> [VALUES]...
+Usage: halfgates run [OPTIONS] <CIRCUIT> <SEED> [VALUES]...
 
 Arguments:
   <CIRCUIT>    The file of the circuit, in Bristol Fashion
@@ -19,7 +19,8 @@ Arguments:
 or x and two hexadecimal digits for each 8 wires, of which the first wire is the lowest bit
 
 Options:
-  -h, --help  Print help
+      --workers <WORKERS>  How many threads work, from 1 to 64; what they make is the same [default: 1]
+  -h, --help               Print help
 
 Prints the output values, one a line: a character 0 or 1 for each wire, in wire order.
 
@@ -38,6 +39,7 @@ Commands:
   check   Tells a circuit's numbers and its digest
   garble  Garbles a circuit into a file
   deal    Writes the labels of an input value into a file
+  eval    Evaluates a circuit garbled, from a garbled file and label files
 
 Options:
   -h, --help     Print help
@@ -56,7 +58,7 @@ fn prints_a_text_that_is_asked_for(rt: HostRuntime) -> Result<(), Fail> {
         (&["halfgates", "-V"], VERSION),
     ];
     for (words, text) in rows {
-        let served = serve_over(rt.alloc(), FULL_ADDER, words)?;
+        let served = serve_over(&rt, rt.alloc(), FULL_ADDER, words)?;
         assert_eq!(rt; served.parts(), (0, text, ""));
     }
     Ok(())
@@ -83,7 +85,7 @@ fn refuses_words_that_are_no_order(rt: HostRuntime) -> Result<(), Fail> {
         (&["halfgates", "check", "c.txt", "1"], no_values),
     ];
     for (words, errors) in rows {
-        let served = serve_over(rt.alloc(), FULL_ADDER, words)?;
+        let served = serve_over(&rt, rt.alloc(), FULL_ADDER, words)?;
         assert_eq!(rt; served.parts(), (2, "", errors));
     }
     Ok(())
@@ -125,6 +127,7 @@ fn reads_an_order(rt: HostRuntime) -> Result<(), Fail> {
     let run = Order::Run {
         circuit: String::from_str(alloc, "-c")?,
         seed: String::from_str(alloc, "s")?,
+        workers: 1,
         values: copies_of(alloc, &["1", "x0", ""])?,
     };
     let words = ["halfgates", "run", "--", "-c", "s", "1", "x0", ""];
@@ -139,5 +142,12 @@ fn reads_an_order(rt: HostRuntime) -> Result<(), Fail> {
         circuit: String::from_str(alloc, "c.txt")?,
     };
     assert_eq!(rt; order_told(alloc, &["halfgates", "check", "c.txt"])?, check);
+    let eval = Order::Eval {
+        circuit: String::from_str(alloc, "c.txt")?,
+        garbled: String::from_str(alloc, "g")?,
+        labels: copies_of(alloc, &["b", "a"])?,
+    };
+    let words = ["halfgates", "eval", "c.txt", "g", "b", "a"];
+    assert_eq!(rt; order_told(alloc, &words)?, eval);
     Ok(())
 }

@@ -1,17 +1,20 @@
 //! Tests of whole runs over files in memory.
 
-use crate::circuits::{
-    AND, CONSTANT, CONSTANT_AND, FAR_COPY, FULL_ADDER, INV, NO_GATES, SQUARE, WIDE, XOR,
-    ZERO_CONSTANT,
-};
-use crate::mem_files::MemFiles;
-use crate::serving::{Closed, SEED, copies_of, plain_words, run_words, serve_over};
+use crate::mem_files::{Limits, MemFiles};
+use crate::serving::{Closed, copies_of, plain_words, run_words, serve_over};
 use gc_circuit::{ReadFault, ValueFault};
 use gc_cli::{Fault, carry_out, order_of, serve};
+use gc_eval::{BindFault, EvalFault};
+use gc_file::FileFault;
+use gc_tests::circuits::{
+    AND, CONSTANT, CONSTANT_AND, FAR_COPY, FULL_ADDER, INV, NO_GATES, SEED, SQUARE, WIDE, XOR,
+    ZERO_CONSTANT,
+};
+use gc_work::WorkFault;
 use std::alloc::{AllocError, Global};
 use std::test::Fail;
 
-static RUNS: [(&str, &[&str], &str); 27] = [
+pub(crate) static RUNS: [(&str, &[&str], &str); 27] = [
     (XOR, &["0", "0"], "0\n"),
     (XOR, &["1", "0"], "1\n"),
     (XOR, &["0", "1"], "1\n"),
@@ -49,8 +52,8 @@ static RUNS: [(&str, &[&str], &str); 27] = [
 fn runs_circuits(rt: HostRuntime) -> Result<(), Fail> {
     let alloc = rt.alloc();
     for (text, values, output) in &RUNS {
-        let run = serve_over(alloc, text, &run_words(alloc, SEED, values)?)?;
-        let plain = serve_over(alloc, text, &plain_words(alloc, values)?)?;
+        let run = serve_over(&rt, alloc, text, &run_words(alloc, SEED, values)?)?;
+        let plain = serve_over(&rt, alloc, text, &plain_words(alloc, values)?)?;
         assert_eq!(rt; run.parts(), (0, *output, ""), "of {text:?}");
         assert_eq!(rt; plain.parts(), (0, *output, ""), "of {text:?}");
     }
@@ -106,7 +109,7 @@ fn names_the_first_fault_of_a_circuit(rt: HostRuntime) -> Result<(), Fail> {
     for (text, fault) in &CIRCUIT_FAULTS {
         let line = line_of(alloc, fault)?;
         for words in &lines {
-            let served = serve_over(alloc, text, words)?;
+            let served = serve_over(&rt, alloc, text, words)?;
             assert_eq!(rt; served.parts(), (1, "", line.as_str()), "of {text:?}");
         }
     }
@@ -118,10 +121,43 @@ fn names_the_first_fault_of_values(rt: HostRuntime) -> Result<(), Fail> {
     let alloc = rt.alloc();
     for (values, fault) in &VALUE_FAULTS {
         let line = line_of(alloc, fault)?;
-        let run = serve_over(alloc, FULL_ADDER, &run_words(alloc, SEED, values)?)?;
-        let plain = serve_over(alloc, FULL_ADDER, &plain_words(alloc, values)?)?;
+        let run = serve_over(&rt, alloc, FULL_ADDER, &run_words(alloc, SEED, values)?)?;
+        let plain = serve_over(&rt, alloc, FULL_ADDER, &plain_words(alloc, values)?)?;
         assert_eq!(rt; run.parts(), (1, "", line.as_str()));
         assert_eq!(rt; plain.parts(), (1, "", line.as_str()));
+    }
+    Ok(())
+}
+
+/// Numbers of workers, the status and what is printed: the sum and the carry, or the fault.
+static WORKERS: [(&str, u8, &str, &str); 5] = [
+    ("0", 1, "", "halfgates: fault 22 BadWorkers\n"),
+    ("1", 0, "01\n", ""),
+    ("2", 0, "01\n", ""),
+    ("64", 0, "01\n", ""),
+    ("65", 1, "", "halfgates: fault 22 BadWorkers\n"),
+];
+
+#[test]
+fn runs_by_any_number_of_workers(rt: HostRuntime) -> Result<(), Fail> {
+    for (workers, status, printed, errors) in &WORKERS {
+        let words = [
+            "halfgates",
+            "run",
+            "c.txt",
+            SEED,
+            "--workers",
+            *workers,
+            "1",
+            "0",
+            "1",
+        ];
+        let served = serve_over(&rt, rt.alloc(), FULL_ADDER, &words)?;
+        assert_eq!(rt;
+            served.parts(),
+            (*status, *printed, *errors),
+            "{workers} workers"
+        );
     }
     Ok(())
 }
@@ -132,7 +168,7 @@ fn names_a_bad_seed(rt: HostRuntime) -> Result<(), Fail> {
     let alloc = rt.alloc();
     let line = line_of(alloc, "18 BadSeed")?;
     for (seed, value) in [("", "1"), ("0", "2")] {
-        let served = serve_over(alloc, FULL_ADDER, &run_words(alloc, seed, &[value])?)?;
+        let served = serve_over(&rt, alloc, FULL_ADDER, &run_words(alloc, seed, &[value])?)?;
         assert_eq!(rt; served.parts(), (1, "", line.as_str()));
     }
     Ok(())
@@ -147,7 +183,7 @@ fn names_a_file_that_is_not_there(rt: HostRuntime) -> Result<(), Fail> {
     ];
     let line = line_of(rt.alloc(), "50 CannotRead")?;
     for words in lines {
-        let served = serve_over(rt.alloc(), FULL_ADDER, words)?;
+        let served = serve_over(&rt, rt.alloc(), FULL_ADDER, words)?;
         assert_eq!(rt; served.parts(), (1, "", line.as_str()));
     }
     Ok(())
@@ -160,13 +196,17 @@ fn fails_where_reading_fails(rt: HostRuntime) -> Result<(), Fail> {
         alloc,
         &copies_of(alloc, &run_words(alloc, SEED, &["1", "0", "1"])?)?,
     )?;
-    let file = [("c.txt", FULL_ADDER)];
-    let mut files = MemFiles::failing_after(&file, 1);
+    let file = [("c.txt", FULL_ADDER.as_bytes())];
+    let once = Limits {
+        calls: 1,
+        ..Limits::NONE
+    };
+    let mut files = MemFiles::limited(alloc, &file, once);
     assert_eq!(rt;
-        carry_out(alloc, &order, &mut files)?.as_slice(),
+        carry_out(&rt, alloc, &order, &mut files)?.as_slice(),
         b"01\n".as_slice()
     );
-    let second = carry_out(alloc, &order, &mut files);
+    let second = carry_out(&rt, alloc, &order, &mut files);
     assert_eq!(rt; second.err(), Some(Fault::CannotRead));
     Ok(())
 }
@@ -178,12 +218,13 @@ fn names_an_output_that_takes_nothing(rt: HostRuntime) -> Result<(), Fail> {
     let lines: [&[&str]; 2] = [&run, &["halfgates", "--help"]];
     for words in lines {
         let words = copies_of(alloc, words)?;
-        let file = [("c.txt", FULL_ADDER)];
+        let file = [("c.txt", FULL_ADDER.as_bytes())];
         let mut err = Vec::new(alloc);
         let status = serve(
+            &rt,
             alloc,
             &words,
-            &mut MemFiles::new(&file),
+            &mut MemFiles::new(alloc, &file),
             &mut Closed,
             &mut err,
         );
@@ -195,9 +236,10 @@ fn names_an_output_that_takes_nothing(rt: HostRuntime) -> Result<(), Fail> {
         // Nothing can be said where standard error takes nothing either.
         assert_eq!(rt;
             serve(
+                &rt,
                 alloc,
                 &words,
-                &mut MemFiles::new(&file),
+                &mut MemFiles::new(alloc, &file),
                 &mut Closed,
                 &mut Closed
             ),
@@ -213,8 +255,10 @@ fn want_of_memory_has_numbers(rt: HostRuntime) {
     let faults = [
         (Fault::Circuit(ReadFault::Memory), 13),
         (Fault::Value(ValueFault::Memory), 13),
-        (Fault::Garbling, 23),
-        (Fault::Evaluation, 46),
+        (Fault::Garbling(WorkFault::Memory), 23),
+        (Fault::File(FileFault::Memory), 36),
+        (Fault::Binding(BindFault::Memory), 46),
+        (Fault::Evaluation(EvalFault::Memory), 46),
         (Fault::Memory, 52),
     ];
     for (fault, code) in faults {
