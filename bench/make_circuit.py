@@ -1,8 +1,9 @@
 #!/usr/bin/env python3
-"""Writes a random circuit in Bristol Fashion: make_circuit.py GATES AND_SHARE FILE. The same words give the same file.
+"""Writes a random circuit in Bristol Fashion: make_circuit.py GATES AND_SHARE FILE [independent]. The same words give
+the same file.
 
 Two inputs and one output of 64 wires. Each gate is AND with the given share, else XOR, and reads wires among the last
-thousand before it.
+thousand before it; or, where the gates are to be independent, input wires alone.
 """
 import random
 import sys
@@ -12,12 +13,13 @@ INPUTS, OUTPUTS, WINDOW = 128, 64, 1000
 
 def main():
     gates, share, name = int(sys.argv[1]), float(sys.argv[2]), sys.argv[3]
+    independent = sys.argv[4:] == ["independent"]
     rng = random.Random(1)
     with open(name, "w") as out:
         out.write(f"{gates} {INPUTS + gates}\n2 64 64\n1 {OUTPUTS}\n\n")
         for wire in range(INPUTS, INPUTS + gates):
-            first = max(0, wire - WINDOW)
-            a, b = rng.randrange(first, wire), rng.randrange(first, wire)
+            first, end = (0, INPUTS) if independent else (max(0, wire - WINDOW), wire)
+            a, b = rng.randrange(first, end), rng.randrange(first, end)
             out.write(f"2 1 {a} {b} {wire} {'AND' if rng.random() < share else 'XOR'}\n")
 
 

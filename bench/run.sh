@@ -53,25 +53,7 @@ echo "digest: $half_digest ns, $(ratio "$half_digest" "$half_sha") SHA-256 over 
 echo "writing the garbled file, but for the circuit's digest: $(ratio "$((file_write - file_digest))" "$file_file_sha") SHA-256 over its bytes (at most 1.15)"
 echo "reading it: whole $(ratio "$file_read_file" "$file_file_sha"), in pieces of 4,096 bytes $(ratio "$file_pieces" "$file_file_sha") (at most 1.15)"
 
-# The program itself: its time beside the sum of its parts, and its peak memory beyond the file.
+# The program itself: its times beside the sums of its parts, and its peak memory beyond the circuit's file.
 "$top/halfgates" --help >/dev/null
-python3 - "$top/halfgates" "$circuit" "$zero" "$half_gates" "$((half_read + half_hashes + half_hashes / 2))" <<'PYTHON'
-import os
-import resource
-import subprocess
-import sys
-import time
-
-program, circuit, seed, gates, parts = sys.argv[1:4] + [int(n) for n in sys.argv[4:]]
-
-
-def run():
-    start = time.monotonic_ns()
-    subprocess.run([program, "run", circuit, seed, "x" + 16 * "0", "x" + 16 * "0"], check=True, stdout=subprocess.DEVNULL)
-    return time.monotonic_ns() - start
-
-
-took = min(run() for _ in range(7))
-peak = resource.getrusage(resource.RUSAGE_CHILDREN).ru_maxrss * 1024 - os.path.getsize(circuit)
-print(f"run: {took} ns, {took / parts:.2f} times reading and hashing (at most 1.5); peak memory beyond the file: {peak / gates:.0f} bytes a gate (at most 140)")
-PYTHON
+"$top/bench/program.py" "$top/halfgates" "$circuit" "$half_gates" \
+    read="$half_read" digest="$half_digest" hashes="$half_hashes" file_sha="$file_file_sha"

@@ -1,14 +1,19 @@
 //! The parts that are timed.
 
+ghost use Rattle.std.specs.Prelude.{◌≡◌};
+ghost use Rattle.gc_store.specs.declared.tally.TheConstants.{MAX_TALLIES};
+
 use anyhow::{Result, anyhow};
 use gc_circuit::{Circuit, fits, plain_eval};
 use gc_eval::evaluate_labels;
 use gc_file::{GarbledReader, MemSink, Sink, SinkFault, read_garbled, write_garbled2};
 use gc_half::{Garbling, garble_one_thread, tweak_hash};
 use gc_label::{Label, Seed, fill_input_labels};
-use gc_store::{Sealed, Store, Task};
+use gc_store::{MAX_TALLIES, Sealed, Store, Task};
 use sha2::{Digest, Sha256};
 use std::alloc::Global;
+use std::marker::Brand;
+use std::sync::ledger::{Blank, Ledger};
 
 /// A part of the program's work.
 #[derive(Clone, Copy, PartialEq, Eq, Debug)]
@@ -43,24 +48,47 @@ pub enum Part {
     FileSha,
 }
 
+/// All parts.
+const PARTS: [Part; 14] = [
+    Part::Read,
+    Part::Plain,
+    Part::Garble,
+    Part::Hashes,
+    Part::Evaluate,
+    Part::Open,
+    Part::Store,
+    Part::Seal,
+    Part::Digest,
+    Part::Sha,
+    Part::Write,
+    Part::ReadFile,
+    Part::Pieces,
+    Part::FileSha,
+];
+
 impl Part {
+    /// The part of this name, where there is one.
     pub fn named(name: &str) -> Option<Part> {
-        match name {
-            "read" => Some(Part::Read),
-            "plain" => Some(Part::Plain),
-            "garble" => Some(Part::Garble),
-            "hashes" => Some(Part::Hashes),
-            "evaluate" => Some(Part::Evaluate),
-            "open" => Some(Part::Open),
-            "store" => Some(Part::Store),
-            "seal" => Some(Part::Seal),
-            "digest" => Some(Part::Digest),
-            "sha" => Some(Part::Sha),
-            "write" => Some(Part::Write),
-            "read_file" => Some(Part::ReadFile),
-            "pieces" => Some(Part::Pieces),
-            "file_sha" => Some(Part::FileSha),
-            _ => None,
+        PARTS.iter().copied().find(|part| part.name() == name)
+    }
+
+    /// Its name on the command line.
+    fn name(self) -> &'static str {
+        match self {
+            Part::Read => "read",
+            Part::Plain => "plain",
+            Part::Garble => "garble",
+            Part::Hashes => "hashes",
+            Part::Evaluate => "evaluate",
+            Part::Open => "open",
+            Part::Store => "store",
+            Part::Seal => "seal",
+            Part::Digest => "digest",
+            Part::Sha => "sha",
+            Part::Write => "write",
+            Part::ReadFile => "read_file",
+            Part::Pieces => "pieces",
+            Part::FileSha => "file_sha",
         }
     }
 }
@@ -110,7 +138,7 @@ impl Subject {
         for i in 0..garbling.outputs() {
             decode_bits.push(garbling.decode_bit(i))?;
         }
-        let tasks = tasks_of(alloc, &circuit, seed)?;
+        let tasks = tasks_of::<Brand>(alloc, ledger(), &circuit, seed)?;
         let canonical_text = circuit.canon(alloc)?;
         let garbled_file = file_of(alloc, &circuit, &garbling, &seed)?;
         Ok(Subject {
@@ -138,10 +166,8 @@ impl Subject {
             }
             Part::Hashes => self.hashes()?,
             Part::Evaluate => self.evaluate(alloc)?,
-            Part::Open => {
-                open(alloc, &self.circuit, self.seed)?;
-            }
-            Part::Store => self.store(alloc)?,
+            Part::Open => open_once::<Brand>(alloc, ledger(), &self.circuit, self.seed)?,
+            Part::Store => garble_by::<Brand>(alloc, ledger(), &self.circuit, self.seed)?,
             Part::Seal => self.seal()?,
             Part::Digest => not_zeros(self.circuit.digest())?,
             Part::Sha => not_zeros(Sha256::digest(&self.canonical_text))?,
@@ -172,17 +198,6 @@ impl Subject {
         if label == Label::ZERO {
             return Err(anyhow!("a hash of zeros"));
         }
-        Ok(())
-    }
-
-    fn store(&self, alloc: Global) -> Result<()> {
-        let mut store = open(alloc, &self.circuit, self.seed)?;
-        let mut tally = store.tally().ok_or_else(|| anyhow!("no tally"))?;
-        for _ in 0..self.circuit.gates() {
-            let task = store.claim().ok_or_else(|| anyhow!("no gate may go next"))?;
-            store.finish(Sealed::make(task), &mut tally)?;
-        }
-        store.into_garbling().map_err(|_| anyhow!("not complete"))?;
         Ok(())
     }
 
@@ -242,15 +257,56 @@ fn not_zeros(digest: [u8; 32]) -> Result<()> {
     Ok(())
 }
 
-/// A store of a copy of the circuit.
-fn open(alloc: Global, circuit: &Circuit, seed: Seed) -> Result<Store> {
-    let copy = circuit.try_clone(alloc)?;
-    Ok(Store::open(alloc, copy, seed)?)
+/// What begins the ledger of a store.
+fn ledger() -> Blank
+    ensures { result.parts ≡ MAX_TALLIES }
+{
+    Blank::new(u64::from(MAX_TALLIES))
 }
 
-/// The tasks of the gates, in file order.
-fn tasks_of(alloc: Global, circuit: &Circuit, seed: Seed) -> Result<Vec<Task>> {
-    let mut store = open(alloc, circuit, seed)?;
+/// A store of a copy of the circuit.
+fn open<L: Ledger>(alloc: Global, ledger: Blank, circuit: &Circuit, seed: Seed) -> Result<Store<L>>
+    requires name { ledger.name ≡ L.name }
+    requires parts { (ledger.parts ≡ L.parts) × (ledger.parts ≡ MAX_TALLIES) }
+{
+    let copy = circuit.try_clone(alloc)?;
+    Ok(Store::<L>::open(alloc, ledger, copy, seed)?)
+}
+
+fn open_once<L: Ledger>(alloc: Global, ledger: Blank, circuit: &Circuit, seed: Seed) -> Result<()>
+    requires name { ledger.name ≡ L.name }
+    requires parts { (ledger.parts ≡ L.parts) × (ledger.parts ≡ MAX_TALLIES) }
+{
+    open::<L>(alloc, ledger, circuit, seed)?;
+    Ok(())
+}
+
+/// Garbles through a store.
+fn garble_by<L: Ledger>(alloc: Global, ledger: Blank, circuit: &Circuit, seed: Seed) -> Result<()>
+    requires name { ledger.name ≡ L.name }
+    requires parts { (ledger.parts ≡ L.parts) × (ledger.parts ≡ MAX_TALLIES) }
+{
+    let mut store = open::<L>(alloc, ledger, circuit, seed)?;
+    let mut tally = store.tally().ok_or_else(|| anyhow!("no tally"))?;
+    for _ in 0..circuit.gates() {
+        let task = store.claim().ok_or_else(|| anyhow!("no gate may go next"))?;
+        store.finish(Sealed::make(task), &mut tally)?;
+    }
+    store.into_garbling().map_err(|_| anyhow!("not complete"))?;
+    Ok(())
+}
+
+/// The tasks of the gates, in the order in which a store hands them out.
+fn tasks_of<L: Ledger>(
+    alloc: Global,
+    ledger: Blank,
+    circuit: &Circuit,
+    seed: Seed,
+) -> Result<Vec<Task>>
+    requires name { ledger.name ≡ L.name }
+    requires parts { (ledger.parts ≡ L.parts) × (ledger.parts ≡ MAX_TALLIES) }
+{
+    let mut store = open::<L>(alloc, ledger, circuit, seed)?;
     let mut tally = store.tally().ok_or_else(|| anyhow!("no tally"))?;
     let mut tasks = Vec::with_capacity(alloc, circuit.gates() as usize)?;
     for _ in 0..circuit.gates() {
