@@ -2,10 +2,12 @@
 //! and Evans, 2015).
 
 ghost use Rattle.std.specs.Prelude.{◌≡◌};
+ghost use Rattle.gc_label.specs.Label.{◌⊕◌, colour, times};
 ghost use Rattle.gc_half.specs.Hash.{hash};
 ghost use Rattle.gc_half.specs.HalfGate.{and_zero, and_active, generator_row, evaluator_row};
 
-use crate::hash::tweak_hash;
+use crate::garbling::RowPair;
+use crate::hash::tweak_hash_four;
 use gc_label::{Label, Offset};
 
 /// Garbles the k-th AND gate, counted from 0, from the zero labels `a` and `b` of the wires that it reads.
@@ -18,15 +20,30 @@ pub fn garble_and(k: u32, offset: Offset, a: Label, b: Label) -> (Label, Label, 
     let first = 2 * u64::from(k);
     let second = first + 1;
     let r = offset.label();
-    let hash_a = tweak_hash(a, first);
-    let hash_b = tweak_hash(b, second);
-    let generator = hash_a
-        .xor(tweak_hash(a.xor(r), first))
-        .xor(r.times(b.colour()));
-    let evaluator = hash_b.xor(tweak_hash(b.xor(r), second)).xor(a);
+    let (hash_a, hash_other_a, hash_b, hash_other_b) = tweak_hash_four(
+        (a, first),
+        (a.xor(r), first),
+        (b, second),
+        (b.xor(r), second),
+    );
+    let generator = hash_a.xor(hash_other_a).xor(r.times(b.colour()));
+    let evaluator = hash_b.xor(hash_other_b).xor(a);
     let generator_half = hash_a.xor(generator.times(a.colour()));
     let evaluator_half = hash_b.xor(evaluator.xor(a).times(b.colour()));
     (generator_half.xor(evaluator_half), generator, evaluator)
+}
+
+/// An AND gate to be evaluated.
+#[derive(Clone, Copy, PartialEq, Eq, Debug)]
+pub struct AndStep {
+    /// Its AND number: it is the k-th AND gate in file order, counted from 0.
+    pub k: u32,
+    /// Its row pair.
+    pub rows: RowPair,
+    /// The active label of the wire that it reads first.
+    pub a: Label,
+    /// The active label of the wire that it reads second.
+    pub b: Label,
 }
 
 /// Evaluates the k-th AND gate, counted from 0, from its rows and the active labels `a` and `b` of the wires
@@ -36,7 +53,43 @@ pub fn eval_and(k: u32, generator: Label, evaluator: Label, a: Label, b: Label) 
 {
     let first = 2 * u64::from(k);
     let second = first + 1;
-    let generator_half = tweak_hash(a, first).xor(generator.times(a.colour()));
-    let evaluator_half = tweak_hash(b, second).xor(evaluator.xor(a).times(b.colour()));
+    // Four hashes take less time than two that are computed one after the other, so that two lanes are spare.
+    let (hash_a, hash_b, _, _) = tweak_hash_four((a, first), (b, second), (a, first), (b, second));
+    let rows = RowPair {
+        generator,
+        evaluator,
+    };
+    active_label(rows, a, b, hash_a, hash_b)
+}
+
+/// Evaluates two AND gates at once, each as [`eval_and`] does.
+pub fn eval_two_ands(one: AndStep, other: AndStep) -> (Label, Label)
+    ensures one { result.0 ≡ and_active hash one.k one.rows.generator one.rows.evaluator one.a one.b }
+    ensures other { result.1
+        ≡ and_active hash other.k other.rows.generator other.rows.evaluator other.a other.b }
+{
+    let one_first = 2 * u64::from(one.k);
+    let other_first = 2 * u64::from(other.k);
+    let (one_hash_a, one_hash_b, other_hash_a, other_hash_b) = tweak_hash_four(
+        (one.a, one_first),
+        (one.b, one_first + 1),
+        (other.a, other_first),
+        (other.b, other_first + 1),
+    );
+    (
+        active_label(one.rows, one.a, one.b, one_hash_a, one_hash_b),
+        active_label(other.rows, other.a, other.b, other_hash_a, other_hash_b),
+    )
+}
+
+/// The active label of the wire that an AND gate sets, from its rows, and from the active labels of the wires
+/// that it reads and their hashes.
+#[inline]
+fn active_label(rows: RowPair, a: Label, b: Label, hash_a: Label, hash_b: Label) -> Label
+    ensures { result ≡ hash_a ⊕ times (colour a) rows.generator
+        ⊕ (hash_b ⊕ times (colour b) (rows.evaluator ⊕ a)) }
+{
+    let generator_half = hash_a.xor(rows.generator.times(a.colour()));
+    let evaluator_half = hash_b.xor(rows.evaluator.xor(a).times(b.colour()));
     generator_half.xor(evaluator_half)
 }

@@ -21,7 +21,7 @@ mod one_gate;
 pub use entry::output_entry;
 pub use garble::{garble_one_thread, input_zero_labels};
 pub use garbling::{Garbling, RowPair};
-pub use half_gate::{eval_and, garble_and};
+pub use half_gate::{AndStep, eval_and, eval_two_ands, garble_and};
 pub use hash::tweak_hash;
 pub use laws::{law_garblings, law_half_gates};
 pub use one_gate::{evaluate_gate, garble_gate, labels_read};

@@ -1,0 +1,15 @@
+//! Four tweaked hashes at once, one in each lane of vectors of four words.
+//!
+//! A label of 16 bytes and a tweak of 8 are a message of one block, so that each hash is one compression of
+//! SHA-256 (FIPS 180-4). [`hash_four`] compresses four such blocks side by side. It takes no memory.
+#![tactic(auto)]
+
+mod block;
+mod compression;
+mod constants;
+mod digest;
+mod functions;
+mod hash;
+mod words;
+
+pub use hash::hash_four;
