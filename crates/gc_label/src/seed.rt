@@ -1,6 +1,6 @@
 //! The seed of a garbling.
 
-ghost use Rattle.std.specs.Prelude.{◌≡◌, ◌↔◌, IsOk, IfOk, Ok};
+ghost use Rattle.std.specs.Prelude.{◌≡◌, ◌↔◌, IsOk, IfOk, Ok, codes};
 ghost use Rattle.hex.specs.Hex.{decode_of};
 ghost use Rattle.gc_label.specs.Seed.{IsSeedText};
 
@@ -55,6 +55,22 @@ impl Seed {
 /// A text that is not 64 hexadecimal digits.
 #[derive(Clone, Copy, Debug, PartialEq, Eq)]
 pub struct BadSeed;
+
+impl BadSeed {
+    /// The number of the fault.
+    pub fn code(self) -> u32
+        ensures { result ≡ 18 }
+    {
+        18
+    }
+
+    /// Its name.
+    pub fn name(self) -> &'static str
+        ensures { result.now ≡ codes "BadSeed" }
+    {
+        "BadSeed"
+    }
+}
 
 impl fmt::Display for BadSeed {
     ghost use Rattle.std.specs.Prelude.{Some, codes};
