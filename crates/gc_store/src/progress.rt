@@ -127,10 +127,10 @@ impl<A: Allocator> Progress<A> {
         count
     }
 
-    /// Whether a gate may go next.
+    /// How many gates may go next.
     #[inline]
-    pub(crate) fn has_ready(&self) -> bool {
-        !self.queue.is_empty()
+    pub(crate) fn ready(&self) -> u32 {
+        self.queue.len()
     }
 
     /// Whether a gate is claimed.

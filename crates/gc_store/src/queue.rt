@@ -72,10 +72,10 @@ impl<A: Allocator> Queue<A> {
         self.marks[gate as usize].is_claimed()
     }
 
-    /// Whether no gate is free and has the countdown 0.
+    /// How many gates are free and have the countdown 0.
     #[inline]
-    pub(crate) fn is_empty(&self) -> bool {
-        self.head == self.tail
+    pub(crate) fn len(&self) -> u32 {
+        self.tail - self.head
     }
 
     /// Claims the first gate of the queue.

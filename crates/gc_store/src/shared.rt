@@ -1,22 +1,34 @@
 //! A store that threads share.
 
-ghost use Rattle.gc_store.specs.Shared.{ClaimsMore, FinishesAll, HandsIn, HandsInAll};
+ghost use Rattle.gc_store.specs.Shared.{ClaimsMore, ClaimsMoreEach, FinishesAll, HandsIn, HandsInAll};
 
 use crate::batch::Batch;
 use crate::refusal::Refused;
 use crate::store::Store;
 use crate::tally::Tally;
 use crate::task::{Sealed, Task};
+use crossbeam_utils::CachePadded;
 use std::alloc::{Allocator, Global};
+use std::hint::spin_loop;
 use std::sync::ledger::Ledger;
-use std::sync::{Condvar, Mutex, Wait};
+use std::sync::{Condvar, Mutex, MutexGuard, Wait};
 
-/// What the lock is round: a store, whether it was stopped, and how many threads wait for a task.
+/// How often a thread tries for the lock, or looks for a gate, before it sleeps: waking costs more than a section takes.
+const TRIES: u32 = 200;
+
+/// How long a thread pauses between two tries, in turns of a loop.
+const PAUSE: u32 = 10;
+
+/// How many gates have to be ready for a second batch: a claim of many is to leave others as many.
+const PLENTY: u32 = 256;
+
+/// What the lock is round: a store, whether it was stopped, and how many threads sleep for want of a task and were not
+/// woken yet.
 #[derive(Drop)]
 struct Desk<L: Ledger, A: Allocator> {
     store: Store<L, A>,
     stopped: bool,
-    waiting: u32,
+    sleeping: u32,
 }
 
 /// A store that threads share. Each call is one critical section, so each finds a store as it is between two steps.
@@ -25,25 +37,83 @@ struct Desk<L: Ledger, A: Allocator> {
 /// threads change it.
 #[derive(Drop)]
 pub struct SharedStore<L: Ledger, A: Allocator = Global> {
-    desk: Mutex<Desk<L, A>>,
+    // Padded, so that threads that try for the lock leave the store's own cache lines alone.
+    desk: Mutex<CachePadded<Desk<L, A>>>,
     moved: Condvar,
 }
 
+/// What a thread that wants a task finds.
+enum Finding {
+    /// A task.
+    Task(Task),
+    /// No gate may go next, but some are claimed.
+    Later,
+    /// Nothing is left to do, or the store was stopped.
+    Nothing,
+}
+
+/// Whom a hand-in wakes.
+enum Call {
+    /// A gate may go next, so one thread that sleeps.
+    One,
+    /// No gate is claimed, so all threads that sleep are to end.
+    All,
+    /// Nobody.
+    Nobody,
+}
+
+/// Pauses for less than a critical section takes.
+fn pause() {
+    for _i in 0..PAUSE {
+        spin_loop();
+    }
+}
+
 impl<L: Ledger, A: Allocator> Desk<L, A> {
-    /// Claims into the batch, unless the store was stopped. Where a thread waits it claims one gate alone, and leaves the
-    /// others to that thread.
-    fn claim_some(&mut self, batch: &mut Batch)
+    /// Looks for a task.
+    fn look(&mut self) -> Finding {
+        if self.stopped {
+            return Finding::Nothing;
+        }
+        match self.store.claim() {
+            Some(task) => Finding::Task(task),
+            None if self.store.has_claimed() => Finding::Later,
+            None => Finding::Nothing,
+        }
+    }
+
+    /// Claims into the batches, one after another, into the first where so many gates may go next and into the others
+    /// where they are plenty.
+    fn claim_each(&mut self, batches: &mut [Batch], reserve: u32)
+        ensures { ClaimsMoreEach batches.old batches.new }
+    {
+        if let Some((first, others)) = batches.split_first_mut() {
+            self.claim_some(first, reserve);
+            self.claim_each(others, PLENTY);
+        }
+    }
+
+    /// Claims into the batch, unless the store was stopped or fewer gates may go next than the reserve. Threads that sleep
+    /// are left as many gates each as it claims.
+    fn claim_some(&mut self, batch: &mut Batch, reserve: u32)
         ensures { ClaimsMore batch.old batch.new }
     {
-        if self.stopped {
+        if self.stopped || self.store.ready() < reserve {
             return;
         }
-        if self.waiting == 0 {
+        if self.sleeping == 0 {
             self.store.claim_some(batch);
-        } else if !batch.is_full() {
-            if let Some(task) = self.store.claim() {
-                batch.push(task);
+            return;
+        }
+        let share = self.store.ready() / self.sleeping.saturating_add(1);
+        for _i in 0..share.max(1) {
+            if batch.is_full() {
+                return;
             }
+            let Some(task) = self.store.claim() else {
+                return;
+            };
+            batch.push(task);
         }
     }
 
@@ -59,9 +129,20 @@ impl<L: Ledger, A: Allocator> Desk<L, A> {
         Ok(())
     }
 
-    /// Whether a thread waits that has something to do: a gate may go next, or, since none is claimed, it is to end.
-    fn has_news(&self) -> bool {
-        self.waiting > 0 && (self.store.has_ready() || !self.store.has_claimed())
+    /// Whom to wake, and counts them as awake.
+    fn call(&mut self) -> Call {
+        if self.sleeping == 0 {
+            return Call::Nobody;
+        }
+        if self.store.ready() > 0 {
+            self.sleeping -= 1;
+            return Call::One;
+        }
+        if self.store.has_claimed() {
+            return Call::Nobody;
+        }
+        self.sleeping = 0;
+        Call::All
     }
 }
 
@@ -69,30 +150,60 @@ impl<L: Ledger, A: Allocator> SharedStore<L, A> {
     /// Shares a store.
     pub fn new(store: Store<L, A>) -> SharedStore<L, A> {
         SharedStore {
-            desk: Mutex::new(Desk {
+            desk: Mutex::new(CachePadded::new(Desk {
                 store,
                 stopped: false,
-                waiting: 0,
-            }),
+                sleeping: 0,
+            })),
             moved: Condvar::new(),
+        }
+    }
+
+    /// Takes the lock: it tries for a while before it sleeps.
+    fn enter<R: Wait>(&self, rt: &R) -> MutexGuard<'_, CachePadded<Desk<L, A>>> {
+        for _i in 0..TRIES {
+            if let Some(desk) = self.desk.try_lock() {
+                return desk;
+            }
+            pause();
+        }
+        self.desk.lock(rt)
+    }
+
+    /// Wakes threads that sleep for want of a task.
+    fn wake(&self, call: Call) {
+        match call {
+            Call::One => self.moved.notify_one(),
+            Call::All => self.moved.notify_all(),
+            Call::Nobody => {}
         }
     }
 
     /// Claims a gate that may go next, and answers its task. It waits while no gate may go next and some gate is
     /// claimed. None says that nothing is left to do, or that the store was stopped.
     pub fn take(&self, rt: &impl Wait) -> Option<Task> {
-        let mut desk = self.desk.lock(rt);
+        for _i in 0..TRIES {
+            match self.enter(rt).look() {
+                Finding::Task(task) => return Some(task),
+                Finding::Nothing => return None,
+                Finding::Later => pause(),
+            }
+        }
+        self.take_or_sleep(rt)
+    }
+
+    /// The same, and it sleeps while it waits.
+    fn take_or_sleep<R: Wait>(&self, rt: &R) -> Option<Task> {
+        let mut desk = self.enter(rt);
         for _ in rt.forever() {
-            if desk.stopped {
-                return None;
+            match desk.look() {
+                Finding::Task(task) => return Some(task),
+                Finding::Nothing => return None,
+                Finding::Later => {}
             }
-            let task = desk.store.claim();
-            if task.is_some() || !desk.store.has_claimed() {
-                return task;
-            }
-            desk.waiting = desk.waiting.saturating_add(1);
+            // The thread that wakes it takes it from the count.
+            desk.sleeping = desk.sleeping.saturating_add(1);
             desk = self.moved.wait(rt, desk);
-            desk.waiting = desk.waiting.saturating_sub(1);
         }
         unreachable!()
     }
@@ -110,18 +221,19 @@ impl<L: Ledger, A: Allocator> SharedStore<L, A> {
     ) -> Result<bool, Refused>
         ensures { HandsIn sealed tally.old batch.old result tally.new batch.new }
     {
-        let mut desk = self.desk.lock(rt);
-        let desk = &mut *desk;
+        let mut guard = self.enter(rt);
+        let desk = &mut **guard;
         let complete = desk.store.finish(sealed, tally)?;
-        desk.claim_some(batch);
-        if desk.has_news() {
-            self.moved.notify_all();
-        }
+        desk.claim_some(batch, 0);
+        let call = desk.call();
+        drop(guard);
+        self.wake(call);
         Ok(complete)
     }
 
     /// Takes sealed tasks back one after another, each as [`SharedStore::hand_in`] does, and then claims gates into the
-    /// batch; all in one critical section. The answer is whether the store is now complete.
+    /// batches; all in one critical section. Into batches after the first it claims only where many gates may go next. The
+    /// answer is whether the store is now complete.
     ///
     /// It ends at the first that is refused, and then claims nothing. Those before it are finished and counted, and those
     /// after it are not.
@@ -130,26 +242,30 @@ impl<L: Ledger, A: Allocator> SharedStore<L, A> {
         rt: &impl Wait,
         sealed: &[Sealed],
         tally: &mut Tally<L>,
-        batch: &mut Batch,
+        batches: &mut [Batch],
     ) -> Result<bool, Refused>
-        ensures { HandsInAll sealed.now tally.old batch.old result tally.new batch.new }
+        ensures { HandsInAll sealed.now tally.old batches.old result tally.new batches.new }
     {
-        let mut desk = self.desk.lock(rt);
-        let desk = &mut *desk;
+        let mut guard = self.enter(rt);
+        let desk = &mut **guard;
         let finished = desk.finish_all(sealed, tally);
         if finished.is_ok() {
-            desk.claim_some(batch);
+            desk.claim_each(batches, 0);
         }
-        if desk.has_news() {
-            self.moved.notify_all();
-        }
+        let complete = desk.store.is_complete();
+        let call = desk.call();
+        drop(guard);
+        self.wake(call);
         finished?;
-        Ok(desk.store.is_complete())
+        Ok(complete)
     }
 
     /// Ends the work: from now on no task is given out, and what is sealed is still taken back.
     pub fn stop(&self, rt: &impl Wait) {
-        self.desk.lock(rt).stopped = true;
+        let mut desk = self.enter(rt);
+        desk.stopped = true;
+        desk.sleeping = 0;
+        drop(desk);
         self.moved.notify_all();
     }
 
@@ -159,8 +275,8 @@ impl<L: Ledger, A: Allocator> SharedStore<L, A> {
         let Desk {
             store,
             stopped: _,
-            waiting: _,
-        } = desk.into_inner();
+            sleeping: _,
+        } = desk.into_inner().into_inner();
         store
     }
 }

@@ -137,9 +137,9 @@ impl<L: Ledger, A: Allocator> Store<L, A> {
         self.progress.reopen()
     }
 
-    /// Whether a gate may go next.
-    pub(crate) fn has_ready(&self) -> bool {
-        self.progress.has_ready()
+    /// How many gates may go next.
+    pub(crate) fn ready(&self) -> u32 {
+        self.progress.ready()
     }
 
     /// Whether a gate is claimed.

@@ -1,6 +1,6 @@
 //! Tallies: how many gates were finished by whom, and the ledger that ties them to their store.
 
-ghost use Rattle.std.specs.Prelude.{◌≡◌, ◌+◌, ◌<◌, ◌≤◌, ◌^◌, length, sum};
+ghost use Rattle.std.specs.Prelude.{◌≡◌, ◌+◌, ◌<◌, ◌≤◌, ◌^◌, codes, length, sum};
 
 use std::error::Error;
 use std::fmt;
@@ -67,6 +67,13 @@ impl TallyMissing {
         ensures { result ≡ 27 }
     {
         27
+    }
+
+    /// Its name.
+    pub fn name(&self) -> &'static str
+        ensures { result.now ≡ codes "TallyMissing" }
+    {
+        "TallyMissing"
     }
 }
 

@@ -30,9 +30,12 @@ pub const MAX_WORKERS: u32 = 64;
 /// The room of a worker's pool, in tasks.
 const POOL_CAPACITY: u32 = 1024;
 
+/// Several workers garble a circuit where about one of so many gates is AND, or more.
+const GATES_FOR_AND: u32 = 3;
+
 /// The garbling of a circuit under a seed, made by so many workers. The calling thread is worker 0; a thread is started
-/// for each other worker, and where one can't be started the calling thread does its work too. `house` is told of each
-/// gate before it is sealed.
+/// for each other worker, and where one can't be started the calling thread does its work too. Where few gates are
+/// AND, worker 0 garbles alone, which is faster. `house` is told of each gate before it is sealed.
 ///
 /// It refuses 0 workers and more than [`MAX_WORKERS`]. Memory is the other fault.
 pub fn garble<
@@ -54,7 +57,7 @@ pub fn garble<
     if workers == 0 || workers > MAX_WORKERS {
         return Err(WorkFault::BadWorkers);
     }
-    if workers == 1 {
+    if workers == 1 || is_mostly_free(circuit) {
         return Ok(garble_alone(alloc, circuit, seed, house)?);
     }
     let ledger = Blank::new(u64::from(MAX_TALLIES));
@@ -62,6 +65,11 @@ pub fn garble<
         rt, alloc, ledger, circuit, seed, workers, house,
     )?;
     Ok(garbling)
+}
+
+/// Whether so few gates are AND that one thread seals the gates in less time than workers hand them to each other.
+fn is_mostly_free<C: Allocator>(circuit: &Circuit<C>) -> bool {
+    circuit.and_count() < circuit.gates() / GATES_FOR_AND
 }
 
 /// The same, by several workers over a store that begins the ledger.

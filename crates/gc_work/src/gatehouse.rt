@@ -1,8 +1,8 @@
-//! Who is told of each gate before it is sealed.
+//! Who is told of each gate before a worker goes about it.
 
-/// Is told of each gate before it is sealed.
+/// Is told of each gate before it is sealed, in garbling, and ahead of each step at it, in evaluating.
 pub trait Gatehouse {
-    /// Worker `worker`, counted from 0, is about to seal gate `gate` of the file. It holds no lock.
+    /// Worker `worker`, counted from 0, is about to seal gate `gate` of the file, or to step at it. It holds no lock.
     fn before(&self, worker: u32, gate: u32);
 }
 

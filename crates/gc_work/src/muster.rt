@@ -8,9 +8,9 @@ ghost use Rattle.gc_work.specs.Seats.{AreHeld};
 
 use crate::pool::{Owner, TaskPool, Thief};
 use crate::raid::Raid;
-use crate::worker::Member;
+use crate::worker::{MAX_SEALED, Member};
 use gc_circuit::Memory;
-use gc_store::{BATCH_SIZE, Store};
+use gc_store::Store;
 use std::alloc::Allocator;
 use std::sync::ledger::Ledger;
 
@@ -111,7 +111,7 @@ pub(crate) fn muster<L: Ledger, A: Allocator + Copy>(
         let Some(tally) = store.tally() else {
             break;
         };
-        let sealed = Vec::with_capacity(alloc, BATCH_SIZE)?;
+        let sealed = Vec::with_capacity(alloc, MAX_SEALED)?;
         members.push(Member {
             place,
             number,

@@ -1,6 +1,6 @@
 //! Pools of tasks: one owner fills a pool and takes from its back, and thieves take from its front.
 
-ghost use Rattle.std.specs.Prelude.{◌≡◌, ◌+◌, ◌<◌, ◌≤◌, [], ◌∷◌, ◌++◌, length, List, IfOk, IfErr, MatchResult, MatchOption};
+ghost use Rattle.std.specs.Prelude.{◌≡◌, ◌+◌, ◌<◌, ◌≤◌, [], ◌∷◌, ◌++◌, codes, length, List, IfOk, IfErr, MatchResult, MatchOption};
 ghost use Rattle.gc_store.specs.declared.task.Task.{Task};
 ghost use Rattle.gc_work.specs.Pool.{stolen_by, AllOf, IsConserved};
 
@@ -111,6 +111,13 @@ impl NoRoom {
         ensures { result ≡ 24 }
     {
         24
+    }
+
+    /// Its name.
+    pub fn name(&self) -> &'static str
+        ensures { result.now ≡ codes "NoRoom" }
+    {
+        "NoRoom"
     }
 }
 

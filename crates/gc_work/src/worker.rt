@@ -23,13 +23,24 @@ pub(crate) struct Member<L: Ledger, A: Allocator> {
     pub sealed: Vec<Sealed, A>,
 }
 
-/// Pushes the tasks of a batch but one. A task that the pool has no room for comes back.
-fn share<A: Allocator>(pool: &TaskPool<A>, owner: &mut Owner<A>, batch: &mut Batch) -> Option<Task>
+/// The most batches that a worker claims into at once, where gates are plenty.
+const BATCHES: usize = 4;
+
+/// The most tasks that a worker seals before it hands them in.
+pub(crate) const MAX_SEALED: usize = BATCHES * BATCH_SIZE;
+
+/// Pushes the tasks of a batch, but so many. A task that the pool has no room for comes back.
+fn share_batch<A: Allocator>(
+    pool: &TaskPool<A>,
+    owner: &mut Owner<A>,
+    batch: &mut Batch,
+    keep: usize,
+) -> Option<Task>
     requires { owner.old.pool ≡ pool.now }
     ensures { owner.new.pool ≡ owner.old.pool }
 {
     for _i in 0..BATCH_SIZE {
-        if batch.len() < 2 {
+        if batch.len() <= keep {
             return None;
         }
         let task = batch.pop()?;
@@ -40,21 +51,50 @@ fn share<A: Allocator>(pool: &TaskPool<A>, owner: &mut Owner<A>, batch: &mut Bat
     None
 }
 
-/// The next task: of the batch, of the worker's own pool, of another's, or of the store. It may wait there.
+/// Pushes the tasks of the batches but one. A task that the pool has no room for comes back, and ends this.
+fn share<A: Allocator>(
+    pool: &TaskPool<A>,
+    owner: &mut Owner<A>,
+    batches: &mut [Batch],
+) -> Option<Task>
+    requires { owner.old.pool ≡ pool.now }
+    ensures { owner.new.pool ≡ owner.old.pool }
+{
+    for k in 0..batches.len() {
+        let task = share_batch(pool, owner, &mut batches[k], usize::from(k == 0));
+        if task.is_some() {
+            return task;
+        }
+    }
+    None
+}
+
+/// A task of the batches.
+fn pop_any(batches: &mut [Batch]) -> Option<Task> {
+    for k in 0..batches.len() {
+        let task = batches[k].pop();
+        if task.is_some() {
+            return task;
+        }
+    }
+    None
+}
+
+/// The next task: of the batches, of the worker's own pool, of another's, or of the store. It may wait there.
 fn next_task<L: Ledger, A: Allocator, R: Wait>(
     rt: &R,
     shared: &SharedStore<L, A>,
     pool: &TaskPool<A>,
     pools: &[TaskPool<A>],
     member: &mut Member<L, A>,
-    batch: &mut Batch,
+    batches: &mut [Batch],
 ) -> Option<Task>
     requires ready { IsReady pools.now member.old }
     requires own { member.old.owner.pool ≡ pool.now }
     ensures ready { IsReady pools.now member.new }
     ensures own { member.new.owner.pool ≡ member.old.owner.pool }
 {
-    if let Some(task) = batch.pop() {
+    if let Some(task) = pop_any(batches) {
         return Some(task);
     }
     if let Some(task) = pool.pop(&mut member.owner) {
@@ -66,7 +106,7 @@ fn next_task<L: Ledger, A: Allocator, R: Wait>(
     shared.take(rt)
 }
 
-/// Seals a task, and then those of the worker's own pool, up to as many as a batch holds. The answer is whether there
+/// Seals a task, and then those of the worker's own pool, up to [`MAX_SEALED`]. The answer is whether there
 /// was room for them.
 fn seal_some<L: Ledger, A: Allocator, H: Gatehouse>(
     pool: &TaskPool<A>,
@@ -81,7 +121,7 @@ fn seal_some<L: Ledger, A: Allocator, H: Gatehouse>(
 {
     member.sealed.clear();
     let mut next = Some(task);
-    for _i in 0..BATCH_SIZE {
+    for _i in 0..MAX_SEALED {
         let Some(task) = next else {
             return true;
         };
@@ -108,23 +148,28 @@ pub(crate) fn work<L: Ledger, A: Allocator, H: Gatehouse, R: Wait>(
     let Some(pool) = pools.get(member.place) else {
         return;
     };
-    let mut batch = Batch::new();
+    let mut batches: [Batch; BATCHES] = [Batch::new(), Batch::new(), Batch::new(), Batch::new()];
     let mut kept: Option<Task> = None;
     for _ in rt.forever() {
         if kept.is_none() {
-            kept = next_task(rt, shared, pool, pools, member, &mut batch);
+            kept = next_task(rt, shared, pool, pools, member, &mut batches);
         }
         let Some(task) = kept else {
             return;
         };
         if !seal_some(pool, member, house, task)
             || shared
-                .hand_in_all(rt, member.sealed.as_slice(), &mut member.tally, &mut batch)
+                .hand_in_all(
+                    rt,
+                    member.sealed.as_slice(),
+                    &mut member.tally,
+                    &mut batches,
+                )
                 .is_err()
         {
             shared.stop(rt);
             return;
         }
-        kept = share(pool, &mut member.owner, &mut batch);
+        kept = share(pool, &mut member.owner, &mut batches);
     }
 }
