@@ -1,0 +1,5 @@
+pub mod Pairs
+pub mod Board
+pub mod Steps
+pub mod Places
+pub mod Laws

@@ -1,0 +1,50 @@
+//! Opening the table of two banks with their boards, and what its seats made when all are joined in one.
+
+ghost use Rattle.std.specs.Prelude.{◌≡◌, ℕ, ◌+◌, ◌*◌, ◌<◌, ◌≤◌, [], IfOk};
+ghost use Rattle.gc_rounds.specs.Steps.{starting};
+ghost use Rattle.gc_rounds.specs.Places.{IsSamePlace};
+ghost use Rattle.gc_round_board.specs.Board.{IsOnce, first_view};
+ghost use Rattle.gc_round_board.specs.Places.{IsBoardPlace};
+
+use crate::kinds::Settle;
+use crate::steps::{Place, Words};
+use crate::view::{BoardView, Work};
+use gc_board::OpenFault;
+use gc_rounds::{Key, open_table};
+use std::alloc::{Allocator, Global};
+
+/// The words with their memory.
+pub type WordTable<J, A> = gc_rounds::WordTable<J, BoardView<J>, A>;
+
+/// The table, as one value.
+#[derive(Drop)]
+pub struct BoardTable<J: Work, A: Allocator = Global> {
+    pub table: WordTable<J, A>,
+}
+
+/// A table with the words of so many gates in each bank, none of them made, and a place that stands for all seats. It
+/// takes memory for the words twice over, and gives half of it back: 46 or 49 where it gets none.
+pub fn open_board<J: Work, A: Allocator + Copy>(
+    alloc: A,
+    key: &Key<J>,
+    gates: u32,
+) -> Result<(WordTable<J, A>, Place<J>), OpenFault>
+    requires gates { gates ≡ J.gates key.now.about }
+    requires seats { (0 < key.now.seats) × (key.now.seats ≤ 64) }
+    ensures { IfOk result (λ t. (t.0.shared.key ≡ key.now)
+        × IsBoardPlace J.gates t.0.shared.table_id key.now t.1
+        × (t.1.me ≡ (starting key.now.jobs key.now.seats (first_view key.now.about), []))) }
+{
+    open_table(alloc, key, 6 * gates as usize)
+}
+
+/// Tells a place that stands for all seats, by one load, that each gate was made at most once in each round.
+pub fn settle<J: Work>(words: &Words<J>, place: &mut Place<J>)
+    requires place { IsBoardPlace J.gates words.now.table_id words.now.key place.old }
+    requires all { place.old.me.0.seats ≡ place.old.me.0.all }
+    ensures same { IsSamePlace place.old place.new }
+    ensures made { place.new.me.0.inner.made ≡ place.old.me.0.inner.made }
+    ensures once { IsOnce place.old.me.0.inner.made }
+{
+    words.load::<Settle>(place, 0);
+}

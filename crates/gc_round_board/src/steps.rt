@@ -1,0 +1,129 @@
+//! The six kinds of atomic step on the words of a gate, by a seat that is inside a round. A load of a half is one kind,
+//! with a call for each half.
+
+ghost use Rattle.std.specs.Prelude.{◌≡◌, ℕ, ◌+◌, ◌*◌, ◌<◌, ◌≤◌, ◌⊎◌};
+ghost use Rattle.gc_rounds.specs.Places.{IsSamePlace};
+ghost use Rattle.gc_round_board.specs.declared.view.Hand.TheVariants.{Empty, Has};
+ghost use Rattle.gc_round_board.specs.Pairs.{pairs, looked};
+ghost use Rattle.gc_round_board.specs.Board.{at, stamp};
+ghost use Rattle.gc_round_board.specs.Steps.{Tells, after_state, after_half, after_claim, after_stored, after_done};
+ghost use Rattle.gc_round_board.specs.Places.{IsPlaceAt};
+
+use crate::kinds::{Claim, LoadHigh, LoadLow, LoadState, StoreDone, StoreHalf};
+use crate::view::{BoardView, Work};
+
+/// The words of the banks, as many threads share them.
+pub type Words<J> = gc_rounds::Words<J, BoardView<J>>;
+
+/// A seat at the words, with its view. It has no bytes.
+pub type Place<J> = gc_rounds::Place<BoardView<J>>;
+
+/// The place of the state word of a gate in a round; its halves follow it.
+#[inline]
+fn index(round: u32, gate: u32) -> usize
+    ensures { result ≡ at round gate }
+{
+    2 + 6 * gate as usize + 3 * (round % 2) as usize
+}
+
+/// The state word of this state in a round.
+#[inline]
+fn word(round: u32, state: u64) -> u64
+    requires { state < 4294967296 }
+    ensures { result ≡ stamp round state }
+{
+    0x1_0000_0000 * round as u64 + state
+}
+
+/// Loads the state word of a gate.
+#[inline]
+pub fn load_state<J: Work>(words: &Words<J>, place: &mut Place<J>, round: u32, gate: u32) -> u64
+    requires { IsPlaceAt J.gates words.now.table_id words.now.key place.old round gate }
+    ensures same { IsSamePlace place.old place.new }
+    ensures view { place.new.me.0 ≡ after_state place.old.me.0 round gate result }
+    ensures tells { Tells place.old.me.0 round gate result }
+{
+    words.load::<LoadState>(place, index(round, gate))
+}
+
+/// Loads the low half of a gate that is known in the round.
+#[inline]
+pub fn load_low<J: Work>(words: &Words<J>, place: &mut Place<J>, round: u32, gate: u32) -> u64
+    requires place { IsPlaceAt J.gates words.now.table_id words.now.key place.old round gate }
+    requires known { 0 < pairs round gate place.old.me.0.inner.known }
+    ensures same { IsSamePlace place.old place.new }
+    ensures view { place.new.me.0 ≡ after_half place.old.me.0 (at round gate + 1) result }
+    ensures found { J.right words.now.key.about round gate 0 result }
+{
+    words.load::<LoadLow>(place, index(round, gate) + 1)
+}
+
+/// Loads the high half of a gate that is known in the round.
+#[inline]
+pub fn load_high<J: Work>(words: &Words<J>, place: &mut Place<J>, round: u32, gate: u32) -> u64
+    requires place { IsPlaceAt J.gates words.now.table_id words.now.key place.old round gate }
+    requires known { 0 < pairs round gate place.old.me.0.inner.known }
+    ensures same { IsSamePlace place.old place.new }
+    ensures view { place.new.me.0 ≡ after_half place.old.me.0 (at round gate + 2) result }
+    ensures found { J.right words.now.key.about round gate 1 result }
+{
+    words.load::<LoadHigh>(place, index(round, gate) + 2)
+}
+
+/// Exchanges the state word of a gate from the free word that a load found to state 1 of the round, and answers the word
+/// that it found. Where that is the free word, the gate is in hand.
+#[inline]
+pub fn claim<J: Work>(
+    words: &Words<J>,
+    place: &mut Place<J>,
+    round: u32,
+    gate: u32,
+    old: u64,
+) -> u64
+    requires place { IsPlaceAt J.gates words.now.table_id words.now.key place.old round gate }
+    requires empty { place.old.me.0.inner.hand ≡ Empty }
+    requires seated { 0 < place.old.me.0.seats }
+    requires looked { 0 < looked round gate old place.old.me.0.inner.looks }
+    requires free { old ≤ stamp round 0 }
+    ensures same { IsSamePlace place.old place.new }
+    ensures view { place.new.me.0 ≡ after_claim place.old.me.0 round gate old result }
+    ensures tells { Tells place.old.me.0 round gate result }
+    ensures found { (result ≡ old) ⊎ (stamp round 0 < result) }
+{
+    words.compare_exchange::<Claim>(place, index(round, gate), old, word(round, 1))
+}
+
+/// Stores the low half of the gate in hand.
+#[inline]
+pub fn store_low<J: Work>(words: &Words<J>, place: &mut Place<J>, round: u32, gate: u32, low: u64)
+    requires place { IsPlaceAt J.gates words.now.table_id words.now.key place.old round gate }
+    requires has { place.old.me.0.inner.hand ≡ Has round gate 0 }
+    requires right { J.right words.now.key.about round gate 0 low }
+    ensures same { IsSamePlace place.old place.new }
+    ensures view { place.new.me.0 ≡ after_stored place.old.me.0 round gate 1 (at round gate + 1) low }
+{
+    words.store::<StoreHalf>(place, index(round, gate) + 1, low);
+}
+
+/// Stores the high half of the gate in hand, after the low half.
+#[inline]
+pub fn store_high<J: Work>(words: &Words<J>, place: &mut Place<J>, round: u32, gate: u32, high: u64)
+    requires place { IsPlaceAt J.gates words.now.table_id words.now.key place.old round gate }
+    requires has { place.old.me.0.inner.hand ≡ Has round gate 1 }
+    requires right { J.right words.now.key.about round gate 1 high }
+    ensures same { IsSamePlace place.old place.new }
+    ensures view { place.new.me.0 ≡ after_stored place.old.me.0 round gate 2 (at round gate + 2) high }
+{
+    words.store::<StoreHalf>(place, index(round, gate) + 2, high);
+}
+
+/// Stores state 2 of the round for the gate in hand, after both halves: the gate is made.
+#[inline]
+pub fn store_done<J: Work>(words: &Words<J>, place: &mut Place<J>, round: u32, gate: u32)
+    requires place { IsPlaceAt J.gates words.now.table_id words.now.key place.old round gate }
+    requires has { place.old.me.0.inner.hand ≡ Has round gate 2 }
+    ensures same { IsSamePlace place.old place.new }
+    ensures view { place.new.me.0 ≡ after_done place.old.me.0 round gate }
+{
+    words.store::<StoreDone>(place, index(round, gate), word(round, 2));
+}

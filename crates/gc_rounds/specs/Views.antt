@@ -1,0 +1,38 @@
+-- What stands in a view: where its seat is, and the record of its steps.
+use Rattle.std.specs.Prelude.{ℕ, ◌-◌, ◌%◌, List, if◌then◌else◌}
+use Rattle.gc_board.specs.Counts.{total, only}
+use Rattle.gc_rounds.specs.Words.{bank_of}
+use Rattle.gc_rounds.specs.declared.view.Stand.{Stand}
+use Rattle.gc_rounds.specs.declared.view.Stand.TheVariants.{Outside, Inside, Passing}
+use Rattle.gc_rounds.specs.declared.view.Step.{Step}
+use Rattle.gc_rounds.specs.declared.view.Step.TheVariants.{Load, Store, Claim, Enter, Leave, Seal, Reopen}
+
+-- 1 where the seat is counted in at bank b, and else 0
+abbrev pub counted : ℕ → Stand → ℕ
+counted b Outside = 0
+counted b (Inside r) = only b (bank_of r)
+counted b (Passing c) = only b c
+
+-- 1 where the step is a won exchange of the word of bank b, which gave the bank to its next round, and else 0
+abbrev pub gives : ℕ → Step → ℕ
+gives b (Load word found) = 0
+gives b (Store word stored) = 0
+gives b (Claim word found) = 0
+gives b (Enter word found) = 0
+gives b (Leave word found) = 0
+gives b (Seal word found) = 0
+gives b (Reopen word found won) = if won then only b word else 0
+
+-- 1 where the step is such an exchange that didn't find its bank sealed with nobody counted in, and else 0
+abbrev pub unfair : Step → ℕ
+unfair (Load word found) = 0
+unfair (Store word stored) = 0
+unfair (Claim word found) = 0
+unfair (Enter word found) = 0
+unfair (Leave word found) = 0
+unfair (Seal word found) = 0
+unfair (Reopen word found won) = if won then 1 - only 65536 (found % 4294967296) else 0
+
+-- how many steps of a record gave bank b to its next round
+abbrev pub given : ℕ → List Step → ℕ
+given b steps = total (gives b) steps
