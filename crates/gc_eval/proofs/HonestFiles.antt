@@ -1,5 +1,5 @@
 -- Honest files are bound to an honest job.
-use Rattle.std.proofs.Common.{◌≡◌, ℕ, zero, suc, ◌+◌, ◌<◌, Bool, List, [], ◌∷◌, ◌++◌, length, map, sum, take, drop, flat_map, slice_get, option_map, Some, Result, MatchResult, refl, sym, ap, ap₂, subst, ◌∙◌, arith}
+use Rattle.std.proofs.Common.{◌≡◌, ℕ, suc, ◌+◌, Bool, List, [], ◌∷◌, ◌++◌, length, map, sum, take, drop, flat_map, slice_get, option_map, Some, Result, MatchResult, refl, sym, ap, ap₂, subst, ◌∙◌, arith}
 use Rattle.std.proofs.lemmas.List.{length-drop, length-map, take-append-drop, drop-drop}
 use Rattle.std.proofs.lemmas.Option.{slice_get-map, slice_get_within, same_Some}
 use Rattle.std.proofs.lemmas.List.Sums.{sum-map}
@@ -9,7 +9,7 @@ use Rattle.gc_circuit.specs.Meaning.{AreOutputs}
 use Rattle.gc_label.specs.Seed.{offset_of}
 use Rattle.gc_half.specs.Garbling.{GarblingParts, decode_bits_of, IsGarbled}
 use Rattle.gc_file.specs.GarbledFile.{GarbledParts}
-use Rattle.gc_file.specs.LabelFile.{LabelFileParts, encoded_from, label_parts_of}
+use Rattle.gc_file.specs.LabelFile.{LabelFileParts, encoded_from}
 use Rattle.gc_file.specs.Honest.{version_entries}
 use Rattle.gc_file.proofs.ByteLemmas.{length-decode_bits}
 use Rattle.gc_file.proofs.DealLemmas.{encoded_from-append, length-encoded_from}
@@ -18,8 +18,8 @@ use Rattle.gc_eval.specs.declared.fault.EvalFault.{EvalFault}
 use Rattle.gc_eval.specs.declared.fault.EvalFault.TheVariants.{Memory}
 use Rattle.gc_eval.specs.Job.{JobParts}
 use Rattle.gc_eval.specs.Evaluate.{IsEvaluated}
-use Rattle.gc_eval.specs.Binding.{HasCounts, HasFile, IsInOrder, LabelsFault, no_such_value, wrong_width, double_value, FirstLabelsFault, of_file, missing_value, FirstBindFault, other_circuit, other_counts, of_labels, AreBound, IsBound}
-use Rattle.gc_eval.specs.Honest.{IsHonest, IsHonestLabels, AreHonestFiles, HonestFilesLaw}
+use Rattle.gc_eval.specs.Binding.{HasCounts, LabelsFault, no_such_value, wrong_width, double_value, FirstLabelsFault, of_file, missing_value, FirstBindFault, other_circuit, other_counts, of_labels, IsBound}
+use Rattle.gc_eval.specs.Honest.{IsHonest, AreHonestFiles, HonestFilesLaw}
 use Rattle.gc_eval.proofs.TakeLemmas.{slice_get_taken}
 use Rattle.gc_eval.proofs.HonestLemmas.{honest-evaluates}
 use Rattle.gc_eval.proofs.JoinLemmas.{sum-cons}

@@ -27,7 +27,7 @@ use Rattle.gc_file.specs.declared.garbled.Version.TheVariants.{Two}
 use Rattle.gc_file.specs.LabelFile.{encoded_from}
 use Rattle.gc_file.specs.Written.{entry_pair_of, entry_pairs_of}
 use Rattle.gc_eval.specs.declared.fault.EvalFault.{EvalFault}
-use Rattle.gc_eval.specs.declared.fault.EvalFault.TheVariants.{UnknownOutputLabel, Memory}
+use Rattle.gc_eval.specs.declared.fault.EvalFault.TheVariants.{BadWorkers, UnknownOutputLabel, Memory}
 use Rattle.gc_eval.specs.Job.{JobParts, IsWhole}
 use Rattle.gc_eval.specs.Evaluate.{labels_of, entry, IsRecognised, IsEvaluated}
 use Rattle.gc_file.specs.Honest.{version_entries}
@@ -166,6 +166,7 @@ module _ (job : JobParts) (whole : IsWhole job) (seed : List ℕ) (bits : List B
       MatchResult result (AreOutputs job.circuit bits) (λ fault. fault ≡ Memory)
   honest-evaluates (Ok outputs) is = honest-outputs is.active is.evaluation outputs is.decoding.0
   honest-evaluates (Err Memory) is = refl
+  honest-evaluates (Err BadWorkers) is = absurd is.decoding
   honest-evaluates (Err (UnknownOutputLabel output)) is =
       let unknown = is.decoding.1 in
       absurd (unknown.unknown (honest-known is.active is.evaluation is.decoding.0 output unknown.label unknown.at))

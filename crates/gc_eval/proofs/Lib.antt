@@ -11,3 +11,4 @@ pub mod BoardLabels
 pub mod RunLemmas
 pub mod GatherLemmas
 pub mod ClosedLemmas
+pub mod TableLemmas

@@ -25,6 +25,15 @@ one_wire c g v w a b = sym a.wire ∙ ap (λ (x : Gate). x.set) (same_gate c g a
 pub set_within : (c : Netlist) (w g : ℕ) → IsSetBy c w g → g < length c.gates
 set_within c w g set = slice_get_within c.gates g set.gate set.at
 
+-- One gate more that doesn't set a wire.
+pub not_set_below_more : (c : Netlist) (w i : ℕ) (g : Gate) → slice_get c.gates i ≡ Some g → g.set ≢ w
+    → ((h : ℕ) → h < i → IsSetBy c w h → ⊥) → (h : ℕ) → h < i + 1 → IsSetBy c w h → ⊥
+not_set_below_more c w i g at other none h below by =
+    dite (ℕ_discrete h i)
+    (λ same. other (ap (λ (x : Gate). x.set)
+    (same_gate c i g by.gate at (ap (slice_get c.gates) (sym same) ∙ by.at)) ∙ by.wire))
+    (λ apart. none h (omega (arith, apart)) by)
+
 set_once_before : (c : Netlist) (w g h : ℕ) → IsLawful c → IsSetBy c w g → IsSetBy c w h → g < h → ⊥
 set_once_before c w g h lawful a b lt =
     lawful.sets_once h b.gate b.at (subst (IsSetBefore c h) (sym b.wire) (inr (g, lt, a)))

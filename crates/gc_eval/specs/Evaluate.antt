@@ -1,5 +1,5 @@
 -- What evaluating a garbled circuit answers, honest rows and labels or not.
-use Rattle.std.specs.Prelude.{◌≡◌, ℕ, ◌<◌, Bool, true, false, List, length, map, slice_get, slice_index, Some, Result, Ok, Err}
+use Rattle.std.specs.Prelude.{◌≡◌, ℕ, ◌<◌, ◌⊎◌, Bool, true, false, List, length, map, slice_get, slice_index, Some, Result, Ok, Err}
 use Rattle.std.specs.List.{range_with_len}
 use Rattle.gc_circuit.specs.Circuit.{Netlist, and_count}
 use Rattle.gc_circuit.specs.Solution.{on_outputs}
@@ -10,8 +10,10 @@ use Rattle.gc_half.specs.Entry.{output_tweak}
 use Rattle.gc_half.specs.Evaluation.{IsEvaluation, decode}
 use Rattle.gc_file.specs.declared.garbled.Version.TheVariants.{Two}
 use Rattle.gc_file.specs.declared.garbled.EntryPair.{EntryPair}
+use Rattle.gc_work.specs.declared.garbling.TheConstants.{MAX_WORKERS}
+use Rattle.gc_work.specs.WorkFault.{AreFew}
 use Rattle.gc_eval.specs.declared.fault.EvalFault.{EvalFault}
-use Rattle.gc_eval.specs.declared.fault.EvalFault.TheVariants.{UnknownOutputLabel, Memory}
+use Rattle.gc_eval.specs.declared.fault.EvalFault.TheVariants.{BadWorkers, UnknownOutputLabel, Memory}
 use Rattle.gc_eval.specs.Job.{JobParts}
 
 -- the labels of a list, by place
@@ -56,7 +58,7 @@ pub record IsFirstUnknown (and_gates : ℕ) (entries : List EntryPair) (labels :
   pub before : AreRecognised and_gates entries labels output
 
 -- The active labels of a job's output wires are decoded: to bits, or to the first output whose label is unknown. In
--- version 1 any label decodes. Memory may be missing instead.
+-- version 1 any label decodes. Memory may be missing instead. No number of workers is at fault.
 abbrev pub IsDecodingOf : JobParts → List ℕ → Result (List Bool) EvalFault → Type 0
 IsDecodingOf job labels (Ok bits) =
     (bits ≡ decode job.decode_bits labels)
@@ -64,6 +66,7 @@ IsDecodingOf job labels (Ok bits) =
 IsDecodingOf job labels (Err (UnknownOutputLabel output)) =
     (job.version ≡ Two) × IsFirstUnknown (and_count job.circuit) job.entries labels output
 IsDecodingOf job labels (Err Memory) = Unit {0}
+IsDecodingOf job labels (Err BadWorkers) = ⊥
 
 -- A job is evaluated: the active labels on the output wires are decoded, in an evaluation of the job's rows on its input
 -- labels.
@@ -71,3 +74,9 @@ pub record IsEvaluated (job : JobParts) (result : Result (List Bool) EvalFault) 
   pub active : ℕ → ℕ
   pub evaluation : IsEvaluation hash job.circuit job.rows (labels_of job.inputs) active
   pub decoding : IsDecodingOf job (on_outputs job.circuit active) result
+
+-- A job is evaluated by so many workers: their number is at fault exactly where it is 0 or above the limit, and else
+-- the job is evaluated.
+abbrev pub IsEvaluatedBy : ℕ → JobParts → Result (List Bool) EvalFault → Type 0
+IsEvaluatedBy workers job (Err BadWorkers) = (workers ≡ 0) ⊎ (MAX_WORKERS < workers)
+IsEvaluatedBy workers job result = AreFew workers × IsEvaluated job result

@@ -3,7 +3,7 @@ use Rattle.std.specs.Prelude.{ℕ, List, codes}
 use Rattle.gc_eval.specs.declared.fault.BindFault.{BindFault}
 use Rattle.gc_eval.specs.declared.fault.BindFault.TheVariants.{OtherCircuit, OtherCounts, NoSuchValue, WrongWidth, DoubleValue, MissingValue, Memory}
 use Rattle.gc_eval.specs.declared.fault.EvalFault.{EvalFault}
-use Rattle.gc_eval.specs.declared.fault.EvalFault.TheVariants.{UnknownOutputLabel, Memory as EvalMemory}
+use Rattle.gc_eval.specs.declared.fault.EvalFault.TheVariants.{BadWorkers, UnknownOutputLabel, Memory as EvalMemory}
 
 abbrev pub bind_code_of : BindFault → ℕ
 bind_code_of OtherCircuit = 40
@@ -24,9 +24,11 @@ bind_name_of MissingValue = codes "MissingValue"
 bind_name_of Memory = codes "Memory"
 
 abbrev pub eval_code_of : EvalFault → ℕ
+eval_code_of BadWorkers = 22
 eval_code_of (UnknownOutputLabel output) = 48
 eval_code_of EvalMemory = 46
 
 abbrev pub eval_name_of : EvalFault → List ℕ
+eval_name_of BadWorkers = codes "BadWorkers"
 eval_name_of (UnknownOutputLabel output) = codes "UnknownOutputLabel"
 eval_name_of EvalMemory = codes "Memory"

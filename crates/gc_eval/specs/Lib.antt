@@ -9,3 +9,5 @@ pub mod ActiveLabels
 pub mod Views
 pub mod Seats
 pub mod Done
+pub mod Pending
+pub mod Workers

@@ -1,6 +1,6 @@
 //! What a board that is closed tells: labels, how many gates are done, and the output bits.
 
-ghost use Rattle.std.specs.Prelude.{◌≡◌, ◌<◌, IfSome, IfNone, IfOk, IfErr, MatchOption, Ok, Err};
+ghost use Rattle.std.specs.Prelude.{◌≡◌, ◌≢◌, ◌<◌, IfSome, IfNone, IfOk, IfErr, MatchOption, Ok, Err};
 ghost use Rattle.gc_circuit.specs.Solution.{on_outputs};
 ghost use Rattle.gc_eval.specs.ActiveLabels.{active, gates_of};
 ghost use Rattle.gc_eval.specs.Evaluate.{IsEvaluated};
@@ -75,6 +75,8 @@ impl<'j, 'c, B: Allocator, A: Allocator, C: Allocator> Active<'j, 'c, B, A, C> {
         ensures ok { IfOk result (λ o. MatchOption o (LacksOutput self.now)
             (λ v. IsEvaluated self.now.job.now (Ok v.items) × HasOutputs self.now)) }
         ensures err { IfErr result (λ fault. IsEvaluated self.now.job.now (Err fault)) }
+        // Where an output wire has no label the answer is None, and never 48.
+        ensures recognised { IfErr result (λ fault. fault ≢ EvalFault.Memory → HasOutputs self.now) }
     {
         // A job is whole, which its circuit is told with.
         let _ = self.job.circuit();

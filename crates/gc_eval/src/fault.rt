@@ -92,6 +92,9 @@ impl<T: Drop> From<AllocFailed<T>> for BindFault {
 /// Why a job has no output bits. `Memory` stands in place of the answer only where a growth was refused.
 #[derive(Clone, Copy, Debug, PartialEq, Eq, Error)]
 pub enum EvalFault {
+    /// The number of workers is 0 or above [`MAX_WORKERS`](gc_work::MAX_WORKERS). Evaluation on one thread never gives it.
+    #[error("BadWorkers")]
+    BadWorkers,
     /// The garbled file doesn't recognise the active label of this output wire, counted from 0 among the output wires:
     /// the first such wire.
     #[error("UnknownOutputLabel")]
@@ -105,11 +108,12 @@ pub enum EvalFault {
 }
 
 impl EvalFault {
-    /// The number of the fault: 48, or 46 for memory.
+    /// The number of the fault: 22, 48, or 46 for memory.
     pub fn code(self) -> u32
         ensures { result ≡ eval_code_of self }
     {
         match self {
+            EvalFault::BadWorkers => 22,
             EvalFault::UnknownOutputLabel { .. } => 48,
             EvalFault::Memory => 46,
         }
@@ -120,6 +124,7 @@ impl EvalFault {
         ensures { result.now ≡ eval_name_of self }
     {
         match self {
+            EvalFault::BadWorkers => "BadWorkers",
             EvalFault::UnknownOutputLabel { .. } => "UnknownOutputLabel",
             EvalFault::Memory => "Memory",
         }
@@ -133,6 +138,28 @@ impl From<Memory> for EvalFault {
     ghost from_gives = { λ _ e. e ≡ faults.Memory };
 
     fn from(_e: Memory) -> EvalFault {
+        EvalFault::Memory
+    }
+}
+
+impl From<AllocError> for EvalFault {
+    ghost use Rattle.std.specs.Prelude.{◌≡◌};
+    ghost use Rattle.gc_eval.specs.declared.fault.EvalFault.TheVariants as faults;
+
+    ghost from_gives = { λ _ e. e ≡ faults.Memory };
+
+    fn from(_e: AllocError) -> EvalFault {
+        EvalFault::Memory
+    }
+}
+
+impl<T: Drop> From<AllocFailed<T>> for EvalFault {
+    ghost use Rattle.std.specs.Prelude.{◌≡◌};
+    ghost use Rattle.gc_eval.specs.declared.fault.EvalFault.TheVariants as faults;
+
+    ghost from_gives = { λ _ e. e ≡ faults.Memory };
+
+    fn from(_e: AllocFailed<T>) -> EvalFault {
         EvalFault::Memory
     }
 }

@@ -97,8 +97,8 @@ impl<'c, A: Allocator, C: Allocator> Job<'c, A, C> {
         &self.inputs
     }
 
-    /// The job as contracts see it.
-    pub(crate) fn facts(&self) -> Facts<A, C>
+    /// The job as contracts see it. It has no bytes.
+    pub fn facts(&self) -> Facts<A, C>
         ensures { result ≡ self.now }
     {
         Facts {

@@ -10,8 +10,9 @@ ghost use Rattle.gc_eval.specs.Honest.{IsHonest};
 use crate::decode::decoded;
 use crate::fault::EvalFault;
 use crate::job::Job;
+use crate::table::LabelTable;
 use gc_circuit::{Circuit, Memory};
-use gc_half::{RowPair, evaluate_gate, labels_read};
+use gc_half::RowPair;
 use gc_label::Label;
 use std::alloc::Allocator;
 
@@ -41,18 +42,16 @@ fn active_labels<A: Allocator + Copy, C: Allocator>(
     requires inputs { length inputs.now ≡ input_wires circuit.now }
     ensures { IfOk result (λ v. AreActive circuit.now rows.now inputs.now v.items) }
 {
-    let mut active = input_table(alloc, circuit.wires(), inputs)?;
+    let mut active = LabelTable::new(input_table(alloc, circuit.wires(), inputs)?);
     let mut and_number = 0;
     for i in 0..circuit.gates() {
         let gate = circuit.gate(i);
-        let (first, second) = labels_read(&active, gate.operation);
-        let label = evaluate_gate(and_number, rows, gate.operation, first, second);
-        active[gate.set as usize] = label;
+        active.step(and_number, rows, gate);
         if gate.operation.is_and() {
             and_number += 1;
         }
     }
-    Ok(active)
+    Ok(active.into_labels())
 }
 
 /// The labels of the output wires, the last ones, out of a label for each wire.

@@ -95,8 +95,9 @@ impl<'j, 'c, B: Allocator + Copy, A: Allocator, C: Allocator> EvalBoard<'j, 'c, 
             seats,
         };
         let room = Vec::with_capacity(alloc, seats as usize)?;
-        let wiring = Wiring::of(alloc, job.circuit())?;
+        // The table takes its words twice over, and gives half back before the wiring needs memory.
         let (table, first) = open_table(alloc, &key, job.circuit().gates())?;
+        let wiring = Wiring::of(alloc, job.circuit())?;
         let dealt = deal_all(&table.shared, first, seats, room)?;
         let board = EvalBoard {
             job,

@@ -1,10 +1,12 @@
-//! What a board reads of a job.
+//! What an evaluation of a job reads of it.
 
-ghost use Rattle.std.specs.Prelude.{◌≡◌, ◌<◌, slice_index};
-ghost use Rattle.gc_circuit.specs.Circuit.{input_wires};
+ghost use Rattle.std.specs.Prelude.{◌≡◌, ℕ, ◌<◌, IfSome, IfNone, slice_index};
+ghost use Rattle.gc_circuit.specs.Circuit.{IsSetBy, and_number, input_wires};
 ghost use Rattle.gc_eval.specs.ActiveLabels.{gates_of, active_from};
+ghost use Rattle.gc_eval.specs.Seats.{job_on};
 
 use crate::job::Job;
+use crate::seat::EvalBoard;
 use crate::wiring::Wiring;
 use gc_half::evaluate_gate;
 use gc_label::Label;
@@ -21,11 +23,36 @@ impl<'c, A: Allocator, C: Allocator> Job<'c, A, C> {
         self.inputs()[wire as usize]
     }
 
+    /// The gate that sets a wire, if one does. It takes no memory and goes through the gates; [`Wiring::setter`] reads a
+    /// table. That there is such a wire is the caller's condition.
+    pub fn setter(&self, wire: u32) -> Option<u32>
+        requires { wire < self.now.circuit.wires }
+        ensures some { IfSome result (IsSetBy self.now.circuit wire) }
+        ensures none { IfNone result ((g : ℕ) → IsSetBy self.now.circuit wire g → ⊥) }
+    {
+        let circuit = self.circuit();
+        for gate in 0..circuit.gates() {
+            if circuit.gate(gate).set == wire {
+                return Some(gate);
+            }
+        }
+        None
+    }
+
     /// The active label of the wire that a gate sets, from those of the wires that it reads first and second; one that it
-    /// doesn't read is ignored. That there is such a gate, and that the wiring is the circuit's, is the caller's
-    /// condition.
+    /// doesn't read is ignored ("Two Halves Make a Whole", the procedure Ev). It takes no memory and counts the AND gates
+    /// before the gate; [`Job::active_by`] reads a table. That there is such a gate is the caller's condition.
+    pub fn active(&self, gate: u32, first: Label, second: Label) -> Label
+        requires { gate < gates_of self.now }
+        ensures { result ≡ active_from self.now gate first second }
+    {
+        self.active_at(self.and_number(gate), gate, first, second)
+    }
+
+    /// The same, with the tables of the job's circuit. That there is such a gate, and that the wiring is the circuit's,
+    /// are the caller's conditions.
     #[inline]
-    pub(crate) fn active<B: Allocator>(
+    pub fn active_by<B: Allocator>(
         &self,
         wiring: &Wiring<'c, B, C>,
         gate: u32,
@@ -36,13 +63,41 @@ impl<'c, A: Allocator, C: Allocator> Job<'c, A, C> {
         requires wiring { wiring.now ≡ self.now.circuit }
         ensures { result ≡ active_from self.now gate first second }
     {
+        self.active_at(wiring.and_number(gate), gate, first, second)
+    }
+
+    /// The same, where this is the gate's AND number.
+    #[inline]
+    fn active_at(&self, number: u32, gate: u32, first: Label, second: Label) -> Label
+        requires gate { gate < gates_of self.now }
+        requires number { number ≡ and_number self.now.circuit gate }
+        ensures { result ≡ active_from self.now gate first second }
+    {
         let operation = self.circuit().gate(gate).operation;
-        evaluate_gate(
-            wiring.and_number(gate),
-            self.rows(),
-            operation,
-            first,
-            second,
-        )
+        evaluate_gate(number, self.rows(), operation, first, second)
+    }
+
+    /// How many AND gates stand before a gate in the file. That there is such a gate is the caller's condition.
+    fn and_number(&self, gate: u32) -> u32
+        requires { gate < gates_of self.now }
+        ensures { result ≡ and_number self.now.circuit gate }
+    {
+        let circuit = self.circuit();
+        let mut number = 0u32;
+        for i in 0..gate {
+            if circuit.gate(i).operation.is_and() {
+                number += 1;
+            }
+        }
+        number
+    }
+}
+
+impl<'j, 'c, B: Allocator, A: Allocator, C: Allocator> EvalBoard<'j, 'c, B, A, C> {
+    /// How many gates there are.
+    pub(crate) fn gates(&self) -> u32
+        ensures { result ≡ gates_of (job_on self.now) }
+    {
+        self.job.circuit().gates()
     }
 }

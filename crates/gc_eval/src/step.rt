@@ -161,7 +161,7 @@ impl<'j, 'c, B: Allocator, A: Allocator, C: Allocator> EvalBoard<'j, 'c, B, A, C
         if found == 1 {
             return Answer::Taken;
         }
-        let label = self.job.active(&self.wiring, gate, a, b);
+        let label = self.job.active_by(&self.wiring, gate, a, b);
         let (low, high) = label.halves();
         store_low(words, place, gate, low);
         store_high(words, place, gate, high);

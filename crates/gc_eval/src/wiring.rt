@@ -9,9 +9,10 @@ use gc_circuit::Circuit;
 use std::alloc::{AllocError, Allocator, Global};
 use std::marker::Model;
 
-/// Tables of a circuit, made once for a board: which gate sets each wire, and the AND number of each gate.
+/// Tables of a circuit, made once for a board: which gate sets each wire, and the AND number of each gate. Contracts see
+/// the circuit.
 #[derive(Drop)]
-pub(crate) struct Wiring<'c, A: Allocator = Global, C: Allocator = Global> {
+pub struct Wiring<'c, A: Allocator = Global, C: Allocator = Global> {
     circuit: &'c Circuit<C>,
     // By wire: the gate that sets it, plus 1, or 0.
     setters: Vec<u32, A>,
@@ -33,7 +34,7 @@ impl<'c, A: Allocator, C: Allocator> Model for Wiring<'c, A, C> {
 
 impl<'c, A: Allocator + Copy, C: Allocator> Wiring<'c, A, C> {
     /// The tables of a circuit. It takes memory twice.
-    pub(crate) fn of(alloc: A, circuit: &'c Circuit<C>) -> Result<Wiring<'c, A, C>, AllocError>
+    pub fn of(alloc: A, circuit: &'c Circuit<C>) -> Result<Wiring<'c, A, C>, AllocError>
         ensures { IfOk result (λ wiring. wiring ≡ circuit.now) }
     {
         let _ = circuit.gates();
@@ -48,7 +49,7 @@ impl<'c, A: Allocator + Copy, C: Allocator> Wiring<'c, A, C> {
 impl<'c, A: Allocator, C: Allocator> Wiring<'c, A, C> {
     /// The gate that sets a wire, if one does. That there is such a wire is the caller's condition.
     #[inline]
-    pub(crate) fn setter(&self, wire: u32) -> Option<u32>
+    pub fn setter(&self, wire: u32) -> Option<u32>
         requires { wire < self.now.wires }
         ensures some { IfSome result (λ g. IsSetBy self.now wire g) }
         ensures none { IfNone result ((g : ℕ) → IsSetBy self.now wire g → ⊥) }
@@ -59,7 +60,7 @@ impl<'c, A: Allocator, C: Allocator> Wiring<'c, A, C> {
 
     /// How many AND gates stand before a gate in the file. That there is such a gate is the caller's condition.
     #[inline]
-    pub(crate) fn and_number(&self, gate: u32) -> u32
+    pub fn and_number(&self, gate: u32) -> u32
         requires { gate < length self.now.gates }
         ensures { result ≡ and_number self.now gate }
     {

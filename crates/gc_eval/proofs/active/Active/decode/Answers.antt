@@ -45,3 +45,12 @@ returns-clause-err g c =
     evaluated_outputs job c.deref.result.now (Err c.in-Err.fault) c.circuit.ensures.whole
     (c.deref.ensures.value ∙ told.0)
     c.in-Err.ensures
+
+pub returns-clause-recognised : goal.returns-clause-recognised
+returns-clause-recognised g c _ =
+    let self = c.args.self.now in
+    let job = self.job.now in
+    let told = subst (λ o. MatchOption o (LacksOutput self)
+    (λ (v : Vec _ _). (v.items ≡ on_outputs job.circuit (active job))
+    × HasOutputs self)) c.in-Some.is c.in_ok-labels.ensures in
+    told.1

@@ -1,7 +1,7 @@
 use Rattle.std.proofs.Common.{◌≡◌, ◌∙◌, length, slice_get, Some, sym, ap, arith}
-use Rattle.gc_circuit.specs.Circuit.{Netlist, and_number}
+use Rattle.gc_circuit.specs.Circuit.{Netlist}
 use Rattle.gc_eval.proofs.AndNumberLemmas.{and_number-below}
-use Rattle.gc_eval.proofs.job.Job.active.Goals as goal
+use Rattle.gc_eval.proofs.job.Job.active_at.Goals as goal
 
 pub evaluate_gate-requires : goal.evaluate_gate-requires
 evaluate_gate-requires g c = λ is_and.
@@ -12,8 +12,7 @@ evaluate_gate-requires g c = λ is_and.
     omega (
       arith,
       and_number-below job.circuit c.args.gate c.gate-operation.result at is_and,
-      c.and_number.ensures,
-      ap (λ (x : Netlist). and_number x c.args.gate) c.requires.wiring,
+      c.requires.number,
       ap length c.rows.ensures,
       c.circuit.ensures.whole.rows,
     )

@@ -1,0 +1,13 @@
+use Rattle.std.proofs.Common.{length, All}
+use Rattle.gc_eval.specs.Seats.{IsSeatOf}
+use Rattle.gc_eval.specs.Workers.{AreWorkersOf}
+use Rattle.gc_eval.proofs.worker.muster.Given as goal
+
+abbrev pub invariant-loop-seat : goal.invariant-loop-seat
+invariant-loop-seat g l = record {
+  seats : All (IsSeatOf l.board) l.seats.items;
+  workers : AreWorkersOf l.board l.workers.items;
+}
+
+abbrev pub decreases-loop-seat : goal.decreases-loop-seat
+decreases-loop-seat g l = length l.seats.items

@@ -1,0 +1,128 @@
+//! Evaluating a job on many threads.
+
+ghost use Rattle.std.specs.Prelude.{◌≡◌, ℕ, Bool, List, All, IfOk, IfErr, IfSome, MatchResult, Ok, Err};
+ghost use Rattle.std.specs.Result.{result_map_both};
+ghost use Rattle.gc_circuit.specs.Meaning.{AreOutputs};
+ghost use Rattle.gc_work.specs.WorkFault.{AreFew};
+ghost use Rattle.gc_eval.specs.Evaluate.{IsEvaluated, IsEvaluatedBy};
+ghost use Rattle.gc_eval.specs.Honest.{IsHonest};
+ghost use Rattle.gc_eval.specs.Workers.{IsWorkerOf, AreWorkersOf};
+
+use crate::fault::EvalFault;
+use crate::job::Job;
+use crate::one_thread::evaluate;
+use crate::seat::EvalBoard;
+use crate::worker::{Worker, muster, seats_of};
+use gc_work::{Gatehouse, MAX_WORKERS};
+use std::alloc::Allocator;
+use std::thread;
+use std::thread::Threads;
+
+/// Evaluates a job by so many workers: the answer is what [`evaluate`] answers, honest job or not. The calling thread is
+/// worker 0; a thread is started for each other worker, and where one can't be started the calling thread does its work
+/// too. `house` is told of each gate ahead of each step. Where the workers can't have a board, the job is evaluated on
+/// one thread.
+///
+/// It refuses 0 workers and more than [`MAX_WORKERS`]: 22.
+pub fn evaluate_many<
+    A: Allocator + Send + Sync,
+    B: Allocator + Copy + Send + Sync,
+    C: Allocator + Send + Sync,
+    H: Gatehouse + Sync,
+    R: Threads + Sync,
+>(rt: &R, alloc: B, job: &Job<'_, A, C>, workers: u32, house: &H) -> Result<Vec<bool, B>, EvalFault>
+    ensures evaluated { IsEvaluatedBy workers job.now
+        (result_map_both (λ bits. bits.items) (λ fault. fault) result) }
+    ensures honest { (seed : List ℕ) (bits : List Bool) → IsHonest job.now seed bits → AreFew workers →
+        MatchResult result (λ outputs. AreOutputs job.now.circuit bits outputs.items)
+        (λ fault. fault ≡ EvalFault.Memory) }
+{
+    if workers == 0 || workers > MAX_WORKERS {
+        return Err(EvalFault::BadWorkers);
+    }
+    // A job is whole, which its circuit is told with.
+    let _ = job.circuit();
+    match evaluate_together(rt, alloc, job, workers, house)? {
+        Some(bits) => Ok(bits),
+        None => evaluate(alloc, job),
+    }
+}
+
+/// What the workers evaluate on a board. There is no answer where there is no memory for it, or where an output wire
+/// got no label.
+fn evaluate_together<
+    A: Allocator + Send + Sync,
+    B: Allocator + Copy + Send + Sync,
+    C: Allocator + Send + Sync,
+    H: Gatehouse + Sync,
+    R: Threads + Sync,
+>(
+    rt: &R,
+    alloc: B,
+    job: &Job<'_, A, C>,
+    workers: u32,
+    house: &H,
+) -> Result<Option<Vec<bool, B>>, EvalFault>
+    requires { AreFew workers }
+    ensures ok { IfOk result (λ o. IfSome o (λ v. IsEvaluated job.now (Ok v.items))) }
+    ensures err { IfErr result (λ fault. IsEvaluated job.now (Err fault)) }
+{
+    let Ok((board, seats)) = EvalBoard::open(alloc, job, workers) else {
+        return Ok(None);
+    };
+    let Ok(mut workers) = muster(alloc, &board, seats) else {
+        return Ok(None);
+    };
+    work_together(rt, &board, workers.as_mut_slice(), house);
+    let Ok(seats) = seats_of(alloc, &board, workers) else {
+        return Ok(None);
+    };
+    match board.close(seats) {
+        Ok(active) => active.decode(alloc),
+        Err(_) => Ok(None),
+    }
+}
+
+/// Lets the workers make what they can. When all have ended, the last one makes one further pass.
+fn work_together<
+    'j,
+    'c,
+    A: Allocator + Send + Sync,
+    B: Allocator + Send + Sync,
+    C: Allocator + Send + Sync,
+    H: Gatehouse + Sync,
+    R: Threads + Sync,
+>(rt: &R, board: &EvalBoard<'j, 'c, B, A, C>, workers: &mut [Worker<B, A, C>], house: &H)
+    requires { AreWorkersOf board.now workers.old }
+    ensures { AreWorkersOf board.now workers.new }
+{
+    run_all(rt, board, workers, house);
+    if let Some(worker) = workers.last_mut() {
+        worker.pass(board, house);
+    }
+}
+
+/// Runs all workers, the last one on the calling thread and each other in a thread of its own, where one can be started.
+fn run_all<
+    'j,
+    'c,
+    A: Allocator + Send + Sync,
+    B: Allocator + Send + Sync,
+    C: Allocator + Send + Sync,
+    H: Gatehouse + Sync,
+    R: Threads + Sync,
+>(rt: &R, board: &EvalBoard<'j, 'c, B, A, C>, workers: &mut [Worker<B, A, C>], house: &H)
+    requires { AreWorkersOf board.now workers.old }
+    ensures { AreWorkersOf board.now workers.new }
+{
+    let count = workers.len().max(1);
+    thread::for_each_mut(
+        rt,
+        workers,
+        count,
+        &|_i: usize, worker: &mut Worker<B, A, C>|
+            requires { IsWorkerOf board.now worker.now }
+            ensures { IsWorkerOf board.entry.now worker.exit.now }
+        { worker.work(board, house) },
+    );
+}
