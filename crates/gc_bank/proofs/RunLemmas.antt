@@ -1,0 +1,365 @@
+-- Calls one after another, inside a round.
+use Rattle.std.proofs.Common.{◌≡◌, ◌≢◌, ℕ, ◌+◌, ◌*◌, ◌%◌, ◌<◌, ◌≤◌, List, [], ◌∷◌, ◌++◌, refl, ap, ◌∙◌, subst, arith, append_assoc, length-append, sym, slice_get, length, Some, inl, inr, ⊎_elim, ◌⊎◌, cond, eqb, eq-eqb, ne_eqb, MatchOption, zero, suc, take, slice_index, get_or}
+use mathlib.Core.Logic.{dite}
+use native.Mathlib.Decide.{dec_le, ℕ_discrete}
+use Rattle.atomic_table.specs.Seated.{TableId}
+use Rattle.atomic_table.specs.declared.shared.Seat.{Seat}
+use Rattle.gc_circuit.specs.Circuit.{Netlist, IsSetBy, IsLawful, input_wires}
+use Rattle.gc_circuit.specs.declared.circuit.Gate.{Gate}
+use Rattle.gc_board.specs.Counts.{total, only}
+use Rattle.gc_board.proofs.Sums.{total-append, only_same}
+use Rattle.gc_rounds.specs.Words.{round_of}
+use Rattle.gc_rounds.specs.Steps.{merged}
+use Rattle.gc_rounds.specs.Places.{IsSamePlace}
+use Rattle.gc_rounds.specs.declared.view.Key.{Key}
+use Rattle.gc_rounds.specs.declared.view.Stand.TheVariants.{Inside}
+use Rattle.gc_rounds.specs.declared.view.Step.{Step}
+use Rattle.gc_rounds.specs.declared.view.Step.TheVariants.{Load, Store, Claim}
+use Rattle.gc_round_board.specs.Pairs.{is_pair, pairs, looked}
+use Rattle.gc_round_board.specs.Board.{at, stamp}
+use Rattle.gc_round_board.specs.Steps.{learnt, joined, after_claim, after_stored, after_done}
+use Rattle.gc_round_board.specs.declared.view.Hand.TheVariants.{Empty}
+use Rattle.gc_round_board.specs.Places.{IsBoardPlace}
+use Rattle.gc_eval.specs.Job.{JobParts}
+use Rattle.gc_eval.specs.Evaluate.{labels_of}
+use Rattle.gc_eval.specs.Views.{first_of, second_of, IsMadeNow}
+use Rattle.gc_eval.specs.declared.seat.Answer.{Answer}
+use Rattle.gc_eval.specs.declared.seat.Answer.TheVariants.{Made, Done, Taken, NotYet}
+use Rattle.gc_eval.proofs.BoardLabels.{active_solves}
+use Rattle.gc_eval.proofs.WiringLemmas.{set_once, input_not_set, set_within}
+use Rattle.gc_bank.specs.Rounds.{gates_of, IsRound}
+use Rattle.gc_bank.specs.Seats.{InRound, round_in}
+use Rattle.gc_bank.specs.Views.{Stays, made_now, IsAlone, SetsMade, ReadsMade, FirstLacking, AnswersAlone, sighting, sightings, Seen, Ran, Saw, SawUndone, Got, Lacks, Answers}
+
+pub ran_then : (a b c : Seen) (list : List (ℕ × ℕ)) (m n : ℕ) → Ran a b a.inner.made m → Ran b c list n
+    → Ran a c list (m + n)
+ran_then a b c list m n p q = record {
+  jobs = q.jobs ∙ p.jobs;
+  all = q.all ∙ p.all;
+  seats = q.seats ∙ p.seats;
+  stand = q.stand ∙ p.stand;
+  about = q.about ∙ p.about;
+  hand = q.hand ∙ p.hand;
+  made = q.made;
+  known = λ r g. omega (arith, p.known r g, q.known r g);
+  looks = λ r g w. omega (arith, p.looks r g w, q.looks r g w);
+  added = p.added ++ q.added;
+  short = omega (arith, p.short, q.short, length-append p.added q.added);
+  steps = q.steps ∙ ap (λ l. l ++ q.added) p.steps ∙ append_assoc a.steps p.added q.added;
+}
+
+-- the sightings of a call are those of what it added
+sightings_more : (a b : Seen) (list : List (ℕ × ℕ)) (m word found : ℕ) → Ran a b list m
+    → sightings word found a.steps ≤ sightings word found b.steps
+sightings_more a b list m word found p =
+    omega (arith, ap (sightings word found) p.steps, total-append (sighting word found) a.steps p.added)
+
+pub longer : (a b : Seen) (list : List (ℕ × ℕ)) (m n : ℕ) → m ≤ n → Ran a b list m → Ran a b list n
+longer a b list m n le p = record {
+  jobs = p.jobs;
+  all = p.all;
+  seats = p.seats;
+  stand = p.stand;
+  about = p.about;
+  hand = p.hand;
+  made = p.made;
+  known = p.known;
+  looks = p.looks;
+  added = p.added;
+  short = omega (arith, p.short);
+  steps = p.steps;
+}
+
+saw_later : (a b c : Seen) (m word found : ℕ) → Ran a b a.inner.made m → Saw b c word found
+    → Saw a c word found
+saw_later a b c m word found p s = omega (arith, sightings_more a b a.inner.made m word found p)
+
+one_sighting : (word found : ℕ) → only word word * only found found ≡ 1
+one_sighting word found = λ i. only_same word word refl i * only_same found found refl i
+
+pub saw_load : (old new : Seen) (word found : ℕ) → new.steps ≡ old.steps ++ Load word found ∷ []
+    → Saw old new word found
+saw_load old new word found e = omega (
+  arith,
+  ap (sightings word found) e,
+  total-append (sighting word found) old.steps (Load word found ∷ []),
+  one_sighting word found,
+)
+
+pub saw_claim : (old new : Seen) (word found : ℕ) → new.steps ≡ old.steps ++ Claim word found ∷ []
+    → Saw old new word found
+saw_claim old new word found e = omega (
+  arith,
+  ap (sightings word found) e,
+  total-append (sighting word found) old.steps (Claim word found ∷ []),
+  one_sighting word found,
+)
+
+-- what is not found done was not known
+pub unknown : (n found two : ℕ) → (0 < n → found ≡ two) → found ≢ two → n ≡ 0
+unknown n found two known ne = dite (dec_le 1 n) (λ y. absurd (ne (known y))) (λ z. omega arith)
+
+-- what is found and is not 2 of the round comes before it
+pub undone : (r found : ℕ) → found % 4294967296 < 3 → found ≢ stamp r 2 → round_of found ≤ r
+    → found < stamp r 2
+undone r found small ne le = omega arith
+
+pub lacks_then : (job : JobParts) (r w m : ℕ) (a b c : Seen) → Ran a b a.inner.made m → Lacks job r w b c
+    → Lacks job r w a c
+lacks_then job r w m a b c p l = record {
+  no_input = l.no_input;
+  unknown = λ h set. let t = l.unknown h set in (
+    omega (arith, p.known r h, t.0),
+    (t.1.0, t.1.1, saw_later a b c m (at r h) t.1.0 p t.1.2),
+  );
+}
+
+-- an answer after steps that made nothing
+pub answers_later : (job : JobParts) (r g m n : ℕ) (a b c : Seen) (answer : Answer) → Ran a b a.inner.made m
+    → Answers job r g n b c answer → Answers job r g (m + n) a c answer
+answers_later job r g m n a b c (Made label) p h = (
+  h.0,
+  h.1,
+  omega (arith, p.known r g, h.2),
+  subst (λ l. Ran a c (l ++ (r, g) ∷ []) (m + n)) p.made
+      (ran_then a b c (b.inner.made ++ (r, g) ∷ []) m n p h.3),
+)
+answers_later job r g m n a b c (Done label) p h = (
+  h.0,
+  h.1,
+  subst (λ l. Ran a c l (m + n)) p.made (ran_then a b c b.inner.made m n p h.2),
+)
+answers_later job r g m n a b c Taken p h = (
+  omega (arith, p.known r g, h.0),
+  saw_later a b c m (at r g) (stamp r 1) p h.1,
+  subst (λ l. Ran a c l (m + n)) p.made (ran_then a b c b.inner.made m n p h.2),
+)
+answers_later job r g m n a b c (NotYet w) p h = (
+  omega (arith, p.known r g, h.0),
+  h.1,
+  lacks_then job r w m a b c p h.2,
+  subst (λ l. Ran a c l (m + n)) p.made (ran_then a b c b.inner.made m n p h.3),
+)
+
+-- what stays in a call
+pub ran_stays : (a b : Seen) (list : List (ℕ × ℕ)) (m : ℕ) → Ran a b list m → Stays a b
+ran_stays a b list m p = record {
+  jobs = p.jobs;
+  all = p.all;
+  seats = p.seats;
+  stand = p.stand;
+  about = p.about;
+  hand = p.hand;
+}
+
+pub answer_stays : (job : JobParts) (r g m : ℕ) (a b : Seen) (answer : Answer) → Answers job r g m a b answer
+    → Stays a b
+answer_stays job r g m a b (Made label) h = ran_stays a b (a.inner.made ++ (r, g) ∷ []) m h.3
+answer_stays job r g m a b (Done label) h = ran_stays a b a.inner.made m h.2
+answer_stays job r g m a b Taken h = ran_stays a b a.inner.made m h.2
+answer_stays job r g m a b (NotYet w) h = ran_stays a b a.inner.made m h.3
+
+-- how many gates are made after an answer
+pub answer_made : (job : JobParts) (r g m : ℕ) (a b : Seen) (answer : Answer) → Answers job r g m a b answer
+    → length b.inner.made ≡ length a.inner.made + made_now answer
+answer_made job r g m a b (Made label) h =
+    omega (arith, ap length h.3.made, length-append a.inner.made ((r, g) ∷ []))
+answer_made job r g m a b (Done label) h = omega (arith, ap length h.2.made)
+answer_made job r g m a b Taken h = omega (arith, ap length h.2.made)
+answer_made job r g m a b (NotYet w) h = omega (arith, ap length h.3.made)
+
+-- The round that a seat is inside, and its job.
+pub in_round : (jobs : List JobParts) (v : Seen) (r : ℕ) (job : JobParts) (P : ℕ → JobParts → Type 0)
+    → v.stand ≡ Inside r → slice_get jobs r ≡ Some job → P r job → InRound jobs v (P (round_in v.stand))
+in_round jobs v r job P inside there p =
+    subst (λ k. MatchOption (slice_get jobs k) ⊥ (P k)) (sym (ap round_in inside))
+    (subst (λ o. MatchOption o ⊥ (P r)) (sym there) p)
+
+pub of_round : (jobs : List JobParts) (v : Seen) (r : ℕ) (job : JobParts) (P : JobParts → Type 0)
+    → v.stand ≡ Inside r → slice_get jobs r ≡ Some job → InRound jobs v P → P job
+of_round jobs v r job P inside there p =
+    subst (λ o. MatchOption o ⊥ P) there (subst (λ k. MatchOption (slice_get jobs k) ⊥ P)
+    (ap round_in inside) p)
+
+pub got_input : (job : JobParts) (r w label : ℕ) (v : Seen) → IsLawful job.circuit
+    → w < input_wires job.circuit
+    → label ≡ labels_of job.inputs w → Got job r w v label
+got_input job r w label v lawful input is = record {
+  right = is ∙ sym ((active_solves job lawful).inputs w input);
+  known = λ h set. absurd (input_not_set job.circuit w h lawful input set);
+}
+
+pub lacks_unset : (job : JobParts) (r w : ℕ) (v u : Seen) → input_wires job.circuit ≤ w
+    → ((g : ℕ) → IsSetBy job.circuit w g → ⊥) → Lacks job r w v u
+lacks_unset job r w v u no_input unset = record {
+  no_input = λ h. absurd (omega arith);
+  unknown = λ h set. absurd (unset h set);
+}
+
+pub lacks_undone : (job : JobParts) (r w g : ℕ) (v u : Seen) → IsLawful job.circuit
+    → input_wires job.circuit ≤ w
+    → IsSetBy job.circuit w g → pairs r g v.inner.known ≡ 0 → SawUndone v u r g → Lacks job r w v u
+lacks_undone job r w g v u lawful no_input by unknown saw = record {
+  no_input = λ h. absurd (omega arith);
+  unknown = λ h set. subst (λ k. (pairs r k v.inner.known ≡ 0) × SawUndone v u r k)
+      (set_once job.circuit w g h lawful by set) (unknown, saw);
+}
+
+-- a seat that moved is still one of the table
+pub still_in : {S : Type 0} (table : TableId) (key : Key (List JobParts)) (old new : Seat S Seen)
+    → IsBoardPlace gates_of table key old → IsSamePlace old new → new.me.0.jobs ≡ old.me.0.jobs
+    → new.me.0.all ≡ old.me.0.all → new.me.0.inner.job ≡ old.me.0.inner.job
+    → IsBoardPlace gates_of table key new
+still_in table key old new p same jobs all about = record {
+  seated = record {
+    fits = p.seated.fits;
+    table_id = same.table_id ∙ p.seated.table_id;
+    jobs = jobs ∙ p.seated.jobs;
+    whole = all ∙ p.seated.whole;
+  };
+  board = p.board;
+  about = about ∙ p.about;
+}
+
+-- a gate that sets a wire of the round's circuit is there
+pub gate_there : (jobs : List JobParts) (r w g : ℕ) (job : JobParts) → IsRound jobs r job
+    → IsSetBy job.circuit w g → g < gates_of jobs
+gate_there jobs r w g job is set = omega (arith, set_within job.circuit w g set, is.gates)
+
+-- banks with one seat
+pub alone_later : (a b : Seen) (m : ℕ) → Ran a b a.inner.made m → IsAlone a → IsAlone b
+alone_later a b m p alone = p.seats ∙ alone ∙ sym p.all
+
+sets_back : (job : JobParts) (r w n m : ℕ) (a b : Seen) → Ran a b a.inner.made m → SetsMade job r w b n
+    → SetsMade job r w a n
+sets_back job r w n m a b p s h set = ap (pairs r h) (sym p.made) ∙ s h set
+
+same_gate : (c : Netlist) (g : ℕ) (x y : Gate) → slice_get c.gates g ≡ Some x → slice_get c.gates g ≡ Some y
+    → x ≡ y
+same_gate c g x y p q = let e : Some x ≡ Some y = sym p ∙ q in cc
+
+pub first_err : (job : JobParts) (r g : ℕ) (x : Gate) (w : ℕ) (a : Seen)
+    → slice_get job.circuit.gates g ≡ Some x
+    → first_of x.operation ≡ Some w → SetsMade job r w a 0 → FirstLacking job r g a w
+first_err job r g x w a there is none_yet gate there' =
+    subst (λ (y : Gate). ((first_of y.operation ≡ Some w) × SetsMade job r w a 0)
+    ⊎ ((second_of y.operation ≡ Some w) × SetsMade job r w a 0
+    × ((u : ℕ) → first_of y.operation ≡ Some u → SetsMade job r u a 1)))
+    (same_gate job.circuit g x gate there there') (inl (is, none_yet))
+
+pub both_err : (job : JobParts) (r g m : ℕ) (x : Gate) (w : ℕ) (a b : Seen)
+    → slice_get job.circuit.gates g ≡ Some x → Ran a b a.inner.made m → second_of x.operation ≡ Some w
+    → SetsMade job r w b 0 → ((u : ℕ) → first_of x.operation ≡ Some u → SetsMade job r u a 1)
+    → FirstLacking job r g a w
+both_err job r g m x w a b there p is none_yet firsts gate there' =
+    subst (λ (y : Gate). ((first_of y.operation ≡ Some w) × SetsMade job r w a 0)
+    ⊎ ((second_of y.operation ≡ Some w) × SetsMade job r w a 0
+    × ((u : ℕ) → first_of y.operation ≡ Some u → SetsMade job r u a 1)))
+    (same_gate job.circuit g x gate there there') (inr (is, sets_back job r w 0 m a b p none_yet, firsts))
+
+pub both_ok : (job : JobParts) (r g m : ℕ) (x : Gate) (a b : Seen) → slice_get job.circuit.gates g ≡ Some x
+    → Ran a b a.inner.made m → ((u : ℕ) → first_of x.operation ≡ Some u → SetsMade job r u a 1)
+    → ((u : ℕ) → second_of x.operation ≡ Some u → SetsMade job r u b 1) → ReadsMade job r g a
+both_ok job r g m x a b there p firsts seconds gate w there' reads =
+    let same = same_gate job.circuit g gate x there' there in
+    ⊎_elim
+    (λ (e : first_of gate.operation ≡ Some w). firsts w (ap (λ (y : Gate). first_of y.operation)
+    (sym same) ∙ e))
+    (λ (e : second_of gate.operation ≡ Some w). sets_back job r w 1 m a b p
+    (seconds w (ap (λ (y : Gate). second_of y.operation) (sym same) ∙ e))) reads
+
+pub lacking_back : (job : JobParts) (r g m w : ℕ) (a b : Seen) → Ran a b a.inner.made m
+    → FirstLacking job r g b w
+    → FirstLacking job r g a w
+lacking_back job r g m w a b p l gate there =
+    ⊎_elim (λ t. inl (t.0, sets_back job r w 0 m a b p t.1))
+    (λ t. inr (t.0, sets_back job r w 0 m a b p t.1, λ u e. sets_back job r u 1 m a b p (t.2 u e)))
+    (l gate there)
+
+pub alone_made : (job : JobParts) (r g m : ℕ) (a b : Seen) (answer : Answer) → Ran a b a.inner.made m
+    → IsMadeNow answer → pairs r g a.inner.made ≡ 0 → ReadsMade job r g b → AnswersAlone job r g a answer
+alone_made job r g m a b (Made label) p now none_yet reads =
+    (none_yet, λ gate w there e. sets_back job r w 1 m a b p (reads gate w there e))
+alone_made job r g m a b (Done label) p now none_yet reads = absurd now
+alone_made job r g m a b Taken p now none_yet reads = now
+alone_made job r g m a b (NotYet w) p now none_yet reads = absurd now
+
+-- what was known is known once a state was found
+known_more : (known : List (ℕ × ℕ)) (r g found k h : ℕ) → pairs k h known ≤ pairs k h (learnt known r g found)
+known_more known r g found k h =
+    dite (ℕ_discrete found (stamp r 2))
+    (λ two. subst (λ l. pairs k h known ≤ pairs k h l)
+    (sym (ap (λ b. cond b ((r, g) ∷ known) known) (eq-eqb found (stamp r 2) two))) (omega arith))
+    (λ ne. subst (λ l. pairs k h known ≤ pairs k h l)
+    (sym (ap (λ b. cond b ((r, g) ∷ known) known) (ne_eqb found (stamp r 2) ne))) (omega arith))
+
+-- a gate is claimed, both its halves and its state are stored: four steps
+pub made_ran : (r g free found i low j high : ℕ) (v a b c w : Seen) → v.inner.hand ≡ Empty
+    → a ≡ after_claim v r g free found → b ≡ after_stored a r g 1 i low → c ≡ after_stored b r g 2 j high
+    → w ≡ after_done c r g → Ran v w (v.inner.made ++ (r, g) ∷ []) 4
+made_ran r g free found i low j high v a b c w empty p q s t =
+    let one : Step = Claim (at r g) found in
+    let two : Step = Store i low in
+    let three : Step = Store j high in
+    let four : Step = Store (at r g) (stamp r 2) in
+    let known_now : w.inner.known ≡ (r, g) ∷ learnt v.inner.known r g found =
+    ap (λ (x : Seen). x.inner.known) t ∙ ap (λ l. (r, g) ∷ l) (ap (λ (x : Seen). x.inner.known) s
+    ∙ ap (λ (x : Seen). x.inner.known) q ∙ ap (λ (x : Seen). x.inner.known) p) in
+    let looks_now : w.inner.looks ≡ v.inner.looks =
+    ap (λ (x : Seen). x.inner.looks) t ∙ ap (λ (x : Seen). x.inner.looks) s
+    ∙ ap (λ (x : Seen). x.inner.looks) q ∙ ap (λ (x : Seen). x.inner.looks) p in
+    record {
+      jobs = ap (λ (x : Seen). x.jobs) t ∙ ap (λ (x : Seen). x.jobs) s ∙ ap (λ (x : Seen). x.jobs) q
+          ∙ ap (λ (x : Seen). x.jobs) p;
+      all = ap (λ (x : Seen). x.all) t ∙ ap (λ (x : Seen). x.all) s ∙ ap (λ (x : Seen). x.all) q
+          ∙ ap (λ (x : Seen). x.all) p;
+      seats = ap (λ (x : Seen). x.seats) t ∙ ap (λ (x : Seen). x.seats) s ∙ ap (λ (x : Seen). x.seats) q
+          ∙ ap (λ (x : Seen). x.seats) p;
+      stand = ap (λ (x : Seen). x.stand) t ∙ ap (λ (x : Seen). x.stand) s ∙ ap (λ (x : Seen). x.stand) q
+          ∙ ap (λ (x : Seen). x.stand) p;
+      about = ap (λ (x : Seen). x.inner.job) t ∙ ap (λ (x : Seen). x.inner.job) s
+          ∙ ap (λ (x : Seen). x.inner.job) q ∙ ap (λ (x : Seen). x.inner.job) p;
+      hand = ap (λ (x : Seen). x.inner.hand) t ∙ sym empty;
+      made = ap (λ (x : Seen). x.inner.made) t ∙ ap (λ l. l ++ (r, g) ∷ [])
+          (ap (λ (x : Seen). x.inner.made) s ∙ ap (λ (x : Seen). x.inner.made) q
+          ∙ ap (λ (x : Seen). x.inner.made) p);
+      known = λ k h. omega (arith, ap (pairs k h) known_now, known_more v.inner.known r g found k h);
+      looks = λ k h n. omega (arith, ap (looked k h n) looks_now);
+      added = one ∷ two ∷ three ∷ four ∷ [];
+      short = omega arith;
+      steps = ap (λ (x : Seen). x.steps) t
+          ∙ ap (λ l. l ++ four ∷ []) (ap (λ (x : Seen). x.steps) s
+          ∙ ap (λ l. l ++ three ∷ []) (ap (λ (x : Seen). x.steps) q
+          ∙ ap (λ l. l ++ two ∷ []) (ap (λ (x : Seen). x.steps) p)
+          ∙ append_assoc v.steps (one ∷ []) (two ∷ []))
+          ∙ append_assoc v.steps (one ∷ two ∷ []) (three ∷ []))
+          ∙ append_assoc v.steps (one ∷ two ∷ three ∷ []) (four ∷ []);
+    }
+
+pub pairs_merged : (v w u : Seen) (r g : ℕ) → u ≡ merged v w (joined v.inner w.inner)
+    → pairs r g u.inner.made ≡ pairs r g v.inner.made + pairs r g w.inner.made
+pairs_merged v w u r g e =
+    ap (λ (x : Seen). pairs r g x.inner.made) e ∙ total-append (is_pair r g) v.inner.made w.inner.made
+
+-- one term more of a sum
+sum_taken : {X : Type 0} (f : X → ℕ) (xs : List X) (k : ℕ) (x : X) → slice_get xs k ≡ Some x
+    → total f (take (suc k) xs) ≡ total f (take k xs) + f x
+sum_taken f [] k x there = absurd (cc)
+sum_taken f (y ∷ ys) zero x there = let same : y ≡ x = cc in omega (arith, ap f same)
+sum_taken f (y ∷ ys) (suc k) x there = omega (arith, sum_taken f ys k x there)
+
+pub total_taken : {X : Type 0} (f : X → ℕ) (xs : List X) (k : ℕ) (x : X) → slice_get xs k ≡ Some x
+    → total f (take (k + 1) xs) ≡ total f (take k xs) + f x
+total_taken f xs k x there =
+    let one : k + 1 ≡ suc k = omega arith in
+    ap (λ n. total f (take n xs)) one ∙ sum_taken f xs k x there
+
+-- the job at a place is that of its round, where all are on one circuit
+pub is_round : (jobs : List JobParts) (c : Netlist) (r : ℕ) (job : JobParts)
+    → ((k : ℕ) (other : JobParts) → slice_get jobs k ≡ Some other → other.circuit ≡ c)
+    → slice_get jobs r ≡ Some job → IsRound jobs r job
+is_round [] c r job on there = absurd (cc)
+is_round (first ∷ rest) c r job on there = record {
+  at = there;
+  gates = ap (λ (n : Netlist). length n.gates) (on r job there ∙ sym (on 0 first refl));
+}

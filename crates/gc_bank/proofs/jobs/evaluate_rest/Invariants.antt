@@ -1,0 +1,8 @@
+use Rattle.std.proofs.Common.{map}
+use Rattle.gc_bank.specs.Workers.{AreKnown}
+use Rattle.gc_bank.proofs.JobLemmas.{AreEvaluatedBefore}
+use Rattle.gc_bank.proofs.jobs.evaluate_rest.Given as goal
+
+abbrev pub invariant-loop-i : goal.invariant-loop-i
+invariant-loop-i g l =
+    AreEvaluatedBefore l.jobs (map (λ bits. bits.items) l.all.items) l.i × AreKnown l.jobs l.known.items

@@ -1,0 +1,16 @@
+use Rattle.std.proofs.Common.{◌-◌, ◌≡◌, ◌+◌, ◌<◌, [], length, All}
+use Rattle.gc_round_board.specs.Places.{IsBoardPlace}
+use Rattle.gc_bank.specs.Rounds.{gates_of}
+use Rattle.gc_bank.specs.Seats.{IsNew}
+use Rattle.gc_bank.specs.declared.seat.BankSeat.{BankSeat}
+use Rattle.gc_bank.proofs.open.deal_all.Given as goal
+
+abbrev pub invariant-loop-left : goal.invariant-loop-left
+invariant-loop-left g l =
+    IsBoardPlace gates_of l.words.table_id l.words.key l.first × IsNew l.first.me.0 × (l.first.me.1 ≡ [])
+    × (l.first.me.0.seats ≡ l.left) × (0 < l.left) × (length l.seats.items + l.left ≡ l.count)
+    × All (λ (s : BankSeat _ _ _). IsBoardPlace gates_of l.words.table_id l.words.key s.place
+    × IsNew s.place.me.0) l.seats.items
+
+abbrev pub decreases-loop-left : goal.decreases-loop-left
+decreases-loop-left g l = l.left - 1

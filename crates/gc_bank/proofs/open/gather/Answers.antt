@@ -1,0 +1,77 @@
+use Rattle.std.proofs.Common.{◌≡◌, ℕ, arith, ap}
+use Rattle.gc_rounds.specs.declared.view.Stand.TheVariants.{Outside}
+use Rattle.gc_round_board.specs.Pairs.{pairs}
+use Rattle.gc_round_board.specs.Places.{IsBoardPlace}
+use Rattle.gc_eval.proofs.GatherLemmas.{all_but_last, all_last, total_last, length_last}
+use Rattle.gc_bank.specs.Rounds.{gates_of}
+use Rattle.gc_bank.specs.Views.{Seen}
+use Rattle.gc_bank.specs.declared.seat.BankSeat.{BankSeat}
+use Rattle.gc_bank.proofs.RunLemmas.{still_in, pairs_merged}
+use Rattle.gc_bank.proofs.open.gather.Goals as goal
+
+pub loop-place-init : goal.loop-place-init
+loop-place-init g c =
+    let seat = c.in-Some.field-0 in
+    let old = c.args.seats.items in
+    let new = c.pop.new.self.items in
+    let is = c.in-Some.ensures.items in
+    let Own : BankSeat _ _ _ → Type 0 =
+    λ s. IsBoardPlace gates_of c.args.words.now.table_id c.args.words.now.key s.place in
+    let Out : BankSeat _ _ _ → Type 0 = λ s. s.place.me.0.stand ≡ Outside in (
+      all_last old new seat is Own c.requires.own,
+      all_but_last old new seat is Own c.requires.own,
+      all_but_last old new seat is Out c.requires.outside,
+      omega (arith, length_last old new seat is, seat.at_rest.2),
+      λ r gate. omega (
+        arith,
+        total_last old new seat is (λ (s : BankSeat _ _ _). pairs r gate s.place.me.0.inner.made),
+      ),
+    )
+
+pub join_place-requires-clause-other : goal.join_place-requires-clause-other
+join_place-requires-clause-other g c =
+    let Own : BankSeat _ _ _ → Type 0 =
+    λ s. IsBoardPlace gates_of c.args.words.now.table_id c.args.words.now.key s.place in
+    (all_last c.loop-place.seats.items c.pop-in-loop-place.new.self.items c.in-Some-pop.field-0
+    c.in-Some-pop.ensures.items Own c.loop-place.invariant.1).seated
+
+pub join_place-requires-clause-idle : goal.join_place-requires-clause-idle
+join_place-requires-clause-idle g c =
+    let seat = c.in-Some-pop.field-0 in
+    let Out : BankSeat _ _ _ → Type 0 = λ s. s.place.me.0.stand ≡ Outside in (
+      all_last c.loop-place.seats.items c.pop-in-loop-place.new.self.items seat c.in-Some-pop.ensures.items
+          Out c.loop-place.invariant.2,
+      seat.at_rest.0,
+      seat.at_rest.1,
+    )
+
+pub loop-place-preserved : goal.loop-place-preserved
+loop-place-preserved g c =
+    let seat = c.in-Some-pop.field-0 in
+    let old = c.loop-place.seats.items in
+    let new = c.pop-in-loop-place.new.self.items in
+    let is = c.in-Some-pop.ensures.items in
+    let kept = c.join_place.ensures in
+    let i = c.loop-place.invariant in
+    let Own : BankSeat _ _ _ → Type 0 =
+    λ s. IsBoardPlace gates_of c.args.words.now.table_id c.args.words.now.key s.place in
+    let Out : BankSeat _ _ _ → Type 0 = λ s. s.place.me.0.stand ≡ Outside in (
+      still_in _ _ c.loop-place.whole c.join_place.new.place i.0 kept.0
+          (ap (λ (u : Seen). u.jobs) kept.1) (ap (λ (u : Seen). u.all) kept.1)
+          (ap (λ (u : Seen). u.inner.job) kept.1),
+      all_but_last old new seat is Own i.1,
+      all_but_last old new seat is Out i.2,
+      omega (
+        arith,
+        length_last old new seat is,
+        seat.at_rest.2,
+        i.3,
+        ap (λ (u : Seen). u.seats) kept.1,
+      ),
+      λ r gate. omega (
+        arith,
+        total_last old new seat is (λ (s : BankSeat _ _ _). pairs r gate s.place.me.0.inner.made),
+        pairs_merged c.loop-place.whole.me.0 seat.place.me.0 c.join_place.new.place.me.0 r gate kept.1,
+        i.4 r gate,
+      ),
+    )

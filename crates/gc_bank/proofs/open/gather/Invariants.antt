@@ -1,0 +1,21 @@
+use Rattle.std.proofs.Common.{◌≡◌, ℕ, ◌+◌, length, All}
+use Rattle.gc_board.specs.Counts.{total}
+use Rattle.gc_rounds.specs.declared.view.Stand.TheVariants.{Outside}
+use Rattle.gc_round_board.specs.Pairs.{pairs}
+use Rattle.gc_round_board.specs.Places.{IsBoardPlace}
+use Rattle.gc_bank.specs.Rounds.{gates_of}
+use Rattle.gc_bank.specs.declared.seat.BankSeat.{BankSeat}
+use Rattle.gc_bank.proofs.open.gather.Given as goal
+
+abbrev pub invariant-loop-place : goal.invariant-loop-place
+invariant-loop-place g l =
+    IsBoardPlace gates_of l.words.table_id l.words.key l.whole
+    × All (λ (s : BankSeat _ _ _). IsBoardPlace gates_of l.words.table_id l.words.key s.place) l.seats.items
+    × All (λ (s : BankSeat _ _ _). s.place.me.0.stand ≡ Outside) l.seats.items
+    × (l.whole.me.0.seats + length l.seats.items ≡ length l.fn.seats.items)
+    × ((r g' : ℕ) → pairs r g' l.whole.me.0.inner.made
+    + total (λ (s : BankSeat _ _ _). pairs r g' s.place.me.0.inner.made) l.seats.items
+    ≡ total (λ (s : BankSeat _ _ _). pairs r g' s.place.me.0.inner.made) l.fn.seats.items)
+
+abbrev pub decreases-loop-place : goal.decreases-loop-place
+decreases-loop-place g l = goal.left-loop-place g l

@@ -1,0 +1,11 @@
+use Rattle.std.proofs.Common.{All, length}
+use Rattle.gc_bank.specs.Seats.{jobs_on}
+use Rattle.gc_bank.specs.Workers.{AreKnown, IsKept}
+use Rattle.gc_bank.proofs.together.kept_by.Given as goal
+
+abbrev pub invariant-loop-round : goal.invariant-loop-round
+invariant-loop-round g l = All (IsKept (jobs_on l.banks)) l.kept.items
+    × AreKnown (jobs_on l.banks) l.slots.items
+
+abbrev pub decreases-loop-round : goal.decreases-loop-round
+decreases-loop-round g l = length l.kept.items

@@ -1,0 +1,5 @@
+use Rattle.std.proofs.Common.{◌≡◌, All, None}
+use Rattle.gc_bank.proofs.together.none_known.Given as goal
+
+abbrev pub invariant-loop-i : goal.invariant-loop-i
+invariant-loop-i g l = All (λ o. o ≡ None) l.slots.items

@@ -1,0 +1,23 @@
+use Rattle.std.proofs.lemmas.List.Elements.{All-push}
+use Rattle.gc_eval.proofs.GatherLemmas.{all_but_last, all_last}
+use Rattle.gc_bank.specs.Seats.{IsSeatOf, IsNew, view}
+use Rattle.gc_bank.specs.Workers.{IsWorkerOf}
+use Rattle.gc_bank.specs.declared.seat.BankSeat.{BankSeat}
+use Rattle.gc_bank.proofs.worker.muster.Goals as goal
+
+pub loop-seat-preserved : goal.loop-seat-preserved
+loop-seat-preserved g c =
+    let banks = c.args.banks.now in
+    let was = c.loop-seat.invariant in record {
+      seats = all_but_last c.loop-seat.seats.items c.pop.new.self.items c.in-Some.seat c.in-Some.ensures.items
+          (λ (s : BankSeat _ _ _). IsSeatOf banks s × IsNew (view s)) was.seats;
+      workers = rw c.in_ok-push.ensures.items (All-push
+          (IsWorkerOf banks) c.loop-seat.workers.items _ was.workers
+          c.recruit-worker.ensures);
+    }
+
+pub recruit-worker-requires : goal.recruit-worker-requires
+recruit-worker-requires g c =
+    let banks = c.args.banks.now in
+    all_last c.loop-seat.seats.items c.pop.new.self.items c.in-Some.seat c.in-Some.ensures.items
+    (λ (s : BankSeat _ _ _). IsSeatOf banks s × IsNew (view s)) c.loop-seat.invariant.seats

@@ -1,0 +1,14 @@
+use Rattle.std.proofs.Common.{length, All}
+use Rattle.gc_bank.specs.Seats.{IsSeatOf, IsNew, view}
+use Rattle.gc_bank.specs.Workers.{AreWorkersOf}
+use Rattle.gc_bank.specs.declared.seat.BankSeat.{BankSeat}
+use Rattle.gc_bank.proofs.worker.muster.Given as goal
+
+abbrev pub invariant-loop-seat : goal.invariant-loop-seat
+invariant-loop-seat g l = record {
+  seats : All (λ (s : BankSeat _ _ _). IsSeatOf l.banks s × IsNew (view s)) l.seats.items;
+  workers : AreWorkersOf l.banks l.workers.items;
+}
+
+abbrev pub decreases-loop-seat : goal.decreases-loop-seat
+decreases-loop-seat g l = length l.seats.items

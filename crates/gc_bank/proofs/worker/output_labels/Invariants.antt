@@ -1,0 +1,13 @@
+use Rattle.std.proofs.Common.{◌≡◌, Some, map, slice_get}
+use Rattle.std.specs.List.{range_with_len}
+use Rattle.gc_rounds.specs.declared.view.Stand.TheVariants.{Inside}
+use Rattle.gc_eval.specs.Job.{JobParts}
+use Rattle.gc_eval.specs.ActiveLabels.{active}
+use Rattle.gc_bank.specs.Seats.{IsSeatOf, view, jobs_on}
+use Rattle.gc_bank.proofs.worker.output_labels.Given as goal
+
+abbrev pub invariant-loop-i : goal.invariant-loop-i
+invariant-loop-i g l =
+    IsSeatOf l.banks l.seat × ((view l.seat).stand ≡ Inside l.round)
+    × ((job : JobParts) → slice_get (jobs_on l.banks) l.round ≡ Some job
+    → l.labels.items ≡ map (active job) (range_with_len l.first l.i))

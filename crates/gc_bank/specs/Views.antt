@@ -1,0 +1,135 @@
+-- How a seat's view grows in a call inside a round, and what the answers of banks say. Where the answers of a board
+-- speak of gates, these speak of rounds with gates.
+use Rattle.std.specs.Prelude.{◌≡◌, ℕ, ◌*◌, ◌<◌, ◌≤◌, ◌⊎◌, List, [], ◌∷◌, ◌++◌, length, slice_get, Some}
+use Rattle.gc_circuit.specs.declared.circuit.Gate.{Gate}
+use Rattle.gc_circuit.specs.Circuit.{IsSetBy, input_wires}
+use Rattle.gc_board.specs.Counts.{total, only}
+use Rattle.gc_rounds.specs.declared.view.View.{View}
+use Rattle.gc_rounds.specs.declared.view.Step.{Step}
+use Rattle.gc_rounds.specs.declared.view.Step.TheVariants.{Load, Store, Claim, Enter, Leave, Seal, Reopen}
+use Rattle.gc_round_board.specs.Pairs.{pairs, looked}
+use Rattle.gc_round_board.specs.Board.{at, stamp}
+use Rattle.gc_round_board.specs.declared.view.BoardView.{BoardView}
+use Rattle.gc_eval.specs.Job.{JobParts}
+use Rattle.gc_eval.specs.ActiveLabels.{active, set_of}
+use Rattle.gc_eval.specs.Views.{Reads, first_of, second_of}
+use Rattle.gc_eval.specs.declared.seat.Answer.{Answer}
+use Rattle.gc_eval.specs.declared.seat.Answer.TheVariants.{Made, Done, Taken, NotYet}
+
+-- what a seat of banks knows and has done
+abbrev pub Seen : Type 0
+Seen = View (BoardView (List JobParts))
+
+-- 1 where the step is a load or a claim that found this number at this word, and else 0
+abbrev pub sighting : ℕ → ℕ → Step → ℕ
+sighting word found (Load w n) = only word w * only found n
+sighting word found (Store w n) = 0
+sighting word found (Claim w n) = only word w * only found n
+sighting word found (Enter w n) = 0
+sighting word found (Leave w n) = 0
+sighting word found (Seal w n) = 0
+sighting word found (Reopen w n won) = 0
+
+-- how many of the steps found this number at this word
+abbrev pub sightings : ℕ → ℕ → List Step → ℕ
+sightings word found steps = total (sighting word found) steps
+
+-- A call made the view `new` out of `old`: at most so many steps were added to the record, the made list is now this
+-- list, what was known is known, and the stand and the hand are as before.
+pub record Ran (old new : Seen) (list : List (ℕ × ℕ)) (most : ℕ) : Type 0 where
+  pub jobs : new.jobs ≡ old.jobs
+  pub all : new.all ≡ old.all
+  pub seats : new.seats ≡ old.seats
+  pub stand : new.stand ≡ old.stand
+  pub about : new.inner.job ≡ old.inner.job
+  pub hand : new.inner.hand ≡ old.inner.hand
+  pub made : new.inner.made ≡ list
+  pub known : (r g : ℕ) → pairs r g old.inner.known ≤ pairs r g new.inner.known
+  pub looks : (r g n : ℕ) → looked r g n old.inner.looks ≤ looked r g n new.inner.looks
+  pub added : List Step
+  pub short : length added ≤ most
+  pub steps : new.steps ≡ old.steps ++ added
+
+-- A call left these as they were: the seat is where it was, and has in hand what it had.
+pub record Stays (old new : Seen) : Type 0 where
+  pub jobs : new.jobs ≡ old.jobs
+  pub all : new.all ≡ old.all
+  pub seats : new.seats ≡ old.seats
+  pub stand : new.stand ≡ old.stand
+  pub about : new.inner.job ≡ old.inner.job
+  pub hand : new.inner.hand ≡ old.inner.hand
+
+-- One of the steps that the call added found this number at this word.
+abbrev pub Saw : Seen → Seen → ℕ → ℕ → Type 0
+Saw old new word found = sightings word found old.steps < sightings word found new.steps
+
+-- One of them found gate g undone in round r: its state word of an earlier round, or of this one and not at 2.
+abbrev pub SawUndone : Seen → Seen → ℕ → ℕ → Type 0
+SawUndone old new r g = (found : ℕ) × (found < stamp r 2) × Saw old new (at r g) found
+
+-- The seat knows that gate g is done in round r.
+abbrev pub Knows : Seen → ℕ → ℕ → Type 0
+Knows v r g = 0 < pairs r g v.inner.known
+
+-- An answered label is the active label of wire w in the round's job, and the gate that sets w is known in the round.
+pub record Got (job : JobParts) (r w : ℕ) (new : Seen) (label : ℕ) : Type 0 where
+  pub right : label ≡ active job w
+  pub known : (h : ℕ) → IsSetBy job.circuit w h → Knows new r h
+
+-- Wire w has no label: it is no input wire, and a gate that sets it was not known, and was found undone in the round.
+pub record Lacks (job : JobParts) (r w : ℕ) (old new : Seen) : Type 0 where
+  pub no_input : w < input_wires job.circuit → ⊥
+  pub unknown : (h : ℕ) → IsSetBy job.circuit w h → (pairs r h old.inner.known ≡ 0) × SawUndone old new r h
+
+-- What an answer for gate g in round r says, after at most so many steps. Made: the label is right in the round's job,
+-- the gate is known, it was not known, and it alone is appended to the made list, with the round. Done: the label is
+-- right, and the gate known. Taken: it was not known, and its state was found at 1 of the round. NotYet: it was not
+-- known, and it reads the wire, which lacks a label. Made alone changes the made list.
+abbrev pub Answers : JobParts → ℕ → ℕ → ℕ → Seen → Seen → Answer → Type 0
+Answers job r g most old new (Made label) =
+    (label ≡ active job (set_of job g)) × Knows new r g × (pairs r g old.inner.known ≡ 0)
+    × Ran old new (old.inner.made ++ (r, g) ∷ []) most
+Answers job r g most old new (Done label) =
+    (label ≡ active job (set_of job g)) × Knows new r g × Ran old new old.inner.made most
+Answers job r g most old new Taken =
+    (pairs r g old.inner.known ≡ 0) × Saw old new (at r g) (stamp r 1) × Ran old new old.inner.made most
+Answers job r g most old new (NotYet w) =
+    (pairs r g old.inner.known ≡ 0) × Reads job.circuit g w × Lacks job r w old new
+    × Ran old new old.inner.made most
+
+-- 1 where the answer is Made, and else 0
+abbrev pub made_now : Answer → ℕ
+made_now (Made label) = 1
+made_now (Done label) = 0
+made_now Taken = 0
+made_now (NotYet w) = 0
+
+-- The seat stands for all seats of its banks. Then the answers follow from its made list alone.
+abbrev pub IsAlone : Seen → Type 0
+IsAlone v = v.seats ≡ v.all
+
+-- A gate that sets wire w was made so many times by the seat in round r.
+abbrev pub SetsMade : JobParts → ℕ → ℕ → Seen → ℕ → Type 0
+SetsMade job r w v n = (h : ℕ) → IsSetBy job.circuit w h → pairs r h v.inner.made ≡ n
+
+-- The gates of all wires that gate g reads are made in round r.
+abbrev pub ReadsMade : JobParts → ℕ → ℕ → Seen → Type 0
+ReadsMade job r g old =
+    (gate : Gate) (w : ℕ) → slice_get job.circuit.gates g ≡ Some gate
+    → (first_of gate.operation ≡ Some w) ⊎ (second_of gate.operation ≡ Some w) → SetsMade job r w old 1
+
+-- Wire w is the first that gate g reads whose gate is not made in round r.
+abbrev pub FirstLacking : JobParts → ℕ → ℕ → Seen → ℕ → Type 0
+FirstLacking job r g old w =
+    (gate : Gate) → slice_get job.circuit.gates g ≡ Some gate
+    → ((first_of gate.operation ≡ Some w) × SetsMade job r w old 0)
+    ⊎ ((second_of gate.operation ≡ Some w) × SetsMade job r w old 0
+    × ((u : ℕ) → first_of gate.operation ≡ Some u → SetsMade job r u old 1))
+
+-- What the only seat of banks is answered for gate g in round r: Done where it made the gate, else NotYet with the first
+-- wire whose gate it hasn't made, else Made; and never Taken.
+abbrev pub AnswersAlone : JobParts → ℕ → ℕ → Seen → Answer → Type 0
+AnswersAlone job r g old (Made label) = (pairs r g old.inner.made ≡ 0) × ReadsMade job r g old
+AnswersAlone job r g old (Done label) = pairs r g old.inner.made ≡ 1
+AnswersAlone job r g old Taken = ⊥
+AnswersAlone job r g old (NotYet w) = (pairs r g old.inner.made ≡ 0) × FirstLacking job r g old w

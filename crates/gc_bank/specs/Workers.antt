@@ -1,0 +1,33 @@
+-- The workers of an evaluation of a list of jobs.
+use Rattle.std.specs.Prelude.{◌≡◌, ℕ, ◌<◌, Bool, List, All, Option, Some, Vec, IfSome, Ok, length, slice_get, slice_index_or}
+use Rattle.gc_rounds.specs.declared.view.Stand.TheVariants.{Outside}
+use Rattle.gc_eval.specs.Job.{JobParts}
+use Rattle.gc_eval.specs.Evaluate.{IsEvaluated}
+use Rattle.gc_bank.specs.Seats.{IsSeatOf, view, jobs_on}
+use Rattle.gc_bank.specs.declared.seat.Banks.{Banks}
+use Rattle.gc_bank.specs.declared.worker.Outputs.{Outputs}
+use Rattle.gc_bank.specs.declared.worker.Worker.{Worker}
+
+-- The bits are those of the job at this place.
+abbrev pub AreBitsOf : List JobParts → ℕ → List Bool → Type 0
+AreBitsOf jobs k bits = (job : JobParts) → slice_get jobs k ≡ Some job → IsEvaluated job (Ok bits)
+
+-- The output bits that a worker kept are those of their round's job.
+abbrev pub IsKept : {B : Type 0} → List JobParts → Outputs B → Type 0
+IsKept jobs kept = AreBitsOf jobs kept.round kept.bits.items
+
+module _ {A B C : Type 0} where
+  -- The worker has a seat of these banks, which is outside, and what it kept is right.
+  pub record IsWorkerOf (banks : Banks B A C) (worker : Worker B A C) : Type 0 where
+    pub seat_of : IsSeatOf banks worker.seat
+    pub outside : (view worker.seat).stand ≡ Outside
+    pub kept : All (IsKept (jobs_on banks)) worker.kept.items
+
+  abbrev pub AreWorkersOf : Banks B A C → List (Worker B A C) → Type 0
+  AreWorkersOf banks workers = All (IsWorkerOf banks) workers
+
+-- The bits at each place of a list, where there are any, are those of the job there.
+abbrev pub AreKnown : {B : Type 0} → List JobParts → List (Option (Vec Bool B)) → Type 0
+AreKnown jobs slots =
+    (k : ℕ) (d : Option (Vec Bool _)) → k < length slots
+    → IfSome (slice_index_or slots k d) (λ bits. AreBitsOf jobs k bits.items)

@@ -1,0 +1,143 @@
+//! The calls of banks by which a seat enters, steps, reads labels, leaves, seals and reopens. None of them waits or takes
+//! memory.
+
+ghost use Rattle.std.specs.Prelude.{◌≡◌, ℕ, ◌+◌, ◌*◌, ◌<◌, ◌≤◌, ◌-◌, ◌^◌, length, min, Some, MatchOption, IfSome, IfNone};
+ghost use Rattle.gc_rounds.specs.declared.view.Stand.TheVariants.{Outside, Inside};
+ghost use Rattle.gc_rounds.specs.Calls.{Enters, Leaves, Seals, Reopens};
+ghost use Rattle.gc_eval.specs.ActiveLabels.{gates_of};
+ghost use Rattle.gc_bank.specs.Views.{Stays, Answers, AnswersAlone, Ran, Got, Lacks};
+ghost use Rattle.gc_bank.specs.Seats.{IsSeatOf, IsSameSeat, IsInside, InRound, view, round_of, jobs_on};
+
+use crate::seat::{BankSeat, Banks};
+use gc_eval::Answer;
+use gc_label::Label;
+use gc_rounds::{Entry, Reopening};
+use std::alloc::Allocator;
+
+impl<B: Allocator, A: Allocator, C: Allocator> BankSeat<B, A, C> {
+    /// The round that the seat is inside, if it is inside one.
+    pub fn inside(&self) -> Option<u32>
+        ensures { MatchOption result ((view self.now).stand ≡ Outside) (λ r. (view self.now).stand ≡ Inside r) }
+    {
+        self.inside
+    }
+
+    /// How many gates the seat made, in all rounds. It stays at `u64::MAX`, which no banks reach.
+    pub fn made(&self) -> u64
+        ensures { result ≡ min (length (view self.now).inner.made) (2 ^ 64 - 1) }
+    {
+        self.count
+    }
+}
+
+impl<'j, 'c, B: Allocator, A: Allocator, C: Allocator> Banks<'j, 'c, B, A, C> {
+    /// Enters a round: inside where its bank is open in it, shut where it is sealed in it, and else the other round that
+    /// the bank is in. That the seat is these banks' and outside, and that there is such a round, is the caller's
+    /// condition.
+    pub fn enter(&self, seat: &mut BankSeat<B, A, C>, round: u32) -> Entry
+        requires own { IsSeatOf self.now seat.old }
+        requires outside { (view seat.old).stand ≡ Outside }
+        requires round { round < length (jobs_on self.now) }
+        ensures own { IsSeatOf self.now seat.new }
+        ensures same { IsSameSeat seat.old seat.new }
+        ensures found { Enters round (view seat.old) (view seat.new) result }
+    {
+        let entry = gc_rounds::enter(&self.board.table.shared, &mut seat.place, round);
+        seat.inside = match entry {
+            Entry::Inside => Some(round),
+            _ => None,
+        };
+        entry
+    }
+
+    /// Makes a gate in the seat's round, or says why not, in at most 11 atomic steps. A label that is answered is the
+    /// gate's active label in the round's job, and the seat knows the gate in the round from then on. A gate that the
+    /// seat knows is answered by Done. That the seat is these banks' and inside a round, and that there is such a gate, is
+    /// the caller's condition.
+    pub fn step(&self, seat: &mut BankSeat<B, A, C>, gate: u32) -> Answer
+        requires own { IsSeatOf self.now seat.old }
+        requires inside { IsInside (view seat.old) }
+        requires gate { InRound (jobs_on self.now) (view seat.old) (λ job. gate < gates_of job) }
+        ensures own { IsSeatOf self.now seat.new }
+        ensures same { IsSameSeat seat.old seat.new }
+        ensures stays { Stays (view seat.old) (view seat.new) }
+        ensures answer { InRound (jobs_on self.now) (view seat.old)
+            (λ job. Answers job (round_of (view seat.old)) gate 11 (view seat.old) (view seat.new) result) }
+        ensures alone { self.now.seats ≡ 1 → InRound (jobs_on self.now) (view seat.old)
+            (λ job. AnswersAlone job (round_of (view seat.old)) gate (view seat.old) result) }
+    {
+        let Some(round) = seat.inside else {
+            unreachable!()
+        };
+        let answer = self.step_in(&mut seat.place, round, gate);
+        if let Answer::Made(_) = answer {
+            seat.count = seat.count.saturating_add(1);
+        }
+        answer
+    }
+
+    /// The active label of a wire in the seat's round, if it is an input wire or the gate that sets it is done in the
+    /// round; the seat knows that gate from then on, and a gate that it knew gives its label. That the seat is these
+    /// banks' and inside a round, and that there is such a wire, is the caller's condition.
+    pub fn label(&self, seat: &mut BankSeat<B, A, C>, wire: u32) -> Option<Label>
+        requires own { IsSeatOf self.now seat.old }
+        requires inside { IsInside (view seat.old) }
+        requires wire { InRound (jobs_on self.now) (view seat.old) (λ job. wire < job.circuit.wires) }
+        ensures own { IsSeatOf self.now seat.new }
+        ensures same { IsSameSeat seat.old seat.new }
+        ensures ran { Ran (view seat.old) (view seat.new) (view seat.old).inner.made 3 }
+        ensures some { IfSome result (λ label. InRound (jobs_on self.now) (view seat.old)
+            (λ job. Got job (round_of (view seat.old)) wire (view seat.new) label)) }
+        ensures none { IfNone result (InRound (jobs_on self.now) (view seat.old)
+            (λ job. Lacks job (round_of (view seat.old)) wire (view seat.old) (view seat.new))) }
+    {
+        let Some(round) = seat.inside else {
+            unreachable!()
+        };
+        self.read_in(&mut seat.place, round, wire)
+    }
+
+    /// Leaves the seat's round. That the seat is these banks' and inside a round is the caller's condition.
+    pub fn leave(&self, seat: &mut BankSeat<B, A, C>)
+        requires own { IsSeatOf self.now seat.old }
+        requires inside { IsInside (view seat.old) }
+        ensures own { IsSeatOf self.now seat.new }
+        ensures same { IsSameSeat seat.old seat.new }
+        ensures left { Leaves (round_of (view seat.old)) (view seat.old) (view seat.new) }
+    {
+        let Some(round) = seat.inside else {
+            unreachable!()
+        };
+        gc_rounds::leave(&self.board.table.shared, &mut seat.place, round);
+        seat.inside = None;
+    }
+
+    /// Seals the seat's round: nobody enters it any more, and who is inside goes on until it leaves. That the seat is
+    /// these banks' and inside a round is the caller's condition.
+    pub fn seal(&self, seat: &mut BankSeat<B, A, C>)
+        requires own { IsSeatOf self.now seat.old }
+        requires inside { IsInside (view seat.old) }
+        ensures own { IsSeatOf self.now seat.new }
+        ensures same { IsSameSeat seat.old seat.new }
+        ensures sealed { Seals (round_of (view seat.old)) (view seat.old) (view seat.new) }
+    {
+        let Some(round) = seat.inside else {
+            unreachable!()
+        };
+        gc_rounds::seal(&self.board.table.shared, &mut seat.place, round);
+    }
+
+    /// Gives the bank of a round to the next round but one, where it is sealed in the round and nobody is inside; else it
+    /// answers what it found. That the seat is these banks' and outside, and that there is a next round but one, is the
+    /// caller's condition.
+    pub fn reopen(&self, seat: &mut BankSeat<B, A, C>, round: u32) -> Reopening
+        requires own { IsSeatOf self.now seat.old }
+        requires outside { (view seat.old).stand ≡ Outside }
+        requires round { round + 2 < length (jobs_on self.now) }
+        ensures own { IsSeatOf self.now seat.new }
+        ensures same { IsSameSeat seat.old seat.new }
+        ensures found { Reopens round (view seat.old) (view seat.new) result }
+    {
+        gc_rounds::reopen(&self.board.table.shared, &mut seat.place, round)
+    }
+}

@@ -1,0 +1,105 @@
+//! Evaluating a list of jobs.
+
+ghost use Rattle.std.specs.Prelude.{◌≤◌, ◌<◌, length, map, IfOk, IfSome, Ok, List};
+ghost use Rattle.std.specs.Result.{result_map_both};
+ghost use Rattle.gc_eval.specs.Evaluate.{IsEvaluated};
+ghost use Rattle.gc_eval.specs.Job.{JobParts};
+ghost use Rattle.gc_bank.specs.Jobs.{AreOnOneCircuit, AreEvaluatedBy, EvaluateTo};
+ghost use Rattle.gc_bank.specs.Workers.{AreBitsOf, AreKnown};
+
+use crate::together::evaluate_together;
+use gc_eval::{EvalFault, Job, evaluate};
+use gc_work::{Gatehouse, MAX_WORKERS};
+use std::alloc::Allocator;
+use std::thread::Threads;
+
+/// The most jobs of a list.
+pub const MAX_JOBS: usize = 65_536;
+
+/// The output bits of each job, in order, by so many workers: what [`evaluate`] answers for it, honest job or not. One
+/// worker evaluates one job after another. Of more, the calling thread is worker 0; a thread is started for each other
+/// worker, and where one can't be started the calling thread does its work too. They have [`Banks`](crate::Banks), and
+/// `house` is told of each gate ahead of each step. A job whose bits no worker has when all have ended is evaluated on
+/// one thread, as are all where there is no memory for the banks.
+///
+/// It refuses 0 workers and more than [`MAX_WORKERS`]: 22. Else it is 48 for the first job of which the garbled file
+/// doesn't recognise an output label, at the first such output. Memory is the other fault. That there are 1 to
+/// [`MAX_JOBS`] jobs, all on one circuit, is the caller's condition; [`one_circuit`](crate::one_circuit) is the test.
+pub fn evaluate_jobs<
+    A: Allocator + Send + Sync,
+    B: Allocator + Copy + Send + Sync,
+    C: Allocator + Send + Sync,
+    H: Gatehouse + Sync,
+    R: Threads + Sync,
+>(
+    rt: &R,
+    alloc: B,
+    jobs: &[Job<'_, A, C>],
+    workers: u32,
+    house: &H,
+) -> Result<Vec<Vec<bool, B>, B>, EvalFault>
+    requires count { (0 < length jobs.now) × (length jobs.now ≤ MAX_JOBS) }
+    requires one { AreOnOneCircuit jobs.now }
+    ensures { AreEvaluatedBy workers jobs.now
+        (result_map_both (λ all. map (λ bits. bits.items) all.items) (λ fault. fault) result) }
+{
+    if workers == 0 || workers > MAX_WORKERS {
+        return Err(EvalFault::BadWorkers);
+    }
+    if workers == 1 {
+        return evaluate_rest(alloc, jobs, Vec::new(alloc));
+    }
+    match evaluate_together(rt, alloc, jobs, workers, house) {
+        Some(known) => evaluate_rest(alloc, jobs, known),
+        None => evaluate_rest(alloc, jobs, Vec::new(alloc)),
+    }
+}
+
+/// The output bits of each job, in order: those that are known, and the others evaluated on one thread.
+fn evaluate_rest<A: Allocator, B: Allocator + Copy, C: Allocator>(
+    alloc: B,
+    jobs: &[Job<'_, A, C>],
+    mut known: Vec<Option<Vec<bool, B>>, B>,
+) -> Result<Vec<Vec<bool, B>, B>, EvalFault>
+    requires { AreKnown jobs.now known.items }
+    ensures { EvaluateTo jobs.now
+        (result_map_both (λ all. map (λ bits. bits.items) all.items) (λ fault. fault) result) }
+{
+    let mut all = Vec::with_capacity(alloc, jobs.len())?;
+    for i in 0..jobs.len() {
+        let found = taken(&mut known, i);
+        let bits = bits_of(alloc, &jobs[i], found)?;
+        all.push(bits)?;
+    }
+    Ok(all)
+}
+
+/// The output bits of a job: those that were found, or else evaluated on one thread.
+fn bits_of<A: Allocator, B: Allocator + Copy, C: Allocator>(
+    alloc: B,
+    job: &Job<'_, A, C>,
+    found: Option<Vec<bool, B>>,
+) -> Result<Vec<bool, B>, EvalFault>
+    requires { IfSome found (λ bits. IsEvaluated job.now (Ok bits.items)) }
+    ensures { IsEvaluated job.now (result_map_both (λ bits. bits.items) (λ fault. fault) result) }
+{
+    match found {
+        Some(bits) => Ok(bits),
+        None => evaluate(alloc, job),
+    }
+}
+
+/// The output bits at a place, if there are any; none stand there afterwards.
+fn taken<B: Allocator>(
+    known: &mut Vec<Option<Vec<bool, B>>, B>,
+    place: usize,
+) -> Option<Vec<bool, B>>
+    ensures bits { IfSome result (λ bits. (jobs : List JobParts) → AreKnown jobs known.old.items → AreBitsOf jobs place bits.items) }
+    ensures rest { (jobs : List JobParts) → AreKnown jobs known.old.items → AreKnown jobs known.new.items }
+{
+    if place < known.len() {
+        known[place].take()
+    } else {
+        None
+    }
+}

@@ -1,0 +1,310 @@
+//! What a seat does inside a round: it steps a gate and asks for a label.
+
+ghost use Rattle.std.specs.Prelude.{◌≡◌, ℕ, ◌+◌, ◌*◌, ◌<◌, ◌≤◌, ◌++◌, ◌∷◌, [], length, slice_get, IfSome, IfNone, IfOk, IfErr, MatchOption, MatchResult, Some, None};
+ghost use Rattle.gc_rounds.specs.Places.{IsSamePlace};
+ghost use Rattle.gc_round_board.specs.declared.view.Hand.TheVariants.{Empty};
+ghost use Rattle.gc_round_board.specs.Pairs.{pairs, looked};
+ghost use Rattle.gc_round_board.specs.Board.{stamp};
+ghost use Rattle.gc_round_board.specs.Places.{IsPlaceInside, IsPlaceAt};
+ghost use Rattle.gc_eval.specs.ActiveLabels.{gates_of as gates_in, active, set_of, active_from};
+ghost use Rattle.gc_eval.specs.Views.{Reads, first_of, second_of, IsMadeNow};
+ghost use Rattle.gc_bank.specs.Rounds.{gates_of, IsRound};
+ghost use Rattle.gc_bank.specs.Views.{Stays, made_now, Ran, Got, Lacks, Answers, Knows, IsAlone, SetsMade, ReadsMade, FirstLacking, AnswersAlone};
+ghost use Rattle.gc_bank.specs.Seats.{InRound, round_of};
+
+use crate::seat::Banks;
+use crate::series::Series;
+use gc_circuit::Operation;
+use gc_eval::{Answer, Job};
+use gc_label::Label;
+use gc_round_board::{
+    Place, Words, claim, load_high, load_low, load_state, store_done, store_high, store_low,
+};
+use std::alloc::Allocator;
+
+/// The label of a gate that is known in the round, in two loads.
+fn load_label<B: Allocator, A: Allocator, C: Allocator>(
+    words: &Words<Series<B, A, C>>,
+    place: &mut Place<Series<B, A, C>>,
+    job: &Job<'_, A, C>,
+    round: u32,
+    gate: u32,
+) -> Label
+    requires place { IsPlaceAt gates_of words.now.table_id words.now.key place.old round gate }
+    requires job { IsRound words.now.key.about round job.now }
+    requires known { Knows place.old.me.0 round gate }
+    ensures same { IsSamePlace place.old place.new }
+    ensures ran { Ran place.old.me.0 place.new.me.0 place.old.me.0.inner.made 2 }
+    ensures right { result ≡ active job.now (set_of job.now gate) }
+{
+    let low = load_low(words, place, round, gate);
+    let high = load_high(words, place, round, gate);
+    Label::from_halves(low, high)
+}
+
+/// The state word of a gate that is in hand in the round.
+#[inline]
+fn held(round: u32) -> u64
+    ensures { result ≡ stamp round 1 }
+{
+    0x1_0000_0000 * round as u64 + 1
+}
+
+/// The state word of a gate that is done in the round.
+#[inline]
+fn done(round: u32) -> u64
+    ensures { result ≡ stamp round 2 }
+{
+    0x1_0000_0000 * round as u64 + 2
+}
+
+/// The wire that an operation reads first.
+fn first(operation: Operation) -> Option<u32>
+    ensures { result ≡ first_of operation }
+{
+    match operation {
+        Operation::Xor(a, _) => Some(a),
+        Operation::And(a, _) => Some(a),
+        Operation::Inv(a) => Some(a),
+        Operation::Eqw(a) => Some(a),
+        Operation::Eq(_) => None,
+    }
+}
+
+/// The wire that it reads second.
+fn second(operation: Operation) -> Option<u32>
+    ensures { result ≡ second_of operation }
+{
+    match operation {
+        Operation::Xor(_, b) => Some(b),
+        Operation::And(_, b) => Some(b),
+        _ => None,
+    }
+}
+
+impl<'j, 'c, B: Allocator, A: Allocator, C: Allocator> Banks<'j, 'c, B, A, C> {
+    /// The job of a round.
+    #[inline]
+    pub(crate) fn job(&self, round: u32) -> &'j Job<'c, A, C>
+        requires { round < length self.now.jobs.now }
+        ensures at { slice_get self.now.jobs.now round ≡ Some result.now }
+        ensures round { IsRound self.now.board.table.shared.key.about round result.now }
+        ensures circuit { result.now.circuit ≡ self.now.wiring }
+    {
+        &self.jobs[round as usize]
+    }
+
+    /// The label of a wire in the round, where it is an input wire or the gate that sets it is found done.
+    pub(crate) fn read(
+        &self,
+        place: &mut Place<Series<B, A, C>>,
+        job: &Job<'c, A, C>,
+        round: u32,
+        wire: u32,
+    ) -> Option<Label>
+        requires place { IsPlaceInside gates_of self.now.board.table.shared.table_id
+            self.now.board.table.shared.key place.old round }
+        requires job { IsRound self.now.board.table.shared.key.about round job.now
+            × (job.now.circuit ≡ self.now.wiring) }
+        requires wire { wire < job.now.circuit.wires }
+        ensures same { IsSamePlace place.old place.new }
+        ensures ran { Ran place.old.me.0 place.new.me.0 place.old.me.0.inner.made 3 }
+        ensures some { IfSome result (Got job.now round wire place.new.me.0) }
+        ensures none { IfNone result (Lacks job.now round wire place.old.me.0 place.new.me.0) }
+        ensures alone { IsAlone place.old.me.0
+            → MatchOption result (SetsMade job.now round wire place.old.me.0 0)
+            (λ _. SetsMade job.now round wire place.old.me.0 1) }
+    {
+        if wire < job.circuit().input_wires() {
+            return Some(job.input(wire));
+        }
+        let Some(gate) = self.wiring.setter(wire) else {
+            return None;
+        };
+        let words = &self.board.table.shared;
+        if load_state(words, place, round, gate) == done(round) {
+            Some(load_label(words, place, job, round, gate))
+        } else {
+            None
+        }
+    }
+
+    /// The label of a wire that a gate may read. The fault is the wire, where it has none.
+    fn read_some(
+        &self,
+        place: &mut Place<Series<B, A, C>>,
+        job: &Job<'c, A, C>,
+        round: u32,
+        wire: Option<u32>,
+    ) -> Result<Label, u32>
+        requires place { IsPlaceInside gates_of self.now.board.table.shared.table_id
+            self.now.board.table.shared.key place.old round }
+        requires job { IsRound self.now.board.table.shared.key.about round job.now
+            × (job.now.circuit ≡ self.now.wiring) }
+        requires wire { IfSome wire (λ w. w < job.now.circuit.wires) }
+        ensures same { IsSamePlace place.old place.new }
+        ensures ran { Ran place.old.me.0 place.new.me.0 place.old.me.0.inner.made 3 }
+        ensures ok { IfOk result (λ l. (w : ℕ) → wire ≡ Some w → l ≡ active job.now w) }
+        ensures err { IfErr result (λ w. (wire ≡ Some w)
+            × Lacks job.now round w place.old.me.0 place.new.me.0) }
+        ensures alone { IsAlone place.old.me.0
+            → MatchResult result (λ _. (w : ℕ) → wire ≡ Some w → SetsMade job.now round w place.old.me.0 1)
+            (λ w. SetsMade job.now round w place.old.me.0 0) }
+    {
+        let Some(wire) = wire else {
+            return Ok(Label::ZERO);
+        };
+        match self.read(place, job, round, wire) {
+            Some(label) => Ok(label),
+            None => Err(wire),
+        }
+    }
+
+    /// The labels that a gate reads in the round. The fault is the first wire that has none.
+    fn read_both(
+        &self,
+        place: &mut Place<Series<B, A, C>>,
+        job: &Job<'c, A, C>,
+        round: u32,
+        gate: u32,
+    ) -> Result<(Label, Label), u32>
+        requires place { IsPlaceAt gates_of self.now.board.table.shared.table_id
+            self.now.board.table.shared.key place.old round gate }
+        requires job { IsRound self.now.board.table.shared.key.about round job.now
+            × (job.now.circuit ≡ self.now.wiring) }
+        ensures same { IsSamePlace place.old place.new }
+        ensures ran { Ran place.old.me.0 place.new.me.0 place.old.me.0.inner.made 6 }
+        ensures ok { IfOk result (λ l. active_from job.now gate l.0 l.1
+            ≡ active job.now (set_of job.now gate)) }
+        ensures err { IfErr result (λ w. Reads job.now.circuit gate w
+            × Lacks job.now round w place.old.me.0 place.new.me.0) }
+        ensures alone { IsAlone place.old.me.0
+            → MatchResult result (λ _. ReadsMade job.now round gate place.old.me.0)
+            (λ w. FirstLacking job.now round gate place.old.me.0 w) }
+    {
+        let operation = job.circuit().gate(gate).operation;
+        let a = match self.read_some(place, job, round, first(operation)) {
+            Ok(label) => label,
+            Err(wire) => return Err(wire),
+        };
+        let b = match self.read_some(place, job, round, second(operation)) {
+            Ok(label) => label,
+            Err(wire) => return Err(wire),
+        };
+        Ok((a, b))
+    }
+
+    /// Makes a gate whose labels were read, where no seat has it in the round since its state word was found free.
+    fn make(
+        &self,
+        place: &mut Place<Series<B, A, C>>,
+        job: &Job<'c, A, C>,
+        round: u32,
+        gate: u32,
+        free: u64,
+        labels: (Label, Label),
+    ) -> Answer
+        requires place { IsPlaceAt gates_of self.now.board.table.shared.table_id
+            self.now.board.table.shared.key place.old round gate }
+        requires job { IsRound self.now.board.table.shared.key.about round job.now
+            × (job.now.circuit ≡ self.now.wiring) }
+        requires empty { (place.old.me.0.inner.hand ≡ Empty) × (0 < place.old.me.0.seats) }
+        requires free { (0 < looked round gate free place.old.me.0.inner.looks) × (free ≤ stamp round 0) }
+        requires labels { active_from job.now gate labels.0 labels.1 ≡ active job.now (set_of job.now gate) }
+        ensures same { IsSamePlace place.old place.new }
+        ensures answer { Answers job.now round gate 4 place.old.me.0 place.new.me.0 result }
+        ensures alone { IsAlone place.old.me.0
+            → pairs round gate place.old.me.0.inner.made ≡ 0 → IsMadeNow result }
+    {
+        let words = &self.board.table.shared;
+        let found = claim(words, place, round, gate, free);
+        if found == done(round) {
+            return Answer::Done(load_label(words, place, job, round, gate));
+        }
+        if found == held(round) {
+            return Answer::Taken;
+        }
+        let label = job.active_by(&self.wiring, gate, labels.0, labels.1);
+        let (low, high) = label.halves();
+        store_low(words, place, round, gate, low);
+        store_high(words, place, round, gate, high);
+        store_done(words, place, round, gate);
+        Answer::Made(label)
+    }
+
+    /// A step, at the place of a seat.
+    pub(crate) fn step_at(
+        &self,
+        place: &mut Place<Series<B, A, C>>,
+        job: &Job<'c, A, C>,
+        round: u32,
+        gate: u32,
+    ) -> Answer
+        requires place { IsPlaceAt gates_of self.now.board.table.shared.table_id
+            self.now.board.table.shared.key place.old round gate }
+        requires job { IsRound self.now.board.table.shared.key.about round job.now
+            × (job.now.circuit ≡ self.now.wiring) }
+        requires empty { (place.old.me.0.inner.hand ≡ Empty) × (0 < place.old.me.0.seats) }
+        ensures same { IsSamePlace place.old place.new }
+        ensures answer { Answers job.now round gate 11 place.old.me.0 place.new.me.0 result }
+        ensures alone { IsAlone place.old.me.0 → AnswersAlone job.now round gate place.old.me.0 result }
+    {
+        let words = &self.board.table.shared;
+        let found = load_state(words, place, round, gate);
+        if found == done(round) {
+            return Answer::Done(load_label(words, place, job, round, gate));
+        }
+        if found == held(round) {
+            return Answer::Taken;
+        }
+        match self.read_both(place, job, round, gate) {
+            Ok(labels) => self.make(place, job, round, gate, found, labels),
+            Err(wire) => Answer::NotYet(wire),
+        }
+    }
+
+    /// A step in the round that the seat at this place is inside.
+    pub(crate) fn step_in(
+        &self,
+        place: &mut Place<Series<B, A, C>>,
+        round: u32,
+        gate: u32,
+    ) -> Answer
+        requires place { IsPlaceInside gates_of self.now.board.table.shared.table_id
+            self.now.board.table.shared.key place.old round }
+        requires round { round < length self.now.jobs.now }
+        requires gate { InRound self.now.jobs.now place.old.me.0 (λ job. gate < gates_in job) }
+        requires empty { (place.old.me.0.inner.hand ≡ Empty) × (0 < place.old.me.0.seats) }
+        ensures same { IsSamePlace place.old place.new }
+        ensures answer { InRound self.now.jobs.now place.old.me.0
+            (λ job. Answers job (round_of place.old.me.0) gate 11 place.old.me.0 place.new.me.0 result) }
+        ensures alone { IsAlone place.old.me.0 → InRound self.now.jobs.now place.old.me.0
+            (λ job. AnswersAlone job (round_of place.old.me.0) gate place.old.me.0 result) }
+        ensures stays { Stays place.old.me.0 place.new.me.0 }
+        ensures made { length place.new.me.0.inner.made
+            ≡ length place.old.me.0.inner.made + made_now result }
+    {
+        self.step_at(place, self.job(round), round, gate)
+    }
+
+    /// The label of a wire in the round that the seat at this place is inside.
+    pub(crate) fn read_in(
+        &self,
+        place: &mut Place<Series<B, A, C>>,
+        round: u32,
+        wire: u32,
+    ) -> Option<Label>
+        requires place { IsPlaceInside gates_of self.now.board.table.shared.table_id
+            self.now.board.table.shared.key place.old round }
+        requires round { round < length self.now.jobs.now }
+        requires wire { InRound self.now.jobs.now place.old.me.0 (λ job. wire < job.circuit.wires) }
+        ensures same { IsSamePlace place.old place.new }
+        ensures ran { Ran place.old.me.0 place.new.me.0 place.old.me.0.inner.made 3 }
+        ensures some { IfSome result (λ label. InRound self.now.jobs.now place.old.me.0
+            (λ job. Got job (round_of place.old.me.0) wire place.new.me.0 label)) }
+        ensures none { IfNone result (InRound self.now.jobs.now place.old.me.0
+            (λ job. Lacks job (round_of place.old.me.0) wire place.old.me.0 place.new.me.0)) }
+    {
+        self.read(place, self.job(round), round, wire)
+    }
+}

@@ -1,0 +1,136 @@
+//! Workers that evaluate a list of jobs together.
+
+ghost use Rattle.std.specs.Prelude.{◌≡◌, ◌<◌, ◌≤◌, length, IfOk, IfSome, List};
+ghost use Rattle.gc_eval.specs.Job.{JobParts};
+ghost use Rattle.gc_bank.specs.Jobs.{AreOnOneCircuit};
+ghost use Rattle.gc_bank.specs.Seats.{jobs_on};
+ghost use Rattle.gc_bank.specs.Workers.{AreBitsOf, AreKnown, IsWorkerOf, AreWorkersOf};
+
+use crate::seat::Banks;
+use crate::worker::{Outputs, Worker, muster};
+use gc_eval::Job;
+use gc_work::Gatehouse;
+use std::alloc::{AllocError, Allocator};
+use std::thread;
+use std::thread::Threads;
+
+/// For each job, in order, its output bits where a worker kept them. There is no answer where there is no memory for the
+/// banks and their workers.
+pub(crate) fn evaluate_together<
+    A: Allocator + Send + Sync,
+    B: Allocator + Copy + Send + Sync,
+    C: Allocator + Send + Sync,
+    H: Gatehouse + Sync,
+    R: Threads + Sync,
+>(
+    rt: &R,
+    alloc: B,
+    jobs: &[Job<'_, A, C>],
+    workers: u32,
+    house: &H,
+) -> Option<Vec<Option<Vec<bool, B>>, B>>
+    requires count { (0 < length jobs.now) × (length jobs.now ≤ 65536) }
+    requires one { AreOnOneCircuit jobs.now }
+    requires workers { (0 < workers) × (workers ≤ 64) }
+    ensures { IfSome result (λ v. AreKnown jobs.now v.items) }
+{
+    let Ok(slots) = none_known(alloc, jobs.len()) else {
+        return None;
+    };
+    let Ok((banks, seats)) = Banks::open(alloc, jobs, workers) else {
+        return None;
+    };
+    let Ok(mut workers) = muster(alloc, &banks, seats) else {
+        return None;
+    };
+    work_together(rt, alloc, &banks, workers.as_mut_slice(), house);
+    Some(all_kept(&banks, slots, workers))
+}
+
+/// Lets the workers go through all rounds, the last one on the calling thread and each other in a thread of its own,
+/// where one can be started.
+fn work_together<
+    'j,
+    'c,
+    A: Allocator + Send + Sync,
+    B: Allocator + Copy + Send + Sync,
+    C: Allocator + Send + Sync,
+    H: Gatehouse + Sync,
+    R: Threads + Sync,
+>(rt: &R, alloc: B, banks: &Banks<'j, 'c, B, A, C>, workers: &mut [Worker<B, A, C>], house: &H)
+    requires { AreWorkersOf banks.now workers.old }
+    ensures { AreWorkersOf banks.now workers.new }
+{
+    let count = workers.len().max(1);
+    thread::for_each_mut(
+        rt,
+        workers,
+        count,
+        &|_i: usize, worker: &mut Worker<B, A, C>|
+            requires { IsWorkerOf banks.now worker.now }
+            ensures { IsWorkerOf banks.entry.now worker.exit.now }
+        { worker.work(alloc, banks, house) },
+    );
+}
+
+/// A place for the output bits of each of so many jobs, with none yet.
+fn none_known<B: Allocator + Copy>(
+    alloc: B,
+    count: usize,
+) -> Result<Vec<Option<Vec<bool, B>>, B>, AllocError>
+    ensures { IfOk result (λ v. (jobs : List JobParts) → AreKnown jobs v.items) }
+{
+    let mut slots = Vec::with_capacity(alloc, count)?;
+    for _i in 0..count {
+        slots.push(None)?;
+    }
+    Ok(slots)
+}
+
+/// What all workers kept, at the places of the jobs.
+fn all_kept<'j, 'c, B: Allocator, A: Allocator, C: Allocator>(
+    banks: &Banks<'j, 'c, B, A, C>,
+    mut slots: Vec<Option<Vec<bool, B>>, B>,
+    mut workers: Vec<Worker<B, A, C>, B>,
+) -> Vec<Option<Vec<bool, B>>, B>
+    requires workers { AreWorkersOf banks.now workers.items }
+    requires slots { AreKnown (jobs_on banks.now) slots.items }
+    ensures { AreKnown (jobs_on banks.now) result.items }
+{
+    while let Some(worker) = workers.pop() {
+        slots = kept_by(banks, slots, worker);
+    }
+    slots
+}
+
+/// What a worker kept, at the places of the jobs.
+fn kept_by<'j, 'c, B: Allocator, A: Allocator, C: Allocator>(
+    banks: &Banks<'j, 'c, B, A, C>,
+    mut slots: Vec<Option<Vec<bool, B>>, B>,
+    worker: Worker<B, A, C>,
+) -> Vec<Option<Vec<bool, B>>, B>
+    requires worker { IsWorkerOf banks.now worker }
+    requires slots { AreKnown (jobs_on banks.now) slots.items }
+    ensures { AreKnown (jobs_on banks.now) result.items }
+{
+    let mut kept = worker.kept;
+    while let Some(Outputs { round, bits }) = kept.pop() {
+        slots = with_bits(slots, round as usize, bits);
+    }
+    slots
+}
+
+/// The list with these bits at a place, where it has such a place.
+fn with_bits<B: Allocator>(
+    mut slots: Vec<Option<Vec<bool, B>>, B>,
+    place: usize,
+    bits: Vec<bool, B>,
+) -> Vec<Option<Vec<bool, B>>, B>
+    ensures { (jobs : List JobParts) → AreKnown jobs slots.items → AreBitsOf jobs place bits.items
+        → AreKnown jobs result.items }
+{
+    if place < slots.len() {
+        let _ = slots[place].replace(bits);
+    }
+    slots
+}
