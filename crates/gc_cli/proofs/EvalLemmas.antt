@@ -25,7 +25,7 @@ module _ (old new : FileBytes) (same : (n : List ℕ) → new n ≡ old n) where
   labels-before (name ∷ names) (parts ∷ files) told =
       (told-before (λ held. IsLabelFile held parts) name told.0, labels-before names files told.1)
 
-  bad-before : (names : List (List ℕ)) (fault : FileFault) → FirstBadLabels new names fault → FirstBadLabels old names fault
+  pub bad-before : (names : List (List ℕ)) (fault : FileFault) → FirstBadLabels new names fault → FirstBadLabels old names fault
   bad-before [] fault bad = absurd bad
   bad-before (name ∷ names) fault (inl here) = inl (told-before (λ held. FirstLabelFault held fault) name here)
   bad-before (name ∷ names) fault (inr later) =
@@ -39,22 +39,24 @@ module _ (old new : FileBytes) (same : (n : List ℕ) → new n ≡ old n) where
   labels-fault-before names faults.WrongCount has = absurd has
   labels-fault-before names (faults.Value fault) has = absurd has
   labels-fault-before names faults.BadSeed has = absurd has
+  labels-fault-before names faults.BadList has = absurd has
   labels-fault-before names faults.NoSuchValue has = absurd has
   labels-fault-before names (faults.Garbling fault) has = absurd has
   labels-fault-before names (faults.Binding fault) has = absurd has
   labels-fault-before names (faults.Evaluation fault) has = absurd has
   labels-fault-before names faults.CannotWrite has = absurd has
 
-module _ (bytes : FileBytes) (circuit garbled : List ℕ) (labels : List (List ℕ)) where
+module _ (bytes : FileBytes) (circuit garbled : List ℕ) (workers : ℕ) (labels : List (List ℕ)) where
   -- The fault of the circuit's file,
   pub circuit-fault : (fault : Fault) → IsCircuitFault fault → IfSome (bytes circuit) (λ held. HasCircuitFault held fault)
-      → HasEvalFault bytes circuit garbled labels fault
+      → HasEvalFault bytes circuit garbled workers labels fault
   circuit-fault faults.CannotRead kind has = tt
   circuit-fault (faults.Circuit fault) kind has = has
   circuit-fault faults.Memory kind has = tt
   circuit-fault faults.WrongCount kind has = absurd kind
   circuit-fault (faults.Value fault) kind has = absurd kind
   circuit-fault faults.BadSeed kind has = absurd kind
+  circuit-fault faults.BadList kind has = absurd kind
   circuit-fault faults.NoSuchValue kind has = absurd kind
   circuit-fault (faults.Garbling fault) kind has = absurd kind
   circuit-fault (faults.File fault) kind has = absurd kind
@@ -64,7 +66,7 @@ module _ (bytes : FileBytes) (circuit garbled : List ℕ) (labels : List (List �
 
   module _ (c : Netlist) (circuit_told : IfSome (bytes circuit) (λ held. IsCircuit held c)) where
     -- of the garbled file,
-    pub garbled-fault : (fault : Fault) → HasGarbledFault bytes garbled fault → HasEvalFault bytes circuit garbled labels fault
+    pub garbled-fault : (fault : Fault) → HasGarbledFault bytes garbled fault → HasEvalFault bytes circuit garbled workers labels fault
     garbled-fault (faults.File fault) has = ((c, circuit_told), λ other. inl (has other))
     garbled-fault faults.CannotRead has = tt
     garbled-fault faults.Memory has = tt
@@ -72,6 +74,7 @@ module _ (bytes : FileBytes) (circuit garbled : List ℕ) (labels : List (List �
     garbled-fault faults.WrongCount has = absurd has
     garbled-fault (faults.Value fault) has = absurd has
     garbled-fault faults.BadSeed has = absurd has
+    garbled-fault faults.BadList has = absurd has
     garbled-fault faults.NoSuchValue has = absurd has
     garbled-fault (faults.Garbling fault) has = absurd has
     garbled-fault (faults.Binding fault) has = absurd has
@@ -80,7 +83,7 @@ module _ (bytes : FileBytes) (circuit garbled : List ℕ) (labels : List (List �
 
     -- of the label files,
     pub labels-fault : (g : GarbledParts) → IfSome (bytes garbled) (λ held. IsGarbledFile held g) → (fault : Fault)
-        → HasLabelsFault bytes labels fault → HasEvalFault bytes circuit garbled labels fault
+        → HasLabelsFault bytes labels fault → HasEvalFault bytes circuit garbled workers labels fault
     labels-fault g told (faults.File fault) has = ((c, circuit_told), λ other. inr (g, told, has other))
     labels-fault g told faults.CannotRead has = tt
     labels-fault g told faults.Memory has = tt
@@ -88,6 +91,7 @@ module _ (bytes : FileBytes) (circuit garbled : List ℕ) (labels : List (List �
     labels-fault g told faults.WrongCount has = absurd has
     labels-fault g told (faults.Value fault) has = absurd has
     labels-fault g told faults.BadSeed has = absurd has
+    labels-fault g told faults.BadList has = absurd has
     labels-fault g told faults.NoSuchValue has = absurd has
     labels-fault g told (faults.Garbling fault) has = absurd has
     labels-fault g told (faults.Binding fault) has = absurd has
@@ -96,13 +100,14 @@ module _ (bytes : FileBytes) (circuit garbled : List ℕ) (labels : List (List �
 
   -- and of their job.
   pub job-fault : (c : Netlist) (g : GarbledParts) (files : List LabelFileParts) → TellEval bytes circuit garbled labels c g files
-      → (fault : Fault) → HasJobFault c g files fault → HasEvalFault bytes circuit garbled labels fault
+      → (fault : Fault) → HasJobFault c g files workers fault → HasEvalFault bytes circuit garbled workers labels fault
   job-fault c g files told (faults.Binding fault) has = (c, (g, (files, (told, has))))
   job-fault c g files told (faults.Evaluation fault) has = (c, (g, (files, (told, has))))
   job-fault c g files told (faults.Circuit fault) has = absurd has
   job-fault c g files told faults.WrongCount has = absurd has
   job-fault c g files told (faults.Value fault) has = absurd has
   job-fault c g files told faults.BadSeed has = absurd has
+  job-fault c g files told faults.BadList has = absurd has
   job-fault c g files told faults.NoSuchValue has = absurd has
   job-fault c g files told (faults.Garbling fault) has = absurd has
   job-fault c g files told (faults.File fault) has = absurd has

@@ -7,3 +7,5 @@ pub mod FaultLemmas
 pub mod OwnFilesLemmas
 pub mod PlainLemmas
 pub mod CheckLemmas
+pub mod JobListLemmas
+pub mod JobsLemmas

@@ -1,9 +1,10 @@
 -- What a run's steps tell, joined.
-use Rattle.std.proofs.Common.{ℕ, List, Bool, Ok, Err, flat_map}
+use Rattle.std.proofs.Common.{ℕ, List, Bool, Ok, Err, ⊎_elim, flat_map, refl, arith}
 use Rattle.gc_circuit.specs.Circuit.{Netlist, IsLawful}
 use Rattle.gc_circuit.specs.Meaning.{AreOutputs}
 use Rattle.gc_file.specs.GarbledFile.{GarbledParts}
 use Rattle.gc_file.specs.LabelFile.{LabelFileParts}
+use Rattle.gc_eval.specs.declared.fault.EvalFault.TheVariants as eval
 use Rattle.gc_eval.specs.Binding.{FirstBindFault}
 use Rattle.gc_eval.specs.Honest.{AreHonestFiles}
 use Rattle.gc_eval.proofs.HonestFiles.{honest-files}
@@ -23,15 +24,19 @@ module _ (c : Netlist) (lawful : IsLawful c) (seed : List ℕ) (values : List (L
       (honest-files c lawful seed values g files honest).outputs is.job is.bound (Ok outputs) is.evaluated
 
   -- and only memory may be missing.
-  pub honest-fault : (fault : Fault) → HasJobFault c g files fault → IsWantOfMemory fault
+  pub honest-fault : (fault : Fault) → HasJobFault c g files 1 fault → IsWantOfMemory fault
   honest-fault (faults.Binding fault) has =
       bind-memory (FirstBindFault c g files) (honest-files c lawful seed values g files honest).no_fault fault has
-  honest-fault (faults.Evaluation fault) has =
-      (honest-files c lawful seed values g files honest).outputs has.0 has.1 (Err fault) has.2
+  honest-fault (faults.Evaluation eval.BadWorkers) has = absurd (⊎_elim (λ none. omega (arith, none)) (λ many. omega (arith, many)) has.2)
+  honest-fault (faults.Evaluation eval.Memory) has = refl
+  honest-fault (faults.Evaluation (eval.UnknownOutputLabel output)) has =
+      (honest-files c lawful seed values g files honest).outputs has.0 has.1
+      (Err (eval.UnknownOutputLabel output)) has.2.1
   honest-fault (faults.Circuit fault) has = absurd has
   honest-fault faults.WrongCount has = absurd has
   honest-fault (faults.Value fault) has = absurd has
   honest-fault faults.BadSeed has = absurd has
+  honest-fault faults.BadList has = absurd has
   honest-fault faults.NoSuchValue has = absurd has
   honest-fault (faults.Garbling fault) has = absurd has
   honest-fault (faults.File fault) has = absurd has
@@ -51,6 +56,7 @@ want-of-memory bytes seed workers texts told few (faults.Circuit fault) want = a
 want-of-memory bytes seed workers texts told few faults.WrongCount want = absurd want
 want-of-memory bytes seed workers texts told few (faults.Value fault) want = absurd want
 want-of-memory bytes seed workers texts told few faults.BadSeed want = absurd want
+want-of-memory bytes seed workers texts told few faults.BadList want = absurd want
 want-of-memory bytes seed workers texts told few faults.NoSuchValue want = absurd want
 want-of-memory bytes seed workers texts told few faults.CannotRead want = absurd want
 want-of-memory bytes seed workers texts told few faults.CannotWrite want = absurd want
@@ -67,6 +73,7 @@ own-fault bytes seed workers texts told (faults.Circuit fault) own = absurd own
 own-fault bytes seed workers texts told faults.WrongCount own = absurd own
 own-fault bytes seed workers texts told (faults.Value fault) own = absurd own
 own-fault bytes seed workers texts told faults.BadSeed own = absurd own
+own-fault bytes seed workers texts told faults.BadList own = absurd own
 own-fault bytes seed workers texts told faults.NoSuchValue own = absurd own
 own-fault bytes seed workers texts told faults.CannotRead own = absurd own
 own-fault bytes seed workers texts told faults.CannotWrite own = absurd own

@@ -9,6 +9,7 @@ use Rattle.gc_half.specs.Garbling.{GarblingParts, IsGarbled, FitsCircuit}
 use Rattle.gc_cli.specs.declared.fault.Fault.{Fault}
 use Rattle.gc_cli.specs.declared.fault.Fault.TheVariants as faults
 use Rattle.gc_cli.specs.Values.{IsInputValue}
+use Rattle.gc_work.specs.WorkFault.{AreFew}
 use Rattle.gc_cli.specs.Wrote.{IsUnwritten}
 use Rattle.gc_cli.specs.Deal.{TellDeal, HasDealFault}
 use Rattle.gc_cli.specs.Garble.{TellGarble, HasGarbleFault}
@@ -33,6 +34,7 @@ deal-unwritten bytes seed_text index text c seed bits told (faults.Circuit fault
 deal-unwritten bytes seed_text index text c seed bits told faults.WrongCount h = absurd h
 deal-unwritten bytes seed_text index text c seed bits told (faults.Value fault) h = absurd h
 deal-unwritten bytes seed_text index text c seed bits told faults.BadSeed h = absurd h
+deal-unwritten bytes seed_text index text c seed bits told faults.BadList h = absurd h
 deal-unwritten bytes seed_text index text c seed bits told faults.NoSuchValue h = absurd h
 deal-unwritten bytes seed_text index text c seed bits told (faults.Garbling fault) h = absurd h
 deal-unwritten bytes seed_text index text c seed bits told (faults.File fault) h = absurd h
@@ -41,20 +43,21 @@ deal-unwritten bytes seed_text index text c seed bits told (faults.Evaluation fa
 deal-unwritten bytes seed_text index text c seed bits told faults.CannotRead h = absurd h
 
 pub garble-unwritten : (bytes seed_text : List ℕ) (workers : ℕ) (c : Netlist) (seed : List ℕ)
-    → TellGarble bytes seed_text c seed → (fault : Fault) → IsUnwritten fault
+    → TellGarble bytes seed_text c seed → AreFew workers → (fault : Fault) → IsUnwritten fault
     → HasGarbleFault bytes seed_text workers fault
-garble-unwritten bytes seed_text workers c seed told faults.CannotWrite h = (c, (seed, told))
-garble-unwritten bytes seed_text workers c seed told faults.Memory h = tt
-garble-unwritten bytes seed_text workers c seed told (faults.Circuit fault) h = absurd h
-garble-unwritten bytes seed_text workers c seed told faults.WrongCount h = absurd h
-garble-unwritten bytes seed_text workers c seed told (faults.Value fault) h = absurd h
-garble-unwritten bytes seed_text workers c seed told faults.BadSeed h = absurd h
-garble-unwritten bytes seed_text workers c seed told faults.NoSuchValue h = absurd h
-garble-unwritten bytes seed_text workers c seed told (faults.Garbling fault) h = absurd h
-garble-unwritten bytes seed_text workers c seed told (faults.File fault) h = absurd h
-garble-unwritten bytes seed_text workers c seed told (faults.Binding fault) h = absurd h
-garble-unwritten bytes seed_text workers c seed told (faults.Evaluation fault) h = absurd h
-garble-unwritten bytes seed_text workers c seed told faults.CannotRead h = absurd h
+garble-unwritten bytes seed_text workers c seed told few faults.CannotWrite h = ((c, (seed, told)), few)
+garble-unwritten bytes seed_text workers c seed told few faults.Memory h = tt
+garble-unwritten bytes seed_text workers c seed told few (faults.Circuit fault) h = absurd h
+garble-unwritten bytes seed_text workers c seed told few faults.WrongCount h = absurd h
+garble-unwritten bytes seed_text workers c seed told few (faults.Value fault) h = absurd h
+garble-unwritten bytes seed_text workers c seed told few faults.BadSeed h = absurd h
+garble-unwritten bytes seed_text workers c seed told few faults.BadList h = absurd h
+garble-unwritten bytes seed_text workers c seed told few faults.NoSuchValue h = absurd h
+garble-unwritten bytes seed_text workers c seed told few (faults.Garbling fault) h = absurd h
+garble-unwritten bytes seed_text workers c seed told few (faults.File fault) h = absurd h
+garble-unwritten bytes seed_text workers c seed told few (faults.Binding fault) h = absurd h
+garble-unwritten bytes seed_text workers c seed told few (faults.Evaluation fault) h = absurd h
+garble-unwritten bytes seed_text workers c seed told few faults.CannotRead h = absurd h
 
 -- a garbling of the circuit fits it
 pub garbled-fits : (c : Netlist) (seed : List ℕ) (g : GarblingParts) → IsGarbled c seed g → FitsCircuit c g

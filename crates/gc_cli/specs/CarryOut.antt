@@ -2,7 +2,7 @@
 use Rattle.std.specs.Prelude.{◌≡◌, ℕ, ◌<◌, List, IfSome}
 use Rattle.gc_cli.specs.declared.fault.Fault.{Fault}
 use Rattle.gc_cli.specs.declared.fault.Fault.TheVariants.{CannotRead, CannotWrite}
-use Rattle.gc_order.specs.Order.{OrderText, run, plain, check, garble, deal, eval}
+use Rattle.gc_order.specs.Order.{OrderText, run, plain, check, garble, deal, eval, jobs}
 use Rattle.gc_cli.specs.Files.{FileBytes}
 use Rattle.gc_cli.specs.Run.{AnswersRun, HasRunFault}
 use Rattle.gc_cli.specs.Plain.{AnswersPlain, HasPlainFault}
@@ -10,6 +10,7 @@ use Rattle.gc_cli.specs.Check.{AnswersCheck, HasCheckFault}
 use Rattle.gc_cli.specs.Garble.{AnswersGarble, HasGarbleFault}
 use Rattle.gc_cli.specs.Deal.{AnswersDeal, HasDealFault}
 use Rattle.gc_cli.specs.Eval.{AnswersEval, HasEvalFault}
+use Rattle.gc_cli.specs.Jobs.{AnswersJobs, HasJobsFault}
 
 -- The order is done: the bytes for standard output are its answer, and where it writes a file, that is written. `old` and
 -- `new` are the bytes of the files before and after it.
@@ -22,7 +23,8 @@ Answers old new (garble circuit seed name version workers) out =
     IfSome (old circuit) (λ file. AnswersGarble file seed version workers (new name) out)
 Answers old new (deal circuit seed index value name) out =
     IfSome (old circuit) (λ file. AnswersDeal file seed index value (new name) out)
-Answers old new (eval circuit garbled labels) out = AnswersEval old circuit garbled labels out
+Answers old new (eval circuit garbled workers labels) out = AnswersEval old circuit garbled workers labels out
+Answers old new (jobs circuit list workers) out = AnswersJobs old circuit list workers out
 
 -- The order has this fault.
 abbrev pub HasFault : FileBytes → OrderText → Fault → Type 0
@@ -34,7 +36,8 @@ HasFault bytes (garble circuit seed name version workers) fault =
     IfSome (bytes circuit) (λ file. HasGarbleFault file seed workers fault)
 HasFault bytes (deal circuit seed index value name) fault =
     IfSome (bytes circuit) (λ file. HasDealFault file seed index value fault)
-HasFault bytes (eval circuit garbled labels) fault = HasEvalFault bytes circuit garbled labels fault
+HasFault bytes (eval circuit garbled workers labels) fault = HasEvalFault bytes circuit garbled workers labels fault
+HasFault bytes (jobs circuit list workers) fault = HasJobsFault bytes circuit list workers fault
 
 -- The order writes the file of this name.
 abbrev pub Writes : OrderText → List ℕ → Type 0

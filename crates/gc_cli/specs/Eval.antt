@@ -6,6 +6,7 @@ use Rattle.gc_file.specs.declared.fault.FileFault.TheVariants as file
 use Rattle.gc_file.specs.GarbledFile.{GarbledParts, IsGarbledFile}
 use Rattle.gc_file.specs.LabelFile.{LabelFileParts, IsLabelFile}
 use Rattle.gc_file.specs.FileFault.{FirstFault, FirstLabelFault}
+use Rattle.gc_work.specs.WorkFault.{AreFew}
 use Rattle.gc_cli.specs.declared.fault.Fault.{Fault}
 use Rattle.gc_cli.specs.declared.fault.Fault.TheVariants.{Circuit, File, Binding, Evaluation, CannotRead, Memory}
 use Rattle.gc_cli.specs.Files.{FileBytes}
@@ -62,30 +63,32 @@ pub record TellEval (bytes : FileBytes) (circuit garbled : List ℕ) (labels : L
   pub garbled_told : IfSome (bytes garbled) (λ held. IsGarbledFile held g)
   pub labels_told : TellLabels bytes labels files
 
--- What `eval` answers: the lines of what the files decode to.
-pub record AnswersEval (bytes : FileBytes) (circuit garbled : List ℕ) (labels : List (List ℕ)) (lines : List ℕ)
-    : Type 0 where
+-- What `eval` answers: the lines of what the files decode to, whatever the number of workers.
+pub record AnswersEval (bytes : FileBytes) (circuit garbled : List ℕ) (workers : ℕ) (labels : List (List ℕ))
+    (lines : List ℕ) : Type 0 where
   pub c : Netlist
   pub g : GarbledParts
   pub files : List LabelFileParts
   pub told : TellEval bytes circuit garbled labels c g files
+  pub few : AreFew workers
   pub outputs : List Bool
   pub decoded : DecodeTo c g files outputs
   pub printed : lines ≡ output_lines c.output_widths outputs
 
--- When `eval` has which fault: it is the first in the order of the work, but that memory may run out at each step.
-abbrev pub HasEvalFault : FileBytes → List ℕ → List ℕ → List (List ℕ) → Fault → Type 0
-HasEvalFault bytes circuit garbled labels CannotRead = Unit {0}
-HasEvalFault bytes circuit garbled labels (Circuit fault) =
+-- When `eval` has which fault: it is the first in the order of the work, in which the number of workers comes after
+-- binding, but that memory may run out at each step.
+abbrev pub HasEvalFault : FileBytes → List ℕ → List ℕ → ℕ → List (List ℕ) → Fault → Type 0
+HasEvalFault bytes circuit garbled workers labels CannotRead = Unit {0}
+HasEvalFault bytes circuit garbled workers labels (Circuit fault) =
     IfSome (bytes circuit) (λ held. HasCircuitFault held (Circuit fault))
-HasEvalFault bytes circuit garbled labels (File fault) =
+HasEvalFault bytes circuit garbled workers labels (File fault) =
     ((c : Netlist) × IfSome (bytes circuit) (λ held. IsCircuit held c))
     × (fault ≢ file.Memory → FirstBadFile bytes garbled labels fault)
-HasEvalFault bytes circuit garbled labels (Binding fault) =
+HasEvalFault bytes circuit garbled workers labels (Binding fault) =
     (c : Netlist) × ((g : GarbledParts) × ((files : List LabelFileParts)
-    × (TellEval bytes circuit garbled labels c g files × HasJobFault c g files (Binding fault))))
-HasEvalFault bytes circuit garbled labels (Evaluation fault) =
+    × (TellEval bytes circuit garbled labels c g files × HasJobFault c g files workers (Binding fault))))
+HasEvalFault bytes circuit garbled workers labels (Evaluation fault) =
     (c : Netlist) × ((g : GarbledParts) × ((files : List LabelFileParts)
-    × (TellEval bytes circuit garbled labels c g files × HasJobFault c g files (Evaluation fault))))
-HasEvalFault bytes circuit garbled labels Memory = Unit {0}
-HasEvalFault bytes circuit garbled labels _ = ⊥
+    × (TellEval bytes circuit garbled labels c g files × HasJobFault c g files workers (Evaluation fault))))
+HasEvalFault bytes circuit garbled workers labels Memory = Unit {0}
+HasEvalFault bytes circuit garbled workers labels _ = ⊥

@@ -11,7 +11,7 @@ use Rattle.gc_eval.specs.Fault.{bind_code_of, bind_name_of, eval_code_of, eval_n
 use Rattle.gc_cli.specs.declared.files.FileError.{FileError}
 use Rattle.gc_cli.specs.declared.files.FileError.TheVariants as file
 use Rattle.gc_cli.specs.declared.fault.Fault.{Fault}
-use Rattle.gc_cli.specs.declared.fault.Fault.TheVariants.{Circuit, WrongCount, Value, BadSeed, NoSuchValue, Garbling, File, Binding, Evaluation, CannotRead, CannotWrite, Memory}
+use Rattle.gc_cli.specs.declared.fault.Fault.TheVariants.{Circuit, WrongCount, Value, BadSeed, NoSuchValue, Garbling, File, Binding, Evaluation, BadList, CannotRead, CannotWrite, Memory}
 
 abbrev pub code_of : Fault → ℕ
 code_of (Circuit fault) = read.code_of fault
@@ -26,6 +26,7 @@ code_of (Evaluation fault) = eval_code_of fault
 code_of CannotRead = 50
 code_of CannotWrite = 51
 code_of Memory = 52
+code_of BadList = 53
 
 abbrev pub name_of : Fault → List ℕ
 name_of (Circuit fault) = read.name_of fault
@@ -40,6 +41,7 @@ name_of (Evaluation fault) = eval_name_of fault
 name_of CannotRead = codes "CannotRead"
 name_of CannotWrite = codes "CannotWrite"
 name_of Memory = codes "Memory"
+name_of BadList = codes "BadList"
 
 -- `fault`, the number in decimal digits, and the name
 abbrev pub text_of : Fault → List ℕ

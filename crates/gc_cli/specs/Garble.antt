@@ -37,6 +37,7 @@ HasGarbleFault bytes seed workers (Circuit fault) = HasCircuitFault bytes (Circu
 HasGarbleFault bytes seed workers BadSeed = ((c : Netlist) × IsCircuit bytes c) × ¬ IsSeedText seed
 HasGarbleFault bytes seed workers (Garbling fault) =
     ((c : Netlist) × ((key : List ℕ) × TellGarble bytes seed c key)) × HasWorkFault workers fault
-HasGarbleFault bytes seed workers CannotWrite = (c : Netlist) × ((key : List ℕ) × TellGarble bytes seed c key)
+HasGarbleFault bytes seed workers CannotWrite =
+    ((c : Netlist) × ((key : List ℕ) × TellGarble bytes seed c key)) × AreFew workers
 HasGarbleFault bytes seed workers Memory = Unit {0}
 HasGarbleFault bytes seed workers _ = ⊥

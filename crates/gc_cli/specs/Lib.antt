@@ -13,6 +13,8 @@ pub mod Garble
 pub mod Deal
 pub mod Job
 pub mod Eval
+pub mod JobList
+pub mod Jobs
 pub mod CarryOut
 pub mod Serve
 pub mod OwnFiles

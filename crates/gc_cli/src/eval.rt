@@ -11,19 +11,22 @@ use crate::files::Files;
 use crate::job::evaluate_files;
 use crate::lines::output_lines;
 use std::alloc::Allocator;
+use std::thread::Threads;
 
-/// Evaluates the circuit of a file from the garbled file and the label files of these names, and answers the lines of
-/// the output values that they decode to. Nothing of these files is trusted.
-pub fn eval<A: Allocator + Copy, F: Files>(
+/// Evaluates the circuit of a file from the garbled file and the label files of these names, by so many workers, and
+/// answers the lines of the output values that they decode to. Nothing of these files is trusted.
+pub fn eval<R: Threads + Sync, A: Allocator + Copy + Send + Sync, F: Files>(
+    rt: &R,
     alloc: A,
     circuit: &str,
     garbled: &str,
+    workers: u32,
     labels: &[String],
     files: &mut F,
 ) -> Result<Vec<u8, A>, Fault>
-    ensures answers { IfOk result (λ lines. AnswersEval (F.bytes files.old) circuit.now garbled.now
+    ensures answers { IfOk result (λ lines. AnswersEval (F.bytes files.old) circuit.now garbled.now workers
         (map string_bytes labels.now) lines.items) }
-    ensures fault { IfErr result (HasEvalFault (F.bytes files.old) circuit.now garbled.now
+    ensures fault { IfErr result (HasEvalFault (F.bytes files.old) circuit.now garbled.now workers
         (map string_bytes labels.now)) }
     ensures cause { IfErr result (λ fault. HasCause fault (F.failures files.old) (F.failures files.new)) }
     ensures same { (name : List ℕ) → F.bytes files.new name ≡ F.bytes files.old name }
@@ -31,6 +34,6 @@ pub fn eval<A: Allocator + Copy, F: Files>(
     let circuit = read_circuit(alloc, circuit, files)?;
     let garbled = read_garbled_file(alloc, garbled, files)?;
     let labels = read_label_files(alloc, labels, files)?;
-    let outputs = evaluate_files(alloc, &circuit, garbled, &labels)?;
+    let outputs = evaluate_files(rt, alloc, &circuit, garbled, &labels, workers)?;
     Ok(output_lines(alloc, circuit.output_widths(), &outputs)?)
 }

@@ -1,6 +1,6 @@
-//! The garbled file and the label files that `eval` reads.
+//! The garbled file and the label files of an evaluation.
 
-ghost use Rattle.std.specs.Prelude.{◌≡◌, ℕ, List, map, IfOk, IfErr, IfSome, OnOk, string_bytes};
+ghost use Rattle.std.specs.Prelude.{◌≡◌, ℕ, List, map, IfOk, IfErr, IfSome, OnOk};
 ghost use Rattle.gc_file.specs.GarbledFile.{IsGarbledFile};
 ghost use Rattle.gc_file.specs.LabelFile.{IsLabelFile};
 ghost use Rattle.gc_cli.specs.Eval.{HasGarbledFault, HasLabelFault, HasLabelsFault, TellLabels};
@@ -10,6 +10,7 @@ use crate::fault::Fault;
 use crate::files::Files;
 use gc_file::{Garbled, LabelFile, read_garbled_from, read_labels};
 use std::alloc::Allocator;
+use std::convert::AsStr;
 
 /// The garbled file of this name, read in pieces.
 pub fn read_garbled_file<A: Allocator + Copy, F: Files>(
@@ -30,14 +31,14 @@ pub fn read_garbled_file<A: Allocator + Copy, F: Files>(
 }
 
 /// The label files of these names. Each is read and judged before the next is opened.
-pub fn read_label_files<A: Allocator + Copy, F: Files>(
+pub fn read_label_files<N: AsStr, A: Allocator + Copy, F: Files>(
     alloc: A,
-    names: &[String],
+    names: &[N],
     files: &mut F,
 ) -> Result<Vec<LabelFile<A>, A>, Fault>
     ensures told { IfOk result (λ labels.
-        TellLabels (F.bytes files.old) (map string_bytes names.now) labels.items) }
-    ensures fault { IfErr result (HasLabelsFault (F.bytes files.old) (map string_bytes names.now)) }
+        TellLabels (F.bytes files.old) (map N.text names.now) labels.items) }
+    ensures fault { IfErr result (HasLabelsFault (F.bytes files.old) (map N.text names.now)) }
     ensures cause { IfErr result (λ fault. HasCause fault (F.failures files.old) (F.failures files.new)) }
     ensures counted { OnOk result (F.failures files.new ≡ F.failures files.old) }
     ensures same { (n : List ℕ) → F.bytes files.new n ≡ F.bytes files.old n }

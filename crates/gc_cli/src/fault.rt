@@ -33,6 +33,8 @@ pub enum Fault {
     Binding(BindFault),
     /// The job has no output bits.
     Evaluation(EvalFault),
+    /// The list of jobs is not UTF-8, or has too many jobs.
+    BadList,
     /// A file can't be read.
     CannotRead,
     /// A file, or standard output, can't be written.
@@ -59,6 +61,7 @@ impl Fault {
             Fault::CannotRead => 50,
             Fault::CannotWrite => 51,
             Fault::Memory => 52,
+            Fault::BadList => 53,
         }
     }
 
@@ -79,6 +82,7 @@ impl Fault {
             Fault::Evaluation(fault) => fault.name(),
             Fault::CannotRead => "CannotRead",
             Fault::CannotWrite => "CannotWrite",
+            Fault::BadList => "BadList",
         }
     }
 }

@@ -1,24 +1,33 @@
 //! Evaluating a garbled file and label files.
 
 ghost use Rattle.std.specs.Prelude.{IfOk, IfErr};
+ghost use Rattle.gc_work.specs.WorkFault.{AreFew};
 ghost use Rattle.gc_cli.specs.Job.{DecodeTo, HasJobFault};
 
 use crate::fault::Fault;
 use gc_circuit::Circuit;
-use gc_eval::{Job, evaluate};
+use gc_eval::{Job, evaluate, evaluate_many};
 use gc_file::{Garbled, LabelFile};
+use gc_work::Open;
 use std::alloc::Allocator;
+use std::thread::Threads;
 
-/// The output bits that a garbled file and label files of a circuit decode to.
-pub fn evaluate_files<A: Allocator + Copy>(
+/// The output bits that a garbled file and label files of a circuit decode to, by so many workers.
+pub fn evaluate_files<R: Threads + Sync, A: Allocator + Copy + Send + Sync>(
+    rt: &R,
     alloc: A,
     circuit: &Circuit<A>,
     garbled: Garbled<A>,
     labels: &[LabelFile<A>],
+    workers: u32,
 ) -> Result<Vec<bool, A>, Fault>
     ensures decoded { IfOk result (λ bits. DecodeTo circuit.now garbled labels.now bits.items) }
-    ensures fault { IfErr result (HasJobFault circuit.now garbled labels.now) }
+    ensures workers { IfOk result (λ _. AreFew workers) }
+    ensures fault { IfErr result (HasJobFault circuit.now garbled labels.now workers) }
 {
     let job = Job::bind(alloc, circuit, garbled, labels)?;
-    Ok(evaluate(alloc, &job)?)
+    if workers == 1 {
+        return Ok(evaluate(alloc, &job)?);
+    }
+    Ok(evaluate_many(rt, alloc, &job, workers, &Open)?)
 }

@@ -16,8 +16,8 @@ use std::alloc::Allocator;
 use std::sync::Wait;
 use std::thread::Threads;
 
-/// Garbles the circuit of a file under a seed by so many workers, deals the values, evaluates the circuit from the files of these, which it
-/// makes in memory, and answers the lines of the output values.
+/// Garbles the circuit of a file under a seed by so many workers, deals the values, evaluates the circuit from the files
+/// of these, which it makes in memory, and answers the lines of the output values.
 pub fn run<R: Threads + Wait + Sync, A: Allocator + Copy + Send + Sync, F: Files>(
     rt: &R,
     alloc: A,
@@ -39,6 +39,6 @@ pub fn run<R: Threads + Wait + Sync, A: Allocator + Copy + Send + Sync, F: Files
     let values = read_values(alloc, circuit.input_widths(), values)?;
     let garbled = own_garbled(rt, alloc, &circuit, &seed, workers)?;
     let labels = own_labels(alloc, &circuit, &seed, &values)?;
-    let outputs = evaluate_files(alloc, &circuit, garbled, &labels)?;
+    let outputs = evaluate_files(rt, alloc, &circuit, garbled, &labels, 1)?;
     Ok(output_lines(alloc, circuit.output_widths(), &outputs)?)
 }

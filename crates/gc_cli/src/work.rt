@@ -10,6 +10,7 @@ use crate::eval::eval;
 use crate::fault::Fault;
 use crate::files::Files;
 use crate::garble::garble;
+use crate::jobs::jobs;
 use crate::plain::plain;
 use crate::run::run;
 use gc_order::Order;
@@ -88,7 +89,21 @@ pub fn carry_out<R: Threads + Wait + Sync, A: Allocator + Copy + Send + Sync, F:
         Order::Eval {
             circuit,
             garbled,
+            workers,
             labels,
-        } => eval(alloc, circuit.as_str(), garbled.as_str(), labels, files),
+        } => eval(
+            rt,
+            alloc,
+            circuit.as_str(),
+            garbled.as_str(),
+            *workers,
+            labels,
+            files,
+        ),
+        Order::Jobs {
+            circuit,
+            list,
+            workers,
+        } => jobs(rt, alloc, circuit.as_str(), list.as_str(), *workers, files),
     }
 }

@@ -12,7 +12,7 @@ use Rattle.clap.specs.declared.builder.command.Command.TheViews.{out-Command}
 use Rattle.gc_file.specs.declared.garbled.Version.{Version}
 use Rattle.gc_file.specs.declared.garbled.Version.TheVariants.{One, Two}
 use Rattle.gc_order.specs.declared.order.Order.{Order}
-use Rattle.gc_order.specs.declared.order.Order.TheVariants.{Run, Plain, Check, Garble, Deal, Eval}
+use Rattle.gc_order.specs.declared.order.Order.TheVariants.{Run, Plain, Check, Garble, Deal, Eval, Jobs}
 
 -- a positional word that has to be there
 abbrev pub required_word : List ℕ → Rule
@@ -71,12 +71,20 @@ deal_command =
     let with_value = with_rule with_index (required_word (codes "value")) in
     with_rule with_value (required_word (codes "out"))
 
--- `eval CIRCUIT GARBLED [LABELS]...`
+-- `eval CIRCUIT GARBLED [--workers WORKERS] [LABELS]...`
 abbrev pub eval_command : App
 eval_command =
     let with_circuit = with_rule (new_app (codes "eval")) (required_word (codes "circuit")) in
     let with_garbled = with_rule with_circuit (required_word (codes "garbled")) in
-    with_rule with_garbled (more_words (codes "labels"))
+    let with_workers = with_rule with_garbled workers_option in
+    with_rule with_workers (more_words (codes "labels"))
+
+-- `jobs CIRCUIT LIST [--workers WORKERS]`
+abbrev pub jobs_command : App
+jobs_command =
+    let with_circuit = with_rule (new_app (codes "jobs")) (required_word (codes "circuit")) in
+    let with_list = with_rule with_circuit (required_word (codes "list")) in
+    with_rule with_list workers_option
 
 -- The program, which needs a command, before it has any.
 abbrev pub named_program : App
@@ -99,7 +107,8 @@ program =
     let with_check = with_subcommand with_plain check_command.top in
     let with_garble = with_subcommand with_check garble_command.top in
     let with_deal = with_subcommand with_garble deal_command.top in
-    with_subcommand with_deal eval_command.top
+    let with_eval = with_subcommand with_deal eval_command.top in
+    with_subcommand with_eval jobs_command.top
 
 -- The program has a command of this name.
 abbrev pub IsCommandName : List ℕ → Type 0
@@ -122,7 +131,8 @@ pub data OrderText : Type 0 where
   check : List ℕ → OrderText
   garble : List ℕ → List ℕ → List ℕ → Version → ℕ → OrderText
   deal : List ℕ → List ℕ → ℕ → List ℕ → List ℕ → OrderText
-  eval : List ℕ → List ℕ → List (List ℕ) → OrderText
+  eval : List ℕ → List ℕ → ℕ → List (List ℕ) → OrderText
+  jobs : List ℕ → List ℕ → ℕ → OrderText
 
 abbrev pub text_of : Order → OrderText
 text_of (Run circuit seed workers values) =
@@ -133,8 +143,9 @@ text_of (Garble circuit seed out version workers) =
     garble (string_bytes circuit) (string_bytes seed) (string_bytes out) version workers
 text_of (Deal circuit seed index value out) =
     deal (string_bytes circuit) (string_bytes seed) index (string_bytes value) (string_bytes out)
-text_of (Eval circuit garbled labels) =
-    eval (string_bytes circuit) (string_bytes garbled) (map string_bytes labels.items)
+text_of (Eval circuit garbled workers labels) =
+    eval (string_bytes circuit) (string_bytes garbled) workers (map string_bytes labels.items)
+text_of (Jobs circuit list workers) = jobs (string_bytes circuit) (string_bytes list) workers
 
 -- The word that clap found for an id that has one word,
 abbrev pub word_of : List ℕ → List Row → List ℕ
@@ -186,7 +197,15 @@ abbrev pub eval_told : List Row → OrderText
 eval_told rows = eval
     (word_of (codes "circuit") rows)
     (word_of (codes "garbled") rows)
+    (number_told (word_of (codes "workers") rows))
     (words_of (codes "labels") rows)
+
+-- The order of `jobs` in what clap found.
+abbrev pub jobs_told : List Row → OrderText
+jobs_told rows = jobs
+    (word_of (codes "circuit") rows)
+    (word_of (codes "list") rows)
+    (number_told (word_of (codes "workers") rows))
 
 -- The order of the command of a name, where the program has one.
 abbrev pub command_told : List ℕ → List Row → Option OrderText
@@ -197,6 +216,7 @@ command_told name rows =
     else if bytes_eq name (codes "garble") then Some (garble_told rows)
     else if bytes_eq name (codes "deal") then Some (deal_told rows)
     else if bytes_eq name (codes "eval") then Some (eval_told rows)
+    else if bytes_eq name (codes "jobs") then Some (jobs_told rows)
     else None
 
 -- The order that a command line tells: that of the command that clap finds in it.

@@ -1,7 +1,7 @@
 //! The program's commands, as clap knows them, with their help.
 
 ghost use Rattle.std.specs.Prelude.{IfOk, codes};
-ghost use Rattle.gc_order.specs.Order.{HasRule, HasShape, check_command, deal_command, eval_command, garble_command};
+ghost use Rattle.gc_order.specs.Order.{HasRule, HasShape, check_command, deal_command, eval_command, garble_command, jobs_command};
 ghost use Rattle.gc_order.specs.Order.{more_words, number_option, number_word, plain_command, program, required_word, run_command};
 ghost use Rattle.gc_order.specs.Order.{workers_option};
 
@@ -53,6 +53,14 @@ each input value of the circuit, in any order. Neither the seed nor the values a
 Example, with a full adder in adder.txt that reads three bits:
   halfgates eval adder.txt adder.garbled first.labels second.labels third.labels";
 
+const JOBS_HELP: &str = "\
+Each line of LIST that is not blank is a job: the name of its garbled file and then those of its label files, as `eval` \
+takes them, with spaces or tabs between them. Prints for each job its output values, one a line, and then an empty line.
+
+Example, with a full adder in adder.txt that reads three bits, and the line \
+`adder.garbled first.labels second.labels third.labels` in list.txt:
+  halfgates jobs adder.txt list.txt --workers 4";
+
 const LABELS_HELP: &str = "A label file for each input value of the circuit, in any order";
 
 const SEED_HELP: &str = "The seed of the garbling: 64 hexadecimal digits";
@@ -80,7 +88,8 @@ pub(crate) fn halfgates<'a>(alloc: Global) -> Result<Command<'a>, AllocError>
         .subcommand(check(alloc)?)?
         .subcommand(garble(alloc)?)?
         .subcommand(deal(alloc)?)?
-        .subcommand(eval(alloc)?)
+        .subcommand(eval(alloc)?)?
+        .subcommand(jobs(alloc)?)
 }
 
 /// The command `run`.
@@ -159,7 +168,20 @@ fn eval<'a>(alloc: Global) -> Result<Command<'a>, AllocError>
             "GARBLED",
             "The garbled file of the circuit",
         ))?
+        .arg(workers_arg(alloc))?
         .arg(more_arg(alloc, "labels", "LABELS", LABELS_HELP))
+}
+
+/// The command `jobs`.
+fn jobs<'a>(alloc: Global) -> Result<Command<'a>, AllocError>
+    ensures { IfOk result (HasShape jobs_command) }
+{
+    Command::new(alloc, "jobs")
+        .about("Evaluates a list of garbled files of one circuit")
+        .after_help(JOBS_HELP)
+        .arg(circuit_arg(alloc))?
+        .arg(word_arg(alloc, "list", "LIST", "The file of the list"))?
+        .arg(workers_arg(alloc))
 }
 
 /// A word that has to be there.

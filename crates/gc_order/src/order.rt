@@ -2,7 +2,7 @@
 
 ghost use Rattle.std.specs.Prelude.{◌≡◌, map, IfOk, Some, string_bytes};
 ghost use Rattle.clap.specs.Words.{FailsBy, fault_of, found_of, rows_of};
-ghost use Rattle.gc_order.specs.Order.{IsCommandName, check_told, command_told, deal_told, eval_told, garble_told};
+ghost use Rattle.gc_order.specs.Order.{IsCommandName, check_told, command_told, deal_told, eval_told, garble_told, jobs_told};
 ghost use Rattle.gc_order.specs.Order.{plain_told, program, run_told, text_of, told};
 
 use crate::commands::halfgates;
@@ -69,8 +69,19 @@ pub enum Order {
         circuit: String,
         /// The name of the garbled file.
         garbled: String,
+        /// How many workers evaluate.
+        workers: u32,
         /// The name of each label file, in the order of the words.
         labels: Vec<String>,
+    },
+    /// Evaluate a circuit from each garbled file of a list and the label files that stand beside it.
+    Jobs {
+        /// The name of the circuit's file.
+        circuit: String,
+        /// The name of the list's file.
+        list: String,
+        /// How many workers evaluate.
+        workers: u32,
     },
 }
 
@@ -101,6 +112,7 @@ fn named_order(alloc: Global, name: &str, found: &ArgMatches<'_>) -> Result<Orde
         "garble" => garble_order(alloc, found),
         "deal" => deal_order(alloc, found),
         "eval" => eval_order(alloc, found),
+        "jobs" => jobs_order(alloc, found),
         _ => unreachable!(),
     }
 }
@@ -169,6 +181,18 @@ fn eval_order(alloc: Global, found: &ArgMatches<'_>) -> Result<Order, AllocError
     Ok(Order::Eval {
         circuit: word_of(alloc, found, "circuit")?,
         garbled: word_of(alloc, found, "garbled")?,
+        workers: number_of(found, "workers"),
         labels: words_of(alloc, found, "labels")?,
+    })
+}
+
+/// The order of `jobs`, from what clap found of its words.
+fn jobs_order(alloc: Global, found: &ArgMatches<'_>) -> Result<Order, AllocError>
+    ensures { IfOk result (λ order. text_of order ≡ jobs_told (rows_of (found_of found.now))) }
+{
+    Ok(Order::Jobs {
+        circuit: word_of(alloc, found, "circuit")?,
+        list: word_of(alloc, found, "list")?,
+        workers: number_of(found, "workers"),
     })
 }

@@ -11,7 +11,7 @@ returns-in_err-circuit-clause-fault g c =
     let p = err_from_is_err_and c.from_residual.result c.from_residual.ensures.1 in
     let bytes = g.F.Files.bytes c.args.files.now in
     rw (p.1, p.2)
-    (circuit-fault bytes c.args.circuit.now c.args.garbled.now (map string_bytes c.args.labels.now) c.in_err-circuit.field-0.0
+    (circuit-fault bytes c.args.circuit.now c.args.garbled.now c.args.workers (map string_bytes c.args.labels.now) c.in_err-circuit.field-0.0
     c.in_err-circuit.ensures.kind c.in_err-circuit.ensures.fault)
 
 pub returns-in_err-labels-clause-fault : goal.returns-in_err-labels-clause-fault
@@ -23,7 +23,7 @@ returns-in_err-labels-clause-fault g c =
     let told = told-before bytes (g.F.Files.bytes c.read_circuit.new.files) c.read_circuit.ensures.same
     (λ held. IsGarbledFile held parts) c.args.garbled.now c.in_ok-garbled.ensures.told in
     rw (p.1, p.2)
-    (labels-fault bytes c.args.circuit.now c.args.garbled.now names c.in_ok-circuit.circuit c.in_ok-circuit.ensures.circuit
+    (labels-fault bytes c.args.circuit.now c.args.garbled.now c.args.workers names c.in_ok-circuit.circuit c.in_ok-circuit.ensures.circuit
     parts told c.in_err-labels.field-0.0
     (labels-fault-before bytes (g.F.Files.bytes c.read_garbled_file.new.files)
     (λ n. c.read_garbled_file.ensures.same n ∙ c.read_circuit.ensures.same n) names c.in_err-labels.field-0.0
@@ -36,7 +36,7 @@ returns-in_err-outputs-clause-fault g c =
     let names = map string_bytes c.args.labels.now in
     let parts = c.in_ok-garbled.garbled in
     rw (p.1, p.2)
-    (job-fault bytes c.args.circuit.now c.args.garbled.now names c.in_ok-circuit.circuit parts c.in_ok-labels.labels.items
+    (job-fault bytes c.args.circuit.now c.args.garbled.now c.args.workers names c.in_ok-circuit.circuit parts c.in_ok-labels.labels.items
     (record {
       circuit_told = c.in_ok-circuit.ensures.circuit;
       garbled_told =
@@ -78,6 +78,7 @@ returns-clause-answers g c =
             (λ n. c.read_garbled_file.ensures.same n ∙ c.read_circuit.ensures.same n) names c.in_ok-labels.labels.items
             c.in_ok-labels.ensures.told;
       };
+      few = c.in_ok-outputs.ensures.workers;
       outputs = c.in_ok-outputs.outputs.items;
       decoded = rw c.deref.ensures.value at c.in_ok-outputs.ensures.decoded;
       printed = c.in_ok-output_lines.ensures ∙ ap₂ output_lines c.output_widths.ensures c.deref-2.ensures.value;

@@ -36,7 +36,7 @@ returns-clause-fault g c = IfErr-weaker c.write_garbling.result _ _
     (record {
       circuit = circuit;
       seed_told = record { accepted = c.in_ok-seed.ensures.accepts.0 refl; spelled = c.in_ok-seed.ensures.bytes };
-    }) fault unwritten)
+    }) c.in_ok-garbling.ensures.workers fault unwritten)
     c.in_ok-circuit.ensures.circuit)
     c.write_garbling.ensures.fault
 

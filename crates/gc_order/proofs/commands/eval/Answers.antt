@@ -14,4 +14,5 @@ returns c =
     } in
     let one = has_shape-arg _ _ _ _ _ empty c.circuit_arg.ensures c.in_ok-arg.ensures in
     let two = has_shape-arg _ _ _ _ _ one c.word_arg.ensures c.in_ok-arg-2.ensures in
-    IfOk-weaker c.arg-3.result _ _ (λ r adds. has_shape-arg _ _ _ _ _ two c.more_arg.ensures adds) c.arg-3.ensures
+    let three = has_shape-arg _ _ _ _ _ two c.workers_arg.ensures c.in_ok-arg-3.ensures in
+    IfOk-weaker c.arg-4.result _ _ (λ r adds. has_shape-arg _ _ _ _ _ three c.more_arg.ensures adds) c.arg-4.ensures

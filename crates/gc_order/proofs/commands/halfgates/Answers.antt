@@ -28,4 +28,5 @@ returns c =
     let three = has_shape-subcommand _ _ _ _ _ two c.in_ok-check.ensures c.in_ok-subcommand-3.ensures in
     let four = has_shape-subcommand _ _ _ _ _ three c.in_ok-garble.ensures c.in_ok-subcommand-4.ensures in
     let five = has_shape-subcommand _ _ _ _ _ four c.in_ok-deal.ensures c.in_ok-subcommand-5.ensures in
-    IfOk-weaker c.subcommand-6.result _ _ (λ r adds. has_shape-subcommand _ _ _ _ _ five c.in_ok-eval.ensures adds) c.subcommand-6.ensures
+    let six = has_shape-subcommand _ _ _ _ _ five c.in_ok-eval.ensures c.in_ok-subcommand-6.ensures in
+    IfOk-weaker c.subcommand-7.result _ _ (λ r adds. has_shape-subcommand _ _ _ _ _ six c.in_ok-jobs.ensures adds) c.subcommand-7.ensures

@@ -1,0 +1,80 @@
+//! The jobs of a list, from their files.
+
+ghost use Rattle.std.specs.Prelude.{◌≡◌, ◌<◌, ℕ, List, length, map, All, IfOk, IfErr, OnOk};
+ghost use Rattle.gc_circuit.specs.Text.{tokens};
+ghost use Rattle.gc_cli.specs.Jobs.{AreListed, HasListFault, HasLinesFault, HasNamedFault, NameJob, NameJobs};
+ghost use Rattle.gc_cli.specs.CarryOut.{HasCause};
+
+use crate::evaluated_files::{read_garbled_file, read_label_files};
+use crate::fault::Fault;
+use crate::files::Files;
+use crate::job_list::{listed_lines, words_of_line};
+use gc_circuit::Circuit;
+use gc_eval::Job;
+use std::alloc::Allocator;
+
+/// The jobs of the list in the file of this name. The list's bytes are let go.
+pub fn read_listed_jobs<'c, A: Allocator + Copy, F: Files>(
+    alloc: A,
+    circuit: &'c Circuit<A>,
+    list: &str,
+    files: &mut F,
+) -> Result<Vec<Job<'c, A, A>, A>, Fault>
+    ensures listed { IfOk result (λ jobs. AreListed (F.bytes files.old) list.now circuit.now jobs.items) }
+    ensures fault { IfErr result (HasListFault (F.bytes files.old) list.now circuit.now) }
+    ensures cause { IfErr result (λ fault. HasCause fault (F.failures files.old) (F.failures files.new)) }
+    ensures counted { OnOk result (F.failures files.new ≡ F.failures files.old) }
+    ensures same { (n : List ℕ) → F.bytes files.new n ≡ F.bytes files.old n }
+{
+    let text = files.read(alloc, list)?;
+    let lines = listed_lines(alloc, &text)?;
+    read_jobs(alloc, circuit, &lines, files)
+}
+
+/// The jobs that lines name. Each job's files are read and bound before the next job's are opened. That each line has a
+/// token is the caller's condition.
+fn read_jobs<'c, A: Allocator + Copy, F: Files>(
+    alloc: A,
+    circuit: &'c Circuit<A>,
+    lines: &[&str],
+    files: &mut F,
+) -> Result<Vec<Job<'c, A, A>, A>, Fault>
+    requires { All (λ words. 0 < length words) (map (λ line. tokens line.now) lines.now) }
+    ensures named { IfOk result (λ jobs. NameJobs (F.bytes files.old) circuit.now
+        (map (λ line. tokens line.now) lines.now) jobs.items) }
+    ensures fault { IfErr result (HasLinesFault (F.bytes files.old) circuit.now
+        (map (λ line. tokens line.now) lines.now)) }
+    ensures cause { IfErr result (λ fault. HasCause fault (F.failures files.old) (F.failures files.new)) }
+    ensures counted { OnOk result (F.failures files.new ≡ F.failures files.old) }
+    ensures same { (n : List ℕ) → F.bytes files.new n ≡ F.bytes files.old n }
+{
+    let mut jobs = Vec::with_capacity(alloc, lines.len())?;
+    for line in lines {
+        jobs.push(read_job(alloc, circuit, line, files)?)?;
+    }
+    Ok(jobs)
+}
+
+/// The job that a line names, from its garbled file and its label files. That the line has a token is the caller's
+/// condition.
+fn read_job<'c, A: Allocator + Copy, F: Files>(
+    alloc: A,
+    circuit: &'c Circuit<A>,
+    line: &str,
+    files: &mut F,
+) -> Result<Job<'c, A, A>, Fault>
+    requires { 0 < length (tokens line.now) }
+    ensures named { IfOk result (NameJob (F.bytes files.old) circuit.now (tokens line.now)) }
+    ensures fault { IfErr result (HasNamedFault (F.bytes files.old) circuit.now (tokens line.now)) }
+    ensures cause { IfErr result (λ fault. HasCause fault (F.failures files.old) (F.failures files.new)) }
+    ensures counted { OnOk result (F.failures files.new ≡ F.failures files.old) }
+    ensures same { (n : List ℕ) → F.bytes files.new n ≡ F.bytes files.old n }
+{
+    let words = words_of_line(alloc, line)?;
+    let Some((garbled, labels)) = words.split_first() else {
+        unreachable!()
+    };
+    let garbled = read_garbled_file(alloc, garbled, files)?;
+    let labels = read_label_files(alloc, labels, files)?;
+    Ok(Job::bind(alloc, circuit, garbled, &labels)?)
+}
