@@ -2,7 +2,7 @@
 
 use crate::serving::{Closed, copies_of, serve_over};
 use gc_cli::{Order, order_of, refuse_line};
-use gc_tests::circuits::{FULL_ADDER, SEED};
+use gc_worked::circuits::{FULL_ADDER, SEED};
 use std::alloc::Global;
 use std::io::ErrorKind;
 use std::test::Fail;
@@ -40,6 +40,7 @@ Commands:
   garble  Garbles a circuit into a file
   deal    Writes the labels of an input value into a file
   eval    Evaluates a circuit garbled, from a garbled file and label files
+  jobs    Evaluates a list of garbled files of one circuit
 
 Options:
   -h, --help     Print help
@@ -145,9 +146,26 @@ fn reads_an_order(rt: HostRuntime) -> Result<(), Fail> {
     let eval = Order::Eval {
         circuit: String::from_str(alloc, "c.txt")?,
         garbled: String::from_str(alloc, "g")?,
+        workers: 2,
         labels: copies_of(alloc, &["b", "a"])?,
     };
-    let words = ["halfgates", "eval", "c.txt", "g", "b", "a"];
+    let words = [
+        "halfgates",
+        "eval",
+        "c.txt",
+        "g",
+        "--workers",
+        "2",
+        "b",
+        "a",
+    ];
     assert_eq!(rt; order_told(alloc, &words)?, eval);
+    let jobs = Order::Jobs {
+        circuit: String::from_str(alloc, "c.txt")?,
+        list: String::from_str(alloc, "l")?,
+        workers: 64,
+    };
+    let words = ["halfgates", "jobs", "c.txt", "l", "--workers", "64"];
+    assert_eq!(rt; order_told(alloc, &words)?, jobs);
     Ok(())
 }

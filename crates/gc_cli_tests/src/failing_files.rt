@@ -2,14 +2,14 @@
 
 use crate::disk::Disk;
 use crate::mem_files::Limits;
-use gc_tests::circuits::{SEED, XOR};
+use gc_worked::circuits::{SEED, XOR};
 use std::alloc::Global;
 use std::process::Abort;
 use std::sync::Wait;
 use std::test::Fail;
 use std::thread::Threads;
 
-/// A circuit, its garbled file `g`, and its label files `0` and `1`.
+/// A circuit, its garbled file `g`, its label files `0` and `1`, and a list of the job of these.
 fn disk<R: Threads + Wait + Sync + Abort>(rt: &R, alloc: Global) -> Result<Disk, Fail> {
     let mut disk = Disk::of_circuit(alloc, XOR)?;
     let orders: [&[&str]; 3] = [
@@ -21,6 +21,7 @@ fn disk<R: Threads + Wait + Sync + Abort>(rt: &R, alloc: Global) -> Result<Disk,
         let served = disk.serve(rt, words)?;
         assert_eq!(rt; served.parts().0, 0);
     }
+    disk.put("list", b"g 0 1\n")?;
     Ok(disk)
 }
 
@@ -30,8 +31,8 @@ const WRITE: &str = "halfgates: fault 51 CannotWrite\n";
 
 /// Orders, what they print where nothing fails, and the fault where each of their calls fails. Those of `garble` and
 /// `deal` are to read the circuit, to create the file and to keep it; those of `eval` to read the circuit, to open the
-/// garbled file and to read each label file.
-static ORDERS: [(&[&str], &str, &[&str]); 5] = [
+/// garbled file and to read each label file; those of `jobs` to read the list after the circuit.
+static ORDERS: [(&[&str], &str, &[&str]); 6] = [
     (
         &["halfgates", "run", "c.txt", SEED, "1", "1"],
         "0\n",
@@ -51,6 +52,11 @@ static ORDERS: [(&[&str], &str, &[&str]); 5] = [
         &["halfgates", "eval", "c.txt", "g", "0", "1"],
         "0\n",
         &[READ, READ, READ, READ],
+    ),
+    (
+        &["halfgates", "jobs", "c.txt", "list"],
+        "0\n\n",
+        &[READ, READ, READ, READ, READ],
     ),
     (&["halfgates", "check", "no file"], "", &[READ, READ]),
 ];

@@ -1,7 +1,9 @@
 //! Tests of files on a disk, and of a reader that fails in mid-stream.
 
+use crate::serving::serve_files;
 use gc_cli::{FileError, Files, HostFiles, read_all};
 use gc_refusing::Refusing;
+use gc_worked::circuits::{CONSTANT, SEED};
 use std::io::{self, ErrorKind, Read};
 use std::test::Fail;
 use std::{env, fs, process};
@@ -71,5 +73,41 @@ fn reads_a_file_whole(rt: HostRuntime) -> Result<(), Fail> {
     fs::remove_file(&rt, path.as_str())?;
     assert!(rt; whole.is_ok_and(|read| read.as_slice() == bytes.as_slice()));
     assert_eq!(rt; refused.err(), Some(FileError::Memory));
+    Ok(())
+}
+
+/// A garbled file is written to a disk and evaluated from it. In a folder that is not there none can be written, and none
+/// can be opened.
+#[test]
+fn keeps_a_file_for_the_next_command(rt: HostRuntime) -> Result<(), Fail> {
+    let alloc = rt.alloc();
+    let name = format!(in alloc; "halfgates_two_commands_{}", process::id(rt.process()))?;
+    let circuit = env::temp_dir(&rt)?.join(alloc, name.as_str())?;
+    let circuit = circuit.as_str();
+    let out = format!(in alloc; "{circuit}.garbled")?;
+    let out = out.as_str();
+    let nowhere = "no such folder/out";
+    fs::write(&rt, circuit, CONSTANT.as_bytes())?;
+    let orders: [(&[&str], (u8, &str, &str)); 4] = [
+        (
+            &["halfgates", "garble", circuit, SEED, out],
+            (0, "wrote 113\n", ""),
+        ),
+        (&["halfgates", "eval", circuit, out], (0, "1\n", "")),
+        (
+            &["halfgates", "garble", circuit, SEED, nowhere],
+            (1, "", "halfgates: fault 51 CannotWrite\n"),
+        ),
+        (
+            &["halfgates", "eval", circuit, nowhere],
+            (1, "", "halfgates: fault 50 CannotRead\n"),
+        ),
+    ];
+    for (words, wanted) in orders {
+        let served = serve_files(&rt, alloc, &mut HostFiles::new(&rt), words)?;
+        assert_eq!(rt; served.parts(), wanted, "{words:?}");
+    }
+    fs::remove_file(&rt, circuit)?;
+    fs::remove_file(&rt, out)?;
     Ok(())
 }

@@ -15,6 +15,8 @@ mod growth;
 #[cfg(test)]
 mod host_files;
 #[cfg(test)]
+mod job_lists;
+#[cfg(test)]
 mod long_chain;
 mod mem_files;
 #[cfg(test)]

@@ -1,7 +1,7 @@
 //! A chain of more than a million gates, evaluated in the plain and garbled.
 
 use crate::serving::serve_over;
-use gc_tests::circuits::{SEED, chain};
+use gc_worked::circuits::{SEED, chain};
 use std::test::Fail;
 
 #[test]

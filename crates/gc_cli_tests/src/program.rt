@@ -6,11 +6,11 @@ use gc_circuit::{ReadFault, ValueFault};
 use gc_cli::{Fault, carry_out, order_of, serve};
 use gc_eval::{BindFault, EvalFault};
 use gc_file::FileFault;
-use gc_tests::circuits::{
+use gc_work::WorkFault;
+use gc_worked::circuits::{
     AND, CONSTANT, CONSTANT_AND, FAR_COPY, FULL_ADDER, INV, NO_GATES, SEED, SQUARE, WIDE, XOR,
     ZERO_CONSTANT,
 };
-use gc_work::WorkFault;
 use std::alloc::{AllocError, Global};
 use std::test::Fail;
 

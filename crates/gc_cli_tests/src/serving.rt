@@ -1,7 +1,7 @@
 //! Serving words over a file in memory.
 
 use crate::mem_files::MemFiles;
-use gc_cli::serve;
+use gc_cli::{Files, serve};
 use std::alloc::{AllocError, Global};
 use std::io::{self, Write};
 use std::sync::Wait;
@@ -58,10 +58,10 @@ pub(crate) fn serve_over<R: Threads + Wait + Sync>(
 }
 
 /// Serves the words over files.
-pub(crate) fn serve_files<R: Threads + Wait + Sync>(
+pub(crate) fn serve_files<R: Threads + Wait + Sync, F: Files>(
     rt: &R,
     alloc: Global,
-    files: &mut MemFiles<'_>,
+    files: &mut F,
     words: &[&str],
 ) -> Result<Served, Fail> {
     let words = copies_of(alloc, words)?;

@@ -5,8 +5,8 @@ use crate::program::RUNS;
 use crate::serving::words_of;
 use gc_circuit::show_value;
 use gc_file::Version;
-use gc_tests::circuits::{AND, FULL_ADDER, SEED, XOR};
-use gc_tests::worked_files::{
+use gc_worked::circuits::{AND, FULL_ADDER, SEED, XOR};
+use gc_worked::worked_files::{
     AND_FILE, AND_FILE_2, GARBLED_FILES, LABEL_FILES, OTHER_DECODE_BIT, XOR_FILE, XOR_FILE_2,
 };
 use std::alloc::{AllocError, Global};
@@ -208,7 +208,7 @@ fn disk_of_labels<R: Threads + Wait + Sync + Abort>(
 
 /// Circuits, garbled files, label files, and what `eval` prints: outputs, or its first fault. Nothing of the files is
 /// trusted.
-static EVALUATIONS: [(&str, &str, &[&str], u8, &str); 22] = [
+static EVALUATIONS: [(&str, &str, &[&str], u8, &str); 28] = [
     (XOR, XOR_FILE, &["0", "1"], 0, "0\n"),
     (XOR, XOR_FILE_2, &["1", "0"], 0, "0\n"),
     (AND, AND_FILE, &["0", "1"], 0, "1\n"),
@@ -218,6 +218,37 @@ static EVALUATIONS: [(&str, &str, &[&str], u8, &str); 22] = [
     (XOR, XOR_FILE, &["z0", "1"], 0, "0\n"),
     (XOR, XOR_FILE_2, &["z0", "1"], 1, "48 UnknownOutputLabel"),
     (XOR, XOR_FILE_2, &["z0", "z1"], 1, "48 UnknownOutputLabel"),
+    // By several workers; and numbers of workers, which are judged after binding.
+    (XOR, XOR_FILE, &["z0", "1", "--workers", "2"], 0, "0\n"),
+    (
+        XOR,
+        XOR_FILE_2,
+        &["z0", "1", "--workers", "64"],
+        1,
+        "48 UnknownOutputLabel",
+    ),
+    (AND, AND_FILE, &["0", "1", "--workers", "64"], 0, "1\n"),
+    (
+        AND,
+        AND_FILE,
+        &["0", "1", "--workers", "0"],
+        1,
+        "22 BadWorkers",
+    ),
+    (
+        AND,
+        AND_FILE,
+        &["0", "1", "--workers", "65"],
+        1,
+        "22 BadWorkers",
+    ),
+    (
+        AND,
+        AND_FILE,
+        &["0", "--workers", "0"],
+        1,
+        "45 MissingValue",
+    ),
     // Files that are bound to no job.
     (XOR, AND_FILE, &["0", "1"], 1, "40 OtherCircuit"),
     (XOR, XOR_FILE, &["0", "z2"], 1, "42 NoSuchValue"),

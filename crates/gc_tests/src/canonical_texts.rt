@@ -1,7 +1,7 @@
 //! Tests of canonical texts. Their digests are those that the command `check` prints.
 
-use crate::circuits::{CONSTANT, EMPTY, FULL_ADDER, MANY_WIRES, NO_GATES, SPACED_ADDER, XOR};
 use gc_circuit::Circuit;
+use gc_worked::circuits::{CONSTANT, EMPTY, FULL_ADDER, MANY_WIRES, NO_GATES, SPACED_ADDER, XOR};
 use std::test::Fail;
 
 /// Circuits and their canonical texts.

@@ -1,63 +1,18 @@
 //! Tests of garbled files: what is written and read, and the faults of bytes that are no file.
 
-use crate::circuits::AND;
 use crate::hostile::{each_flip, each_length};
 use crate::labels::label;
-use crate::worked_files::{AND_FILE, AND_FILE_2, GARBLED_FILES, NO_GATES_FILE_2};
 use gc_circuit::Circuit;
-use gc_file::{
-    EntryPair, FileFault, Garbled, MemSink, Version, WriteFault, read_garbled, write_garbled,
-    write_garbled2,
-};
-use gc_half::{RowPair, garble_one_thread};
-use gc_label::Seed;
-use std::alloc::{AllocError, Global};
-use std::process::Abort;
+use gc_file::{EntryPair, FileFault, Version, read_garbled};
+use gc_half::RowPair;
+use gc_worked::files::{and_file, write};
+use gc_worked::worked_files::{GARBLED_FILES, NO_GATES_FILE_2};
 use std::test::Fail;
-
-/// The file of one AND gate, of this version.
-pub(crate) fn and_file(alloc: Global, version: Version) -> Result<Vec<u8>, Fail> {
-    let file = match version {
-        Version::One => AND_FILE,
-        Version::Two => AND_FILE_2,
-    };
-    Ok(hex::decode(alloc, file)?)
-}
-
-/// What writing a garbled file answered, and the bytes that the sink then held.
-#[derive(Drop)]
-pub(crate) struct Written {
-    pub(crate) answer: Result<u64, WriteFault>,
-    pub(crate) bytes: Vec<u8>,
-}
-
-/// Writes the garbled file of the circuit under the seed of 32 zero bytes to a sink in memory with this limit.
-pub(crate) fn write(
-    rt: &impl Abort,
-    alloc: Global,
-    text: &str,
-    version: Version,
-    limit: Option<usize>,
-) -> Result<Written, Fail> {
-    let seed = Seed::from_bytes([0; 32]);
-    let circuit = Circuit::read(alloc, text.as_bytes())?;
-    let garbling = garble_one_thread(alloc, &circuit, &seed)?;
-    let mut sink = MemSink::new(alloc, limit);
-    assert!(rt; garbling.fits(&circuit));
-    let answer = match version {
-        Version::One => write_garbled(&mut sink, &circuit, &garbling),
-        Version::Two => write_garbled2(&mut sink, &circuit, &garbling, &seed),
-    };
-    Ok(Written {
-        answer,
-        bytes: sink.into_bytes(),
-    })
-}
 
 #[test]
 fn are_written(rt: HostRuntime) -> Result<(), Fail> {
     for (text, version, file) in &GARBLED_FILES {
-        let written = write(&rt, rt.alloc(), text, *version, None)?;
+        let written = write(rt.alloc(), text, *version, None)?;
         let shown = hex::encode(rt.alloc(), written.bytes.as_slice())?;
         assert_eq!(rt; shown.as_str(), *file, "{version:?} of {text:?}");
         assert_eq!(rt; written.answer, Ok(written.bytes.len() as u64));
@@ -89,12 +44,22 @@ fn are_read(rt: HostRuntime) -> Result<(), Fail> {
             circuit.output_wires() as usize
         );
     }
+    Ok(())
+}
+
+#[test]
+fn rows_are_read(rt: HostRuntime) -> Result<(), Fail> {
     let garbled = read_garbled(rt.alloc(), &and_file(rt.alloc(), Version::Two)?)?;
     let row = RowPair {
         generator: label(0xdd11d0a73fd8455816559c223b1bca52),
         evaluator: label(0x7a962e6d92d4a4db49c46e62392ddf4e),
     };
     assert_eq!(rt; garbled.rows(), [row].as_slice());
+    Ok(())
+}
+
+#[test]
+fn entries_are_read(rt: HostRuntime) -> Result<(), Fail> {
     let garbled = read_garbled(rt.alloc(), &hex::decode(rt.alloc(), NO_GATES_FILE_2)?)?;
     let pairs = [
         entries(

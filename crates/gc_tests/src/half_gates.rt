@@ -19,11 +19,15 @@
 //! print('%032x %032x %032x' % garble(1, c ^ R, A))
 //! ```
 
-use crate::circuits::{AND, AND_INV_AND, CONSTANT, FAR_COPY, INV, NO_GATES, XOR, ZERO_CONSTANT};
 use crate::labels::{A, B, R, label};
 use gc_circuit::Circuit;
-use gc_half::{Garbling, RowPair, eval_and, garble_and, garble_one_thread, tweak_hash};
+use gc_half::{
+    AndStep, Garbling, RowPair, eval_and, eval_two_ands, garble_and, garble_one_thread, tweak_hash,
+};
 use gc_label::{Label, Seed, offset};
+use gc_worked::circuits::{
+    AND, AND_INV_AND, CONSTANT, FAR_COPY, INV, NO_GATES, XOR, ZERO_CONSTANT,
+};
 use std::process::Abort;
 use std::test::Fail;
 
@@ -105,6 +109,27 @@ fn and_gates(rt: HostRuntime) {
                 label(active)
             );
         }
+    }
+}
+
+/// The evaluation of an AND gate on the zero labels that it reads.
+fn step_of((k, a, b, (_, generator, evaluator)): (u32, u128, u128, (u128, u128, u128))) -> AndStep {
+    AndStep {
+        k,
+        rows: RowPair {
+            generator: label(generator),
+            evaluator: label(evaluator),
+        },
+        a: label(a),
+        b: label(b),
+    }
+}
+
+#[test]
+fn two_and_gates_at_once(rt: HostRuntime) {
+    for (one, other) in AND_GATES.iter().zip(AND_GATES.iter().rev()) {
+        let found = eval_two_ands(step_of(*one), step_of(*other));
+        assert_eq!(rt; found, (label(one.3.0), label(other.3.0)));
     }
 }
 

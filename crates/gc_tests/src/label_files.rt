@@ -2,37 +2,17 @@
 
 use crate::hostile::{each_flip, each_length};
 use crate::labels::{A, B, R, label};
-use crate::worked_files::{LABEL_FILES, ONE_LABEL};
 use gc_circuit::Circuit;
-use gc_file::{FileFault, LabelFile, MemSink, read_labels, write_labels};
-use gc_label::Seed;
-use std::alloc::Global;
-use std::process::Abort;
+use gc_file::{FileFault, read_labels};
+use gc_worked::files::label_file;
+use gc_worked::worked_files::{LABEL_FILES, ONE_LABEL};
 use std::test::Fail;
-
-/// The bytes of the label file of an input value under the seed of 32 zero bytes.
-pub(crate) fn label_file(
-    rt: &impl Abort,
-    alloc: Global,
-    circuit: &Circuit,
-    index: u32,
-    bits: &[bool],
-) -> Result<Vec<u8>, Fail> {
-    let seed = Seed::from_bytes([0; 32]);
-    let mut sink = MemSink::new(alloc, None);
-    let widths = circuit.input_widths();
-    assert!(rt; (index as usize) < widths.len() && widths[index as usize] as usize == bits.len());
-    let answer = write_labels(&mut sink, circuit, &seed, index, bits);
-    let bytes = sink.into_bytes();
-    assert_eq!(rt; answer, Ok(bytes.len() as u64));
-    Ok(bytes)
-}
 
 #[test]
 fn are_written(rt: HostRuntime) -> Result<(), Fail> {
     for (text, index, bits, file) in &LABEL_FILES {
         let circuit = Circuit::read(rt.alloc(), text.as_bytes())?;
-        let bytes = label_file(&rt, rt.alloc(), &circuit, *index, bits)?;
+        let bytes = label_file(rt.alloc(), &circuit, *index, bits)?;
         let shown = hex::encode(rt.alloc(), bytes.as_slice())?;
         assert_eq!(rt; shown.as_str(), *file, "value {index} of {text:?}");
     }

@@ -1,7 +1,7 @@
 //! Tests of labels, of seeds, and of the offset and the input labels that a seed gives.
 
-use crate::circuits::SEED;
 use gc_label::{BadSeed, Label, Seed, fill_input_labels, input_label, offset};
+use gc_worked::circuits::SEED;
 use std::test::Fail;
 
 /// The offset of the seed of 32 zero bytes: the first row of its keystream, with the colour set to 1.
@@ -106,4 +106,5 @@ fn texts_that_are_no_seed(rt: HostRuntime) {
     for text in texts {
         assert_eq!(rt; Seed::from_hex(text), Err(BadSeed), "of {text}");
     }
+    assert_eq!(rt; (BadSeed.code(), BadSeed.name()), (18, "BadSeed"));
 }

@@ -1,10 +1,10 @@
 //! A chain of more than a million gates, read and garbled.
 
-use crate::circuits::chain;
 use crate::labels::label;
 use gc_circuit::Circuit;
 use gc_half::garble_one_thread;
 use gc_label::Seed;
+use gc_worked::circuits::chain;
 use std::test::Fail;
 
 /// The last wire's zero label is that of the input wire plus the offset, and its colour is 0.

@@ -2,16 +2,15 @@
 
 ghost use Rattle.std.specs.Prelude.{◌≤◌, length};
 
-use crate::circuits::AND;
-use crate::garbled_files::{and_file, write};
 use crate::hostile::flipped;
 use gc_file::{
     FileFault, Garbled, GarbledReader, InSource, MemSource, TakeFault, Version, WriteFault,
     read_garbled, read_garbled_from,
 };
 use gc_refusing::Refusing;
+use gc_worked::circuits::AND;
+use gc_worked::files::{and_file, write};
 use std::alloc::{Allocator, Global};
-use std::process::Abort;
 use std::test::Fail;
 
 /// Whether both hold the same.
@@ -110,7 +109,7 @@ fn to_a_sink_that_fails(rt: HostRuntime) -> Result<(), Fail> {
     for version in [Version::One, Version::Two] {
         let file = and_file(alloc, version)?;
         for limit in 0..=file.len() {
-            let written = write(&rt, alloc, AND, version, Some(limit))?;
+            let written = write(alloc, AND, version, Some(limit))?;
             let wanted = if limit < file.len() {
                 Err(WriteFault { sent: limit as u64 })
             } else {

@@ -1,7 +1,7 @@
 //! Tests of reading circuits: first faults, and the limits.
 
-use crate::circuits::FULL_ADDER;
 use gc_circuit::{Circuit, ReadFault};
+use gc_worked::circuits::FULL_ADDER;
 use std::alloc::{AllocError, Global};
 use std::test::Fail;
 

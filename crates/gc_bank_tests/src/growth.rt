@@ -1,0 +1,94 @@
+//! Each growth refused in turn of the opening of banks and of the evaluation of a list of jobs.
+
+use crate::banks::three_jobs;
+use crate::jobs::{evaluated, one_after_another};
+use gc_bank::{Banks, OpenFault, one_circuit};
+use gc_circuit::Circuit;
+use gc_eval::{EvalFault, Job};
+use gc_refusing::Refusing;
+use gc_work::Open;
+use gc_worked::circuits::FULL_ADDER;
+use std::alloc::Global;
+use std::sync::Wait;
+use std::test::Fail;
+use std::thread::Threads;
+
+/// The fault of opening banks with two seats when the growth n is refused, or how many seats there are.
+fn opened(alloc: Global, jobs: &[Job], n: u64) -> Result<usize, OpenFault> {
+    let heap = Refusing::nth(alloc, n);
+    if jobs.is_empty() || jobs.len() > 65_536 || !one_circuit(jobs) {
+        return Ok(0);
+    }
+    let (_, seats) = Banks::open(&heap, jobs, 2)?;
+    Ok(seats.len())
+}
+
+/// The seats, the two tables of the circuit, the list of jobs, the words, and at last the table's own two
+/// blocks.
+#[test]
+fn opening(rt: HostRuntime) -> Result<(), Fail> {
+    let alloc = rt.alloc();
+    let circuit = Circuit::read(alloc, FULL_ADDER.as_bytes())?;
+    let jobs = three_jobs(alloc, &circuit)?;
+    let mut found = Vec::new(alloc);
+    for n in 1..9 {
+        found.push(opened(alloc, &jobs, n))?;
+    }
+    let wanted = [
+        Err(OpenFault::Memory),
+        Err(OpenFault::Memory),
+        Err(OpenFault::Memory),
+        Err(OpenFault::Memory),
+        Err(OpenFault::Memory),
+        Err(OpenFault::NoTable),
+        Err(OpenFault::NoTable),
+        Ok(2),
+    ];
+    assert_eq!(rt; found.as_slice(), wanted.as_slice());
+    Ok(())
+}
+
+/// Whether two answers have the same bits.
+fn same(one: &[Vec<bool, &Refusing<Global>>], other: &[Vec<bool>]) -> bool {
+    one.len() == other.len()
+        && one
+            .iter()
+            .zip(other)
+            .all(|(a, b)| a.as_slice() == b.as_slice())
+}
+
+/// With growth 1, 2, 3, .. refused, so many workers give the answer of one thread, or the fault for memory. The
+/// answer is how many runs met a refusal.
+fn refused_runs<R: Threads + Wait + Sync>(
+    rt: &R,
+    alloc: Global,
+    jobs: &[Job],
+    workers: u32,
+) -> Result<u64, Fail> {
+    let plain = one_after_another(alloc, jobs)?;
+    for n in 1..1000 {
+        let heap = Refusing::nth(alloc, n);
+        match evaluated(rt, &heap, jobs, workers, &Open)? {
+            Ok(all) if same(&all, &plain) => {}
+            Err(EvalFault::Memory) if heap.refused() == 1 => {}
+            _ => return Err(Fail::new("neither the answer nor the fault for memory")),
+        }
+        if heap.refused() == 0 {
+            return Ok(n - 1);
+        }
+    }
+    Err(Fail::new("each run met a refusal"))
+}
+
+/// The banks take memory seven times, the workers once each and once together, and the answers twice together
+/// and at least twice for each job.
+#[test]
+fn each_growth_of_a_list_refused(rt: HostRuntime) -> Result<(), Fail> {
+    let alloc = rt.alloc();
+    let circuit = Circuit::read(alloc, FULL_ADDER.as_bytes())?;
+    let jobs = three_jobs(alloc, &circuit)?;
+    let few = refused_runs(&rt, alloc, &jobs, 2)?;
+    let many = refused_runs(&rt, alloc, &jobs, 64)?;
+    assert!(rt; few >= 18 && many >= 80, "{few} and {many} growths");
+    Ok(())
+}

@@ -1,0 +1,237 @@
+//! Tests of boards: the answers of seats that take turns, closing, and each growth of the opening refused.
+
+ghost use Rattle.std.specs.Prelude.{◌≡◌, ◌<◌, ◌≤◌, All, IfOk};
+ghost use Rattle.gc_eval.specs.Seats.{IsSeatOf, job_on};
+
+use crate::jobs::{ROWS, job_files};
+use gc_circuit::{Circuit, show_value};
+use gc_eval::{Answer, CloseRefused, EvalBoard, EvalSeat, Job, OpenFault, evaluate};
+use gc_file::{Version, read_garbled};
+use gc_refusing::Refusing;
+use gc_worked::circuits::FULL_ADDER;
+use gc_worked::files::write;
+use gc_worked::growths::{Answer as Run, plain_if, runs_refused};
+use std::alloc::Global;
+use std::test::Fail;
+use std::thread;
+use std::thread::Threads;
+
+/// Values of the full adder.
+const ADDENDS: [&str; 3] = ["1", "0", "1"];
+
+/// The job of a circuit's file on these values.
+pub(crate) fn job_of<'c>(
+    alloc: Global,
+    circuit: &'c Circuit,
+    text: &str,
+    values: &[&str],
+) -> Result<Job<'c>, Fail> {
+    let file = write(alloc, text, Version::Two, None)?.bytes;
+    let labels = job_files(alloc, circuit, values)?;
+    Ok(Job::bind(alloc, circuit, read_garbled(alloc, &file)?, &labels)?)
+}
+
+/// A board with two seats.
+fn two_seats<'j, 'c>(
+    alloc: Global,
+    job: &'j Job<'c>,
+) -> Result<(EvalBoard<'j, 'c>, EvalSeat, EvalSeat), Fail>
+    ensures job { IfOk result (λ b. job_on b.0 ≡ job.now) }
+    ensures seats { IfOk result (λ b. IsSeatOf b.0 b.1 × IsSeatOf b.0 b.2) }
+{
+    let (board, mut seats) = EvalBoard::open(alloc, job, 2)?;
+    let Some(two) = seats.pop() else {
+        return Err(Fail::new("there are two seats"));
+    };
+    let Some(one) = seats.pop() else {
+        return Err(Fail::new("there are two seats"));
+    };
+    Ok((board, one, two))
+}
+
+#[test]
+fn two_seats_take_turns(rt: HostRuntime) -> Result<(), Fail> {
+    let alloc = rt.alloc();
+    let circuit = Circuit::read(alloc, FULL_ADDER.as_bytes())?;
+    let job = job_of(alloc, &circuit, FULL_ADDER, &ADDENDS)?;
+    assert!(rt; job.circuit().gates() == 5 && job.circuit().wires() == 8);
+    let (board, mut one, mut two) = two_seats(alloc, &job)?;
+    assert_eq!(rt; board.step(&mut one, 2), Answer::NotYet(3));
+    let Answer::Made(_) = board.step(&mut one, 0) else {
+        return Err(Fail::new("gate 0 is free"));
+    };
+    let Answer::Made(label) = board.step(&mut two, 1) else {
+        return Err(Fail::new("gate 1 is free"));
+    };
+    assert_eq!(rt; board.step(&mut one, 1), Answer::Done(label));
+    let Answer::Made(_) = board.step(&mut one, 2) else {
+        return Err(Fail::new("gate 2 is free"));
+    };
+    assert_eq!(rt;
+        (board.label(&mut one, 7), board.label(&mut two, 7)),
+        (None, None)
+    );
+    assert_eq!(rt; (one.made(), two.made()), (2, 1));
+    Ok(())
+}
+
+/// Each growth of `open` is refused in turn: the seats, the words, the table's own two blocks, and the two tables of
+/// the circuit.
+#[test]
+fn opening(rt: HostRuntime) -> Result<(), Fail> {
+    let circuit = Circuit::read(rt.alloc(), FULL_ADDER.as_bytes())?;
+    let job = job_of(rt.alloc(), &circuit, FULL_ADDER, &ADDENDS)?;
+    let refused = runs_refused(rt.alloc(), |heap: &Refusing<Global>| {
+        match EvalBoard::open(heap, &job, 2) {
+            Ok((_, seats)) => plain_if(seats.len() == 2),
+            Err(OpenFault::Memory) => Run::Memory,
+            Err(OpenFault::NoTable) => Run::Memory,
+        }
+    });
+    assert_eq!(rt; refused, Ok(6));
+    Ok(())
+}
+
+/// The fault of the growth n of `open`.
+fn fault_at(alloc: Global, job: &Job, n: u64) -> Option<OpenFault> {
+    let heap = Refusing::nth(alloc, n);
+    match EvalBoard::open(&heap, job, 2) {
+        Ok(_) => None,
+        Err(fault) => Some(fault),
+    }
+}
+
+#[test]
+fn only_the_table_is_no_table(rt: HostRuntime) -> Result<(), Fail> {
+    let circuit = Circuit::read(rt.alloc(), FULL_ADDER.as_bytes())?;
+    let job = job_of(rt.alloc(), &circuit, FULL_ADDER, &ADDENDS)?;
+    for n in [1, 2, 5, 6] {
+        assert_eq!(rt; fault_at(rt.alloc(), &job, n), Some(OpenFault::Memory));
+    }
+    assert_eq!(rt; fault_at(rt.alloc(), &job, 3), Some(OpenFault::NoTable));
+    assert_eq!(rt; fault_at(rt.alloc(), &job, 4), Some(OpenFault::NoTable));
+    assert_eq!(rt; fault_at(rt.alloc(), &job, 7), None);
+    Ok(())
+}
+
+/// A board without one of its seats is not closed. With both it is, and no gate is done.
+#[test]
+fn closing(rt: HostRuntime) -> Result<(), Fail> {
+    let alloc = rt.alloc();
+    let circuit = Circuit::read(alloc, FULL_ADDER.as_bytes())?;
+    let job = job_of(alloc, &circuit, FULL_ADDER, &ADDENDS)?;
+    let (board, mut seats) = EvalBoard::open(alloc, &job, 2)?;
+    let Some(last) = seats.pop() else {
+        return Err(Fail::new("there are two seats"));
+    };
+    let Err(refused) = board.close(seats) else {
+        return Err(Fail::new("a seat is missing"));
+    };
+    assert_eq!(rt; (refused.code(), refused.name()), (47, "SeatMissing"));
+    let CloseRefused { board, mut seats } = refused;
+    seats.push(last)?;
+    let Ok(active) = board.close(seats) else {
+        return Err(Fail::new("both seats are there"));
+    };
+    assert_eq!(rt; active.done(), 0);
+    assert!(rt; active.decode(alloc)?.is_none());
+    Ok(())
+}
+
+/// A board with one seat.
+fn one_seat<'j, 'c>(alloc: Global, job: &'j Job<'c>) -> Result<(EvalBoard<'j, 'c>, EvalSeat), Fail>
+    ensures job { IfOk result (λ b. job_on b.0 ≡ job.now) }
+    ensures seat { IfOk result (λ b. IsSeatOf b.0 b.1) }
+{
+    let (board, mut seats) = EvalBoard::open(alloc, job, 1)?;
+    let Some(seat) = seats.pop() else {
+        return Err(Fail::new("there is a seat"));
+    };
+    Ok((board, seat))
+}
+
+/// One seat steps all gates of the circuit in file order.
+fn step_all<'j, 'c>(board: &EvalBoard<'j, 'c>, job: &Job<'c>, seat: &mut EvalSeat)
+    requires own { IsSeatOf board.now seat.old }
+    requires job { job_on board.now ≡ job.now }
+    ensures { IsSeatOf board.now seat.new }
+{
+    for gate in 0..job.circuit().gates() {
+        board.step(seat, gate);
+    }
+}
+
+/// What one seat makes decodes to what the evaluation on one thread answers.
+#[test]
+fn one_seat_makes_all(rt: HostRuntime) -> Result<(), Fail> {
+    let alloc = rt.alloc();
+    let circuit = Circuit::read(alloc, FULL_ADDER.as_bytes())?;
+    let job = job_of(alloc, &circuit, FULL_ADDER, &ADDENDS)?;
+    let (board, mut seat) = one_seat(alloc, &job)?;
+    step_all(&board, &job, &mut seat);
+    assert_eq!(rt; seat.made(), 5);
+    let mut seats = Vec::new(alloc);
+    seats.push(seat)?;
+    let Ok(active) = board.close(seats) else {
+        return Err(Fail::new("the seat is there"));
+    };
+    assert_eq!(rt; active.done(), 5);
+    assert_eq!(rt; active.decode(alloc)?, Some(evaluate(alloc, &job)?));
+    Ok(())
+}
+
+/// Lets each seat step all gates, in so many threads at the most.
+fn step_together<'j, 'c, R: Threads + Sync>(
+    rt: &R,
+    threads: usize,
+    board: &EvalBoard<'j, 'c>,
+    job: &Job<'c>,
+    seats: &mut [EvalSeat],
+)
+    requires threads { 0 < threads }
+    requires own { All (IsSeatOf board.now) seats.old }
+    requires job { job_on board.now ≡ job.now }
+    ensures { All (IsSeatOf board.now) seats.new }
+{
+    thread::for_each_mut(
+        rt,
+        seats,
+        threads,
+        &|_i: usize, seat: &mut EvalSeat|
+            requires { IsSeatOf board.now seat.old × (job_on board.now ≡ job.now) }
+            ensures { IsSeatOf board.entry.now seat.new }
+        { step_all(board, job, seat) },
+    );
+}
+
+/// What so many seats make, at first each in a thread of its own, and then one after another, decodes to the output bits.
+pub(crate) fn made_by<R: Threads + Sync>(
+    rt: &R,
+    alloc: Global,
+    job: &Job,
+    seats: u32,
+) -> Result<Option<Vec<bool>>, Fail>
+    requires { (0 < seats) × (seats ≤ 8) }
+{
+    let (board, mut all) = EvalBoard::open(alloc, job, seats)?;
+    step_together(rt, 8, &board, job, all.as_mut_slice());
+    step_together(rt, 1, &board, job, all.as_mut_slice());
+    let Ok(active) = board.close(all) else {
+        return Err(Fail::new("all seats are there"));
+    };
+    Ok(active.decode(alloc)?)
+}
+
+#[test]
+fn many_seats(rt: HostRuntime) -> Result<(), Fail> {
+    let alloc = rt.alloc();
+    for (text, values, outputs) in &ROWS {
+        let circuit = Circuit::read(alloc, text.as_bytes())?;
+        let job = job_of(alloc, &circuit, text, values)?;
+        for seats in 1..9 {
+            let made = made_by(&rt, alloc, &job, seats)?.ok_or("each output has a label")?;
+            assert_eq!(rt; show_value(alloc, &made)?.as_slice(), outputs.as_bytes());
+        }
+    }
+    Ok(())
+}

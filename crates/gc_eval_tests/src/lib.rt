@@ -1,0 +1,13 @@
+//! The tests of jobs, of their evaluation, of boards, and of evaluation on many threads.
+#![tactic(auto)]
+
+#[cfg(test)]
+mod boards;
+#[cfg(test)]
+mod growth;
+#[cfg(test)]
+mod jobs;
+#[cfg(test)]
+mod pairs;
+#[cfg(test)]
+mod workers;

@@ -1,0 +1,186 @@
+//! Tests of evaluation on many threads: the answer is that of one thread, and the threads are really at work.
+
+use crate::jobs::{ROWS, job_files};
+use gc_circuit::Circuit;
+use gc_eval::{EvalFault, Job, evaluate, evaluate_many};
+use gc_file::{LabelFile, Version, read_garbled, read_labels};
+use gc_refusing::Refusing;
+use gc_work::{Gatehouse, Open};
+use gc_worked::circuits::{FULL_ADDER, many_ands};
+use gc_worked::files::{label_file, write};
+use gc_worked::random::{Numbers, forge_labels, forge_rows, random_circuit};
+use std::alloc::Global;
+use std::sync::atomic::{AtomicU64, Ordering};
+use std::test::Fail;
+use std::thread::Threads;
+
+/// Holds the first worker that comes until another one comes.
+#[derive(Drop)]
+struct Meeting {
+    // The number of the first worker, plus 1.
+    first: AtomicU64,
+    // 1 once another came.
+    met: AtomicU64,
+}
+
+impl Gatehouse for Meeting {
+    fn before(&self, worker: u32, _gate: u32) {
+        let number = u64::from(worker) + 1;
+        let found = self
+            .first
+            .compare_exchange(0, number, Ordering::SeqCst, Ordering::SeqCst);
+        match found {
+            Ok(_) => self.wait(),
+            Err(first) if first == number => {}
+            Err(_) => self.met.store(1, Ordering::SeqCst),
+        }
+    }
+}
+
+impl Meeting {
+    fn wait(&self) {
+        for _turn in 0..1_000_000_000u64 {
+            if self.met.load(Ordering::SeqCst) == 1 {
+                return;
+            }
+        }
+    }
+}
+
+/// The job of a circuit's file in version 2 on zeros.
+fn job_on_zeros<'c>(alloc: Global, circuit: &'c Circuit, text: &str) -> Result<Job<'c>, Fail> {
+    let garbled = read_garbled(alloc, &write(alloc, text, Version::Two, None)?.bytes)?;
+    let mut labels = Vec::new(alloc);
+    for (index, width) in (0..).zip(circuit.input_widths()) {
+        let zeros = vec![in alloc; false; *width as usize]?;
+        labels.push(read_labels(alloc, &label_file(alloc, circuit, index, &zeros)?)?)?;
+    }
+    Ok(Job::bind(alloc, circuit, garbled, &labels)?)
+}
+
+/// Two workers step the gates of 2,000 independent AND gates.
+#[test]
+fn two_evaluators_meet(rt: HostRuntime) -> Result<(), Fail> {
+    let text = many_ands(rt.alloc(), 2000)?;
+    let circuit = Circuit::read(rt.alloc(), text.as_bytes())?;
+    let job = job_on_zeros(rt.alloc(), &circuit, text.as_str())?;
+    let house = Meeting {
+        first: AtomicU64::new(0),
+        met: AtomicU64::new(0),
+    };
+    let found = evaluate_many(&rt, rt.alloc(), &job, 2, &house);
+    assert_eq!(rt; house.met.load(Ordering::SeqCst), 1);
+    assert_eq!(rt; found, evaluate(rt.alloc(), &job));
+    Ok(())
+}
+
+/// 0 workers and 65 are refused.
+#[test]
+fn refuses_numbers_of_workers(rt: HostRuntime) -> Result<(), Fail> {
+    let circuit = Circuit::read(rt.alloc(), FULL_ADDER.as_bytes())?;
+    let job = job_on_zeros(rt.alloc(), &circuit, FULL_ADDER)?;
+    for workers in [0, 65, u32::MAX] {
+        let refused = evaluate_many(&rt, rt.alloc(), &job, workers, &Open);
+        assert_eq!(rt; refused, Err(EvalFault::BadWorkers));
+    }
+    assert_eq!(rt;
+        (EvalFault::BadWorkers.code(), EvalFault::BadWorkers.name()),
+        (22, "BadWorkers")
+    );
+    Ok(())
+}
+
+/// Whether each of these numbers of workers answers what one thread answers.
+fn agree<R: Threads + Sync>(rt: &R, alloc: Global, job: &Job, numbers: &[u32]) -> bool {
+    let wanted = evaluate(alloc, job);
+    numbers.iter().all(|workers| evaluate_many(rt, alloc, job, *workers, &Open) == wanted)
+}
+
+/// Honest files of worked circuits.
+#[test]
+fn worked_circuits(rt: HostRuntime) -> Result<(), Fail> {
+    let alloc = rt.alloc();
+    for (text, values, _) in &ROWS {
+        let circuit = Circuit::read(alloc, text.as_bytes())?;
+        let labels = job_files(alloc, &circuit, values)?;
+        let garbled = read_garbled(alloc, &write(alloc, text, Version::Two, None)?.bytes)?;
+        let job = Job::bind(alloc, &circuit, garbled, &labels)?;
+        assert!(rt;
+            agree(&rt, alloc, &job, &[1, 2, 64]),
+            "{text:?} on {values:?}"
+        );
+    }
+    Ok(())
+}
+
+/// A label file with random labels for each input value of a circuit.
+fn random_labels(
+    alloc: Global,
+    circuit: &Circuit,
+    numbers: &mut Numbers,
+) -> Result<Vec<LabelFile>, Fail> {
+    let mut files = Vec::new(alloc);
+    for (index, width) in (0..).zip(circuit.input_widths()) {
+        let zeros = vec![in alloc; false; *width as usize]?;
+        let mut file = label_file(alloc, circuit, index, &zeros)?;
+        forge_labels(&mut file, numbers);
+        files.push(read_labels(alloc, &file)?)?;
+    }
+    Ok(files)
+}
+
+/// Random circuits, with random rows and random labels.
+#[test]
+fn random_jobs(rt: HostRuntime) -> Result<(), Fail> {
+    let alloc = rt.alloc();
+    let mut numbers = Numbers { state: 3 };
+    for i in 0..100u32 {
+        let text = random_circuit(alloc, &mut numbers)?;
+        let circuit = Circuit::read(alloc, text.as_bytes())?;
+        let version = if i % 2 == 0 {
+            Version::One
+        } else {
+            Version::Two
+        };
+        let mut file = write(alloc, text.as_str(), version, None)?.bytes;
+        forge_rows(&mut file, &mut numbers, 32 * circuit.and_count() as usize)?;
+        let labels = random_labels(alloc, &circuit, &mut numbers)?;
+        let job = Job::bind(alloc, &circuit, read_garbled(alloc, &file)?, &labels)?;
+        assert!(rt; agree(&rt, alloc, &job, &[2, 3, 4, 5, 6, 7, 8]), "job {i}");
+    }
+    Ok(())
+}
+
+/// With growth 1, 2, 3, .. refused, so many workers give the answer of one thread, or the fault for memory. The answer is
+/// how many runs met a refusal.
+fn refused_runs<R: Threads + Sync>(
+    rt: &R,
+    alloc: Global,
+    job: &Job,
+    workers: u32,
+) -> Result<u64, Fail> {
+    let plain = evaluate(alloc, job)?;
+    for n in 1..1000 {
+        let heap = Refusing::nth(alloc, n);
+        match evaluate_many(rt, &heap, job, workers, &Open) {
+            Ok(bits) if bits.as_slice() == plain.as_slice() => {}
+            Err(EvalFault::Memory) if heap.refused() == 1 => {}
+            _ => return Err(Fail::new("neither the answer nor the fault for memory")),
+        }
+        if heap.refused() == 0 {
+            return Ok(n - 1);
+        }
+    }
+    Err(Fail::new("each run met a refusal"))
+}
+
+/// The board takes memory six times, the workers once each and once together, the seats that are back once, and the output
+/// labels and bits once each.
+#[test]
+fn each_growth_refused(rt: HostRuntime) -> Result<(), Fail> {
+    let circuit = Circuit::read(rt.alloc(), FULL_ADDER.as_bytes())?;
+    let job = job_on_zeros(rt.alloc(), &circuit, FULL_ADDER)?;
+    assert_eq!(rt; refused_runs(&rt, rt.alloc(), &job, 2)?, 12);
+    assert_eq!(rt; refused_runs(&rt, rt.alloc(), &job, 64)?, 74);
+    Ok(())
+}

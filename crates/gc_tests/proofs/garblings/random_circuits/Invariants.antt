@@ -1,4 +1,0 @@
-use Rattle.gc_tests.proofs.garblings.random_circuits.Given as goal
-
-abbrev pub ghosts-garble_over_store : goal.ghosts-garble_over_store
-ghosts-garble_over_store g a = record { name = a.ledger.name; parts = a.ledger.parts }

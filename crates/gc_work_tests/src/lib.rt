@@ -1,0 +1,15 @@
+//! The tests of stores, of stores that threads share, of pools of tasks, and of garbling on many threads.
+#![tactic(auto)]
+
+#[cfg(test)]
+mod garblings;
+#[cfg(test)]
+mod growth;
+#[cfg(test)]
+mod pools;
+#[cfg(test)]
+mod shared_stores;
+#[cfg(test)]
+mod stores;
+#[cfg(test)]
+mod workers;

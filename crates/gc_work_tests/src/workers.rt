@@ -1,0 +1,131 @@
+//! Tests of garbling on many threads: the answer is that of one thread, and the threads are really at work.
+
+use crate::garblings::are_same;
+use gc_circuit::Circuit;
+use gc_half::garble_one_thread;
+use gc_label::Seed;
+use gc_refusing::Refusing;
+use gc_work::{Gatehouse, Open, WorkFault, garble};
+use gc_worked::circuits::{FULL_ADDER, many_ands};
+use gc_worked::random::{Numbers, random_circuit};
+use std::sync::atomic::{AtomicU64, Ordering};
+use std::test::Fail;
+
+/// Holds the first worker that comes until another one comes, and counts its calls.
+#[derive(Drop)]
+struct Meeting {
+    calls: AtomicU64,
+    // The number of the first worker, plus 1.
+    first: AtomicU64,
+    // 1 once another came.
+    met: AtomicU64,
+}
+
+impl Meeting {
+    fn new() -> Meeting {
+        Meeting {
+            calls: AtomicU64::new(0),
+            first: AtomicU64::new(0),
+            met: AtomicU64::new(0),
+        }
+    }
+
+    fn wait(&self) {
+        for _i in 0..1_000_000_000u64 {
+            if self.met.load(Ordering::SeqCst) == 1 {
+                return;
+            }
+        }
+    }
+}
+
+impl Gatehouse for Meeting {
+    fn before(&self, worker: u32, _gate: u32) {
+        self.calls.fetch_add(1, Ordering::SeqCst);
+        let number = u64::from(worker) + 1;
+        match self
+            .first
+            .compare_exchange(0, number, Ordering::SeqCst, Ordering::SeqCst)
+        {
+            Ok(_) => self.wait(),
+            Err(first) => {
+                if first != number {
+                    self.met.store(1, Ordering::SeqCst);
+                }
+            }
+        }
+    }
+}
+
+/// Two workers seal the gates of 2,000 independent AND gates, each gate once.
+#[test]
+fn two_workers_meet(rt: HostRuntime) -> Result<(), Fail> {
+    let circuit = Circuit::read(rt.alloc(), many_ands(rt.alloc(), 2000)?.as_bytes())?;
+    let seed = Seed::from_bytes([0; 32]);
+    let house = Meeting::new();
+    let garbling = garble(&rt, rt.alloc(), &circuit, &seed, 2, &house)?;
+    assert_eq!(rt; house.met.load(Ordering::SeqCst), 1);
+    assert_eq!(rt; house.calls.load(Ordering::SeqCst), 2000);
+    let one_thread = garble_one_thread(rt.alloc(), &circuit, &seed)?;
+    assert!(rt; are_same(&circuit, &garbling, &one_thread));
+    Ok(())
+}
+
+/// 0 workers and 65 are refused.
+#[test]
+fn refuses_numbers_of_workers(rt: HostRuntime) -> Result<(), Fail> {
+    let circuit = Circuit::read(rt.alloc(), FULL_ADDER.as_bytes())?;
+    let seed = Seed::from_bytes([0; 32]);
+    for workers in [0, 65, u32::MAX] {
+        let refused = garble(&rt, rt.alloc(), &circuit, &seed, workers, &Open).err();
+        assert_eq!(rt; refused, Some(WorkFault::BadWorkers));
+    }
+    assert_eq!(rt;
+        (WorkFault::BadWorkers.code(), WorkFault::BadWorkers.name()),
+        (22, "BadWorkers")
+    );
+    assert_eq!(rt;
+        (WorkFault::Memory.code(), WorkFault::Memory.name()),
+        (23, "Memory")
+    );
+    Ok(())
+}
+
+/// Any number of workers gives the garbling that one thread gives.
+#[test]
+fn random_circuits_by_workers(rt: HostRuntime) -> Result<(), Fail> {
+    let alloc = rt.alloc();
+    let seed = Seed::from_bytes([7; 32]);
+    let mut numbers = Numbers { state: 2 };
+    for i in 0..300u32 {
+        let circuit = Circuit::read(alloc, random_circuit(alloc, &mut numbers)?.as_bytes())?;
+        let one_thread = garble_one_thread(alloc, &circuit, &seed)?;
+        for workers in [1, 2, 3, 7, 64] {
+            let garbling = garble(&rt, alloc, &circuit, &seed, workers, &Open)?;
+            assert!(rt;
+                are_same(&circuit, &garbling, &one_thread),
+                "circuit {i} by {workers} workers"
+            );
+        }
+    }
+    Ok(())
+}
+
+/// With growth 1, 2, 3, .. refused, 64 workers answer the garbling or the fault for memory, whichever threads get it.
+#[test]
+fn each_growth_of_64_workers_refused(rt: HostRuntime) -> Result<(), Fail> {
+    let circuit = Circuit::read(rt.alloc(), many_ands(rt.alloc(), 256)?.as_bytes())?;
+    let seed = Seed::from_bytes([0; 32]);
+    let one_thread = garble_one_thread(rt.alloc(), &circuit, &seed)?;
+    for n in 1..10_000 {
+        let heap = Refusing::nth(rt.alloc(), n);
+        match garble(&rt, &heap, &circuit, &seed, 64, &Open) {
+            Ok(garbling) => assert!(rt; are_same(&circuit, &garbling, &one_thread)),
+            Err(fault) => assert_eq!(rt; (fault, heap.refused()), (WorkFault::Memory, 1)),
+        }
+        if heap.refused() == 0 {
+            return Ok(());
+        }
+    }
+    Err(Fail::new("each run met a refusal"))
+}

@@ -1,0 +1,85 @@
+//! Circuits in Bristol Fashion that several tests read, and values and a seed for them.
+
+use std::alloc::{AllocError, Global};
+use std::test::Fail;
+
+/// A full adder: three bits of input, and their sum and carry as one value.
+pub const FULL_ADDER: &str =
+    "5 8\n3 1 1 1\n1 2\n\n2 1 0 2 3 XOR\n2 1 1 2 4 XOR\n2 1 3 4 5 AND\n2 1 3 1 6 XOR\n2 1 5 2 7 XOR\n";
+
+/// The full adder in another spelling.
+pub const SPACED_ADDER: &str =
+    "\r\n 0005\t8 \r\n3 01 1 1\r\n\r\n1 2  \r\n2 1 0 2 00003 XOR\r\n2\n1\n1\n2\n4\nXOR 2 1 3 4 5 AND\t\r\n\r\n2 1 3 1 6 XOR\r\n2 1 5 2 7 XOR";
+
+/// The digest of the full adder, and what `check` prints of it.
+pub const ADDER_DIGEST: &str = "c07940d5ed062a112dc9abe072fab1395a72f675da449ef95ea0515ec8df7c76";
+
+pub const ADDER_LINES: &str =
+    "gates 5\nwires 8\nand 1\ninputs 3 1 1 1\noutputs 1 2\ndigest c07940d5ed062a112dc9abe072fab1395a72f675da449ef95ea0515ec8df7c76\n";
+
+pub const XOR: &str = "1 3\n2 1 1\n1 1\n2 1 0 1 2 XOR";
+
+pub const AND: &str = "1 3\n2 1 1\n1 1\n2 1 0 1 2 AND";
+
+pub const INV: &str = "1 2\n1 1\n1 1\n1 1 0 1 INV";
+
+/// A copy of a wire. Wires 1 and 2 are not set.
+pub const FAR_COPY: &str = "1 4\n1 1\n1 1\n1 1 0 3 EQW";
+
+/// A constant 1, without input values.
+pub const CONSTANT: &str = "1 1\n0\n1 1\n1 1 1 0 EQ";
+
+pub const ZERO_CONSTANT: &str = "1 1\n0\n1 1\n1 1 0 0 EQ";
+
+pub const CONSTANT_AND: &str = "2 3\n1 1\n1 1\n1 1 1 1 EQ\n2 1 0 1 2 AND";
+
+/// Two AND gates, of which the second reads the negation of the first.
+pub const AND_INV_AND: &str = "3 5\n2 1 1\n2 1 1\n2 1 0 1 2 AND\n1 1 2 3 INV\n2 1 3 0 4 AND";
+
+pub const NO_GATES: &str = "0 2\n1 2\n1 2";
+
+/// No gates, no wires and no values.
+pub const EMPTY: &str = "00 00 00 00";
+
+pub const SQUARE: &str = "1 2\n1 1\n1 1\n2 1 0 0 1 AND";
+
+/// A value of twelve wires, and two output values of one and twelve wires.
+pub const WIDE: &str = "1 13\n1 12\n2 1 12\n1 1 0 12 EQW";
+
+/// Wires with numbers of seven digits.
+pub const MANY_WIRES: &str =
+    "3 2097152\n2 2097149 0\n0\n1 1 2097148 2097149 INV\n1 1 0 2097150 EQ\n1 1 2097150 2097151 EQW";
+
+/// A seed of zeros.
+pub const SEED: &str = "0000000000000000000000000000000000000000000000000000000000000000";
+
+/// The input values 1, 0 and 1.
+pub fn one_zero_one(alloc: Global) -> Result<Vec<Vec<bool>>, AllocError> {
+    let mut values = Vec::new(alloc);
+    for bit in [true, false, true] {
+        values.push(vec![in alloc; bit; 1]?)?;
+    }
+    Ok(values)
+}
+
+/// How many gates the chain has.
+pub const CHAIN_GATES: u32 = 1_048_577;
+
+/// A chain of more than a million gates: one input and one output of one wire, and gate i negates wire i.
+pub fn chain(alloc: Global) -> Result<String, Fail> {
+    let mut text = format!(in alloc; "{CHAIN_GATES} 1048578\n1 1\n1 1\n\n")?;
+    for wire in 0..CHAIN_GATES {
+        write!(text, "1 1 {wire} {} INV\n", wire + 1)?;
+    }
+    Ok(text)
+}
+
+/// This many AND gates, none of which reads what another sets.
+pub fn many_ands(alloc: Global, gates: u32) -> Result<String, Fail> {
+    let n = u64::from(gates);
+    let mut text = format!(in alloc; "{n} {}\n2 {n} {n}\n1 {n}\n", 3 * n)?;
+    for i in 0..n {
+        text.push_str(format!(in alloc; "2 1 {i} {} {} AND\n", n + i, 2 * n + i)?.as_str())?;
+    }
+    Ok(text)
+}

@@ -1,0 +1,70 @@
+//! The files of circuits under the seed of 32 zero bytes.
+
+use crate::worked_files::{AND_FILE, AND_FILE_2};
+use gc_circuit::Circuit;
+use gc_file::{MemSink, Version, WriteFault, write_garbled, write_garbled2, write_labels};
+use gc_half::garble_one_thread;
+use gc_label::Seed;
+use std::alloc::Global;
+use std::test::Fail;
+
+/// The file of one AND gate, of this version.
+pub fn and_file(alloc: Global, version: Version) -> Result<Vec<u8>, Fail> {
+    let file = match version {
+        Version::One => AND_FILE,
+        Version::Two => AND_FILE_2,
+    };
+    Ok(hex::decode(alloc, file)?)
+}
+
+/// What writing a garbled file answered, and the bytes that the sink then held.
+#[derive(Drop)]
+pub struct Written {
+    pub answer: Result<u64, WriteFault>,
+    pub bytes: Vec<u8>,
+}
+
+/// Writes the circuit's garbled file to a sink in memory with this limit.
+pub fn write(
+    alloc: Global,
+    text: &str,
+    version: Version,
+    limit: Option<usize>,
+) -> Result<Written, Fail> {
+    let seed = Seed::from_bytes([0; 32]);
+    let circuit = Circuit::read(alloc, text.as_bytes())?;
+    let garbling = garble_one_thread(alloc, &circuit, &seed)?;
+    let mut sink = MemSink::new(alloc, limit);
+    if !garbling.fits(&circuit) {
+        return Err(Fail::new("the garbling does not fit its circuit"));
+    }
+    let answer = match version {
+        Version::One => write_garbled(&mut sink, &circuit, &garbling),
+        Version::Two => write_garbled2(&mut sink, &circuit, &garbling, &seed),
+    };
+    Ok(Written {
+        answer,
+        bytes: sink.into_bytes(),
+    })
+}
+
+/// The bytes of the label file of an input value.
+pub fn label_file(
+    alloc: Global,
+    circuit: &Circuit,
+    index: u32,
+    bits: &[bool],
+) -> Result<Vec<u8>, Fail> {
+    let seed = Seed::from_bytes([0; 32]);
+    let mut sink = MemSink::new(alloc, None);
+    let widths = circuit.input_widths();
+    if index as usize >= widths.len() || widths[index as usize] as usize != bits.len() {
+        return Err(Fail::new("the circuit has no such value"));
+    }
+    let sent = write_labels(&mut sink, circuit, &seed, index, bits)?;
+    let bytes = sink.into_bytes();
+    if sent != bytes.len() as u64 {
+        return Err(Fail::new("the sink does not hold what was sent"));
+    }
+    Ok(bytes)
+}

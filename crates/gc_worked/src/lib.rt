@@ -1,0 +1,9 @@
+//! What the tests of several crates share: worked circuits and files, the files of circuits under one seed, and calls whose
+//! growths are refused in turn.
+#![tactic(auto)]
+
+pub mod circuits;
+pub mod files;
+pub mod growths;
+pub mod random;
+pub mod worked_files;
