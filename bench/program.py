@@ -3,8 +3,8 @@
 
   program.py PROGRAM CIRCUIT GATES read=NS digest=NS hashes=NS file_sha=NS
 
-`hashes` are those of garbling, four for each AND gate; evaluating takes half of them. The peak memory of each command is
-told in bytes a gate, beyond the circuit's file.
+`hashes` are those of garbling, four for each AND gate and four at once; evaluating takes half of them. The peak memory
+of each command is told in bytes a gate, beyond the circuit's file.
 """
 
 import os

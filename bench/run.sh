@@ -25,9 +25,12 @@ python3 "$top/bench/make_circuit.py" 1000000 0 "$tmp/xor.txt"
 
 # The times of parts that ran in turns, as shell variables: half_gates, half_read, .. and xor_open, xor_store, ..
 times() { "$bench" "$2" "$3" "${@:4}" | sed "s/^/$1_/; s/ /=/"; }
-eval "$(times half "$circuit" 9 read plain hashes garble evaluate digest sha)"
+eval "$(times half "$circuit" 9 read plain hashes lanes garble evaluate digest sha)"
 eval "$(times xor "$tmp/xor.txt" 25 open seal store)"
 eval "$(times xor "$tmp/xor.txt" 25 garble)"
+eval "$(times half "$circuit" 5 job job1 job4)"
+python3 "$top/bench/make_circuit.py" 1000000 1 "$tmp/and.txt" independent
+eval "$(times and "$tmp/and.txt" 5 job job1 job4)"
 eval "$(times file "$circuit" 9 file_sha write digest read_file pieces)"
 
 per_gate() { awk -v t="$1" -v n="$2" 'BEGIN { printf "%.1f ns a gate", t / n }'; }
@@ -45,15 +48,28 @@ if [ -n "${BASELINE:-}" ]; then
     echo "  the C baseline: $parse_ns ns; reading takes $(ratio "$read_ns" "$parse_ns") as long (at most 2)"
 fi
 echo "plain evaluation: $(per_gate "$half_plain" "$half_gates") (at most 10)"
-echo "garbling on one thread: $half_garble ns, $(ratio "$half_garble" "$half_hashes") its hashes alone (at most 1.1)"
+echo "garbling on one thread: $half_garble ns, $(ratio "$half_garble" "$half_hashes") its hashes one after another (at most 0.5), and $(ratio "$half_garble" "$half_lanes") the same hashes four at once"
 echo "garbling XOR gates: $(per_gate "$xor_garble" "$xor_gates") (at most 8)"
-echo "evaluation from labels: $half_evaluate ns, $(ratio "$((2 * half_evaluate))" "$half_hashes") its hashes alone"
+echo "evaluation from labels: $half_evaluate ns, $(ratio "$((2 * half_evaluate))" "$half_hashes") its hashes one after another (at most 0.65), and $(ratio "$((2 * half_evaluate))" "$half_lanes") the same hashes four at once"
+echo "evaluating at a board by one worker: $(per_gate "$((half_job1 - half_job))" "$half_gates") above one thread without one (at most 60)"
+echo "  by four workers: $(ratio "$half_job" "$half_job4") as fast as on one thread (at least 1.8); of independent AND gates $(ratio "$and_job" "$and_job4") (at least 3)"
 echo "the store above sealing: $(per_gate "$((xor_store - xor_open - xor_seal))" "$xor_gates") (at most 30), and its opening with a copy of the circuit $(per_gate "$xor_open" "$xor_gates")"
 echo "digest: $half_digest ns, $(ratio "$half_digest" "$half_sha") SHA-256 over the canonical text (at most 1.5)"
 echo "writing the garbled file, but for the circuit's digest: $(ratio "$((file_write - file_digest))" "$file_file_sha") SHA-256 over its bytes (at most 1.15)"
 echo "reading it: whole $(ratio "$file_read_file" "$file_file_sha"), in pieces of 4,096 bytes $(ratio "$file_pieces" "$file_file_sha") (at most 1.15)"
 
+# Garbling by several workers, beside one thread in the same run.
+workers() {
+    python3 "$top/bench/make_circuit.py" 1000000 "$2" "$tmp/workers.txt" $3
+    eval "$(times w "$tmp/workers.txt" 5 garble garble2 garble4)"
+    echo "$1: by two workers $(ratio "$w_garble" "$w_garble2") as fast as by one thread, by four $(ratio "$w_garble" "$w_garble4")"
+}
+workers "a million independent AND gates" 1 independent
+workers "independent gates, half of them AND" 0.5 independent
+workers "gates in a window of a thousand, half of them AND" 0.5 ""
+workers "a million XOR gates" 0 independent
+
 # The program itself: its times beside the sums of its parts, and its peak memory beyond the circuit's file.
 "$top/halfgates" --help >/dev/null
 "$top/bench/program.py" "$top/halfgates" "$circuit" "$half_gates" \
-    read="$half_read" digest="$half_digest" hashes="$half_hashes" file_sha="$file_file_sha"
+    read="$half_read" digest="$half_digest" hashes="$half_lanes" file_sha="$file_file_sha"

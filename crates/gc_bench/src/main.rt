@@ -1,6 +1,7 @@
 //! Times the parts of the program on a circuit file, for the scripts in `bench/`.
 #![tactic(auto)]
 
+mod evaluations;
 mod measures;
 
 use anyhow::{Result, anyhow};
@@ -26,10 +27,11 @@ fn main(rt: HostRuntime) -> Result<()> {
     let mut text = Vec::new(rt.alloc());
     fs::open(&rt, file.as_str())?.read_to_end(&mut text)?;
     let subject = Subject::new(rt.alloc(), &text)?;
+    let job = subject.job(rt.alloc())?;
     for _ in 0..repeats {
         for (_, part, fastest) in &mut timings {
             let start = Instant::now(&rt)?;
-            subject.run(rt.alloc(), *part, &text)?;
+            subject.run(&rt, rt.alloc(), *part, &text, &job)?;
             *fastest = (*fastest).min(start.elapsed(&rt)?.as_nanos());
         }
     }

@@ -3,17 +3,22 @@
 ghost use Rattle.std.specs.Prelude.{◌≡◌};
 ghost use Rattle.gc_store.specs.declared.tally.TheConstants.{MAX_TALLIES};
 
+use crate::evaluations::{alone, by_workers, job_of};
 use anyhow::{Result, anyhow};
 use gc_circuit::{Circuit, fits, plain_eval};
-use gc_eval::evaluate_labels;
+use gc_eval::{Job, evaluate_labels};
 use gc_file::{GarbledReader, MemSink, Sink, SinkFault, read_garbled, write_garbled2};
 use gc_half::{Garbling, garble_one_thread, tweak_hash};
 use gc_label::{Label, Seed, fill_input_labels};
+use gc_lanes::hash_four;
 use gc_store::{MAX_TALLIES, Sealed, Store, Task};
+use gc_work::{Open, garble};
 use sha2::{Digest, Sha256};
 use std::alloc::Global;
 use std::marker::Brand;
+use std::sync::Wait;
 use std::sync::ledger::{Blank, Ledger};
+use std::thread::Threads;
 
 /// A part of the program's work.
 #[derive(Clone, Copy, PartialEq, Eq, Debug)]
@@ -24,8 +29,10 @@ pub enum Part {
     Plain,
     /// Garbling on one thread.
     Garble,
-    /// The hashes of garbling alone: four for each AND gate.
+    /// The hashes of garbling alone, four for each AND gate, one after another.
     Hashes,
+    /// The same number of hashes, four at once.
+    Lanes,
     /// Evaluation from labels.
     Evaluate,
     /// Opening a store of a copy of the circuit.
@@ -34,6 +41,18 @@ pub enum Part {
     Store,
     /// Sealing the same tasks alone.
     Seal,
+    /// Garbling by two workers over a shared store.
+    Garble2,
+    /// Garbling by four workers over a shared store.
+    Garble4,
+    /// Evaluation of a job on one thread.
+    Job,
+    /// Evaluation of a job at a board, by one worker.
+    Job1,
+    /// The same by two workers.
+    Job2,
+    /// The same by four workers.
+    Job4,
     /// The digest of the circuit.
     Digest,
     /// SHA-256 over the circuit's canonical text, as it lies in memory.
@@ -49,15 +68,22 @@ pub enum Part {
 }
 
 /// All parts.
-const PARTS: [Part; 14] = [
+const PARTS: [Part; 21] = [
     Part::Read,
     Part::Plain,
     Part::Garble,
     Part::Hashes,
+    Part::Lanes,
     Part::Evaluate,
     Part::Open,
     Part::Store,
     Part::Seal,
+    Part::Garble2,
+    Part::Garble4,
+    Part::Job,
+    Part::Job1,
+    Part::Job2,
+    Part::Job4,
     Part::Digest,
     Part::Sha,
     Part::Write,
@@ -79,10 +105,17 @@ impl Part {
             Part::Plain => "plain",
             Part::Garble => "garble",
             Part::Hashes => "hashes",
+            Part::Lanes => "lanes",
             Part::Evaluate => "evaluate",
             Part::Open => "open",
             Part::Store => "store",
             Part::Seal => "seal",
+            Part::Garble2 => "garble2",
+            Part::Garble4 => "garble4",
+            Part::Job => "job",
+            Part::Job1 => "job1",
+            Part::Job2 => "job2",
+            Part::Job4 => "job4",
             Part::Digest => "digest",
             Part::Sha => "sha",
             Part::Write => "write",
@@ -154,8 +187,26 @@ impl Subject {
         })
     }
 
+    /// The job of the garbled file and of the values.
+    pub fn job(&self, alloc: Global) -> Result<Job<'_>> {
+        job_of(
+            alloc,
+            &self.circuit,
+            &self.garbled_file,
+            &self.seed,
+            &self.values,
+        )
+    }
+
     /// Does a part of the work once.
-    pub fn run(&self, alloc: Global, part: Part, text: &[u8]) -> Result<()> {
+    pub fn run<R: Threads + Wait + Sync>(
+        &self,
+        rt: &R,
+        alloc: Global,
+        part: Part,
+        text: &[u8],
+        job: &Job,
+    ) -> Result<()> {
         match part {
             Part::Read => {
                 Circuit::read(alloc, text)?;
@@ -165,10 +216,17 @@ impl Subject {
                 garble_one_thread(alloc, &self.circuit, &self.seed)?;
             }
             Part::Hashes => self.hashes()?,
+            Part::Lanes => self.lanes()?,
             Part::Evaluate => self.evaluate(alloc)?,
             Part::Open => open_once::<Brand>(alloc, ledger(), &self.circuit, self.seed)?,
             Part::Store => garble_by::<Brand>(alloc, ledger(), &self.circuit, self.seed)?,
             Part::Seal => self.seal()?,
+            Part::Garble2 => self.garble(rt, alloc, 2)?,
+            Part::Garble4 => self.garble(rt, alloc, 4)?,
+            Part::Job => alone(alloc, job)?,
+            Part::Job1 => by_workers(rt, alloc, job, 1)?,
+            Part::Job2 => by_workers(rt, alloc, job, 2)?,
+            Part::Job4 => by_workers(rt, alloc, job, 4)?,
             Part::Digest => not_zeros(self.circuit.digest())?,
             Part::Sha => not_zeros(Sha256::digest(&self.canonical_text))?,
             Part::Write => {
@@ -201,6 +259,26 @@ impl Subject {
         Ok(())
     }
 
+    /// As many hashes, each of the label that the one before in its lane gave.
+    fn lanes(&self) -> Result<()> {
+        let mut labels = [[0; 16]; 4];
+        for k in 0..u64::from(self.circuit.and_count()) {
+            labels = hash_four(&labels, &[k; 4]);
+        }
+        if labels == [[0; 16]; 4] {
+            return Err(anyhow!("hashes of zeros"));
+        }
+        Ok(())
+    }
+
+    /// Garbles by so many workers.
+    fn garble<R: Threads + Wait + Sync>(&self, rt: &R, alloc: Global, workers: u32) -> Result<()> {
+        garble(rt, alloc, &self.circuit, &self.seed, workers, &Open).map_err(|_| anyhow!(
+            "no garbling"
+        ))?;
+        Ok(())
+    }
+
     fn pieces(&self, alloc: Global) -> Result<()> {
         let mut reader = GarbledReader::new(alloc);
         for piece in self.garbled_file.chunks(4096) {
@@ -209,13 +287,18 @@ impl Subject {
         not_zeros(reader.end()?.digest())
     }
 
+    /// Seals the tasks, and adds up their labels and rows, so that each has to be computed.
     fn seal(&self) -> Result<()> {
-        let mut last = None;
+        let mut sum = Label::ZERO;
         for task in &self.tasks {
-            last = Some(Sealed::make(*task));
+            let sealed = Sealed::make(*task);
+            sum = sum.xor(sealed.zero_label());
+            if let Some(rows) = sealed.rows() {
+                sum = sum.xor(rows.generator).xor(rows.evaluator);
+            }
         }
-        if last.is_none() {
-            return Err(anyhow!("no tasks"));
+        if sum == Label::ZERO {
+            return Err(anyhow!("a sum of zeros"));
         }
         Ok(())
     }
