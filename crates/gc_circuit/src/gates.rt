@@ -76,6 +76,9 @@ pub(crate) fn read_gate(tokens: &mut Tokens<'_>) -> Result<Gate, ReadFault>
     ensures { MatchResult result (λ g. gate_at tokens.old ≡ Ok (g, tokens.new))
         (λ e. gate_at tokens.old ≡ Err e) }
 {
+    if tokens.two_and_one() {
+        return read_two(tokens);
+    }
     let reads = tokens.number()?;
     let sets = tokens.number()?;
     if reads == 2 && sets == 1 {

@@ -1,14 +1,44 @@
-ghost use Rattle.std.specs.Prelude.{◌≡◌, ◌<◌, ◌≤◌, length, drop, false, slice_index, MatchResult, Ok, Err};
+ghost use Rattle.std.specs.Prelude.{◌≡◌, ◌<◌, ◌≤◌, length, drop, false, slice_index, IfSome, MatchResult, Ok, Err};
 ghost use Rattle.gc_circuit.specs.Text.{tokens, is_blank};
 ghost use Rattle.gc_circuit.specs.Reading.{number_at};
 
 use crate::fault::ReadFault;
 
 /// Whether the byte stands between tokens: a tab, a line feed, a carriage return or a space.
+#[inline]
 pub(crate) fn is_blank(byte: u8) -> bool
     ensures { result ≡ is_blank byte }
 {
     matches!(byte, b'\t' | b'\n' | b'\r' | b' ')
+}
+
+/// In how many bytes a short number and the blank after it are looked for.
+const SHORT: usize = 9;
+
+/// The number that the text begins with, and how many bytes it takes, where it is short and a blank follows it. There
+/// are few turns at the most, so that they are compiled one after another, and no value is too large.
+#[inline]
+pub(crate) fn short_number(text: &[u8]) -> Option<(u32, usize)>
+    requires { 0 < length text.now → is_blank (slice_index text.now 0) ≡ false }
+    ensures { IfSome result (λ r. (r.1 ≤ length text.now)
+        × (number_at (tokens text.now) ≡ Ok (r.0, tokens (drop r.1 text.now)))) }
+{
+    if text.len() < SHORT {
+        return None;
+    }
+    let mut value = 0u32;
+    for i in 0..SHORT {
+        let byte = text[i];
+        if !byte.is_ascii_digit() {
+            return if is_blank(byte) {
+                Some((value, i))
+            } else {
+                None
+            };
+        }
+        value = value * 10 + u32::from(byte - b'0');
+    }
+    None
 }
 
 /// The number that the text begins with, and how many bytes it takes. Leading zeros are accepted.

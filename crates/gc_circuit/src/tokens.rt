@@ -1,9 +1,9 @@
-ghost use Rattle.std.specs.Prelude.{◌≡◌, ◌<◌, ◌≤◌, length, take, true, false, slice_index, All, IfOk, MatchResult, Ok, Err};
+ghost use Rattle.std.specs.Prelude.{◌≡◌, ◌<◌, ◌≤◌, ◌∷◌, length, take, true, false, slice_index, codes, All, IfOk, IsTrue, IsFalse, MatchOption, MatchResult, Ok, Err};
 ghost use Rattle.gc_circuit.specs.Text.{tokens, is_blank};
 ghost use Rattle.gc_circuit.specs.Reading.{token_at, number_at, limited_at, check_end};
 
 use crate::fault::ReadFault;
-use crate::number::{is_blank, leading_number};
+use crate::number::{is_blank, leading_number, short_number};
 use std::marker::Model;
 
 /// What is left of a text, seen as its tokens.
@@ -48,6 +48,25 @@ fn run_len(text: &[u8]) -> usize
     text.len()
 }
 
+/// Whether the text begins with the numbers 2 and 1 and a space after each.
+#[inline]
+fn begins_with_two_and_one(text: &[u8]) -> bool
+    ensures { IsTrue result → (4 ≤ length text.now) × (take 4 text.now ≡ codes "2 1 ") }
+{
+    matches!(text, [b'2', b' ', b'1', b' ', ..])
+}
+
+/// Whether the text begins with a space, three bytes that are no blanks, and a line feed.
+#[inline]
+fn begins_with_name_of_three(text: &[u8]) -> bool
+    ensures long { IsTrue result → 5 ≤ length text.now }
+    ensures blanks { IsTrue result → (slice_index text.now 0 ≡ 32) × (slice_index text.now 4 ≡ 10) }
+    ensures name { IsTrue result → (is_blank (slice_index text.now 1) ≡ false)
+        × (is_blank (slice_index text.now 2) ≡ false) × (is_blank (slice_index text.now 3) ≡ false) }
+{
+    matches!(text, [b' ', a, b, c, b'\n', ..] if !is_blank(*a) && !is_blank(*b) && !is_blank(*c))
+}
+
 impl<'a> Tokens<'a> {
     /// The tokens of a text.
     pub fn new(text: &'a [u8]) -> Tokens<'a>
@@ -56,11 +75,27 @@ impl<'a> Tokens<'a> {
         Tokens { rest: text }
     }
 
+    /// Takes the numbers 2 and 1 where the text goes on with them and a space after each, and says whether it does.
+    #[inline]
+    pub fn two_and_one(&mut self) -> bool
+        ensures taken { IsTrue result → self.old ≡ codes "2" ∷ codes "1" ∷ self.new }
+        ensures left { IsFalse result → self.new ≡ self.old }
+    {
+        let taken = begins_with_two_and_one(self.rest);
+        if taken {
+            self.rest = &self.rest[4..];
+        }
+        taken
+    }
+
     /// Takes a token that is due.
     pub fn token(&mut self) -> Result<&'a [u8], ReadFault>
         ensures { MatchResult result (λ t. token_at self.old ≡ Ok (t.now, self.new))
             (λ e. token_at self.old ≡ Err e) }
     {
+        if let Some(name) = self.name_of_three() {
+            return Ok(name);
+        }
         let text = skip_blanks(self.rest);
         if text.is_empty() {
             return Err(ReadFault::Truncated);
@@ -70,13 +105,29 @@ impl<'a> Tokens<'a> {
         Ok(token)
     }
 
+    /// Takes a token of three bytes and the line feed after it, where one space stands before it.
+    #[inline]
+    fn name_of_three(&mut self) -> Option<&'a [u8]>
+        ensures { MatchOption result (self.new ≡ self.old) (λ t. token_at self.old ≡ Ok (t.now, self.new)) }
+    {
+        if !begins_with_name_of_three(self.rest) {
+            return None;
+        }
+        let name = &self.rest[1..4];
+        self.rest = &self.rest[5..];
+        Some(name)
+    }
+
     /// Takes a number that is due.
     pub fn number(&mut self) -> Result<u32, ReadFault>
         ensures { MatchResult result (λ n. number_at self.old ≡ Ok (n, self.new))
             (λ e. number_at self.old ≡ Err e) }
     {
         let text = skip_blanks(self.rest);
-        let (value, len) = leading_number(text)?;
+        let (value, len) = match short_number(text) {
+            Some(found) => found,
+            None => leading_number(text)?,
+        };
         self.rest = &text[len..];
         Ok(value)
     }

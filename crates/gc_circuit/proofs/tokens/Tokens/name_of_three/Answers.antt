@@ -1,0 +1,16 @@
+use Rattle.std.proofs.Common.{◌∷◌, take, drop, refl, sym, ap, ◌∙◌}
+use Rattle.gc_circuit.specs.Text.{tokens}
+use Rattle.gc_circuit.specs.Reading.{token_at}
+use Rattle.gc_circuit.proofs.ShortLemmas.{rest_whole, name_taken}
+use Rattle.gc_circuit.proofs.tokens.Tokens.name_of_three.Goals as goal
+
+pub returns : goal.returns
+returns c =
+    let text = c.self.inside.rest.now in
+    let begins = c.if-not-begins_with_name_of_three.ensures in
+    let blanks = begins.blanks refl in
+    let name = begins.name refl in
+    ap token_at
+    (sym c.self.view_is
+    ∙ name_taken text (begins.long refl) blanks.0 blanks.1 name.0 name.1 name.2
+    ∙ ap (λ l. take 3 (drop 1 text) ∷ tokens l) (sym (rest_whole 5 text)))
