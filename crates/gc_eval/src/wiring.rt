@@ -1,11 +1,11 @@
 //! Which gate sets each wire of a circuit, and the AND number of each gate.
 
-ghost use Rattle.std.specs.Prelude.{◌≡◌, ℕ, ◌<◌, IfOk, IfSome, IfNone, length, map};
-ghost use Rattle.std.specs.List.{range_with_len};
+ghost use Rattle.std.specs.Prelude.{◌≡◌, ℕ, ◌<◌, IfOk, IfSome, IfNone, length};
 ghost use Rattle.gc_circuit.specs.Circuit.{IsSetBy, IsLawful, and_number};
 ghost use Rattle.gc_eval.specs.Wiring.{AreSetters};
 
 use gc_circuit::Circuit;
+use gc_half::and_numbers;
 use std::alloc::{AllocError, Allocator, Global};
 use std::marker::Model;
 
@@ -81,22 +81,4 @@ fn setters<A: Allocator + Copy, C: Allocator>(
         setters[circuit.gate(i).set as usize] = i + 1;
     }
     Ok(setters)
-}
-
-/// For each gate, how many AND gates stand before it in the file.
-fn and_numbers<A: Allocator + Copy, C: Allocator>(
-    alloc: A,
-    circuit: &Circuit<C>,
-) -> Result<Vec<u32, A>, AllocError>
-    ensures { IfOk result (λ v. v.items ≡ map (and_number circuit.now) (range_with_len 0 (length circuit.now.gates))) }
-{
-    let mut numbers = Vec::with_capacity(alloc, circuit.gates() as usize)?;
-    let mut next = 0u32;
-    for i in 0..circuit.gates() {
-        numbers.push(next)?;
-        if circuit.gate(i).operation.is_and() {
-            next += 1;
-        }
-    }
-    Ok(numbers)
 }

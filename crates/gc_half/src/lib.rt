@@ -16,6 +16,7 @@ mod garbling;
 mod half_gate;
 mod hash;
 mod laws;
+mod numbers;
 mod one_gate;
 
 pub use entry::output_entry;
@@ -24,4 +25,5 @@ pub use garbling::{Garbling, RowPair};
 pub use half_gate::{AndStep, eval_and, eval_two_ands, garble_and};
 pub use hash::tweak_hash;
 pub use laws::{law_garblings, law_half_gates};
+pub use numbers::and_numbers;
 pub use one_gate::{evaluate_gate, garble_gate, labels_read};

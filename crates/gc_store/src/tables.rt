@@ -2,7 +2,6 @@
 
 ghost use Rattle.std.specs.Prelude.{◌≡◌, ◌≤◌, IfOk, length, map, replicate};
 ghost use Rattle.std.specs.List.{range_with_len};
-ghost use Rattle.gc_circuit.specs.Circuit.{and_number};
 ghost use Rattle.gc_store.specs.Readers.{unknown_reads};
 ghost use Rattle.gc_store.specs.Opening.{is_below, opening_countdown};
 
@@ -51,22 +50,4 @@ fn reads_past(operation: Operation, inputs: u32) -> u8
         Operation::Eq(_) => 0,
         Operation::Eqw(a) => u8::from(a >= inputs),
     }
-}
-
-/// For each gate, how many AND gates stand before it in the file.
-pub(crate) fn and_numbers<A: Allocator + Copy, C: Allocator>(
-    alloc: A,
-    circuit: &Circuit<C>,
-) -> Result<Vec<u32, A>, Memory>
-    ensures { IfOk result (λ v. v.items ≡ map (and_number circuit.now) (range_with_len 0 (length circuit.now.gates))) }
-{
-    let mut numbers = Vec::with_capacity(alloc, circuit.gates() as usize)?;
-    let mut next = 0u32;
-    for i in 0..circuit.gates() {
-        numbers.push(next)?;
-        if circuit.gate(i).operation.is_and() {
-            next += 1;
-        }
-    }
-    Ok(numbers)
 }

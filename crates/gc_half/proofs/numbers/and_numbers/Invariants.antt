@@ -1,7 +1,7 @@
 use Rattle.std.proofs.Common.{◌≡◌, map}
 use Rattle.std.specs.List.{range_with_len}
 use Rattle.gc_circuit.specs.Circuit.{and_number}
-use Rattle.gc_eval.proofs.wiring.and_numbers.Given as goal
+use Rattle.gc_half.proofs.numbers.and_numbers.Given as goal
 
 abbrev pub invariant-loop-i : goal.invariant-loop-i
 invariant-loop-i g l = record {
