@@ -29,18 +29,17 @@ const BATCHES: usize = 4;
 /// The most tasks that a worker seals before it hands them in.
 pub(crate) const MAX_SEALED: usize = BATCHES * BATCH_SIZE;
 
-/// Pushes the tasks of a batch, but so many. A task that the pool has no room for comes back.
+/// Pushes the tasks of a batch, but for one. A task that the pool has no room for comes back.
 fn share_batch<A: Allocator>(
     pool: &TaskPool<A>,
     owner: &mut Owner<A>,
     batch: &mut Batch,
-    keep: usize,
 ) -> Option<Task>
     requires { owner.old.pool ≡ pool.now }
     ensures { owner.new.pool ≡ owner.old.pool }
 {
     for _i in 0..BATCH_SIZE {
-        if batch.len() <= keep {
+        if batch.len() <= 1 {
             return None;
         }
         let task = batch.pop()?;
@@ -51,7 +50,9 @@ fn share_batch<A: Allocator>(
     None
 }
 
-/// Pushes the tasks of the batches but one. A task that the pool has no room for comes back, and ends this.
+/// Pushes the tasks of the first batch but one, for others to steal. Where gates are plenty, so that the other batches
+/// have tasks too, it pushes none: the others find gates in the store, and a pool's work is saved. A task that the pool
+/// has no room for comes back.
 fn share<A: Allocator>(
     pool: &TaskPool<A>,
     owner: &mut Owner<A>,
@@ -60,13 +61,11 @@ fn share<A: Allocator>(
     requires { owner.old.pool ≡ pool.now }
     ensures { owner.new.pool ≡ owner.old.pool }
 {
-    for k in 0..batches.len() {
-        let task = share_batch(pool, owner, &mut batches[k], usize::from(k == 0));
-        if task.is_some() {
-            return task;
-        }
+    let (first, others) = batches.split_first_mut()?;
+    match others.first() {
+        Some(batch) if !batch.is_empty() => None,
+        _ => share_batch(pool, owner, first),
     }
-    None
 }
 
 /// A task of the batches.
@@ -80,7 +79,22 @@ fn pop_any(batches: &mut [Batch]) -> Option<Task> {
     None
 }
 
-/// The next task: of the batches, of the worker's own pool, of another's, or of the store. It may wait there.
+/// A task that the worker has: of the batches, or of its own pool.
+fn own_task<A: Allocator>(
+    pool: &TaskPool<A>,
+    owner: &mut Owner<A>,
+    batches: &mut [Batch],
+) -> Option<Task>
+    requires { owner.old.pool ≡ pool.now }
+    ensures { owner.new.pool ≡ owner.old.pool }
+{
+    match pop_any(batches) {
+        Some(task) => Some(task),
+        None => pool.pop(owner),
+    }
+}
+
+/// The next task: one that the worker has, or of another's pool, or of the store. It may wait there.
 fn next_task<L: Ledger, A: Allocator, R: Wait>(
     rt: &R,
     shared: &SharedStore<L, A>,
@@ -94,10 +108,7 @@ fn next_task<L: Ledger, A: Allocator, R: Wait>(
     ensures ready { IsReady pools.now member.new }
     ensures own { member.new.owner.pool ≡ member.old.owner.pool }
 {
-    if let Some(task) = pop_any(batches) {
-        return Some(task);
-    }
-    if let Some(task) = pool.pop(&mut member.owner) {
+    if let Some(task) = own_task(pool, &mut member.owner, batches) {
         return Some(task);
     }
     if let Some(task) = rob_each(pools, member.raids.as_mut_slice()) {
@@ -106,11 +117,12 @@ fn next_task<L: Ledger, A: Allocator, R: Wait>(
     shared.take(rt)
 }
 
-/// Seals a task, and then those of the worker's own pool, up to [`MAX_SEALED`]. The answer is whether there
-/// was room for them.
+/// Seals a task, and then those that the worker has, up to [`MAX_SEALED`]. The answer is whether there was room
+/// for them.
 fn seal_some<L: Ledger, A: Allocator, H: Gatehouse>(
     pool: &TaskPool<A>,
     member: &mut Member<L, A>,
+    batches: &mut [Batch],
     house: &H,
     task: Task,
 ) -> bool
@@ -121,7 +133,7 @@ fn seal_some<L: Ledger, A: Allocator, H: Gatehouse>(
 {
     member.sealed.clear();
     let mut next = Some(task);
-    for _i in 0..MAX_SEALED {
+    for i in 0..MAX_SEALED {
         let Some(task) = next else {
             return true;
         };
@@ -129,7 +141,11 @@ fn seal_some<L: Ledger, A: Allocator, H: Gatehouse>(
         if let Err(_full) = member.sealed.push(Sealed::make(task)) {
             return false;
         }
-        next = pool.pop(&mut member.owner);
+        next = if i + 1 < MAX_SEALED {
+            own_task(pool, &mut member.owner, batches)
+        } else {
+            None
+        };
     }
     true
 }
@@ -157,7 +173,7 @@ pub(crate) fn work<L: Ledger, A: Allocator, H: Gatehouse, R: Wait>(
         let Some(task) = kept else {
             return;
         };
-        if !seal_some(pool, member, house, task)
+        if !seal_some(pool, member, &mut batches, house, task)
             || shared
                 .hand_in_all(
                     rt,
