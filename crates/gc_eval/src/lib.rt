@@ -34,5 +34,6 @@ pub use laws::law_honest_files;
 pub use many::evaluate_many;
 pub use one_thread::{evaluate, evaluate_labels};
 pub use open::{CloseRefused, MAX_SEATS};
+pub use readers::{first_wire, second_wire};
 pub use seat::{Answer, EvalBoard, EvalSeat};
 pub use wiring::Wiring;

@@ -9,12 +9,12 @@ ghost use Rattle.gc_eval.specs.Views.{Ran, Got, Lacks, Answers, IsAlone, IsMadeN
 ghost use Rattle.gc_eval.specs.Seats.{IsSeatOf, IsSameSeat, view, job_on};
 
 use crate::facts::Facts;
+use crate::readers::{first_wire, second_wire};
 use crate::seat::{Answer, EvalBoard, EvalSeat};
 use gc_board::{
     Place, Words, claim, load_high, load_low, load_state, store_done, store_high, store_low,
     tell_place,
 };
-use gc_circuit::Operation;
 use gc_label::Label;
 use std::alloc::Allocator;
 
@@ -33,30 +33,6 @@ fn load_label<A: Allocator, C: Allocator>(
     let low = load_low(words, place, gate);
     let high = load_high(words, place, gate);
     Label::from_halves(low, high)
-}
-
-/// The wire that an operation reads first.
-fn first(operation: Operation) -> Option<u32>
-    ensures { result ≡ first_of operation }
-{
-    match operation {
-        Operation::Xor(a, _) => Some(a),
-        Operation::And(a, _) => Some(a),
-        Operation::Inv(a) => Some(a),
-        Operation::Eqw(a) => Some(a),
-        Operation::Eq(_) => None,
-    }
-}
-
-/// The wire that it reads second.
-fn second(operation: Operation) -> Option<u32>
-    ensures { result ≡ second_of operation }
-{
-    match operation {
-        Operation::Xor(_, b) => Some(b),
-        Operation::And(_, b) => Some(b),
-        _ => None,
-    }
 }
 
 impl<A: Allocator, C: Allocator> EvalSeat<A, C> {
@@ -132,11 +108,11 @@ impl<'j, 'c, B: Allocator, A: Allocator, C: Allocator> EvalBoard<'j, 'c, B, A, C
             (λ w. FirstLacking (job_on self.now) gate place.old.me.0 w) }
     {
         let operation = self.job.circuit().gate(gate).operation;
-        let a = match self.read_some(place, first(operation)) {
+        let a = match self.read_some(place, first_wire(operation)) {
             Ok(label) => label,
             Err(wire) => return Err(wire),
         };
-        let b = match self.read_some(place, second(operation)) {
+        let b = match self.read_some(place, second_wire(operation)) {
             Ok(label) => label,
             Err(wire) => return Err(wire),
         };

@@ -1,6 +1,6 @@
 use Rattle.std.proofs.Common.{◌≡◌, ◌∙◌, length, slice_get, Some, sym, ap, arith}
 use Rattle.gc_circuit.specs.Circuit.{Netlist}
-use Rattle.gc_eval.proofs.AndNumberLemmas.{and_number-below}
+use Rattle.gc_eval.proofs.AndNumberLemmas.{row_exists}
 use Rattle.gc_eval.proofs.job.Job.active_at.Goals as goal
 
 pub evaluate_gate-requires : goal.evaluate_gate-requires
@@ -11,8 +11,7 @@ evaluate_gate-requires g c = λ is_and.
     ∙ c.gate-operation.ensures in
     omega (
       arith,
-      and_number-below job.circuit c.args.gate c.gate-operation.result at is_and,
+      row_exists job c.args.gate c.gate-operation.result c.circuit.ensures.whole at is_and,
       c.requires.number,
       ap length c.rows.ensures,
-      c.circuit.ensures.whole.rows,
     )
