@@ -1,5 +1,5 @@
 -- Calls one after another.
-use Rattle.std.proofs.Common.{◌≡◌, ◌≢◌, ℕ, zero, suc, ◌+◌, ◌*◌, ◌<◌, ◌≤◌, inl, inr, List, [], ◌∷◌, ◌++◌, refl, ap, ◌∙◌, subst, arith, ⊎_elim, append_assoc, length-append, sym, slice_get, Some, ◌⊎◌}
+use Rattle.std.proofs.Common.{◌≡◌, ◌≢◌, ℕ, zero, suc, ◌+◌, ◌*◌, ◌<◌, ◌≤◌, inl, inr, List, [], ◌∷◌, ◌++◌, refl, ap, ◌∙◌, subst, arith, ⊎_elim, append_assoc, length, length-append, sym, slice_get, Some, ◌⊎◌}
 use mathlib.Core.Logic.{dite}
 use native.Mathlib.Decide.{dec_le}
 use Rattle.atomic_table.specs.Seated.{TableId}
@@ -8,18 +8,18 @@ use Rattle.gc_board.specs.Counts.{only, times}
 use Rattle.gc_board.specs.Places.{IsPlaceOf, IsSamePlace}
 use Rattle.gc_board.specs.declared.rule.View.{View}
 use Rattle.gc_board.specs.declared.rule.Key.{Key}
-use Rattle.gc_board.proofs.Sums.{total-append, only_same}
+use Rattle.gc_board.proofs.Sums.{total-append, only_same, only_other}
 use Rattle.gc_eval.specs.Job.{JobParts}
 use Rattle.gc_eval.specs.declared.seat.Answer.{Answer}
 use Rattle.gc_eval.specs.declared.seat.Answer.TheVariants.{Made, Done, Taken, NotYet}
 use Rattle.gc_circuit.specs.Circuit.{Netlist}
 use Rattle.gc_circuit.specs.declared.circuit.Gate.{Gate}
-use Rattle.gc_eval.specs.Views.{IsAlone, IsMadeNow, SetsMade, ReadsMade, FirstLacking, AnswersAlone, first_of, second_of, sightings, Ran, Saw, SawUndone, Lacks, Answers}
+use Rattle.gc_eval.specs.Views.{IsAlone, IsMadeNow, SetsMade, ReadsMade, FirstLacking, AnswersAlone, AnswersTwo, first_of, second_of, sightings, made_after, made_now, Ran, Saw, SawUndone, Lacks, Says, Answers}
 
 module _ {J : Type 0} where
-  pub ran_then : (a b c : View J) (list : List ℕ) (m n : ℕ) → Ran a b a.made m → Ran b c list n
+  pub ran_then : (a b c : View J) (before list : List ℕ) (m n : ℕ) → Ran a b before m → Ran b c list n
       → Ran a c list (m + n)
-  ran_then a b c list m n p q = record {
+  ran_then a b c before list m n p q = record {
     job = q.job ∙ p.job;
     all = q.all ∙ p.all;
     seats = q.seats ∙ p.seats;
@@ -55,9 +55,9 @@ module _ {J : Type 0} where
     steps = p.steps;
   }
 
-  pub saw_later : (a b c : View J) (m word found : ℕ) → Ran a b a.made m → Saw b c word found
+  pub saw_later : (a b c : View J) (list : List ℕ) (m word found : ℕ) → Ran a b list m → Saw b c word found
       → Saw a c word found
-  saw_later a b c m word found p s = omega (arith, sightings_more a b a.made m word found p)
+  saw_later a b c list m word found p s = omega (arith, sightings_more a b list m word found p)
 
   pub saw_before : (a b c : View J) (list : List ℕ) (m word found : ℕ) → Saw a b word found
       → Ran b c list m → Saw a c word found
@@ -109,58 +109,134 @@ moved_at gates table key old new p same job all = record {
   whole = all ∙ p.whole;
 }
 
-lacks_later : (f : JobParts) (w m : ℕ) (a b c : View JobParts) → Ran a b a.made m → Lacks f w b c
-    → Lacks f w a c
-lacks_later f w m a b c p l = record {
+pub lacks_then : (f : JobParts) (w m : ℕ) (list : List ℕ) (a b c : View JobParts) → Ran a b list m
+    → Lacks f w b c → Lacks f w a c
+lacks_then f w m list a b c p l = record {
   no_input = l.no_input;
   unknown = λ h set. let t = l.unknown h set in (
     omega (arith, p.known h, t.0),
-    ⊎_elim (λ s. inl (saw_later a b c m (3 * h) 0 p s))
-        (λ s. inr (saw_later a b c m (3 * h) 1 p s)) t.1,
+    ⊎_elim (λ s. inl (saw_later a b c list m (3 * h) 0 p s))
+        (λ s. inr (saw_later a b c list m (3 * h) 1 p s)) t.1,
   );
 }
 
-pub lacks_then : (f : JobParts) (w m : ℕ) (a b c : View JobParts) → Ran a b a.made m → Lacks f w b c
-    → Lacks f w a c
-lacks_then = lacks_later
+lacks_still : (f : JobParts) (w m : ℕ) (list : List ℕ) (a b c : View JobParts) → Lacks f w a b
+    → Ran b c list m → Lacks f w a c
+lacks_still f w m list a b c l p = record {
+  no_input = l.no_input;
+  unknown = λ h set. let t = l.unknown h set in (
+    t.0,
+    ⊎_elim (λ s. inl (saw_before a b c list m (3 * h) 0 s p))
+        (λ s. inr (saw_before a b c list m (3 * h) 1 s p)) t.1,
+  );
+}
+
+-- what an answer says, with steps before it
+pub says_later : (f : JobParts) (g m : ℕ) (list : List ℕ) (a b c : View JobParts) (answer : Answer)
+    → Ran a b list m → Says f g b c answer → Says f g a c answer
+says_later f g m list a b c (Made label) p h = (h.0, h.1, omega (arith, p.known g, h.2))
+says_later f g m list a b c (Done label) p h = h
+says_later f g m list a b c Taken p h = (
+  omega (arith, p.known g, h.0),
+  saw_later a b c list m (3 * g) 1 p h.1,
+)
+says_later f g m list a b c (NotYet w) p h = (
+  omega (arith, p.known g, h.0),
+  h.1,
+  lacks_then f w m list a b c p h.2,
+)
+
+-- and with steps after it
+pub says_still : (f : JobParts) (g m : ℕ) (list : List ℕ) (a b c : View JobParts) (answer : Answer)
+    → Says f g a b answer → Ran b c list m → Says f g a c answer
+says_still f g m list a b c (Made label) h p = (h.0, omega (arith, p.known g, h.1), h.2)
+says_still f g m list a b c (Done label) h p = (h.0, omega (arith, p.known g, h.1))
+says_still f g m list a b c Taken h p = (h.0, saw_before a b c list m (3 * g) 1 h.1 p)
+says_still f g m list a b c (NotYet w) h p = (h.0, h.1, lacks_still f w m list a b c h.2 p)
+
+pub not_made : (g : ℕ) (answer : Answer) (list : List ℕ) → (IsMadeNow answer → ⊥)
+    → made_after g answer list ≡ list
+not_made g (Made label) list unmade = absurd (unmade tt)
+not_made g (Done label) list unmade = refl
+not_made g Taken list unmade = refl
+not_made g (NotYet w) list unmade = refl
 
 -- an answer after steps that made nothing
 pub answers_later : (f : JobParts) (g m n : ℕ) (a b c : View JobParts) (answer : Answer) → Ran a b a.made m
     → Answers f g n b c answer → Answers f g (m + n) a c answer
-answers_later f g m n a b c (Made label) p h = (
-  h.0,
-  h.1,
-  omega (arith, p.known g, h.2),
-  subst (λ l. Ran a c (l ++ g ∷ []) (m + n)) p.made (ran_then a b c (b.made ++ g ∷ []) m n p h.3),
-)
-answers_later f g m n a b c (Done label) p h = (
-  h.0,
-  h.1,
-  subst (λ l. Ran a c l (m + n)) p.made
-      (ran_then a b c b.made m n p h.2),
-)
-answers_later f g m n a b c Taken p h = (
-  omega (arith, p.known g, h.0),
-  saw_later a b c m (3 * g) 1 p h.1,
-  subst (λ l. Ran a c l (m + n)) p.made (ran_then a b c b.made m n p h.2),
-)
-answers_later f g m n a b c (NotYet w) p h = (
-  omega (arith, p.known g, h.0),
-  h.1,
-  lacks_later f w m a b c p h.2,
-  subst (λ l. Ran a c l (m + n)) p.made (ran_then a b c b.made m n p h.3),
+answers_later f g m n a b c answer p h = (
+  says_later f g m a.made a b c answer p h.0,
+  subst (λ l. Ran a c (made_after g answer l) (m + n)) p.made
+      (ran_then a b c a.made (made_after g answer b.made) m n p h.1),
 )
 
-pub answer_same : (f : JobParts) (g m : ℕ) (a b : View JobParts) (answer : Answer)
-    → Answers f g m a b answer → (b.job ≡ a.job) × (b.all ≡ a.all)
-answer_same f g m a b (Made label) h = (h.3.job, h.3.all)
-answer_same f g m a b (Done label) h = (h.2.job, h.2.all)
-answer_same f g m a b Taken h = (h.2.job, h.2.all)
-answer_same f g m a b (NotYet w) h = (h.3.job, h.3.all)
+pub answers_found : (f : JobParts) (g m : ℕ) (a b : View JobParts) (answer : Answer)
+    → Says f g a b answer → (IsMadeNow answer → ⊥) → Ran a b a.made m → Answers f g m a b answer
+answers_found f g m a b answer says unmade p =
+    (says, subst (λ l. Ran a b l m) (sym (not_made g answer a.made unmade)) p)
+
+pub answers_longer : (f : JobParts) (g m n : ℕ) (a b : View JobParts) (answer : Answer) → m ≤ n
+    → Answers f g m a b answer → Answers f g n a b answer
+answers_longer f g m n a b answer le h = (h.0, longer a b (made_after g answer a.made) m n le h.1)
+
+-- two answers of one call: one after the other,
+pub two_made : (f : JobParts) (g h m n : ℕ) (a b c : View JobParts) (x y : Answer) → Answers f g m a b x
+    → Answers f h n b c y → AnswersTwo f g h (m + n) a c (x, y)
+two_made f g h m n a b c x y p q = (
+  says_still f g n (made_after h y b.made) a b c x p.0 q.1,
+  says_later f h m (made_after g x a.made) a b c y p.1 q.0,
+  subst (λ l. Ran a c (made_after h y l) (m + n)) p.1.made
+      (ran_then a b c (made_after g x a.made) (made_after h y b.made) m n p.1 q.1),
+)
+
+-- the second before the first, where it made nothing,
+pub two_swapped : (f : JobParts) (g h m n : ℕ) (a b c : View JobParts) (x y : Answer) → Says f h a b y
+    → (IsMadeNow y → ⊥) → Ran a b a.made m → Answers f g n b c x → AnswersTwo f g h (m + n) a c (x, y)
+two_swapped f g h m n a b c x y says unmade p q =
+    let all = answers_later f g m n a b c x p q in (
+      all.0,
+      says_still f h n (made_after g x b.made) a b c y says q.1,
+      subst (λ l. Ran a c l (m + n)) (sym (not_made h y (made_after g x a.made) unmade)) all.1,
+    )
+
+-- and both after steps that made nothing
+pub two_later : (f : JobParts) (g h m n : ℕ) (a b c : View JobParts) (both : Answer × Answer)
+    → Ran a b a.made m → AnswersTwo f g h n b c both → AnswersTwo f g h (m + n) a c both
+two_later f g h m n a b c both p q = (
+  says_later f g m a.made a b c both.0 p q.0,
+  says_later f h m a.made a b c both.1 p q.1,
+  subst (λ l. Ran a c (made_after h both.1 (made_after g both.0 l)) (m + n)) p.made
+      (ran_then a b c a.made (made_after h both.1 (made_after g both.0 b.made)) m n p q.2),
+)
+
+pub two_longer : (f : JobParts) (g h m n : ℕ) (a b : View JobParts) (both : Answer × Answer) → m ≤ n
+    → AnswersTwo f g h m a b both → AnswersTwo f g h n a b both
+two_longer f g h m n a b both le q =
+    (q.0, q.1, longer a b (made_after h both.1 (made_after g both.0 a.made)) m n le q.2)
+
+pub made_length : (g : ℕ) (answer : Answer) (list : List ℕ)
+    → length (made_after g answer list) ≡ length list + made_now answer
+made_length g (Made label) list = length-append list (g ∷ [])
+made_length g (Done label) list = omega arith
+made_length g Taken list = omega arith
+made_length g (NotYet w) list = omega arith
+
+-- what another gate's answer leaves in the made list
+pub made_other : (g h : ℕ) (answer : Answer) (list : List ℕ) → g ≢ h → times h list ≡ 0
+    → times h (made_after g answer list) ≡ 0
+made_other g h (Made label) list ne none_yet = omega (
+  arith,
+  none_yet,
+  total-append (only h) list (g ∷ []),
+  only_other h g (λ e. ne (sym e)),
+)
+made_other g h (Done label) list ne none_yet = none_yet
+made_other g h Taken list ne none_yet = none_yet
+made_other g h (NotYet w) list ne none_yet = none_yet
 
 -- a board with one seat
-pub alone_later : (a b : View JobParts) (m : ℕ) → Ran a b a.made m → IsAlone a → IsAlone b
-alone_later a b m p alone = p.seats ∙ alone ∙ sym p.all
+pub alone_later : (a b : View JobParts) (list : List ℕ) (m : ℕ) → Ran a b list m → IsAlone a → IsAlone b
+alone_later a b list m p alone = p.seats ∙ alone ∙ sym p.all
 
 sets_back : (f : JobParts) (w n m : ℕ) (a b : View JobParts) → Ran a b a.made m → SetsMade f w b n
     → SetsMade f w a n
@@ -196,13 +272,26 @@ lacking_back f g m w a b p l gate at =
       λ u e. sets_back f u 1 m a b p (t.2 u e),
     )) (l gate at)
 
-pub alone_made : (f : JobParts) (g m : ℕ) (a b : View JobParts) (answer : Answer) → Ran a b a.made m
-    → IsMadeNow answer → times g a.made ≡ 0 → ReadsMade f g b → AnswersAlone f g a answer
-alone_made f g m a b (Made label) p now none_yet reads = (
-  none_yet,
-  λ gate w at e. sets_back f w 1 m a b p
-      (reads gate w at e),
+pub alone_made : (f : JobParts) (g : ℕ) (a : View JobParts) (answer : Answer) → IsMadeNow answer
+    → times g a.made ≡ 0 → ReadsMade f g a → AnswersAlone f g a answer
+alone_made f g a (Made label) now none_yet reads = (none_yet, reads)
+alone_made f g a (Done label) now none_yet reads = absurd now
+alone_made f g a Taken now none_yet reads = now
+alone_made f g a (NotYet w) now none_yet reads = absurd now
+
+pub reads_back : (f : JobParts) (g m : ℕ) (a b : View JobParts) → Ran a b a.made m → ReadsMade f g b
+    → ReadsMade f g a
+reads_back f g m a b p reads gate w at e = sets_back f w 1 m a b p (reads gate w at e)
+
+pub alone_back : (f : JobParts) (g m : ℕ) (a b : View JobParts) (answer : Answer) → Ran a b a.made m
+    → AnswersAlone f g b answer → AnswersAlone f g a answer
+alone_back f g m a b (Made label) p h = (
+  ap (times g) (sym p.made) ∙ h.0,
+  reads_back f g m a b p h.1,
 )
-alone_made f g m a b (Done label) p now none_yet reads = absurd now
-alone_made f g m a b Taken p now none_yet reads = now
-alone_made f g m a b (NotYet w) p now none_yet reads = absurd now
+alone_back f g m a b (Done label) p h = ap (times g) (sym p.made) ∙ h
+alone_back f g m a b Taken p h = h
+alone_back f g m a b (NotYet w) p h = (
+  ap (times g) (sym p.made) ∙ h.0,
+  lacking_back f g m w a b p h.1,
+)

@@ -1,5 +1,5 @@
 -- How a seat's view grows in a call, and what the answers of a board say.
-use Rattle.std.specs.Prelude.{◌≡◌, ℕ, ◌*◌, ◌<◌, ◌≤◌, ◌⊎◌, List, [], ◌∷◌, ◌++◌, length, slice_get, Some, None, Option}
+use Rattle.std.specs.Prelude.{◌≡◌, ◌≢◌, ℕ, ◌*◌, ◌<◌, ◌≤◌, ◌⊎◌, List, [], ◌∷◌, ◌++◌, length, slice_get, Some, None, Option}
 use Rattle.gc_board.specs.Counts.{total, only, times}
 use Rattle.gc_board.specs.declared.rule.View.{View}
 use Rattle.gc_circuit.specs.declared.circuit.Gate.{Gate}
@@ -72,20 +72,32 @@ pub record Lacks (job : JobParts) (w : ℕ) (old new : View JobParts) : Type 0 w
   pub no_input : w < input_wires job.circuit → ⊥
   pub unknown : (h : ℕ) → IsSetBy job.circuit w h → (times h old.known ≡ 0) × SawUndone old new h
 
--- What an answer for gate g says, after at most so many steps. Made: the label is right, the gate is known, it was not
--- known, and it alone is appended to the made list. Done: the label is right, and the gate known. Taken: it was not
--- known, and its state was found at 1. NotYet: it was not known, and it reads the wire, which lacks a label. Made alone
--- changes the made list.
+-- What an answer for gate g says. Made: the label is right, the gate is known, and it was not known. Done: the label is
+-- right, and the gate known. Taken: it was not known, and its state was found at 1. NotYet: it was not known, and it
+-- reads the wire, which lacks a label.
+abbrev pub Says : JobParts → ℕ → View JobParts → View JobParts → Answer → Type 0
+Says job g old new (Made label) = (label ≡ active job (set_of job g)) × Knows new g × (times g old.known ≡ 0)
+Says job g old new (Done label) = (label ≡ active job (set_of job g)) × Knows new g
+Says job g old new Taken = (times g old.known ≡ 0) × Saw old new (3 * g) 1
+Says job g old new (NotYet w) = (times g old.known ≡ 0) × Reads job.circuit g w × Lacks job w old new
+
+-- This made list, after an answer for gate g: Made alone appends the gate.
+abbrev pub made_after : ℕ → Answer → List ℕ → List ℕ
+made_after g (Made label) made = made ++ g ∷ []
+made_after g (Done label) made = made
+made_after g Taken made = made
+made_after g (NotYet w) made = made
+
+-- What an answer for gate g says, after at most so many steps, and that it alone changed the made list.
 abbrev pub Answers : JobParts → ℕ → ℕ → View JobParts → View JobParts → Answer → Type 0
-Answers job g most old new (Made label) =
-    (label ≡ active job (set_of job g)) × Knows new g × (times g old.known ≡ 0)
-    × Ran old new (old.made ++ g ∷ []) most
-Answers job g most old new (Done label) =
-    (label ≡ active job (set_of job g)) × Knows new g × Ran old new old.made most
-Answers job g most old new Taken = (times g old.known ≡ 0) × Saw old new (3 * g) 1
-    × Ran old new old.made most
-Answers job g most old new (NotYet w) =
-    (times g old.known ≡ 0) × Reads job.circuit g w × Lacks job w old new × Ran old new old.made most
+Answers job g most old new answer = Says job g old new answer × Ran old new (made_after g answer old.made) most
+
+-- What the answers for gates g and h of one call say, after at most so many steps, and that they alone changed the made
+-- list, in this order.
+abbrev pub AnswersTwo : JobParts → ℕ → ℕ → ℕ → View JobParts → View JobParts → Answer × Answer → Type 0
+AnswersTwo job g h most old new answers =
+    Says job g old new answers.0 × Says job h old new answers.1
+    × Ran old new (made_after h answers.1 (made_after g answers.0 old.made)) most
 
 -- The seat stands for all seats of its board. Then the answers follow from its made list alone.
 abbrev pub IsAlone : View JobParts → Type 0
@@ -97,6 +109,13 @@ IsMadeNow (Made label) = Unit {0}
 IsMadeNow (Done label) = ⊥
 IsMadeNow Taken = ⊥
 IsMadeNow (NotYet w) = ⊥
+
+-- how many gates an answer says to be made by the call
+abbrev pub made_now : Answer → ℕ
+made_now (Made label) = 1
+made_now (Done label) = 0
+made_now Taken = 0
+made_now (NotYet w) = 0
 
 -- A gate that sets wire w was made so many times by the seat.
 abbrev pub SetsMade : JobParts → ℕ → View JobParts → ℕ → Type 0
@@ -123,3 +142,9 @@ AnswersAlone job g old (Made label) = (times g old.made ≡ 0) × ReadsMade job 
 AnswersAlone job g old (Done label) = times g old.made ≡ 1
 AnswersAlone job g old Taken = ⊥
 AnswersAlone job g old (NotYet w) = (times g old.made ≡ 0) × FirstLacking job g old w
+
+-- What the only seat of a board is answered for gates g and h of one call: each answer goes by what it had made before.
+-- Of one gate twice this says nothing of the second answer.
+abbrev pub AnswersTwoAlone : JobParts → ℕ → ℕ → View JobParts → Answer × Answer → Type 0
+AnswersTwoAlone job g h old answers =
+    AnswersAlone job g old answers.0 × (g ≢ h → AnswersAlone job h old answers.1)

@@ -182,4 +182,20 @@ impl<'j, 'c, B: Allocator, A: Allocator, C: Allocator> EvalBoard<'j, 'c, B, A, C
     {
         self.job.circuit().gates()
     }
+
+    /// The operation of a gate.
+    #[inline]
+    pub(crate) fn operation(&self, gate: u32) -> Operation
+        requires { gate < gates_of (job_on self.now) }
+    {
+        self.job.circuit().gate(gate).operation
+    }
+
+    /// The wire that a gate sets.
+    #[inline]
+    pub(crate) fn set_by(&self, gate: u32) -> u32
+        requires { gate < gates_of (job_on self.now) }
+    {
+        self.job.circuit().gate(gate).set
+    }
 }

@@ -1,11 +1,13 @@
 //! What a seat does on a board: it steps a gate, asks for a label, and tells another seat.
 
-ghost use Rattle.std.specs.Prelude.{◌≡◌, ℕ, ◌+◌, ◌-◌, ◌^◌, ◌<◌, [], length, min, IfSome, IfNone, IfOk, IfErr, MatchOption, MatchResult, Some, None};
-ghost use Rattle.gc_board.specs.declared.rule.Hand.TheVariants.{Empty};
+ghost use Rattle.std.specs.Prelude.{◌≡◌, ◌≢◌, ℕ, ◌+◌, ◌*◌, ◌-◌, ◌^◌, ◌<◌, [], length, min, IfSome, IfNone, IfOk, IfErr, MatchOption, MatchResult, Some, None};
+ghost use Rattle.gc_board.specs.declared.rule.Hand.TheVariants.{Empty, Has};
 ghost use Rattle.gc_board.specs.Counts.{times};
+ghost use Rattle.gc_board.specs.Steps.{after_claim, after_stored, after_done};
 ghost use Rattle.gc_board.specs.Places.{IsPlaceOf, IsPlaceAt, IsSamePlace};
+ghost use Rattle.gc_label.specs.Label.{low_half, high_half};
 ghost use Rattle.gc_eval.specs.ActiveLabels.{gates_of, active, set_of, active_from};
-ghost use Rattle.gc_eval.specs.Views.{Ran, Got, Lacks, Answers, IsAlone, IsMadeNow, SetsMade, ReadsMade, FirstLacking, AnswersAlone, Knows, Reads, first_of, second_of};
+ghost use Rattle.gc_eval.specs.Views.{Ran, Got, Lacks, Says, Answers, AnswersTwo, IsAlone, IsMadeNow, made_now, SetsMade, ReadsMade, FirstLacking, AnswersAlone, AnswersTwoAlone, Knows, Reads};
 ghost use Rattle.gc_eval.specs.Seats.{IsSeatOf, IsSameSeat, view, job_on};
 
 use crate::facts::Facts;
@@ -33,6 +35,17 @@ fn load_label<A: Allocator, C: Allocator>(
     let low = load_low(words, place, gate);
     let high = load_high(words, place, gate);
     Label::from_halves(low, high)
+}
+
+/// How many gates an answer says to be made by the call.
+#[inline]
+fn made_now(answer: &Answer) -> u64
+    ensures { result ≡ made_now answer.now }
+{
+    match answer {
+        Answer::Made(_) => 1,
+        _ => 0,
+    }
 }
 
 impl<A: Allocator, C: Allocator> EvalSeat<A, C> {
@@ -119,6 +132,72 @@ impl<'j, 'c, B: Allocator, A: Allocator, C: Allocator> EvalBoard<'j, 'c, B, A, C
         Ok((a, b))
     }
 
+    /// The labels that a gate reads, where it is found free and each has one; else the answer.
+    fn ready(&self, place: &mut Place<Facts<A, C>>, gate: u32) -> Result<(Label, Label), Answer>
+        requires place { IsPlaceAt gates_of self.now.table.shared.table_id self.now.table.shared.key place.old gate }
+        requires empty { place.old.me.0.hand ≡ Empty }
+        ensures same { IsSamePlace place.old place.new }
+        ensures ran { Ran place.old.me.0 place.new.me.0 place.old.me.0.made 7 }
+        ensures ok { IfOk result (λ l. active_from (job_on self.now) gate l.0 l.1
+            ≡ active (job_on self.now) (set_of (job_on self.now) gate)) }
+        ensures err { IfErr result (λ answer. Says (job_on self.now) gate place.old.me.0 place.new.me.0 answer
+            × (IsMadeNow answer → ⊥)) }
+        ensures alone { IsAlone place.old.me.0
+            → MatchResult result (λ _. (times gate place.old.me.0.made ≡ 0)
+            × ReadsMade (job_on self.now) gate place.old.me.0)
+            (λ answer. AnswersAlone (job_on self.now) gate place.old.me.0 answer) }
+    {
+        let words = &self.table.shared;
+        let found = load_state(words, place, gate);
+        if found == 2 {
+            return Err(Answer::Done(load_label(words, place, gate)));
+        }
+        if found == 1 {
+            return Err(Answer::Taken);
+        }
+        match self.read_both(place, gate) {
+            Ok(labels) => Ok(labels),
+            Err(wire) => Err(Answer::NotYet(wire)),
+        }
+    }
+
+    /// Takes a gate in hand, where no seat has it; else the answer.
+    fn take(&self, place: &mut Place<Facts<A, C>>, gate: u32) -> Option<Answer>
+        requires place { IsPlaceAt gates_of self.now.table.shared.table_id self.now.table.shared.key place.old gate }
+        requires empty { (place.old.me.0.hand ≡ Empty) × (0 < place.old.me.0.seats) }
+        ensures same { IsSamePlace place.old place.new }
+        ensures some { IfSome result (Answers (job_on self.now) gate 3 place.old.me.0 place.new.me.0) }
+        ensures none { IfNone result ((place.new.me.0 ≡ after_claim place.old.me.0 gate 0)
+            × (times gate place.old.me.0.known ≡ 0)) }
+        ensures alone { IsAlone place.old.me.0 → times gate place.old.me.0.made ≡ 0 → IfSome result (λ _. ⊥) }
+    {
+        let words = &self.table.shared;
+        let found = claim(words, place, gate);
+        if found == 2 {
+            return Some(Answer::Done(load_label(words, place, gate)));
+        }
+        if found == 1 {
+            return Some(Answer::Taken);
+        }
+        None
+    }
+
+    /// Publishes the label of the gate in hand, which is done from then on.
+    fn put(&self, place: &mut Place<Facts<A, C>>, gate: u32, label: Label)
+        requires place { IsPlaceAt gates_of self.now.table.shared.table_id self.now.table.shared.key place.old gate }
+        requires has { place.old.me.0.hand ≡ Has gate 0 }
+        requires right { label ≡ active (job_on self.now) (set_of (job_on self.now) gate) }
+        ensures same { IsSamePlace place.old place.new }
+        ensures view { place.new.me.0 ≡ after_done (after_stored (after_stored place.old.me.0
+            gate 0 (3 * gate + 1) (low_half label)) gate 1 (3 * gate + 2) (high_half label)) gate }
+    {
+        let words = &self.table.shared;
+        let (low, high) = label.halves();
+        store_low(words, place, gate, low);
+        store_high(words, place, gate, high);
+        store_done(words, place, gate);
+    }
+
     /// Makes a gate whose labels were read, where no seat has it.
     fn make(&self, place: &mut Place<Facts<A, C>>, gate: u32, a: Label, b: Label) -> Answer
         requires place { IsPlaceAt gates_of self.now.table.shared.table_id self.now.table.shared.key place.old gate }
@@ -129,20 +208,89 @@ impl<'j, 'c, B: Allocator, A: Allocator, C: Allocator> EvalBoard<'j, 'c, B, A, C
         ensures answer { Answers (job_on self.now) gate 4 place.old.me.0 place.new.me.0 result }
         ensures alone { IsAlone place.old.me.0 → times gate place.old.me.0.made ≡ 0 → IsMadeNow result }
     {
-        let words = &self.table.shared;
-        let found = claim(words, place, gate);
-        if found == 2 {
-            return Answer::Done(load_label(words, place, gate));
-        }
-        if found == 1 {
-            return Answer::Taken;
+        if let Some(answer) = self.take(place, gate) {
+            return answer;
         }
         let label = self.job.active_by(&self.wiring, gate, a, b);
-        let (low, high) = label.halves();
-        store_low(words, place, gate, low);
-        store_high(words, place, gate, high);
-        store_done(words, place, gate);
+        self.put(place, gate, label);
         Answer::Made(label)
+    }
+
+    /// Makes a gate whose label is computed, where no seat has it.
+    fn publish(&self, place: &mut Place<Facts<A, C>>, gate: u32, label: Label) -> Answer
+        requires place { IsPlaceAt gates_of self.now.table.shared.table_id self.now.table.shared.key place.old gate }
+        requires empty { (place.old.me.0.hand ≡ Empty) × (0 < place.old.me.0.seats) }
+        requires right { label ≡ active (job_on self.now) (set_of (job_on self.now) gate) }
+        ensures same { IsSamePlace place.old place.new }
+        ensures answer { Answers (job_on self.now) gate 4 place.old.me.0 place.new.me.0 result }
+        ensures alone { IsAlone place.old.me.0 → times gate place.old.me.0.made ≡ 0 → IsMadeNow result }
+    {
+        if let Some(answer) = self.take(place, gate) {
+            return answer;
+        }
+        self.put(place, gate, label);
+        Answer::Made(label)
+    }
+
+    /// Makes a gate whose labels were read, where no seat has it, and computes the label of another one beside it.
+    fn make_beside(
+        &self,
+        place: &mut Place<Facts<A, C>>,
+        gate: u32,
+        read: (Label, Label),
+        other: u32,
+        other_read: (Label, Label),
+    ) -> (Answer, Option<Label>)
+        requires place { IsPlaceAt gates_of self.now.table.shared.table_id self.now.table.shared.key place.old gate }
+        requires other { other < gates_of (job_on self.now) }
+        requires empty { (place.old.me.0.hand ≡ Empty) × (0 < place.old.me.0.seats) }
+        requires labels { active_from (job_on self.now) gate read.0 read.1
+            ≡ active (job_on self.now) (set_of (job_on self.now) gate) }
+        requires other_labels { active_from (job_on self.now) other other_read.0 other_read.1
+            ≡ active (job_on self.now) (set_of (job_on self.now) other) }
+        ensures same { IsSamePlace place.old place.new }
+        ensures answer { Answers (job_on self.now) gate 4 place.old.me.0 place.new.me.0 result.0 }
+        ensures other { IfSome result.1 (λ label. label ≡ active (job_on self.now) (set_of (job_on self.now) other)) }
+        ensures alone { IsAlone place.old.me.0 → times gate place.old.me.0.made ≡ 0 → IsMadeNow result.0 }
+    {
+        if let Some(answer) = self.take(place, gate) {
+            return (answer, None);
+        }
+        let (label, other_label) = self
+            .job
+            .active_two(&self.wiring, gate, read, other, other_read);
+        self.put(place, gate, label);
+        (Answer::Made(label), Some(other_label))
+    }
+
+    /// Makes two gates whose labels were read, where no seat has them.
+    fn make_two(
+        &self,
+        place: &mut Place<Facts<A, C>>,
+        one: u32,
+        one_read: (Label, Label),
+        other: u32,
+        other_read: (Label, Label),
+    ) -> (Answer, Answer)
+        requires place { IsPlaceAt gates_of self.now.table.shared.table_id self.now.table.shared.key place.old one }
+        requires other { other < gates_of (job_on self.now) }
+        requires empty { (place.old.me.0.hand ≡ Empty) × (0 < place.old.me.0.seats) }
+        requires labels { active_from (job_on self.now) one one_read.0 one_read.1
+            ≡ active (job_on self.now) (set_of (job_on self.now) one) }
+        requires other_labels { active_from (job_on self.now) other other_read.0 other_read.1
+            ≡ active (job_on self.now) (set_of (job_on self.now) other) }
+        ensures same { IsSamePlace place.old place.new }
+        ensures answer { AnswersTwo (job_on self.now) one other 8 place.old.me.0 place.new.me.0 result }
+        ensures alone { IsAlone place.old.me.0 → times one place.old.me.0.made ≡ 0 → IsMadeNow result.0 }
+        ensures alone_other { IsAlone place.old.me.0 → one ≢ other → times other place.old.me.0.made ≡ 0
+            → IsMadeNow result.1 }
+    {
+        let (a, b) = other_read;
+        let (answer, label) = self.make_beside(place, one, one_read, other, (a, b));
+        match label {
+            Some(label) => (answer, self.publish(place, other, label)),
+            None => (answer, self.make(place, other, a, b)),
+        }
     }
 
     /// A step, at the place of a seat.
@@ -153,17 +301,29 @@ impl<'j, 'c, B: Allocator, A: Allocator, C: Allocator> EvalBoard<'j, 'c, B, A, C
         ensures answer { Answers (job_on self.now) gate 11 place.old.me.0 place.new.me.0 result }
         ensures alone { IsAlone place.old.me.0 → AnswersAlone (job_on self.now) gate place.old.me.0 result }
     {
-        let words = &self.table.shared;
-        let found = load_state(words, place, gate);
-        if found == 2 {
-            return Answer::Done(load_label(words, place, gate));
-        }
-        if found == 1 {
-            return Answer::Taken;
-        }
-        match self.read_both(place, gate) {
+        match self.ready(place, gate) {
             Ok((a, b)) => self.make(place, gate, a, b),
-            Err(wire) => Answer::NotYet(wire),
+            Err(answer) => answer,
+        }
+    }
+
+    /// A step of two gates, at the place of a seat.
+    fn step_two_at(&self, place: &mut Place<Facts<A, C>>, one: u32, other: u32) -> (Answer, Answer)
+        requires place { IsPlaceAt gates_of self.now.table.shared.table_id self.now.table.shared.key place.old one }
+        requires other { other < gates_of (job_on self.now) }
+        requires empty { (place.old.me.0.hand ≡ Empty) × (0 < place.old.me.0.seats) }
+        ensures same { IsSamePlace place.old place.new }
+        ensures answer { AnswersTwo (job_on self.now) one other 22 place.old.me.0 place.new.me.0 result }
+        ensures alone { IsAlone place.old.me.0
+            → AnswersTwoAlone (job_on self.now) one other place.old.me.0 result }
+    {
+        let (a, b) = match self.ready(place, one) {
+            Ok(labels) => labels,
+            Err(answer) => return (answer, self.step_at(place, other)),
+        };
+        match self.ready(place, other) {
+            Ok(other_read) => self.make_two(place, one, (a, b), other, other_read),
+            Err(answer) => (self.make(place, one, a, b), answer),
         }
     }
 
@@ -179,10 +339,26 @@ impl<'j, 'c, B: Allocator, A: Allocator, C: Allocator> EvalBoard<'j, 'c, B, A, C
         ensures alone { self.now.seats ≡ 1 → AnswersAlone (job_on self.now) gate (view seat.old) result }
     {
         let answer = self.step_at(&mut seat.place, gate);
-        if let Answer::Made(_) = answer {
-            seat.count = seat.count.saturating_add(1);
-        }
+        let made = made_now(&answer);
+        seat.count = seat.count.saturating_add(made);
         answer
+    }
+
+    /// Steps two gates, as [`EvalBoard::step`] steps one, in at most 22 atomic steps. The labels of two AND gates are
+    /// computed at once, before the second is claimed: that of the second in vain where another seat claims it meanwhile.
+    /// That the seat is this board's, and that there are such gates, is the caller's condition.
+    pub fn step_two(&self, seat: &mut EvalSeat<A, C>, one: u32, other: u32) -> (Answer, Answer)
+        requires own { IsSeatOf self.now seat.old }
+        requires gates { (one < gates_of (job_on self.now)) × (other < gates_of (job_on self.now)) }
+        ensures own { IsSeatOf self.now seat.new }
+        ensures same { IsSameSeat seat.old seat.new }
+        ensures answer { AnswersTwo (job_on self.now) one other 22 (view seat.old) (view seat.new) result }
+        ensures alone { self.now.seats ≡ 1 → AnswersTwoAlone (job_on self.now) one other (view seat.old) result }
+    {
+        let answers = self.step_two_at(&mut seat.place, one, other);
+        let made = made_now(&answers.0) + made_now(&answers.1);
+        seat.count = seat.count.saturating_add(made);
+        answers
     }
 
     /// The active label of a wire, if it is an input wire or the gate that sets it is done; the seat knows that gate from

@@ -148,7 +148,7 @@ impl<A: Allocator> LabelTable<A> {
 
 /// Whether the operation reads the wire.
 #[inline]
-fn reads(operation: Operation, wire: u32) -> bool
+pub(crate) fn reads(operation: Operation, wire: u32) -> bool
     ensures { result ≡ reads operation wire }
 {
     match operation {

@@ -1,10 +1,12 @@
 //! One worker of an evaluation on many threads: its passes over the gates of the board.
 
-ghost use Rattle.std.specs.Prelude.{All, IfOk};
-ghost use Rattle.gc_eval.specs.Seats.{IsSeatOf};
+ghost use Rattle.std.specs.Prelude.{◌≡◌, ◌<◌, None, All, IfOk, IfSome};
+ghost use Rattle.gc_eval.specs.ActiveLabels.{gates_of};
+ghost use Rattle.gc_eval.specs.Seats.{IsSeatOf, job_on};
 
 use crate::known::KnownGates;
 use crate::seat::{Answer, EvalBoard, EvalSeat};
+use crate::table::reads;
 use gc_work::Gatehouse;
 use std::alloc::{AllocError, Allocator};
 
@@ -24,9 +26,131 @@ pub(crate) struct Worker<B: Allocator, A: Allocator, C: Allocator> {
     known: KnownGates<B>,
 }
 
+/// What a pass has found so far.
+#[derive(Drop)]
+struct Pass {
+    /// The first gate that it left undone.
+    first_missed: u32,
+    /// Gates before this one are left to the next pass.
+    next: u32,
+    /// How many gates in a row weren't ready.
+    misses: u32,
+    /// Whether it made a gate, or learnt of one.
+    learnt: bool,
+    /// An AND gate that waits for another one, to be stepped together with it.
+    kept: Option<u32>,
+}
+
 impl<B: Allocator, A: Allocator, C: Allocator> Worker<B, A, C> {
-    /// One pass in file order over the gates that the worker doesn't know to be done. The answer is whether it made a
-    /// gate, or learnt of one.
+    /// What a gate was answered.
+    fn note(&mut self, pass: &mut Pass, gate: u32, answer: Answer)
+        ensures seat { self.new.seat ≡ self.old.seat }
+        ensures kept { pass.new.kept ≡ pass.old.kept }
+    {
+        match answer {
+            Answer::Made(_) | Answer::Done(_) => {
+                self.known.add(gate);
+                pass.learnt = true;
+                pass.misses = 0;
+                return;
+            }
+            Answer::Taken => pass.next = (gate / BLOCK + 1).saturating_mul(BLOCK),
+            Answer::NotYet(_) => pass.misses = pass.misses.saturating_add(1),
+        }
+        pass.first_missed = pass.first_missed.min(gate);
+    }
+
+    /// Steps a gate.
+    fn step<'j, 'c, H: Gatehouse>(
+        &mut self,
+        board: &EvalBoard<'j, 'c, B, A, C>,
+        house: &H,
+        pass: &mut Pass,
+        gate: u32,
+    )
+        requires own { IsSeatOf board.now self.old.seat }
+        requires gate { gate < gates_of (job_on board.now) }
+        ensures own { IsSeatOf board.now self.new.seat }
+        ensures kept { pass.new.kept ≡ pass.old.kept }
+    {
+        house.before(self.number, gate);
+        let answer = board.step(&mut self.seat, gate);
+        self.note(pass, gate, answer);
+    }
+
+    /// Steps the kept gate alone.
+    fn step_kept<'j, 'c, H: Gatehouse>(
+        &mut self,
+        board: &EvalBoard<'j, 'c, B, A, C>,
+        house: &H,
+        pass: &mut Pass,
+    )
+        requires own { IsSeatOf board.now self.old.seat }
+        requires kept { IfSome pass.old.kept (λ g. g < gates_of (job_on board.now)) }
+        ensures own { IsSeatOf board.now self.new.seat }
+        ensures kept { pass.new.kept ≡ None }
+    {
+        if let Some(gate) = pass.kept {
+            pass.kept = None;
+            self.step(board, house, pass, gate);
+        }
+    }
+
+    /// Steps an AND gate together with the kept one, or keeps it.
+    fn pair<'j, 'c, H: Gatehouse>(
+        &mut self,
+        board: &EvalBoard<'j, 'c, B, A, C>,
+        house: &H,
+        pass: &mut Pass,
+        gate: u32,
+    )
+        requires own { IsSeatOf board.now self.old.seat }
+        requires kept { IfSome pass.old.kept (λ g. g < gates_of (job_on board.now)) }
+        requires gate { gate < gates_of (job_on board.now) }
+        ensures own { IsSeatOf board.now self.new.seat }
+        ensures kept { IfSome pass.new.kept (λ g. g < gates_of (job_on board.now)) }
+    {
+        let Some(kept) = pass.kept else {
+            pass.kept = Some(gate);
+            return;
+        };
+        pass.kept = None;
+        house.before(self.number, kept);
+        house.before(self.number, gate);
+        let (answer, gate_answer) = board.step_two(&mut self.seat, kept, gate);
+        self.note(pass, kept, answer);
+        self.note(pass, gate, gate_answer);
+    }
+
+    /// Steps a gate, or keeps it.
+    fn meet<'j, 'c, H: Gatehouse>(
+        &mut self,
+        board: &EvalBoard<'j, 'c, B, A, C>,
+        house: &H,
+        pass: &mut Pass,
+        gate: u32,
+    )
+        requires own { IsSeatOf board.now self.old.seat }
+        requires kept { IfSome pass.old.kept (λ g. g < gates_of (job_on board.now)) }
+        requires gate { gate < gates_of (job_on board.now) }
+        ensures own { IsSeatOf board.now self.new.seat }
+        ensures kept { IfSome pass.new.kept (λ g. g < gates_of (job_on board.now)) }
+    {
+        let operation = board.operation(gate);
+        if let Some(kept) = pass.kept {
+            if kept / BLOCK != gate / BLOCK || reads(operation, board.set_by(kept)) {
+                self.step_kept(board, house, pass);
+            }
+        }
+        if operation.is_and() {
+            self.pair(board, house, pass, gate);
+        } else {
+            self.step(board, house, pass, gate);
+        }
+    }
+
+    /// One pass in file order over the gates that the worker doesn't know to be done, AND gates two at a time within a
+    /// block. The answer is whether it made a gate, or learnt of one.
     pub(crate) fn pass<'j, 'c, H: Gatehouse>(
         &mut self,
         board: &EvalBoard<'j, 'c, B, A, C>,
@@ -35,32 +159,25 @@ impl<B: Allocator, A: Allocator, C: Allocator> Worker<B, A, C> {
         requires { IsSeatOf board.now self.old.seat }
         ensures { IsSeatOf board.now self.new.seat }
     {
-        let mut first_missed = board.gates();
-        let mut next = self.known.first;
-        let mut misses = 0u32;
-        let mut learnt = false;
+        let mut pass = Pass {
+            first_missed: board.gates(),
+            next: self.known.first,
+            misses: 0,
+            learnt: false,
+            kept: None,
+        };
         for gate in self.known.first..board.gates() {
-            if gate < next || self.known.has(gate) {
+            if gate < pass.next || self.known.has(gate) {
                 continue;
             }
-            house.before(self.number, gate);
-            match board.step(&mut self.seat, gate) {
-                Answer::Made(_) | Answer::Done(_) => {
-                    self.known.add(gate);
-                    learnt = true;
-                    misses = 0;
-                    continue;
-                }
-                Answer::Taken => next = (gate / BLOCK + 1).saturating_mul(BLOCK),
-                Answer::NotYet(_) => misses = misses.saturating_add(1),
-            }
-            first_missed = first_missed.min(gate);
-            if learnt && misses == MOST_MISSES {
+            self.meet(board, house, &mut pass, gate);
+            if pass.learnt && pass.misses >= MOST_MISSES {
                 break;
             }
         }
-        self.known.first = first_missed;
-        learnt
+        self.step_kept(board, house, &mut pass);
+        self.known.first = pass.first_missed;
+        pass.learnt
     }
 
     /// Passes over the gates as long as a pass made a gate or learnt of one, which so many passes can do as there are

@@ -75,6 +75,28 @@ fn two_seats_take_turns(rt: HostRuntime) -> Result<(), Fail> {
     Ok(())
 }
 
+/// Gates 0 and 1 of the full adder read input wires alone, and gate 2 reads wire 3, which gate 0 sets.
+#[test]
+fn two_gates_in_a_step(rt: HostRuntime) -> Result<(), Fail> {
+    let alloc = rt.alloc();
+    let circuit = Circuit::read(alloc, FULL_ADDER.as_bytes())?;
+    let job = job_of(alloc, &circuit, FULL_ADDER, &ADDENDS)?;
+    let (board, mut one, mut two) = two_seats(alloc, &job)?;
+    let (Answer::NotYet(3), Answer::Made(label)) = board.step_two(&mut one, 2, 1) else {
+        return Err(Fail::new("wire 3 has no label, and gate 1 is free"));
+    };
+    let (Answer::Made(first), Answer::Done(again)) = board.step_two(&mut two, 0, 0) else {
+        return Err(Fail::new("gate 0 is free, and then done"));
+    };
+    assert_eq!(rt; first, again);
+    let (Answer::Made(_), Answer::Done(found)) = board.step_two(&mut two, 2, 1) else {
+        return Err(Fail::new("gate 2 is free, and gate 1 is done"));
+    };
+    assert_eq!(rt; found, label);
+    assert_eq!(rt; (one.made(), two.made()), (1, 2));
+    Ok(())
+}
+
 /// Each growth of `open` is refused in turn: the seats, the words, the table's own two blocks, and the two tables of
 /// the circuit.
 #[test]

@@ -1,8 +1,9 @@
-//! AND gates that read each other are evaluated by pairs as they are one by one.
+//! AND gates that read each other are evaluated by pairs, on one thread and by workers, as they are one by one.
 
 use crate::boards::{job_of, made_by};
 use gc_circuit::Circuit;
-use gc_eval::evaluate;
+use gc_eval::{evaluate, evaluate_many};
+use gc_work::Open;
 use std::alloc::Global;
 use std::test::Fail;
 
@@ -31,6 +32,10 @@ fn chains_of_and_gates(rt: HostRuntime) -> Result<(), Fail> {
         let circuit = Circuit::read(alloc, text.as_bytes())?;
         let job = job_of(alloc, &circuit, text.as_str(), &["111"])?;
         let by_pairs = evaluate(alloc, &job)?;
+        for workers in [1, 2, 4] {
+            let together = evaluate_many(&rt, alloc, &job, workers, &Open)?;
+            assert_eq!(rt; together, by_pairs, "circuit {number} by {workers}");
+        }
         let one_by_one = made_by(&rt, alloc, &job, 1)?;
         assert_eq!(rt; one_by_one, Some(by_pairs), "circuit {number}");
     }

@@ -15,7 +15,7 @@ returns-in-Err-read_some-clause-err g c =
     ap (λ (n : Netlist). slice_get n.gates c.args.gate) (sym wired) ∙ c.gate-operation.ensures in
     let err = c.in-Err-read_some.ensures.err in (
       record { gate = c.gate-operation.result; at = at; reads = inr (sym c.second_wire.ensures ∙ err.0) },
-      lacks_then job c.in-Err-read_some.wire 3 c.args.place.now.me.0 c.read_some.new.place.me.0
+      lacks_then job c.in-Err-read_some.wire 3 c.args.place.now.me.0.made c.args.place.now.me.0 c.read_some.new.place.me.0
           c.read_some-2.new.place.me.0 c.read_some.ensures.ran err.1,
     )
 
@@ -44,7 +44,7 @@ returns-in-Err-read_some-clause-alone g c = λ alone.
     let ran = c.read_some.ensures.ran in
     both_err job c.args.gate 3 c.gate-operation.result c.in-Err-read_some.wire old mid at ran
     (sym c.second_wire.ensures ∙ c.in-Err-read_some.ensures.err.0)
-    (c.in-Err-read_some.ensures.alone (alone_later old mid 3 ran alone))
+    (c.in-Err-read_some.ensures.alone (alone_later old mid old.made 3 ran alone))
     (λ u e. c.in-Ok.ensures.alone alone u (c.first_wire.ensures ∙ e))
 
 pub returns-clause-alone : goal.returns-clause-alone
@@ -59,4 +59,4 @@ returns-clause-alone g c = λ alone.
     let ran = c.read_some.ensures.ran in
     both_ok job c.args.gate 3 c.gate-operation.result old mid at ran
     (λ u e. c.in-Ok.ensures.alone alone u (c.first_wire.ensures ∙ e))
-    (λ u e. c.in-Ok-read_some.ensures.alone (alone_later old mid 3 ran alone) u (c.second_wire.ensures ∙ e))
+    (λ u e. c.in-Ok-read_some.ensures.alone (alone_later old mid old.made 3 ran alone) u (c.second_wire.ensures ∙ e))

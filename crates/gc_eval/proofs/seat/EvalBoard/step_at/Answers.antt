@@ -1,81 +1,27 @@
-use Rattle.std.proofs.Common.{rules, ◌*◌, arith, refl, ap, subst, ◌≡◌, sym, ◌∙◌}
-use Rattle.gc_board.specs.Counts.{times, only}
-use Rattle.gc_board.specs.Board.{in_hand}
-use Rattle.gc_board.proofs.Sums.{only_same, only_other}
-use Rattle.gc_board.specs.declared.rule.View.{View}
-use Rattle.gc_eval.specs.Job.{JobParts}
-use Rattle.gc_eval.specs.Views.{Ran, Saw}
-use Rattle.gc_eval.proofs.RunLemmas.{saw_step, unknown, ran_then, lacks_then, lacking_back, alone_made, alone_later, answers_later, longer}
+use Rattle.std.proofs.Common.{ap, ◌∙◌, arith}
+use Rattle.gc_board.specs.Counts.{times}
+use Rattle.gc_eval.specs.Seats.{job_on}
+use Rattle.gc_eval.proofs.RunLemmas.{alone_made, alone_later, answers_found, answers_later, answers_longer}
 use Rattle.gc_eval.proofs.seat.EvalBoard.step_at.Goals as goal
 
-pub returns-then-found-eq1-clause-answer : goal.returns-then-found-eq1-clause-answer
-returns-then-found-eq1-clause-answer g c = let old = c.args.place.now.me.0 in let new =
-    c.load_state-found.new.place.me.0 in let e = c.load_state-found.ensures in (
-      unknown (times c.args.gate old.known) c.load_state-found.result
-          (e.tells c.args.gate refl).0 c.if-found-eq2.false,
-      subst (Saw old new (3 * c.args.gate)) c.if-found-eq1.true
-          (saw_step old new (3 * c.args.gate) c.load_state-found.result
-          (ap (λ (v : View JobParts). v.steps) e.view)),
-      search rules,
-    )
-
 pub returns-in-Ok-clause-answer : goal.returns-in-Ok-clause-answer
-returns-in-Ok-clause-answer g c = let old = c.args.place.now.me.0 in let seen =
-    c.load_state-found.new.place.me.0 in let read = c.read_both.new.place.me.0 in
-    let first : Ran old seen old.made 1 = search rules in
-    let both : Ran old read old.made 7 = subst (λ l. Ran old read l 7) first.made
-    (ran_then old seen read seen.made 1 6 first c.read_both.ensures.ran) in
-    answers_later c.args.self.now.table.shared.key.work c.args.gate 7 4 old read c.make.new.place.me.0 c.make.result both c.make.ensures.answer
+returns-in-Ok-clause-answer g c =
+    answers_later (job_on c.args.self.now) c.args.gate 7 4 c.args.place.now.me.0 c.ready.new.place.me.0
+    c.make.new.place.me.0 c.make.result c.ready.ensures.ran c.make.ensures.answer
 
 pub returns-in-Err-clause-answer : goal.returns-in-Err-clause-answer
-returns-in-Err-clause-answer g c = let old = c.args.place.now.me.0 in let seen =
-    c.load_state-found.new.place.me.0 in let read = c.read_both.new.place.me.0 in
-    let f = c.args.self.now.table.shared.key.work in
-    let first : Ran old seen old.made 1 = search rules in
-    let both : Ran old read old.made 7 = subst (λ l. Ran old read l 7) first.made
-    (ran_then old seen read seen.made 1 6 first c.read_both.ensures.ran) in
-    let err = c.in-Err.ensures.err in (
-      unknown (times c.args.gate old.known) c.load_state-found.result
-          (c.load_state-found.ensures.tells c.args.gate refl).0 c.if-found-eq2.false,
-      err.0,
-      lacks_then f c.in-Err.wire 1 old seen read first err.1,
-      longer old read old.made 7 11 (omega arith) both,
-    )
-
-pub returns-then-found-eq1-clause-alone : goal.returns-then-found-eq1-clause-alone
-returns-then-found-eq1-clause-alone g c = λ alone. let g = c.args.gate in
-    let t = (c.load_state-found.ensures.tells g refl).1 alone in
-    absurd (omega (
-      arith,
-      t.0,
-      ap (in_hand g) c.requires.empty.0,
-      ap (only 1) c.if-found-eq1.true,
-      only_same 1 1 refl,
-    ))
+returns-in-Err-clause-answer g c =
+    let old = c.args.place.now.me.0 in
+    let new = c.ready.new.place.me.0 in
+    let err = c.in-Err.ensures.err in
+    answers_longer (job_on c.args.self.now) c.args.gate 7 11 old new c.in-Err.answer (omega arith)
+    (answers_found (job_on c.args.self.now) c.args.gate 7 old new c.in-Err.answer err.0 err.1 c.ready.ensures.ran)
 
 pub returns-in-Ok-clause-alone : goal.returns-in-Ok-clause-alone
-returns-in-Ok-clause-alone g c = λ alone. let f = c.args.self.now.table.shared.key.work in
-    let g = c.args.gate in let old = c.args.place.now.me.0 in let seen =
-    c.load_state-found.new.place.me.0 in let read = c.read_both.new.place.me.0 in
-    let first : Ran old seen old.made 1 = search rules in
-    let t = (c.load_state-found.ensures.tells g refl).1 alone in
-    let zero_now : times g old.made ≡ 0 = t.1 ∙ only_other 2 c.load_state-found.result
-    (λ e. c.if-found-eq2.false (sym e)) in
-    let alone_seen = alone_later old seen 1 first alone in let alone_read =
-    alone_later seen read 6 c.read_both.ensures.ran alone_seen in
-    alone_made f g 1 old seen c.make.result first (c.make.ensures.alone alone_read
-    (ap (times g) (c.read_both.ensures.ran.made ∙ first.made) ∙ zero_now)) zero_now
-    (c.in-Ok.ensures.alone alone_seen)
-
-pub returns-in-Err-clause-alone : goal.returns-in-Err-clause-alone
-returns-in-Err-clause-alone g c = λ alone. let f = c.args.self.now.table.shared.key.work in
-    let g = c.args.gate in let old = c.args.place.now.me.0 in let seen =
-    c.load_state-found.new.place.me.0 in
-    let first : Ran old seen old.made 1 = search rules in
-    let t = (c.load_state-found.ensures.tells g refl).1 alone in
-    let zero_now : times g old.made ≡ 0 = t.1 ∙ only_other 2 c.load_state-found.result
-    (λ e. c.if-found-eq2.false (sym e)) in (
-      zero_now,
-      lacking_back f g 1 c.in-Err.wire old seen first
-          (c.in-Err.ensures.alone (alone_later old seen 1 first alone)),
-    )
+returns-in-Ok-clause-alone g c = λ alone.
+    let old = c.args.place.now.me.0 in
+    let ran = c.ready.ensures.ran in
+    let ready = c.in-Ok.ensures.alone alone in
+    alone_made (job_on c.args.self.now) c.args.gate old c.make.result
+    (c.make.ensures.alone (alone_later old c.ready.new.place.me.0 old.made 7 ran alone)
+    (ap (times c.args.gate) ran.made ∙ ready.0)) ready.0 ready.1
