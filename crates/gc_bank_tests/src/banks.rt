@@ -10,8 +10,9 @@ use gc_circuit::Circuit;
 use gc_eval::{Answer, EvalBoard, EvalSeat, Job};
 use gc_file::Version;
 use gc_label::Label;
+use gc_refusing::Refusing;
 use gc_worked::circuits::FULL_ADDER;
-use std::alloc::Global;
+use std::alloc::{Allocator, Global};
 use std::test::Fail;
 
 /// One call of a seat.
@@ -19,6 +20,7 @@ use std::test::Fail;
 enum Call {
     Enter(u32),
     Step(u32),
+    Label(u32),
     Leave,
     Seal,
     Reopen(u32),
@@ -32,6 +34,7 @@ enum Reply {
     Done(Label),
     Taken,
     NotYet(u32),
+    Label(Option<Label>),
     Nothing,
     Reopening(Reopening),
     /// The call isn't the seat's to make where it stands.
@@ -50,7 +53,12 @@ impl From<Answer> for Reply {
 }
 
 /// Makes a call of a seat.
-fn called<'j, 'c>(banks: &Banks<'j, 'c>, jobs: &[Job<'c>], seat: &mut BankSeat, call: Call) -> Reply
+fn called<'j, 'c, B: Allocator>(
+    banks: &Banks<'j, 'c, B>,
+    jobs: &[Job<'c>],
+    seat: &mut BankSeat<B>,
+    call: Call,
+) -> Reply
     requires own { IsSeatOf banks.now seat.old }
     requires jobs { jobs_on banks.now ≡ jobs.now }
     ensures { IsSeatOf banks.now seat.new }
@@ -67,6 +75,12 @@ fn called<'j, 'c>(banks: &Banks<'j, 'c>, jobs: &[Job<'c>], seat: &mut BankSeat, 
                 return Reply::Barred;
             }
             Reply::from(banks.step(seat, gate))
+        }
+        (Some(round), Call::Label(wire)) if (round as usize) < jobs.len() => {
+            if jobs[round as usize].circuit().wires() <= wire {
+                return Reply::Barred;
+            }
+            Reply::Label(banks.label(seat, wire))
         }
         (Some(_), Call::Leave) => {
             banks.leave(seat);
@@ -92,10 +106,10 @@ pub(crate) fn three_jobs<'c>(alloc: Global, circuit: &'c Circuit) -> Result<Vec<
 }
 
 /// Banks with two seats for these jobs.
-fn two_seats<'j, 'c>(
-    alloc: Global,
+fn two_seats<'j, 'c, B: Allocator + Copy>(
+    alloc: B,
     jobs: &'j [Job<'c>],
-) -> Result<(Banks<'j, 'c>, BankSeat, BankSeat), Fail>
+) -> Result<(Banks<'j, 'c, B>, BankSeat<B>, BankSeat<B>), Fail>
     ensures jobs { IfOk result (λ b. jobs_on b.0 ≡ jobs.now) }
     ensures seats { IfOk result (λ b. IsSeatOf b.0 b.1 × IsSeatOf b.0 b.2) }
 {
@@ -137,20 +151,23 @@ fn first_gate(alloc: Global, job: &Job) -> Result<Label, Fail> {
 }
 
 /// The replies of the two seats, who make these calls in turn.
-fn replies<'j, 'c>(
-    banks: &Banks<'j, 'c>,
+fn replies<'j, 'c, B: Allocator>(
+    banks: &Banks<'j, 'c, B>,
     jobs: &[Job<'c>],
-    one: &mut BankSeat,
-    two: &mut BankSeat,
-) -> [Reply; 16]
+    one: &mut BankSeat<B>,
+    two: &mut BankSeat<B>,
+) -> [Reply; 18]
     requires one { IsSeatOf banks.now one.old }
     requires two { IsSeatOf banks.now two.old }
     requires jobs { jobs_on banks.now ≡ jobs.now }
+    ensures { IsSeatOf banks.now one.new × IsSeatOf banks.now two.new }
 {
     [
         called(banks, jobs, one, Call::Enter(0)),
         called(banks, jobs, one, Call::Step(0)),
         called(banks, jobs, one, Call::Step(0)),
+        called(banks, jobs, one, Call::Label(3)),
+        called(banks, jobs, one, Call::Label(4)),
         called(banks, jobs, two, Call::Enter(2)),
         called(banks, jobs, two, Call::Reopen(0)),
         called(banks, jobs, one, Call::Seal),
@@ -179,6 +196,8 @@ fn two_seats_take_turns(rt: HostRuntime) -> Result<(), Fail> {
         Reply::Entry(Entry::Inside),
         Reply::Made(early),
         Reply::Done(early),
+        Reply::Label(Some(early)),
+        Reply::Label(None),
         Reply::Entry(Entry::OtherRound(0)),
         Reply::Reopening(Reopening::NotSealed),
         Reply::Nothing,
@@ -196,6 +215,37 @@ fn two_seats_take_turns(rt: HostRuntime) -> Result<(), Fail> {
     let (banks, mut one, mut two) = two_seats(alloc, &jobs)?;
     let found = replies(&banks, &jobs, &mut one, &mut two);
     assert_eq!(rt; found.as_slice(), wanted.as_slice());
+    Ok(())
+}
+
+/// Opens banks over this memory, has two seats take turns at them, and closes them. The answer is how many gates were made,
+/// where no memory was asked for after the opening.
+fn works_without_memory(heap: &Refusing<Global>, jobs: &[Job]) -> Result<u64, Fail> {
+    let mut seats = Vec::with_capacity(heap, 2)?;
+    let (banks, mut one, mut two) = two_seats(heap, jobs)?;
+    let opened = heap.growths();
+    replies(&banks, jobs, &mut one, &mut two);
+    if one.inside().is_some() || two.inside().is_some() {
+        return Err(Fail::new("both seats are outside"));
+    }
+    seats.push(one)?;
+    seats.push(two)?;
+    let Ok(made) = banks.close(seats) else {
+        return Err(Fail::new("both seats are there"));
+    };
+    if !one_circuit(jobs) || heap.growths() != opened {
+        return Err(Fail::new("a growth was asked for"));
+    }
+    Ok(made)
+}
+
+/// Banks that are open ask for no memory, and neither does the question whether their jobs are on one circuit.
+#[test]
+fn opened_banks_grow_nothing(rt: HostRuntime) -> Result<(), Fail> {
+    let alloc = rt.alloc();
+    let circuit = Circuit::read(alloc, FULL_ADDER.as_bytes())?;
+    let jobs = three_jobs(alloc, &circuit)?;
+    assert_eq!(rt; works_without_memory(&Refusing::never(alloc), &jobs)?, 2);
     Ok(())
 }
 
