@@ -37,6 +37,8 @@ impl<'c, A: Allocator, C: Allocator> Model for Job<'c, A, C> {
 }
 
 impl<'c, A: Allocator + Copy, C: Allocator> Job<'c, A, C> {
+    ghost use Rattle.sha2.specs.Sha256.{sha256};
+    ghost use Rattle.gc_circuit.specs.Canon.{canonical_text};
     ghost use Rattle.gc_eval.specs.Binding.{IsBound, FirstBindFault};
 
     /// The job of a circuit, a garbled file and a label file for each input value, in any order. The files are judged in
@@ -54,7 +56,24 @@ impl<'c, A: Allocator + Copy, C: Allocator> Job<'c, A, C> {
         ensures err { IfErr result (λ fault. fault ≢ BindFault.Memory
             → FirstBindFault circuit.now garbled files.now fault) }
     {
-        if garbled.digest() != circuit.digest() {
+        Job::bind_by_digest(alloc, circuit, &circuit.digest(), garbled, files)
+    }
+
+    /// The job as [`Job::bind`] answers it, for a caller that has the digest of the circuit's canonical text: it isn't
+    /// taken again. That it is that digest is the caller's condition.
+    pub fn bind_by_digest<B: Allocator>(
+        alloc: A,
+        circuit: &'c Circuit<C>,
+        digest: &[u8; 32],
+        garbled: Garbled<A>,
+        files: &[LabelFile<B>],
+    ) -> Result<Job<'c, A, C>, BindFault>
+        requires { digest.now ≡ sha256 (canonical_text circuit.now) }
+        ensures ok { IfOk result (λ job. IsBound circuit.now garbled files.now job) }
+        ensures err { IfErr result (λ fault. fault ≢ BindFault.Memory
+            → FirstBindFault circuit.now garbled files.now fault) }
+    {
+        if garbled.digest() != *digest {
             return Err(BindFault::OtherCircuit);
         }
         if !has_counts(circuit, &garbled) {
