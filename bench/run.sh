@@ -31,6 +31,8 @@ eval "$(times xor "$tmp/xor.txt" 25 garble)"
 eval "$(times half "$circuit" 5 job job1 job4)"
 python3 "$top/bench/make_circuit.py" 1000000 1 "$tmp/and.txt" independent
 eval "$(times and "$tmp/and.txt" 5 job job1 job4)"
+python3 "$top/bench/make_circuit.py" 7000 1 "$tmp/ands.txt" independent
+eval "$(times ands "$tmp/ands.txt" 5 list list1 list4)"
 eval "$(times file "$circuit" 9 file_sha write digest read_file pieces)"
 
 per_gate() { awk -v t="$1" -v n="$2" 'BEGIN { printf "%.1f ns a gate", t / n }'; }
@@ -53,6 +55,7 @@ echo "garbling XOR gates: $(per_gate "$xor_garble" "$xor_gates") (at most 8)"
 echo "evaluation from labels: $half_evaluate ns, $(ratio "$((2 * half_evaluate))" "$half_hashes") its hashes one after another (at most 0.65), and $(ratio "$((2 * half_evaluate))" "$half_lanes") the same hashes four at once"
 echo "evaluating at a board by one worker: $(per_gate "$((half_job1 - half_job))" "$half_gates") above one thread without one (at most 60)"
 echo "  by four workers: $(ratio "$half_job" "$half_job4") as fast as on one thread (at least 1.8); of independent AND gates $(ratio "$and_job" "$and_job4") (at least 3)"
+echo "a thousand jobs on 7,000 independent AND gates: by four workers $(ratio "$ands_list4" "$ands_list") as long as one after another (at most 0.45), by one $(ratio "$ands_list1" "$ands_list") (at most 1.3)"
 echo "the store above sealing: $(per_gate "$((xor_store - xor_open - xor_seal))" "$xor_gates") (at most 30), and its opening with a copy of the circuit $(per_gate "$xor_open" "$xor_gates")"
 echo "digest: $half_digest ns, $(ratio "$half_digest" "$half_sha") SHA-256 over the canonical text (at most 1.5)"
 echo "writing the garbled file, but for the circuit's digest: $(ratio "$((file_write - file_digest))" "$file_file_sha") SHA-256 over its bytes (at most 1.15)"

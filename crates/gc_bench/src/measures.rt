@@ -4,6 +4,7 @@ ghost use Rattle.std.specs.Prelude.{◌≡◌};
 ghost use Rattle.gc_store.specs.declared.tally.TheConstants.{MAX_TALLIES};
 
 use crate::evaluations::{alone, by_workers, job_of};
+use crate::lists::{one_after_another, together};
 use anyhow::{Result, anyhow};
 use gc_circuit::{Circuit, fits, plain_eval};
 use gc_eval::{Job, evaluate_labels};
@@ -53,6 +54,12 @@ pub enum Part {
     Job2,
     /// The same by four workers.
     Job4,
+    /// Evaluation of a list of jobs on one thread, one after another.
+    List,
+    /// Evaluation of a list of jobs by one worker.
+    List1,
+    /// The same by four workers, at banks.
+    List4,
     /// The digest of the circuit.
     Digest,
     /// SHA-256 over the circuit's canonical text, as it lies in memory.
@@ -68,7 +75,7 @@ pub enum Part {
 }
 
 /// All parts.
-const PARTS: [Part; 21] = [
+const PARTS: [Part; 24] = [
     Part::Read,
     Part::Plain,
     Part::Garble,
@@ -84,6 +91,9 @@ const PARTS: [Part; 21] = [
     Part::Job1,
     Part::Job2,
     Part::Job4,
+    Part::List,
+    Part::List1,
+    Part::List4,
     Part::Digest,
     Part::Sha,
     Part::Write,
@@ -96,6 +106,14 @@ impl Part {
     /// The part of this name, where there is one.
     pub fn named(name: &str) -> Option<Part> {
         PARTS.iter().copied().find(|part| part.name() == name)
+    }
+
+    /// How many jobs the list that it takes has, if it takes one.
+    pub fn jobs_listed(self) -> u32 {
+        match self {
+            Part::List | Part::List1 | Part::List4 => 1000,
+            _ => 0,
+        }
     }
 
     /// Its name on the command line.
@@ -116,6 +134,9 @@ impl Part {
             Part::Job1 => "job1",
             Part::Job2 => "job2",
             Part::Job4 => "job4",
+            Part::List => "list",
+            Part::List1 => "list1",
+            Part::List4 => "list4",
             Part::Digest => "digest",
             Part::Sha => "sha",
             Part::Write => "write",
@@ -198,6 +219,15 @@ impl Subject {
         )
     }
 
+    /// So many such jobs.
+    pub fn jobs(&self, alloc: Global, count: u32) -> Result<Vec<Job<'_>>> {
+        let mut jobs = Vec::with_capacity(alloc, count as usize)?;
+        for _ in 0..count {
+            jobs.push(self.job(alloc)?)?;
+        }
+        Ok(jobs)
+    }
+
     /// Does a part of the work once.
     pub fn run<R: Threads + Wait + Sync>(
         &self,
@@ -206,6 +236,7 @@ impl Subject {
         part: Part,
         text: &[u8],
         job: &Job,
+        jobs: &[Job],
     ) -> Result<()> {
         match part {
             Part::Read => {
@@ -227,6 +258,9 @@ impl Subject {
             Part::Job1 => by_workers(rt, alloc, job, 1)?,
             Part::Job2 => by_workers(rt, alloc, job, 2)?,
             Part::Job4 => by_workers(rt, alloc, job, 4)?,
+            Part::List => one_after_another(alloc, jobs)?,
+            Part::List1 => together(rt, alloc, jobs, 1)?,
+            Part::List4 => together(rt, alloc, jobs, 4)?,
             Part::Digest => not_zeros(self.circuit.digest())?,
             Part::Sha => not_zeros(Sha256::digest(&self.canonical_text))?,
             Part::Write => {
