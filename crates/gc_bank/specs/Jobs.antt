@@ -1,8 +1,8 @@
 -- Lists of jobs on one circuit, and what evaluating them answers.
 use Rattle.std.specs.Prelude.{◌≡◌, ℕ, ◌<◌, ◌⊎◌, Bool, List, length, slice_get, Some, Result, Ok, Err}
 use Rattle.gc_circuit.specs.Circuit.{Netlist}
-use Rattle.gc_work.specs.declared.garbling.TheConstants.{MAX_WORKERS}
-use Rattle.gc_work.specs.WorkFault.{AreFew}
+use Rattle.gc_gatehouse.specs.declared.TheConstants.{MAX_WORKERS}
+use Rattle.gc_gatehouse.specs.Workers.{AreFew}
 use Rattle.gc_eval.specs.declared.fault.EvalFault.{EvalFault}
 use Rattle.gc_eval.specs.declared.fault.EvalFault.TheVariants.{BadWorkers, UnknownOutputLabel, Memory}
 use Rattle.gc_eval.specs.Job.{JobParts}

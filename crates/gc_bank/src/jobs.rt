@@ -9,7 +9,7 @@ ghost use Rattle.gc_bank.specs.Workers.{AreBitsOf, AreKnown};
 
 use crate::together::evaluate_together;
 use gc_eval::{EvalFault, Job, evaluate};
-use gc_work::{Gatehouse, MAX_WORKERS};
+use gc_gatehouse::{Gatehouse, MAX_WORKERS};
 use std::alloc::Allocator;
 use std::thread::Threads;
 

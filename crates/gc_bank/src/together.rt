@@ -9,7 +9,7 @@ ghost use Rattle.gc_bank.specs.Workers.{AreBitsOf, AreKnown, IsWorkerOf, AreWork
 use crate::seat::Banks;
 use crate::worker::{Outputs, Worker, muster};
 use gc_eval::Job;
-use gc_work::Gatehouse;
+use gc_gatehouse::Gatehouse;
 use std::alloc::{AllocError, Allocator};
 use std::thread;
 use std::thread::Threads;

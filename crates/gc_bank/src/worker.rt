@@ -13,7 +13,7 @@ use crate::seat::{BankSeat, Banks};
 use gc_eval::{Answer, Job, KnownGates};
 use gc_label::Label;
 use gc_rounds::{Entry, Reopening};
-use gc_work::Gatehouse;
+use gc_gatehouse::Gatehouse;
 use std::alloc::{AllocError, Allocator};
 use std::thread;
 

@@ -11,7 +11,7 @@ use Rattle.gc_eval.proofs.HonestFiles.{honest-files}
 use Rattle.gc_cli.specs.declared.fault.Fault.{Fault}
 use Rattle.gc_cli.specs.declared.fault.Fault.TheVariants as faults
 use Rattle.gc_cli.specs.Job.{DecodeTo, HasJobFault}
-use Rattle.gc_work.specs.WorkFault.{AreFew}
+use Rattle.gc_gatehouse.specs.Workers.{AreFew}
 use Rattle.gc_cli.specs.Run.{IsTold, IsOwnFault, IsWantOfMemory, HasRunFault}
 use Rattle.gc_cli.proofs.FaultLemmas.{bind-memory}
 

@@ -9,7 +9,7 @@ use Rattle.gc_half.specs.Garbling.{GarblingParts, IsGarbled, FitsCircuit}
 use Rattle.gc_cli.specs.declared.fault.Fault.{Fault}
 use Rattle.gc_cli.specs.declared.fault.Fault.TheVariants as faults
 use Rattle.gc_cli.specs.Values.{IsInputValue}
-use Rattle.gc_work.specs.WorkFault.{AreFew}
+use Rattle.gc_gatehouse.specs.Workers.{AreFew}
 use Rattle.gc_cli.specs.Wrote.{IsUnwritten}
 use Rattle.gc_cli.specs.Deal.{TellDeal, HasDealFault}
 use Rattle.gc_cli.specs.Garble.{TellGarble, HasGarbleFault}

@@ -6,7 +6,7 @@ use Rattle.gc_file.specs.declared.fault.FileFault.TheVariants as file
 use Rattle.gc_file.specs.GarbledFile.{GarbledParts, IsGarbledFile}
 use Rattle.gc_file.specs.LabelFile.{LabelFileParts, IsLabelFile}
 use Rattle.gc_file.specs.FileFault.{FirstFault, FirstLabelFault}
-use Rattle.gc_work.specs.WorkFault.{AreFew}
+use Rattle.gc_gatehouse.specs.Workers.{AreFew}
 use Rattle.gc_cli.specs.declared.fault.Fault.{Fault}
 use Rattle.gc_cli.specs.declared.fault.Fault.TheVariants.{Circuit, File, Binding, Evaluation, CannotRead, Memory}
 use Rattle.gc_cli.specs.Files.{FileBytes}

@@ -3,7 +3,8 @@ use Rattle.std.specs.Prelude.{ℕ, List, Option}
 use Rattle.gc_circuit.specs.Circuit.{Netlist}
 use Rattle.gc_label.specs.Seed.{IsSeedText}
 use Rattle.gc_half.specs.Garbling.{GarblingParts, IsGarbled}
-use Rattle.gc_work.specs.WorkFault.{AreFew, HasWorkFault}
+use Rattle.gc_gatehouse.specs.Workers.{AreFew}
+use Rattle.gc_work.specs.WorkFault.{HasWorkFault}
 use Rattle.gc_file.specs.declared.garbled.Version.{Version}
 use Rattle.gc_file.specs.GarbledFile.{garbled_file}
 use Rattle.gc_file.specs.Honest.{honest_parts}

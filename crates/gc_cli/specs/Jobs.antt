@@ -5,7 +5,7 @@ use Rattle.gc_file.specs.declared.fault.FileFault.{FileFault}
 use Rattle.gc_file.specs.declared.fault.FileFault.TheVariants as file
 use Rattle.gc_file.specs.GarbledFile.{GarbledParts, IsGarbledFile}
 use Rattle.gc_file.specs.LabelFile.{LabelFileParts}
-use Rattle.gc_work.specs.WorkFault.{AreFew}
+use Rattle.gc_gatehouse.specs.Workers.{AreFew}
 use Rattle.gc_eval.specs.declared.fault.BindFault.TheVariants as bind
 use Rattle.gc_eval.specs.Job.{JobParts}
 use Rattle.gc_eval.specs.Binding.{FirstBindFault, IsBound}

@@ -5,7 +5,8 @@ use Rattle.gc_circuit.specs.Circuit.{Netlist}
 use Rattle.gc_circuit.specs.Meaning.{AreOutputs}
 use Rattle.gc_label.specs.Seed.{IsSeedText}
 use Rattle.gc_work.specs.declared.fault.WorkFault.TheVariants as work
-use Rattle.gc_work.specs.WorkFault.{AreFew, HasWorkFault}
+use Rattle.gc_gatehouse.specs.Workers.{AreFew}
+use Rattle.gc_work.specs.WorkFault.{HasWorkFault}
 use Rattle.gc_file.specs.declared.fault.FileFault.TheVariants as file
 use Rattle.gc_eval.specs.declared.fault.BindFault.TheVariants as bind
 use Rattle.gc_eval.specs.declared.fault.EvalFault.TheVariants as eval

@@ -18,7 +18,7 @@ use gc_circuit::Circuit;
 use gc_file::{Sink, Version, WriteFault, write_garbled, write_garbled2};
 use gc_half::Garbling;
 use gc_label::Seed;
-use gc_work::Open;
+use gc_gatehouse::Open;
 use std::alloc::Allocator;
 use std::sync::Wait;
 use std::thread::Threads;

@@ -1,14 +1,14 @@
 //! Evaluating a garbled file and label files.
 
 ghost use Rattle.std.specs.Prelude.{IfOk, IfErr};
-ghost use Rattle.gc_work.specs.WorkFault.{AreFew};
+ghost use Rattle.gc_gatehouse.specs.Workers.{AreFew};
 ghost use Rattle.gc_cli.specs.Job.{DecodeTo, HasJobFault};
 
 use crate::fault::Fault;
 use gc_circuit::Circuit;
 use gc_eval::{Job, evaluate, evaluate_many};
 use gc_file::{Garbled, LabelFile};
-use gc_work::Open;
+use gc_gatehouse::Open;
 use std::alloc::Allocator;
 use std::thread::Threads;
 

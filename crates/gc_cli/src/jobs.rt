@@ -1,7 +1,7 @@
 //! The command `jobs`: evaluating a list of garbled files of one circuit.
 
 ghost use Rattle.std.specs.Prelude.{◌≡◌, ◌<◌, ◌≤◌, ℕ, List, length, map, IfOk, IfErr, Err};
-ghost use Rattle.gc_work.specs.WorkFault.{AreFew};
+ghost use Rattle.gc_gatehouse.specs.Workers.{AreFew};
 ghost use Rattle.gc_bank.specs.Jobs.{AreEvaluated, AreEvaluatedBy, AreOnOneCircuit};
 ghost use Rattle.gc_bank.specs.declared.jobs.TheConstants.{MAX_JOBS};
 ghost use Rattle.gc_cli.specs.Jobs.{AnswersJobs, HasJobsFault};
@@ -14,7 +14,7 @@ use crate::lines::jobs_lines;
 use crate::listed_job::read_listed_jobs;
 use gc_bank::evaluate_jobs;
 use gc_eval::{EvalFault, Job};
-use gc_work::Open;
+use gc_gatehouse::Open;
 use std::alloc::Allocator;
 use std::sync::Wait;
 use std::thread::Threads;

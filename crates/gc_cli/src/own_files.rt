@@ -6,7 +6,7 @@ ghost use Rattle.gc_circuit.specs.Meaning.{Fits};
 ghost use Rattle.gc_file.specs.LabelFile.{label_file, label_parts_of};
 ghost use Rattle.gc_eval.specs.Honest.{IsHonestGarbled};
 ghost use Rattle.gc_cli.specs.OwnFiles.{AreGarbledBytes, AreLabelsOf};
-ghost use Rattle.gc_work.specs.WorkFault.{AreFew};
+ghost use Rattle.gc_gatehouse.specs.Workers.{AreFew};
 ghost use Rattle.gc_cli.specs.Run.{IsOwnFault, IsWantOfMemory};
 
 use crate::fault::Fault;
@@ -15,7 +15,8 @@ use gc_file::{
     Garbled, LabelFile, MemSink, read_garbled, read_labels, write_garbled2, write_labels,
 };
 use gc_label::Seed;
-use gc_work::{Open, garble};
+use gc_gatehouse::Open;
+use gc_work::garble;
 use std::alloc::Allocator;
 use std::sync::Wait;
 use std::thread::Threads;

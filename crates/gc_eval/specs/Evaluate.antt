@@ -10,8 +10,8 @@ use Rattle.gc_half.specs.Entry.{output_tweak}
 use Rattle.gc_half.specs.Evaluation.{IsEvaluation, decode}
 use Rattle.gc_file.specs.declared.garbled.Version.TheVariants.{Two}
 use Rattle.gc_file.specs.declared.garbled.EntryPair.{EntryPair}
-use Rattle.gc_work.specs.declared.garbling.TheConstants.{MAX_WORKERS}
-use Rattle.gc_work.specs.WorkFault.{AreFew}
+use Rattle.gc_gatehouse.specs.declared.TheConstants.{MAX_WORKERS}
+use Rattle.gc_gatehouse.specs.Workers.{AreFew}
 use Rattle.gc_eval.specs.declared.fault.EvalFault.{EvalFault}
 use Rattle.gc_eval.specs.declared.fault.EvalFault.TheVariants.{BadWorkers, UnknownOutputLabel, Memory}
 use Rattle.gc_eval.specs.Job.{JobParts}

@@ -92,7 +92,7 @@ impl<T: Drop> From<AllocFailed<T>> for BindFault {
 /// Why a job has no output bits. `Memory` stands in place of the answer only where a growth was refused.
 #[derive(Clone, Copy, Debug, PartialEq, Eq, Error)]
 pub enum EvalFault {
-    /// The number of workers is 0 or above [`MAX_WORKERS`](gc_work::MAX_WORKERS). Evaluation on one thread never gives it.
+    /// The number of workers is 0 or above [`MAX_WORKERS`](gc_gatehouse::MAX_WORKERS). Evaluation on one thread never gives it.
     #[error("BadWorkers")]
     BadWorkers,
     /// The garbled file doesn't recognise the active label of this output wire, counted from 0 among the output wires:

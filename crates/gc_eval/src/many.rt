@@ -3,7 +3,7 @@
 ghost use Rattle.std.specs.Prelude.{◌≡◌, ℕ, Bool, List, All, IfOk, IfErr, IfSome, MatchResult, Ok, Err};
 ghost use Rattle.std.specs.Result.{result_map_both};
 ghost use Rattle.gc_circuit.specs.Meaning.{AreOutputs};
-ghost use Rattle.gc_work.specs.WorkFault.{AreFew};
+ghost use Rattle.gc_gatehouse.specs.Workers.{AreFew};
 ghost use Rattle.gc_eval.specs.Evaluate.{IsEvaluated, IsEvaluatedBy};
 ghost use Rattle.gc_eval.specs.Honest.{IsHonest};
 ghost use Rattle.gc_eval.specs.Workers.{IsWorkerOf, AreWorkersOf};
@@ -13,7 +13,7 @@ use crate::job::Job;
 use crate::one_thread::evaluate;
 use crate::seat::EvalBoard;
 use crate::worker::{Worker, muster, seats_of};
-use gc_work::{Gatehouse, MAX_WORKERS};
+use gc_gatehouse::{Gatehouse, MAX_WORKERS};
 use std::alloc::Allocator;
 use std::thread;
 use std::thread::Threads;

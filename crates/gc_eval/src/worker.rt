@@ -7,7 +7,7 @@ ghost use Rattle.gc_eval.specs.Seats.{IsSeatOf, job_on};
 use crate::known::KnownGates;
 use crate::seat::{Answer, EvalBoard, EvalSeat};
 use crate::table::reads;
-use gc_work::Gatehouse;
+use gc_gatehouse::Gatehouse;
 use std::alloc::{AllocError, Allocator};
 
 /// Gates that lie side by side, and the rest of which a worker leaves where it finds another at work on one: their words

@@ -2,7 +2,8 @@
 use Rattle.std.specs.Prelude.{◌≡◌, ℕ, ◌<◌, ◌≤◌, ◌⊎◌, List, Result, Ok, Err, codes}
 use Rattle.gc_work.specs.declared.fault.WorkFault.{WorkFault}
 use Rattle.gc_work.specs.declared.fault.WorkFault.TheVariants.{BadWorkers, Memory}
-use Rattle.gc_work.specs.declared.garbling.TheConstants.{MAX_WORKERS}
+use Rattle.gc_gatehouse.specs.declared.TheConstants.{MAX_WORKERS}
+use Rattle.gc_gatehouse.specs.Workers.{AreFew}
 
 abbrev pub code_of : WorkFault → ℕ
 code_of BadWorkers = 22
@@ -11,10 +12,6 @@ code_of Memory = 23
 abbrev pub name_of : WorkFault → List ℕ
 name_of BadWorkers = codes "BadWorkers"
 name_of Memory = codes "Memory"
-
--- There is a worker, and there are not too many.
-abbrev pub AreFew : ℕ → Type 0
-AreFew workers = (0 < workers) × (workers ≤ MAX_WORKERS)
 
 -- With so many workers there is this fault: their number is wrong, or it isn't and memory ran out.
 abbrev pub HasWorkFault : ℕ → WorkFault → Type 0

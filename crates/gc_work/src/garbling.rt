@@ -7,13 +7,13 @@ ghost use Rattle.gc_work.specs.Ready.{IsReady};
 ghost use Rattle.gc_work.specs.WorkFault.{JudgesWorkers};
 
 use crate::fault::WorkFault;
-use crate::gatehouse::Gatehouse;
 use crate::gather::gather;
 use crate::muster::{muster, open_pools};
 use crate::pool::TaskPool;
 use crate::sweep::sweep;
 use crate::worker::{Member, work};
 use gc_circuit::{Circuit, Memory};
+use gc_gatehouse::{Gatehouse, MAX_WORKERS};
 use gc_half::{Garbling, garble_one_thread};
 use gc_label::Seed;
 use gc_store::{MAX_TALLIES, SharedStore, Store, Tally};
@@ -23,9 +23,6 @@ use std::sync::Wait;
 use std::sync::ledger::{Blank, Ledger};
 use std::thread;
 use std::thread::Threads;
-
-/// The most workers that garble together.
-pub const MAX_WORKERS: u32 = 64;
 
 /// The room of a worker's pool, in tasks.
 const POOL_CAPACITY: u32 = 1024;

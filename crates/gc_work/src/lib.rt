@@ -10,7 +10,6 @@
 mod account;
 mod fault;
 mod garbling;
-mod gatehouse;
 mod gather;
 mod muster;
 mod pool;
@@ -20,6 +19,6 @@ mod worker;
 
 pub use account::{PoolAccount, PoolRule};
 pub use fault::WorkFault;
-pub use garbling::{MAX_WORKERS, garble};
-pub use gatehouse::{Gatehouse, Open};
+pub use garbling::garble;
+pub use gc_gatehouse::{Gatehouse, MAX_WORKERS, Open};
 pub use pool::{Gathered, NoRoom, Owner, TaskPool, Thief};

@@ -1,6 +1,6 @@
 //! What the workers left, finished by one of them.
 
-use crate::gatehouse::Gatehouse;
+use gc_gatehouse::Gatehouse;
 use gc_store::{Sealed, Store, Tally};
 use std::alloc::Allocator;
 use std::sync::ledger::Ledger;

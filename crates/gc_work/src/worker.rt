@@ -3,9 +3,9 @@
 ghost use Rattle.std.specs.Prelude.{◌≡◌};
 ghost use Rattle.gc_work.specs.Ready.{IsReady};
 
-use crate::gatehouse::Gatehouse;
 use crate::pool::{NoRoom, Owner, TaskPool};
 use crate::raid::{Raid, rob_each};
+use gc_gatehouse::Gatehouse;
 use gc_store::{BATCH_SIZE, Batch, Sealed, SharedStore, Tally, Task};
 use std::alloc::Allocator;
 use std::sync::Wait;

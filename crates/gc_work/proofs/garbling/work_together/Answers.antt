@@ -1,6 +1,6 @@
 use Rattle.std.proofs.Common.{◌≡◌, ◌∙◌, All, length, ap, subst, rules}
 use Rattle.gc_work.specs.Ready.{IsReady}
-use Rattle.gc_work.proofs.PlaceLemmas.{whole_back}
+use Rattle.gc_gatehouse.proofs.Whole.{whole_back}
 use Rattle.gc_work.proofs.garbling.work_together.Goals as goal
 
 pub gather-requires : goal.gather-requires

@@ -1,6 +1,7 @@
 use Rattle.std.proofs.Common.{◌≡◌, ◌∷◌, [], ◌++◌, ◌∙◌, length, ap, subst, rules}
 use Rattle.gc_work.specs.Places.{AreRows}
-use Rattle.gc_work.proofs.PlaceLemmas.{AreHeld-grow, whole_back}
+use Rattle.gc_gatehouse.proofs.Whole.{whole_back}
+use Rattle.gc_work.proofs.PlaceLemmas.{AreHeld-grow}
 use Rattle.gc_work.proofs.muster.open_pools.Goals as goal
 
 pub loop-i-preserved : goal.loop-i-preserved

@@ -1,0 +1,10 @@
+//! The workers that garble or evaluate a circuit together: how many there may be, and who is told of each gate before one
+//! of them goes about it.
+#![tactic(auto)]
+
+mod gatehouse;
+
+pub use gatehouse::{Gatehouse, Open};
+
+/// The most workers that garble or evaluate together.
+pub const MAX_WORKERS: u32 = 64;
