@@ -11,9 +11,9 @@ ghost use Rattle.gc_bank.specs.Workers.{AreBitsOf, IsWorkerOf};
 
 use crate::seat::{BankSeat, Banks};
 use gc_eval::{Answer, Job, KnownGates};
+use gc_gatehouse::Gatehouse;
 use gc_label::Label;
 use gc_rounds::{Entry, Reopening};
-use gc_gatehouse::Gatehouse;
 use std::alloc::{AllocError, Allocator};
 use std::thread;
 

@@ -14,8 +14,8 @@ use gc_circuit::Circuit;
 use gc_file::{
     Garbled, LabelFile, MemSink, read_garbled, read_labels, write_garbled2, write_labels,
 };
-use gc_label::Seed;
 use gc_gatehouse::Open;
+use gc_label::Seed;
 use gc_work::garble;
 use std::alloc::Allocator;
 use std::sync::Wait;
