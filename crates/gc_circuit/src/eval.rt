@@ -36,8 +36,15 @@ fn operation_bit(bits: &[bool], operation: Operation) -> bool
     ensures { result ≡ bit_of (bits_of bits.now) operation }
 {
     match operation {
-        Operation::Xor(a, b) => bits[a as usize] ^ bits[b as usize],
-        Operation::And(a, b) => bits[a as usize] & bits[b as usize],
+        // In one arm, so that the processor has not to guess which of the two comes next.
+        Operation::Xor(a, b) | Operation::And(a, b) => {
+            let (first, second) = (bits[a as usize], bits[b as usize]);
+            if operation.is_and() {
+                first & second
+            } else {
+                first ^ second
+            }
+        }
         Operation::Inv(a) => !bits[a as usize],
         Operation::Eq(bit) => bit,
         Operation::Eqw(a) => bits[a as usize],

@@ -22,6 +22,7 @@ impl<'a> Model for Tokens<'a> {
 }
 
 /// The text from its first byte that is no blank.
+#[inline]
 fn skip_blanks(text: &[u8]) -> &[u8]
     ensures same { tokens result.now ≡ tokens text.now }
     ensures begins { 0 < length result.now → is_blank (slice_index result.now 0) ≡ false }
@@ -89,6 +90,7 @@ impl<'a> Tokens<'a> {
     }
 
     /// Takes a token that is due.
+    #[inline]
     pub fn token(&mut self) -> Result<&'a [u8], ReadFault>
         ensures { MatchResult result (λ t. token_at self.old ≡ Ok (t.now, self.new))
             (λ e. token_at self.old ≡ Err e) }
