@@ -11,5 +11,6 @@ pub mod OpenLemmas
 pub mod GarblingLemmas
 pub mod CountLemmas
 pub mod ReopenLemmas
+pub mod FilledLemmas
 pub mod AwaitedLemmas
 pub mod ClaimLemmas

@@ -10,7 +10,7 @@ tables_of s = record {
   nexts = s.readers.nexts.items;
   zero_labels = s.zero_labels.items;
   and_numbers = s.and_numbers.items;
-  rows = s.rows.items;
+  rows = s.rows;
   finished = s.finished;
   finished_ands = s.finished_ands;
 }

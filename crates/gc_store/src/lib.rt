@@ -13,6 +13,7 @@ mod readers;
 mod refusal;
 mod shared;
 mod store;
+mod table;
 mod tables;
 mod tally;
 mod task;

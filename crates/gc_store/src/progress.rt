@@ -10,7 +10,8 @@ use crate::batch::Batch;
 use crate::queue::Queue;
 use crate::readers::Readers;
 use crate::refusal::Refused;
-use crate::tables::{opening_countdowns, repeated};
+use crate::table::Table;
+use crate::tables::opening_countdowns;
 use crate::task::{Sealed, Task};
 use gc_circuit::{Circuit, Memory};
 use gc_half::{Garbling, RowPair, and_numbers, input_zero_labels, labels_read};
@@ -35,7 +36,7 @@ pub(crate) struct Progress<A: Allocator = Global> {
     // By wire.
     zero_labels: Vec<Label, A>,
     // By AND number.
-    rows: Vec<RowPair, A>,
+    rows: Table<RowPair, A>,
     finished: u32,
     finished_ands: u32,
 }
@@ -67,7 +68,7 @@ impl<A: Allocator + Copy> Progress<A> {
             readers: Readers::of(alloc, &circuit)?,
             and_numbers: and_numbers(alloc, &circuit)?,
             zero_labels: input_zero_labels(alloc, &circuit, &seed)?,
-            rows: repeated(alloc, no_rows, circuit.and_count())?,
+            rows: Table::open(alloc, no_rows, circuit.and_count())?,
             offset: offset(&seed),
             circuit,
             seed,
@@ -190,7 +191,7 @@ impl<A: Allocator> Progress<A> {
             finished: _,
             finished_ands: _,
         } = self;
-        Ok(Garbling::from_parts(zero_labels, rows, circuit.output_wires()))
+        Ok(Garbling::from_parts(zero_labels, rows.into_entries(), circuit.output_wires()))
     }
 
     /// How many gates are claimed.
@@ -241,7 +242,7 @@ impl<A: Allocator> Progress<A> {
         self.zero_labels[wire as usize] = sealed.zero_label();
         self.finished += 1;
         if let Some(rows) = sealed.rows() {
-            self.rows[task.and_number as usize] = rows;
+            self.rows.set(task.and_number, rows);
             self.finished_ands += 1;
         }
     }

@@ -16,9 +16,11 @@ returns-clause-complete g c =
     let all = c.is_complete.ensures.complete.0 c.if-not-is_complete.false in
     let parts =
     c.from_parts.ensures
+    ∙ ap (λ r. record { zero_labels = c.self.inside.zero_labels.items; rows = r; outputs = c.output_wires.result })
+    c.into_entries.ensures
     ∙ ap (λ n. record {
       zero_labels = c.self.inside.zero_labels.items;
-      rows = c.self.inside.rows.items;
+      rows = c.self.inside.rows;
       outputs = n;
     }) c.output_wires.ensures in
     (all, garbling_is _ _ _ _ _ c.from_parts.result c.self.view_is c.self.invariant all parts)

@@ -31,7 +31,7 @@ invariant_of-result g c =
       marks_are = c.in_ok-open.ensures.marks ∙ ap (λ n. replicate n mark.Free) (opening_count circuit _ opening);
       labels_are = c.in_ok-input_zero_labels.ensures;
       numbers_are = c.in_ok-and_numbers.ensures;
-      rows_are = c.in_ok-repeated.ensures ∙ ap (λ n. replicate n no_rows) c.and_count.ensures;
+      rows_are = c.in_ok-open-2.ensures ∙ ap (λ n. replicate n no_rows) c.and_count.ensures;
     }) c.offset.result c.offset.ensures
 
 pub returns : goal.returns
@@ -45,5 +45,5 @@ returns g c =
       marks_are = c.in_ok-open.ensures.marks ∙ ap (λ n. replicate n mark.Free) (opening_count circuit _ opening);
       labels_are = c.in_ok-input_zero_labels.ensures;
       numbers_are = c.in_ok-and_numbers.ensures;
-      rows_are = c.in_ok-repeated.ensures ∙ ap (λ n. replicate n no_rows) c.and_count.ensures;
+      rows_are = c.in_ok-open-2.ensures ∙ ap (λ n. replicate n no_rows) c.and_count.ensures;
     })

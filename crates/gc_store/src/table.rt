@@ -1,0 +1,84 @@
+//! A table that is filled as far as it is used.
+
+ghost use Rattle.std.specs.Prelude.{◌≡◌, ◌<◌, ◌≤◌, ◌-◌, ◌++◌, IfOk, length, replicate, slice_set, vec_len, vec_capacity};
+
+use gc_circuit::Memory;
+use std::alloc::Allocator;
+use std::marker::Model;
+
+/// How many entries are filled at once.
+const STRETCH: usize = 256;
+
+/// So many entries, each of one value until it is set. The memory for all is taken at the opening, but written only as far
+/// as entries are set: so a page of it is first touched by whoever sets an entry there, and not by the opening thread.
+#[derive(Drop)]
+pub(crate) struct Table<T: Copy, A: Allocator> {
+    // The first entries, as far as they are filled.
+    filled: Vec<T, A>,
+    // What each entry after them is.
+    unset: T,
+    len: usize,
+}
+
+impl<T: Copy, A: Allocator> Model for Table<T, A> {
+    ghost use Rattle.std.specs.Prelude.{◌≤◌, ◌-◌, ◌++◌, List, replicate, vec_len, vec_capacity};
+
+    ghost Value = { List T };
+
+    ghost view = { λ t. t.filled.items ++ replicate (t.len - vec_len t.filled) t.unset };
+
+    ghost invariant = { λ t. (vec_len t.filled ≤ t.len) × (t.len ≤ vec_capacity t.filled) };
+}
+
+impl<T: Copy, A: Allocator + Copy> Table<T, A> {
+    /// So many entries of one value. It takes all the memory that is needed.
+    pub(crate) fn open(alloc: A, unset: T, len: u32) -> Result<Table<T, A>, Memory>
+        ensures { IfOk result (λ t. t ≡ replicate len unset) }
+    {
+        Ok(Table {
+            filled: Vec::with_capacity(alloc, len as usize)?,
+            unset,
+            len: len as usize,
+        })
+    }
+}
+
+impl<T: Copy, A: Allocator> Table<T, A> {
+    /// Sets an entry.
+    #[inline]
+    pub(crate) fn set(&mut self, i: u32, entry: T)
+        requires { i < length self.old }
+        ensures { self.new ≡ slice_set self.old i entry }
+    {
+        let i = i as usize;
+        if i >= self.filled.len() {
+            let end = i.saturating_add(STRETCH).min(self.len);
+            fill(&mut self.filled, self.unset, end);
+        }
+        self.filled[i] = entry;
+    }
+
+    /// All entries.
+    pub(crate) fn into_entries(self) -> Vec<T, A>
+        ensures { result.items ≡ self }
+    {
+        let Table {
+            mut filled,
+            unset,
+            len,
+        } = self;
+        fill(&mut filled, unset, len);
+        filled
+    }
+}
+
+/// Fills a vector with a value up to a length. That it has room for it is the caller's condition.
+fn fill<T: Copy, A: Allocator>(items: &mut Vec<T, A>, value: T, len: usize)
+    requires more { vec_len items.old ≤ len }
+    requires room { len ≤ vec_capacity items.old }
+    ensures items { items.new.items ≡ items.old.items ++ replicate (len - vec_len items.old) value }
+    ensures len { vec_len items.new ≡ len }
+    ensures room { vec_capacity items.old ≤ vec_capacity items.new }
+{
+    let _filled = items.resize(len, value);
+}
