@@ -8,44 +8,11 @@ use gc_file::{Version, read_garbled, read_labels};
 use gc_work::{Gatehouse, Open};
 use gc_worked::circuits::{FULL_ADDER, many_ands};
 use gc_worked::files::{label_file, write};
+use gc_worked::meeting::Meeting;
 use std::alloc::{Allocator, Global};
 use std::sync::Wait;
-use std::sync::atomic::{AtomicU64, Ordering};
 use std::test::Fail;
 use std::thread::Threads;
-
-/// Holds the first worker that comes until another one comes.
-#[derive(Drop)]
-struct Meeting {
-    // The number of the first worker, plus 1.
-    first: AtomicU64,
-    // 1 once another came.
-    met: AtomicU64,
-}
-
-impl Gatehouse for Meeting {
-    fn before(&self, worker: u32, _gate: u32) {
-        let number = u64::from(worker) + 1;
-        let found = self
-            .first
-            .compare_exchange(0, number, Ordering::SeqCst, Ordering::SeqCst);
-        match found {
-            Ok(_) => self.wait(),
-            Err(first) if first == number => {}
-            Err(_) => self.met.store(1, Ordering::SeqCst),
-        }
-    }
-}
-
-impl Meeting {
-    fn wait(&self) {
-        for _turn in 0..1_000_000_000u64 {
-            if self.met.load(Ordering::SeqCst) == 1 {
-                return;
-            }
-        }
-    }
-}
 
 /// The job of a circuit's file in this version on these values.
 pub(crate) fn job_of<'c>(
@@ -172,12 +139,9 @@ fn two_job_workers_meet(rt: HostRuntime) -> Result<(), Fail> {
         let values = [zeros.as_str(), zeros.as_str()];
         jobs.push(job_of(alloc, &circuit, text.as_str(), version, &values)?)?;
     }
-    let house = Meeting {
-        first: AtomicU64::new(0),
-        met: AtomicU64::new(0),
-    };
+    let house = Meeting::new();
     let found = evaluated(&rt, alloc, &jobs, 2, &house)?;
-    assert_eq!(rt; house.met.load(Ordering::SeqCst), 1);
+    assert!(rt; house.has_met());
     assert_eq!(rt; found, one_after_another(alloc, &jobs));
     Ok(())
 }

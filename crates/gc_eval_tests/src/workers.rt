@@ -5,47 +5,14 @@ use gc_circuit::Circuit;
 use gc_eval::{EvalFault, Job, evaluate, evaluate_many};
 use gc_file::{LabelFile, Version, read_garbled, read_labels};
 use gc_refusing::Refusing;
-use gc_work::{Gatehouse, Open};
+use gc_work::Open;
 use gc_worked::circuits::{FULL_ADDER, many_ands};
 use gc_worked::files::{label_file, write};
+use gc_worked::meeting::Meeting;
 use gc_worked::random::{Numbers, forge_labels, forge_rows, random_circuit};
 use std::alloc::Global;
-use std::sync::atomic::{AtomicU64, Ordering};
 use std::test::Fail;
 use std::thread::Threads;
-
-/// Holds the first worker that comes until another one comes.
-#[derive(Drop)]
-struct Meeting {
-    // The number of the first worker, plus 1.
-    first: AtomicU64,
-    // 1 once another came.
-    met: AtomicU64,
-}
-
-impl Gatehouse for Meeting {
-    fn before(&self, worker: u32, _gate: u32) {
-        let number = u64::from(worker) + 1;
-        let found = self
-            .first
-            .compare_exchange(0, number, Ordering::SeqCst, Ordering::SeqCst);
-        match found {
-            Ok(_) => self.wait(),
-            Err(first) if first == number => {}
-            Err(_) => self.met.store(1, Ordering::SeqCst),
-        }
-    }
-}
-
-impl Meeting {
-    fn wait(&self) {
-        for _turn in 0..1_000_000_000u64 {
-            if self.met.load(Ordering::SeqCst) == 1 {
-                return;
-            }
-        }
-    }
-}
 
 /// The job of a circuit's file in version 2 on zeros.
 fn job_on_zeros<'c>(alloc: Global, circuit: &'c Circuit, text: &str) -> Result<Job<'c>, Fail> {
@@ -64,12 +31,9 @@ fn two_evaluators_meet(rt: HostRuntime) -> Result<(), Fail> {
     let text = many_ands(rt.alloc(), 2000)?;
     let circuit = Circuit::read(rt.alloc(), text.as_bytes())?;
     let job = job_on_zeros(rt.alloc(), &circuit, text.as_str())?;
-    let house = Meeting {
-        first: AtomicU64::new(0),
-        met: AtomicU64::new(0),
-    };
+    let house = Meeting::new();
     let found = evaluate_many(&rt, rt.alloc(), &job, 2, &house);
-    assert_eq!(rt; house.met.load(Ordering::SeqCst), 1);
+    assert!(rt; house.has_met());
     assert_eq!(rt; found, evaluate(rt.alloc(), &job));
     Ok(())
 }

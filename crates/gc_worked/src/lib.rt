@@ -1,9 +1,10 @@
-//! What the tests of several crates share: worked circuits and files, the files of circuits under one seed, and calls whose
-//! growths are refused in turn.
+//! What the tests of several crates share: worked circuits and files, the files of circuits under one seed, calls whose
+//! growths are refused in turn, and workers that meet.
 #![tactic(auto)]
 
 pub mod circuits;
 pub mod files;
 pub mod growths;
+pub mod meeting;
 pub mod random;
 pub mod worked_files;

@@ -1,0 +1,58 @@
+//! A gatehouse that shows that several threads are really at work.
+
+use gc_work::Gatehouse;
+use std::sync::atomic::{AtomicU64, Ordering};
+
+/// Holds the first worker that comes until another one comes, and counts its calls.
+#[derive(Drop)]
+pub struct Meeting {
+    calls: AtomicU64,
+    // The number of the first worker, plus 1.
+    first: AtomicU64,
+    // 1 once another came.
+    met: AtomicU64,
+}
+
+impl Meeting {
+    /// Nobody has come.
+    pub fn new() -> Meeting {
+        Meeting {
+            calls: AtomicU64::new(0),
+            first: AtomicU64::new(0),
+            met: AtomicU64::new(0),
+        }
+    }
+
+    /// Whether a worker came beside the first one.
+    pub fn has_met(&self) -> bool {
+        self.met.load(Ordering::SeqCst) == 1
+    }
+
+    /// How many calls there were.
+    pub fn calls(&self) -> u64 {
+        self.calls.load(Ordering::SeqCst)
+    }
+
+    fn wait(&self) {
+        for _turn in 0..1_000_000_000u64 {
+            if self.has_met() {
+                return;
+            }
+        }
+    }
+}
+
+impl Gatehouse for Meeting {
+    fn before(&self, worker: u32, _gate: u32) {
+        self.calls.fetch_add(1, Ordering::SeqCst);
+        let number = u64::from(worker) + 1;
+        let found = self
+            .first
+            .compare_exchange(0, number, Ordering::SeqCst, Ordering::SeqCst);
+        match found {
+            Ok(_) => self.wait(),
+            Err(first) if first == number => {}
+            Err(_) => self.met.store(1, Ordering::SeqCst),
+        }
+    }
+}
