@@ -5,13 +5,16 @@ ghost use Rattle.gc_eval.specs.Seats.{IsSeatOf, job_on};
 
 use crate::jobs::{ROWS, job_files};
 use gc_circuit::{Circuit, show_value};
-use gc_eval::{Answer, CloseRefused, EvalBoard, EvalSeat, Job, OpenFault, evaluate};
+use gc_eval::{
+    Active, Answer, CloseRefused, EvalBoard, EvalFault, EvalSeat, Job, OpenFault, evaluate,
+};
 use gc_file::{Version, read_garbled};
+use gc_label::Label;
 use gc_refusing::Refusing;
 use gc_worked::circuits::FULL_ADDER;
 use gc_worked::files::write;
-use gc_worked::growths::{Answer as Run, plain_if, runs_refused};
-use std::alloc::Global;
+use gc_worked::growths::{Answer as Run, Stray, plain_if, runs_refused};
+use std::alloc::{Allocator, Global};
 use std::test::Fail;
 use std::thread;
 use std::thread::Threads;
@@ -173,7 +176,7 @@ fn one_seat<'j, 'c>(alloc: Global, job: &'j Job<'c>) -> Result<(EvalBoard<'j, 'c
 }
 
 /// One seat steps all gates of the circuit in file order.
-fn step_all<'j, 'c>(board: &EvalBoard<'j, 'c>, job: &Job<'c>, seat: &mut EvalSeat)
+fn step_all<'j, 'c, B: Allocator>(board: &EvalBoard<'j, 'c, B>, job: &Job<'c>, seat: &mut EvalSeat)
     requires own { IsSeatOf board.now seat.old }
     requires job { job_on board.now ≡ job.now }
     ensures { IsSeatOf board.now seat.new }
@@ -183,7 +186,17 @@ fn step_all<'j, 'c>(board: &EvalBoard<'j, 'c>, job: &Job<'c>, seat: &mut EvalSea
     }
 }
 
-/// What one seat makes decodes to what the evaluation on one thread answers.
+/// How many growths of decoding are refused in turn: it answers these bits with ample memory.
+fn decoding_refused(alloc: Global, active: &Active, wanted: &[bool]) -> Result<u64, Stray> {
+    runs_refused(alloc, |heap| match active.decode(heap) {
+        Ok(bits) => plain_if(bits.is_some_and(|bits| bits.as_slice() == wanted)),
+        Err(EvalFault::Memory) => Run::Memory,
+        Err(_) => Run::Other,
+    })
+}
+
+/// What one seat makes decodes to what the evaluation on one thread answers. Decoding takes memory for the output labels and
+/// for their bits.
 #[test]
 fn one_seat_makes_all(rt: HostRuntime) -> Result<(), Fail> {
     let alloc = rt.alloc();
@@ -198,7 +211,48 @@ fn one_seat_makes_all(rt: HostRuntime) -> Result<(), Fail> {
         return Err(Fail::new("the seat is there"));
     };
     assert_eq!(rt; active.done(), 5);
-    assert_eq!(rt; active.decode(alloc)?, Some(evaluate(alloc, &job)?));
+    let wanted = evaluate(alloc, &job)?;
+    assert_eq!(rt; decoding_refused(alloc, &active, &wanted), Ok(2));
+    Ok(())
+}
+
+/// Opens a board over this memory, has one seat make all gates and tell the other one, and closes it. The answer is the
+/// label of a wire, and how many gates are done, where no memory was asked for after the opening.
+fn works_without_memory(
+    heap: &Refusing<Global>,
+    job: &Job,
+    wire: u32,
+) -> Result<(Option<Label>, u32), Fail>
+    requires { wire < job.now.circuit.wires }
+{
+    let (board, mut seats) = EvalBoard::open(heap, job, 2)?;
+    let opened = heap.growths();
+    let (Some(mut two), Some(mut one)) = (seats.pop(), seats.pop()) else {
+        return Err(Fail::new("there are two seats"));
+    };
+    step_all(&board, job, &mut one);
+    board.tell(&mut one, &mut two);
+    let told = board.label(&mut two, wire);
+    seats.push(one)?;
+    seats.push(two)?;
+    let Ok(active) = board.close(seats) else {
+        return Err(Fail::new("both seats are there"));
+    };
+    if active.label(wire) != told || heap.growths() != opened {
+        return Err(Fail::new("another label, or a growth was asked for"));
+    }
+    Ok((told, active.done()))
+}
+
+/// A board that is open asks for no memory, and once it is closed neither do its labels.
+#[test]
+fn an_opened_board_grows_nothing(rt: HostRuntime) -> Result<(), Fail> {
+    let alloc = rt.alloc();
+    let circuit = Circuit::read(alloc, FULL_ADDER.as_bytes())?;
+    let job = job_of(alloc, &circuit, FULL_ADDER, &ADDENDS)?;
+    assert_eq!(rt; job.circuit().wires(), 8);
+    let (label, done) = works_without_memory(&Refusing::never(alloc), &job, 7)?;
+    assert_eq!(rt; (label.is_some(), done), (true, 5));
     Ok(())
 }
 

@@ -6,6 +6,7 @@ use gc_eval::{BindFault, EvalFault, Job, evaluate, evaluate_labels};
 use gc_file::{Version, read_garbled};
 use gc_half::garble_one_thread;
 use gc_label::{Label, Seed, fill_input_labels};
+use gc_refusing::Refusing;
 use gc_worked::circuits::{AND, FULL_ADDER};
 use gc_worked::files::and_file;
 use gc_worked::growths::{Answer, plain_if, runs_refused};
@@ -60,5 +61,24 @@ fn binding_and_evaluating(rt: HostRuntime) -> Result<(), Fail> {
         Err(_) => Answer::Other,
     });
     assert_eq!(rt; refused, Ok(2));
+    Ok(())
+}
+
+/// A job that is bound tells all that it has without memory.
+#[test]
+fn a_bound_job_grows_nothing(rt: HostRuntime) -> Result<(), Fail> {
+    let alloc = rt.alloc();
+    let heap = Refusing::never(alloc);
+    let circuit = Circuit::read(alloc, AND.as_bytes())?;
+    let labels = job_files(alloc, &circuit, &["1", "1"])?;
+    let garbled = read_garbled(&heap, &and_file(alloc, Version::Two)?)?;
+    let job = Job::bind(&heap, &circuit, garbled, &labels)?;
+    let growths = heap.growths();
+    let told = job.circuit();
+    assert!(rt; told.gates() == 1 && told.wires() == 3 && told.input_wires() == 2);
+    // The output is 1, and its decode bit too.
+    let label = job.active(0, job.input(0), job.input(1));
+    assert_eq!(rt; (job.setter(1), job.setter(2)), (None, Some(0)));
+    assert_eq!(rt; (label.colour(), heap.growths()), (false, growths));
     Ok(())
 }
