@@ -139,25 +139,52 @@ fn only_the_table_is_no_table(rt: HostRuntime) -> Result<(), Fail> {
     Ok(())
 }
 
+/// The board and the seats that a refused close gave back.
+fn given_back<'j, 'c>(
+    board: EvalBoard<'j, 'c>,
+    seats: Vec<EvalSeat>,
+) -> Result<(EvalBoard<'j, 'c>, Vec<EvalSeat>), Fail>
+    requires { All (IsSeatOf board) seats.items }
+    ensures board { IfOk result (λ b. b.0 ≡ board.entry) }
+    ensures seats { IfOk result (λ b. b.1 ≡ seats) }
+{
+    let Err(refused) = board.close(seats) else {
+        return Err(Fail::new("a seat is missing"));
+    };
+    if (refused.code(), refused.name()) != (47, "SeatMissing") {
+        return Err(Fail::new("the refusal is 47"));
+    }
+    let CloseRefused { board, seats } = refused;
+    Ok((board, seats))
+}
+
+/// The board, closed with all its seats.
+fn closed<'j, 'c>(board: EvalBoard<'j, 'c>, seats: Vec<EvalSeat>) -> Result<Active<'j, 'c>, Fail>
+    requires { All (IsSeatOf board) seats.items }
+{
+    let Ok(active) = board.close(seats) else {
+        return Err(Fail::new("all seats are there"));
+    };
+    Ok(active)
+}
+
+/// A board of two seats, closed once it was not closed without one of them.
+fn closed_at_last<'j, 'c>(alloc: Global, job: &'j Job<'c>) -> Result<Active<'j, 'c>, Fail> {
+    let (board, one, two) = two_seats(alloc, job)?;
+    let mut seats = Vec::new(alloc);
+    seats.push(one)?;
+    let (board, mut seats) = given_back(board, seats)?;
+    seats.push(two)?;
+    closed(board, seats)
+}
+
 /// A board without one of its seats is not closed. With both it is, and no gate is done.
 #[test]
 fn closing(rt: HostRuntime) -> Result<(), Fail> {
     let alloc = rt.alloc();
     let circuit = Circuit::read(alloc, FULL_ADDER.as_bytes())?;
     let job = job_of(alloc, &circuit, FULL_ADDER, &ADDENDS)?;
-    let (board, mut seats) = EvalBoard::open(alloc, &job, 2)?;
-    let Some(last) = seats.pop() else {
-        return Err(Fail::new("there are two seats"));
-    };
-    let Err(refused) = board.close(seats) else {
-        return Err(Fail::new("a seat is missing"));
-    };
-    assert_eq!(rt; (refused.code(), refused.name()), (47, "SeatMissing"));
-    let CloseRefused { board, mut seats } = refused;
-    seats.push(last)?;
-    let Ok(active) = board.close(seats) else {
-        return Err(Fail::new("both seats are there"));
-    };
+    let active = closed_at_last(alloc, &job)?;
     assert_eq!(rt; active.done(), 0);
     assert!(rt; active.decode(alloc)?.is_none());
     Ok(())
