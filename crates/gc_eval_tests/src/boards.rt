@@ -15,6 +15,7 @@ use gc_worked::circuits::FULL_ADDER;
 use gc_worked::files::write;
 use gc_worked::growths::{Answer as Run, Stray, plain_if, runs_refused};
 use std::alloc::{Allocator, Global};
+use std::process::Abort;
 use std::test::Fail;
 use std::thread;
 use std::thread::Threads;
@@ -52,13 +53,10 @@ fn two_seats<'j, 'c>(
     Ok((board, one, two))
 }
 
-#[test]
-fn two_seats_take_turns(rt: HostRuntime) -> Result<(), Fail> {
-    let alloc = rt.alloc();
-    let circuit = Circuit::read(alloc, FULL_ADDER.as_bytes())?;
-    let job = job_of(alloc, &circuit, FULL_ADDER, &ADDENDS)?;
+/// Two seats take turns at a job of the full adder.
+fn take_turns(rt: &impl Abort, alloc: Global, job: &Job) -> Result<(), Fail> {
     assert!(rt; job.circuit().gates() == 5 && job.circuit().wires() == 8);
-    let (board, mut one, mut two) = two_seats(alloc, &job)?;
+    let (board, mut one, mut two) = two_seats(alloc, job)?;
     assert_eq!(rt; board.step(&mut one, 2), Answer::NotYet(3));
     let Answer::Made(_) = board.step(&mut one, 0) else {
         return Err(Fail::new("gate 0 is free"));
@@ -78,13 +76,17 @@ fn two_seats_take_turns(rt: HostRuntime) -> Result<(), Fail> {
     Ok(())
 }
 
-/// Gates 0 and 1 of the full adder read input wires alone, and gate 2 reads wire 3, which gate 0 sets.
 #[test]
-fn two_gates_in_a_step(rt: HostRuntime) -> Result<(), Fail> {
-    let alloc = rt.alloc();
-    let circuit = Circuit::read(alloc, FULL_ADDER.as_bytes())?;
-    let job = job_of(alloc, &circuit, FULL_ADDER, &ADDENDS)?;
-    let (board, mut one, mut two) = two_seats(alloc, &job)?;
+fn two_seats_take_turns(rt: HostRuntime) -> Result<(), Fail> {
+    let circuit = Circuit::read(rt.alloc(), FULL_ADDER.as_bytes())?;
+    let job = job_of(rt.alloc(), &circuit, FULL_ADDER, &ADDENDS)?;
+    take_turns(&rt, rt.alloc(), &job)
+}
+
+/// Gates 0 and 1 of the full adder read input wires alone, and gate 2 reads wire 3, which gate 0 sets.
+fn take_two(rt: &impl Abort, alloc: Global, job: &Job) -> Result<(), Fail> {
+    assert!(rt; job.circuit().gates() == 5 && job.circuit().wires() == 8);
+    let (board, mut one, mut two) = two_seats(alloc, job)?;
     let (Answer::NotYet(3), Answer::Made(label)) = board.step_two(&mut one, 2, 1) else {
         return Err(Fail::new("wire 3 has no label, and gate 1 is free"));
     };
@@ -98,6 +100,13 @@ fn two_gates_in_a_step(rt: HostRuntime) -> Result<(), Fail> {
     assert_eq!(rt; found, label);
     assert_eq!(rt; (one.made(), two.made()), (1, 2));
     Ok(())
+}
+
+#[test]
+fn two_gates_in_a_step(rt: HostRuntime) -> Result<(), Fail> {
+    let circuit = Circuit::read(rt.alloc(), FULL_ADDER.as_bytes())?;
+    let job = job_of(rt.alloc(), &circuit, FULL_ADDER, &ADDENDS)?;
+    take_two(&rt, rt.alloc(), &job)
 }
 
 /// Each growth of `open` is refused in turn: the seats, the words, the table's own two blocks, and the two tables of
@@ -222,6 +231,16 @@ fn decoding_refused(alloc: Global, active: &Active, wanted: &[bool]) -> Result<u
     })
 }
 
+/// How many gates one seat makes, and its board, closed.
+fn made_alone<'j, 'c>(alloc: Global, job: &'j Job<'c>) -> Result<(u64, Active<'j, 'c>), Fail> {
+    let (board, mut seat) = one_seat(alloc, job)?;
+    step_all(&board, job, &mut seat);
+    let made = seat.made();
+    let mut seats = Vec::new(alloc);
+    seats.push(seat)?;
+    Ok((made, closed(board, seats)?))
+}
+
 /// What one seat makes decodes to what the evaluation on one thread answers. Decoding takes memory for the output labels and
 /// for their bits.
 #[test]
@@ -229,15 +248,8 @@ fn one_seat_makes_all(rt: HostRuntime) -> Result<(), Fail> {
     let alloc = rt.alloc();
     let circuit = Circuit::read(alloc, FULL_ADDER.as_bytes())?;
     let job = job_of(alloc, &circuit, FULL_ADDER, &ADDENDS)?;
-    let (board, mut seat) = one_seat(alloc, &job)?;
-    step_all(&board, &job, &mut seat);
-    assert_eq!(rt; seat.made(), 5);
-    let mut seats = Vec::new(alloc);
-    seats.push(seat)?;
-    let Ok(active) = board.close(seats) else {
-        return Err(Fail::new("the seat is there"));
-    };
-    assert_eq!(rt; active.done(), 5);
+    let (made, active) = made_alone(alloc, &job)?;
+    assert_eq!(rt; (made, active.done()), (5, 5));
     let wanted = evaluate(alloc, &job)?;
     assert_eq!(rt; decoding_refused(alloc, &active, &wanted), Ok(2));
     Ok(())
@@ -319,10 +331,7 @@ pub(crate) fn made_by<R: Threads + Sync>(
     let (board, mut all) = EvalBoard::open(alloc, job, seats)?;
     step_together(rt, 8, &board, job, all.as_mut_slice());
     step_together(rt, 1, &board, job, all.as_mut_slice());
-    let Ok(active) = board.close(all) else {
-        return Err(Fail::new("all seats are there"));
-    };
-    Ok(active.decode(alloc)?)
+    Ok(closed(board, all)?.decode(alloc)?)
 }
 
 #[test]
