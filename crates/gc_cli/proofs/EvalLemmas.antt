@@ -1,5 +1,5 @@
 -- What the steps of `eval` tell, joined.
-use Rattle.std.proofs.Common.{◌≡◌, ℕ, List, [], ◌∷◌, IfSome, inl, inr, subst}
+use Rattle.std.proofs.Common.{◌≡◌, ℕ, List, [], ◌∷◌, IfSome, inl, inr, subst, ◌∙◌}
 use Rattle.gc_circuit.specs.Circuit.{Netlist}
 use Rattle.gc_file.specs.declared.fault.FileFault.{FileFault}
 use Rattle.gc_file.specs.GarbledFile.{GarbledParts, IsGarbledFile}
@@ -45,6 +45,17 @@ module _ (old new : FileBytes) (same : (n : List ℕ) → new n ≡ old n) where
   labels-fault-before names (faults.Binding fault) has = absurd has
   labels-fault-before names (faults.Evaluation fault) has = absurd has
   labels-fault-before names faults.CannotWrite has = absurd has
+
+-- The files that the steps read, each told where it was read, are told of the files before.
+pub eval-told : (old between new : FileBytes) → ((n : List ℕ) → between n ≡ old n) → ((n : List ℕ) → new n ≡ between n)
+    → (circuit garbled : List ℕ) (labels : List (List ℕ)) (c : Netlist) (g : GarbledParts) (files : List LabelFileParts)
+    → IfSome (old circuit) (λ held. IsCircuit held c) → IfSome (between garbled) (λ held. IsGarbledFile held g)
+    → TellLabels new labels files → TellEval old circuit garbled labels c g files
+eval-told old between new first second circuit garbled labels c g files circuit_told garbled_told labels_told = record {
+  circuit_told = circuit_told;
+  garbled_told = told-before old between first (λ held. IsGarbledFile held g) garbled garbled_told;
+  labels_told = labels-before old new (λ n. second n ∙ first n) labels files labels_told;
+}
 
 module _ (bytes : FileBytes) (circuit garbled : List ℕ) (workers : ℕ) (labels : List (List ℕ)) where
   -- The fault of the circuit's file,

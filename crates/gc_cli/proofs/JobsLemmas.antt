@@ -12,7 +12,7 @@ use Rattle.gc_cli.specs.declared.fault.Fault.{Fault}
 use Rattle.gc_cli.specs.declared.fault.Fault.TheVariants as faults
 use Rattle.gc_cli.specs.Files.{FileBytes, GivesFile}
 use Rattle.gc_cli.specs.CircuitFile.{IsCircuit, IsCircuitFault, HasCircuitFault}
-use Rattle.gc_cli.specs.Eval.{HasLabelsFault}
+use Rattle.gc_cli.specs.Eval.{TellLabels, HasLabelsFault}
 use Rattle.gc_cli.specs.JobList.{IsJobList, listed}
 use Rattle.gc_cli.specs.Jobs.{NameFiles, NameJob, FirstBadNamed, HasNamedFault, NameJobs, FirstBadJob, HasLinesFault, HasListFault, HasBadJob, AreListed, HasJobsFault}
 use Rattle.gc_cli.proofs.AnswerLemmas.{length-decoded}
@@ -28,6 +28,18 @@ module _ (old new : FileBytes) (same : (n : List ℕ) → new n ≡ old n) where
     names = told.names;
     garbled_told = told-before old new same (λ held. IsGarbledFile held g) told.garbled told.garbled_told;
     labels_told = labels-before old new same told.labels files told.labels_told;
+  }
+
+  -- The files that the steps read, each told where it was read, are those that the words named before.
+  pub name-files : (words : List (List ℕ)) (garbled : List ℕ) (labels : List (List ℕ)) (g : GarbledParts)
+      (files : List LabelFileParts) → words ≡ garbled ∷ labels → IfSome (old garbled) (λ held. IsGarbledFile held g)
+      → TellLabels new labels files → NameFiles old words g files
+  name-files words garbled labels g files names garbled_told labels_told = record {
+    garbled = garbled;
+    labels = labels;
+    names = names;
+    garbled_told = garbled_told;
+    labels_told = labels-before old new same labels files labels_told;
   }
 
   pub job-before : (c : Netlist) (words : List (List ℕ)) (job : JobParts) → NameJob new c words job

@@ -3,7 +3,9 @@ use Rattle.std.proofs.Common.{◌≡◌, ℕ, zero, suc, ◌+◌, ◌<◌, ◌^�
 use Rattle.std.proofs.lemmas.Bool.{cases_eq}
 use Rattle.std.proofs.lemmas.List.{length-take-le}
 use Rattle.std.proofs.lemmas.Option.{slice_get-map, slice_get_within, slice_get-get_or, same_Some}
+use Rattle.sha2.specs.Sha256.{sha256}
 use Rattle.gc_circuit.specs.Circuit.{Netlist, IsLawful}
+use Rattle.gc_circuit.specs.Canon.{canonical_text}
 use Rattle.gc_circuit.specs.Meaning.{Fits}
 use Rattle.gc_half.specs.Garbling.{GarblingParts}
 use Rattle.gc_half.proofs.CanonicalLemmas.{IsGarbled-same}
@@ -36,6 +38,11 @@ own-parts c seed bytes lawful are parts read = record {
   garbled = are.garbled;
   parts = one_file bytes parts (honest_parts Two c are.garbling seed) read (own-garbled c seed bytes lawful are);
 }
+
+-- Its digest is the circuit's.
+pub own-digest : (c : Netlist) (seed : List ℕ) (g : GarbledParts) → IsHonestGarbled c seed g
+    → g.digest ≡ sha256 (canonical_text c)
+own-digest c seed g honest = ap (λ (p : GarbledParts). p.digest) honest.parts
 
 -- The bytes of a label file are a label file.
 pub own-label-file : (c : Netlist) (seed : List ℕ) (index : ℕ) (bits : List Bool) (bytes : List ℕ) → IsLawful c

@@ -34,6 +34,7 @@ pub fn eval<R: Threads + Sync, A: Allocator + Copy + Send + Sync, F: Files>(
     let circuit = read_circuit(alloc, circuit, files)?;
     let garbled = read_garbled_file(alloc, garbled, files)?;
     let labels = read_label_files(alloc, labels, files)?;
-    let outputs = evaluate_files(rt, alloc, &circuit, garbled, &labels, workers)?;
+    let digest = circuit.digest();
+    let outputs = evaluate_files(rt, alloc, &circuit, &digest, garbled, &labels, workers)?;
     Ok(output_lines(alloc, circuit.output_widths(), &outputs)?)
 }

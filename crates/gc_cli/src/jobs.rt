@@ -16,13 +16,12 @@ use gc_bank::evaluate_jobs;
 use gc_eval::{EvalFault, Job};
 use gc_gatehouse::Open;
 use std::alloc::Allocator;
-use std::sync::Wait;
 use std::thread::Threads;
 
 /// Evaluates the circuit of a file by so many workers from each garbled file that the list of this name has, with the
 /// label files beside it, and answers the lines of the output values that they decode to. Nothing of these files is
 /// trusted.
-pub fn jobs<R: Threads + Wait + Sync, A: Allocator + Copy + Send + Sync, F: Files>(
+pub fn jobs<R: Threads + Sync, A: Allocator + Copy + Send + Sync, F: Files>(
     rt: &R,
     alloc: A,
     circuit: &str,
@@ -43,7 +42,7 @@ pub fn jobs<R: Threads + Wait + Sync, A: Allocator + Copy + Send + Sync, F: File
 
 /// The output bits of each job of a list, which may have none. That all are on one circuit, and that they are not too
 /// many, is the caller's condition.
-fn evaluate_listed<R: Threads + Wait + Sync, A: Allocator + Copy + Send + Sync>(
+fn evaluate_listed<R: Threads + Sync, A: Allocator + Copy + Send + Sync>(
     rt: &R,
     alloc: A,
     jobs: &[Job<'_, A, A>],

@@ -1,6 +1,8 @@
 //! The jobs of a list, from their files.
 
 ghost use Rattle.std.specs.Prelude.{◌≡◌, ◌<◌, ℕ, List, length, map, All, IfOk, IfErr, OnOk};
+ghost use Rattle.sha2.specs.Sha256.{sha256};
+ghost use Rattle.gc_circuit.specs.Canon.{canonical_text};
 ghost use Rattle.gc_circuit.specs.Text.{tokens};
 ghost use Rattle.gc_cli.specs.Jobs.{AreListed, HasListFault, HasLinesFault, HasNamedFault, NameJob, NameJobs};
 ghost use Rattle.gc_cli.specs.CarryOut.{HasCause};
@@ -28,18 +30,20 @@ pub fn read_listed_jobs<'c, A: Allocator + Copy, F: Files>(
 {
     let text = files.read(alloc, list)?;
     let lines = listed_lines(alloc, &text)?;
-    read_jobs(alloc, circuit, &lines, files)
+    read_jobs(alloc, circuit, &circuit.digest(), &lines, files)
 }
 
-/// The jobs that lines name. Each job's files are read and bound before the next job's are opened. That each line has a
-/// token is the caller's condition.
+/// The jobs that lines name. Each job's files are read and bound before the next job's are opened. That this is
+/// the digest of the circuit's canonical text, and that each line has a token, are the caller's conditions.
 fn read_jobs<'c, A: Allocator + Copy, F: Files>(
     alloc: A,
     circuit: &'c Circuit<A>,
+    digest: &[u8; 32],
     lines: &[&str],
     files: &mut F,
 ) -> Result<Vec<Job<'c, A, A>, A>, Fault>
-    requires { All (λ words. 0 < length words) (map (λ line. tokens line.now) lines.now) }
+    requires digest { digest.now ≡ sha256 (canonical_text circuit.now) }
+    requires words { All (λ words. 0 < length words) (map (λ line. tokens line.now) lines.now) }
     ensures named { IfOk result (λ jobs. NameJobs (F.bytes files.old) circuit.now
         (map (λ line. tokens line.now) lines.now) jobs.items) }
     ensures fault { IfErr result (HasLinesFault (F.bytes files.old) circuit.now
@@ -50,20 +54,22 @@ fn read_jobs<'c, A: Allocator + Copy, F: Files>(
 {
     let mut jobs = Vec::with_capacity(alloc, lines.len())?;
     for line in lines {
-        jobs.push(read_job(alloc, circuit, line, files)?)?;
+        jobs.push(read_job(alloc, circuit, digest, line, files)?)?;
     }
     Ok(jobs)
 }
 
-/// The job that a line names, from its garbled file and its label files. That the line has a token is the caller's
-/// condition.
+/// The job that a line names, from its garbled file and its label files. That this is the digest of
+/// the circuit's canonical text, and that the line has a token, are the caller's conditions.
 fn read_job<'c, A: Allocator + Copy, F: Files>(
     alloc: A,
     circuit: &'c Circuit<A>,
+    digest: &[u8; 32],
     line: &str,
     files: &mut F,
 ) -> Result<Job<'c, A, A>, Fault>
-    requires { 0 < length (tokens line.now) }
+    requires digest { digest.now ≡ sha256 (canonical_text circuit.now) }
+    requires words { 0 < length (tokens line.now) }
     ensures named { IfOk result (NameJob (F.bytes files.old) circuit.now (tokens line.now)) }
     ensures fault { IfErr result (HasNamedFault (F.bytes files.old) circuit.now (tokens line.now)) }
     ensures cause { IfErr result (λ fault. HasCause fault (F.failures files.old) (F.failures files.new)) }
@@ -76,5 +82,5 @@ fn read_job<'c, A: Allocator + Copy, F: Files>(
     };
     let garbled = read_garbled_file(alloc, garbled, files)?;
     let labels = read_label_files(alloc, labels, files)?;
-    Ok(Job::bind(alloc, circuit, garbled, &labels)?)
+    Ok(Job::bind_by_digest(alloc, circuit, digest, garbled, &labels)?)
 }

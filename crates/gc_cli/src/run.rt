@@ -39,6 +39,8 @@ pub fn run<R: Threads + Wait + Sync, A: Allocator + Copy + Send + Sync, F: Files
     let values = read_values(alloc, circuit.input_widths(), values)?;
     let garbled = own_garbled(rt, alloc, &circuit, &seed, workers)?;
     let labels = own_labels(alloc, &circuit, &seed, &values)?;
-    let outputs = evaluate_files(rt, alloc, &circuit, garbled, &labels, 1)?;
+    // Its own garbled file has the circuit's digest.
+    let digest = garbled.digest();
+    let outputs = evaluate_files(rt, alloc, &circuit, &digest, garbled, &labels, 1)?;
     Ok(output_lines(alloc, circuit.output_widths(), &outputs)?)
 }

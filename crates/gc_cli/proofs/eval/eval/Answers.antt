@@ -3,7 +3,7 @@ use Rattle.std.proofs.lemmas.Result.{err_from_is_err_and}
 use Rattle.gc_file.specs.GarbledFile.{IsGarbledFile}
 use Rattle.gc_cli.specs.Lines.{output_lines}
 use Rattle.gc_cli.proofs.AnswerLemmas.{length-decoded}
-use Rattle.gc_cli.proofs.EvalLemmas.{told-before, labels-before, labels-fault-before, circuit-fault, labels-fault, job-fault}
+use Rattle.gc_cli.proofs.EvalLemmas.{told-before, eval-told, labels-fault-before, circuit-fault, labels-fault, job-fault}
 use Rattle.gc_cli.proofs.eval.eval.Goals as goal
 
 pub returns-in_err-circuit-clause-fault : goal.returns-in_err-circuit-clause-fault
@@ -37,16 +37,10 @@ returns-in_err-outputs-clause-fault g c =
     let parts = c.in_ok-garbled.garbled in
     rw (p.1, p.2)
     (job-fault bytes c.args.circuit.now c.args.garbled.now c.args.workers names c.in_ok-circuit.circuit parts c.in_ok-labels.labels.items
-    (record {
-      circuit_told = c.in_ok-circuit.ensures.circuit;
-      garbled_told =
-          told-before bytes (g.F.Files.bytes c.read_circuit.new.files) c.read_circuit.ensures.same
-          (λ held. IsGarbledFile held parts) c.args.garbled.now c.in_ok-garbled.ensures.told;
-      labels_told =
-          labels-before bytes (g.F.Files.bytes c.read_garbled_file.new.files)
-          (λ n. c.read_garbled_file.ensures.same n ∙ c.read_circuit.ensures.same n) names c.in_ok-labels.labels.items
-          c.in_ok-labels.ensures.told;
-    })
+    (eval-told bytes (g.F.Files.bytes c.read_circuit.new.files) (g.F.Files.bytes c.read_garbled_file.new.files)
+    c.read_circuit.ensures.same c.read_garbled_file.ensures.same c.args.circuit.now c.args.garbled.now names
+    c.in_ok-circuit.circuit parts c.in_ok-labels.labels.items c.in_ok-circuit.ensures.circuit
+    c.in_ok-garbled.ensures.told c.in_ok-labels.ensures.told)
     c.in_err-outputs.field-0.0 (rw c.deref.ensures.value at c.in_err-outputs.ensures.fault))
 
 pub output_lines-requires : goal.output_lines-requires
@@ -68,16 +62,11 @@ returns-clause-answers g c =
       c = c.in_ok-circuit.circuit;
       g = parts;
       files = c.in_ok-labels.labels.items;
-      told = record {
-        circuit_told = c.in_ok-circuit.ensures.circuit;
-        garbled_told =
-            told-before bytes (g.F.Files.bytes c.read_circuit.new.files) c.read_circuit.ensures.same
-            (λ held. IsGarbledFile held parts) c.args.garbled.now c.in_ok-garbled.ensures.told;
-        labels_told =
-            labels-before bytes (g.F.Files.bytes c.read_garbled_file.new.files)
-            (λ n. c.read_garbled_file.ensures.same n ∙ c.read_circuit.ensures.same n) names c.in_ok-labels.labels.items
-            c.in_ok-labels.ensures.told;
-      };
+      told =
+          eval-told bytes (g.F.Files.bytes c.read_circuit.new.files) (g.F.Files.bytes c.read_garbled_file.new.files)
+          c.read_circuit.ensures.same c.read_garbled_file.ensures.same c.args.circuit.now c.args.garbled.now names
+          c.in_ok-circuit.circuit parts c.in_ok-labels.labels.items c.in_ok-circuit.ensures.circuit
+          c.in_ok-garbled.ensures.told c.in_ok-labels.ensures.told;
       few = c.in_ok-outputs.ensures.workers;
       outputs = c.in_ok-outputs.outputs.items;
       decoded = rw c.deref.ensures.value at c.in_ok-outputs.ensures.decoded;

@@ -1,4 +1,4 @@
-use Rattle.std.proofs.Common.{sym, ap, subst, ◌∙◌, arith}
+use Rattle.std.proofs.Common.{sym, ap, ◌∙◌}
 use Rattle.gc_circuit.specs.Text.{tokens}
 use Rattle.gc_circuit.proofs.TokenLemmas.{blank_passed}
 use Rattle.gc_cli.specs.JobList.{has_words}

@@ -1,4 +1,4 @@
-use Rattle.std.proofs.Common.{◌≡◌, List, map, take, length, arith, sym, ap, ◌∙◌}
+use Rattle.std.proofs.Common.{List, map, arith, ap, ◌∙◌}
 use Rattle.std.proofs.lemmas.List.{length-map, take_all}
 use Rattle.gc_circuit.specs.Text.{tokens}
 use Rattle.gc_cli.proofs.JobListLemmas.{utf8_token, word_more}

@@ -1,4 +1,4 @@
-use Rattle.std.proofs.Common.{◌≡◌, map, length, slice_get, option_map, Some, Err, sym, ap, ap₂, ◌∙◌, subst, arith}
+use Rattle.std.proofs.Common.{map, length, option_map, Err, sym, ap, ap₂, ◌∙◌, subst, arith}
 use Rattle.std.proofs.lemmas.Option.{slice_get-get_or, slice_get-map}
 use Rattle.std.proofs.lemmas.Result.{err_from_is_err_and}
 use Rattle.gc_bank.specs.Jobs.{AreEvaluatedBy, AreOnOneCircuit}

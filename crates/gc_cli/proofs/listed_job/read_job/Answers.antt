@@ -1,8 +1,8 @@
 use Rattle.std.proofs.Common.{◌≡◌, ◌∷◌, map, sym, ap, ◌∙◌}
 use Rattle.std.proofs.lemmas.Result.{err_from_is_err_and}
 use Rattle.gc_circuit.specs.Text.{tokens}
-use Rattle.gc_cli.proofs.EvalLemmas.{labels-before, labels-fault-before}
-use Rattle.gc_cli.proofs.JobsLemmas.{labels-named}
+use Rattle.gc_cli.proofs.EvalLemmas.{labels-fault-before}
+use Rattle.gc_cli.proofs.JobsLemmas.{name-files, labels-named}
 use Rattle.gc_cli.proofs.listed_job.read_job.Goals as goal
 
 pub returns-in_err-labels-clause-fault : goal.returns-in_err-labels-clause-fault
@@ -17,9 +17,9 @@ returns-in_err-labels-clause-fault g c =
     (labels-fault-before bytes (g.F.Files.bytes c.read_garbled_file.new.files) c.read_garbled_file.ensures.same labels
     c.in_err-labels.field-0.0 c.in_err-labels.ensures.fault))
 
-pub returns-in_err-bind-clause-fault : goal.returns-in_err-bind-clause-fault
-returns-in_err-bind-clause-fault g c =
-    let p = err_from_is_err_and c.from_residual-in_err-bind.result c.from_residual-in_err-bind.ensures.1 in
+pub returns-in_err-bind_by_digest-clause-fault : goal.returns-in_err-bind_by_digest-clause-fault
+returns-in_err-bind_by_digest-clause-fault g c =
+    let p = err_from_is_err_and c.from_residual-in_err-bind_by_digest.result c.from_residual-in_err-bind_by_digest.ensures.1 in
     let bytes = g.F.Files.bytes c.args.files.now in
     let labels = map (λ word. word.now) c.in-Some.labels.now in
     let names : tokens c.args.line.now ≡ c.in-Some.garbled.now.now ∷ labels =
@@ -29,16 +29,10 @@ returns-in_err-bind-clause-fault g c =
       (
         c.in_ok-labels.labels.items,
         (
-          record {
-            garbled = c.in-Some.garbled.now.now;
-            labels = labels;
-            names = names;
-            garbled_told = c.in_ok-garbled.ensures.told;
-            labels_told =
-                labels-before bytes (g.F.Files.bytes c.read_garbled_file.new.files) c.read_garbled_file.ensures.same labels
-                c.in_ok-labels.labels.items c.in_ok-labels.ensures.told;
-          },
-          rw c.deref-2.ensures.value at c.in_err-bind.ensures.err,
+          name-files bytes (g.F.Files.bytes c.read_garbled_file.new.files) c.read_garbled_file.ensures.same
+              (tokens c.args.line.now) c.in-Some.garbled.now.now labels c.in_ok-garbled.garbled
+              c.in_ok-labels.labels.items names c.in_ok-garbled.ensures.told c.in_ok-labels.ensures.told,
+          rw c.deref-2.ensures.value at c.in_err-bind_by_digest.ensures.err,
         ),
       ),
     )
@@ -52,14 +46,8 @@ returns-clause-named g c =
     record {
       g = c.in_ok-garbled.garbled;
       files = c.in_ok-labels.labels.items;
-      told = record {
-        garbled = c.in-Some.garbled.now.now;
-        labels = labels;
-        names = names;
-        garbled_told = c.in_ok-garbled.ensures.told;
-        labels_told =
-            labels-before bytes (g.F.Files.bytes c.read_garbled_file.new.files) c.read_garbled_file.ensures.same labels
-            c.in_ok-labels.labels.items c.in_ok-labels.ensures.told;
-      };
-      bound = rw c.deref-2.ensures.value at c.in_ok-bind.ensures.ok;
+      told = name-files bytes (g.F.Files.bytes c.read_garbled_file.new.files) c.read_garbled_file.ensures.same
+          (tokens c.args.line.now) c.in-Some.garbled.now.now labels c.in_ok-garbled.garbled
+          c.in_ok-labels.labels.items names c.in_ok-garbled.ensures.told c.in_ok-labels.ensures.told;
+      bound = rw c.deref-2.ensures.value at c.in_ok-bind_by_digest.ensures.ok;
     }

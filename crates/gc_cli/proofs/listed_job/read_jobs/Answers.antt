@@ -1,4 +1,4 @@
-use Rattle.std.proofs.Common.{◌≡◌, ◌+◌, ◌<◌, [], ◌∷◌, ◌++◌, inr, drop, map, length, sym, ap, ◌∙◌, subst, arith, append_assoc}
+use Rattle.std.proofs.Common.{◌≡◌, ◌+◌, ◌<◌, [], ◌∷◌, inr, drop, map, length, sym, ◌∙◌, subst, arith, append_assoc}
 use Rattle.std.proofs.lemmas.List.{append-nil, drop_all, length-map}
 use Rattle.std.proofs.lemmas.Result.{err_from_is_err_and}
 use Rattle.gc_circuit.specs.Text.{tokens}
@@ -7,11 +7,11 @@ use Rattle.gc_cli.proofs.JobListLemmas.{get_or-shown}
 use Rattle.gc_cli.proofs.JobsLemmas.{job-before, named-before, line-next, lines-fault}
 use Rattle.gc_cli.proofs.listed_job.read_jobs.Goals as goal
 
-pub read_job-requires : goal.read_job-requires
-read_job-requires g c =
+pub read_job-requires-clause-words : goal.read_job-requires-clause-words
+read_job-requires-clause-words g c =
     subst (λ words. 0 < length words)
     (get_or-shown (λ line. tokens line.now) c.args.lines.now c.loop-line.line-index record { ref_ptr = (0, 0); now = [] })
-    (c.requires c.loop-line.line-index (tokens [])
+    (c.requires.words c.loop-line.line-index (tokens [])
     (omega (arith, c.loop-line-test.true, length-map c.args.lines.now (λ line. tokens line.now))))
 
 pub returns-in_err-read_job-clause-fault : goal.returns-in_err-read_job-clause-fault

@@ -1,16 +1,15 @@
-use Rattle.std.proofs.Common.{◌≡◌, ◌==◌, map, sym, ap, ◌∙◌, subst}
+use Rattle.std.proofs.Common.{◌≡◌, ◌==◌, map, ap, ◌∙◌, subst}
 use Rattle.std.specs.List.{slice_split}
 use Rattle.std.proofs.lemmas.Result.{IfOk-weaker, IfErr-weaker}
 use Rattle.gc_circuit.specs.Text.{tokens}
-use Rattle.gc_cli.specs.Files.{GivesFile}
-use Rattle.gc_cli.specs.JobList.{IsJobList, listed}
+use Rattle.gc_cli.specs.JobList.{listed}
 use Rattle.gc_cli.specs.Jobs.{NameJobs, HasLinesFault}
 use Rattle.gc_cli.proofs.JobListLemmas.{all_have_words}
 use Rattle.gc_cli.proofs.JobsLemmas.{jobs-before, list-fault}
 use Rattle.gc_cli.proofs.listed_job.read_listed_jobs.Goals as goal
 
-pub read_jobs-requires : goal.read_jobs-requires
-read_jobs-requires g c =
+pub read_jobs-requires-clause-words : goal.read_jobs-requires-clause-words
+read_jobs-requires-clause-words g c =
     let lines : map (λ line. tokens line.now) c.deref-2.result.now ≡ listed c.deref.result.now =
     ap (map (λ line. tokens line.now)) c.deref-2.ensures.value ∙ c.in_ok-lines.ensures.lines in
     rw lines (all_have_words (slice_split (λ b. b == 10) c.deref.result.now))

@@ -4,7 +4,7 @@ use Rattle.gc_cli.specs.CircuitFile.{IsCircuit}
 use Rattle.gc_cli.specs.Lines.{output_lines}
 use Rattle.gc_cli.proofs.AnswerLemmas.{IfSome-map, length-decoded}
 use Rattle.gc_cli.proofs.ValuesLemmas.{TellValues-widths}
-use Rattle.gc_cli.proofs.OwnFilesLemmas.{own-honest}
+use Rattle.gc_cli.proofs.OwnFilesLemmas.{own-digest, own-honest}
 use Rattle.gc_cli.proofs.RunLemmas.{honest-decode, honest-fault, want-of-memory}
 use Rattle.gc_cli.proofs.run.run.Goals as goal
 
@@ -29,6 +29,11 @@ returns-in_err-labels-clause-fault g c =
       ),
     ) c.in_ok-garbled.ensures.workers c.in_err-labels.field-0.0 c.in_err-labels.ensures.fault)
     c.in_ok-circuit.ensures.circuit)
+
+pub evaluate_files-requires-clause-digest : goal.evaluate_files-requires-clause-digest
+evaluate_files-requires-clause-digest g c = λ κs outlives.
+    c.digest-digest.ensures
+    ∙ own-digest c.in_ok-circuit.circuit c.in_ok-seed.seed c.in_ok-garbled.garbled c.in_ok-garbled.ensures.honest
 
 pub returns-in_err-outputs-clause-fault : goal.returns-in_err-outputs-clause-fault
 returns-in_err-outputs-clause-fault g c =
