@@ -13,7 +13,7 @@ use mathlib.Core.Logic.{dite}
 use native.Mathlib.Decide.{dec_le}
 use Rattle.gc_circuit.specs.Text.{is_blank, is_some_run, tokens}
 use Rattle.gc_circuit.proofs.TokenLemmas.{Begins, tokens-nil, tokens_begin}
-use Rattle.gc_cli.specs.JobList.{has_words, listed}
+use Rattle.gc_cli.specs.JobList.{has_words}
 
 -- A byte that is no blank is in a token,
 first_word : (b : ℕ) (rest : List ℕ) → is_blank b ≡ false → has_words (tokens (b ∷ rest)) ≡ true

@@ -1,5 +1,5 @@
 -- The command `jobs`: what it answers, and which fault it has. What is said of a file is said where its bytes are known.
-use Rattle.std.specs.Prelude.{◌≡◌, ◌≢◌, ℕ, ◌<◌, ◌⊎◌, Bool, List, [], ◌∷◌, length, IfSome, Ok, Err}
+use Rattle.std.specs.Prelude.{◌≡◌, ◌≢◌, ℕ, ◌<◌, ◌⊎◌, Bool, List, [], ◌∷◌, length, IfSome, Err}
 use Rattle.gc_circuit.specs.Circuit.{Netlist}
 use Rattle.gc_file.specs.declared.fault.FileFault.{FileFault}
 use Rattle.gc_file.specs.declared.fault.FileFault.TheVariants as file
