@@ -13,7 +13,8 @@ use std::hint::spin_loop;
 use std::sync::ledger::Ledger;
 use std::sync::{Condvar, Mutex, MutexGuard, Wait};
 
-/// How often a thread tries for the lock, or looks for a gate, before it sleeps: waking costs more than a section takes.
+/// How often a thread tries for the lock, or looks for a gate, before it sleeps: waking costs more than a section
+/// takes.
 const TRIES: u32 = 200;
 
 /// How long a thread pauses between two tries, in turns of a loop.
@@ -22,8 +23,8 @@ const PAUSE: u32 = 10;
 /// How many gates have to be ready for a second batch: a claim of many is to leave others as many.
 const PLENTY: u32 = 256;
 
-/// What the lock is round: a store, whether it was stopped, and how many threads sleep for want of a task and were not
-/// woken yet.
+/// What the lock is round: a store, whether it was stopped, and how many threads sleep for want of a task and were
+/// not woken yet.
 #[derive(Drop)]
 struct Desk<L: Ledger, A: Allocator> {
     store: Store<L, A>,
@@ -93,8 +94,8 @@ impl<L: Ledger, A: Allocator> Desk<L, A> {
         }
     }
 
-    /// Claims into the batch, unless the store was stopped or fewer gates may go next than the reserve. Threads that sleep
-    /// are left as many gates each as it claims.
+    /// Claims into the batch, unless the store was stopped or fewer gates may go next than the reserve. Threads
+    /// that sleep are left as many gates each as it claims.
     fn claim_some(&mut self, batch: &mut Batch, reserve: u32)
         ensures { ClaimsMore batch.old batch.new }
     {
@@ -231,12 +232,12 @@ impl<L: Ledger, A: Allocator> SharedStore<L, A> {
         Ok(complete)
     }
 
-    /// Takes sealed tasks back one after another, each as [`SharedStore::hand_in`] does, and then claims gates into the
-    /// batches; all in one critical section. Into batches after the first it claims only where many gates may go next. The
-    /// answer is whether the store is now complete.
+    /// Takes sealed tasks back one after another, each as [`SharedStore::hand_in`] does, and then claims gates into
+    /// the batches; all in one critical section. Into batches after the first it claims only where many gates may
+    /// go next. The answer is whether the store is now complete.
     ///
-    /// It ends at the first that is refused, and then claims nothing. Those before it are finished and counted, and those
-    /// after it are not.
+    /// It ends at the first that is refused, and then claims nothing. Those before it are finished and counted, and
+    /// those after it are not.
     pub fn hand_in_all(
         &self,
         rt: &impl Wait,

@@ -120,8 +120,8 @@ impl<L: Ledger, A: Allocator> Store<L, A> {
         self.progress.claim()
     }
 
-    /// Claims gates that may go next, and puts their tasks into the batch, until it is full or no gate may go next. The
-    /// answer is how many this call claimed.
+    /// Claims gates that may go next, and puts their tasks into the batch, until it is full or no gate may go next.
+    /// The answer is how many this call claimed.
     pub fn claim_some(&mut self, batch: &mut Batch) -> u32
         ensures step { ClaimsSome self.old.content batch.old result self.new.content batch.new }
         ensures tallies { self.new.tallies ≡ self.old.tallies }
@@ -166,8 +166,8 @@ impl<L: Ledger, A: Allocator> Store<L, A> {
         Ok(complete)
     }
 
-    /// The sum of the tallies, which is the number of finished gates, where all the tallies that were dealt are there.
-    /// Nothing changes.
+    /// The sum of the tallies, which is the number of finished gates, where all the tallies that were dealt are
+    /// there. Nothing changes.
     pub fn settle<C: Allocator>(
         &mut self,
         tallies: &mut Vec<Tally<L>, C>,

@@ -9,8 +9,9 @@ use std::marker::Model;
 /// How many entries are filled at once.
 const STRETCH: usize = 256;
 
-/// So many entries, each of one value until it is set. The memory for all is taken at the opening, but written only as far
-/// as entries are set: so a page of it is first touched by whoever sets an entry there, and not by the opening thread.
+/// So many entries, each of one value until it is set. The memory for all is taken at the opening, but written only
+/// as far as entries are set: so a page of it is first touched by whoever sets an entry there, and not by the
+/// opening thread.
 #[derive(Drop)]
 pub(crate) struct Table<T: Copy, A: Allocator> {
     // The first entries, as far as they are filled.

@@ -30,9 +30,9 @@ const POOL_CAPACITY: u32 = 1024;
 /// Several workers garble a circuit where about one of so many gates is AND, or more.
 const GATES_FOR_AND: u32 = 3;
 
-/// The garbling of a circuit under a seed, made by so many workers. The calling thread is worker 0; a thread is started
-/// for each other worker, and where one can't be started the calling thread does its work too. Where few gates are
-/// AND, worker 0 garbles alone, which is faster. `house` is told of each gate before it is sealed.
+/// The garbling of a circuit under a seed, made by so many workers. The calling thread is worker 0; a thread is
+/// started for each other worker, and where one can't be started the calling thread does its work too. Where few
+/// gates are AND, worker 0 garbles alone, which is faster. `house` is told of each gate before it is sealed.
 ///
 /// It refuses 0 workers and more than [`MAX_WORKERS`]. Memory is the other fault.
 pub fn garble<
@@ -141,7 +141,8 @@ fn work_together<
     Ok((shared.into_store(), tally))
 }
 
-/// Runs all workers, the last one on the calling thread and each other in a thread of its own, where one can be started.
+/// Runs all workers, the last one on the calling thread and each other in a thread of its own, where one can be
+/// started.
 fn run_all<
     L: Ledger + Send + Sync,
     A: Allocator + Send + Sync,

@@ -1,7 +1,7 @@
 //! Garbling on many threads, and the pools of tasks that its workers take from.
 //!
-//! [`garble`] lets workers claim, seal and hand in the gates of one store, under a lock. What the store keeps at every
-//! moment makes the answer right, whatever the threads did.
+//! [`garble`] lets workers claim, seal and hand in the gates of one store, under a lock. What the store keeps at
+//! every moment makes the answer right, whatever the threads did.
 //!
 //! A [`TaskPool`] is filled and emptied by one [`Owner`] and emptied by any number of [`Thief`]s, with no lock.
 //! What was pushed to it is what was taken from it and what is left, whatever the threads did.

@@ -50,9 +50,9 @@ fn share_batch<A: Allocator>(
     None
 }
 
-/// Pushes the tasks of the first batch but one, for others to steal. Where gates are plenty, so that the other batches
-/// have tasks too, it pushes none: the others find gates in the store, and a pool's work is saved. A task that the pool
-/// has no room for comes back.
+/// Pushes the tasks of the first batch but one, for others to steal. Where gates are plenty, so that the other
+/// batches have tasks too, it pushes none: the others find gates in the store, and a pool's work is saved. A task
+/// that the pool has no room for comes back.
 fn share<A: Allocator>(
     pool: &TaskPool<A>,
     owner: &mut Owner<A>,
@@ -150,7 +150,8 @@ fn seal_some<L: Ledger, A: Allocator, H: Gatehouse>(
     true
 }
 
-/// Works until nothing is left to do, or until the store is stopped. Where a task can't be handed in it stops the store.
+/// Works until nothing is left to do, or until the store is stopped. Where a task can't be handed in it stops the
+/// store.
 pub(crate) fn work<L: Ledger, A: Allocator, H: Gatehouse, R: Wait>(
     rt: &R,
     shared: &SharedStore<L, A>,
