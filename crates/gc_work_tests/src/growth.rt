@@ -1,5 +1,5 @@
-//! Each growth of opening a store and of opening a pool refused in turn, and the work on an opened store, which takes no
-//! memory.
+//! Each growth of opening a store and of opening a pool refused in turn, and the work on an opened store, shared or not,
+//! which takes no memory.
 
 ghost use Rattle.std.specs.Prelude.{◌≡◌};
 ghost use Rattle.gc_store.specs.declared.tally.TheConstants.{MAX_TALLIES};
@@ -8,13 +8,14 @@ use crate::stores::{finish_gates, ledger};
 use gc_circuit::{Circuit, Memory};
 use gc_label::Seed;
 use gc_refusing::Refusing;
-use gc_store::Store;
+use gc_store::{Batch, Sealed, SharedStore, Store};
 use gc_work::TaskPool;
 use gc_worked::circuits::FULL_ADDER;
 use gc_worked::growths::{Answer, plain_if, runs_refused};
 use std::alloc::Global;
 use std::marker::Brand;
 use std::process::Abort;
+use std::sync::Wait;
 use std::sync::ledger::{Blank, Ledger};
 use std::test::Fail;
 
@@ -86,4 +87,69 @@ fn grows_nothing<L: Ledger>(
 #[test]
 fn an_opened_store_grows_nothing(rt: HostRuntime) -> Result<(), Fail> {
     grows_nothing::<Brand>(&rt, &Refusing::never(rt.alloc()), ledger())
+}
+
+/// Claims, puts back and settles, which ask an opened store of the full adder for no memory.
+fn claims_without_memory<L: Ledger>(
+    rt: &impl Abort,
+    heap: &Refusing<Global>,
+    alloc: Global,
+    ledger: Blank,
+) -> Result<(), Fail>
+    requires name { ledger.name ≡ L.name }
+    requires parts { (ledger.parts ≡ L.parts) × (ledger.parts ≡ MAX_TALLIES) }
+{
+    let circuit = Circuit::read(alloc, FULL_ADDER.as_bytes())?;
+    let seed = Seed::from_bytes([0; 32]);
+    let copy = circuit.try_clone(heap)?;
+    let mut store = Store::<L, &Refusing<Global>>::open(heap, ledger, copy, seed)?;
+    let mut tallies = Vec::with_capacity(alloc, 1)?;
+    let opened = heap.growths();
+    tallies.push(store.tally().ok_or("a tally is dealt")?)?;
+    let mut batch = Batch::new();
+    assert_eq!(rt; (store.claim_some(&mut batch), batch.len()), (2, 2));
+    assert_eq!(rt; (store.reopen(), batch.pop().is_some()), (2, true));
+    assert_eq!(rt; store.settle(&mut tallies), Ok(0));
+    assert!(rt; store.is_for(&circuit, &seed));
+    assert_eq!(rt; heap.growths(), opened);
+    Ok(())
+}
+
+#[test]
+fn an_opened_store_reopens_without_memory(rt: HostRuntime) -> Result<(), Fail> {
+    claims_without_memory::<Brand>(&rt, &Refusing::never(rt.alloc()), rt.alloc(), ledger())
+}
+
+/// Shares an opened store of the full adder, hands in two gates, one by itself and one among several, and stops; none of
+/// it asks for memory.
+fn shares_without_memory<L: Ledger>(
+    rt: &(impl Abort + Wait),
+    heap: &Refusing<Global>,
+    ledger: Blank,
+) -> Result<(), Fail>
+    requires name { ledger.name ≡ L.name }
+    requires parts { (ledger.parts ≡ L.parts) × (ledger.parts ≡ MAX_TALLIES) }
+{
+    let circuit = Circuit::read(heap, FULL_ADDER.as_bytes())?;
+    let seed = Seed::from_bytes([0; 32]);
+    let mut store = Store::<L, &Refusing<Global>>::open(heap, ledger, circuit, seed)?;
+    let opened = heap.growths();
+    let mut tally = store.tally().ok_or("a tally is dealt")?;
+    let mut batches = [Batch::new()];
+    let shared = SharedStore::new(store);
+    let zero = Sealed::make(shared.take(rt).ok_or("gate 0 may go next")?);
+    let one = Sealed::make(shared.take(rt).ok_or("gate 1 may go next")?);
+    let alone = shared.hand_in(rt, zero, &mut tally, &mut batches[0]);
+    let among = shared.hand_in_all(rt, &[one], &mut tally, &mut batches);
+    assert_eq!(rt; (alone, among), (Ok(false), Ok(false)));
+    shared.stop(rt);
+    assert_eq!(rt; shared.take(rt), None);
+    assert_eq!(rt; (shared.into_store().finished(), tally.count()), (2, 2));
+    assert_eq!(rt; heap.growths(), opened);
+    Ok(())
+}
+
+#[test]
+fn a_shared_store_grows_nothing(rt: HostRuntime) -> Result<(), Fail> {
+    shares_without_memory::<Brand>(&rt, &Refusing::never(rt.alloc()), ledger())
 }

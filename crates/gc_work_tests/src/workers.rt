@@ -5,57 +5,15 @@ use gc_circuit::Circuit;
 use gc_half::garble_one_thread;
 use gc_label::Seed;
 use gc_refusing::Refusing;
-use gc_work::{Gatehouse, Open, WorkFault, garble};
+use gc_work::{Open, WorkFault, garble};
 use gc_worked::circuits::{FULL_ADDER, many_ands};
+use gc_worked::meeting::Meeting;
 use gc_worked::random::{Numbers, random_circuit};
-use std::sync::atomic::{AtomicU64, Ordering};
+use std::alloc::Global;
+use std::process::Abort;
+use std::sync::Wait;
 use std::test::Fail;
-
-/// Holds the first worker that comes until another one comes, and counts its calls.
-#[derive(Drop)]
-struct Meeting {
-    calls: AtomicU64,
-    // The number of the first worker, plus 1.
-    first: AtomicU64,
-    // 1 once another came.
-    met: AtomicU64,
-}
-
-impl Meeting {
-    fn new() -> Meeting {
-        Meeting {
-            calls: AtomicU64::new(0),
-            first: AtomicU64::new(0),
-            met: AtomicU64::new(0),
-        }
-    }
-
-    fn wait(&self) {
-        for _i in 0..1_000_000_000u64 {
-            if self.met.load(Ordering::SeqCst) == 1 {
-                return;
-            }
-        }
-    }
-}
-
-impl Gatehouse for Meeting {
-    fn before(&self, worker: u32, _gate: u32) {
-        self.calls.fetch_add(1, Ordering::SeqCst);
-        let number = u64::from(worker) + 1;
-        match self
-            .first
-            .compare_exchange(0, number, Ordering::SeqCst, Ordering::SeqCst)
-        {
-            Ok(_) => self.wait(),
-            Err(first) => {
-                if first != number {
-                    self.met.store(1, Ordering::SeqCst);
-                }
-            }
-        }
-    }
-}
+use std::thread::Threads;
 
 /// Two workers seal the gates of 2,000 independent AND gates, each gate once.
 #[test]
@@ -64,8 +22,7 @@ fn two_workers_meet(rt: HostRuntime) -> Result<(), Fail> {
     let seed = Seed::from_bytes([0; 32]);
     let house = Meeting::new();
     let garbling = garble(&rt, rt.alloc(), &circuit, &seed, 2, &house)?;
-    assert_eq!(rt; house.met.load(Ordering::SeqCst), 1);
-    assert_eq!(rt; house.calls.load(Ordering::SeqCst), 2000);
+    assert_eq!(rt; (house.has_met(), house.calls()), (true, 2000));
     let one_thread = garble_one_thread(rt.alloc(), &circuit, &seed)?;
     assert!(rt; are_same(&circuit, &garbling, &one_thread));
     Ok(())
@@ -111,21 +68,39 @@ fn random_circuits_by_workers(rt: HostRuntime) -> Result<(), Fail> {
     Ok(())
 }
 
-/// With growth 1, 2, 3, .. refused, 64 workers answer the garbling or the fault for memory, whichever threads get it.
-#[test]
-fn each_growth_of_64_workers_refused(rt: HostRuntime) -> Result<(), Fail> {
-    let circuit = Circuit::read(rt.alloc(), many_ands(rt.alloc(), 256)?.as_bytes())?;
+/// With growth 1, 2, 3, .. refused, so many workers answer the garbling of one thread or the fault for memory, whichever
+/// threads get it. The answer is how many runs met a refusal.
+fn refused_runs<R: Threads + Wait + Sync + Abort>(
+    rt: &R,
+    alloc: Global,
+    circuit: &Circuit,
+    workers: u32,
+) -> Result<u64, Fail> {
     let seed = Seed::from_bytes([0; 32]);
-    let one_thread = garble_one_thread(rt.alloc(), &circuit, &seed)?;
+    let one_thread = garble_one_thread(alloc, circuit, &seed)?;
     for n in 1..10_000 {
-        let heap = Refusing::nth(rt.alloc(), n);
-        match garble(&rt, &heap, &circuit, &seed, 64, &Open) {
-            Ok(garbling) => assert!(rt; are_same(&circuit, &garbling, &one_thread)),
+        let heap = Refusing::nth(alloc, n);
+        match garble(rt, &heap, circuit, &seed, workers, &Open) {
+            Ok(garbling) => assert!(rt; are_same(circuit, &garbling, &one_thread)),
             Err(fault) => assert_eq!(rt; (fault, heap.refused()), (WorkFault::Memory, 1)),
         }
         if heap.refused() == 0 {
-            return Ok(());
+            return Ok(n - 1);
         }
     }
     Err(Fail::new("each run met a refusal"))
+}
+
+#[test]
+fn each_growth_of_two_workers_refused(rt: HostRuntime) -> Result<(), Fail> {
+    let circuit = Circuit::read(rt.alloc(), many_ands(rt.alloc(), 2000)?.as_bytes())?;
+    assert!(rt; refused_runs(&rt, rt.alloc(), &circuit, 2)? > 16);
+    Ok(())
+}
+
+#[test]
+fn each_growth_of_64_workers_refused(rt: HostRuntime) -> Result<(), Fail> {
+    let circuit = Circuit::read(rt.alloc(), many_ands(rt.alloc(), 256)?.as_bytes())?;
+    assert!(rt; refused_runs(&rt, rt.alloc(), &circuit, 64)? > 128);
+    Ok(())
 }
