@@ -1,5 +1,5 @@
 -- Calls one after another, inside a round.
-use Rattle.std.proofs.Common.{◌≡◌, ◌≢◌, ℕ, ◌+◌, ◌*◌, ◌%◌, ◌<◌, ◌≤◌, List, [], ◌∷◌, ◌++◌, refl, ap, ◌∙◌, subst, arith, append_assoc, length-append, sym, slice_get, length, Some, inl, inr, ⊎_elim, ◌⊎◌, cond, eqb, eq-eqb, ne_eqb, MatchOption, zero, suc, take, slice_index, get_or}
+use Rattle.std.proofs.Common.{◌≡◌, ◌≢◌, ℕ, ◌+◌, ◌*◌, ◌%◌, ◌<◌, ◌≤◌, List, [], ◌∷◌, ◌++◌, refl, ap, ◌∙◌, subst, arith, append_assoc, length-append, sym, slice_get, length, Some, inl, inr, ⊎_elim, ◌⊎◌, cond, eqb, eq-eqb, ne_eqb, MatchOption, zero, suc, take, slice_index, get_or, Result, Ok, Err, IfErr, MatchResult}
 use mathlib.Core.Logic.{dite}
 use native.Mathlib.Decide.{dec_le, ℕ_discrete}
 use Rattle.atomic_table.specs.Seated.{TableId}
@@ -7,7 +7,7 @@ use Rattle.atomic_table.specs.declared.shared.Seat.{Seat}
 use Rattle.gc_circuit.specs.Circuit.{Netlist, IsSetBy, IsLawful, input_wires}
 use Rattle.gc_circuit.specs.declared.circuit.Gate.{Gate}
 use Rattle.gc_board.specs.Counts.{total, only}
-use Rattle.gc_board.proofs.Sums.{total-append, only_same}
+use Rattle.gc_board.proofs.Sums.{total-append, only_same, only_other}
 use Rattle.gc_rounds.specs.Words.{round_of}
 use Rattle.gc_rounds.specs.Steps.{merged}
 use Rattle.gc_rounds.specs.Places.{IsSamePlace}
@@ -29,10 +29,11 @@ use Rattle.gc_eval.proofs.BoardLabels.{active_solves}
 use Rattle.gc_eval.proofs.WiringLemmas.{set_once, input_not_set, set_within}
 use Rattle.gc_bank.specs.Rounds.{gates_of, IsRound}
 use Rattle.gc_bank.specs.Seats.{InRound, round_in}
-use Rattle.gc_bank.specs.Views.{Stays, made_now, IsAlone, SetsMade, ReadsMade, FirstLacking, AnswersAlone, sighting, sightings, Seen, Ran, Saw, SawUndone, Got, Lacks, Answers}
+use Rattle.gc_bank.specs.Views.{Stays, made_now, made_after, IsAlone, SetsMade, ReadsMade, FirstLacking, AnswersAlone, sighting, sightings, Seen, Ran, Saw, SawUndone, Got, Lacks, Says, Answers, AnswersTwo, IsReady}
+use Rattle.gc_bank.specs.declared.step.Ready.{Ready}
 
-pub ran_then : (a b c : Seen) (list : List (ℕ × ℕ)) (m n : ℕ) → Ran a b a.inner.made m → Ran b c list n
-    → Ran a c list (m + n)
+pub ran_then : {first : List (ℕ × ℕ)} (a b c : Seen) (list : List (ℕ × ℕ)) (m n : ℕ) → Ran a b first m
+    → Ran b c list n → Ran a c list (m + n)
 ran_then a b c list m n p q = record {
   jobs = q.jobs ∙ p.jobs;
   all = q.all ∙ p.all;
@@ -49,9 +50,9 @@ ran_then a b c list m n p q = record {
 }
 
 -- the sightings of a call are those of what it added
-sightings_more : (a b : Seen) (list : List (ℕ × ℕ)) (m word found : ℕ) → Ran a b list m
+sightings_more : {list : List (ℕ × ℕ)} (a b : Seen) (m word found : ℕ) → Ran a b list m
     → sightings word found a.steps ≤ sightings word found b.steps
-sightings_more a b list m word found p =
+sightings_more a b m word found p =
     omega (arith, ap (sightings word found) p.steps, total-append (sighting word found) a.steps p.added)
 
 pub longer : (a b : Seen) (list : List (ℕ × ℕ)) (m n : ℕ) → m ≤ n → Ran a b list m → Ran a b list n
@@ -70,9 +71,13 @@ longer a b list m n le p = record {
   steps = p.steps;
 }
 
-saw_later : (a b c : Seen) (m word found : ℕ) → Ran a b a.inner.made m → Saw b c word found
+saw_later : {first : List (ℕ × ℕ)} (a b c : Seen) (m word found : ℕ) → Ran a b first m → Saw b c word found
     → Saw a c word found
-saw_later a b c m word found p s = omega (arith, sightings_more a b a.inner.made m word found p)
+saw_later a b c m word found p s = omega (arith, sightings_more a b m word found p)
+
+saw_kept : {list : List (ℕ × ℕ)} (a b c : Seen) (m word found : ℕ) → Saw a b word found → Ran b c list m
+    → Saw a c word found
+saw_kept a b c m word found s p = omega (arith, sightings_more b c m word found p)
 
 one_sighting : (word found : ℕ) → only word word * only found found ≡ 1
 one_sighting word found = λ i. only_same word word refl i * only_same found found refl i
@@ -104,8 +109,8 @@ pub undone : (r found : ℕ) → found % 4294967296 < 3 → found ≢ stamp r 2 
     → found < stamp r 2
 undone r found small ne le = omega arith
 
-pub lacks_then : (job : JobParts) (r w m : ℕ) (a b c : Seen) → Ran a b a.inner.made m → Lacks job r w b c
-    → Lacks job r w a c
+pub lacks_then : {first : List (ℕ × ℕ)} (job : JobParts) (r w m : ℕ) (a b c : Seen) → Ran a b first m
+    → Lacks job r w b c → Lacks job r w a c
 lacks_then job r w m a b c p l = record {
   no_input = l.no_input;
   unknown = λ h set. let t = l.unknown h set in (
@@ -114,36 +119,149 @@ lacks_then job r w m a b c p l = record {
   );
 }
 
+lacks_kept : {list : List (ℕ × ℕ)} (job : JobParts) (r w m : ℕ) (a b c : Seen) → Lacks job r w a b
+    → Ran b c list m → Lacks job r w a c
+lacks_kept job r w m a b c l p = record {
+  no_input = l.no_input;
+  unknown = λ h set. let t = l.unknown h set in
+      (t.0, (t.1.0, t.1.1, saw_kept a b c m (at r h) t.1.0 t.1.2 p));
+}
+
+-- what an answer says is said after steps that went before,
+pub says_later : {first : List (ℕ × ℕ)} (job : JobParts) (r g m : ℕ) (a b c : Seen) (answer : Answer)
+    → Ran a b first m → Says job r g b c answer → Says job r g a c answer
+says_later job r g m a b c (Made label) p h = (h.0, h.1, omega (arith, p.known r g, h.2))
+says_later job r g m a b c (Done label) p h = h
+says_later job r g m a b c Taken p h =
+    (omega (arith, p.known r g, h.0), saw_later a b c m (at r g) (stamp r 1) p h.1)
+says_later job r g m a b c (NotYet w) p h =
+    (omega (arith, p.known r g, h.0), h.1, lacks_then job r w m a b c p h.2)
+
+-- and before steps that follow
+pub says_kept : {list : List (ℕ × ℕ)} (job : JobParts) (r g m : ℕ) (a b c : Seen) (answer : Answer)
+    → Says job r g a b answer → Ran b c list m → Says job r g a c answer
+says_kept job r g m a b c (Made label) h p = (h.0, omega (arith, p.known r g, h.1), h.2)
+says_kept job r g m a b c (Done label) h p = (h.0, omega (arith, p.known r g, h.1))
+says_kept job r g m a b c Taken h p = (h.0, saw_kept a b c m (at r g) (stamp r 1) h.1 p)
+says_kept job r g m a b c (NotYet w) h p = (h.0, h.1, lacks_kept job r w m a b c h.2 p)
+
 -- an answer after steps that made nothing
 pub answers_later : (job : JobParts) (r g m n : ℕ) (a b c : Seen) (answer : Answer) → Ran a b a.inner.made m
     → Answers job r g n b c answer → Answers job r g (m + n) a c answer
-answers_later job r g m n a b c (Made label) p h = (
-  h.0,
-  h.1,
-  omega (arith, p.known r g, h.2),
-  subst (λ l. Ran a c (l ++ (r, g) ∷ []) (m + n)) p.made
-      (ran_then a b c (b.inner.made ++ (r, g) ∷ []) m n p h.3),
-)
-answers_later job r g m n a b c (Done label) p h = (
-  h.0,
-  h.1,
-  subst (λ l. Ran a c l (m + n)) p.made (ran_then a b c b.inner.made m n p h.2),
-)
-answers_later job r g m n a b c Taken p h = (
-  omega (arith, p.known r g, h.0),
-  saw_later a b c m (at r g) (stamp r 1) p h.1,
-  subst (λ l. Ran a c l (m + n)) p.made (ran_then a b c b.inner.made m n p h.2),
-)
-answers_later job r g m n a b c (NotYet w) p h = (
-  omega (arith, p.known r g, h.0),
-  h.1,
-  lacks_then job r w m a b c p h.2,
-  subst (λ l. Ran a c l (m + n)) p.made (ran_then a b c b.inner.made m n p h.3),
+answers_later job r g m n a b c answer p h = (
+  says_later job r g m a b c answer p h.0,
+  subst (λ l. Ran a c (made_after r g l answer) (m + n)) p.made
+      (ran_then a b c (made_after r g b.inner.made answer) m n p h.1),
 )
 
+-- an answer that is not Made leaves the made list
+pub unmade : (r g : ℕ) (l : List (ℕ × ℕ)) (answer : Answer) → made_now answer ≡ 0
+    → made_after r g l answer ≡ l
+unmade r g l (Made label) e = absurd (omega arith)
+unmade r g l (Done label) e = refl
+unmade r g l Taken e = refl
+unmade r g l (NotYet w) e = refl
+
+length_made : (r g : ℕ) (l : List (ℕ × ℕ)) (answer : Answer)
+    → length (made_after r g l answer) ≡ length l + made_now answer
+length_made r g l (Made label) = omega (arith, length-append l ((r, g) ∷ []))
+length_made r g l (Done label) = omega arith
+length_made r g l Taken = omega arith
+length_made r g l (NotYet w) = omega arith
+
+-- an answer for another gate leaves how often a gate stands in the made list
+pub made_apart : (r g h : ℕ) (l : List (ℕ × ℕ)) (answer : Answer) → h ≢ g
+    → pairs r h (made_after r g l answer) ≡ pairs r h l
+made_apart r g h l (Made label) apart = omega (
+  arith,
+  total-append (is_pair r h) l ((r, g) ∷ []),
+  ap (λ n. only r r * n) (only_other h g apart),
+)
+made_apart r g h l (Done label) apart = refl
+made_apart r g h l Taken apart = refl
+made_apart r g h l (NotYet w) apart = refl
+
+-- two answers, of which the second call began where the first ended
+pub two_made : (job : JobParts) (r g h m n : ℕ) (a b c : Seen) (x y : Answer) → Answers job r g m a b x
+    → Answers job r h n b c y → AnswersTwo job r g h (m + n) a c (x, y)
+two_made job r g h m n a b c x y s t = (
+  says_kept job r g n a b c x s.0 t.1,
+  says_later job r h m a b c y s.1 t.0,
+  subst (λ l. Ran a c (made_after r h l y) (m + n)) s.1.made
+      (ran_then a b c (made_after r h b.inner.made y) m n s.1 t.1),
+)
+
+-- two answers after steps that made nothing
+pub two_later : (job : JobParts) (r g h m n : ℕ) (a b c : Seen) (both : Answer × Answer)
+    → Ran a b a.inner.made m → AnswersTwo job r g h n b c both → AnswersTwo job r g h (m + n) a c both
+two_later job r g h m n a b c both p t = (
+  says_later job r g m a b c both.0 p t.0,
+  says_later job r h m a b c both.1 p t.1,
+  subst (λ l. Ran a c (made_after r h (made_after r g l both.0) both.1) (m + n)) p.made
+      (ran_then a b c (made_after r h (made_after r g b.inner.made both.0) both.1) m n p t.2),
+)
+
+-- An answer that is not Made is one after any more steps.
+pub answers_unmade : (job : JobParts) (r g m n : ℕ) (a b : Seen) (answer : Answer) → m ≤ n → made_now answer ≡ 0
+    → Says job r g a b answer → Ran a b a.inner.made m → Answers job r g n a b answer
+answers_unmade job r g m n a b answer le e says p = (
+  says,
+  subst (λ l. Ran a b l n) (sym (unmade r g a.inner.made answer e)) (longer a b a.inner.made m n le p),
+)
+
+-- The second of two answers came before the steps of the first.
+pub two_with_first : (job : JobParts) (r g h m n : ℕ) (a b c : Seen) (x y : Answer) → Ran a b a.inner.made m
+    → Answers job r g n b c x → made_now y ≡ 0 → Says job r h a b y → AnswersTwo job r g h (m + n) a c (x, y)
+two_with_first job r g h m n a b c x y p s e says =
+    let first = answers_later job r g m n a b c x p s in (
+      first.0,
+      says_kept job r h n a b c y says s.1,
+      subst (λ l. Ran a c l (m + n)) (sym (unmade r h (made_after r g a.inner.made x) y e)) first.1,
+    )
+
+-- two calls of seven steps, one after another
+twice : (a b c : Seen) → Ran a b a.inner.made 7 → Ran b c b.inner.made 7 → Ran a c a.inner.made 14
+twice a b c p q = subst (λ l. Ran a c l 14) p.made (ran_then a b c b.inner.made 7 7 p q)
+
+-- Of two gates that were looked at, both were ready, one was, or none.
+pub two_ready : (job : JobParts) (r g h : ℕ) (a b c d : Seen) (both : Answer × Answer) → Ran a b a.inner.made 7
+    → Ran b c b.inner.made 7 → AnswersTwo job r g h 8 c d both → AnswersTwo job r g h 22 a d both
+two_ready job r g h a b c d both p q t = two_later job r g h 14 8 a c d both (twice a b c p q) t
+
+pub first_ready : (job : JobParts) (r g h : ℕ) (a b c d : Seen) (x y : Answer) → Ran a b a.inner.made 7
+    → Ran b c b.inner.made 7 → Answers job r g 4 c d x → (made_now y ≡ 0) × Says job r h b c y
+    → AnswersTwo job r g h 22 a d (x, y)
+first_ready job r g h a b c d x y p q s e =
+    two_with_first job r g h 18 4 a c d x y (longer a c a.inner.made 14 18 (omega arith) (twice a b c p q)) s
+    e.0 (says_later job r h 7 a b c y p e.1)
+
+pub second_ready : (job : JobParts) (r g h : ℕ) (a b c d : Seen) (x y : Answer) → Ran a b a.inner.made 7
+    → Ran b c b.inner.made 7 → (made_now x ≡ 0) × Says job r g a b x → Answers job r h 4 c d y
+    → AnswersTwo job r g h 22 a d (x, y)
+second_ready job r g h a b c d x y p q e t =
+    two_made job r g h 18 4 a c d x y
+    (answers_unmade job r g 14 18 a c x (omega arith) e.0 (says_kept job r g 7 a b c x e.1 q) (twice a b c p q)) t
+
+pub none_ready : (job : JobParts) (r g h : ℕ) (a b c : Seen) (x y : Answer) → Ran a b a.inner.made 7
+    → Ran b c b.inner.made 7 → (made_now x ≡ 0) × Says job r g a b x → (made_now y ≡ 0) × Says job r h b c y
+    → AnswersTwo job r g h 22 a c (x, y)
+none_ready job r g h a b c x y p q e f = (
+  says_kept job r g 7 a b c x e.1 q,
+  says_later job r h 7 a b c y p f.1,
+  subst (λ l. Ran a c l 22) (sym (unmade r h (made_after r g a.inner.made x) y f.0
+      ∙ unmade r g a.inner.made x e.0)) (longer a c a.inner.made 14 22 (omega arith) (twice a b c p q)),
+)
+
+-- what was found of a gate that isn't ready
+pub not_ready : (job : JobParts) (r g : ℕ) (a b : Seen) (found : Result Ready Answer) (answer : Answer)
+    → found ≡ Err answer → IfErr found (λ x. (made_now x ≡ 0) × Says job r g a b x)
+    → (made_now answer ≡ 0) × Says job r g a b answer
+not_ready job r g a b found answer is holds =
+    subst (λ f. IfErr f (λ x. (made_now x ≡ 0) × Says job r g a b x)) is holds
+
 -- what stays in a call
-pub ran_stays : (a b : Seen) (list : List (ℕ × ℕ)) (m : ℕ) → Ran a b list m → Stays a b
-ran_stays a b list m p = record {
+pub ran_stays : {list : List (ℕ × ℕ)} (a b : Seen) (m : ℕ) → Ran a b list m → Stays a b
+ran_stays a b m p = record {
   jobs = p.jobs;
   all = p.all;
   seats = p.seats;
@@ -152,21 +270,30 @@ ran_stays a b list m p = record {
   hand = p.hand;
 }
 
-pub answer_stays : (job : JobParts) (r g m : ℕ) (a b : Seen) (answer : Answer) → Answers job r g m a b answer
-    → Stays a b
-answer_stays job r g m a b (Made label) h = ran_stays a b (a.inner.made ++ (r, g) ∷ []) m h.3
-answer_stays job r g m a b (Done label) h = ran_stays a b a.inner.made m h.2
-answer_stays job r g m a b Taken h = ran_stays a b a.inner.made m h.2
-answer_stays job r g m a b (NotYet w) h = ran_stays a b a.inner.made m h.3
-
 -- how many gates are made after an answer
 pub answer_made : (job : JobParts) (r g m : ℕ) (a b : Seen) (answer : Answer) → Answers job r g m a b answer
     → length b.inner.made ≡ length a.inner.made + made_now answer
-answer_made job r g m a b (Made label) h =
-    omega (arith, ap length h.3.made, length-append a.inner.made ((r, g) ∷ []))
-answer_made job r g m a b (Done label) h = omega (arith, ap length h.2.made)
-answer_made job r g m a b Taken h = omega (arith, ap length h.2.made)
-answer_made job r g m a b (NotYet w) h = omega (arith, ap length h.3.made)
+answer_made job r g m a b answer h =
+    omega (arith, ap length h.1.made, length_made r g a.inner.made answer)
+
+pub two_made_now : (job : JobParts) (r g h m : ℕ) (a b : Seen) (both : Answer × Answer)
+    → AnswersTwo job r g h m a b both
+    → length b.inner.made ≡ length a.inner.made + (made_now both.0 + made_now both.1)
+two_made_now job r g h m a b both t = omega (
+  arith,
+  ap length t.2.made,
+  length_made r h (made_after r g a.inner.made both.0) both.1,
+  length_made r g a.inner.made both.0,
+)
+
+-- what is ready stays ready
+pub ready_later : {list : List (ℕ × ℕ)} (job : JobParts) (r g m : ℕ) (a b : Seen) (ready : Ready)
+    → Ran a b list m → IsReady job r g a ready → IsReady job r g b ready
+ready_later job r g m a b ready p is = record {
+  labels = is.labels;
+  found = omega (arith, p.looks r g ready.free, is.found);
+  free = is.free;
+}
 
 -- The round that a seat is inside, and its job.
 pub in_round : (jobs : List JobParts) (v : Seen) (r : ℕ) (job : JobParts) (P : ℕ → JobParts → Type 0)
@@ -227,7 +354,7 @@ pub gate_there : (jobs : List JobParts) (r w g : ℕ) (job : JobParts) → IsRou
 gate_there jobs r w g job is set = omega (arith, set_within job.circuit w g set, is.gates)
 
 -- banks with one seat
-pub alone_later : (a b : Seen) (m : ℕ) → Ran a b a.inner.made m → IsAlone a → IsAlone b
+pub alone_later : {list : List (ℕ × ℕ)} (a b : Seen) (m : ℕ) → Ran a b list m → IsAlone a → IsAlone b
 alone_later a b m p alone = p.seats ∙ alone ∙ sym p.all
 
 sets_back : (job : JobParts) (r w n m : ℕ) (a b : Seen) → Ran a b a.inner.made m → SetsMade job r w b n
@@ -276,13 +403,39 @@ lacking_back job r g m w a b p l gate there =
     (λ t. inr (t.0, sets_back job r w 0 m a b p t.1, λ u e. sets_back job r u 1 m a b p (t.2 u e)))
     (l gate there)
 
-pub alone_made : (job : JobParts) (r g m : ℕ) (a b : Seen) (answer : Answer) → Ran a b a.inner.made m
-    → IsMadeNow answer → pairs r g a.inner.made ≡ 0 → ReadsMade job r g b → AnswersAlone job r g a answer
-alone_made job r g m a b (Made label) p now none_yet reads =
-    (none_yet, λ gate w there e. sets_back job r w 1 m a b p (reads gate w there e))
-alone_made job r g m a b (Done label) p now none_yet reads = absurd now
-alone_made job r g m a b Taken p now none_yet reads = now
-alone_made job r g m a b (NotYet w) p now none_yet reads = absurd now
+pub reads_back : (job : JobParts) (r g m : ℕ) (a b : Seen) → Ran a b a.inner.made m → ReadsMade job r g b
+    → ReadsMade job r g a
+reads_back job r g m a b p reads gate w there e = sets_back job r w 1 m a b p (reads gate w there e)
+
+pub alone_back : (job : JobParts) (r g m : ℕ) (a b : Seen) (answer : Answer) → Ran a b a.inner.made m
+    → AnswersAlone job r g b answer → AnswersAlone job r g a answer
+alone_back job r g m a b (Made label) p h =
+    (ap (pairs r g) (sym p.made) ∙ h.0, reads_back job r g m a b p h.1)
+alone_back job r g m a b (Done label) p h = ap (pairs r g) (sym p.made) ∙ h
+alone_back job r g m a b Taken p h = h
+alone_back job r g m a b (NotYet w) p h =
+    (ap (pairs r g) (sym p.made) ∙ h.0, lacking_back job r g m w a b p h.1)
+
+pub alone_made : (job : JobParts) (r g : ℕ) (a : Seen) (answer : Answer) → IsMadeNow answer
+    → pairs r g a.inner.made ≡ 0 → ReadsMade job r g a → AnswersAlone job r g a answer
+alone_made job r g a (Made label) now none_yet reads = (none_yet, reads)
+alone_made job r g a (Done label) now none_yet reads = absurd now
+alone_made job r g a Taken now none_yet reads = now
+alone_made job r g a (NotYet w) now none_yet reads = absurd now
+
+-- what the only seat found of a gate
+abbrev pub FoundAlone : JobParts → ℕ → ℕ → Seen → Result Ready Answer → Type 0
+FoundAlone job r g v found =
+    MatchResult found (λ _. (pairs r g v.inner.made ≡ 0) × ReadsMade job r g v) (AnswersAlone job r g v)
+
+pub ready_alone : (job : JobParts) (r g : ℕ) (v : Seen) (found : Result Ready Answer) (ready : Ready)
+    → found ≡ Ok ready → FoundAlone job r g v found
+    → (pairs r g v.inner.made ≡ 0) × ReadsMade job r g v
+ready_alone job r g v found ready is holds = subst (FoundAlone job r g v) is holds
+
+pub answered_alone : (job : JobParts) (r g : ℕ) (v : Seen) (found : Result Ready Answer) (answer : Answer)
+    → found ≡ Err answer → FoundAlone job r g v found → AnswersAlone job r g v answer
+answered_alone job r g v found answer is holds = subst (FoundAlone job r g v) is holds
 
 -- what was known is known once a state was found
 known_more : (known : List (ℕ × ℕ)) (r g found k h : ℕ) → pairs k h known ≤ pairs k h (learnt known r g found)

@@ -1,6 +1,6 @@
 -- How a seat's view grows in a call inside a round, and what the answers of banks say. Where the answers of a board
 -- speak of gates, these speak of rounds with gates.
-use Rattle.std.specs.Prelude.{◌≡◌, ℕ, ◌*◌, ◌<◌, ◌≤◌, ◌⊎◌, List, [], ◌∷◌, ◌++◌, length, slice_get, Some}
+use Rattle.std.specs.Prelude.{◌≡◌, ◌≢◌, ℕ, ◌*◌, ◌<◌, ◌≤◌, ◌⊎◌, List, [], ◌∷◌, ◌++◌, length, slice_get, Some}
 use Rattle.gc_circuit.specs.declared.circuit.Gate.{Gate}
 use Rattle.gc_circuit.specs.Circuit.{IsSetBy, input_wires}
 use Rattle.gc_board.specs.Counts.{total, only}
@@ -11,10 +11,11 @@ use Rattle.gc_round_board.specs.Pairs.{pairs, looked}
 use Rattle.gc_round_board.specs.Board.{at, stamp}
 use Rattle.gc_round_board.specs.declared.view.BoardView.{BoardView}
 use Rattle.gc_eval.specs.Job.{JobParts}
-use Rattle.gc_eval.specs.ActiveLabels.{active, set_of}
+use Rattle.gc_eval.specs.ActiveLabels.{active, active_from, set_of}
 use Rattle.gc_eval.specs.Views.{Reads, first_of, second_of}
 use Rattle.gc_eval.specs.declared.seat.Answer.{Answer}
 use Rattle.gc_eval.specs.declared.seat.Answer.TheVariants.{Made, Done, Taken, NotYet}
+use Rattle.gc_bank.specs.declared.step.Ready.{Ready}
 
 -- what a seat of banks knows and has done
 abbrev pub Seen : Type 0
@@ -81,21 +82,42 @@ pub record Lacks (job : JobParts) (r w : ℕ) (old new : Seen) : Type 0 where
   pub no_input : w < input_wires job.circuit → ⊥
   pub unknown : (h : ℕ) → IsSetBy job.circuit w h → (pairs r h old.inner.known ≡ 0) × SawUndone old new r h
 
--- What an answer for gate g in round r says, after at most so many steps. Made: the label is right in the round's job,
--- the gate is known, it was not known, and it alone is appended to the made list, with the round. Done: the label is
--- right, and the gate known. Taken: it was not known, and its state was found at 1 of the round. NotYet: it was not
--- known, and it reads the wire, which lacks a label. Made alone changes the made list.
-abbrev pub Answers : JobParts → ℕ → ℕ → ℕ → Seen → Seen → Answer → Type 0
-Answers job r g most old new (Made label) =
+-- What an answer for gate g in round r says. Made: the label is right in the round's job, the gate is known, and it was
+-- not known. Done: the label is right, and the gate known. Taken: it was not known, and its state was found at 1 of the
+-- round. NotYet: it was not known, and it reads the wire, which lacks a label.
+abbrev pub Says : JobParts → ℕ → ℕ → Seen → Seen → Answer → Type 0
+Says job r g old new (Made label) =
     (label ≡ active job (set_of job g)) × Knows new r g × (pairs r g old.inner.known ≡ 0)
-    × Ran old new (old.inner.made ++ (r, g) ∷ []) most
-Answers job r g most old new (Done label) =
-    (label ≡ active job (set_of job g)) × Knows new r g × Ran old new old.inner.made most
-Answers job r g most old new Taken =
-    (pairs r g old.inner.known ≡ 0) × Saw old new (at r g) (stamp r 1) × Ran old new old.inner.made most
-Answers job r g most old new (NotYet w) =
+Says job r g old new (Done label) = (label ≡ active job (set_of job g)) × Knows new r g
+Says job r g old new Taken = (pairs r g old.inner.known ≡ 0) × Saw old new (at r g) (stamp r 1)
+Says job r g old new (NotYet w) =
     (pairs r g old.inner.known ≡ 0) × Reads job.circuit g w × Lacks job r w old new
-    × Ran old new old.inner.made most
+
+-- the made list after an answer for gate g in round r: Made alone appends to it, the gate with the round
+abbrev pub made_after : ℕ → ℕ → List (ℕ × ℕ) → Answer → List (ℕ × ℕ)
+made_after r g made (Made label) = made ++ (r, g) ∷ []
+made_after r g made (Done label) = made
+made_after r g made Taken = made
+made_after r g made (NotYet w) = made
+
+-- It was answered after at most so many steps, which changed the made list by this answer alone.
+abbrev pub Answers : JobParts → ℕ → ℕ → ℕ → Seen → Seen → Answer → Type 0
+Answers job r g most old new answer =
+    Says job r g old new answer × Ran old new (made_after r g old.inner.made answer) most
+
+-- Two gates were answered at once, after at most so many steps, which changed the made list by these answers alone, in
+-- this order.
+abbrev pub AnswersTwo : JobParts → ℕ → ℕ → ℕ → ℕ → Seen → Seen → Answer × Answer → Type 0
+AnswersTwo job r g h most old new answers =
+    Says job r g old new answers.0 × Says job r h old new answers.1
+    × Ran old new (made_after r h (made_after r g old.inner.made answers.0) answers.1) most
+
+-- What was found of gate g makes it in round r: its active label follows from the labels, and a load found its state
+-- word free.
+pub record IsReady (job : JobParts) (r g : ℕ) (v : Seen) (ready : Ready) : Type 0 where
+  pub labels : active_from job g ready.labels.0 ready.labels.1 ≡ active job (set_of job g)
+  pub found : 0 < looked r g ready.free v.inner.looks
+  pub free : ready.free ≤ stamp r 0
 
 -- 1 where the answer is Made, and else 0
 abbrev pub made_now : Answer → ℕ
@@ -133,3 +155,8 @@ AnswersAlone job r g old (Made label) = (pairs r g old.inner.made ≡ 0) × Read
 AnswersAlone job r g old (Done label) = pairs r g old.inner.made ≡ 1
 AnswersAlone job r g old Taken = ⊥
 AnswersAlone job r g old (NotYet w) = (pairs r g old.inner.made ≡ 0) × FirstLacking job r g old w
+
+-- What it is answered for two gates at once: for each, where they are two, what a step of that gate alone is answered.
+abbrev pub AnswersTwoAlone : JobParts → ℕ → ℕ → ℕ → Seen → Answer × Answer → Type 0
+AnswersTwoAlone job r g h old answers =
+    AnswersAlone job r g old answers.0 × (h ≢ g → AnswersAlone job r h old answers.1)

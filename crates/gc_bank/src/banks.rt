@@ -5,7 +5,7 @@ ghost use Rattle.std.specs.Prelude.{◌≡◌, ℕ, ◌+◌, ◌*◌, ◌<◌, �
 ghost use Rattle.gc_rounds.specs.declared.view.Stand.TheVariants.{Outside, Inside};
 ghost use Rattle.gc_rounds.specs.Calls.{Enters, Leaves, Seals, Reopens};
 ghost use Rattle.gc_eval.specs.ActiveLabels.{gates_of};
-ghost use Rattle.gc_bank.specs.Views.{Stays, Answers, AnswersAlone, Ran, Got, Lacks};
+ghost use Rattle.gc_bank.specs.Views.{Stays, Answers, AnswersTwo, AnswersAlone, AnswersTwoAlone, Ran, Got, Lacks};
 ghost use Rattle.gc_bank.specs.Seats.{IsSeatOf, IsSameSeat, IsInside, InRound, view, round_of, jobs_on};
 
 use crate::seat::{BankSeat, Banks};
@@ -74,6 +74,41 @@ impl<'j, 'c, B: Allocator, A: Allocator, C: Allocator> Banks<'j, 'c, B, A, C> {
             seat.count = seat.count.saturating_add(1);
         }
         answer
+    }
+
+    /// Steps two gates in the seat's round at once, in at most 22 atomic steps: for each it answers as `step` does, and the
+    /// gates that it makes are made in this order. A gate that isn't ready before the call isn't made ready by the other.
+    /// Two AND gates that are ready take about as long as one. That the seat is these banks' and inside a round, and that
+    /// there are such gates, is the caller's condition.
+    pub fn step_two(
+        &self,
+        seat: &mut BankSeat<B, A, C>,
+        first: u32,
+        second: u32,
+    ) -> (Answer, Answer)
+        requires own { IsSeatOf self.now seat.old }
+        requires inside { IsInside (view seat.old) }
+        requires first { InRound (jobs_on self.now) (view seat.old) (λ job. first < gates_of job) }
+        requires second { InRound (jobs_on self.now) (view seat.old) (λ job. second < gates_of job) }
+        ensures own { IsSeatOf self.now seat.new }
+        ensures same { IsSameSeat seat.old seat.new }
+        ensures stays { Stays (view seat.old) (view seat.new) }
+        ensures answers { InRound (jobs_on self.now) (view seat.old)
+            (λ job. AnswersTwo job (round_of (view seat.old)) first second 22 (view seat.old) (view seat.new) result) }
+        ensures alone { self.now.seats ≡ 1 → InRound (jobs_on self.now) (view seat.old)
+            (λ job. AnswersTwoAlone job (round_of (view seat.old)) first second (view seat.old) result) }
+    {
+        let Some(round) = seat.inside else {
+            unreachable!()
+        };
+        let (answer, next_answer) = self.step_two_in(&mut seat.place, round, first, second);
+        if let Answer::Made(_) = answer {
+            seat.count = seat.count.saturating_add(1);
+        }
+        if let Answer::Made(_) = next_answer {
+            seat.count = seat.count.saturating_add(1);
+        }
+        (answer, next_answer)
     }
 
     /// The active label of a wire in the seat's round, if it is an input wire or the gate that sets it is done in the

@@ -12,6 +12,7 @@ mod seat;
 mod series;
 mod step;
 mod together;
+mod walk;
 mod worker;
 
 pub use gc_board::OpenFault;

@@ -1,21 +1,20 @@
 //! What a seat does inside a round: it steps a gate and asks for a label.
 
-ghost use Rattle.std.specs.Prelude.{◌≡◌, ℕ, ◌+◌, ◌*◌, ◌<◌, ◌≤◌, ◌++◌, ◌∷◌, [], length, slice_get, IfSome, IfNone, IfOk, IfErr, MatchOption, MatchResult, Some, None};
+ghost use Rattle.std.specs.Prelude.{◌≡◌, ◌≢◌, ℕ, ◌+◌, ◌*◌, ◌<◌, ◌≤◌, ◌++◌, ◌∷◌, [], length, slice_get, IfSome, IfNone, IfOk, IfErr, MatchOption, MatchResult, Some, None};
 ghost use Rattle.gc_rounds.specs.Places.{IsSamePlace};
 ghost use Rattle.gc_round_board.specs.declared.view.Hand.TheVariants.{Empty};
 ghost use Rattle.gc_round_board.specs.Pairs.{pairs, looked};
 ghost use Rattle.gc_round_board.specs.Board.{stamp};
 ghost use Rattle.gc_round_board.specs.Places.{IsPlaceInside, IsPlaceAt};
 ghost use Rattle.gc_eval.specs.ActiveLabels.{gates_of as gates_in, active, set_of, active_from};
-ghost use Rattle.gc_eval.specs.Views.{Reads, first_of, second_of, IsMadeNow};
+ghost use Rattle.gc_eval.specs.Views.{Reads, IsMadeNow};
 ghost use Rattle.gc_bank.specs.Rounds.{gates_of, IsRound};
-ghost use Rattle.gc_bank.specs.Views.{Stays, made_now, Ran, Got, Lacks, Answers, Knows, IsAlone, SetsMade, ReadsMade, FirstLacking, AnswersAlone};
+ghost use Rattle.gc_bank.specs.Views.{Stays, made_now, Ran, Got, Lacks, Says, Answers, AnswersTwo, IsReady, Knows, IsAlone, SetsMade, ReadsMade, FirstLacking, AnswersAlone, AnswersTwoAlone};
 ghost use Rattle.gc_bank.specs.Seats.{InRound, round_of};
 
 use crate::seat::Banks;
 use crate::series::Series;
-use gc_circuit::Operation;
-use gc_eval::{Answer, Job};
+use gc_eval::{Answer, Job, first_wire, second_wire};
 use gc_label::Label;
 use gc_round_board::{
     Place, Words, claim, load_high, load_low, load_state, store_done, store_high, store_low,
@@ -58,28 +57,11 @@ fn done(round: u32) -> u64
     0x1_0000_0000 * round as u64 + 2
 }
 
-/// The wire that an operation reads first.
-fn first(operation: Operation) -> Option<u32>
-    ensures { result ≡ first_of operation }
-{
-    match operation {
-        Operation::Xor(a, _) => Some(a),
-        Operation::And(a, _) => Some(a),
-        Operation::Inv(a) => Some(a),
-        Operation::Eqw(a) => Some(a),
-        Operation::Eq(_) => None,
-    }
-}
-
-/// The wire that it reads second.
-fn second(operation: Operation) -> Option<u32>
-    ensures { result ≡ second_of operation }
-{
-    match operation {
-        Operation::Xor(_, b) => Some(b),
-        Operation::And(_, b) => Some(b),
-        _ => None,
-    }
+/// What a gate is made of in a round: the labels that it reads, and its state word, which was found free.
+#[derive(Clone, Copy)]
+struct Ready {
+    labels: (Label, Label),
+    free: u64,
 }
 
 impl<'j, 'c, B: Allocator, A: Allocator, C: Allocator> Banks<'j, 'c, B, A, C> {
@@ -183,26 +165,65 @@ impl<'j, 'c, B: Allocator, A: Allocator, C: Allocator> Banks<'j, 'c, B, A, C> {
             (λ w. FirstLacking job.now round gate place.old.me.0 w) }
     {
         let operation = job.circuit().gate(gate).operation;
-        let a = match self.read_some(place, job, round, first(operation)) {
+        let a = match self.read_some(place, job, round, first_wire(operation)) {
             Ok(label) => label,
             Err(wire) => return Err(wire),
         };
-        let b = match self.read_some(place, job, round, second(operation)) {
+        let b = match self.read_some(place, job, round, second_wire(operation)) {
             Ok(label) => label,
             Err(wire) => return Err(wire),
         };
         Ok((a, b))
     }
 
-    /// Makes a gate whose labels were read, where no seat has it in the round since its state word was found free.
-    fn make(
+    /// What a gate is made of in the round, where its state word is found free and the labels that it reads are there. The
+    /// fault is the answer.
+    fn ready(
+        &self,
+        place: &mut Place<Series<B, A, C>>,
+        job: &Job<'c, A, C>,
+        round: u32,
+        gate: u32,
+    ) -> Result<Ready, Answer>
+        requires place { IsPlaceAt gates_of self.now.board.table.shared.table_id
+            self.now.board.table.shared.key place.old round gate }
+        requires job { IsRound self.now.board.table.shared.key.about round job.now
+            × (job.now.circuit ≡ self.now.wiring) }
+        requires empty { (place.old.me.0.inner.hand ≡ Empty) × (0 < place.old.me.0.seats) }
+        ensures same { IsSamePlace place.old place.new }
+        ensures ran { Ran place.old.me.0 place.new.me.0 place.old.me.0.inner.made 7 }
+        ensures ok { IfOk result (IsReady job.now round gate place.new.me.0) }
+        ensures err { IfErr result (λ answer. (made_now answer ≡ 0)
+            × Says job.now round gate place.old.me.0 place.new.me.0 answer) }
+        ensures alone { IsAlone place.old.me.0
+            → MatchResult result (λ _. (pairs round gate place.old.me.0.inner.made ≡ 0)
+            × ReadsMade job.now round gate place.old.me.0)
+            (AnswersAlone job.now round gate place.old.me.0) }
+    {
+        let words = &self.board.table.shared;
+        let free = load_state(words, place, round, gate);
+        if free == done(round) {
+            return Err(Answer::Done(load_label(words, place, job, round, gate)));
+        }
+        if free == held(round) {
+            return Err(Answer::Taken);
+        }
+        match self.read_both(place, job, round, gate) {
+            Ok(labels) => Ok(Ready { labels, free }),
+            Err(wire) => Err(Answer::NotYet(wire)),
+        }
+    }
+
+    /// Publishes the label of the wire that a gate sets, where no seat has the gate in the round since its state word was
+    /// found free.
+    fn publish(
         &self,
         place: &mut Place<Series<B, A, C>>,
         job: &Job<'c, A, C>,
         round: u32,
         gate: u32,
         free: u64,
-        labels: (Label, Label),
+        label: Label,
     ) -> Answer
         requires place { IsPlaceAt gates_of self.now.board.table.shared.table_id
             self.now.board.table.shared.key place.old round gate }
@@ -210,7 +231,7 @@ impl<'j, 'c, B: Allocator, A: Allocator, C: Allocator> Banks<'j, 'c, B, A, C> {
             × (job.now.circuit ≡ self.now.wiring) }
         requires empty { (place.old.me.0.inner.hand ≡ Empty) × (0 < place.old.me.0.seats) }
         requires free { (0 < looked round gate free place.old.me.0.inner.looks) × (free ≤ stamp round 0) }
-        requires labels { active_from job.now gate labels.0 labels.1 ≡ active job.now (set_of job.now gate) }
+        requires label { label ≡ active job.now (set_of job.now gate) }
         ensures same { IsSamePlace place.old place.new }
         ensures answer { Answers job.now round gate 4 place.old.me.0 place.new.me.0 result }
         ensures alone { IsAlone place.old.me.0
@@ -224,12 +245,75 @@ impl<'j, 'c, B: Allocator, A: Allocator, C: Allocator> Banks<'j, 'c, B, A, C> {
         if found == held(round) {
             return Answer::Taken;
         }
-        let label = job.active_by(&self.wiring, gate, labels.0, labels.1);
         let (low, high) = label.halves();
         store_low(words, place, round, gate, low);
         store_high(words, place, round, gate, high);
         store_done(words, place, round, gate);
         Answer::Made(label)
+    }
+
+    /// Makes a gate that is ready, where no seat has it by now.
+    fn make(
+        &self,
+        place: &mut Place<Series<B, A, C>>,
+        job: &Job<'c, A, C>,
+        round: u32,
+        gate: u32,
+        ready: Ready,
+    ) -> Answer
+        requires place { IsPlaceAt gates_of self.now.board.table.shared.table_id
+            self.now.board.table.shared.key place.old round gate }
+        requires job { IsRound self.now.board.table.shared.key.about round job.now
+            × (job.now.circuit ≡ self.now.wiring) }
+        requires empty { (place.old.me.0.inner.hand ≡ Empty) × (0 < place.old.me.0.seats) }
+        requires ready { IsReady job.now round gate place.old.me.0 ready }
+        ensures same { IsSamePlace place.old place.new }
+        ensures answer { Answers job.now round gate 4 place.old.me.0 place.new.me.0 result }
+        ensures alone { IsAlone place.old.me.0
+            → pairs round gate place.old.me.0.inner.made ≡ 0 → IsMadeNow result }
+    {
+        let (a, b) = ready.labels;
+        let label = job.active_by(&self.wiring, gate, a, b);
+        self.publish(place, job, round, gate, ready.free, label)
+    }
+
+    /// Makes two gates that are ready, each where no seat has it by now. Both labels are worked out at once, before a gate
+    /// is claimed.
+    fn make_two(
+        &self,
+        place: &mut Place<Series<B, A, C>>,
+        job: &Job<'c, A, C>,
+        round: u32,
+        first: (u32, Ready),
+        second: (u32, Ready),
+    ) -> (Answer, Answer)
+        requires first { IsPlaceAt gates_of self.now.board.table.shared.table_id
+            self.now.board.table.shared.key place.old round first.0 }
+        requires second { IsPlaceAt gates_of self.now.board.table.shared.table_id
+            self.now.board.table.shared.key place.old round second.0 }
+        requires job { IsRound self.now.board.table.shared.key.about round job.now
+            × (job.now.circuit ≡ self.now.wiring) }
+        requires empty { (place.old.me.0.inner.hand ≡ Empty) × (0 < place.old.me.0.seats) }
+        requires ready { IsReady job.now round first.0 place.old.me.0 first.1
+            × IsReady job.now round second.0 place.old.me.0 second.1 }
+        ensures same { IsSamePlace place.old place.new }
+        ensures answers { AnswersTwo job.now round first.0 second.0 8 place.old.me.0 place.new.me.0 result }
+        ensures alone { IsAlone place.old.me.0
+            → (pairs round first.0 place.old.me.0.inner.made ≡ 0 → IsMadeNow result.0)
+            × (second.0 ≢ first.0 → pairs round second.0 place.old.me.0.inner.made ≡ 0 → IsMadeNow result.1) }
+    {
+        let (gate, ready) = first;
+        let (next_gate, next_ready) = second;
+        let (label, next_label) = job.active_two(
+            &self.wiring,
+            gate,
+            ready.labels,
+            next_gate,
+            next_ready.labels,
+        );
+        let answer = self.publish(place, job, round, gate, ready.free, label);
+        let next_answer = self.publish(place, job, round, next_gate, next_ready.free, next_label);
+        (answer, next_answer)
     }
 
     /// A step, at the place of a seat.
@@ -249,17 +333,40 @@ impl<'j, 'c, B: Allocator, A: Allocator, C: Allocator> Banks<'j, 'c, B, A, C> {
         ensures answer { Answers job.now round gate 11 place.old.me.0 place.new.me.0 result }
         ensures alone { IsAlone place.old.me.0 → AnswersAlone job.now round gate place.old.me.0 result }
     {
-        let words = &self.board.table.shared;
-        let found = load_state(words, place, round, gate);
-        if found == done(round) {
-            return Answer::Done(load_label(words, place, job, round, gate));
+        match self.ready(place, job, round, gate) {
+            Ok(ready) => self.make(place, job, round, gate, ready),
+            Err(answer) => answer,
         }
-        if found == held(round) {
-            return Answer::Taken;
-        }
-        match self.read_both(place, job, round, gate) {
-            Ok(labels) => self.make(place, job, round, gate, found, labels),
-            Err(wire) => Answer::NotYet(wire),
+    }
+
+    /// A step of two gates, at the place of a seat.
+    pub(crate) fn step_two_at(
+        &self,
+        place: &mut Place<Series<B, A, C>>,
+        job: &Job<'c, A, C>,
+        round: u32,
+        first: u32,
+        second: u32,
+    ) -> (Answer, Answer)
+        requires first { IsPlaceAt gates_of self.now.board.table.shared.table_id
+            self.now.board.table.shared.key place.old round first }
+        requires second { IsPlaceAt gates_of self.now.board.table.shared.table_id
+            self.now.board.table.shared.key place.old round second }
+        requires job { IsRound self.now.board.table.shared.key.about round job.now
+            × (job.now.circuit ≡ self.now.wiring) }
+        requires empty { (place.old.me.0.inner.hand ≡ Empty) × (0 < place.old.me.0.seats) }
+        ensures same { IsSamePlace place.old place.new }
+        ensures answers { AnswersTwo job.now round first second 22 place.old.me.0 place.new.me.0 result }
+        ensures alone { IsAlone place.old.me.0
+            → AnswersTwoAlone job.now round first second place.old.me.0 result }
+    {
+        let one = self.ready(place, job, round, first);
+        let other = self.ready(place, job, round, second);
+        match (one, other) {
+            (Ok(one), Ok(other)) => self.make_two(place, job, round, (first, one), (second, other)),
+            (Ok(one), Err(answer)) => (self.make(place, job, round, first, one), answer),
+            (Err(answer), Ok(other)) => (answer, self.make(place, job, round, second, other)),
+            (Err(one), Err(other)) => (one, other),
         }
     }
 
@@ -285,6 +392,32 @@ impl<'j, 'c, B: Allocator, A: Allocator, C: Allocator> Banks<'j, 'c, B, A, C> {
             ≡ length place.old.me.0.inner.made + made_now result }
     {
         self.step_at(place, self.job(round), round, gate)
+    }
+
+    /// A step of two gates in the round that the seat at this place is inside.
+    pub(crate) fn step_two_in(
+        &self,
+        place: &mut Place<Series<B, A, C>>,
+        round: u32,
+        first: u32,
+        second: u32,
+    ) -> (Answer, Answer)
+        requires place { IsPlaceInside gates_of self.now.board.table.shared.table_id
+            self.now.board.table.shared.key place.old round }
+        requires round { round < length self.now.jobs.now }
+        requires first { InRound self.now.jobs.now place.old.me.0 (λ job. first < gates_in job) }
+        requires second { InRound self.now.jobs.now place.old.me.0 (λ job. second < gates_in job) }
+        requires empty { (place.old.me.0.inner.hand ≡ Empty) × (0 < place.old.me.0.seats) }
+        ensures same { IsSamePlace place.old place.new }
+        ensures answers { InRound self.now.jobs.now place.old.me.0
+            (λ job. AnswersTwo job (round_of place.old.me.0) first second 22 place.old.me.0 place.new.me.0 result) }
+        ensures alone { IsAlone place.old.me.0 → InRound self.now.jobs.now place.old.me.0
+            (λ job. AnswersTwoAlone job (round_of place.old.me.0) first second place.old.me.0 result) }
+        ensures stays { Stays place.old.me.0 place.new.me.0 }
+        ensures made { length place.new.me.0.inner.made
+            ≡ length place.old.me.0.inner.made + (made_now result.0 + made_now result.1) }
+    {
+        self.step_two_at(place, self.job(round), round, first, second)
     }
 
     /// The label of a wire in the round that the seat at this place is inside.

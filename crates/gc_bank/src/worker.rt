@@ -10,7 +10,8 @@ ghost use Rattle.gc_bank.specs.Seats.{IsSeatOf, IsNew, view, jobs_on};
 ghost use Rattle.gc_bank.specs.Workers.{AreBitsOf, IsWorkerOf};
 
 use crate::seat::{BankSeat, Banks};
-use gc_eval::{Answer, Job, KnownGates};
+use crate::walk::{Walk, pass};
+use gc_eval::Job;
 use gc_gatehouse::Gatehouse;
 use gc_label::Label;
 use gc_rounds::{Entry, Reopening};
@@ -28,47 +29,13 @@ pub(crate) struct Outputs<B: Allocator> {
     pub(crate) bits: Vec<bool, B>,
 }
 
-/// What a worker has of its own: its number, the gate that its passes begin with, its seat at the banks, the gates that
-/// it knows to be done in the round that it is inside, and the output bits that it keeps.
+/// What a worker has of its own: its walk through the gates of the round that it is inside, its seat at the banks, and the
+/// output bits that it keeps.
 #[derive(Drop)]
 pub(crate) struct Worker<B: Allocator, A: Allocator, C: Allocator> {
-    number: u32,
-    first: u32,
+    walk: Walk<B>,
     pub(crate) seat: BankSeat<B, A, C>,
-    known: KnownGates<B>,
     pub(crate) kept: Vec<Outputs<B>, B>,
-}
-
-/// One part of a pass over the gates that the worker doesn't know to be done, in file order. The answer is whether it
-/// made a gate, or learnt of one.
-fn pass<'j, 'c, B: Allocator, A: Allocator, C: Allocator, H: Gatehouse>(
-    banks: &Banks<'j, 'c, B, A, C>,
-    house: &H,
-    number: u32,
-    seat: &mut BankSeat<B, A, C>,
-    known: &mut KnownGates<B>,
-    round: u32,
-    from: u32,
-) -> bool
-    requires own { IsSeatOf banks.now seat.old }
-    requires inside { (view seat.old).stand ≡ Inside round }
-    requires round { round < length (jobs_on banks.now) }
-    ensures own { IsSeatOf banks.now seat.new }
-    ensures inside { (view seat.new).stand ≡ Inside round }
-{
-    let gates = banks.job(round).circuit().gates();
-    let mut learnt = false;
-    for gate in from..gates {
-        if known.has(gate) {
-            continue;
-        }
-        house.before(number, gate);
-        if let Answer::Made(_) | Answer::Done(_) = banks.step(seat, gate) {
-            known.add(gate);
-            learnt = true;
-        }
-    }
-    learnt
 }
 
 /// The labels of the output wires of the round, in order, where each has one.
@@ -139,34 +106,49 @@ fn decoded<B: Allocator + Copy, A: Allocator, C: Allocator>(
     }
 }
 
-/// Works inside the round, as long as a pass made a gate or learnt of one, until each output wire has a label: then it
-/// seals the round, and answers the output bits.
-fn bits_of_round<'j, 'c, B: Allocator + Copy, A: Allocator, C: Allocator, H: Gatehouse>(
+/// The output bits that these active labels of the output wires of a round decode to, where they are recognised.
+fn bits_of_round<'j, 'c, B: Allocator + Copy, A: Allocator, C: Allocator>(
+    alloc: B,
+    banks: &Banks<'j, 'c, B, A, C>,
+    round: u32,
+    labels: &[Label],
+) -> Option<Vec<bool, B>>
+    requires round { round < length (jobs_on banks.now) }
+    requires labels { (job : JobParts) → slice_get (jobs_on banks.now) round ≡ Some job
+        → labels.now ≡ on_outputs job.circuit (active job) }
+    ensures { IfSome result (λ v. AreBitsOf (jobs_on banks.now) round v.items) }
+{
+    decoded(alloc, banks.job(round), labels)
+}
+
+/// Works inside the round, at its share first and then at all gates, as long as a pass made a gate or learnt of one, until
+/// each output wire has a label. These labels are the answer.
+fn labels_of_round<'j, 'c, B: Allocator + Copy, A: Allocator, C: Allocator, H: Gatehouse>(
     alloc: B,
     banks: &Banks<'j, 'c, B, A, C>,
     house: &H,
-    number: u32,
-    first: u32,
     seat: &mut BankSeat<B, A, C>,
-    known: &mut KnownGates<B>,
+    walk: &mut Walk<B>,
     round: u32,
-) -> Option<Vec<bool, B>>
+) -> Option<Vec<Label, B>>
     requires own { IsSeatOf banks.now seat.old }
     requires inside { (view seat.old).stand ≡ Inside round }
     requires round { round < length (jobs_on banks.now) }
     ensures own { IsSeatOf banks.now seat.new }
     ensures inside { (view seat.new).stand ≡ Inside round }
-    ensures bits { IfSome result (λ v. AreBitsOf (jobs_on banks.now) round v.items) }
+    ensures labels { IfSome result (λ v. (job : JobParts)
+        → slice_get (jobs_on banks.now) round ≡ Some job
+        → v.items ≡ on_outputs job.circuit (active job)) }
 {
-    let job = banks.job(round);
-    for _pass in 0..=job.circuit().gates() {
-        let late = pass(banks, house, number, seat, known, round, first);
-        let early = pass(banks, house, number, seat, known, round, 0);
+    let gates = banks.job(round).circuit().gates();
+    for turn in 0..=gates {
+        let (first, end) = (walk.first, if turn == 0 { walk.end } else { gates });
+        let late = pass(banks, house, seat, walk, round, first, end);
+        let early = turn > 0 && pass(banks, house, seat, walk, round, 0, first);
         if let Some(labels) = seen_labels(alloc, banks, seat, round) {
-            banks.seal(seat);
-            return decoded(alloc, job, &labels);
+            return Some(labels);
         }
-        if !late && !early {
+        if turn > 0 && !late && !early {
             return None;
         }
     }
@@ -195,7 +177,8 @@ fn await_bank<'j, 'c, B: Allocator, A: Allocator, C: Allocator>(
 }
 
 impl<B: Allocator + Copy, A: Allocator, C: Allocator> Worker<B, A, C> {
-    /// Goes through one round: it enters, works, keeps the output bits that it sees, and leaves.
+    /// Goes through one round: it enters, works, and leaves. Where it saw the labels of all output wires, it seals the
+    /// round and keeps the output bits.
     fn serve<'j, 'c, H: Gatehouse>(
         &mut self,
         alloc: B,
@@ -208,19 +191,34 @@ impl<B: Allocator + Copy, A: Allocator, C: Allocator> Worker<B, A, C> {
         ensures { IsWorkerOf banks.now self.new }
     {
         if let Entry::Inside = banks.enter(&mut self.seat, round) {
-            self.known.clear();
-            let bits = bits_of_round(
-                alloc,
-                banks,
-                house,
-                self.number,
-                self.first,
-                &mut self.seat,
-                &mut self.known,
-                round,
-            );
+            self.walk.known.clear();
+            let seen = labels_of_round(alloc, banks, house, &mut self.seat, &mut self.walk, round);
             banks.leave(&mut self.seat);
-            if let Some(bits) = bits {
+            if let Some(labels) = seen {
+                self.keep(alloc, banks, round, &labels);
+            }
+        }
+    }
+
+    /// Seals the round and keeps the output bits of these labels, where no worker did so yet. The labels are decoded
+    /// outside of the round, which nobody waits for.
+    fn keep<'j, 'c>(
+        &mut self,
+        alloc: B,
+        banks: &Banks<'j, 'c, B, A, C>,
+        round: u32,
+        labels: &[Label],
+    )
+        requires worker { IsWorkerOf banks.now self.old }
+        requires round { round < length (jobs_on banks.now) }
+        requires labels { (job : JobParts) → slice_get (jobs_on banks.now) round ≡ Some job
+            → labels.now ≡ on_outputs job.circuit (active job) }
+        ensures { IsWorkerOf banks.now self.new }
+    {
+        if let Entry::Inside = banks.enter(&mut self.seat, round) {
+            banks.seal(&mut self.seat);
+            banks.leave(&mut self.seat);
+            if let Some(bits) = bits_of_round(alloc, banks, round, labels) {
                 // A job whose bits can't be kept is evaluated in the end.
                 let _ = self.kept.push(Outputs { round, bits });
             }
@@ -250,19 +248,15 @@ impl<B: Allocator + Copy, A: Allocator, C: Allocator> Worker<B, A, C> {
 fn recruit<'j, 'c, B: Allocator, A: Allocator, C: Allocator>(
     alloc: B,
     _banks: &Banks<'j, 'c, B, A, C>,
-    number: u32,
-    first: u32,
     seat: BankSeat<B, A, C>,
-    known: KnownGates<B>,
+    walk: Walk<B>,
 ) -> Worker<B, A, C>
     requires { IsSeatOf _banks.now seat × IsNew (view seat) }
     ensures { IsWorkerOf _banks.now result }
 {
     Worker {
-        number,
-        first,
+        walk,
         seat,
-        known,
         kept: Vec::new(alloc),
     }
 }
@@ -281,15 +275,8 @@ pub(crate) fn muster<'j, 'c, B: Allocator + Copy, A: Allocator, C: Allocator>(
     let mut workers = Vec::with_capacity(alloc, seats.len())?;
     while let Some(seat) = seats.pop() {
         let number = u32::try_from(seats.len()).unwrap_or(0);
-        let known = KnownGates::none(alloc, gates)?;
-        let worker = recruit(
-            alloc,
-            banks,
-            number,
-            share.saturating_mul(number),
-            seat,
-            known,
-        );
+        let walk = Walk::new(alloc, number, gates, share)?;
+        let worker = recruit(alloc, banks, seat, walk);
         workers.push(worker)?;
     }
     Ok(workers)

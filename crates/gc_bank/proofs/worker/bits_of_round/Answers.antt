@@ -1,4 +1,4 @@
-use Rattle.std.proofs.Common.{Ok, ◌∙◌, Vec, Bool}
+use Rattle.std.proofs.Common.{Ok, Vec, Bool}
 use Rattle.gc_eval.specs.Evaluate.{IsEvaluated}
 use Rattle.gc_bank.specs.Seats.{jobs_on}
 use Rattle.gc_bank.specs.Workers.{AreBitsOf}
@@ -6,12 +6,11 @@ use Rattle.gc_bank.proofs.JobLemmas.{if_some, bits_at}
 use Rattle.gc_bank.proofs.worker.bits_of_round.Goals as goal
 
 pub decoded-requires : goal.decoded-requires
-decoded-requires g c =
-    c.deref.ensures.value ∙ c.in-Some.ensures.labels c.job-job.result.now c.job-job.ensures.at
+decoded-requires g c = c.requires.labels c.job.result.now c.job.ensures.at
 
-pub returns-in-Some-clause-bits : goal.returns-in-Some-clause-bits
-returns-in-Some-clause-bits g c =
+pub returns : goal.returns
+returns g c =
     let jobs = jobs_on c.args.banks.now in
-    let job = c.job-job.result.now in
+    let job = c.job.result.now in
     if_some (λ (v : Vec Bool _). IsEvaluated job (Ok v.items)) (λ v. AreBitsOf jobs c.args.round v.items)
-    c.decoded.result (λ v is. bits_at jobs c.args.round job v.items c.job-job.ensures.at is) c.decoded.ensures
+    c.decoded.result (λ v is. bits_at jobs c.args.round job v.items c.job.ensures.at is) c.decoded.ensures

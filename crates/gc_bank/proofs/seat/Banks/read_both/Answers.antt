@@ -11,7 +11,7 @@ returns-in-Err-read_some-clause-err g c =
     ap (λ (n : Netlist). slice_get n.gates c.args.gate) (sym c.circuit.ensures.circuit)
     ∙ c.gate-operation.ensures in
     let err = c.in-Err-read_some.ensures.err in (
-      record { gate = c.gate-operation.result; at = at; reads = inr (sym c.second.ensures ∙ err.0) },
+      record { gate = c.gate-operation.result; at = at; reads = inr (sym c.second_wire.ensures ∙ err.0) },
       lacks_then job c.args.round c.in-Err-read_some.wire 3 c.args.place.now.me.0
           c.read_some.new.place.me.0 c.read_some-2.new.place.me.0 c.read_some.ensures.ran err.1,
     )
@@ -24,8 +24,8 @@ returns-clause-ok g c =
     ∙ c.gate-operation.ensures in
     active_step job c.args.gate c.in-Ok.label c.in-Ok-read_some.label c.gate-operation.result
     c.circuit.ensures.whole.lawful at
-    (λ w e. c.in-Ok.ensures.ok w (c.first.ensures ∙ e))
-    (λ w e. c.in-Ok-read_some.ensures.ok w (c.second.ensures ∙ e))
+    (λ w e. c.in-Ok.ensures.ok w (c.first_wire.ensures ∙ e))
+    (λ w e. c.in-Ok-read_some.ensures.ok w (c.second_wire.ensures ∙ e))
 
 pub returns-in-Err-read_some-clause-alone : goal.returns-in-Err-read_some-clause-alone
 returns-in-Err-read_some-clause-alone g c = λ alone.
@@ -37,9 +37,9 @@ returns-in-Err-read_some-clause-alone g c = λ alone.
     let mid = c.read_some.new.place.me.0 in
     let ran = c.read_some.ensures.ran in
     both_err job c.args.round c.args.gate 3 c.gate-operation.result c.in-Err-read_some.wire old mid at ran
-    (sym c.second.ensures ∙ c.in-Err-read_some.ensures.err.0)
+    (sym c.second_wire.ensures ∙ c.in-Err-read_some.ensures.err.0)
     (c.in-Err-read_some.ensures.alone (alone_later old mid 3 ran alone))
-    (λ u e. c.in-Ok.ensures.alone alone u (c.first.ensures ∙ e))
+    (λ u e. c.in-Ok.ensures.alone alone u (c.first_wire.ensures ∙ e))
 
 pub returns-clause-alone : goal.returns-clause-alone
 returns-clause-alone g c = λ alone.
@@ -51,5 +51,5 @@ returns-clause-alone g c = λ alone.
     let mid = c.read_some.new.place.me.0 in
     let ran = c.read_some.ensures.ran in
     both_ok job c.args.round c.args.gate 3 c.gate-operation.result old mid at ran
-    (λ u e. c.in-Ok.ensures.alone alone u (c.first.ensures ∙ e))
-    (λ u e. c.in-Ok-read_some.ensures.alone (alone_later old mid 3 ran alone) u (c.second.ensures ∙ e))
+    (λ u e. c.in-Ok.ensures.alone alone u (c.first_wire.ensures ∙ e))
+    (λ u e. c.in-Ok-read_some.ensures.alone (alone_later old mid 3 ran alone) u (c.second_wire.ensures ∙ e))

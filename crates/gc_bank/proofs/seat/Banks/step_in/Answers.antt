@@ -1,7 +1,7 @@
 use Rattle.std.proofs.Common.{◌<◌}
 use Rattle.gc_eval.specs.ActiveLabels.{gates_of as gates_in}
 use Rattle.gc_bank.specs.Views.{Answers, AnswersAlone}
-use Rattle.gc_bank.proofs.RunLemmas.{in_round, of_round, answer_stays, answer_made}
+use Rattle.gc_bank.proofs.RunLemmas.{in_round, of_round, ran_stays, answer_made}
 use Rattle.gc_bank.proofs.seat.Banks.step_in.Goals as goal
 
 pub returns-clause-answer : goal.returns-clause-answer
@@ -19,7 +19,8 @@ returns-clause-alone g c = λ alone.
     c.requires.place.inside c.job.ensures.at (c.step_at.ensures.alone alone)
 
 pub returns-clause-stays : goal.returns-clause-stays
-returns-clause-stays g c = answer_stays c.job.result.now _ _ _ _ _ c.step_at.result c.step_at.ensures.answer
+returns-clause-stays g c =
+    ran_stays c.args.place.now.me.0 c.step_at.new.place.me.0 11 c.step_at.ensures.answer.1
 
 pub returns-clause-made : goal.returns-clause-made
 returns-clause-made g c = answer_made c.job.result.now _ _ _ _ _ c.step_at.result c.step_at.ensures.answer
