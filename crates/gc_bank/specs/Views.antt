@@ -82,9 +82,9 @@ pub record Lacks (job : JobParts) (r w : ℕ) (old new : Seen) : Type 0 where
   pub no_input : w < input_wires job.circuit → ⊥
   pub unknown : (h : ℕ) → IsSetBy job.circuit w h → (pairs r h old.inner.known ≡ 0) × SawUndone old new r h
 
--- What an answer for gate g in round r says. Made: the label is right in the round's job, the gate is known, and it was
--- not known. Done: the label is right, and the gate known. Taken: it was not known, and its state was found at 1 of the
--- round. NotYet: it was not known, and it reads the wire, which lacks a label.
+-- What an answer for gate g in round r says. Made: the label is right in the round's job, the gate is known, and it
+-- was not known. Done: the label is right, and the gate known. Taken: it was not known, and its state was found at 1
+-- of the round. NotYet: it was not known, and it reads the wire, which lacks a label.
 abbrev pub Says : JobParts → ℕ → ℕ → Seen → Seen → Answer → Type 0
 Says job r g old new (Made label) =
     (label ≡ active job (set_of job g)) × Knows new r g × (pairs r g old.inner.known ≡ 0)
@@ -105,8 +105,8 @@ abbrev pub Answers : JobParts → ℕ → ℕ → ℕ → Seen → Seen → Answ
 Answers job r g most old new answer =
     Says job r g old new answer × Ran old new (made_after r g old.inner.made answer) most
 
--- Two gates were answered at once, after at most so many steps, which changed the made list by these answers alone, in
--- this order.
+-- Two gates were answered at once, after at most so many steps, which changed the made list by these answers alone,
+-- in this order.
 abbrev pub AnswersTwo : JobParts → ℕ → ℕ → ℕ → ℕ → Seen → Seen → Answer × Answer → Type 0
 AnswersTwo job r g h most old new answers =
     Says job r g old new answers.0 × Says job r h old new answers.1
@@ -148,15 +148,16 @@ FirstLacking job r g old w =
     ⊎ ((second_of gate.operation ≡ Some w) × SetsMade job r w old 0
     × ((u : ℕ) → first_of gate.operation ≡ Some u → SetsMade job r u old 1))
 
--- What the only seat of banks is answered for gate g in round r: Done where it made the gate, else NotYet with the first
--- wire whose gate it hasn't made, else Made; and never Taken.
+-- What the only seat of banks is answered for gate g in round r: Done where it made the gate, else NotYet with the
+-- first wire whose gate it hasn't made, else Made; and never Taken.
 abbrev pub AnswersAlone : JobParts → ℕ → ℕ → Seen → Answer → Type 0
 AnswersAlone job r g old (Made label) = (pairs r g old.inner.made ≡ 0) × ReadsMade job r g old
 AnswersAlone job r g old (Done label) = pairs r g old.inner.made ≡ 1
 AnswersAlone job r g old Taken = ⊥
 AnswersAlone job r g old (NotYet w) = (pairs r g old.inner.made ≡ 0) × FirstLacking job r g old w
 
--- What it is answered for two gates at once: for each, where they are two, what a step of that gate alone is answered.
+-- What it is answered for two gates at once: for each, where they are two, what a step of that gate alone is
+-- answered.
 abbrev pub AnswersTwoAlone : JobParts → ℕ → ℕ → ℕ → Seen → Answer × Answer → Type 0
 AnswersTwoAlone job r g h old answers =
     AnswersAlone job r g old answers.0 × (h ≢ g → AnswersAlone job r h old answers.1)

@@ -1,5 +1,5 @@
-//! The calls of banks by which a seat enters, steps, reads labels, leaves, seals and reopens. None of them waits or takes
-//! memory.
+//! The calls of banks by which a seat enters, steps, reads labels, leaves, seals and reopens. None of them waits or
+//! takes memory.
 
 ghost use Rattle.std.specs.Prelude.{◌≡◌, ℕ, ◌+◌, ◌*◌, ◌<◌, ◌≤◌, ◌-◌, ◌^◌, length, min, Some, MatchOption, IfSome, IfNone};
 ghost use Rattle.gc_rounds.specs.declared.view.Stand.TheVariants.{Outside, Inside};
@@ -31,9 +31,9 @@ impl<B: Allocator, A: Allocator, C: Allocator> BankSeat<B, A, C> {
 }
 
 impl<'j, 'c, B: Allocator, A: Allocator, C: Allocator> Banks<'j, 'c, B, A, C> {
-    /// Enters a round: inside where its bank is open in it, shut where it is sealed in it, and else the other round that
-    /// the bank is in. That the seat is these banks' and outside, and that there is such a round, is the caller's
-    /// condition.
+    /// Enters a round: inside where its bank is open in it, shut where it is sealed in it, and else the other round
+    /// that the bank is in. That the seat is these banks' and outside, and that there is such a round, is the
+    /// caller's condition.
     pub fn enter(&self, seat: &mut BankSeat<B, A, C>, round: u32) -> Entry
         requires own { IsSeatOf self.now seat.old }
         requires outside { (view seat.old).stand ≡ Outside }
@@ -52,8 +52,8 @@ impl<'j, 'c, B: Allocator, A: Allocator, C: Allocator> Banks<'j, 'c, B, A, C> {
 
     /// Makes a gate in the seat's round, or says why not, in at most 11 atomic steps. A label that is answered is the
     /// gate's active label in the round's job, and the seat knows the gate in the round from then on. A gate that the
-    /// seat knows is answered by Done. That the seat is these banks' and inside a round, and that there is such a gate, is
-    /// the caller's condition.
+    /// seat knows is answered by Done. That the seat is these banks' and inside a round, and that there is such a
+    /// gate, is the caller's condition.
     pub fn step(&self, seat: &mut BankSeat<B, A, C>, gate: u32) -> Answer
         requires own { IsSeatOf self.now seat.old }
         requires inside { IsInside (view seat.old) }
@@ -76,10 +76,10 @@ impl<'j, 'c, B: Allocator, A: Allocator, C: Allocator> Banks<'j, 'c, B, A, C> {
         answer
     }
 
-    /// Steps two gates in the seat's round at once, in at most 22 atomic steps: for each it answers as `step` does, and the
-    /// gates that it makes are made in this order. A gate that isn't ready before the call isn't made ready by the other.
-    /// Two AND gates that are ready take about as long as one. That the seat is these banks' and inside a round, and that
-    /// there are such gates, is the caller's condition.
+    /// Steps two gates in the seat's round at once, in at most 22 atomic steps: for each it answers as `step` does,
+    /// and the gates that it makes are made in this order. A gate that isn't ready before the call isn't made ready
+    /// by the other. Two AND gates that are ready take about as long as one. That the seat is these banks' and inside
+    /// a round, and that there are such gates, is the caller's condition.
     pub fn step_two(
         &self,
         seat: &mut BankSeat<B, A, C>,
@@ -162,9 +162,9 @@ impl<'j, 'c, B: Allocator, A: Allocator, C: Allocator> Banks<'j, 'c, B, A, C> {
         gc_rounds::seal(&self.board.table.shared, &mut seat.place, round);
     }
 
-    /// Gives the bank of a round to the next round but one, where it is sealed in the round and nobody is inside; else it
-    /// answers what it found. That the seat is these banks' and outside, and that there is a next round but one, is the
-    /// caller's condition.
+    /// Gives the bank of a round to the next round but one, where it is sealed in the round and nobody is inside;
+    /// else it answers what it found. That the seat is these banks' and outside, and that there is a next round but
+    /// one, is the caller's condition.
     pub fn reopen(&self, seat: &mut BankSeat<B, A, C>, round: u32) -> Reopening
         requires own { IsSeatOf self.now seat.old }
         requires outside { (view seat.old).stand ≡ Outside }

@@ -1,7 +1,7 @@
 //! Lists of jobs on one circuit.
 //!
-//! [`evaluate_jobs`] answers the output bits of each job of a list whose jobs are on [`one_circuit`]. [`Banks`] are two
-//! sets of board words, used again job after job, at which many seats evaluate such a list.
+//! [`evaluate_jobs`] answers the output bits of each job of a list whose jobs are on [`one_circuit`]. [`Banks`] are
+//! two sets of board words, used again job after job, at which many seats evaluate such a list.
 #![tactic(auto)]
 
 mod banks;

@@ -176,8 +176,8 @@ impl<'j, 'c, B: Allocator, A: Allocator, C: Allocator> Banks<'j, 'c, B, A, C> {
         Ok((a, b))
     }
 
-    /// What a gate is made of in the round, where its state word is found free and the labels that it reads are there. The
-    /// fault is the answer.
+    /// What a gate is made of in the round, where its state word is found free and the labels that it reads are
+    /// there. The fault is the answer.
     fn ready(
         &self,
         place: &mut Place<Series<B, A, C>>,
@@ -214,8 +214,8 @@ impl<'j, 'c, B: Allocator, A: Allocator, C: Allocator> Banks<'j, 'c, B, A, C> {
         }
     }
 
-    /// Publishes the label of the wire that a gate sets, where no seat has the gate in the round since its state word was
-    /// found free.
+    /// Publishes the label of the wire that a gate sets, where no seat has the gate in the round since its state word
+    /// was found free.
     fn publish(
         &self,
         place: &mut Place<Series<B, A, C>>,
@@ -277,8 +277,8 @@ impl<'j, 'c, B: Allocator, A: Allocator, C: Allocator> Banks<'j, 'c, B, A, C> {
         self.publish(place, job, round, gate, ready.free, label)
     }
 
-    /// Makes two gates that are ready, each where no seat has it by now. Both labels are worked out at once, before a gate
-    /// is claimed.
+    /// Makes two gates that are ready, each where no seat has it by now. Both labels are worked out at once, before a
+    /// gate is claimed.
     fn make_two(
         &self,
         place: &mut Place<Series<B, A, C>>,

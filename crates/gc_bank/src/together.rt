@@ -14,8 +14,8 @@ use std::alloc::{AllocError, Allocator};
 use std::thread;
 use std::thread::Threads;
 
-/// For each job, in order, its output bits where a worker kept them. There is no answer where there is no memory for the
-/// banks and their workers.
+/// For each job, in order, its output bits where a worker kept them. There is no answer where there is no memory for
+/// the banks and their workers.
 pub(crate) fn evaluate_together<
     A: Allocator + Send + Sync,
     B: Allocator + Copy + Send + Sync,

@@ -11,13 +11,13 @@ use gc_eval::{Answer, KnownGates, first_wire, second_wire};
 use gc_work::Gatehouse;
 use std::alloc::{AllocError, Allocator};
 
-/// Gates that lie side by side, and the rest of which a worker leaves where it finds others at work: their words lie side
-/// by side too, and two processors that take turns at them wait for one another.
+/// Gates that lie side by side, and the rest of which a worker leaves where it finds others at work: their words lie
+/// side by side too, and two processors that take turns at them wait for one another.
 const BLOCK: u32 = 64;
 
-/// How a worker goes through the gates of a round. The gates before `end` and not before `first` are its share, which it
-/// begins with. It knows of gates that are done, leaves those before `next` to others, and notes whether it learnt of a
-/// gate.
+/// How a worker goes through the gates of a round. The gates before `end` and not before `first` are its share, which
+/// it begins with. It knows of gates that are done, leaves those before `next` to others, and notes whether it learnt
+/// of a gate.
 #[derive(Drop)]
 pub(crate) struct Walk<B: Allocator> {
     number: u32,
@@ -127,9 +127,9 @@ fn reads(operation: Operation, wire: u32) -> bool {
     first_wire(operation) == Some(wire) || second_wire(operation) == Some(wire)
 }
 
-/// A pass over these gates, in file order, but for those that the walk passes by. An AND gate waits for the next one, and
-/// both are stepped at once; before a gate that reads its wire, and in the end, it is stepped alone. The answer is
-/// whether the worker made a gate, or learnt of one.
+/// A pass over these gates, in file order, but for those that the walk passes by. An AND gate waits for the next one,
+/// and both are stepped at once; before a gate that reads its wire, and in the end, it is stepped alone. The answer
+/// is whether the worker made a gate, or learnt of one.
 pub(crate) fn pass<'j, 'c, B: Allocator, A: Allocator, C: Allocator, H: Gatehouse>(
     banks: &Banks<'j, 'c, B, A, C>,
     house: &H,

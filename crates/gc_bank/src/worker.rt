@@ -18,8 +18,8 @@ use gc_rounds::{Entry, Reopening};
 use std::alloc::{AllocError, Allocator};
 use std::thread;
 
-/// How often a worker asks for a bank that others have not left yet, before it ends. What it leaves undone is evaluated
-/// in the end.
+/// How often a worker asks for a bank that others have not left yet, before it ends. What it leaves undone is
+/// evaluated in the end.
 const TRIES: u32 = 1 << 20;
 
 /// The output bits of the job of a round.
@@ -29,8 +29,8 @@ pub(crate) struct Outputs<B: Allocator> {
     pub(crate) bits: Vec<bool, B>,
 }
 
-/// What a worker has of its own: its walk through the gates of the round that it is inside, its seat at the banks, and the
-/// output bits that it keeps.
+/// What a worker has of its own: its walk through the gates of the round that it is inside, its seat at the banks,
+/// and the output bits that it keeps.
 #[derive(Drop)]
 pub(crate) struct Worker<B: Allocator, A: Allocator, C: Allocator> {
     walk: Walk<B>,
@@ -121,8 +121,8 @@ fn bits_of_round<'j, 'c, B: Allocator + Copy, A: Allocator, C: Allocator>(
     decoded(alloc, banks.job(round), labels)
 }
 
-/// Works inside the round, at its share first and then at all gates, as long as a pass made a gate or learnt of one, until
-/// each output wire has a label. These labels are the answer.
+/// Works inside the round, at its share first and then at all gates, as long as a pass made a gate or learnt of one,
+/// until each output wire has a label. These labels are the answer.
 fn labels_of_round<'j, 'c, B: Allocator + Copy, A: Allocator, C: Allocator, H: Gatehouse>(
     alloc: B,
     banks: &Banks<'j, 'c, B, A, C>,
@@ -177,8 +177,8 @@ fn await_bank<'j, 'c, B: Allocator, A: Allocator, C: Allocator>(
 }
 
 impl<B: Allocator + Copy, A: Allocator, C: Allocator> Worker<B, A, C> {
-    /// Goes through one round: it enters, works, and leaves. Where it saw the labels of all output wires, it seals the
-    /// round and keeps the output bits.
+    /// Goes through one round: it enters, works, and leaves. Where it saw the labels of all output wires, it seals
+    /// the round and keeps the output bits.
     fn serve<'j, 'c, H: Gatehouse>(
         &mut self,
         alloc: B,
@@ -261,7 +261,8 @@ fn recruit<'j, 'c, B: Allocator, A: Allocator, C: Allocator>(
     }
 }
 
-/// A worker for each seat, from the last to worker 0. That the seats are these banks' and new is the caller's condition.
+/// A worker for each seat, from the last to worker 0. That the seats are these banks' and new is the caller's
+/// condition.
 pub(crate) fn muster<'j, 'c, B: Allocator + Copy, A: Allocator, C: Allocator>(
     alloc: B,
     banks: &Banks<'j, 'c, B, A, C>,
