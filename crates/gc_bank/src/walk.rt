@@ -8,7 +8,7 @@ ghost use Rattle.gc_bank.specs.Seats.{IsSeatOf, IsInside, InRound, view, jobs_on
 use crate::seat::{BankSeat, Banks};
 use gc_circuit::Operation;
 use gc_eval::{Answer, KnownGates, first_wire, second_wire};
-use gc_work::Gatehouse;
+use gc_gatehouse::Gatehouse;
 use std::alloc::{AllocError, Allocator};
 
 /// Gates that lie side by side, and the rest of which a worker leaves where it finds others at work: their words lie
