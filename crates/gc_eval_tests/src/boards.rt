@@ -87,17 +87,21 @@ fn two_seats_take_turns(rt: HostRuntime) -> Result<(), Fail> {
 fn take_two(rt: &impl Abort, alloc: Global, job: &Job) -> Result<(), Fail> {
     assert!(rt; job.circuit().gates() == 5 && job.circuit().wires() == 8);
     let (board, mut one, mut two) = two_seats(alloc, job)?;
-    let (Answer::NotYet(3), Answer::Made(label)) = board.step_two(&mut one, 2, 1) else {
-        return Err(Fail::new("wire 3 has no label, and gate 1 is free"));
+    let (lacking, made) = board.step_two(&mut one, 2, 1);
+    assert_eq!(rt; lacking, Answer::NotYet(3));
+    let Answer::Made(label) = made else {
+        return Err(Fail::new("gate 1 is free"));
     };
-    let (Answer::Made(first), Answer::Done(again)) = board.step_two(&mut two, 0, 0) else {
-        return Err(Fail::new("gate 0 is free, and then done"));
+    let (made, again) = board.step_two(&mut two, 0, 0);
+    let Answer::Made(first) = made else {
+        return Err(Fail::new("gate 0 is free"));
     };
-    assert_eq!(rt; first, again);
-    let (Answer::Made(_), Answer::Done(found)) = board.step_two(&mut two, 2, 1) else {
-        return Err(Fail::new("gate 2 is free, and gate 1 is done"));
+    assert_eq!(rt; again, Answer::Done(first));
+    let (made, found) = board.step_two(&mut two, 2, 1);
+    let Answer::Made(_) = made else {
+        return Err(Fail::new("gate 2 is free"));
     };
-    assert_eq!(rt; found, label);
+    assert_eq!(rt; found, Answer::Done(label));
     assert_eq!(rt; (one.made(), two.made()), (1, 2));
     Ok(())
 }
