@@ -1,4 +1,4 @@
-//! Tests of banks: the answers of two seats that take turns, and closing.
+//! Tests of banks: the answers of two seats that take turns, steps of two gates, and closing.
 
 ghost use Rattle.std.specs.Prelude.{◌≡◌, length, All, IfOk};
 ghost use Rattle.gc_bank.specs.Seats.{IsSeatOf, jobs_on};
@@ -13,6 +13,7 @@ use gc_label::Label;
 use gc_refusing::Refusing;
 use gc_worked::circuits::FULL_ADDER;
 use std::alloc::{Allocator, Global};
+use std::process::Abort;
 use std::test::Fail;
 
 /// One call of a seat.
@@ -218,8 +219,8 @@ fn two_seats_take_turns(rt: HostRuntime) -> Result<(), Fail> {
     Ok(())
 }
 
-/// Opens banks over this memory, has two seats take turns at them, and closes them. The answer is how many gates were made,
-/// where no memory was asked for after the opening.
+/// Opens banks over this memory, has two seats take turns at them, and closes them. The answer is how many gates were
+/// made, where no memory was asked for after the opening.
 fn works_without_memory(heap: &Refusing<Global>, jobs: &[Job]) -> Result<u64, Fail> {
     let mut seats = Vec::with_capacity(heap, 2)?;
     let (banks, mut one, mut two) = two_seats(heap, jobs)?;
@@ -247,6 +248,82 @@ fn opened_banks_grow_nothing(rt: HostRuntime) -> Result<(), Fail> {
     let jobs = three_jobs(alloc, &circuit)?;
     assert_eq!(rt; works_without_memory(&Refusing::never(alloc), &jobs)?, 2);
     Ok(())
+}
+
+/// The replies to a step of two gates.
+fn two_replies<'j, 'c>(
+    banks: &Banks<'j, 'c>,
+    jobs: &[Job<'c>],
+    seat: &mut BankSeat,
+    first: u32,
+    second: u32,
+) -> (Reply, Reply)
+    requires own { IsSeatOf banks.now seat.old }
+    requires jobs { jobs_on banks.now ≡ jobs.now }
+    ensures { IsSeatOf banks.now seat.new }
+{
+    match seat.inside() {
+        Some(round) if (round as usize) < jobs.len() => {
+            let gates = jobs[round as usize].circuit().gates();
+            if gates <= first || gates <= second {
+                return (Reply::Barred, Reply::Barred);
+            }
+            let (answer, next_answer) = banks.step_two(seat, first, second);
+            (Reply::from(answer), Reply::from(next_answer))
+        }
+        _ => (Reply::Barred, Reply::Barred),
+    }
+}
+
+/// Seat one makes the gates of the full adder one by one, and seat two those of an equal job two at a time. Gates 0
+/// and 1 read input wires alone, gates 2 and 3 read wire 3, which gate 0 sets, and gate 4 reads what gate 2 sets.
+fn step_pairs<'j, 'c>(
+    rt: &impl Abort,
+    banks: &Banks<'j, 'c>,
+    jobs: &[Job<'c>],
+    one: &mut BankSeat,
+    two: &mut BankSeat,
+) -> Result<(), Fail>
+    requires one { IsSeatOf banks.now one.old }
+    requires two { IsSeatOf banks.now two.old }
+    requires jobs { jobs_on banks.now ≡ jobs.now }
+{
+    called(banks, jobs, one, Call::Enter(0));
+    called(banks, jobs, two, Call::Enter(1));
+    let made = [
+        called(banks, jobs, one, Call::Step(0)),
+        called(banks, jobs, one, Call::Step(1)),
+        called(banks, jobs, one, Call::Step(2)),
+        called(banks, jobs, one, Call::Step(3)),
+        called(banks, jobs, one, Call::Step(4)),
+    ];
+    let done = [
+        called(banks, jobs, one, Call::Step(0)),
+        called(banks, jobs, one, Call::Step(1)),
+    ];
+    assert_eq!(rt;
+        two_replies(banks, jobs, two, 2, 1),
+        (Reply::NotYet(3), made[1])
+    );
+    assert_eq!(rt; two_replies(banks, jobs, two, 0, 0), (made[0], done[0]));
+    assert_eq!(rt; two_replies(banks, jobs, two, 2, 3), (made[2], made[3]));
+    assert_eq!(rt; two_replies(banks, jobs, two, 4, 1), (made[4], done[1]));
+    assert_eq!(rt; (one.made(), two.made()), (5, 5));
+    Ok(())
+}
+
+/// Two gates at once are made as one after the other is, and a gate that isn't ready or is known is answered by
+/// itself.
+#[test]
+fn two_gates_in_a_step(rt: HostRuntime) -> Result<(), Fail> {
+    let alloc = rt.alloc();
+    let circuit = Circuit::read(alloc, FULL_ADDER.as_bytes())?;
+    let mut jobs = Vec::new(alloc);
+    for _twin in 0..2 {
+        jobs.push(job_of(alloc, &circuit, FULL_ADDER, Version::Two, &["1", "0", "1"])?)?;
+    }
+    let (banks, mut one, mut two) = two_seats(alloc, &jobs)?;
+    step_pairs(&rt, &banks, &jobs, &mut one, &mut two)
 }
 
 /// The banks and the seats that a refused close gave back.
