@@ -94,8 +94,10 @@ fn taken<B: Allocator>(
     known: &mut Vec<Option<Vec<bool, B>>, B>,
     place: usize,
 ) -> Option<Vec<bool, B>>
-    ensures bits { IfSome result (λ bits. (jobs : List JobParts) → AreKnown jobs known.old.items → AreBitsOf jobs place bits.items) }
-    ensures rest { (jobs : List JobParts) → AreKnown jobs known.old.items → AreKnown jobs known.new.items }
+    ensures bits { IfSome result (λ bits. (jobs : List JobParts)
+        → AreKnown jobs known.old.items → AreBitsOf jobs place bits.items) }
+    ensures rest { (jobs : List JobParts)
+        → AreKnown jobs known.old.items → AreKnown jobs known.new.items }
 {
     if place < known.len() {
         known[place].take()

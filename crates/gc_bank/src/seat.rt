@@ -38,5 +38,6 @@ pub struct Banks<'j, 'c, B: Allocator = Global, A: Allocator = Global, C: Alloca
     ghost about: { board.table.shared.key.about ≡ jobs.now },
     ghost circuit: { (r : ℕ) (job : JobParts) → slice_get jobs.now r ≡ Some job → job.circuit ≡ wiring },
     ghost count: { (seats ≡ board.table.shared.key.seats) × (0 < seats) },
-    ghost few: { (board.table.shared.key.jobs ≡ length jobs.now) × (0 < length jobs.now) × (length jobs.now ≤ 65536) },
+    ghost few: { (board.table.shared.key.jobs ≡ length jobs.now)
+        × (0 < length jobs.now) × (length jobs.now ≤ 65536) },
 }
