@@ -1,18 +1,21 @@
-//! Each growth refused in turn of the calls that read files, and the calls that take no memory.
+//! Each growth refused in turn of the calls that read files and of sinks in memory, and calls that take no memory.
 
-use crate::pieces::same;
+use crate::hostile::flipped;
+use crate::pieces::{FORGED_HEADER, same};
 use gc_circuit::Circuit;
 use gc_file::{
-    FileFault, GarbledReader, MemSink, MemSource, OutSink, TakeFault, Version, WriteFault,
-    read_garbled, read_garbled_from, read_labels, write_garbled, write_garbled2, write_labels,
+    FileFault, GarbledReader, MemSink, MemSource, OutSink, Sink, SinkFault, TakeFault, Version,
+    WriteFault, read_garbled, read_garbled_from, read_labels, write_garbled, write_garbled2,
+    write_labels,
 };
 use gc_half::{Garbling, garble_one_thread, output_entry};
 use gc_label::{Label, Seed, offset};
 use gc_refusing::Refusing;
-use gc_worked::circuits::AND;
-use gc_worked::files::{and_file, label_file};
+use gc_worked::circuits::{AND, many_ands};
+use gc_worked::files::{and_file, label_file, write};
 use gc_worked::growths::{Answer, plain_if, runs_refused};
-use std::alloc::Allocator;
+use gc_worked::worked_files::ONE_LABEL;
+use std::alloc::{Allocator, Global};
 use std::test::Fail;
 
 /// There is a growth for the rows, the decode bytes, the entries of version 2 and the decode bits.
@@ -86,6 +89,108 @@ fn a_reader_after_a_refusal(rt: HostRuntime) -> Result<(), Fail> {
         assert_eq!(rt; reader.end().err(), Some(FileFault::Memory));
     }
     Ok(())
+}
+
+/// How many growths a garbled reader asks for until so many row pairs have come, one at a time, after a header that
+/// tells of far more.
+fn growths_of_rows(alloc: Global, pairs: u32) -> Result<u64, Fail> {
+    let heap = Refusing::never(alloc);
+    let header = hex::decode(alloc, FORGED_HEADER)?;
+    let mut reader = GarbledReader::new(&heap);
+    reader.feed(&header)?;
+    for _pair in 0..pairs {
+        reader.feed(&[0; 32])?;
+    }
+    Ok(heap.growths())
+}
+
+/// Room for row pairs is made as they come, for twice as many each time, whatever number the header tells.
+#[test]
+fn room_for_rows_doubles(rt: HostRuntime) -> Result<(), Fail> {
+    for (pairs, growths) in [(0, 0), (1, 1), (2, 2), (3, 3), (4, 3), (64, 7), (65, 8)] {
+        let found = growths_of_rows(rt.alloc(), pairs)?;
+        assert_eq!(rt; found, growths, "{pairs} row pairs");
+    }
+    Ok(())
+}
+
+/// The faults of a header, and all of a label file, are told without memory.
+#[test]
+fn faults_before_the_rows_take_no_memory(rt: HostRuntime) -> Result<(), Fail> {
+    let alloc = rt.alloc();
+    let full = Refusing::always(alloc);
+    let file = and_file(alloc, Version::Two)?;
+    let labels = hex::decode(alloc, ONE_LABEL)?;
+    // A bit of the magic, and one of the number of row pairs.
+    for (bit, fault) in [(0, FileFault::BadMagic), (351, FileFault::CountTooLarge)] {
+        let bad = flipped(alloc, &file, bit)?;
+        assert_eq!(rt; read_garbled(&full, &bad).err(), Some(fault), "bit {bit}");
+    }
+    // A bit of the magic, and three of the number of labels.
+    for (bit, fault) in [
+        (0, FileFault::BadMagic),
+        (96, FileFault::Trailing),
+        (97, FileFault::Truncated),
+        (127, FileFault::CountTooLarge),
+    ] {
+        let bad = flipped(alloc, &labels, bit)?;
+        assert_eq!(rt; read_labels(&full, &bad).err(), Some(fault), "bit {bit}");
+    }
+    assert_eq!(rt; full.growths(), 0);
+    Ok(())
+}
+
+/// Writes a garbled file to a sink in memory. The answer is plain where the sink holds the file, and the fault for
+/// memory where it holds a beginning of it, of as many bytes as the writer tells.
+fn written_to_memory<A: Allocator>(
+    heap: A,
+    circuit: &Circuit,
+    garbling: &Garbling,
+    file: &[u8],
+) -> Answer {
+    let mut sink = MemSink::new(heap, None);
+    if !garbling.fits(circuit) {
+        return Answer::Other;
+    }
+    let answer = write_garbled(&mut sink, circuit, garbling);
+    let held = sink.bytes();
+    match answer {
+        Ok(sent) => plain_if(held == file && sent == held.len() as u64),
+        Err(fault) if file.starts_with(held) && fault.sent == held.len() as u64 => Answer::Memory,
+        Err(_) => Answer::Other,
+    }
+}
+
+/// A file of 9,718 bytes goes to a sink in three pieces, and the sink grows for each.
+#[test]
+fn writing_to_memory(rt: HostRuntime) -> Result<(), Fail> {
+    let alloc = rt.alloc();
+    let text = many_ands(alloc, 300)?;
+    let file = write(alloc, text.as_str(), Version::One, None)?.bytes;
+    let circuit = Circuit::read(alloc, text.as_bytes())?;
+    let garbling = garble_one_thread(alloc, &circuit, &Seed::from_bytes([0; 32]))?;
+    let refused = runs_refused(
+        alloc,
+        |heap| written_to_memory(heap, &circuit, &garbling, &file),
+    );
+    assert_eq!(rt; (file.len(), refused), (9718, Ok(3)));
+    Ok(())
+}
+
+/// A sink that is refused memory for a piece has taken nothing of it, and takes the piece the next time.
+#[test]
+fn a_sink_after_a_refusal(rt: HostRuntime) {
+    let heap = Refusing::nth(rt.alloc(), 2);
+    let mut sink = MemSink::new(&heap, None);
+    assert_eq!(rt; sink.put(b"a half"), Ok(6));
+    assert_eq!(rt; sink.put(b", which another follows"), Err(SinkFault));
+    assert_eq!(rt; sink.bytes(), b"a half".as_slice());
+    assert_eq!(rt; sink.put(b", which another follows"), Ok(23));
+    let held = sink.into_bytes();
+    assert_eq!(rt;
+        held.as_slice(),
+        b"a half, which another follows".as_slice()
+    );
 }
 
 /// What the writers answer over 300 bytes of room: a garbled file of either version, a label file, and a second one, ten

@@ -4,7 +4,7 @@ use gc_circuit::{
     Circuit, Gate, Memory, Operation, ReadFault, ValueFault, fits, plain_eval, read_value,
     show_value,
 };
-use gc_half::garble_one_thread;
+use gc_half::{garble_one_thread, input_zero_labels};
 use gc_label::Seed;
 use gc_refusing::Refusing;
 use gc_worked::circuits::{ADDER_DIGEST, FULL_ADDER, one_zero_one};
@@ -84,6 +84,22 @@ fn plain_evaluation(rt: HostRuntime) -> Result<(), Fail> {
         }
     });
     assert_eq!(rt; refused, Ok(2));
+    Ok(())
+}
+
+#[test]
+fn the_table_that_garbling_begins_with(rt: HostRuntime) -> Result<(), Fail> {
+    let circuit = Circuit::read(rt.alloc(), FULL_ADDER.as_bytes())?;
+    let seed = Seed::from_bytes([0; 32]);
+    let table = input_zero_labels(rt.alloc(), &circuit, &seed)?;
+    let refused = runs_refused(
+        rt.alloc(),
+        |heap| match input_zero_labels(heap, &circuit, &seed) {
+            Ok(same) => plain_if(same.as_slice() == table.as_slice()),
+            Err(Memory) => Answer::Memory,
+        },
+    );
+    assert_eq!(rt; (table.len(), refused), (8, Ok(1)));
     Ok(())
 }
 

@@ -84,7 +84,7 @@ fn after_a_fault(rt: HostRuntime) -> Result<(), Fail> {
 }
 
 /// A header with the digest of one AND gate, 1,048,576 row pairs and one output.
-const FORGED_HEADER: &str = concat!(
+pub(crate) const FORGED_HEADER: &str = concat!(
     "48474152424c4531",
     "48b39dc66f66f62d8630058dfe655fa07dd8d4398fd1acb1f6ce2a22c3a8fe00",
     "0000100001000000",
