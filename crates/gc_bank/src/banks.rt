@@ -3,7 +3,7 @@
 
 ghost use Rattle.std.specs.Prelude.{◌≡◌, ℕ, ◌+◌, ◌*◌, ◌<◌, ◌≤◌, ◌-◌, ◌^◌, length, min, Some, MatchOption, IfSome, IfNone};
 ghost use Rattle.gc_rounds.specs.declared.view.Stand.TheVariants.{Outside, Inside};
-ghost use Rattle.gc_rounds.specs.Calls.{Enters, Leaves, Seals, Reopens};
+ghost use Rattle.gc_rounds.specs.Calls.{Enters, EntersAlone, Leaves, Seals, Reopens};
 ghost use Rattle.gc_eval.specs.ActiveLabels.{gates_of};
 ghost use Rattle.gc_bank.specs.Views.{Stays, Answers, AnswersTwo, AnswersAlone, AnswersTwoAlone, Ran, Got, Lacks};
 ghost use Rattle.gc_bank.specs.Seats.{IsSeatOf, IsSameSeat, IsInside, InRound, view, round_of, jobs_on};
@@ -32,8 +32,9 @@ impl<B: Allocator, A: Allocator, C: Allocator> BankSeat<B, A, C> {
 
 impl<'j, 'c, B: Allocator, A: Allocator, C: Allocator> Banks<'j, 'c, B, A, C> {
     /// Enters a round: inside where its bank is open in it, shut where it is sealed in it, and else the other round
-    /// that the bank is in. That the seat is these banks' and outside, and that there is such a round, is the
-    /// caller's condition.
+    /// that the bank is in. An only seat finds what its own steps left: bank 0 open in round 0 and bank 1 in round 1,
+    /// until it seals or reopens them. That the seat is these banks' and outside, and that there is such a round, is
+    /// the caller's condition.
     pub fn enter(&self, seat: &mut BankSeat<B, A, C>, round: u32) -> Entry
         requires own { IsSeatOf self.now seat.old }
         requires outside { (view seat.old).stand ≡ Outside }
@@ -41,6 +42,7 @@ impl<'j, 'c, B: Allocator, A: Allocator, C: Allocator> Banks<'j, 'c, B, A, C> {
         ensures own { IsSeatOf self.now seat.new }
         ensures same { IsSameSeat seat.old seat.new }
         ensures found { Enters round (view seat.old) (view seat.new) result }
+        ensures alone { self.now.seats ≡ 1 → EntersAlone round (view seat.old) result }
     {
         let entry = gc_rounds::enter(&self.board.table.shared, &mut seat.place, round);
         seat.inside = match entry {

@@ -11,14 +11,14 @@ use Rattle.atomic_table.specs.Table.{State, Me, step, Act, keeps, Valid, carried
 use Rattle.atomic_table.proofs.Lists.{at_set, exchanged}
 use Rattle.gc_board.specs.Counts.{total, only}
 use Rattle.gc_rounds.specs.Words.{round_of, bank_of}
-use Rattle.gc_rounds.specs.Views.{gives, unfair}
+use Rattle.gc_rounds.specs.Views.{gives, unfair, seals_in}
 use Rattle.gc_rounds.specs.Banks.{BanksSound}
 use Rattle.gc_rounds.specs.declared.view.View.{View}
 use Rattle.gc_rounds.specs.declared.view.Stand.TheVariants.{Inside}
 use Rattle.gc_rounds.specs.declared.view.Step.{Step}
 use Rattle.gc_rounds.specs.declared.view.Step.TheVariants.{Load, Store, Claim}
 use Rattle.gc_board.proofs.Sums.{total-append, total-set, term_le, terms_le, only_same, only_other, only_le, only_is}
-use Rattle.gc_rounds.proofs.Keeps.{beside, bank_small, inside_is}
+use Rattle.gc_rounds.proofs.Keeps.{beside, bank_small, inside_is, sole}
 use Rattle.gc_round_board.specs.Pairs.{is_pair, pairs, is_look, looked}
 use Rattle.gc_round_board.specs.Board.{at, stamp, state_of, low_of, high_of, round_now, in_hand, IsHandRight, Cell, Fits, Sound}
 use Rattle.gc_round_board.specs.Steps.{Tells, changed, learnt, after_state, after_half, after_claim, after_stored, after_done, state_loaded, low_loaded, high_loaded, claimed, half_stored, done_stored, settled}
@@ -234,43 +234,6 @@ module _ {J : Type 0} (gates : J → ℕ) (right : J → ℕ → ℕ → ℕ →
       }
 
   -- where one seat stands for all, no other has a gate in hand or made one
-  sole : (f : View (BoardView J) → ℕ) (views : List (View (BoardView J))) (id : ℕ) (v : View
-      (BoardView J)) → get_elem? views id ≡ some v → total (λ u. u.seats) views ≡ v.seats
-      → ((j : ℕ) (u : View (BoardView J)) → get_elem? views j ≡ some u → u.seats ≡ 0 → f u ≡ 0)
-      → total f views ≡ f v
-  sole f [] id v at_id all none_else = absurd (some-ne-none v (sym at_id))
-  sole f (x ∷ xs) zero v at_id all none_else = let e = some-injective x v at_id in
-      omega (
-        arith,
-        ap f e,
-        ap (λ (u : View (BoardView J)). u.seats) e,
-        empty xs (omega (
-          arith,
-          ap
-              (λ (u : View (BoardView J)). u.seats) e,
-        )) (λ j u there spent. none_else
-            (suc j) u there spent),
-      )
-    where
-      empty : (l : List (View (BoardView J))) → total (λ u. u.seats) l ≡ 0
-          → ((j : ℕ) (u : View (BoardView J)) → get_elem? l j ≡ some u → u.seats ≡ 0 → f u ≡ 0)
-          → total f l ≡ 0
-      empty [] z n = refl
-      empty (y ∷ ys) z n = omega (
-        arith,
-        n zero y refl (omega arith),
-        empty ys (omega arith)
-            (λ j u there spent. n (suc j) u there spent),
-      )
-  sole f (x ∷ xs) (suc id) v at_id all none_else = let le = term_le (λ (u : View
-      (BoardView J)). u.seats) xs id v at_id in
-      omega (
-        arith,
-        none_else zero x refl (omega arith),
-        sole f xs id v at_id (omega arith)
-            (λ j u there spent. none_else (suc j) u there spent),
-      )
-
   pub sees_all : (words : List ℕ) (views : List (View (BoardView J))) (id : ℕ) (v : View
       (BoardView J)) → Rule words views → get_elem? views id ≡ some v → v.all ≡ seats
       → v.seats ≡ v.all → (r g : ℕ)
@@ -317,12 +280,13 @@ module _ {J : Type 0} (gates : J → ℕ) (right : J → ℕ → ℕ → ℕ →
   loaded : (words : List ℕ) (views : List (View (BoardView J))) (i id : ℕ) (v w : View
       (BoardView J)) (s : Step) → Rule words views → get_elem? views id ≡ some v
       → w.inner.hand ≡ v.inner.hand → w.inner.made ≡ v.inner.made → w.stand ≡ v.stand
-      → w.seats ≡ v.seats → w.steps ≡ v.steps ++ s ∷ [] → ((b : ℕ) → gives b s ≡ 0) → unfair s ≡ 0
+      → w.all ≡ v.all → w.seats ≡ v.seats → w.steps ≡ v.steps ++ s ∷ [] → ((b : ℕ) → gives b s ≡ 0)
+      → ((k : ℕ) → seals_in k s ≡ 0) → unfair s ≡ 0
       → Fits gates right job words w → Rule (set words i (get_or words i 0)) (set views id w)
-  loaded words views i id v w s o at_id hand made stand parts steps none_given fair mine =
+  loaded words views i id v w s o at_id hand made stand all parts steps none_given none_sealed fair mine =
       subst (λ ws. Rule ws (set views id w)) (sym (set-get_or words i 0)) (
         beside jobs seats words words views id v w s o.0 at_id o.0.wide
-            (λ b l. refl) stand parts steps none_given fair,
+            (λ b l. refl) stand all parts steps none_given none_sealed fair,
         viewed words views id v w o.1 at_id hand made mine,
       )
 
@@ -372,8 +336,8 @@ module _ {J : Type 0} (gates : J → ℕ) (right : J → ℕ → ℕ → ℕ →
           w,
           keeps,
           tt,
-          loaded s.words s.views (at r g) id v w (Load (at r g) found) o at_id refl refl refl refl refl
-              (λ b. refl) refl
+          loaded s.words s.views (at r g) id v w (Load (at r g) found) o at_id refl refl refl refl refl refl
+              (λ b. refl) (λ k. refl) refl
               (record {
                 holding = f.holding;
                 inside = f.inside;
@@ -402,7 +366,7 @@ module _ {J : Type 0} (gates : J → ℕ) (right : J → ℕ → ℕ → ℕ →
         (after_half me.0 i (get_or s.words i 0)) keeps)
     half_loads s i o at_id = let v = me.0 in let f = o.1.fits id v at_id in let found = get_or s.words i 0 in
         loaded s.words s.views i id v (after_half v i found)
-        (Load i found) o at_id refl refl refl refl refl (λ b. refl) refl
+        (Load i found) o at_id refl refl refl refl refl refl (λ b. refl) (λ k. refl) refl
         (record {
           holding = f.holding;
           inside = f.inside;
@@ -483,16 +447,16 @@ module _ {J : Type 0} (gates : J → ℕ) (right : J → ℕ → ℕ → ℕ →
     -- the two rules, after a step on a word beside the banks'
     both : (s : State S (View (BoardView J))) (i n : ℕ) (w : View (BoardView J)) (e : Step)
         → Holds s → get_elem? s.views id ≡ some me.0 → 1 < i → w.stand ≡ me.0.stand
-        → w.seats ≡ me.0.seats → w.steps ≡ me.0.steps ++ e ∷ [] → ((b : ℕ) → gives b e ≡ 0)
-        → unfair e ≡ 0
+        → w.all ≡ me.0.all → w.seats ≡ me.0.seats → w.steps ≡ me.0.steps ++ e ∷ []
+        → ((b : ℕ) → gives b e ≡ 0) → ((k : ℕ) → seals_in k e ≡ 0) → unfair e ≡ 0
         → Sound gates right job (set s.words i n) (set s.views id w) → Holds (stepped s i n id me.1 w keeps)
-    both s i n w e o at_id high stand parts steps none_given fair sound = (
+    both s i n w e o at_id high stand all parts steps none_given none_sealed fair sound = (
       beside jobs seats s.words (set s.words i n) s.views id me.0 w e o.0 at_id (omega (
         arith,
         o.0.wide,
         length-set s.words i n,
       ))
-          (λ b l. banks_stay s.words i n b high l) stand parts steps none_given fair,
+          (λ b l. banks_stay s.words i n b high l) stand all parts steps none_given none_sealed fair,
       sound,
     )
 
@@ -520,8 +484,8 @@ module _ {J : Type 0} (gates : J → ℕ) (right : J → ℕ → ℕ → ℕ →
           w,
           keeps,
           tt,
-          both s (at r g) (stamp r 1) w (Claim (at r g) found) o at_id (omega arith) refl refl refl
-              (λ b. refl) refl
+          both s (at r g) (stamp r 1) w (Claim (at r g) found) o at_id (omega arith) refl refl refl refl
+              (λ b. refl) (λ k. refl) refl
               (turned s.words now s.views id r g v w o at_id inside (length-set s.words (at r g)
               (stamp r 1)) rounds others up (inr (halves_stay s.words g (stamp r 1)))
               (λ k is. let e : state_of now k g ≡ stamp r 1 = ap (λ p. get_or now p 0) is ∙ one in record {
@@ -617,7 +581,7 @@ module _ {J : Type 0} (gates : J → ℕ) (right : J → ℕ → ℕ → ℕ →
           keeps,
           tt,
           loaded s.words s.views (at r g) id v w (Claim
-              (at r g) found) o at_id refl refl refl refl refl (λ b. refl) refl
+              (at r g) found) o at_id refl refl refl refl refl refl (λ b. refl) (λ k. refl) refl
               (record {
                 holding = f.holding;
                 inside = f.inside;
@@ -658,7 +622,7 @@ module _ {J : Type 0} (gates : J → ℕ) (right : J → ℕ → ℕ → ℕ →
         let states : (k h : ℕ) → state_of now k h ≡ state_of s.words k h = λ k h. dite (ℕ_discrete
         (at k h) (at r g)) (λ is. ap (λ p. get_or now p 0) is ∙ state
         ∙ sym (ap (λ p. get_or s.words p 0) is)) (λ ne. (others k h ne).0) in
-        both s i n w (Store i n) o at_id high refl refl refl (λ b. refl) refl
+        both s i n w (Store i n) o at_id high refl refl refl refl (λ b. refl) (λ k. refl) refl
         (turned s.words now s.views id r g v w o at_id inside (length-set s.words i n) rounds others
         (inl state) (inl own)
         (λ k is. let e : state_of now k g ≡ stamp r 1 = ap (λ p. get_or now p 0) is ∙ (state
@@ -764,7 +728,7 @@ module _ {J : Type 0} (gates : J → ℕ) (right : J → ℕ → ℕ → ℕ →
           keeps,
           tt,
           both s (at r g) (stamp r 2) w (Store (at r g) (stamp r 2)) o at_id
-              (omega arith) refl refl refl (λ b. refl) refl
+              (omega arith) refl refl refl refl (λ b. refl) (λ k. refl) refl
               (turned s.words now s.views id r g v w o at_id inside (length-set s.words (at r g)
               (stamp r 2)) rounds others up (inl own)
               (λ k is. let e : state_of now k g ≡ stamp r 2 = ap (λ p. get_or now p 0) is ∙ two in
@@ -899,8 +863,8 @@ module _ {J : Type 0} (gates : J → ℕ) (right : J → ℕ → ℕ → ℕ →
         keeps,
         tt,
         loaded s.words s.views 0 id me.0 (after_half me.0 0 found)
-            (Load 0 found) o at_id refl refl refl refl refl
-            (λ b. refl) refl
+            (Load 0 found) o at_id refl refl refl refl refl refl
+            (λ b. refl) (λ k. refl) refl
             (record {
               holding = f.holding;
               inside = f.inside;

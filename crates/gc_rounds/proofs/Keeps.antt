@@ -1,18 +1,18 @@
 -- Each kind of step on a bank's word keeps the rule.
-use Rattle.std.proofs.Common.{◌≡◌, ℕ, zero, suc, ◌+◌, ◌*◌, ◌-◌, ◌%◌, ◌^◌, ◌<◌, ◌≤◌, ◌≢◌, ◌⊎◌, List, [], ◌∷◌, ◌++◌, length, set, get_or, sym, refl, ap, ◌∙◌, subst, inl, inr, ⊎_elim, arith, cond, eqb, eq-eqb, ne_eqb, length-set, get_or-set_other, get_or-set_same, true, false}
+use Rattle.std.proofs.Common.{◌≡◌, ℕ, zero, suc, ◌+◌, ◌*◌, ◌-◌, ◌%◌, ◌^◌, ◌<◌, ◌≤◌, ◌≢◌, ◌⊎◌, List, [], ◌∷◌, ◌++◌, length, min, set, get_or, sym, refl, ap, ◌∙◌, subst, inl, inr, ⊎_elim, arith, cond, eqb, eq-eqb, ne_eqb, length-set, get_or-set_other, get_or-set_same, true, false}
 use Rattle.std.specs.Int.Bits.{bit_or}
 use mathlib.Core.Logic.{dite}
 use native.Mathlib.Decide.{ℕ_discrete}
-use mathlib.Core.Option.{none, some}
+use mathlib.Core.Option.{none, some, some-injective, some-ne-none}
 use lib.ListN.{get_elem?}
 use prog.Atomic.{either}
 use Rattle.atomic_table.specs.Table.{State, Me, step, Act, keeps, Valid, carried_after, stepped, Allows}
 use Rattle.atomic_table.proofs.Lists.{at_set, exchanged}
 use Rattle.gc_board.specs.Counts.{total, only}
 use Rattle.gc_rounds.specs.Words.{count_of, mark_of, round_of, bank_of, open_word, shut_word}
-use Rattle.gc_rounds.specs.Views.{counted, gives, given, unfair}
+use Rattle.gc_rounds.specs.Views.{counted, gives, given, unfair, seals_in, sealed_in}
 use Rattle.gc_rounds.specs.Banks.{StandFits, BankSound, BanksSound}
-use Rattle.gc_rounds.specs.Steps.{recorded, stand_after, entered, left, sealed, one_less, newcomer, merged, nobody, starting}
+use Rattle.gc_rounds.specs.Steps.{recorded, stand_after, entered, left, sealed, one_less, newcomer, merged, nobody, starting, IsOwn}
 use Rattle.gc_rounds.specs.Steps as bank_steps
 use Rattle.gc_rounds.specs.Laws.{Moves}
 use Rattle.gc_rounds.specs.declared.view.Stand.{Stand}
@@ -65,9 +65,85 @@ bank_cases (suc (suc b)) l = absurd (omega arith)
 pub bank_small : (r : ℕ) → bank_of r < 2
 bank_small r = omega arith
 
+-- where one view stands for all seats, no other counts
+pub sole : {I : Type 0} (f : View I → ℕ) (views : List (View I)) (id : ℕ) (v : View I)
+    → get_elem? views id ≡ some v → total (λ u. u.seats) views ≡ v.seats
+    → ((j : ℕ) (u : View I) → get_elem? views j ≡ some u → u.seats ≡ 0 → f u ≡ 0)
+    → total f views ≡ f v
+sole f [] id v at all none_else = absurd (some-ne-none v (sym at))
+sole {I} f (x ∷ xs) zero v at all none_else = let e = some-injective x v at in
+    omega (
+      arith,
+      ap f e,
+      ap (λ (u : View I). u.seats) e,
+      empty xs (omega (arith, ap (λ (u : View I). u.seats) e)) (λ j u there spent. none_else
+          (suc j) u there spent),
+    )
+  where
+    empty : (l : List (View I)) → total (λ u. u.seats) l ≡ 0
+        → ((j : ℕ) (u : View I) → get_elem? l j ≡ some u → u.seats ≡ 0 → f u ≡ 0)
+        → total f l ≡ 0
+    empty [] z n = refl
+    empty (y ∷ ys) z n = omega (
+      arith,
+      n zero y refl (omega arith),
+      empty ys (omega arith) (λ j u there spent. n (suc j) u there spent),
+    )
+sole {I} f (x ∷ xs) (suc id) v at all none_else =
+    let le = term_le (λ (u : View I). u.seats) xs id v at in
+    omega (
+      arith,
+      none_else zero x refl (omega arith),
+      sole f xs id v at (omega arith) (λ j u there spent. none_else (suc j) u there spent),
+    )
+
+-- What a step that changes the word of bank b says of sealed rounds, where t steps sealed round r before it.
+pub record Marks (b before now : ℕ) (s : Step) : Type 0 where
+  pub here : (r t : ℕ) → round_of now ≡ r → (round_of before ≡ r → mark_of before ≡ min 1 t)
+      → (round_of before < r → t ≡ 0) → mark_of now ≡ min 1 (t + seals_in r s)
+  pub later : (r : ℕ) → round_of now < r → seals_in r s ≡ 0
+  pub other : (r : ℕ) → bank_of r ≢ b → seals_in r s ≡ 0
+
+-- a step that seals nothing, and leaves round and mark as they were
+marks_stay : (b before now : ℕ) (s : Step) → ((r : ℕ) → seals_in r s ≡ 0) → mark_of now ≡ mark_of before
+    → round_of now ≡ round_of before → Marks b before now s
+marks_stay b before now s none_sealed mark round = record {
+  here = λ r t is was early. omega (arith, mark, none_sealed r, was (omega (arith, round, is)));
+  later = λ r l. none_sealed r;
+  other = λ r ne. none_sealed r;
+}
+
 module _ {I : Type 0} (jobs seats : ℕ) where
   abbrev Rule : List ℕ → List (View I) → Type 0
   Rule words views = BanksSound jobs seats words views
+
+  -- a view of these banks stands for a seat
+  stands_for : (words : List ℕ) (views : List (View I)) (id : ℕ) (v : View I) → Rule words views
+      → get_elem? views id ≡ some v → v.all ≡ seats → 0 < v.seats
+  stands_for words views id v o at are = dite (ℕ_discrete v.seats 0)
+      (λ none_left. absurd (omega (arith, ((o.fits id v at).spent none_left).0, are, o.few.0)))
+      (λ ne. omega (arith, ne))
+
+  -- a view that stands for all seats finds its own doing
+  finds_own : (words : List ℕ) (views : List (View I)) (id r : ℕ) (v : View I) → Rule words views
+      → get_elem? views id ≡ some v → v.all ≡ seats → r < jobs → v.seats ≡ v.all
+      → IsOwn v r (get_or words (bank_of r) 0)
+  finds_own words views id r v o at are near whole =
+      let all : total (λ (u : View I). u.seats) views ≡ v.seats = o.dealt ∙ sym are ∙ sym whole in
+      record {
+        round = omega (
+          arith,
+          (o.banks (bank_of r) (bank_small r)).round,
+          sole (λ (u : View I). given (bank_of r) u.steps) views id v at all
+              (λ j u there none_left. ((o.fits j u there).spent none_left).1 (bank_of r)),
+        );
+        mark = λ is. omega (
+          arith,
+          o.sealed r near is,
+          sole (λ (u : View I). sealed_in r u.steps) views id v at all
+              (λ j u there none_left. ((o.fits j u there).spent none_left).2 r),
+        );
+      }
 
   -- no bank counts more seats than there are
   counts_few : (words : List ℕ) (views : List (View I)) (b : ℕ) → Rule words views → b < 2
@@ -81,7 +157,7 @@ module _ {I : Type 0} (jobs seats : ℕ) where
             (λ x. counted x u.stand) e,
       )) (λ e. omega (arith, ap (λ x. counted x u.stand) e))
       (bank_cases b small)) in
-      omega (arith, d.count, o.dealt, o.few)
+      omega (arith, d.count, o.dealt, o.few.1)
 
   -- a step that changes the word of bank b alone, and the view at id
   pub turned : (words : List ℕ) (views : List (View I)) (id b n : ℕ) (v : View I) (stand : Stand)
@@ -93,14 +169,23 @@ module _ {I : Type 0} (jobs seats : ℕ) where
       → gives c s ≡ 0) → unfair s ≡ 0
       → (round_of n ≡ round_of (get_or words b 0)) ⊎ (count_of (get_or words b 0) ≡ 0)
       → ((r : ℕ) → stand ≡ Inside r → (round_of (get_or (set words b n) (bank_of r) 0) ≡ r) × (r < jobs))
-      → counted 0 stand + counted 1 stand ≤ v.seats
+      → counted 0 stand + counted 1 stand ≤ v.seats → 0 < v.seats → Marks b (get_or words b 0) n s
       → Rule (set words b n) (set views id (recorded v stand s))
-  turned words views id b n v stand s o at small mark count others round no_others fair rest sees few =
+  turned words views id b n v stand s o at small mark count others round no_others fair rest sees few real marks =
       let w = recorded v stand s in let old : ℕ = get_or words b 0 in let wide = o.wide in
       let near : b < length words = omega arith in
       let here : get_or (set words b n) b 0 ≡ n = get_or-set_same words b n 0 near in
       let else_word : (c : ℕ) → c ≢ b → get_or
       (set words b n) c 0 ≡ get_or words c 0 = λ c ne. get_or-set_other words b c n 0 ne in
+      let now_at : (c : ℕ) → c ≡ b → get_or (set words b n) c 0 ≡ n = λ c same. ap (λ x. get_or
+      (set words b n) x 0) same ∙ here in
+      let was_at : (c : ℕ) → c ≡ b → get_or words c 0 ≡ old = λ c same. ap (λ x. get_or words x 0) same in
+      let more : (r : ℕ) → total (λ (u : View I). sealed_in r u.steps) (set views id w) ≡ total
+      (λ (u : View I). sealed_in r u.steps) views + seals_in r s = λ r. omega (
+        arith,
+        total-set (λ (u : View I). sealed_in r u.steps) views id v w at,
+        total-append (seals_in r) v.steps (s ∷ []),
+      ) in
       record {
         wide = omega (arith, length-set words b n);
         banks = λ c l. dite (ℕ_discrete c b)
@@ -141,6 +226,37 @@ module _ {I : Type 0} (jobs seats : ℕ) where
                 ap round_of e,
               );
             });
+        sealed = λ r near is. dite (ℕ_discrete (bank_of r) b)
+            (λ same. let e = now_at (bank_of r) same in let e' = was_at (bank_of r) same in
+            omega (
+              arith,
+              more r,
+              ap mark_of e,
+              marks.here r (total (λ (u : View I). sealed_in r u.steps) views) (sym (ap round_of e) ∙ is)
+                  (λ k. sym (ap mark_of e') ∙ o.sealed r near (ap round_of e' ∙ k))
+                  (λ k. o.early r (omega (arith, k, ap round_of e'))),
+            ))
+            (λ ne. let e = else_word (bank_of r) ne in omega (
+              arith,
+              more r,
+              marks.other r ne,
+              ap mark_of e,
+              o.sealed r near (sym (ap round_of e) ∙ is),
+            ));
+        early = λ r before. dite (ℕ_discrete (bank_of r) b)
+            (λ same. let e = now_at (bank_of r) same in let e' = was_at (bank_of r) same in
+            omega (
+              arith,
+              more r,
+              marks.later r (omega (arith, before, ap round_of e)),
+              o.early r (omega (arith, before, round, ap round_of e, ap round_of e')),
+            ))
+            (λ ne. let e = else_word (bank_of r) ne in omega (
+              arith,
+              more r,
+              marks.other r ne,
+              o.early r (omega (arith, before, ap round_of e)),
+            ));
         dealt = omega (arith, total-set (λ u. u.seats) views id v w at, o.dealt);
         few = o.few;
         fits = λ j u e. ⊎_elim
@@ -148,6 +264,7 @@ module _ {I : Type 0} (jobs seats : ℕ) where
               sees = sees;
               few = few;
               fair = omega (arith, total-append unfair v.steps (s ∷ []), (o.fits id v at).fair);
+              spent = λ none_left. absurd (omega (arith, none_left, real));
             }))
             (λ t. let f = o.fits j u t.1 in record {
               sees = λ r is. let g = f.sees r is in dite (ℕ_discrete (bank_of r) b)
@@ -169,6 +286,7 @@ module _ {I : Type 0} (jobs seats : ℕ) where
                   (λ ne. (ap round_of (else_word (bank_of r) ne) ∙ g.0, g.1));
               few = f.few;
               fair = f.fair;
+              spent = f.spent;
             })
             (at_set views id j w u e);
       }
@@ -192,7 +310,7 @@ stands_counted r n c = stands r n (λ s. counted c s ≡ only c (bank_of r)) (λ
 
 module _ {T I : Type 0} (jobs seats : ℕ) (about : T) (holds : T → List ℕ → List (View I)
     → Type 0) (idle : I → Type 0) (law : Moves holds idle) where
-  module _ {S : Type 0} (slots id : ℕ) (me : Me S (View I)) where
+  module _ {S : Type 0} (slots id : ℕ) (me : Me S (View I)) (are : me.0.all ≡ seats) where
     abbrev Holds : State S (View I) → Type 0
     Holds s = BanksSound jobs seats s.words s.views × holds about s.words s.views
 
@@ -222,11 +340,13 @@ module _ {T I : Type 0} (jobs seats : ℕ) (about : T) (holds : T → List ℕ �
                 (bank_of k) 0) ≡ k) × (k < jobs)) (inside_is r k is)
                 (ap round_of (get_or-set_same s.words b ((n + 1) % 2 ^ 64) 0 room) ∙ a.round ∙ e, near))
                 (λ k is. absurd (passing_not b k is)))
-                (omega (arith, stands_counted r n 0, stands_counted r n 1, one_bank b)),
+                (omega (arith, stands_counted r n 0, stands_counted r n 1, one_bank b))
+                seated
+                (marks_stay b n ((n + 1) % 2 ^ 64) (Enter b n) (λ k. refl) a.mark a.round),
             law about s.words s.views id b ((n + 1) % 2 ^ 64) v stand (Enter b n) o.1 at
                 (bank_small r) (inr rest) (omega (arith, a.round)),
           ),
-          (refl, d.mark, refl),
+          ((refl, d.mark, refl), finds_own jobs seats s.words s.views id r v o.0 at are near),
         )
 
     pub counts_out : (b : ℕ) → b < 2 → counted b me.0.stand ≡ 1 → idle me.0.inner
@@ -257,7 +377,9 @@ module _ {T I : Type 0} (jobs seats : ℕ) (about : T) (holds : T → List ℕ �
                 (λ c ne. sym (counted_else b c v.stand inside ne))
                 (omega (arith, a.round)) (λ c ne. refl) refl (inl a.round)
                 (λ k is. absurd (inside_not k is))
-                (omega arith),
+                (omega arith)
+                (stands_for jobs seats s.words s.views id v o.0 at are)
+                (marks_stay b n after (Leave b n) (λ k. refl) a.mark a.round),
             law about s.words s.views id b after v Outside (Leave b n) o.1 at two (inr rest) (omega
                 (arith, a.round)),
           ),
@@ -287,7 +409,17 @@ module _ {T I : Type 0} (jobs seats : ℕ) (about : T) (holds : T → List ℕ �
                       (get_or-set_same s.words b (bit_or n 65536) 0 room) ∙ a.round ∙ g.0,
                   g.1,
                 ))
-                f.few,
+                f.few
+                (stands_for jobs seats s.words s.views id v o.0 at are)
+                (record {
+                  here = λ k t is was early. omega (
+                    arith,
+                    a.mark,
+                    only_same k (round_of n) (omega (arith, is, a.round)),
+                  );
+                  later = λ k before. only_other k (round_of n) (λ e. omega (arith, e, before, a.round));
+                  other = λ k ne. only_other k (round_of n) (λ e. ne (omega (arith, e, d.round, bank_small r)));
+                }),
             law about s.words s.views id b (bit_or n 65536) v v.stand (Seal b n) o.1 at
                 (bank_small r) (inl refl) (omega (arith, a.round)),
           ),
@@ -325,7 +457,17 @@ module _ {T I : Type 0} (jobs seats : ℕ) (about : T) (holds : T → List ℕ �
                 ))
                 (inr (ap count_of is ∙ p.count))
                 (λ k is'. absurd (inside_not k (sym out ∙ is')))
-                f.few,
+                f.few
+                (stands_for jobs seats s.words s.views id v o.0 at are)
+                (record {
+                  here = λ k t is' was early. omega (
+                    arith,
+                    q.mark,
+                    early (omega (arith, is', q.round, p.round, ap round_of is)),
+                  );
+                  later = λ k before. refl;
+                  other = λ k ne. refl;
+                }),
             law about s.words s.views id b (open_word (r + 2)) v v.stand e o.1 at (bank_small r)
                 (inl refl) (omega (arith, q.round, p.round, ap round_of is)),
           ),
@@ -346,7 +488,9 @@ module _ {T I : Type 0} (jobs seats : ℕ) (about : T) (holds : T → List ℕ �
                 (ap unfair lost)
                 (inl refl)
                 (λ k is'. absurd (inside_not k (sym out ∙ is')))
-                f.few,
+                f.few
+                (stands_for jobs seats s.words s.views id v o.0 at are)
+                (marks_stay b n n e (λ k. refl) refl refl),
             law about s.words s.views id b n v v.stand e o.1 at (bank_small r) (inl refl) (omega arith),
           ),
           (refl, d.mark, refl),
@@ -356,9 +500,10 @@ module _ {T I : Type 0} (jobs seats : ℕ) (about : T) (holds : T → List ℕ �
 pub beside : {I : Type 0} (jobs seats : ℕ) (before now : List ℕ) (views : List (View I)) (id : ℕ)
     (v w : View I) (s : Step) → BanksSound jobs seats before views → get_elem? views id ≡ some v
     → 1 < length now → ((b : ℕ) → b < 2 → get_or now b 0 ≡ get_or before b 0) → w.stand ≡ v.stand
-    → w.seats ≡ v.seats → w.steps ≡ v.steps ++ s ∷ [] → ((b : ℕ) → gives b s ≡ 0) → unfair s ≡ 0
+    → w.all ≡ v.all → w.seats ≡ v.seats → w.steps ≡ v.steps ++ s ∷ [] → ((b : ℕ) → gives b s ≡ 0)
+    → ((r : ℕ) → seals_in r s ≡ 0) → unfair s ≡ 0
     → BanksSound jobs seats now (set views id w)
-beside jobs seats before now views id v w s o at wide same stand parts steps none_given fair = record {
+beside {I} jobs seats before now views id v w s o at wide same stand all parts steps no_gift no_seal fair = record {
   wide = wide;
   banks = λ b l. let d = o.banks b l in let e = same b l in record {
     mark = omega (arith, ap mark_of e, d.mark);
@@ -374,11 +519,22 @@ beside jobs seats before now views id v w s o at wide same stand parts steps non
       total-set (λ u. given b u.steps) views id v w at,
       ap (given b) steps,
       total-append (gives b) v.steps (s ∷ []),
-      none_given b,
+      no_gift b,
       d.round,
       ap round_of e,
     );
   };
+  sealed = λ r near is. let e = same (bank_of r) (bank_small r) in omega (
+    arith,
+    as_many r,
+    ap mark_of e,
+    o.sealed r near (sym (ap round_of e) ∙ is),
+  );
+  early = λ r before. omega (
+    arith,
+    as_many r,
+    o.early r (omega (arith, before, ap round_of (same (bank_of r) (bank_small r)))),
+  );
   dealt = omega (arith, total-set (λ u. u.seats) views id v w at, o.dealt);
   few = o.few;
   fits = λ j u e. ⊎_elim
@@ -390,11 +546,39 @@ beside jobs seats before now views id v w s o at wide same stand parts steps non
         );
         few = omega (arith, ap (counted 0) stand, ap (counted 1) stand, f.few);
         fair = omega (arith, ap (total unfair) steps, total-append unfair v.steps (s ∷ []), f.fair);
+        spent = λ none_left. let p = f.spent (sym parts ∙ none_left) in (
+          all ∙ p.0,
+          λ b. omega (
+            arith,
+            ap (given b) steps,
+            total-append (gives b) v.steps (s ∷ []),
+            no_gift b,
+            p.1 b,
+          ),
+          λ r. omega (
+            arith,
+            ap (sealed_in r) steps,
+            total-append (seals_in r) v.steps (s ∷ []),
+            no_seal r,
+            p.2 r,
+          ),
+        );
       }))
       (λ t. let f = o.fits j u t.1 in record {
         sees = λ r is. let g = f.sees r is in (ap round_of (same (bank_of r) (bank_small r)) ∙ g.0, g.1);
         few = f.few;
         fair = f.fair;
+        spent = f.spent;
       })
       (at_set views id j w u e);
 }
+  where
+    as_many : (r : ℕ) → total (λ (u : View I). sealed_in r u.steps) (set views id w) ≡ total
+        (λ (u : View I). sealed_in r u.steps) views
+    as_many r = omega (
+      arith,
+      total-set (λ (u : View I). sealed_in r u.steps) views id v w at,
+      ap (sealed_in r) steps,
+      total-append (seals_in r) v.steps (s ∷ []),
+      no_seal r,
+    )

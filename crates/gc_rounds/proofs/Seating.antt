@@ -1,19 +1,21 @@
 -- Making, dealing and joining seats keep the rule.
-use Rattle.std.proofs.Common.{◌≡◌, ℕ, zero, suc, ◌+◌, ◌<◌, ◌≤◌, ◌≢◌, List, [], ◌∷◌, ◌++◌, set, get_or, sym, refl, ap, ◌∙◌, subst, ⊎_elim, arith, replicate, get_or-set_other, get_or-set_same, length-set}
+use Rattle.std.proofs.Common.{◌≡◌, ℕ, zero, suc, ◌+◌, ◌<◌, ◌≤◌, ◌≢◌, List, [], ◌∷◌, ◌++◌, min, set, get_or, sym, refl, ap, ◌∙◌, subst, ⊎_elim, arith, replicate, get_or-set_other, get_or-set_same, length-set}
+use mathlib.Core.Logic.{dite}
+use native.Mathlib.Decide.{ℕ_discrete}
 use mathlib.Core.Option.{some, some-injective, some-ne-none}
 use lib.ListN.{get_elem?}
 use Rattle.std.proofs.lemmas.List.{length-replicate}
 use Rattle.atomic_table.proofs.Lists.{at_set, at_snoc}
 use Rattle.gc_board.specs.Counts.{total}
-use Rattle.gc_rounds.specs.Words.{count_of, mark_of, round_of}
-use Rattle.gc_rounds.specs.Views.{counted, gives, given, unfair}
+use Rattle.gc_rounds.specs.Words.{count_of, mark_of, round_of, bank_of}
+use Rattle.gc_rounds.specs.Views.{counted, gives, given, unfair, seals_in, sealed_in}
 use Rattle.gc_rounds.specs.Banks.{StandFits, BankSound, BanksSound}
 use Rattle.gc_rounds.specs.Steps.{one_less, newcomer, merged, nobody, starting}
 use Rattle.gc_rounds.specs.Laws.{IsFresh}
 use Rattle.gc_rounds.specs.declared.view.Stand.TheVariants.{Outside}
 use Rattle.gc_rounds.specs.declared.view.View.{View}
 use Rattle.gc_board.proofs.Sums.{total-append, total-set}
-use Rattle.gc_rounds.proofs.Keeps.{inside_not}
+use Rattle.gc_rounds.proofs.Keeps.{inside_not, bank_small}
 
 zeros : (n i : ℕ) → get_or {A = ℕ} (replicate n 0) i 0 ≡ 0
 zeros zero i = refl
@@ -42,37 +44,53 @@ module _ {I : Type 0} (jobs seats : ℕ) where
   Rule words views = BanksSound jobs seats words views
 
   pub opens : (size second : ℕ) (inner : I) → round_of second ≡ 1 → count_of second ≡ 0
-      → mark_of second < 2 → seats ≤ 64 → Rule (laid size second) (starting jobs seats inner ∷ [])
-  opens size second inner round count mark small = record {
+      → mark_of second < 2 → (1 < jobs → mark_of second ≡ 0) → 0 < seats → seats ≤ 64
+      → Rule (laid size second) (starting jobs seats inner ∷ [])
+  opens size second inner round count mark unsealed some_seat small = record {
     wide = omega (arith, length-set (replicate (size + 2) 0) 1 second, length-replicate {A = ℕ} (size + 2) 0);
     banks = bank;
+    sealed = λ r near is. dite (ℕ_discrete (bank_of r) 0)
+        (λ z. omega (arith, ap mark_of (ap (λ x. get_or (laid size second) x 0) z ∙ word_zero)))
+        (λ ne. let one : bank_of r ≡ 1 = omega (arith, ne, bank_small r) in
+        let e = ap (λ x. get_or (laid size second) x 0) one ∙ word_one in
+        omega (arith, ap mark_of e, unsealed (omega (arith, near, is, ap round_of e, round))));
+    early = λ r before. refl;
     dealt = omega arith;
-    few = small;
-    fits = one;
+    few = (some_seat, small);
+    fits = one_view;
   }
     where
-      bank : (b : ℕ) → b < 2 → BankSound (laid size second) (starting jobs seats inner ∷ []) b
-      bank zero l = let e = get_or-set_other (replicate (size + 2) 0) 1 0 second 0
-          (λ e. omega arith) ∙ zeros (size + 2) 0 in record {
-            mark = omega (arith, ap mark_of e);
-            count = omega (arith, ap count_of e);
-            round = omega (arith, ap round_of e);
-          }
-      bank (suc zero) l = let e = get_or-set_same (replicate (size + 2) 0) 1 second 0 (omega (
+      word_zero : get_or (laid size second) 0 0 ≡ 0
+      word_zero = get_or-set_other (replicate (size + 2) 0) 1 0 second 0 (λ e. omega arith) ∙ zeros (size + 2) 0
+
+      word_one : get_or (laid size second) 1 0 ≡ second
+      word_one = get_or-set_same (replicate (size + 2) 0) 1 second 0 (omega (
         arith,
         length-replicate {A = ℕ} (size + 2) 0,
-      )) in record {
-        mark = omega (arith, ap mark_of e);
-        count = omega (arith, ap count_of e);
-        round = omega (arith, ap round_of e);
+      ))
+
+      bank : (b : ℕ) → b < 2 → BankSound (laid size second) (starting jobs seats inner ∷ []) b
+      bank zero l = record {
+        mark = omega (arith, ap mark_of word_zero);
+        count = omega (arith, ap count_of word_zero);
+        round = omega (arith, ap round_of word_zero);
+      }
+      bank (suc zero) l = record {
+        mark = omega (arith, ap mark_of word_one);
+        count = omega (arith, ap count_of word_one);
+        round = omega (arith, ap round_of word_one);
       }
       bank (suc (suc b)) l = absurd (omega arith)
 
-      one : (id : ℕ) (v : View I) → get_elem? (starting jobs seats inner ∷ []) id ≡ some v
+      one_view : (id : ℕ) (v : View I) → get_elem? (starting jobs seats inner ∷ []) id ≡ some v
           → StandFits jobs (laid size second) v
-      one zero v e = subst (StandFits jobs (laid size second)) (some-injective _ _ e)
-          (record { sees = λ r is. absurd (inside_not r is); few = omega arith; fair = refl })
-      one (suc id) v e = absurd (some-ne-none v (sym e))
+      one_view zero v e = subst (StandFits jobs (laid size second)) (some-injective _ _ e) (record {
+        sees = λ r is. absurd (inside_not r is);
+        few = omega arith;
+        fair = refl;
+        spent = λ none_left. absurd (omega (arith, none_left, some_seat));
+      })
+      one_view (suc id) v e = absurd (some-ne-none v (sym e))
 
   pub deals : (words : List ℕ) (views : List (View I)) (id : ℕ) (v : View I) (inner : I)
       → Rule words views → get_elem? views id ≡ some v → 1 < v.seats → v.stand ≡ Outside
@@ -94,6 +112,8 @@ module _ {I : Type 0} (jobs seats : ℕ) where
           count = omega (arith, moved (λ u. counted b u.stand), d.count);
           round = omega (arith, moved (λ u. given b u.steps), d.round);
         };
+        sealed = λ r near is. omega (arith, moved (λ u. sealed_in r u.steps), o.sealed r near is);
+        early = λ r before. omega (arith, moved (λ u. sealed_in r u.steps), o.early r before);
         dealt = omega (arith, moved (λ u. u.seats), o.dealt);
         few = o.few;
         fits = λ j u e. ⊎_elim
@@ -101,6 +121,7 @@ module _ {I : Type 0} (jobs seats : ℕ) where
               sees = f.sees;
               few = omega (arith, ap (counted 0) out, ap (counted 1) out);
               fair = f.fair;
+              spent = λ none_left. absurd (omega (arith, none_left, several));
             }))
             (λ t. o.fits j u t.1) (at_set views id j (one_less v) u was))
             (λ (same : other ≡ u). subst (StandFits jobs words) same (record {
@@ -108,6 +129,7 @@ module _ {I : Type 0} (jobs seats : ℕ) where
                   (inside_not r is);
               few = omega arith;
               fair = refl;
+              spent = λ none_left. absurd (omega (arith, none_left));
             }))
             (at_snoc (set views id (one_less v)) other u j e);
       }
@@ -138,6 +160,18 @@ module _ {I : Type 0} (jobs seats : ℕ) where
                 (gives b) v.steps w.steps,
           );
         };
+        sealed = λ r near is. omega (
+          arith,
+          moved (λ u. sealed_in r u.steps),
+          total-append (seals_in r) v.steps w.steps,
+          o.sealed r near is,
+        );
+        early = λ r before. omega (
+          arith,
+          moved (λ u. sealed_in r u.steps),
+          total-append (seals_in r) v.steps w.steps,
+          o.early r before,
+        );
         dealt = omega (arith, moved (λ u. u.seats), o.dealt);
         few = o.few;
         fits = λ j u e. ⊎_elim
@@ -145,6 +179,7 @@ module _ {I : Type 0} (jobs seats : ℕ) where
               sees = λ r is. absurd (inside_not r is);
               few = omega arith;
               fair = refl;
+              spent = λ none_left. (refl, λ b. refl, λ r. refl);
             }))
             (λ t. ⊎_elim (λ q. subst (StandFits jobs words) q.1 (record {
               sees = f.sees;
@@ -156,6 +191,12 @@ module _ {I : Type 0} (jobs seats : ℕ) where
                 theirs.fair,
                 total-append unfair v.steps w.steps,
               );
+              spent = λ none_left. let p = f.spent (omega (arith, none_left)) in
+                  let q = theirs.spent (omega (arith, none_left)) in (
+                    p.0,
+                    λ b. omega (arith, total-append (gives b) v.steps w.steps, p.1 b, q.1 b),
+                    λ r. omega (arith, total-append (seals_in r) v.steps w.steps, p.2 r, q.2 r),
+                  );
             })) (λ q. o.fits j u q.1)
             (at_set views id j both u t.1))
             (at_set (set views id both) other j none_left u e);

@@ -1,10 +1,10 @@
 -- The words of two banks: word 0 is that of bank 0, and word 1 that of bank 1.
-use Rattle.std.specs.Prelude.{◌≡◌, ℕ, ◌+◌, ◌*◌, ◌<◌, ◌≤◌, List, length, slice_index}
+use Rattle.std.specs.Prelude.{◌≡◌, ℕ, ◌+◌, ◌*◌, ◌<◌, ◌≤◌, List, length, min, slice_index}
 use mathlib.Core.Option.{some}
 use lib.ListN.{get_elem?}
 use Rattle.gc_board.specs.Counts.{total}
 use Rattle.gc_rounds.specs.Words.{count_of, mark_of, round_of, bank_of}
-use Rattle.gc_rounds.specs.Views.{counted, unfair, given}
+use Rattle.gc_rounds.specs.Views.{counted, unfair, given, sealed_in}
 use Rattle.gc_rounds.specs.declared.view.Stand.TheVariants.{Inside}
 use Rattle.gc_rounds.specs.declared.view.View.{View}
 
@@ -17,6 +17,9 @@ module _ {I : Type 0} where
     pub few : counted 0 v.stand + counted 1 v.stand ≤ v.seats
     -- Each exchange that gave a bank to its next round found it sealed with nobody counted in.
     pub fair : total unfair v.steps ≡ 0
+    -- A view that stands for no seat is a seat's no more, and gave no bank on and sealed no round.
+    pub spent : v.seats ≡ 0
+        → (v.all ≡ 0) × ((b : ℕ) → given b v.steps ≡ 0) × ((r : ℕ) → sealed_in r v.steps ≡ 0)
 
   -- Bank b, between any two atomic steps.
   pub record BankSound (words : List ℕ) (views : List (View I)) (b : ℕ) : Type 0 where
@@ -30,8 +33,13 @@ module _ {I : Type 0} where
   pub record BanksSound (jobs seats : ℕ) (words : List ℕ) (views : List (View I)) : Type 0 where
     pub wide : 1 < length words
     pub banks : (b : ℕ) → b < 2 → BankSound words views b
-    -- The views stand for all seats, which are 64 at most.
+    -- As long as its bank is in it, a round that has a job is sealed where a seat sealed it, and else open.
+    pub sealed : (r : ℕ) → r < jobs → round_of (slice_index words (bank_of r)) ≡ r
+        → mark_of (slice_index words (bank_of r)) ≡ min 1 (total (λ v. sealed_in r v.steps) views)
+    -- No round is sealed before its bank is in it.
+    pub early : (r : ℕ) → round_of (slice_index words (bank_of r)) < r → total (λ v. sealed_in r v.steps) views ≡ 0
+    -- The views stand for all seats, which are 1 to 64.
     pub dealt : total (λ v. v.seats) views ≡ seats
-    pub few : seats ≤ 64
+    pub few : (0 < seats) × (seats ≤ 64)
     -- What each view says is so.
     pub fits : (id : ℕ) (v : View I) → get_elem? views id ≡ some v → StandFits jobs words v

@@ -1,6 +1,7 @@
 -- What each call's answer says of the words that its steps found. Each call adds these steps alone to the record.
 use Rattle.std.specs.Prelude.{◌≡◌, ◌≢◌, ℕ, ◌<◌, true, false}
 use Rattle.gc_rounds.specs.Words.{count_of, mark_of, round_of, bank_of, shut_word}
+use Rattle.gc_rounds.specs.Views.{reached, sealed_in}
 use Rattle.gc_rounds.specs.Steps.{IsOpenIn, recorded}
 use Rattle.gc_rounds.specs.declared.view.Stand.TheVariants.{Outside, Inside, Passing}
 use Rattle.gc_rounds.specs.declared.view.Step.TheVariants.{Enter, Leave, Seal, Reopen}
@@ -25,6 +26,13 @@ module _ {I : Type 0} where
       (found : ℕ) × IsOpenIn r found × (new ≡ recorded old (Inside r) (Enter (bank_of r) found))
   Enters r old new entry.Shut = Refused r old new (λ n. (round_of n ≡ r) × (mark_of n ≡ 1))
   Enters r old new (entry.OtherRound k) = Refused r old new (λ n. (round_of n ≡ k) × (k ≢ r))
+
+  -- An entry into round r by a view that stands for all seats: its own steps took the bank to the round, and it is
+  -- inside where none of them sealed it, and else shut; or they took the bank to the other round.
+  abbrev pub EntersAlone : ℕ → View I → Entry → Type 0
+  EntersAlone r old entry.Inside = (reached (bank_of r) old.steps ≡ r) × (sealed_in r old.steps ≡ 0)
+  EntersAlone r old entry.Shut = (reached (bank_of r) old.steps ≡ r) × (0 < sealed_in r old.steps)
+  EntersAlone r old (entry.OtherRound k) = reached (bank_of r) old.steps ≡ k
 
   -- A seat leaves round r.
   abbrev pub Leaves : ℕ → View I → View I → Type 0

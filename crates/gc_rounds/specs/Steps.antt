@@ -1,8 +1,9 @@
 -- What each kind of step does to the view of the seat that steps, and how views are cut and joined.
-use Rattle.std.specs.Prelude.{◌≡◌, ℕ, ◌+◌, ◌-◌, ◌<◌, [], ◌∷◌, ◌++◌, ◌==◌, if◌then◌else◌}
+use Rattle.std.specs.Prelude.{◌≡◌, ℕ, ◌+◌, ◌-◌, ◌<◌, [], ◌∷◌, ◌++◌, ◌==◌, if◌then◌else◌, min}
 use Rattle.atomic_table.specs.Table.{Me}
 use Rattle.atomic_table.specs.Table as table
 use Rattle.gc_rounds.specs.Words.{mark_of, round_of, bank_of}
+use Rattle.gc_rounds.specs.Views.{reached, sealed_in}
 use Rattle.gc_rounds.specs.declared.view.Stand.{Stand}
 use Rattle.gc_rounds.specs.declared.view.Stand.TheVariants.{Outside, Inside, Passing}
 use Rattle.gc_rounds.specs.declared.view.Step.{Step}
@@ -32,6 +33,12 @@ module _ {I : Type 0} where
     inner = v.inner;
   }
 
+  -- The word that a view that stands for all seats finds at the bank of round r is its own doing: its steps took the
+  -- bank to the round that is found, and round r is sealed where one of them sealed it, and else open.
+  pub record IsOwn (v : View I) (r found : ℕ) : Type 0 where
+    pub round : round_of found ≡ reached (bank_of r) v.steps
+    pub mark : round_of found ≡ r → mark_of found ≡ min 1 (sealed_in r v.steps)
+
   -- Each kind of step, of the seat before, the word found, and the seat after. None takes or gives a slot.
   module _ {S : Type 0} where
     abbrev pub told : Me S (View I) → ℕ → Me S (View I) → View I → Type 0
@@ -39,7 +46,9 @@ module _ {I : Type 0} where
 
     -- an entry into round r counts the seat in
     abbrev pub entered : ℕ → table.Step S → Me S (View I) → ℕ → Me S (View I) → Type 0
-    entered r st m found m' = told m found m' (recorded m.0 (stand_after r found) (Enter st.word found))
+    entered r st m found m' =
+        told m found m' (recorded m.0 (stand_after r found) (Enter st.word found))
+        × (m.0.seats ≡ m.0.all → IsOwn m.0 r found)
 
     -- a seat is taken out
     abbrev pub left : table.Step S → Me S (View I) → ℕ → Me S (View I) → Type 0

@@ -1,7 +1,7 @@
 -- What stands in a view: where its seat is, and the record of its steps.
-use Rattle.std.specs.Prelude.{ℕ, ◌-◌, ◌%◌, List, if◌then◌else◌}
+use Rattle.std.specs.Prelude.{ℕ, ◌+◌, ◌*◌, ◌-◌, ◌%◌, List, if◌then◌else◌}
 use Rattle.gc_board.specs.Counts.{total, only}
-use Rattle.gc_rounds.specs.Words.{bank_of}
+use Rattle.gc_rounds.specs.Words.{round_of, bank_of}
 use Rattle.gc_rounds.specs.declared.view.Stand.{Stand}
 use Rattle.gc_rounds.specs.declared.view.Stand.TheVariants.{Outside, Inside, Passing}
 use Rattle.gc_rounds.specs.declared.view.Step.{Step}
@@ -36,3 +36,21 @@ unfair (Reopen word found won) = if won then 1 - only 65536 (found % 4294967296)
 -- how many steps of a record gave bank b to its next round
 abbrev pub given : ℕ → List Step → ℕ
 given b steps = total (gives b) steps
+
+-- the round to which the steps of a record took bank b, which begins in round b
+abbrev pub reached : ℕ → List Step → ℕ
+reached b steps = b + 2 * given b steps
+
+-- 1 where the step sealed round r, and else 0
+abbrev pub seals_in : ℕ → Step → ℕ
+seals_in r (Load word found) = 0
+seals_in r (Store word stored) = 0
+seals_in r (Claim word found) = 0
+seals_in r (Enter word found) = 0
+seals_in r (Leave word found) = 0
+seals_in r (Seal word found) = only r (round_of found)
+seals_in r (Reopen word found won) = 0
+
+-- how many steps of a record sealed round r
+abbrev pub sealed_in : ℕ → List Step → ℕ
+sealed_in r steps = total (seals_in r) steps

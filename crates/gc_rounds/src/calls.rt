@@ -2,7 +2,7 @@
 
 ghost use Rattle.std.specs.Prelude.{◌≡◌, ℕ, ◌+◌, ◌<◌};
 ghost use Rattle.gc_rounds.specs.declared.view.Stand.TheVariants.{Outside, Inside};
-ghost use Rattle.gc_rounds.specs.Calls.{Enters, Leaves, Seals, Reopens};
+ghost use Rattle.gc_rounds.specs.Calls.{Enters, EntersAlone, Leaves, Seals, Reopens};
 ghost use Rattle.gc_rounds.specs.Places.{IsPlaceOf, IsSamePlace};
 
 use crate::inner::KeptInner;
@@ -41,6 +41,7 @@ pub fn enter<T, I: KeptInner<T>>(words: &Words<T, I>, place: &mut Place<I>, roun
         × I.idle place.old.me.0.inner }
     ensures same { IsSamePlace place.old place.new }
     ensures found { Enters round place.old.me.0 place.new.me.0 result }
+    ensures alone { place.old.me.0.seats ≡ place.old.me.0.all → EntersAlone round place.old.me.0 result }
 {
     let found = count_in::<T, I, Brand>(words, place, round);
     let other = (found >> 32) as u32;

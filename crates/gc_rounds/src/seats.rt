@@ -20,7 +20,8 @@ pub type WordTable<T, I, A> = Table<u8, View<I>, Key<T>, Rule, A>;
 
 /// The word of bank 1 at the opening: open in round 1, or sealed where there is no such job.
 fn second_word(jobs: u32) -> u64
-    ensures { (round_of result ≡ 1) × (count_of result ≡ 0) × (mark_of result < 2) }
+    ensures { (round_of result ≡ 1) × (count_of result ≡ 0) × (mark_of result < 2)
+        × (1 < jobs → mark_of result ≡ 0) }
 {
     if jobs < 2 {
         0x1_0001_0000

@@ -5,7 +5,7 @@ ghost use Rattle.gc_rounds.specs.declared.view.Stand.TheVariants.{Outside, Insid
 ghost use Rattle.gc_rounds.specs.declared.view.Step.TheVariants.{Enter, Leave, Seal, Reopen};
 ghost use Rattle.gc_rounds.specs.Words.{mark_of, bank_of, shut_word};
 ghost use Rattle.gc_rounds.specs.Views.{counted};
-ghost use Rattle.gc_rounds.specs.Steps.{recorded, stand_after};
+ghost use Rattle.gc_rounds.specs.Steps.{recorded, stand_after, IsOwn};
 ghost use Rattle.gc_rounds.specs.Places.{IsPlaceOf, IsSamePlace};
 
 use crate::inner::KeptInner;
@@ -38,6 +38,7 @@ pub(crate) fn count_in<T, I: KeptInner<T>, Q: Asked>(
     ensures shape { mark_of result < 2 }
     ensures view { place.new.me.0
         ≡ recorded place.old.me.0 (stand_after round result) (Enter (bank_of round) result) }
+    ensures alone { place.old.me.0.seats ≡ place.old.me.0.all → IsOwn place.old.me.0 round result }
 {
     words.fetch_add::<CountIn<Q>>(place, (round % 2) as usize, 1)
 }

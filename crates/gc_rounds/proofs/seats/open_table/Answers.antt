@@ -17,7 +17,7 @@ of_words-requires g c =
     subst (λ (ws : List ℕ). BanksSound c.args.key.now.jobs c.args.key.now.seats ws (v ∷ [])
     × g.I.Inner.holds c.args.key.now.about ws (v ∷ [])) (sym e) (
       opens c.args.key.now.jobs c.args.key.now.seats c.args.size second
-          (g.I.Inner.first c.args.key.now.about) w.0 w.1 w.2 c.requires.seats.1,
+          (g.I.Inner.first c.args.key.now.about) w.0 w.1 w.2 w.3 c.requires.seats.0 c.requires.seats.1,
       g.met.I.KeptInner.opens c.args.key.now.about c.args.key.now.jobs c.args.key.now.seats
           (laid c.args.size second) (subst (λ (n : ℕ). Rattle.gc_rounds.specs.Laws.IsFresh n
           (laid c.args.size second)) c.requires.size.0

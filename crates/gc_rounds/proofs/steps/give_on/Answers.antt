@@ -6,5 +6,5 @@ pub compare_exchange-requires : goal.compare_exchange-requires
 compare_exchange-requires g c = let p = c.requires.place in (
   p.table_id,
   omega (arith, p.fits.words, bank_small c.args.round),
-  gives_on _ _ _ g.I.Inner.holds g.I.Inner.idle g.met.I.KeptInner.moves _ _ _ c.args.round c.requires.outside,
+  gives_on _ _ _ g.I.Inner.holds g.I.Inner.idle g.met.I.KeptInner.moves _ _ _ p.whole c.args.round c.requires.outside,
 )

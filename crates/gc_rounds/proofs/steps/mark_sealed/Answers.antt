@@ -6,5 +6,5 @@ pub fetch_or-requires : goal.fetch_or-requires
 fetch_or-requires g c = let p = c.requires.place in (
   p.table_id,
   omega (arith, p.fits.words, bank_small c.args.round),
-  seals _ _ _ g.I.Inner.holds g.I.Inner.idle g.met.I.KeptInner.moves _ _ _ c.args.round c.requires.inside,
+  seals _ _ _ g.I.Inner.holds g.I.Inner.idle g.met.I.KeptInner.moves _ _ _ p.whole c.args.round c.requires.inside,
 )
