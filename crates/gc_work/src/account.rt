@@ -63,10 +63,12 @@ impl Outcome<Task, PoolAccount> for Pushes {
 pub(crate) struct Pops;
 
 impl Outcome<Task, PoolAccount> for Pops {
-    ghost use Rattle.std.specs.Prelude.{◌≡◌, ◌++◌};
-    ghost use Rattle.gc_work.specs.PoolRule.{account};
+    ghost use Rattle.std.specs.Prelude.{◌≡◌, ◌++◌, []};
+    ghost use Rattle.gc_work.specs.PoolRule.{account, Knows};
 
     ghost then = { λ v tasks w. w ≡ account v.parts v.pushed (v.popped ++ tasks) v.stolen v.handed };
+
+    ghost empty = { λ v. Knows v [] };
 }
 
 pub(crate) struct Steals;

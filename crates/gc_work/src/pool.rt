@@ -1,6 +1,6 @@
 //! Pools of tasks: one owner fills a pool and takes from its back, and thieves take from its front.
 
-ghost use Rattle.std.specs.Prelude.{◌≡◌, ◌+◌, ◌<◌, ◌≤◌, [], ◌∷◌, ◌++◌, codes, length, List, IfOk, IfErr, MatchResult, MatchOption};
+ghost use Rattle.std.specs.Prelude.{◌≡◌, ◌+◌, ◌<◌, ◌≤◌, [], ◌∷◌, ◌++◌, codes, length, List, IfOk, IfErr, MatchResult, MatchOption, IfNone};
 ghost use Rattle.gc_store.specs.declared.task.Task.{Task};
 ghost use Rattle.gc_work.specs.Pool.{stolen_by, AllOf, IsConserved};
 
@@ -185,11 +185,13 @@ impl<A: Allocator> TaskPool<A> {
         }
     }
 
-    /// The task that was pushed last of those that are left, where this try took one. It takes no memory.
+    /// The task that was pushed last of those that are left, where this try took one. Of a pool without thieves it
+    /// takes one as long as one is left. It takes no memory.
     pub fn pop(&self, owner: &mut Owner<A>) -> Option<Task>
         requires { owner.old.pool ≡ self.now }
-        ensures { MatchOption result (owner.new ≡ owner.old)
+        ensures popped { MatchOption result (owner.new ≡ owner.old)
             (λ t. owner.new ≡ record owner.old { popped = owner.old.popped ++ t ∷ [] }) }
+        ensures alone { owner.old.thieves ≡ 0 → IfNone result (IsConserved owner.old.pushed owner.old.popped [] []) }
     {
         owner.worker.pop_as::<Pops>()
     }
