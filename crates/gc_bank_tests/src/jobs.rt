@@ -6,7 +6,7 @@ use gc_circuit::{Circuit, read_value};
 use gc_eval::{EvalFault, Job, evaluate};
 use gc_file::{Version, read_garbled, read_labels};
 use gc_work::{Gatehouse, Open};
-use gc_worked::circuits::{FULL_ADDER, many_ands};
+use gc_worked::circuits::{FULL_ADDER, SPACED_ADDER, many_ands};
 use gc_worked::files::{label_file, write};
 use gc_worked::meeting::Meeting;
 use std::alloc::{Allocator, Global};
@@ -93,6 +93,38 @@ fn full_adders(rt: HostRuntime) -> Result<(), Fail> {
         jobs.push(job_of(alloc, &circuit, FULL_ADDER, Version::One, values)?)?;
         jobs.push(job_of(alloc, &circuit, FULL_ADDER, Version::Two, values)?)?;
         assert!(rt; agree(&rt, alloc, &jobs, &[1, 2, 3, 4, 5, 6, 7, 8, 64])?);
+    }
+    Ok(())
+}
+
+/// Whether a job on the full adder, which the one circuit is, and a job on the other one, of this text, are on one
+/// circuit.
+fn are_on_one(alloc: Global, adder: &Circuit, other: &Circuit, text: &str) -> Result<bool, Fail> {
+    let mut jobs = Vec::new(alloc);
+    jobs.push(job_of(alloc, adder, FULL_ADDER, Version::One, &["1", "0", "1"])?)?;
+    jobs.push(job_of(alloc, other, text, Version::Two, &["0", "1", "1"])?)?;
+    Ok(one_circuit(&jobs))
+}
+
+/// The full adder with one other gate: its first reads the same wires in the other order, its AND gate is an XOR, or
+/// its last reads another wire.
+static OTHER_ADDERS: [&str; 3] = [
+    "5 8\n3 1 1 1\n1 2\n\n2 1 2 0 3 XOR\n2 1 1 2 4 XOR\n2 1 3 4 5 AND\n2 1 3 1 6 XOR\n2 1 5 2 7 XOR\n",
+    "5 8\n3 1 1 1\n1 2\n\n2 1 0 2 3 XOR\n2 1 1 2 4 XOR\n2 1 3 4 5 XOR\n2 1 3 1 6 XOR\n2 1 5 2 7 XOR\n",
+    "5 8\n3 1 1 1\n1 2\n\n2 1 0 2 3 XOR\n2 1 1 2 4 XOR\n2 1 3 4 5 AND\n2 1 3 1 6 XOR\n2 1 5 1 7 XOR\n",
+];
+
+/// Jobs on the same circuit are on one, and so are jobs on equal circuits. One gate makes the difference.
+#[test]
+fn circuits_are_compared(rt: HostRuntime) -> Result<(), Fail> {
+    let alloc = rt.alloc();
+    let adder = Circuit::read(alloc, FULL_ADDER.as_bytes())?;
+    let twin = Circuit::read(alloc, SPACED_ADDER.as_bytes())?;
+    assert!(rt; are_on_one(alloc, &adder, &adder, FULL_ADDER)?);
+    assert!(rt; are_on_one(alloc, &adder, &twin, SPACED_ADDER)?);
+    for text in &OTHER_ADDERS {
+        let other = Circuit::read(alloc, text.as_bytes())?;
+        assert!(rt; !are_on_one(alloc, &adder, &other, text)?, "{text:?}");
     }
     Ok(())
 }
