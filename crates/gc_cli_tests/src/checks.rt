@@ -1,6 +1,6 @@
 //! Tests of the command `check`.
 
-use crate::serving::serve_over;
+use gc_serving::serve_over;
 use gc_worked::circuits::{
     ADDER_LINES, AND, CONSTANT, EMPTY, FULL_ADDER, MANY_WIRES, NO_GATES, SPACED_ADDER, WIDE, XOR,
 };

@@ -1,7 +1,6 @@
 //! Tests of files that fail: each call of them in turn, and sources and sinks in mid-stream.
 
-use crate::disk::Disk;
-use crate::mem_files::Limits;
+use gc_serving::{Disk, Limits};
 use gc_worked::circuits::{SEED, XOR};
 use std::alloc::Global;
 use std::process::Abort;

@@ -1,10 +1,8 @@
 //! Each growth of a command refused in turn: the fault's code tells the part of the work that lacked memory.
 
-use crate::disk::Disk;
-use crate::mem_files::MemFiles;
-use crate::serving::{copies_of, plain_words, run_words};
 use gc_cli::{carry_out, order_of};
 use gc_refusing::Refusing;
+use gc_serving::{Disk, MemFiles, copies_of, plain_words, run_words};
 use gc_worked::circuits::{ADDER_LINES, FULL_ADDER, SEED};
 use std::alloc::{AllocError, Global};
 use std::process::Abort;

@@ -1,6 +1,6 @@
 //! Tests of the command `jobs`: lists, what they print, and each fault in its place.
 
-use crate::disk::Disk;
+use gc_serving::Disk;
 use gc_worked::circuits::{FULL_ADDER, SEED};
 use std::alloc::Global;
 use std::process::Abort;

@@ -1,10 +1,8 @@
 //! Tests of commands that go from files to files: `garble`, `deal` and `eval`.
 
-use crate::disk::Disk;
-use crate::program::RUNS;
-use crate::serving::words_of;
 use gc_circuit::show_value;
 use gc_file::Version;
+use gc_serving::{Disk, RUNS, words_of};
 use gc_worked::circuits::{AND, FULL_ADDER, SEED, XOR};
 use gc_worked::worked_files::{
     AND_FILE, AND_FILE_2, GARBLED_FILES, LABEL_FILES, OTHER_DECODE_BIT, XOR_FILE, XOR_FILE_2,

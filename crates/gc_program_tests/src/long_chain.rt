@@ -1,6 +1,6 @@
 //! A chain of more than a million gates, evaluated in the plain and garbled.
 
-use crate::serving::serve_over;
+use gc_serving::serve_over;
 use gc_worked::circuits::{SEED, chain};
 use std::test::Fail;
 

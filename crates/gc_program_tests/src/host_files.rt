@@ -1,8 +1,8 @@
 //! Tests of files on a disk, and of a reader that fails in mid-stream.
 
-use crate::serving::serve_files;
 use gc_cli::{FileError, Files, HostFiles, read_all};
 use gc_refusing::Refusing;
+use gc_serving::serve_files;
 use gc_worked::circuits::{CONSTANT, SEED};
 use std::io::{self, ErrorKind, Read};
 use std::test::Fail;

@@ -9,7 +9,7 @@ use std::test::Fail;
 use std::thread::Threads;
 
 /// The words as a command line has them.
-pub(crate) fn copies_of(alloc: Global, words: &[&str]) -> Result<Vec<String>, AllocError> {
+pub fn copies_of(alloc: Global, words: &[&str]) -> Result<Vec<String>, AllocError> {
     let mut copies = Vec::new(alloc);
     for word in words {
         copies.push(String::from_str(alloc, word)?)?;
@@ -19,7 +19,7 @@ pub(crate) fn copies_of(alloc: Global, words: &[&str]) -> Result<Vec<String>, Al
 
 /// A writer that takes nothing.
 #[derive(Drop)]
-pub(crate) struct Closed;
+pub struct Closed;
 
 impl Write for Closed {
     fn write(&mut self, _buf: &[u8]) -> io::Result<usize> {
@@ -33,7 +33,7 @@ impl Write for Closed {
 
 /// What serving words gives.
 #[derive(Drop)]
-pub(crate) struct Served {
+pub struct Served {
     status: u8,
     output: String,
     errors: String,
@@ -41,13 +41,13 @@ pub(crate) struct Served {
 
 impl Served {
     /// The status, and what was written on standard output and on standard error.
-    pub(crate) fn parts(&self) -> (u8, &str, &str) {
+    pub fn parts(&self) -> (u8, &str, &str) {
         (self.status, &self.output, &self.errors)
     }
 }
 
 /// Serves the words over one file `c.txt`.
-pub(crate) fn serve_over<R: Threads + Wait + Sync>(
+pub fn serve_over<R: Threads + Wait + Sync>(
     rt: &R,
     alloc: Global,
     text: &str,
@@ -58,7 +58,7 @@ pub(crate) fn serve_over<R: Threads + Wait + Sync>(
 }
 
 /// Serves the words over files.
-pub(crate) fn serve_files<R: Threads + Wait + Sync, F: Files>(
+pub fn serve_files<R: Threads + Wait + Sync, F: Files>(
     rt: &R,
     alloc: Global,
     files: &mut F,
@@ -76,7 +76,7 @@ pub(crate) fn serve_files<R: Threads + Wait + Sync, F: Files>(
 }
 
 /// The words of a run over `c.txt`.
-pub(crate) fn run_words<'a>(
+pub fn run_words<'a>(
     alloc: Global,
     seed: &'a str,
     values: &[&'a str],
@@ -85,15 +85,12 @@ pub(crate) fn run_words<'a>(
 }
 
 /// The words of a plain evaluation of `c.txt`.
-pub(crate) fn plain_words<'a>(
-    alloc: Global,
-    values: &[&'a str],
-) -> Result<Vec<&'a str>, AllocError> {
+pub fn plain_words<'a>(alloc: Global, values: &[&'a str]) -> Result<Vec<&'a str>, AllocError> {
     words_of(alloc, &["halfgates", "plain", "c.txt"], values)
 }
 
 /// The first words, and more.
-pub(crate) fn words_of<'a>(
+pub fn words_of<'a>(
     alloc: Global,
     first: &[&'a str],
     more: &[&'a str],

@@ -9,14 +9,14 @@ use std::thread::Threads;
 
 /// Files by name. Of two of one name the first counts, which is the newer.
 #[derive(Drop)]
-pub(crate) struct Disk {
+pub struct Disk {
     alloc: Global,
     files: Vec<(String, Vec<u8>)>,
 }
 
 impl Disk {
     /// No file.
-    pub(crate) fn new(alloc: Global) -> Disk {
+    pub fn new(alloc: Global) -> Disk {
         Disk {
             alloc,
             files: Vec::new(alloc),
@@ -24,14 +24,14 @@ impl Disk {
     }
 
     /// With the circuit's text as `c.txt`.
-    pub(crate) fn of_circuit(alloc: Global, text: &str) -> Result<Disk, AllocError> {
+    pub fn of_circuit(alloc: Global, text: &str) -> Result<Disk, AllocError> {
         let mut disk = Disk::new(alloc);
         disk.put("c.txt", text.as_bytes())?;
         Ok(disk)
     }
 
     /// Puts a file of this name.
-    pub(crate) fn put(&mut self, name: &str, bytes: &[u8]) -> Result<(), AllocError> {
+    pub fn put(&mut self, name: &str, bytes: &[u8]) -> Result<(), AllocError> {
         let file = (
             String::from_str(self.alloc, name)?,
             Vec::from_slice(self.alloc, bytes)?,
@@ -41,7 +41,7 @@ impl Disk {
     }
 
     /// The bytes of the file of this name.
-    pub(crate) fn bytes(&self, name: &str) -> Option<&[u8]> {
+    pub fn bytes(&self, name: &str) -> Option<&[u8]> {
         for (held, bytes) in &self.files {
             if held.as_str() == name {
                 return Some(bytes);
@@ -51,7 +51,7 @@ impl Disk {
     }
 
     /// The files as [`MemFiles`] takes them.
-    pub(crate) fn held(&self) -> Result<Vec<(&str, &[u8])>, AllocError> {
+    pub fn held(&self) -> Result<Vec<(&str, &[u8])>, AllocError> {
         let mut held = Vec::new(self.alloc);
         for (name, bytes) in &self.files {
             held.push((name.as_str(), bytes.as_slice()))?;
@@ -60,7 +60,7 @@ impl Disk {
     }
 
     /// Serves the words, and puts the file that is written.
-    pub(crate) fn serve<R: Threads + Wait + Sync>(
+    pub fn serve<R: Threads + Wait + Sync>(
         &mut self,
         rt: &R,
         words: &[&str],
@@ -73,7 +73,7 @@ impl Disk {
     }
 
     /// Serves the words over files that fail beyond these limits. The file that is written is told.
-    pub(crate) fn serve_within<R: Threads + Wait + Sync>(
+    pub fn serve_within<R: Threads + Wait + Sync>(
         &self,
         rt: &R,
         words: &[&str],

@@ -1,6 +1,6 @@
 use Rattle.std.proofs.Common.{◌≡◌, drop}
-use Rattle.gc_cli_tests.specs.MemFiles.{bytes_at}
-use Rattle.gc_cli_tests.proofs.mem_files.held_at.Given as goal
+use Rattle.gc_serving.specs.MemFiles.{bytes_at}
+use Rattle.gc_serving.proofs.mem_files.held_at.Given as goal
 
 -- No file so far has the name.
 abbrev pub invariant-loop-file : goal.invariant-loop-file

@@ -1,7 +1,7 @@
 -- What files in memory hold.
 use Rattle.std.specs.Prelude.{ℕ, List, Option, Some, None, find, option_map, bytes_eq, if◌then◌else◌}
 use Rattle.std.specs.Borrow.{Bor}
-use Rattle.gc_cli_tests.specs.declared.mem_files.Limits.{Limits}
+use Rattle.gc_serving.specs.declared.mem_files.Limits.{Limits}
 
 -- the bytes of the first file of a name
 abbrev pub bytes_at : List (Bor (List ℕ) × Bor (List ℕ)) → List ℕ → Option (List ℕ)

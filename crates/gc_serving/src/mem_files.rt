@@ -2,7 +2,7 @@
 
 ghost use Rattle.std.specs.Prelude.{◌≡◌, ℕ, List, Option, Some, None, false, IfOk, option_map, string_bytes};
 ghost use Rattle.gc_cli.specs.Files.{CountsRead};
-ghost use Rattle.gc_cli_tests.specs.MemFiles.{bytes_at, bytes_of, written_or};
+ghost use Rattle.gc_serving.specs.MemFiles.{bytes_at, bytes_of, written_or};
 
 use gc_cli::{FileError, FileFailures, Files};
 use gc_file::{MemSink, MemSource};
@@ -41,7 +41,7 @@ pub struct MemFiles<'a> {
 
 impl<'a> Model for MemFiles<'a> {
     ghost use Rattle.std.specs.Prelude.{option_map, string_bytes};
-    ghost use Rattle.gc_cli_tests.specs.MemFiles.{HeldFiles};
+    ghost use Rattle.gc_serving.specs.MemFiles.{HeldFiles};
 
     ghost Value = { HeldFiles };
 

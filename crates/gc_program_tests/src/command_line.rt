@@ -1,7 +1,7 @@
 //! Tests of the words of command lines: help, orders, and words that are neither.
 
-use crate::serving::{Closed, copies_of, serve_over};
 use gc_cli::{Order, order_of, refuse_line};
+use gc_serving::{Closed, copies_of, serve_over};
 use gc_worked::circuits::{FULL_ADDER, SEED};
 use std::alloc::Global;
 use std::io::ErrorKind;
