@@ -4,9 +4,13 @@ use gc_cli::{FileError, Files, HostFiles, read_all};
 use gc_refusing::Refusing;
 use gc_serving::serve_files;
 use gc_worked::circuits::{CONSTANT, SEED};
+use std::alloc::Global;
 use std::io::{self, ErrorKind, Read};
+use std::process::Abort;
+use std::sync::Wait;
 use std::test::Fail;
-use std::{env, fs, process};
+use std::thread::Threads;
+use std::{env, fs, process, rt};
 
 /// A reader that gives so many bytes, each 7, and then fails for this reason.
 #[derive(Drop)]
@@ -58,36 +62,63 @@ fn fails_where_a_folder_is_read(rt: HostRuntime) {
     assert_eq!(rt; answer.err(), Some(FileError::CannotRead));
 }
 
-/// A file of ten thousand bytes is read whole, and with each growth refused in turn not at all.
+/// The path of a file of this name, and of this process alone, in the folder for such files.
+fn own_path(rt: &HostRuntime, name: &str) -> Result<String, Fail> {
+    let alloc = rt.alloc();
+    let file = format!(in alloc; "halfgates_{name}_{}", process::id(rt.process()))?;
+    let path = env::temp_dir(rt)?.join(alloc, file.as_str())?;
+    Ok(String::from_str(alloc, path.as_str())?)
+}
+
+/// Whether the file is read, and has these bytes.
+fn is_read(rt: &impl rt::Files, alloc: Global, path: &str, bytes: &[u8]) -> bool {
+    match HostFiles::new(rt).read(alloc, path) {
+        Ok(read) => read.as_slice() == bytes,
+        Err(_) => false,
+    }
+}
+
+/// Why the file isn't read where the first growth is refused.
+fn refused(rt: &impl rt::Files, alloc: Global, path: &str) -> Option<FileError> {
+    let heap = Refusing::nth(alloc, 1);
+    HostFiles::new(rt).read(&heap, path).err()
+}
+
+/// A file of ten thousand bytes is read whole, and with its first growth refused not at all.
 #[test]
 fn reads_a_file_whole(rt: HostRuntime) -> Result<(), Fail> {
-    let alloc = rt.alloc();
-    let name = format!(in alloc; "halfgates_host_files_{}", process::id(rt.process()))?;
-    let path = env::temp_dir(&rt)?.join(alloc, name.as_str())?;
-    let bytes = vec![in alloc; 200u8; 10_000]?;
+    let path = own_path(&rt, "host_files")?;
+    let bytes = vec![in rt.alloc(); 200u8; 10_000]?;
     fs::write(&rt, path.as_str(), bytes.as_slice())?;
-    let mut files = HostFiles::new(&rt);
-    let whole = files.read(alloc, path.as_str());
-    let heap = Refusing::nth(alloc, 1);
-    let refused = files.read(&heap, path.as_str());
+    let whole = is_read(&rt, rt.alloc(), path.as_str(), &bytes);
+    let error = refused(&rt, rt.alloc(), path.as_str());
     fs::remove_file(&rt, path.as_str())?;
-    assert!(rt; whole.is_ok_and(|read| read.as_slice() == bytes.as_slice()));
-    assert_eq!(rt; refused.err(), Some(FileError::Memory));
+    assert!(rt; whole);
+    assert_eq!(rt; error, Some(FileError::Memory));
     Ok(())
 }
 
-/// A garbled file is written to a disk and evaluated from it. In a folder that is not there none can be written, and none
-/// can be opened.
-#[test]
-fn keeps_a_file_for_the_next_command(rt: HostRuntime) -> Result<(), Fail> {
-    let alloc = rt.alloc();
-    let name = format!(in alloc; "halfgates_two_commands_{}", process::id(rt.process()))?;
-    let circuit = env::temp_dir(&rt)?.join(alloc, name.as_str())?;
-    let circuit = circuit.as_str();
-    let out = format!(in alloc; "{circuit}.garbled")?;
-    let out = out.as_str();
+/// Serves the words over files on a disk, which gives this status and these texts.
+fn assert_serves<R: rt::Files + Threads + Wait + Sync + Abort>(
+    rt: &R,
+    alloc: Global,
+    words: &[&str],
+    wanted: (u8, &str, &str),
+) -> Result<(), Fail> {
+    let served = serve_files(rt, alloc, &mut HostFiles::new(rt), words)?;
+    assert_eq!(rt; served.parts(), wanted, "{words:?}");
+    Ok(())
+}
+
+/// Garbles a circuit of a constant into a file, and evaluates it from there. In a folder that is not there none can be
+/// written, and none can be opened.
+fn garble_and_evaluate<R: rt::Files + Threads + Wait + Sync + Abort>(
+    rt: &R,
+    alloc: Global,
+    circuit: &str,
+    out: &str,
+) -> Result<(), Fail> {
     let nowhere = "no such folder/out";
-    fs::write(&rt, circuit, CONSTANT.as_bytes())?;
     let orders: [(&[&str], (u8, &str, &str)); 4] = [
         (
             &["halfgates", "garble", circuit, SEED, out],
@@ -104,10 +135,19 @@ fn keeps_a_file_for_the_next_command(rt: HostRuntime) -> Result<(), Fail> {
         ),
     ];
     for (words, wanted) in orders {
-        let served = serve_files(&rt, alloc, &mut HostFiles::new(&rt), words)?;
-        assert_eq!(rt; served.parts(), wanted, "{words:?}");
+        assert_serves(rt, alloc, words, wanted)?;
     }
-    fs::remove_file(&rt, circuit)?;
-    fs::remove_file(&rt, out)?;
+    Ok(())
+}
+
+/// What one command writes to a disk is there for the next one.
+#[test]
+fn keeps_a_file_for_the_next_command(rt: HostRuntime) -> Result<(), Fail> {
+    let circuit = own_path(&rt, "two_commands")?;
+    let out = own_path(&rt, "two_commands_garbled")?;
+    fs::write(&rt, circuit.as_str(), CONSTANT.as_bytes())?;
+    garble_and_evaluate(&rt, rt.alloc(), circuit.as_str(), out.as_str())?;
+    fs::remove_file(&rt, circuit.as_str())?;
+    fs::remove_file(&rt, out.as_str())?;
     Ok(())
 }
