@@ -1,10 +1,9 @@
 //! The parts that are timed.
 
-ghost use Rattle.std.specs.Prelude.{◌≡◌};
-ghost use Rattle.gc_store.specs.declared.tally.TheConstants.{MAX_TALLIES};
-
 use crate::evaluations::{alone, by_workers, job_of};
 use crate::lists::{one_after_another, together};
+use crate::part::Part;
+use crate::stores::{garble_once, open_once, tasks};
 use anyhow::{Result, anyhow};
 use gc_circuit::{Circuit, fits, plain_eval};
 use gc_eval::{Job, evaluate_labels};
@@ -12,153 +11,68 @@ use gc_file::{GarbledReader, MemSink, Sink, SinkFault, read_garbled, write_garbl
 use gc_half::{Garbling, garble_one_thread, tweak_hash};
 use gc_label::{Label, Seed, fill_input_labels};
 use gc_lanes::hash_four;
-use gc_store::{MAX_TALLIES, Sealed, Store, Task};
+use gc_store::{Sealed, Task};
 use gc_work::{Open, garble};
 use sha2::{Digest, Sha256};
 use std::alloc::Global;
-use std::marker::Brand;
 use std::sync::Wait;
-use std::sync::ledger::{Blank, Ledger};
 use std::thread::Threads;
 
-/// A part of the program's work.
-#[derive(Clone, Copy, PartialEq, Eq, Debug)]
-pub enum Part {
-    /// Reading the circuit from bytes.
-    Read,
-    /// Plain evaluation.
-    Plain,
-    /// Garbling on one thread.
-    Garble,
-    /// The hashes of garbling alone, four for each AND gate, one after another.
-    Hashes,
-    /// The same number of hashes, four at once.
-    Lanes,
-    /// Evaluation from labels.
-    Evaluate,
-    /// Opening a store of a copy of the circuit.
-    Open,
-    /// Garbling through a store: opening it, and claiming, sealing and finishing each gate in file order.
-    Store,
-    /// Sealing the same tasks alone.
-    Seal,
-    /// Garbling by two workers over a shared store.
-    Garble2,
-    /// Garbling by four workers over a shared store.
-    Garble4,
-    /// Evaluation of a job on one thread.
-    Job,
-    /// Evaluation of a job at a board, by one worker.
-    Job1,
-    /// The same by two workers.
-    Job2,
-    /// The same by four workers.
-    Job4,
-    /// Evaluation of a list of jobs on one thread, one after another.
-    List,
-    /// Evaluation of a list of jobs by one worker.
-    List1,
-    /// The same by four workers, at banks.
-    List4,
-    /// The digest of the circuit.
-    Digest,
-    /// SHA-256 over the circuit's canonical text, as it lies in memory.
-    Sha,
-    /// Writing the garbled file to a sink that takes all. The digest of the circuit is part of it.
-    Write,
-    /// Reading the garbled file whole.
-    ReadFile,
-    /// Reading the garbled file in pieces of 4,096 bytes.
-    Pieces,
-    /// SHA-256 over the bytes of the garbled file.
-    FileSha,
-}
-
-/// All parts.
-const PARTS: [Part; 24] = [
-    Part::Read,
-    Part::Plain,
-    Part::Garble,
-    Part::Hashes,
-    Part::Lanes,
-    Part::Evaluate,
-    Part::Open,
-    Part::Store,
-    Part::Seal,
-    Part::Garble2,
-    Part::Garble4,
-    Part::Job,
-    Part::Job1,
-    Part::Job2,
-    Part::Job4,
-    Part::List,
-    Part::List1,
-    Part::List4,
-    Part::Digest,
-    Part::Sha,
-    Part::Write,
-    Part::ReadFile,
-    Part::Pieces,
-    Part::FileSha,
-];
-
-impl Part {
-    /// The part of this name, where there is one.
-    pub fn named(name: &str) -> Option<Part> {
-        PARTS.iter().copied().find(|part| part.name() == name)
-    }
-
-    /// How many jobs the list that it takes has, if it takes one.
-    pub fn jobs_listed(self) -> u32 {
-        match self {
-            Part::List | Part::List1 | Part::List4 => 1000,
-            _ => 0,
-        }
-    }
-
-    /// Its name on the command line.
-    fn name(self) -> &'static str {
-        match self {
-            Part::Read => "read",
-            Part::Plain => "plain",
-            Part::Garble => "garble",
-            Part::Hashes => "hashes",
-            Part::Lanes => "lanes",
-            Part::Evaluate => "evaluate",
-            Part::Open => "open",
-            Part::Store => "store",
-            Part::Seal => "seal",
-            Part::Garble2 => "garble2",
-            Part::Garble4 => "garble4",
-            Part::Job => "job",
-            Part::Job1 => "job1",
-            Part::Job2 => "job2",
-            Part::Job4 => "job4",
-            Part::List => "list",
-            Part::List1 => "list1",
-            Part::List4 => "list4",
-            Part::Digest => "digest",
-            Part::Sha => "sha",
-            Part::Write => "write",
-            Part::ReadFile => "read_file",
-            Part::Pieces => "pieces",
-            Part::FileSha => "file_sha",
-        }
-    }
-}
-
-/// A circuit, and all that its parts take, with zeros as inputs.
+/// A circuit, and all that its parts take.
 #[derive(Drop)]
 pub struct Subject {
     pub circuit: Circuit,
     seed: Seed,
-    values: Vec<Vec<bool>>,
     garbling: Garbling,
-    decode_bits: Vec<bool>,
+    materials: Materials,
+}
+
+/// What parts take beside the circuit and its garbling, with zeros as inputs.
+#[derive(Drop)]
+struct Materials {
+    values: Vec<Vec<bool>>,
     labels: Vec<Label>,
+    decode_bits: Vec<bool>,
     tasks: Vec<Task>,
     canonical_text: Vec<u8>,
     garbled_file: Vec<u8>,
+}
+
+impl Materials {
+    fn of(alloc: Global, circuit: &Circuit, garbling: &Garbling, seed: &Seed) -> Result<Materials> {
+        Ok(Materials {
+            values: values_of(alloc, circuit)?,
+            labels: labels_of(alloc, circuit, seed)?,
+            decode_bits: decode_bits_of(alloc, garbling)?,
+            tasks: tasks(alloc, circuit, *seed)?,
+            canonical_text: circuit.canon(alloc)?,
+            garbled_file: file_of(alloc, circuit, garbling, seed)?,
+        })
+    }
+}
+
+/// Input values of zeros.
+fn values_of(alloc: Global, circuit: &Circuit) -> Result<Vec<Vec<bool>>> {
+    let mut values = Vec::new(alloc);
+    for width in circuit.input_widths() {
+        values.push(vec![in alloc; false; *width as usize]?)?;
+    }
+    Ok(values)
+}
+
+/// The labels of these values.
+fn labels_of(alloc: Global, circuit: &Circuit, seed: &Seed) -> Result<Vec<Label>> {
+    let mut labels = vec![in alloc; Label::ZERO; circuit.input_wires() as usize]?;
+    fill_input_labels(seed, 0, &mut labels);
+    Ok(labels)
+}
+
+fn decode_bits_of(alloc: Global, garbling: &Garbling) -> Result<Vec<bool>> {
+    let mut decode_bits = Vec::new(alloc);
+    for i in 0..garbling.outputs() {
+        decode_bits.push(garbling.decode_bit(i))?;
+    }
+    Ok(decode_bits)
 }
 
 /// A sink that takes all and keeps nothing.
@@ -181,30 +95,13 @@ impl Subject {
     pub fn new(alloc: Global, text: &[u8]) -> Result<Subject> {
         let circuit = Circuit::read(alloc, text)?;
         let seed = Seed::from_bytes([0; 32]);
-        let mut values = Vec::new(alloc);
-        for width in circuit.input_widths() {
-            values.push(vec![in alloc; false; *width as usize]?)?;
-        }
-        let mut labels = vec![in alloc; Label::ZERO; circuit.input_wires() as usize]?;
-        fill_input_labels(&seed, 0, &mut labels);
         let garbling = garble_one_thread(alloc, &circuit, &seed)?;
-        let mut decode_bits = Vec::new(alloc);
-        for i in 0..garbling.outputs() {
-            decode_bits.push(garbling.decode_bit(i))?;
-        }
-        let tasks = tasks_of::<Brand>(alloc, ledger(), &circuit, seed)?;
-        let canonical_text = circuit.canon(alloc)?;
-        let garbled_file = file_of(alloc, &circuit, &garbling, &seed)?;
+        let materials = Materials::of(alloc, &circuit, &garbling, &seed)?;
         Ok(Subject {
             circuit,
             seed,
-            values,
             garbling,
-            decode_bits,
-            labels,
-            tasks,
-            canonical_text,
-            garbled_file,
+            materials,
         })
     }
 
@@ -213,9 +110,9 @@ impl Subject {
         job_of(
             alloc,
             &self.circuit,
-            &self.garbled_file,
+            &self.materials.garbled_file,
             &self.seed,
-            &self.values,
+            &self.materials.values,
         )
     }
 
@@ -239,45 +136,38 @@ impl Subject {
         jobs: &[Job],
     ) -> Result<()> {
         match part {
-            Part::Read => {
-                Circuit::read(alloc, text)?;
-            }
-            Part::Plain => self.plain(alloc)?,
-            Part::Garble => {
-                garble_one_thread(alloc, &self.circuit, &self.seed)?;
-            }
-            Part::Hashes => self.hashes()?,
-            Part::Lanes => self.lanes()?,
-            Part::Evaluate => self.evaluate(alloc)?,
-            Part::Open => open_once::<Brand>(alloc, ledger(), &self.circuit, self.seed)?,
-            Part::Store => garble_by::<Brand>(alloc, ledger(), &self.circuit, self.seed)?,
-            Part::Seal => self.seal()?,
-            Part::Garble2 => self.garble(rt, alloc, 2)?,
-            Part::Garble4 => self.garble(rt, alloc, 4)?,
-            Part::Job => alone(alloc, job)?,
-            Part::Job1 => by_workers(rt, alloc, job, 1)?,
-            Part::Job2 => by_workers(rt, alloc, job, 2)?,
-            Part::Job4 => by_workers(rt, alloc, job, 4)?,
-            Part::List => one_after_another(alloc, jobs)?,
-            Part::List1 => together(rt, alloc, jobs, 1)?,
-            Part::List4 => together(rt, alloc, jobs, 4)?,
-            Part::Digest => not_zeros(self.circuit.digest())?,
-            Part::Sha => not_zeros(Sha256::digest(&self.canonical_text))?,
-            Part::Write => {
-                write(&mut Nowhere, &self.circuit, &self.garbling, &self.seed)?;
-            }
-            Part::ReadFile => not_zeros(read_garbled(alloc, &self.garbled_file)?.digest())?,
-            Part::Pieces => self.pieces(alloc)?,
-            Part::FileSha => not_zeros(Sha256::digest(&self.garbled_file))?,
+            Part::Read => read(alloc, text),
+            Part::Plain => self.plain(alloc),
+            Part::Garble => self.garble_alone(alloc),
+            Part::Hashes => self.hashes(),
+            Part::Lanes => self.lanes(),
+            Part::Evaluate => self.evaluate(alloc),
+            Part::Open => open_once(alloc, &self.circuit, self.seed),
+            Part::Store => garble_once(alloc, &self.circuit, self.seed),
+            Part::Seal => self.seal(),
+            Part::Garble2 => self.garble(rt, alloc, 2),
+            Part::Garble4 => self.garble(rt, alloc, 4),
+            Part::Job => alone(alloc, job),
+            Part::Job1 => by_workers(rt, alloc, job, 1),
+            Part::Job2 => by_workers(rt, alloc, job, 2),
+            Part::Job4 => by_workers(rt, alloc, job, 4),
+            Part::List => one_after_another(alloc, jobs),
+            Part::List1 => together(rt, alloc, jobs, 1),
+            Part::List4 => together(rt, alloc, jobs, 4),
+            Part::Digest => self.digest(),
+            Part::Sha => sha(&self.materials.canonical_text),
+            Part::Write => write(&mut Nowhere, &self.circuit, &self.garbling, &self.seed),
+            Part::ReadFile => self.read_file(alloc),
+            Part::Pieces => self.pieces(alloc),
+            Part::FileSha => sha(&self.materials.garbled_file),
         }
-        Ok(())
     }
 
     fn plain(&self, alloc: Global) -> Result<()> {
-        if !fits(&self.circuit, &self.values) {
+        if !fits(&self.circuit, &self.materials.values) {
             return Err(anyhow!("the values do not fit"));
         }
-        plain_eval(alloc, &self.circuit, &self.values)?;
+        plain_eval(alloc, &self.circuit, &self.materials.values)?;
         Ok(())
     }
 
@@ -305,6 +195,11 @@ impl Subject {
         Ok(())
     }
 
+    fn garble_alone(&self, alloc: Global) -> Result<()> {
+        garble_one_thread(alloc, &self.circuit, &self.seed)?;
+        Ok(())
+    }
+
     /// Garbles by so many workers.
     fn garble<R: Threads + Wait + Sync>(&self, rt: &R, alloc: Global, workers: u32) -> Result<()> {
         garble(rt, alloc, &self.circuit, &self.seed, workers, &Open).map_err(|_| anyhow!(
@@ -313,9 +208,17 @@ impl Subject {
         Ok(())
     }
 
+    fn digest(&self) -> Result<()> {
+        not_zeros(self.circuit.digest())
+    }
+
+    fn read_file(&self, alloc: Global) -> Result<()> {
+        not_zeros(read_garbled(alloc, &self.materials.garbled_file)?.digest())
+    }
+
     fn pieces(&self, alloc: Global) -> Result<()> {
         let mut reader = GarbledReader::new(alloc);
-        for piece in self.garbled_file.chunks(4096) {
+        for piece in self.materials.garbled_file.chunks(4096) {
             reader.feed(piece)?;
         }
         not_zeros(reader.end()?.digest())
@@ -324,7 +227,7 @@ impl Subject {
     /// Seals the tasks, and adds up their labels and rows, so that each has to be computed.
     fn seal(&self) -> Result<()> {
         let mut sum = Label::ZERO;
-        for task in &self.tasks {
+        for task in &self.materials.tasks {
             let sealed = Sealed::make(*task);
             sum = sum.xor(sealed.zero_label());
             if let Some(rows) = sealed.rows() {
@@ -338,16 +241,32 @@ impl Subject {
     }
 
     fn evaluate(&self, alloc: Global) -> Result<()> {
-        let rows = self.garbling.rows();
+        let Materials {
+            labels,
+            decode_bits,
+            ..
+        } = &self.materials;
         let fit = self.garbling.fits(&self.circuit)
-            && self.decode_bits.len() == self.circuit.output_wires() as usize
-            && self.labels.len() == self.circuit.input_wires() as usize;
+            && decode_bits.len() == self.circuit.output_wires() as usize
+            && labels.len() == self.circuit.input_wires() as usize;
         if !fit {
             return Err(anyhow!("the parts do not fit"));
         }
-        evaluate_labels(alloc, &self.circuit, rows, &self.decode_bits, &self.labels)?;
+        evaluate_labels(
+            alloc,
+            &self.circuit,
+            self.garbling.rows(),
+            decode_bits,
+            labels,
+        )?;
         Ok(())
     }
+}
+
+/// Reads a circuit.
+fn read(alloc: Global, text: &[u8]) -> Result<()> {
+    Circuit::read(alloc, text)?;
+    Ok(())
 }
 
 /// Writes the garbled file of version 2.
@@ -366,71 +285,14 @@ fn file_of(alloc: Global, circuit: &Circuit, garbling: &Garbling, seed: &Seed) -
     Ok(sink.into_bytes())
 }
 
+fn sha(bytes: &[u8]) -> Result<()> {
+    not_zeros(Sha256::digest(bytes))
+}
+
 /// Uses a digest, so that it has to be computed.
 fn not_zeros(digest: [u8; 32]) -> Result<()> {
     if digest == [0; 32] {
         return Err(anyhow!("a digest of zeros"));
     }
     Ok(())
-}
-
-/// What begins the ledger of a store.
-fn ledger() -> Blank
-    ensures { result.parts ≡ MAX_TALLIES }
-{
-    Blank::new(u64::from(MAX_TALLIES))
-}
-
-/// A store of a copy of the circuit.
-fn open<L: Ledger>(alloc: Global, ledger: Blank, circuit: &Circuit, seed: Seed) -> Result<Store<L>>
-    requires name { ledger.name ≡ L.name }
-    requires parts { (ledger.parts ≡ L.parts) × (ledger.parts ≡ MAX_TALLIES) }
-{
-    let copy = circuit.try_clone(alloc)?;
-    Ok(Store::<L>::open(alloc, ledger, copy, seed)?)
-}
-
-fn open_once<L: Ledger>(alloc: Global, ledger: Blank, circuit: &Circuit, seed: Seed) -> Result<()>
-    requires name { ledger.name ≡ L.name }
-    requires parts { (ledger.parts ≡ L.parts) × (ledger.parts ≡ MAX_TALLIES) }
-{
-    open::<L>(alloc, ledger, circuit, seed)?;
-    Ok(())
-}
-
-/// Garbles through a store.
-fn garble_by<L: Ledger>(alloc: Global, ledger: Blank, circuit: &Circuit, seed: Seed) -> Result<()>
-    requires name { ledger.name ≡ L.name }
-    requires parts { (ledger.parts ≡ L.parts) × (ledger.parts ≡ MAX_TALLIES) }
-{
-    let mut store = open::<L>(alloc, ledger, circuit, seed)?;
-    let mut tally = store.tally().ok_or_else(|| anyhow!("no tally"))?;
-    for _ in 0..circuit.gates() {
-        let task = store.claim().ok_or_else(|| anyhow!("no gate may go next"))?;
-        store.finish(Sealed::make(task), &mut tally)?;
-    }
-    store.into_garbling().map_err(|_| anyhow!("not complete"))?;
-    Ok(())
-}
-
-/// The tasks of the gates, in the order in which a store hands them out.
-fn tasks_of<L: Ledger>(
-    alloc: Global,
-    ledger: Blank,
-    circuit: &Circuit,
-    seed: Seed,
-) -> Result<Vec<Task>>
-    requires name { ledger.name ≡ L.name }
-    requires parts { (ledger.parts ≡ L.parts) × (ledger.parts ≡ MAX_TALLIES) }
-{
-    let mut store = open::<L>(alloc, ledger, circuit, seed)?;
-    let mut tally = store.tally().ok_or_else(|| anyhow!("no tally"))?;
-    let mut tasks = Vec::with_capacity(alloc, circuit.gates() as usize)?;
-    for _ in 0..circuit.gates() {
-        let task = store.claim().ok_or_else(|| anyhow!("no gate may go next"))?;
-        let sealed = Sealed::make(task);
-        tasks.push(sealed.task())?;
-        store.finish(sealed, &mut tally)?;
-    }
-    Ok(tasks)
 }

@@ -1,0 +1,86 @@
+//! The times that parts take.
+
+use crate::measures::Subject;
+use crate::part::Part;
+use anyhow::{Result, anyhow};
+use gc_circuit::Circuit;
+use gc_eval::Job;
+use std::alloc::Global;
+use std::rt::Clock;
+use std::sync::Wait;
+use std::thread::Threads;
+use std::time::Instant;
+
+/// A part, and the time of its fastest run so far.
+#[derive(Drop)]
+pub struct Timing {
+    name: String,
+    part: Part,
+    nanoseconds: u128,
+}
+
+impl Timing {
+    /// The part of this name, which was not run yet.
+    pub fn of(name: String) -> Result<Timing> {
+        let part = Part::named(name.as_str()).ok_or_else(|| anyhow!("no part has this name"))?;
+        Ok(Timing {
+            name,
+            part,
+            nanoseconds: u128::MAX,
+        })
+    }
+}
+
+/// Runs the parts one after another, this often.
+pub fn time_parts<R: Threads + Wait + Clock + Sync>(
+    rt: &R,
+    alloc: Global,
+    subject: &Subject,
+    text: &[u8],
+    repeats: u32,
+    timings: &mut [Timing],
+) -> Result<()> {
+    let job = subject.job(alloc)?;
+    let jobs = subject.jobs(alloc, jobs_listed(timings))?;
+    for _ in 0..repeats {
+        time_once(rt, alloc, subject, text, &job, &jobs, timings)?;
+    }
+    Ok(())
+}
+
+/// How many jobs the list has that the parts take, if one of them takes one.
+fn jobs_listed(timings: &[Timing]) -> u32 {
+    let mut listed = 0;
+    for timing in timings {
+        listed = timing.part.jobs_listed().max(listed);
+    }
+    listed
+}
+
+/// Runs each part once.
+fn time_once<R: Threads + Wait + Clock + Sync>(
+    rt: &R,
+    alloc: Global,
+    subject: &Subject,
+    text: &[u8],
+    job: &Job,
+    jobs: &[Job],
+    timings: &mut [Timing],
+) -> Result<()> {
+    for timing in timings {
+        let start = Instant::now(rt)?;
+        subject.run(rt, alloc, timing.part, text, job, jobs)?;
+        timing.nanoseconds = timing.nanoseconds.min(start.elapsed(rt)?.as_nanos());
+    }
+    Ok(())
+}
+
+/// Prints the numbers of the circuit, and each part with its time.
+pub fn print_times(rt: &impl Print, circuit: &Circuit, timings: &[Timing]) -> Result<()> {
+    println!(rt; "gates {}", circuit.gates())?;
+    println!(rt; "and {}", circuit.and_count())?;
+    for timing in timings {
+        println!(rt; "{} {}", timing.name, timing.nanoseconds)?;
+    }
+    Ok(())
+}
