@@ -9,3 +9,4 @@ pub mod PlainLemmas
 pub mod CheckLemmas
 pub mod JobListLemmas
 pub mod JobsLemmas
+pub mod MistakeLemmas

@@ -16,5 +16,8 @@ pub mod Eval
 pub mod JobList
 pub mod Jobs
 pub mod CarryOut
+pub mod CommandLine
+pub mod Output
+pub mod Ending
 pub mod Serve
 pub mod OwnFiles

@@ -1,63 +1,68 @@
 //! A whole run of the program, from the words of its command line to its status.
 
-ghost use Rattle.std.specs.Prelude.{◌≡◌, ◌↔◌, ◌⊎◌, map, string_bytes, IsOk, OnOk};
-ghost use Rattle.std.specs.Io.KnownBytes.{Appends, Keeps};
+ghost use Rattle.std.specs.Prelude.{◌≡◌, ◌<◌, ◌⊎◌, OnOk};
+ghost use Rattle.std.specs.Io.KnownBytes.{Appends};
+ghost use Rattle.gc_file.specs.Counted.{CountsFailure};
 ghost use Rattle.gc_cli.specs.CarryOut.{HasCause};
-ghost use Rattle.gc_cli.specs.Serve.{IsDone, IsFaulty, IsMistaken, fault_line};
+ghost use Rattle.gc_cli.specs.CommandLine.{IsMistaken};
+ghost use Rattle.gc_cli.specs.Ending.{IfFault, status_of};
+ghost use Rattle.gc_cli.specs.Serve.{IsDone, IsFaulty, TellsFault, fault_line};
 
+use crate::command_line::CommandLine;
+use crate::ending::Ending;
 use crate::fault::Fault;
 use crate::files::Files;
+use crate::output::Output;
 use crate::work::carry_out;
-use gc_order::order_of;
 use std::alloc::Global;
 use std::io::{self, ErrorKind, Write};
 use std::sync::Wait;
 use std::thread::Threads;
 
-/// The status of a run that did what it was asked.
-const DONE: u8 = 0;
-
-/// The status of a run that a fault ended.
-const FAULT: u8 = 1;
-
-/// The status of a run whose words are no order.
-const USAGE: u8 = 2;
-
-/// Does what the words say, of which the first is the program's name, and answers the status to end with.
+/// Does what the words of the line say, and answers what that comes to.
 ///
-/// - What the order answers, or the help or the version that was asked for, goes to `out`: status 0.
-/// - A fault goes to `err`, as the line `halfgates: fault CODE NAME`, and nothing to `out`: status 1. So does an
-///   `out` that can't be written.
-/// - What clap says of words that are no order goes to `err`: status 2. So does the word that clap ran out of memory.
+/// - What the order answers, or the help or the version that was asked for, goes to `out`: Done.
+/// - A fault goes to `err`, as the line `halfgates: fault CODE NAME`, and nothing to `out`: Fault. So does an `out`
+///   that can't be written.
+/// - What clap says of words that are no order goes to `err`: Usage. So does the word that clap ran out of memory.
 pub fn serve<R: Threads + Wait + Sync, F: Files, O: Write, E: Write>(
     rt: &R,
     alloc: Global,
-    words: &[String],
+    line: &mut CommandLine<'_>,
     files: &mut F,
-    out: &mut O,
-    err: &mut E,
-) -> u8
-    ensures status { (result ≡ DONE) ⊎ ((result ≡ FAULT) ⊎ (result ≡ USAGE)) }
-    ensures done { result ≡ DONE → IsDone (F.bytes files.old) (F.bytes files.new) (map string_bytes words.now)
-        (Appends (O.contents out.old) (O.contents out.new)) }
-    ensures fault { result ≡ FAULT → IsFaulty (F.bytes files.old) (F.bytes files.new)
-        (λ fault. HasCause fault (F.failures files.old) (F.failures files.new)) (map string_bytes words.now)
-        (Keeps (O.contents out.old) (O.contents out.new)) }
-    ensures usage { IsMistaken (map string_bytes words.now) → result ≡ USAGE }
+    out: &mut Output<O>,
+    err: &mut Output<E>,
+) -> Ending
+    ensures done { result ≡ Ending.Done
+        → IsDone (F.bytes files.old) (F.bytes files.new) line.old.words out.old out.new }
+    ensures no_errors { result ≡ Ending.Done → err.new ≡ err.old }
 
-    // What is known of the outputs stays where nothing is written to them.
-    ensures no_errors { result ≡ DONE → Keeps (E.contents err.old) (E.contents err.new) }
-    ensures no_output { result ≡ USAGE → Keeps (O.contents out.old) (O.contents out.new) }
+    ensures fault { IfFault result (λ fault. IsFaulty (F.bytes files.old) (F.bytes files.new)
+        (HasCause fault (F.failures files.old) (F.failures files.new)) line.old.words out.old out.new fault) }
+    ensures told { IfFault result (TellsFault err.old err.new) }
+
+    // Words that neither are an order nor ask for a text: only they, where there was memory to read them, and all of
+    // them.
+    ensures usage { result ≡ Ending.Usage
+        → IsMistaken line.old.words ⊎ (line.old.shortages < line.new.shortages) }
+    ensures mistaken { IsMistaken line.old.words → result ≡ Ending.Usage }
+    ensures no_output { result ≡ Ending.Usage → out.new ≡ out.old }
 {
-    match order_of(alloc, words) {
+    match line.order(alloc) {
         Ok(order) => match carry_out(rt, alloc, &order, files) {
-            Ok(bytes) => status_of(out.write_all(&bytes), err),
+            Ok(bytes) => match out.write_all(&bytes) {
+                Ok(()) => Ending::Done,
+                Err(_) => report(Fault::CannotWrite, err),
+            },
             Err(fault) => report(fault, err),
         },
-        Err(help) if !help.use_stderr() => status_of(write!(out, "{help}"), err),
+        Err(help) if !help.use_stderr() => match write!(out, "{help}") {
+            Ok(()) => Ending::Done,
+            Err(_) => report(Fault::CannotWrite, err),
+        },
         Err(error) => {
             let _ = write!(err, "{error}");
-            USAGE
+            Ending::Usage
         }
     }
 }
@@ -65,7 +70,7 @@ pub fn serve<R: Threads + Wait + Sync, F: Files, O: Write, E: Write>(
 /// Says on `err` that the words of a command line can't be had, as where one is not UTF-8, and answers the status of
 /// words that are no order.
 pub fn refuse_line<E: Write>(error: &io::Error, err: &mut E) -> u8
-    ensures { result ≡ USAGE }
+    ensures { result ≡ status_of Ending.Usage }
 {
     let reason = match error.kind() {
         ErrorKind::InvalidData => "a word is not UTF-8",
@@ -73,32 +78,22 @@ pub fn refuse_line<E: Write>(error: &io::Error, err: &mut E) -> u8
         _ => "its words can't be had",
     };
     let _ = writeln!(err, "error: the command line can't be read: {reason}");
-    USAGE
+    Ending::Usage.status()
 }
 
-/// The status of a run whose last step was to write to standard output.
-fn status_of<E: Write>(written: io::Result<()>, err: &mut E) -> u8
-    ensures status { (result ≡ DONE) ⊎ (result ≡ FAULT) }
-    ensures done { (result ≡ DONE) ↔ IsOk written }
-    ensures quiet { result ≡ DONE → Keeps (E.contents err.old) (E.contents err.new) }
-{
-    match written {
-        Ok(()) => DONE,
-        Err(_) => report(Fault::CannotWrite, err),
-    }
-}
-
-/// Says on standard error which fault ended the run.
-fn report<E: Write>(fault: Fault, err: &mut E) -> u8
-    ensures { result ≡ FAULT }
+/// Says on standard error which fault ended the run. Where that fails, nobody can be told.
+fn report<E: Write>(fault: Fault, err: &mut Output<E>) -> Ending
+    ensures ending { result ≡ Ending.Fault fault }
+    ensures told { TellsFault err.old err.new fault }
 {
     let _ = write_fault(fault, err);
-    FAULT
+    Ending::Fault(fault)
 }
 
 /// Writes the line of a fault.
-fn write_fault<E: Write>(fault: Fault, err: &mut E) -> io::Result<()>
-    ensures { OnOk result (Appends (E.contents err.old) (E.contents err.new) (fault_line fault)) }
+fn write_fault<E: Write>(fault: Fault, err: &mut Output<E>) -> io::Result<()>
+    ensures printed { OnOk result (Appends err.old.contents err.new.contents (fault_line fault)) }
+    ensures counted { CountsFailure result err.old.failures err.new.failures }
 {
     writeln!(err, "halfgates: {fault}")
 }

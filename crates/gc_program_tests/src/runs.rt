@@ -1,14 +1,17 @@
 //! Tests of whole runs over files in memory.
 
 use gc_circuit::{ReadFault, ValueFault};
-use gc_cli::{Fault, carry_out, order_of, serve};
+use gc_cli::{CommandLine, Ending, Fault, Output, carry_out, order_of, serve};
 use gc_eval::{BindFault, EvalFault};
 use gc_file::FileFault;
 use gc_serving::{Closed, Limits, MemFiles, RUNS, copies_of, plain_words, run_words, serve_over};
 use gc_work::WorkFault;
 use gc_worked::circuits::{FULL_ADDER, SEED};
 use std::alloc::{AllocError, Global};
+use std::io::Write;
+use std::sync::Wait;
 use std::test::Fail;
+use std::thread::Threads;
 
 /// Garbled or not, a circuit gives the same outputs.
 #[test]
@@ -174,40 +177,41 @@ fn fails_where_reading_fails(rt: HostRuntime) -> Result<(), Fail> {
     Ok(())
 }
 
+/// Serves the words over a full adder and a standard output that takes nothing, and answers what that comes to.
+fn serve_unheard<R: Threads + Wait + Sync, E: Write>(
+    rt: &R,
+    alloc: Global,
+    words: &[&str],
+    err: &mut Output<E>,
+) -> Result<Ending, AllocError> {
+    let words = copies_of(alloc, words)?;
+    let file = [("c.txt", FULL_ADDER.as_bytes())];
+    Ok(serve(
+        rt,
+        alloc,
+        &mut CommandLine::new(&words),
+        &mut MemFiles::new(alloc, &file),
+        &mut Output::new(Closed),
+        err,
+    ))
+}
+
 #[test]
 fn names_an_output_that_takes_nothing(rt: HostRuntime) -> Result<(), Fail> {
     let alloc = rt.alloc();
     let run = run_words(alloc, SEED, &["1", "0", "1"])?;
     let lines: [&[&str]; 2] = [&run, &["halfgates", "--help"]];
+    let unwritten = Ending::Fault(Fault::CannotWrite);
     for words in lines {
-        let words = copies_of(alloc, words)?;
-        let file = [("c.txt", FULL_ADDER.as_bytes())];
-        let mut err = Vec::new(alloc);
-        let status = serve(
-            &rt,
-            alloc,
-            &words,
-            &mut MemFiles::new(alloc, &file),
-            &mut Closed,
-            &mut err,
-        );
+        let mut err = Output::new(Vec::new(alloc));
+        assert_eq!(rt; serve_unheard(&rt, alloc, words, &mut err)?, unwritten);
         assert_eq!(rt;
-            err.as_slice(),
+            err.into_inner().as_slice(),
             b"halfgates: fault 51 CannotWrite\n".as_slice()
         );
-        assert_eq!(rt; status, 1);
         // Nothing can be said where standard error takes nothing either.
-        assert_eq!(rt;
-            serve(
-                &rt,
-                alloc,
-                &words,
-                &mut MemFiles::new(alloc, &file),
-                &mut Closed,
-                &mut Closed
-            ),
-            1
-        );
+        let mut err = Output::new(Closed);
+        assert_eq!(rt; serve_unheard(&rt, alloc, words, &mut err)?, unwritten);
     }
     Ok(())
 }

@@ -1,7 +1,7 @@
 //! Serving words over a file in memory.
 
 use crate::mem_files::MemFiles;
-use gc_cli::{Files, serve};
+use gc_cli::{CommandLine, Files, Output, serve};
 use std::alloc::{AllocError, Global};
 use std::io::{self, Write};
 use std::sync::Wait;
@@ -65,13 +65,14 @@ pub fn serve_files<R: Threads + Wait + Sync, F: Files>(
     words: &[&str],
 ) -> Result<Served, Fail> {
     let words = copies_of(alloc, words)?;
-    let mut output = Vec::new(alloc);
-    let mut errors = Vec::new(alloc);
-    let status = serve(rt, alloc, &words, files, &mut output, &mut errors);
+    let mut output = Output::new(Vec::new(alloc));
+    let mut errors = Output::new(Vec::new(alloc));
+    let mut line = CommandLine::new(&words);
+    let ending = serve(rt, alloc, &mut line, files, &mut output, &mut errors);
     Ok(Served {
-        status,
-        output: String::from_utf8(output)?,
-        errors: String::from_utf8(errors)?,
+        status: ending.status(),
+        output: String::from_utf8(output.into_inner())?,
+        errors: String::from_utf8(errors.into_inner())?,
     })
 }
 

@@ -1,26 +1,13 @@
-use Rattle.std.proofs.Common.{inl, inr, rules}
-use Rattle.gc_order.specs.Order.{text_of}
+use Rattle.std.proofs.Common.{⊎_elim, inl, inr, arith}
+use Rattle.clap.specs.Words.{kind_of}
+use Rattle.gc_cli.proofs.MistakeLemmas.{IsMistaken-other_kind}
 use Rattle.gc_cli.proofs.program.serve.Goals as goal
 
--- The order has the fault, and nothing was written to standard output.
-pub returns-in-Ok-clause-fault : goal.returns-in-Ok-clause-fault
-returns-in-Ok-clause-fault g c = λ _.
-    inl (
-      text_of c.in-Ok.order,
-      (c.in-Ok.ensures.kinds, c.in-Ok.ensures.told),
-      inl (
-        c.in-Err-carry_out.fault,
-        c.in-Err-carry_out.ensures.fault,
-        c.in-Err-carry_out.ensures.cause,
-        search rules,
-      ),
-    )
-
--- The order is done, and what was printed could not be written.
-pub returns-in-Ok-carry_out-clause-fault : goal.returns-in-Ok-carry_out-clause-fault
-returns-in-Ok-carry_out-clause-fault g c = λ _.
-    inl (
-      text_of c.in-Ok.order,
-      (c.in-Ok.ensures.kinds, c.in-Ok.ensures.told),
-      inr (c.in-Ok-carry_out.bytes.items, c.in-Ok-carry_out.ensures.answers),
-    )
+-- The words have a fault that asks for no text, or memory ran out.
+pub returns-clause-usage : goal.returns-clause-usage
+returns-clause-usage g c = λ _.
+    let other = c.use_stderr.ensures.0 c.if-not-use_stderr.false in
+    ⊎_elim
+    (λ listed. inl (IsMistaken-other_kind c.args.line.now.words (kind_of c.in-Err.help) listed.0 other.0 other.1))
+    (λ short. inr (omega (arith, short.1)))
+    c.in-Err.ensures.err
