@@ -1,6 +1,6 @@
 //! Each growth of a command refused in turn: the fault's code tells the part of the work that lacked memory.
 
-use gc_cli::{carry_out, order_of};
+use gc_cli::{Order, carry_out, order_of};
 use gc_refusing::Refusing;
 use gc_serving::{Disk, MemFiles, copies_of, plain_words, run_words};
 use gc_worked::circuits::{ADDER_LINES, FULL_ADDER, SEED};
@@ -9,6 +9,29 @@ use std::process::Abort;
 use std::sync::Wait;
 use std::test::Fail;
 use std::thread::Threads;
+
+/// Carries out the order with the growth of this number refused. The code of its fault is told: 0 where it had the
+/// answer without that growth, and None where no growth was refused.
+fn code_of_refusal<R: Threads + Wait + Sync + Abort>(
+    rt: &R,
+    alloc: Global,
+    held: &[(&str, &[u8])],
+    order: &Order,
+    answer: &str,
+    growth: u64,
+) -> Option<u32> {
+    let heap = Refusing::nth(alloc, growth);
+    match carry_out(rt, &heap, order, &mut MemFiles::new(alloc, held)) {
+        Ok(lines) => {
+            assert_eq!(rt; lines.as_slice(), answer.as_bytes());
+            (heap.refused() > 0).then_some(0)
+        }
+        Err(fault) => {
+            assert_eq!(rt; heap.refused(), 1);
+            Some(fault.code())
+        }
+    }
+}
 
 /// Carries out the words' order with growth 1, 2, 3, .. refused, until a run meets no refusal and has the answer. The
 /// fault codes of the runs before it are told, one for each growth: 0 where a run had the answer without it.
@@ -22,20 +45,10 @@ fn codes_of_refusals<R: Threads + Wait + Sync + Abort>(
     let order = order_of(alloc, &copies_of(alloc, words)?)?;
     let held = disk.held()?;
     let mut codes = Vec::new(alloc);
-    for n in 1..64 {
-        let heap = Refusing::nth(alloc, n);
-        match carry_out(rt, &heap, &order, &mut MemFiles::new(alloc, &held)) {
-            Ok(lines) => {
-                assert_eq!(rt; lines.as_slice(), answer.as_bytes());
-                if heap.refused() == 0 {
-                    return Ok(codes);
-                }
-                codes.push(0)?;
-            }
-            Err(fault) => {
-                assert_eq!(rt; heap.refused(), 1);
-                codes.push(fault.code())?;
-            }
+    for growth in 1..64 {
+        match code_of_refusal(rt, alloc, &held, &order, answer, growth) {
+            Some(code) => codes.push(code)?,
+            None => return Ok(codes),
         }
     }
     Err(Fail::new("each run met a refusal"))
