@@ -24,6 +24,10 @@ fn disk<R: Threads + Wait + Sync + Abort>(rt: &R, alloc: Global) -> Result<Disk,
     Ok(disk)
 }
 
+/// What `check` prints of the circuit.
+const XOR_LINES: &str =
+    "gates 1\nwires 3\nand 0\ninputs 2 1 1\noutputs 1 1\ndigest 40d7ff849fbcd20c663afc979ad955358a6a933e166bb385919e9f36ba1ebfc0\n";
+
 const READ: &str = "halfgates: fault 50 CannotRead\n";
 
 const WRITE: &str = "halfgates: fault 51 CannotWrite\n";
@@ -31,12 +35,13 @@ const WRITE: &str = "halfgates: fault 51 CannotWrite\n";
 /// Orders, what they print where nothing fails, and the fault where each of their calls fails. Those of `garble` and
 /// `deal` are to read the circuit, to create the file and to keep it; those of `eval` to read the circuit, to open the
 /// garbled file and to read each label file; those of `jobs` to read the list after the circuit.
-static ORDERS: [(&[&str], &str, &[&str]); 6] = [
+static ORDERS: [(&[&str], &str, &[&str]); 8] = [
     (
         &["halfgates", "run", "c.txt", SEED, "1", "1"],
         "0\n",
         &[READ],
     ),
+    (&["halfgates", "plain", "c.txt", "1", "1"], "0\n", &[READ]),
     (
         &["halfgates", "garble", "c.txt", SEED, "out"],
         "wrote 113\n",
@@ -57,50 +62,90 @@ static ORDERS: [(&[&str], &str, &[&str]); 6] = [
         "0\n\n",
         &[READ, READ, READ, READ, READ],
     ),
+    (&["halfgates", "check", "c.txt"], XOR_LINES, &[READ]),
     (&["halfgates", "check", "no file"], "", &[READ, READ]),
 ];
 
-/// Each call fails in turn, and nothing is written.
+/// Files of which so many calls go well.
+fn calls_alone(calls: u32) -> Limits {
+    Limits {
+        calls,
+        ..Limits::NONE
+    }
+}
+
+/// Each call fails in turn, and nothing is written. Where all of these go well, none is left that fails.
 #[test]
 fn each_call_in_turn(rt: HostRuntime) -> Result<(), Fail> {
     let disk = disk(&rt, rt.alloc())?;
     for (words, printed, faults) in &ORDERS {
-        for (calls, fault) in (0..).zip(*faults) {
-            let limits = Limits {
-                calls,
-                ..Limits::NONE
-            };
-            let (served, written) = disk.serve_within(&rt, words, limits)?;
+        let mut calls = 0;
+        for fault in *faults {
+            let (served, written) = disk.serve_within(&rt, words, calls_alone(calls))?;
             assert_eq!(rt;
                 served.parts(),
                 (1, "", *fault),
                 "{words:?} with {calls} calls"
             );
             assert!(rt; written.is_none());
+            calls = calls.saturating_add(1);
         }
-        let (served, _) = disk.serve_within(&rt, words, Limits::NONE)?;
+        let (served, _) = disk.serve_within(&rt, words, calls_alone(calls))?;
         assert_eq!(rt; served.parts().1, *printed);
     }
     Ok(())
 }
 
-/// A source that fails after so many bytes of the 113, and a sink that does. After the latter nothing is known of the
-/// file that was to be written.
+/// Orders with a source or a sink, how many of its bytes have to go well, the fault where fewer do, and what is printed
+/// where that many do. Of a garbled file of 113 bytes a source is asked for one more, which it lacks.
+static STREAMS: [(&[&str], usize, &str, &str); 4] = [
+    (
+        &["halfgates", "eval", "c.txt", "g", "0", "1"],
+        114,
+        READ,
+        "0\n",
+    ),
+    (&["halfgates", "jobs", "c.txt", "list"], 114, READ, "0\n\n"),
+    (
+        &["halfgates", "garble", "c.txt", SEED, "out"],
+        113,
+        WRITE,
+        "wrote 113\n",
+    ),
+    (
+        &["halfgates", "deal", "c.txt", SEED, "1", "0", "out"],
+        32,
+        WRITE,
+        "wrote 32\n",
+    ),
+];
+
+/// Files of which so many bytes of each source and sink go well.
+fn bytes_alone(bytes: usize) -> Limits {
+    Limits {
+        given: Some(bytes),
+        taken: Some(bytes),
+        ..Limits::NONE
+    }
+}
+
+/// A source or a sink fails after each number of bytes. After a sink did, nothing is known of the file that was to be
+/// written.
 #[test]
 fn in_mid_stream(rt: HostRuntime) -> Result<(), Fail> {
     let disk = disk(&rt, rt.alloc())?;
-    let eval = ["halfgates", "eval", "c.txt", "g", "0", "1"];
-    let garble = ["halfgates", "garble", "c.txt", SEED, "out"];
-    for bytes in [0, 1, 48, 112] {
-        let limits = Limits {
-            given: Some(bytes),
-            taken: Some(bytes),
-            ..Limits::NONE
-        };
-        let (served, written) = disk.serve_within(&rt, &eval, limits)?;
-        assert_eq!(rt; (served.parts(), written.is_none()), ((1, "", READ), true));
-        let (served, _) = disk.serve_within(&rt, &garble, limits)?;
-        assert_eq!(rt; served.parts(), (1, "", WRITE), "after {bytes} bytes");
+    for (words, enough, fault, printed) in &STREAMS {
+        for bytes in 0..*enough {
+            let (served, written) = disk.serve_within(&rt, words, bytes_alone(bytes))?;
+            assert_eq!(rt;
+                served.parts(),
+                (1, "", *fault),
+                "{words:?} after {bytes} bytes"
+            );
+            assert!(rt; written.is_none() || *fault == WRITE);
+        }
+        let (served, _) = disk.serve_within(&rt, words, bytes_alone(*enough))?;
+        assert_eq!(rt; served.parts(), (0, *printed, ""), "{words:?}");
     }
     Ok(())
 }

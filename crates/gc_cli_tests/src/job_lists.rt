@@ -1,5 +1,6 @@
 //! Tests of the command `jobs`: lists, what they print, and each fault in its place.
 
+use crate::zero_labels::zero_labels;
 use gc_serving::Disk;
 use gc_worked::circuits::{FULL_ADDER, SEED};
 use std::alloc::Global;
@@ -18,8 +19,8 @@ static DEALT: [(&str, &str, &str); 6] = [
     ("2", "1", "c1"),
 ];
 
-/// A full adder with its garbled file `g`, a label file for each bit, a label file `z` of 16 zero bytes for the first value,
-/// and one that is empty.
+/// A full adder with its garbled file `g`, a label file for each bit, label files of 16 zero bytes for the first value (`z`)
+/// and for a fourth (`d`), one of two labels for the first value (`two`), and one that is empty.
 fn adder_disk<R: Threads + Wait + Sync>(rt: &R, alloc: Global) -> Result<Disk, Fail> {
     let mut disk = Disk::of_circuit(alloc, FULL_ADDER)?;
     disk.serve(rt, &["halfgates", "garble", "c.txt", SEED, "g"])?;
@@ -29,9 +30,9 @@ fn adder_disk<R: Threads + Wait + Sync>(rt: &R, alloc: Global) -> Result<Disk, F
             &["halfgates", "deal", "c.txt", SEED, *index, *bit, *name],
         )?;
     }
-    let mut zero = Vec::from_slice(alloc, b"HLABELS1\0\0\0\0\x01\0\0\0".as_slice())?;
-    zero.extend_from_slice(&[0; 16])?;
-    disk.put("z", &zero)?;
+    disk.put("z", &zero_labels(alloc, 0, 1)?)?;
+    disk.put("d", &zero_labels(alloc, 3, 1)?)?;
+    disk.put("two", &zero_labels(alloc, 0, 2)?)?;
     disk.put("empty", &[])?;
     Ok(disk)
 }
@@ -70,7 +71,7 @@ const BAD_LIST: &str = "halfgates: fault 53 BadList\n";
 const NO_FILE: &str = "halfgates: fault 50 CannotRead\n";
 
 /// Lists, numbers of workers, and the first fault in the order of the work.
-static FAULTS: [(&[u8], &str, &str); 14] = [
+static FAULTS: [(&[u8], &str, &str); 17] = [
     (b"\xff", "1", BAD_LIST),
     (b"g a1 b0 c1\n\xc3", "0", BAD_LIST),
     (b"nothing a1 b0 c1", "1", NO_FILE),
@@ -78,6 +79,9 @@ static FAULTS: [(&[u8], &str, &str); 14] = [
     (b"c.txt nothing", "1", "halfgates: fault 30 BadMagic\n"),
     (b"g empty nothing", "1", "halfgates: fault 31 Truncated\n"),
     (b"g", "1", "halfgates: fault 45 MissingValue\n"),
+    (b"g a1 d", "1", "halfgates: fault 42 NoSuchValue\n"),
+    (b"g a1 two", "1", "halfgates: fault 43 WrongWidth\n"),
+    (b"g a1 a1 two", "1", "halfgates: fault 44 DoubleValue\n"),
     // Each job's files are read and bound before the next job's are opened.
     (
         b"g a1 a0 c1\nnothing",

@@ -12,3 +12,5 @@ mod growth;
 mod job_lists;
 #[cfg(test)]
 mod walks;
+#[cfg(test)]
+mod zero_labels;

@@ -1,5 +1,6 @@
 //! Tests of commands that go from files to files: `garble`, `deal` and `eval`.
 
+use crate::zero_labels::zero_labels;
 use gc_circuit::show_value;
 use gc_file::Version;
 use gc_serving::{Disk, RUNS, words_of};
@@ -173,17 +174,8 @@ fn write_label_files(rt: HostRuntime) -> Result<(), Fail> {
     Ok(())
 }
 
-/// The file of one label of 16 zero bytes, for an input value of this index.
-fn zero_label(alloc: Global, index: u32) -> Result<Vec<u8>, AllocError> {
-    let mut bytes = Vec::from_slice(alloc, b"HLABELS1".as_slice())?;
-    bytes.extend_from_slice(&index.to_le_bytes())?;
-    bytes.extend_from_slice(&1u32.to_le_bytes())?;
-    bytes.extend_from_slice(&[0; 16])?;
-    Ok(bytes)
-}
-
-/// The label files of the bit 1 for two values (`0` and `1`), of 16 zero bytes for three (`z0`, `z1` and `z2`), and one
-/// that is empty.
+/// The label files of the bit 1 for two values (`0` and `1`), of 16 zero bytes for three (`z0`, `z1` and `z2`), of two
+/// labels for the first value (`two`) and of none for the second (`none`), and one that is empty.
 fn disk_of_labels<R: Threads + Wait + Sync + Abort>(
     rt: &R,
     alloc: Global,
@@ -196,8 +188,10 @@ fn disk_of_labels<R: Threads + Wait + Sync + Abort>(
         done(rt, alloc, &mut disk, &deal)?;
     }
     for (index, name) in (0..).zip(["z0", "z1", "z2"]) {
-        disk.put(name, &zero_label(alloc, index)?)?;
+        disk.put(name, &zero_labels(alloc, index, 1)?)?;
     }
+    disk.put("two", &zero_labels(alloc, 0, 2)?)?;
+    disk.put("none", &zero_labels(alloc, 1, 0)?)?;
     disk.put("empty", &[])?;
     disk.put("g", garbled)?;
     disk.put("c.txt", text.as_bytes())?;
@@ -206,7 +200,7 @@ fn disk_of_labels<R: Threads + Wait + Sync + Abort>(
 
 /// Circuits, garbled files, label files, and what `eval` prints: outputs, or its first fault. Nothing of the files is
 /// trusted.
-static EVALUATIONS: [(&str, &str, &[&str], u8, &str); 28] = [
+static EVALUATIONS: [(&str, &str, &[&str], u8, &str); 34] = [
     (XOR, XOR_FILE, &["0", "1"], 0, "0\n"),
     (XOR, XOR_FILE_2, &["1", "0"], 0, "0\n"),
     (AND, AND_FILE, &["0", "1"], 0, "1\n"),
@@ -250,6 +244,12 @@ static EVALUATIONS: [(&str, &str, &[&str], u8, &str); 28] = [
     // Files that are bound to no job.
     (XOR, AND_FILE, &["0", "1"], 1, "40 OtherCircuit"),
     (XOR, XOR_FILE, &["0", "z2"], 1, "42 NoSuchValue"),
+    (XOR, XOR_FILE, &["two"], 1, "43 WrongWidth"),
+    (XOR, XOR_FILE, &["0", "none"], 1, "43 WrongWidth"),
+    (XOR, XOR_FILE, &["0", "two"], 1, "43 WrongWidth"),
+    (XOR, XOR_FILE, &["none", "z2"], 1, "43 WrongWidth"),
+    (XOR, XOR_FILE, &["z2", "none"], 1, "42 NoSuchValue"),
+    (XOR, XOR_FILE, &["1", "1", "two"], 1, "44 DoubleValue"),
     (FULL_ADDER, AND_FILE, &["0", "1"], 1, "40 OtherCircuit"),
     (XOR, XOR_FILE, &["0", "0"], 1, "44 DoubleValue"),
     (XOR, XOR_FILE, &["z1", "0", "1"], 1, "44 DoubleValue"),
