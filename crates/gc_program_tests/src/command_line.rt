@@ -3,8 +3,9 @@
 use gc_cli::{Order, order_of, refuse_line};
 use gc_serving::{Closed, copies_of, serve_over};
 use gc_worked::circuits::{FULL_ADDER, SEED};
-use std::alloc::Global;
+use std::alloc::{AllocError, Global};
 use std::io::ErrorKind;
+use std::process::Abort;
 use std::test::Fail;
 
 const RUN_HELP: &str = "\
@@ -117,39 +118,62 @@ fn refuses_words_that_cannot_be_had(rt: HostRuntime) {
     }
 }
 
-/// The order that these words give.
-fn order_told(alloc: Global, words: &[&str]) -> Result<Order, Fail> {
-    Ok(order_of(alloc, &copies_of(alloc, words)?)?)
+/// The words give this order.
+fn assert_reads(rt: &impl Abort, alloc: Global, words: &[&str], order: Order) -> Result<(), Fail> {
+    let read = order_of(alloc, &copies_of(alloc, words)?)?;
+    assert_eq!(rt; read, order, "{words:?}");
+    Ok(())
+}
+
+fn run_order(alloc: Global) -> Result<Order, AllocError> {
+    Ok(Order::Run {
+        circuit: String::from_str(alloc, "-c")?,
+        seed: String::from_str(alloc, "s")?,
+        workers: 1,
+        values: copies_of(alloc, &["1", "x0", ""])?,
+    })
+}
+
+fn plain_order(alloc: Global) -> Result<Order, AllocError> {
+    Ok(Order::Plain {
+        circuit: String::from_str(alloc, "c.txt")?,
+        values: copies_of(alloc, &["1", "--"])?,
+    })
+}
+
+fn check_order(alloc: Global) -> Result<Order, AllocError> {
+    Ok(Order::Check {
+        circuit: String::from_str(alloc, "c.txt")?,
+    })
+}
+
+fn eval_order(alloc: Global) -> Result<Order, AllocError> {
+    Ok(Order::Eval {
+        circuit: String::from_str(alloc, "c.txt")?,
+        garbled: String::from_str(alloc, "g")?,
+        workers: 2,
+        labels: copies_of(alloc, &["b", "a"])?,
+    })
+}
+
+fn jobs_order(alloc: Global) -> Result<Order, AllocError> {
+    Ok(Order::Jobs {
+        circuit: String::from_str(alloc, "c.txt")?,
+        list: String::from_str(alloc, "l")?,
+        workers: 64,
+    })
 }
 
 #[test]
 fn reads_an_order(rt: HostRuntime) -> Result<(), Fail> {
     let alloc = rt.alloc();
-    let run = Order::Run {
-        circuit: String::from_str(alloc, "-c")?,
-        seed: String::from_str(alloc, "s")?,
-        workers: 1,
-        values: copies_of(alloc, &["1", "x0", ""])?,
-    };
-    let words = ["halfgates", "run", "--", "-c", "s", "1", "x0", ""];
-    assert_eq!(rt; order_told(alloc, &words)?, run);
-    let plain = Order::Plain {
-        circuit: String::from_str(alloc, "c.txt")?,
-        values: copies_of(alloc, &["1", "--"])?,
-    };
-    let words = ["halfgates", "plain", "c.txt", "1", "--", "--"];
-    assert_eq!(rt; order_told(alloc, &words)?, plain);
-    let check = Order::Check {
-        circuit: String::from_str(alloc, "c.txt")?,
-    };
-    assert_eq!(rt; order_told(alloc, &["halfgates", "check", "c.txt"])?, check);
-    let eval = Order::Eval {
-        circuit: String::from_str(alloc, "c.txt")?,
-        garbled: String::from_str(alloc, "g")?,
-        workers: 2,
-        labels: copies_of(alloc, &["b", "a"])?,
-    };
-    let words = [
+    let run = ["halfgates", "run", "--", "-c", "s", "1", "x0", ""];
+    assert_reads(&rt, alloc, &run, run_order(alloc)?)?;
+    let plain = ["halfgates", "plain", "c.txt", "1", "--", "--"];
+    assert_reads(&rt, alloc, &plain, plain_order(alloc)?)?;
+    let check = ["halfgates", "check", "c.txt"];
+    assert_reads(&rt, alloc, &check, check_order(alloc)?)?;
+    let eval = [
         "halfgates",
         "eval",
         "c.txt",
@@ -159,13 +183,7 @@ fn reads_an_order(rt: HostRuntime) -> Result<(), Fail> {
         "b",
         "a",
     ];
-    assert_eq!(rt; order_told(alloc, &words)?, eval);
-    let jobs = Order::Jobs {
-        circuit: String::from_str(alloc, "c.txt")?,
-        list: String::from_str(alloc, "l")?,
-        workers: 64,
-    };
-    let words = ["halfgates", "jobs", "c.txt", "l", "--workers", "64"];
-    assert_eq!(rt; order_told(alloc, &words)?, jobs);
-    Ok(())
+    assert_reads(&rt, alloc, &eval, eval_order(alloc)?)?;
+    let jobs = ["halfgates", "jobs", "c.txt", "l", "--workers", "64"];
+    assert_reads(&rt, alloc, &jobs, jobs_order(alloc)?)
 }
