@@ -33,8 +33,8 @@ const READ: &str = "halfgates: fault 50 CannotRead\n";
 const WRITE: &str = "halfgates: fault 51 CannotWrite\n";
 
 /// Orders, what they print where nothing fails, and the fault where each of their calls fails. Those of `garble` and
-/// `deal` are to read the circuit, to create the file and to keep it; those of `eval` to read the circuit, to open the
-/// garbled file and to read each label file; those of `jobs` to read the list after the circuit.
+/// `deal` are to read the circuit, to create the file and to keep it; those of `eval` to read the circuit, to open
+/// the garbled file and to read each label file; those of `jobs` to read the list after the circuit.
 static ORDERS: [(&[&str], &str, &[&str]); 8] = [
     (
         &["halfgates", "run", "c.txt", SEED, "1", "1"],
@@ -96,8 +96,8 @@ fn each_call_in_turn(rt: HostRuntime) -> Result<(), Fail> {
     Ok(())
 }
 
-/// Orders with a source or a sink, how many of its bytes have to go well, the fault where fewer do, and what is printed
-/// where that many do. Of a garbled file of 113 bytes a source is asked for one more, which it lacks.
+/// Orders with a source or a sink, how many of its bytes have to go well, the fault where fewer do, and what is
+/// printed where that many do. Of a garbled file of 113 bytes a source is asked for one more, which it lacks.
 static STREAMS: [(&[&str], usize, &str, &str); 4] = [
     (
         &["halfgates", "eval", "c.txt", "g", "0", "1"],

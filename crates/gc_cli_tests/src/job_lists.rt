@@ -19,8 +19,8 @@ static DEALT: [(&str, &str, &str); 6] = [
     ("2", "1", "c1"),
 ];
 
-/// A full adder with its garbled file `g`, a label file for each bit, label files of 16 zero bytes for the first value (`z`)
-/// and for a fourth (`d`), one of two labels for the first value (`two`), and one that is empty.
+/// A full adder with its garbled file `g`, a label file for each bit, label files of 16 zero bytes for the first
+/// value (`z`) and for a fourth (`d`), one of two labels for the first value (`two`), and one that is empty.
 fn adder_disk<R: Threads + Wait + Sync>(rt: &R, alloc: Global) -> Result<Disk, Fail> {
     let mut disk = Disk::of_circuit(alloc, FULL_ADDER)?;
     disk.serve(rt, &["halfgates", "garble", "c.txt", SEED, "g"])?;

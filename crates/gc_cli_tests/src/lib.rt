@@ -1,5 +1,5 @@
-//! The tests of the commands over files in memory: from files to files, lists of jobs, files that fail, and each growth of a
-//! command refused in turn.
+//! The tests of the commands over files in memory: from files to files, lists of jobs, files that fail, and each
+//! growth of a command refused in turn.
 #![tactic(auto)]
 
 #[cfg(test)]

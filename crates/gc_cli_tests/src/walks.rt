@@ -174,8 +174,8 @@ fn write_label_files(rt: HostRuntime) -> Result<(), Fail> {
     Ok(())
 }
 
-/// The label files of the bit 1 for two values (`0` and `1`), of 16 zero bytes for three (`z0`, `z1` and `z2`), of two
-/// labels for the first value (`two`) and of none for the second (`none`), and one that is empty.
+/// The label files of the bit 1 for two values (`0` and `1`), of 16 zero bytes for three (`z0`, `z1` and `z2`), of
+/// two labels for the first value (`two`) and of none for the second (`none`), and one that is empty.
 fn disk_of_labels<R: Threads + Wait + Sync + Abort>(
     rt: &R,
     alloc: Global,

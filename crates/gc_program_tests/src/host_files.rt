@@ -110,8 +110,8 @@ fn assert_serves<R: rt::Files + Threads + Wait + Sync + Abort>(
     Ok(())
 }
 
-/// Garbles a circuit of a constant into a file, and evaluates it from there. In a folder that is not there none can be
-/// written, and none can be opened.
+/// Garbles a circuit of a constant into a file, and evaluates it from there. In a folder that is not there none can
+/// be written, and none can be opened.
 fn garble_and_evaluate<R: rt::Files + Threads + Wait + Sync + Abort>(
     rt: &R,
     alloc: Global,

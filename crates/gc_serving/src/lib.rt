@@ -1,5 +1,5 @@
-//! What the tests of commands and of the program share: files in memory, which may fail, words served over them, and runs of
-//! worked circuits.
+//! What the tests of commands and of the program share: files in memory, which may fail, words served over them, and
+//! runs of worked circuits.
 #![tactic(auto)]
 
 mod disk;
