@@ -7,7 +7,7 @@ ghost use Rattle.gc_bank.specs.Seats.{IsSeatOf, IsInside, InRound, view, jobs_on
 
 use crate::seat::{BankSeat, Banks};
 use gc_circuit::Operation;
-use gc_eval::{Answer, KnownGates, first_wire, second_wire};
+use gc_eval::{Answer, NumberSet, first_wire, second_wire};
 use gc_gatehouse::Gatehouse;
 use std::alloc::{AllocError, Allocator};
 
@@ -23,7 +23,7 @@ pub(crate) struct Walk<B: Allocator> {
     number: u32,
     pub(crate) first: u32,
     pub(crate) end: u32,
-    pub(crate) known: KnownGates<B>,
+    pub(crate) known: NumberSet<B>,
     next: u32,
     learnt: bool,
 }
@@ -41,7 +41,7 @@ impl<B: Allocator + Copy> Walk<B> {
             number,
             first,
             end: first.saturating_add(share),
-            known: KnownGates::none(alloc, gates)?,
+            known: NumberSet::none(alloc, gates)?,
             next: 0,
             learnt: false,
         })

@@ -1,45 +1,67 @@
-//! Which gates a worker knows to be done.
+//! Sets of numbers, of gates or of blocks of gates, by which workers save steps.
 
 use std::alloc::{AllocError, Allocator};
 
-/// The gates that a worker knows to be done, in a bit for each gate; all those before `first` are known. It saves steps,
-/// and no answer rests on it.
+/// Some of the numbers below a limit, in a bit for each. No answer rests on it.
 #[derive(Drop)]
-pub struct KnownGates<B: Allocator> {
+pub struct NumberSet<B: Allocator> {
     words: Vec<u64, B>,
-    pub first: u32,
 }
 
-impl<B: Allocator + Copy> KnownGates<B> {
-    /// None of so many gates. It takes memory once.
-    pub fn none(alloc: B, gates: u32) -> Result<KnownGates<B>, AllocError> {
-        let count = (gates as usize).div_ceil(u64::BITS as usize);
-        Ok(KnownGates {
+impl<B: Allocator + Copy> NumberSet<B> {
+    /// None of the numbers below the limit. It takes memory once.
+    pub fn none(alloc: B, limit: u32) -> Result<NumberSet<B>, AllocError> {
+        let count = (limit as usize).div_ceil(u64::BITS as usize);
+        Ok(NumberSet {
             words: Vec::from_elem(alloc, 0u64, count)?,
-            first: 0,
         })
     }
 }
 
-impl<B: Allocator> KnownGates<B> {
-    /// Whether this gate is one of them.
+impl<B: Allocator> NumberSet<B> {
+    /// Whether this number is in the set.
     #[inline]
-    pub fn has(&self, gate: u32) -> bool {
-        match self.words.get((gate / u64::BITS) as usize) {
-            Some(word) => word >> (gate % u64::BITS) & 1 == 1,
+    pub fn has(&self, number: u32) -> bool {
+        match self.words.get((number / u64::BITS) as usize) {
+            Some(word) => word >> (number % u64::BITS) & 1 == 1,
             None => false,
         }
     }
 
-    /// This gate is one of them from now on.
+    /// Whether a number is in the set that has the same quotient by 64 as this one.
     #[inline]
-    pub fn add(&mut self, gate: u32) {
-        if let Some(word) = self.words.get_mut((gate / u64::BITS) as usize) {
-            *word |= 1 << (gate % u64::BITS);
+    pub fn has_near(&self, number: u32) -> bool {
+        match self.words.get((number / u64::BITS) as usize) {
+            Some(word) => *word != 0,
+            None => false,
         }
     }
 
-    /// None is one of them from now on.
+    /// Whether all numbers are in the set that have the same quotient by 64 as this one.
+    #[inline]
+    pub fn has_all_near(&self, number: u32) -> bool {
+        match self.words.get((number / u64::BITS) as usize) {
+            Some(word) => *word == u64::MAX,
+            None => false,
+        }
+    }
+
+    /// This number is in the set from now on.
+    #[inline]
+    pub fn add(&mut self, number: u32) {
+        if let Some(word) = self.words.get_mut((number / u64::BITS) as usize) {
+            *word |= 1 << (number % u64::BITS);
+        }
+    }
+
+    /// All numbers of another set are in this one from now on.
+    pub fn add_all(&mut self, others: &NumberSet<B>) {
+        for (word, other) in self.words.iter_mut().zip(&others.words) {
+            *word |= *other;
+        }
+    }
+
+    /// No number is in the set from now on.
     pub fn clear(&mut self) {
         self.words.fill(0);
     }

@@ -29,7 +29,7 @@ pub use facts::Facts;
 pub use fault::{BindFault, EvalFault};
 pub use gc_board::OpenFault;
 pub use job::Job;
-pub use known::KnownGates;
+pub use known::NumberSet;
 pub use laws::law_honest_files;
 pub use many::evaluate_many;
 pub use one_thread::{evaluate, evaluate_labels};

@@ -83,7 +83,8 @@ fn evaluate_together<
     }
 }
 
-/// Lets the workers make what they can. When all have ended, the last one makes one further pass.
+/// Lets the workers make what they can. When all have ended, the last one learns what the others know and makes one
+/// further pass.
 fn work_together<
     'j,
     'c,
@@ -97,8 +98,8 @@ fn work_together<
     ensures { AreWorkersOf board.now workers.new }
 {
     run_all(rt, board, workers, house);
-    if let Some(worker) = workers.last_mut() {
-        worker.pass(board, house);
+    if let Some((last, others)) = workers.split_last_mut() {
+        last.finish(board, house, others);
     }
 }
 

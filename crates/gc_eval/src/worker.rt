@@ -3,33 +3,49 @@
 ghost use Rattle.std.specs.Prelude.{◌≡◌, ◌<◌, None, All, IfOk, IfSome};
 ghost use Rattle.gc_eval.specs.ActiveLabels.{gates_of};
 ghost use Rattle.gc_eval.specs.Seats.{IsSeatOf, job_on};
+ghost use Rattle.gc_eval.specs.Workers.{AreWorkersOf};
 
-use crate::known::KnownGates;
+use crate::known::NumberSet;
 use crate::seat::{Answer, EvalBoard, EvalSeat};
 use crate::table::reads;
 use gc_gatehouse::Gatehouse;
 use std::alloc::{AllocError, Allocator};
+use std::hint::spin_loop;
 
 /// Gates that lie side by side, and the rest of which a worker leaves where it finds another at work on one: their words
 /// lie side by side too, and two processors that take turns at them wait for one another.
-const BLOCK: u32 = 64;
+const BLOCK: u32 = u64::BITS;
 
-/// After so many gates in a row that aren't ready, a pass ends that has made gates or learnt of some: those that it missed
-/// may be ready by now.
+/// In a circuit of so many gates or more a worker leaves a block to the one that began it, and doesn't learn of its gates
+/// one by one. In a smaller one there may be no other block for it.
+const GATES_TO_LEAVE: u32 = 64 * BLOCK;
+
+/// After so many gates in a row that aren't ready, a pass ends: those that it missed may be ready by now.
 const MOST_MISSES: u32 = 64;
 
-/// What a worker has of its own: its number, its seat at the board, and the gates that it knows to be done.
+/// After so many passes in a row that made no gate and learnt of none, one last pass goes over all gates.
+const MOST_VAIN: u32 = 256;
+
+/// How long a worker rests after such a pass, in turns of a loop: others make a gate or more meanwhile.
+const REST: u32 = 16;
+
+/// What a worker has of its own: its number, its seat at the board, the gates that it knows to be done, and the blocks
+/// that it leaves to others. It has nothing to step among the gates before `first`.
 #[derive(Drop)]
 pub(crate) struct Worker<B: Allocator, A: Allocator, C: Allocator> {
     number: u32,
     seat: EvalSeat<A, C>,
-    known: KnownGates<B>,
+    known: NumberSet<B>,
+    left: NumberSet<B>,
+    first: u32,
 }
 
 /// What a pass has found so far.
 #[derive(Drop)]
 struct Pass {
-    /// The first gate that it left undone.
+    /// Whether it leaves blocks to others.
+    may_leave: bool,
+    /// The first gate that it missed.
     first_missed: u32,
     /// Gates before this one are left to the next pass.
     next: u32,
@@ -41,23 +57,75 @@ struct Pass {
     kept: Option<u32>,
 }
 
+/// The gate after a gate's block.
+#[inline]
+fn after_block(gate: u32) -> u32 {
+    (gate / BLOCK).saturating_add(1).saturating_mul(BLOCK)
+}
+
+/// Lets others go on for a while.
+fn rest() {
+    for _turn in 0..REST {
+        spin_loop();
+    }
+}
+
 impl<B: Allocator, A: Allocator, C: Allocator> Worker<B, A, C> {
+    /// Leaves the block of a gate that another took to that other, where the pass may and the worker knows no gate of it.
+    /// The answer is whether it does.
+    fn leaves(&mut self, pass: &mut Pass, gate: u32) -> bool
+        ensures seat { self.new.seat ≡ self.old.seat }
+        ensures kept { pass.new.kept ≡ pass.old.kept }
+    {
+        if !pass.may_leave || self.known.has_near(gate) {
+            return false;
+        }
+        self.left.add(gate / BLOCK);
+        pass.next = after_block(gate);
+        true
+    }
+
     /// What a gate was answered.
     fn note(&mut self, pass: &mut Pass, gate: u32, answer: Answer)
         ensures seat { self.new.seat ≡ self.old.seat }
         ensures kept { pass.new.kept ≡ pass.old.kept }
     {
-        match answer {
-            Answer::Made(_) | Answer::Done(_) => {
-                self.known.add(gate);
-                pass.learnt = true;
-                pass.misses = 0;
-                return;
+        let is_left = match answer {
+            Answer::Made(_) => return self.learn(pass, gate),
+            Answer::Done(_) => {
+                self.leaves(pass, gate);
+                return self.learn(pass, gate);
             }
-            Answer::Taken => pass.next = (gate / BLOCK + 1).saturating_mul(BLOCK),
-            Answer::NotYet(_) => pass.misses = pass.misses.saturating_add(1),
+            Answer::Taken => {
+                pass.next = after_block(gate);
+                self.leaves(pass, gate)
+            }
+            Answer::NotYet(_) if self.left.has(gate / BLOCK) => true,
+            Answer::NotYet(_) => {
+                pass.misses = pass.misses.saturating_add(1);
+                false
+            }
+        };
+        if !is_left {
+            pass.first_missed = pass.first_missed.min(gate);
         }
-        pass.first_missed = pass.first_missed.min(gate);
+    }
+
+    /// The worker knows that a gate is done.
+    fn learn(&mut self, pass: &mut Pass, gate: u32)
+        ensures seat { self.new.seat ≡ self.old.seat }
+        ensures kept { pass.new.kept ≡ pass.old.kept }
+    {
+        self.known.add(gate);
+        pass.learnt = true;
+        pass.misses = 0;
+    }
+
+    /// Whether a pass has nothing to step in a block.
+    #[inline]
+    fn skips(&self, pass: &Pass, block: u32) -> bool {
+        self.known.has_all_near(block.saturating_mul(BLOCK))
+            || (pass.may_leave && self.left.has(block))
     }
 
     /// Steps a gate.
@@ -149,39 +217,66 @@ impl<B: Allocator, A: Allocator, C: Allocator> Worker<B, A, C> {
         }
     }
 
-    /// One pass in file order over the gates that the worker doesn't know to be done, AND gates two at a time within a
-    /// block. The answer is whether it made a gate, or learnt of one.
-    pub(crate) fn pass<'j, 'c, H: Gatehouse>(
+    /// Goes over the gates of a block.
+    fn pass_block<'j, 'c, H: Gatehouse>(
         &mut self,
         board: &EvalBoard<'j, 'c, B, A, C>,
         house: &H,
+        pass: &mut Pass,
+        block: u32,
+    )
+        requires own { IsSeatOf board.now self.old.seat }
+        requires kept { IfSome pass.old.kept (λ g. g < gates_of (job_on board.now)) }
+        ensures own { IsSeatOf board.now self.new.seat }
+        ensures kept { IfSome pass.new.kept (λ g. g < gates_of (job_on board.now)) }
+    {
+        let first = block.saturating_mul(BLOCK);
+        for gate in first..first.saturating_add(BLOCK).min(board.gates()) {
+            if gate >= pass.next && !self.known.has(gate) {
+                self.meet(board, house, pass, gate);
+            }
+        }
+    }
+
+    /// One pass in file order over the gates that the worker doesn't know to be done, AND gates two at a time within a
+    /// block. The answer is whether it made a gate, or learnt of one.
+    ///
+    /// A pass that isn't `whole` passes over the blocks that the worker leaves to others too, and ends after gates in a
+    /// row that weren't ready.
+    fn pass<'j, 'c, H: Gatehouse>(
+        &mut self,
+        board: &EvalBoard<'j, 'c, B, A, C>,
+        house: &H,
+        whole: bool,
     ) -> bool
         requires { IsSeatOf board.now self.old.seat }
         ensures { IsSeatOf board.now self.new.seat }
     {
+        let first = if whole { 0 } else { self.first };
         let mut pass = Pass {
+            may_leave: !whole && board.gates() >= GATES_TO_LEAVE,
             first_missed: board.gates(),
-            next: self.known.first,
+            next: first,
             misses: 0,
             learnt: false,
             kept: None,
         };
-        for gate in self.known.first..board.gates() {
-            if gate < pass.next || self.known.has(gate) {
+        for block in first / BLOCK..board.gates().div_ceil(BLOCK) {
+            if self.skips(&pass, block) {
                 continue;
             }
-            self.meet(board, house, &mut pass, gate);
-            if pass.learnt && pass.misses >= MOST_MISSES {
+            self.pass_block(board, house, &mut pass, block);
+            if pass.misses >= MOST_MISSES && (pass.learnt || !whole) {
                 break;
             }
         }
         self.step_kept(board, house, &mut pass);
-        self.known.first = pass.first_missed;
+        self.first = pass.first_missed;
         pass.learnt
     }
 
-    /// Passes over the gates as long as a pass made a gate or learnt of one, which so many passes can do as there are
-    /// gates.
+    /// Passes over the gates as long as a pass made a gate or learnt of one. It ends after one in vain that missed none;
+    /// after another in vain it rests, and after many such a last one goes over all gates.
     pub(crate) fn work<'j, 'c, H: Gatehouse>(
         &mut self,
         board: &EvalBoard<'j, 'c, B, A, C>,
@@ -190,11 +285,51 @@ impl<B: Allocator, A: Allocator, C: Allocator> Worker<B, A, C> {
         requires { IsSeatOf board.now self.old.seat }
         ensures { IsSeatOf board.now self.new.seat }
     {
-        for _pass in 0..board.gates() {
-            if !self.pass(board, house) {
+        let mut vain = 0u32;
+        for _pass in 0..u64::MAX {
+            let whole = vain == MOST_VAIN;
+            if self.pass(board, house, whole) {
+                vain = 0;
+            } else if whole || self.first >= board.gates() {
                 return;
+            } else {
+                vain = vain.saturating_add(1);
+                rest();
             }
         }
+    }
+
+    /// One further pass, over the gates that none of the workers knows to be done, when the others have ended.
+    pub(crate) fn finish<'j, 'c, H: Gatehouse>(
+        &mut self,
+        board: &EvalBoard<'j, 'c, B, A, C>,
+        house: &H,
+        others: &mut [Worker<B, A, C>],
+    )
+        requires own { IsSeatOf board.now self.old.seat }
+        requires others { AreWorkersOf board.now others.old }
+        ensures own { IsSeatOf board.now self.new.seat }
+        ensures others { AreWorkersOf board.now others.new }
+    {
+        for k in 0..others.len() {
+            self.learn_from(board, &mut others[k]);
+        }
+        self.pass(board, house, true);
+    }
+
+    /// Learns what another worker knows.
+    fn learn_from<'j, 'c>(
+        &mut self,
+        board: &EvalBoard<'j, 'c, B, A, C>,
+        other: &mut Worker<B, A, C>,
+    )
+        requires own { IsSeatOf board.now self.old.seat }
+        requires other { IsSeatOf board.now other.old.seat }
+        ensures own { IsSeatOf board.now self.new.seat }
+        ensures other { IsSeatOf board.now other.new.seat }
+    {
+        board.tell(&mut other.seat, &mut self.seat);
+        self.known.add_all(&other.known);
     }
 }
 
@@ -210,11 +345,14 @@ pub(crate) fn muster<'j, 'c, B: Allocator + Copy, A: Allocator, C: Allocator>(
     let mut workers = Vec::with_capacity(alloc, seats.len())?;
     while let Some(seat) = seats.pop() {
         let number = u32::try_from(seats.len()).unwrap_or(0);
-        let known = KnownGates::none(alloc, board.gates())?;
+        let known = NumberSet::none(alloc, board.gates())?;
+        let left = NumberSet::none(alloc, board.gates() / BLOCK)?;
         workers.push(Worker {
             number,
             seat,
             known,
+            left,
+            first: 0,
         })?;
     }
     Ok(workers)

@@ -1,7 +1,18 @@
-use Rattle.std.proofs.lemmas.List.Elements.{All-set}
+use Rattle.std.proofs.lemmas.List.Elements.{All-push}
 use Rattle.gc_eval.specs.Workers.{IsWorkerOf}
+use Rattle.gc_eval.proofs.GatherLemmas.{all_but_last, all_last}
 use Rattle.gc_eval.proofs.many.work_together.Goals as goal
+
+pub finish-requires-clause-own : goal.finish-requires-clause-own
+finish-requires-clause-own g c =
+    all_last c.run_all.new.workers c.in-Some.others.now c.in-Some.last.now c.in-Some.ensures.cases.0
+    (IsWorkerOf c.args.board.now) c.run_all.ensures
+
+pub finish-requires-clause-others : goal.finish-requires-clause-others
+finish-requires-clause-others g c =
+    all_but_last c.run_all.new.workers c.in-Some.others.now c.in-Some.last.now c.in-Some.ensures.cases.0
+    (IsWorkerOf c.args.board.now) c.run_all.ensures
 
 pub returns-in-Some : goal.returns-in-Some
 returns-in-Some g c =
-    All-set (IsWorkerOf c.args.board.now) c.run_all.new.workers _ c.pass.new.self c.pass.ensures c.run_all.ensures
+    All-push (IsWorkerOf c.args.board.now) c.finish.new.others c.finish.new.self c.finish.ensures.others c.finish.ensures.own

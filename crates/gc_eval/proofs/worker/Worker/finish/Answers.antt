@@ -1,0 +1,10 @@
+use Rattle.std.proofs.lemmas.List.Elements.{All-set}
+use Rattle.gc_eval.specs.Workers.{IsWorkerOf}
+use Rattle.gc_eval.proofs.worker.Worker.finish.Goals as goal
+
+pub loop-k-preserved : goal.loop-k-preserved
+loop-k-preserved g c = record {
+  own = c.learn_from.ensures.own;
+  others = All-set (IsWorkerOf c.args.board.now) c.loop-k.others _ c.learn_from.new.other c.learn_from.ensures.other
+      c.loop-k.invariant.others;
+}
