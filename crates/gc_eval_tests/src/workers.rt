@@ -9,7 +9,7 @@ use gc_work::Open;
 use gc_worked::circuits::{FULL_ADDER, many_ands};
 use gc_worked::files::{label_file, write};
 use gc_worked::meeting::Meeting;
-use gc_worked::random::{Numbers, forge_labels, forge_rows, random_circuit};
+use gc_worked::random::{Numbers, forge_labels, forge_rows, random_circuit, random_window};
 use std::alloc::Global;
 use std::test::Fail;
 use std::thread::Threads;
@@ -112,6 +112,17 @@ fn random_jobs(rt: HostRuntime) -> Result<(), Fail> {
         let job = Job::bind(alloc, &circuit, read_garbled(alloc, &file)?, &labels)?;
         assert!(rt; agree(&rt, alloc, &job, &[2, 3, 4, 5, 6, 7, 8]), "job {i}");
     }
+    Ok(())
+}
+
+/// A circuit of so many blocks of gates that workers leave some to each other, and wait for gates of others.
+#[test]
+fn many_blocks(rt: HostRuntime) -> Result<(), Fail> {
+    let mut numbers = Numbers { state: 5 };
+    let text = random_window(rt.alloc(), &mut numbers, 10_000)?;
+    let circuit = Circuit::read(rt.alloc(), text.as_bytes())?;
+    let job = job_on_zeros(rt.alloc(), &circuit, text.as_str())?;
+    assert!(rt; agree(&rt, rt.alloc(), &job, &[1, 2, 3, 4, 64]));
     Ok(())
 }
 

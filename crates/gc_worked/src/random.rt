@@ -49,6 +49,21 @@ pub fn random_circuit(alloc: Global, numbers: &mut Numbers) -> Result<String, Fa
     Ok(text)
 }
 
+/// A circuit of so many gates with two input values and one output value of 64 wires, in Bristol Fashion. Each gate is
+/// XOR or AND and reads two of the hundred wires before the one that it sets.
+pub fn random_window(alloc: Global, numbers: &mut Numbers, gates: u32) -> Result<String, Fail> {
+    let wires = u64::from(gates) + 128;
+    let mut text = format!(in alloc; "{gates} {wires}\n2 64 64\n1 64\n\n")?;
+    for set in 128..wires {
+        let a = (set - 1).saturating_sub(numbers.below(100));
+        let b = (set - 1).saturating_sub(numbers.below(100));
+        let operation = if numbers.below(2) == 0 { "XOR" } else { "AND" };
+        let line = format!(in alloc; "2 1 {a} {b} {set} {operation}\n")?;
+        text.push_str(line.as_str())?;
+    }
+    Ok(text)
+}
+
 /// Where the rows of a garbled file begin, and how long its trailer is.
 const HEADER: usize = 48;
 
