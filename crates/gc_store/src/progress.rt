@@ -167,7 +167,7 @@ impl<A: Allocator> Progress<A> {
         if task != self.task(task.gate) {
             return Err(Refused::OtherInputs(sealed));
         }
-        self.keep(sealed);
+        self.keep(&sealed);
         Ok(self.is_complete())
     }
 
@@ -229,10 +229,10 @@ impl<A: Allocator> Progress<A> {
     }
 
     /// Keeps what a sealed task gives for a gate that is claimed.
-    fn keep(&mut self, sealed: Sealed)
-        requires claimed { IsClaimed self.old sealed.gate }
-        requires own { IsOwnTask self.old sealed }
-        ensures { self.new ≡ with_sealed self.old sealed }
+    fn keep(&mut self, sealed: &Sealed)
+        requires claimed { IsClaimed self.old sealed.now.gate }
+        requires own { IsOwnTask self.old sealed.now }
+        ensures { self.new ≡ with_sealed self.old sealed.now }
     {
         let task = sealed.task();
         let wire = self.circuit.gate(task.gate).set;

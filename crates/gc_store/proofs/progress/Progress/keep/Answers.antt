@@ -9,12 +9,12 @@ use Rattle.gc_store.proofs.progress.Progress.keep.Goals as goal
 
 pub finish-requires : goal.finish-requires
 finish-requires g c =
-    claimed_mark _ _ _ _ _ c.self.view_is c.self.invariant c.task-task.result c.args.sealed c.task-task.ensures
+    claimed_mark _ _ _ _ _ c.self.view_is c.self.invariant c.task-task.result c.args.sealed.now c.task-task.ensures
     c.requires.claimed
 
 pub count_down-requires-clause-counted : goal.count_down-requires-clause-counted
 count_down-requires-clause-counted g c =
-    counts_fit _ _ _ _ _ c.self.view_is c.self.invariant c.task-task.result c.args.sealed c.task-task.ensures
+    counts_fit _ _ _ _ _ c.self.view_is c.self.invariant c.task-task.result c.args.sealed.now c.task-task.ensures
     c.requires.claimed c.gate-wire.result c.finish.new.self c.gate-wire.ensures c.finish.ensures
 
 pub index_mut-requires : goal.index_mut-requires
@@ -23,7 +23,7 @@ index_mut-requires g c =
 
 pub set-requires : goal.set-requires
 set-requires g c =
-    let within = number_within _ _ _ _ _ c.task-task.result c.args.sealed c.in-Some.rows c.self.view_is c.self.invariant c.task-task.ensures c.requires.own (sym c.in-Some.is ∙ c.rows.ensures) in
+    let within = number_within _ _ _ _ _ c.task-task.result c.args.sealed.now c.in-Some.rows c.self.view_is c.self.invariant c.task-task.ensures c.requires.own (sym c.in-Some.is ∙ c.rows.ensures) in
     omega (arith, within)
 
 pub invariant_of-self : goal.invariant_of-self
@@ -33,7 +33,7 @@ invariant_of-self g c =
     c.task-task.result.and_number c.zero_label.result (Some c.in-Some.rows)) { rows = x } in
     let P : List RowPair → Type 0 = λ x.
     IsKept c.self.inside.circuit c.self.inside.seed c.self.inside.offset (tables x) in
-    subst P (sym c.set.ensures) (keep_sealed _ _ _ _ _ c.count_down.new.queue c.task-task.result c.args.sealed c.gate-wire.result _ _ c.self.view_is
+    subst P (sym c.set.ensures) (keep_sealed _ _ _ _ _ c.count_down.new.queue c.task-task.result c.args.sealed.now c.gate-wire.result _ _ c.self.view_is
     c.self.invariant c.task-task.ensures c.requires.claimed c.requires.own c.gate-wire.ensures
     (finished_queue_is _ _ c.task-task.result.gate c.gate-wire.result.set c.finish.new.self c.count_down.new.queue
     c.finish.ensures c.count_down.ensures.marks c.count_down.ensures.countdowns c.count_down.ensures.counted)
@@ -41,7 +41,7 @@ invariant_of-self g c =
 
 pub invariant_of-self-in_default : goal.invariant_of-self-in_default
 invariant_of-self-in_default g c =
-    (keep_sealed _ _ _ _ _ c.count_down.new.queue c.task-task.result c.args.sealed c.gate-wire.result _ _ c.self.view_is
+    (keep_sealed _ _ _ _ _ c.count_down.new.queue c.task-task.result c.args.sealed.now c.gate-wire.result _ _ c.self.view_is
     c.self.invariant c.task-task.ensures c.requires.claimed c.requires.own c.gate-wire.ensures
     (finished_queue_is _ _ c.task-task.result.gate c.gate-wire.result.set c.finish.new.self c.count_down.new.queue
     c.finish.ensures c.count_down.ensures.marks c.count_down.ensures.countdowns c.count_down.ensures.counted)
@@ -53,8 +53,8 @@ returns-in-Some g c =
     record (finished_tables (tables_of c.self.inside) c.count_down.new.queue c.gate-wire.result.set
     c.task-task.result.and_number c.zero_label.result (Some c.in-Some.rows)) { rows = x } in
     let P : List RowPair → Type 0 = λ x.
-    content_of c.self.inside.circuit c.self.inside.seed (tables x) ≡ with_sealed c.args.self.now c.args.sealed in
-    subst P (sym c.set.ensures) (keep_sealed _ _ _ _ _ c.count_down.new.queue c.task-task.result c.args.sealed c.gate-wire.result _ _ c.self.view_is
+    content_of c.self.inside.circuit c.self.inside.seed (tables x) ≡ with_sealed c.args.self.now c.args.sealed.now in
+    subst P (sym c.set.ensures) (keep_sealed _ _ _ _ _ c.count_down.new.queue c.task-task.result c.args.sealed.now c.gate-wire.result _ _ c.self.view_is
     c.self.invariant c.task-task.ensures c.requires.claimed c.requires.own c.gate-wire.ensures
     (finished_queue_is _ _ c.task-task.result.gate c.gate-wire.result.set c.finish.new.self c.count_down.new.queue
     c.finish.ensures c.count_down.ensures.marks c.count_down.ensures.countdowns c.count_down.ensures.counted)
@@ -62,7 +62,7 @@ returns-in-Some g c =
 
 pub returns-in_default : goal.returns-in_default
 returns-in_default g c =
-    (keep_sealed _ _ _ _ _ c.count_down.new.queue c.task-task.result c.args.sealed c.gate-wire.result _ _ c.self.view_is
+    (keep_sealed _ _ _ _ _ c.count_down.new.queue c.task-task.result c.args.sealed.now c.gate-wire.result _ _ c.self.view_is
     c.self.invariant c.task-task.ensures c.requires.claimed c.requires.own c.gate-wire.ensures
     (finished_queue_is _ _ c.task-task.result.gate c.gate-wire.result.set c.finish.new.self c.count_down.new.queue
     c.finish.ensures c.count_down.ensures.marks c.count_down.ensures.countdowns c.count_down.ensures.counted)
