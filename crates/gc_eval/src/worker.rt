@@ -23,6 +23,9 @@ const GATES_TO_LEAVE: u32 = 64 * BLOCK;
 /// After so many gates in a row that aren't ready, a pass ends: those that it missed may be ready by now.
 const MOST_MISSES: u32 = 64;
 
+/// So often a worker goes over a block in which a gate isn't ready, since those who make what it reads are at work near it.
+const MOST_TRIES: u32 = 16;
+
 /// After so many passes in a row that made no gate and learnt of none, one last pass goes over all gates.
 const MOST_VAIN: u32 = 256;
 
@@ -51,6 +54,8 @@ struct Pass {
     next: u32,
     /// How many gates in a row weren't ready.
     misses: u32,
+    /// Whether a gate of the block wasn't ready.
+    awaits: bool,
     /// Whether it made a gate, or learnt of one.
     learnt: bool,
     /// An AND gate that waits for another one, to be stepped together with it.
@@ -103,6 +108,7 @@ impl<B: Allocator, A: Allocator, C: Allocator> Worker<B, A, C> {
             Answer::NotYet(_) if self.left.has(gate / BLOCK) => true,
             Answer::NotYet(_) => {
                 pass.misses = pass.misses.saturating_add(1);
+                pass.awaits = true;
                 false
             }
         };
@@ -238,6 +244,30 @@ impl<B: Allocator, A: Allocator, C: Allocator> Worker<B, A, C> {
         }
     }
 
+    /// Goes over the gates of a block until all of them were ready, or often enough.
+    fn try_block<'j, 'c, H: Gatehouse>(
+        &mut self,
+        board: &EvalBoard<'j, 'c, B, A, C>,
+        house: &H,
+        pass: &mut Pass,
+        block: u32,
+    )
+        requires own { IsSeatOf board.now self.old.seat }
+        requires kept { IfSome pass.old.kept (λ g. g < gates_of (job_on board.now)) }
+        ensures own { IsSeatOf board.now self.new.seat }
+        ensures kept { IfSome pass.new.kept (λ g. g < gates_of (job_on board.now)) }
+    {
+        for _try in 0..MOST_TRIES {
+            pass.awaits = false;
+            self.pass_block(board, house, pass, block);
+            if !pass.awaits {
+                return;
+            }
+            self.step_kept(board, house, pass);
+            rest();
+        }
+    }
+
     /// One pass in file order over the gates that the worker doesn't know to be done, AND gates two at a time within a
     /// block. The answer is whether it made a gate, or learnt of one.
     ///
@@ -258,6 +288,7 @@ impl<B: Allocator, A: Allocator, C: Allocator> Worker<B, A, C> {
             first_missed: board.gates(),
             next: first,
             misses: 0,
+            awaits: false,
             learnt: false,
             kept: None,
         };
@@ -265,7 +296,7 @@ impl<B: Allocator, A: Allocator, C: Allocator> Worker<B, A, C> {
             if self.skips(&pass, block) {
                 continue;
             }
-            self.pass_block(board, house, &mut pass, block);
+            self.try_block(board, house, &mut pass, block);
             if pass.misses >= MOST_MISSES && (pass.learnt || !whole) {
                 break;
             }
