@@ -9,14 +9,15 @@
 # machine changes while it works.
 set -euo pipefail
 top=$(cd "$(dirname "$0")/.." && pwd)
+. "$top/machine.sh"
 tmp=$(mktemp -d)
 trap 'rm -rf "$tmp"' EXIT
 
-if ! (cd "$top/crates/gc_bench" && rt run) >"$tmp/build" 2>&1; then
+bench=$top/crates/gc_bench/out/gc_bench
+if is_stale "$bench" && ! (cd "$top/crates/gc_bench" && rt run $(processor) && touch out/gc_bench) >"$tmp/build" 2>&1; then
     tail -n 20 "$tmp/build" >&2
     exit 1
 fi
-bench=$top/crates/gc_bench/out/gc_bench
 zero=$(printf '0%.0s' $(seq 64))
 
 circuit=${1:-$tmp/half.txt}

@@ -1,0 +1,21 @@
+# What the launcher and the benchmarks share. A script sources it, with the folder of the repository as $top.
+
+# Whether a program isn't built yet, or a source is newer.
+is_stale() {
+    [ ! -x "$1" ] && return 0
+    [ -n "$(find "$top/crates.txt" "$top"/crates/*/src "$top"/crates/*/specs "$top"/crates/*/proofs -newer "$1" -print 2>/dev/null | head -n 1)" ]
+}
+
+# The processor to compile for: x86-64-v3, which most have since 2015, where this one is such; else the compiler's own
+# choice. A program that was compiled for more than a processor has says so as it starts.
+processor() {
+    for feature in avx avx2 bmi1 bmi2 f16c fma abm movbe; do
+        grep -q -w -m 1 "$feature" /proc/cpuinfo 2>/dev/null || return 0
+    done
+    echo --cpu=x86-64-v3
+}
+
+# Large blocks of memory by large pages, where the system gives them to who asks: much of the time that opening large
+# tables takes is the handing out of their pages.
+GLIBC_TUNABLES=${GLIBC_TUNABLES-glibc.malloc.hugetlb=1}
+export GLIBC_TUNABLES
