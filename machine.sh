@@ -15,7 +15,9 @@ processor() {
     echo --cpu=x86-64-v3
 }
 
-# Large blocks of memory by large pages, where the system gives them to who asks: much of the time that opening large
-# tables takes is the handing out of their pages.
-GLIBC_TUNABLES=${GLIBC_TUNABLES-glibc.malloc.hugetlb=1}
-export GLIBC_TUNABLES
+# From now on programs have large blocks of memory by large pages, where the system gives them to who asks: much of the
+# time that opening large tables takes is the handing out of their pages.
+use_large_pages() {
+    GLIBC_TUNABLES=${GLIBC_TUNABLES-glibc.malloc.hugetlb=1}
+    export GLIBC_TUNABLES
+}
