@@ -11,6 +11,7 @@ use crate::table::reads;
 use gc_gatehouse::Gatehouse;
 use std::alloc::{AllocError, Allocator};
 use std::hint::spin_loop;
+use std::thread;
 
 /// Gates that lie side by side, and the rest of which a worker leaves where it finds another at work on one: their words
 /// lie side by side too, and two processors that take turns at them wait for one another.
@@ -23,14 +24,18 @@ const GATES_TO_LEAVE: u32 = 64 * BLOCK;
 /// After so many gates in a row that aren't ready, a pass ends: those that it missed may be ready by now.
 const MOST_MISSES: u32 = 64;
 
-/// So often a worker goes over a block in which a gate isn't ready, since those who make what it reads are at work near it.
-const MOST_TRIES: u32 = 16;
+/// So often a worker goes over a block that it began and in which a gate isn't ready, since those who make what it reads
+/// are at work near it. Then the pass ends.
+const MOST_TRIES: u32 = 4096;
 
 /// After so many passes in a row that made no gate and learnt of none, one last pass goes over all gates.
 const MOST_VAIN: u32 = 256;
 
-/// How long a worker rests after such a pass, in turns of a loop: others make a gate or more meanwhile.
+/// How long a worker rests after a try or a pass in vain, in turns of a loop: others make a gate or more meanwhile.
 const REST: u32 = 16;
+
+/// After so many rests in a row it lets other threads have the processor: the one that it waits for may have none.
+const RESTS_ALONE: u32 = 64;
 
 /// What a worker has of its own: its number, its seat at the board, the gates that it knows to be done, and the blocks
 /// that it leaves to others. It has nothing to step among the gates before `first`.
@@ -54,7 +59,7 @@ struct Pass {
     next: u32,
     /// How many gates in a row weren't ready.
     misses: u32,
-    /// Whether a gate of the block wasn't ready.
+    /// Whether a gate of the block that the worker is at wasn't ready, and it stays there.
     awaits: bool,
     /// Whether it made a gate, or learnt of one.
     learnt: bool,
@@ -68,8 +73,11 @@ fn after_block(gate: u32) -> u32 {
     (gate / BLOCK).saturating_add(1).saturating_mul(BLOCK)
 }
 
-/// Lets others go on for a while.
-fn rest() {
+/// Lets others go on for a while, after so many rests.
+fn rest(rests: u32) {
+    if rests >= RESTS_ALONE {
+        thread::yield_now();
+    }
     for _turn in 0..REST {
         spin_loop();
     }
@@ -101,19 +109,17 @@ impl<B: Allocator, A: Allocator, C: Allocator> Worker<B, A, C> {
                 self.leaves(pass, gate);
                 return self.learn(pass, gate);
             }
+            Answer::Taken if pass.may_leave => self.leaves(pass, gate),
             Answer::Taken => {
                 pass.next = after_block(gate);
-                self.leaves(pass, gate)
-            }
-            Answer::NotYet(_) if self.left.has(gate / BLOCK) => true,
-            Answer::NotYet(_) => {
-                pass.misses = pass.misses.saturating_add(1);
-                pass.awaits = true;
                 false
             }
+            Answer::NotYet(_) => self.left.has(gate / BLOCK),
         };
         if !is_left {
             pass.first_missed = pass.first_missed.min(gate);
+            pass.misses = pass.misses.saturating_add(1);
+            pass.awaits = pass.may_leave;
         }
     }
 
@@ -212,7 +218,7 @@ impl<B: Allocator, A: Allocator, C: Allocator> Worker<B, A, C> {
     {
         let operation = board.operation(gate);
         if let Some(kept) = pass.kept {
-            if kept / BLOCK != gate / BLOCK || reads(operation, board.set_by(kept)) {
+            if reads(operation, board.set_by(kept)) {
                 self.step_kept(board, house, pass);
             }
         }
@@ -234,7 +240,7 @@ impl<B: Allocator, A: Allocator, C: Allocator> Worker<B, A, C> {
         requires own { IsSeatOf board.now self.old.seat }
         requires kept { IfSome pass.old.kept (λ g. g < gates_of (job_on board.now)) }
         ensures own { IsSeatOf board.now self.new.seat }
-        ensures kept { IfSome pass.new.kept (λ g. g < gates_of (job_on board.now)) }
+        ensures kept { pass.new.kept ≡ None }
     {
         let first = block.saturating_mul(BLOCK);
         for gate in first..first.saturating_add(BLOCK).min(board.gates()) {
@@ -242,9 +248,11 @@ impl<B: Allocator, A: Allocator, C: Allocator> Worker<B, A, C> {
                 self.meet(board, house, pass, gate);
             }
         }
+        self.step_kept(board, house, pass);
     }
 
-    /// Goes over the gates of a block until all of them were ready, or often enough.
+    /// Goes over the gates of a block until the worker leaves it to another or knows all of them to be done: one that it
+    /// went away from, others would wait for. Where the pass may leave no block, it goes over it once.
     fn try_block<'j, 'c, H: Gatehouse>(
         &mut self,
         board: &EvalBoard<'j, 'c, B, A, C>,
@@ -257,14 +265,13 @@ impl<B: Allocator, A: Allocator, C: Allocator> Worker<B, A, C> {
         ensures own { IsSeatOf board.now self.new.seat }
         ensures kept { IfSome pass.new.kept (λ g. g < gates_of (job_on board.now)) }
     {
-        for _try in 0..MOST_TRIES {
+        for attempt in 0..MOST_TRIES {
             pass.awaits = false;
             self.pass_block(board, house, pass, block);
             if !pass.awaits {
                 return;
             }
-            self.step_kept(board, house, pass);
-            rest();
+            rest(attempt);
         }
     }
 
@@ -284,7 +291,7 @@ impl<B: Allocator, A: Allocator, C: Allocator> Worker<B, A, C> {
     {
         let first = if whole { 0 } else { self.first };
         let mut pass = Pass {
-            may_leave: !whole && board.gates() >= GATES_TO_LEAVE,
+            may_leave: !whole && board.seats > 1 && board.gates() >= GATES_TO_LEAVE,
             first_missed: board.gates(),
             next: first,
             misses: 0,
@@ -297,11 +304,10 @@ impl<B: Allocator, A: Allocator, C: Allocator> Worker<B, A, C> {
                 continue;
             }
             self.try_block(board, house, &mut pass, block);
-            if pass.misses >= MOST_MISSES && (pass.learnt || !whole) {
+            if pass.awaits || (pass.misses >= MOST_MISSES && (pass.learnt || !whole)) {
                 break;
             }
         }
-        self.step_kept(board, house, &mut pass);
         self.first = pass.first_missed;
         pass.learnt
     }
@@ -324,8 +330,8 @@ impl<B: Allocator, A: Allocator, C: Allocator> Worker<B, A, C> {
             } else if whole || self.first >= board.gates() {
                 return;
             } else {
+                rest(vain);
                 vain = vain.saturating_add(1);
-                rest();
             }
         }
     }

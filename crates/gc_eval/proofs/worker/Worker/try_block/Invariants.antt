@@ -3,8 +3,8 @@ use Rattle.gc_eval.specs.ActiveLabels.{gates_of}
 use Rattle.gc_eval.specs.Seats.{IsSeatOf, job_on}
 use Rattle.gc_eval.proofs.worker.Worker.try_block.Given as goal
 
-abbrev pub invariant-loop-try : goal.invariant-loop-try
-invariant-loop-try g l = record {
+abbrev pub invariant-loop-attempt : goal.invariant-loop-attempt
+invariant-loop-attempt g l = record {
   own : IsSeatOf l.board l.self.seat;
   kept : IfSome l.pass.kept (λ k. k < gates_of (job_on l.board));
 }
