@@ -5,7 +5,7 @@ ghost use Rattle.std.specs.Io.KnownBytes.{Appends};
 ghost use Rattle.gc_file.specs.Counted.{CountsFailure};
 ghost use Rattle.gc_cli.specs.CarryOut.{HasCause};
 ghost use Rattle.gc_cli.specs.CommandLine.{IsMistaken};
-ghost use Rattle.gc_cli.specs.Ending.{IfFault, status_of};
+ghost use Rattle.gc_cli.specs.Ending.{IfFault};
 ghost use Rattle.gc_cli.specs.Serve.{IsDone, IsFaulty, TellsFault, fault_line};
 
 use crate::command_line::CommandLine;
@@ -67,10 +67,10 @@ pub fn serve<R: Threads + Wait + Sync, F: Files, O: Write, E: Write>(
     }
 }
 
-/// Says on `err` that the words of a command line can't be had, as where one is not UTF-8, and answers the status of
-/// words that are no order.
-pub fn refuse_line<E: Write>(error: &io::Error, err: &mut E) -> u8
-    ensures { result ≡ status_of Ending.Usage }
+/// Says on `err` that the words of a command line can't be had, as where one is not UTF-8. The run ends as one whose words
+/// are no order.
+pub fn refuse_line<E: Write>(error: &io::Error, err: &mut E) -> Ending
+    ensures { result ≡ Ending.Usage }
 {
     let reason = match error.kind() {
         ErrorKind::InvalidData => "a word is not UTF-8",
@@ -78,7 +78,7 @@ pub fn refuse_line<E: Write>(error: &io::Error, err: &mut E) -> u8
         _ => "its words can't be had",
     };
     let _ = writeln!(err, "error: the command line can't be read: {reason}");
-    Ending::Usage.status()
+    Ending::Usage
 }
 
 /// Says on standard error which fault ended the run. Where that fails, nobody can be told.

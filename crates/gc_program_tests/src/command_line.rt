@@ -112,9 +112,9 @@ fn refuses_words_that_cannot_be_had(rt: HostRuntime) {
     ];
     for (kind, errors) in rows {
         let mut err = Vec::new(rt.alloc());
-        assert_eq!(rt; refuse_line(&kind.into(), &mut err), 2);
+        assert_eq!(rt; refuse_line(&kind.into(), &mut err).status(), 2);
         assert_eq!(rt; err.as_slice(), errors.as_bytes());
-        assert_eq!(rt; refuse_line(&kind.into(), &mut Closed), 2);
+        assert_eq!(rt; refuse_line(&kind.into(), &mut Closed).status(), 2);
     }
 }
 
