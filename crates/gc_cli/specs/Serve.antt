@@ -1,6 +1,8 @@
 -- What a whole run comes to.
 use Rattle.std.specs.Prelude.{◌≡◌, ℕ, ◌+◌, ◌⊎◌, List, [], ◌∷◌, ◌++◌, codes}
 use Rattle.std.specs.Io.KnownBytes.{Appends}
+use Rattle.std.specs.declared.io.ErrorKind.{ErrorKind}
+use Rattle.std.specs.declared.io.ErrorKind.TheVariants.{InvalidData, OutOfMemory}
 use Rattle.gc_order.specs.Order.{OrderText}
 use Rattle.gc_cli.specs.declared.fault.Fault.{Fault}
 use Rattle.gc_cli.specs.declared.fault.Fault.TheVariants.{CannotWrite}
@@ -32,7 +34,24 @@ IsFaulty old new IsCaused words before after fault =
 abbrev pub fault_line : Fault → List ℕ
 fault_line fault = codes "halfgates: " ++ text_of fault ++ 10 ∷ []
 
--- Standard error, as it was before and after, has the line of the fault, unless a call to print it failed.
+-- why the words of a command line can't be had, by the kind of the error that asking for them gave
+abbrev pub reason_of : ErrorKind → List ℕ
+reason_of InvalidData = codes "a word is not UTF-8"
+reason_of OutOfMemory = codes "out of memory"
+reason_of _ = codes "its words can't be had"
+
+-- the line on standard error that tells it
+abbrev pub refusal_line : ErrorKind → List ℕ
+refusal_line kind = codes "error: the command line can't be read: " ++ reason_of kind ++ 10 ∷ []
+
+-- Standard error, as it was before and after, has this line, unless a call to print it failed.
+abbrev pub Tells : Printed → Printed → List ℕ → Type 0
+Tells before after line = after.failures ≡ before.failures → Appends before.contents after.contents line
+
+-- It has the line of the fault.
 abbrev pub TellsFault : Printed → Printed → Fault → Type 0
-TellsFault before after fault =
-    after.failures ≡ before.failures → Appends before.contents after.contents (fault_line fault)
+TellsFault before after fault = Tells before after (fault_line fault)
+
+-- It has the line that says why the words of a command line can't be had.
+abbrev pub TellsRefusal : Printed → Printed → ErrorKind → Type 0
+TellsRefusal before after kind = Tells before after (refusal_line kind)

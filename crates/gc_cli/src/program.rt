@@ -2,11 +2,12 @@
 
 ghost use Rattle.std.specs.Prelude.{◌≡◌, ◌<◌, ◌⊎◌, OnOk};
 ghost use Rattle.std.specs.Io.KnownBytes.{Appends};
+ghost use Rattle.std.specs.IoError.{error_kind};
 ghost use Rattle.gc_file.specs.Counted.{CountsFailure};
 ghost use Rattle.gc_cli.specs.CarryOut.{HasCause};
 ghost use Rattle.gc_cli.specs.CommandLine.{IsMistaken};
 ghost use Rattle.gc_cli.specs.Ending.{IfFault};
-ghost use Rattle.gc_cli.specs.Serve.{IsDone, IsFaulty, TellsFault, fault_line};
+ghost use Rattle.gc_cli.specs.Serve.{IsDone, IsFaulty, TellsFault, TellsRefusal, fault_line, reason_of, refusal_line};
 
 use crate::command_line::CommandLine;
 use crate::ending::Ending;
@@ -67,18 +68,37 @@ pub fn serve<R: Threads + Wait + Sync, F: Files, O: Write, E: Write>(
     }
 }
 
-/// Says on `err` that the words of a command line can't be had, as where one is not UTF-8. The run ends as one whose words
-/// are no order.
-pub fn refuse_line<E: Write>(error: &io::Error, err: &mut E) -> Ending
-    ensures { result ≡ Ending.Usage }
+/// Says on `err` that the words of a command line can't be had, and why, as where one is not UTF-8. Where that fails,
+/// nobody can be told. The run ends as one whose words are no order.
+pub fn refuse_line<E: Write>(error: &io::Error, err: &mut Output<E>) -> Ending
+    ensures ending { result ≡ Ending.Usage }
+    ensures told { TellsRefusal err.old err.new (error_kind error.now) }
 {
-    let reason = match error.kind() {
+    let _ = write_refusal(error.kind(), err);
+    Ending::Usage
+}
+
+/// Writes the line that says why the words of a command line can't be had.
+fn write_refusal<E: Write>(kind: ErrorKind, err: &mut Output<E>) -> io::Result<()>
+    ensures printed { OnOk result (Appends err.old.contents err.new.contents (refusal_line kind)) }
+    ensures counted { CountsFailure result err.old.failures err.new.failures }
+{
+    writeln!(
+        err,
+        "error: the command line can't be read: {}",
+        reason_of(kind)
+    )
+}
+
+/// Why the words of a command line can't be had.
+fn reason_of(kind: ErrorKind) -> &'static str
+    ensures { result.now ≡ reason_of kind }
+{
+    match kind {
         ErrorKind::InvalidData => "a word is not UTF-8",
         ErrorKind::OutOfMemory => "out of memory",
         _ => "its words can't be had",
-    };
-    let _ = writeln!(err, "error: the command line can't be read: {reason}");
-    Ending::Usage
+    }
 }
 
 /// Says on standard error which fault ended the run. Where that fails, nobody can be told.

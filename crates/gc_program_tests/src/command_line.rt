@@ -1,6 +1,6 @@
 //! Tests of the words of command lines: help, orders, and words that are neither.
 
-use gc_cli::{Order, order_of, refuse_line};
+use gc_cli::{Ending, Order, Output, order_of, refuse_line};
 use gc_serving::{Closed, copies_of, serve_over};
 use gc_worked::circuits::{FULL_ADDER, SEED};
 use std::alloc::{AllocError, Global};
@@ -111,10 +111,10 @@ fn refuses_words_that_cannot_be_had(rt: HostRuntime) {
         ),
     ];
     for (kind, errors) in rows {
-        let mut err = Vec::new(rt.alloc());
-        assert_eq!(rt; refuse_line(&kind.into(), &mut err).status(), 2);
-        assert_eq!(rt; err.as_slice(), errors.as_bytes());
-        assert_eq!(rt; refuse_line(&kind.into(), &mut Closed).status(), 2);
+        let mut err = Output::new(Vec::new(rt.alloc()));
+        assert_eq!(rt; refuse_line(&kind.into(), &mut err), Ending::Usage);
+        assert_eq!(rt; err.into_inner().as_slice(), errors.as_bytes());
+        assert_eq!(rt; refuse_line(&kind.into(), &mut Output::new(Closed)), Ending::Usage);
     }
 }
 
