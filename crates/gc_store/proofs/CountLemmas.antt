@@ -8,7 +8,7 @@ use Rattle.gc_store.specs.Step.{Claims, ClaimsAll, Finishes, Reopens, reopened}
 use Rattle.gc_store.specs.declared.refusal.Refused.{Refused}
 use Rattle.gc_store.specs.declared.refusal.Refused.TheVariants.{NotClaimed, OtherInputs}
 use Rattle.gc_store.specs.Refusal.{sealed_of}
-use Rattle.gc_store.proofs.ListLemmas.{count_by-set, count_by-set_more}
+use Rattle.gc_queue.proofs.ListLemmas.{count_by-set, count_by-set_more}
 
 abbrev count : Content → ℕ
 count s = count_by is_finished s.states

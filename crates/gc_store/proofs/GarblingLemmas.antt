@@ -15,8 +15,8 @@ use Rattle.gc_half.specs.Garbling.{rows_of, IsGarbling, GarblingParts, IsGarbled
 use Rattle.gc_half.specs.Canonical.{zero_label_of}
 use Rattle.gc_half.proofs.GarblingLemmas.{IsGarbling-same}
 use Rattle.gc_half.proofs.CanonicalLemmas.{zero_label_of-input, zero_label_of-gate}
-use Rattle.gc_store.specs.declared.mark.Mark.{Mark}
-use Rattle.gc_store.specs.declared.mark.Mark.TheVariants as mark
+use Rattle.gc_queue.specs.declared.mark.Mark.{Mark}
+use Rattle.gc_queue.specs.declared.mark.Mark.TheVariants as mark
 use Rattle.gc_store.specs.Task.{task_of, sealed_rows}
 use Rattle.gc_store.specs.Content.{Finished, Content, IsKnown, AllFinished}
 use Rattle.gc_store.specs.Kept.{Tables, rows_at, finished_state, state_at, content_of, IsKept}

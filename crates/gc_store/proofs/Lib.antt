@@ -1,9 +1,5 @@
-pub mod ListLemmas
 pub mod BatchLemmas
 pub mod CircuitLemmas
-pub mod QueueLemmas
-pub mod ReadersLemmas
-pub mod WalkLemmas
 pub mod StepLemmas
 pub mod TableLemmas
 pub mod StoreLemmas

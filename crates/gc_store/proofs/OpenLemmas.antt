@@ -12,13 +12,13 @@ use Rattle.gc_label.specs.Seed.{offset_of}
 use Rattle.gc_half.specs.declared.garbling.RowPair.{RowPair}
 use Rattle.gc_half.specs.Canonical.{zero_label_of, input_zero}
 use Rattle.gc_half.proofs.CanonicalLemmas.{input_zero-input, input_zero-other, zero_label_of-input}
-use Rattle.gc_store.specs.declared.mark.Mark.{Mark}
-use Rattle.gc_store.specs.declared.mark.Mark.TheVariants as mark
-use Rattle.gc_store.specs.Readers.{unknown_reads, IsLinked}
-use Rattle.gc_store.specs.Opening.{is_below, countdown_from, opening_countdown}
+use Rattle.gc_queue.specs.declared.mark.Mark.{Mark}
+use Rattle.gc_queue.specs.declared.mark.Mark.TheVariants as mark
+use Rattle.gc_queue.specs.Readers.{unknown_reads, IsLinked}
+use Rattle.gc_queue.specs.Opening.{is_below, countdown_from, opening_countdown}
 use Rattle.gc_store.specs.Content.{Free, Finished, Content, is_finished, has_rows, IsFinished, IsKnown, IsLawfulContent, opened}
 use Rattle.gc_store.specs.Kept.{Tables, state_at, states_of, content_of, IsKept}
-use Rattle.gc_store.proofs.ListLemmas.{count_by-replicate, slice_get-replicate, slice_get-table}
+use Rattle.gc_queue.proofs.ListLemmas.{count_by-replicate, slice_get-replicate, slice_get-table}
 use Rattle.gc_store.proofs.TableLemmas.{known_label}
 
 -- the tables that a store begins with, and these countdowns and links

@@ -1,5 +1,5 @@
 -- Freeing all claimed gates: on marks, on contents and on the tables of a store.
-use Rattle.std.proofs.Common.{◌≡◌, ◌≢◌, ℕ, suc, ◌+◌, ◌*◌, ◌<◌, ◌≤◌, ◌↔◌, inl, inr, List, [], ◌∷◌, length, map, get_or, slice_get, Option, Some, None, option_map, true, false, cond, count_by, refl, sym, ap, ◌∙◌, subst, arith}
+use Rattle.std.proofs.Common.{◌≡◌, ◌≢◌, ℕ, ◌+◌, ◌*◌, ◌<◌, ◌↔◌, inl, inr, List, length, map, get_or, slice_get, Option, Some, None, option_map, true, false, cond, count_by, refl, sym, ap, ◌∙◌, subst, arith}
 use Rattle.std.proofs.Math.ListN.{get_or-map}
 use Rattle.std.proofs.lemmas.List.{length-map}
 use Rattle.std.proofs.lemmas.Option.{slice_get_within, slice_get-get_or, slice_get-map, get_or_from_slice_get}
@@ -13,33 +13,12 @@ use Rattle.gc_half.specs.declared.garbling.RowPair.{RowPair}
 use Rattle.gc_store.specs.Content.{State, Free, Claimed, Finished, Content, is_claimed, is_finished, has_rows, IsClaimed, IsKnown, IsLawfulContent}
 use Rattle.gc_store.specs.Step.{reopened, Reopens}
 use Rattle.gc_store.specs.Kept.{Tables, finished_state, state_at, states_of, content_of, IsKept}
-use Rattle.gc_store.specs.declared.mark.Mark.{Mark}
-use Rattle.gc_store.specs.declared.mark.Mark.TheVariants as mark
-use Rattle.gc_store.specs.Queue.{Standing, freed, is_busy}
-use Rattle.gc_store.proofs.ListLemmas.{count_by-map, count_by-both, count_by-found, count_by-some}
+use Rattle.gc_queue.specs.declared.mark.Mark.{Mark}
+use Rattle.gc_queue.specs.declared.mark.Mark.TheVariants as mark
+use Rattle.gc_queue.specs.Queue.{Standing, freed, is_busy}
+use Rattle.gc_queue.proofs.ListLemmas.{count_by-map, count_by-both, count_by-found, count_by-some}
 use Rattle.gc_store.proofs.TableLemmas.{state_is}
 use Rattle.gc_store.proofs.StoreLemmas.{with_queue}
-
--- ---- marks
-
--- from gate n on the claimed gates are free again
-pub record IsFreedFrom (n : ℕ) (was now : List Mark) : Type 0 where
-  pub count : length now ≡ length was
-  pub before : (k : ℕ) → k < n → slice_get now k ≡ slice_get was k
-  pub after : (k : ℕ) (m : Mark) → n ≤ k → slice_get was k ≡ Some m → slice_get now k ≡ Some (freed m)
-
-map_from : (was now : List Mark) → length now ≡ length was
-    → ((k : ℕ) (m : Mark) → slice_get was k ≡ Some m → slice_get now k ≡ Some (freed m)) → now ≡ map freed was
-map_from [] [] count each = refl
-map_from [] (n ∷ ns) count each = absurd (omega (arith, count))
-map_from (m ∷ ms) [] count each = absurd (omega (arith, count))
-map_from (m ∷ ms) (n ∷ ns) count each =
-    let first : n ≡ freed m = (let e = each 0 m refl in cc) in
-    ap (λ x. x ∷ ns) first
-    ∙ ap (λ l. freed m ∷ l) (map_from ms ns (omega (arith, count)) (λ k x at. each (suc k) x at))
-
-pub freed_all : (n : ℕ) (was now : List Mark) → n ≡ 0 → IsFreedFrom n was now → now ≡ map freed was
-freed_all n was now end h = map_from was now h.count (λ k m at. h.after k m (omega (arith, end)) at)
 
 -- ---- contents
 

@@ -16,7 +16,7 @@ use Rattle.gc_half.specs.OneGate.{gate_rows}
 use Rattle.gc_store.specs.Task.{task_of, sealed_zero_label, sealed_rows}
 use Rattle.gc_store.specs.Content.{State, Free, Claimed, Finished, Content, is_finished, has_rows, IsClaimed, IsFinished, IsKnown, MayGoNext, AllFinished, IsLawfulContent}
 use Rattle.gc_store.specs.Step.{with_state, with_sealed}
-use Rattle.gc_store.proofs.ListLemmas.{slice_get-set_other, slice_get-set_same, count_by-set, count_by-set_more, count_by-all, count_by-all_back}
+use Rattle.gc_queue.proofs.ListLemmas.{slice_get-set_other, slice_get-set_same, count_by-set, count_by-set_more, count_by-all, count_by-all_back}
 
 -- ---- what sealing a store's task gives
 

@@ -13,14 +13,14 @@ use Rattle.gc_circuit.proofs.Tables.{EachRead-below}
 use Rattle.gc_label.specs.Seed.{offset_of}
 use Rattle.gc_half.specs.declared.garbling.RowPair.{RowPair}
 use Rattle.gc_half.specs.Canonical.{zero_label_of}
-use Rattle.gc_store.specs.declared.mark.Mark.{Mark}
-use Rattle.gc_store.specs.declared.mark.Mark.TheVariants as mark
+use Rattle.gc_queue.specs.declared.mark.Mark.{Mark}
+use Rattle.gc_queue.specs.declared.mark.Mark.TheVariants as mark
 use Rattle.gc_store.specs.declared.task.Task.{Task}
 use Rattle.gc_half.specs.OneGate.{first_read, second_read}
 use Rattle.gc_half.proofs.OneGateLemmas.{first_read-local, second_read-local}
 use Rattle.gc_store.specs.Task.{task_of, sealed_zero_label, sealed_rows}
-use Rattle.gc_store.specs.Queue.{Standing, IsReady, with_mark, Takes}
-use Rattle.gc_store.specs.Readers.{reads_of, unknown, unknown_reads}
+use Rattle.gc_queue.specs.Queue.{Standing, IsReady, with_mark, Takes}
+use Rattle.gc_queue.specs.Readers.{reads_of, unknown, unknown_reads}
 use Rattle.gc_store.specs.Content.{Free, Claimed, Content, is_finished, IsClaimed, IsKnown, MayGoNext, AllFinished, IsLawfulContent}
 use Rattle.gc_store.specs.Step.{with_state, with_sealed, IsOwnTask, Claims}
 use Rattle.gc_store.specs.Kept.{Tables, finished_state, state_at, content_of, IsKept, ReadsKnown}

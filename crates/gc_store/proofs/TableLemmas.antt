@@ -12,18 +12,18 @@ use Rattle.gc_circuit.specs.declared.circuit.Gate.{Gate}
 use Rattle.gc_circuit.specs.Circuit.{Netlist, IsLawful, is_and, and_number, and_count}
 use Rattle.gc_half.specs.declared.garbling.RowPair.{RowPair}
 use Rattle.gc_half.specs.Canonical.{zero_label_of}
-use Rattle.gc_store.specs.declared.mark.Mark.{Mark}
-use Rattle.gc_store.specs.declared.mark.Mark.TheVariants as mark
+use Rattle.gc_queue.specs.declared.mark.Mark.{Mark}
+use Rattle.gc_queue.specs.declared.mark.Mark.TheVariants as mark
 use Rattle.gc_store.specs.declared.task.Task.{Task}
 use Rattle.gc_half.specs.Hash.{hash}
 use Rattle.gc_half.specs.OneGate.{gate_rows}
 use Rattle.gc_store.specs.Task.{task_of, sealed_zero_label, sealed_rows}
-use Rattle.gc_store.specs.Queue.{Standing}
-use Rattle.gc_store.specs.Readers.{first_wire, second_wire, is_wire, reads_of, unknown, unknown_reads}
+use Rattle.gc_queue.specs.Queue.{Standing}
+use Rattle.gc_queue.specs.Readers.{first_wire, second_wire, is_wire, reads_of, unknown, unknown_reads}
 use Rattle.gc_store.specs.Content.{Free, Claimed, Finished, Content, is_finished, IsClaimed, IsKnown, MayGoNext, IsLawfulContent}
 use Rattle.gc_store.specs.Step.{with_state, with_sealed}
 use Rattle.gc_store.specs.Kept.{Tables, rows_at, finished_state, state_at, states_of, content_of, IsKept}
-use Rattle.gc_store.proofs.ListLemmas.{slice_get-set_other, slice_get-set_same, count_by-set, count_by-set_more, slice_get-table, set-table_is}
+use Rattle.gc_queue.proofs.ListLemmas.{slice_get-set_other, slice_get-set_same, count_by-set, count_by-set_more, slice_get-table, set-table_is}
 use Rattle.gc_store.proofs.CircuitLemmas.{set-apart, and_number-apart, and_number-lt}
 use Rattle.gc_store.proofs.StepLemmas.{sealed_zero_label_is, known-claim, known-claim_back, claim_lawful, known-finish, known-finish_set, known-finish_back, finish_lawful}
 

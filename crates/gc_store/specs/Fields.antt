@@ -6,8 +6,8 @@ abbrev pub tables_of : {A : Type 0} → Inside A → Tables
 tables_of s = record {
   marks = s.queue.marks;
   countdowns = s.queue.countdowns;
-  firsts = s.readers.firsts.items;
-  nexts = s.readers.nexts.items;
+  firsts = s.readers.firsts;
+  nexts = s.readers.nexts;
   zero_labels = s.zero_labels.items;
   and_numbers = s.and_numbers.items;
   rows = s.rows;

@@ -4,9 +4,6 @@ pub mod Account
 pub mod Batch
 pub mod Step
 pub mod Refusal
-pub mod Queue
-pub mod Readers
-pub mod Opening
 pub mod Kept
 pub mod Fields
 pub mod Shared

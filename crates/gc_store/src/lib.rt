@@ -6,15 +6,11 @@
 #![tactic(auto)]
 
 mod batch;
-mod mark;
 mod progress;
-mod queue;
-mod readers;
 mod refusal;
 mod shared;
 mod store;
 mod table;
-mod tables;
 mod tally;
 mod task;
 

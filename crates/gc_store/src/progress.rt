@@ -7,15 +7,13 @@ ghost use Rattle.gc_store.specs.Step.{IsOwnTask, with_sealed, Claims, ClaimsSome
 ghost use Rattle.gc_store.specs.Kept.{ReadsKnown};
 
 use crate::batch::Batch;
-use crate::queue::Queue;
-use crate::readers::Readers;
 use crate::refusal::Refused;
 use crate::table::Table;
-use crate::tables::opening_countdowns;
 use crate::task::{Sealed, Task};
 use gc_circuit::{Circuit, Memory};
 use gc_half::{Garbling, RowPair, and_numbers, input_zero_labels, labels_read};
 use gc_label::{Label, Offset, Seed, offset};
+use gc_queue::{Queue, Readers, opening_countdowns};
 use std::alloc::{Allocator, Global};
 use std::marker::Model;
 
@@ -102,8 +100,8 @@ impl<A: Allocator> Progress<A> {
         self.circuit.equals(circuit) && self.seed == *seed
     }
 
-    /// Claims a gate that may go next, the one that may do so for longest, and answers its task; or None, exactly
-    /// where no gate may go next.
+    /// Claims a gate that may go next, the first of these in file order, and answers its task; or None, exactly where no
+    /// gate may go next.
     #[inline]
     pub(crate) fn claim(&mut self) -> Option<Task>
         ensures { Claims self.old result self.new }

@@ -110,8 +110,8 @@ impl<L: Ledger, A: Allocator> Store<L, A> {
         Some(Tally::new(share))
     }
 
-    /// Claims a gate that may go next, the one that may do so for longest, and answers its task; or None, exactly
-    /// where no gate may go next.
+    /// Claims a gate that may go next, the first of these in file order, and answers its task; or None, exactly where no
+    /// gate may go next.
     #[inline]
     pub fn claim(&mut self) -> Option<Task>
         ensures step { Claims self.old.content result self.new.content }

@@ -42,7 +42,7 @@ fn opens_anew(heap: &Refusing<Global>, circuit: &Circuit) -> Answer {
 fn opening_a_store(rt: HostRuntime) -> Result<(), Fail> {
     let circuit = Circuit::read(rt.alloc(), FULL_ADDER.as_bytes())?;
     let refused = runs_refused(rt.alloc(), |heap| opens_anew(heap, &circuit));
-    assert_eq!(rt; refused, Ok(11));
+    assert_eq!(rt; refused, Ok(12));
     Ok(())
 }
 

@@ -1,7 +1,7 @@
 use Rattle.std.proofs.Common.{length, replicate, ap, ◌∙◌, subst, arith}
 use Rattle.gc_circuit.specs.Circuit.{Netlist, IsLawful}
 use Rattle.gc_half.specs.declared.garbling.RowPair.{RowPair}
-use Rattle.gc_store.specs.declared.mark.Mark.TheVariants as mark
+use Rattle.gc_queue.specs.declared.mark.Mark.TheVariants as mark
 use Rattle.gc_store.proofs.OpenLemmas.{opening_count, opening_positive, counted_as, opened_kept_as, opened_content_as}
 use Rattle.gc_store.proofs.progress.Progress.open.Goals as goal
 
@@ -25,7 +25,7 @@ invariant_of-result g c =
     let circuit : Netlist = c.args.circuit in
     let opening = c.in_ok-opening_countdowns.ensures in
     opened_kept_as circuit (subst IsLawful c.circuit.view_is c.circuit.invariant.lawful) c.args.seed no_rows
-    c.in_ok-open.field-0.countdowns c.in_ok-of.field-0.firsts.items c.in_ok-of.field-0.nexts.items
+    c.in_ok-open.field-0.countdowns c.in_ok-of.field-0.firsts c.in_ok-of.field-0.nexts
     (counted_as circuit _ _ opening c.in_ok-open.ensures.count c.in_ok-open.ensures.countdowns) c.in_ok-of.ensures
     _ _ _ _ (record {
       marks_are = c.in_ok-open.ensures.marks ∙ ap (λ n. replicate n mark.Free) (opening_count circuit _ opening);
@@ -39,7 +39,7 @@ returns g c =
     let circuit : Netlist = c.args.circuit in
     let opening = c.in_ok-opening_countdowns.ensures in
     opened_content_as circuit (subst IsLawful c.circuit.view_is c.circuit.invariant.lawful) c.args.seed no_rows
-    c.in_ok-open.field-0.countdowns c.in_ok-of.field-0.firsts.items c.in_ok-of.field-0.nexts.items
+    c.in_ok-open.field-0.countdowns c.in_ok-of.field-0.firsts c.in_ok-of.field-0.nexts
     (counted_as circuit _ _ opening c.in_ok-open.ensures.count c.in_ok-open.ensures.countdowns) c.in_ok-of.ensures
     _ _ _ _ (record {
       marks_are = c.in_ok-open.ensures.marks ∙ ap (λ n. replicate n mark.Free) (opening_count circuit _ opening);

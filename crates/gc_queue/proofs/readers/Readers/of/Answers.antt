@@ -1,0 +1,25 @@
+use Rattle.std.proofs.Common.{◌≡◌, ◌*◌, ℕ, subst, arith}
+use Rattle.gc_queue.specs.Readers.{IsLinkedFrom}
+use Rattle.gc_queue.proofs.ReadersLemmas.{unlinked, link_no_wire, link_wire}
+use Rattle.gc_queue.proofs.readers.Readers.of.Goals as goal
+
+pub loop-read-init : goal.loop-read-init
+loop-read-init g c =
+    unlinked c.args.circuit.now (2 * c.gates-reads.result) c.wires.result c.in_ok-firsts.firsts.items
+    c.in_ok-nexts.nexts.items (omega (arith, c.gates-reads.ensures.count)) c.wires.ensures.count
+    c.in_ok-firsts.ensures c.in_ok-nexts.ensures
+
+pub loop-read-preserved-in-Some : goal.loop-read-preserved-in-Some
+loop-read-preserved-in-Some g c =
+    link_wire c.args.circuit.now c.gates-reads.ensures.lawful c.loop-read.read _ _ c.in-Some.wire c.index.result.now
+    c.loop-read-test.true c.loop-read.invariant c.in-Some.ensures c.index.ensures
+
+pub loop-read-preserved : goal.loop-read-preserved
+loop-read-preserved g c =
+    link_no_wire c.args.circuit.now c.gates-reads.ensures.lawful c.loop-read.read _ _ c.loop-read-test.true
+    c.loop-read.invariant c.in_default.ensures
+
+pub returns : goal.returns
+returns g c =
+    let P : ℕ → Type 0 = λ x. IsLinkedFrom c.args.circuit.now x c.loop-read.firsts.items c.loop-read.nexts.items in
+    subst P (let z : c.loop-read.read ≡ 0 = omega (arith, c.loop-read-test.false) in z) c.loop-read.invariant

@@ -1,0 +1,4 @@
+pub mod GateSet
+pub mod Queue
+pub mod Readers
+pub mod Opening

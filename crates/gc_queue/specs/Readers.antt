@@ -1,0 +1,74 @@
+-- The reads of a circuit's gates, and the list of those of each wire.
+use Rattle.std.specs.Prelude.{◌≡◌, ℕ, ◌+◌, ◌*◌, ◌<◌, ◌≤◌, ◌⊎◌, ◌==◌, if◌then◌else◌, Bool, List, length, Option, Some, None, slice_get, slice_index}
+use Rattle.gc_circuit.specs.declared.circuit.Operation.{Operation}
+use Rattle.gc_circuit.specs.declared.circuit.Operation.TheVariants.{Xor, And, Inv, Eq, Eqw}
+use Rattle.gc_circuit.specs.declared.circuit.Gate.{Gate}
+use Rattle.gc_circuit.specs.Circuit.{Netlist}
+
+-- The reads as lists: for each wire its first read, and for each read the next one of its wire.
+pub record Links : Type 0 where
+  pub firsts : List ℕ
+  pub nexts : List ℕ
+
+-- the wire that an operation reads first,
+abbrev pub first_wire : Operation → Option ℕ
+first_wire (Xor a b) = Some a
+first_wire (And a b) = Some a
+first_wire (Inv a) = Some a
+first_wire (Eq v) = None
+first_wire (Eqw a) = Some a
+
+-- and the one that it reads second
+abbrev pub second_wire : Operation → Option ℕ
+second_wire (Xor a b) = Some b
+second_wire (And a b) = Some b
+second_wire (Inv a) = None
+second_wire (Eq v) = None
+second_wire (Eqw a) = None
+
+-- whether a read of an operation is of wire w, as 1 or 0
+abbrev pub is_wire : ℕ → Option ℕ → ℕ
+is_wire w None = 0
+is_wire w (Some v) = if v == w then 1 else 0
+
+-- How many reads of an operation are of wire w.
+abbrev pub reads_of : ℕ → Operation → ℕ
+reads_of w op = is_wire w (first_wire op) + is_wire w (second_wire op)
+
+-- How many reads of an operation are of wires that are not known.
+abbrev pub unknown : (ℕ → Bool) → Option ℕ → ℕ
+unknown known None = 0
+unknown known (Some w) = if known w then 0 else 1
+
+abbrev pub unknown_reads : (ℕ → Bool) → Operation → ℕ
+unknown_reads known op = unknown known (first_wire op) + unknown known (second_wire op)
+
+-- How many reads there may be. Gate i has reads 2 * i and 2 * i + 1, if it reads a wire first and second.
+abbrev pub read_count : Netlist → ℕ
+read_count c = 2 * length c.gates
+
+-- Read r is of wire w.
+pub record IsRead (c : Netlist) (r w : ℕ) : Type 0 where
+  pub place : ℕ
+  pub gate : Gate
+  pub at : slice_get c.gates place ≡ Some gate
+  pub which : ((r ≡ 2 * place) × (first_wire gate.operation ≡ Some w))
+      ⊎ ((r ≡ 2 * place + 1) × (second_wire gate.operation ≡ Some w))
+
+-- Read r is the first read of wire w from read `start` on. Where there is none, r is past all reads.
+pub record IsNextRead (c : Netlist) (w start r : ℕ) : Type 0 where
+  pub after : start ≤ r
+  pub none_between : (k : ℕ) → start ≤ k → k < r → ¬ IsRead c k w
+  pub ends : r ≤ read_count c
+  pub here : r < read_count c → IsRead c r w
+
+-- From read `start` on, each wire has its first read, and each read the next read of its wire.
+pub record IsLinkedFrom (c : Netlist) (start : ℕ) (firsts nexts : List ℕ) : Type 0 where
+  pub wires : length firsts ≡ c.wires
+  pub reads : length nexts ≡ read_count c
+  pub first : (w : ℕ) → w < c.wires → IsNextRead c w start (slice_index firsts w)
+  pub next : (r w : ℕ) → start ≤ r → IsRead c r w → IsNextRead c w (r + 1) (slice_index nexts r)
+
+-- The reads of each wire are linked.
+abbrev pub IsLinked : Netlist → List ℕ → List ℕ → Type 0
+IsLinked c = IsLinkedFrom c 0
