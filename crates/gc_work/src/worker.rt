@@ -50,9 +50,9 @@ fn share_batch<A: Allocator>(
     None
 }
 
-/// Pushes the tasks of the first batch but one, for others to steal. Where gates are plenty, so that the other
-/// batches have tasks too, it pushes none: the others find gates in the store, and a pool's work is saved. A task
-/// that the pool has no room for comes back.
+/// Pushes the tasks of the first batch but one, for others to steal, where it isn't full: then the store has no more
+/// gates that may go next. Else the others find gates there, and a pool's work is saved. A task that the pool has no
+/// room for comes back.
 fn share<A: Allocator>(
     pool: &TaskPool<A>,
     owner: &mut Owner<A>,
@@ -61,11 +61,11 @@ fn share<A: Allocator>(
     requires { owner.old.pool ≡ pool.now }
     ensures { owner.new.pool ≡ owner.old.pool }
 {
-    let (first, others) = batches.split_first_mut()?;
-    match others.first() {
-        Some(batch) if !batch.is_empty() => None,
-        _ => share_batch(pool, owner, first),
+    let first = batches.first_mut()?;
+    if first.len() == BATCH_SIZE {
+        return None;
     }
+    share_batch(pool, owner, first)
 }
 
 /// A task of the batches.
