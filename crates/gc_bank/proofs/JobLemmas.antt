@@ -5,10 +5,10 @@ use Rattle.std.proofs.lemmas.Option.{slice_get_within, slice_get-get_or}
 use mathlib.Core.Logic.{dite}
 use native.Mathlib.Decide.{ℕ_discrete}
 use Rattle.gc_circuit.specs.Circuit.{Netlist}
-use Rattle.gc_eval.specs.declared.fault.EvalFault.{EvalFault}
-use Rattle.gc_eval.specs.declared.fault.EvalFault.TheVariants.{BadWorkers, UnknownOutputLabel, Memory}
-use Rattle.gc_eval.specs.Job.{JobParts}
-use Rattle.gc_eval.specs.Evaluate.{IsEvaluated}
+use Rattle.gc_job.specs.declared.fault.EvalFault.{EvalFault}
+use Rattle.gc_job.specs.declared.fault.EvalFault.TheVariants.{BadWorkers, UnknownOutputLabel, Memory}
+use Rattle.gc_job.specs.Job.{JobParts}
+use Rattle.gc_job.specs.Evaluate.{IsEvaluated}
 use Rattle.gc_bank.specs.Workers.{AreBitsOf}
 use Rattle.gc_bank.specs.Jobs.{AreOn, AreOnOneCircuit, EvaluateTo, IsFirstUnknownJob}
 

@@ -1,5 +1,5 @@
 -- Calls one after another, inside a round.
-use Rattle.std.proofs.Common.{◌≡◌, ◌≢◌, ℕ, ◌+◌, ◌*◌, ◌%◌, ◌<◌, ◌≤◌, List, [], ◌∷◌, ◌++◌, refl, ap, ◌∙◌, subst, arith, append_assoc, length-append, sym, slice_get, length, Some, inl, inr, ⊎_elim, ◌⊎◌, cond, eqb, eq-eqb, ne_eqb, MatchOption, zero, suc, take, slice_index, get_or, Result, Ok, Err, IfErr, MatchResult}
+use Rattle.std.proofs.Common.{◌≡◌, ◌≢◌, ℕ, ◌+◌, ◌*◌, ◌%◌, ◌<◌, ◌≤◌, List, [], ◌∷◌, ◌++◌, refl, ap, ◌∙◌, subst, arith, append_assoc, length-append, sym, slice_get, length, Some, inl, inr, ⊎_elim, ◌⊎◌, cond, eq-eqb, ne_eqb, MatchOption, zero, suc, take, Result, Ok, Err, IfErr, MatchResult}
 use mathlib.Core.Logic.{dite}
 use native.Mathlib.Decide.{dec_le, ℕ_discrete}
 use Rattle.atomic_table.specs.Seated.{TableId}
@@ -20,13 +20,14 @@ use Rattle.gc_round_board.specs.Board.{at, stamp}
 use Rattle.gc_round_board.specs.Steps.{learnt, joined, after_claim, after_stored, after_done}
 use Rattle.gc_round_board.specs.declared.view.Hand.TheVariants.{Empty}
 use Rattle.gc_round_board.specs.Places.{IsBoardPlace}
-use Rattle.gc_eval.specs.Job.{JobParts}
-use Rattle.gc_eval.specs.Evaluate.{labels_of}
-use Rattle.gc_eval.specs.Views.{first_of, second_of, IsMadeNow}
+use Rattle.gc_job.specs.Job.{JobParts}
+use Rattle.gc_job.specs.Evaluate.{labels_of}
+use Rattle.gc_job.specs.Wiring.{first_of, second_of}
+use Rattle.gc_eval.specs.Views.{IsMadeNow}
 use Rattle.gc_eval.specs.declared.seat.Answer.{Answer}
 use Rattle.gc_eval.specs.declared.seat.Answer.TheVariants.{Made, Done, Taken, NotYet}
 use Rattle.gc_eval.proofs.BoardLabels.{active_solves}
-use Rattle.gc_eval.proofs.WiringLemmas.{set_once, input_not_set, set_within}
+use Rattle.gc_job.proofs.WiringLemmas.{set_once, input_not_set, set_within}
 use Rattle.gc_bank.specs.Rounds.{gates_of, IsRound}
 use Rattle.gc_bank.specs.Seats.{InRound, round_in}
 use Rattle.gc_bank.specs.Views.{Stays, made_now, made_after, IsAlone, SetsMade, ReadsMade, FirstLacking, AnswersAlone, sighting, sightings, Seen, Ran, Saw, SawUndone, Got, Lacks, Says, Answers, AnswersTwo, IsReady}

@@ -3,10 +3,10 @@ use Rattle.std.specs.Prelude.{◌≡◌, ℕ, ◌<◌, ◌⊎◌, Bool, List, le
 use Rattle.gc_circuit.specs.Circuit.{Netlist}
 use Rattle.gc_gatehouse.specs.declared.TheConstants.{MAX_WORKERS}
 use Rattle.gc_gatehouse.specs.Workers.{AreFew}
-use Rattle.gc_eval.specs.declared.fault.EvalFault.{EvalFault}
-use Rattle.gc_eval.specs.declared.fault.EvalFault.TheVariants.{BadWorkers, UnknownOutputLabel, Memory}
-use Rattle.gc_eval.specs.Job.{JobParts}
-use Rattle.gc_eval.specs.Evaluate.{IsEvaluated}
+use Rattle.gc_job.specs.declared.fault.EvalFault.{EvalFault}
+use Rattle.gc_job.specs.declared.fault.EvalFault.TheVariants.{BadWorkers, UnknownOutputLabel, Memory}
+use Rattle.gc_job.specs.Job.{JobParts}
+use Rattle.gc_job.specs.Evaluate.{IsEvaluated}
 
 -- The first n jobs are on this circuit.
 abbrev pub AreOn : Netlist → List JobParts → ℕ → Type 0

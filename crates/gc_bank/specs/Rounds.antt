@@ -1,7 +1,7 @@
 -- What the rounds of two banks are about: round r is the job at place r of a list, whose jobs are on one circuit.
 use Rattle.std.specs.Prelude.{◌≡◌, ℕ, List, slice_get, Option, Some, None}
-use Rattle.gc_eval.specs.Job.{JobParts}
-use Rattle.gc_eval.specs.ActiveLabels.{gates_of as gates_in, IsRightHalf}
+use Rattle.gc_job.specs.Job.{JobParts}
+use Rattle.gc_job.specs.ActiveLabels.{gates_of as gates_in, IsRightHalf}
 
 -- how many gates the first job's circuit has, which is that of all
 abbrev pub gates_by : Option JobParts → ℕ

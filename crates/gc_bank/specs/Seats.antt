@@ -5,7 +5,7 @@ use Rattle.gc_rounds.specs.declared.view.Stand.TheVariants.{Outside, Inside, Pas
 use Rattle.gc_round_board.specs.declared.view.Hand.TheVariants.{Empty}
 use Rattle.gc_round_board.specs.Places.{IsBoardPlace}
 use Rattle.gc_rounds.specs.Places.{IsSamePlace}
-use Rattle.gc_eval.specs.Job.{JobParts}
+use Rattle.gc_job.specs.Job.{JobParts}
 use Rattle.gc_bank.specs.Rounds.{gates_of}
 use Rattle.gc_bank.specs.Views.{Seen}
 use Rattle.gc_bank.specs.declared.seat.BankSeat.{BankSeat}

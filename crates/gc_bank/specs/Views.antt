@@ -10,9 +10,10 @@ use Rattle.gc_rounds.specs.declared.view.Step.TheVariants.{Load, Store, Claim, E
 use Rattle.gc_round_board.specs.Pairs.{pairs, looked}
 use Rattle.gc_round_board.specs.Board.{at, stamp}
 use Rattle.gc_round_board.specs.declared.view.BoardView.{BoardView}
-use Rattle.gc_eval.specs.Job.{JobParts}
-use Rattle.gc_eval.specs.ActiveLabels.{active, active_from, set_of}
-use Rattle.gc_eval.specs.Views.{Reads, first_of, second_of}
+use Rattle.gc_job.specs.Job.{JobParts}
+use Rattle.gc_job.specs.ActiveLabels.{active, active_from, set_of}
+use Rattle.gc_job.specs.Wiring.{first_of, second_of}
+use Rattle.gc_eval.specs.Views.{Reads}
 use Rattle.gc_eval.specs.declared.seat.Answer.{Answer}
 use Rattle.gc_eval.specs.declared.seat.Answer.TheVariants.{Made, Done, Taken, NotYet}
 use Rattle.gc_bank.specs.declared.step.Ready.{Ready}

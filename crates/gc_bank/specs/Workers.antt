@@ -1,8 +1,8 @@
 -- The workers of an evaluation of a list of jobs.
 use Rattle.std.specs.Prelude.{◌≡◌, ℕ, ◌<◌, Bool, List, All, Option, Some, Vec, IfSome, Ok, length, slice_get, slice_index_or}
 use Rattle.gc_rounds.specs.declared.view.Stand.TheVariants.{Outside}
-use Rattle.gc_eval.specs.Job.{JobParts}
-use Rattle.gc_eval.specs.Evaluate.{IsEvaluated}
+use Rattle.gc_job.specs.Job.{JobParts}
+use Rattle.gc_job.specs.Evaluate.{IsEvaluated}
 use Rattle.gc_bank.specs.Seats.{IsSeatOf, view, jobs_on}
 use Rattle.gc_bank.specs.declared.seat.Banks.{Banks}
 use Rattle.gc_bank.specs.declared.worker.Outputs.{Outputs}

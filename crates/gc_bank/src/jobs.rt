@@ -2,8 +2,8 @@
 
 ghost use Rattle.std.specs.Prelude.{◌≤◌, ◌<◌, length, map, IfOk, IfSome, Ok, List};
 ghost use Rattle.std.specs.Result.{result_map_both};
-ghost use Rattle.gc_eval.specs.Evaluate.{IsEvaluated};
-ghost use Rattle.gc_eval.specs.Job.{JobParts};
+ghost use Rattle.gc_job.specs.Evaluate.{IsEvaluated};
+ghost use Rattle.gc_job.specs.Job.{JobParts};
 ghost use Rattle.gc_bank.specs.Jobs.{AreOnOneCircuit, AreEvaluatedBy, EvaluateTo};
 ghost use Rattle.gc_bank.specs.Workers.{AreBitsOf, AreKnown};
 

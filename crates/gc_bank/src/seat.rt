@@ -4,7 +4,7 @@ ghost use Rattle.std.specs.Prelude.{◌≡◌, ℕ, ◌<◌, ◌≤◌, ◌-◌,
 ghost use Rattle.gc_rounds.specs.declared.view.Stand.TheVariants.{Outside, Inside};
 ghost use Rattle.gc_round_board.specs.declared.view.Hand.TheVariants.{Empty};
 ghost use Rattle.gc_round_board.specs.Places.{IsBoard};
-ghost use Rattle.gc_eval.specs.Job.{JobParts};
+ghost use Rattle.gc_job.specs.Job.{JobParts};
 ghost use Rattle.gc_bank.specs.Rounds.{gates_of};
 
 use crate::series::Series;

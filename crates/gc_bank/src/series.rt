@@ -13,7 +13,7 @@ pub struct Series<B: Allocator = Global, A: Allocator = Global, C: Allocator = G
 
 impl<B: Allocator, A: Allocator, C: Allocator> Model for Series<B, A, C> {
     ghost use Rattle.std.specs.Prelude.{List};
-    ghost use Rattle.gc_eval.specs.Job.{JobParts};
+    ghost use Rattle.gc_job.specs.Job.{JobParts};
 
     ghost Value = { List JobParts };
 

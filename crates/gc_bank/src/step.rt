@@ -6,7 +6,7 @@ ghost use Rattle.gc_round_board.specs.declared.view.Hand.TheVariants.{Empty};
 ghost use Rattle.gc_round_board.specs.Pairs.{pairs, looked};
 ghost use Rattle.gc_round_board.specs.Board.{stamp};
 ghost use Rattle.gc_round_board.specs.Places.{IsPlaceInside, IsPlaceAt};
-ghost use Rattle.gc_eval.specs.ActiveLabels.{gates_of as gates_in, active, set_of, active_from};
+ghost use Rattle.gc_job.specs.ActiveLabels.{gates_of as gates_in, active, set_of, active_from};
 ghost use Rattle.gc_eval.specs.Views.{Reads, IsMadeNow};
 ghost use Rattle.gc_bank.specs.Rounds.{gates_of, IsRound};
 ghost use Rattle.gc_bank.specs.Views.{Stays, made_now, Ran, Got, Lacks, Says, Answers, AnswersTwo, IsReady, Knows, IsAlone, SetsMade, ReadsMade, FirstLacking, AnswersAlone, AnswersTwoAlone};

@@ -1,7 +1,7 @@
 //! Workers that evaluate a list of jobs together.
 
 ghost use Rattle.std.specs.Prelude.{◌≡◌, ◌<◌, ◌≤◌, length, IfOk, IfSome, List};
-ghost use Rattle.gc_eval.specs.Job.{JobParts};
+ghost use Rattle.gc_job.specs.Job.{JobParts};
 ghost use Rattle.gc_bank.specs.Jobs.{AreOnOneCircuit};
 ghost use Rattle.gc_bank.specs.Seats.{jobs_on};
 ghost use Rattle.gc_bank.specs.Workers.{AreBitsOf, AreKnown, IsWorkerOf, AreWorkersOf};

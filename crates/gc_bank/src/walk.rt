@@ -2,12 +2,11 @@
 
 ghost use Rattle.std.specs.Prelude.{◌≡◌, ◌<◌, length};
 ghost use Rattle.gc_rounds.specs.declared.view.Stand.TheVariants.{Inside};
-ghost use Rattle.gc_eval.specs.ActiveLabels.{gates_of};
+ghost use Rattle.gc_job.specs.ActiveLabels.{gates_of};
 ghost use Rattle.gc_bank.specs.Seats.{IsSeatOf, IsInside, InRound, view, jobs_on};
 
 use crate::seat::{BankSeat, Banks};
-use gc_circuit::Operation;
-use gc_eval::{Answer, NumberSet, first_wire, second_wire};
+use gc_eval::{Answer, NumberSet, reads};
 use gc_gatehouse::Gatehouse;
 use std::alloc::{AllocError, Allocator};
 
@@ -120,11 +119,6 @@ fn step_both<'j, 'c, B: Allocator, A: Allocator, C: Allocator, H: Gatehouse>(
     house.before(walk.number, second);
     let answers = banks.step_two(seat, first, second);
     walk.note_two(first, second, answers);
-}
-
-/// Whether an operation reads a wire.
-fn reads(operation: Operation, wire: u32) -> bool {
-    first_wire(operation) == Some(wire) || second_wire(operation) == Some(wire)
 }
 
 /// A pass over these gates, in file order, but for those that the walk passes by. An AND gate waits for the next one,

@@ -3,9 +3,9 @@
 ghost use Rattle.std.specs.Prelude.{◌≡◌, ℕ, ◌+◌, ◌<◌, length, All, IfSome, IfOk, Some, Ok, slice_get};
 ghost use Rattle.gc_rounds.specs.declared.view.Stand.TheVariants.{Outside, Inside};
 ghost use Rattle.gc_circuit.specs.Solution.{on_outputs};
-ghost use Rattle.gc_eval.specs.Job.{JobParts};
-ghost use Rattle.gc_eval.specs.ActiveLabels.{active};
-ghost use Rattle.gc_eval.specs.Evaluate.{IsEvaluated};
+ghost use Rattle.gc_job.specs.Job.{JobParts};
+ghost use Rattle.gc_job.specs.ActiveLabels.{active};
+ghost use Rattle.gc_job.specs.Evaluate.{IsEvaluated};
 ghost use Rattle.gc_bank.specs.Seats.{IsSeatOf, IsNew, view, jobs_on};
 ghost use Rattle.gc_bank.specs.Workers.{AreBitsOf, IsWorkerOf};
 

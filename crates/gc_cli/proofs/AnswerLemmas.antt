@@ -6,8 +6,8 @@ use Rattle.gc_circuit.specs.Circuit.{Netlist, IsLawful, output_wires}
 use Rattle.gc_circuit.specs.Meaning.{AreOutputs}
 use Rattle.gc_file.specs.GarbledFile.{GarbledParts}
 use Rattle.gc_file.specs.LabelFile.{LabelFileParts}
-use Rattle.gc_eval.specs.Job.{JobParts}
-use Rattle.gc_eval.proofs.OutputLemmas.{bound-whole, length-evaluated}
+use Rattle.gc_job.specs.Job.{JobParts}
+use Rattle.gc_job.proofs.OutputLemmas.{bound-whole, length-evaluated}
 use Rattle.gc_cli.specs.Job.{DecodeTo}
 
 -- what holds of an answer holds of it where `map_err` passes it on

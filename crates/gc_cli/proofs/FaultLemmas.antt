@@ -2,8 +2,8 @@
 use Rattle.std.proofs.Common.{◌≡◌, ◌≢◌, refl}
 use Rattle.gc_file.specs.declared.fault.FileFault.{FileFault}
 use Rattle.gc_file.specs.declared.fault.FileFault.TheVariants as file
-use Rattle.gc_eval.specs.declared.fault.BindFault.{BindFault}
-use Rattle.gc_eval.specs.declared.fault.BindFault.TheVariants as bind
+use Rattle.gc_job.specs.declared.fault.BindFault.{BindFault}
+use Rattle.gc_job.specs.declared.fault.BindFault.TheVariants as bind
 
 -- Where no fault holds, one that holds unless it is Memory is Memory.
 pub file-memory : (Holds : FileFault → Type 0) → ((e : FileFault) → Holds e → ⊥) → (e : FileFault)

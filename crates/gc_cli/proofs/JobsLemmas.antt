@@ -6,7 +6,7 @@ use Rattle.gc_file.specs.declared.fault.FileFault.{FileFault}
 use Rattle.gc_file.specs.GarbledFile.{GarbledParts, IsGarbledFile}
 use Rattle.gc_file.specs.LabelFile.{LabelFileParts}
 use Rattle.gc_file.specs.FileFault.{FirstFault}
-use Rattle.gc_eval.specs.Job.{JobParts}
+use Rattle.gc_job.specs.Job.{JobParts}
 use Rattle.gc_bank.specs.Jobs.{AreEvaluated, AreOnOneCircuit}
 use Rattle.gc_cli.specs.declared.fault.Fault.{Fault}
 use Rattle.gc_cli.specs.declared.fault.Fault.TheVariants as faults

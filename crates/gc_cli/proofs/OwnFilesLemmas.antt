@@ -15,8 +15,8 @@ use Rattle.gc_file.specs.LabelFile.{LabelFileParts, IsLabelFile, label_file, lab
 use Rattle.gc_file.specs.Honest.{honest_parts}
 use Rattle.gc_file.proofs.OneFile.{one_file}
 use Rattle.gc_file.proofs.WrittenFiles.{are_files}
-use Rattle.gc_eval.specs.Honest.{IsHonestGarbled, IsHonestLabels, AreHonestFiles}
-use Rattle.gc_eval.proofs.TakeLemmas.{slice_get-take, slice_get_taken}
+use Rattle.gc_job.specs.Honest.{IsHonestGarbled, IsHonestLabels, AreHonestFiles}
+use Rattle.gc_job.proofs.TakeLemmas.{slice_get-take, slice_get_taken}
 use Rattle.gc_cli.specs.OwnFiles.{AreGarbledBytes, AreLabelsOf}
 
 -- The bytes of the garbled file are a garbled file,

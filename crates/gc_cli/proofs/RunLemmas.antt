@@ -4,10 +4,10 @@ use Rattle.gc_circuit.specs.Circuit.{Netlist, IsLawful}
 use Rattle.gc_circuit.specs.Meaning.{AreOutputs}
 use Rattle.gc_file.specs.GarbledFile.{GarbledParts}
 use Rattle.gc_file.specs.LabelFile.{LabelFileParts}
-use Rattle.gc_eval.specs.declared.fault.EvalFault.TheVariants as eval
-use Rattle.gc_eval.specs.Binding.{FirstBindFault}
-use Rattle.gc_eval.specs.Honest.{AreHonestFiles}
-use Rattle.gc_eval.proofs.HonestFiles.{honest-files}
+use Rattle.gc_job.specs.declared.fault.EvalFault.TheVariants as eval
+use Rattle.gc_job.specs.Binding.{FirstBindFault}
+use Rattle.gc_job.specs.Honest.{AreHonestFiles}
+use Rattle.gc_job.proofs.HonestFiles.{honest-files}
 use Rattle.gc_cli.specs.declared.fault.Fault.{Fault}
 use Rattle.gc_cli.specs.declared.fault.Fault.TheVariants as faults
 use Rattle.gc_cli.specs.Job.{DecodeTo, HasJobFault}

@@ -7,7 +7,7 @@ use Rattle.gc_file.specs.Fault as held
 use Rattle.gc_file.specs.declared.take.TakeFault.{TakeFault}
 use Rattle.gc_file.specs.declared.take.TakeFault.TheVariants as take
 use Rattle.gc_work.specs.WorkFault as work
-use Rattle.gc_eval.specs.Fault.{bind_code_of, bind_name_of, eval_code_of, eval_name_of}
+use Rattle.gc_job.specs.Fault.{bind_code_of, bind_name_of, eval_code_of, eval_name_of}
 use Rattle.gc_cli.specs.declared.files.FileError.{FileError}
 use Rattle.gc_cli.specs.declared.files.FileError.TheVariants as file
 use Rattle.gc_cli.specs.declared.fault.Fault.{Fault}

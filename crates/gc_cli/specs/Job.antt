@@ -3,10 +3,11 @@ use Rattle.std.specs.Prelude.{◌≢◌, ℕ, Bool, List, Ok, Err}
 use Rattle.gc_circuit.specs.Circuit.{Netlist}
 use Rattle.gc_file.specs.GarbledFile.{GarbledParts}
 use Rattle.gc_file.specs.LabelFile.{LabelFileParts}
-use Rattle.gc_eval.specs.declared.fault.BindFault.TheVariants as bind
-use Rattle.gc_eval.specs.Job.{JobParts}
-use Rattle.gc_eval.specs.Binding.{FirstBindFault, IsBound}
-use Rattle.gc_eval.specs.Evaluate.{IsEvaluated, IsEvaluatedBy}
+use Rattle.gc_job.specs.declared.fault.BindFault.TheVariants as bind
+use Rattle.gc_job.specs.Job.{JobParts}
+use Rattle.gc_job.specs.Binding.{FirstBindFault, IsBound}
+use Rattle.gc_job.specs.Evaluate.{IsEvaluated}
+use Rattle.gc_eval.specs.Many.{IsEvaluatedBy}
 use Rattle.gc_cli.specs.declared.fault.Fault.{Fault}
 use Rattle.gc_cli.specs.declared.fault.Fault.TheVariants.{Binding, Evaluation}
 

@@ -6,9 +6,9 @@ use Rattle.gc_file.specs.declared.fault.FileFault.TheVariants as file
 use Rattle.gc_file.specs.GarbledFile.{GarbledParts, IsGarbledFile}
 use Rattle.gc_file.specs.LabelFile.{LabelFileParts}
 use Rattle.gc_gatehouse.specs.Workers.{AreFew}
-use Rattle.gc_eval.specs.declared.fault.BindFault.TheVariants as bind
-use Rattle.gc_eval.specs.Job.{JobParts}
-use Rattle.gc_eval.specs.Binding.{FirstBindFault, IsBound}
+use Rattle.gc_job.specs.declared.fault.BindFault.TheVariants as bind
+use Rattle.gc_job.specs.Job.{JobParts}
+use Rattle.gc_job.specs.Binding.{FirstBindFault, IsBound}
 use Rattle.gc_bank.specs.Jobs.{AreEvaluated, AreEvaluatedBy}
 use Rattle.gc_cli.specs.declared.fault.Fault.{Fault}
 use Rattle.gc_cli.specs.declared.fault.Fault.TheVariants.{Circuit, File, Binding, Evaluation, BadList, CannotRead, Memory}

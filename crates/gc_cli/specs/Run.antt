@@ -8,8 +8,8 @@ use Rattle.gc_work.specs.declared.fault.WorkFault.TheVariants as work
 use Rattle.gc_gatehouse.specs.Workers.{AreFew}
 use Rattle.gc_work.specs.WorkFault.{HasWorkFault}
 use Rattle.gc_file.specs.declared.fault.FileFault.TheVariants as file
-use Rattle.gc_eval.specs.declared.fault.BindFault.TheVariants as bind
-use Rattle.gc_eval.specs.declared.fault.EvalFault.TheVariants as eval
+use Rattle.gc_job.specs.declared.fault.BindFault.TheVariants as bind
+use Rattle.gc_job.specs.declared.fault.EvalFault.TheVariants as eval
 use Rattle.gc_cli.specs.declared.fault.Fault.{Fault}
 use Rattle.gc_cli.specs.declared.fault.Fault.TheVariants.{Circuit, WrongCount, Value, BadSeed, Garbling, File, Binding, Evaluation, CannotRead, Memory}
 use Rattle.gc_cli.specs.CircuitFile.{IsCircuit, HasCircuitFault}

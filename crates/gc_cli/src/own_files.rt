@@ -4,7 +4,7 @@ ghost use Rattle.std.specs.Prelude.{◌≡◌, Some, length, map, slice_get, IfO
 ghost use Rattle.gc_circuit.specs.Circuit.{IsLawful};
 ghost use Rattle.gc_circuit.specs.Meaning.{Fits};
 ghost use Rattle.gc_file.specs.LabelFile.{label_file, label_parts_of};
-ghost use Rattle.gc_eval.specs.Honest.{IsHonestGarbled};
+ghost use Rattle.gc_job.specs.Honest.{IsHonestGarbled};
 ghost use Rattle.gc_cli.specs.OwnFiles.{AreGarbledBytes, AreLabelsOf};
 ghost use Rattle.gc_gatehouse.specs.Workers.{AreFew};
 ghost use Rattle.gc_cli.specs.Run.{IsOwnFault, IsWantOfMemory};

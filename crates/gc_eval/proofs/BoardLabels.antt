@@ -18,11 +18,12 @@ use Rattle.gc_half.proofs.CircuitLaw.{active_local}
 use Rattle.gc_board.specs.Counts.{times}
 use Rattle.gc_board.specs.Board.{Cell}
 use Rattle.gc_board.specs.declared.rule.View.{View}
-use Rattle.gc_eval.specs.Job.{JobParts}
-use Rattle.gc_eval.specs.Evaluate.{labels_of}
-use Rattle.gc_eval.specs.ActiveLabels.{active, gates_of, set_by, set_of, label_by, active_from, IsRightHalf}
-use Rattle.gc_eval.specs.Views.{first_of, second_of, Got, Lacks, SawUndone}
-use Rattle.gc_eval.proofs.WiringLemmas.{set_once, input_not_set}
+use Rattle.gc_job.specs.Job.{JobParts}
+use Rattle.gc_job.specs.Evaluate.{labels_of}
+use Rattle.gc_job.specs.ActiveLabels.{active, gates_of, set_by, set_of, label_by, active_from, IsRightHalf}
+use Rattle.gc_job.specs.Wiring.{first_of, second_of}
+use Rattle.gc_eval.specs.Views.{Got, Lacks, SawUndone}
+use Rattle.gc_job.proofs.WiringLemmas.{set_once, input_not_set}
 
 -- They are an evaluation.
 pub active_solves : (job : JobParts) → IsLawful job.circuit

@@ -3,10 +3,10 @@ use Rattle.std.proofs.Common.{◌≡◌, ℕ, zero, suc, ◌+◌, List, Bool, Re
 use Rattle.std.specs.List.{range_with_len}
 use Rattle.gc_circuit.specs.Solution.{on_outputs}
 use Rattle.gc_board.specs.Counts.{total}
-use Rattle.gc_eval.specs.declared.fault.EvalFault.{EvalFault}
-use Rattle.gc_eval.specs.Job.{JobParts, IsWhole}
-use Rattle.gc_eval.specs.Evaluate.{IsDecodingOf, IsEvaluated}
-use Rattle.gc_eval.specs.ActiveLabels.{active}
+use Rattle.gc_job.specs.declared.fault.EvalFault.{EvalFault}
+use Rattle.gc_job.specs.Job.{JobParts, IsWhole}
+use Rattle.gc_job.specs.Evaluate.{IsDecodingOf, IsEvaluated}
+use Rattle.gc_job.specs.ActiveLabels.{active}
 use Rattle.gc_eval.proofs.BoardLabels.{active_solves}
 
 -- one number more

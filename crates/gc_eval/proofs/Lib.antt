@@ -1,14 +1,4 @@
-pub mod AndNumberLemmas
-pub mod BindLemmas
-pub mod DecodeLemmas
-pub mod HonestLemmas
-pub mod HonestFiles
-pub mod JoinLemmas
-pub mod OutputLemmas
-pub mod TakeLemmas
-pub mod WiringLemmas
 pub mod BoardLabels
 pub mod RunLemmas
 pub mod GatherLemmas
 pub mod ClosedLemmas
-pub mod TableLemmas

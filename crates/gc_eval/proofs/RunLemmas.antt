@@ -9,12 +9,13 @@ use Rattle.gc_board.specs.Places.{IsPlaceOf, IsSamePlace}
 use Rattle.gc_board.specs.declared.rule.View.{View}
 use Rattle.gc_board.specs.declared.rule.Key.{Key}
 use Rattle.gc_board.proofs.Sums.{total-append, only_same, only_other}
-use Rattle.gc_eval.specs.Job.{JobParts}
+use Rattle.gc_job.specs.Job.{JobParts}
 use Rattle.gc_eval.specs.declared.seat.Answer.{Answer}
 use Rattle.gc_eval.specs.declared.seat.Answer.TheVariants.{Made, Done, Taken, NotYet}
 use Rattle.gc_circuit.specs.Circuit.{Netlist}
 use Rattle.gc_circuit.specs.declared.circuit.Gate.{Gate}
-use Rattle.gc_eval.specs.Views.{IsAlone, IsMadeNow, SetsMade, ReadsMade, FirstLacking, AnswersAlone, AnswersTwo, first_of, second_of, sightings, made_after, made_now, Ran, Saw, SawUndone, Lacks, Says, Answers}
+use Rattle.gc_job.specs.Wiring.{first_of, second_of}
+use Rattle.gc_eval.specs.Views.{IsAlone, IsMadeNow, SetsMade, ReadsMade, FirstLacking, AnswersAlone, AnswersTwo, sightings, made_after, made_now, Ran, Saw, SawUndone, Lacks, Says, Answers}
 
 module _ {J : Type 0} where
   pub ran_then : (a b c : View J) (before list : List ℕ) (m n : ℕ) → Ran a b before m → Ran b c list n

@@ -1,13 +1,5 @@
-pub mod Fault
-pub mod Job
-pub mod Binding
-pub mod Places
-pub mod Evaluate
-pub mod Honest
-pub mod Wiring
-pub mod ActiveLabels
+pub mod Many
 pub mod Views
 pub mod Seats
 pub mod Done
-pub mod Pending
 pub mod Workers

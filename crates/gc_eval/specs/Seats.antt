@@ -3,8 +3,8 @@ use Rattle.std.specs.Prelude.{◌≡◌, []}
 use Rattle.gc_board.specs.declared.rule.Hand.TheVariants.{Empty}
 use Rattle.gc_board.specs.declared.rule.View.{View}
 use Rattle.gc_board.specs.Places.{IsPlaceOf, IsSamePlace}
-use Rattle.gc_eval.specs.Job.{JobParts}
-use Rattle.gc_eval.specs.ActiveLabels.{gates_of}
+use Rattle.gc_job.specs.Job.{JobParts}
+use Rattle.gc_job.specs.ActiveLabels.{gates_of}
 use Rattle.gc_eval.specs.declared.seat.EvalSeat.{EvalSeat}
 use Rattle.gc_eval.specs.declared.seat.EvalBoard.{EvalBoard}
 

@@ -1,13 +1,12 @@
 -- How a seat's view grows in a call, and what the answers of a board say.
-use Rattle.std.specs.Prelude.{◌≡◌, ◌≢◌, ℕ, ◌*◌, ◌<◌, ◌≤◌, ◌⊎◌, List, [], ◌∷◌, ◌++◌, length, slice_get, Some, None, Option}
+use Rattle.std.specs.Prelude.{◌≡◌, ◌≢◌, ℕ, ◌*◌, ◌<◌, ◌≤◌, ◌⊎◌, List, [], ◌∷◌, ◌++◌, length, slice_get, Some}
 use Rattle.gc_board.specs.Counts.{total, only, times}
 use Rattle.gc_board.specs.declared.rule.View.{View}
 use Rattle.gc_circuit.specs.declared.circuit.Gate.{Gate}
-use Rattle.gc_circuit.specs.declared.circuit.Operation.{Operation}
-use Rattle.gc_circuit.specs.declared.circuit.Operation.TheVariants.{Xor, And, Inv, Eq, Eqw}
 use Rattle.gc_circuit.specs.Circuit.{Netlist, IsSetBy, input_wires}
-use Rattle.gc_eval.specs.Job.{JobParts}
-use Rattle.gc_eval.specs.ActiveLabels.{active, set_of}
+use Rattle.gc_job.specs.Job.{JobParts}
+use Rattle.gc_job.specs.Wiring.{first_of, second_of}
+use Rattle.gc_job.specs.ActiveLabels.{active, set_of}
 use Rattle.gc_eval.specs.declared.seat.Answer.{Answer}
 use Rattle.gc_eval.specs.declared.seat.Answer.TheVariants.{Made, Done, Taken, NotYet}
 
@@ -40,21 +39,6 @@ module _ {J : Type 0} where
   -- The seat knows that gate g is done.
   abbrev pub Knows : View J → ℕ → Type 0
   Knows v g = 0 < times g v.known
-
--- the wire that an operation reads first, and the one that it reads second
-abbrev pub first_of : Operation → Option ℕ
-first_of (Xor a b) = Some a
-first_of (And a b) = Some a
-first_of (Inv a) = Some a
-first_of (Eq bit) = None
-first_of (Eqw a) = Some a
-
-abbrev pub second_of : Operation → Option ℕ
-second_of (Xor a b) = Some b
-second_of (And a b) = Some b
-second_of (Inv a) = None
-second_of (Eq bit) = None
-second_of (Eqw a) = None
 
 -- Gate g reads wire w.
 pub record Reads (c : Netlist) (g w : ℕ) : Type 0 where

@@ -3,11 +3,10 @@
 ghost use Rattle.std.specs.Prelude.{◌≡◌, ℕ, ◌+◌, ◌*◌};
 ghost use Rattle.std.specs.Slots.{slots_items, slots_len, IsFull};
 ghost use Rattle.gc_board.specs.Board.{Cell};
-ghost use Rattle.gc_eval.specs.ActiveLabels.{gates_of, IsRightHalf};
+ghost use Rattle.gc_job.specs.ActiveLabels.{gates_of, IsRightHalf};
 
-use crate::job::Job;
-use crate::wiring::Wiring;
 use atomic_table::Closed;
+use gc_job::{Job, Wiring};
 use std::alloc::{Allocator, Global};
 
 /// The active labels of the gates that the seats of a board made.

@@ -2,13 +2,13 @@
 
 ghost use Rattle.std.specs.Prelude.{◌≡◌, ◌≢◌, ◌<◌, IfSome, IfNone, IfOk, IfErr, MatchOption, Ok, Err};
 ghost use Rattle.gc_circuit.specs.Solution.{on_outputs};
-ghost use Rattle.gc_eval.specs.ActiveLabels.{active, gates_of};
-ghost use Rattle.gc_eval.specs.Evaluate.{IsEvaluated};
+ghost use Rattle.gc_job.specs.ActiveLabels.{active, gates_of};
+ghost use Rattle.gc_job.specs.Evaluate.{IsEvaluated};
 ghost use Rattle.gc_eval.specs.Done.{HasLabel, HasOutputs, LacksOutput, done_of};
 
 use crate::active::Active;
-use crate::fault::EvalFault;
 use gc_circuit::Memory;
+use gc_job::EvalFault;
 use gc_label::Label;
 use std::alloc::Allocator;
 

@@ -4,16 +4,15 @@ ghost use Rattle.std.specs.Prelude.{◌≡◌, ℕ, Bool, List, All, IfOk, IfErr
 ghost use Rattle.std.specs.Result.{result_map_both};
 ghost use Rattle.gc_circuit.specs.Meaning.{AreOutputs};
 ghost use Rattle.gc_gatehouse.specs.Workers.{AreFew};
-ghost use Rattle.gc_eval.specs.Evaluate.{IsEvaluated, IsEvaluatedBy};
-ghost use Rattle.gc_eval.specs.Honest.{IsHonest};
+ghost use Rattle.gc_job.specs.Evaluate.{IsEvaluated};
+ghost use Rattle.gc_job.specs.Honest.{IsHonest};
+ghost use Rattle.gc_eval.specs.Many.{IsEvaluatedBy};
 ghost use Rattle.gc_eval.specs.Workers.{IsWorkerOf, AreWorkersOf};
 
-use crate::fault::EvalFault;
-use crate::job::Job;
-use crate::one_thread::evaluate;
 use crate::seat::EvalBoard;
 use crate::worker::{Worker, muster, seats_of};
 use gc_gatehouse::{Gatehouse, MAX_WORKERS};
+use gc_job::{EvalFault, Job, evaluate};
 use std::alloc::Allocator;
 use std::thread;
 use std::thread::Threads;

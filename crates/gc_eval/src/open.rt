@@ -5,15 +5,13 @@ ghost use Rattle.std.specs.Slots.{slots_items};
 ghost use Rattle.gc_board.specs.Counts.{total, times, only};
 ghost use Rattle.gc_board.specs.Board.{state_of};
 ghost use Rattle.gc_board.specs.Places.{IsPlaceOf};
-ghost use Rattle.gc_eval.specs.ActiveLabels.{gates_of};
+ghost use Rattle.gc_job.specs.ActiveLabels.{gates_of};
 ghost use Rattle.gc_eval.specs.Seats.{IsSeatOf, IsNew, view, job_on};
 
 use crate::active::Active;
-use crate::facts::Facts;
-use crate::job::Job;
 use crate::seat::{EvalBoard, EvalSeat};
-use crate::wiring::Wiring;
 use gc_board::{Key, OpenFault, Place, Words, close_table, deal_place, join_place, open_table};
+use gc_job::{Facts, Job, Wiring};
 use std::alloc::{Allocator, Global};
 
 /// The most seats of a board.

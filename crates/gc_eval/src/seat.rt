@@ -3,12 +3,10 @@
 ghost use Rattle.std.specs.Prelude.{◌≡◌, ◌<◌, ◌-◌, ◌^◌, [], length, min};
 ghost use Rattle.gc_board.specs.declared.rule.Hand.TheVariants.{Empty};
 ghost use Rattle.gc_board.specs.Places.{IsTable};
-ghost use Rattle.gc_eval.specs.ActiveLabels.{gates_of};
+ghost use Rattle.gc_job.specs.ActiveLabels.{gates_of};
 
-use crate::facts::Facts;
-use crate::job::Job;
-use crate::wiring::Wiring;
 use gc_board::{Place, WordTable};
+use gc_job::{Facts, Job, Wiring};
 use gc_label::Label;
 use std::alloc::{Allocator, Global};
 

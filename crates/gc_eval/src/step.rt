@@ -6,17 +6,16 @@ ghost use Rattle.gc_board.specs.Counts.{times};
 ghost use Rattle.gc_board.specs.Steps.{after_claim, after_stored, after_done};
 ghost use Rattle.gc_board.specs.Places.{IsPlaceOf, IsPlaceAt, IsSamePlace};
 ghost use Rattle.gc_label.specs.Label.{low_half, high_half};
-ghost use Rattle.gc_eval.specs.ActiveLabels.{gates_of, active, set_of, active_from};
+ghost use Rattle.gc_job.specs.ActiveLabels.{gates_of, active, set_of, active_from};
 ghost use Rattle.gc_eval.specs.Views.{Ran, Got, Lacks, Says, Answers, AnswersTwo, IsAlone, IsMadeNow, made_now, SetsMade, ReadsMade, FirstLacking, AnswersAlone, AnswersTwoAlone, Knows, Reads};
 ghost use Rattle.gc_eval.specs.Seats.{IsSeatOf, IsSameSeat, view, job_on};
 
-use crate::facts::Facts;
-use crate::readers::{first_wire, second_wire};
 use crate::seat::{Answer, EvalBoard, EvalSeat};
 use gc_board::{
     Place, Words, claim, load_high, load_low, load_state, store_done, store_high, store_low,
     tell_place,
 };
+use gc_job::{Facts, first_wire, second_wire};
 use gc_label::Label;
 use std::alloc::Allocator;
 

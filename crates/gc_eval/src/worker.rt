@@ -1,14 +1,14 @@
 //! One worker of an evaluation on many threads: its passes over the gates of the board.
 
 ghost use Rattle.std.specs.Prelude.{◌≡◌, ◌<◌, None, All, IfOk, IfSome};
-ghost use Rattle.gc_eval.specs.ActiveLabels.{gates_of};
+ghost use Rattle.gc_job.specs.ActiveLabels.{gates_of};
 ghost use Rattle.gc_eval.specs.Seats.{IsSeatOf, job_on};
 ghost use Rattle.gc_eval.specs.Workers.{AreWorkersOf};
 
 use crate::known::NumberSet;
 use crate::seat::{Answer, EvalBoard, EvalSeat};
-use crate::table::reads;
 use gc_gatehouse::Gatehouse;
+use gc_job::reads;
 use std::alloc::{AllocError, Allocator};
 use std::hint::spin_loop;
 use std::thread;

@@ -114,7 +114,10 @@ fn refuses_words_that_cannot_be_had(rt: HostRuntime) {
         let mut err = Output::new(Vec::new(rt.alloc()));
         assert_eq!(rt; refuse_line(&kind.into(), &mut err), Ending::Usage);
         assert_eq!(rt; err.into_inner().as_slice(), errors.as_bytes());
-        assert_eq!(rt; refuse_line(&kind.into(), &mut Output::new(Closed)), Ending::Usage);
+        assert_eq!(rt;
+            refuse_line(&kind.into(), &mut Output::new(Closed)),
+            Ending::Usage
+        );
     }
 }
 

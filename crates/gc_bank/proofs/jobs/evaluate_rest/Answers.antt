@@ -2,8 +2,7 @@ use Rattle.std.proofs.Common.{◌≡◌, Bool, Vec, Ok, length, map, slice_get, 
 use Rattle.std.proofs.lemmas.Option.{slice_get_read}
 use Rattle.std.proofs.lemmas.List.{map-append}
 use Rattle.std.proofs.lemmas.Result.{err_from_is_err_and}
-use Rattle.gc_eval.specs.Evaluate.{IsEvaluated}
-use Rattle.gc_bank.specs.Workers.{AreBitsOf, AreKnown}
+use Rattle.gc_job.specs.Evaluate.{IsEvaluated}
 use Rattle.gc_bank.proofs.JobLemmas.{evaluated_more, job_fault, if_some}
 use Rattle.gc_bank.proofs.jobs.evaluate_rest.Goals as goal
 

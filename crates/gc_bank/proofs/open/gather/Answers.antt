@@ -1,4 +1,4 @@
-use Rattle.std.proofs.Common.{◌≡◌, ℕ, arith, ap}
+use Rattle.std.proofs.Common.{◌≡◌, arith, ap}
 use Rattle.gc_rounds.specs.declared.view.Stand.TheVariants.{Outside}
 use Rattle.gc_round_board.specs.Pairs.{pairs}
 use Rattle.gc_round_board.specs.Places.{IsBoardPlace}

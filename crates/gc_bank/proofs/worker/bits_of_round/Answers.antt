@@ -1,5 +1,5 @@
 use Rattle.std.proofs.Common.{Ok, Vec, Bool}
-use Rattle.gc_eval.specs.Evaluate.{IsEvaluated}
+use Rattle.gc_job.specs.Evaluate.{IsEvaluated}
 use Rattle.gc_bank.specs.Seats.{jobs_on}
 use Rattle.gc_bank.specs.Workers.{AreBitsOf}
 use Rattle.gc_bank.proofs.JobLemmas.{if_some, bits_at}

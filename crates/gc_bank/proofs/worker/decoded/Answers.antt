@@ -1,7 +1,7 @@
 use Rattle.std.proofs.Common.{Ok}
-use Rattle.gc_eval.specs.ActiveLabels.{active}
+use Rattle.gc_job.specs.ActiveLabels.{active}
 use Rattle.gc_eval.proofs.ClosedLemmas.{evaluated_outputs}
-use Rattle.gc_eval.proofs.OutputLemmas.{length-outputs}
+use Rattle.gc_job.proofs.OutputLemmas.{length-outputs}
 use Rattle.gc_bank.proofs.worker.decoded.Goals as goal
 
 pub decode-requires : goal.decode-requires

@@ -1,7 +1,7 @@
-use Rattle.std.proofs.Common.{◌≡◌, ◌+◌, ◌-◌, ◌++◌, ◌∷◌, [], ℕ, map, arith, sym, ap, ◌∙◌}
+use Rattle.std.proofs.Common.{◌+◌, ◌-◌, ◌++◌, ◌∷◌, [], ℕ, map, arith, sym, ap, ◌∙◌}
 use Rattle.std.specs.List.{range_with_len}
 use Rattle.std.proofs.lemmas.List.FromFn.{map-range_with_len_more}
-use Rattle.gc_eval.specs.ActiveLabels.{active}
+use Rattle.gc_job.specs.ActiveLabels.{active}
 use Rattle.gc_bank.specs.Seats.{view, round_of, jobs_on}
 use Rattle.gc_bank.specs.Views.{Got}
 use Rattle.gc_bank.proofs.RunLemmas.{of_round}

@@ -1,6 +1,6 @@
 use Rattle.std.proofs.lemmas.Result.{err_from_is_err_and}
 use Rattle.std.proofs.Common.{Ok, Err}
-use Rattle.gc_eval.proofs.HonestLemmas.{honest-evaluates}
+use Rattle.gc_job.proofs.HonestLemmas.{honest-evaluates}
 use Rattle.gc_eval.proofs.many.evaluate_many.Goals as goal
 
 pub returns-in_err-bits-clause-honest : goal.returns-in_err-bits-clause-honest

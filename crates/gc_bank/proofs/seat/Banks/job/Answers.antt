@@ -1,6 +1,6 @@
-use Rattle.std.proofs.Common.{◌≡◌, List, slice_get, Some, get_or, length, refl, sym, subst}
+use Rattle.std.proofs.Common.{◌≡◌, List, slice_get, Some, get_or, sym, subst}
 use Rattle.std.proofs.lemmas.Option.{slice_get-get_or}
-use Rattle.gc_eval.specs.Job.{JobParts}
+use Rattle.gc_job.specs.Job.{JobParts}
 use Rattle.gc_bank.specs.Rounds.{IsRound}
 use Rattle.gc_bank.proofs.RunLemmas.{is_round}
 use Rattle.gc_bank.proofs.seat.Banks.job.Goals as goal

@@ -1,9 +1,9 @@
-use Rattle.std.proofs.Common.{◌≡◌, ℕ, arith, ap, sym, ◌∙◌, subst}
+use Rattle.std.proofs.Common.{◌≡◌, arith, ap, sym, ◌∙◌, subst}
 use Rattle.gc_circuit.specs.Circuit.{Netlist, IsSetBy, input_wires}
 use Rattle.gc_board.proofs.Sums.{only_other}
 use Rattle.gc_round_board.specs.Pairs.{pairs}
 use Rattle.gc_round_board.specs.Board.{at, stamp}
-use Rattle.gc_eval.proofs.WiringLemmas.{set_once}
+use Rattle.gc_job.proofs.WiringLemmas.{set_once}
 use Rattle.gc_bank.specs.Views.{Seen}
 use Rattle.gc_bank.proofs.RunLemmas.{got_input, lacks_unset, lacks_undone, unknown, undone, saw_load, still_in, gate_there}
 use Rattle.gc_bank.proofs.seat.Banks.read.Goals as goal

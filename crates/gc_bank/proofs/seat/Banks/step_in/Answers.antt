@@ -1,7 +1,5 @@
-use Rattle.std.proofs.Common.{◌<◌}
-use Rattle.gc_eval.specs.ActiveLabels.{gates_of as gates_in}
 use Rattle.gc_bank.specs.Views.{Answers, AnswersAlone}
-use Rattle.gc_bank.proofs.RunLemmas.{in_round, of_round, ran_stays, answer_made}
+use Rattle.gc_bank.proofs.RunLemmas.{in_round, ran_stays, answer_made}
 use Rattle.gc_bank.proofs.seat.Banks.step_in.Goals as goal
 
 pub returns-clause-answer : goal.returns-clause-answer

@@ -1,7 +1,5 @@
-use Rattle.std.proofs.Common.{◌<◌}
-use Rattle.gc_eval.specs.ActiveLabels.{gates_of as gates_in}
 use Rattle.gc_bank.specs.Views.{AnswersTwo, AnswersTwoAlone}
-use Rattle.gc_bank.proofs.RunLemmas.{in_round, of_round, ran_stays, two_made_now}
+use Rattle.gc_bank.proofs.RunLemmas.{in_round, ran_stays, two_made_now}
 use Rattle.gc_bank.proofs.seat.Banks.step_two_in.Goals as goal
 
 pub returns-clause-answers : goal.returns-clause-answers

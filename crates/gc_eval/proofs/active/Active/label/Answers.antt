@@ -3,7 +3,7 @@ use Rattle.std.specs.Slots.{slots_items}
 use Rattle.gc_circuit.specs.Circuit.{IsSetBy, Netlist, input_wires}
 use Rattle.gc_board.specs.Board.{starting}
 use Rattle.gc_eval.proofs.BoardLabels.{got_input, label_in, not_done, word_is}
-use Rattle.gc_eval.proofs.WiringLemmas.{set_within}
+use Rattle.gc_job.proofs.WiringLemmas.{set_within}
 use Rattle.gc_eval.proofs.active.Active.label.Goals as goal
 
 pub returns-then-wire-input_wires-clause-some : goal.returns-then-wire-input_wires-clause-some

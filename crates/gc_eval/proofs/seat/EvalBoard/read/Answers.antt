@@ -3,10 +3,10 @@ use Rattle.gc_circuit.specs.Circuit.{IsSetBy, Netlist, IsLawful, input_wires}
 use Rattle.gc_board.specs.Counts.{times}
 use Rattle.gc_board.specs.declared.rule.View.{View}
 use Rattle.gc_board.proofs.Sums.{only_other}
-use Rattle.gc_eval.specs.Job.{JobParts}
+use Rattle.gc_job.specs.Job.{JobParts}
 use Rattle.gc_eval.specs.Seats.{job_on}
 use Rattle.gc_eval.proofs.BoardLabels.{got_input, lacks_unset, lacks_undone}
-use Rattle.gc_eval.proofs.WiringLemmas.{set_within, set_once}
+use Rattle.gc_job.proofs.WiringLemmas.{set_within, set_once}
 use Rattle.gc_eval.proofs.RunLemmas.{saw_undone, unknown, moved_at}
 use Rattle.gc_eval.proofs.seat.EvalBoard.read.Goals as goal
 

@@ -3,7 +3,7 @@ use Rattle.gc_board.specs.Counts.{times, only}
 use Rattle.gc_board.specs.Board.{in_hand}
 use Rattle.gc_board.proofs.Sums.{only_same, only_other}
 use Rattle.gc_board.specs.declared.rule.View.{View}
-use Rattle.gc_eval.specs.Job.{JobParts}
+use Rattle.gc_job.specs.Job.{JobParts}
 use Rattle.gc_eval.specs.Views.{Ran, Saw}
 use Rattle.gc_eval.proofs.RunLemmas.{saw_step, unknown, ran_then, lacks_then, lacking_back, reads_back, alone_later}
 use Rattle.gc_eval.proofs.seat.EvalBoard.ready.Goals as goal

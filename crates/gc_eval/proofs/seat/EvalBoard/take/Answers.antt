@@ -1,7 +1,7 @@
 use Rattle.std.proofs.Common.{rules, ◌*◌, refl, ap, subst}
 use Rattle.gc_board.specs.Counts.{times}
 use Rattle.gc_board.specs.declared.rule.View.{View}
-use Rattle.gc_eval.specs.Job.{JobParts}
+use Rattle.gc_job.specs.Job.{JobParts}
 use Rattle.gc_eval.specs.Views.{Saw}
 use Rattle.gc_eval.proofs.RunLemmas.{saw_step, unknown}
 use Rattle.gc_eval.proofs.seat.EvalBoard.take.Goals as goal

@@ -2,7 +2,7 @@ use Rattle.std.proofs.Common.{ap, ◌∙◌}
 use Rattle.gc_board.specs.Counts.{times, only}
 use Rattle.gc_board.specs.declared.rule.View.{View}
 use Rattle.gc_board.proofs.Sums.{total-append}
-use Rattle.gc_eval.specs.Job.{JobParts}
+use Rattle.gc_job.specs.Job.{JobParts}
 use Rattle.gc_eval.proofs.seat.EvalBoard.tell.Goals as goal
 
 pub returns-clause-told : goal.returns-clause-told

@@ -1,5 +1,5 @@
 use Rattle.std.proofs.Common.{IfSome, ◌<◌}
-use Rattle.gc_eval.specs.ActiveLabels.{gates_of}
+use Rattle.gc_job.specs.ActiveLabels.{gates_of}
 use Rattle.gc_eval.specs.Seats.{IsSeatOf, job_on}
 use Rattle.gc_eval.proofs.worker.Worker.pass_block.Given as goal
 

@@ -1,6 +1,0 @@
-use Rattle.std.proofs.Common.{◌≡◌, take, flat_map}
-use Rattle.gc_eval.specs.Places.{labels_at}
-use Rattle.gc_eval.proofs.bind.joined_labels.Given as goal
-
-abbrev pub invariant-loop-place : goal.invariant-loop-place
-invariant-loop-place g l = l.labels.items ≡ flat_map (labels_at l.files) (take l.place-index l.places)

@@ -1,5 +1,0 @@
-use Rattle.gc_eval.specs.Evaluate.{AreRecognised}
-use Rattle.gc_eval.proofs.decode.first_unknown.Given as goal
-
-abbrev pub invariant-loop-i : goal.invariant-loop-i
-invariant-loop-i l = AreRecognised l.and_gates l.entries l.labels l.i

@@ -1,6 +1,0 @@
-use Rattle.std.proofs.Common.{ℕ, ◌<◌}
-use Rattle.gc_circuit.specs.Circuit.{IsSetBy}
-use Rattle.gc_eval.proofs.job.Job.setter.Given as goal
-
-abbrev pub invariant-loop-gate : goal.invariant-loop-gate
-invariant-loop-gate g l = (h : ℕ) → h < l.gate → IsSetBy l.circuit l.wire h → ⊥

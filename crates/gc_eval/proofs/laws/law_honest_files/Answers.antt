@@ -1,5 +1,0 @@
-use Rattle.gc_eval.proofs.HonestFiles.{honest-files}
-use Rattle.gc_eval.proofs.laws.law_honest_files.Goals as goal
-
-pub returns : goal.returns
-returns c = honest-files

@@ -1,0 +1,10 @@
+pub mod AndNumberLemmas
+pub mod BindLemmas
+pub mod DecodeLemmas
+pub mod HonestLemmas
+pub mod HonestFiles
+pub mod JoinLemmas
+pub mod OutputLemmas
+pub mod TakeLemmas
+pub mod WiringLemmas
+pub mod TableLemmas

@@ -1,0 +1,13 @@
+use Rattle.std.proofs.Common.{◌∙◌, length, rules, refl, arith}
+use Rattle.std.proofs.lemmas.Option.{slice_get_read}
+use Rattle.gc_job.proofs.JoinLemmas.{joined_more}
+use Rattle.gc_job.proofs.bind.joined_labels.Goals as goal
+
+pub loop-place-preserved : goal.loop-place-preserved
+loop-place-preserved g c =
+    c.in_ok-extend_from_slice.ensures.items
+    ∙ rw (c.loop-place.invariant, c.labels.ensures)
+    (joined_more c.args.files.now c.args.places.now c.loop-place.place-index c.unwrap.result c.index-files-unwrap.result
+    (omega arith) c.unwrap.ensures
+    (slice_get_read c.args.files.now (length c.args.files.now) c.unwrap.result c.index-files-unwrap.result refl
+    (search rules) c.index-files-unwrap.is))

@@ -1,0 +1,90 @@
+use Rattle.std.specs.List.{range_with_len}
+use Rattle.std.proofs.Common.{◌≡◌, ◌<◌, ◌+◌, suc, Some, None, inl, inr, length, map, slice_index, sym, ◌∙◌, ap, arith, refl}
+use Rattle.gc_circuit.proofs.SolutionLemmas.{EachRead-map, IsSetBefore-more, solution_solves}
+use Rattle.gc_circuit.proofs.Tables.{table_step, length-table, EachRead-below, after-zero}
+use Rattle.gc_circuit.specs.Solution.{solution, values_after}
+use Rattle.gc_half.specs.Hash.{hash}
+use Rattle.gc_half.specs.Evaluation.{active_of, active_rule, row_at}
+use Rattle.gc_half.proofs.CircuitLaw.{active_local}
+use Rattle.gc_half.proofs.AndNumbers.{and_number-and, and_number-other}
+use Rattle.gc_job.specs.Evaluate.{labels_of}
+use Rattle.gc_job.proofs.AndNumberLemmas.{and_number-below}
+use Rattle.gc_job.proofs.one_thread.active_labels.Goals as goal
+use Rattle.gc_job.proofs.one_thread.active_labels.Goals.{then-is_and, else-is_and}
+
+pub loop-i-init : goal.loop-i-init
+loop-i-init g c = record {
+  labels = c.new-active.ensures.labels ∙ c.in_ok-input_table.ensures
+      ∙ rw (
+        c.wires.ensures.count,
+        after-zero (active_rule hash c.args.circuit.now c.args.rows.now) c.args.circuit.now
+            (labels_of c.args.inputs.now),
+      ) refl;
+  pending = λ w some. let none : Some w ≡ None = sym some ∙ c.new-active.ensures.pending in cc;
+  numbered = refl;
+}
+
+pub step-requires-clause-row : goal.step-requires-clause-row
+step-requires-clause-row g c = λ and. omega (
+  arith,
+  c.loop-i.invariant.numbered,
+  c.requires.rows,
+  and_number-below c.args.circuit.now c.loop-i.i c.gate-gate.result c.gate-gate.ensures and,
+)
+
+pub step-requires-clause-read : goal.step-requires-clause-read
+step-requires-clause-read g c =
+    let long = length-table _ c.args.circuit.now.wires _ c.loop-i.invariant.labels in
+    EachRead-map (λ w. w < c.args.circuit.now.wires) (λ w. w < length c.loop-i.active.labels)
+    c.gate-gate.result.operation (λ w h. omega (arith, long, h))
+    (EachRead-below c.args.circuit.now c.wires.ensures.lawful c.loop-i.i c.gate-gate.result c.gate-gate.ensures)
+
+pub step-requires-clause-place : goal.step-requires-clause-place
+step-requires-clause-place g c =
+    omega (
+      arith,
+      length-table _ c.args.circuit.now.wires _ c.loop-i.invariant.labels,
+      c.wires.ensures.lawful.sets c.loop-i.i c.gate-gate.result c.gate-gate.ensures,
+    )
+
+pub loop-i-preserved : goal.loop-i-preserved
+loop-i-preserved g c =
+    let netlist = c.args.circuit.now in
+    let gate = c.gate-gate.result in
+    let i = c.loop-i.i in
+    let one : i + 1 ≡ suc i = omega arith in
+    record {
+      labels = c.step.ensures.labels
+          ∙ table_step (active_rule hash netlist c.args.rows.now) (active_local hash netlist c.args.rows.now)
+          netlist c.wires.ensures.lawful (labels_of c.args.inputs.now) c.loop-i.active.labels i gate 0 _
+          c.loop-i.invariant.labels c.gate-gate.ensures
+          (ap (λ k. active_of hash (slice_index c.loop-i.active.labels) k (row_at c.args.rows.now k)
+          gate.operation) c.loop-i.invariant.numbered);
+      pending = λ w waits. elim (c.step.ensures.pending w waits) [
+        | inl before ↦ IsSetBefore-more netlist i (i + 1) w (omega arith)
+            (c.loop-i.invariant.pending w before)
+        | inr now ↦ inr (i, omega arith, record { gate = gate; at = c.gate-gate.ensures; wire = sym now })
+      ];
+      numbered = rw one (elim c.if-is_and.branch [
+        | then-is_and w ↦ w.and_number-is ∙ ap (λ n. n + 1) c.loop-i.invariant.numbered
+            ∙ sym (and_number-and netlist i gate c.gate-gate.ensures
+            (sym c.is_and.ensures ∙ w.if-is_and.true))
+        | else-is_and w ↦ w.and_number-is ∙ c.loop-i.invariant.numbered
+            ∙ sym (and_number-other netlist i gate c.gate-gate.ensures
+            (sym c.is_and.ensures ∙ w.if-is_and.false))
+      ]);
+    }
+
+pub returns : goal.returns
+returns g c = record {
+  active = solution (active_rule hash c.args.circuit.now c.args.rows.now) c.args.circuit.now
+      (labels_of c.args.inputs.now);
+  evaluation = solution_solves (active_rule hash c.args.circuit.now c.args.rows.now)
+      (active_local hash c.args.circuit.now c.args.rows.now) c.args.circuit.now c.wires.ensures.lawful
+      (labels_of c.args.inputs.now);
+  table =
+      c.into_labels.ensures ∙ c.loop-i.invariant.labels
+      ∙ ap (λ n. map (values_after (active_rule hash c.args.circuit.now c.args.rows.now) c.args.circuit.now
+      (labels_of c.args.inputs.now) n) (range_with_len 0 c.args.circuit.now.wires))
+      (let e : c.loop-i.i ≡ length c.args.circuit.now.gates = omega (arith, c.gates-i-end.ensures.count) in e);
+}

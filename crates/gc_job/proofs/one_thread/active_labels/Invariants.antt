@@ -1,0 +1,16 @@
+use Rattle.std.proofs.Common.{◌≡◌, ℕ, Some, map}
+use Rattle.std.specs.List.{range_with_len}
+use Rattle.gc_circuit.specs.Circuit.{and_number, IsSetBefore}
+use Rattle.gc_circuit.specs.Solution.{values_after}
+use Rattle.gc_half.specs.Hash.{hash}
+use Rattle.gc_half.specs.Evaluation.{active_rule}
+use Rattle.gc_job.specs.Evaluate.{labels_of}
+use Rattle.gc_job.proofs.one_thread.active_labels.Given as goal
+
+abbrev pub invariant-loop-i : goal.invariant-loop-i
+invariant-loop-i g l = record {
+  labels : l.active.labels ≡ map (values_after (active_rule hash l.circuit l.rows) l.circuit
+      (labels_of l.inputs) l.i) (range_with_len 0 l.circuit.wires);
+  pending : (w : ℕ) → l.active.pending ≡ Some w → IsSetBefore l.circuit l.i w;
+  numbered : l.and_number ≡ and_number l.circuit l.i;
+}

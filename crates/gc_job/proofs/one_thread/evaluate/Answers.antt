@@ -1,0 +1,50 @@
+use Rattle.std.proofs.Common.{◌≡◌, ◌∙◌, ℕ, List, Bool, Result, Ok, Err, MatchResult, length, ap}
+use Rattle.std.specs.Result.{result_map_both}
+use Rattle.std.proofs.lemmas.Result.{err_from_is_err_and}
+use Rattle.gc_circuit.specs.Meaning.{AreOutputs}
+use Rattle.gc_job.specs.declared.fault.EvalFault.{EvalFault}
+use Rattle.gc_job.specs.declared.fault.EvalFault.TheVariants.{Memory}
+use Rattle.gc_job.specs.Job.{JobParts, IsWhole}
+use Rattle.gc_job.specs.Evaluate.{IsEvaluated}
+use Rattle.gc_job.specs.Honest.{IsHonest}
+use Rattle.gc_job.proofs.OutputLemmas.{length-active, decoded-job, no_memory}
+use Rattle.gc_job.proofs.HonestLemmas.{honest-evaluates}
+use Rattle.gc_job.proofs.one_thread.evaluate.Goals as goal
+
+-- The same of the bits in memory.
+honest-result : {V : Type 0} (view : V → List Bool) (job : JobParts) (result : Result V EvalFault) → IsWhole job
+    → IsEvaluated job (result_map_both view (λ (fault : EvalFault). fault) result) → (seed : List ℕ) (bits : List Bool)
+    → IsHonest job seed bits →
+    MatchResult result (λ outputs. AreOutputs job.circuit bits (view outputs)) (λ fault. fault ≡ Memory)
+honest-result view job (Ok outputs) whole is seed bits honest =
+    honest-evaluates job whole seed bits honest (Ok (view outputs)) is
+honest-result view job (Err fault) whole is seed bits honest =
+    honest-evaluates job whole seed bits honest (Err fault) is
+
+pub returns-in_err-active-clause-evaluated : goal.returns-in_err-active-clause-evaluated
+returns-in_err-active-clause-evaluated g c =
+    let p = err_from_is_err_and c.from_residual.result c.from_residual.ensures.1 in
+    rw (p.1, p.2) (no_memory c.args.job.now c.circuit-circuit.ensures.whole)
+
+pub output_labels-requires : goal.output_labels-requires
+output_labels-requires g c =
+    ap length c.deref.ensures.value
+    ∙ length-active c.circuit-circuit.result.now c.rows.result.now c.inputs.result.now c.in_ok-active.active.items
+    c.in_ok-active.ensures
+
+pub decode-requires : goal.decode-requires
+decode-requires g c = rw (← c.circuit-circuit.ensures.circuit) c.output_labels.ensures.count
+
+pub returns-clause-evaluated : goal.returns-clause-evaluated
+returns-clause-evaluated g c =
+    decoded-job c.args.job.now c.circuit-circuit.result.now c.rows.result.now c.inputs.result.now
+    c.in_ok-active.active.items c.output_labels.result.now _ c.in_ok-active.ensures c.circuit-circuit.ensures.circuit
+    c.rows.ensures c.inputs.ensures
+    (c.output_labels.ensures.last c.in_ok-active.ensures.active
+    (c.deref.ensures.value ∙ c.in_ok-active.ensures.table))
+    c.decode.ensures
+
+pub returns-clause-honest : goal.returns-clause-honest
+returns-clause-honest g c =
+    honest-result (λ outputs. outputs.items) c.args.job.now c.decode.result c.circuit-circuit.ensures.whole
+    (returns-clause-evaluated g c)

@@ -1,0 +1,49 @@
+-- The active labels of a job, and their halves in the words of a board.
+use Rattle.std.specs.Prelude.{◌≡◌, ℕ, zero, suc, ◌<◌, ◌^◌, length, slice_get, Option, Some, None}
+use Rattle.gc_circuit.specs.declared.circuit.Gate.{Gate}
+use Rattle.gc_circuit.specs.Circuit.{and_number}
+use Rattle.gc_circuit.specs.Solution.{solution}
+use Rattle.gc_label.specs.Label.{low_half, high_half}
+use Rattle.gc_half.specs.Hash.{hash}
+use Rattle.gc_half.specs.declared.garbling.RowPair.{RowPair}
+use Rattle.gc_half.specs.OneGate.{gate_active}
+use Rattle.gc_half.specs.Evaluation.{active_rule, row_at}
+use Rattle.gc_job.specs.Job.{JobParts}
+use Rattle.gc_job.specs.Evaluate.{labels_of}
+
+-- how many gates the job's circuit has
+abbrev pub gates_of : JobParts → ℕ
+gates_of job = length job.circuit.gates
+
+-- The active label of each wire: those of an evaluation of the job's rows on its input labels. All evaluations agree on
+-- the wires that are set.
+unfoldable pub active : JobParts → ℕ → ℕ
+active job = solution (active_rule hash job.circuit job.rows) job.circuit (labels_of job.inputs)
+
+-- the wire that a gate sets
+abbrev pub set_by : Option Gate → ℕ
+set_by (Some g) = g.set
+set_by None = 0
+
+abbrev pub set_of : JobParts → ℕ → ℕ
+set_of job g = set_by (slice_get job.circuit.gates g)
+
+-- The label that a gate gives, from the labels of the wires that it reads first and second. One that it doesn't read is
+-- ignored.
+abbrev pub label_by : ℕ → RowPair → Option Gate → ℕ → ℕ → ℕ
+label_by k row None a b = 0
+label_by k row (Some g) a b = gate_active hash k row g.operation a b
+
+abbrev pub active_from : JobParts → ℕ → ℕ → ℕ → ℕ
+active_from job g a b =
+    label_by (and_number job.circuit g) (row_at job.rows (and_number job.circuit g))
+    (slice_get job.circuit.gates g) a b
+
+-- Half k of a label: half 0 is the low half, and half 1 the high half.
+abbrev pub half_of : ℕ → ℕ → ℕ
+half_of zero label = low_half label
+half_of (suc k) label = high_half label
+
+-- The number is half k of the active label of the wire that gate g sets, which is a label of 16 bytes.
+abbrev pub IsRightHalf : JobParts → ℕ → ℕ → ℕ → Type 0
+IsRightHalf job g k n = (active job (set_of job g) < 2 ^ 128) × (n ≡ half_of k (active job (set_of job g)))

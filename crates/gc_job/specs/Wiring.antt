@@ -1,0 +1,33 @@
+-- Tables of a circuit: which gate sets each wire, and the AND number of each gate.
+use Rattle.std.specs.Prelude.{◌≡◌, ℕ, ◌+◌, ◌<◌, List, Option, Some, None, length, slice_index, map}
+use Rattle.std.specs.List.{range_with_len}
+use Rattle.gc_circuit.specs.declared.circuit.Operation.{Operation}
+use Rattle.gc_circuit.specs.declared.circuit.Operation.TheVariants.{Xor, And, Inv, Eq, Eqw}
+use Rattle.gc_circuit.specs.Circuit.{Netlist, IsSetBy, IsLawful, and_number}
+
+-- By wire, the first of n gates that sets it, plus 1, and 0 where none does.
+pub record AreSetters (c : Netlist) (n : ℕ) (setters : List ℕ) : Type 0 where
+  pub count : length setters ≡ c.wires
+  pub set : (w g : ℕ) → g < n → IsSetBy c w g → slice_index setters w ≡ g + 1
+  pub setter : (w g : ℕ) → slice_index setters w ≡ g + 1 → IsSetBy c w g
+
+-- The tables of a whole circuit, which is lawful.
+pub record IsWired (c : Netlist) (setter_table number_table : List ℕ) : Type 0 where
+  pub lawful : IsLawful c
+  pub setters : AreSetters c (length c.gates) setter_table
+  pub numbers : number_table ≡ map (and_number c) (range_with_len 0 (length c.gates))
+
+-- the wire that an operation reads first, and the one that it reads second
+abbrev pub first_of : Operation → Option ℕ
+first_of (Xor a b) = Some a
+first_of (And a b) = Some a
+first_of (Inv a) = Some a
+first_of (Eq bit) = None
+first_of (Eqw a) = Some a
+
+abbrev pub second_of : Operation → Option ℕ
+second_of (Xor a b) = Some b
+second_of (And a b) = Some b
+second_of (Inv a) = None
+second_of (Eq bit) = None
+second_of (Eqw a) = None

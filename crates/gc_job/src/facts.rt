@@ -1,0 +1,33 @@
+//! What the words of a board are about: a job, as contracts see it.
+
+use gc_board::Work;
+use gc_circuit::Circuit;
+use gc_file::Garbled;
+use gc_label::Label;
+use std::alloc::{Allocator, Global};
+use std::marker::Model;
+use std::snapshot::Snapshot;
+
+/// A job as contracts see it. It has no bytes.
+#[derive(Drop)]
+pub struct Facts<A: Allocator = Global, C: Allocator = Global> {
+    pub(crate) circuit: Snapshot<Circuit<C>>,
+    pub(crate) garbled: Snapshot<Garbled<A>>,
+    pub(crate) inputs: Snapshot<Vec<Label, A>>,
+}
+
+impl<A: Allocator, C: Allocator> Model for Facts<A, C> {
+    ghost use Rattle.gc_job.specs.Job.{JobParts, job_of};
+
+    ghost Value = { JobParts };
+
+    ghost view = { λ f. job_of f.circuit.value f.garbled.value f.inputs.value.items };
+}
+
+impl<A: Allocator, C: Allocator> Work for Facts<A, C> {
+    ghost use Rattle.gc_job.specs.ActiveLabels.{gates_of, IsRightHalf};
+
+    ghost gates = { gates_of };
+
+    ghost right = { IsRightHalf };
+}

@@ -1,0 +1,165 @@
+//! The faults of binding a job and of evaluating it.
+
+ghost use Rattle.std.specs.Prelude.{◌≡◌};
+ghost use Rattle.gc_job.specs.Fault.{bind_code_of, bind_name_of, eval_code_of, eval_name_of};
+
+use gc_circuit::Memory;
+use std::alloc::{AllocError, AllocFailed};
+use thiserror::Error;
+
+/// Why a garbled file and label files are no job for a circuit: the first fault that holds, in the order below. That of
+/// a label file is the first of the first file that has one. `Memory` stands in place of a later fault, or of the job,
+/// only where a growth was refused.
+#[derive(Clone, Copy, Debug, PartialEq, Eq, Error)]
+pub enum BindFault {
+    /// The garbled file has the digest of another circuit.
+    #[error("OtherCircuit")]
+    OtherCircuit,
+    /// The garbled file has not a row pair for each AND gate and a decode bit for each output wire.
+    #[error("OtherCounts")]
+    OtherCounts,
+    /// A label file is for an input value that the circuit doesn't have.
+    #[error("NoSuchValue")]
+    NoSuchValue,
+    /// A label file has not a label for each wire of its input value.
+    #[error("WrongWidth")]
+    WrongWidth,
+    /// A label file is for an input value that a file before it is for.
+    #[error("DoubleValue")]
+    DoubleValue,
+    /// No label file is for an input value.
+    #[error("MissingValue")]
+    MissingValue,
+    /// Memory ran out.
+    #[error("Memory")]
+    Memory,
+}
+
+impl BindFault {
+    /// The number of the fault, from 40 to 46.
+    pub fn code(self) -> u32
+        ensures { result ≡ bind_code_of self }
+    {
+        match self {
+            BindFault::OtherCircuit => 40,
+            BindFault::OtherCounts => 41,
+            BindFault::NoSuchValue => 42,
+            BindFault::WrongWidth => 43,
+            BindFault::DoubleValue => 44,
+            BindFault::MissingValue => 45,
+            BindFault::Memory => 46,
+        }
+    }
+
+    /// The name of the fault, as users see it.
+    pub fn name(self) -> &'static str
+        ensures { result.now ≡ bind_name_of self }
+    {
+        match self {
+            BindFault::OtherCircuit => "OtherCircuit",
+            BindFault::OtherCounts => "OtherCounts",
+            BindFault::NoSuchValue => "NoSuchValue",
+            BindFault::WrongWidth => "WrongWidth",
+            BindFault::DoubleValue => "DoubleValue",
+            BindFault::MissingValue => "MissingValue",
+            BindFault::Memory => "Memory",
+        }
+    }
+}
+
+impl From<AllocError> for BindFault {
+    ghost use Rattle.std.specs.Prelude.{◌≡◌};
+    ghost use Rattle.gc_job.specs.declared.fault.BindFault.TheVariants as faults;
+
+    ghost from_gives = { λ _ e. e ≡ faults.Memory };
+
+    fn from(_e: AllocError) -> BindFault {
+        BindFault::Memory
+    }
+}
+
+impl<T: Drop> From<AllocFailed<T>> for BindFault {
+    ghost use Rattle.std.specs.Prelude.{◌≡◌};
+    ghost use Rattle.gc_job.specs.declared.fault.BindFault.TheVariants as faults;
+
+    ghost from_gives = { λ _ e. e ≡ faults.Memory };
+
+    fn from(_e: AllocFailed<T>) -> BindFault {
+        BindFault::Memory
+    }
+}
+
+/// Why a job has no output bits. `Memory` stands in place of the answer only where a growth was refused.
+#[derive(Clone, Copy, Debug, PartialEq, Eq, Error)]
+pub enum EvalFault {
+    /// The number of workers is 0 or above [`MAX_WORKERS`](gc_gatehouse::MAX_WORKERS). Evaluation on one thread never gives it.
+    #[error("BadWorkers")]
+    BadWorkers,
+    /// The garbled file doesn't recognise the active label of this output wire, counted from 0 among the output wires:
+    /// the first such wire.
+    #[error("UnknownOutputLabel")]
+    UnknownOutputLabel {
+        /// The place of the output wire among the output wires.
+        output: u32,
+    },
+    /// Memory ran out.
+    #[error("Memory")]
+    Memory,
+}
+
+impl EvalFault {
+    /// The number of the fault: 22, 48, or 46 for memory.
+    pub fn code(self) -> u32
+        ensures { result ≡ eval_code_of self }
+    {
+        match self {
+            EvalFault::BadWorkers => 22,
+            EvalFault::UnknownOutputLabel { .. } => 48,
+            EvalFault::Memory => 46,
+        }
+    }
+
+    /// The name of the fault, as users see it.
+    pub fn name(self) -> &'static str
+        ensures { result.now ≡ eval_name_of self }
+    {
+        match self {
+            EvalFault::BadWorkers => "BadWorkers",
+            EvalFault::UnknownOutputLabel { .. } => "UnknownOutputLabel",
+            EvalFault::Memory => "Memory",
+        }
+    }
+}
+
+impl From<Memory> for EvalFault {
+    ghost use Rattle.std.specs.Prelude.{◌≡◌};
+    ghost use Rattle.gc_job.specs.declared.fault.EvalFault.TheVariants as faults;
+
+    ghost from_gives = { λ _ e. e ≡ faults.Memory };
+
+    fn from(_e: Memory) -> EvalFault {
+        EvalFault::Memory
+    }
+}
+
+impl From<AllocError> for EvalFault {
+    ghost use Rattle.std.specs.Prelude.{◌≡◌};
+    ghost use Rattle.gc_job.specs.declared.fault.EvalFault.TheVariants as faults;
+
+    ghost from_gives = { λ _ e. e ≡ faults.Memory };
+
+    fn from(_e: AllocError) -> EvalFault {
+        EvalFault::Memory
+    }
+}
+
+impl<T: Drop> From<AllocFailed<T>> for EvalFault {
+    ghost use Rattle.std.specs.Prelude.{◌≡◌};
+    ghost use Rattle.gc_job.specs.declared.fault.EvalFault.TheVariants as faults;
+
+    ghost from_gives = { λ _ e. e ≡ faults.Memory };
+
+    fn from(_e: AllocFailed<T>) -> EvalFault {
+        EvalFault::Memory
+    }
+}

@@ -1,0 +1,150 @@
+//! Jobs.
+
+ghost use Rattle.std.specs.Prelude.{◌≡◌, ◌≢◌, length, IfOk, IfErr};
+ghost use Rattle.std.specs.Result.{result_map_both};
+ghost use Rattle.gc_circuit.specs.Circuit.{output_wires};
+
+use crate::bind::{bound_labels, has_counts};
+use crate::decode::{decoded, first_unknown};
+use crate::facts::Facts;
+use crate::fault::{BindFault, EvalFault};
+use gc_circuit::Circuit;
+use gc_file::{Garbled, LabelFile, Version};
+use gc_half::RowPair;
+use gc_label::Label;
+use std::alloc::{Allocator, Global};
+use std::marker::Model;
+use std::snapshot::Snapshot;
+
+/// What the evaluator of a garbled circuit is given: the circuit, what a garbled file of it holds, and a label for each
+/// input wire. The type keeps that there are as many row pairs, decode bits and input labels as the circuit has AND
+/// gates, output wires and input wires. Nothing else is known of them.
+#[derive(Drop)]
+pub struct Job<'c, A: Allocator = Global, C: Allocator = Global> {
+    circuit: &'c Circuit<C>,
+    garbled: Garbled<A>,
+    inputs: Vec<Label, A>,
+}
+
+impl<'c, A: Allocator, C: Allocator> Model for Job<'c, A, C> {
+    ghost use Rattle.gc_job.specs.Job.{JobParts, IsWhole, job_of};
+
+    ghost Value = { JobParts };
+
+    ghost view = { λ j. job_of j.circuit.now j.garbled j.inputs.items };
+
+    ghost invariant = { λ j. IsWhole (job_of j.circuit.now j.garbled j.inputs.items) };
+}
+
+impl<'c, A: Allocator + Copy, C: Allocator> Job<'c, A, C> {
+    ghost use Rattle.sha2.specs.Sha256.{sha256};
+    ghost use Rattle.gc_circuit.specs.Canon.{canonical_text};
+    ghost use Rattle.gc_job.specs.Binding.{IsBound, FirstBindFault};
+
+    /// The job of a circuit, a garbled file and a label file for each input value, in any order. The files are judged in
+    /// this order, and the first fault is the answer: 40 where the garbled file is another circuit's, 41 where it has
+    /// other counts; then for each label file in turn 42 where the circuit has no such input value, 43 where that has
+    /// another width, 44 where a file before it is for the same value; and 45 where an input value has no file. It takes
+    /// memory once, for the input labels.
+    pub fn bind<B: Allocator>(
+        alloc: A,
+        circuit: &'c Circuit<C>,
+        garbled: Garbled<A>,
+        files: &[LabelFile<B>],
+    ) -> Result<Job<'c, A, C>, BindFault>
+        ensures ok { IfOk result (λ job. IsBound circuit.now garbled files.now job) }
+        ensures err { IfErr result (λ fault. fault ≢ BindFault.Memory
+            → FirstBindFault circuit.now garbled files.now fault) }
+    {
+        Job::bind_by_digest(alloc, circuit, &circuit.digest(), garbled, files)
+    }
+
+    /// The job as [`Job::bind`] answers it, for a caller that has the digest of the circuit's canonical text: it isn't
+    /// taken again. That it is that digest is the caller's condition.
+    pub fn bind_by_digest<B: Allocator>(
+        alloc: A,
+        circuit: &'c Circuit<C>,
+        digest: &[u8; 32],
+        garbled: Garbled<A>,
+        files: &[LabelFile<B>],
+    ) -> Result<Job<'c, A, C>, BindFault>
+        requires { digest.now ≡ sha256 (canonical_text circuit.now) }
+        ensures ok { IfOk result (λ job. IsBound circuit.now garbled files.now job) }
+        ensures err { IfErr result (λ fault. fault ≢ BindFault.Memory
+            → FirstBindFault circuit.now garbled files.now fault) }
+    {
+        if garbled.digest() != *digest {
+            return Err(BindFault::OtherCircuit);
+        }
+        if !has_counts(circuit, &garbled) {
+            return Err(BindFault::OtherCounts);
+        }
+        // A circuit is lawful, which its number of wires is told with.
+        let _ = circuit.wires();
+        let inputs = bound_labels(alloc, circuit, files)?;
+        Ok(Job {
+            circuit,
+            garbled,
+            inputs,
+        })
+    }
+}
+
+impl<'c, A: Allocator, C: Allocator> Job<'c, A, C> {
+    ghost use Rattle.gc_job.specs.Job.{IsWhole};
+    ghost use Rattle.gc_job.specs.Evaluate.{IsDecodingOf};
+
+    /// The circuit.
+    pub fn circuit(&self) -> &'c Circuit<C>
+        ensures circuit { result.now ≡ self.now.circuit }
+        ensures whole { IsWhole self.now }
+    {
+        self.circuit
+    }
+
+    /// The row pair of each AND gate, in file order.
+    pub(crate) fn rows(&self) -> &[RowPair]
+        ensures { result.now ≡ self.now.rows }
+    {
+        self.garbled.rows()
+    }
+
+    /// The label of each input wire.
+    pub(crate) fn inputs(&self) -> &[Label]
+        ensures { result.now ≡ self.now.inputs }
+    {
+        &self.inputs
+    }
+
+    /// The job as contracts see it. It has no bytes.
+    pub fn facts(&self) -> Facts<A, C>
+        ensures { result ≡ self.now }
+    {
+        Facts {
+            circuit: Snapshot::of(self.circuit),
+            garbled: Snapshot::of(&self.garbled),
+            inputs: Snapshot::of(&self.inputs),
+        }
+    }
+
+    /// The output bits that these active labels of the output wires decode to ("Two Halves Make a Whole", the procedure
+    /// De). In version 2 it is 48 at the first label whose hash isn't the entry of its colour; in version 1 any label
+    /// decodes. That there is a label for each output wire is the caller's condition.
+    pub fn decode<B: Allocator + Copy>(
+        &self,
+        alloc: B,
+        labels: &[Label],
+    ) -> Result<Vec<bool, B>, EvalFault>
+        requires { length labels.now ≡ output_wires self.now.circuit }
+        ensures { IsDecodingOf self.now labels.now
+            (result_map_both (λ bits. bits.items) (λ fault. fault) result) }
+    {
+        if self.garbled.version() == Version::Two {
+            let and_gates = self.circuit.and_count();
+            if let Some(output) = first_unknown(and_gates, self.garbled.entries(), labels) {
+                return Err(EvalFault::UnknownOutputLabel { output });
+            }
+        }
+        Ok(decoded(alloc, self.garbled.decode_bits(), labels)?)
+    }
+}

@@ -1,0 +1,25 @@
+//! The jobs of an evaluator: a circuit, what a garbled file of it holds, and one active label for each input wire.
+//!
+//! [`Job::bind`] makes a [`Job`] of a circuit, a garbled file and one label file for each input value, and [`evaluate`]
+//! answers its output bits. [`law_honest_files`] says that honest files are bound to an honest job.
+#![tactic(auto)]
+
+mod bind;
+mod decode;
+mod facts;
+mod fault;
+mod job;
+mod laws;
+mod one_thread;
+mod readers;
+mod table;
+mod wiring;
+
+pub use facts::Facts;
+pub use fault::{BindFault, EvalFault};
+pub use job::Job;
+pub use laws::law_honest_files;
+pub use one_thread::{evaluate, evaluate_labels};
+pub use readers::{first_wire, second_wire};
+pub use table::reads;
+pub use wiring::Wiring;

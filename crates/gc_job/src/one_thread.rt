@@ -1,0 +1,109 @@
+ghost use Rattle.std.specs.Prelude.{◌≡◌, ◌≤◌, ℕ, Bool, List, length, map, IfOk, MatchResult};
+ghost use Rattle.std.specs.Result.{result_map_both};
+ghost use Rattle.std.specs.List.{range_with_len};
+ghost use Rattle.gc_circuit.specs.Circuit.{and_count, input_wires, output_wires};
+ghost use Rattle.gc_circuit.specs.Solution.{on_outputs};
+ghost use Rattle.gc_circuit.specs.Meaning.{AreOutputs};
+ghost use Rattle.gc_job.specs.Evaluate.{labels_of, AreActive, IsDecoded, IsEvaluated};
+ghost use Rattle.gc_job.specs.Honest.{IsHonest};
+
+use crate::decode::decoded;
+use crate::fault::EvalFault;
+use crate::job::Job;
+use crate::table::LabelTable;
+use gc_circuit::{Circuit, Memory};
+use gc_half::RowPair;
+use gc_label::Label;
+use std::alloc::Allocator;
+
+/// The labels of the input wires, and zero labels in the places of the other wires.
+fn input_table<A: Allocator + Copy>(
+    alloc: A,
+    wires: u32,
+    inputs: &[Label],
+) -> Result<Vec<Label, A>, Memory>
+    requires { length inputs.now ≤ wires }
+    ensures { IfOk result (λ v. v.items ≡ map (labels_of inputs.now) (range_with_len 0 wires)) }
+{
+    let mut table = Vec::with_capacity(alloc, wires as usize)?;
+    table.extend_from_slice(inputs)?;
+    table.resize(wires as usize, Label::ZERO)?;
+    Ok(table)
+}
+
+/// The active labels on all wires, from those on the input wires: zero on a wire that is not set.
+fn active_labels<A: Allocator + Copy, C: Allocator>(
+    alloc: A,
+    circuit: &Circuit<C>,
+    rows: &[RowPair],
+    inputs: &[Label],
+) -> Result<Vec<Label, A>, Memory>
+    requires rows { length rows.now ≡ and_count circuit.now }
+    requires inputs { length inputs.now ≡ input_wires circuit.now }
+    ensures { IfOk result (λ v. AreActive circuit.now rows.now inputs.now v.items) }
+{
+    let mut active = LabelTable::new(input_table(alloc, circuit.wires(), inputs)?);
+    let mut and_number = 0;
+    for i in 0..circuit.gates() {
+        let gate = circuit.gate(i);
+        active.step(and_number, rows, gate);
+        if gate.operation.is_and() {
+            and_number += 1;
+        }
+    }
+    Ok(active.into_labels())
+}
+
+/// The labels of the output wires, the last ones, out of a label for each wire.
+fn output_labels<'l, C: Allocator>(circuit: &Circuit<C>, labels: &'l [Label]) -> &'l [Label]
+    requires { length labels.now ≡ circuit.now.wires }
+    ensures count { length result.now ≡ output_wires circuit.now }
+    ensures last { (values : ℕ → ℕ) → labels.now ≡ map values (range_with_len 0 circuit.now.wires)
+        → result.now ≡ on_outputs circuit.now values }
+{
+    let first = circuit.wires() - circuit.output_wires();
+    let (_, last) = labels.split_at(first as usize);
+    last
+}
+
+/// Evaluates a garbled circuit on one thread: the output bits, in wire order, that the active labels on the
+/// output wires decode to. It is given the row pair of each AND gate in file order, a decode bit for each output
+/// wire and the active label of each input wire, and trusts none of them: the answer is what an evaluation of
+/// these very rows and labels decodes to ("Two Halves Make a Whole", the procedures Ev and De).
+///
+/// That there are as many row pairs, decode bits and labels as the circuit has AND gates, output wires and
+/// input wires is the caller's condition.
+pub fn evaluate_labels<A: Allocator + Copy, C: Allocator>(
+    alloc: A,
+    circuit: &Circuit<C>,
+    rows: &[RowPair],
+    decode_bits: &[bool],
+    inputs: &[Label],
+) -> Result<Vec<bool, A>, Memory>
+    requires rows { length rows.now ≡ and_count circuit.now }
+    requires decode_bits { length decode_bits.now ≡ output_wires circuit.now }
+    requires inputs { length inputs.now ≡ input_wires circuit.now }
+    ensures { IfOk result (λ v. IsDecoded circuit.now rows.now decode_bits.now inputs.now v.items) }
+{
+    let active = active_labels(alloc, circuit, rows, inputs)?;
+    decoded(alloc, decode_bits, output_labels(circuit, &active))
+}
+
+/// Evaluates a job on one thread: the output bits, in wire order. Nothing of the job is trusted: the answer is what an
+/// evaluation of its rows on its input labels decodes to ("Two Halves Make a Whole", the procedures Ev and De). In version
+/// 2 it is 48 at the first output whose active label the garbled file doesn't recognise. An honest job gives the
+/// circuit's outputs, and never 48.
+pub fn evaluate<A: Allocator, B: Allocator + Copy, C: Allocator>(
+    alloc: B,
+    job: &Job<'_, A, C>,
+) -> Result<Vec<bool, B>, EvalFault>
+    ensures evaluated { IsEvaluated job.now
+        (result_map_both (λ bits. bits.items) (λ fault. fault) result) }
+    ensures honest { (seed : List ℕ) (bits : List Bool) → IsHonest job.now seed bits →
+        MatchResult result (λ outputs. AreOutputs job.now.circuit bits outputs.items)
+        (λ fault. fault ≡ EvalFault.Memory) }
+{
+    let circuit = job.circuit();
+    let active = active_labels(alloc, circuit, job.rows(), job.inputs())?;
+    job.decode(alloc, output_labels(circuit, &active))
+}

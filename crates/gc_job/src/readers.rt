@@ -1,0 +1,174 @@
+//! What an evaluation of a job reads of it.
+
+ghost use Rattle.std.specs.Prelude.{◌≡◌, ℕ, ◌<◌, IfSome, IfNone, slice_index};
+ghost use Rattle.gc_circuit.specs.Circuit.{IsSetBy, and_number, input_wires};
+ghost use Rattle.gc_job.specs.ActiveLabels.{gates_of, active_from};
+ghost use Rattle.gc_job.specs.Pending.{label_of_step};
+ghost use Rattle.gc_job.specs.Wiring.{first_of, second_of};
+
+use crate::job::Job;
+use crate::wiring::Wiring;
+use gc_circuit::Operation;
+use gc_half::{AndStep, eval_two_ands, evaluate_gate};
+use gc_label::Label;
+use std::alloc::Allocator;
+
+/// The wire that an operation reads first, if it reads one.
+#[inline]
+pub fn first_wire(operation: Operation) -> Option<u32>
+    ensures { result ≡ first_of operation }
+{
+    match operation {
+        Operation::Xor(a, _) => Some(a),
+        Operation::And(a, _) => Some(a),
+        Operation::Inv(a) => Some(a),
+        Operation::Eqw(a) => Some(a),
+        Operation::Eq(_) => None,
+    }
+}
+
+/// The wire that it reads second, if it reads two.
+#[inline]
+pub fn second_wire(operation: Operation) -> Option<u32>
+    ensures { result ≡ second_of operation }
+{
+    match operation {
+        Operation::Xor(_, b) => Some(b),
+        Operation::And(_, b) => Some(b),
+        _ => None,
+    }
+}
+
+impl<'c, A: Allocator, C: Allocator> Job<'c, A, C> {
+    /// The active label of an input wire. That it is one is the caller's condition.
+    #[inline]
+    pub fn input(&self, wire: u32) -> Label
+        requires { wire < input_wires self.now.circuit }
+        ensures { result ≡ slice_index self.now.inputs wire }
+    {
+        let _ = self.circuit();
+        self.inputs()[wire as usize]
+    }
+
+    /// The gate that sets a wire, if one does. It takes no memory and goes through the gates; [`Wiring::setter`] reads a
+    /// table. That there is such a wire is the caller's condition.
+    pub fn setter(&self, wire: u32) -> Option<u32>
+        requires { wire < self.now.circuit.wires }
+        ensures some { IfSome result (IsSetBy self.now.circuit wire) }
+        ensures none { IfNone result ((g : ℕ) → IsSetBy self.now.circuit wire g → ⊥) }
+    {
+        let circuit = self.circuit();
+        for gate in 0..circuit.gates() {
+            if circuit.gate(gate).set == wire {
+                return Some(gate);
+            }
+        }
+        None
+    }
+
+    /// The active label of the wire that a gate sets, from those of the wires that it reads first and second; one that it
+    /// doesn't read is ignored ("Two Halves Make a Whole", the procedure Ev). It takes no memory and counts the AND gates
+    /// before the gate; [`Job::active_by`] reads a table. That there is such a gate is the caller's condition.
+    pub fn active(&self, gate: u32, first: Label, second: Label) -> Label
+        requires { gate < gates_of self.now }
+        ensures { result ≡ active_from self.now gate first second }
+    {
+        self.active_at(self.and_number(gate), gate, first, second)
+    }
+
+    /// The same, with the tables of the job's circuit. That there is such a gate, and that the wiring is the circuit's,
+    /// are the caller's conditions.
+    #[inline]
+    pub fn active_by<B: Allocator>(
+        &self,
+        wiring: &Wiring<'c, B, C>,
+        gate: u32,
+        first: Label,
+        second: Label,
+    ) -> Label
+        requires gate { gate < gates_of self.now }
+        requires wiring { wiring.now ≡ self.now.circuit }
+        ensures { result ≡ active_from self.now gate first second }
+    {
+        self.active_at(wiring.and_number(gate), gate, first, second)
+    }
+
+    /// The same, where this is the gate's AND number.
+    #[inline]
+    fn active_at(&self, number: u32, gate: u32, first: Label, second: Label) -> Label
+        requires gate { gate < gates_of self.now }
+        requires number { number ≡ and_number self.now.circuit gate }
+        ensures { result ≡ active_from self.now gate first second }
+    {
+        let operation = self.circuit().gate(gate).operation;
+        evaluate_gate(number, self.rows(), operation, first, second)
+    }
+
+    /// The active labels of the wires that two gates set, each as [`Job::active_by`] gives it from the labels of the wires
+    /// that the gate reads first and second. Two AND gates are evaluated at once. That there are such gates, and that the
+    /// wiring is the circuit's, are the caller's conditions.
+    #[inline]
+    pub fn active_two<B: Allocator>(
+        &self,
+        wiring: &Wiring<'c, B, C>,
+        one: u32,
+        one_read: (Label, Label),
+        other: u32,
+        other_read: (Label, Label),
+    ) -> (Label, Label)
+        requires gates { (one < gates_of self.now) × (other < gates_of self.now) }
+        requires wiring { wiring.now ≡ self.now.circuit }
+        ensures one { result.0 ≡ active_from self.now one one_read.0 one_read.1 }
+        ensures other { result.1 ≡ active_from self.now other other_read.0 other_read.1 }
+    {
+        let step = self.and_step(wiring, one, one_read.0, one_read.1);
+        let other_step = self.and_step(wiring, other, other_read.0, other_read.1);
+        match (step, other_step) {
+            (Some(step), Some(other_step)) => eval_two_ands(step, other_step),
+            _ => (
+                self.active_by(wiring, one, one_read.0, one_read.1),
+                self.active_by(wiring, other, other_read.0, other_read.1),
+            ),
+        }
+    }
+
+    /// What the evaluation of a gate takes, where it is an AND gate.
+    #[inline]
+    fn and_step<B: Allocator>(
+        &self,
+        wiring: &Wiring<'c, B, C>,
+        gate: u32,
+        a: Label,
+        b: Label,
+    ) -> Option<AndStep>
+        requires gate { gate < gates_of self.now }
+        requires wiring { wiring.now ≡ self.now.circuit }
+        ensures { IfSome result (λ step. label_of_step step ≡ active_from self.now gate a b) }
+    {
+        let k = wiring.and_number(gate);
+        match self.circuit().gate(gate).operation {
+            Operation::And(_, _) => Some(AndStep {
+                k,
+                rows: self.rows()[k as usize],
+                a,
+                b,
+            }),
+            _ => None,
+        }
+    }
+
+    /// How many AND gates stand before a gate in the file. That there is such a gate is the caller's condition.
+    fn and_number(&self, gate: u32) -> u32
+        requires { gate < gates_of self.now }
+        ensures { result ≡ and_number self.now.circuit gate }
+    {
+        let circuit = self.circuit();
+        let mut number = 0u32;
+        for i in 0..gate {
+            if circuit.gate(i).operation.is_and() {
+                number += 1;
+            }
+        }
+        number
+    }
+}
