@@ -8,15 +8,15 @@ use Rattle.gc_file.specs.LabelFile.{LabelFileParts}
 use Rattle.gc_file.specs.FileFault.{FirstFault}
 use Rattle.gc_job.specs.Job.{JobParts}
 use Rattle.gc_bank.specs.Jobs.{AreEvaluated, AreOnOneCircuit}
-use Rattle.gc_cli.specs.declared.fault.Fault.{Fault}
-use Rattle.gc_cli.specs.declared.fault.Fault.TheVariants as faults
-use Rattle.gc_cli.specs.Files.{FileBytes, GivesFile}
-use Rattle.gc_cli.specs.CircuitFile.{IsCircuit, IsCircuitFault, HasCircuitFault}
-use Rattle.gc_cli.specs.Eval.{TellLabels, HasLabelsFault}
+use Rattle.gc_command.specs.declared.fault.Fault.{Fault}
+use Rattle.gc_command.specs.declared.fault.Fault.TheVariants as faults
+use Rattle.gc_command.specs.Files.{FileBytes, GivesFile}
+use Rattle.gc_command.specs.CircuitFile.{IsCircuit, IsCircuitFault, HasCircuitFault}
+use Rattle.gc_command.specs.Eval.{TellLabels, HasLabelsFault}
 use Rattle.gc_cli.specs.JobList.{IsJobList, listed}
 use Rattle.gc_cli.specs.Jobs.{NameFiles, NameJob, FirstBadNamed, HasNamedFault, NameJobs, FirstBadJob, HasLinesFault, HasListFault, HasBadJob, AreListed, HasJobsFault}
-use Rattle.gc_cli.proofs.AnswerLemmas.{length-decoded}
-use Rattle.gc_cli.proofs.EvalLemmas.{told-before, labels-before, bad-before}
+use Rattle.gc_command.proofs.AnswerLemmas.{length-decoded}
+use Rattle.gc_command.proofs.EvalLemmas.{told-before, labels-before, bad-before}
 
 -- What files name they named before, where no file has changed.
 module _ (old new : FileBytes) (same : (n : List ℕ) → new n ≡ old n) where

@@ -1,12 +1,3 @@
-pub mod WroteLemmas
-pub mod ValuesLemmas
-pub mod AnswerLemmas
-pub mod RunLemmas
-pub mod EvalLemmas
-pub mod FaultLemmas
-pub mod OwnFilesLemmas
-pub mod PlainLemmas
-pub mod CheckLemmas
 pub mod JobListLemmas
 pub mod JobsLemmas
 pub mod MistakeLemmas

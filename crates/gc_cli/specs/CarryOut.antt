@@ -1,15 +1,14 @@
 -- What a command answers and writes, and which fault it has, where the files' bytes are known.
-use Rattle.std.specs.Prelude.{◌≡◌, ℕ, ◌<◌, List, IfSome}
-use Rattle.gc_cli.specs.declared.fault.Fault.{Fault}
-use Rattle.gc_cli.specs.declared.fault.Fault.TheVariants.{CannotRead, CannotWrite}
+use Rattle.std.specs.Prelude.{◌≡◌, ℕ, List, IfSome}
+use Rattle.gc_command.specs.declared.fault.Fault.{Fault}
 use Rattle.gc_order.specs.Order.{OrderText, run, plain, check, garble, deal, eval, jobs}
-use Rattle.gc_cli.specs.Files.{FileBytes}
-use Rattle.gc_cli.specs.Run.{AnswersRun, HasRunFault}
-use Rattle.gc_cli.specs.Plain.{AnswersPlain, HasPlainFault}
-use Rattle.gc_cli.specs.Check.{AnswersCheck, HasCheckFault}
-use Rattle.gc_cli.specs.Garble.{AnswersGarble, HasGarbleFault}
-use Rattle.gc_cli.specs.Deal.{AnswersDeal, HasDealFault}
-use Rattle.gc_cli.specs.Eval.{AnswersEval, HasEvalFault}
+use Rattle.gc_command.specs.Files.{FileBytes}
+use Rattle.gc_command.specs.Run.{AnswersRun, HasRunFault}
+use Rattle.gc_command.specs.Plain.{AnswersPlain, HasPlainFault}
+use Rattle.gc_command.specs.Check.{AnswersCheck, HasCheckFault}
+use Rattle.gc_command.specs.Garble.{AnswersGarble, HasGarbleFault}
+use Rattle.gc_command.specs.Deal.{AnswersDeal, HasDealFault}
+use Rattle.gc_command.specs.Eval.{AnswersEval, HasEvalFault}
 use Rattle.gc_cli.specs.Jobs.{AnswersJobs, HasJobsFault}
 
 -- The order is done: the bytes for standard output are its answer, and where it writes a file, that is written. `old` and
@@ -44,9 +43,3 @@ abbrev pub Writes : OrderText → List ℕ → Type 0
 Writes (garble circuit seed out version workers) name = name ≡ out
 Writes (deal circuit seed index value out) name = name ≡ out
 Writes order name = ⊥
-
--- A fault of a file comes only where the number of failures rose.
-abbrev pub HasCause : Fault → ℕ → ℕ → Type 0
-HasCause CannotRead old new = old < new
-HasCause CannotWrite old new = old < new
-HasCause fault old new = Unit {0}

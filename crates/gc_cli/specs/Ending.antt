@@ -1,6 +1,6 @@
 -- How a run ends.
 use Rattle.std.specs.Prelude.{ℕ}
-use Rattle.gc_cli.specs.declared.fault.Fault.{Fault}
+use Rattle.gc_command.specs.declared.fault.Fault.{Fault}
 use Rattle.gc_cli.specs.declared.ending.Ending.{Ending}
 use Rattle.gc_cli.specs.declared.ending.Ending.TheVariants as ending
 

@@ -4,8 +4,8 @@ use Rattle.std.specs.List.{slice_split}
 use Rattle.std.specs.Str.{IsUtf8}
 use Rattle.gc_circuit.specs.Text.{tokens}
 use Rattle.gc_bank.specs.declared.jobs.TheConstants.{MAX_JOBS}
-use Rattle.gc_cli.specs.declared.fault.Fault.{Fault}
-use Rattle.gc_cli.specs.declared.fault.Fault.TheVariants.{BadList, Memory}
+use Rattle.gc_command.specs.declared.fault.Fault.{Fault}
+use Rattle.gc_command.specs.declared.fault.Fault.TheVariants.{BadList, Memory}
 
 abbrev pub has_words : List (List ℕ) → Bool
 has_words [] = false

@@ -1,18 +1,3 @@
-pub mod Files
-pub mod FileFailures
-pub mod Fault
-pub mod CircuitFile
-pub mod Values
-pub mod Lines
-pub mod Run
-pub mod Plain
-pub mod Check
-pub mod SeedText
-pub mod Wrote
-pub mod Garble
-pub mod Deal
-pub mod Job
-pub mod Eval
 pub mod JobList
 pub mod Jobs
 pub mod CarryOut
@@ -20,4 +5,3 @@ pub mod CommandLine
 pub mod Output
 pub mod Ending
 pub mod Serve
-pub mod OwnFiles

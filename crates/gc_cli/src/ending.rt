@@ -3,7 +3,7 @@
 ghost use Rattle.std.specs.Prelude.{◌≡◌};
 ghost use Rattle.gc_cli.specs.Ending.{status_of};
 
-use crate::fault::Fault;
+use gc_command::Fault;
 
 /// What a run of the program comes to.
 #[derive(Clone, Copy, Debug, PartialEq, Eq)]

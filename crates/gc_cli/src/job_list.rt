@@ -4,8 +4,8 @@ ghost use Rattle.std.specs.Prelude.{◌≡◌, map, IfOk, IfErr};
 ghost use Rattle.gc_circuit.specs.Text.{is_blank, tokens};
 ghost use Rattle.gc_cli.specs.JobList.{HasTextFault, IsJobList, has_words, listed};
 
-use crate::fault::Fault;
 use gc_bank::MAX_JOBS;
+use gc_command::Fault;
 use std::alloc::{AllocError, Allocator};
 use std::str;
 

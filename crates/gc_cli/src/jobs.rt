@@ -5,14 +5,11 @@ ghost use Rattle.gc_gatehouse.specs.Workers.{AreFew};
 ghost use Rattle.gc_bank.specs.Jobs.{AreEvaluated, AreEvaluatedBy, AreOnOneCircuit};
 ghost use Rattle.gc_bank.specs.declared.jobs.TheConstants.{MAX_JOBS};
 ghost use Rattle.gc_cli.specs.Jobs.{AnswersJobs, HasJobsFault};
-ghost use Rattle.gc_cli.specs.CarryOut.{HasCause};
+ghost use Rattle.gc_command.specs.Fault.{HasCause};
 
-use crate::circuit_file::read_circuit;
-use crate::fault::Fault;
-use crate::files::Files;
-use crate::lines::jobs_lines;
 use crate::listed_job::read_listed_jobs;
 use gc_bank::evaluate_jobs;
+use gc_command::{Fault, Files, jobs_lines, read_circuit};
 use gc_eval::{EvalFault, Job};
 use gc_gatehouse::Open;
 use std::alloc::Allocator;

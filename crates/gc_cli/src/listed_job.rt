@@ -5,13 +5,11 @@ ghost use Rattle.sha2.specs.Sha256.{sha256};
 ghost use Rattle.gc_circuit.specs.Canon.{canonical_text};
 ghost use Rattle.gc_circuit.specs.Text.{tokens};
 ghost use Rattle.gc_cli.specs.Jobs.{AreListed, HasListFault, HasLinesFault, HasNamedFault, NameJob, NameJobs};
-ghost use Rattle.gc_cli.specs.CarryOut.{HasCause};
+ghost use Rattle.gc_command.specs.Fault.{HasCause};
 
-use crate::evaluated_files::{read_garbled_file, read_label_files};
-use crate::fault::Fault;
-use crate::files::Files;
 use crate::job_list::{listed_lines, words_of_line};
 use gc_circuit::Circuit;
+use gc_command::{Fault, Files, read_garbled_file, read_label_files};
 use gc_eval::Job;
 use std::alloc::Allocator;
 

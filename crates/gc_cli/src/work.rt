@@ -2,17 +2,11 @@
 
 ghost use Rattle.std.specs.Prelude.{◌≡◌, ◌≢◌, ℕ, List, IfOk, IfErr};
 ghost use Rattle.gc_order.specs.Order.{text_of};
-ghost use Rattle.gc_cli.specs.CarryOut.{Answers, HasFault, HasCause, Writes};
+ghost use Rattle.gc_command.specs.Fault.{HasCause};
+ghost use Rattle.gc_cli.specs.CarryOut.{Answers, HasFault, Writes};
 
-use crate::check::check;
-use crate::deal::deal;
-use crate::eval::eval;
-use crate::fault::Fault;
-use crate::files::Files;
-use crate::garble::garble;
 use crate::jobs::jobs;
-use crate::plain::plain;
-use crate::run::run;
+use gc_command::{Fault, Files, check, deal, eval, garble, plain, run};
 use gc_order::Order;
 use std::alloc::Allocator;
 use std::sync::Wait;

@@ -1,0 +1,9 @@
+pub mod WroteLemmas
+pub mod ValuesLemmas
+pub mod AnswerLemmas
+pub mod RunLemmas
+pub mod EvalLemmas
+pub mod FaultLemmas
+pub mod OwnFilesLemmas
+pub mod PlainLemmas
+pub mod CheckLemmas

@@ -1,0 +1,51 @@
+use Rattle.std.proofs.Common.{◌∙◌, refl}
+use Rattle.std.proofs.lemmas.Result.{IfOk-weaker, IfErr-weaker}
+use Rattle.gc_command.specs.CircuitFile.{IsCircuit}
+use Rattle.gc_command.proofs.AnswerLemmas.{IfSome-map}
+use Rattle.gc_command.proofs.WroteLemmas.{IfSome-both, input_value-width, deal-unwritten}
+use Rattle.gc_cli.proofs.deal.deal.Goals as goal
+
+pub write_value-requires : goal.write_value-requires
+write_value-requires g c =
+    let told = rw c.input_widths.ensures at c.in_ok-bits.ensures.told in
+    rw c.deref.ensures.value (input_value-width c.in_ok-circuit.circuit.input_widths c.args.index c.args.value.now c.in_ok-bits.bits.items told)
+
+pub returns-clause-answers : goal.returns-clause-answers
+returns-clause-answers g c = IfOk-weaker c.write_value.result _ _
+    (λ lines written. IfSome-both (g.F.Files.bytes c.args.files.now c.args.circuit.now) (λ bytes. IsCircuit bytes c.in_ok-circuit.circuit) _ _
+    (λ bytes circuit wrote. record {
+      circuit = c.in_ok-circuit.circuit;
+      seed = c.in_ok-seed.seed;
+      bits = c.in_ok-bits.bits.items;
+      told = record {
+        circuit = circuit;
+        seed_told = record { accepted = c.in_ok-seed.ensures.accepts.0 refl; spelled = c.in_ok-seed.ensures.bytes };
+        value = rw c.input_widths.ensures at c.in_ok-bits.ensures.told;
+      };
+      written = rw c.deref.ensures.value at wrote;
+    })
+    c.in_ok-circuit.ensures.circuit
+    (rw (c.read_circuit.ensures.same c.args.circuit.now) at (written c.args.circuit.now)))
+    c.write_value.ensures.written
+
+pub returns-clause-fault : goal.returns-clause-fault
+returns-clause-fault g c = IfErr-weaker c.write_value.result _ _
+    (λ fault unwritten. IfSome-map (g.F.Files.bytes c.args.files.now c.args.circuit.now) (λ bytes. IsCircuit bytes c.in_ok-circuit.circuit) _
+    (λ bytes circuit. deal-unwritten bytes c.args.seed.now c.args.index c.args.value.now c.in_ok-circuit.circuit c.in_ok-seed.seed c.in_ok-bits.bits.items
+    (record {
+      circuit = circuit;
+      seed_told = record { accepted = c.in_ok-seed.ensures.accepts.0 refl; spelled = c.in_ok-seed.ensures.bytes };
+      value = rw c.input_widths.ensures at c.in_ok-bits.ensures.told;
+    }) fault unwritten)
+    c.in_ok-circuit.ensures.circuit)
+    c.write_value.ensures.fault
+
+pub returns-clause-cause : goal.returns-clause-cause
+returns-clause-cause g c = IfErr-weaker c.write_value.result _ _
+    (λ fault cause. rw c.in_ok-circuit.ensures.counted at cause)
+    c.write_value.ensures.cause
+
+pub returns-clause-unwritten : goal.returns-clause-unwritten
+returns-clause-unwritten g c = IfErr-weaker c.write_value.result _ _
+    (λ fault same other n. same other n ∙ c.read_circuit.ensures.same n)
+    c.write_value.ensures.unwritten

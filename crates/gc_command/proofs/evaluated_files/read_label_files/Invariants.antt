@@ -1,0 +1,18 @@
+use Rattle.std.proofs.Common.{◌≡◌, ℕ, ◌++◌, List, drop, map}
+use Rattle.gc_file.specs.declared.fault.FileFault.{FileFault}
+use Rattle.gc_file.specs.LabelFile.{LabelFileParts}
+use Rattle.gc_command.specs.Eval.{TellLabels, FirstBadLabels}
+use Rattle.gc_cli.proofs.evaluated_files.read_label_files.Given as goal
+
+-- What the files that are left tell, all of them tell.
+abbrev pub invariant-loop-name : goal.invariant-loop-name
+invariant-loop-name g l = record {
+  told : (left : List LabelFileParts)
+      → TellLabels (g.F.Files.bytes l.fn.files) (map g.N.AsStr.text (drop l.name-index l.names)) left
+      → TellLabels (g.F.Files.bytes l.fn.files) (map g.N.AsStr.text l.names) (l.labels.items ++ left);
+  faults : (fault : FileFault)
+      → FirstBadLabels (g.F.Files.bytes l.fn.files) (map g.N.AsStr.text (drop l.name-index l.names)) fault
+      → FirstBadLabels (g.F.Files.bytes l.fn.files) (map g.N.AsStr.text l.names) fault;
+  same : (n : List ℕ) → g.F.Files.bytes l.files n ≡ g.F.Files.bytes l.fn.files n;
+  counted : g.F.Files.failures l.files ≡ g.F.Files.failures l.fn.files;
+}

@@ -1,0 +1,51 @@
+use Rattle.std.proofs.Common.{◌∙◌, refl}
+use Rattle.std.proofs.lemmas.Result.{IfOk-weaker, IfErr-weaker}
+use Rattle.gc_command.specs.CircuitFile.{IsCircuit}
+use Rattle.gc_command.proofs.AnswerLemmas.{IfSome-map}
+use Rattle.gc_command.proofs.WroteLemmas.{IfSome-both, garble-unwritten, garbled-fits}
+use Rattle.gc_cli.proofs.garble.garble.Goals as goal
+
+pub write_garbling-requires : goal.write_garbling-requires
+write_garbling-requires g c =
+    garbled-fits c.in_ok-circuit.circuit c.in_ok-seed.seed c.in_ok-garbling.garbling
+    c.in_ok-garbling.ensures.garbled
+
+pub returns-clause-answers : goal.returns-clause-answers
+returns-clause-answers g c = IfOk-weaker c.write_garbling.result _ _
+    (λ lines written. IfSome-both (g.F.Files.bytes c.args.files.now c.args.circuit.now) (λ bytes. IsCircuit bytes c.in_ok-circuit.circuit) _ _
+    (λ bytes circuit wrote. record {
+      circuit = c.in_ok-circuit.circuit;
+      seed = c.in_ok-seed.seed;
+      told = record {
+        circuit = circuit;
+        seed_told = record { accepted = c.in_ok-seed.ensures.accepts.0 refl; spelled = c.in_ok-seed.ensures.bytes };
+      };
+      garbling = c.in_ok-garbling.garbling;
+      few = c.in_ok-garbling.ensures.workers;
+      garbled = c.in_ok-garbling.ensures.garbled;
+      written = wrote;
+    })
+    c.in_ok-circuit.ensures.circuit
+    (rw (c.read_circuit.ensures.same c.args.circuit.now) at (written c.args.circuit.now)))
+    c.write_garbling.ensures.written
+
+pub returns-clause-fault : goal.returns-clause-fault
+returns-clause-fault g c = IfErr-weaker c.write_garbling.result _ _
+    (λ fault unwritten. IfSome-map (g.F.Files.bytes c.args.files.now c.args.circuit.now) (λ bytes. IsCircuit bytes c.in_ok-circuit.circuit) _
+    (λ bytes circuit. garble-unwritten bytes c.args.seed.now c.args.workers c.in_ok-circuit.circuit c.in_ok-seed.seed
+    (record {
+      circuit = circuit;
+      seed_told = record { accepted = c.in_ok-seed.ensures.accepts.0 refl; spelled = c.in_ok-seed.ensures.bytes };
+    }) c.in_ok-garbling.ensures.workers fault unwritten)
+    c.in_ok-circuit.ensures.circuit)
+    c.write_garbling.ensures.fault
+
+pub returns-clause-cause : goal.returns-clause-cause
+returns-clause-cause g c = IfErr-weaker c.write_garbling.result _ _
+    (λ fault cause. rw c.in_ok-circuit.ensures.counted at cause)
+    c.write_garbling.ensures.cause
+
+pub returns-clause-unwritten : goal.returns-clause-unwritten
+returns-clause-unwritten g c = IfErr-weaker c.write_garbling.result _ _
+    (λ fault same other n. same other n ∙ c.read_circuit.ensures.same n)
+    c.write_garbling.ensures.unwritten

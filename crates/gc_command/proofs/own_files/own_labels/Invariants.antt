@@ -1,0 +1,7 @@
+use Rattle.std.proofs.Common.{take, map}
+use Rattle.gc_command.specs.OwnFiles.{AreLabelsOf}
+use Rattle.gc_cli.proofs.own_files.own_labels.Given as goal
+
+abbrev pub invariant-loop-i : goal.invariant-loop-i
+invariant-loop-i g l =
+    AreLabelsOf l.circuit l.seed (take l.i (map (λ value. value.items) l.values)) l.labels.items

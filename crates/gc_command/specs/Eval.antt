@@ -1,0 +1,94 @@
+-- The command `eval`: what it answers, and which fault it has. What is said of a file is said where its bytes are known.
+use Rattle.std.specs.Prelude.{◌≡◌, ◌≢◌, ℕ, ◌⊎◌, Bool, List, [], ◌∷◌, IfSome}
+use Rattle.gc_circuit.specs.Circuit.{Netlist}
+use Rattle.gc_file.specs.declared.fault.FileFault.{FileFault}
+use Rattle.gc_file.specs.declared.fault.FileFault.TheVariants as file
+use Rattle.gc_file.specs.GarbledFile.{GarbledParts, IsGarbledFile}
+use Rattle.gc_file.specs.LabelFile.{LabelFileParts, IsLabelFile}
+use Rattle.gc_file.specs.FileFault.{FirstFault, FirstLabelFault}
+use Rattle.gc_gatehouse.specs.Workers.{AreFew}
+use Rattle.gc_command.specs.declared.fault.Fault.{Fault}
+use Rattle.gc_command.specs.declared.fault.Fault.TheVariants.{Circuit, File, Binding, Evaluation, CannotRead, Memory}
+use Rattle.gc_command.specs.Files.{FileBytes}
+use Rattle.gc_command.specs.CircuitFile.{IsCircuit, HasCircuitFault}
+use Rattle.gc_command.specs.Lines.{output_lines}
+use Rattle.gc_command.specs.Job.{DecodeTo, HasJobFault}
+
+-- The files of these names are label files with these parts: as many, and each its own.
+abbrev pub TellLabels : FileBytes → List (List ℕ) → List LabelFileParts → Type 0
+TellLabels bytes [] [] = Unit {0}
+TellLabels bytes (name ∷ names) (parts ∷ files) =
+    IfSome (bytes name) (λ held. IsLabelFile held parts) × TellLabels bytes names files
+TellLabels bytes _ _ = ⊥
+
+-- The first file that is no label file has this fault.
+abbrev pub FirstBadLabels : FileBytes → List (List ℕ) → FileFault → Type 0
+FirstBadLabels bytes [] fault = ⊥
+FirstBadLabels bytes (name ∷ names) fault =
+    IfSome (bytes name) (λ held. FirstLabelFault held fault)
+    ⊎ ((parts : LabelFileParts) × IfSome (bytes name) (λ held. IsLabelFile held parts)
+    × FirstBadLabels bytes names fault)
+
+-- The garbled file has this fault, or it has none, and the label files have it.
+abbrev pub FirstBadFile : FileBytes → List ℕ → List (List ℕ) → FileFault → Type 0
+FirstBadFile bytes garbled labels fault =
+    IfSome (bytes garbled) (λ held. FirstFault held fault)
+    ⊎ ((g : GarbledParts) × IfSome (bytes garbled) (λ held. IsGarbledFile held g) × FirstBadLabels bytes labels fault)
+
+-- The faults of reading a garbled file, a label file, and label files in turn, memory aside.
+abbrev pub HasGarbledFault : FileBytes → List ℕ → Fault → Type 0
+HasGarbledFault bytes garbled (File fault) =
+    fault ≢ file.Memory → IfSome (bytes garbled) (λ held. FirstFault held fault)
+HasGarbledFault bytes garbled CannotRead = Unit {0}
+HasGarbledFault bytes garbled Memory = Unit {0}
+HasGarbledFault bytes garbled _ = ⊥
+
+abbrev pub HasLabelFault : FileBytes → List ℕ → Fault → Type 0
+HasLabelFault bytes name (File fault) =
+    fault ≢ file.Memory → IfSome (bytes name) (λ held. FirstLabelFault held fault)
+HasLabelFault bytes name CannotRead = Unit {0}
+HasLabelFault bytes name Memory = Unit {0}
+HasLabelFault bytes name _ = ⊥
+
+abbrev pub HasLabelsFault : FileBytes → List (List ℕ) → Fault → Type 0
+HasLabelsFault bytes labels (File fault) = fault ≢ file.Memory → FirstBadLabels bytes labels fault
+HasLabelsFault bytes labels CannotRead = Unit {0}
+HasLabelsFault bytes labels Memory = Unit {0}
+HasLabelsFault bytes labels _ = ⊥
+
+-- The files of these names are a circuit, a garbled file and label files.
+pub record TellEval (bytes : FileBytes) (circuit garbled : List ℕ) (labels : List (List ℕ)) (c : Netlist)
+    (g : GarbledParts) (files : List LabelFileParts) : Type 0 where
+  pub circuit_told : IfSome (bytes circuit) (λ held. IsCircuit held c)
+  pub garbled_told : IfSome (bytes garbled) (λ held. IsGarbledFile held g)
+  pub labels_told : TellLabels bytes labels files
+
+-- What `eval` answers: the lines of what the files decode to, whatever the number of workers.
+pub record AnswersEval (bytes : FileBytes) (circuit garbled : List ℕ) (workers : ℕ) (labels : List (List ℕ))
+    (lines : List ℕ) : Type 0 where
+  pub c : Netlist
+  pub g : GarbledParts
+  pub files : List LabelFileParts
+  pub told : TellEval bytes circuit garbled labels c g files
+  pub few : AreFew workers
+  pub outputs : List Bool
+  pub decoded : DecodeTo c g files outputs
+  pub printed : lines ≡ output_lines c.output_widths outputs
+
+-- When `eval` has which fault: it is the first in the order of the work, in which the number of workers comes after
+-- binding, but that memory may run out at each step.
+abbrev pub HasEvalFault : FileBytes → List ℕ → List ℕ → ℕ → List (List ℕ) → Fault → Type 0
+HasEvalFault bytes circuit garbled workers labels CannotRead = Unit {0}
+HasEvalFault bytes circuit garbled workers labels (Circuit fault) =
+    IfSome (bytes circuit) (λ held. HasCircuitFault held (Circuit fault))
+HasEvalFault bytes circuit garbled workers labels (File fault) =
+    ((c : Netlist) × IfSome (bytes circuit) (λ held. IsCircuit held c))
+    × (fault ≢ file.Memory → FirstBadFile bytes garbled labels fault)
+HasEvalFault bytes circuit garbled workers labels (Binding fault) =
+    (c : Netlist) × ((g : GarbledParts) × ((files : List LabelFileParts)
+    × (TellEval bytes circuit garbled labels c g files × HasJobFault c g files workers (Binding fault))))
+HasEvalFault bytes circuit garbled workers labels (Evaluation fault) =
+    (c : Netlist) × ((g : GarbledParts) × ((files : List LabelFileParts)
+    × (TellEval bytes circuit garbled labels c g files × HasJobFault c g files workers (Evaluation fault))))
+HasEvalFault bytes circuit garbled workers labels Memory = Unit {0}
+HasEvalFault bytes circuit garbled workers labels _ = ⊥

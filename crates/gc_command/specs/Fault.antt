@@ -1,0 +1,65 @@
+-- The numbers, names and texts of faults.
+use Rattle.std.specs.Prelude.{◌≡◌, ℕ, ◌<◌, List, ◌∷◌, ◌++◌, codes}
+use Rattle.std.specs.Fmt.{decimal}
+use Rattle.gc_circuit.specs.Fault as read
+use Rattle.gc_circuit.specs.Value as value
+use Rattle.gc_file.specs.Fault as held
+use Rattle.gc_file.specs.declared.take.TakeFault.{TakeFault}
+use Rattle.gc_file.specs.declared.take.TakeFault.TheVariants as take
+use Rattle.gc_work.specs.WorkFault as work
+use Rattle.gc_job.specs.Fault.{bind_code_of, bind_name_of, eval_code_of, eval_name_of}
+use Rattle.gc_command.specs.declared.files.FileError.{FileError}
+use Rattle.gc_command.specs.declared.files.FileError.TheVariants as file
+use Rattle.gc_command.specs.declared.fault.Fault.{Fault}
+use Rattle.gc_command.specs.declared.fault.Fault.TheVariants.{Circuit, WrongCount, Value, BadSeed, NoSuchValue, Garbling, File, Binding, Evaluation, BadList, CannotRead, CannotWrite, Memory}
+
+abbrev pub code_of : Fault → ℕ
+code_of (Circuit fault) = read.code_of fault
+code_of WrongCount = 14
+code_of (Value fault) = value.code_of fault
+code_of BadSeed = 18
+code_of NoSuchValue = 42
+code_of (Garbling fault) = work.code_of fault
+code_of (File fault) = held.code_of fault
+code_of (Binding fault) = bind_code_of fault
+code_of (Evaluation fault) = eval_code_of fault
+code_of CannotRead = 50
+code_of CannotWrite = 51
+code_of Memory = 52
+code_of BadList = 53
+
+abbrev pub name_of : Fault → List ℕ
+name_of (Circuit fault) = read.name_of fault
+name_of WrongCount = codes "WrongCount"
+name_of (Value fault) = value.name_of fault
+name_of BadSeed = codes "BadSeed"
+name_of NoSuchValue = codes "NoSuchValue"
+name_of (Garbling fault) = work.name_of fault
+name_of (File fault) = held.name_of fault
+name_of (Binding fault) = bind_name_of fault
+name_of (Evaluation fault) = eval_name_of fault
+name_of CannotRead = codes "CannotRead"
+name_of CannotWrite = codes "CannotWrite"
+name_of Memory = codes "Memory"
+name_of BadList = codes "BadList"
+
+-- `fault`, the number in decimal digits, and the name
+abbrev pub text_of : Fault → List ℕ
+text_of fault = codes "fault " ++ decimal (code_of fault) ++ 32 ∷ name_of fault
+
+-- the fault that taking a garbled file comes to
+abbrev pub IsFaultOfTaking : TakeFault → Fault → Type 0
+IsFaultOfTaking (take.File fault) e = e ≡ File fault
+IsFaultOfTaking (take.ReadFault got) e = e ≡ CannotRead
+
+-- the fault that a call on a file comes to
+abbrev pub IsFaultOfFile : FileError → Fault → Type 0
+IsFaultOfFile file.CannotRead fault = fault ≡ CannotRead
+IsFaultOfFile file.CannotWrite fault = fault ≡ CannotWrite
+IsFaultOfFile file.Memory fault = fault ≡ Memory
+
+-- A fault of a file comes only where the number of failures rose.
+abbrev pub HasCause : Fault → ℕ → ℕ → Type 0
+HasCause CannotRead old new = old < new
+HasCause CannotWrite old new = old < new
+HasCause fault old new = Unit {0}

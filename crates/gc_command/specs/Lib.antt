@@ -1,0 +1,16 @@
+pub mod Files
+pub mod FileFailures
+pub mod Fault
+pub mod CircuitFile
+pub mod Values
+pub mod Lines
+pub mod Run
+pub mod Plain
+pub mod Check
+pub mod SeedText
+pub mod Wrote
+pub mod Garble
+pub mod Deal
+pub mod Job
+pub mod Eval
+pub mod OwnFiles

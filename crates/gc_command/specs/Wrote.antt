@@ -1,0 +1,20 @@
+-- A file that a command writes, and what the command prints of it.
+use Rattle.std.specs.Prelude.{◌≡◌, ℕ, List, [], ◌∷◌, ◌++◌, length, Option, Some, codes}
+use Rattle.std.specs.Fmt.{decimal}
+use Rattle.gc_command.specs.declared.fault.Fault.{Fault}
+use Rattle.gc_command.specs.declared.fault.Fault.TheVariants.{CannotWrite, Memory}
+
+-- The line that tells a number of bytes.
+abbrev pub wrote_line : ℕ → List ℕ
+wrote_line count = codes "wrote " ++ decimal count ++ 10 ∷ []
+
+-- The file was written: it is what is held, and its number of bytes is told.
+pub record HasWritten (file : List ℕ) (held : Option (List ℕ)) (lines : List ℕ) : Type 0 where
+  pub holds : held ≡ Some file
+  pub printed : lines ≡ wrote_line (length file)
+
+-- The fault of a file that can't be written, or that there is no memory for the answer.
+abbrev pub IsUnwritten : Fault → Type 0
+IsUnwritten CannotWrite = Unit {0}
+IsUnwritten Memory = Unit {0}
+IsUnwritten _ = ⊥

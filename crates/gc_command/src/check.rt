@@ -1,0 +1,103 @@
+//! The command `check`: the numbers of a circuit, and its digest.
+
+ghost use Rattle.std.specs.Prelude.{◌≡◌, ◌++◌, ◌∷◌, [], ℕ, List, codes, decimal, IfOk, IfErr, IfSome, OnOk};
+ghost use Rattle.hex.specs.Hex.{encode_lower};
+ghost use Rattle.gc_circuit.specs.Spelling.{Number, Name, words_of_widths};
+ghost use Rattle.gc_circuit.specs.Canon.{line};
+ghost use Rattle.gc_command.specs.Check.{AnswersCheck, HasCheckFault, check_lines};
+ghost use Rattle.gc_command.specs.Fault.{HasCause};
+
+use crate::circuit_file::read_circuit;
+use crate::fault::Fault;
+use crate::files::Files;
+use gc_circuit::Circuit;
+use itoa::Buffer;
+use std::alloc::{AllocError, Allocator};
+
+/// Reads the circuit of a file, and answers the lines of its numbers and its digest.
+pub fn check<A: Allocator + Copy, F: Files>(
+    alloc: A,
+    circuit: &str,
+    files: &mut F,
+) -> Result<Vec<u8, A>, Fault>
+    ensures answers { IfOk result (λ lines. IfSome (F.bytes files.old circuit.now)
+        (λ bytes. AnswersCheck bytes lines.items)) }
+    ensures fault { IfErr result (λ fault. IfSome (F.bytes files.old circuit.now)
+        (λ bytes. HasCheckFault bytes fault)) }
+    ensures cause { IfErr result (λ fault. HasCause fault (F.failures files.old) (F.failures files.new)) }
+    ensures same { (name : List ℕ) → F.bytes files.new name ≡ F.bytes files.old name }
+{
+    let circuit = read_circuit(alloc, circuit, files)?;
+    Ok(check_lines(alloc, &circuit)?)
+}
+
+/// The lines of a circuit's numbers and its digest.
+fn check_lines<A: Allocator + Copy>(
+    alloc: A,
+    circuit: &Circuit<A>,
+) -> Result<Vec<u8, A>, AllocError>
+    ensures { IfOk result (λ lines. lines.items ≡ check_lines circuit.now) }
+{
+    let mut lines = Vec::new(alloc);
+    push_count(&mut lines, "gates", circuit.gates())?;
+    push_count(&mut lines, "wires", circuit.wires())?;
+    push_count(&mut lines, "and", circuit.and_count())?;
+    push_widths(&mut lines, "inputs", circuit.input_widths())?;
+    push_widths(&mut lines, "outputs", circuit.output_widths())?;
+    push_digest(&mut lines, &circuit.digest())?;
+    Ok(lines)
+}
+
+/// Adds the line of a number.
+fn push_count<A: Allocator>(
+    lines: &mut Vec<u8, A>,
+    name: &str,
+    count: u32,
+) -> Result<(), AllocError>
+    ensures { OnOk result (lines.new.items ≡ lines.old.items ++ line (Name name.now ∷ Number count ∷ [])) }
+{
+    lines.extend_from_slice(name.as_bytes())?;
+    push_number(lines, u64::from(count))?;
+    lines.push(b'\n')?;
+    Ok(())
+}
+
+/// Adds the line of a side's widths: how many there are, and each.
+fn push_widths<A: Allocator>(
+    lines: &mut Vec<u8, A>,
+    name: &str,
+    widths: &[u32],
+) -> Result<(), AllocError>
+    ensures { OnOk result (lines.new.items
+        ≡ lines.old.items ++ line (Name name.now ∷ words_of_widths widths.now)) }
+{
+    lines.extend_from_slice(name.as_bytes())?;
+    push_number(lines, widths.len() as u64)?;
+    for width in widths {
+        push_number(lines, u64::from(*width))?;
+    }
+    lines.push(b'\n')?;
+    Ok(())
+}
+
+/// Adds a space and the digits of a number.
+fn push_number<A: Allocator>(lines: &mut Vec<u8, A>, number: u64) -> Result<(), AllocError>
+    ensures { OnOk result (lines.new.items ≡ lines.old.items ++ 32 ∷ decimal number) }
+{
+    let mut buffer = Buffer::new();
+    lines.push(b' ')?;
+    lines.extend_from_slice(buffer.format(number).as_bytes())
+}
+
+/// Adds the line of a digest.
+fn push_digest<A: Allocator>(lines: &mut Vec<u8, A>, digest: &[u8; 32]) -> Result<(), AllocError>
+    ensures { OnOk result (lines.new.items
+        ≡ lines.old.items ++ line (Name (codes "digest") ∷ Name (encode_lower digest.now) ∷ [])) }
+{
+    let mut digits = [0; 64];
+    let _ = hex::encode_to_slice(*digest, &mut digits);
+    lines.extend_from_slice(b"digest ")?;
+    lines.extend_from_slice(&digits)?;
+    lines.push(b'\n')?;
+    Ok(())
+}

@@ -1,0 +1,70 @@
+//! The command `deal`: writing the labels of one input value.
+
+ghost use Rattle.std.specs.Prelude.{◌≡◌, ◌≢◌, ℕ, List, Some, length, slice_get, IfOk, IfErr, IfSome};
+ghost use Rattle.gc_file.specs.LabelFile.{label_file, label_parts_of};
+ghost use Rattle.gc_command.specs.Deal.{AnswersDeal, HasDealFault};
+ghost use Rattle.gc_command.specs.Wrote.{HasWritten, IsUnwritten};
+ghost use Rattle.gc_command.specs.Fault.{HasCause};
+
+use crate::circuit_file::read_circuit;
+use crate::fault::Fault;
+use crate::files::Files;
+use crate::values::read_input_value;
+use crate::wrote::{ROOM, create_file, keep_written};
+use gc_circuit::Circuit;
+use gc_file::write_labels;
+use gc_label::Seed;
+use std::alloc::Allocator;
+
+/// Writes the label file of the input value of this index, by the circuit of a file and a seed, and answers the line
+/// that tells its bytes.
+pub fn deal<A: Allocator + Copy, F: Files>(
+    alloc: A,
+    circuit: &str,
+    seed: &str,
+    index: u32,
+    value: &str,
+    out: &str,
+    files: &mut F,
+) -> Result<Vec<u8, A>, Fault>
+    ensures answers { IfOk result (λ lines. IfSome (F.bytes files.old circuit.now)
+        (λ bytes. AnswersDeal bytes seed.now index value.now (F.bytes files.new out.now) lines.items)) }
+    ensures fault { IfErr result (λ fault. IfSome (F.bytes files.old circuit.now)
+        (λ bytes. HasDealFault bytes seed.now index value.now fault)) }
+    ensures cause { IfErr result (λ fault. HasCause fault (F.failures files.old) (F.failures files.new)) }
+    ensures others { (n : List ℕ) → n ≢ out.now → F.bytes files.new n ≡ F.bytes files.old n }
+    ensures unwritten { IfErr result (λ fault. fault ≢ Fault.CannotWrite
+        → (n : List ℕ) → F.bytes files.new n ≡ F.bytes files.old n) }
+{
+    let circuit = read_circuit(alloc, circuit, files)?;
+    let seed = Seed::from_hex(seed)?;
+    let bits = read_input_value(alloc, circuit.input_widths(), index, value)?;
+    write_value(alloc, &circuit, &seed, index, &bits, out, files)
+}
+
+/// Writes the label file of an input value with these bits. That there is such a value, and that the bits have its
+/// width, are the caller's conditions.
+fn write_value<A: Allocator + Copy, F: Files>(
+    alloc: A,
+    circuit: &Circuit<A>,
+    seed: &Seed,
+    index: u32,
+    bits: &[bool],
+    out: &str,
+    files: &mut F,
+) -> Result<Vec<u8, A>, Fault>
+    requires { slice_get circuit.now.input_widths index ≡ Some (length bits.now) }
+    ensures written { IfOk result (λ lines. (n : List ℕ) → IfSome (F.bytes files.old n)
+        (λ _. HasWritten (label_file (label_parts_of circuit.now seed.now index bits.now))
+        (F.bytes files.new out.now) lines.items)) }
+    ensures fault { IfErr result IsUnwritten }
+    ensures cause { IfErr result (λ fault. HasCause fault (F.failures files.old) (F.failures files.new)) }
+    ensures others { (n : List ℕ) → n ≢ out.now → F.bytes files.new n ≡ F.bytes files.old n }
+    ensures unwritten { IfErr result (λ fault. fault ≢ Fault.CannotWrite
+        → (n : List ℕ) → F.bytes files.new n ≡ F.bytes files.old n) }
+{
+    let room = Vec::with_capacity(alloc, ROOM)?;
+    let mut sink = create_file(files, out)?;
+    let written = write_labels(&mut sink, circuit, seed, index, bits);
+    keep_written(files, out, sink, written, room)
+}

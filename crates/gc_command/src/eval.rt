@@ -1,0 +1,40 @@
+//! The command `eval`: evaluating a circuit from a garbled file and label files.
+
+ghost use Rattle.std.specs.Prelude.{◌≡◌, ℕ, List, map, IfOk, IfErr, string_bytes};
+ghost use Rattle.gc_command.specs.Eval.{AnswersEval, HasEvalFault};
+ghost use Rattle.gc_command.specs.Fault.{HasCause};
+
+use crate::circuit_file::read_circuit;
+use crate::evaluated_files::{read_garbled_file, read_label_files};
+use crate::fault::Fault;
+use crate::files::Files;
+use crate::job::evaluate_files;
+use crate::lines::output_lines;
+use std::alloc::Allocator;
+use std::thread::Threads;
+
+/// Evaluates the circuit of a file from the garbled file and the label files of these names, by so many workers, and
+/// answers the lines of the output values that they decode to. Nothing of these files is trusted.
+pub fn eval<R: Threads + Sync, A: Allocator + Copy + Send + Sync, F: Files>(
+    rt: &R,
+    alloc: A,
+    circuit: &str,
+    garbled: &str,
+    workers: u32,
+    labels: &[String],
+    files: &mut F,
+) -> Result<Vec<u8, A>, Fault>
+    ensures answers { IfOk result (λ lines. AnswersEval (F.bytes files.old) circuit.now garbled.now workers
+        (map string_bytes labels.now) lines.items) }
+    ensures fault { IfErr result (HasEvalFault (F.bytes files.old) circuit.now garbled.now workers
+        (map string_bytes labels.now)) }
+    ensures cause { IfErr result (λ fault. HasCause fault (F.failures files.old) (F.failures files.new)) }
+    ensures same { (name : List ℕ) → F.bytes files.new name ≡ F.bytes files.old name }
+{
+    let circuit = read_circuit(alloc, circuit, files)?;
+    let garbled = read_garbled_file(alloc, garbled, files)?;
+    let labels = read_label_files(alloc, labels, files)?;
+    let digest = circuit.digest();
+    let outputs = evaluate_files(rt, alloc, &circuit, &digest, garbled, &labels, workers)?;
+    Ok(output_lines(alloc, circuit.output_widths(), &outputs)?)
+}

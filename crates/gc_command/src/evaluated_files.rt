@@ -1,0 +1,67 @@
+//! The garbled file and the label files of an evaluation.
+
+ghost use Rattle.std.specs.Prelude.{◌≡◌, ℕ, List, map, IfOk, IfErr, IfSome, OnOk};
+ghost use Rattle.gc_file.specs.GarbledFile.{IsGarbledFile};
+ghost use Rattle.gc_file.specs.LabelFile.{IsLabelFile};
+ghost use Rattle.gc_command.specs.Eval.{HasGarbledFault, HasLabelFault, HasLabelsFault, TellLabels};
+ghost use Rattle.gc_command.specs.Fault.{HasCause};
+
+use crate::fault::Fault;
+use crate::files::Files;
+use gc_file::{Garbled, LabelFile, read_garbled_from, read_labels};
+use std::alloc::Allocator;
+use std::convert::AsStr;
+
+/// The garbled file of this name, read in pieces.
+pub fn read_garbled_file<A: Allocator + Copy, F: Files>(
+    alloc: A,
+    name: &str,
+    files: &mut F,
+) -> Result<Garbled<A>, Fault>
+    ensures told { IfOk result (λ g. IfSome (F.bytes files.old name.now) (λ held. IsGarbledFile held g)) }
+    ensures fault { IfErr result (HasGarbledFault (F.bytes files.old) name.now) }
+    ensures cause { IfErr result (λ fault. HasCause fault (F.failures files.old) (F.failures files.new)) }
+    ensures counted { OnOk result (F.failures files.new ≡ F.failures files.old) }
+    ensures same { (n : List ℕ) → F.bytes files.new n ≡ F.bytes files.old n }
+{
+    let mut source = files.open(name)?;
+    let taken = read_garbled_from(alloc, &mut source);
+    files.shut(source);
+    Ok(taken?)
+}
+
+/// The label files of these names. Each is read and judged before the next is opened.
+pub fn read_label_files<N: AsStr, A: Allocator + Copy, F: Files>(
+    alloc: A,
+    names: &[N],
+    files: &mut F,
+) -> Result<Vec<LabelFile<A>, A>, Fault>
+    ensures told { IfOk result (λ labels.
+        TellLabels (F.bytes files.old) (map N.text names.now) labels.items) }
+    ensures fault { IfErr result (HasLabelsFault (F.bytes files.old) (map N.text names.now)) }
+    ensures cause { IfErr result (λ fault. HasCause fault (F.failures files.old) (F.failures files.new)) }
+    ensures counted { OnOk result (F.failures files.new ≡ F.failures files.old) }
+    ensures same { (n : List ℕ) → F.bytes files.new n ≡ F.bytes files.old n }
+{
+    let mut labels = Vec::with_capacity(alloc, names.len())?;
+    for name in names {
+        labels.push(read_label_file(alloc, name.as_str(), files)?)?;
+    }
+    Ok(labels)
+}
+
+/// The label file of this name. Its bytes are let go.
+fn read_label_file<A: Allocator + Copy, F: Files>(
+    alloc: A,
+    name: &str,
+    files: &mut F,
+) -> Result<LabelFile<A>, Fault>
+    ensures told { IfOk result (λ parts. IfSome (F.bytes files.old name.now) (λ held. IsLabelFile held parts)) }
+    ensures fault { IfErr result (HasLabelFault (F.bytes files.old) name.now) }
+    ensures cause { IfErr result (λ fault. HasCause fault (F.failures files.old) (F.failures files.new)) }
+    ensures counted { OnOk result (F.failures files.new ≡ F.failures files.old) }
+    ensures same { (n : List ℕ) → F.bytes files.new n ≡ F.bytes files.old n }
+{
+    let bytes = files.read(alloc, name)?;
+    Ok(read_labels(alloc, &bytes)?)
+}

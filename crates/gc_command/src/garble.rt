@@ -1,0 +1,96 @@
+//! The command `garble`: writing a garbled file.
+
+ghost use Rattle.std.specs.Prelude.{◌≡◌, ◌≢◌, ℕ, List, IfOk, IfErr, IfSome};
+ghost use Rattle.gc_half.specs.Garbling.{FitsCircuit};
+ghost use Rattle.gc_file.specs.Counted.{CountsFailure};
+ghost use Rattle.gc_file.specs.GarbledFile.{garbled_file};
+ghost use Rattle.gc_file.specs.Honest.{honest_parts};
+ghost use Rattle.gc_file.specs.Written.{IsWritten};
+ghost use Rattle.gc_command.specs.Garble.{AnswersGarble, HasGarbleFault};
+ghost use Rattle.gc_command.specs.Wrote.{HasWritten, IsUnwritten};
+ghost use Rattle.gc_command.specs.Fault.{HasCause};
+
+use crate::circuit_file::read_circuit;
+use crate::fault::Fault;
+use crate::files::Files;
+use crate::wrote::{ROOM, create_file, keep_written};
+use gc_circuit::Circuit;
+use gc_file::{Sink, Version, WriteFault, write_garbled, write_garbled2};
+use gc_gatehouse::Open;
+use gc_half::Garbling;
+use gc_label::Seed;
+use std::alloc::Allocator;
+use std::sync::Wait;
+use std::thread::Threads;
+
+/// Garbles the circuit of a file under a seed by so many workers, writes the garbled file, and answers the line that
+/// tells its bytes.
+pub fn garble<R: Threads + Wait + Sync, A: Allocator + Copy + Send + Sync, F: Files>(
+    rt: &R,
+    alloc: A,
+    circuit: &str,
+    seed: &str,
+    out: &str,
+    version: Version,
+    workers: u32,
+    files: &mut F,
+) -> Result<Vec<u8, A>, Fault>
+    ensures answers { IfOk result (λ lines. IfSome (F.bytes files.old circuit.now)
+        (λ bytes. AnswersGarble bytes seed.now version workers (F.bytes files.new out.now) lines.items)) }
+    ensures fault { IfErr result (λ fault. IfSome (F.bytes files.old circuit.now)
+        (λ bytes. HasGarbleFault bytes seed.now workers fault)) }
+    ensures cause { IfErr result (λ fault. HasCause fault (F.failures files.old) (F.failures files.new)) }
+    ensures others { (n : List ℕ) → n ≢ out.now → F.bytes files.new n ≡ F.bytes files.old n }
+    ensures unwritten { IfErr result (λ fault. fault ≢ Fault.CannotWrite
+        → (n : List ℕ) → F.bytes files.new n ≡ F.bytes files.old n) }
+{
+    let circuit = read_circuit(alloc, circuit, files)?;
+    let seed = Seed::from_hex(seed)?;
+    let garbling = gc_work::garble(rt, alloc, &circuit, &seed, workers, &Open)?;
+    write_garbling(alloc, version, &circuit, &garbling, &seed, out, files)
+}
+
+/// Writes the garbled file of a garbling. That the garbling fits the circuit is the caller's condition.
+fn write_garbling<A: Allocator + Copy, F: Files>(
+    alloc: A,
+    version: Version,
+    circuit: &Circuit<A>,
+    garbling: &Garbling<A>,
+    seed: &Seed,
+    out: &str,
+    files: &mut F,
+) -> Result<Vec<u8, A>, Fault>
+    requires { FitsCircuit circuit.now garbling.now }
+    ensures written { IfOk result (λ lines. (n : List ℕ) → IfSome (F.bytes files.old n)
+        (λ _. HasWritten (garbled_file (honest_parts version circuit.now garbling.now seed.now))
+        (F.bytes files.new out.now) lines.items)) }
+    ensures fault { IfErr result IsUnwritten }
+    ensures cause { IfErr result (λ fault. HasCause fault (F.failures files.old) (F.failures files.new)) }
+    ensures others { (n : List ℕ) → n ≢ out.now → F.bytes files.new n ≡ F.bytes files.old n }
+    ensures unwritten { IfErr result (λ fault. fault ≢ Fault.CannotWrite
+        → (n : List ℕ) → F.bytes files.new n ≡ F.bytes files.old n) }
+{
+    let room = Vec::with_capacity(alloc, ROOM)?;
+    let mut sink = create_file(files, out)?;
+    let written = write_version(&mut sink, version, circuit, garbling, seed);
+    keep_written(files, out, sink, written, room)
+}
+
+/// Writes the garbled file of this version. That the garbling fits the circuit is the caller's condition.
+fn write_version<S: Sink, A: Allocator>(
+    sink: &mut S,
+    version: Version,
+    circuit: &Circuit<A>,
+    garbling: &Garbling<A>,
+    seed: &Seed,
+) -> Result<u64, WriteFault>
+    requires { FitsCircuit circuit.now garbling.now }
+    ensures file { IsWritten (garbled_file (honest_parts version circuit.now garbling.now seed.now)) result
+        (S.taken sink.old) (S.taken sink.new) }
+    ensures counted { CountsFailure result (S.failures sink.old) (S.failures sink.new) }
+{
+    match version {
+        Version::One => write_garbled(sink, circuit, garbling),
+        Version::Two => write_garbled2(sink, circuit, garbling, seed),
+    }
+}

@@ -1,0 +1,38 @@
+//! Evaluating a garbled file and label files.
+
+ghost use Rattle.std.specs.Prelude.{◌≡◌, IfOk, IfErr};
+ghost use Rattle.sha2.specs.Sha256.{sha256};
+ghost use Rattle.gc_circuit.specs.Canon.{canonical_text};
+ghost use Rattle.gc_gatehouse.specs.Workers.{AreFew};
+ghost use Rattle.gc_command.specs.Job.{DecodeTo, HasJobFault};
+
+use crate::fault::Fault;
+use gc_circuit::Circuit;
+use gc_eval::{Job, evaluate, evaluate_many};
+use gc_file::{Garbled, LabelFile};
+use gc_gatehouse::Open;
+use std::alloc::Allocator;
+use std::thread::Threads;
+
+/// The output bits that a garbled file and label files of a circuit decode to, by so many workers. That this is the
+/// digest of the circuit's canonical text is the caller's condition.
+pub fn evaluate_files<R: Threads + Sync, A: Allocator + Copy + Send + Sync>(
+    rt: &R,
+    alloc: A,
+    circuit: &Circuit<A>,
+    digest: &[u8; 32],
+    garbled: Garbled<A>,
+    labels: &[LabelFile<A>],
+    workers: u32,
+) -> Result<Vec<bool, A>, Fault>
+    requires digest { digest.now ≡ sha256 (canonical_text circuit.now) }
+    ensures decoded { IfOk result (λ bits. DecodeTo circuit.now garbled labels.now bits.items) }
+    ensures workers { IfOk result (λ _. AreFew workers) }
+    ensures fault { IfErr result (HasJobFault circuit.now garbled labels.now workers) }
+{
+    let job = Job::bind_by_digest(alloc, circuit, digest, garbled, labels)?;
+    if workers == 1 {
+        return Ok(evaluate(alloc, &job)?);
+    }
+    Ok(evaluate_many(rt, alloc, &job, workers, &Open)?)
+}

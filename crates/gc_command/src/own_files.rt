@@ -1,0 +1,114 @@
+//! The files that `run` makes for itself: written to memory, and read back.
+
+ghost use Rattle.std.specs.Prelude.{◌≡◌, Some, length, map, slice_get, IfOk, IfErr};
+ghost use Rattle.gc_circuit.specs.Circuit.{IsLawful};
+ghost use Rattle.gc_circuit.specs.Meaning.{Fits};
+ghost use Rattle.gc_file.specs.LabelFile.{label_file, label_parts_of};
+ghost use Rattle.gc_job.specs.Honest.{IsHonestGarbled};
+ghost use Rattle.gc_command.specs.OwnFiles.{AreGarbledBytes, AreLabelsOf};
+ghost use Rattle.gc_gatehouse.specs.Workers.{AreFew};
+ghost use Rattle.gc_command.specs.Run.{IsOwnFault, IsWantOfMemory};
+
+use crate::fault::Fault;
+use gc_circuit::Circuit;
+use gc_file::{
+    Garbled, LabelFile, MemSink, read_garbled, read_labels, write_garbled2, write_labels,
+};
+use gc_gatehouse::Open;
+use gc_label::Seed;
+use gc_work::garble;
+use std::alloc::Allocator;
+use std::sync::Wait;
+use std::thread::Threads;
+
+/// The garbled file of the circuit's garbling under a seed, by so many workers, in version 2.
+pub fn own_garbled<R: Threads + Wait + Sync, A: Allocator + Copy + Send + Sync>(
+    rt: &R,
+    alloc: A,
+    circuit: &Circuit<A>,
+    seed: &Seed,
+    workers: u32,
+) -> Result<Garbled<A>, Fault>
+    requires { IsLawful circuit.now }
+    ensures honest { IfOk result (IsHonestGarbled circuit.now seed.now) }
+    ensures workers { IfOk result (λ _. AreFew workers) }
+    ensures fault { IfErr result (IsOwnFault workers) }
+{
+    let bytes = garbled_bytes(rt, alloc, circuit, seed, workers)?;
+    Ok(read_garbled(alloc, &bytes)?)
+}
+
+/// The bytes of the garbled file. The garbling itself is let go.
+fn garbled_bytes<R: Threads + Wait + Sync, A: Allocator + Copy + Send + Sync>(
+    rt: &R,
+    alloc: A,
+    circuit: &Circuit<A>,
+    seed: &Seed,
+    workers: u32,
+) -> Result<Vec<u8, A>, Fault>
+    ensures file { IfOk result (λ bytes. AreGarbledBytes circuit.now seed.now bytes.items) }
+    ensures workers { IfOk result (λ _. AreFew workers) }
+    ensures fault { IfErr result (IsOwnFault workers) }
+{
+    let garbling = garble(rt, alloc, circuit, seed, workers, &Open)?;
+    let mut sink = MemSink::new(alloc, None);
+    write_garbled2(&mut sink, circuit, &garbling, seed).map_err(|_| Fault::Memory)?;
+    Ok(sink.into_bytes())
+}
+
+/// The label file of each of these values under a seed, in order. That the values fit the circuit is the caller's
+/// condition.
+pub fn own_labels<A: Allocator + Copy>(
+    alloc: A,
+    circuit: &Circuit<A>,
+    seed: &Seed,
+    values: &[Vec<bool, A>],
+) -> Result<Vec<LabelFile<A>, A>, Fault>
+    requires lawful { IsLawful circuit.now }
+    requires fits { Fits circuit.now (map (λ value. value.items) values.now) }
+    ensures labels { IfOk result (λ labels.
+        AreLabelsOf circuit.now seed.now (map (λ value. value.items) values.now) labels.items) }
+    ensures fault { IfErr result IsWantOfMemory }
+{
+    let mut labels = Vec::with_capacity(alloc, values.len())?;
+    for (i, value) in values.iter().enumerate() {
+        labels.push(own_label_file(alloc, circuit, seed, i as u32, value)?)?;
+    }
+    Ok(labels)
+}
+
+/// The label file of the input value of this index. That there is one, and that the bits have its width, are the caller's
+/// conditions.
+fn own_label_file<A: Allocator + Copy>(
+    alloc: A,
+    circuit: &Circuit<A>,
+    seed: &Seed,
+    index: u32,
+    bits: &[bool],
+) -> Result<LabelFile<A>, Fault>
+    requires lawful { IsLawful circuit.now }
+    requires value { slice_get circuit.now.input_widths index ≡ Some (length bits.now) }
+    ensures parts { IfOk result (λ file. file ≡ label_parts_of circuit.now seed.now index bits.now) }
+    ensures fault { IfErr result IsWantOfMemory }
+{
+    let bytes = label_bytes(alloc, circuit, seed, index, bits)?;
+    Ok(read_labels(alloc, &bytes)?)
+}
+
+/// The bytes of the label file of the input value of this index.
+fn label_bytes<A: Allocator + Copy>(
+    alloc: A,
+    circuit: &Circuit<A>,
+    seed: &Seed,
+    index: u32,
+    bits: &[bool],
+) -> Result<Vec<u8, A>, Fault>
+    requires { slice_get circuit.now.input_widths index ≡ Some (length bits.now) }
+    ensures file { IfOk result (λ bytes.
+        bytes.items ≡ label_file (label_parts_of circuit.now seed.now index bits.now)) }
+    ensures fault { IfErr result IsWantOfMemory }
+{
+    let mut sink = MemSink::new(alloc, None);
+    write_labels(&mut sink, circuit, seed, index, bits).map_err(|_| Fault::Memory)?;
+    Ok(sink.into_bytes())
+}

@@ -1,0 +1,72 @@
+//! Files that a command has written, and the line that it prints of them.
+
+ghost use Rattle.std.specs.Prelude.{◌≡◌, ◌<◌, ◌≤◌, ◌+◌, ◌≢◌, ℕ, List, [], Some, IfOk, IfErr, IfSome, OnOk, OnErr, vec_capacity};
+ghost use Rattle.gc_file.specs.Written.{IsWritten};
+ghost use Rattle.gc_command.specs.Wrote.{HasWritten, IsUnwritten, wrote_line};
+ghost use Rattle.gc_command.specs.Fault.{HasCause};
+
+use crate::fault::Fault;
+use crate::files::{FileError, Files};
+use gc_file::WriteFault;
+use itoa::Buffer;
+use std::alloc::Allocator;
+
+/// Room for the longest line: `wrote `, the digits of a number of 64 bits, and a line feed.
+pub const ROOM: usize = 27;
+
+/// A sink for the file of this name, as [`Files::create`] gives it.
+pub fn create_file<F: Files>(files: &mut F, name: &str) -> Result<F::Sink, Fault>
+    ensures empty { IfOk result (λ sink. (n : List ℕ) → IfSome (F.bytes files.old n)
+        (λ _. F.Sink.taken sink ≡ Some [])) }
+    ensures counted { OnOk result (F.failures files.new ≡ F.failures files.old) }
+    ensures fault { IfErr result IsUnwritten }
+    ensures cause { IfErr result (λ fault. HasCause fault (F.failures files.old) (F.failures files.new)) }
+    ensures others { (n : List ℕ) → n ≢ name.now → F.bytes files.new n ≡ F.bytes files.old n }
+    ensures unwritten { IfErr result (λ fault. fault ≢ Fault.CannotWrite
+        → (n : List ℕ) → F.bytes files.new n ≡ F.bytes files.old n) }
+{
+    match files.create(name) {
+        Ok(sink) => Ok(sink),
+        Err(FileError::Memory) => Err(Fault::Memory),
+        Err(_) => Err(Fault::CannotWrite),
+    }
+}
+
+/// Keeps the sink that a file was written to, and answers the line that tells the file's bytes. The line's room was
+/// taken before, so no memory is taken.
+pub fn keep_written<A: Allocator, F: Files>(
+    files: &mut F,
+    name: &str,
+    sink: F::Sink,
+    written: Result<u64, WriteFault>,
+    room: Vec<u8, A>,
+) -> Result<Vec<u8, A>, Fault>
+    requires empty { room.items ≡ [] }
+    requires room { ROOM ≤ vec_capacity room }
+    requires failed { OnErr written (0 < F.Sink.failures sink) }
+    ensures written { IfOk result (λ line. (file : List ℕ)
+        → IsWritten file written (Some []) (F.Sink.taken sink)
+        → HasWritten file (F.bytes files.new name.now) line.items) }
+    ensures fault { IfErr result (λ fault. fault ≡ Fault.CannotWrite) }
+    ensures cause { OnErr result (F.failures files.old < F.failures files.new) }
+    ensures others { (n : List ℕ) → n ≢ name.now → F.bytes files.new n ≡ F.bytes files.old n }
+{
+    files.keep(name, sink)?;
+    let count = written?;
+    Ok(wrote_line(room, count))
+}
+
+/// The line that tells a number of bytes, in its room.
+fn wrote_line<A: Allocator>(room: Vec<u8, A>, count: u64) -> Vec<u8, A>
+    requires empty { room.items ≡ [] }
+    requires room { ROOM ≤ vec_capacity room }
+    ensures { result.items ≡ wrote_line count }
+{
+    let mut line = room;
+    let mut buffer = Buffer::new();
+    line.extend_from_slice(b"wrote ").unwrap();
+    line.extend_from_slice(buffer.format(count).as_bytes())
+        .unwrap();
+    line.push(b'\n').unwrap();
+    line
+}
