@@ -2,10 +2,10 @@
 use Rattle.std.proofs.Common.{◌≡◌, ℕ, ◌+◌, ◌<◌, map, drop, drop-cons, get_or, Bool, List, [], ◌∷◌, IfSome, sum, inl, inr, length, slice_get, Some, sym, ap, ◌∙◌, zero, suc, refl, subst, arith}
 use Rattle.std.proofs.lemmas.Option.{slice_get_within}
 use Rattle.gc_circuit.specs.Circuit.{Netlist, IsLawful}
-use Rattle.gc_file.specs.declared.fault.FileFault.{FileFault}
-use Rattle.gc_file.specs.GarbledFile.{GarbledParts, IsGarbledFile}
-use Rattle.gc_file.specs.LabelFile.{LabelFileParts}
-use Rattle.gc_file.specs.FileFault.{FirstFault}
+use Rattle.gc_read.specs.declared.fault.FileFault.{FileFault}
+use Rattle.gc_format.specs.GarbledFile.{GarbledParts, IsGarbledFile}
+use Rattle.gc_format.specs.LabelFile.{LabelFileParts}
+use Rattle.gc_read.specs.FileFault.{FirstFault}
 use Rattle.gc_job.specs.Job.{JobParts}
 use Rattle.gc_bank.specs.Jobs.{AreEvaluated, AreOnOneCircuit}
 use Rattle.gc_command.specs.declared.fault.Fault.{Fault}

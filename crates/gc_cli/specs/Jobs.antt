@@ -1,10 +1,10 @@
 -- The command `jobs`: what it answers, and which fault it has. What is said of a file is said where its bytes are known.
 use Rattle.std.specs.Prelude.{◌≡◌, ◌≢◌, ℕ, ◌<◌, ◌⊎◌, Bool, List, [], ◌∷◌, length, IfSome, Err}
 use Rattle.gc_circuit.specs.Circuit.{Netlist}
-use Rattle.gc_file.specs.declared.fault.FileFault.{FileFault}
-use Rattle.gc_file.specs.declared.fault.FileFault.TheVariants as file
-use Rattle.gc_file.specs.GarbledFile.{GarbledParts, IsGarbledFile}
-use Rattle.gc_file.specs.LabelFile.{LabelFileParts}
+use Rattle.gc_read.specs.declared.fault.FileFault.{FileFault}
+use Rattle.gc_read.specs.declared.fault.FileFault.TheVariants as file
+use Rattle.gc_format.specs.GarbledFile.{GarbledParts, IsGarbledFile}
+use Rattle.gc_format.specs.LabelFile.{LabelFileParts}
 use Rattle.gc_gatehouse.specs.Workers.{AreFew}
 use Rattle.gc_job.specs.declared.fault.BindFault.TheVariants as bind
 use Rattle.gc_job.specs.Job.{JobParts}

@@ -2,7 +2,7 @@
 
 ghost use Rattle.std.specs.Prelude.{◌≡◌, IfSome, OnOk};
 ghost use Rattle.std.specs.Io.KnownBytes.{Appends};
-ghost use Rattle.gc_file.specs.Counted.{CountsFailure};
+ghost use Rattle.gc_format.specs.Counted.{CountsFailure};
 
 use gc_file::FailureCount;
 use std::fmt::Display;

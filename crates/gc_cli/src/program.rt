@@ -3,7 +3,7 @@
 ghost use Rattle.std.specs.Prelude.{◌≡◌, ◌<◌, ◌⊎◌, OnOk};
 ghost use Rattle.std.specs.Io.KnownBytes.{Appends};
 ghost use Rattle.std.specs.IoError.{error_kind};
-ghost use Rattle.gc_file.specs.Counted.{CountsFailure};
+ghost use Rattle.gc_format.specs.Counted.{CountsFailure};
 ghost use Rattle.gc_command.specs.Fault.{HasCause};
 ghost use Rattle.gc_cli.specs.CommandLine.{IsMistaken};
 ghost use Rattle.gc_cli.specs.Ending.{IfFault};

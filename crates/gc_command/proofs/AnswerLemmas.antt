@@ -4,8 +4,8 @@ use Rattle.std.specs.Prelude.{IfOk, IfSome, MatchResult}
 use Rattle.std.proofs.lemmas.List.FromFn.{length-map-range_with_len}
 use Rattle.gc_circuit.specs.Circuit.{Netlist, IsLawful, output_wires}
 use Rattle.gc_circuit.specs.Meaning.{AreOutputs}
-use Rattle.gc_file.specs.GarbledFile.{GarbledParts}
-use Rattle.gc_file.specs.LabelFile.{LabelFileParts}
+use Rattle.gc_format.specs.GarbledFile.{GarbledParts}
+use Rattle.gc_format.specs.LabelFile.{LabelFileParts}
 use Rattle.gc_job.specs.Job.{JobParts}
 use Rattle.gc_job.proofs.OutputLemmas.{bound-whole, length-evaluated}
 use Rattle.gc_command.specs.Job.{DecodeTo}

@@ -1,10 +1,10 @@
 -- What the steps of `eval` tell, joined.
 use Rattle.std.proofs.Common.{◌≡◌, ℕ, List, [], ◌∷◌, IfSome, inl, inr, subst, ◌∙◌}
 use Rattle.gc_circuit.specs.Circuit.{Netlist}
-use Rattle.gc_file.specs.declared.fault.FileFault.{FileFault}
-use Rattle.gc_file.specs.GarbledFile.{GarbledParts, IsGarbledFile}
-use Rattle.gc_file.specs.LabelFile.{LabelFileParts, IsLabelFile}
-use Rattle.gc_file.specs.FileFault.{FirstLabelFault}
+use Rattle.gc_read.specs.declared.fault.FileFault.{FileFault}
+use Rattle.gc_format.specs.GarbledFile.{GarbledParts, IsGarbledFile}
+use Rattle.gc_format.specs.LabelFile.{LabelFileParts, IsLabelFile}
+use Rattle.gc_read.specs.FileFault.{FirstLabelFault}
 use Rattle.gc_command.specs.declared.fault.Fault.{Fault}
 use Rattle.gc_command.specs.declared.fault.Fault.TheVariants as faults
 use Rattle.gc_command.specs.Files.{FileBytes}

@@ -9,12 +9,12 @@ use Rattle.gc_circuit.specs.Canon.{canonical_text}
 use Rattle.gc_circuit.specs.Meaning.{Fits}
 use Rattle.gc_half.specs.Garbling.{GarblingParts}
 use Rattle.gc_half.proofs.CanonicalLemmas.{IsGarbled-same}
-use Rattle.gc_file.specs.declared.garbled.Version.TheVariants.{Two}
-use Rattle.gc_file.specs.GarbledFile.{GarbledParts, IsGarbledFile, garbled_file}
-use Rattle.gc_file.specs.LabelFile.{LabelFileParts, IsLabelFile, label_file, label_parts_of}
+use Rattle.gc_format.specs.declared.parts.Version.TheVariants.{Two}
+use Rattle.gc_format.specs.GarbledFile.{GarbledParts, IsGarbledFile, garbled_file}
+use Rattle.gc_format.specs.LabelFile.{LabelFileParts, IsLabelFile, label_file, label_parts_of}
 use Rattle.gc_file.specs.Honest.{honest_parts}
 use Rattle.gc_file.proofs.OneFile.{one_file}
-use Rattle.gc_file.proofs.WrittenFiles.{are_files}
+use Rattle.gc_write.proofs.WrittenFiles.{are_files}
 use Rattle.gc_job.specs.Honest.{IsHonestGarbled, IsHonestLabels, AreHonestFiles}
 use Rattle.gc_job.proofs.TakeLemmas.{slice_get-take, slice_get_taken}
 use Rattle.gc_command.specs.OwnFiles.{AreGarbledBytes, AreLabelsOf}

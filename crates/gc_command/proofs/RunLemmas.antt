@@ -2,8 +2,8 @@
 use Rattle.std.proofs.Common.{ℕ, List, Bool, Ok, Err, ⊎_elim, flat_map, refl, arith}
 use Rattle.gc_circuit.specs.Circuit.{Netlist, IsLawful}
 use Rattle.gc_circuit.specs.Meaning.{AreOutputs}
-use Rattle.gc_file.specs.GarbledFile.{GarbledParts}
-use Rattle.gc_file.specs.LabelFile.{LabelFileParts}
+use Rattle.gc_format.specs.GarbledFile.{GarbledParts}
+use Rattle.gc_format.specs.LabelFile.{LabelFileParts}
 use Rattle.gc_job.specs.declared.fault.EvalFault.TheVariants as eval
 use Rattle.gc_job.specs.Binding.{FirstBindFault}
 use Rattle.gc_job.specs.Honest.{AreHonestFiles}

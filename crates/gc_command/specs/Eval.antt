@@ -1,11 +1,11 @@
 -- The command `eval`: what it answers, and which fault it has. What is said of a file is said where its bytes are known.
 use Rattle.std.specs.Prelude.{◌≡◌, ◌≢◌, ℕ, ◌⊎◌, Bool, List, [], ◌∷◌, IfSome}
 use Rattle.gc_circuit.specs.Circuit.{Netlist}
-use Rattle.gc_file.specs.declared.fault.FileFault.{FileFault}
-use Rattle.gc_file.specs.declared.fault.FileFault.TheVariants as file
-use Rattle.gc_file.specs.GarbledFile.{GarbledParts, IsGarbledFile}
-use Rattle.gc_file.specs.LabelFile.{LabelFileParts, IsLabelFile}
-use Rattle.gc_file.specs.FileFault.{FirstFault, FirstLabelFault}
+use Rattle.gc_read.specs.declared.fault.FileFault.{FileFault}
+use Rattle.gc_read.specs.declared.fault.FileFault.TheVariants as file
+use Rattle.gc_format.specs.GarbledFile.{GarbledParts, IsGarbledFile}
+use Rattle.gc_format.specs.LabelFile.{LabelFileParts, IsLabelFile}
+use Rattle.gc_read.specs.FileFault.{FirstFault, FirstLabelFault}
 use Rattle.gc_gatehouse.specs.Workers.{AreFew}
 use Rattle.gc_command.specs.declared.fault.Fault.{Fault}
 use Rattle.gc_command.specs.declared.fault.Fault.TheVariants.{Circuit, File, Binding, Evaluation, CannotRead, Memory}

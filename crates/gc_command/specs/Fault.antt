@@ -3,9 +3,9 @@ use Rattle.std.specs.Prelude.{◌≡◌, ℕ, ◌<◌, List, ◌∷◌, ◌++◌
 use Rattle.std.specs.Fmt.{decimal}
 use Rattle.gc_circuit.specs.Fault as read
 use Rattle.gc_circuit.specs.Value as value
-use Rattle.gc_file.specs.Fault as held
-use Rattle.gc_file.specs.declared.take.TakeFault.{TakeFault}
-use Rattle.gc_file.specs.declared.take.TakeFault.TheVariants as take
+use Rattle.gc_read.specs.Fault as held
+use Rattle.gc_read.specs.declared.take.TakeFault.{TakeFault}
+use Rattle.gc_read.specs.declared.take.TakeFault.TheVariants as take
 use Rattle.gc_work.specs.WorkFault as work
 use Rattle.gc_job.specs.Fault.{bind_code_of, bind_name_of, eval_code_of, eval_name_of}
 use Rattle.gc_command.specs.declared.files.FileError.{FileError}

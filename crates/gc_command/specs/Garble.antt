@@ -5,8 +5,8 @@ use Rattle.gc_label.specs.Seed.{IsSeedText}
 use Rattle.gc_half.specs.Garbling.{GarblingParts, IsGarbled}
 use Rattle.gc_gatehouse.specs.Workers.{AreFew}
 use Rattle.gc_work.specs.WorkFault.{HasWorkFault}
-use Rattle.gc_file.specs.declared.garbled.Version.{Version}
-use Rattle.gc_file.specs.GarbledFile.{garbled_file}
+use Rattle.gc_format.specs.declared.parts.Version.{Version}
+use Rattle.gc_format.specs.GarbledFile.{garbled_file}
 use Rattle.gc_file.specs.Honest.{honest_parts}
 use Rattle.gc_command.specs.declared.fault.Fault.{Fault}
 use Rattle.gc_command.specs.declared.fault.Fault.TheVariants.{Circuit, BadSeed, Garbling, CannotRead, CannotWrite, Memory}

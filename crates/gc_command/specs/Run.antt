@@ -7,7 +7,7 @@ use Rattle.gc_label.specs.Seed.{IsSeedText}
 use Rattle.gc_work.specs.declared.fault.WorkFault.TheVariants as work
 use Rattle.gc_gatehouse.specs.Workers.{AreFew}
 use Rattle.gc_work.specs.WorkFault.{HasWorkFault}
-use Rattle.gc_file.specs.declared.fault.FileFault.TheVariants as file
+use Rattle.gc_read.specs.declared.fault.FileFault.TheVariants as file
 use Rattle.gc_job.specs.declared.fault.BindFault.TheVariants as bind
 use Rattle.gc_job.specs.declared.fault.EvalFault.TheVariants as eval
 use Rattle.gc_command.specs.declared.fault.Fault.{Fault}

@@ -1,7 +1,7 @@
 //! The command `deal`: writing the labels of one input value.
 
 ghost use Rattle.std.specs.Prelude.{◌≡◌, ◌≢◌, ℕ, List, Some, length, slice_get, IfOk, IfErr, IfSome};
-ghost use Rattle.gc_file.specs.LabelFile.{label_file, label_parts_of};
+ghost use Rattle.gc_format.specs.LabelFile.{label_file, label_parts_of};
 ghost use Rattle.gc_command.specs.Deal.{AnswersDeal, HasDealFault};
 ghost use Rattle.gc_command.specs.Wrote.{HasWritten, IsUnwritten};
 ghost use Rattle.gc_command.specs.Fault.{HasCause};

@@ -1,8 +1,8 @@
 //! The garbled file and the label files of an evaluation.
 
 ghost use Rattle.std.specs.Prelude.{◌≡◌, ℕ, List, map, IfOk, IfErr, IfSome, OnOk};
-ghost use Rattle.gc_file.specs.GarbledFile.{IsGarbledFile};
-ghost use Rattle.gc_file.specs.LabelFile.{IsLabelFile};
+ghost use Rattle.gc_format.specs.GarbledFile.{IsGarbledFile};
+ghost use Rattle.gc_format.specs.LabelFile.{IsLabelFile};
 ghost use Rattle.gc_command.specs.Eval.{HasGarbledFault, HasLabelFault, HasLabelsFault, TellLabels};
 ghost use Rattle.gc_command.specs.Fault.{HasCause};
 

@@ -2,10 +2,10 @@
 
 ghost use Rattle.std.specs.Prelude.{◌≡◌, ◌≢◌, ℕ, List, IfOk, IfErr, IfSome};
 ghost use Rattle.gc_half.specs.Garbling.{FitsCircuit};
-ghost use Rattle.gc_file.specs.Counted.{CountsFailure};
-ghost use Rattle.gc_file.specs.GarbledFile.{garbled_file};
+ghost use Rattle.gc_format.specs.Counted.{CountsFailure};
+ghost use Rattle.gc_format.specs.GarbledFile.{garbled_file};
 ghost use Rattle.gc_file.specs.Honest.{honest_parts};
-ghost use Rattle.gc_file.specs.Written.{IsWritten};
+ghost use Rattle.gc_write.specs.Written.{IsWritten};
 ghost use Rattle.gc_command.specs.Garble.{AnswersGarble, HasGarbleFault};
 ghost use Rattle.gc_command.specs.Wrote.{HasWritten, IsUnwritten};
 ghost use Rattle.gc_command.specs.Fault.{HasCause};

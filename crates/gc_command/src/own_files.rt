@@ -3,7 +3,7 @@
 ghost use Rattle.std.specs.Prelude.{◌≡◌, Some, length, map, slice_get, IfOk, IfErr};
 ghost use Rattle.gc_circuit.specs.Circuit.{IsLawful};
 ghost use Rattle.gc_circuit.specs.Meaning.{Fits};
-ghost use Rattle.gc_file.specs.LabelFile.{label_file, label_parts_of};
+ghost use Rattle.gc_format.specs.LabelFile.{label_file, label_parts_of};
 ghost use Rattle.gc_job.specs.Honest.{IsHonestGarbled};
 ghost use Rattle.gc_command.specs.OwnFiles.{AreGarbledBytes, AreLabelsOf};
 ghost use Rattle.gc_gatehouse.specs.Workers.{AreFew};

@@ -7,20 +7,20 @@ use Rattle.gc_circuit.specs.declared.limits.TheConstants.{MAX_GATES, MAX_WIRES}
 use Rattle.gc_label.specs.Label.{bytes_of_label, label_of_bytes}
 use Rattle.gc_label.proofs.LabelLemmas.{bytes_of_label-label_of_bytes, label_of_bytes-lt}
 use Rattle.gc_half.proofs.SetWires.{lt_or_le}
-use Rattle.gc_file.specs.declared.fault.FileFault.{FileFault}
-use Rattle.gc_file.specs.declared.fault.FileFault.TheVariants.{BadMagic, Truncated, Trailing, CountTooLarge, SpareBits, BadTrailer}
-use Rattle.gc_file.specs.declared.garbled.Version.{Version}
-use Rattle.gc_file.specs.declared.garbled.Version.TheVariants.{One, Two}
-use Rattle.gc_file.specs.DecodeBits.{bytes_for, bit_in}
-use Rattle.gc_file.specs.GarbledFile.{GarbledParts, magic, row_bytes, entry_bytes, entry_count, IsLabel, IsGarbledFile}
-use Rattle.gc_file.specs.FileFault.{IsBegun, row_count, output_count, decode_end, entries_end, trailer_end, trailer, HasHeader, HasSpareBit, LastingFault, bad_magic, too_many_rows, too_many_outputs, spare_bits, bad_trailer, trailing, IsHeaderInOrder, IsInOrder, FirstFault, lasting, truncated}
-use Rattle.gc_file.specs.Body.{version_of, row_size, decode_size, entry_size, IsSpare}
+use Rattle.gc_read.specs.declared.fault.FileFault.{FileFault}
+use Rattle.gc_read.specs.declared.fault.FileFault.TheVariants.{BadMagic, Truncated, Trailing, CountTooLarge, SpareBits, BadTrailer}
+use Rattle.gc_format.specs.declared.parts.Version.{Version}
+use Rattle.gc_format.specs.declared.parts.Version.TheVariants.{One, Two}
+use Rattle.gc_format.specs.DecodeBits.{bytes_for, bit_in, IsSpare}
+use Rattle.gc_format.specs.GarbledFile.{GarbledParts, magic, row_bytes, entry_bytes, entry_count, IsLabel, IsGarbledFile}
+use Rattle.gc_read.specs.FileFault.{IsBegun, row_count, output_count, decode_end, entries_end, trailer_end, trailer, HasHeader, HasSpareBit, LastingFault, bad_magic, too_many_rows, too_many_outputs, spare_bits, bad_trailer, trailing, IsHeaderInOrder, IsInOrder, FirstFault, lasting, truncated}
+use Rattle.gc_read.specs.Body.{version_of, row_size, decode_size, entry_size}
 use Rattle.gc_file.specs.FileLaw.{AreBytes}
-use Rattle.gc_file.proofs.NumberLemmas.{number_at-append}
-use Rattle.gc_file.proofs.PlaceLemmas.{begins, begun, spare, is_right, decode_end_is, entries_end_is, length_is}
-use Rattle.gc_file.proofs.HeaderLemmas.{header_in_order}
-use Rattle.gc_file.proofs.StepLemmas.{version_of-begun}
-use Rattle.gc_file.proofs.FileLemmas.{take_plus, file_is}
+use Rattle.gc_format.proofs.NumberLemmas.{number_at-append}
+use Rattle.gc_read.proofs.PlaceLemmas.{begins, begun, spare, is_right, decode_end_is, entries_end_is, length_is}
+use Rattle.gc_read.proofs.HeaderLemmas.{header_in_order}
+use Rattle.gc_read.proofs.StepLemmas.{version_of-begun}
+use Rattle.gc_read.proofs.FileLemmas.{take_plus, file_is}
 use Rattle.gc_file.proofs.OneFile.{row_of, entry_of}
 
 -- Each place of the list has a byte, or is past its end.

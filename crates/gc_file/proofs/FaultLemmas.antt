@@ -1,11 +1,11 @@
 -- Bytes are one garbled file or have one first fault.
 use Rattle.std.proofs.Common.{◌≡◌, ℕ, ◌≤◌, List, length, take, get_or, refl, sym, ap, subst, ◌∙◌, arith}
-use Rattle.gc_file.specs.declared.fault.FileFault.{FileFault}
-use Rattle.gc_file.specs.declared.garbled.Version.{Version}
-use Rattle.gc_file.specs.declared.garbled.Version.TheVariants.{One, Two}
-use Rattle.gc_file.specs.GarbledFile.{magic}
-use Rattle.gc_file.specs.FileFault.{IsTrailerRight, trailer_end, LastingFault, bad_magic, too_many_rows, too_many_outputs, spare_bits, bad_trailer, trailing, IsInOrder, FirstFault, lasting, truncated}
-use Rattle.gc_file.proofs.PlaceLemmas.{begins, begun}
+use Rattle.gc_read.specs.declared.fault.FileFault.{FileFault}
+use Rattle.gc_format.specs.declared.parts.Version.{Version}
+use Rattle.gc_format.specs.declared.parts.Version.TheVariants.{One, Two}
+use Rattle.gc_format.specs.GarbledFile.{magic}
+use Rattle.gc_read.specs.FileFault.{IsTrailerRight, trailer_end, LastingFault, bad_magic, too_many_rows, too_many_outputs, spare_bits, bad_trailer, trailing, IsInOrder, FirstFault, lasting, truncated}
+use Rattle.gc_read.proofs.PlaceLemmas.{begins, begun}
 
 -- A magic tells its version.
 pub one_magic : (v w : Version) → magic v ≡ magic w → v ≡ w

@@ -5,53 +5,20 @@ use Rattle.gc_circuit.specs.declared.limits.TheConstants.{MAX_WIRES}
 use Rattle.gc_label.specs.Label.{bytes_of_label, label_of_bytes}
 use Rattle.gc_label.proofs.LabelLemmas.{length-bytes_of_label, bytes_of_label-label_of_bytes, label_of_bytes-lt}
 use Rattle.gc_half.proofs.SetWires.{lt_or_le}
-use Rattle.gc_file.specs.declared.fault.FileFault.{FileFault}
-use Rattle.gc_file.specs.declared.fault.FileFault.TheVariants.{BadMagic, Truncated, Trailing, CountTooLarge}
-use Rattle.gc_file.specs.Number.{number_bytes, number_at}
-use Rattle.gc_file.specs.GarbledFile.{IsLabel}
-use Rattle.gc_file.specs.LabelFile.{LabelFileParts, label_magic, label_file, IsLabelFile}
-use Rattle.gc_file.specs.FileFault.{IsBegun, label_count, labels_end, FirstLabelFault, bad_label_magic, too_many_labels, labels_trailing, header_truncated, labels_truncated}
-use Rattle.gc_file.specs.Reading.{IsLabelForm}
+use Rattle.gc_read.specs.declared.fault.FileFault.{FileFault}
+use Rattle.gc_read.specs.declared.fault.FileFault.TheVariants.{BadMagic, Truncated, Trailing, CountTooLarge}
+use Rattle.gc_format.specs.Number.{number_bytes, number_at}
+use Rattle.gc_format.specs.GarbledFile.{IsLabel}
+use Rattle.gc_format.specs.LabelFile.{LabelFileParts, label_magic, label_file, IsLabelFile}
+use Rattle.gc_read.specs.FileFault.{IsBegun, label_count, labels_end, FirstLabelFault, bad_label_magic, too_many_labels, labels_trailing, header_truncated, labels_truncated}
+use Rattle.gc_read.specs.Reading.{IsLabelForm}
 use Rattle.gc_file.specs.FileLaw.{AreBytes}
-use Rattle.gc_file.proofs.NumberLemmas.{length-number_bytes, number_at-append, number_at-lt, number_at-number_bytes, number_bytes-number_at}
-use Rattle.gc_file.proofs.PairLemmas.{length-items}
-use Rattle.gc_file.proofs.HeaderLemmas.{begun_before}
-use Rattle.gc_file.proofs.FileLemmas.{take_plus}
+use Rattle.gc_format.proofs.NumberLemmas.{length-number_bytes, number_at-append, number_at-number_bytes}
+use Rattle.gc_read.proofs.PairLemmas.{length-items}
+use Rattle.gc_read.proofs.HeaderLemmas.{begun_before}
+use Rattle.gc_read.proofs.FormLemmas.{begins, label_file_is}
 use Rattle.gc_file.proofs.OneFile.{split, one_label, one_list}
 use Rattle.gc_file.proofs.EitherLemmas.{AreSmall, small, small-take, small-drop, same_list}
-
-begins : (b : List ℕ) → 8 ≤ length b → IsBegun label_magic b → take 8 b ≡ label_magic
-begins b long begun = begun ∙ take_all (length b) label_magic long
-
--- Bytes of the form of a label file are the one with these labels.
-pub label_file_is : (b : List ℕ) → AreSmall b → IsLabelForm b → (index : ℕ) → index ≡ number_at 8 b
-    → (labels : List ℕ)
-    → flat_map bytes_of_label labels ≡ drop 16 b → All IsLabel labels
-    → IsLabelFile b (record { index = index; labels = labels })
-unfolding label_file
-label_file_is b are form index index_is labels labels_are each =
-    let long = form.header in
-    let whole = form.whole in
-    let size = length-items 16 bytes_of_label length-bytes_of_label labels in
-    let same = ap length labels_are in
-    let rest = length-drop 16 b in
-    let count : length labels ≡ label_count b = omega arith in
-    record {
-      index = let fits = number_at-lt 8 b are in omega arith;
-      few_labels = let few = form.few_labels in omega arith;
-      labels = each;
-      spelled = sym (ap (λ m. m ++ number_bytes index ++ number_bytes (length labels) ++ flat_map
-          bytes_of_label labels) (sym (begins b (omega arith) form.begun))
-          ∙ rw (
-            index_is,
-            count,
-            labels_are,
-            number_bytes-number_at 8 b (omega arith) are,
-            number_bytes-number_at 12 b (omega arith) are,
-            take_plus 8 4 b,
-            take_plus 12 4 b,
-          ) (take-append-drop 16 b));
-    }
 
 -- ---- a label file has its form
 

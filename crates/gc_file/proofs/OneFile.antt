@@ -7,20 +7,20 @@ use Rattle.sha2.proofs.Facts256.{length-sha256}
 use Rattle.gc_label.specs.Label.{bytes_of_label, label_of_bytes}
 use Rattle.gc_label.proofs.LabelLemmas.{length-bytes_of_label, label_of_bytes-bytes_of_label}
 use Rattle.gc_half.specs.declared.garbling.RowPair.{RowPair}
-use Rattle.gc_file.specs.declared.garbled.Version.{Version}
-use Rattle.gc_file.specs.declared.garbled.EntryPair.{EntryPair}
-use Rattle.gc_file.specs.LabelBytes.{length-row_bytes, length-entry_bytes}
-use Rattle.gc_file.specs.Number.{number_bytes}
-use Rattle.gc_file.specs.DecodeBits.{bytes_for, packed, bit_in}
-use Rattle.gc_file.specs.GarbledFile.{GarbledParts, magic, row_bytes, entry_bytes, header, body, garbled_file, entry_count, IsLabel, IsGarbledFile}
-use Rattle.gc_file.specs.FileFault.{row_count, output_count, trailer_end, LastingFault, IsHeaderInOrder, IsInOrder, FirstFault, lasting, truncated}
-use Rattle.gc_file.specs.declared.fault.FileFault.{FileFault}
-use Rattle.gc_file.specs.Body.{version_of, row_size, decode_size, entry_size, IsFilled}
-use Rattle.gc_file.proofs.NumberLemmas.{length-number_bytes, number_at-number_bytes}
-use Rattle.gc_file.proofs.PairLemmas.{length-pairs}
-use Rattle.gc_file.proofs.PackLemmas.{length-packed, packed-not_spare, unpacked-packed}
-use Rattle.gc_file.proofs.PlaceLemmas.{length-magic, begins, begun, parts_in_order, entries_end_is, length_is}
-use Rattle.gc_file.proofs.StepLemmas.{version_of-begun}
+use Rattle.gc_format.specs.declared.parts.Version.{Version}
+use Rattle.gc_format.specs.declared.parts.EntryPair.{EntryPair}
+use Rattle.gc_format.specs.LabelBytes.{length-row_bytes, length-entry_bytes}
+use Rattle.gc_format.specs.Number.{number_bytes}
+use Rattle.gc_format.specs.DecodeBits.{bytes_for, packed, bit_in}
+use Rattle.gc_format.specs.GarbledFile.{GarbledParts, magic, row_bytes, entry_bytes, header, body, garbled_file, entry_count, IsLabel, IsGarbledFile}
+use Rattle.gc_read.specs.FileFault.{row_count, output_count, trailer_end, LastingFault, IsHeaderInOrder, IsInOrder, FirstFault, lasting, truncated}
+use Rattle.gc_read.specs.declared.fault.FileFault.{FileFault}
+use Rattle.gc_read.specs.Body.{version_of, row_size, decode_size, entry_size, IsFilled}
+use Rattle.gc_format.proofs.NumberLemmas.{length-number_bytes, number_at-number_bytes}
+use Rattle.gc_read.proofs.PairLemmas.{length-pairs}
+use Rattle.gc_format.proofs.PackLemmas.{length-packed, packed-not_spare, unpacked-packed}
+use Rattle.gc_read.proofs.PlaceLemmas.{length-magic, begins, begun, parts_in_order, entries_end_is, length_is}
+use Rattle.gc_read.proofs.StepLemmas.{version_of-begun}
 use Rattle.gc_file.proofs.FaultLemmas.{one_magic, one_version, no_lasting}
 
 -- Two lists that are the same are so piece by piece.

@@ -7,36 +7,20 @@
 //! [`read_garbled`] reads a garbled file, and [`GarbledReader`] reads it from pieces of any size; [`read_labels`] reads
 //! a label file. Of bytes that are no file they answer the first fault. [`law_garbled_file`] and [`law_label_file`] say
 //! that all bytes are exactly one file or have exactly one first fault.
+//!
+//! The layouts, sinks and sources are those of `gc_format`, the writers those of `gc_write` and the readers those of
+//! `gc_read`, whose names are passed on.
 #![tactic(auto)]
 
-mod body;
-mod deal;
-mod failures;
-mod fault;
-mod garbled;
-mod header;
-mod labels;
 mod laws;
-mod number;
-mod pairs;
-mod piece;
-mod reader;
-mod sink;
-mod source;
-mod spell;
-mod take;
-mod write;
-mod writer;
 
-pub use deal::write_labels;
-pub use failures::FailureCount;
-pub use fault::FileFault;
-pub use garbled::{EntryPair, Garbled, Version};
-pub use labels::{LabelFile, read_labels};
-pub use laws::{law_garbled_file, law_label_file, law_written_files};
-pub use reader::{GarbledReader, read_garbled};
-pub use sink::{MemSink, OutSink, Sink, SinkFault};
-pub use source::{InSource, MemSource, Source, SourceFault};
-pub use take::{TakeFault, read_garbled_from};
-pub use write::{write_garbled, write_garbled2};
-pub use writer::WriteFault;
+pub use gc_format::{
+    EntryPair, FailureCount, InSource, MemSink, MemSource, OutSink, Sink, SinkFault, Source,
+    SourceFault, Version,
+};
+pub use gc_read::{
+    FileFault, Garbled, GarbledReader, LabelFile, TakeFault, read_garbled, read_garbled_from,
+    read_labels,
+};
+pub use gc_write::{WriteFault, law_written_files, write_garbled, write_garbled2, write_labels};
+pub use laws::{law_garbled_file, law_label_file};

@@ -7,7 +7,7 @@ use Rattle.std.proofs.lemmas.Bool.Decides.{Decides-eqb}
 use Rattle.std.proofs.lemmas.Slice.Eq.{slice_eq-Decides}
 use lib.Pointwise.{pointwise}
 use borrow.Author.Tests.{ltb-true}
-use Rattle.gc_file.specs.LabelFile.{LabelFileParts}
+use Rattle.gc_format.specs.LabelFile.{LabelFileParts}
 use Rattle.gc_job.specs.declared.fault.BindFault.TheVariants.{WrongWidth, DoubleValue}
 use Rattle.gc_job.specs.Binding.{HasFile, IsInOrder, AreInOrder, LabelsFault, wrong_width, double_value}
 use Rattle.gc_job.specs.Places.{IsFileAt, ArePlaces}

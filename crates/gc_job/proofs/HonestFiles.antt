@@ -8,11 +8,11 @@ use Rattle.gc_circuit.specs.Circuit.{Netlist, IsLawful, input_wires, output_wire
 use Rattle.gc_circuit.specs.Meaning.{AreOutputs}
 use Rattle.gc_label.specs.Seed.{offset_of}
 use Rattle.gc_half.specs.Garbling.{GarblingParts, decode_bits_of, IsGarbled}
-use Rattle.gc_file.specs.GarbledFile.{GarbledParts}
-use Rattle.gc_file.specs.LabelFile.{LabelFileParts, encoded_from}
+use Rattle.gc_format.specs.GarbledFile.{GarbledParts}
+use Rattle.gc_format.specs.LabelFile.{LabelFileParts, encoded_from}
 use Rattle.gc_file.specs.Honest.{version_entries}
-use Rattle.gc_file.proofs.ByteLemmas.{length-decode_bits}
-use Rattle.gc_file.proofs.DealLemmas.{encoded_from-append, length-encoded_from}
+use Rattle.gc_write.proofs.ByteLemmas.{length-decode_bits}
+use Rattle.gc_write.proofs.DealLemmas.{encoded_from-append, length-encoded_from}
 use Rattle.gc_job.specs.declared.fault.BindFault.{BindFault}
 use Rattle.gc_job.specs.declared.fault.EvalFault.{EvalFault}
 use Rattle.gc_job.specs.declared.fault.EvalFault.TheVariants.{Memory}

@@ -23,9 +23,9 @@ use Rattle.gc_half.specs.Canonical.{zero_label_of, row_pairs_of, garbling_of}
 use Rattle.gc_half.specs.Law.{Decodes}
 use Rattle.gc_half.proofs.HalfGateLaw.{colour-encode}
 use Rattle.gc_half.proofs.CanonicalLemmas.{IsGarbled-same, IsGarbled-decode_bits, length-row_pairs_of, canonical-decodes}
-use Rattle.gc_file.specs.declared.garbled.Version.TheVariants.{Two}
-use Rattle.gc_file.specs.LabelFile.{encoded_from}
-use Rattle.gc_file.specs.Written.{entry_pair_of, entry_pairs_of}
+use Rattle.gc_format.specs.declared.parts.Version.TheVariants.{Two}
+use Rattle.gc_format.specs.LabelFile.{encoded_from}
+use Rattle.gc_write.specs.Written.{entry_pair_of, entry_pairs_of}
 use Rattle.gc_job.specs.declared.fault.EvalFault.{EvalFault}
 use Rattle.gc_job.specs.declared.fault.EvalFault.TheVariants.{BadWorkers, UnknownOutputLabel, Memory}
 use Rattle.gc_job.specs.Job.{JobParts, IsWhole}

@@ -7,7 +7,7 @@ use Rattle.std.proofs.lemmas.List.Folds.{list_any_at, Any-from_list_any}
 use Rattle.std.proofs.lemmas.List.Sums.{sum-map, sum_by-cons}
 use Rattle.std.proofs.lemmas.List.Concat.{flat_map-append, length-flat_map}
 use Rattle.std.proofs.lemmas.Option.{slice_get_within, get_or_from_slice_get}
-use Rattle.gc_file.specs.LabelFile.{LabelFileParts}
+use Rattle.gc_format.specs.LabelFile.{LabelFileParts}
 use Rattle.gc_job.specs.declared.fault.BindFault.TheVariants.{MissingValue}
 use Rattle.gc_job.specs.Binding.{HasFile, AreInOrder, FirstLabelsFault, missing_value, AreLabelsOf, AreBound}
 use Rattle.gc_job.specs.Places.{IsFileAt, ArePlaces, labels_in, labels_at}

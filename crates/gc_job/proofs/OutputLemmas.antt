@@ -15,8 +15,8 @@ use Rattle.gc_half.specs.Evaluation.{active_rule, IsEvaluation}
 use Rattle.gc_half.proofs.CircuitLaw.{active_local}
 use Rattle.gc_job.specs.declared.fault.EvalFault.{EvalFault}
 use Rattle.gc_job.specs.declared.fault.EvalFault.TheVariants.{Memory}
-use Rattle.gc_file.specs.GarbledFile.{GarbledParts}
-use Rattle.gc_file.specs.LabelFile.{LabelFileParts}
+use Rattle.gc_format.specs.GarbledFile.{GarbledParts}
+use Rattle.gc_format.specs.LabelFile.{LabelFileParts}
 use Rattle.gc_job.specs.Job.{JobParts, IsWhole}
 use Rattle.gc_job.specs.Binding.{IsBound}
 use Rattle.gc_job.specs.Evaluate.{labels_of, AreActive, IsDecodingOf, IsEvaluated}

@@ -1,5 +1,5 @@
 use Rattle.std.proofs.lemmas.Result.{IfOk-weaker}
-use Rattle.gc_file.specs.LabelFile.{label_file, label_parts_of}
+use Rattle.gc_format.specs.LabelFile.{label_file, label_parts_of}
 use Rattle.gc_command.proofs.AnswerLemmas.{IfSome-map}
 use Rattle.gc_cli.proofs.deal.write_value.Goals as goal
 

@@ -1,6 +1,6 @@
 use Rattle.std.proofs.Common.{map, string_bytes, ap₂, ◌∙◌}
 use Rattle.std.proofs.lemmas.Result.{err_from_is_err_and}
-use Rattle.gc_file.specs.GarbledFile.{IsGarbledFile}
+use Rattle.gc_format.specs.GarbledFile.{IsGarbledFile}
 use Rattle.gc_command.specs.Lines.{output_lines}
 use Rattle.gc_command.proofs.AnswerLemmas.{length-decoded}
 use Rattle.gc_command.proofs.EvalLemmas.{told-before, eval-told, labels-fault-before, circuit-fault, labels-fault, job-fault}

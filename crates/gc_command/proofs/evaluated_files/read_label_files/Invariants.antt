@@ -1,6 +1,6 @@
 use Rattle.std.proofs.Common.{◌≡◌, ℕ, ◌++◌, List, drop, map}
-use Rattle.gc_file.specs.declared.fault.FileFault.{FileFault}
-use Rattle.gc_file.specs.LabelFile.{LabelFileParts}
+use Rattle.gc_read.specs.declared.fault.FileFault.{FileFault}
+use Rattle.gc_format.specs.LabelFile.{LabelFileParts}
 use Rattle.gc_command.specs.Eval.{TellLabels, FirstBadLabels}
 use Rattle.gc_cli.proofs.evaluated_files.read_label_files.Given as goal
 

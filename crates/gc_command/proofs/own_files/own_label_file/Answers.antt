@@ -1,7 +1,7 @@
 use Rattle.std.proofs.Common.{◌≡◌, ◌∙◌}
 use Rattle.std.proofs.lemmas.Result.{err_from_is_err_and}
-use Rattle.gc_file.specs.declared.fault.FileFault.TheVariants.{Memory}
-use Rattle.gc_file.specs.FileFault.{FirstLabelFault}
+use Rattle.gc_read.specs.declared.fault.FileFault.TheVariants.{Memory}
+use Rattle.gc_read.specs.FileFault.{FirstLabelFault}
 use Rattle.gc_file.proofs.LabelFileLemmas.{not_both, one_label_file}
 use Rattle.gc_command.proofs.FaultLemmas.{file-memory}
 use Rattle.gc_command.proofs.OwnFilesLemmas.{own-label-file}

@@ -1,6 +1,0 @@
--- How failures are counted.
-use Rattle.std.specs.Prelude.{◌≡◌, ℕ, ◌+◌, Result, MatchResult}
-
--- A call that fails has raised the number of failures by one, and any other has left it.
-abbrev pub CountsFailure : {T E : Type 0} → Result T E → ℕ → ℕ → Type 0
-CountsFailure result old new = MatchResult result (λ _. new ≡ old) (λ _. new ≡ old + 1)

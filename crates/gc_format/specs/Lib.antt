@@ -1,0 +1,11 @@
+pub mod DecodeBits
+pub mod Number
+pub mod GarbledFile
+pub mod LabelFile
+pub mod LabelBytes
+pub mod Failures
+pub mod Counted
+pub mod MemSink
+pub mod OutSink
+pub mod MemSource
+pub mod InSource

@@ -1,0 +1,37 @@
+//! What a garbled file is made of.
+
+ghost use Rattle.std.specs.Prelude.{◌≡◌};
+ghost use Rattle.gc_format.specs.GarbledFile as files;
+
+use gc_label::Label;
+
+/// The version of a garbled file.
+#[derive(Clone, Copy, PartialEq, Eq, Debug)]
+pub enum Version {
+    /// Digest, rows and decode bits.
+    One,
+    /// With an entry pair for each output wire.
+    Two,
+}
+
+impl Version {
+    /// The first eight bytes of a garbled file of this version.
+    pub fn magic(self) -> [u8; 8]
+        ensures { result ≡ files.magic self }
+    {
+        match self {
+            Version::One => *b"HGARBLE1",
+            Version::Two => *b"HGARBLE2",
+        }
+    }
+}
+
+/// The entries of an output wire, by which its two labels are recognised: each is the hash of the one that has the
+/// colour told.
+#[derive(Clone, Copy, PartialEq, Eq, Debug)]
+pub struct EntryPair {
+    /// The entry of the label of colour 0.
+    pub entry_zero: Label,
+    /// The entry of the label of colour 1.
+    pub entry_one: Label,
+}

@@ -1,0 +1,145 @@
+-- The header of a garbled file.
+use Rattle.std.proofs.Common.{◌≡◌, ℕ, zero, suc, ◌+◌, ◌-◌, ◌*◌, ◌<◌, ◌≤◌, List, [], ◌∷◌, ◌++◌, length, take, drop, slice_index, refl, sym, ap, subst, ◌∙◌, append_assoc, length-append, arith}
+use Rattle.std.proofs.lemmas.List.{take-append-le, take-take, take-append-drop, drop-append-le, get_or_append_left, length-drop}
+use Rattle.sha2.specs.Sha256.{sha256}
+use Rattle.gc_read.specs.declared.fault.FileFault.{FileFault}
+use Rattle.gc_format.specs.declared.parts.Version.{Version}
+use Rattle.gc_format.specs.GarbledFile.{magic}
+use Rattle.gc_format.specs.DecodeBits.{bytes_for}
+use Rattle.gc_format.specs.GarbledFile.{entry_count}
+use Rattle.gc_read.specs.FileFault.{IsBegun, row_count, output_count, decode_end, entries_end, trailer_end, trailer, HasHeader, HasSpareBit, HasDecodeBits, LastingFault, bad_magic, too_many_rows, too_many_outputs, spare_bits, bad_trailer, trailing, IsHeaderInOrder, IsInOrder}
+use Rattle.gc_format.proofs.NumberLemmas.{number_at-append}
+
+take_both : (n m : ℕ) (xs : List ℕ) → take n (take m xs) ≡ take m (take n xs)
+take_both zero zero xs = refl
+take_both zero (suc m) xs = refl
+take_both (suc n) zero xs = refl
+take_both (suc n) (suc m) [] = refl
+take_both (suc n) (suc m) (x ∷ xs) = ap (λ l. x ∷ l) (take_both n m xs)
+
+-- A beginning of bytes that begin with a magic is one of it too.
+pub begun_before : (m bytes more : List ℕ) → IsBegun m (bytes ++ more) → IsBegun m bytes
+begun_before m bytes more begun =
+    ap (take 8) (sym (take-append-le (length bytes) bytes more (omega arith) ∙ take-whole bytes))
+    ∙ take_both 8 (length bytes) (bytes ++ more)
+    ∙ ap (take (length bytes)) begun
+    ∙ take-take (length bytes) (length (bytes ++ more)) m (omega (arith, length-append bytes more))
+  where
+    take-whole : (xs : List ℕ) → take (length xs) xs ≡ xs
+    take-whole [] = refl
+    take-whole (x ∷ xs) = ap (λ l. x ∷ l) (take-whole xs)
+
+-- A beginning of a header that is in order is a beginning of a file that is.
+pub header_in_order : (v : Version) (bytes : List ℕ) → length bytes < 48 → IsHeaderInOrder v bytes
+    → IsInOrder v bytes
+header_in_order v bytes short header = record {
+  header = header;
+  no_spare_bit = λ reaches. absurd (omega arith);
+  right = λ reaches. absurd (omega arith);
+  ends = λ whole. absurd (omega arith);
+}
+
+-- What is told of bytes stays when more follow.
+module _ (bytes more : List ℕ) where
+  magic-more : 8 ≤ length bytes → take 8 (bytes ++ more) ≡ take 8 bytes
+  magic-more long = take-append-le 8 bytes more long
+
+  outputs-more : 48 ≤ length bytes → output_count (bytes ++ more) ≡ output_count bytes
+  outputs-more long = number_at-append 44 bytes more (omega arith)
+
+  rows-more : 44 ≤ length bytes → row_count (bytes ++ more) ≡ row_count bytes
+  rows-more long = number_at-append 40 bytes more (omega arith)
+
+  decode_end-more : 48 ≤ length bytes → decode_end (bytes ++ more) ≡ decode_end bytes
+  decode_end-more long = ap (λ n. 48 + 32 * n + bytes_for (output_count (bytes ++ more)))
+      (rows-more (omega arith))
+      ∙ ap (λ n. 48 + 32 * row_count bytes + bytes_for n) (outputs-more long)
+
+  entries_end-more : (v : Version) → 48 ≤ length bytes → entries_end v (bytes ++ more) ≡ entries_end v bytes
+  entries_end-more v long = ap (λ n. n + 32 * entry_count v (output_count (bytes ++ more)))
+      (decode_end-more long)
+      ∙ ap (λ n. decode_end bytes + 32 * entry_count v n) (outputs-more long)
+
+  header-more : (v : Version) → HasHeader v bytes → HasHeader v (bytes ++ more)
+  header-more v has =
+      let long = has.whole in
+      record {
+        begins = magic-more (omega arith) ∙ has.begins;
+        whole = omega (arith, length-append bytes more);
+        few_rows = rw (rows-more (omega arith)) has.few_rows;
+        few_outputs = rw (outputs-more long) has.few_outputs;
+      }
+
+  last-more : 48 ≤ length bytes → decode_end bytes ≤ length bytes
+      → slice_index (bytes ++ more) (decode_end (bytes ++ more) - 1) ≡ slice_index bytes
+      (decode_end bytes - 1)
+  last-more long reaches = ap (λ n. slice_index (bytes ++ more) (n - 1)) (decode_end-more long)
+      ∙ get_or_append_left bytes more 0 (decode_end bytes - 1) (omega arith)
+
+  spare-more : 48 ≤ length bytes → decode_end bytes ≤ length bytes → HasSpareBit bytes
+      → HasSpareBit (bytes ++ more)
+  spare-more long reaches spare = record {
+    not_full = rw (outputs-more long) spare.not_full;
+    bit = rw (last-more long reaches, outputs-more long) spare.bit;
+  }
+
+  spare-less : 48 ≤ length bytes → decode_end bytes ≤ length bytes → HasSpareBit (bytes ++ more)
+      → HasSpareBit bytes
+  spare-less long reaches spare = record {
+    not_full = rw (outputs-more long) at spare.not_full;
+    bit = rw (last-more long reaches, outputs-more long) at spare.bit;
+  }
+
+  decode_bits-more : (v : Version) → HasDecodeBits v bytes → HasDecodeBits v (bytes ++ more)
+  decode_bits-more v has =
+      let long = has.header.whole in
+      record {
+        header = header-more v has.header;
+        whole = let reaches = has.whole in omega (arith, decode_end-more long, length-append bytes more);
+        no_spare_bit = λ spare. has.no_spare_bit (spare-less long has.whole spare);
+      }
+
+  trailer-more : (v : Version) → 48 ≤ length bytes → trailer_end v bytes ≤ length bytes
+      → trailer v (bytes ++ more) ≡ trailer v bytes
+  trailer-more v long reaches = ap (λ n. take 32 (drop n (bytes ++ more))) (entries_end-more v long)
+      ∙ ap (take 32) (drop-append-le (entries_end v bytes) bytes more (omega arith))
+      ∙ take-append-le 32 (drop (entries_end v bytes) bytes) more
+      (omega (arith, length-drop (entries_end v bytes) bytes))
+
+  message-more : (v : Version) → 48 ≤ length bytes → trailer_end v bytes ≤ length bytes
+      → sha256 (take (entries_end v (bytes ++ more)) (bytes ++ more)) ≡ sha256
+      (take (entries_end v bytes) bytes)
+  message-more v long reaches = ap sha256 (ap (λ n. take n (bytes ++ more)) (entries_end-more v long)
+      ∙ take-append-le (entries_end v bytes) bytes more (omega arith))
+
+  -- A lasting fault is that of all longer bytes.
+  pub lasts : (e : FileFault) → LastingFault bytes e → LastingFault (bytes ++ more) e
+  lasts _ (bad_magic none) = bad_magic (λ v begun. none v (begun_before (magic v) bytes more begun))
+  lasts _ (too_many_rows v is long many) =
+      too_many_rows v (magic-more (omega arith) ∙ is) (omega (arith, length-append bytes more))
+      (rw (rows-more long) many)
+  lasts _ (too_many_outputs v is long many) =
+      too_many_outputs v (magic-more (omega arith) ∙ is) (omega (arith, length-append bytes more))
+      (rw (outputs-more long) many)
+  lasts _ (spare_bits v header reaches spare) =
+      spare_bits v (header-more v header)
+      (omega (arith, decode_end-more header.whole, length-append bytes more))
+      (spare-more header.whole reaches spare)
+  lasts _ (bad_trailer v has reaches wrong) =
+      let long = has.header.whole in
+      bad_trailer v (decode_bits-more v has)
+      (omega (arith, entries_end-more v long, length-append bytes more))
+      (λ is. wrong (sym (trailer-more v long reaches) ∙ is ∙ message-more v long reaches))
+  lasts _ (trailing v has reaches is) =
+      let long = has.header.whole in
+      trailing v (decode_bits-more v has) (omega (arith, entries_end-more v long, length-append bytes more))
+      (trailer-more v long (omega arith) ∙ is ∙ sym (message-more v long (omega arith)))
+
+-- A lasting fault of the first bytes of a piece is that of the whole piece.
+pub lasts_piece : (header piece : List ℕ) (n : ℕ) (e : FileFault) → LastingFault (header ++ take n piece) e
+    → LastingFault (header ++ piece) e
+lasts_piece header piece n e fault =
+    let P : List ℕ → Type 0 = λ b. LastingFault b e in
+    subst P (append_assoc header (take n piece) (drop n piece)
+    ∙ ap (λ l. header ++ l) (take-append-drop n piece))
+    (lasts (header ++ take n piece) (drop n piece) e fault)

@@ -1,0 +1,10 @@
+pub mod PieceLemmas
+pub mod PlaceLemmas
+pub mod PairLemmas
+pub mod HeaderLemmas
+pub mod StepLemmas
+pub mod BitLemmas
+pub mod FileLemmas
+pub mod FormLemmas
+pub mod StateLemmas
+pub mod TakeLemmas

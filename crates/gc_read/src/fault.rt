@@ -1,0 +1,88 @@
+//! The faults of files.
+
+ghost use Rattle.std.specs.Prelude.{◌≡◌};
+ghost use Rattle.gc_read.specs.Fault.{code_of, name_of};
+
+use std::alloc::{AllocError, AllocFailed};
+use thiserror::Error;
+
+/// Why bytes are no file: the first fault in their order. `Memory` stands in place of a later fault, or of the file,
+/// only where a growth was refused.
+#[derive(Clone, Copy, Debug, PartialEq, Eq, Error)]
+pub enum FileFault {
+    /// The first bytes are not those of the format.
+    #[error("BadMagic")]
+    BadMagic,
+    /// The bytes end before the file does.
+    #[error("Truncated")]
+    Truncated,
+    /// Bytes follow after the file.
+    #[error("Trailing")]
+    Trailing,
+    /// A count is above its limit.
+    #[error("CountTooLarge")]
+    CountTooLarge,
+    /// A bit is set in the last decode byte that stands for no output wire.
+    #[error("SpareBits")]
+    SpareBits,
+    /// The trailer is not the digest of the bytes before it.
+    #[error("BadTrailer")]
+    BadTrailer,
+    /// Memory ran out.
+    #[error("Memory")]
+    Memory,
+}
+
+impl FileFault {
+    /// The number of the fault, from 30 to 36.
+    pub fn code(self) -> u32
+        ensures { result ≡ code_of self }
+    {
+        match self {
+            FileFault::BadMagic => 30,
+            FileFault::Truncated => 31,
+            FileFault::Trailing => 32,
+            FileFault::CountTooLarge => 33,
+            FileFault::SpareBits => 34,
+            FileFault::BadTrailer => 35,
+            FileFault::Memory => 36,
+        }
+    }
+
+    /// The name of the fault, as users see it.
+    pub fn name(self) -> &'static str
+        ensures { result.now ≡ name_of self }
+    {
+        match self {
+            FileFault::BadMagic => "BadMagic",
+            FileFault::Truncated => "Truncated",
+            FileFault::Trailing => "Trailing",
+            FileFault::CountTooLarge => "CountTooLarge",
+            FileFault::SpareBits => "SpareBits",
+            FileFault::BadTrailer => "BadTrailer",
+            FileFault::Memory => "Memory",
+        }
+    }
+}
+
+impl From<AllocError> for FileFault {
+    ghost use Rattle.std.specs.Prelude.{◌≡◌};
+    ghost use Rattle.gc_read.specs.declared.fault.FileFault.TheVariants as faults;
+
+    ghost from_gives = { λ _ e. e ≡ faults.Memory };
+
+    fn from(_e: AllocError) -> FileFault {
+        FileFault::Memory
+    }
+}
+
+impl<T: Drop> From<AllocFailed<T>> for FileFault {
+    ghost use Rattle.std.specs.Prelude.{◌≡◌};
+    ghost use Rattle.gc_read.specs.declared.fault.FileFault.TheVariants as faults;
+
+    ghost from_gives = { λ _ e. e ≡ faults.Memory };
+
+    fn from(_e: AllocFailed<T>) -> FileFault {
+        FileFault::Memory
+    }
+}

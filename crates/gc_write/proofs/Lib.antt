@@ -1,0 +1,9 @@
+pub mod KnownLemmas
+pub mod WritingLemmas
+pub mod EndLemmas
+pub mod ListLemmas
+pub mod ByteLemmas
+pub mod SizeLemmas
+pub mod WrittenLemmas
+pub mod DealLemmas
+pub mod WrittenFiles

@@ -1,0 +1,8 @@
+use Rattle.std.proofs.Common.{◌≡◌, ◌≤◌, drop, take}
+use Rattle.gc_half.specs.Garbling.{decode_bits_of}
+use Rattle.gc_format.specs.DecodeBits.{bits_number}
+use Rattle.gc_write.proofs.spell.decode_byte.Given as goal
+
+abbrev pub invariant-loop-i : goal.invariant-loop-i
+invariant-loop-i g l =
+    (l.i ≤ l.count) × (l.byte ≡ bits_number (drop l.i (take 8 (drop l.first (decode_bits_of l.garbling)))))

@@ -1,0 +1,60 @@
+use Rattle.std.proofs.Common.{◌≡◌, ◌<◌, ◌+◌, ◌++◌, length, Ok, Err, flat_map, take, drop, get_or, subst, sym, ap, ◌∙◌, arith}
+use Rattle.std.proofs.lemmas.List.{take_all}
+use Rattle.std.proofs.lemmas.Result.{err_from_is_err_and}
+use Rattle.sha2.specs.Hashers.{Holds256}
+use Rattle.gc_label.specs.Label.{bytes_of_label}
+use Rattle.gc_format.specs.GarbledFile.{entry_bytes}
+use Rattle.gc_write.specs.Writing.{Proceeds}
+use Rattle.gc_write.specs.Written.{entry_pair_of, entry_pairs_of}
+use Rattle.gc_write.proofs.ByteLemmas.{entry_pairs-at, length-entry_pairs}
+use Rattle.gc_write.proofs.ListLemmas.{flat_map-step, flat_map-rest}
+use Rattle.gc_write.proofs.WritingLemmas.{Proceeds-step, Proceeds-stop}
+use Rattle.gc_write.proofs.write.FileWriter+Sha256.write_entries.Goals as goal
+
+pub returns-in_err-write-clause-bytes : goal.returns-in_err-write-clause-bytes
+returns-in_err-write-clause-bytes g c =
+    let p = err_from_is_err_and c.from_residual.result c.from_residual.ensures.1 in
+    let o = c.args.offset in let i = c.loop-i.i in let pairs = entry_pairs_of o c.args.garbling.now in
+    let one = entry_pair_of o c.args.garbling.now i in
+    let within : i < length pairs = omega (arith, length-entry_pairs o c.args.garbling.now) in
+    let made : c.pair_bytes.result ≡ entry_bytes one =
+    c.pair_bytes.ensures ∙ ap (λ l. bytes_of_label l ++ bytes_of_label c.output_entry-entry_one.result)
+    c.output_entry-entry_zero.ensures
+    ∙ ap (λ l. bytes_of_label one.entry_zero ++ bytes_of_label l) c.output_entry-entry_one.ensures
+    in
+    let here : c.pair_bytes.result ≡ entry_bytes (get_or pairs i one) =
+    made ∙ ap entry_bytes (sym (entry_pairs-at o c.args.garbling.now i one (omega arith)))
+    in
+    let so_far = flat_map entry_bytes (take i pairs) in let rest =
+    flat_map entry_bytes (drop (i + 1) pairs) in
+    Proceeds-stop c.from_residual.result c.in_err-write.field-0.0 so_far c.pair_bytes.result rest _ (p.1
+    ∙ ap Err p.2)
+    (ap (λ l. (so_far ++ l) ++ rest) here ∙ flat_map-rest entry_bytes pairs i one within)
+    c.loop-i.invariant.0 c.in_err-write.ensures.bytes
+
+pub loop-i-preserved : goal.loop-i-preserved
+loop-i-preserved g c =
+    let o = c.args.offset in let i = c.loop-i.i in let pairs = entry_pairs_of o c.args.garbling.now in
+    let one = entry_pair_of o c.args.garbling.now i in
+    let within : i < length pairs = omega (arith, length-entry_pairs o c.args.garbling.now) in
+    let made : c.pair_bytes.result ≡ entry_bytes one =
+    c.pair_bytes.ensures ∙ ap (λ l. bytes_of_label l ++ bytes_of_label c.output_entry-entry_one.result)
+    c.output_entry-entry_zero.ensures
+    ∙ ap (λ l. bytes_of_label one.entry_zero ++ bytes_of_label l) c.output_entry-entry_one.ensures
+    in
+    let here : c.pair_bytes.result ≡ entry_bytes (get_or pairs i one) =
+    made ∙ ap entry_bytes (sym (entry_pairs-at o c.args.garbling.now i one (omega arith)))
+    in
+    let so_far = flat_map entry_bytes (take i pairs) in (
+      Proceeds-step so_far c.pair_bytes.result _ (ap (λ l. so_far ++ l) here
+          ∙ flat_map-step entry_bytes pairs i one within)
+          c.loop-i.invariant.0 c.in_ok-write.ensures.bytes,
+      c.in_ok-write.ensures.counted ∙ c.loop-i.invariant.1,
+    )
+
+pub returns-clause-bytes : goal.returns-clause-bytes
+returns-clause-bytes g c =
+    let pairs = entry_pairs_of c.args.offset c.args.garbling.now in
+    let all : take c.loop-i.i pairs ≡ pairs =
+    take_all c.loop-i.i pairs (omega (arith, length-entry_pairs c.args.offset c.args.garbling.now)) in
+    subst (Proceeds Holds256 _ _ _ _ (Ok tt)) (ap (flat_map entry_bytes) all) c.loop-i.invariant.0

@@ -1,0 +1,134 @@
+//! Writing garbled files.
+
+ghost use Rattle.std.specs.Prelude.{flat_map, []};
+ghost use Rattle.sha2.specs.Hashers.{Holds256};
+ghost use Rattle.gc_half.specs.Garbling.{decode_bits_of, FitsCircuit};
+ghost use Rattle.gc_format.specs.Counted.{CountsFailure};
+ghost use Rattle.gc_format.specs.DecodeBits.{packed};
+ghost use Rattle.gc_format.specs.GarbledFile.{row_bytes, entry_bytes, garbled_file, parts_of};
+ghost use Rattle.gc_write.specs.Writing.{Proceeds};
+ghost use Rattle.gc_write.specs.Written.{IsWritten, entry_pairs_of, front, IsSmall, parts_one, parts_two};
+
+use crate::spell::{decode_byte, header, pair_bytes};
+use crate::writer::{FileWriter, WriteFault};
+use gc_circuit::Circuit;
+use gc_format::{Sink, Version};
+use gc_half::{Garbling, RowPair, output_entry};
+use gc_label::{Offset, Seed, offset};
+use sha2::{Digest, Sha256};
+use std::alloc::Allocator;
+
+impl FileWriter<Sha256> {
+    /// Writes what stands before the entries: the header, the row pairs and the decode bits.
+    fn write_front<S: Sink, A: Allocator, B: Allocator>(
+        &mut self,
+        sink: &mut S,
+        version: Version,
+        circuit: &Circuit<A>,
+        garbling: &Garbling<B>,
+    ) -> Result<(), WriteFault>
+        requires { FitsCircuit circuit.now garbling.now }
+        ensures bytes { Proceeds Holds256 self.old self.new (S.taken sink.old) (S.taken sink.new) result
+            (front (parts_of version circuit.now garbling.now [])) }
+        ensures small { IsSmall garbling.now }
+        ensures counted { CountsFailure result (S.failures sink.old) (S.failures sink.new) }
+    {
+        let header = header(
+            version,
+            circuit.digest(),
+            circuit.and_count(),
+            garbling.outputs(),
+        );
+        self.write(sink, header.as_slice())?;
+        self.write_rows(sink, garbling.rows())?;
+        self.write_decode_bits(sink, garbling)
+    }
+
+    /// Writes the row pairs.
+    fn write_rows<S: Sink>(&mut self, sink: &mut S, rows: &[RowPair]) -> Result<(), WriteFault>
+        ensures bytes { Proceeds Holds256 self.old self.new (S.taken sink.old) (S.taken sink.new) result
+            (flat_map row_bytes rows.now) }
+        ensures counted { CountsFailure result (S.failures sink.old) (S.failures sink.new) }
+    {
+        for row in rows {
+            self.write(sink, &pair_bytes(row.generator, row.evaluator))?;
+        }
+        Ok(())
+    }
+
+    /// Writes the decode bits, eight to a byte.
+    fn write_decode_bits<S: Sink, A: Allocator>(
+        &mut self,
+        sink: &mut S,
+        garbling: &Garbling<A>,
+    ) -> Result<(), WriteFault>
+        ensures bytes { Proceeds Holds256 self.old self.new (S.taken sink.old) (S.taken sink.new) result
+            (packed (decode_bits_of garbling.now)) }
+        ensures counted { CountsFailure result (S.failures sink.old) (S.failures sink.new) }
+    {
+        for k in 0..garbling.outputs().div_ceil(8) {
+            self.write(sink, &[decode_byte(garbling, k)])?;
+        }
+        Ok(())
+    }
+
+    /// Writes the entry pair of each output wire.
+    fn write_entries<S: Sink, A: Allocator, B: Allocator>(
+        &mut self,
+        sink: &mut S,
+        circuit: &Circuit<A>,
+        garbling: &Garbling<B>,
+        offset: Offset,
+    ) -> Result<(), WriteFault>
+        requires { FitsCircuit circuit.now garbling.now }
+        ensures bytes { Proceeds Holds256 self.old self.new (S.taken sink.old) (S.taken sink.new) result
+            (flat_map entry_bytes (entry_pairs_of offset garbling.now)) }
+        ensures counted { CountsFailure result (S.failures sink.old) (S.failures sink.new) }
+    {
+        for i in 0..garbling.outputs() {
+            let entry_zero = output_entry(circuit, garbling, offset, i, false);
+            let entry_one = output_entry(circuit, garbling, offset, i, true);
+            self.write(sink, &pair_bytes(entry_zero, entry_one))?;
+        }
+        Ok(())
+    }
+}
+
+/// Writes the garbled file of version 1 to the sink and tells how many bytes it has: the digest of the circuit's
+/// canonical text, the garbling's rows and its decode bits. That the garbling fits the circuit is the caller's
+/// condition. It takes no memory but what the sink takes.
+///
+/// Where the sink fails, it has taken the first `sent` bytes of the file, and no others.
+pub fn write_garbled<S: Sink, A: Allocator, B: Allocator>(
+    sink: &mut S,
+    circuit: &Circuit<A>,
+    garbling: &Garbling<B>,
+) -> Result<u64, WriteFault>
+    requires { FitsCircuit circuit.now garbling.now }
+    ensures file { IsWritten (garbled_file (parts_one circuit.now garbling.now))
+        result (S.taken sink.old) (S.taken sink.new) }
+    ensures counted { CountsFailure result (S.failures sink.old) (S.failures sink.new) }
+{
+    let mut file = FileWriter::new(Sha256::new());
+    file.write_front(sink, Version::One, circuit, garbling)?;
+    file.end_with_digest(sink)
+}
+
+/// Writes the garbled file of version 2, as [`write_garbled`] does that of version 1. After the decode bits it has an
+/// entry pair for each output wire, by which its labels are recognised. The seed is that of the garbling.
+pub fn write_garbled2<S: Sink, A: Allocator, B: Allocator>(
+    sink: &mut S,
+    circuit: &Circuit<A>,
+    garbling: &Garbling<B>,
+    seed: &Seed,
+) -> Result<u64, WriteFault>
+    requires { FitsCircuit circuit.now garbling.now }
+    ensures file { IsWritten (garbled_file (parts_two circuit.now garbling.now seed.now))
+        result (S.taken sink.old) (S.taken sink.new) }
+    ensures counted { CountsFailure result (S.failures sink.old) (S.failures sink.new) }
+{
+    let mut file = FileWriter::new(Sha256::new());
+    file.write_front(sink, Version::Two, circuit, garbling)?;
+    file.write_entries(sink, circuit, garbling, offset(seed))?;
+    file.end_with_digest(sink)
+}
