@@ -6,7 +6,13 @@ ghost use Rattle.gc_command.specs.Fault.{HasCause};
 ghost use Rattle.gc_cli.specs.CarryOut.{Answers, HasFault, Writes};
 
 use crate::jobs::jobs;
-use gc_command::{Fault, Files, check, deal, eval, garble, plain, run};
+use gc_command::check::check;
+use gc_command::deal::deal;
+use gc_command::eval::eval;
+use gc_command::garble::garble;
+use gc_command::plain::plain;
+use gc_command::run::run;
+use gc_command::{Fault, Files};
 use gc_order::Order;
 use std::alloc::Allocator;
 use std::sync::Wait;

@@ -1,6 +1,6 @@
 use Rattle.std.proofs.Common.{◌≡◌, ◌++◌, ◌∷◌, length, decimal, take}
 use Rattle.gc_circuit.proofs.CanonLines.{numbers_after}
-use Rattle.gc_cli.proofs.check.push_widths.Given as goal
+use Rattle.gc_command.proofs.check.push_widths.Given as goal
 
 abbrev pub invariant-loop-width : goal.invariant-loop-width
 invariant-loop-width g l =

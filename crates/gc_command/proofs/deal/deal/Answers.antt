@@ -3,7 +3,7 @@ use Rattle.std.proofs.lemmas.Result.{IfOk-weaker, IfErr-weaker}
 use Rattle.gc_command.specs.CircuitFile.{IsCircuit}
 use Rattle.gc_command.proofs.AnswerLemmas.{IfSome-map}
 use Rattle.gc_command.proofs.WroteLemmas.{IfSome-both, input_value-width, deal-unwritten}
-use Rattle.gc_cli.proofs.deal.deal.Goals as goal
+use Rattle.gc_command.proofs.deal.deal.Goals as goal
 
 pub write_value-requires : goal.write_value-requires
 write_value-requires g c =

@@ -1,7 +1,7 @@
 use Rattle.std.proofs.lemmas.Result.{IfOk-weaker}
 use Rattle.gc_format.specs.LabelFile.{label_file, label_parts_of}
 use Rattle.gc_command.proofs.AnswerLemmas.{IfSome-map}
-use Rattle.gc_cli.proofs.deal.write_value.Goals as goal
+use Rattle.gc_command.proofs.deal.write_value.Goals as goal
 
 pub returns-clause-written : goal.returns-clause-written
 returns-clause-written g c = IfOk-weaker c.keep_written.result _ _

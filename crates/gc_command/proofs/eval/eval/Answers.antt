@@ -4,7 +4,7 @@ use Rattle.gc_format.specs.GarbledFile.{IsGarbledFile}
 use Rattle.gc_command.specs.Lines.{output_lines}
 use Rattle.gc_command.proofs.AnswerLemmas.{length-decoded}
 use Rattle.gc_command.proofs.EvalLemmas.{told-before, eval-told, labels-fault-before, circuit-fault, labels-fault, job-fault}
-use Rattle.gc_cli.proofs.eval.eval.Goals as goal
+use Rattle.gc_command.proofs.eval.eval.Goals as goal
 
 pub returns-in_err-circuit-clause-fault : goal.returns-in_err-circuit-clause-fault
 returns-in_err-circuit-clause-fault g c =

@@ -1,6 +1,6 @@
 use Rattle.std.proofs.Common.{◌≡◌, [], drop, arith}
 use Rattle.std.proofs.lemmas.List.{append-nil, drop_all}
-use Rattle.gc_cli.proofs.evaluated_files.read_label_files.Goals as goal
+use Rattle.gc_command.proofs.evaluated_files.read_label_files.Goals as goal
 
 pub returns-clause-told : goal.returns-clause-told
 returns-clause-told g c =

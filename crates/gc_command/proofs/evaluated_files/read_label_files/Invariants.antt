@@ -2,7 +2,7 @@ use Rattle.std.proofs.Common.{◌≡◌, ℕ, ◌++◌, List, drop, map}
 use Rattle.gc_read.specs.declared.fault.FileFault.{FileFault}
 use Rattle.gc_format.specs.LabelFile.{LabelFileParts}
 use Rattle.gc_command.specs.Eval.{TellLabels, FirstBadLabels}
-use Rattle.gc_cli.proofs.evaluated_files.read_label_files.Given as goal
+use Rattle.gc_command.proofs.evaluated_files.read_label_files.Given as goal
 
 -- What the files that are left tell, all of them tell.
 abbrev pub invariant-loop-name : goal.invariant-loop-name

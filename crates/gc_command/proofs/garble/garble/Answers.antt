@@ -3,7 +3,7 @@ use Rattle.std.proofs.lemmas.Result.{IfOk-weaker, IfErr-weaker}
 use Rattle.gc_command.specs.CircuitFile.{IsCircuit}
 use Rattle.gc_command.proofs.AnswerLemmas.{IfSome-map}
 use Rattle.gc_command.proofs.WroteLemmas.{IfSome-both, garble-unwritten, garbled-fits}
-use Rattle.gc_cli.proofs.garble.garble.Goals as goal
+use Rattle.gc_command.proofs.garble.garble.Goals as goal
 
 pub write_garbling-requires : goal.write_garbling-requires
 write_garbling-requires g c =

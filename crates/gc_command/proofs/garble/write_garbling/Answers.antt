@@ -2,7 +2,7 @@ use Rattle.std.proofs.lemmas.Result.{IfOk-weaker}
 use Rattle.gc_format.specs.GarbledFile.{garbled_file}
 use Rattle.gc_file.specs.Honest.{honest_parts}
 use Rattle.gc_command.proofs.AnswerLemmas.{IfSome-map}
-use Rattle.gc_cli.proofs.garble.write_garbling.Goals as goal
+use Rattle.gc_command.proofs.garble.write_garbling.Goals as goal
 
 pub returns-clause-written : goal.returns-clause-written
 returns-clause-written g c = IfOk-weaker c.keep_written.result _ _

@@ -5,7 +5,7 @@ use Rattle.gc_file.proofs.OneFile.{file_not_fault}
 use Rattle.gc_read.specs.declared.fault.FileFault.TheVariants.{Memory}
 use Rattle.gc_command.proofs.FaultLemmas.{file-memory}
 use Rattle.gc_command.proofs.OwnFilesLemmas.{own-garbled, own-parts}
-use Rattle.gc_cli.proofs.own_files.own_garbled.Goals as goal
+use Rattle.gc_command.proofs.own_files.own_garbled.Goals as goal
 
 pub returns-in_err-read_garbled-clause-fault : goal.returns-in_err-read_garbled-clause-fault
 returns-in_err-read_garbled-clause-fault g c =

@@ -5,7 +5,7 @@ use Rattle.gc_read.specs.FileFault.{FirstLabelFault}
 use Rattle.gc_file.proofs.LabelFileLemmas.{not_both, one_label_file}
 use Rattle.gc_command.proofs.FaultLemmas.{file-memory}
 use Rattle.gc_command.proofs.OwnFilesLemmas.{own-label-file}
-use Rattle.gc_cli.proofs.own_files.own_label_file.Goals as goal
+use Rattle.gc_command.proofs.own_files.own_label_file.Goals as goal
 
 pub returns-in_err-read_labels-clause-fault : goal.returns-in_err-read_labels-clause-fault
 returns-in_err-read_labels-clause-fault g c =

@@ -1,7 +1,7 @@
 use Rattle.std.proofs.Common.{◌∙◌, Bool, List, Some, length, map, option_map, refl, sym, ap, arith}
 use Rattle.std.proofs.lemmas.Option.{slice_get-map, slice_get_read}
 use Rattle.gc_command.proofs.OwnFilesLemmas.{labels-more, own-width}
-use Rattle.gc_cli.proofs.own_files.own_labels.Goals as goal
+use Rattle.gc_command.proofs.own_files.own_labels.Goals as goal
 
 pub own_label_file-requires-clause-value : goal.own_label_file-requires-clause-value
 own_label_file-requires-clause-value g c =

@@ -1,6 +1,6 @@
 use Rattle.std.proofs.Common.{take, map}
 use Rattle.gc_command.specs.OwnFiles.{AreLabelsOf}
-use Rattle.gc_cli.proofs.own_files.own_labels.Given as goal
+use Rattle.gc_command.proofs.own_files.own_labels.Given as goal
 
 abbrev pub invariant-loop-i : goal.invariant-loop-i
 invariant-loop-i g l =

@@ -6,7 +6,7 @@ use Rattle.gc_command.specs.Lines.{output_lines}
 use Rattle.gc_command.proofs.AnswerLemmas.{map_err-ok, IfSome-map, length-outputs}
 use Rattle.gc_command.proofs.PlainLemmas.{answers-plain}
 use Rattle.gc_command.proofs.ValuesLemmas.{TellValues-widths}
-use Rattle.gc_cli.proofs.plain.plain.Goals as goal
+use Rattle.gc_command.proofs.plain.plain.Goals as goal
 
 pub plain_eval-requires : goal.plain_eval-requires
 plain_eval-requires g c =

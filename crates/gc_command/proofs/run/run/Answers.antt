@@ -6,7 +6,7 @@ use Rattle.gc_command.proofs.AnswerLemmas.{IfSome-map, length-decoded}
 use Rattle.gc_command.proofs.ValuesLemmas.{TellValues-widths}
 use Rattle.gc_command.proofs.OwnFilesLemmas.{own-digest, own-honest}
 use Rattle.gc_command.proofs.RunLemmas.{honest-decode, honest-fault, want-of-memory}
-use Rattle.gc_cli.proofs.run.run.Goals as goal
+use Rattle.gc_command.proofs.run.run.Goals as goal
 
 pub own_labels-requires-clause-fits : goal.own_labels-requires-clause-fits
 own_labels-requires-clause-fits g c =

@@ -1,7 +1,7 @@
 use Rattle.std.proofs.Common.{◌++◌, List, Bool, drop, map, string_bytes}
 use Rattle.gc_circuit.specs.declared.value.ValueFault.{ValueFault}
 use Rattle.gc_command.specs.Values.{TellValues, FirstBadValue}
-use Rattle.gc_cli.proofs.values.read_values.Given as goal
+use Rattle.gc_command.proofs.values.read_values.Given as goal
 
 -- What is told by the texts that are left is told by all.
 abbrev pub invariant-loop-i : goal.invariant-loop-i
