@@ -13,7 +13,7 @@ use sha2::{Digest, Sha256};
 use thiserror::Error;
 
 /// How many bytes are handed to a sink at once.
-const ROOM: usize = 4096;
+const ROOM: usize = 16_384;
 
 /// The sink failed. It has taken the first `sent` bytes of the file, and no others.
 #[derive(Clone, Copy, Debug, PartialEq, Eq, Error)]
