@@ -4,8 +4,8 @@ use mathlib.Core.Logic.{dite}
 use native.Mathlib.Decide.{dec_le, ℕ_discrete}
 use Rattle.atomic_table.specs.Seated.{TableId}
 use Rattle.atomic_table.specs.declared.shared.Seat.{Seat}
-use Rattle.gc_circuit.specs.Circuit.{Netlist, IsSetBy, IsLawful, input_wires}
-use Rattle.gc_circuit.specs.declared.circuit.Gate.{Gate}
+use Rattle.gc_netlist.specs.Circuit.{Netlist, IsSetBy, IsLawful, input_wires}
+use Rattle.gc_netlist.specs.declared.gate.Gate.{Gate}
 use Rattle.gc_board.specs.Counts.{total, only}
 use Rattle.gc_board.proofs.Sums.{total-append, only_same, only_other}
 use Rattle.gc_rounds.specs.Words.{round_of}

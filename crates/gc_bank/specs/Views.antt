@@ -1,8 +1,8 @@
 -- How a seat's view grows in a call inside a round, and what the answers of banks say. Where the answers of a board
 -- speak of gates, these speak of rounds with gates.
 use Rattle.std.specs.Prelude.{◌≡◌, ◌≢◌, ℕ, ◌*◌, ◌<◌, ◌≤◌, ◌⊎◌, List, [], ◌∷◌, ◌++◌, length, slice_get, Some}
-use Rattle.gc_circuit.specs.declared.circuit.Gate.{Gate}
-use Rattle.gc_circuit.specs.Circuit.{IsSetBy, input_wires}
+use Rattle.gc_netlist.specs.declared.gate.Gate.{Gate}
+use Rattle.gc_netlist.specs.Circuit.{IsSetBy, input_wires}
 use Rattle.gc_board.specs.Counts.{total, only}
 use Rattle.gc_rounds.specs.declared.view.View.{View}
 use Rattle.gc_rounds.specs.declared.view.Step.{Step}

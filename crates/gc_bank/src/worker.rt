@@ -2,7 +2,7 @@
 
 ghost use Rattle.std.specs.Prelude.{◌≡◌, ℕ, ◌+◌, ◌<◌, length, All, IfSome, IfOk, Some, Ok, slice_get};
 ghost use Rattle.gc_rounds.specs.declared.view.Stand.TheVariants.{Outside, Inside};
-ghost use Rattle.gc_circuit.specs.Solution.{on_outputs};
+ghost use Rattle.gc_netlist.specs.Solution.{on_outputs};
 ghost use Rattle.gc_job.specs.Job.{JobParts};
 ghost use Rattle.gc_job.specs.ActiveLabels.{active};
 ghost use Rattle.gc_job.specs.Evaluate.{IsEvaluated};

@@ -1,13 +1,13 @@
 -- Bits on the wires.
 use Rattle.std.proofs.Common.{◌≡◌, ℕ, zero, suc, ◌+◌, ◌-◌, ◌<◌, ◌≤◌, ◌&&◌, sum, List, [], ◌∷◌, length, map, set, take, get_or, slice_get, Some, not, refl, sym, ap, ◌∙◌, arith, Bool, false, replicate, ◌++◌}
 use Rattle.std.specs.List.{range_with_len}
-use Rattle.gc_circuit.specs.declared.circuit.Operation.{Operation}
-use Rattle.gc_circuit.specs.declared.circuit.Operation.TheVariants.{Xor, And, Inv, Eqw, Eq}
-use Rattle.gc_circuit.specs.declared.circuit.Gate.{Gate}
-use Rattle.gc_circuit.specs.Circuit.{Netlist, EachRead, IsLawful}
-use Rattle.gc_circuit.specs.Solution.{IsLocal, values_after}
+use Rattle.gc_netlist.specs.declared.gate.Operation.{Operation}
+use Rattle.gc_netlist.specs.declared.gate.Operation.TheVariants.{Xor, And, Inv, Eqw, Eq}
+use Rattle.gc_netlist.specs.declared.gate.Gate.{Gate}
+use Rattle.gc_netlist.specs.Circuit.{Netlist, EachRead, IsLawful}
+use Rattle.gc_netlist.specs.Solution.{IsLocal, values_after}
 use Rattle.gc_circuit.specs.Meaning.{bit_of, bit_rule, bits_of, xor}
-use Rattle.gc_circuit.proofs.Tables.{table_step, table_padded, after-zero}
+use Rattle.gc_netlist.proofs.Tables.{table_step, table_padded, after-zero}
 use Rattle.std.specs.List.{flat_map}
 use Rattle.std.proofs.lemmas.List.Concat.{length-flat_map}
 use Rattle.std.proofs.lemmas.List.Sums.{sum-map}

@@ -6,10 +6,10 @@ use Rattle.std.proofs.lemmas.Fmt.{length-decimal-le}
 use Rattle.std.proofs.lemmas.Grind.{flat_map-append}
 use Rattle.std.proofs.lemmas.List.{drop_all, take_all, map-append, length-take-le}
 use Rattle.std.proofs.lemmas.Option.{slice_get_within}
-use Rattle.gc_circuit.specs.declared.circuit.Gate.{Gate}
-use Rattle.gc_circuit.specs.Circuit.{Netlist}
-use Rattle.gc_circuit.specs.Spelling.{Number, Name, words_of_gate, words_of_widths}
-use Rattle.gc_circuit.specs.Canon.{written, line, canonical_text}
+use Rattle.gc_netlist.specs.declared.gate.Gate.{Gate}
+use Rattle.gc_netlist.specs.Circuit.{Netlist}
+use Rattle.gc_netlist.specs.Spelling.{Number, Name, words_of_gate, words_of_widths}
+use Rattle.gc_netlist.specs.Canon.{written, line, canonical_text}
 
 -- A number of 32 bits has at most ten digits.
 pub short_decimal : (n : ℕ) → n < 2 ^ 32 → length (decimal n) ≤ 10

@@ -9,13 +9,13 @@ use Rattle.std.proofs.lemmas.Grind.{common_steps}
 use Rattle.std.proofs.lemmas.List.Sums.{sum_by-append}
 use Rattle.std.proofs.lemmas.List.Folds.{list_any-append}
 use Rattle.std.proofs.lemmas.List.FromFn.{length-map-range_with_len, get_or-map-range_with_len, fill_by_all}
-use Rattle.gc_circuit.specs.declared.fault.ReadFault.{ReadFault}
-use Rattle.gc_circuit.specs.declared.fault.ReadFault.TheVariants.{NoSuchWire, Unset, SetTwice}
-use Rattle.gc_circuit.specs.declared.circuit.Gate.{Gate}
-use Rattle.gc_circuit.specs.declared.circuit.Operation.{Operation}
-use Rattle.gc_circuit.specs.declared.circuit.Operation.TheVariants.{Xor, And, Inv, Eq, Eqw}
-use Rattle.gc_circuit.specs.Circuit.{is_and}
-use Rattle.gc_circuit.specs.Reading.{◌>>=◌, gate_at, is_set, check_read, check_set, check_reads, check_gate, gates_at}
+use Rattle.gc_netlist.specs.declared.fault.ReadFault.{ReadFault}
+use Rattle.gc_netlist.specs.declared.fault.ReadFault.TheVariants.{NoSuchWire, Unset, SetTwice}
+use Rattle.gc_netlist.specs.declared.gate.Gate.{Gate}
+use Rattle.gc_netlist.specs.declared.gate.Operation.{Operation}
+use Rattle.gc_netlist.specs.declared.gate.Operation.TheVariants.{Xor, And, Inv, Eq, Eqw}
+use Rattle.gc_netlist.specs.Circuit.{is_and}
+use Rattle.gc_netlist.specs.Reading.{◌>>=◌, gate_at, is_set, check_read, check_set, check_reads, check_gate, gates_at}
 
 module _ (n : ℕ) (s t : ℕ → Bool) (same : (w : ℕ) → w < n → s w ≡ t w) where
   read_same : (w : ℕ) → check_read n s w ≡ check_read n t w

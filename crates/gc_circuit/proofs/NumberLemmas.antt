@@ -6,10 +6,10 @@ use Rattle.std.proofs.lemmas.List.{take_more}
 use Rattle.std.proofs.lemmas.List.Sums.{fold-append}
 use Rattle.std.proofs.lemmas.List.Folds.{list_all-append, list_all_more, list_all_at}
 use Rattle.std.proofs.lemmas.Bool.Decides.{nat_tests}
-use Rattle.gc_circuit.specs.declared.fault.ReadFault.{ReadFault}
-use Rattle.gc_circuit.specs.declared.fault.ReadFault.TheVariants.{BadNumber, Truncated}
-use Rattle.gc_circuit.specs.Text.{tokens, is_blank, is_digit, value_of, number_of}
-use Rattle.gc_circuit.specs.Reading.{number_at, numbered, numbers_at}
+use Rattle.gc_netlist.specs.declared.fault.ReadFault.{ReadFault}
+use Rattle.gc_netlist.specs.declared.fault.ReadFault.TheVariants.{BadNumber, Truncated}
+use Rattle.gc_netlist.specs.Text.{tokens, is_blank, is_digit, value_of, number_of}
+use Rattle.gc_netlist.specs.Reading.{number_at, numbered, numbers_at}
 use Rattle.gc_circuit.proofs.TokenLemmas.{NoBlank, tokens_begin, tokens_take, tokens-nil}
 
 pub value-nil : value_of [] ≡ 0

@@ -2,12 +2,12 @@
 use Rattle.std.proofs.Common.{◌≡◌, ℕ, ◌≤◌, ◌-◌, Bool, cond, List, [], length, map, drop, sum, Result, Ok, Err, refl, sym, ap, ◌∙◌, arith}
 use Rattle.std.specs.List.{list_all, range_with_len}
 use Rattle.std.proofs.lemmas.List.Folds.{list_all-map}
-use Rattle.gc_circuit.specs.declared.limits.TheConstants.{MAX_GATES, MAX_WIRES}
-use Rattle.gc_circuit.specs.declared.fault.ReadFault.{ReadFault}
-use Rattle.gc_circuit.specs.declared.fault.ReadFault.TheVariants.{OutputUnset}
-use Rattle.gc_circuit.specs.Circuit.{Netlist}
-use Rattle.gc_circuit.specs.Reading.{◌>>=◌, limited_at, widths_at, gates_at, is_set, check_outputs, check_end, circuit_of}
-use Rattle.gc_circuit.proofs.Tables.{table_end}
+use Rattle.gc_netlist.specs.declared.limits.TheConstants.{MAX_GATES, MAX_WIRES}
+use Rattle.gc_netlist.specs.declared.fault.ReadFault.{ReadFault}
+use Rattle.gc_netlist.specs.declared.fault.ReadFault.TheVariants.{OutputUnset}
+use Rattle.gc_netlist.specs.Circuit.{Netlist}
+use Rattle.gc_netlist.specs.Reading.{◌>>=◌, limited_at, widths_at, gates_at, is_set, check_outputs, check_end, circuit_of}
+use Rattle.gc_netlist.proofs.Tables.{table_end}
 use Rattle.gc_circuit.proofs.CheckLemmas.{marks_len}
 
 -- What the text tells before the outputs are checked, and the tokens that are left then.

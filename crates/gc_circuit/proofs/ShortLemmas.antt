@@ -4,8 +4,8 @@ use Rattle.std.proofs.Math.Nat.{pow-le-pow_right, pow-succ'}
 use Rattle.std.proofs.lemmas.Bool.Decides.{nat_tests}
 use Rattle.std.proofs.lemmas.Grind.{common_steps}
 use Rattle.std.proofs.lemmas.List.Elements.{All-push}
-use Rattle.gc_circuit.specs.Text.{tokens, is_blank, is_digit, value_of}
-use Rattle.gc_circuit.specs.Reading.{gate_at, two_at}
+use Rattle.gc_netlist.specs.Text.{tokens, is_blank, is_digit, value_of}
+use Rattle.gc_netlist.specs.Reading.{gate_at, two_at}
 use Rattle.gc_circuit.proofs.TokenLemmas.{NoBlank, tokens-blank, tokens_first}
 use Rattle.gc_circuit.proofs.NumberLemmas.{digits_no_blank}
 

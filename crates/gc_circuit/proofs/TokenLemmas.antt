@@ -6,9 +6,9 @@ use Rattle.std.proofs.Common.{append-nil, take-append-drop, drop-cons, append_as
 use Rattle.std.proofs.lemmas.List.{take_more}
 use Rattle.std.proofs.lemmas.List.Elements.{All-push}
 use Rattle.std.proofs.lemmas.List.Splits.{slice_split-cons_yes, slice_split_none, slice_split_at}
-use Rattle.gc_circuit.specs.declared.fault.ReadFault.TheVariants.{TrailingTokens}
-use Rattle.gc_circuit.specs.Text.{is_blank, is_some_run, tokens}
-use Rattle.gc_circuit.specs.Reading.{check_end}
+use Rattle.gc_netlist.specs.declared.fault.ReadFault.TheVariants.{TrailingTokens}
+use Rattle.gc_netlist.specs.Text.{is_blank, is_some_run, tokens}
+use Rattle.gc_netlist.specs.Reading.{check_end}
 
 -- a blank in front
 pub tokens-blank : (b : ℕ) (text : List ℕ) → is_blank b ≡ true → tokens (b ∷ text) ≡ tokens text

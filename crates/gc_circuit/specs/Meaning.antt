@@ -1,10 +1,10 @@
 -- What a circuit computes (the Bristol Fashion page).
 use Rattle.std.specs.Prelude.{◌≡◌, ℕ, Bool, false, not, ◌&&◌, List, length, map, slice_index_or, if◌then◌else◌}
-use Rattle.gc_circuit.specs.declared.circuit.Operation.{Operation}
-use Rattle.gc_circuit.specs.declared.circuit.Operation.TheVariants.{Xor, And, Inv, Eq, Eqw}
-use Rattle.gc_circuit.specs.declared.circuit.Gate.{Gate}
-use Rattle.gc_circuit.specs.Circuit.{Netlist, IsSet}
-use Rattle.gc_circuit.specs.Solution.{Solves, on_outputs}
+use Rattle.gc_netlist.specs.declared.gate.Operation.{Operation}
+use Rattle.gc_netlist.specs.declared.gate.Operation.TheVariants.{Xor, And, Inv, Eq, Eqw}
+use Rattle.gc_netlist.specs.declared.gate.Gate.{Gate}
+use Rattle.gc_netlist.specs.Circuit.{Netlist, IsSet}
+use Rattle.gc_netlist.specs.Solution.{Solves, on_outputs}
 
 abbrev pub xor : Bool → Bool → Bool
 xor a b = if a then not b else b

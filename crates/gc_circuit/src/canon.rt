@@ -3,12 +3,12 @@
 ghost use Rattle.std.specs.Prelude.{◌≡◌, ◌+◌, ◌≤◌, ◌++◌, ℕ, List, [], ◌∷◌, length, map, flat_map, take, drop, decimal, OnOk, IfOk};
 ghost use Rattle.sha2.specs.Hashers.{Holds256};
 ghost use Rattle.sha2.specs.Sha256.{sha256};
-ghost use Rattle.gc_circuit.specs.Spelling.{Number, Name, words_of_gate, words_of_widths};
-ghost use Rattle.gc_circuit.specs.Canon.{line, canonical_text};
+ghost use Rattle.gc_netlist.specs.Spelling.{Number, Name, words_of_gate, words_of_widths};
+ghost use Rattle.gc_netlist.specs.Canon.{line, canonical_text};
 
-use crate::circuit::{Circuit, Gate, Operation};
-use crate::limits::MAX_VALUES;
+use crate::circuit::Circuit;
 use crate::memory::Memory;
+use gc_netlist::{Gate, MAX_VALUES, Operation};
 use itoa::write_digits;
 use sha2::{Digest, Sha256};
 use std::alloc::{AllocError, Allocator};

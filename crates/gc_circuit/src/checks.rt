@@ -1,11 +1,10 @@
 ghost use Rattle.std.specs.Prelude.{◌≡◌, length, slice_index_or, false};
-ghost use Rattle.gc_circuit.specs.Reading.{check_read, check_set, check_reads, check_gate};
+ghost use Rattle.gc_netlist.specs.Reading.{check_read, check_set, check_reads, check_gate};
 
-use crate::circuit::{Gate, Operation};
-use crate::fault::ReadFault;
+use gc_netlist::{Gate, Operation, ReadFault};
 
 /// A wire that is read: there is such a wire, and it is set.
-#[tactic(auto, unfolding(crate::specs::Reading::check_read))]
+#[tactic(auto, unfolding(gc_netlist::specs::Reading::check_read))]
 fn check_read(is_set: &[bool], wire: u32) -> Result<(), ReadFault>
     ensures { result ≡ check_read (length is_set.now) (λ w. slice_index_or is_set.now w false) wire }
 {
@@ -17,7 +16,7 @@ fn check_read(is_set: &[bool], wire: u32) -> Result<(), ReadFault>
 }
 
 /// A wire to be set: there is such a wire, and it isn't set yet.
-#[tactic(auto, unfolding(crate::specs::Reading::check_set))]
+#[tactic(auto, unfolding(gc_netlist::specs::Reading::check_set))]
 fn check_set(is_set: &[bool], wire: u32) -> Result<(), ReadFault>
     ensures { result ≡ check_set (length is_set.now) (λ w. slice_index_or is_set.now w false) wire }
 {
@@ -29,7 +28,7 @@ fn check_set(is_set: &[bool], wire: u32) -> Result<(), ReadFault>
 }
 
 /// Each wire that the operation reads, left to right.
-#[tactic(auto, unfolding(crate::specs::Reading::check_reads))]
+#[tactic(auto, unfolding(gc_netlist::specs::Reading::check_reads))]
 fn check_reads(is_set: &[bool], operation: Operation) -> Result<(), ReadFault>
     ensures { result ≡ check_reads (length is_set.now) (λ w. slice_index_or is_set.now w false) operation }
 {
@@ -44,7 +43,7 @@ fn check_reads(is_set: &[bool], operation: Operation) -> Result<(), ReadFault>
 }
 
 /// The wires that the gate reads, and then the wire that it sets.
-#[tactic(auto, unfolding(crate::specs::Reading::check_gate))]
+#[tactic(auto, unfolding(gc_netlist::specs::Reading::check_gate))]
 pub(crate) fn check_gate(is_set: &[bool], gate: Gate) -> Result<(), ReadFault>
     ensures { result ≡ check_gate (length is_set.now) (λ w. slice_index_or is_set.now w false) gate }
 {

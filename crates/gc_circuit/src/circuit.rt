@@ -1,42 +1,12 @@
 ghost use Rattle.std.specs.Prelude.{◌≡◌, ◌<◌, ◌↔◌, length, slice_get, Some, IsTrue, IfOk};
-ghost use Rattle.gc_circuit.specs.Circuit.{netlist_of, is_and, and_count, input_wires, output_wires, IsLawful, IsSummary};
+ghost use Rattle.gc_netlist.specs.Circuit.{netlist_of, is_and, and_count, input_wires, output_wires, IsLawful, IsSummary};
 
 use crate::memory::Memory;
 use crate::read::Widths;
+use gc_netlist::Gate;
 use std::alloc::{Allocator, Global};
 use std::fmt;
 use std::marker::Model;
-
-/// What a gate computes, and the wires that it reads. The names are those of the Bristol Fashion page.
-#[derive(Clone, Copy, PartialEq, Eq, Debug)]
-pub enum Operation {
-    /// The exclusive or of two wires.
-    Xor(u32, u32),
-    /// The conjunction of two wires.
-    And(u32, u32),
-    /// The negation of a wire.
-    Inv(u32),
-    /// A constant. It reads no wire.
-    Eq(bool),
-    /// A copy of a wire.
-    Eqw(u32),
-}
-
-impl Operation {
-    /// Whether the operation is AND.
-    pub fn is_and(self) -> bool
-        ensures { result ≡ is_and self }
-    {
-        matches!(self, Operation::And(_, _))
-    }
-}
-
-/// A gate: what it computes, and the wire that it sets.
-#[derive(Clone, Copy, PartialEq, Eq, Debug)]
-pub struct Gate {
-    pub operation: Operation,
-    pub set: u32,
-}
 
 /// A lawful circuit: within the limits, each gate reads only input wires and wires that gates before it
 /// set, each wire is set once at the most, and each output wire is an input wire or set by a gate.
@@ -55,7 +25,7 @@ pub struct Circuit<A: Allocator = Global> {
 }
 
 impl<A: Allocator> Model for Circuit<A> {
-    ghost use Rattle.gc_circuit.specs.Circuit.{Netlist, netlist_of, IsSummary};
+    ghost use Rattle.gc_netlist.specs.Circuit.{Netlist, netlist_of, IsSummary};
 
     ghost Value = { Netlist };
 

@@ -1,11 +1,12 @@
 ghost use Rattle.std.specs.Prelude.{◌≡◌, ◌↔◌, ◌<◌, ◌≤◌, ℕ, Bool, length, map, flat_map, IsTrue, IfOk};
 ghost use Rattle.std.specs.List.{range_with_len};
-ghost use Rattle.gc_circuit.specs.Circuit.{Netlist, EachRead, IsLawful, input_wires};
-ghost use Rattle.gc_circuit.specs.Solution.{solution};
+ghost use Rattle.gc_netlist.specs.Circuit.{Netlist, EachRead, IsLawful, input_wires};
+ghost use Rattle.gc_netlist.specs.Solution.{solution};
 ghost use Rattle.gc_circuit.specs.Meaning.{bit_of, bits_of, bit_rule, Fits, AreOutputs, AssignmentLaw};
 
-use crate::circuit::{Circuit, Operation};
+use crate::circuit::Circuit;
 use crate::memory::Memory;
+use gc_netlist::Operation;
 use std::alloc::Allocator;
 
 /// Whether there are as many values as the circuit has input values, each of that value's width.

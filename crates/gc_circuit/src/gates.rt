@@ -1,12 +1,11 @@
 ghost use Rattle.std.specs.Prelude.{◌≡◌, MatchResult, Ok, Err};
-ghost use Rattle.gc_circuit.specs.Reading.{constant_of, operation_of_two, operation_of_one, two_at, one_at, gate_at};
+ghost use Rattle.gc_netlist.specs.Reading.{constant_of, operation_of_two, operation_of_one, two_at, one_at, gate_at};
 
-use crate::circuit::{Gate, Operation};
-use crate::fault::ReadFault;
 use crate::tokens::Tokens;
+use gc_netlist::{Gate, Operation, ReadFault};
 
 /// The operation of this name that reads two wires.
-#[tactic(auto, unfolding(crate::specs::Reading::operation_of_two))]
+#[tactic(auto, unfolding(gc_netlist::specs::Reading::operation_of_two))]
 #[inline]
 fn operation_of_two(name: &[u8], a: u32, b: u32) -> Result<Operation, ReadFault>
     ensures { result ≡ operation_of_two name.now a b }
@@ -31,7 +30,7 @@ fn constant_of(value: u32) -> Result<Operation, ReadFault>
 }
 
 /// The operation of this name that has one number before its wire set.
-#[tactic(auto, unfolding(crate::specs::Reading::operation_of_one))]
+#[tactic(auto, unfolding(gc_netlist::specs::Reading::operation_of_one))]
 fn operation_of_one(name: &[u8], a: u32) -> Result<Operation, ReadFault>
     ensures { result ≡ operation_of_one name.now a }
 {
@@ -45,7 +44,7 @@ fn operation_of_one(name: &[u8], a: u32) -> Result<Operation, ReadFault>
 }
 
 /// A gate after its counts 2 and 1.
-#[tactic(auto, unfolding(crate::specs::Reading::two_at))]
+#[tactic(auto, unfolding(gc_netlist::specs::Reading::two_at))]
 #[inline]
 fn read_two(tokens: &mut Tokens<'_>) -> Result<Gate, ReadFault>
     ensures { MatchResult result (λ g. two_at tokens.old ≡ Ok (g, tokens.new))
@@ -60,7 +59,7 @@ fn read_two(tokens: &mut Tokens<'_>) -> Result<Gate, ReadFault>
 }
 
 /// A gate after its counts 1 and 1.
-#[tactic(auto, unfolding(crate::specs::Reading::one_at))]
+#[tactic(auto, unfolding(gc_netlist::specs::Reading::one_at))]
 fn read_one(tokens: &mut Tokens<'_>) -> Result<Gate, ReadFault>
     ensures { MatchResult result (λ g. one_at tokens.old ≡ Ok (g, tokens.new))
         (λ e. one_at tokens.old ≡ Err e) }
@@ -73,7 +72,7 @@ fn read_one(tokens: &mut Tokens<'_>) -> Result<Gate, ReadFault>
 }
 
 /// A gate: how many wires it reads and sets, and then the rest.
-#[tactic(auto, unfolding(crate::specs::Reading::gate_at))]
+#[tactic(auto, unfolding(gc_netlist::specs::Reading::gate_at))]
 pub(crate) fn read_gate(tokens: &mut Tokens<'_>) -> Result<Gate, ReadFault>
     ensures { MatchResult result (λ g. gate_at tokens.old ≡ Ok (g, tokens.new))
         (λ e. gate_at tokens.old ≡ Err e) }

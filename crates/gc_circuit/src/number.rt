@@ -1,8 +1,8 @@
 ghost use Rattle.std.specs.Prelude.{◌≡◌, ◌<◌, ◌≤◌, length, drop, false, slice_index, IfSome, MatchResult, Ok, Err};
-ghost use Rattle.gc_circuit.specs.Text.{tokens, is_blank};
-ghost use Rattle.gc_circuit.specs.Reading.{number_at};
+ghost use Rattle.gc_netlist.specs.Text.{tokens, is_blank};
+ghost use Rattle.gc_netlist.specs.Reading.{number_at};
 
-use crate::fault::ReadFault;
+use gc_netlist::ReadFault;
 
 /// Whether the byte stands between tokens: a tab, a line feed, a carriage return or a space.
 #[inline]

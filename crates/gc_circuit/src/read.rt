@@ -1,17 +1,16 @@
 ghost use Rattle.std.specs.Prelude.{◌≡◌, ◌≢◌, ◌≤◌, ◌-◌, [], length, map, sum, drop, count_by, if◌then◌else◌, IfOk, IfErr, MatchResult, Ok, Err, vec_len};
 ghost use Rattle.std.specs.List.{range_with_len, list_all};
-ghost use Rattle.gc_circuit.specs.Circuit.{Netlist, IsLawful, is_and};
-ghost use Rattle.gc_circuit.specs.Text.{tokens};
-ghost use Rattle.gc_circuit.specs.Spelling.{Spells};
-ghost use Rattle.gc_circuit.specs.FirstFault.{FirstFault};
-ghost use Rattle.gc_circuit.specs.Reading.{numbers_at, widths_at, gates_at, circuit_of, is_set};
+ghost use Rattle.gc_netlist.specs.Circuit.{Netlist, IsLawful, is_and};
+ghost use Rattle.gc_netlist.specs.Text.{tokens};
+ghost use Rattle.gc_netlist.specs.Spelling.{Spells};
+ghost use Rattle.gc_netlist.specs.FirstFault.{FirstFault};
+ghost use Rattle.gc_netlist.specs.Reading.{numbers_at, widths_at, gates_at, circuit_of, is_set};
 
 use crate::checks::check_gate;
-use crate::circuit::{Circuit, Gate};
-use crate::fault::ReadFault;
+use crate::circuit::Circuit;
 use crate::gates::read_gate;
-use crate::limits::{MAX_GATES, MAX_VALUES, MAX_WIRES};
 use crate::tokens::Tokens;
+use gc_netlist::{Gate, MAX_GATES, MAX_VALUES, MAX_WIRES, ReadFault};
 use std::alloc::Allocator;
 
 /// The bytes that a gate takes at the least: those of `1 1 0 1 EQ` and a blank.
@@ -60,7 +59,7 @@ fn sum_of(widths: &[u32]) -> u64
 }
 
 /// The widths of the values of one side: how many, each, and then their sum against the wires.
-#[tactic(auto, unfolding(crate::specs::Reading::widths_at))]
+#[tactic(auto, unfolding(gc_netlist::specs::Reading::widths_at))]
 fn read_widths<A: Allocator>(
     alloc: A,
     tokens: &mut Tokens<'_>,
@@ -171,7 +170,7 @@ impl<A: Allocator + Copy> Circuit<A> {
     }
 
     /// Reads the header, the gates and the end, in the order of the text.
-    #[tactic(auto, unfolding(crate::specs::Reading::circuit_of))]
+    #[tactic(auto, unfolding(gc_netlist::specs::Reading::circuit_of))]
     fn read_in_order(alloc: A, text: &[u8]) -> Result<Circuit<A>, ReadFault>
         ensures reading { MatchResult result (λ c. circuit_of (tokens text.now) ≡ Ok c)
             (λ e. e ≢ ReadFault.Memory → circuit_of (tokens text.now) ≡ Err e) }

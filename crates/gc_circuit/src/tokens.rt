@@ -1,9 +1,9 @@
 ghost use Rattle.std.specs.Prelude.{◌≡◌, ◌<◌, ◌≤◌, ◌∷◌, length, take, true, false, slice_index, codes, All, IfOk, IsTrue, IsFalse, MatchOption, MatchResult, Ok, Err};
-ghost use Rattle.gc_circuit.specs.Text.{tokens, is_blank};
-ghost use Rattle.gc_circuit.specs.Reading.{token_at, number_at, limited_at, check_end};
+ghost use Rattle.gc_netlist.specs.Text.{tokens, is_blank};
+ghost use Rattle.gc_netlist.specs.Reading.{token_at, number_at, limited_at, check_end};
 
-use crate::fault::ReadFault;
 use crate::number::{is_blank, leading_number, short_number};
+use gc_netlist::ReadFault;
 use std::marker::Model;
 
 /// What is left of a text, seen as its tokens.
@@ -14,7 +14,7 @@ pub(crate) struct Tokens<'a> {
 
 impl<'a> Model for Tokens<'a> {
     ghost use Rattle.std.specs.Prelude.{ℕ, List};
-    ghost use Rattle.gc_circuit.specs.Text.{tokens};
+    ghost use Rattle.gc_netlist.specs.Text.{tokens};
 
     ghost Value = { List (List ℕ) };
 
@@ -135,7 +135,7 @@ impl<'a> Tokens<'a> {
     }
 
     /// Takes a number that is due and may not be above the limit.
-    #[tactic(auto, unfolding(crate::specs::Reading::limited_at))]
+    #[tactic(auto, unfolding(gc_netlist::specs::Reading::limited_at))]
     pub fn number_up_to(&mut self, limit: u32) -> Result<u32, ReadFault>
         ensures number { MatchResult result (λ n. limited_at limit self.old ≡ Ok (n, self.new))
             (λ e. limited_at limit self.old ≡ Err e) }

@@ -11,7 +11,7 @@ use Rattle.std.proofs.lemmas.Option.{slice_get-get_or}
 use Rattle.std.proofs.lemmas.Str.{IsUtf8-take, IsUtf8-drop, IsCharBoundary-after_ascii}
 use mathlib.Core.Logic.{dite}
 use native.Mathlib.Decide.{dec_le}
-use Rattle.gc_circuit.specs.Text.{is_blank, is_some_run, tokens}
+use Rattle.gc_netlist.specs.Text.{is_blank, is_some_run, tokens}
 use Rattle.gc_circuit.proofs.TokenLemmas.{Begins, tokens-nil, tokens_begin}
 use Rattle.gc_cli.specs.JobList.{has_words}
 

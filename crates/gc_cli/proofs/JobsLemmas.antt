@@ -1,7 +1,7 @@
 -- What the steps of `jobs` tell, joined.
 use Rattle.std.proofs.Common.{◌≡◌, ℕ, ◌+◌, ◌<◌, map, drop, drop-cons, get_or, Bool, List, [], ◌∷◌, IfSome, sum, inl, inr, length, slice_get, Some, sym, ap, ◌∙◌, zero, suc, refl, subst, arith}
 use Rattle.std.proofs.lemmas.Option.{slice_get_within}
-use Rattle.gc_circuit.specs.Circuit.{Netlist, IsLawful}
+use Rattle.gc_netlist.specs.Circuit.{Netlist, IsLawful}
 use Rattle.gc_read.specs.declared.fault.FileFault.{FileFault}
 use Rattle.gc_format.specs.GarbledFile.{GarbledParts, IsGarbledFile}
 use Rattle.gc_format.specs.LabelFile.{LabelFileParts}

@@ -1,7 +1,7 @@
 //! The list of jobs that a text is.
 
 ghost use Rattle.std.specs.Prelude.{◌≡◌, map, IfOk, IfErr};
-ghost use Rattle.gc_circuit.specs.Text.{is_blank, tokens};
+ghost use Rattle.gc_netlist.specs.Text.{is_blank, tokens};
 ghost use Rattle.gc_cli.specs.JobList.{HasTextFault, IsJobList, has_words, listed};
 
 use gc_bank::MAX_JOBS;

@@ -2,8 +2,8 @@
 
 ghost use Rattle.std.specs.Prelude.{◌≡◌, ◌<◌, ℕ, List, length, map, All, IfOk, IfErr, OnOk};
 ghost use Rattle.sha2.specs.Sha256.{sha256};
-ghost use Rattle.gc_circuit.specs.Canon.{canonical_text};
-ghost use Rattle.gc_circuit.specs.Text.{tokens};
+ghost use Rattle.gc_netlist.specs.Canon.{canonical_text};
+ghost use Rattle.gc_netlist.specs.Text.{tokens};
 ghost use Rattle.gc_cli.specs.Jobs.{AreListed, HasListFault, HasLinesFault, HasNamedFault, NameJob, NameJobs};
 ghost use Rattle.gc_command.specs.Fault.{HasCause};
 

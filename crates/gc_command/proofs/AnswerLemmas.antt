@@ -2,7 +2,7 @@
 use Rattle.std.proofs.Common.{◌≡◌, Bool, true, false, List, length, Option, Some, None, Result, Ok, Err, is_ok, sum, sym, subst, ap, ◌∙◌}
 use Rattle.std.specs.Prelude.{IfOk, IfSome, MatchResult}
 use Rattle.std.proofs.lemmas.List.FromFn.{length-map-range_with_len}
-use Rattle.gc_circuit.specs.Circuit.{Netlist, IsLawful, output_wires}
+use Rattle.gc_netlist.specs.Circuit.{Netlist, IsLawful, output_wires}
 use Rattle.gc_circuit.specs.Meaning.{AreOutputs}
 use Rattle.gc_format.specs.GarbledFile.{GarbledParts}
 use Rattle.gc_format.specs.LabelFile.{LabelFileParts}

@@ -2,8 +2,8 @@
 use Rattle.std.proofs.Common.{◌≡◌, ℕ, ◌≤◌, ◌++◌, List, [], ◌∷◌, length, map, take, append_assoc, decimal, sym, ap, ◌∙◌}
 use Rattle.std.specs.List.{join_with_byte}
 use Rattle.std.proofs.lemmas.List.{take_all}
-use Rattle.gc_circuit.specs.Spelling.{Name, words_of_widths}
-use Rattle.gc_circuit.specs.Canon.{line, written}
+use Rattle.gc_netlist.specs.Spelling.{Name, words_of_widths}
+use Rattle.gc_netlist.specs.Canon.{line, written}
 use Rattle.gc_circuit.proofs.CanonLines.{numbers_after, line-widths}
 
 joined : (text name count ns : List ℕ)

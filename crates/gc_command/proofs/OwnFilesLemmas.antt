@@ -4,8 +4,8 @@ use Rattle.std.proofs.lemmas.Bool.{cases_eq}
 use Rattle.std.proofs.lemmas.List.{length-take-le}
 use Rattle.std.proofs.lemmas.Option.{slice_get-map, slice_get_within, slice_get-get_or, same_Some}
 use Rattle.sha2.specs.Sha256.{sha256}
-use Rattle.gc_circuit.specs.Circuit.{Netlist, IsLawful}
-use Rattle.gc_circuit.specs.Canon.{canonical_text}
+use Rattle.gc_netlist.specs.Circuit.{Netlist, IsLawful}
+use Rattle.gc_netlist.specs.Canon.{canonical_text}
 use Rattle.gc_circuit.specs.Meaning.{Fits}
 use Rattle.gc_half.specs.Garbling.{GarblingParts}
 use Rattle.gc_half.proofs.CanonicalLemmas.{IsGarbled-same}

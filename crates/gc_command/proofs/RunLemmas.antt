@@ -1,6 +1,6 @@
 -- What a run's steps tell, joined.
 use Rattle.std.proofs.Common.{ℕ, List, Bool, Ok, Err, ⊎_elim, flat_map, refl, arith}
-use Rattle.gc_circuit.specs.Circuit.{Netlist, IsLawful}
+use Rattle.gc_netlist.specs.Circuit.{Netlist, IsLawful}
 use Rattle.gc_circuit.specs.Meaning.{AreOutputs}
 use Rattle.gc_format.specs.GarbledFile.{GarbledParts}
 use Rattle.gc_format.specs.LabelFile.{LabelFileParts}

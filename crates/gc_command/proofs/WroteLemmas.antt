@@ -3,7 +3,7 @@ use Rattle.std.proofs.Common.{◌≡◌, ℕ, Bool, List, Option, Some, None, le
 use Rattle.std.specs.Prelude.{IfSome}
 use Rattle.std.specs.List.{slice_get}
 use Rattle.std.proofs.lemmas.List.FromFn.{length-map-range_with_len}
-use Rattle.gc_circuit.specs.Circuit.{Netlist}
+use Rattle.gc_netlist.specs.Circuit.{Netlist}
 use Rattle.gc_circuit.proofs.ValueLemmas.{value_text_law}
 use Rattle.gc_half.specs.Garbling.{GarblingParts, IsGarbled, FitsCircuit}
 use Rattle.gc_command.specs.declared.fault.Fault.{Fault}

@@ -2,9 +2,9 @@
 use Rattle.std.specs.Prelude.{◌≡◌, ℕ, List, [], ◌∷◌, ◌++◌, length, codes}
 use Rattle.hex.specs.Hex.{encode_lower}
 use Rattle.sha2.specs.Sha256.{sha256}
-use Rattle.gc_circuit.specs.Circuit.{Netlist, and_count}
-use Rattle.gc_circuit.specs.Spelling.{Number, Name, words_of_widths}
-use Rattle.gc_circuit.specs.Canon.{line, canonical_text}
+use Rattle.gc_netlist.specs.Circuit.{Netlist, and_count}
+use Rattle.gc_netlist.specs.Spelling.{Number, Name, words_of_widths}
+use Rattle.gc_netlist.specs.Canon.{line, canonical_text}
 use Rattle.gc_command.specs.declared.fault.Fault.{Fault}
 use Rattle.gc_command.specs.CircuitFile.{IsCircuit, HasCircuitFault}
 

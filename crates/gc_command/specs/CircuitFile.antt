@@ -1,10 +1,10 @@
 -- The circuit of a file, and the faults that the file may have.
 use Rattle.std.specs.Prelude.{◌≡◌, ◌≢◌, ℕ, List, Ok, Err}
-use Rattle.gc_circuit.specs.declared.fault.ReadFault.TheVariants as read
-use Rattle.gc_circuit.specs.Circuit.{Netlist, IsLawful}
-use Rattle.gc_circuit.specs.Text.{tokens}
-use Rattle.gc_circuit.specs.Spelling.{Spells}
-use Rattle.gc_circuit.specs.Reading.{circuit_of}
+use Rattle.gc_netlist.specs.declared.fault.ReadFault.TheVariants as read
+use Rattle.gc_netlist.specs.Circuit.{Netlist, IsLawful}
+use Rattle.gc_netlist.specs.Text.{tokens}
+use Rattle.gc_netlist.specs.Spelling.{Spells}
+use Rattle.gc_netlist.specs.Reading.{circuit_of}
 use Rattle.gc_command.specs.declared.fault.Fault.{Fault}
 use Rattle.gc_command.specs.declared.fault.Fault.TheVariants.{Circuit, CannotRead, Memory}
 

@@ -1,6 +1,6 @@
 -- The command `deal`: what it writes and answers, and which fault it has.
 use Rattle.std.specs.Prelude.{ℕ, Bool, List, Option}
-use Rattle.gc_circuit.specs.Circuit.{Netlist}
+use Rattle.gc_netlist.specs.Circuit.{Netlist}
 use Rattle.gc_label.specs.Seed.{IsSeedText}
 use Rattle.gc_format.specs.LabelFile.{label_file, label_parts_of}
 use Rattle.gc_command.specs.declared.fault.Fault.{Fault}

@@ -1,6 +1,6 @@
 -- The command `eval`: what it answers, and which fault it has. What is said of a file is said where its bytes are known.
 use Rattle.std.specs.Prelude.{◌≡◌, ◌≢◌, ℕ, ◌⊎◌, Bool, List, [], ◌∷◌, IfSome}
-use Rattle.gc_circuit.specs.Circuit.{Netlist}
+use Rattle.gc_netlist.specs.Circuit.{Netlist}
 use Rattle.gc_read.specs.declared.fault.FileFault.{FileFault}
 use Rattle.gc_read.specs.declared.fault.FileFault.TheVariants as file
 use Rattle.gc_format.specs.GarbledFile.{GarbledParts, IsGarbledFile}

@@ -1,7 +1,7 @@
 -- The numbers, names and texts of faults.
 use Rattle.std.specs.Prelude.{◌≡◌, ℕ, ◌<◌, List, ◌∷◌, ◌++◌, codes}
 use Rattle.std.specs.Fmt.{decimal}
-use Rattle.gc_circuit.specs.Fault as read
+use Rattle.gc_netlist.specs.Fault as read
 use Rattle.gc_circuit.specs.Value as value
 use Rattle.gc_read.specs.Fault as held
 use Rattle.gc_read.specs.declared.take.TakeFault.{TakeFault}

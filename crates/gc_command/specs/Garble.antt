@@ -1,6 +1,6 @@
 -- The command `garble`: what it writes and answers, and which fault it has.
 use Rattle.std.specs.Prelude.{ℕ, List, Option}
-use Rattle.gc_circuit.specs.Circuit.{Netlist}
+use Rattle.gc_netlist.specs.Circuit.{Netlist}
 use Rattle.gc_label.specs.Seed.{IsSeedText}
 use Rattle.gc_half.specs.Garbling.{GarblingParts, IsGarbled}
 use Rattle.gc_gatehouse.specs.Workers.{AreFew}

@@ -1,6 +1,6 @@
 -- The files that `run` makes for itself.
 use Rattle.std.specs.Prelude.{◌≡◌, ℕ, Bool, List, length, slice_get, Some}
-use Rattle.gc_circuit.specs.Circuit.{Netlist}
+use Rattle.gc_netlist.specs.Circuit.{Netlist}
 use Rattle.gc_half.specs.Garbling.{GarblingParts, IsGarbled}
 use Rattle.gc_format.specs.declared.parts.Version.TheVariants.{Two}
 use Rattle.gc_format.specs.GarbledFile.{garbled_file}

@@ -1,7 +1,7 @@
 -- The command `run`: what it answers, and which fault it has.
 use Rattle.std.specs.Prelude.{◌≡◌, ℕ, Bool, List}
 use Rattle.std.specs.List.{flat_map}
-use Rattle.gc_circuit.specs.Circuit.{Netlist}
+use Rattle.gc_netlist.specs.Circuit.{Netlist}
 use Rattle.gc_circuit.specs.Meaning.{AreOutputs}
 use Rattle.gc_label.specs.Seed.{IsSeedText}
 use Rattle.gc_work.specs.declared.fault.WorkFault.TheVariants as work

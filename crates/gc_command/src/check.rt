@@ -2,8 +2,8 @@
 
 ghost use Rattle.std.specs.Prelude.{◌≡◌, ◌++◌, ◌∷◌, [], ℕ, List, codes, decimal, IfOk, IfErr, IfSome, OnOk};
 ghost use Rattle.hex.specs.Hex.{encode_lower};
-ghost use Rattle.gc_circuit.specs.Spelling.{Number, Name, words_of_widths};
-ghost use Rattle.gc_circuit.specs.Canon.{line};
+ghost use Rattle.gc_netlist.specs.Spelling.{Number, Name, words_of_widths};
+ghost use Rattle.gc_netlist.specs.Canon.{line};
 ghost use Rattle.gc_command.specs.Check.{AnswersCheck, HasCheckFault, check_lines};
 ghost use Rattle.gc_command.specs.Fault.{HasCause};
 

@@ -1,7 +1,7 @@
 //! The circuit of a file.
 
 ghost use Rattle.std.specs.Prelude.{◌≡◌, ℕ, List, IfOk, IfErr, IfSome, OnOk};
-ghost use Rattle.gc_circuit.specs.Circuit.{IsLawful};
+ghost use Rattle.gc_netlist.specs.Circuit.{IsLawful};
 ghost use Rattle.gc_command.specs.CircuitFile.{IsCircuit, IsCircuitFault, HasCircuitFault};
 ghost use Rattle.gc_command.specs.Fault.{HasCause};
 

@@ -2,7 +2,7 @@
 
 ghost use Rattle.std.specs.Prelude.{◌≡◌, IfOk, IfErr};
 ghost use Rattle.sha2.specs.Sha256.{sha256};
-ghost use Rattle.gc_circuit.specs.Canon.{canonical_text};
+ghost use Rattle.gc_netlist.specs.Canon.{canonical_text};
 ghost use Rattle.gc_gatehouse.specs.Workers.{AreFew};
 ghost use Rattle.gc_command.specs.Job.{DecodeTo, HasJobFault};
 

@@ -1,7 +1,7 @@
 //! The files that `run` makes for itself: written to memory, and read back.
 
 ghost use Rattle.std.specs.Prelude.{◌≡◌, Some, length, map, slice_get, IfOk, IfErr};
-ghost use Rattle.gc_circuit.specs.Circuit.{IsLawful};
+ghost use Rattle.gc_netlist.specs.Circuit.{IsLawful};
 ghost use Rattle.gc_circuit.specs.Meaning.{Fits};
 ghost use Rattle.gc_format.specs.LabelFile.{label_file, label_parts_of};
 ghost use Rattle.gc_job.specs.Honest.{IsHonestGarbled};

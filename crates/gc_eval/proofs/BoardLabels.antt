@@ -2,11 +2,11 @@
 use Rattle.std.proofs.Common.{◌≡◌, ◌≢◌, ℕ, zero, suc, ◌*◌, ◌+◌, ◌<◌, ◌≤◌, List, [], ◌∷◌, slice_get, get_or, Some, refl, sym, ap, ◌∙◌, subst, arith}
 use mathlib.Core.Option.{some, some-injective, some-ne-none}
 use lib.ListN.{get_elem?}
-use Rattle.gc_circuit.specs.declared.circuit.Operation.{Operation}
-use Rattle.gc_circuit.specs.declared.circuit.Operation.TheVariants.{Xor, And, Inv, Eq, Eqw}
-use Rattle.gc_circuit.specs.declared.circuit.Gate.{Gate}
-use Rattle.gc_circuit.specs.Circuit.{Netlist, input_wires, IsSetBy, IsLawful, and_number}
-use Rattle.gc_circuit.proofs.SolutionLemmas.{solution_solves}
+use Rattle.gc_netlist.specs.declared.gate.Operation.{Operation}
+use Rattle.gc_netlist.specs.declared.gate.Operation.TheVariants.{Xor, And, Inv, Eq, Eqw}
+use Rattle.gc_netlist.specs.declared.gate.Gate.{Gate}
+use Rattle.gc_netlist.specs.Circuit.{Netlist, input_wires, IsSetBy, IsLawful, and_number}
+use Rattle.gc_netlist.proofs.SolutionLemmas.{solution_solves}
 use Rattle.gc_label.specs.Label.{◌⊕◌, low_half, high_half, label_of_halves}
 use Rattle.gc_label.proofs.HalvesLemmas.{label_of_halves-halves}
 use Rattle.gc_half.specs.Hash.{hash}

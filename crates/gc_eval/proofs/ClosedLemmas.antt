@@ -1,7 +1,7 @@
 -- What a closed board tells of its gates and its output wires.
 use Rattle.std.proofs.Common.{◌≡◌, ℕ, zero, suc, ◌+◌, List, Bool, Result, subst, ap, arith}
 use Rattle.std.specs.List.{range_with_len}
-use Rattle.gc_circuit.specs.Solution.{on_outputs}
+use Rattle.gc_netlist.specs.Solution.{on_outputs}
 use Rattle.gc_board.specs.Counts.{total}
 use Rattle.gc_job.specs.declared.fault.EvalFault.{EvalFault}
 use Rattle.gc_job.specs.Job.{JobParts, IsWhole}

@@ -12,8 +12,8 @@ use Rattle.gc_board.proofs.Sums.{total-append, only_same, only_other}
 use Rattle.gc_job.specs.Job.{JobParts}
 use Rattle.gc_eval.specs.declared.seat.Answer.{Answer}
 use Rattle.gc_eval.specs.declared.seat.Answer.TheVariants.{Made, Done, Taken, NotYet}
-use Rattle.gc_circuit.specs.Circuit.{Netlist}
-use Rattle.gc_circuit.specs.declared.circuit.Gate.{Gate}
+use Rattle.gc_netlist.specs.Circuit.{Netlist}
+use Rattle.gc_netlist.specs.declared.gate.Gate.{Gate}
 use Rattle.gc_job.specs.Wiring.{first_of, second_of}
 use Rattle.gc_eval.specs.Views.{IsAlone, IsMadeNow, SetsMade, ReadsMade, FirstLacking, AnswersAlone, AnswersTwo, sightings, made_after, made_now, Ran, Saw, SawUndone, Lacks, Says, Answers}
 

@@ -2,7 +2,7 @@
 use Rattle.std.specs.Prelude.{◌≡◌, ℕ, ◌+◌, ◌<◌, ◌≤◌, ◌⊎◌}
 use Rattle.std.specs.Slots.{slots_items}
 use Rattle.std.specs.List.{range_with_len}
-use Rattle.gc_circuit.specs.Circuit.{IsSetBy, input_wires, output_wires}
+use Rattle.gc_netlist.specs.Circuit.{IsSetBy, input_wires, output_wires}
 use Rattle.gc_board.specs.Board.{state_of}
 use Rattle.gc_board.specs.Counts.{total, only}
 use Rattle.gc_job.specs.Job.{JobParts}

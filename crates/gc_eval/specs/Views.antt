@@ -2,8 +2,8 @@
 use Rattle.std.specs.Prelude.{◌≡◌, ◌≢◌, ℕ, ◌*◌, ◌<◌, ◌≤◌, ◌⊎◌, List, [], ◌∷◌, ◌++◌, length, slice_get, Some}
 use Rattle.gc_board.specs.Counts.{total, only, times}
 use Rattle.gc_board.specs.declared.rule.View.{View}
-use Rattle.gc_circuit.specs.declared.circuit.Gate.{Gate}
-use Rattle.gc_circuit.specs.Circuit.{Netlist, IsSetBy, input_wires}
+use Rattle.gc_netlist.specs.declared.gate.Gate.{Gate}
+use Rattle.gc_netlist.specs.Circuit.{Netlist, IsSetBy, input_wires}
 use Rattle.gc_job.specs.Job.{JobParts}
 use Rattle.gc_job.specs.Wiring.{first_of, second_of}
 use Rattle.gc_job.specs.ActiveLabels.{active, set_of}

@@ -1,7 +1,7 @@
 //! What a board that is closed tells: labels, how many gates are done, and the output bits.
 
 ghost use Rattle.std.specs.Prelude.{◌≡◌, ◌≢◌, ◌<◌, IfSome, IfNone, IfOk, IfErr, MatchOption, Ok, Err};
-ghost use Rattle.gc_circuit.specs.Solution.{on_outputs};
+ghost use Rattle.gc_netlist.specs.Solution.{on_outputs};
 ghost use Rattle.gc_job.specs.ActiveLabels.{active, gates_of};
 ghost use Rattle.gc_job.specs.Evaluate.{IsEvaluated};
 ghost use Rattle.gc_eval.specs.Done.{HasLabel, HasOutputs, LacksOutput, done_of};

@@ -3,7 +3,7 @@ use Rattle.std.proofs.Common.{◌≡◌, ℕ, zero, suc, ◌+◌, ◌-◌, ◌*�
 use Rattle.std.specs.List.{range_with_len}
 use Rattle.std.proofs.lemmas.List.{take-append-drop, take-append-le, take-take, take_all, get_or-take, get_or-drop, get_or_past, length-take, length-drop, length-take-le}
 use Rattle.sha2.specs.Sha256.{sha256}
-use Rattle.gc_circuit.specs.declared.limits.TheConstants.{MAX_GATES, MAX_WIRES}
+use Rattle.gc_netlist.specs.declared.limits.TheConstants.{MAX_GATES, MAX_WIRES}
 use Rattle.gc_label.specs.Label.{bytes_of_label, label_of_bytes}
 use Rattle.gc_label.proofs.LabelLemmas.{bytes_of_label-label_of_bytes, label_of_bytes-lt}
 use Rattle.gc_half.proofs.SetWires.{lt_or_le}

@@ -1,7 +1,7 @@
 -- Label files.
 use Rattle.std.proofs.Common.{◌≡◌, ◌≢◌, ℕ, zero, suc, ◌+◌, ◌*◌, ◌≤◌, ◌⊎◌, inl, inr, List, [], ◌∷◌, ◌++◌, length, take, drop, flat_map, All, refl, sym, ap, ◌∙◌, append_assoc, length-append, arith}
 use Rattle.std.proofs.lemmas.List.{take-append-drop, take-append-le, take_at, take_all, length-drop, length-take-le}
-use Rattle.gc_circuit.specs.declared.limits.TheConstants.{MAX_WIRES}
+use Rattle.gc_netlist.specs.declared.limits.TheConstants.{MAX_WIRES}
 use Rattle.gc_label.specs.Label.{bytes_of_label, label_of_bytes}
 use Rattle.gc_label.proofs.LabelLemmas.{length-bytes_of_label, bytes_of_label-label_of_bytes, label_of_bytes-lt}
 use Rattle.gc_half.proofs.SetWires.{lt_or_le}

@@ -1,6 +1,6 @@
 -- What the garbled file of an honest garbler holds.
 use Rattle.std.specs.Prelude.{ℕ, List, []}
-use Rattle.gc_circuit.specs.Circuit.{Netlist}
+use Rattle.gc_netlist.specs.Circuit.{Netlist}
 use Rattle.gc_label.specs.Seed.{offset_of}
 use Rattle.gc_half.specs.Garbling.{GarblingParts}
 use Rattle.gc_format.specs.declared.parts.Version.{Version}

@@ -1,9 +1,9 @@
 -- The garbled file: what it holds, and its bytes.
 use Rattle.std.specs.Prelude.{◌≡◌, ℕ, ◌<◌, ◌≤◌, ◌^◌, Bool, List, ◌++◌, length, flat_map, codes, All}
 use Rattle.sha2.specs.Sha256.{sha256}
-use Rattle.gc_circuit.specs.declared.limits.TheConstants.{MAX_GATES, MAX_WIRES}
-use Rattle.gc_circuit.specs.Circuit.{Netlist}
-use Rattle.gc_circuit.specs.Canon.{canonical_text}
+use Rattle.gc_netlist.specs.declared.limits.TheConstants.{MAX_GATES, MAX_WIRES}
+use Rattle.gc_netlist.specs.Circuit.{Netlist}
+use Rattle.gc_netlist.specs.Canon.{canonical_text}
 use Rattle.gc_label.specs.Label.{bytes_of_label}
 use Rattle.gc_half.specs.declared.garbling.RowPair.{RowPair}
 use Rattle.gc_half.specs.Garbling.{GarblingParts, decode_bits_of}

@@ -1,8 +1,8 @@
 -- The label file: what it holds, and its bytes.
 use Rattle.std.specs.Prelude.{◌≡◌, ℕ, ◌<◌, ◌≤◌, ◌^◌, Bool, List, ◌++◌, length, flat_map, map, take, sum, codes, All}
 use Rattle.std.specs.List.{zip, range_with_len}
-use Rattle.gc_circuit.specs.declared.limits.TheConstants.{MAX_WIRES}
-use Rattle.gc_circuit.specs.Circuit.{Netlist}
+use Rattle.gc_netlist.specs.declared.limits.TheConstants.{MAX_WIRES}
+use Rattle.gc_netlist.specs.Circuit.{Netlist}
 use Rattle.gc_label.specs.Label.{bytes_of_label}
 use Rattle.gc_label.specs.Seed.{offset_of, input_label_of}
 use Rattle.gc_half.specs.Evaluation.{encode}

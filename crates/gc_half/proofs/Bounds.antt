@@ -5,11 +5,11 @@ use Rattle.std.proofs.lemmas.Nat.{xor_lt}
 use Rattle.std.proofs.lemmas.List.{length-take-le}
 use Rattle.sha2.specs.Sha256.{sha256, digest_bytes}
 use Rattle.sha2.proofs.Facts256.{length-sha256}
-use Rattle.gc_circuit.specs.declared.circuit.Operation.{Operation}
-use Rattle.gc_circuit.specs.declared.circuit.Operation.TheVariants.{Xor, And, Inv, Eq, Eqw}
-use Rattle.gc_circuit.specs.declared.circuit.Gate.{Gate}
-use Rattle.gc_circuit.specs.Circuit.{Netlist, and_number}
-use Rattle.gc_circuit.specs.Solution.{put_gate, values_after}
+use Rattle.gc_netlist.specs.declared.gate.Operation.{Operation}
+use Rattle.gc_netlist.specs.declared.gate.Operation.TheVariants.{Xor, And, Inv, Eq, Eqw}
+use Rattle.gc_netlist.specs.declared.gate.Gate.{Gate}
+use Rattle.gc_netlist.specs.Circuit.{Netlist, and_number}
+use Rattle.gc_netlist.specs.Solution.{put_gate, values_after}
 use Rattle.gc_label.specs.Label.{◌⊕◌, colour, times, bytes_of_label}
 use Rattle.gc_label.specs.Seed.{offset_of, input_label_of}
 use Rattle.gc_label.proofs.LabelLemmas.{byte_at_is, label_of_bytes-lt}

@@ -4,13 +4,13 @@ use Rattle.std.specs.List.{range_with_len}
 use Rattle.std.proofs.lemmas.Bool.{lt-ltb}
 use Rattle.std.proofs.lemmas.Bool.Decides.{nat_tests}
 use Rattle.std.proofs.lemmas.List.FromFn.{fill_by_all, length-map-range_with_len}
-use Rattle.gc_circuit.specs.declared.circuit.Operation.TheVariants.{And}
-use Rattle.gc_circuit.specs.declared.circuit.Gate.{Gate}
-use Rattle.gc_circuit.specs.Circuit.{Netlist, input_wires, output_wires, IsLawful, IsSet, and_number, and_count}
-use Rattle.gc_circuit.specs.Solution.{Solves}
-use Rattle.gc_circuit.proofs.SolutionLemmas.{agree, solution_solves}
+use Rattle.gc_netlist.specs.declared.gate.Operation.TheVariants.{And}
+use Rattle.gc_netlist.specs.declared.gate.Gate.{Gate}
+use Rattle.gc_netlist.specs.Circuit.{Netlist, input_wires, output_wires, IsLawful, IsSet, and_number, and_count}
+use Rattle.gc_netlist.specs.Solution.{Solves}
+use Rattle.gc_netlist.proofs.SolutionLemmas.{agree, solution_solves}
 use Rattle.gc_circuit.specs.Meaning.{IsAssignment}
-use Rattle.gc_circuit.proofs.Tables.{read-table, table_end, IsSetBefore-below}
+use Rattle.gc_netlist.proofs.Tables.{read-table, table_end, IsSetBefore-below}
 use Rattle.gc_label.specs.Label.{colour}
 use Rattle.gc_label.specs.Seed.{offset_of, input_label_of}
 use Rattle.gc_label.proofs.SeedLemmas.{colour-offset_of}

@@ -4,12 +4,12 @@ use Rattle.std.proofs.Common.{◌≡◌, ℕ, zero, suc, ◌+◌, ◌-◌, ◌<�
 use lib.Bits.{xor_self}
 use Rattle.std.specs.List.{range_with_len}
 use Rattle.std.proofs.lemmas.Option.{get_or_from_slice_get}
-use Rattle.gc_circuit.specs.declared.circuit.Operation.{Operation}
-use Rattle.gc_circuit.specs.declared.circuit.Operation.TheVariants.{Xor, And, Inv, Eq, Eqw}
-use Rattle.gc_circuit.specs.Circuit.{Netlist, output_wires, IsSet, IsLawful, EachRead, and_number}
-use Rattle.gc_circuit.specs.Solution.{IsLocal}
+use Rattle.gc_netlist.specs.declared.gate.Operation.{Operation}
+use Rattle.gc_netlist.specs.declared.gate.Operation.TheVariants.{Xor, And, Inv, Eq, Eqw}
+use Rattle.gc_netlist.specs.Circuit.{Netlist, output_wires, IsSet, IsLawful, EachRead, and_number}
+use Rattle.gc_netlist.specs.Solution.{IsLocal}
 use Rattle.gc_circuit.specs.Meaning.{bit_of, xor, IsAssignment}
-use Rattle.gc_circuit.proofs.SolutionLemmas.{agree}
+use Rattle.gc_netlist.proofs.SolutionLemmas.{agree}
 use Rattle.gc_label.specs.Label.{◌⊕◌, colour, times}
 use Rattle.gc_half.specs.declared.garbling.RowPair.{RowPair}
 use Rattle.gc_half.specs.HalfGate.{and_active}

@@ -5,12 +5,12 @@ use Rattle.std.proofs.lemmas.List.{get_or_append_left, get_or-append_right, get_
 use Rattle.std.proofs.lemmas.List.FromFn.{fill_by_all, length-map-range_with_len}
 use Rattle.std.proofs.lemmas.Grind.{common_steps}
 use Rattle.std.proofs.lemmas.Option.{slice_get_within}
-use Rattle.gc_circuit.specs.declared.circuit.Operation.{Operation}
-use Rattle.gc_circuit.specs.declared.circuit.Gate.{Gate}
-use Rattle.gc_circuit.specs.Circuit.{Netlist, input_wires, output_wires, IsLawful, IsSetBefore, EachRead, and_number}
-use Rattle.gc_circuit.specs.Solution.{values_after}
-use Rattle.gc_circuit.proofs.SolutionLemmas.{EachRead-map, after-keeps}
-use Rattle.gc_circuit.proofs.Tables.{read-table, table_more, after-zero, EachRead-below, IsSetBefore-below}
+use Rattle.gc_netlist.specs.declared.gate.Operation.{Operation}
+use Rattle.gc_netlist.specs.declared.gate.Gate.{Gate}
+use Rattle.gc_netlist.specs.Circuit.{Netlist, input_wires, output_wires, IsLawful, IsSetBefore, EachRead, and_number}
+use Rattle.gc_netlist.specs.Solution.{values_after}
+use Rattle.gc_netlist.proofs.SolutionLemmas.{EachRead-map, after-keeps}
+use Rattle.gc_netlist.proofs.Tables.{read-table, table_more, after-zero, EachRead-below, IsSetBefore-below}
 use Rattle.gc_label.specs.Seed.{offset_of, input_label_of}
 use Rattle.gc_half.specs.declared.garbling.RowPair.{RowPair}
 use Rattle.gc_half.specs.Hash.{hash}

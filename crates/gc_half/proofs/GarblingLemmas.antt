@@ -2,12 +2,12 @@
 use Rattle.std.proofs.Common.{◌≡◌, ℕ, ◌<◌, List, length, slice_get, Some, inl, inr, refl, sym, ap, subst, ◌∙◌, arith}
 use Rattle.std.proofs.lemmas.List.{take_all}
 use Rattle.std.proofs.lemmas.Option.{slice_get_within}
-use Rattle.gc_circuit.specs.declared.circuit.Operation.{Operation}
-use Rattle.gc_circuit.specs.declared.circuit.Operation.TheVariants.{And}
-use Rattle.gc_circuit.specs.declared.circuit.Gate.{Gate}
-use Rattle.gc_circuit.specs.Circuit.{Netlist, IsLawful, IsSet, IsSetBefore, EachRead, and_number}
-use Rattle.gc_circuit.specs.Solution.{Solves, IsLocal, solution}
-use Rattle.gc_circuit.proofs.SolutionLemmas.{agree, solution_solves, EachRead-map, IsSetBefore-more}
+use Rattle.gc_netlist.specs.declared.gate.Operation.{Operation}
+use Rattle.gc_netlist.specs.declared.gate.Operation.TheVariants.{And}
+use Rattle.gc_netlist.specs.declared.gate.Gate.{Gate}
+use Rattle.gc_netlist.specs.Circuit.{Netlist, IsLawful, IsSet, IsSetBefore, EachRead, and_number}
+use Rattle.gc_netlist.specs.Solution.{Solves, IsLocal, solution}
+use Rattle.gc_netlist.proofs.SolutionLemmas.{agree, solution_solves, EachRead-map, IsSetBefore-more}
 use Rattle.gc_half.specs.declared.garbling.RowPair.{RowPair}
 use Rattle.gc_half.specs.OneGate.{first_read, second_read, row_pair, gate_zero}
 use Rattle.gc_half.specs.Garbling.{zero_of, zero_rule, rows_of, IsGarbling}

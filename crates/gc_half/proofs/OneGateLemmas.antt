@@ -1,8 +1,8 @@
 -- The labels that an operation reads look at the wires that it reads alone.
 use Rattle.std.proofs.Common.{◌≡◌, ℕ, refl}
-use Rattle.gc_circuit.specs.declared.circuit.Operation.{Operation}
-use Rattle.gc_circuit.specs.declared.circuit.Operation.TheVariants.{Xor, And, Inv, Eq, Eqw}
-use Rattle.gc_circuit.specs.Circuit.{EachRead}
+use Rattle.gc_netlist.specs.declared.gate.Operation.{Operation}
+use Rattle.gc_netlist.specs.declared.gate.Operation.TheVariants.{Xor, And, Inv, Eq, Eqw}
+use Rattle.gc_netlist.specs.Circuit.{EachRead}
 use Rattle.gc_half.specs.OneGate.{first_read, second_read}
 
 pub first_read-local : (u v : ℕ → ℕ) (op : Operation) → EachRead (λ w. u w ≡ v w) op

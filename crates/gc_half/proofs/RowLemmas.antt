@@ -3,10 +3,10 @@ use Rattle.std.proofs.Common.{◌≡◌, ℕ, zero, suc, ◌+◌, ◌<◌, ◌�
 use Rattle.std.proofs.lemmas.Option.{slice_get_within, get_or_from_slice_get}
 use Rattle.std.proofs.lemmas.Bool.{cases_eq}
 use Rattle.std.proofs.lemmas.List.{take_more}
-use Rattle.gc_circuit.specs.declared.circuit.Operation.{Operation}
-use Rattle.gc_circuit.specs.declared.circuit.Operation.TheVariants.{Xor, And, Inv, Eq, Eqw}
-use Rattle.gc_circuit.specs.declared.circuit.Gate.{Gate}
-use Rattle.gc_circuit.specs.Circuit.{Netlist, is_and, and_number}
+use Rattle.gc_netlist.specs.declared.gate.Operation.{Operation}
+use Rattle.gc_netlist.specs.declared.gate.Operation.TheVariants.{Xor, And, Inv, Eq, Eqw}
+use Rattle.gc_netlist.specs.declared.gate.Gate.{Gate}
+use Rattle.gc_netlist.specs.Circuit.{Netlist, is_and, and_number}
 use Rattle.gc_half.specs.declared.garbling.RowPair.{RowPair}
 use Rattle.gc_half.specs.Garbling.{rows_of, IsGarbling}
 use Rattle.gc_half.specs.Canonical.{with_operation, with_gate, rows_after}

@@ -2,10 +2,10 @@
 use Rattle.std.proofs.Common.{◌≡◌, ◌≢◌, ℕ, zero, suc, ◌<◌, ◌≤◌, ◌⊎◌, inl, inr, length, slice_get, Some, None, Option, refl, sym, ap, subst, ◌∙◌, arith}
 use Rattle.std.proofs.lemmas.Bool.{cases_eq}
 use Rattle.std.proofs.lemmas.Bool.Decides.{nat_tests}
-use Rattle.gc_circuit.specs.declared.circuit.Gate.{Gate}
-use Rattle.gc_circuit.specs.Circuit.{Netlist, input_wires, IsSetBy, IsSetBefore, IsSet}
-use Rattle.gc_circuit.specs.Solution.{put_gate, values_after, solution}
-use Rattle.gc_circuit.proofs.SolutionLemmas.{IsSetBefore-more}
+use Rattle.gc_netlist.specs.declared.gate.Gate.{Gate}
+use Rattle.gc_netlist.specs.Circuit.{Netlist, input_wires, IsSetBy, IsSetBefore, IsSet}
+use Rattle.gc_netlist.specs.Solution.{put_gate, values_after, solution}
+use Rattle.gc_netlist.proofs.SolutionLemmas.{IsSetBefore-more}
 
 -- A number is below another or it is not.
 pub lt_or_le : (m n : ℕ) → (m < n) ⊎ (n ≤ m)

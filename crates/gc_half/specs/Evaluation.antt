@@ -1,10 +1,10 @@
 -- What it is to evaluate garbled rows, and how bits are encoded as labels and decoded.
 use Rattle.std.specs.Prelude.{ℕ, Bool, List, map, slice_index_or}
 use Rattle.std.specs.List.{zip}
-use Rattle.gc_circuit.specs.declared.circuit.Operation.{Operation}
-use Rattle.gc_circuit.specs.declared.circuit.Gate.{Gate}
-use Rattle.gc_circuit.specs.Circuit.{Netlist, and_number}
-use Rattle.gc_circuit.specs.Solution.{Solves, on_outputs}
+use Rattle.gc_netlist.specs.declared.gate.Operation.{Operation}
+use Rattle.gc_netlist.specs.declared.gate.Gate.{Gate}
+use Rattle.gc_netlist.specs.Circuit.{Netlist, and_number}
+use Rattle.gc_netlist.specs.Solution.{Solves, on_outputs}
 use Rattle.gc_circuit.specs.Meaning.{xor}
 use Rattle.gc_label.specs.Label.{◌⊕◌, colour, times}
 use Rattle.gc_half.specs.declared.garbling.RowPair.{RowPair}

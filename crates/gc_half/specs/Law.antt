@@ -1,7 +1,7 @@
 -- The laws of garbled circuits. The hash is any function of a label and a tweak.
 use Rattle.std.specs.Prelude.{◌≡◌, ℕ, Bool, IsTrue, List}
-use Rattle.gc_circuit.specs.Circuit.{Netlist, IsSet, IsLawful}
-use Rattle.gc_circuit.specs.Solution.{on_outputs}
+use Rattle.gc_netlist.specs.Circuit.{Netlist, IsSet, IsLawful}
+use Rattle.gc_netlist.specs.Solution.{on_outputs}
 use Rattle.gc_circuit.specs.Meaning.{IsAssignment}
 use Rattle.gc_label.specs.Label.{colour}
 use Rattle.gc_half.specs.declared.garbling.RowPair.{RowPair}

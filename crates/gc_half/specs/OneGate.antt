@@ -1,8 +1,8 @@
 -- What garbling and what evaluating one gate give, from the labels of the wires that it reads ("Two Halves Make a
 -- Whole"; free XOR). XOR, INV, EQ and EQW gates have no rows.
 use Rattle.std.specs.Prelude.{ℕ, Option, Some, None}
-use Rattle.gc_circuit.specs.declared.circuit.Operation.{Operation}
-use Rattle.gc_circuit.specs.declared.circuit.Operation.TheVariants.{Xor, And, Inv, Eq, Eqw}
+use Rattle.gc_netlist.specs.declared.gate.Operation.{Operation}
+use Rattle.gc_netlist.specs.declared.gate.Operation.TheVariants.{Xor, And, Inv, Eq, Eqw}
 use Rattle.gc_label.specs.Label.{◌⊕◌, times}
 use Rattle.gc_half.specs.declared.garbling.RowPair.{RowPair}
 use Rattle.gc_half.specs.HalfGate.{and_zero, and_active, generator_row, evaluator_row}

@@ -1,7 +1,7 @@
 //! Entries, by which an output label is recognised.
 
 ghost use Rattle.std.specs.Prelude.{◌≡◌, ◌<◌};
-ghost use Rattle.gc_circuit.specs.Circuit.{output_wires};
+ghost use Rattle.gc_netlist.specs.Circuit.{output_wires};
 ghost use Rattle.gc_label.specs.Label.{colour};
 ghost use Rattle.gc_half.specs.Garbling.{FitsCircuit};
 ghost use Rattle.gc_half.specs.Entry.{label_of_colour, entry_of};

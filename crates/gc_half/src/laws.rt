@@ -1,7 +1,7 @@
 //! The laws of garbled circuits. A law is a function whose contract is the law; a call of it does nothing.
 
 ghost use Rattle.std.specs.Prelude.{ℕ, List};
-ghost use Rattle.gc_circuit.specs.Circuit.{Netlist, IsLawful};
+ghost use Rattle.gc_netlist.specs.Circuit.{Netlist, IsLawful};
 ghost use Rattle.gc_half.specs.declared.garbling.RowPair.{RowPair};
 ghost use Rattle.gc_half.specs.Law.{HalfGatesLaw, HasOneGarbling, HasOneEvaluation, HasOneGarbled};
 

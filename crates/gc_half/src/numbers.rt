@@ -2,7 +2,7 @@
 
 ghost use Rattle.std.specs.Prelude.{◌≡◌, IfOk, length, map};
 ghost use Rattle.std.specs.List.{range_with_len};
-ghost use Rattle.gc_circuit.specs.Circuit.{and_number};
+ghost use Rattle.gc_netlist.specs.Circuit.{and_number};
 
 use gc_circuit::Circuit;
 use std::alloc::{AllocError, Allocator};

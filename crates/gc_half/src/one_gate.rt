@@ -1,7 +1,7 @@
 //! Garbling and evaluating one gate, from the labels of the wires that it reads.
 
 ghost use Rattle.std.specs.Prelude.{◌≡◌, ◌<◌, length, slice_index, IsTrue};
-ghost use Rattle.gc_circuit.specs.Circuit.{EachRead, is_and};
+ghost use Rattle.gc_netlist.specs.Circuit.{EachRead, is_and};
 ghost use Rattle.gc_half.specs.Hash.{hash};
 ghost use Rattle.gc_half.specs.OneGate.{first_read, second_read, gate_zero, gate_rows, gate_active};
 ghost use Rattle.gc_half.specs.Evaluation.{row_at};

@@ -2,8 +2,8 @@
 use Rattle.std.proofs.Common.{◌≡◌, ℕ, suc, ◌<◌, ◌≤◌, ◌+◌, List, Bool, true, cond, take, drop, take-append-drop, length, slice_get, Some, count_by, sym, ap, ◌∙◌, arith}
 use Rattle.std.specs.List.{sum_by}
 use Rattle.std.proofs.lemmas.List.Sums.{sum_by-append}
-use Rattle.gc_circuit.specs.declared.circuit.Gate.{Gate}
-use Rattle.gc_circuit.specs.Circuit.{Netlist, is_and, and_number, and_count}
+use Rattle.gc_netlist.specs.declared.gate.Gate.{Gate}
+use Rattle.gc_netlist.specs.Circuit.{Netlist, is_and, and_number, and_count}
 use Rattle.gc_half.proofs.AndNumbers.{and_number-and}
 use Rattle.gc_job.specs.Job.{JobParts, IsWhole}
 

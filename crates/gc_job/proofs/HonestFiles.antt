@@ -4,7 +4,7 @@ use Rattle.std.proofs.lemmas.List.{length-drop, length-map, take-append-drop, dr
 use Rattle.std.proofs.lemmas.Option.{slice_get-map, slice_get_within, same_Some}
 use Rattle.std.proofs.lemmas.List.Sums.{sum-map}
 use Rattle.std.proofs.lemmas.List.Concat.{length-flat_map}
-use Rattle.gc_circuit.specs.Circuit.{Netlist, IsLawful, input_wires, output_wires, and_count}
+use Rattle.gc_netlist.specs.Circuit.{Netlist, IsLawful, input_wires, output_wires, and_count}
 use Rattle.gc_circuit.specs.Meaning.{AreOutputs}
 use Rattle.gc_label.specs.Seed.{offset_of}
 use Rattle.gc_half.specs.Garbling.{GarblingParts, decode_bits_of, IsGarbled}

@@ -5,11 +5,11 @@ use Rattle.std.proofs.lemmas.List.{get_or-map}
 use Rattle.std.proofs.lemmas.List.FromFn.{length-range_with_len, get_or-range_with_len, length-map-range_with_len, get_or-map-range_with_len}
 use Rattle.std.proofs.lemmas.Option.{slice_get_read}
 use Rattle.std.proofs.lemmas.Slice.Zip.{length-zip, get_or-zip}
-use Rattle.gc_circuit.specs.Circuit.{output_wires, and_count}
-use Rattle.gc_circuit.specs.Solution.{solution, on_outputs}
+use Rattle.gc_netlist.specs.Circuit.{output_wires, and_count}
+use Rattle.gc_netlist.specs.Solution.{solution, on_outputs}
 use Rattle.gc_circuit.specs.Meaning.{xor, bits_of, bit_rule, IsAssignment, AreOutputs}
-use Rattle.gc_circuit.proofs.SolutionLemmas.{solution_solves}
-use Rattle.gc_circuit.proofs.Tables.{read-table}
+use Rattle.gc_netlist.proofs.SolutionLemmas.{solution_solves}
+use Rattle.gc_netlist.proofs.Tables.{read-table}
 use Rattle.gc_circuit.proofs.BitLemmas.{bit_local}
 use Rattle.gc_label.specs.Label.{colour}
 use Rattle.gc_label.specs.Seed.{offset_of, input_label_of}

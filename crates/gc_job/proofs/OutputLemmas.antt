@@ -5,10 +5,10 @@ use Rattle.std.proofs.lemmas.List.FromFn.{length-map-range_with_len, get_or-map-
 use Rattle.std.proofs.lemmas.List.{length-map}
 use Rattle.std.proofs.lemmas.Slice.Zip.{length-zip}
 use Rattle.std.proofs.lemmas.Option.{slice_get_within, get_or_from_slice_get}
-use Rattle.gc_circuit.specs.Circuit.{Netlist, output_wires, IsLawful}
-use Rattle.gc_circuit.specs.Solution.{solution, on_outputs}
-use Rattle.gc_circuit.proofs.SolutionLemmas.{solution_solves}
-use Rattle.gc_circuit.proofs.Tables.{length-table, table_end}
+use Rattle.gc_netlist.specs.Circuit.{Netlist, output_wires, IsLawful}
+use Rattle.gc_netlist.specs.Solution.{solution, on_outputs}
+use Rattle.gc_netlist.proofs.SolutionLemmas.{solution_solves}
+use Rattle.gc_netlist.proofs.Tables.{length-table, table_end}
 use Rattle.gc_half.specs.declared.garbling.RowPair.{RowPair}
 use Rattle.gc_half.specs.Hash.{hash}
 use Rattle.gc_half.specs.Evaluation.{active_rule, IsEvaluation}

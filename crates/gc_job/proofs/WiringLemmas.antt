@@ -4,8 +4,8 @@ use Rattle.std.proofs.lemmas.List.{length-replicate}
 use Rattle.std.proofs.lemmas.Option.{slice_get_within}
 use mathlib.Core.Logic.{dite}
 use native.Mathlib.Decide.{ℕ_discrete, dec_le}
-use Rattle.gc_circuit.specs.declared.circuit.Gate.{Gate}
-use Rattle.gc_circuit.specs.Circuit.{Netlist, IsSetBy, IsSetBefore, IsLawful, input_wires}
+use Rattle.gc_netlist.specs.declared.gate.Gate.{Gate}
+use Rattle.gc_netlist.specs.Circuit.{Netlist, IsSetBy, IsSetBefore, IsLawful, input_wires}
 use Rattle.gc_job.specs.Wiring.{AreSetters}
 
 zeros : (n i : ℕ) → get_or {A = ℕ} (replicate n 0) i 0 ≡ 0

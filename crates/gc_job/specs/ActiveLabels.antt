@@ -1,8 +1,8 @@
 -- The active labels of a job, and their halves in the words of a board.
 use Rattle.std.specs.Prelude.{◌≡◌, ℕ, zero, suc, ◌<◌, ◌^◌, length, slice_get, Option, Some, None}
-use Rattle.gc_circuit.specs.declared.circuit.Gate.{Gate}
-use Rattle.gc_circuit.specs.Circuit.{and_number}
-use Rattle.gc_circuit.specs.Solution.{solution}
+use Rattle.gc_netlist.specs.declared.gate.Gate.{Gate}
+use Rattle.gc_netlist.specs.Circuit.{and_number}
+use Rattle.gc_netlist.specs.Solution.{solution}
 use Rattle.gc_label.specs.Label.{low_half, high_half}
 use Rattle.gc_half.specs.Hash.{hash}
 use Rattle.gc_half.specs.declared.garbling.RowPair.{RowPair}

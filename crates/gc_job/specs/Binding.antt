@@ -1,8 +1,8 @@
 -- Binding a garbled file and label files to a circuit: when they are a job, and why they are none.
 use Rattle.std.specs.Prelude.{◌≡◌, ◌≢◌, ℕ, ◌<◌, ◌≤◌, List, length, sum, take, drop, slice_get, Some}
 use Rattle.sha2.specs.Sha256.{sha256}
-use Rattle.gc_circuit.specs.Circuit.{Netlist, output_wires, and_count}
-use Rattle.gc_circuit.specs.Canon.{canonical_text}
+use Rattle.gc_netlist.specs.Circuit.{Netlist, output_wires, and_count}
+use Rattle.gc_netlist.specs.Canon.{canonical_text}
 use Rattle.gc_format.specs.GarbledFile.{GarbledParts}
 use Rattle.gc_format.specs.LabelFile.{LabelFileParts}
 use Rattle.gc_job.specs.declared.fault.BindFault.{BindFault}

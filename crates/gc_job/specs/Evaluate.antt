@@ -1,8 +1,8 @@
 -- What evaluating a garbled circuit answers, honest rows and labels or not.
 use Rattle.std.specs.Prelude.{◌≡◌, ℕ, ◌<◌, Bool, true, false, List, length, map, slice_get, slice_index, Some, Result, Ok, Err}
 use Rattle.std.specs.List.{range_with_len}
-use Rattle.gc_circuit.specs.Circuit.{Netlist, and_count}
-use Rattle.gc_circuit.specs.Solution.{on_outputs}
+use Rattle.gc_netlist.specs.Circuit.{Netlist, and_count}
+use Rattle.gc_netlist.specs.Solution.{on_outputs}
 use Rattle.gc_label.specs.Label.{colour}
 use Rattle.gc_half.specs.declared.garbling.RowPair.{RowPair}
 use Rattle.gc_half.specs.Hash.{hash}

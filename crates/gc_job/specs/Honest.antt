@@ -1,6 +1,6 @@
 -- The jobs that an honest garbler and honest dealers make, and the files that they make them of.
 use Rattle.std.specs.Prelude.{◌≡◌, ℕ, ◌<◌, Bool, List, length, slice_get, flat_map, Some, Result, MatchResult}
-use Rattle.gc_circuit.specs.Circuit.{Netlist, input_wires}
+use Rattle.gc_netlist.specs.Circuit.{Netlist, input_wires}
 use Rattle.gc_circuit.specs.Meaning.{Fits, AreOutputs}
 use Rattle.gc_label.specs.Seed.{offset_of}
 use Rattle.gc_half.specs.Garbling.{GarblingParts, decode_bits_of, IsGarbled}

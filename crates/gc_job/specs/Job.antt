@@ -1,6 +1,6 @@
 -- A job: what the evaluator of a garbled circuit is given.
 use Rattle.std.specs.Prelude.{◌≡◌, ℕ, Bool, List, length}
-use Rattle.gc_circuit.specs.Circuit.{Netlist, input_wires, output_wires, and_count, IsLawful}
+use Rattle.gc_netlist.specs.Circuit.{Netlist, input_wires, output_wires, and_count, IsLawful}
 use Rattle.gc_half.specs.declared.garbling.RowPair.{RowPair}
 use Rattle.gc_format.specs.declared.parts.Version.{Version}
 use Rattle.gc_format.specs.declared.parts.EntryPair.{EntryPair}

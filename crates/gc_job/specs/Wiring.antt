@@ -1,9 +1,9 @@
 -- Tables of a circuit: which gate sets each wire, and the AND number of each gate.
 use Rattle.std.specs.Prelude.{◌≡◌, ℕ, ◌+◌, ◌<◌, List, Option, Some, None, length, slice_index, map}
 use Rattle.std.specs.List.{range_with_len}
-use Rattle.gc_circuit.specs.declared.circuit.Operation.{Operation}
-use Rattle.gc_circuit.specs.declared.circuit.Operation.TheVariants.{Xor, And, Inv, Eq, Eqw}
-use Rattle.gc_circuit.specs.Circuit.{Netlist, IsSetBy, IsLawful, and_number}
+use Rattle.gc_netlist.specs.declared.gate.Operation.{Operation}
+use Rattle.gc_netlist.specs.declared.gate.Operation.TheVariants.{Xor, And, Inv, Eq, Eqw}
+use Rattle.gc_netlist.specs.Circuit.{Netlist, IsSetBy, IsLawful, and_number}
 
 -- By wire, the first of n gates that sets it, plus 1, and 0 where none does.
 pub record AreSetters (c : Netlist) (n : ℕ) (setters : List ℕ) : Type 0 where

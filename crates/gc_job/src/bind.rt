@@ -2,7 +2,7 @@
 
 ghost use Rattle.std.specs.Prelude.{◌≡◌, ◌≢◌, ◌↔◌, ◌<◌, ◌≤◌, List, length, is_none, flat_map, All, IsTrue, IsSomeAnd, IfOk, IfErr, OnOk};
 ghost use Rattle.std.specs.List.{list_any};
-ghost use Rattle.gc_circuit.specs.Circuit.{IsLawful};
+ghost use Rattle.gc_netlist.specs.Circuit.{IsLawful};
 ghost use Rattle.gc_format.specs.LabelFile.{LabelFileParts};
 ghost use Rattle.gc_job.specs.Binding.{HasCounts, AreInOrder, IsInOrder, LabelsFault, FirstLabelsFault, AreBound};
 ghost use Rattle.gc_job.specs.Places.{ArePlaces, labels_at};

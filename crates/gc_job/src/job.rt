@@ -2,7 +2,7 @@
 
 ghost use Rattle.std.specs.Prelude.{◌≡◌, ◌≢◌, length, IfOk, IfErr};
 ghost use Rattle.std.specs.Result.{result_map_both};
-ghost use Rattle.gc_circuit.specs.Circuit.{output_wires};
+ghost use Rattle.gc_netlist.specs.Circuit.{output_wires};
 
 use crate::bind::{bound_labels, has_counts};
 use crate::decode::{decoded, first_unknown};
@@ -38,7 +38,7 @@ impl<'c, A: Allocator, C: Allocator> Model for Job<'c, A, C> {
 
 impl<'c, A: Allocator + Copy, C: Allocator> Job<'c, A, C> {
     ghost use Rattle.sha2.specs.Sha256.{sha256};
-    ghost use Rattle.gc_circuit.specs.Canon.{canonical_text};
+    ghost use Rattle.gc_netlist.specs.Canon.{canonical_text};
     ghost use Rattle.gc_job.specs.Binding.{IsBound, FirstBindFault};
 
     /// The job of a circuit, a garbled file and a label file for each input value, in any order. The files are judged in

@@ -1,7 +1,7 @@
 //! The law of honest files. A law is a function whose contract is the law; a call of it does nothing.
 
 ghost use Rattle.std.specs.Prelude.{ℕ, Bool, List};
-ghost use Rattle.gc_circuit.specs.Circuit.{Netlist, IsLawful};
+ghost use Rattle.gc_netlist.specs.Circuit.{Netlist, IsLawful};
 ghost use Rattle.gc_format.specs.GarbledFile.{GarbledParts};
 ghost use Rattle.gc_format.specs.LabelFile.{LabelFileParts};
 ghost use Rattle.gc_job.specs.Honest.{AreHonestFiles, HonestFilesLaw};

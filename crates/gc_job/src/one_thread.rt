@@ -1,8 +1,8 @@
 ghost use Rattle.std.specs.Prelude.{◌≡◌, ◌≤◌, ℕ, Bool, List, length, map, IfOk, MatchResult};
 ghost use Rattle.std.specs.Result.{result_map_both};
 ghost use Rattle.std.specs.List.{range_with_len};
-ghost use Rattle.gc_circuit.specs.Circuit.{and_count, input_wires, output_wires};
-ghost use Rattle.gc_circuit.specs.Solution.{on_outputs};
+ghost use Rattle.gc_netlist.specs.Circuit.{and_count, input_wires, output_wires};
+ghost use Rattle.gc_netlist.specs.Solution.{on_outputs};
 ghost use Rattle.gc_circuit.specs.Meaning.{AreOutputs};
 ghost use Rattle.gc_job.specs.Evaluate.{labels_of, AreActive, IsDecoded, IsEvaluated};
 ghost use Rattle.gc_job.specs.Honest.{IsHonest};

@@ -1,7 +1,7 @@
 //! What an evaluation of a job reads of it.
 
 ghost use Rattle.std.specs.Prelude.{◌≡◌, ℕ, ◌<◌, IfSome, IfNone, slice_index};
-ghost use Rattle.gc_circuit.specs.Circuit.{IsSetBy, and_number, input_wires};
+ghost use Rattle.gc_netlist.specs.Circuit.{IsSetBy, and_number, input_wires};
 ghost use Rattle.gc_job.specs.ActiveLabels.{gates_of, active_from};
 ghost use Rattle.gc_job.specs.Pending.{label_of_step};
 ghost use Rattle.gc_job.specs.Wiring.{first_of, second_of};

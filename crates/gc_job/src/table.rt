@@ -1,7 +1,7 @@
 //! The active labels of a circuit's wires, gate after gate. AND gates are evaluated two at a time.
 
 ghost use Rattle.std.specs.Prelude.{◌≡◌, ◌<◌, ◌⊎◌, ℕ, IsTrue, None, Some, length, slice_index, slice_set};
-ghost use Rattle.gc_circuit.specs.Circuit.{EachRead, is_and};
+ghost use Rattle.gc_netlist.specs.Circuit.{EachRead, is_and};
 ghost use Rattle.gc_half.specs.Hash.{hash};
 ghost use Rattle.gc_half.specs.OneGate.{first_read, second_read};
 ghost use Rattle.gc_half.specs.Evaluation.{active_of, row_at};

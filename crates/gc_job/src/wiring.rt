@@ -1,7 +1,7 @@
 //! Which gate sets each wire of a circuit, and the AND number of each gate.
 
 ghost use Rattle.std.specs.Prelude.{◌≡◌, ℕ, ◌<◌, IfOk, IfSome, IfNone, length};
-ghost use Rattle.gc_circuit.specs.Circuit.{IsSetBy, IsLawful, and_number};
+ghost use Rattle.gc_netlist.specs.Circuit.{IsSetBy, IsLawful, and_number};
 ghost use Rattle.gc_job.specs.Wiring.{AreSetters};
 
 use gc_circuit::Circuit;
@@ -21,7 +21,7 @@ pub struct Wiring<'c, A: Allocator = Global, C: Allocator = Global> {
 }
 
 impl<'c, A: Allocator, C: Allocator> Model for Wiring<'c, A, C> {
-    ghost use Rattle.gc_circuit.specs.Circuit.{Netlist};
+    ghost use Rattle.gc_netlist.specs.Circuit.{Netlist};
 
     ghost Value = { Netlist };
 

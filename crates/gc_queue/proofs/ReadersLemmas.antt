@@ -4,11 +4,11 @@ use Rattle.std.proofs.Math.ListN.{length-replicate}
 use Rattle.std.proofs.lemmas.Bool.{cases_eq}
 use Rattle.std.proofs.lemmas.List.{get_or-set_same, get_or-set_other, get_or-replicate, get_or_read}
 use Rattle.std.proofs.lemmas.Option.{slice_get_within}
-use Rattle.gc_circuit.specs.declared.circuit.Operation.{Operation}
-use Rattle.gc_circuit.specs.declared.circuit.Operation.TheVariants.{Xor, And, Inv, Eq, Eqw}
-use Rattle.gc_circuit.specs.declared.circuit.Gate.{Gate}
-use Rattle.gc_circuit.specs.Circuit.{Netlist, EachRead, IsLawful}
-use Rattle.gc_circuit.proofs.Tables.{EachRead-below}
+use Rattle.gc_netlist.specs.declared.gate.Operation.{Operation}
+use Rattle.gc_netlist.specs.declared.gate.Operation.TheVariants.{Xor, And, Inv, Eq, Eqw}
+use Rattle.gc_netlist.specs.declared.gate.Gate.{Gate}
+use Rattle.gc_netlist.specs.Circuit.{Netlist, EachRead, IsLawful}
+use Rattle.gc_netlist.proofs.Tables.{EachRead-below}
 use Rattle.gc_queue.specs.Readers.{first_wire, second_wire, read_count, IsRead, IsNextRead, IsLinkedFrom}
 
 -- a read is one of a circuit's reads,

@@ -1,7 +1,7 @@
 -- The countdowns that a store begins with.
 use Rattle.std.specs.Prelude.{ℕ, ◌+◌, ltb, Bool, Option, Some, None, slice_get}
-use Rattle.gc_circuit.specs.declared.circuit.Gate.{Gate}
-use Rattle.gc_circuit.specs.Circuit.{Netlist, input_wires}
+use Rattle.gc_netlist.specs.declared.gate.Gate.{Gate}
+use Rattle.gc_netlist.specs.Circuit.{Netlist, input_wires}
 use Rattle.gc_queue.specs.Readers.{unknown_reads}
 
 -- whether a wire is before wire n; the wires before the number of input wires are those known at first

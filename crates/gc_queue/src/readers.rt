@@ -1,7 +1,7 @@
 //! Which gates read a wire.
 
 ghost use Rattle.std.specs.Prelude.{◌≡◌, ◌<◌, ◌≤◌, ◌+◌, ℕ, IfOk, MatchOption, Some, length, slice_get, slice_index_or};
-ghost use Rattle.gc_circuit.specs.declared.circuit.Gate.{Gate};
+ghost use Rattle.gc_netlist.specs.declared.gate.Gate.{Gate};
 ghost use Rattle.gc_queue.specs.Readers.{first_wire, second_wire, reads_of, read_count, IsRead, IsLinked};
 
 use crate::queue::Queue;

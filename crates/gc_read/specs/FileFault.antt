@@ -1,7 +1,7 @@
 -- The first fault of bytes that are no file, in the order of the bytes.
 use Rattle.std.specs.Prelude.{◌≡◌, ℕ, ◌<◌, ◌≤◌, ◌+◌, ◌-◌, ◌*◌, ◌%◌, ◌^◌, List, length, take, drop, slice_index}
 use Rattle.sha2.specs.Sha256.{sha256}
-use Rattle.gc_circuit.specs.declared.limits.TheConstants.{MAX_GATES, MAX_WIRES}
+use Rattle.gc_netlist.specs.declared.limits.TheConstants.{MAX_GATES, MAX_WIRES}
 use Rattle.gc_read.specs.declared.fault.FileFault.{FileFault}
 use Rattle.gc_read.specs.declared.fault.FileFault.TheVariants.{BadMagic, Truncated, Trailing, CountTooLarge, SpareBits, BadTrailer}
 use Rattle.gc_format.specs.declared.parts.Version.{Version}

@@ -1,6 +1,6 @@
 -- What readers of files answer.
 use Rattle.std.specs.Prelude.{◌≡◌, ◌≢◌, ℕ, ◌≤◌, List, ◌++◌, length, Result, Ok, Err}
-use Rattle.gc_circuit.specs.declared.limits.TheConstants.{MAX_WIRES}
+use Rattle.gc_netlist.specs.declared.limits.TheConstants.{MAX_WIRES}
 use Rattle.gc_read.specs.declared.fault.FileFault.{FileFault}
 use Rattle.gc_read.specs.declared.fault.FileFault.TheVariants.{Memory}
 use Rattle.gc_format.specs.GarbledFile.{GarbledParts, IsGarbledFile}

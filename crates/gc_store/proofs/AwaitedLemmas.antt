@@ -1,9 +1,9 @@
 -- Of the wires that a gate reads, those that are not known are those that an unfinished gate sets.
 use Rattle.std.proofs.Common.{◌≡◌, ℕ, ◌<◌, ◌↔◌, inl, inr, slice_get, Some, sym, subst}
 use Rattle.std.proofs.lemmas.Bool.{cases_eq}
-use Rattle.gc_circuit.specs.declared.circuit.Gate.{Gate}
-use Rattle.gc_circuit.specs.Circuit.{EachRead, IsSetBefore, input_wires}
-use Rattle.gc_circuit.proofs.SolutionLemmas.{EachRead-map}
+use Rattle.gc_netlist.specs.declared.gate.Gate.{Gate}
+use Rattle.gc_netlist.specs.Circuit.{EachRead, IsSetBefore, input_wires}
+use Rattle.gc_netlist.proofs.SolutionLemmas.{EachRead-map}
 use Rattle.gc_store.specs.Content.{Content, IsFinished, IsKnown, IsLawfulContent}
 use Rattle.gc_store.specs.Kept.{IsAwaited}
 use Rattle.gc_store.proofs.CircuitLemmas.{set-apart}

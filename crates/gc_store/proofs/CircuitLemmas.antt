@@ -1,8 +1,8 @@
 -- Two gates set two wires, and two AND gates have two AND numbers.
 use Rattle.std.proofs.Common.{◌≡◌, ◌≢◌, ℕ, zero, suc, ◌<◌, ◌≤◌, ◌⊎◌, inl, inr, List, [], ◌∷◌, take, slice_get, Some, sum_by, cond, true, sym, arith}
 use Rattle.std.proofs.lemmas.List.Sums.{sum_by-take-le, sum_by-cons}
-use Rattle.gc_circuit.specs.declared.circuit.Gate.{Gate}
-use Rattle.gc_circuit.specs.Circuit.{Netlist, IsLawful, is_and, and_number, and_count}
+use Rattle.gc_netlist.specs.declared.gate.Gate.{Gate}
+use Rattle.gc_netlist.specs.Circuit.{Netlist, IsLawful, is_and, and_number, and_count}
 use Rattle.gc_half.proofs.AndNumbers.{and_number-and}
 
 order : (i j : ℕ) → i ≢ j → (i < j) ⊎ (j < i)

@@ -5,10 +5,10 @@ use Rattle.std.proofs.lemmas.List.{length-map}
 use Rattle.std.proofs.lemmas.Option.{slice_get_within, slice_get-get_or, slice_get-map, get_or_from_slice_get}
 use Rattle.std.specs.List.{range_with_len}
 use Rattle.std.proofs.lemmas.List.FromFn.{length-map-range_with_len, get_or-map-range_with_len, fill_by_all}
-use Rattle.gc_circuit.specs.declared.circuit.Operation.TheVariants.{Eq}
-use Rattle.gc_circuit.specs.declared.circuit.Gate.{Gate}
-use Rattle.gc_circuit.specs.Circuit.{Netlist}
-use Rattle.gc_circuit.proofs.SolutionLemmas.{EachRead-map}
+use Rattle.gc_netlist.specs.declared.gate.Operation.TheVariants.{Eq}
+use Rattle.gc_netlist.specs.declared.gate.Gate.{Gate}
+use Rattle.gc_netlist.specs.Circuit.{Netlist}
+use Rattle.gc_netlist.proofs.SolutionLemmas.{EachRead-map}
 use Rattle.gc_half.specs.declared.garbling.RowPair.{RowPair}
 use Rattle.gc_store.specs.Content.{State, Free, Claimed, Finished, Content, is_claimed, is_finished, has_rows, IsClaimed, IsKnown, IsLawfulContent}
 use Rattle.gc_store.specs.Step.{reopened, Reopens}

@@ -1,9 +1,9 @@
 -- How the tables of a store hold its content.
 use Rattle.std.specs.Prelude.{◌≡◌, ℕ, ◌*◌, ◌↔◌, Bool, IsTrue, if◌then◌else◌, List, length, map, Option, Some, None, slice_get, slice_index, slice_index_or, count_by}
 use Rattle.std.specs.List.{range_with_len}
-use Rattle.gc_circuit.specs.declared.circuit.Operation.{Operation}
-use Rattle.gc_circuit.specs.declared.circuit.Gate.{Gate}
-use Rattle.gc_circuit.specs.Circuit.{Netlist, EachRead, IsSetBy, is_and, and_number, and_count}
+use Rattle.gc_netlist.specs.declared.gate.Operation.{Operation}
+use Rattle.gc_netlist.specs.declared.gate.Gate.{Gate}
+use Rattle.gc_netlist.specs.Circuit.{Netlist, EachRead, IsSetBy, is_and, and_number, and_count}
 use Rattle.gc_label.specs.Seed.{offset_of}
 use Rattle.gc_half.specs.declared.garbling.RowPair.{RowPair}
 use Rattle.gc_half.specs.Canonical.{zero_label_of}

@@ -1,8 +1,8 @@
 -- The steps of a store, as relations between its content before a call, the call's answer and its content afterwards.
 -- No step changes the circuit or the seed.
 use Rattle.std.specs.Prelude.{◌≡◌, ℕ, ◌+◌, ◌<◌, ◌↔◌, Bool, IsTrue, if◌then◌else◌, List, map, sum, count_by, Option, Some, None, Result, Ok, Err, slice_get, slice_set, ◌⊎◌, [], ◌∷◌, ◌++◌, length}
-use Rattle.gc_circuit.specs.declared.circuit.Gate.{Gate}
-use Rattle.gc_circuit.specs.Circuit.{is_and}
+use Rattle.gc_netlist.specs.declared.gate.Gate.{Gate}
+use Rattle.gc_netlist.specs.Circuit.{is_and}
 use Rattle.gc_store.specs.declared.task.Task.{Task}
 use Rattle.gc_store.specs.declared.refusal.Refused.{Refused}
 use Rattle.gc_store.specs.declared.refusal.Refused.TheVariants.{NotClaimed, OtherInputs}

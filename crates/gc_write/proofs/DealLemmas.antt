@@ -5,7 +5,7 @@ use Rattle.std.proofs.lemmas.List.{take-append-drop}
 use Rattle.std.proofs.lemmas.Grind.{flat_map-append}
 use Rattle.std.proofs.lemmas.List.Sums.{sum_by_more_le}
 use Rattle.std.proofs.lemmas.Option.{slice_get_within, get_or_from_slice_get}
-use Rattle.gc_circuit.specs.Circuit.{Netlist, IsLawful}
+use Rattle.gc_netlist.specs.Circuit.{Netlist, IsLawful}
 use Rattle.gc_label.specs.Label.{bytes_of_label}
 use Rattle.gc_label.proofs.LabelLemmas.{length-bytes_of_label}
 use Rattle.gc_label.specs.Seed.{offset_of, input_label_of}

@@ -5,8 +5,8 @@ use Rattle.std.proofs.lemmas.List.Sums.{count_by-le-length}
 use Rattle.std.proofs.lemmas.List.Elements.{All-map}
 use Rattle.std.proofs.lemmas.Option.{slice_get-get_or}
 use Rattle.sha2.proofs.Facts256.{length-sha256}
-use Rattle.gc_circuit.specs.Circuit.{Netlist, IsLawful, is_and}
-use Rattle.gc_circuit.specs.Canon.{canonical_text}
+use Rattle.gc_netlist.specs.Circuit.{Netlist, IsLawful, is_and}
+use Rattle.gc_netlist.specs.Canon.{canonical_text}
 use Rattle.gc_label.specs.Seed.{offset_of}
 use Rattle.gc_label.proofs.SeedLemmas.{offset_of-lt, input_label_of-lt}
 use Rattle.gc_half.specs.Canonical.{garbling_of}

@@ -1,6 +1,6 @@
 -- What the writers write are files.
 use Rattle.std.specs.Prelude.{◌≡◌, ℕ, ◌<◌, ◌^◌, Bool, List, length, slice_get, Some}
-use Rattle.gc_circuit.specs.Circuit.{Netlist}
+use Rattle.gc_netlist.specs.Circuit.{Netlist}
 use Rattle.gc_half.specs.Canonical.{garbling_of}
 use Rattle.gc_format.specs.GarbledFile.{IsGarbledFile, garbled_file}
 use Rattle.gc_format.specs.LabelFile.{IsLabelFile, label_file, label_parts_of}

@@ -1,7 +1,7 @@
 //! Writing label files.
 
 ghost use Rattle.std.specs.Prelude.{◌≡◌, ◌<◌, ◌≤◌, ◌+◌, ◌^◌, length, slice_get, Some, flat_map, sum, take};
-ghost use Rattle.gc_circuit.specs.Circuit.{IsLawful};
+ghost use Rattle.gc_netlist.specs.Circuit.{IsLawful};
 ghost use Rattle.gc_label.specs.Label.{bytes_of_label};
 ghost use Rattle.gc_format.specs.Counted.{CountsFailure};
 ghost use Rattle.gc_format.specs.LabelFile.{label_file, label_parts_of, encoded_from};

@@ -1,7 +1,7 @@
 //! The law of the definitions that contracts cite.
 
 ghost use Rattle.std.specs.Prelude.{ℕ, List};
-ghost use Rattle.gc_circuit.specs.Circuit.{Netlist, IsLawful};
+ghost use Rattle.gc_netlist.specs.Circuit.{Netlist, IsLawful};
 ghost use Rattle.gc_write.specs.WrittenLaw.{AreFiles};
 
 /// The law of written files: what the writers write of a lawful circuit's garbling under a seed, in either version, and

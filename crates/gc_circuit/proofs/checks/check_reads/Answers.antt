@@ -1,9 +1,9 @@
 use Rattle.std.proofs.Common.{◌≡◌, ◌⊎◌, inl, inr, ℕ, Bool, Ok, Err, refl, sym, ap, ◌∙◌}
 use Rattle.std.proofs.lemmas.Result.{err_from_is_err_and}
-use Rattle.gc_circuit.specs.declared.fault.ReadFault.{ReadFault}
-use Rattle.gc_circuit.specs.declared.circuit.Operation.{Operation}
-use Rattle.gc_circuit.specs.declared.circuit.Operation.TheVariants.{Xor, And}
-use Rattle.gc_circuit.specs.Reading.{check_read, check_reads}
+use Rattle.gc_netlist.specs.declared.fault.ReadFault.{ReadFault}
+use Rattle.gc_netlist.specs.declared.gate.Operation.{Operation}
+use Rattle.gc_netlist.specs.declared.gate.Operation.TheVariants.{Xor, And}
+use Rattle.gc_netlist.specs.Reading.{check_read, check_reads}
 use Rattle.gc_circuit.proofs.checks.check_reads.Goals as goal
 
 first_refused : (n : ℕ) (s : ℕ → Bool) (op : Operation) (a b : ℕ) (e : ReadFault)

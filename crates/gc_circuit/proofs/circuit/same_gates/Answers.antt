@@ -1,8 +1,8 @@
 use Rattle.std.proofs.Common.{◌≡◌, rules}
 use Rattle.std.specs.Bool.{Decides}
 use Rattle.std.proofs.lemmas.Slice.Eq.{slice_eq-Decides}
-use Rattle.gc_circuit.specs.declared.circuit.Gate.{Gate}
-use Rattle.gc_circuit.specs.contracts.circuit.GatePartialEq.TheImpl as gates
+use Rattle.gc_netlist.specs.declared.gate.Gate.{Gate}
+use Rattle.gc_netlist.specs.contracts.gate.GatePartialEq.TheImpl as gates
 use Rattle.gc_circuit.proofs.circuit.same_gates.Goals as goal
 
 same : (a b : Gate) → Decides (gates.eq-value.it a b) (a ≡ b)

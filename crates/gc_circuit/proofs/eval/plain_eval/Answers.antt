@@ -1,10 +1,10 @@
 use Rattle.std.proofs.Common.{length, flat_map, ap, ◌∙◌, arith}
 use Rattle.std.proofs.lemmas.List.FromFn.{length-map-range_with_len}
-use Rattle.gc_circuit.specs.Solution.{solution}
+use Rattle.gc_netlist.specs.Solution.{solution}
 use Rattle.gc_circuit.specs.Meaning.{bits_of, bit_rule}
-use Rattle.gc_circuit.proofs.SolutionLemmas.{solution_solves}
+use Rattle.gc_netlist.proofs.SolutionLemmas.{solution_solves}
 use Rattle.gc_circuit.proofs.BitLemmas.{bit_local}
-use Rattle.gc_circuit.proofs.Tables.{table_end}
+use Rattle.gc_netlist.proofs.Tables.{table_end}
 use Rattle.gc_circuit.proofs.eval.plain_eval.Goals as goal
 
 pub split_at-requires : goal.split_at-requires

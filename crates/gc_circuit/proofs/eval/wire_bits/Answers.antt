@@ -1,8 +1,8 @@
 use Rattle.std.proofs.Common.{◌≤◌, ◌<◌, length, flat_map, ◌∙◌, ap, arith}
 use Rattle.std.proofs.lemmas.Grind.{common_steps}
 use Rattle.std.proofs.lemmas.List.FromFn.{length-map-range_with_len}
-use Rattle.gc_circuit.proofs.SolutionLemmas.{EachRead-map}
-use Rattle.gc_circuit.proofs.Tables.{EachRead-below}
+use Rattle.gc_netlist.proofs.SolutionLemmas.{EachRead-map}
+use Rattle.gc_netlist.proofs.Tables.{EachRead-below}
 use Rattle.gc_circuit.proofs.BitLemmas.{bits_more, bits_start, length-joined}
 use Rattle.gc_circuit.proofs.eval.wire_bits.Goals as goal
 

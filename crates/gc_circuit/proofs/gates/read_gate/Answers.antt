@@ -1,5 +1,5 @@
 use Rattle.std.proofs.Common.{◌≡◌, refl, ap, ◌∙◌}
-use Rattle.gc_circuit.specs.Reading.{two_at, gate_at}
+use Rattle.gc_netlist.specs.Reading.{two_at, gate_at}
 use Rattle.gc_circuit.proofs.ShortLemmas.{gate_of_two}
 use Rattle.gc_circuit.proofs.gates.read_gate.Goals as goal
 

@@ -1,6 +1,6 @@
 use Rattle.std.proofs.Common.{◌≡◌, ◌≤◌, ◌+◌, ◌^◌, take, get_or, true, false, refl, sym, ap, ◌∙◌, arith}
-use Rattle.gc_circuit.specs.Text.{tokens, is_digit, value_of}
-use Rattle.gc_circuit.specs.Reading.{number_at}
+use Rattle.gc_netlist.specs.Text.{tokens, is_digit, value_of}
+use Rattle.gc_netlist.specs.Reading.{number_at}
 use Rattle.gc_circuit.proofs.TokenLemmas.{run_more, empty_is_nil, some_bytes}
 use Rattle.gc_circuit.proofs.NumberLemmas.{value-nil, value_more, digits_more, digits_no_blank, bad_digit, bad_value, number_read, number_refused, number_whole, number_missing, blank_later}
 use Rattle.gc_circuit.proofs.number.leading_number.Goals as goal

@@ -1,5 +1,5 @@
 use Rattle.std.proofs.Common.{◌≡◌, ◌<◌, ◌≤◌, length, get_or, true, refl, sym, ◌∙◌, arith}
-use Rattle.gc_circuit.specs.Text.{is_digit}
+use Rattle.gc_netlist.specs.Text.{is_digit}
 use Rattle.gc_circuit.proofs.NumberLemmas.{value-nil, value_more, digits_more, number_read, blank_later}
 use Rattle.gc_circuit.proofs.ShortLemmas.{digit_most, short_value, short_more}
 use Rattle.gc_circuit.proofs.number.short_number.Goals as goal

@@ -1,6 +1,6 @@
 use Rattle.std.proofs.Common.{arith}
 use Rattle.std.proofs.lemmas.Result.{err_from_is_err_and}
-use Rattle.gc_circuit.specs.Reading.{is_set}
+use Rattle.gc_netlist.specs.Reading.{is_set}
 use Rattle.gc_circuit.proofs.CheckLemmas.{found, marks_len, marks_more, check_in_range, turn_goes_on, turn_no_gate, turn_refused, turns_done, ands_more, ands_few}
 use Rattle.gc_circuit.proofs.read.read_gates.Goals as goal
 

@@ -1,7 +1,7 @@
 use Rattle.std.proofs.Common.{◌≡◌, ◌-◌, ◌≤◌, [], map, count_by}
 use Rattle.std.specs.List.{range_with_len}
-use Rattle.gc_circuit.specs.Circuit.{is_and}
-use Rattle.gc_circuit.specs.Reading.{is_set, gates_at}
+use Rattle.gc_netlist.specs.Circuit.{is_and}
+use Rattle.gc_netlist.specs.Reading.{is_set, gates_at}
 use Rattle.gc_circuit.proofs.read.read_gates.Given as goal
 
 abbrev pub invariant-loop-i : goal.invariant-loop-i

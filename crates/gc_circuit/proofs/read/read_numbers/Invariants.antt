@@ -1,6 +1,6 @@
 use Rattle.std.proofs.Common.{◌≡◌, ◌-◌, []}
 use Rattle.std.specs.Vec.{vec_len}
-use Rattle.gc_circuit.specs.Reading.{numbers_at}
+use Rattle.gc_netlist.specs.Reading.{numbers_at}
 use Rattle.gc_circuit.proofs.read.read_numbers.Given as goal
 
 abbrev pub invariant-loop-i : goal.invariant-loop-i

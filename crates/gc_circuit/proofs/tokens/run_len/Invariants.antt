@@ -1,5 +1,5 @@
 use Rattle.std.proofs.Common.{◌≡◌, take, All, false}
-use Rattle.gc_circuit.specs.Text.{is_blank}
+use Rattle.gc_netlist.specs.Text.{is_blank}
 use Rattle.gc_circuit.proofs.tokens.run_len.Given as goal
 
 abbrev pub invariant-loop-i : goal.invariant-loop-i

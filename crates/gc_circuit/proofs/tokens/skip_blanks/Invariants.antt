@@ -1,5 +1,5 @@
 use Rattle.std.proofs.Common.{◌≡◌, drop}
-use Rattle.gc_circuit.specs.Text.{tokens}
+use Rattle.gc_netlist.specs.Text.{tokens}
 use Rattle.gc_circuit.proofs.tokens.skip_blanks.Given as goal
 
 abbrev pub invariant-loop-i : goal.invariant-loop-i

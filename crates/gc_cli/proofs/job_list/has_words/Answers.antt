@@ -1,5 +1,5 @@
 use Rattle.std.proofs.Common.{sym, ap, ◌∙◌}
-use Rattle.gc_circuit.specs.Text.{tokens}
+use Rattle.gc_netlist.specs.Text.{tokens}
 use Rattle.gc_circuit.proofs.TokenLemmas.{blank_passed}
 use Rattle.gc_cli.specs.JobList.{has_words}
 use Rattle.gc_cli.proofs.JobListLemmas.{some_word, no_word}

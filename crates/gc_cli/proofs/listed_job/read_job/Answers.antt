@@ -1,6 +1,6 @@
 use Rattle.std.proofs.Common.{◌≡◌, ◌∷◌, map, sym, ap, ◌∙◌}
 use Rattle.std.proofs.lemmas.Result.{err_from_is_err_and}
-use Rattle.gc_circuit.specs.Text.{tokens}
+use Rattle.gc_netlist.specs.Text.{tokens}
 use Rattle.gc_command.proofs.EvalLemmas.{labels-fault-before}
 use Rattle.gc_cli.proofs.JobsLemmas.{name-files, labels-named}
 use Rattle.gc_cli.proofs.listed_job.read_job.Goals as goal

@@ -1,7 +1,7 @@
 use Rattle.std.proofs.Common.{◌≡◌, ◌+◌, ◌<◌, [], ◌∷◌, inr, drop, map, length, sym, ◌∙◌, subst, arith, append_assoc}
 use Rattle.std.proofs.lemmas.List.{append-nil, drop_all, length-map}
 use Rattle.std.proofs.lemmas.Result.{err_from_is_err_and}
-use Rattle.gc_circuit.specs.Text.{tokens}
+use Rattle.gc_netlist.specs.Text.{tokens}
 use Rattle.gc_cli.specs.Jobs.{NameJobs, FirstBadJob}
 use Rattle.gc_cli.proofs.JobListLemmas.{get_or-shown}
 use Rattle.gc_cli.proofs.JobsLemmas.{job-before, named-before, line-next, lines-fault}

@@ -1,5 +1,5 @@
 use Rattle.std.proofs.Common.{◌≡◌, ℕ, ◌++◌, List, drop, map}
-use Rattle.gc_circuit.specs.Text.{tokens}
+use Rattle.gc_netlist.specs.Text.{tokens}
 use Rattle.gc_job.specs.Job.{JobParts}
 use Rattle.gc_command.specs.declared.fault.Fault.{Fault}
 use Rattle.gc_cli.specs.Jobs.{NameJobs, FirstBadJob}

@@ -1,7 +1,7 @@
 use Rattle.std.proofs.Common.{◌≡◌, ◌==◌, map, ap, ◌∙◌, subst}
 use Rattle.std.specs.List.{slice_split}
 use Rattle.std.proofs.lemmas.Result.{IfOk-weaker, IfErr-weaker}
-use Rattle.gc_circuit.specs.Text.{tokens}
+use Rattle.gc_netlist.specs.Text.{tokens}
 use Rattle.gc_cli.specs.JobList.{listed}
 use Rattle.gc_cli.specs.Jobs.{NameJobs, HasLinesFault}
 use Rattle.gc_cli.proofs.JobListLemmas.{all_have_words}

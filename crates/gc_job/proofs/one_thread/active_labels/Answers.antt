@@ -1,8 +1,8 @@
 use Rattle.std.specs.List.{range_with_len}
 use Rattle.std.proofs.Common.{◌≡◌, ◌<◌, ◌+◌, suc, Some, None, inl, inr, length, map, slice_index, sym, ◌∙◌, ap, arith, refl}
-use Rattle.gc_circuit.proofs.SolutionLemmas.{EachRead-map, IsSetBefore-more, solution_solves}
-use Rattle.gc_circuit.proofs.Tables.{table_step, length-table, EachRead-below, after-zero}
-use Rattle.gc_circuit.specs.Solution.{solution, values_after}
+use Rattle.gc_netlist.proofs.SolutionLemmas.{EachRead-map, IsSetBefore-more, solution_solves}
+use Rattle.gc_netlist.proofs.Tables.{table_step, length-table, EachRead-below, after-zero}
+use Rattle.gc_netlist.specs.Solution.{solution, values_after}
 use Rattle.gc_half.specs.Hash.{hash}
 use Rattle.gc_half.specs.Evaluation.{active_of, active_rule, row_at}
 use Rattle.gc_half.proofs.CircuitLaw.{active_local}

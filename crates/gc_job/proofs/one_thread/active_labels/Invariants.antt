@@ -1,7 +1,7 @@
 use Rattle.std.proofs.Common.{◌≡◌, ℕ, Some, map}
 use Rattle.std.specs.List.{range_with_len}
-use Rattle.gc_circuit.specs.Circuit.{and_number, IsSetBefore}
-use Rattle.gc_circuit.specs.Solution.{values_after}
+use Rattle.gc_netlist.specs.Circuit.{and_number, IsSetBefore}
+use Rattle.gc_netlist.specs.Solution.{values_after}
 use Rattle.gc_half.specs.Hash.{hash}
 use Rattle.gc_half.specs.Evaluation.{active_rule}
 use Rattle.gc_job.specs.Evaluate.{labels_of}

@@ -1,7 +1,7 @@
 use Rattle.std.proofs.Common.{ℕ, List, Bool, Result, Ok, Err, IfOk, ◌≡◌, length, ap, ◌∙◌}
-use Rattle.gc_circuit.specs.Circuit.{Netlist}
-use Rattle.gc_circuit.specs.Solution.{on_outputs}
-use Rattle.gc_circuit.proofs.Tables.{length-table}
+use Rattle.gc_netlist.specs.Circuit.{Netlist}
+use Rattle.gc_netlist.specs.Solution.{on_outputs}
+use Rattle.gc_netlist.proofs.Tables.{length-table}
 use Rattle.gc_half.specs.declared.garbling.RowPair.{RowPair}
 use Rattle.gc_half.specs.Evaluation.{decode}
 use Rattle.gc_job.specs.Evaluate.{AreActive, IsDecoded}

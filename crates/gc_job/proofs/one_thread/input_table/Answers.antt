@@ -1,6 +1,6 @@
 use Rattle.std.proofs.Common.{◌∙◌, arith}
 use Rattle.std.proofs.lemmas.Grind.{common_steps}
-use Rattle.gc_circuit.proofs.Tables.{table_padded}
+use Rattle.gc_netlist.proofs.Tables.{table_padded}
 use Rattle.gc_job.proofs.one_thread.input_table.Goals as goal
 
 pub returns : goal.returns

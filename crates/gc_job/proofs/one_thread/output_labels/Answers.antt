@@ -1,5 +1,5 @@
 use Rattle.std.proofs.Common.{◌≡◌, ◌∙◌, ◌-◌, drop, refl}
-use Rattle.gc_circuit.specs.Circuit.{output_wires}
+use Rattle.gc_netlist.specs.Circuit.{output_wires}
 use Rattle.gc_job.proofs.OutputLemmas.{outputs-table}
 use Rattle.gc_job.proofs.one_thread.output_labels.Goals as goal
 

@@ -1,6 +1,6 @@
 use Rattle.std.proofs.Common.{◌≡◌, List, ap, ◌∙◌, sym, arith, get_or}
 use Rattle.std.proofs.lemmas.Option.{slice_get-get_or}
-use Rattle.gc_circuit.specs.Circuit.{Netlist}
+use Rattle.gc_netlist.specs.Circuit.{Netlist}
 use Rattle.gc_rounds.specs.declared.view.Key.{Key}
 use Rattle.gc_job.specs.Job.{JobParts}
 use Rattle.gc_bank.proofs.seat.Banks.open.Goals as goal

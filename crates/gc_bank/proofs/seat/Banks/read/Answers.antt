@@ -1,5 +1,5 @@
 use Rattle.std.proofs.Common.{◌≡◌, arith, ap, sym, ◌∙◌, subst}
-use Rattle.gc_circuit.specs.Circuit.{Netlist, IsSetBy, input_wires}
+use Rattle.gc_netlist.specs.Circuit.{Netlist, IsSetBy, input_wires}
 use Rattle.gc_board.proofs.Sums.{only_other}
 use Rattle.gc_round_board.specs.Pairs.{pairs}
 use Rattle.gc_round_board.specs.Board.{at, stamp}

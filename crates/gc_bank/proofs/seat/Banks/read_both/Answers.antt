@@ -1,5 +1,5 @@
 use Rattle.std.proofs.Common.{◌≡◌, Some, inr, slice_get, sym, ap, ◌∙◌}
-use Rattle.gc_circuit.specs.Circuit.{Netlist}
+use Rattle.gc_netlist.specs.Circuit.{Netlist}
 use Rattle.gc_eval.proofs.BoardLabels.{active_step}
 use Rattle.gc_bank.proofs.RunLemmas.{lacks_then, both_err, both_ok, alone_later}
 use Rattle.gc_bank.proofs.seat.Banks.read_both.Goals as goal

@@ -1,9 +1,9 @@
 use Rattle.std.proofs.Common.{◌≡◌, ◌-◌, ◌++◌, ℕ, suc, List, drop, take, sym, ap, ◌∙◌, arith}
 use Rattle.std.proofs.lemmas.Grind.{common_steps}
 use Rattle.std.proofs.lemmas.List.{drop_all}
-use Rattle.gc_circuit.specs.declared.circuit.Gate.{Gate}
-use Rattle.gc_circuit.specs.Spelling.{words_of_gate}
-use Rattle.gc_circuit.specs.Canon.{line}
+use Rattle.gc_netlist.specs.declared.gate.Gate.{Gate}
+use Rattle.gc_netlist.specs.Spelling.{words_of_gate}
+use Rattle.gc_netlist.specs.Canon.{line}
 use Rattle.gc_circuit.proofs.CanonLines.{lines_of_gates, lines_none, lines_from}
 use Rattle.gc_circuit.proofs.circuit.Circuit.gate_lines.Goals as goal
 

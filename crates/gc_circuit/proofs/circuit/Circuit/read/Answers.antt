@@ -1,4 +1,4 @@
-use Rattle.gc_circuit.proofs.ReadingLaws.{read_exactly, read_fault}
+use Rattle.gc_netlist.proofs.ReadingLaws.{read_exactly, read_fault}
 use Rattle.gc_circuit.proofs.circuit.Circuit.read.Goals as goal
 
 pub returns-clause-exactly : goal.returns-clause-exactly

@@ -1,11 +1,11 @@
 use Rattle.std.proofs.Common.{length, Ok, sym, ap, ◌∙◌, arith}
 use Rattle.std.proofs.lemmas.Result.{err_from_is_err_and}
-use Rattle.gc_circuit.specs.Circuit.{Netlist, netlist_of}
-use Rattle.gc_circuit.specs.Text.{tokens}
+use Rattle.gc_netlist.specs.Circuit.{Netlist, netlist_of}
+use Rattle.gc_netlist.specs.Text.{tokens}
 use Rattle.gc_circuit.proofs.CheckLemmas.{marks_len}
 use Rattle.gc_circuit.proofs.ReadLemmas.{tell, outputs_refused, end_refused, read_whole, outputs_found}
-use Rattle.gc_circuit.proofs.LawfulLemmas.{circuit_of-lawful}
-use Rattle.gc_circuit.proofs.SpellingLemmas.{circuit_of-spelled}
+use Rattle.gc_netlist.proofs.LawfulLemmas.{circuit_of-lawful}
+use Rattle.gc_netlist.proofs.SpellingLemmas.{circuit_of-spelled}
 use Rattle.gc_circuit.proofs.circuit.Circuit.read_in_order.Goals as goal
 
 pub check_outputs-requires : goal.check_outputs-requires

@@ -1,7 +1,7 @@
 use Rattle.std.proofs.Common.{◌≡◌, ◌++◌, ◌≤◌, List, [], ◌∷◌, ℕ, length, subst, arith, ◌∙◌, ap}
-use Rattle.gc_circuit.specs.Circuit.{Netlist}
-use Rattle.gc_circuit.specs.Spelling.{Number}
-use Rattle.gc_circuit.specs.Canon.{line}
+use Rattle.gc_netlist.specs.Circuit.{Netlist}
+use Rattle.gc_netlist.specs.Spelling.{Number}
+use Rattle.gc_netlist.specs.Canon.{line}
 use Rattle.gc_circuit.proofs.CanonLines.{text_before, text_before-first, text_before-next, text_before-end}
 use Rattle.gc_circuit.proofs.circuit.Circuit.write_canonical_text.Goals as goal
 

@@ -1,5 +1,5 @@
 use Rattle.std.proofs.Common.{sym, ap, ◌∙◌}
-use Rattle.gc_circuit.specs.Reading.{check_end}
+use Rattle.gc_netlist.specs.Reading.{check_end}
 use Rattle.gc_circuit.proofs.TokenLemmas.{none_left, some_left, some_bytes}
 use Rattle.gc_circuit.proofs.tokens.Tokens.end.Goals as goal
 

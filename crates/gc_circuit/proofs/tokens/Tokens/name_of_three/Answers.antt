@@ -1,6 +1,6 @@
 use Rattle.std.proofs.Common.{◌∷◌, take, drop, refl, sym, ap, ◌∙◌}
-use Rattle.gc_circuit.specs.Text.{tokens}
-use Rattle.gc_circuit.specs.Reading.{token_at}
+use Rattle.gc_netlist.specs.Text.{tokens}
+use Rattle.gc_netlist.specs.Reading.{token_at}
 use Rattle.gc_circuit.proofs.ShortLemmas.{rest_whole, name_taken}
 use Rattle.gc_circuit.proofs.tokens.Tokens.name_of_three.Goals as goal
 

@@ -1,5 +1,5 @@
 use Rattle.std.proofs.Common.{sym, ap, ◌∙◌}
-use Rattle.gc_circuit.specs.Reading.{token_at}
+use Rattle.gc_netlist.specs.Reading.{token_at}
 use Rattle.gc_circuit.proofs.TokenLemmas.{none_left, one_left, some_bytes}
 use Rattle.gc_circuit.proofs.tokens.Tokens.token.Goals as goal
 

@@ -1,5 +1,5 @@
 use Rattle.std.proofs.Common.{[], ◌∷◌, sym, ap, ◌∙◌}
-use Rattle.gc_circuit.specs.Text.{tokens}
+use Rattle.gc_netlist.specs.Text.{tokens}
 use Rattle.gc_circuit.proofs.ShortLemmas.{rest_whole, two_taken}
 use Rattle.gc_circuit.proofs.tokens.Tokens.two_and_one.Goals as goal
 

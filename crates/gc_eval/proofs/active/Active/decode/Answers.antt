@@ -1,6 +1,6 @@
 use Rattle.std.proofs.Common.{◌≡◌, ◌∙◌, Vec, Ok, Err, MatchOption, subst}
 use Rattle.std.proofs.lemmas.Result.{err_from_is_err_and}
-use Rattle.gc_circuit.specs.Solution.{on_outputs}
+use Rattle.gc_netlist.specs.Solution.{on_outputs}
 use Rattle.gc_job.specs.ActiveLabels.{active}
 use Rattle.gc_eval.specs.Done.{HasOutputs, LacksOutput}
 use Rattle.gc_eval.proofs.ClosedLemmas.{evaluated_outputs}

@@ -1,6 +1,6 @@
 use Rattle.std.proofs.Common.{◌≡◌, ◌*◌, ◌<◌, inl, inr, ⊎_elim, arith, sym, ap, ◌∙◌, subst}
 use Rattle.std.specs.Slots.{slots_items}
-use Rattle.gc_circuit.specs.Circuit.{IsSetBy, Netlist, input_wires}
+use Rattle.gc_netlist.specs.Circuit.{IsSetBy, Netlist, input_wires}
 use Rattle.gc_board.specs.Board.{starting}
 use Rattle.gc_eval.proofs.BoardLabels.{got_input, label_in, not_done, word_is}
 use Rattle.gc_job.proofs.WiringLemmas.{set_within}

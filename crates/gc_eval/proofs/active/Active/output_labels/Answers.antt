@@ -3,7 +3,7 @@ use mathlib.Core.Logic.{dite}
 use native.Mathlib.Decide.{ℕ_discrete}
 use Rattle.std.specs.List.{range_with_len}
 use Rattle.std.proofs.lemmas.List.FromFn.{map-range_with_len_more}
-use Rattle.gc_circuit.specs.Circuit.{Netlist, output_wires}
+use Rattle.gc_netlist.specs.Circuit.{Netlist, output_wires}
 use Rattle.gc_job.specs.ActiveLabels.{active}
 use Rattle.gc_eval.specs.Done.{HasLabel}
 use Rattle.gc_eval.proofs.active.Active.output_labels.Goals as goal

@@ -1,5 +1,5 @@
 use Rattle.std.proofs.Common.{◌≡◌, slice_index, arith, refl, sym, ap, ◌∙◌, subst}
-use Rattle.gc_circuit.specs.Circuit.{IsSetBy, Netlist, IsLawful, input_wires}
+use Rattle.gc_netlist.specs.Circuit.{IsSetBy, Netlist, IsLawful, input_wires}
 use Rattle.gc_board.specs.Counts.{times}
 use Rattle.gc_board.specs.declared.rule.View.{View}
 use Rattle.gc_board.proofs.Sums.{only_other}

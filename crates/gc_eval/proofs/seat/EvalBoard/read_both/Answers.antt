@@ -1,5 +1,5 @@
 use Rattle.std.proofs.Common.{◌≡◌, Some, inr, slice_get, sym, ap, ◌∙◌, subst}
-use Rattle.gc_circuit.specs.Circuit.{Netlist, IsLawful}
+use Rattle.gc_netlist.specs.Circuit.{Netlist, IsLawful}
 use Rattle.gc_job.specs.Job.{JobParts}
 use Rattle.gc_eval.specs.Seats.{job_on}
 use Rattle.gc_eval.proofs.BoardLabels.{active_step}

@@ -1,5 +1,5 @@
 use Rattle.std.proofs.Common.{◌≡◌, ◌∙◌, length, slice_get, Some, sym, ap, arith}
-use Rattle.gc_circuit.specs.Circuit.{Netlist}
+use Rattle.gc_netlist.specs.Circuit.{Netlist}
 use Rattle.gc_job.proofs.AndNumberLemmas.{row_exists}
 use Rattle.gc_job.proofs.job.Job.active_at.Goals as goal
 

@@ -1,5 +1,5 @@
 use Rattle.std.proofs.Common.{◌≡◌, suc, ◌+◌, sym, ap, ◌∙◌, arith}
-use Rattle.gc_circuit.specs.Circuit.{and_number}
+use Rattle.gc_netlist.specs.Circuit.{and_number}
 use Rattle.gc_half.proofs.AndNumbers.{and_number-and, and_number-other}
 use Rattle.gc_job.proofs.job.Job.and_number.Goals as goal
 use Rattle.gc_job.proofs.job.Job.and_number.Goals.{then-is_and, else-is_and}

@@ -1,5 +1,5 @@
 use Rattle.std.proofs.Common.{◌<◌, length, arith, sym, subst}
-use Rattle.gc_circuit.specs.Circuit.{Netlist, IsSetBy}
+use Rattle.gc_netlist.specs.Circuit.{Netlist, IsSetBy}
 use Rattle.gc_job.proofs.WiringLemmas.{not_set_below_more, set_within}
 use Rattle.gc_job.proofs.job.Job.setter.Goals as goal
 

@@ -1,6 +1,6 @@
 use Rattle.std.proofs.Common.{◌≡◌, length, get_or, arith, sym, ap, ◌∙◌}
 use Rattle.std.proofs.lemmas.List.FromFn.{length-map-range_with_len, get_or-map-range_with_len}
-use Rattle.gc_circuit.specs.Circuit.{Netlist, and_number}
+use Rattle.gc_netlist.specs.Circuit.{Netlist, and_number}
 use Rattle.gc_job.proofs.wiring.Wiring.and_number.Goals as goal
 
 pub index-requires : goal.index-requires

@@ -1,6 +1,6 @@
 use Rattle.std.proofs.Common.{◌<◌, length, arith, sym, ap, ◌∙◌, subst}
 use Rattle.std.proofs.lemmas.List.{get_or_default}
-use Rattle.gc_circuit.specs.Circuit.{Netlist, IsSetBy}
+use Rattle.gc_netlist.specs.Circuit.{Netlist, IsSetBy}
 use Rattle.gc_job.proofs.WiringLemmas.{set_within}
 use Rattle.gc_job.proofs.wiring.Wiring.setter.Goals as goal
 

@@ -1,5 +1,5 @@
 use Rattle.std.proofs.Common.{length, replicate, ap, ◌∙◌, subst, arith}
-use Rattle.gc_circuit.specs.Circuit.{Netlist, IsLawful}
+use Rattle.gc_netlist.specs.Circuit.{Netlist, IsLawful}
 use Rattle.gc_half.specs.declared.garbling.RowPair.{RowPair}
 use Rattle.gc_queue.specs.declared.mark.Mark.TheVariants as mark
 use Rattle.gc_store.proofs.OpenLemmas.{opening_count, opening_positive, counted_as, opened_kept_as, opened_content_as}

@@ -1,7 +1,7 @@
 use Rattle.std.proofs.Common.{ℕ, List, length, slice_index, ap, ◌∙◌, refl, arith}
 use Rattle.std.proofs.lemmas.Option.{slice_get_within}
 use Rattle.std.proofs.lemmas.List.FromFn.{length-map-range_with_len}
-use Rattle.gc_circuit.specs.Circuit.{and_number}
+use Rattle.gc_netlist.specs.Circuit.{and_number}
 use Rattle.gc_half.specs.OneGate.{first_read, second_read}
 use Rattle.gc_store.proofs.StoreLemmas.{reads_within, own_task}
 use Rattle.gc_store.proofs.progress.Progress.task.Goals as goal

@@ -1,0 +1,98 @@
+-- Values that meet a local rule at each gate agree on the wires that are set, and there are such values.
+use Rattle.std.proofs.Common.{◌≡◌, ◌≢◌, ℕ, zero, suc, ◌<◌, ◌≤◌, ◌⊎◌, inl, inr, length, slice_get, Some, None, Option, refl, sym, ap, ◌∙◌, subst, arith}
+use Rattle.std.proofs.lemmas.Bool.Decides.{nat_tests}
+use Rattle.std.proofs.lemmas.Option.{slice_get_within}
+use Rattle.gc_netlist.specs.declared.gate.Operation.{Operation}
+use Rattle.gc_netlist.specs.declared.gate.Operation.TheVariants.{Xor, And, Inv, Eqw, Eq}
+use Rattle.gc_netlist.specs.declared.gate.Gate.{Gate}
+use Rattle.gc_netlist.specs.Circuit.{Netlist, EachRead, IsSetBefore, IsSet, IsLawful}
+use Rattle.gc_netlist.specs.Solution.{Solves, IsLocal, put, put_gate, values_after}
+
+-- what is so of each wire, under P
+pub EachRead-map : (P Q : ℕ → Type 0) (op : Operation) → ((w : ℕ) → P w → Q w) → EachRead P op → EachRead Q op
+EachRead-map P Q (Xor a b) f h = (f a h.0, f b h.1)
+EachRead-map P Q (And a b) f h = (f a h.0, f b h.1)
+EachRead-map P Q (Inv a) f h = f a h
+EachRead-map P Q (Eqw a) f h = f a h
+EachRead-map P Q (Eq v) f h = tt
+
+pub IsSetBefore-more : (c : Netlist) (m n w : ℕ) → m ≤ n → IsSetBefore c m w → IsSetBefore c n w
+IsSetBefore-more c m n w h (inl input) = inl input
+IsSetBefore-more c m n w h (inr (i, below, set)) = inr (i, omega arith, set)
+
+module _ {A : Type 0} (rule : (ℕ → A) → ℕ → Gate → A) (local : IsLocal rule) (c : Netlist)
+    (lawful : IsLawful c) where
+  agree_before : (given u v : ℕ → A) → Solves rule c given u → Solves rule c given v → (n w : ℕ)
+      → IsSetBefore c n w → u w ≡ v w
+  agree_before given u v p q zero w (inl input) = p.inputs w input ∙ sym (q.inputs w input)
+  agree_before given u v p q zero w (inr (i, below, set)) = absurd (omega arith)
+  agree_before given u v p q (suc n) w (inl input) = p.inputs w input ∙ sym (q.inputs w input)
+  agree_before given u v p q (suc n) w (inr (i, below, set)) =
+      ap u (sym set.wire) ∙ p.gates i set.gate set.at
+      ∙ local u v i set.gate (EachRead-map (IsSetBefore c i) (λ x. u x ≡ v x) set.gate.operation
+      (λ x h. agree_before given u v p q n x (IsSetBefore-more c i n x (omega arith) h))
+      (lawful.reads i set.gate set.at))
+      ∙ sym (q.gates i set.gate set.at) ∙ ap v set.wire
+
+  -- there is one solution on the wires that are set
+  pub agree : (given u v : ℕ → A) → Solves rule c given u → Solves rule c given v → (w : ℕ)
+      → IsSet c w → u w ≡ v w
+  agree given u v p q w h = agree_before given u v p q (length c.gates) w h
+
+put_same : {A : Type 0} (v : ℕ → A) (w : ℕ) (x : A) → put v w x w ≡ x
+put_same v w x = grind (arith, nat_tests)
+
+put_other : {A : Type 0} (v : ℕ → A) (w : ℕ) (x : A) (u : ℕ) → u ≢ w → put v w x u ≡ v u
+put_other v w x u h = grind (arith, nat_tests)
+
+cases_le : (m n : ℕ) → m ≤ suc n → (m ≡ suc n) ⊎ (m ≤ n)
+cases_le m n h = grind arith
+
+module _ {A : Type 0} (rule : (ℕ → A) → ℕ → Gate → A) (local : IsLocal rule) (c : Netlist)
+    (lawful : IsLawful c) (given : ℕ → A) where
+  put_gate-keeps : (n w : ℕ) (v : ℕ → A) (o : Option Gate) → slice_get c.gates n ≡ o
+      → IsSetBefore c n w → put_gate rule v n o w ≡ v w
+  put_gate-keeps n w v None at set = refl
+  put_gate-keeps n w v (Some g) at set =
+      put_other v g.set (rule v n g) w
+      (λ same. lawful.sets_once n g at (let P : ℕ → Type 0 = IsSetBefore c n in subst P same set))
+
+  -- a wire that is set keeps its value
+  pub after-keeps : (m n w : ℕ) → m ≤ n → IsSetBefore c m w
+      → values_after rule c given n w ≡ values_after rule c given m w
+  unfolding values_after
+  after-keeps m zero w below set = let e : zero ≡ m = omega arith in ap (λ k. values_after rule c given k w) e
+  after-keeps m (suc n) w below set =
+      elim (cases_le m n below) [
+        | inl e ↦ ap (λ k. values_after rule c given k w) (sym e)
+        | inr h ↦ put_gate-keeps n w (values_after rule c given n) (slice_get c.gates n) refl
+            (IsSetBefore-more c m n w h set) ∙ after-keeps m n w h set
+      ]
+
+  after_at : (i : ℕ) (g : Gate) → slice_get c.gates i ≡ Some g
+      → values_after rule c given (suc i) g.set ≡ rule (values_after rule c given i) i g
+  unfolding values_after
+  after_at i g at =
+      ap (λ o. put_gate rule (values_after rule c given i) i o g.set) at
+      ∙ put_same (values_after rule c given i) g.set (rule (values_after rule c given i) i g)
+
+  after_start : (w : ℕ) → values_after rule c given zero w ≡ given w
+  unfolding values_after
+  after_start w = refl
+
+  -- what is computed gate by gate meets the rule at all gates at once
+  pub solution_solves : Solves rule c given (values_after rule c given (length c.gates))
+  solution_solves = record {
+    inputs = λ w h. after-keeps zero (length c.gates) w (omega arith) (inl h) ∙ after_start w;
+    gates = λ i g at.
+        let n : ℕ = length c.gates in
+        let within : i < length c.gates = slice_get_within c.gates i g at in
+        after-keeps (suc i) (length c.gates) g.set (omega arith)
+        (inr (i, omega arith, record { gate = g; at = at; wire = refl }))
+        ∙ after_at i g at
+        ∙ local (values_after rule c given i) (values_after rule c given (length c.gates)) i g
+        (EachRead-map (IsSetBefore c i)
+        (λ w. values_after rule c given i w ≡ values_after rule c given (length c.gates) w)
+        g.operation
+        (λ w set. sym (after-keeps i (length c.gates) w (omega arith) set)) (lawful.reads i g at));
+  }

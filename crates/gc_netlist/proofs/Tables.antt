@@ -1,0 +1,129 @@
+-- Tables of values on the wires, as lists.
+use Rattle.std.proofs.Common.{◌≡◌, ℕ, zero, suc, ◌+◌, ◌-◌, ◌<◌, ◌≤◌, inl, inr, List, [], ◌∷◌, length, length-set, map, set, drop, get_or, slice_get, Some, refl, sym, ap, ◌∙◌, arith, replicate, ◌++◌}
+use Rattle.std.proofs.lemmas.Bool.Decides.{nat_tests}
+use Rattle.std.proofs.lemmas.Bool.{cases_eq}
+use Rattle.std.proofs.lemmas.List.{get_or-set_same, get_or-set_other}
+use Rattle.std.proofs.lemmas.List.FromFn.{length-map-range_with_len, get_or-map-range_with_len, fill_by_all}
+use Rattle.std.specs.List.{range_with_len}
+use Rattle.std.proofs.lemmas.Grind.{common_steps}
+use Rattle.gc_netlist.specs.declared.gate.Gate.{Gate}
+use Rattle.gc_netlist.specs.Circuit.{Netlist, EachRead, IsSetBefore, IsLawful}
+use Rattle.gc_netlist.proofs.SolutionLemmas.{EachRead-map}
+use Rattle.gc_netlist.specs.Solution.{IsLocal, put, put_gate, values_after}
+
+-- what a table has at a place
+pub read-table : {A : Type 0} (f : ℕ → A) (n k : ℕ) (d : A) → k < n →
+    get_or (map f (range_with_len 0 n)) k d ≡ f k
+read-table f n k d h = get_or-map-range_with_len f 0 n k k d h (omega arith)
+
+-- a table with one value changed
+pub set-table : {A : Type 0} (f : ℕ → A) (n s : ℕ) (x : A) → s < n →
+    set (map f (range_with_len 0 n)) s x ≡ map (put f s x) (range_with_len 0 n)
+set-table {A = A} f n s x h =
+    fill_by_all (put f s x) (set (map f (range_with_len 0 n)) s x) n x
+    (length-set (map f (range_with_len 0 n)) s x ∙ length-map-range_with_len f 0 n) at_each
+  where
+    at_each : (k : ℕ) → k < n → get_or (set (map f (range_with_len 0 n)) s x) k x ≡ put f s x k
+    at_each k below = elim (cases_eq k s) [
+      | inl e ↦
+          let inside : s < length (map f (range_with_len 0 n)) = rw (length-map-range_with_len f 0 n) h in
+          ap (λ j. get_or (set (map f (range_with_len 0 n)) s x) j x) e
+          ∙ get_or-set_same (map f (range_with_len 0 n)) s x x inside ∙ grind (arith, nat_tests)
+      | inr ne ↦ get_or-set_other (map f (range_with_len 0 n)) s k x x ne ∙ read-table f n k x below
+          ∙ grind (arith, nat_tests)
+    ]
+
+-- a wire that is set is a wire
+pub IsSetBefore-below : (c : Netlist) → IsLawful c → (n w : ℕ) → IsSetBefore c n w → w < c.wires
+IsSetBefore-below c lawful n w (inl input) = let h = lawful.inputs_fit in omega arith
+IsSetBefore-below c lawful n w (inr (i, below, by)) =
+    let h = lawful.sets i by.gate by.at in let e = by.wire in omega arith
+
+-- EachRead of what holds of each wire
+pub EachRead-below : (c : Netlist) → IsLawful c → (i : ℕ) (g : Gate) →
+    slice_get c.gates i ≡ Some g → EachRead (λ w. w < c.wires) g.operation
+EachRead-below c lawful i g at = EachRead-map (IsSetBefore c i) (λ w. w < c.wires) g.operation
+    (λ w h. IsSetBefore-below c lawful i w h) (lawful.reads i g at)
+
+module _ {A : Type 0} (rule : (ℕ → A) → ℕ → Gate → A) (c : Netlist) (given : ℕ → A) where
+  after-suc : (i : ℕ) (g : Gate) → slice_get c.gates i ≡ Some g →
+      values_after rule c given (suc i)
+      ≡ put (values_after rule c given i) g.set (rule (values_after rule c given i) i g)
+  unfolding values_after
+  after-suc i g at = ap (put_gate rule (values_after rule c given i) i) at
+
+  -- one more gate
+  pub table_more : (lawful : IsLawful c) (i : ℕ) (g : Gate) → slice_get c.gates i ≡ Some g →
+      set (map (values_after rule c given i) (range_with_len 0 c.wires)) g.set
+      (rule (values_after rule c given i) i g)
+      ≡ map (values_after rule c given (i + 1)) (range_with_len 0 c.wires)
+  table_more lawful i g at =
+      set-table (values_after rule c given i) c.wires g.set (rule (values_after rule c given i) i g)
+      (lawful.sets i g at)
+      ∙ ap (λ f. map f (range_with_len 0 c.wires)) (sym (after-suc i g at))
+      ∙ ap (λ k. map (values_after rule c given k) (range_with_len 0 c.wires)) (omega arith)
+
+  pub after-zero : values_after rule c given 0 ≡ given
+  unfolding values_after
+  after-zero = refl
+
+-- the end of a table
+pub drop-table : {A : Type 0} (f : ℕ → A) (k a n : ℕ) →
+    drop k (map f (range_with_len a n)) ≡ map f (range_with_len (a + k) (n - k))
+drop-table f zero a n =
+    ap (λ x. map f (range_with_len x n)) (let e : a ≡ a + 0 = omega arith in e)
+    ∙ ap (λ x. map f (range_with_len (a + 0) x)) (let e : n ≡ n - 0 = omega arith in e)
+drop-table f (suc k) a zero =
+    ap (λ x. map f (range_with_len (a + suc k) x)) (let e : 0 ≡ 0 - suc k = omega arith in e)
+drop-table f (suc k) a (suc n) =
+    drop-table f k (a + 1) n
+    ∙ ap (λ x. map f (range_with_len x (n - k))) (let e : a + 1 + k ≡ a + suc k = omega arith in e)
+    ∙ ap (λ x. map f (range_with_len (a + suc k) x)) (let e : n - k ≡ suc n - suc k = omega arith in e)
+
+pub table_end : {A : Type 0} (f : ℕ → A) (n m : ℕ) → m ≤ n →
+    drop (n - m) (map f (range_with_len 0 n)) ≡ map f (range_with_len (n - m) m)
+table_end f n m h =
+    drop-table f (n - m) 0 n
+    ∙ ap (λ x. map f (range_with_len x (n - (n - m)))) (let e : 0 + (n - m) ≡ n - m = omega arith in e)
+    ∙ ap (λ x. map f (range_with_len (n - m) x)) (let e : n - (n - m) ≡ m = omega arith in e)
+
+-- One more gate, computed from the table: the step of every one-pass evaluator. The default d is never read.
+pub table_step : {A : Type 0} (rule : (ℕ → A) → ℕ → Gate → A) → IsLocal rule → (c : Netlist) →
+    IsLawful c → (given : ℕ → A) →
+    (table : List A) (i : ℕ) (g : Gate) (d x : A) →
+    table ≡ map (values_after rule c given i) (range_with_len 0 c.wires) →
+    slice_get c.gates i ≡ Some g →
+    x ≡ rule (λ w. get_or table w d) i g →
+    set table g.set x ≡ map (values_after rule c given (i + 1)) (range_with_len 0 c.wires)
+table_step rule local c lawful given table i g d x is at value =
+    ap (λ l. set l g.set x) is
+    ∙ ap (set (map (values_after rule c given i) (range_with_len 0 c.wires)) g.set)
+    (value
+    ∙ local (λ w. get_or table w d) (values_after rule c given i) i g
+    (EachRead-map (λ w. w < c.wires) (λ w. get_or table w d ≡ values_after rule c given i w) g.operation
+    (λ w below. ap (λ l. get_or l w d) is
+    ∙ read-table (values_after rule c given i) c.wires w d below)
+    (EachRead-below c lawful i g at)))
+    ∙ table_more rule c given lawful i g at
+
+-- how long a table is
+pub length-table : {A : Type 0} (f : ℕ → A) (n : ℕ) (table : List A) →
+    table ≡ map f (range_with_len 0 n) → length table ≡ n
+length-table f n table is = ap length is ∙ length-map-range_with_len f 0 n
+
+-- a table in front, and one value in each place that is left
+pub table_padded : {A : Type 0} (xs : List A) (n : ℕ) (d : A) → length xs ≤ n →
+    xs ++ replicate (n - length xs) d ≡ map (λ w. get_or xs w d) (range_with_len 0 n)
+table_padded {A = A} xs n d fits =
+    fill_by_all (λ w. get_or xs w d) (xs ++ replicate (n - length xs) d) n d
+    (grind (arith, common_steps)) (λ k below. padded xs (n - length xs) k)
+  where
+    past : (k w : ℕ) → get_or (replicate k d) w d ≡ d
+    past zero w = refl
+    past (suc k) zero = refl
+    past (suc k) (suc w) = past k w
+
+    padded : (ys : List A) (k w : ℕ) → get_or (ys ++ replicate k d) w d ≡ get_or ys w d
+    padded [] k w = past k w
+    padded (y ∷ ys) k zero = refl
+    padded (y ∷ ys) k (suc w) = padded ys k w
