@@ -161,11 +161,11 @@ fn written_to_memory<A: Allocator>(
     }
 }
 
-/// A file of 9,718 bytes goes to a sink in three pieces, and the sink grows for each.
+/// A file of 35,418 bytes goes to a sink in three pieces and its trailer, and the sink grows for each piece.
 #[test]
 fn writing_to_memory(rt: HostRuntime) -> Result<(), Fail> {
     let alloc = rt.alloc();
-    let text = many_ands(alloc, 300)?;
+    let text = many_ands(alloc, 1100)?;
     let file = write(alloc, text.as_str(), Version::One, None)?.bytes;
     let circuit = Circuit::read(alloc, text.as_bytes())?;
     let garbling = garble_one_thread(alloc, &circuit, &Seed::from_bytes([0; 32]))?;
@@ -173,7 +173,7 @@ fn writing_to_memory(rt: HostRuntime) -> Result<(), Fail> {
         alloc,
         |heap| written_to_memory(heap, &circuit, &garbling, &file),
     );
-    assert_eq!(rt; (file.len(), refused), (9718, Ok(3)));
+    assert_eq!(rt; (file.len(), refused), (35418, Ok(3)));
     Ok(())
 }
 
