@@ -1,10 +1,11 @@
 #!/usr/bin/env python3
 """Times the commands of the program on a circuit, beside the sums of the parts of their work.
 
-  program.py PROGRAM CIRCUIT GATES read=NS digest=NS hashes=NS file_sha=NS
+  program.py PROGRAM BENCH CIRCUIT
 
-`hashes` are those of garbling, four for each AND gate and four at once; evaluating takes half of them. The peak memory
-of each command is told in bytes a gate, beyond the circuit's file.
+BENCH is gc_bench, which times the parts. Commands and parts run in turns, since the speed of a machine changes while it
+works, and the fastest run of each counts. The peak memory of each command is told in bytes a gate, beyond the circuit's
+file.
 """
 
 import os
@@ -14,13 +15,14 @@ import tempfile
 import time
 
 SEED = 64 * "0"
-REPEATS = 7
+REPEATS = 12
+PARTS = ["read", "digest", "lanes", "file_sha"]
 
 
 def run(words):
     """The nanoseconds and the peak memory in bytes of one run, and what it printed."""
     start = time.monotonic_ns()
-    child = subprocess.Popen(words, stdout=subprocess.PIPE)
+    child = subprocess.Popen(words, stdout=subprocess.PIPE, text=True)
     printed = child.stdout.read()
     _, status, usage = os.wait4(child.pid, 0)
     took = time.monotonic_ns() - start
@@ -35,35 +37,52 @@ def input_widths(circuit):
         return [int(width) for width in file.readline().split()[1:]]
 
 
-def main():
-    program, circuit, gates = sys.argv[1:4]
-    parts = {name: int(took) for name, took in (word.split("=") for word in sys.argv[4:])}
+def run_parts(bench, circuit):
+    """The number of gates, and the nanoseconds of each part in one run."""
+    _, _, printed = run([bench, circuit, "1", *PARTS])
+    told = {name: int(number) for name, number in map(str.split, printed.splitlines())}
+    return told["gates"], {name: told[name] for name in PARTS}
+
+
+def sums_of_parts(parts):
+    """What each command takes at the least. `lanes` are the hashes of garbling; evaluating takes half of them."""
     reading = parts["read"] + parts["digest"]
-    garbling = parts["hashes"] + parts["file_sha"]
-    evaluating = parts["hashes"] // 2 + parts["file_sha"]
+    garbling = parts["lanes"] + parts["file_sha"]
+    evaluating = parts["lanes"] // 2 + parts["file_sha"]
+    return {
+        "garble": reading + garbling,
+        "eval": reading + evaluating,
+        "run": reading + garbling + evaluating,
+    }
+
+
+def main():
+    program, bench, circuit = sys.argv[1:]
     values = ["x" + 2 * ((width + 7) // 8) * "0" for width in input_widths(circuit)]
+    parts, took, peaks = {}, {}, {}
     with tempfile.TemporaryDirectory() as folder:
         garbled = f"{folder}/garbled"
         labels = [f"{folder}/labels{index}" for index in range(len(values))]
         for index, value in enumerate(values):
             run([program, "deal", circuit, SEED, str(index), value, labels[index]])
-        commands = [
-            ("garble", [circuit, SEED, garbled], reading + garbling, 110),
-            ("eval", [circuit, garbled, *labels], reading + evaluating, 110),
-            ("run", [circuit, SEED, *values], reading + garbling + evaluating, 150),
-        ]
-        fastest = {name: None for name, _, _, _ in commands}
+        commands = {
+            "garble": [circuit, SEED, garbled],
+            "eval": [circuit, garbled, *labels],
+            "run": [circuit, SEED, *values],
+        }
         for _ in range(REPEATS):
-            for name, words, _, _ in commands:
-                took, peak, _ = run([program, name, *words])
-                best = fastest[name]
-                fastest[name] = (min(took, best[0]), min(peak, best[1])) if best else (took, peak)
+            gates, once = run_parts(bench, circuit)
+            parts = {name: min(once[name], parts.get(name, once[name])) for name in PARTS}
+            for name, words in commands.items():
+                nanoseconds, peak, _ = run([program, name, *words])
+                took[name] = min(nanoseconds, took.get(name, nanoseconds))
+                peaks[name] = min(peak, peaks.get(name, peak))
     beyond = os.path.getsize(circuit)
-    for name, _, sum_of_parts, most in commands:
-        took, peak = fastest[name]
+    most = {"garble": 110, "eval": 110, "run": 150}
+    for name, sum_of_parts in sums_of_parts(parts).items():
         print(
-            f"{name}: {took} ns, {took / sum_of_parts:.2f} times its parts (at most 1.2); peak memory beyond the"
-            f" circuit's file: {(peak - beyond) / int(gates):.0f} bytes a gate (at most {most})"
+            f"{name}: {took[name]} ns, {took[name] / sum_of_parts:.2f} times its parts (at most 1.2); peak memory beyond"
+            f" the circuit's file: {(peaks[name] - beyond) / gates:.0f} bytes a gate (at most {most[name]})"
         )
 
 

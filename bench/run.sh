@@ -76,5 +76,4 @@ workers "a million XOR gates" 0 independent
 
 # The program itself: its times beside the sums of its parts, and its peak memory beyond the circuit's file.
 "$top/halfgates" --help >/dev/null
-"$top/bench/program.py" "$top/halfgates" "$circuit" "$half_gates" \
-    read="$half_read" digest="$half_digest" hashes="$half_lanes" file_sha="$file_file_sha"
+"$top/bench/program.py" "$top/halfgates" "$bench" "$circuit"
