@@ -12,18 +12,18 @@ use Rattle.gc_label.specs.Seed.{offset_of}
 use Rattle.gc_half.specs.declared.garbling.RowPair.{RowPair}
 use Rattle.gc_half.specs.Canonical.{zero_label_of, input_zero}
 use Rattle.gc_half.proofs.CanonicalLemmas.{input_zero-input, input_zero-other, zero_label_of-input}
-use Rattle.gc_queue.specs.declared.mark.Mark.{Mark}
 use Rattle.gc_queue.specs.declared.mark.Mark.TheVariants as mark
 use Rattle.gc_queue.specs.Readers.{unknown_reads, IsLinked}
 use Rattle.gc_queue.specs.Opening.{is_below, countdown_from, opening_countdown}
 use Rattle.gc_store.specs.Content.{Free, Finished, Content, is_finished, has_rows, IsFinished, IsKnown, IsLawfulContent, opened}
 use Rattle.gc_store.specs.Kept.{Tables, state_at, states_of, content_of, IsKept}
+use Rattle.gc_store.specs.Beginning.{FirstTables, no_rows, AreCounted, Begins}
 use Rattle.gc_queue.proofs.ListLemmas.{count_by-replicate, slice_get-replicate, slice_get-table}
 use Rattle.gc_store.proofs.TableLemmas.{known_label}
 
 -- the tables that a store begins with, and these countdowns and links
-abbrev pub opened_tables : Netlist → List ℕ → RowPair → List ℕ → List ℕ → List ℕ → Tables
-opened_tables c seed no_rows countdowns firsts nexts = record {
+abbrev pub opened_tables : Netlist → List ℕ → List ℕ → List ℕ → List ℕ → Tables
+opened_tables c seed countdowns firsts nexts = record {
   marks = replicate (length c.gates) mark.Free;
   countdowns = countdowns;
   firsts = firsts;
@@ -47,9 +47,9 @@ opened_states c labels rows =
     (λ k below. get_or-replicate (length c.gates) k Free Free below
     ∙ ap (state_at c labels rows k) (sym (get_or-replicate (length c.gates) k mark.Free mark.Free below))))
 
-pub opened_content : (c : Netlist) (seed : List ℕ) (no_rows : RowPair) (countdowns firsts nexts : List ℕ)
-    → content_of c seed (opened_tables c seed no_rows countdowns firsts nexts) ≡ opened c seed
-opened_content c seed no_rows countdowns firsts nexts =
+pub opened_content : (c : Netlist) (seed countdowns firsts nexts : List ℕ)
+    → content_of c seed (opened_tables c seed countdowns firsts nexts) ≡ opened c seed
+opened_content c seed countdowns firsts nexts =
     ap (λ states. record (opened c seed) { states = states }) (opened_states c _ _)
 
 none_finished : (c : Netlist) (seed : List ℕ) (i : ℕ) → ¬ IsFinished (opened c seed) i
@@ -94,12 +94,6 @@ label_at_first c lawful seed w (inr past) =
     input_zero-other c seed w (λ input. let none : ⊥ = absurd (omega arith) in none)
     ∙ ap (λ b. if b then zero_label_of c seed w else 0) (sym (not_known (input_wires c) w past))
 
--- the countdowns once the opening has counted each gate down
-pub record AreCounted (c : Netlist) (countdowns : List ℕ) : Type 0 where
-  pub count : length countdowns ≡ length c.gates
-  pub counted : (i n : ℕ) → slice_get (map (opening_countdown c) (range_with_len 0 (length c.gates))) i ≡ Some (n + 1)
-      → slice_get countdowns i ≡ Some n
-
 counts_unknown : (c : Netlist) (countdowns : List ℕ) → AreCounted c countdowns → (i : ℕ) (g : Gate)
     → slice_get c.gates i ≡ Some g → get_or countdowns i 0 ≡ unknown_reads (is_below (input_wires c)) g.operation
 counts_unknown c countdowns are i g at =
@@ -136,12 +130,12 @@ counted_as c opening countdowns is count counted = record {
   counted = λ i n at. counted i n (ap (λ l. slice_get l i) is ∙ at);
 }
 
-module _ (c : Netlist) (lawful : IsLawful c) (seed : List ℕ) (no_rows : RowPair) (countdowns firsts nexts : List ℕ)
-    (are : AreCounted c countdowns) (links : IsLinked c firsts nexts) where
+module _ (c : Netlist) (lawful : IsLawful c) (seed firsts nexts : List ℕ) (links : IsLinked c firsts nexts) where
   -- a new store keeps what stores keep
-  opened_kept : (r : ℕ) → r ≡ offset_of seed → IsKept c seed r (opened_tables c seed no_rows countdowns firsts nexts)
-  opened_kept r offset =
-      let content = opened_content c seed no_rows countdowns firsts nexts in
+  opened_kept : (countdowns : List ℕ) → AreCounted c countdowns → (r : ℕ) → r ≡ offset_of seed
+      → IsKept c seed r (opened_tables c seed countdowns firsts nexts)
+  opened_kept countdowns are r offset =
+      let content = opened_content c seed countdowns firsts nexts in
       let P : Content → Type 0 = IsLawfulContent in
       let Q : (w : ℕ) → Content → Type 0 = λ w x. IsTrue (is_below (input_wires c) w) ↔ IsKnown x w in
       record {
@@ -164,43 +158,36 @@ module _ (c : Netlist) (lawful : IsLawful c) (seed : List ℕ) (no_rows : RowPai
             sym (ap (λ (x : Content). count_by is_finished x.states) content ∙ none);
       }
 
-  -- the tables of a new store, from lists
-  abbrev pub new_tables : List Mark → List ℕ → List ℕ → List RowPair → Tables
-  new_tables marks labels numbers rows = record {
-    marks = marks;
-    countdowns = countdowns;
+  -- the tables of a new store, from the first ones
+  abbrev pub new_tables : FirstTables → Tables
+  new_tables t = record {
+    marks = t.marks;
+    countdowns = t.countdowns;
     firsts = firsts;
     nexts = nexts;
-    zero_labels = labels;
-    and_numbers = numbers;
-    rows = rows;
+    zero_labels = t.zero_labels;
+    and_numbers = t.and_numbers;
+    rows = t.rows;
     finished = 0;
     finished_ands = 0;
   }
 
-  -- the lists are those that a store begins with
-  pub record AreOpened (marks : List Mark) (labels numbers : List ℕ) (rows : List RowPair) : Type 0 where
-    pub marks_are : marks ≡ replicate (length c.gates) mark.Free
-    pub labels_are : labels ≡ map (input_zero c seed) (range_with_len 0 c.wires)
-    pub numbers_are : numbers ≡ map (and_number c) (range_with_len 0 (length c.gates))
-    pub rows_are : rows ≡ replicate (and_count c) no_rows
-
-  module _ (marks : List Mark) (labels numbers : List ℕ) (rows : List RowPair)
-      (opened_as : AreOpened marks labels numbers rows) where
-    tables_are : new_tables marks labels numbers rows ≡ opened_tables c seed no_rows countdowns firsts nexts
+  module _ (t : FirstTables) (begins : Begins c seed t) where
+    tables_are : new_tables t ≡ opened_tables c seed t.countdowns firsts nexts
     tables_are =
-        ap (λ x. new_tables x labels numbers rows) opened_as.marks_are
-        ∙ ap (λ x. new_tables (replicate (length c.gates) mark.Free) x numbers rows) opened_as.labels_are
-        ∙ ap (λ x. record (opened_tables c seed no_rows countdowns firsts nexts) { and_numbers = x; rows = rows })
-        opened_as.numbers_are
-        ∙ ap (λ x. record (opened_tables c seed no_rows countdowns firsts nexts) { rows = x }) opened_as.rows_are
+        ap (λ x. record (new_tables t) { marks = x }) begins.marks
+        ∙ ap (λ x. record (opened_tables c seed t.countdowns firsts nexts)
+        { zero_labels = x; and_numbers = t.and_numbers; rows = t.rows }) begins.zero_labels
+        ∙ ap (λ x. record (opened_tables c seed t.countdowns firsts nexts) { and_numbers = x; rows = t.rows })
+        begins.and_numbers
+        ∙ ap (λ x. record (opened_tables c seed t.countdowns firsts nexts) { rows = x }) begins.rows
 
     -- a store opened with them keeps what stores keep,
-    pub opened_kept_as : (r : ℕ) → r ≡ offset_of seed → IsKept c seed r (new_tables marks labels numbers rows)
+    pub opened_kept_as : (r : ℕ) → r ≡ offset_of seed → IsKept c seed r (new_tables t)
     opened_kept_as r offset =
-        let P : Tables → Type 0 = λ x. IsKept c seed r x in subst P (sym tables_are) (opened_kept r offset)
+        let P : Tables → Type 0 = λ x. IsKept c seed r x in
+        subst P (sym tables_are) (opened_kept t.countdowns begins.countdowns r offset)
 
     -- and has the content of a new store
-    pub opened_content_as : content_of c seed (new_tables marks labels numbers rows) ≡ opened c seed
-    opened_content_as =
-        ap (content_of c seed) tables_are ∙ opened_content c seed no_rows countdowns firsts nexts
+    pub opened_content_as : content_of c seed (new_tables t) ≡ opened c seed
+    opened_content_as = ap (content_of c seed) tables_are ∙ opened_content c seed t.countdowns firsts nexts

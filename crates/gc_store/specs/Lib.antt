@@ -5,5 +5,6 @@ pub mod Batch
 pub mod Step
 pub mod Refusal
 pub mod Kept
+pub mod Beginning
 pub mod Fields
 pub mod Shared

@@ -6,6 +6,7 @@
 #![tactic(auto)]
 
 mod batch;
+mod beginning;
 mod progress;
 mod refusal;
 mod shared;

@@ -4,18 +4,23 @@ ghost use Rattle.std.specs.Prelude.{◌≡◌, ◌↔◌, ℕ, IsTrue, IfOk, IfE
 ghost use Rattle.gc_half.specs.Garbling.{IsGarbled};
 ghost use Rattle.gc_store.specs.Content.{is_claimed, is_finished, IsClaimed, AllFinished, IsLawfulContent, opened};
 ghost use Rattle.gc_store.specs.Step.{IsOwnTask, with_sealed, Claims, ClaimsSome, Finishes, Reopens};
+ghost use Rattle.gc_queue.specs.Readers.{IsLinked};
+ghost use Rattle.gc_store.specs.Beginning.{Begins};
 ghost use Rattle.gc_store.specs.Kept.{ReadsKnown};
 
 use crate::batch::Batch;
+use crate::beginning::Beginning;
 use crate::refusal::Refused;
 use crate::table::Table;
 use crate::task::{Sealed, Task};
 use gc_circuit::{Circuit, Memory};
-use gc_half::{Garbling, RowPair, and_numbers, input_zero_labels, labels_read};
+use gc_half::{Garbling, RowPair, labels_read};
 use gc_label::{Label, Offset, Seed, offset};
-use gc_queue::{Queue, Readers, opening_countdowns};
+use gc_queue::{Queue, Readers};
 use std::alloc::{Allocator, Global};
 use std::marker::Model;
+use std::thread;
+use std::thread::Threads;
 
 /// The gates of a circuit under a seed, and how far each is: free, claimed, or finished with its zero label
 /// and its rows. What it keeps of a finished gate is the half-gate garbling of that gate.
@@ -52,27 +57,65 @@ impl<A: Allocator> Model for Progress<A> {
     ghost invariant = { λ s. IsKept s.circuit s.seed s.offset (tables_of s) };
 }
 
+impl<A: Allocator> Progress<A> {
+    /// This circuit and seed with every gate free, from its tables.
+    fn of(circuit: Circuit<A>, seed: Seed, readers: Readers<A>, tables: Beginning<A>) -> Progress<A>
+        requires readers { IsLinked circuit readers.firsts readers.nexts }
+        requires tables { Begins circuit seed tables }
+        ensures { result ≡ opened circuit seed }
+    {
+        let Beginning {
+            queue,
+            and_numbers,
+            zero_labels,
+            rows,
+        } = tables;
+        Progress {
+            offset: offset(&seed),
+            circuit,
+            seed,
+            queue,
+            readers,
+            and_numbers,
+            zero_labels,
+            rows,
+            finished: 0,
+            finished_ands: 0,
+        }
+    }
+}
+
 impl<A: Allocator + Copy> Progress<A> {
     /// This circuit and seed with every gate free. It takes all the memory that is needed.
     pub(crate) fn open(alloc: A, circuit: Circuit<A>, seed: Seed) -> Result<Progress<A>, Memory>
         ensures { IfOk result (λ s. s ≡ opened circuit seed) }
     {
-        let no_rows = RowPair {
-            generator: Label::ZERO,
-            evaluator: Label::ZERO,
-        };
-        Ok(Progress {
-            queue: Queue::open(alloc, opening_countdowns(alloc, &circuit)?)?,
-            readers: Readers::of(alloc, &circuit)?,
-            and_numbers: and_numbers(alloc, &circuit)?,
-            zero_labels: input_zero_labels(alloc, &circuit, &seed)?,
-            rows: Table::open(alloc, no_rows, circuit.and_count())?,
-            offset: offset(&seed),
-            circuit,
-            seed,
-            finished: 0,
-            finished_ands: 0,
-        })
+        let tables = Beginning::of(alloc, &circuit, &seed)?;
+        let readers = Readers::of(alloc, &circuit)?;
+        Ok(Progress::of(circuit, seed, readers, tables))
+    }
+}
+
+impl<A: Allocator + Copy + Send + Sync> Progress<A> {
+    /// The same, by two threads where another can be started.
+    pub(crate) fn open_by_two<R: Threads>(
+        rt: &R,
+        alloc: A,
+        circuit: Circuit<A>,
+        seed: Seed,
+    ) -> Result<Progress<A>, Memory>
+        ensures { IfOk result (λ s. s ≡ opened circuit seed) }
+    {
+        let (readers, tables) = thread::join(
+            rt,
+            || -> Result<Readers<A>, Memory>
+                ensures { IfOk result (λ r. IsLinked circuit r.firsts r.nexts) }
+            { Readers::of(alloc, &circuit) },
+            || -> Result<Beginning<A>, Memory>
+                ensures { IfOk result (Begins circuit seed) }
+            { Beginning::of(alloc, &circuit, &seed) },
+        );
+        Ok(Progress::of(circuit, seed, readers?, tables?))
     }
 }
 

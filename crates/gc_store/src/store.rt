@@ -18,6 +18,7 @@ use gc_label::Seed;
 use std::alloc::{Allocator, Global};
 use std::marker::Model;
 use std::sync::ledger::{Blank, Book, Ledger, Share};
+use std::thread::Threads;
 
 /// The gates of a circuit under a seed, and how far each is: free, claimed, or finished with its zero label
 /// and its rows. What it keeps of a finished gate is the half-gate garbling of that gate.
@@ -49,6 +50,24 @@ impl<L: Ledger, A: Allocator> Model for Store<L, A> {
         × (s.rest.parts + s.tallies ≡ MAX_TALLIES) × (s.rest.amount ≡ 0) };
 }
 
+impl<L: Ledger, A: Allocator> Store<L, A> {
+    /// A store where every gate is free, which begins the ledger.
+    fn begin(ledger: Blank, progress: Progress<A>) -> Store<L, A>
+        requires name { ledger.name ≡ L.name }
+        requires parts { (ledger.parts ≡ L.parts) × (ledger.parts ≡ MAX_TALLIES) }
+        requires none { count_by is_finished progress.states ≡ 0 }
+        ensures { (result.content ≡ progress) × (result.tallies ≡ 0) }
+    {
+        let (book, rest) = ledger.open::<L>();
+        Store {
+            progress,
+            tallies: 0,
+            book,
+            rest,
+        }
+    }
+}
+
 impl<L: Ledger, A: Allocator + Copy> Store<L, A> {
     /// A store of this circuit and seed with every gate free, which begins the ledger. It takes all the memory that
     /// the store needs.
@@ -63,14 +82,26 @@ impl<L: Ledger, A: Allocator + Copy> Store<L, A> {
         ensures content { IfOk result (λ s. s.content ≡ opened circuit seed) }
         ensures tallies { IfOk result (λ s. s.tallies ≡ 0) }
     {
-        let progress = Progress::open(alloc, circuit, seed)?;
-        let (book, rest) = ledger.open::<L>();
-        Ok(Store {
-            progress,
-            tallies: 0,
-            book,
-            rest,
-        })
+        Ok(Store::begin(ledger, Progress::open(alloc, circuit, seed)?))
+    }
+}
+
+impl<L: Ledger, A: Allocator + Copy + Send + Sync> Store<L, A> {
+    /// What [`Store::open`] opens, by two threads where another can be started.
+    pub fn open_by_two<R: Threads>(
+        rt: &R,
+        alloc: A,
+        ledger: Blank,
+        circuit: Circuit<A>,
+        seed: Seed,
+    ) -> Result<Store<L, A>, Memory>
+        requires name { ledger.name ≡ L.name }
+        requires parts { (ledger.parts ≡ L.parts) × (ledger.parts ≡ MAX_TALLIES) }
+        ensures content { IfOk result (λ s. s.content ≡ opened circuit seed) }
+        ensures tallies { IfOk result (λ s. s.tallies ≡ 0) }
+    {
+        let progress = Progress::open_by_two(rt, alloc, circuit, seed)?;
+        Ok(Store::begin(ledger, progress))
     }
 }
 

@@ -1,5 +1,5 @@
 -- The numbers and names of the faults of garbling on many threads, and when each comes.
-use Rattle.std.specs.Prelude.{◌≡◌, ℕ, ◌<◌, ◌≤◌, ◌⊎◌, List, Result, Ok, Err, codes}
+use Rattle.std.specs.Prelude.{◌≡◌, ℕ, ◌<◌, ◌⊎◌, List, Result, Ok, Err, codes}
 use Rattle.gc_work.specs.declared.fault.WorkFault.{WorkFault}
 use Rattle.gc_work.specs.declared.fault.WorkFault.TheVariants.{BadWorkers, Memory}
 use Rattle.gc_gatehouse.specs.declared.TheConstants.{MAX_WORKERS}

@@ -89,7 +89,7 @@ fn garble_by<
     requires parts { (ledger.parts ≡ L.parts) × (ledger.parts ≡ MAX_TALLIES) }
     ensures { IfOk result (IsGarbled circuit.now seed.now) }
 {
-    let store = Store::<L, A>::open(alloc, ledger, circuit.try_clone(alloc)?, *seed)?;
+    let store = Store::<L, A>::open_by_two(rt, alloc, ledger, circuit.try_clone(alloc)?, *seed)?;
     let capacity = circuit.gates().min(POOL_CAPACITY);
     let (mut store, tally) = work_together(rt, alloc, store, workers, capacity, house)?;
     if let Some(mut tally) = tally {

@@ -69,6 +69,7 @@ fn share<A: Allocator>(
 }
 
 /// A task of the batches.
+#[inline(always)]
 fn pop_any(batches: &mut [Batch]) -> Option<Task> {
     for k in 0..batches.len() {
         let task = batches[k].pop();
@@ -80,6 +81,7 @@ fn pop_any(batches: &mut [Batch]) -> Option<Task> {
 }
 
 /// A task that the worker has: of the batches, or of its own pool.
+#[inline(always)]
 fn own_task<A: Allocator>(
     pool: &TaskPool<A>,
     owner: &mut Owner<A>,

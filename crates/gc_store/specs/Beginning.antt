@@ -1,0 +1,35 @@
+-- The tables that a store begins with, but for the readers of its wires.
+use Rattle.std.specs.Prelude.{◌≡◌, ℕ, ◌+◌, List, length, map, replicate, Some, slice_get}
+use Rattle.std.specs.List.{range_with_len}
+use Rattle.gc_netlist.specs.Circuit.{Netlist, IsLawful, and_number, and_count}
+use Rattle.gc_half.specs.declared.garbling.RowPair.{RowPair}
+use Rattle.gc_half.specs.Canonical.{input_zero}
+use Rattle.gc_queue.specs.declared.mark.Mark.{Mark}
+use Rattle.gc_queue.specs.declared.mark.Mark.TheVariants as mark
+use Rattle.gc_queue.specs.Opening.{opening_countdown}
+
+pub record FirstTables : Type 0 where
+  pub marks : List Mark
+  pub countdowns : List ℕ
+  pub and_numbers : List ℕ
+  pub zero_labels : List ℕ
+  pub rows : List RowPair
+
+-- the row pair of an AND gate that is not finished: zeros
+abbrev pub no_rows : RowPair
+no_rows = record { generator = 0; evaluator = 0 }
+
+-- A countdown for each gate, one less than the countdown that the opening begins with.
+pub record AreCounted (c : Netlist) (countdowns : List ℕ) : Type 0 where
+  pub count : length countdowns ≡ length c.gates
+  pub counted : (i n : ℕ) → slice_get (map (opening_countdown c) (range_with_len 0 (length c.gates))) i ≡ Some (n + 1)
+      → slice_get countdowns i ≡ Some n
+
+-- Every gate is free, and the input wires alone have their labels.
+pub record Begins (c : Netlist) (seed : List ℕ) (t : FirstTables) : Type 0 where
+  pub lawful : IsLawful c
+  pub marks : t.marks ≡ replicate (length c.gates) mark.Free
+  pub countdowns : AreCounted c t.countdowns
+  pub and_numbers : t.and_numbers ≡ map (and_number c) (range_with_len 0 (length c.gates))
+  pub zero_labels : t.zero_labels ≡ map (input_zero c seed) (range_with_len 0 c.wires)
+  pub rows : t.rows ≡ replicate (and_count c) no_rows
