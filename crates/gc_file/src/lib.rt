@@ -22,5 +22,8 @@ pub use gc_read::{
     FileFault, Garbled, GarbledReader, LabelFile, TakeFault, read_garbled, read_garbled_from,
     read_labels,
 };
-pub use gc_write::{WriteFault, law_written_files, write_garbled, write_garbled2, write_labels};
+pub use gc_write::{
+    WriteFault, law_written_files, write_garbled, write_garbled2, write_garbled2_by_digest,
+    write_garbled_by_digest, write_labels,
+};
 pub use laws::{law_garbled_file, law_label_file};

@@ -1,7 +1,9 @@
 //! Writing garbled files.
 
-ghost use Rattle.std.specs.Prelude.{flat_map, []};
+ghost use Rattle.std.specs.Prelude.{◌≡◌, flat_map, []};
 ghost use Rattle.sha2.specs.Hashers.{Holds256};
+ghost use Rattle.sha2.specs.Sha256.{sha256};
+ghost use Rattle.gc_netlist.specs.Canon.{canonical_text};
 ghost use Rattle.gc_half.specs.Garbling.{decode_bits_of, FitsCircuit};
 ghost use Rattle.gc_format.specs.Counted.{CountsFailure};
 ghost use Rattle.gc_format.specs.DecodeBits.{packed};
@@ -25,9 +27,11 @@ impl FileWriter<Sha256> {
         sink: &mut S,
         version: Version,
         circuit: &Circuit<A>,
+        digest: &[u8; 32],
         garbling: &Garbling<B>,
     ) -> Result<(), WriteFault>
-        requires { FitsCircuit circuit.now garbling.now }
+        requires digest { digest.now ≡ sha256 (canonical_text circuit.now) }
+        requires fits { FitsCircuit circuit.now garbling.now }
         ensures bytes { Proceeds Holds256 self.old self.new (S.taken sink.old) (S.taken sink.new) result
             (front (parts_of version circuit.now garbling.now [])) }
         ensures small { IsSmall garbling.now }
@@ -35,7 +39,7 @@ impl FileWriter<Sha256> {
     {
         let header = header(
             version,
-            circuit.digest(),
+            *digest,
             circuit.and_count(),
             garbling.outputs(),
         );
@@ -109,8 +113,25 @@ pub fn write_garbled<S: Sink, A: Allocator, B: Allocator>(
         result (S.taken sink.old) (S.taken sink.new) }
     ensures counted { CountsFailure result (S.failures sink.old) (S.failures sink.new) }
 {
+    write_garbled_by_digest(sink, circuit, &circuit.digest(), garbling)
+}
+
+/// Writes the garbled file of version 1, as [`write_garbled`] does, where the caller has the digest of the circuit
+/// already, from [`Circuit::digest`].
+pub fn write_garbled_by_digest<S: Sink, A: Allocator, B: Allocator>(
+    sink: &mut S,
+    circuit: &Circuit<A>,
+    digest: &[u8; 32],
+    garbling: &Garbling<B>,
+) -> Result<u64, WriteFault>
+    requires digest { digest.now ≡ sha256 (canonical_text circuit.now) }
+    requires fits { FitsCircuit circuit.now garbling.now }
+    ensures file { IsWritten (garbled_file (parts_one circuit.now garbling.now))
+        result (S.taken sink.old) (S.taken sink.new) }
+    ensures counted { CountsFailure result (S.failures sink.old) (S.failures sink.new) }
+{
     let mut file = FileWriter::new(Sha256::new());
-    file.write_front(sink, Version::One, circuit, garbling)?;
+    file.write_front(sink, Version::One, circuit, digest, garbling)?;
     file.end_with_digest(sink)
 }
 
@@ -127,8 +148,26 @@ pub fn write_garbled2<S: Sink, A: Allocator, B: Allocator>(
         result (S.taken sink.old) (S.taken sink.new) }
     ensures counted { CountsFailure result (S.failures sink.old) (S.failures sink.new) }
 {
+    write_garbled2_by_digest(sink, circuit, &circuit.digest(), garbling, seed)
+}
+
+/// Writes the garbled file of version 2, as [`write_garbled2`] does, where the caller has the digest of the circuit
+/// already, from [`Circuit::digest`].
+pub fn write_garbled2_by_digest<S: Sink, A: Allocator, B: Allocator>(
+    sink: &mut S,
+    circuit: &Circuit<A>,
+    digest: &[u8; 32],
+    garbling: &Garbling<B>,
+    seed: &Seed,
+) -> Result<u64, WriteFault>
+    requires digest { digest.now ≡ sha256 (canonical_text circuit.now) }
+    requires fits { FitsCircuit circuit.now garbling.now }
+    ensures file { IsWritten (garbled_file (parts_two circuit.now garbling.now seed.now))
+        result (S.taken sink.old) (S.taken sink.new) }
+    ensures counted { CountsFailure result (S.failures sink.old) (S.failures sink.new) }
+{
     let mut file = FileWriter::new(Sha256::new());
-    file.write_front(sink, Version::Two, circuit, garbling)?;
+    file.write_front(sink, Version::Two, circuit, digest, garbling)?;
     file.write_entries(sink, circuit, garbling, offset(seed))?;
     file.end_with_digest(sink)
 }

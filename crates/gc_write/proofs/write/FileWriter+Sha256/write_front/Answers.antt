@@ -16,8 +16,8 @@ returns-in_err-write-clause-bytes g c =
     in
     let is : c.as_slice.result.now ≡ header parts =
     c.as_slice.ensures.value ∙ c.header-header.ensures
-    ∙ header-is c.args.version c.args.circuit.now garbling _ _ _ c.digest.ensures (c.and_count.ensures
-    ∙ sym c.requires.and_gates)
+    ∙ header-is c.args.version c.args.circuit.now garbling _ _ _ c.requires.digest (c.and_count.ensures
+    ∙ sym c.requires.fits.and_gates)
     c.outputs.ensures.count c.outputs.ensures.bound
     in
     let rows = flat_map row_bytes garbling.rows in let bits = packed (decode_bits_of garbling) in
@@ -33,8 +33,8 @@ returns-in_err-write_rows-clause-bytes g c =
     in
     let is : c.as_slice.result.now ≡ header parts =
     c.as_slice.ensures.value ∙ c.header-header.ensures
-    ∙ header-is c.args.version c.args.circuit.now garbling _ _ _ c.digest.ensures (c.and_count.ensures
-    ∙ sym c.requires.and_gates)
+    ∙ header-is c.args.version c.args.circuit.now garbling _ _ _ c.requires.digest (c.and_count.ensures
+    ∙ sym c.requires.fits.and_gates)
     c.outputs.ensures.count c.outputs.ensures.bound
     in
     let written = flat_map row_bytes c.rows.result.now in let bits = packed (decode_bits_of garbling) in
@@ -50,8 +50,8 @@ returns-clause-bytes g c =
     in
     let is : c.as_slice.result.now ≡ header parts =
     c.as_slice.ensures.value ∙ c.header-header.ensures
-    ∙ header-is c.args.version c.args.circuit.now garbling _ _ _ c.digest.ensures (c.and_count.ensures
-    ∙ sym c.requires.and_gates)
+    ∙ header-is c.args.version c.args.circuit.now garbling _ _ _ c.requires.digest (c.and_count.ensures
+    ∙ sym c.requires.fits.and_gates)
     c.outputs.ensures.count c.outputs.ensures.bound
     in
     let written = flat_map row_bytes c.rows.result.now in

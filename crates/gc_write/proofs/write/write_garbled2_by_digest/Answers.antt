@@ -7,7 +7,7 @@ use Rattle.gc_write.specs.Written.{front, entry_pairs_of, parts_two}
 use Rattle.gc_write.proofs.SizeLemmas.{garbled_file-front, garbled_file-body, parts_two-size}
 use Rattle.gc_write.proofs.WritingLemmas.{Proceeds-Proceeds, Proceeds-step}
 use Rattle.gc_write.proofs.WrittenLemmas.{IsWritten-exit, IsWritten-ends}
-use Rattle.gc_write.proofs.write.write_garbled2.Goals as goal
+use Rattle.gc_write.proofs.write.write_garbled2_by_digest.Goals as goal
 
 pub returns-in_err-write_front-clause-file : goal.returns-in_err-write_front-clause-file
 returns-in_err-write_front-clause-file g c =

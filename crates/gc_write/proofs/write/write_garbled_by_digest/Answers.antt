@@ -6,7 +6,7 @@ use Rattle.gc_format.specs.GarbledFile.{body, entry_bytes}
 use Rattle.gc_write.specs.Written.{front, parts_one}
 use Rattle.gc_write.proofs.SizeLemmas.{garbled_file-front, garbled_file-one, parts_one-size}
 use Rattle.gc_write.proofs.WrittenLemmas.{IsWritten-exit, IsWritten-ends}
-use Rattle.gc_write.proofs.write.write_garbled.Goals as goal
+use Rattle.gc_write.proofs.write.write_garbled_by_digest.Goals as goal
 
 pub returns-in_err-write_front-clause-file : goal.returns-in_err-write_front-clause-file
 returns-in_err-write_front-clause-file g c =
