@@ -5,7 +5,7 @@ ghost use Rattle.gc_command.specs.Eval.{AnswersEval, HasEvalFault};
 ghost use Rattle.gc_command.specs.Fault.{HasCause};
 
 use crate::circuit_file::read_circuit;
-use crate::evaluated_files::{read_garbled_file, read_label_files};
+use crate::evaluated_files::{digest_and_garbled_file, read_label_files};
 use crate::fault::Fault;
 use crate::files::Files;
 use crate::job::evaluate_files;
@@ -32,9 +32,8 @@ pub fn eval<R: Threads + Sync, A: Allocator + Copy + Send + Sync, F: Files>(
     ensures same { (name : List ℕ) → F.bytes files.new name ≡ F.bytes files.old name }
 {
     let circuit = read_circuit(alloc, circuit, files)?;
-    let garbled = read_garbled_file(alloc, garbled, files)?;
+    let (digest, garbled) = digest_and_garbled_file(rt, alloc, &circuit, garbled, files)?;
     let labels = read_label_files(alloc, labels, files)?;
-    let digest = circuit.digest();
     let outputs = evaluate_files(rt, alloc, &circuit, &digest, garbled, &labels, workers)?;
     Ok(output_lines(alloc, circuit.output_widths(), &outputs)?)
 }

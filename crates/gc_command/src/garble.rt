@@ -1,6 +1,8 @@
 //! The command `garble`: writing a garbled file.
 
 ghost use Rattle.std.specs.Prelude.{◌≡◌, ◌≢◌, ℕ, List, IfOk, IfErr, IfSome};
+ghost use Rattle.sha2.specs.Sha256.{sha256};
+ghost use Rattle.gc_netlist.specs.Canon.{canonical_text};
 ghost use Rattle.gc_half.specs.Garbling.{FitsCircuit};
 ghost use Rattle.gc_format.specs.Counted.{CountsFailure};
 ghost use Rattle.gc_format.specs.GarbledFile.{garbled_file};
@@ -13,10 +15,10 @@ ghost use Rattle.gc_command.specs.Fault.{HasCause};
 use crate::circuit_file::read_circuit;
 use crate::fault::Fault;
 use crate::files::Files;
+use crate::garbling::digest_and_garbling;
 use crate::wrote::{ROOM, create_file, keep_written};
 use gc_circuit::Circuit;
-use gc_file::{Sink, Version, WriteFault, write_garbled, write_garbled2};
-use gc_gatehouse::Open;
+use gc_file::{Sink, Version, WriteFault, write_garbled2_by_digest, write_garbled_by_digest};
 use gc_half::Garbling;
 use gc_label::Seed;
 use std::alloc::Allocator;
@@ -46,21 +48,24 @@ pub fn garble<R: Threads + Wait + Sync, A: Allocator + Copy + Send + Sync, F: Fi
 {
     let circuit = read_circuit(alloc, circuit, files)?;
     let seed = Seed::from_hex(seed)?;
-    let garbling = gc_work::garble(rt, alloc, &circuit, &seed, workers, &Open)?;
-    write_garbling(alloc, version, &circuit, &garbling, &seed, out, files)
+    let (digest, garbling) = digest_and_garbling(rt, alloc, &circuit, &seed, workers)?;
+    write_garbling(alloc, version, &circuit, &digest, &garbling, &seed, out, files)
 }
 
-/// Writes the garbled file of a garbling. That the garbling fits the circuit is the caller's condition.
+/// Writes the garbled file of a garbling. That the digest is the circuit's, and that the garbling fits the circuit, are
+/// the caller's conditions.
 fn write_garbling<A: Allocator + Copy, F: Files>(
     alloc: A,
     version: Version,
     circuit: &Circuit<A>,
+    digest: &[u8; 32],
     garbling: &Garbling<A>,
     seed: &Seed,
     out: &str,
     files: &mut F,
 ) -> Result<Vec<u8, A>, Fault>
-    requires { FitsCircuit circuit.now garbling.now }
+    requires digest { digest.now ≡ sha256 (canonical_text circuit.now) }
+    requires fits { FitsCircuit circuit.now garbling.now }
     ensures written { IfOk result (λ lines. (n : List ℕ) → IfSome (F.bytes files.old n)
         (λ _. HasWritten (garbled_file (honest_parts version circuit.now garbling.now seed.now))
         (F.bytes files.new out.now) lines.items)) }
@@ -72,25 +77,27 @@ fn write_garbling<A: Allocator + Copy, F: Files>(
 {
     let room = Vec::with_capacity(alloc, ROOM)?;
     let mut sink = create_file(files, out)?;
-    let written = write_version(&mut sink, version, circuit, garbling, seed);
+    let written = write_version(&mut sink, version, circuit, digest, garbling, seed);
     keep_written(files, out, sink, written, room)
 }
 
-/// Writes the garbled file of this version. That the garbling fits the circuit is the caller's condition.
+/// Writes the garbled file of this version, under the same conditions.
 fn write_version<S: Sink, A: Allocator>(
     sink: &mut S,
     version: Version,
     circuit: &Circuit<A>,
+    digest: &[u8; 32],
     garbling: &Garbling<A>,
     seed: &Seed,
 ) -> Result<u64, WriteFault>
-    requires { FitsCircuit circuit.now garbling.now }
+    requires digest { digest.now ≡ sha256 (canonical_text circuit.now) }
+    requires fits { FitsCircuit circuit.now garbling.now }
     ensures file { IsWritten (garbled_file (honest_parts version circuit.now garbling.now seed.now)) result
         (S.taken sink.old) (S.taken sink.new) }
     ensures counted { CountsFailure result (S.failures sink.old) (S.failures sink.new) }
 {
     match version {
-        Version::One => write_garbled(sink, circuit, garbling),
-        Version::Two => write_garbled2(sink, circuit, garbling, seed),
+        Version::One => write_garbled_by_digest(sink, circuit, digest, garbling),
+        Version::Two => write_garbled2_by_digest(sink, circuit, digest, garbling, seed),
     }
 }

@@ -11,6 +11,7 @@ mod fault;
 mod file_failures;
 mod files;
 pub mod garble;
+mod garbling;
 mod host_files;
 mod job;
 mod lines;

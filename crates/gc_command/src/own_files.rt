@@ -10,13 +10,12 @@ ghost use Rattle.gc_gatehouse.specs.Workers.{AreFew};
 ghost use Rattle.gc_command.specs.Run.{IsOwnFault, IsWantOfMemory};
 
 use crate::fault::Fault;
+use crate::garbling::digest_and_garbling;
 use gc_circuit::Circuit;
 use gc_file::{
-    Garbled, LabelFile, MemSink, read_garbled, read_labels, write_garbled2, write_labels,
+    Garbled, LabelFile, MemSink, read_garbled, read_labels, write_garbled2_by_digest, write_labels,
 };
-use gc_gatehouse::Open;
 use gc_label::Seed;
-use gc_work::garble;
 use std::alloc::Allocator;
 use std::sync::Wait;
 use std::thread::Threads;
@@ -50,9 +49,10 @@ fn garbled_bytes<R: Threads + Wait + Sync, A: Allocator + Copy + Send + Sync>(
     ensures workers { IfOk result (λ _. AreFew workers) }
     ensures fault { IfErr result (IsOwnFault workers) }
 {
-    let garbling = garble(rt, alloc, circuit, seed, workers, &Open)?;
+    let (digest, garbling) = digest_and_garbling(rt, alloc, circuit, seed, workers)?;
     let mut sink = MemSink::new(alloc, None);
-    write_garbled2(&mut sink, circuit, &garbling, seed).map_err(|_| Fault::Memory)?;
+    write_garbled2_by_digest(&mut sink, circuit, &digest, &garbling, seed)
+        .map_err(|_| Fault::Memory)?;
     Ok(sink.into_bytes())
 }
 

@@ -5,10 +5,10 @@ use Rattle.gc_command.proofs.AnswerLemmas.{IfSome-map}
 use Rattle.gc_command.proofs.WroteLemmas.{IfSome-both, garble-unwritten, garbled-fits}
 use Rattle.gc_command.proofs.garble.garble.Goals as goal
 
-pub write_garbling-requires : goal.write_garbling-requires
-write_garbling-requires g c =
-    garbled-fits c.in_ok-circuit.circuit c.in_ok-seed.seed c.in_ok-garbling.garbling
-    c.in_ok-garbling.ensures.garbled
+pub write_garbling-requires-clause-fits : goal.write_garbling-requires-clause-fits
+write_garbling-requires-clause-fits g c =
+    garbled-fits c.in_ok-circuit.circuit c.in_ok-seed.seed c.in_ok-digest.garbling
+    c.in_ok-digest.ensures.garbled
 
 pub returns-clause-answers : goal.returns-clause-answers
 returns-clause-answers g c = IfOk-weaker c.write_garbling.result _ _
@@ -20,9 +20,9 @@ returns-clause-answers g c = IfOk-weaker c.write_garbling.result _ _
         circuit = circuit;
         seed_told = record { accepted = c.in_ok-seed.ensures.accepts.0 refl; spelled = c.in_ok-seed.ensures.bytes };
       };
-      garbling = c.in_ok-garbling.garbling;
-      few = c.in_ok-garbling.ensures.workers;
-      garbled = c.in_ok-garbling.ensures.garbled;
+      garbling = c.in_ok-digest.garbling;
+      few = c.in_ok-digest.ensures.workers;
+      garbled = c.in_ok-digest.ensures.garbled;
       written = wrote;
     })
     c.in_ok-circuit.ensures.circuit
@@ -36,7 +36,7 @@ returns-clause-fault g c = IfErr-weaker c.write_garbling.result _ _
     (record {
       circuit = circuit;
       seed_told = record { accepted = c.in_ok-seed.ensures.accepts.0 refl; spelled = c.in_ok-seed.ensures.bytes };
-    }) c.in_ok-garbling.ensures.workers fault unwritten)
+    }) c.in_ok-digest.ensures.workers fault unwritten)
     c.in_ok-circuit.ensures.circuit)
     c.write_garbling.ensures.fault
 

@@ -1,0 +1,43 @@
+//! A circuit's digest and its garbling, side by side.
+
+ghost use Rattle.std.specs.Prelude.{◌≡◌, IfOk};
+ghost use Rattle.sha2.specs.Sha256.{sha256};
+ghost use Rattle.gc_netlist.specs.Canon.{canonical_text};
+ghost use Rattle.gc_half.specs.Garbling.{IsGarbled};
+ghost use Rattle.gc_work.specs.WorkFault.{JudgesWorkers};
+
+use gc_circuit::Circuit;
+use gc_gatehouse::Open;
+use gc_half::Garbling;
+use gc_label::Seed;
+use gc_work::{WorkFault, garble};
+use std::alloc::Allocator;
+use std::sync::Wait;
+use std::thread;
+use std::thread::Threads;
+
+/// The digest of the circuit's canonical text and the garbling of the circuit under a seed by so many workers. A
+/// thread beside these takes the digest, where one can be started.
+pub(crate) fn digest_and_garbling<R: Threads + Wait + Sync, A: Allocator + Copy + Send + Sync>(
+    rt: &R,
+    alloc: A,
+    circuit: &Circuit<A>,
+    seed: &Seed,
+    workers: u32,
+) -> Result<([u8; 32], Garbling<A>), WorkFault>
+    ensures digest { IfOk result (λ made. made.0 ≡ sha256 (canonical_text circuit.now)) }
+    ensures garbled { IfOk result (λ made. IsGarbled circuit.now seed.now made.1) }
+    ensures workers { JudgesWorkers workers result }
+{
+    let (digest, garbling) = thread::join(
+        rt,
+        || -> [u8; 32]
+            ensures { result ≡ sha256 (canonical_text circuit.entry.now) }
+        { circuit.digest() },
+        || -> Result<Garbling<A>, WorkFault>
+            ensures garbled { IfOk result (IsGarbled circuit.entry.now seed.entry.now) }
+            ensures workers { JudgesWorkers workers result }
+        { garble(rt, alloc, circuit, seed, workers, &Open) },
+    );
+    Ok((digest, garbling?))
+}
