@@ -1,6 +1,7 @@
 //! Work through a store of a copy of a circuit.
 
 ghost use Rattle.std.specs.Prelude.{◌≡◌};
+ghost use Rattle.gc_store.specs.Account.{IsForStore};
 ghost use Rattle.gc_store.specs.declared.tally.TheConstants.{MAX_TALLIES};
 
 use anyhow::{Result, anyhow};
@@ -35,8 +36,7 @@ fn ledger() -> Blank
 
 /// A store of a copy of the circuit.
 fn open<L: Ledger>(alloc: Global, ledger: Blank, circuit: &Circuit, seed: Seed) -> Result<Store<L>>
-    requires name { ledger.name ≡ L.name }
-    requires parts { (ledger.parts ≡ L.parts) × (ledger.parts ≡ MAX_TALLIES) }
+    requires { IsForStore L.name L.parts ledger }
 {
     let copy = circuit.try_clone(alloc)?;
     Ok(Store::<L>::open(alloc, ledger, copy, seed)?)
@@ -49,8 +49,7 @@ fn open_once_by<L: Ledger>(
     circuit: &Circuit,
     seed: Seed,
 ) -> Result<()>
-    requires name { ledger.name ≡ L.name }
-    requires parts { (ledger.parts ≡ L.parts) × (ledger.parts ≡ MAX_TALLIES) }
+    requires { IsForStore L.name L.parts ledger }
 {
     open::<L>(alloc, ledger, circuit, seed)?;
     Ok(())
@@ -58,8 +57,7 @@ fn open_once_by<L: Ledger>(
 
 /// Garbles through a store.
 fn garble_by<L: Ledger>(alloc: Global, ledger: Blank, circuit: &Circuit, seed: Seed) -> Result<()>
-    requires name { ledger.name ≡ L.name }
-    requires parts { (ledger.parts ≡ L.parts) × (ledger.parts ≡ MAX_TALLIES) }
+    requires { IsForStore L.name L.parts ledger }
 {
     let mut store = open::<L>(alloc, ledger, circuit, seed)?;
     let mut tally = store.tally().ok_or_else(|| anyhow!("no tally"))?;
@@ -77,8 +75,7 @@ fn tasks_of<L: Ledger>(
     circuit: &Circuit,
     seed: Seed,
 ) -> Result<Vec<Task>>
-    requires name { ledger.name ≡ L.name }
-    requires parts { (ledger.parts ≡ L.parts) × (ledger.parts ≡ MAX_TALLIES) }
+    requires { IsForStore L.name L.parts ledger }
 {
     let mut store = open::<L>(alloc, ledger, circuit, seed)?;
     let mut tally = store.tally().ok_or_else(|| anyhow!("no tally"))?;

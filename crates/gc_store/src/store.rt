@@ -2,8 +2,8 @@
 
 ghost use Rattle.std.specs.Prelude.{◌≡◌, ◌↔◌, ◌+◌, IsTrue, IfOk, IfErr, OnOk, OnErr, count_by};
 ghost use Rattle.gc_half.specs.Garbling.{IsGarbled};
-ghost use Rattle.gc_store.specs.Content.{is_finished, AllFinished, opened};
-ghost use Rattle.gc_store.specs.Account.{IsLawfulAccount};
+ghost use Rattle.gc_store.specs.Content.{is_finished, AllFinished};
+ghost use Rattle.gc_store.specs.Account.{IsLawfulAccount, IsForStore, IsOpened};
 ghost use Rattle.gc_store.specs.declared.tally.TheConstants.{MAX_TALLIES};
 ghost use Rattle.gc_store.specs.Step.{Claims, ClaimsSome, Finishes, Deals, Settles, Reopens};
 
@@ -53,8 +53,7 @@ impl<L: Ledger, A: Allocator> Model for Store<L, A> {
 impl<L: Ledger, A: Allocator> Store<L, A> {
     /// A store where every gate is free, which begins the ledger.
     fn begin(ledger: Blank, progress: Progress<A>) -> Store<L, A>
-        requires name { ledger.name ≡ L.name }
-        requires parts { (ledger.parts ≡ L.parts) × (ledger.parts ≡ MAX_TALLIES) }
+        requires ledger { IsForStore L.name L.parts ledger }
         requires none { count_by is_finished progress.states ≡ 0 }
         ensures { (result.content ≡ progress) × (result.tallies ≡ 0) }
     {
@@ -77,10 +76,8 @@ impl<L: Ledger, A: Allocator + Copy> Store<L, A> {
         circuit: Circuit<A>,
         seed: Seed,
     ) -> Result<Store<L, A>, Memory>
-        requires name { ledger.name ≡ L.name }
-        requires parts { (ledger.parts ≡ L.parts) × (ledger.parts ≡ MAX_TALLIES) }
-        ensures content { IfOk result (λ s. s.content ≡ opened circuit seed) }
-        ensures tallies { IfOk result (λ s. s.tallies ≡ 0) }
+        requires { IsForStore L.name L.parts ledger }
+        ensures { IfOk result (IsOpened circuit seed) }
     {
         Ok(Store::begin(ledger, Progress::open(alloc, circuit, seed)?))
     }
@@ -95,10 +92,8 @@ impl<L: Ledger, A: Allocator + Copy + Send + Sync> Store<L, A> {
         circuit: Circuit<A>,
         seed: Seed,
     ) -> Result<Store<L, A>, Memory>
-        requires name { ledger.name ≡ L.name }
-        requires parts { (ledger.parts ≡ L.parts) × (ledger.parts ≡ MAX_TALLIES) }
-        ensures content { IfOk result (λ s. s.content ≡ opened circuit seed) }
-        ensures tallies { IfOk result (λ s. s.tallies ≡ 0) }
+        requires { IsForStore L.name L.parts ledger }
+        ensures { IfOk result (IsOpened circuit seed) }
     {
         let progress = Progress::open_by_two(rt, alloc, circuit, seed)?;
         Ok(Store::begin(ledger, progress))

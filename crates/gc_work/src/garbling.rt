@@ -2,7 +2,7 @@
 
 ghost use Rattle.std.specs.Prelude.{◌≡◌, ◌<◌, ◌≤◌, All, IfOk};
 ghost use Rattle.gc_half.specs.Garbling.{IsGarbled};
-ghost use Rattle.gc_store.specs.declared.tally.TheConstants.{MAX_TALLIES};
+ghost use Rattle.gc_store.specs.Account.{IsForStore};
 ghost use Rattle.gc_work.specs.Ready.{IsReady};
 ghost use Rattle.gc_work.specs.WorkFault.{JudgesWorkers};
 
@@ -85,8 +85,7 @@ fn garble_by<
     workers: u32,
     house: &H,
 ) -> Result<Garbling<A>, Memory>
-    requires name { ledger.name ≡ L.name }
-    requires parts { (ledger.parts ≡ L.parts) × (ledger.parts ≡ MAX_TALLIES) }
+    requires { IsForStore L.name L.parts ledger }
     ensures { IfOk result (IsGarbled circuit.now seed.now) }
 {
     let store = Store::<L, A>::open_by_two(rt, alloc, ledger, circuit.try_clone(alloc)?, *seed)?;

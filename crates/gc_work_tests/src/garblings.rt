@@ -1,7 +1,6 @@
 //! The store garbles as one thread does, whatever the order in which gates are finished.
 
-ghost use Rattle.std.specs.Prelude.{◌≡◌};
-ghost use Rattle.gc_store.specs.declared.tally.TheConstants.{MAX_TALLIES};
+ghost use Rattle.gc_store.specs.Account.{IsForStore};
 
 use crate::stores::ledger;
 use gc_circuit::Circuit;
@@ -38,8 +37,7 @@ fn garble_over_store<L: Ledger>(
     circuit: &Circuit,
     seed: Seed,
 ) -> Result<Garbling, Fail>
-    requires name { ledger.name ≡ L.name }
-    requires parts { (ledger.parts ≡ L.parts) × (ledger.parts ≡ MAX_TALLIES) }
+    requires { IsForStore L.name L.parts ledger }
 {
     let mut store = Store::<L>::open(alloc, ledger, circuit.try_clone(alloc)?, seed)?;
     let mut tally = store.tally().ok_or("a tally is dealt")?;

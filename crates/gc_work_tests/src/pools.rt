@@ -131,28 +131,59 @@ fn put_back<A: Allocator>(
     Ok(())
 }
 
+/// A thief, which steals the first of three tasks.
+fn steal_first<A: Allocator>(
+    rt: &impl Abort,
+    pool: &TaskPool<A>,
+    owner: &mut Owner<A>,
+    thieves: &mut Vec<Thief<A>, A>,
+) -> Option<Thief<A>>
+    requires own { owner.old.pool ≡ pool.now }
+    requires all { AllOf pool.now thieves.old.items }
+    ensures own { owner.new.pool ≡ owner.old.pool }
+    ensures thief { IfSome result (λ thief. thief.pool ≡ pool.now) }
+    ensures rest { AllOf pool.now thieves.new.items }
+{
+    assert_eq!(rt; push_some(rt, pool, owner, 3), 3);
+    let mut thief = take_one(pool, thieves)?;
+    assert_eq!(rt; pool.steal(&mut thief), Some(task(0)));
+    Some(thief)
+}
+
 /// Where one of three thieves is missing all is back, and with all three the pool is gathered.
 #[test]
 fn gathers_with_all_thieves(rt: HostRuntime) -> Result<(), Fail> {
     let (pool, mut owner, mut thieves) = TaskPool::open(rt.alloc(), 2, 3)?;
-    assert_eq!(rt; push_some(&rt, &pool, &mut owner, 3), 3);
-    let Some(mut last) = take_one(&pool, &mut thieves) else {
-        return Err(Fail::new("no thief"));
-    };
-    assert_eq!(rt; pool.steal(&mut last), Some(task(0)));
-    let (pool, mut owner, mut thieves) = match pool.gather(owner, thieves) {
-        Ok(_) => return Err(Fail::new("gathered without a thief")),
-        Err(back) => back,
-    };
+    let stolen = steal_first(&rt, &pool, &mut owner, &mut thieves);
+    let last = stolen.ok_or("no thief")?;
+    let missing = pool.gather(owner, thieves).err();
+    let (pool, mut owner, mut thieves) = missing.ok_or("gathered without a thief")?;
     assert_eq!(rt; (pool.pop(&mut owner), thieves.len()), (Some(task(2)), 2));
     put_back(&pool, &mut thieves, last)?;
-    let mut gathered = match pool.gather(owner, thieves) {
-        Ok(gathered) => gathered,
-        Err(_) => return Err(Fail::new("a thief is missing")),
-    };
+    let whole = pool.gather(owner, thieves).ok();
+    let mut gathered = whole.ok_or("a thief is missing")?;
     assert_eq!(rt; gathered.next(), Some(task(1)));
     assert_eq!(rt; gathered.next(), None);
     Ok(())
+}
+
+/// Pushes two tasks and pops them, and steals from the empty pool.
+fn use_pool<A: Allocator>(
+    rt: &impl Abort,
+    pool: &TaskPool<A>,
+    owner: &mut Owner<A>,
+    thieves: &mut Vec<Thief<A>, A>,
+) -> Result<(), Fail>
+    requires own { owner.old.pool ≡ pool.now }
+    requires all { AllOf pool.now thieves.old.items }
+    ensures own { owner.new.pool ≡ owner.old.pool }
+    ensures rest { OnOk result (AllOf pool.now thieves.new.items) }
+{
+    assert_eq!(rt; push_some(rt, pool, owner, 2), 2);
+    pops(rt, pool, owner, 2);
+    let mut thief = take_one(pool, thieves).ok_or("a thief")?;
+    assert_eq!(rt; pool.steal(&mut thief), None);
+    put_back(pool, thieves, thief)
 }
 
 /// A pool that is open asks for no memory at the first pushes, at pops, a steal and gathering.
@@ -161,13 +192,7 @@ fn an_opened_pool_grows_nothing(rt: HostRuntime) -> Result<(), Fail> {
     let heap = Refusing::never(rt.alloc());
     let (pool, mut owner, mut thieves) = TaskPool::open(&heap, 2, 1)?;
     let opened = heap.growths();
-    assert_eq!(rt; push_some(&rt, &pool, &mut owner, 2), 2);
-    pops(&rt, &pool, &mut owner, 2);
-    let Some(mut thief) = take_one(&pool, &mut thieves) else {
-        return Err(Fail::new("no thief"));
-    };
-    assert_eq!(rt; pool.steal(&mut thief), None);
-    put_back(&pool, &mut thieves, thief)?;
+    use_pool(&rt, &pool, &mut owner, &mut thieves)?;
     assert!(rt; pool.gather(owner, thieves).is_ok());
     assert_eq!(rt; heap.growths(), opened);
     Ok(())

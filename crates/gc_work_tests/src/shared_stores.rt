@@ -1,10 +1,12 @@
 //! Tests of stores that threads share: strangers, leavers, and what tallies add up to.
 
 ghost use Rattle.std.specs.Prelude.{◌≡◌};
+ghost use Rattle.gc_store.specs.Account.{IsForStore};
 ghost use Rattle.gc_store.specs.declared.tally.TheConstants.{MAX_TALLIES};
 
-use crate::stores::{finish_gates, foreign_task, ledger, open_with_tally};
+use crate::stores::{finish_gates, foreign_task, ledger, open, open_with_tally};
 use gc_store::{Batch, Refused, Sealed, SharedStore, Store, Tally, TallyMissing, Task};
+use gc_worked::circuits::FULL_ADDER;
 use std::alloc::Global;
 use std::marker::Brand;
 use std::process::Abort;
@@ -14,33 +16,50 @@ use std::test::Fail;
 use std::thread;
 use std::thread::Threads;
 
-/// The tallies of a full adder's store: with the first two gates are finished, and with the second one.
-fn settles<L: Ledger>(rt: &impl Abort, alloc: Global, ledger: Blank) -> Result<(), Fail>
-    requires name { ledger.name ≡ L.name }
-    requires parts { (ledger.parts ≡ L.parts) × (ledger.parts ≡ MAX_TALLIES) }
-{
-    let (mut store, mut first) = open_with_tally::<L>(alloc, ledger)?;
-    let mut second = store.tally().ok_or("a tally is dealt")?;
+/// Two tallies of the store: with the first two gates are finished, and with the second one.
+fn two_tallies<L: Ledger>(rt: &impl Abort, store: &mut Store<L>) -> Option<(Tally<L>, Tally<L>)> {
+    let mut first = store.tally()?;
+    let mut second = store.tally()?;
     let finished = (
-        finish_gates(&mut store, &mut first, 2),
-        finish_gates(&mut store, &mut second, 1),
+        finish_gates(store, &mut first, 2),
+        finish_gates(store, &mut second, 1),
     );
     assert_eq!(rt; finished, (2, 1));
+    Some((first, second))
+}
+
+/// Without the second tally nothing is added up, and with it three gates are.
+fn settles_with_both<L: Ledger>(
+    rt: &impl Abort,
+    alloc: Global,
+    store: &mut Store<L>,
+) -> Result<(), Fail>
+    requires { L.parts ≡ MAX_TALLIES }
+{
+    let (first, second) = two_tallies(rt, store).ok_or("two tallies are dealt")?;
     let mut tallies = Vec::new(alloc);
     tallies.push(first)?;
     assert_eq!(rt; store.settle(&mut tallies), Err(TallyMissing));
     tallies.push(second)?;
     assert_eq!(rt; store.settle(&mut tallies), Ok(3));
+    Ok(())
+}
+
+fn settles<L: Ledger>(rt: &impl Abort, alloc: Global, ledger: Blank) -> Result<(), Fail>
+    requires { IsForStore L.name L.parts ledger }
+{
+    let mut store = open::<L>(alloc, ledger, FULL_ADDER, [0; 32])?;
+    settles_with_both(rt, alloc, &mut store)
+}
+
+#[test]
+fn tallies_add_up(rt: HostRuntime) -> Result<(), Fail> {
+    settles::<Brand>(&rt, rt.alloc(), ledger())?;
     assert_eq!(rt;
         (TallyMissing.code(), TallyMissing.name()),
         (27, "TallyMissing")
     );
     Ok(())
-}
-
-#[test]
-fn tallies_add_up(rt: HostRuntime) -> Result<(), Fail> {
-    settles::<Brand>(&rt, rt.alloc(), ledger())
 }
 
 /// Stops the store in another thread, where one can be started.
@@ -94,8 +113,7 @@ fn holder_leaves<L: Ledger + Send + Sync, R: Abort + Threads + Wait + Sync>(
     alloc: Global,
     ledger: Blank,
 ) -> Result<(), Fail>
-    requires name { ledger.name ≡ L.name }
-    requires parts { (ledger.parts ≡ L.parts) × (ledger.parts ≡ MAX_TALLIES) }
+    requires { IsForStore L.name L.parts ledger }
 {
     let (store, mut tally) = open_with_tally::<L>(alloc, ledger)?;
     let shared = SharedStore::new(store);
@@ -111,42 +129,61 @@ fn a_holder_leaves(rt: HostRuntime) -> Result<(), Fail> {
     holder_leaves::<Brand, HostRuntime>(&rt, rt.alloc(), ledger())
 }
 
-/// What the store refuses a shared store refuses, one by one and several at once; tally and batch stay.
-fn strangers_are_refused<L: Ledger>(
-    rt: &(impl Abort + Wait),
+/// One by one strangers are refused; tally and batch stay.
+fn refused_one_by_one<L: Ledger, R: Abort + Wait>(
+    rt: &R,
+    shared: &SharedStore<L>,
+    tally: &mut Tally<L>,
+    foreign: Task,
+) {
+    let mut batch = Batch::new();
+    let other = Sealed::make(foreign);
+    let beyond = Sealed::make(Task { gate: 5, ..foreign });
+    assert_eq!(rt;
+        shared.hand_in(rt, other, tally, &mut batch),
+        Err(Refused::OtherInputs(other))
+    );
+    assert_eq!(rt;
+        shared.hand_in(rt, beyond, tally, &mut batch),
+        Err(Refused::NotClaimed(beyond))
+    );
+    assert_eq!(rt; (tally.count(), batch.is_empty()), (0, true));
+}
+
+/// Of two handed in at once that are of one gate the second is refused, and the first is counted.
+fn refused_among_several<L: Ledger, R: Abort + Wait>(
+    rt: &R,
+    shared: &SharedStore<L>,
+    tally: &mut Tally<L>,
+    own: Sealed,
+) {
+    let mut batches = [Batch::new()];
+    assert_eq!(rt;
+        shared.hand_in_all(rt, &[own, own], tally, &mut batches),
+        Err(Refused::NotClaimed(own))
+    );
+    assert_eq!(rt; (tally.count(), batches[0].is_empty()), (1, true));
+}
+
+/// What the store refuses a shared store refuses, one by one and several at once.
+fn strangers_are_refused<L: Ledger, R: Abort + Wait>(
+    rt: &R,
     alloc: Global,
     ledger: Blank,
     foreign: Task,
 ) -> Result<(), Fail>
-    requires name { ledger.name ≡ L.name }
-    requires parts { (ledger.parts ≡ L.parts) × (ledger.parts ≡ MAX_TALLIES) }
+    requires { IsForStore L.name L.parts ledger }
 {
     let (store, mut tally) = open_with_tally::<L>(alloc, ledger)?;
-    let mut batch = Batch::new();
-    let mut batches = [Batch::new()];
     let shared = SharedStore::new(store);
-    let own = Sealed::make(shared.take(rt).ok_or("gate 0 may go next")?);
-    let other = Sealed::make(foreign);
-    let beyond = Sealed::make(Task { gate: 5, ..foreign });
-    assert_eq!(rt;
-        shared.hand_in(rt, other, &mut tally, &mut batch),
-        Err(Refused::OtherInputs(other))
-    );
-    assert_eq!(rt;
-        shared.hand_in(rt, beyond, &mut tally, &mut batch),
-        Err(Refused::NotClaimed(beyond))
-    );
-    assert_eq!(rt; (tally.count(), batch.is_empty()), (0, true));
-    assert_eq!(rt;
-        shared.hand_in_all(rt, &[own, own], &mut tally, &mut batches),
-        Err(Refused::NotClaimed(own))
-    );
-    assert_eq!(rt; (tally.count(), batches[0].is_empty()), (1, true));
+    let own = shared.take(rt).ok_or("gate 0 may go next")?;
+    refused_one_by_one(rt, &shared, &mut tally, foreign);
+    refused_among_several(rt, &shared, &mut tally, Sealed::make(own));
     Ok(())
 }
 
 #[test]
 fn a_shared_store_refuses(rt: HostRuntime) -> Result<(), Fail> {
     let foreign = foreign_task::<Brand>(rt.alloc(), ledger())?;
-    strangers_are_refused::<Brand>(&rt, rt.alloc(), ledger(), foreign)
+    strangers_are_refused::<Brand, HostRuntime>(&rt, rt.alloc(), ledger(), foreign)
 }

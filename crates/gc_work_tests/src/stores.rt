@@ -1,6 +1,7 @@
 //! Tests of the store: the order in which gates may go, refusals, tallies, and whose store it is.
 
 ghost use Rattle.std.specs.Prelude.{◌≡◌};
+ghost use Rattle.gc_store.specs.Account.{IsForStore};
 ghost use Rattle.gc_store.specs.declared.tally.TheConstants.{MAX_TALLIES};
 
 use gc_circuit::Circuit;
@@ -26,8 +27,7 @@ pub(crate) fn open<L: Ledger>(
     text: &str,
     seed: [u8; 32],
 ) -> Result<Store<L>, Fail>
-    requires name { ledger.name ≡ L.name }
-    requires parts { (ledger.parts ≡ L.parts) × (ledger.parts ≡ MAX_TALLIES) }
+    requires { IsForStore L.name L.parts ledger }
 {
     let circuit = Circuit::read(alloc, text.as_bytes())?;
     Ok(Store::<L>::open(alloc, ledger, circuit, Seed::from_bytes(seed))?)
@@ -38,8 +38,7 @@ pub(crate) fn open_with_tally<L: Ledger>(
     alloc: Global,
     ledger: Blank,
 ) -> Result<(Store<L>, Tally<L>), Fail>
-    requires name { ledger.name ≡ L.name }
-    requires parts { (ledger.parts ≡ L.parts) × (ledger.parts ≡ MAX_TALLIES) }
+    requires { IsForStore L.name L.parts ledger }
 {
     let mut store = open::<L>(alloc, ledger, FULL_ADDER, [0; 32])?;
     let tally = store.tally().ok_or("a tally is dealt")?;
@@ -65,11 +64,10 @@ pub(crate) fn finish_gates<L: Ledger, A: Allocator>(
 
 /// The first task of a full adder's store under another seed.
 pub(crate) fn foreign_task<L: Ledger>(alloc: Global, ledger: Blank) -> Result<Task, Fail>
-    requires name { ledger.name ≡ L.name }
-    requires parts { (ledger.parts ≡ L.parts) × (ledger.parts ≡ MAX_TALLIES) }
+    requires { IsForStore L.name L.parts ledger }
 {
-    let mut store = open::<L>(alloc, ledger, FULL_ADDER, [1; 32])?;
-    Ok(store.claim().ok_or("a gate may go next")?)
+    let claimed = open::<L>(alloc, ledger, FULL_ADDER, [1; 32])?.claim();
+    Ok(claimed.ok_or("a gate may go next")?)
 }
 
 /// A step of the work on a circuit.
@@ -197,8 +195,7 @@ fn takes<L: Ledger>(
     ledger: Blank,
     steps: &[Step],
 ) -> Result<(), Fail>
-    requires name { ledger.name ≡ L.name }
-    requires parts { (ledger.parts ≡ L.parts) × (ledger.parts ≡ MAX_TALLIES) }
+    requires { IsForStore L.name L.parts ledger }
 {
     let (mut store, mut tally) = open_with_tally::<L>(alloc, ledger)?;
     let mut claimed = Vec::new(alloc);
@@ -222,8 +219,7 @@ fn refuses_other_inputs<L: Ledger>(
     ledger: Blank,
     foreign: Task,
 ) -> Result<(), Fail>
-    requires name { ledger.name ≡ L.name }
-    requires parts { (ledger.parts ≡ L.parts) × (ledger.parts ≡ MAX_TALLIES) }
+    requires { IsForStore L.name L.parts ledger }
 {
     let (mut store, mut tally) = open_with_tally::<L>(alloc, ledger)?;
     let own = Sealed::make(store.claim().ok_or("a gate may go next")?);
@@ -248,8 +244,7 @@ fn refuses_a_task_of_other_inputs(rt: HostRuntime) -> Result<(), Fail> {
 
 /// A task is refused whose gate is finished, free, or not there. It is not asked for its inputs.
 fn refuses_unclaimed<L: Ledger>(rt: &impl Abort, alloc: Global, ledger: Blank) -> Result<(), Fail>
-    requires name { ledger.name ≡ L.name }
-    requires parts { (ledger.parts ≡ L.parts) × (ledger.parts ≡ MAX_TALLIES) }
+    requires { IsForStore L.name L.parts ledger }
 {
     let (mut store, mut tally) = open_with_tally::<L>(alloc, ledger)?;
     let own = Sealed::make(store.claim().ok_or("a gate may go next")?);
@@ -273,8 +268,7 @@ fn refuses_a_gate_that_is_not_claimed(rt: HostRuntime) -> Result<(), Fail> {
 }
 
 fn deals_64<L: Ledger>(rt: &impl Abort, alloc: Global, ledger: Blank) -> Result<(), Fail>
-    requires name { ledger.name ≡ L.name }
-    requires parts { (ledger.parts ≡ L.parts) × (ledger.parts ≡ MAX_TALLIES) }
+    requires { IsForStore L.name L.parts ledger }
 {
     let mut store = open::<L>(alloc, ledger, FULL_ADDER, [0; 32])?;
     for i in 0..64 {
@@ -291,8 +285,7 @@ fn deals_64_tallies(rt: HostRuntime) -> Result<(), Fail> {
 }
 
 fn is_for_its_own<L: Ledger>(rt: &impl Abort, alloc: Global, ledger: Blank) -> Result<(), Fail>
-    requires name { ledger.name ≡ L.name }
-    requires parts { (ledger.parts ≡ L.parts) × (ledger.parts ≡ MAX_TALLIES) }
+    requires { IsForStore L.name L.parts ledger }
 {
     let own = Circuit::read(alloc, FULL_ADDER.as_bytes())?;
     let other = Circuit::read(alloc, NO_GATES.as_bytes())?;
@@ -313,8 +306,7 @@ fn is_for_its_circuit_and_seed(rt: HostRuntime) -> Result<(), Fail> {
 }
 
 fn is_given_back<L: Ledger>(rt: &impl Abort, alloc: Global, ledger: Blank) -> Result<(), Fail>
-    requires name { ledger.name ≡ L.name }
-    requires parts { (ledger.parts ≡ L.parts) × (ledger.parts ≡ MAX_TALLIES) }
+    requires { IsForStore L.name L.parts ledger }
 {
     let (mut store, mut tally) = open_with_tally::<L>(alloc, ledger)?;
     let task = store.claim().ok_or("a gate may go next")?;
