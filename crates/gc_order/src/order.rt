@@ -8,7 +8,7 @@ ghost use Rattle.gc_order.specs.Order.{plain_told, program, run_told, text_of, t
 use crate::commands::halfgates;
 use crate::words::{number_of, version_of, word_of, words_of};
 use clap::{ArgMatches, Error};
-use gc_file::Version;
+use gc_format::Version;
 use std::alloc::{AllocError, Global};
 
 /// A command with its words. What the words of a command name, as files, is the command's own affair.

@@ -5,7 +5,7 @@ ghost use Rattle.clap.specs.Words.{found_of, rows_of};
 ghost use Rattle.gc_order.specs.Order.{number_told, version_told, word_of, words_of};
 
 use clap::ArgMatches;
-use gc_file::Version;
+use gc_format::Version;
 use std::alloc::{AllocError, Global};
 
 /// The version of garbled files that a number names.
