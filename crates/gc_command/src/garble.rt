@@ -18,7 +18,7 @@ use crate::files::Files;
 use crate::garbling::digest_and_garbling;
 use crate::wrote::{ROOM, create_file, keep_written};
 use gc_circuit::Circuit;
-use gc_file::{Sink, Version, WriteFault, write_garbled2_by_digest, write_garbled_by_digest};
+use gc_file::{Sink, Version, WriteFault, write_garbled_by_digest, write_garbled2_by_digest};
 use gc_half::Garbling;
 use gc_label::Seed;
 use std::alloc::Allocator;
@@ -49,7 +49,9 @@ pub fn garble<R: Threads + Wait + Sync, A: Allocator + Copy + Send + Sync, F: Fi
     let circuit = read_circuit(alloc, circuit, files)?;
     let seed = Seed::from_hex(seed)?;
     let (digest, garbling) = digest_and_garbling(rt, alloc, &circuit, &seed, workers)?;
-    write_garbling(alloc, version, &circuit, &digest, &garbling, &seed, out, files)
+    write_garbling(
+        alloc, version, &circuit, &digest, &garbling, &seed, out, files,
+    )
 }
 
 /// Writes the garbled file of a garbling. That the digest is the circuit's, and that the garbling fits the circuit, are

@@ -51,8 +51,8 @@ fn garbled_bytes<R: Threads + Wait + Sync, A: Allocator + Copy + Send + Sync>(
 {
     let (digest, garbling) = digest_and_garbling(rt, alloc, circuit, seed, workers)?;
     let mut sink = MemSink::new(alloc, None);
-    write_garbled2_by_digest(&mut sink, circuit, &digest, &garbling, seed)
-        .map_err(|_| Fault::Memory)?;
+    let written = write_garbled2_by_digest(&mut sink, circuit, &digest, &garbling, seed);
+    written.map_err(|_| Fault::Memory)?;
     Ok(sink.into_bytes())
 }
 

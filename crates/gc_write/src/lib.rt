@@ -12,7 +12,5 @@ mod writer;
 
 pub use deal::write_labels;
 pub use laws::law_written_files;
-pub use write::{
-    write_garbled, write_garbled2, write_garbled2_by_digest, write_garbled_by_digest,
-};
+pub use write::{write_garbled, write_garbled_by_digest, write_garbled2, write_garbled2_by_digest};
 pub use writer::WriteFault;

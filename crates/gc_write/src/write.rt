@@ -37,12 +37,7 @@ impl FileWriter<Sha256> {
         ensures small { IsSmall garbling.now }
         ensures counted { CountsFailure result (S.failures sink.old) (S.failures sink.new) }
     {
-        let header = header(
-            version,
-            *digest,
-            circuit.and_count(),
-            garbling.outputs(),
-        );
+        let header = header(version, *digest, circuit.and_count(), garbling.outputs());
         self.write(sink, header.as_slice())?;
         self.write_rows(sink, garbling.rows())?;
         self.write_decode_bits(sink, garbling)
