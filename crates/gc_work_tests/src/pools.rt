@@ -156,12 +156,16 @@ fn gathers_with_all_thieves(rt: HostRuntime) -> Result<(), Fail> {
     let (pool, mut owner, mut thieves) = TaskPool::open(rt.alloc(), 2, 3)?;
     let stolen = steal_first(&rt, &pool, &mut owner, &mut thieves);
     let last = stolen.ok_or("no thief")?;
-    let missing = pool.gather(owner, thieves).err();
-    let (pool, mut owner, mut thieves) = missing.ok_or("gathered without a thief")?;
+    let (pool, mut owner, mut thieves) = match pool.gather(owner, thieves) {
+        Ok(_) => return Err(Fail::new("gathered without a thief")),
+        Err(back) => back,
+    };
     assert_eq!(rt; (pool.pop(&mut owner), thieves.len()), (Some(task(2)), 2));
     put_back(&pool, &mut thieves, last)?;
-    let whole = pool.gather(owner, thieves).ok();
-    let mut gathered = whole.ok_or("a thief is missing")?;
+    let mut gathered = match pool.gather(owner, thieves) {
+        Ok(gathered) => gathered,
+        Err(_) => return Err(Fail::new("a thief is missing")),
+    };
     assert_eq!(rt; gathered.next(), Some(task(1)));
     assert_eq!(rt; gathered.next(), None);
     Ok(())

@@ -138,15 +138,16 @@ fn refused_one_by_one<L: Ledger, R: Abort + Wait>(
 ) {
     let mut batch = Batch::new();
     let other = Sealed::make(foreign);
-    let beyond = Sealed::make(Task { gate: 5, ..foreign });
-    assert_eq!(rt;
+    let beyond = Sealed::make(Task {
+        gate: 5,
+        ..other.task()
+    });
+    let answers = [
         shared.hand_in(rt, other, tally, &mut batch),
-        Err(Refused::OtherInputs(other))
-    );
-    assert_eq!(rt;
         shared.hand_in(rt, beyond, tally, &mut batch),
-        Err(Refused::NotClaimed(beyond))
-    );
+    ];
+    let refusals = [Refused::OtherInputs(other), Refused::NotClaimed(beyond)];
+    assert_eq!(rt; answers, refusals.map(Err));
     assert_eq!(rt; (tally.count(), batch.is_empty()), (0, true));
 }
 
