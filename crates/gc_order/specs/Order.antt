@@ -35,55 +35,53 @@ number_option id low high default =
 abbrev pub workers_option : Rule
 workers_option = number_option (codes "workers") 0 4294967295 (codes "1")
 
+-- a command whose first word is a circuit's file
+abbrev pub command_on_circuit : List ℕ → App
+command_on_circuit name = with_rule (new_app name) (required_word (codes "circuit"))
+
+-- and whose second word is the seed
+abbrev pub command_with_seed : List ℕ → App
+command_with_seed name = with_rule (command_on_circuit name) (required_word (codes "seed"))
+
 -- `run CIRCUIT SEED [--workers WORKERS] [VALUES]...`
 abbrev pub run_command : App
 run_command =
-    let with_circuit = with_rule (new_app (codes "run")) (required_word (codes "circuit")) in
-    let with_seed = with_rule with_circuit (required_word (codes "seed")) in
-    let with_workers = with_rule with_seed workers_option in
+    let with_workers = with_rule (command_with_seed (codes "run")) workers_option in
     with_rule with_workers (more_words (codes "values"))
 
 -- `plain CIRCUIT [VALUES]...`
 abbrev pub plain_command : App
-plain_command =
-    let with_circuit = with_rule (new_app (codes "plain")) (required_word (codes "circuit")) in
-    with_rule with_circuit (more_words (codes "values"))
+plain_command = with_rule (command_on_circuit (codes "plain")) (more_words (codes "values"))
 
 -- `check CIRCUIT`
 abbrev pub check_command : App
-check_command = with_rule (new_app (codes "check")) (required_word (codes "circuit"))
+check_command = command_on_circuit (codes "check")
 
 -- `garble CIRCUIT SEED OUT [--format FORMAT] [--workers WORKERS]`
 abbrev pub garble_command : App
 garble_command =
-    let with_circuit = with_rule (new_app (codes "garble")) (required_word (codes "circuit")) in
-    let with_seed = with_rule with_circuit (required_word (codes "seed")) in
-    let with_out = with_rule with_seed (required_word (codes "out")) in
+    let with_out = with_rule (command_with_seed (codes "garble")) (required_word (codes "out")) in
     let with_format = with_rule with_out (number_option (codes "format") 1 2 (codes "2")) in
     with_rule with_format workers_option
 
 -- `deal CIRCUIT SEED INDEX VALUE OUT`
 abbrev pub deal_command : App
 deal_command =
-    let with_circuit = with_rule (new_app (codes "deal")) (required_word (codes "circuit")) in
-    let with_seed = with_rule with_circuit (required_word (codes "seed")) in
-    let with_index = with_rule with_seed (number_word (codes "index") 0 4294967295) in
+    let with_index = with_rule (command_with_seed (codes "deal")) (number_word (codes "index") 0 4294967295) in
     let with_value = with_rule with_index (required_word (codes "value")) in
     with_rule with_value (required_word (codes "out"))
 
 -- `eval CIRCUIT GARBLED [--workers WORKERS] [LABELS]...`
 abbrev pub eval_command : App
 eval_command =
-    let with_circuit = with_rule (new_app (codes "eval")) (required_word (codes "circuit")) in
-    let with_garbled = with_rule with_circuit (required_word (codes "garbled")) in
+    let with_garbled = with_rule (command_on_circuit (codes "eval")) (required_word (codes "garbled")) in
     let with_workers = with_rule with_garbled workers_option in
     with_rule with_workers (more_words (codes "labels"))
 
 -- `jobs CIRCUIT LIST [--workers WORKERS]`
 abbrev pub jobs_command : App
 jobs_command =
-    let with_circuit = with_rule (new_app (codes "jobs")) (required_word (codes "circuit")) in
-    let with_list = with_rule with_circuit (required_word (codes "list")) in
+    let with_list = with_rule (command_on_circuit (codes "jobs")) (required_word (codes "list")) in
     with_rule with_list workers_option
 
 -- The program, which needs a command, before it has any.

@@ -1,8 +1,10 @@
 //! The program's commands, as clap knows them, with their help.
 
 ghost use Rattle.std.specs.Prelude.{IfOk, codes};
-ghost use Rattle.gc_order.specs.Order.{HasRule, HasShape, check_command, deal_command, eval_command, garble_command, jobs_command};
-ghost use Rattle.gc_order.specs.Order.{more_words, number_option, number_word, plain_command, program, required_word, run_command};
+ghost use Rattle.clap.specs.Words.{App, with_subcommand};
+ghost use Rattle.gc_order.specs.Order.{HasRule, HasShape, check_command, command_on_circuit, command_with_seed, deal_command};
+ghost use Rattle.gc_order.specs.Order.{eval_command, garble_command, jobs_command, more_words, named_program, number_option};
+ghost use Rattle.gc_order.specs.Order.{number_word, plain_command, program, required_word, run_command};
 ghost use Rattle.gc_order.specs.Order.{workers_option};
 
 use clap::builder::ValueParser;
@@ -77,30 +79,44 @@ two hexadecimal digits for each 8 wires, of which the first wire is the lowest b
 pub(crate) fn halfgates<'a>(alloc: Global) -> Result<Command<'a>, AllocError>
     ensures { IfOk result (HasShape program) }
 {
+    let program = with_command(named_program(alloc), run(alloc))?;
+    let program = with_command(program, plain(alloc))?;
+    let program = with_command(program, check(alloc))?;
+    let program = with_command(program, garble(alloc))?;
+    let program = with_command(program, deal(alloc))?;
+    let program = with_command(program, eval(alloc))?;
+    with_command(program, jobs(alloc))
+}
+
+/// The program with one command more.
+fn with_command<'a>(
+    program: Command<'a>,
+    command: Result<Command<'a>, AllocError>,
+) -> Result<Command<'a>, AllocError>
+    ensures { IfOk result (λ made. (app sub : App) → HasShape app program.entry → IfOk command.entry (HasShape sub)
+        → HasShape (with_subcommand app sub.top) made) }
+{
+    program.subcommand(command?)
+}
+
+/// The program, without its commands.
+fn named_program<'a>(alloc: Global) -> Command<'a>
+    ensures { HasShape named_program result }
+{
     Command::new(alloc, "halfgates")
         .about("Garbles Boolean circuits, and evaluates them garbled")
         .version(VERSION)
         .subcommand_required(true)
         .arg_required_else_help(true)
         .disable_help_subcommand(true)
-        .subcommand(run(alloc)?)?
-        .subcommand(plain(alloc)?)?
-        .subcommand(check(alloc)?)?
-        .subcommand(garble(alloc)?)?
-        .subcommand(deal(alloc)?)?
-        .subcommand(eval(alloc)?)?
-        .subcommand(jobs(alloc)?)
 }
 
 /// The command `run`.
 fn run<'a>(alloc: Global) -> Result<Command<'a>, AllocError>
     ensures { IfOk result (HasShape run_command) }
 {
-    Command::new(alloc, "run")
-        .about("Garbles a circuit, and evaluates it garbled on the given values")
-        .after_help(RUN_HELP)
-        .arg(circuit_arg(alloc))?
-        .arg(word_arg(alloc, "seed", "SEED", SEED_HELP))?
+    let about = "Garbles a circuit, and evaluates it garbled on the given values";
+    command_with_seed(alloc, "run", about, RUN_HELP)?
         .arg(workers_arg(alloc))?
         .arg(more_arg(alloc, "values", "VALUES", VALUES_HELP))
 }
@@ -109,65 +125,59 @@ fn run<'a>(alloc: Global) -> Result<Command<'a>, AllocError>
 fn plain<'a>(alloc: Global) -> Result<Command<'a>, AllocError>
     ensures { IfOk result (HasShape plain_command) }
 {
-    Command::new(alloc, "plain")
-        .about("Evaluates a circuit on the given values, without garbling")
-        .after_help(PLAIN_HELP)
-        .arg(circuit_arg(alloc))?
-        .arg(more_arg(alloc, "values", "VALUES", VALUES_HELP))
+    let about = "Evaluates a circuit on the given values, without garbling";
+    command_on_circuit(alloc, "plain", about, PLAIN_HELP)?.arg(more_arg(
+        alloc,
+        "values",
+        "VALUES",
+        VALUES_HELP,
+    ))
 }
 
 /// The command `check`.
 fn check<'a>(alloc: Global) -> Result<Command<'a>, AllocError>
     ensures { IfOk result (HasShape check_command) }
 {
-    Command::new(alloc, "check")
-        .about("Tells a circuit's numbers and its digest")
-        .after_help(CHECK_HELP)
-        .arg(circuit_arg(alloc))
+    let about = "Tells a circuit's numbers and its digest";
+    command_on_circuit(alloc, "check", about, CHECK_HELP)
 }
 
 /// The command `garble`.
 fn garble<'a>(alloc: Global) -> Result<Command<'a>, AllocError>
     ensures { IfOk result (HasShape garble_command) }
 {
-    Command::new(alloc, "garble")
-        .about("Garbles a circuit into a file")
-        .after_help(GARBLE_HELP)
-        .arg(circuit_arg(alloc))?
-        .arg(word_arg(alloc, "seed", "SEED", SEED_HELP))?
-        .arg(word_arg(alloc, "out", "OUT", "The garbled file, which is written"))?
-        .arg(format_arg(alloc))?
-        .arg(workers_arg(alloc))
+    let out = "The garbled file, which is written";
+    command_with_seed(
+        alloc,
+        "garble",
+        "Garbles a circuit into a file",
+        GARBLE_HELP,
+    )?
+    .arg(word_arg(alloc, "out", "OUT", out))?
+    .arg(format_arg(alloc))?
+    .arg(workers_arg(alloc))
 }
 
 /// The command `deal`.
 fn deal<'a>(alloc: Global) -> Result<Command<'a>, AllocError>
     ensures { IfOk result (HasShape deal_command) }
 {
-    Command::new(alloc, "deal")
-        .about("Writes the labels of an input value into a file")
-        .after_help(DEAL_HELP)
-        .arg(circuit_arg(alloc))?
-        .arg(word_arg(alloc, "seed", "SEED", SEED_HELP))?
+    let about = "Writes the labels of an input value into a file";
+    let out = "The label file, which is written";
+    command_with_seed(alloc, "deal", about, DEAL_HELP)?
         .arg(index_arg(alloc))?
         .arg(word_arg(alloc, "value", "VALUE", VALUE_HELP))?
-        .arg(word_arg(alloc, "out", "OUT", "The label file, which is written"))
+        .arg(word_arg(alloc, "out", "OUT", out))
 }
 
 /// The command `eval`.
 fn eval<'a>(alloc: Global) -> Result<Command<'a>, AllocError>
     ensures { IfOk result (HasShape eval_command) }
 {
-    Command::new(alloc, "eval")
-        .about("Evaluates a circuit garbled, from a garbled file and label files")
-        .after_help(EVAL_HELP)
-        .arg(circuit_arg(alloc))?
-        .arg(word_arg(
-            alloc,
-            "garbled",
-            "GARBLED",
-            "The garbled file of the circuit",
-        ))?
+    let about = "Evaluates a circuit garbled, from a garbled file and label files";
+    let garbled = "The garbled file of the circuit";
+    command_on_circuit(alloc, "eval", about, EVAL_HELP)?
+        .arg(word_arg(alloc, "garbled", "GARBLED", garbled))?
         .arg(workers_arg(alloc))?
         .arg(more_arg(alloc, "labels", "LABELS", LABELS_HELP))
 }
@@ -176,12 +186,37 @@ fn eval<'a>(alloc: Global) -> Result<Command<'a>, AllocError>
 fn jobs<'a>(alloc: Global) -> Result<Command<'a>, AllocError>
     ensures { IfOk result (HasShape jobs_command) }
 {
-    Command::new(alloc, "jobs")
-        .about("Evaluates a list of garbled files of one circuit")
-        .after_help(JOBS_HELP)
-        .arg(circuit_arg(alloc))?
+    let about = "Evaluates a list of garbled files of one circuit";
+    command_on_circuit(alloc, "jobs", about, JOBS_HELP)?
         .arg(word_arg(alloc, "list", "LIST", "The file of the list"))?
         .arg(workers_arg(alloc))
+}
+
+/// A command that reads a circuit, the file of which is its first word.
+fn command_on_circuit<'a>(
+    alloc: Global,
+    name: &'a str,
+    about: &'a str,
+    help: &'a str,
+) -> Result<Command<'a>, AllocError>
+    ensures { IfOk result (HasShape (command_on_circuit name.entry.now)) }
+{
+    Command::new(alloc, name)
+        .about(about)
+        .after_help(help)
+        .arg(circuit_arg(alloc))
+}
+
+/// A command that garbles a circuit: its second word is the seed.
+fn command_with_seed<'a>(
+    alloc: Global,
+    name: &'a str,
+    about: &'a str,
+    help: &'a str,
+) -> Result<Command<'a>, AllocError>
+    ensures { IfOk result (HasShape (command_with_seed name.entry.now)) }
+{
+    command_on_circuit(alloc, name, about, help)?.arg(word_arg(alloc, "seed", "SEED", SEED_HELP))
 }
 
 /// A word that has to be there.

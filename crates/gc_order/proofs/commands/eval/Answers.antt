@@ -1,18 +1,9 @@
-use Rattle.std.proofs.Common.{ap, ◌∙◌, codes}
 use Rattle.std.proofs.lemmas.Result.{IfOk-weaker}
-use Rattle.clap.specs.Words.{new_app}
-use Rattle.clap.specs.Simple.{app_of_fields}
-use Rattle.gc_order.specs.Order.{HasShape}
 use Rattle.gc_order.proofs.OrderLemmas.{has_shape-arg}
 use Rattle.gc_order.proofs.commands.eval.Goals as goal
 
 pub returns : goal.returns
 returns c =
-    let empty : HasShape (new_app (codes "eval")) c.after_help.result = record {
-      shape = ap app_of_fields c.after_help.ensures ∙ ap app_of_fields c.about.ensures ∙ c.new.ensures.app;
-      no_globals = ap (λ f. f.has_globals) c.after_help.ensures ∙ ap (λ f. f.has_globals) c.about.ensures ∙ c.new.ensures.local;
-    } in
-    let one = has_shape-arg _ _ _ _ _ empty c.circuit_arg.ensures c.in_ok-arg.ensures in
-    let two = has_shape-arg _ _ _ _ _ one c.word_arg.ensures c.in_ok-arg-2.ensures in
-    let three = has_shape-arg _ _ _ _ _ two c.workers_arg.ensures c.in_ok-arg-3.ensures in
-    IfOk-weaker c.arg-4.result _ _ (λ r adds. has_shape-arg _ _ _ _ _ three c.more_arg.ensures adds) c.arg-4.ensures
+    let one = has_shape-arg _ _ _ _ _ c.in_ok-command_on_circuit.ensures c.word_arg.ensures c.in_ok-arg.ensures in
+    let two = has_shape-arg _ _ _ _ _ one c.workers_arg.ensures c.in_ok-arg-2.ensures in
+    IfOk-weaker c.arg-3.result _ _ (λ r adds. has_shape-arg _ _ _ _ _ two c.more_arg.ensures adds) c.arg-3.ensures
