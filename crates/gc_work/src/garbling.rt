@@ -1,6 +1,6 @@
 //! Garbling on many threads.
 
-ghost use Rattle.std.specs.Prelude.{◌≡◌, ◌<◌, ◌≤◌, All, IfOk};
+ghost use Rattle.std.specs.Prelude.{◌≡◌, ◌<◌, ◌≤◌, All, IfOk, IfSome};
 ghost use Rattle.gc_half.specs.Garbling.{IsGarbled};
 ghost use Rattle.gc_store.specs.Account.{IsForStore};
 ghost use Rattle.gc_work.specs.Ready.{IsReady};
@@ -8,7 +8,7 @@ ghost use Rattle.gc_work.specs.WorkFault.{JudgesWorkers};
 
 use crate::fault::WorkFault;
 use crate::gather::gather;
-use crate::muster::{muster, open_pools};
+use crate::muster::muster;
 use crate::pool::TaskPool;
 use crate::sweep::sweep;
 use crate::worker::{Member, work};
@@ -90,16 +90,33 @@ fn garble_by<
 {
     let store = Store::<L, A>::open_by_two(rt, alloc, ledger, circuit.try_clone(alloc)?, *seed)?;
     let capacity = circuit.gates().min(POOL_CAPACITY);
-    let (mut store, tally) = work_together(rt, alloc, store, workers, capacity, house)?;
+    let (store, tally) = work_together(rt, alloc, store, workers, capacity, house)?;
+    match swept(store, tally, circuit, seed, house) {
+        Some(garbling) => Ok(garbling),
+        None => garble_alone(alloc, circuit, seed, house),
+    }
+}
+
+/// What a store has garbled when worker 0 has gone on by itself, where that is all and it is the store of this circuit
+/// and seed.
+fn swept<L: Ledger, A: Allocator, C: Allocator, H: Gatehouse>(
+    mut store: Store<L, A>,
+    tally: Option<Tally<L>>,
+    circuit: &Circuit<C>,
+    seed: &Seed,
+    house: &H,
+) -> Option<Garbling<A>>
+    ensures { IfSome result (IsGarbled circuit.now seed.now) }
+{
     if let Some(mut tally) = tally {
         sweep(&mut store, &mut tally, house);
     }
     if store.is_for(circuit, seed) {
         if let Ok(garbling) = store.into_garbling() {
-            return Ok(garbling);
+            return Some(garbling);
         }
     }
-    garble_alone(alloc, circuit, seed, house)
+    None
 }
 
 /// The calling thread garbles alone, as worker 0.
@@ -132,8 +149,7 @@ fn work_together<
     capacity: u32,
     house: &H,
 ) -> Result<(Store<L, A>, Option<Tally<L>>), Memory> {
-    let (pools, seats, rows) = open_pools(alloc, workers, capacity)?;
-    let mut members = muster(alloc, &mut store, pools.as_slice(), seats, rows)?;
+    let (pools, mut members) = muster(alloc, &mut store, workers, capacity)?;
     let shared = SharedStore::new(store);
     run_all(rt, &shared, pools.as_slice(), members.as_mut_slice(), house);
     let tally = gather(alloc, pools, members)?;

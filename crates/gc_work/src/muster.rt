@@ -22,7 +22,7 @@ pub(crate) struct Seat<A: Allocator> {
 }
 
 /// The pools, their owners, and for each worker its thieves at the others' pools.
-pub(crate) type Opened<A> = (
+type Opened<A> = (
     Vec<TaskPool<A>, A>,
     Vec<Seat<A>, A>,
     Vec<Vec<Raid<A>, A>, A>,
@@ -68,7 +68,7 @@ fn empty_rows<A: Allocator + Copy>(
 }
 
 /// Opens a pool of this capacity for each worker.
-pub(crate) fn open_pools<A: Allocator + Copy>(
+fn open_pools<A: Allocator + Copy>(
     alloc: A,
     workers: u32,
     capacity: u32,
@@ -89,8 +89,8 @@ pub(crate) fn open_pools<A: Allocator + Copy>(
     Ok((pools, seats, rows))
 }
 
-/// The workers, from the last to worker 0. They are fewer where the store has no more tallies.
-pub(crate) fn muster<L: Ledger, A: Allocator + Copy>(
+/// The workers at these seats, from the last to worker 0. They are fewer where the store has no more tallies.
+fn seated<L: Ledger, A: Allocator + Copy>(
     alloc: A,
     store: &mut Store<L, A>,
     pools: &[TaskPool<A>],
@@ -122,4 +122,19 @@ pub(crate) fn muster<L: Ledger, A: Allocator + Copy>(
         })?;
     }
     Ok(members)
+}
+
+/// A pool of this capacity for each worker, and the workers, from the last to worker 0. They are fewer where the store
+/// has no more tallies.
+pub(crate) fn muster<L: Ledger, A: Allocator + Copy>(
+    alloc: A,
+    store: &mut Store<L, A>,
+    workers: u32,
+    capacity: u32,
+) -> Result<(Vec<TaskPool<A>, A>, Vec<Member<L, A>, A>), Memory>
+    ensures { IfOk result (λ r. All (λ m. IsReady r.0.items m) r.1.items) }
+{
+    let (pools, seats, rows) = open_pools(alloc, workers, capacity)?;
+    let members = seated(alloc, store, pools.as_slice(), seats, rows)?;
+    Ok((pools, members))
 }

@@ -1,5 +1,5 @@
 use Rattle.gc_work.proofs.PlaceLemmas.{held_rest, rows_rest, member_push}
-use Rattle.gc_work.proofs.muster.muster.Goals as goal
+use Rattle.gc_work.proofs.muster.seated.Goals as goal
 
 pub loop-seat-preserved : goal.loop-seat-preserved
 loop-seat-preserved g c =
