@@ -1,5 +1,5 @@
--- Numbers below a bound and lists of a length, case by case.
-use Rattle.std.proofs.Common.{◌≡◌, ℕ, zero, suc, ◌<◌, ◌+◌, ◌*◌, ◌/◌, ◌%◌, List, [], ◌∷◌, length, subst, arith}
+-- Numbers below a bound, case by case.
+use Rattle.std.proofs.Common.{◌≡◌, ℕ, zero, suc, ◌<◌, ◌+◌, ◌*◌, ◌/◌, ◌%◌, subst, arith}
 
 -- what holds of each number below four
 pub below_four : (P : ℕ → Type 0) → P 0 → P 1 → P 2 → P 3 → (j : ℕ) → j < 4 → P j
@@ -18,18 +18,3 @@ below_sixteen P a0 a1 a2 a3 b0 b1 b2 b3 c0 c1 c2 c3 d0 d1 d2 d3 k lt =
     (below_four _ a0 a1 a2 a3) (below_four _ b0 b1 b2 b3)
     (below_four _ c0 c1 c2 c3) (below_four _ d0 d1 d2 d3)
     (k / 4) (omega arith) (k % 4) (omega arith))
-
--- what holds of the empty list
-pub none : {A : Type 0} (P : List A → Type 0) → P [] → (xs : List A) → length xs ≡ 0 → P xs
-none P p [] e = p
-none P p (x ∷ xs) e = absurd (omega arith)
-
--- what holds of each list that begins with four elements
-pub four_more : {A : Type 0} (P : List A → Type 0) (n : ℕ)
-    → ((a b c d : A) (xs : List A) → length xs ≡ n → P (a ∷ b ∷ c ∷ d ∷ xs))
-    → (xs : List A) → length xs ≡ n + 4 → P xs
-four_more P n p (a ∷ b ∷ c ∷ d ∷ xs) e = p a b c d xs (omega arith)
-four_more P n p [] e = absurd (omega arith)
-four_more P n p (a ∷ []) e = absurd (omega arith)
-four_more P n p (a ∷ b ∷ []) e = absurd (omega arith)
-four_more P n p (a ∷ b ∷ c ∷ []) e = absurd (omega arith)

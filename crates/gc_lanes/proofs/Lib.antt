@@ -1,7 +1,6 @@
 pub mod Bits
 pub mod BytesOfWords
 pub mod CaseByCase
-pub mod WordLanes
 pub mod OneBlock
 pub mod Rotations
-pub mod WindowLanes
+pub mod WordLanes

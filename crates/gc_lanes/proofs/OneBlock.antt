@@ -1,10 +1,10 @@
 -- A message of 24 bytes has one block, whose words are those of the label, the tweak and the padding.
 use Rattle.std.proofs.Common.{◌≡◌, ℕ, ◌+◌, ◌≤◌, List, ◌∷◌, ◌++◌, length, take, replicate, refl, sym, ap, ◌∙◌, arith, length-append}
 use Rattle.std.proofs.lemmas.List.{get_or-append-add, get_or_append_left, take_all}
-use Rattle.std.specs.Int.{w32, w64, to_be_bytes}
+use Rattle.std.specs.Int.{w64, to_be_bytes}
 use Rattle.std.specs.Prelude.{slice_index}
 use Rattle.sha2.specs.Sha256.{compress, digest_bytes, hash_after, initial_hash_256, sha256, word_at}
-use Rattle.gc_lanes.specs.Hash.{padded_words}
+use Rattle.gc_lanes.specs.Hash.{front_of_digest, padded_words}
 use Rattle.gc_lanes.specs.Lanes.{IsBlockOf}
 use Rattle.gc_lanes.proofs.CaseByCase.{below_sixteen}
 
@@ -53,19 +53,14 @@ IsBlockOf_words l t el et =
     (tweak 0 (omega arith)) (tweak 4 (omega arith)) (after 0) (after 4)
     (after 8) (after 12) (after 16) (after 20) (after 24) (after 28) (after 32) (after 36)
 
--- the first 16 bytes of a state's words
-abbrev pub half_digest : List ℕ → List ℕ
-half_digest h = to_be_bytes w32 (slice_index h 0) ++ to_be_bytes w32 (slice_index h 1)
-    ++ to_be_bytes w32 (slice_index h 2) ++ to_be_bytes w32 (slice_index h 3)
-
-take-digest_bytes : (h : List ℕ) → take 16 (digest_bytes h 8) ≡ half_digest h
+take-digest_bytes : (h : List ℕ) → take 16 (digest_bytes h 8) ≡ front_of_digest h
 unfolding digest_bytes
 take-digest_bytes h = refl
 
 -- the first half of the digest, from the words of the compressed state
 pub take-sha256 : (l t h : List ℕ) → length l ≡ 16 → length t ≡ 8
     → h ≡ compress initial_hash_256 ((l ++ t) ++ ending)
-    → half_digest h ≡ take 16 (sha256 (l ++ t))
+    → front_of_digest h ≡ take 16 (sha256 (l ++ t))
 take-sha256 l t h el et eh =
     let long : length (l ++ t) ≡ 24 = omega (arith, length-append l t) in
     sym (take-digest_bytes h) ∙ ap (λ (x : List ℕ). take 16 (digest_bytes x 8)) eh

@@ -1,41 +1,97 @@
--- What the shifts of a vector are in each lane, and that each lane is a word.
-use Rattle.std.proofs.Common.{◌≡◌, ℕ, zero, suc, ◌<◌, ◌-◌, ◌*◌, ◌/◌, ◌%◌, ◌^◌, List, [], ◌∷◌, length, slice_index, bit_or, arith, refl}
+-- What the operations of a vector of words are in each of its lanes.
+use Rattle.std.proofs.Common.{◌≡◌, ℕ, zero, suc, ◌<◌, ◌-◌, ◌*◌, ◌/◌, ◌%◌, ◌^◌, List, [], ◌∷◌, length, replicate, slice_index, bit_or, arith, refl, sym, ap, ◌∙◌, mod-lt, pow_pos}
+use Rattle.std.proofs.lemmas.Nat.{or_lt, shr_le}
+use Rattle.std.proofs.lemmas.Simd.{Each1-replicate, Each1-zip2, Each2-of, get_or-replicate, get_or-zip2, length-replicate, length-zip2}
 use Rattle.std.specs.Int.{w32, rotate_right}
 use Rattle.std.specs.Simd.Lanes.{zip2, Each1}
 use mir.Val.{Fits}
-use Rattle.gc_lanes.proofs.CaseByCase.{below_four, four_more, none}
+use native.Mathlib.Nat.{mod-eq_of_lt}
 
--- one number in each lane
-abbrev in_each : ℕ → List ℕ
-in_each k = k ∷ k ∷ k ∷ k ∷ []
+-- the word that lane j of a vector holds
+abbrev pub lane : List ℕ → ℕ → ℕ
+lane v j = slice_index v j % 2 ^ 32
 
-abbrev right : List ℕ → ℕ → List ℕ
-right a k = zip2 (λ x n. x / 2 ^ n) a (in_each k)
+-- these are n words
+abbrev pub AreWords : ℕ → List ℕ → Type 0
+AreWords n v = (length v ≡ n) × Each1 (Fits w32) v
 
-abbrev left : List ℕ → ℕ → List ℕ
-left a k = zip2 (λ x n. x * 2 ^ n % 2 ^ 32) a (in_each k)
+-- the operation gives a word, of two words
+abbrev pub GivesWord : (ℕ → ℕ → ℕ) → Type 0
+GivesWord f = (x y : ℕ) → x < 2 ^ 32 → y < 2 ^ 32 → f x y < 2 ^ 32
 
-abbrev Shifts : ℕ → List ℕ → Type 0
-Shifts k a = (j : ℕ) → j < 4 → slice_index (right a k) j ≡ slice_index a j / 2 ^ k
+word_fits : (v : List ℕ) → Each1 (Fits w32) v → (j : ℕ) → slice_index v j < 2 ^ 32
+word_fits [] each j = omega arith
+word_fits (x ∷ v) each zero = each.0.fits
+word_fits (x ∷ v) each (suc j) = word_fits v each.1 j
 
-abbrev Rotates : ℕ → List ℕ → Type 0
-Rotates k a = (j : ℕ) → j < 4
-    → slice_index (zip2 bit_or (right a k) (left a (32 - k))) j ≡ rotate_right w32 (slice_index a j) k
+-- a lane's word is the one that stands there
+pub lane-is : (v : List ℕ) → Each1 (Fits w32) v → (j : ℕ) → lane v j ≡ slice_index v j
+lane-is v each j = mod-eq_of_lt (word_fits v each j)
 
-pub shifts : (k : ℕ) (a : List ℕ) → length a ≡ 4 → Shifts k a
-shifts k =
-    four_more (Shifts k) 0 (λ a b c d. none (λ v. Shifts k (a ∷ b ∷ c ∷ d ∷ v))
-    (below_four _ refl refl refl refl))
+pub AreWords-splat : (n k : ℕ) → k < 2 ^ 32 → AreWords n (replicate n k)
+AreWords-splat n k fits = (length-replicate n k, Each1-replicate (Fits w32) n k (record { fits = fits }))
 
-pub shifts_rotate : (k : ℕ) → 0 < k → k < 32 → (a : List ℕ) → length a ≡ 4 → Rotates k a
-shifts_rotate k low high =
-    let down : k % 32 ≡ k = omega arith in
-    let up : (32 - k) % 32 ≡ 32 - k = omega arith in
-    four_more (Rotates k) 0 (λ a b c d. none (λ v. Rotates k (a ∷ b ∷ c ∷ d ∷ v))
-    (below_four _ (rw (down, up) refl) (rw (down, up) refl) (rw (down, up) refl) (rw (down, up) refl)))
+pub lane-splat : (n k j : ℕ) → k < 2 ^ 32 → j < n → lane (replicate n k) j ≡ k
+lane-splat n k j fits lt =
+    lane-is (replicate n k) (AreWords-splat n k fits).1 j ∙ get_or-replicate n j k 0 lt
 
--- each lane of a vector is a word
-pub lane_fits : (xs : List ℕ) → Each1 (Fits w32) xs → (j : ℕ) → slice_index xs j < 2 ^ 32
-lane_fits [] each j = omega arith
-lane_fits (x ∷ xs) each zero = each.0.fits
-lane_fits (x ∷ xs) each (suc j) = lane_fits xs each.1 j
+module _ (f : ℕ → ℕ → ℕ) (gives : GivesWord f) (n : ℕ) (a b : List ℕ) (wa : AreWords n a) (wb : AreWords n b) where
+  pub AreWords-zip2 : AreWords n (zip2 f a b)
+  AreWords-zip2 = (
+    length-zip2 f a b (wa.0 ∙ sym wb.0) ∙ wa.0,
+    Each1-zip2 f (Fits w32) a b
+        (Each2-of (Fits w32) (Fits w32) (λ x y. Fits w32 (f x y)) (λ x y fx fy. record { fits = gives x y fx.fits fy.fits })
+        a b wa.1 wb.1),
+  )
+
+  -- an operation on two vectors is one on the words of each lane
+  pub lane-zip2 : (j : ℕ) → j < n → lane (zip2 f a b) j ≡ f (lane a j) (lane b j)
+  lane-zip2 j lt =
+      lane-is (zip2 f a b) AreWords-zip2.1 j
+      ∙ get_or-zip2 f a b j 0 0 0 (omega (arith, wa.0)) (omega (arith, wb.0))
+      ∙ (λ t. f (sym (lane-is a wa.1 j) t) (sym (lane-is b wb.1 j) t))
+
+abbrev right : ℕ → ℕ → ℕ
+right x k = x / 2 ^ k
+
+abbrev left : ℕ → ℕ → ℕ
+left x k = x * 2 ^ k % 2 ^ 32
+
+right-gives : GivesWord right
+right-gives x k fx fk = omega (arith, shr_le x k)
+
+left-gives : GivesWord left
+left-gives x k fx fk = mod-lt (x * 2 ^ k) (pow_pos 32)
+
+module _ (n : ℕ) (a : List ℕ) (wa : AreWords n a) (k : ℕ) where
+  pub lane-right : k < 32 → (j : ℕ) → j < n
+      → lane (zip2 right a (replicate n k)) j ≡ lane a j / 2 ^ k
+  lane-right lt j in_lanes =
+      let fits : k < 2 ^ 32 = omega arith in
+      lane-zip2 right right-gives n a (replicate n k) wa (AreWords-splat n k fits) j in_lanes
+      ∙ ap (right (lane a j)) (lane-splat n k j fits in_lanes)
+
+  -- two shifts rotate
+  pub lane-rotated : 0 < k → k < 32 → (j : ℕ) → j < n
+      → lane (zip2 bit_or (zip2 right a (replicate n k)) (zip2 left a (replicate n (32 - k)))) j
+      ≡ rotate_right w32 (lane a j) k
+  lane-rotated low high j in_lanes =
+      let x = lane a j in
+      let fits : k < 2 ^ 32 = omega arith in
+      let fits_rest : 32 - k < 2 ^ 32 = omega arith in
+      let wk = AreWords-splat n k fits in
+      let wr = AreWords-splat n (32 - k) fits_rest in
+      let rights = zip2 right a (replicate n k) in
+      let lefts = zip2 left a (replicate n (32 - k)) in
+      let down : k % 32 ≡ k = omega arith in
+      let up : (32 - k) % 32 ≡ 32 - k = omega arith in
+      lane-zip2 bit_or (or_lt 32) n rights lefts
+      (AreWords-zip2 right right-gives n a (replicate n k) wa wk)
+      (AreWords-zip2 left left-gives n a (replicate n (32 - k)) wa wr) j in_lanes
+      ∙ rw (
+        lane-right high j in_lanes,
+        lane-zip2 left left-gives n a (replicate n (32 - k)) wa wr j in_lanes,
+        lane-splat n (32 - k) j fits_rest in_lanes,
+        down,
+        up,
+      ) refl

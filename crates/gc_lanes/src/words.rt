@@ -1,50 +1,110 @@
-//! The operations of SHA-256 on words (FIPS 180-4, 2.2.2 and 3.2), in four lanes at once.
+//! The operations of SHA-256 on words (FIPS 180-4, 2.2.2 and 3.2), in each lane of a vector at once.
 
-ghost use Rattle.std.specs.Prelude.{◌≡◌, ◌<◌, ◌/◌, ◌^◌, ℕ, bit_and, bit_xor, slice_index};
+ghost use Rattle.std.specs.Prelude.{◌≡◌, ◌≢◌, ◌<◌, ◌/◌, ◌%◌, ◌^◌, ℕ, bit_and, bit_xor, slice_index};
 ghost use Rattle.std.specs.Int.{rotate_right, w32};
+ghost use Rattle.std.proofs.Common.{mod-lt, pow_pos};
 ghost use Rattle.sha2.specs.Sha256.{add32};
 
-use std::simd::u32x4;
+use std::simd::Simd;
 
-/// The sum modulo 2 ^ 32.
-#[inline(always)]
-pub(crate) fn add(x: u32x4, y: u32x4) -> u32x4
-    ensures { (j : ℕ) → j < 4 → slice_index result j ≡ add32 (slice_index x j) (slice_index y j) }
-{
-    x + y
+/// Words side by side, one in each lane.
+pub(crate) trait Words: Copy {
+    // How many lanes there are.
+    ghost lanes: { ℕ };
+
+    // The word that lane j holds.
+    ghost lane: { Self → ℕ → ℕ };
+
+    /// The same word in each lane.
+    fn splat(word: u32) -> Self
+        ensures { (j : ℕ) → j < lanes → lane result j ≡ word };
+
+    /// A lane's word.
+    fn word(self, place: usize) -> u32
+        requires { place < lanes }
+        ensures { result ≡ lane self place };
+
+    /// The words with another in one lane.
+    fn with_word(self, place: usize, word: u32) -> Self
+        requires { place < lanes }
+        ensures place { lane result place ≡ word }
+        ensures others { (j : ℕ) → j ≢ place → lane result j ≡ lane self j };
+
+    /// The sum modulo 2 ^ 32.
+    fn add(self, other: Self) -> Self
+        ensures { (j : ℕ) → j < lanes → lane result j ≡ add32 (lane self j) (lane other j) };
+
+    /// The bitwise exclusive or.
+    fn xor(self, other: Self) -> Self
+        ensures { (j : ℕ) → j < lanes → lane result j ≡ bit_xor (lane self j) (lane other j) };
+
+    /// The bitwise and.
+    fn and(self, other: Self) -> Self
+        ensures { (j : ℕ) → j < lanes → lane result j ≡ bit_and (lane self j) (lane other j) };
+
+    /// SHR: a shift to the right.
+    fn shift_right(self, count: u32) -> Self
+        requires { count < 32 }
+        ensures { (j : ℕ) → j < lanes → lane result j ≡ lane self j / 2 ^ count };
+
+    /// ROTR: a rotation to the right.
+    fn rotate_right(self, count: u32) -> Self
+        requires above { 0 < count }
+        requires below { count < 32 }
+        ensures { (j : ℕ) → j < lanes → lane result j ≡ rotate_right w32 (lane self j) count };
+
+    // Each lane holds a word.
+    ghost fits: { (v : Self) (j : ℕ) → lane v j < 2 ^ 32 };
 }
 
-/// The bitwise exclusive or.
-#[inline(always)]
-pub(crate) fn xor(x: u32x4, y: u32x4) -> u32x4
-    ensures { (j : ℕ) → j < 4 → slice_index result j ≡ bit_xor (slice_index x j) (slice_index y j) }
-{
-    x ^ y
-}
+impl<const N: usize> Words for Simd<u32, N> {
+    ghost lanes = { N };
 
-/// The bitwise and.
-#[inline(always)]
-pub(crate) fn and(x: u32x4, y: u32x4) -> u32x4
-    ensures { (j : ℕ) → j < 4 → slice_index result j ≡ bit_and (slice_index x j) (slice_index y j) }
-{
-    x & y
-}
+    // The remainder is the lane itself, which is below 2 ^ 32. It makes `fits` hold of any list.
+    ghost lane = { λ v j. slice_index v j % 2 ^ 32 };
 
-/// SHR: a shift to the right.
-#[inline(always)]
-pub(crate) fn shift_right(x: u32x4, count: u32) -> u32x4
-    requires { count < 32 }
-    ensures { (j : ℕ) → j < 4 → slice_index result j ≡ slice_index x j / 2 ^ count }
-{
-    x >> u32x4::splat(count)
-}
+    #[inline(always)]
+    fn splat(word: u32) -> Self {
+        Simd::splat(word)
+    }
 
-/// ROTR: a rotation to the right, by two shifts.
-#[inline(always)]
-pub(crate) fn rotate_right(x: u32x4, count: u32) -> u32x4
-    requires above { 0 < count }
-    requires below { count < 32 }
-    ensures { (j : ℕ) → j < 4 → slice_index result j ≡ rotate_right w32 (slice_index x j) count }
-{
-    (x >> u32x4::splat(count)) | (x << u32x4::splat(32 - count))
+    #[inline(always)]
+    fn word(self, place: usize) -> u32 {
+        self[place]
+    }
+
+    #[inline(always)]
+    fn with_word(self, place: usize, word: u32) -> Self {
+        let mut words = self.to_array();
+        words[place] = word;
+        Simd::from_array(words)
+    }
+
+    #[inline(always)]
+    fn add(self, other: Self) -> Self {
+        self + other
+    }
+
+    #[inline(always)]
+    fn xor(self, other: Self) -> Self {
+        self ^ other
+    }
+
+    #[inline(always)]
+    fn and(self, other: Self) -> Self {
+        self & other
+    }
+
+    #[inline(always)]
+    fn shift_right(self, count: u32) -> Self {
+        self >> Simd::splat(count)
+    }
+
+    // Two shifts make a rotation.
+    #[inline(always)]
+    fn rotate_right(self, count: u32) -> Self {
+        (self >> Simd::splat(count)) | (self << Simd::splat(32 - count))
+    }
+
+    ghost fits = { λ v j. mod-lt (slice_index v j) (pow_pos 32) };
 }

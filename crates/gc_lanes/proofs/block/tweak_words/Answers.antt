@@ -1,6 +1,8 @@
-use Rattle.std.proofs.Common.{rules}
-use Rattle.gc_lanes.proofs.CaseByCase.{below_four}
+use Rattle.std.proofs.Common.{◌∙◌, arith, below_more}
 use Rattle.gc_lanes.proofs.block.tweak_words.Goals as goal
 
-pub returns : goal.returns
-returns c = below_four _ (search rules) (search rules) (search rules) (search rules)
+pub loop-j-preserved : goal.loop-j-preserved
+loop-j-preserved g c =
+    below_more _ _
+    (λ j lt. c.with_word-words.ensures.others j (omega arith) ∙ c.loop-j.invariant j lt)
+    (cc)

@@ -1,0 +1,8 @@
+use Rattle.std.proofs.Common.{◌≡◌, ◌<◌, ℕ, slice_index}
+use Rattle.std.specs.Int.{to_le_bytes, w64}
+use Rattle.sha2.specs.Sha256.{word_at}
+use Rattle.gc_lanes.proofs.block.tweak_words.Given as goal
+
+abbrev pub invariant-loop-j : goal.invariant-loop-j
+invariant-loop-j g l =
+    (j : ℕ) → j < l.j → g.W.Words.lane l.words j ≡ word_at (to_le_bytes w64 (slice_index l.tweaks j)) l.start
