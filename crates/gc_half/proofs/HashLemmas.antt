@@ -1,5 +1,5 @@
 -- The tweaked hash of a label's bytes is the hash of the label.
-use Rattle.std.proofs.Common.{◌≡◌, ℕ, List, ap, ◌∙◌}
+use Rattle.std.proofs.Common.{◌≡◌, ℕ, List, [], ◌∷◌, ap, ◌∙◌, arith, length, map, slice_index_or}
 use Rattle.gc_label.specs.Label.{label_of_bytes, bytes_of_label}
 use Rattle.gc_lanes.specs.Hash.{tweaked_hash}
 use Rattle.gc_half.specs.Hash.{hash, tweak_bytes}
@@ -9,3 +9,15 @@ pub label-hash : (label tweak : ℕ) (bytes hashed : List ℕ) → bytes ≡ byt
 unfolding hash tweak_bytes tweaked_hash
 label-hash label tweak bytes hashed spelt is =
     ap label_of_bytes (is ∙ ap (λ b. tweaked_hash b tweak) spelt)
+
+-- what is mapped over a list of four, element by element
+pub map-four : {A : Type 0} (f : A → ℕ) (inputs : List A) (u v w x : A) {e g h i : ℕ} → length inputs ≡ 4
+    → e ≡ f (slice_index_or inputs 0 u) → g ≡ f (slice_index_or inputs 1 v)
+    → h ≡ f (slice_index_or inputs 2 w) → i ≡ f (slice_index_or inputs 3 x)
+    → e ∷ g ∷ h ∷ i ∷ [] ≡ map f inputs
+map-four f [] u v w x n p q r s = absurd (omega arith)
+map-four f (a ∷ []) u v w x n p q r s = absurd (omega arith)
+map-four f (a ∷ b ∷ []) u v w x n p q r s = absurd (omega arith)
+map-four f (a ∷ b ∷ c ∷ []) u v w x n p q r s = absurd (omega arith)
+map-four f (a ∷ b ∷ c ∷ d ∷ []) u v w x n p q r s = λ t. p t ∷ q t ∷ r t ∷ s t ∷ []
+map-four f (a ∷ b ∷ c ∷ d ∷ y ∷ more) u v w x n p q r s = absurd (omega arith)

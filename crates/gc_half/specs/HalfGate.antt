@@ -1,6 +1,6 @@
 -- The two halves of an AND gate, over any hash of a label and a tweak: the procedures GbAnd and Ev of "Two Halves Make
 -- a Whole" (Zahur, Rosulek and Evans, 2015).
-use Rattle.std.specs.Prelude.{ℕ, ◌+◌, ◌*◌}
+use Rattle.std.specs.Prelude.{ℕ, ◌+◌, ◌*◌, List, [], ◌∷◌}
 use Rattle.gc_label.specs.Label.{◌⊕◌, colour, times}
 
 -- The gate is the k-th AND gate in file order, counted from 0. Its tweaks are 2 * k and 2 * k + 1.
@@ -24,6 +24,15 @@ module _ (hash : ℕ → ℕ → ℕ) (k : ℕ) where
   -- and the zero label of the wire set, their sum.
   abbrev pub and_zero : ℕ → ℕ → ℕ → ℕ
   and_zero r a b = generator_half r a b ⊕ evaluator_half r a b
+
+  -- What garbling gives, together: this label, the generator's row and the evaluator's row.
+  abbrev pub and_garbled : ℕ → ℕ → ℕ → ℕ × ℕ × ℕ
+  and_garbled r a b = (and_zero r a b, generator_row r a b, evaluator_row r a b)
+
+  -- The four hashes that it takes.
+  abbrev pub and_hashes : ℕ → ℕ → ℕ → List ℕ
+  and_hashes r a b =
+      hash a (2 * k) ∷ hash (a ⊕ r) (2 * k) ∷ hash b (2 * k + 1) ∷ hash (b ⊕ r) (2 * k + 1) ∷ []
 
   -- Evaluation: the active label of the wire set, from the two rows and the active labels a and b of the wires read.
   abbrev pub and_active : ℕ → ℕ → ℕ → ℕ → ℕ

@@ -1,10 +1,10 @@
 //! The hash that garbling and evaluation share.
 
-ghost use Rattle.std.specs.Prelude.{◌≡◌};
+ghost use Rattle.std.specs.Prelude.{◌≡◌, map};
 ghost use Rattle.gc_half.specs.Hash as hashes;
 
 use gc_label::Label;
-use gc_lanes::hash_four;
+use gc_lanes::{hash_eight, hash_four};
 use sha2::{Digest, Sha256};
 
 /// The hash of a label under a tweak: the first 16 bytes of SHA-256 (FIPS 180-4) of the label's 16 bytes
@@ -24,29 +24,60 @@ pub fn tweak_hash(label: Label, tweak: u64) -> Label
 
 /// Four such hashes at once, each of a label and its tweak.
 #[inline]
-pub(crate) fn tweak_hash_four(
-    first: (Label, u64),
-    second: (Label, u64),
-    third: (Label, u64),
-    fourth: (Label, u64),
-) -> (Label, Label, Label, Label)
-    ensures first { result.0 ≡ hashes.hash first.0 first.1 }
-    ensures second { result.1 ≡ hashes.hash second.0 second.1 }
-    ensures third { result.2 ≡ hashes.hash third.0 third.1 }
-    ensures fourth { result.3 ≡ hashes.hash fourth.0 fourth.1 }
+pub(crate) fn tweak_hash_four(inputs: [(Label, u64); 4]) -> [Label; 4]
+    ensures { result ≡ map (λ input. hashes.hash input.0 input.1) inputs }
 {
+    let [a, b, c, d] = inputs;
     let labels = [
-        first.0.to_bytes(),
-        second.0.to_bytes(),
-        third.0.to_bytes(),
-        fourth.0.to_bytes(),
+        a.0.to_bytes(),
+        b.0.to_bytes(),
+        c.0.to_bytes(),
+        d.0.to_bytes(),
     ];
-    let hashes = hash_four(&labels, &[first.1, second.1, third.1, fourth.1]);
-    (
+    let hashes = hash_four(&labels, &[a.1, b.1, c.1, d.1]);
+    [
         Label::from_bytes(hashes[0]),
         Label::from_bytes(hashes[1]),
         Label::from_bytes(hashes[2]),
         Label::from_bytes(hashes[3]),
+    ]
+}
+
+/// Eight such hashes at once: four, and four others.
+#[inline]
+pub(crate) fn tweak_hash_eight(
+    inputs: [(Label, u64); 4],
+    others: [(Label, u64); 4],
+) -> ([Label; 4], [Label; 4])
+    ensures inputs { result.0 ≡ map (λ input. hashes.hash input.0 input.1) inputs }
+    ensures others { result.1 ≡ map (λ input. hashes.hash input.0 input.1) others }
+{
+    let [a, b, c, d] = inputs;
+    let [e, f, g, h] = others;
+    let labels = [
+        a.0.to_bytes(),
+        b.0.to_bytes(),
+        c.0.to_bytes(),
+        d.0.to_bytes(),
+        e.0.to_bytes(),
+        f.0.to_bytes(),
+        g.0.to_bytes(),
+        h.0.to_bytes(),
+    ];
+    let hashes = hash_eight(&labels, &[a.1, b.1, c.1, d.1, e.1, f.1, g.1, h.1]);
+    (
+        [
+            Label::from_bytes(hashes[0]),
+            Label::from_bytes(hashes[1]),
+            Label::from_bytes(hashes[2]),
+            Label::from_bytes(hashes[3]),
+        ],
+        [
+            Label::from_bytes(hashes[4]),
+            Label::from_bytes(hashes[5]),
+            Label::from_bytes(hashes[6]),
+            Label::from_bytes(hashes[7]),
+        ],
     )
 }
 
