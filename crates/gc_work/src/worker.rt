@@ -119,6 +119,32 @@ fn next_task<L: Ledger, A: Allocator, R: Wait>(
     shared.take(rt)
 }
 
+/// Seals an AND gate's task together with the kept one, or keeps it. The answer is whether there was room for them.
+#[inline(always)]
+fn seal_and<A: Allocator>(
+    sealed: &mut Vec<Sealed, A>,
+    kept: &mut Option<Task>,
+    task: Task,
+) -> bool {
+    let Some(other) = kept.take() else {
+        *kept = Some(task);
+        return true;
+    };
+    let (one, two) = Sealed::make_two(other, task);
+    sealed.push(one).is_ok() && sealed.push(two).is_ok()
+}
+
+/// Seals a task, or keeps one of an AND gate until it can be sealed together with another. The answer is whether there
+/// was room for what was sealed.
+#[inline(always)]
+fn seal<A: Allocator>(sealed: &mut Vec<Sealed, A>, kept: &mut Option<Task>, task: Task) -> bool {
+    if task.operation.is_and() {
+        seal_and(sealed, kept, task)
+    } else {
+        sealed.push(Sealed::make(task)).is_ok()
+    }
+}
+
 /// Seals a task, and then those that the worker has, up to [`MAX_SEALED`]. The answer is whether there was room
 /// for them.
 fn seal_some<L: Ledger, A: Allocator, H: Gatehouse>(
@@ -134,13 +160,14 @@ fn seal_some<L: Ledger, A: Allocator, H: Gatehouse>(
     ensures raids { member.new.raids ≡ member.old.raids }
 {
     member.sealed.clear();
+    let mut kept = None;
     let mut next = Some(task);
     for i in 0..MAX_SEALED {
         let Some(task) = next else {
-            return true;
+            break;
         };
         house.before(member.number, task.gate);
-        if let Err(_full) = member.sealed.push(Sealed::make(task)) {
+        if !seal(&mut member.sealed, &mut kept, task) {
             return false;
         }
         next = if i + 1 < MAX_SEALED {
@@ -149,7 +176,10 @@ fn seal_some<L: Ledger, A: Allocator, H: Gatehouse>(
             None
         };
     }
-    true
+    match kept {
+        Some(task) => member.sealed.push(Sealed::make(task)).is_ok(),
+        None => true,
+    }
 }
 
 /// Works until nothing is left to do, or until the store is stopped. Where a task can't be handed in it stops the
