@@ -27,7 +27,7 @@ python3 "$top/bench/make_circuit.py" 1000000 0 "$tmp/xor.txt"
 
 # The times of parts that ran in turns, as shell variables: half_gates, half_read, .. and xor_open, xor_store, ..
 times() { "$bench" "$2" "$3" "${@:4}" | sed "s/^/$1_/; s/ /=/"; }
-eval "$(times half "$circuit" 9 read plain hashes lanes garble evaluate digest sha)"
+eval "$(times half "$circuit" 9 read plain hashes lanes eight_lanes garble evaluate digest sha)"
 eval "$(times xor "$tmp/xor.txt" 25 open seal store)"
 eval "$(times xor "$tmp/xor.txt" 25 garble)"
 eval "$(times half "$circuit" 5 job job1 job4)"
@@ -52,6 +52,7 @@ if [ -n "${BASELINE:-}" ]; then
     echo "  the C baseline: $parse_ns ns; reading takes $(ratio "$read_ns" "$parse_ns") as long (at most 2)"
 fi
 echo "plain evaluation: $(per_gate "$half_plain" "$half_gates") (at most 10)"
+echo "hashes eight at once: $(ratio "$half_eight_lanes" "$half_lanes") the same hashes four at once"
 echo "garbling on one thread: $half_garble ns, $(ratio "$half_garble" "$half_hashes") its hashes one after another (at most 0.5), and $(ratio "$half_garble" "$half_lanes") the same hashes four at once"
 echo "garbling XOR gates: $(per_gate "$xor_garble" "$xor_gates") (at most 8)"
 echo "evaluation from labels: $half_evaluate ns, $(ratio "$((2 * half_evaluate))" "$half_hashes") its hashes one after another (at most 0.65), and $(ratio "$((2 * half_evaluate))" "$half_lanes") the same hashes four at once"

@@ -10,7 +10,7 @@ use gc_eval::{Job, evaluate_labels};
 use gc_file::{GarbledReader, MemSink, Sink, SinkFault, read_garbled, write_garbled2};
 use gc_half::{Garbling, garble_one_thread, tweak_hash};
 use gc_label::{Label, Seed, fill_input_labels};
-use gc_lanes::hash_four;
+use gc_lanes::{hash_eight, hash_four};
 use gc_store::{Sealed, Task};
 use gc_work::{Open, garble};
 use sha2::{Digest, Sha256};
@@ -141,6 +141,7 @@ impl Subject {
             Part::Garble => self.garble_alone(alloc),
             Part::Hashes => self.hashes(),
             Part::Lanes => self.lanes(),
+            Part::EightLanes => self.eight_lanes(),
             Part::Evaluate => self.evaluate(alloc),
             Part::Open => open_once(alloc, &self.circuit, self.seed),
             Part::Store => garble_once(alloc, &self.circuit, self.seed),
@@ -190,6 +191,18 @@ impl Subject {
             labels = hash_four(&labels, &[k; 4]);
         }
         if labels == [[0; 16]; 4] {
+            return Err(anyhow!("hashes of zeros"));
+        }
+        Ok(())
+    }
+
+    /// As many hashes, in eight lanes.
+    fn eight_lanes(&self) -> Result<()> {
+        let mut labels = [[0; 16]; 8];
+        for k in 0..u64::from(self.circuit.and_count().div_ceil(2)) {
+            labels = hash_eight(&labels, &[k; 8]);
+        }
+        if labels == [[0; 16]; 8] {
             return Err(anyhow!("hashes of zeros"));
         }
         Ok(())

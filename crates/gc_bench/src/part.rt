@@ -13,6 +13,8 @@ pub enum Part {
     Hashes,
     /// The same number of hashes, four at once.
     Lanes,
+    /// The same number of hashes, eight at once.
+    EightLanes,
     /// Evaluation from labels.
     Evaluate,
     /// Opening a store of a copy of the circuit.
@@ -54,12 +56,13 @@ pub enum Part {
 }
 
 /// All parts.
-const PARTS: [Part; 24] = [
+const PARTS: [Part; 25] = [
     Part::Read,
     Part::Plain,
     Part::Garble,
     Part::Hashes,
     Part::Lanes,
+    Part::EightLanes,
     Part::Evaluate,
     Part::Open,
     Part::Store,
@@ -103,6 +106,7 @@ impl Part {
             Part::Garble => "garble",
             Part::Hashes => "hashes",
             Part::Lanes => "lanes",
+            Part::EightLanes => "eight_lanes",
             Part::Evaluate => "evaluate",
             Part::Open => "open",
             Part::Store => "store",

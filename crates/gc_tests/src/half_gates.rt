@@ -22,7 +22,8 @@
 use crate::labels::{A, B, R, label};
 use gc_circuit::Circuit;
 use gc_half::{
-    AndStep, Garbling, RowPair, eval_and, eval_two_ands, garble_and, garble_one_thread, tweak_hash,
+    AndGate, AndStep, Garbling, RowPair, eval_and, eval_two_ands, garble_and, garble_one_thread,
+    garble_two_ands, tweak_hash,
 };
 use gc_label::{Label, Seed, offset};
 use gc_worked::circuits::{
@@ -125,11 +126,30 @@ fn step_of((k, a, b, (_, generator, evaluator)): (u32, u128, u128, (u128, u128, 
     }
 }
 
+/// An AND gate to be garbled, under the offset of the seed of 32 zero bytes.
+fn gate_of((k, a, b, _): (u32, u128, u128, (u128, u128, u128))) -> AndGate {
+    AndGate {
+        k,
+        offset: offset(&Seed::from_bytes([0; 32])),
+        a: label(a),
+        b: label(b),
+    }
+}
+
+/// What garbling it gives.
+fn garbled_of(
+    (_, _, _, (zero, generator, evaluator)): (u32, u128, u128, (u128, u128, u128)),
+) -> (Label, Label, Label) {
+    (label(zero), label(generator), label(evaluator))
+}
+
 #[test]
 fn two_and_gates_at_once(rt: HostRuntime) {
     for (one, other) in AND_GATES.iter().zip(AND_GATES.iter().rev()) {
         let found = eval_two_ands(step_of(*one), step_of(*other));
         assert_eq!(rt; found, (label(one.3.0), label(other.3.0)));
+        let found = garble_two_ands(gate_of(*one), gate_of(*other));
+        assert_eq!(rt; found, (garbled_of(*one), garbled_of(*other)));
     }
 }
 

@@ -1,4 +1,4 @@
-//! Tests of four hashes at once.
+//! Tests of four and of eight hashes at once.
 //!
 //! The expected hashes are what this Python prints of each label and tweak:
 //!
@@ -8,7 +8,7 @@
 //! ```
 
 use crate::labels::{A, B};
-use gc_lanes::hash_four;
+use gc_lanes::{hash_eight, hash_four};
 
 /// Four labels, their tweaks, and their hashes.
 static CALLS: [([u128; 4], [u64; 4], [u128; 4]); 2] = [
@@ -41,4 +41,23 @@ fn each_lane(rt: HostRuntime) {
         let found = hash_four(&labels.map(u128::to_be_bytes), tweaks);
         assert_eq!(rt; found.map(u128::from_be_bytes), *hashes);
     }
+}
+
+/// Four and four others.
+fn joined<T: Copy>(four: &[T; 4], others: &[T; 4]) -> [T; 8] {
+    let [a, b, c, d] = *four;
+    let [e, f, g, h] = *others;
+    [a, b, c, d, e, f, g, h]
+}
+
+/// So has each of eight lanes.
+#[test]
+fn each_of_eight_lanes(rt: HostRuntime) {
+    let [
+        (labels, tweaks, hashes),
+        (more_labels, more_tweaks, more_hashes),
+    ] = &CALLS;
+    let labels = joined(labels, more_labels).map(u128::to_be_bytes);
+    let found = hash_eight(&labels, &joined(tweaks, more_tweaks));
+    assert_eq!(rt; found.map(u128::from_be_bytes), joined(hashes, more_hashes));
 }
