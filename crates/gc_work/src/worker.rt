@@ -72,9 +72,8 @@ fn share<A: Allocator>(
 #[inline(always)]
 fn pop_any(batches: &mut [Batch]) -> Option<Task> {
     for k in 0..batches.len() {
-        let task = batches[k].pop();
-        if task.is_some() {
-            return task;
+        if !batches[k].is_empty() {
+            return batches[k].pop();
         }
     }
     None
@@ -90,10 +89,11 @@ fn own_task<A: Allocator>(
     requires { owner.old.pool ≡ pool.now }
     ensures { owner.new.pool ≡ owner.old.pool }
 {
-    match pop_any(batches) {
-        Some(task) => Some(task),
-        None => pool.pop(owner),
+    let task = pop_any(batches);
+    if task.is_some() {
+        return task;
     }
+    pool.pop(owner)
 }
 
 /// The next task: one that the worker has, or of another's pool, or of the store. It may wait there.
