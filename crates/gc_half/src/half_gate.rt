@@ -1,8 +1,7 @@
 //! The two halves of an AND gate: the procedures GbAnd and Ev of "Two Halves Make a Whole" (Zahur, Rosulek
 //! and Evans, 2015).
 
-ghost use Rattle.std.specs.Prelude.{◌≡◌, map};
-ghost use Rattle.gc_label.specs.Label.{◌⊕◌, colour, times};
+ghost use Rattle.std.specs.Prelude.{◌≡◌, ◌+◌, ◌*◌, map};
 ghost use Rattle.gc_half.specs.Hash.{hash};
 ghost use Rattle.gc_half.specs.HalfGate.{and_active, and_garbled, and_hashes, and_zero, evaluator_row, generator_row};
 
@@ -95,13 +94,42 @@ pub struct AndStep {
     pub b: Label,
 }
 
+impl AndStep {
+    /// What its evaluation hashes: the label of the wire that it reads first under its first tweak, and that of the
+    /// wire that it reads second under its second tweak.
+    #[inline]
+    fn hashed(&self) -> ((Label, u64), (Label, u64))
+        ensures { result ≡ ((self.now.a, 2 * self.now.k), (self.now.b, 2 * self.now.k + 1)) }
+    {
+        let first = 2 * u64::from(self.k);
+        ((self.a, first), (self.b, first + 1))
+    }
+
+    /// The active label of the wire that it sets, from these hashes.
+    #[inline]
+    fn active(&self, hash_a: Label, hash_b: Label) -> Label
+        requires first { hash_a ≡ hash self.now.a (2 * self.now.k) }
+        requires second { hash_b ≡ hash self.now.b (2 * self.now.k + 1) }
+        ensures { result ≡ and_active hash self.now.k self.now.rows.generator self.now.rows.evaluator
+            self.now.a self.now.b }
+    {
+        let generator_half = hash_a.xor(self.rows.generator.times(self.a.colour()));
+        let evaluator_half = hash_b.xor(self.rows.evaluator.xor(self.a).times(self.b.colour()));
+        generator_half.xor(evaluator_half)
+    }
+}
+
 /// Evaluates the k-th AND gate, counted from 0, from its rows and the active labels `a` and `b` of the wires
 /// that it reads. The answer is the active label of the wire that it sets.
 pub fn eval_and(k: u32, generator: Label, evaluator: Label, a: Label, b: Label) -> Label
     ensures { result ≡ and_active hash k generator evaluator a b }
 {
-    let first = 2 * u64::from(k);
-    let second = first + 1;
+    let rows = RowPair {
+        generator,
+        evaluator,
+    };
+    let step = AndStep { k, rows, a, b };
+    let ((_, first), (_, second)) = step.hashed();
     // Four hashes take less time than two that are computed one after the other, so that two lanes are spare.
     let [hash_a, hash_b, _, _] = tweak_hash_four([
         (a, first),
@@ -109,11 +137,7 @@ pub fn eval_and(k: u32, generator: Label, evaluator: Label, a: Label, b: Label) 
         (a, first),
         (b, second),
     ]);
-    let rows = RowPair {
-        generator,
-        evaluator,
-    };
-    active_label(rows, a, b, hash_a, hash_b)
+    step.active(hash_a, hash_b)
 }
 
 /// Evaluates two AND gates at once, each as [`eval_and`] does.
@@ -122,28 +146,37 @@ pub fn eval_two_ands(one: AndStep, other: AndStep) -> (Label, Label)
     ensures other { result.1
         ≡ and_active hash other.k other.rows.generator other.rows.evaluator other.a other.b }
 {
-    let one_first = 2 * u64::from(one.k);
-    let other_first = 2 * u64::from(other.k);
-    let [one_hash_a, one_hash_b, other_hash_a, other_hash_b] = tweak_hash_four([
-        (one.a, one_first),
-        (one.b, one_first + 1),
-        (other.a, other_first),
-        (other.b, other_first + 1),
+    let (one_first, one_second) = one.hashed();
+    let (other_first, other_second) = other.hashed();
+    let [one_a, one_b, other_a, other_b] = tweak_hash_four([
+        one_first,
+        one_second,
+        other_first,
+        other_second,
     ]);
-    (
-        active_label(one.rows, one.a, one.b, one_hash_a, one_hash_b),
-        active_label(other.rows, other.a, other.b, other_hash_a, other_hash_b),
-    )
+    (one.active(one_a, one_b), other.active(other_a, other_b))
 }
 
-/// The active label of the wire that an AND gate sets, from its rows, and from the active labels of the wires
-/// that it reads and their hashes.
-#[inline]
-fn active_label(rows: RowPair, a: Label, b: Label, hash_a: Label, hash_b: Label) -> Label
-    ensures { result ≡ hash_a ⊕ times (colour a) rows.generator
-        ⊕ (hash_b ⊕ times (colour b) (rows.evaluator ⊕ a)) }
+/// Evaluates four AND gates at once, each as [`eval_and`] does.
+pub fn eval_four_ands(steps: [AndStep; 4]) -> [Label; 4]
+    ensures { result ≡ map (λ step. and_active hash step.k step.rows.generator step.rows.evaluator step.a step.b)
+        steps }
 {
-    let generator_half = hash_a.xor(rows.generator.times(a.colour()));
-    let evaluator_half = hash_b.xor(rows.evaluator.xor(a).times(b.colour()));
-    generator_half.xor(evaluator_half)
+    let [a, b, c, d] = steps;
+    let (a_first, a_second) = a.hashed();
+    let (b_first, b_second) = b.hashed();
+    let (c_first, c_second) = c.hashed();
+    let (d_first, d_second) = d.hashed();
+    let (one, other) = tweak_hash_eight(
+        [a_first, a_second, b_first, b_second],
+        [c_first, c_second, d_first, d_second],
+    );
+    let [a_hash_a, a_hash_b, b_hash_a, b_hash_b] = one;
+    let [c_hash_a, c_hash_b, d_hash_a, d_hash_b] = other;
+    [
+        a.active(a_hash_a, a_hash_b),
+        b.active(b_hash_a, b_hash_b),
+        c.active(c_hash_a, c_hash_b),
+        d.active(d_hash_a, d_hash_b),
+    ]
 }

@@ -22,7 +22,9 @@ mod one_gate;
 pub use entry::output_entry;
 pub use garble::{garble_one_thread, input_zero_labels};
 pub use garbling::{Garbling, RowPair};
-pub use half_gate::{AndGate, AndStep, eval_and, eval_two_ands, garble_and, garble_two_ands};
+pub use half_gate::{
+    AndGate, AndStep, eval_and, eval_four_ands, eval_two_ands, garble_and, garble_two_ands,
+};
 pub use hash::tweak_hash;
 pub use laws::{law_garblings, law_half_gates};
 pub use numbers::and_numbers;

@@ -22,7 +22,7 @@
 use crate::labels::{A, B, R, label};
 use gc_circuit::Circuit;
 use gc_half::{
-    AndGate, AndStep, Garbling, RowPair, eval_and, eval_two_ands, garble_and, garble_one_thread,
+    AndGate, AndStep, Garbling, RowPair, eval_and, eval_four_ands, eval_two_ands, garble_and, garble_one_thread,
     garble_two_ands, tweak_hash,
 };
 use gc_label::{Label, Seed, offset};
@@ -141,6 +141,20 @@ fn garbled_of(
     (_, _, _, (zero, generator, evaluator)): (u32, u128, u128, (u128, u128, u128)),
 ) -> (Label, Label, Label) {
     (label(zero), label(generator), label(evaluator))
+}
+
+#[test]
+fn four_and_gates_at_once(rt: HostRuntime) {
+    for (one, other) in AND_GATES.iter().zip(AND_GATES.iter().rev()) {
+        let found = eval_four_ands([
+            step_of(*one),
+            step_of(*other),
+            step_of(AND_GATES[1]),
+            step_of(*one),
+        ]);
+        let expected = [one.3.0, other.3.0, AND_GATES[1].3.0, one.3.0].map(label);
+        assert_eq!(rt; found, expected);
+    }
 }
 
 #[test]
