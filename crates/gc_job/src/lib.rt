@@ -20,6 +20,6 @@ pub use fault::{BindFault, EvalFault};
 pub use job::Job;
 pub use laws::law_honest_files;
 pub use one_thread::{evaluate, evaluate_labels};
-pub use readers::{first_wire, second_wire};
+pub use readers::{ReadGate, first_wire, second_wire};
 pub use table::reads;
 pub use wiring::Wiring;

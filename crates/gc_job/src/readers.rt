@@ -1,6 +1,6 @@
 //! What an evaluation of a job reads of it.
 
-ghost use Rattle.std.specs.Prelude.{◌≡◌, ℕ, ◌<◌, IfSome, IfNone, slice_index};
+ghost use Rattle.std.specs.Prelude.{◌≡◌, ℕ, ◌<◌, All, IfSome, IfNone, map, slice_index};
 ghost use Rattle.gc_netlist.specs.Circuit.{IsSetBy, and_number, input_wires};
 ghost use Rattle.gc_job.specs.ActiveLabels.{gates_of, active_from};
 ghost use Rattle.gc_job.specs.Pending.{label_of_step};
@@ -9,7 +9,7 @@ ghost use Rattle.gc_job.specs.Wiring.{first_of, second_of};
 use crate::job::Job;
 use crate::wiring::Wiring;
 use gc_circuit::Operation;
-use gc_half::{AndStep, eval_two_ands, evaluate_gate};
+use gc_half::{AndStep, eval_four_ands, eval_two_ands, evaluate_gate};
 use gc_label::Label;
 use std::alloc::Allocator;
 
@@ -37,6 +37,17 @@ pub fn second_wire(operation: Operation) -> Option<u32>
         Operation::And(_, b) => Some(b),
         _ => None,
     }
+}
+
+/// A gate, and the labels of the wires that it reads first and second; one that it doesn't read is ignored.
+#[derive(Clone, Copy, PartialEq, Eq, Debug)]
+pub struct ReadGate {
+    /// The gate's place in the file, counted from 0.
+    pub gate: u32,
+    /// The label of the wire that it reads first.
+    pub first: Label,
+    /// The label of the wire that it reads second.
+    pub second: Label,
 }
 
 impl<'c, A: Allocator, C: Allocator> Job<'c, A, C> {
@@ -129,6 +140,36 @@ impl<'c, A: Allocator, C: Allocator> Job<'c, A, C> {
                 self.active_by(wiring, one, one_read.0, one_read.1),
                 self.active_by(wiring, other, other_read.0, other_read.1),
             ),
+        }
+    }
+
+    /// The active labels of the wires that four gates set, in the same way. Four AND gates are evaluated at once. That there
+    /// are such gates, and that the wiring is the circuit's, are the caller's conditions.
+    #[inline]
+    pub fn active_four<B: Allocator>(
+        &self,
+        wiring: &Wiring<'c, B, C>,
+        gates: [ReadGate; 4],
+    ) -> [Label; 4]
+        requires gates { All (λ read. read.gate < gates_of self.now) gates }
+        requires wiring { wiring.now ≡ self.now.circuit }
+        ensures { result ≡ map (λ read. active_from self.now read.gate read.first read.second) gates }
+    {
+        let [a, b, c, d] = gates;
+        let steps = (
+            self.and_step(wiring, a.gate, a.first, a.second),
+            self.and_step(wiring, b.gate, b.first, b.second),
+            self.and_step(wiring, c.gate, c.first, c.second),
+            self.and_step(wiring, d.gate, d.first, d.second),
+        );
+        match steps {
+            (Some(a), Some(b), Some(c), Some(d)) => eval_four_ands([a, b, c, d]),
+            _ => [
+                self.active_by(wiring, a.gate, a.first, a.second),
+                self.active_by(wiring, b.gate, b.first, b.second),
+                self.active_by(wiring, c.gate, c.first, c.second),
+                self.active_by(wiring, d.gate, d.first, d.second),
+            ],
         }
     }
 
