@@ -175,18 +175,18 @@ module _ (c : Netlist) (lawful : IsLawful c) (seed firsts nexts : List ℕ) (lin
   module _ (t : FirstTables) (begins : Begins c seed t) where
     tables_are : new_tables t ≡ opened_tables c seed t.countdowns firsts nexts
     tables_are =
-        ap (λ x. record (new_tables t) { marks = x }) begins.marks
+        ap (λ x. record (new_tables t) { marks = x }) begins.queue.marks
         ∙ ap (λ x. record (opened_tables c seed t.countdowns firsts nexts)
-        { zero_labels = x; and_numbers = t.and_numbers; rows = t.rows }) begins.zero_labels
+        { zero_labels = x; and_numbers = t.and_numbers; rows = t.rows }) begins.tables.zero_labels
         ∙ ap (λ x. record (opened_tables c seed t.countdowns firsts nexts) { and_numbers = x; rows = t.rows })
-        begins.and_numbers
-        ∙ ap (λ x. record (opened_tables c seed t.countdowns firsts nexts) { rows = x }) begins.rows
+        begins.tables.and_numbers
+        ∙ ap (λ x. record (opened_tables c seed t.countdowns firsts nexts) { rows = x }) begins.tables.rows
 
     -- a store opened with them keeps what stores keep,
     pub opened_kept_as : (r : ℕ) → r ≡ offset_of seed → IsKept c seed r (new_tables t)
     opened_kept_as r offset =
         let P : Tables → Type 0 = λ x. IsKept c seed r x in
-        subst P (sym tables_are) (opened_kept t.countdowns begins.countdowns r offset)
+        subst P (sym tables_are) (opened_kept t.countdowns begins.queue.countdowns r offset)
 
     -- and has the content of a new store
     pub opened_content_as : content_of c seed (new_tables t) ≡ opened c seed

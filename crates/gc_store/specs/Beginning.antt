@@ -25,11 +25,19 @@ pub record AreCounted (c : Netlist) (countdowns : List ℕ) : Type 0 where
   pub counted : (i n : ℕ) → slice_get (map (opening_countdown c) (range_with_len 0 (length c.gates))) i ≡ Some (n + 1)
       → slice_get countdowns i ≡ Some n
 
--- Every gate is free, and the input wires alone have their labels.
-pub record Begins (c : Netlist) (seed : List ℕ) (t : FirstTables) : Type 0 where
+-- Every gate is free in a queue of these marks and countdowns,
+pub record Queues (c : Netlist) (gate_marks : List Mark) (gate_counts : List ℕ) : Type 0 where
   pub lawful : IsLawful c
-  pub marks : t.marks ≡ replicate (length c.gates) mark.Free
-  pub countdowns : AreCounted c t.countdowns
-  pub and_numbers : t.and_numbers ≡ map (and_number c) (range_with_len 0 (length c.gates))
-  pub zero_labels : t.zero_labels ≡ map (input_zero c seed) (range_with_len 0 c.wires)
-  pub rows : t.rows ≡ replicate (and_count c) no_rows
+  pub marks : gate_marks ≡ replicate (length c.gates) mark.Free
+  pub countdowns : AreCounted c gate_counts
+
+-- and in tables of these AND numbers, labels and rows the input wires alone have their labels.
+pub record Tabulates (c : Netlist) (seed numbers labels : List ℕ) (row_pairs : List RowPair) : Type 0 where
+  pub and_numbers : numbers ≡ map (and_number c) (range_with_len 0 (length c.gates))
+  pub zero_labels : labels ≡ map (input_zero c seed) (range_with_len 0 c.wires)
+  pub rows : row_pairs ≡ replicate (and_count c) no_rows
+
+-- Both hold of the tables that a store begins with.
+pub record Begins (c : Netlist) (seed : List ℕ) (t : FirstTables) : Type 0 where
+  pub queue : Queues c t.marks t.countdowns
+  pub tables : Tabulates c seed t.and_numbers t.zero_labels t.rows

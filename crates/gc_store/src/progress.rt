@@ -9,7 +9,7 @@ ghost use Rattle.gc_store.specs.Beginning.{Begins};
 ghost use Rattle.gc_store.specs.Kept.{ReadsKnown};
 
 use crate::batch::Batch;
-use crate::beginning::Beginning;
+use crate::beginning::{Beginning, LabelTables};
 use crate::refusal::Refused;
 use crate::table::Table;
 use crate::task::{Sealed, Task};
@@ -21,6 +21,9 @@ use std::alloc::{Allocator, Global};
 use std::marker::Model;
 use std::thread;
 use std::thread::Threads;
+
+/// From so many threads on, the four parts of an opening go side by side.
+const FOUR: u32 = 4;
 
 /// The gates of a circuit under a seed, and how far each is: free, claimed, or finished with its zero label
 /// and its rows. What it keeps of a finished gate is the half-gate garbling of that gate.
@@ -64,8 +67,8 @@ impl<A: Allocator> Progress<A> {
         requires tables { Begins circuit seed tables }
         ensures { result ≡ opened circuit seed }
     {
-        let Beginning {
-            queue,
+        let Beginning { queue, tables } = tables;
+        let LabelTables {
             and_numbers,
             zero_labels,
             rows,
@@ -97,26 +100,58 @@ impl<A: Allocator + Copy> Progress<A> {
 }
 
 impl<A: Allocator + Copy + Send + Sync> Progress<A> {
-    /// The same, by two threads where another can be started.
-    pub(crate) fn open_by_two<R: Threads>(
+    /// A copy of this circuit and this seed with every gate free, by up to so many threads, where they can be started.
+    pub(crate) fn open_by<C: Allocator + Sync, R: Threads + Sync>(
         rt: &R,
         alloc: A,
-        circuit: Circuit<A>,
+        circuit: &Circuit<C>,
         seed: Seed,
+        threads: u32,
     ) -> Result<Progress<A>, Memory>
-        ensures { IfOk result (λ s. s ≡ opened circuit seed) }
+        ensures { IfOk result (λ s. s ≡ opened circuit.now seed) }
     {
-        let (readers, tables) = thread::join(
+        let ((readers, copy), tables) = thread::join(
             rt,
-            || -> Result<Readers<A>, Memory>
-                ensures { IfOk result (λ r. IsLinked circuit r.firsts r.nexts) }
-            { Readers::of(alloc, &circuit) },
+            || -> (Result<Readers<A>, Memory>, Result<Circuit<A>, Memory>)
+                ensures readers { IfOk result.0 (λ r. IsLinked circuit.entry.now r.firsts r.nexts) }
+                ensures copy { IfOk result.1 (λ c. c ≡ circuit.entry.now) }
+            { readers_and_copy(rt, alloc, circuit, threads) },
             || -> Result<Beginning<A>, Memory>
-                ensures { IfOk result (Begins circuit seed) }
-            { Beginning::of(alloc, &circuit, &seed) },
+                ensures { IfOk result (Begins circuit.entry.now seed) }
+            {
+                if threads < FOUR {
+                    Beginning::of(alloc, circuit, &seed)
+                } else {
+                    Beginning::by_two(rt, alloc, circuit, &seed)
+                }
+            },
         );
-        Ok(Progress::of(circuit, seed, readers?, tables?))
+        Ok(Progress::of(copy?, seed, readers?, tables?))
     }
+}
+
+/// The readers of a circuit's wires and a copy of the circuit, by two threads where there are to be four.
+fn readers_and_copy<A: Allocator + Copy + Send + Sync, C: Allocator + Sync, R: Threads>(
+    rt: &R,
+    alloc: A,
+    circuit: &Circuit<C>,
+    threads: u32,
+) -> (Result<Readers<A>, Memory>, Result<Circuit<A>, Memory>)
+    ensures readers { IfOk result.0 (λ r. IsLinked circuit.now r.firsts r.nexts) }
+    ensures copy { IfOk result.1 (λ c. c ≡ circuit.now) }
+{
+    if threads < FOUR {
+        return (Readers::of(alloc, circuit), circuit.try_clone(alloc));
+    }
+    thread::join(
+        rt,
+        || -> Result<Readers<A>, Memory>
+            ensures { IfOk result (λ r. IsLinked circuit.entry.now r.firsts r.nexts) }
+        { Readers::of(alloc, circuit) },
+        || -> Result<Circuit<A>, Memory>
+            ensures { IfOk result (λ c. c ≡ circuit.entry.now) }
+        { circuit.try_clone(alloc) },
+    )
 }
 
 impl<A: Allocator> Progress<A> {

@@ -84,18 +84,20 @@ impl<L: Ledger, A: Allocator + Copy> Store<L, A> {
 }
 
 impl<L: Ledger, A: Allocator + Copy + Send + Sync> Store<L, A> {
-    /// What [`Store::open`] opens, by two threads where another can be started.
-    pub fn open_by_two<R: Threads>(
+    /// A store of a copy of this circuit, else as [`Store::open`] opens one. It is opened by up to so many threads, where
+    /// they can be started: by two, or by four where four are asked for.
+    pub fn open_by<C: Allocator + Sync, R: Threads + Sync>(
         rt: &R,
         alloc: A,
         ledger: Blank,
-        circuit: Circuit<A>,
+        circuit: &Circuit<C>,
         seed: Seed,
+        threads: u32,
     ) -> Result<Store<L, A>, Memory>
         requires { IsForStore L.name L.parts ledger }
-        ensures { IfOk result (IsOpened circuit seed) }
+        ensures { IfOk result (IsOpened circuit.now seed) }
     {
-        let progress = Progress::open_by_two(rt, alloc, circuit, seed)?;
+        let progress = Progress::open_by(rt, alloc, circuit, seed, threads)?;
         Ok(Store::begin(ledger, progress))
     }
 }

@@ -37,7 +37,7 @@ const GATES_FOR_AND: u32 = 3;
 /// It refuses 0 workers and more than [`MAX_WORKERS`]. Memory is the other fault.
 pub fn garble<
     A: Allocator + Copy + Send + Sync,
-    C: Allocator,
+    C: Allocator + Sync,
     H: Gatehouse + Sync,
     R: Threads + Wait + Sync,
 >(
@@ -73,7 +73,7 @@ fn is_mostly_free<C: Allocator>(circuit: &Circuit<C>) -> bool {
 fn garble_by<
     L: Ledger + Send + Sync,
     A: Allocator + Copy + Send + Sync,
-    C: Allocator,
+    C: Allocator + Sync,
     H: Gatehouse + Sync,
     R: Threads + Wait + Sync,
 >(
@@ -88,7 +88,7 @@ fn garble_by<
     requires { IsForStore L.name L.parts ledger }
     ensures { IfOk result (IsGarbled circuit.now seed.now) }
 {
-    let store = Store::<L, A>::open_by_two(rt, alloc, ledger, circuit.try_clone(alloc)?, *seed)?;
+    let store = Store::<L, A>::open_by(rt, alloc, ledger, circuit, *seed, workers)?;
     let capacity = circuit.gates().min(POOL_CAPACITY);
     let (store, tally) = work_together(rt, alloc, store, workers, capacity, house)?;
     match swept(store, tally, circuit, seed, house) {

@@ -5,11 +5,11 @@ use Rattle.gc_store.proofs.progress.Progress.of.Goals as goal
 
 pub invariant_of-result : goal.invariant_of-result
 invariant_of-result g c =
-    opened_kept_as c.args.circuit c.requires.tables.lawful c.args.seed c.args.readers.firsts c.args.readers.nexts
+    opened_kept_as c.args.circuit c.requires.tables.queue.lawful c.args.seed c.args.readers.firsts c.args.readers.nexts
     c.requires.readers _ (subst (Begins c.args.circuit c.args.seed) (sym c.tables.view_is) c.requires.tables)
     c.offset.result c.offset.ensures
 
 pub returns : goal.returns
 returns g c =
-    opened_content_as c.args.circuit c.requires.tables.lawful c.args.seed c.args.readers.firsts c.args.readers.nexts
+    opened_content_as c.args.circuit c.requires.tables.queue.lawful c.args.seed c.args.readers.firsts c.args.readers.nexts
     c.requires.readers _ (subst (Begins c.args.circuit c.args.seed) (sym c.tables.view_is) c.requires.tables)

@@ -1,9 +1,8 @@
 use Rattle.std.proofs.Common.{replicate, ap, ◌∙◌, arith}
 use Rattle.gc_netlist.specs.Circuit.{Netlist}
 use Rattle.gc_queue.specs.declared.mark.Mark.TheVariants as mark
-use Rattle.gc_store.specs.Beginning.{no_rows}
 use Rattle.gc_store.proofs.OpenLemmas.{opening_count, opening_positive, counted_as}
-use Rattle.gc_store.proofs.beginning.Beginning.of.Goals as goal
+use Rattle.gc_store.proofs.beginning.opening_queue.Goals as goal
 
 pub open-requires-clause-few : goal.open-requires-clause-few
 open-requires-clause-few g c =
@@ -22,9 +21,6 @@ returns g c =
     let opening = c.in_ok-opening_countdowns.ensures in
     record {
       lawful = c.gates-gates.ensures.lawful;
-      marks = c.in_ok-open.ensures.marks ∙ ap (λ n. replicate n mark.Free) (opening_count circuit _ opening);
-      countdowns = counted_as circuit _ _ opening c.in_ok-open.ensures.count c.in_ok-open.ensures.countdowns;
-      and_numbers = c.in_ok-and_numbers.ensures;
-      zero_labels = c.in_ok-input_zero_labels.ensures;
-      rows = c.in_ok-open-2.ensures ∙ ap (λ n. replicate n no_rows) c.and_count.ensures;
+      marks = c.in_ok-queue.ensures.marks ∙ ap (λ n. replicate n mark.Free) (opening_count circuit _ opening);
+      countdowns = counted_as circuit _ _ opening c.in_ok-queue.ensures.count c.in_ok-queue.ensures.countdowns;
     }
