@@ -15,7 +15,7 @@ use Rattle.gc_eval.specs.declared.seat.Answer.TheVariants.{Made, Done, Taken, No
 use Rattle.gc_netlist.specs.Circuit.{Netlist}
 use Rattle.gc_netlist.specs.declared.gate.Gate.{Gate}
 use Rattle.gc_job.specs.Wiring.{first_of, second_of}
-use Rattle.gc_eval.specs.Views.{IsAlone, IsMadeNow, SetsMade, ReadsMade, FirstLacking, AnswersAlone, AnswersTwo, sightings, made_after, made_now, Ran, Saw, SawUndone, Lacks, Says, Answers}
+use Rattle.gc_eval.specs.Views.{IsAlone, IsMadeNow, SetsMade, ReadsMade, FirstLacking, AnswersAlone, AnswersTwo, AnswersFour, sightings, made_after, made_now, Ran, Saw, SawUndone, Lacks, Says, Answers}
 
 module _ {J : Type 0} where
   pub ran_then : (a b c : View J) (before list : List ℕ) (m n : ℕ) → Ran a b before m → Ran b c list n
@@ -31,6 +31,10 @@ module _ {J : Type 0} where
     short = omega (arith, p.short, q.short, length-append p.added q.added);
     steps = q.steps ∙ ap (λ l. l ++ q.added) p.steps ∙ append_assoc a.steps p.added q.added;
   }
+
+  -- steps that made nothing, and then others that made nothing
+  pub read_then : (a b c : View J) (m n : ℕ) → Ran a b a.made m → Ran b c b.made n → Ran a c a.made (m + n)
+  read_then a b c m n p q = subst (λ l. Ran a c l (m + n)) p.made (ran_then a b c a.made b.made m n p q)
 
   -- the sightings of a call are those of what it added
   sightings_more : (a b : View J) (list : List ℕ) (m word found : ℕ) → Ran a b list m
@@ -214,6 +218,46 @@ pub two_longer : (f : JobParts) (g h m n : ℕ) (a b : View JobParts) (both : An
     → AnswersTwo f g h m a b both → AnswersTwo f g h n a b both
 two_longer f g h m n a b both le q =
     (q.0, q.1, longer a b (made_after h both.1 (made_after g both.0 a.made)) m n le q.2)
+
+-- four answers of one call: two, and then two,
+pub four_made : (f : JobParts) (a b c d m n : ℕ) (u v w : View JobParts) (x y : Answer × Answer)
+    → AnswersTwo f a b m u v x → AnswersTwo f c d n v w y → AnswersFour f (a, b) (c, d) (m + n) u w (x, y)
+four_made f a b c d m n u v w x y p q =
+    let first = made_after b x.1 (made_after a x.0 u.made) in
+    let second = made_after d y.1 (made_after c y.0 v.made) in (
+      says_still f a n second u v w x.0 p.0 q.2,
+      says_still f b n second u v w x.1 p.1 q.2,
+      says_later f c m first u v w y.0 p.2 q.0,
+      says_later f d m first u v w y.1 p.2 q.1,
+      subst (λ l. Ran u w (made_after d y.1 (made_after c y.0 l)) (m + n)) p.2.made
+          (ran_then u v w first second m n p.2 q.2),
+    )
+
+-- after steps that made nothing,
+pub four_later : (f : JobParts) (gates others : ℕ × ℕ) (m n : ℕ) (a b c : View JobParts)
+    (all : (Answer × Answer) × (Answer × Answer)) → Ran a b a.made m → AnswersFour f gates others n b c all
+    → AnswersFour f gates others (m + n) a c all
+four_later f gates others m n a b c all p q =
+    let made : List ℕ → List ℕ = λ l. made_after others.1 all.1.1 (made_after others.0 all.1.0
+    (made_after gates.1 all.0.1 (made_after gates.0 all.0.0 l))) in (
+      says_later f gates.0 m a.made a b c all.0.0 p q.0,
+      says_later f gates.1 m a.made a b c all.0.1 p q.1,
+      says_later f others.0 m a.made a b c all.1.0 p q.2,
+      says_later f others.1 m a.made a b c all.1.1 p q.3,
+      subst (λ l. Ran a c (made l) (m + n)) p.made (ran_then a b c a.made (made b.made) m n p q.4),
+    )
+
+pub four_longer : (f : JobParts) (gates others : ℕ × ℕ) (m n : ℕ) (a b : View JobParts)
+    (all : (Answer × Answer) × (Answer × Answer)) → m ≤ n → AnswersFour f gates others m a b all
+    → AnswersFour f gates others n a b all
+four_longer f gates others m n a b all le q = (
+  q.0,
+  q.1,
+  q.2,
+  q.3,
+  longer a b (made_after others.1 all.1.1 (made_after others.0 all.1.0
+      (made_after gates.1 all.0.1 (made_after gates.0 all.0.0 a.made)))) m n le q.4,
+)
 
 pub made_length : (g : ℕ) (answer : Answer) (list : List ℕ)
     → length (made_after g answer list) ≡ length list + made_now answer

@@ -6,7 +6,7 @@ use Rattle.gc_netlist.specs.declared.gate.Gate.{Gate}
 use Rattle.gc_netlist.specs.Circuit.{Netlist, IsSetBy, input_wires}
 use Rattle.gc_job.specs.Job.{JobParts}
 use Rattle.gc_job.specs.Wiring.{first_of, second_of}
-use Rattle.gc_job.specs.ActiveLabels.{active, set_of}
+use Rattle.gc_job.specs.ActiveLabels.{gates_of, active, active_from, set_of}
 use Rattle.gc_eval.specs.declared.seat.Answer.{Answer}
 use Rattle.gc_eval.specs.declared.seat.Answer.TheVariants.{Made, Done, Taken, NotYet}
 
@@ -82,6 +82,26 @@ abbrev pub AnswersTwo : JobParts → ℕ → ℕ → ℕ → View JobParts → V
 AnswersTwo job g h most old new answers =
     Says job g old new answers.0 × Says job h old new answers.1
     × Ran old new (made_after h answers.1 (made_after g answers.0 old.made)) most
+
+-- The same of two gates and two others.
+abbrev pub AnswersFour : JobParts → ℕ × ℕ → ℕ × ℕ → ℕ → View JobParts → View JobParts
+    → (Answer × Answer) × (Answer × Answer) → Type 0
+AnswersFour job gates others most old new answers =
+    Says job gates.0 old new answers.0.0 × Says job gates.1 old new answers.0.1
+    × Says job others.0 old new answers.1.0 × Says job others.1 old new answers.1.1
+    × Ran old new (made_after others.1 answers.1.1 (made_after others.0 answers.1.0
+    (made_after gates.1 answers.0.1 (made_after gates.0 answers.0.0 old.made)))) most
+
+-- Each of two gates is one of the job, and its active label follows from the labels that it is said to read.
+pub record AreRead (job : JobParts) (gates : ℕ × ℕ) (read : (ℕ × ℕ) × (ℕ × ℕ)) : Type 0 where
+  pub exist : (gates.0 < gates_of job) × (gates.1 < gates_of job)
+  pub first : active_from job gates.0 read.0.0 read.0.1 ≡ active job (set_of job gates.0)
+  pub second : active_from job gates.1 read.1.0 read.1.1 ≡ active job (set_of job gates.1)
+
+-- These are the active labels of the wires that two gates set.
+abbrev pub AreActive : JobParts → ℕ × ℕ → ℕ × ℕ → Type 0
+AreActive job gates labels =
+    (labels.0 ≡ active job (set_of job gates.0)) × (labels.1 ≡ active job (set_of job gates.1))
 
 -- The seat stands for all seats of its board. Then the answers follow from its made list alone.
 abbrev pub IsAlone : View JobParts → Type 0

@@ -7,7 +7,9 @@
 
 mod active;
 mod closed;
+mod four;
 mod gates;
+mod kept;
 mod known;
 mod many;
 mod open;

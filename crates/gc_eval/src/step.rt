@@ -38,7 +38,7 @@ fn load_label<A: Allocator, C: Allocator>(
 
 /// How many gates an answer says to be made by the call.
 #[inline]
-fn made_now(answer: &Answer) -> u64
+pub(crate) fn made_now(answer: &Answer) -> u64
     ensures { result ≡ made_now answer.now }
 {
     match answer {
@@ -132,7 +132,11 @@ impl<'j, 'c, B: Allocator, A: Allocator, C: Allocator> EvalBoard<'j, 'c, B, A, C
     }
 
     /// The labels that a gate reads, where it is found free and each has one; else the answer.
-    fn ready(&self, place: &mut Place<Facts<A, C>>, gate: u32) -> Result<(Label, Label), Answer>
+    pub(crate) fn ready(
+        &self,
+        place: &mut Place<Facts<A, C>>,
+        gate: u32,
+    ) -> Result<(Label, Label), Answer>
         requires place { IsPlaceAt gates_of self.now.table.shared.table_id self.now.table.shared.key place.old gate }
         requires empty { place.old.me.0.hand ≡ Empty }
         ensures same { IsSamePlace place.old place.new }
@@ -161,7 +165,7 @@ impl<'j, 'c, B: Allocator, A: Allocator, C: Allocator> EvalBoard<'j, 'c, B, A, C
     }
 
     /// Takes a gate in hand, where no seat has it; else the answer.
-    fn take(&self, place: &mut Place<Facts<A, C>>, gate: u32) -> Option<Answer>
+    pub(crate) fn take(&self, place: &mut Place<Facts<A, C>>, gate: u32) -> Option<Answer>
         requires place { IsPlaceAt gates_of self.now.table.shared.table_id self.now.table.shared.key place.old gate }
         requires empty { (place.old.me.0.hand ≡ Empty) × (0 < place.old.me.0.seats) }
         ensures same { IsSamePlace place.old place.new }
@@ -182,7 +186,7 @@ impl<'j, 'c, B: Allocator, A: Allocator, C: Allocator> EvalBoard<'j, 'c, B, A, C
     }
 
     /// Publishes the label of the gate in hand, which is done from then on.
-    fn put(&self, place: &mut Place<Facts<A, C>>, gate: u32, label: Label)
+    pub(crate) fn put(&self, place: &mut Place<Facts<A, C>>, gate: u32, label: Label)
         requires place { IsPlaceAt gates_of self.now.table.shared.table_id self.now.table.shared.key place.old gate }
         requires has { place.old.me.0.hand ≡ Has gate 0 }
         requires right { label ≡ active (job_on self.now) (set_of (job_on self.now) gate) }
@@ -216,7 +220,7 @@ impl<'j, 'c, B: Allocator, A: Allocator, C: Allocator> EvalBoard<'j, 'c, B, A, C
     }
 
     /// Makes a gate whose label is computed, where no seat has it.
-    fn publish(&self, place: &mut Place<Facts<A, C>>, gate: u32, label: Label) -> Answer
+    pub(crate) fn publish(&self, place: &mut Place<Facts<A, C>>, gate: u32, label: Label) -> Answer
         requires place { IsPlaceAt gates_of self.now.table.shared.table_id self.now.table.shared.key place.old gate }
         requires empty { (place.old.me.0.hand ≡ Empty) × (0 < place.old.me.0.seats) }
         requires right { label ≡ active (job_on self.now) (set_of (job_on self.now) gate) }
@@ -293,7 +297,7 @@ impl<'j, 'c, B: Allocator, A: Allocator, C: Allocator> EvalBoard<'j, 'c, B, A, C
     }
 
     /// A step, at the place of a seat.
-    fn step_at(&self, place: &mut Place<Facts<A, C>>, gate: u32) -> Answer
+    pub(crate) fn step_at(&self, place: &mut Place<Facts<A, C>>, gate: u32) -> Answer
         requires place { IsPlaceAt gates_of self.now.table.shared.table_id self.now.table.shared.key place.old gate }
         requires empty { (place.old.me.0.hand ≡ Empty) × (0 < place.old.me.0.seats) }
         ensures same { IsSamePlace place.old place.new }
@@ -307,7 +311,12 @@ impl<'j, 'c, B: Allocator, A: Allocator, C: Allocator> EvalBoard<'j, 'c, B, A, C
     }
 
     /// A step of two gates, at the place of a seat.
-    fn step_two_at(&self, place: &mut Place<Facts<A, C>>, one: u32, other: u32) -> (Answer, Answer)
+    pub(crate) fn step_two_at(
+        &self,
+        place: &mut Place<Facts<A, C>>,
+        one: u32,
+        other: u32,
+    ) -> (Answer, Answer)
         requires place { IsPlaceAt gates_of self.now.table.shared.table_id self.now.table.shared.key place.old one }
         requires other { other < gates_of (job_on self.now) }
         requires empty { (place.old.me.0.hand ≡ Empty) × (0 < place.old.me.0.seats) }

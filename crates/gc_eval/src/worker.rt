@@ -3,12 +3,12 @@
 ghost use Rattle.std.specs.Prelude.{◌≡◌, ◌<◌, None, All, IfOk, IfSome};
 ghost use Rattle.gc_job.specs.ActiveLabels.{gates_of};
 ghost use Rattle.gc_eval.specs.Seats.{IsSeatOf, job_on};
-ghost use Rattle.gc_eval.specs.Workers.{AreWorkersOf};
+ghost use Rattle.gc_eval.specs.Workers.{AreWorkersOf, AreKept};
 
+use crate::kept::{Kept, reads_kept};
 use crate::known::NumberSet;
 use crate::seat::{Answer, EvalBoard, EvalSeat};
 use gc_gatehouse::Gatehouse;
-use gc_job::reads;
 use std::alloc::{AllocError, Allocator};
 use std::hint::spin_loop;
 use std::thread;
@@ -63,8 +63,8 @@ struct Pass {
     awaits: bool,
     /// Whether it made a gate, or learnt of one.
     learnt: bool,
-    /// An AND gate that waits for another one, to be stepped together with it.
-    kept: Option<u32>,
+    /// The AND gates that wait for others.
+    kept: Kept,
 }
 
 /// The gate after a gate's block.
@@ -158,7 +158,56 @@ impl<B: Allocator, A: Allocator, C: Allocator> Worker<B, A, C> {
         self.note(pass, gate, answer);
     }
 
-    /// Steps the kept gate alone.
+    /// Steps two gates.
+    fn step_two<'j, 'c, H: Gatehouse>(
+        &mut self,
+        board: &EvalBoard<'j, 'c, B, A, C>,
+        house: &H,
+        pass: &mut Pass,
+        gates: (u32, u32),
+    )
+        requires own { IsSeatOf board.now self.old.seat }
+        requires gates { (gates.0 < gates_of (job_on board.now)) × (gates.1 < gates_of (job_on board.now)) }
+        ensures own { IsSeatOf board.now self.new.seat }
+        ensures kept { pass.new.kept ≡ pass.old.kept }
+    {
+        let (one, other) = gates;
+        house.before(self.number, one);
+        house.before(self.number, other);
+        let (answer, other_answer) = board.step_two(&mut self.seat, one, other);
+        self.note(pass, one, answer);
+        self.note(pass, other, other_answer);
+    }
+
+    /// Steps four gates.
+    fn step_four<'j, 'c, H: Gatehouse>(
+        &mut self,
+        board: &EvalBoard<'j, 'c, B, A, C>,
+        house: &H,
+        pass: &mut Pass,
+        gates: (u32, u32),
+        others: (u32, u32),
+    )
+        requires own { IsSeatOf board.now self.old.seat }
+        requires gates { (gates.0 < gates_of (job_on board.now)) × (gates.1 < gates_of (job_on board.now)) }
+        requires others { (others.0 < gates_of (job_on board.now)) × (others.1 < gates_of (job_on board.now)) }
+        ensures own { IsSeatOf board.now self.new.seat }
+        ensures kept { pass.new.kept ≡ pass.old.kept }
+    {
+        let (a, b) = gates;
+        let (c, d) = others;
+        house.before(self.number, a);
+        house.before(self.number, b);
+        house.before(self.number, c);
+        house.before(self.number, d);
+        let (answers, other_answers) = board.step_four(&mut self.seat, (a, b), (c, d));
+        self.note(pass, a, answers.0);
+        self.note(pass, b, answers.1);
+        self.note(pass, c, other_answers.0);
+        self.note(pass, d, other_answers.1);
+    }
+
+    /// Steps the kept gates.
     fn step_kept<'j, 'c, H: Gatehouse>(
         &mut self,
         board: &EvalBoard<'j, 'c, B, A, C>,
@@ -166,18 +215,22 @@ impl<B: Allocator, A: Allocator, C: Allocator> Worker<B, A, C> {
         pass: &mut Pass,
     )
         requires own { IsSeatOf board.now self.old.seat }
-        requires kept { IfSome pass.old.kept (λ g. g < gates_of (job_on board.now)) }
+        requires kept { AreKept (gates_of (job_on board.now)) pass.old.kept }
         ensures own { IsSeatOf board.now self.new.seat }
-        ensures kept { pass.new.kept ≡ None }
+        ensures kept { pass.new.kept ≡ record { pair = None; gate = None } }
     {
-        if let Some(gate) = pass.kept {
-            pass.kept = None;
+        let Kept { pair, gate } = pass.kept;
+        pass.kept = Kept::none();
+        if let Some(gates) = pair {
+            self.step_two(board, house, pass, gates);
+        }
+        if let Some(gate) = gate {
             self.step(board, house, pass, gate);
         }
     }
 
-    /// Steps an AND gate together with the kept one, or keeps it.
-    fn pair<'j, 'c, H: Gatehouse>(
+    /// Steps an AND gate together with three kept ones, or keeps it.
+    fn keep<'j, 'c, H: Gatehouse>(
         &mut self,
         board: &EvalBoard<'j, 'c, B, A, C>,
         house: &H,
@@ -185,21 +238,24 @@ impl<B: Allocator, A: Allocator, C: Allocator> Worker<B, A, C> {
         gate: u32,
     )
         requires own { IsSeatOf board.now self.old.seat }
-        requires kept { IfSome pass.old.kept (λ g. g < gates_of (job_on board.now)) }
+        requires kept { AreKept (gates_of (job_on board.now)) pass.old.kept }
         requires gate { gate < gates_of (job_on board.now) }
         ensures own { IsSeatOf board.now self.new.seat }
-        ensures kept { IfSome pass.new.kept (λ g. g < gates_of (job_on board.now)) }
+        ensures kept { AreKept (gates_of (job_on board.now)) pass.new.kept }
     {
-        let Some(kept) = pass.kept else {
-            pass.kept = Some(gate);
+        let Some(other) = pass.kept.gate else {
+            pass.kept.gate = Some(gate);
             return;
         };
-        pass.kept = None;
-        house.before(self.number, kept);
-        house.before(self.number, gate);
-        let (answer, gate_answer) = board.step_two(&mut self.seat, kept, gate);
-        self.note(pass, kept, answer);
-        self.note(pass, gate, gate_answer);
+        let Some(pair) = pass.kept.pair else {
+            pass.kept = Kept {
+                pair: Some((other, gate)),
+                gate: None,
+            };
+            return;
+        };
+        pass.kept = Kept::none();
+        self.step_four(board, house, pass, pair, (other, gate));
     }
 
     /// Steps a gate, or keeps it.
@@ -211,19 +267,17 @@ impl<B: Allocator, A: Allocator, C: Allocator> Worker<B, A, C> {
         gate: u32,
     )
         requires own { IsSeatOf board.now self.old.seat }
-        requires kept { IfSome pass.old.kept (λ g. g < gates_of (job_on board.now)) }
+        requires kept { AreKept (gates_of (job_on board.now)) pass.old.kept }
         requires gate { gate < gates_of (job_on board.now) }
         ensures own { IsSeatOf board.now self.new.seat }
-        ensures kept { IfSome pass.new.kept (λ g. g < gates_of (job_on board.now)) }
+        ensures kept { AreKept (gates_of (job_on board.now)) pass.new.kept }
     {
         let operation = board.operation(gate);
-        if let Some(kept) = pass.kept {
-            if reads(operation, board.set_by(kept)) {
-                self.step_kept(board, house, pass);
-            }
+        if reads_kept(board, operation, pass.kept) {
+            self.step_kept(board, house, pass);
         }
         if operation.is_and() {
-            self.pair(board, house, pass, gate);
+            self.keep(board, house, pass, gate);
         } else {
             self.step(board, house, pass, gate);
         }
@@ -238,9 +292,9 @@ impl<B: Allocator, A: Allocator, C: Allocator> Worker<B, A, C> {
         block: u32,
     )
         requires own { IsSeatOf board.now self.old.seat }
-        requires kept { IfSome pass.old.kept (λ g. g < gates_of (job_on board.now)) }
+        requires kept { AreKept (gates_of (job_on board.now)) pass.old.kept }
         ensures own { IsSeatOf board.now self.new.seat }
-        ensures kept { pass.new.kept ≡ None }
+        ensures kept { pass.new.kept ≡ record { pair = None; gate = None } }
     {
         let first = block.saturating_mul(BLOCK);
         for gate in first..first.saturating_add(BLOCK).min(board.gates()) {
@@ -261,9 +315,9 @@ impl<B: Allocator, A: Allocator, C: Allocator> Worker<B, A, C> {
         block: u32,
     )
         requires own { IsSeatOf board.now self.old.seat }
-        requires kept { IfSome pass.old.kept (λ g. g < gates_of (job_on board.now)) }
+        requires kept { AreKept (gates_of (job_on board.now)) pass.old.kept }
         ensures own { IsSeatOf board.now self.new.seat }
-        ensures kept { IfSome pass.new.kept (λ g. g < gates_of (job_on board.now)) }
+        ensures kept { AreKept (gates_of (job_on board.now)) pass.new.kept }
     {
         for attempt in 0..MOST_TRIES {
             pass.awaits = false;
@@ -275,7 +329,7 @@ impl<B: Allocator, A: Allocator, C: Allocator> Worker<B, A, C> {
         }
     }
 
-    /// One pass in file order over the gates that the worker doesn't know to be done, AND gates two at a time within a
+    /// One pass in file order over the gates that the worker doesn't know to be done, AND gates four at a time within a
     /// block. The answer is whether it made a gate, or learnt of one.
     ///
     /// A pass that isn't `whole` passes over the blocks that the worker leaves to others too, and ends after gates in a
@@ -297,7 +351,7 @@ impl<B: Allocator, A: Allocator, C: Allocator> Worker<B, A, C> {
             misses: 0,
             awaits: false,
             learnt: false,
-            kept: None,
+            kept: Kept::none(),
         };
         for block in first / BLOCK..board.gates().div_ceil(BLOCK) {
             if self.skips(&pass, block) {

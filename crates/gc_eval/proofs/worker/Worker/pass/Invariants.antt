@@ -1,10 +1,10 @@
-use Rattle.std.proofs.Common.{IfSome, ◌<◌}
 use Rattle.gc_job.specs.ActiveLabels.{gates_of}
 use Rattle.gc_eval.specs.Seats.{IsSeatOf, job_on}
+use Rattle.gc_eval.specs.Workers.{AreKept}
 use Rattle.gc_eval.proofs.worker.Worker.pass.Given as goal
 
 abbrev pub invariant-loop-block : goal.invariant-loop-block
 invariant-loop-block g l = record {
   own : IsSeatOf l.board l.self.seat;
-  kept : IfSome l.pass.kept (λ k. k < gates_of (job_on l.board));
+  kept : AreKept (gates_of (job_on l.board)) l.pass.kept;
 }
