@@ -180,7 +180,8 @@ impl<A: Allocator> Progress<A> {
 
     /// Claims a gate that may go next, the first of these in file order, and answers its task; or None, exactly where no
     /// gate may go next.
-    #[inline]
+    // A task is so large that returning it takes long where the call is not inlined.
+    #[inline(always)]
     pub(crate) fn claim(&mut self) -> Option<Task>
         ensures { Claims self.old result self.new }
     {
@@ -287,6 +288,7 @@ impl<A: Allocator> Progress<A> {
     }
 
     /// The task of a gate that reads known wires alone.
+    #[inline(always)]
     fn task(&self, i: u32) -> Task
         requires { ReadsKnown self.now i }
         ensures gate { result.gate ≡ i }
@@ -305,6 +307,7 @@ impl<A: Allocator> Progress<A> {
     }
 
     /// Keeps what a sealed task gives for a gate that is claimed.
+    #[inline(always)]
     fn keep(&mut self, sealed: &Sealed)
         requires claimed { IsClaimed self.old sealed.now.gate }
         requires own { IsOwnTask self.old sealed.now }

@@ -1,5 +1,6 @@
 //! A store that threads share.
 
+ghost use Rattle.std.specs.Prelude.{◌≡◌, IfSome, IfNone};
 ghost use Rattle.gc_store.specs.Shared.{ClaimsMore, ClaimsMoreEach, FinishesAll, HandsIn, HandsInAll};
 
 use crate::batch::Batch;
@@ -130,6 +131,28 @@ impl<L: Ledger, A: Allocator> Desk<L, A> {
         Ok(())
     }
 
+    /// Finishes sealed tasks, and claims into the batches where none is refused. The answer is whether the store is now
+    /// complete, and whom to wake.
+    #[inline(always)]
+    fn hand_in_all(
+        &mut self,
+        sealed: &[Sealed],
+        tally: &mut Tally<L>,
+        batches: &mut [Batch],
+    ) -> (Result<bool, Refused>, Call)
+        ensures { HandsInAll sealed.now tally.old batches.old result.0 tally.new batches.new }
+    {
+        let finished = self.finish_all(sealed, tally);
+        if finished.is_ok() {
+            self.claim_each(batches, 0);
+        }
+        let call = self.call();
+        match finished {
+            Ok(()) => (Ok(self.store.is_complete()), call),
+            Err(refused) => (Err(refused), call),
+        }
+    }
+
     /// Whom to wake, and counts them as awake.
     fn call(&mut self) -> Call {
         if self.sleeping == 0 {
@@ -248,17 +271,28 @@ impl<L: Ledger, A: Allocator> SharedStore<L, A> {
         ensures { HandsInAll sealed.now tally.old batches.old result tally.new batches.new }
     {
         let mut guard = self.enter(rt);
-        let desk = &mut **guard;
-        let finished = desk.finish_all(sealed, tally);
-        if finished.is_ok() {
-            desk.claim_each(batches, 0);
-        }
-        let complete = desk.store.is_complete();
-        let call = desk.call();
+        let (handed_in, call) = guard.hand_in_all(sealed, tally, batches);
         drop(guard);
         self.wake(call);
-        finished?;
-        Ok(complete)
+        handed_in
+    }
+
+    /// The same, where it gets the lock at once. None says that it doesn't, and then nothing changes.
+    pub fn try_hand_in_all(
+        &self,
+        sealed: &[Sealed],
+        tally: &mut Tally<L>,
+        batches: &mut [Batch],
+    ) -> Option<Result<bool, Refused>>
+        ensures some { IfSome result (λ handed_in.
+            HandsInAll sealed.now tally.old batches.old handed_in tally.new batches.new) }
+        ensures none { IfNone result ((tally.new ≡ tally.old) × (batches.new ≡ batches.old)) }
+    {
+        let mut guard = self.desk.try_lock()?;
+        let (handed_in, call) = guard.hand_in_all(sealed, tally, batches);
+        drop(guard);
+        self.wake(call);
+        Some(handed_in)
     }
 
     /// Ends the work: from now on no task is given out, and what is sealed is still taken back.

@@ -140,7 +140,7 @@ impl<L: Ledger, A: Allocator> Store<L, A> {
 
     /// Claims a gate that may go next, the first of these in file order, and answers its task; or None, exactly where no
     /// gate may go next.
-    #[inline]
+    #[inline(always)]
     pub fn claim(&mut self) -> Option<Task>
         ensures step { Claims self.old.content result self.new.content }
         ensures tallies { self.new.tallies ≡ self.old.tallies }

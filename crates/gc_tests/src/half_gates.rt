@@ -22,8 +22,8 @@
 use crate::labels::{A, B, R, label};
 use gc_circuit::Circuit;
 use gc_half::{
-    AndGate, AndStep, Garbling, RowPair, eval_and, eval_four_ands, eval_two_ands, garble_and, garble_one_thread,
-    garble_two_ands, tweak_hash,
+    AndGate, AndStep, Garbling, RowPair, eval_and, eval_four_ands, eval_two_ands, garble_and,
+    garble_one_thread, garble_two_ands, tweak_hash,
 };
 use gc_label::{Label, Seed, offset};
 use gc_worked::circuits::{

@@ -29,6 +29,15 @@ const BATCHES: usize = 4;
 /// The most tasks that a worker seals before it hands them in.
 pub(crate) const MAX_SEALED: usize = BATCHES * BATCH_SIZE;
 
+/// So often a worker that doesn't get the lock at once seals so many further tasks, where it has them, in place of
+/// waiting.
+const MORE_TIMES: usize = 2;
+
+const MORE_TASKS: usize = BATCH_SIZE / 2;
+
+/// How many tasks a worker seals before it tries to hand them in.
+const FIRST_TASKS: usize = MAX_SEALED - MORE_TIMES * MORE_TASKS;
+
 /// Pushes the tasks of a batch, but for one. A task that the pool has no room for comes back.
 fn share_batch<A: Allocator>(
     pool: &TaskPool<A>,
@@ -145,24 +154,23 @@ fn seal<A: Allocator>(sealed: &mut Vec<Sealed, A>, kept: &mut Option<Task>, task
     }
 }
 
-/// Seals a task, and then those that the worker has, up to [`MAX_SEALED`]. The answer is whether there was room
-/// for them.
+/// Seals a task, and then others that the worker has, so many in all. The answer is whether there was room for them.
 fn seal_some<L: Ledger, A: Allocator, H: Gatehouse>(
     pool: &TaskPool<A>,
     member: &mut Member<L, A>,
     batches: &mut [Batch],
     house: &H,
     task: Task,
+    count: usize,
 ) -> bool
     requires { member.old.owner.pool ≡ pool.now }
     ensures same { member.new.place ≡ member.old.place }
     ensures pool { member.new.owner.pool ≡ member.old.owner.pool }
     ensures raids { member.new.raids ≡ member.old.raids }
 {
-    member.sealed.clear();
     let mut kept = None;
     let mut next = Some(task);
-    for i in 0..MAX_SEALED {
+    for i in 1..=count {
         let Some(task) = next else {
             break;
         };
@@ -170,7 +178,7 @@ fn seal_some<L: Ledger, A: Allocator, H: Gatehouse>(
         if !seal(&mut member.sealed, &mut kept, task) {
             return false;
         }
-        next = if i + 1 < MAX_SEALED {
+        next = if i < count {
             own_task(pool, &mut member.owner, batches)
         } else {
             None
@@ -180,6 +188,39 @@ fn seal_some<L: Ledger, A: Allocator, H: Gatehouse>(
         Some(task) => member.sealed.push(Sealed::make(task)).is_ok(),
         None => true,
     }
+}
+
+/// Hands in what the worker has sealed, and claims into the batches. As long as it doesn't get the lock, and not too
+/// often, it seals further tasks that it has. The answer is whether all were accepted, and there was room for them.
+fn hand_in<L: Ledger, A: Allocator, H: Gatehouse, R: Wait>(
+    rt: &R,
+    shared: &SharedStore<L, A>,
+    pool: &TaskPool<A>,
+    member: &mut Member<L, A>,
+    batches: &mut [Batch],
+    house: &H,
+) -> bool
+    requires { member.old.owner.pool ≡ pool.now }
+    ensures same { member.new.place ≡ member.old.place }
+    ensures pool { member.new.owner.pool ≡ member.old.owner.pool }
+    ensures raids { member.new.raids ≡ member.old.raids }
+{
+    for _time in 0..MORE_TIMES {
+        let sealed = member.sealed.as_slice();
+        if let Some(handed_in) = shared.try_hand_in_all(sealed, &mut member.tally, batches) {
+            return handed_in.is_ok();
+        }
+        let Some(task) = own_task(pool, &mut member.owner, batches) else {
+            break;
+        };
+        if !seal_some(pool, member, batches, house, task, MORE_TASKS) {
+            return false;
+        }
+    }
+    let sealed = member.sealed.as_slice();
+    shared
+        .hand_in_all(rt, sealed, &mut member.tally, batches)
+        .is_ok()
 }
 
 /// Works until nothing is left to do, or until the store is stopped. Where a task can't be handed in it stops the
@@ -206,15 +247,9 @@ pub(crate) fn work<L: Ledger, A: Allocator, H: Gatehouse, R: Wait>(
         let Some(task) = kept else {
             return;
         };
-        if !seal_some(pool, member, &mut batches, house, task)
-            || shared
-                .hand_in_all(
-                    rt,
-                    member.sealed.as_slice(),
-                    &mut member.tally,
-                    &mut batches,
-                )
-                .is_err()
+        member.sealed.clear();
+        if !seal_some(pool, member, &mut batches, house, task, FIRST_TASKS)
+            || !hand_in(rt, shared, pool, member, &mut batches, house)
         {
             shared.stop(rt);
             return;

@@ -145,8 +145,9 @@ fn an_opened_store_reopens_without_memory(rt: HostRuntime) -> Result<(), Fail> {
     claims_without_memory::<Brand>(&rt, &Refusing::never(rt.alloc()), rt.alloc(), ledger())
 }
 
-/// Hands in gates 0 and 1, one by itself and one among several, and stops. None where they weren't there to take.
-fn hands_in_two<L: Ledger, A: Allocator, R: Abort + Wait>(
+/// Hands in gates 0 and 1, one by itself and one among several, and a gate that then may go next where the lock is free,
+/// and stops. None where they weren't there to take.
+fn hands_in_three<L: Ledger, A: Allocator, R: Abort + Wait>(
     rt: &R,
     shared: &SharedStore<L, A>,
     tally: &mut Tally<L>,
@@ -156,13 +157,18 @@ fn hands_in_two<L: Ledger, A: Allocator, R: Abort + Wait>(
     let one = Sealed::make(shared.take(rt)?);
     let alone = shared.hand_in(rt, zero, tally, &mut batches[0]);
     let among = shared.hand_in_all(rt, &[one], tally, &mut batches);
-    assert_eq!(rt; (alone, among), (Ok(false), Ok(false)));
+    let next = Sealed::make(batches[0].pop()?);
+    let tried = shared.try_hand_in_all(&[next], tally, &mut batches);
+    assert_eq!(rt;
+        (alone, among, tried),
+        (Ok(false), Ok(false), Some(Ok(false)))
+    );
     shared.stop(rt);
     assert_eq!(rt; shared.take(rt), None);
     Some(())
 }
 
-/// Shares an opened store of the full adder, hands in two gates, and stops; none of it asks for memory.
+/// Shares an opened store of the full adder, hands in three gates, and stops; none of it asks for memory.
 fn shares_without_memory<L: Ledger, R: Abort + Wait>(
     rt: &R,
     heap: &Refusing<Global>,
@@ -173,9 +179,9 @@ fn shares_without_memory<L: Ledger, R: Abort + Wait>(
     let (store, mut tally) = open_on::<L>(heap, ledger)?;
     let opened = heap.growths();
     let shared = SharedStore::new(store);
-    let handed_in = hands_in_two(rt, &shared, &mut tally);
+    let handed_in = hands_in_three(rt, &shared, &mut tally);
     let finished = shared.into_store().finished();
-    assert_eq!(rt; (handed_in, finished, tally.count()), (Some(()), 2, 2));
+    assert_eq!(rt; (handed_in, finished, tally.count()), (Some(()), 3, 3));
     assert_eq!(rt; heap.growths(), opened);
     Ok(())
 }

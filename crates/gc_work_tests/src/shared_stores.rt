@@ -163,6 +163,10 @@ fn refused_among_several<L: Ledger, R: Abort + Wait>(
         shared.hand_in_all(rt, &[own, own], tally, &mut batches),
         Err(Refused::NotClaimed(own))
     );
+    assert_eq!(rt;
+        shared.try_hand_in_all(&[own], tally, &mut batches),
+        Some(Err(Refused::NotClaimed(own)))
+    );
     assert_eq!(rt; (tally.count(), batches[0].is_empty()), (1, true));
 }
 
