@@ -70,8 +70,9 @@ workers() {
     eval "$(times w "$tmp/workers.txt" 5 garble garble2 garble4)"
     echo "$1: by two workers $(ratio "$w_garble" "$w_garble2") as fast as by one thread, by four $(ratio "$w_garble" "$w_garble4")"
 }
-workers "a million independent AND gates" 1 independent
+workers "a million independent AND gates (by four at least 3.4)" 1 independent
 workers "independent gates, half of them AND" 0.5 independent
+workers "independent gates, a quarter of them AND (by four at least 2.3)" 0.25 independent
 workers "gates in a window of a thousand, half of them AND" 0.5 ""
 workers "a million XOR gates" 0 independent
 
