@@ -13,7 +13,9 @@ mod steps;
 
 pub use fault::OpenFault;
 pub use rule::{Hand, Key, Rule, View, Work};
-pub use seats::{WordTable, close_table, deal_place, join_place, open_table, tell_place};
+pub use seats::{
+    WordTable, close_table, deal_place, free_words, join_place, open_table, tell_place,
+};
 pub use steps::{
     Place, Words, claim, load_high, load_low, load_state, store_done, store_high, store_low,
 };

@@ -1,7 +1,7 @@
 //! The table of a board's words: how it is opened and closed, and how its seats are dealt, told of one another and
 //! joined.
 
-ghost use Rattle.std.specs.Prelude.{◌≡◌, ℕ, ◌<◌, [], IfOk};
+ghost use Rattle.std.specs.Prelude.{◌≡◌, ℕ, ◌+◌, ◌*◌, ◌<◌, [], IfOk, replicate};
 ghost use Rattle.std.specs.Slots.{slots_items, slots_len, IsFull};
 ghost use Rattle.gc_board.specs.declared.rule.Hand.TheVariants.{Empty};
 ghost use Rattle.gc_board.specs.Board.{starting, Settled};
@@ -13,26 +13,32 @@ use crate::kinds::{Deal, Merge, Note};
 use crate::rule::{Key, Rule, View, Work};
 use crate::steps::{Place, Words};
 use atomic_table::{Closed, Table};
-use std::alloc::Allocator;
+use std::alloc::{AllocError, Allocator};
 
 /// The words with their memory.
 pub type WordTable<J, A> = Table<u8, View<J>, Key<J>, Rule, A>;
 
-/// A table with all gates free, and a place that stands for all seats. It takes memory for the words twice over, and
-/// gives half of it back: 46 or 49 where it gets none.
-pub fn open_table<J: Work, A: Allocator + Copy>(
+/// The words of a board of so many gates, all of which are free.
+pub fn free_words<A: Allocator>(alloc: A, gates: u32) -> Result<Vec<u64, A>, AllocError>
+    ensures { IfOk result (λ words. words.items ≡ replicate (3 * gates + 1) 0) }
+{
+    Vec::from_elem(alloc, 0u64, 3 * gates as usize + 1)
+}
+
+/// A table of these words, in which all gates are free, and a place that stands for all seats. It takes memory for a copy
+/// of the words, 49 where there is none, and gives theirs back.
+pub fn open_table<J: Work, A: Allocator>(
     alloc: A,
     key: &Key<J>,
-    gates: u32,
+    words: Vec<u64, A>,
 ) -> Result<(WordTable<J, A>, Place<J>), OpenFault>
-    requires gates { J.gates key.now.work ≡ gates }
+    requires words { words.items ≡ replicate (3 * J.gates key.now.work + 1) 0 }
     requires seats { 0 < key.now.seats }
     ensures { IfOk result (λ t. (t.0.shared.key ≡ key.now)
         × IsTable J.gates t.0.shared.table_id key.now
         × (t.1.table_id ≡ t.0.shared.table_id)
         × (t.1.me ≡ (starting key.now.work key.now.seats, []))) }
 {
-    let words = Vec::from_elem(alloc, 0u64, 3 * gates as usize + 1)?;
     match Table::of_words(alloc, &words, key) {
         Ok(opened) => Ok(opened),
         Err(_) => Err(OpenFault::NoTable),

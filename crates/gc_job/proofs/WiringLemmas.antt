@@ -1,5 +1,5 @@
 -- The gate that sets a wire, in a table.
-use Rattle.std.proofs.Common.{◌≡◌, ◌≢◌, ℕ, zero, suc, ◌+◌, ◌<◌, inl, inr, List, set, length, length-set, replicate, get_or, get_or-set_same, get_or-set_other, slice_get, Some, refl, sym, ap, ◌∙◌, subst, arith}
+use Rattle.std.proofs.Common.{◌≡◌, ◌≢◌, ℕ, zero, suc, ◌+◌, ◌<◌, ◌≤◌, inl, inr, List, set, length, length-set, replicate, get_or, get_or-set_same, get_or-set_other, slice_get, Some, refl, sym, ap, ◌∙◌, subst, arith}
 use Rattle.std.proofs.lemmas.List.{length-replicate}
 use Rattle.std.proofs.lemmas.Option.{slice_get_within}
 use mathlib.Core.Logic.{dite}
@@ -50,36 +50,41 @@ pub input_not_set : (c : Netlist) (w g : ℕ) → IsLawful c → w < input_wires
 input_not_set c w g lawful input set =
     lawful.sets_once g set.gate set.at (subst (IsSetBefore c g) (sym set.wire) (inl input))
 
-pub no_setters : (c : Netlist) → AreSetters c 0 (replicate c.wires 0)
-no_setters c = record {
-  count = length-replicate c.wires 0;
-  set = λ w g below by. absurd (omega arith);
-  setter = λ w g is. absurd (omega (arith, zeros c.wires w));
+-- A gate sets a wire after the input wires.
+pub past_inputs : (c : Netlist) (i : ℕ) (g : Gate) → IsLawful c → slice_get c.gates i ≡ Some g → input_wires c ≤ g.set
+past_inputs c i g lawful at =
+    dite (dec_le (input_wires c) g.set) (λ le. le) (λ gt. absurd (lawful.sets_once i g at (inl (omega (arith, gt)))))
+
+pub no_setters : (c : Netlist) (n : ℕ) → input_wires c + n ≡ c.wires → AreSetters c 0 (replicate n 0)
+no_setters c n count = record {
+  count = ap (λ l. input_wires c + l) (length-replicate n 0) ∙ count;
+  set = λ i g below by. absurd (omega arith);
+  setter = λ i g is. absurd (omega (arith, zeros n i));
 }
 
 -- one gate more
-pub more_setters : (c : Netlist) (i : ℕ) (g : Gate) (setters : List ℕ) → IsLawful c
-    → slice_get c.gates i ≡ Some g
-    → AreSetters c i setters → AreSetters c (i + 1) (set setters g.set (i + 1))
-more_setters c i g setters lawful at are =
-    let room : g.set < length setters = omega (arith, lawful.sets i g at, are.count) in
-    let here : get_or (set setters g.set (i + 1)) g.set 0 ≡ i + 1 = get_or-set_same setters g.set
-    (i + 1) 0 room in
-    let mine : IsSetBy c g.set i = record { gate = g; at = at; wire = refl } in
-    let else : (w : ℕ) → w ≢ g.set → get_or (set setters g.set (i + 1)) w 0 ≡ get_or setters w 0 =
-    λ w ne. get_or-set_other setters g.set w (i + 1) 0 ne in
+pub more_setters : (c : Netlist) (n i : ℕ) (g : Gate) (setters : List ℕ) → IsLawful c
+    → slice_get c.gates n ≡ Some g → input_wires c + i ≡ g.set
+    → AreSetters c n setters → AreSetters c (n + 1) (set setters i (n + 1))
+more_setters c n i g setters lawful at wire are =
+    let room : i < length setters = omega (arith, lawful.sets n g at, are.count, wire) in
+    let here : get_or (set setters i (n + 1)) i 0 ≡ n + 1 = get_or-set_same setters i (n + 1) 0 room in
+    let mine : IsSetBy c (input_wires c + i) n = record { gate = g; at = at; wire = sym wire } in
+    let else : (j : ℕ) → j ≢ i → get_or (set setters i (n + 1)) j 0 ≡ get_or setters j 0 =
+    λ j ne. get_or-set_other setters i j (n + 1) 0 ne in
     record {
-      count = length-set setters g.set (i + 1) ∙ are.count;
-      set = λ w h below by. dite (ℕ_discrete w g.set)
-          (λ is. let by_mine : IsSetBy c g.set h = subst (λ x. IsSetBy c x h) is by in
-          ap (λ x. get_or (set setters g.set (i + 1)) x 0) is ∙ here
-          ∙ ap (λ x. x + 1) (set_once c g.set i h lawful mine by_mine))
-          (λ ne. else w ne ∙ are.set w h (let apart : h ≢ i = λ e.
-          ne (one_wire c i w g.set (subst (IsSetBy c w) e by) mine) in omega (arith, apart)) by);
-      setter = λ w h is. dite (ℕ_discrete w g.set)
-          (λ same. let both : i + 1 ≡ h + 1 = sym here ∙ ap (λ x. get_or (set setters g.set (i + 1)) x 0)
+      count = ap (λ l. input_wires c + l) (length-set setters i (n + 1)) ∙ are.count;
+      set = λ j h below by. dite (ℕ_discrete j i)
+          (λ is. let by_mine : IsSetBy c (input_wires c + i) h = subst (λ x. IsSetBy c (input_wires c + x) h) is by in
+          ap (λ x. get_or (set setters i (n + 1)) x 0) is ∙ here
+          ∙ ap (λ x. x + 1) (set_once c (input_wires c + i) n h lawful mine by_mine))
+          (λ ne. else j ne ∙ are.set j h (let apart : h ≢ n = λ e.
+          ne (let same = one_wire c n (input_wires c + j) (input_wires c + i) (subst (IsSetBy c (input_wires c + j)) e by) mine in
+          omega (arith, same)) in omega (arith, apart)) by);
+      setter = λ j h is. dite (ℕ_discrete j i)
+          (λ same. let both : n + 1 ≡ h + 1 = sym here ∙ ap (λ x. get_or (set setters i (n + 1)) x 0)
           (sym same) ∙ is in
-          let e : i ≡ h = omega arith in
-          subst (IsSetBy c w) e (subst (λ x. IsSetBy c x i) (sym same) mine))
-          (λ ne. are.setter w h (sym (else w ne) ∙ is));
+          let e : n ≡ h = omega arith in
+          subst (IsSetBy c (input_wires c + j)) e (subst (λ x. IsSetBy c (input_wires c + x) n) (sym same) mine))
+          (λ ne. are.setter j h (sym (else j ne) ∙ is));
     }

@@ -3,13 +3,13 @@ use Rattle.std.specs.Prelude.{◌≡◌, ℕ, ◌+◌, ◌<◌, List, Option, So
 use Rattle.std.specs.List.{range_with_len}
 use Rattle.gc_netlist.specs.declared.gate.Operation.{Operation}
 use Rattle.gc_netlist.specs.declared.gate.Operation.TheVariants.{Xor, And, Inv, Eq, Eqw}
-use Rattle.gc_netlist.specs.Circuit.{Netlist, IsSetBy, IsLawful, and_number}
+use Rattle.gc_netlist.specs.Circuit.{Netlist, IsSetBy, IsLawful, and_number, input_wires}
 
--- By wire, the first of n gates that sets it, plus 1, and 0 where none does.
+-- By wire after the input wires, the first of n gates that sets it, plus 1, and 0 where none does.
 pub record AreSetters (c : Netlist) (n : ℕ) (setters : List ℕ) : Type 0 where
-  pub count : length setters ≡ c.wires
-  pub set : (w g : ℕ) → g < n → IsSetBy c w g → slice_index setters w ≡ g + 1
-  pub setter : (w g : ℕ) → slice_index setters w ≡ g + 1 → IsSetBy c w g
+  pub count : input_wires c + length setters ≡ c.wires
+  pub set : (i g : ℕ) → g < n → IsSetBy c (input_wires c + i) g → slice_index setters i ≡ g + 1
+  pub setter : (i g : ℕ) → slice_index setters i ≡ g + 1 → IsSetBy c (input_wires c + i) g
 
 -- The tables of a whole circuit, which is lawful.
 pub record IsWired (c : Netlist) (setter_table number_table : List ℕ) : Type 0 where

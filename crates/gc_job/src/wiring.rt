@@ -14,7 +14,7 @@ use std::marker::Model;
 #[derive(Drop)]
 pub struct Wiring<'c, A: Allocator = Global, C: Allocator = Global> {
     circuit: &'c Circuit<C>,
-    // By wire: the gate that sets it, plus 1, or 0.
+    // By wire after the input wires: the gate that sets it, plus 1, or 0.
     setters: Vec<u32, A>,
     // By gate.
     and_numbers: Vec<u32, A>,
@@ -54,7 +54,11 @@ impl<'c, A: Allocator, C: Allocator> Wiring<'c, A, C> {
         ensures some { IfSome result (λ g. IsSetBy self.now wire g) }
         ensures none { IfNone result ((g : ℕ) → IsSetBy self.now wire g → ⊥) }
     {
-        let after = self.setters[wire as usize];
+        let inputs = self.circuit.input_wires();
+        if wire < inputs {
+            return None;
+        }
+        let after = self.setters[(wire - inputs) as usize];
         if after == 0 { None } else { Some(after - 1) }
     }
 
@@ -68,17 +72,17 @@ impl<'c, A: Allocator, C: Allocator> Wiring<'c, A, C> {
     }
 }
 
-/// By wire, the gate that sets it, plus 1, or 0.
+/// By wire after the input wires, the gate that sets it, plus 1, or 0.
 fn setters<A: Allocator + Copy, C: Allocator>(
     alloc: A,
     circuit: &Circuit<C>,
 ) -> Result<Vec<u32, A>, AllocError>
     ensures { IfOk result (λ v. AreSetters circuit.now (length circuit.now.gates) v.items) }
 {
-    let mut setters = Vec::with_capacity(alloc, circuit.wires() as usize)?;
-    setters.resize(circuit.wires() as usize, 0u32)?;
+    let inputs = circuit.input_wires();
+    let mut setters = Vec::from_elem(alloc, 0u32, (circuit.wires() - inputs) as usize)?;
     for i in 0..circuit.gates() {
-        setters[circuit.gate(i).set as usize] = i + 1;
+        setters[(circuit.gate(i).set - inputs) as usize] = i + 1;
     }
     Ok(setters)
 }
