@@ -66,7 +66,7 @@ fn evaluate_together<
     ensures ok { IfOk result (λ o. IfSome o (λ v. IsEvaluated job.now (Ok v.items))) }
     ensures err { IfErr result (λ fault. IsEvaluated job.now (Err fault)) }
 {
-    let Ok((board, seats)) = EvalBoard::open(alloc, job, workers) else {
+    let Ok((board, seats)) = EvalBoard::open_by_two(rt, alloc, job, workers) else {
         return Ok(None);
     };
     let Ok(mut workers) = muster(alloc, &board, seats) else {

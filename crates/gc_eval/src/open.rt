@@ -1,6 +1,6 @@
 //! Opening and closing a board.
 
-ghost use Rattle.std.specs.Prelude.{◌≡◌, ℕ, ◌<◌, ◌≤◌, ◌↔◌, [], length, IfOk, IfErr, IsOk, All, codes};
+ghost use Rattle.std.specs.Prelude.{◌≡◌, ℕ, ◌+◌, ◌*◌, ◌<◌, ◌≤◌, ◌↔◌, [], length, replicate, IfOk, IfErr, IsOk, All, codes};
 ghost use Rattle.std.specs.Slots.{slots_items};
 ghost use Rattle.gc_board.specs.Counts.{total, times, only};
 ghost use Rattle.gc_board.specs.Board.{state_of};
@@ -10,9 +10,13 @@ ghost use Rattle.gc_eval.specs.Seats.{IsSeatOf, IsNew, view, job_on};
 
 use crate::active::Active;
 use crate::seat::{EvalBoard, EvalSeat};
-use gc_board::{Key, OpenFault, Place, Words, close_table, deal_place, join_place, open_table};
+use gc_board::{
+    Key, OpenFault, Place, Words, close_table, deal_place, free_words, join_place, open_table,
+};
 use gc_job::{Facts, Job, Wiring};
-use std::alloc::{Allocator, Global};
+use std::alloc::{AllocError, Allocator, Global};
+use std::thread;
+use std::thread::Threads;
 
 /// The most seats of a board.
 pub const MAX_SEATS: u32 = 64;
@@ -88,14 +92,32 @@ impl<'j, 'c, B: Allocator + Copy, A: Allocator, C: Allocator> EvalBoard<'j, 'c, 
         ensures count { IfOk result (λ b. (b.0.seats ≡ seats) × (length b.1.items ≡ seats)) }
         ensures seats { IfOk result (λ b. All (λ s. IsSeatOf b.0 s × IsNew (view s)) b.1.items) }
     {
+        let words = free_words(alloc, job.circuit().gates())?;
+        let wiring = Wiring::of(alloc, job.circuit())?;
+        EvalBoard::of_tables(alloc, job, seats, words, wiring)
+    }
+
+    /// The same, of the words that the table begins with and the tables of the job's circuit.
+    fn of_tables(
+        alloc: B,
+        job: &'j Job<'c, A, C>,
+        seats: u32,
+        words: Vec<u64, B>,
+        wiring: Wiring<'c, B, C>,
+    ) -> Result<(EvalBoard<'j, 'c, B, A, C>, Vec<EvalSeat<A, C>, B>), OpenFault>
+        requires few { (0 < seats) × (seats ≤ MAX_SEATS) }
+        requires words { words.items ≡ replicate (3 * gates_of job.now + 1) 0 }
+        requires wiring { wiring ≡ job.now.circuit }
+        ensures job { IfOk result (λ b. job_on b.0 ≡ job.now) }
+        ensures count { IfOk result (λ b. (b.0.seats ≡ seats) × (length b.1.items ≡ seats)) }
+        ensures seats { IfOk result (λ b. All (λ s. IsSeatOf b.0 s × IsNew (view s)) b.1.items) }
+    {
         let key = Key {
             work: job.facts(),
             seats,
         };
         let room = Vec::with_capacity(alloc, seats as usize)?;
-        // The table takes its words twice over, and gives half back before the wiring needs memory.
-        let (table, first) = open_table(alloc, &key, job.circuit().gates())?;
-        let wiring = Wiring::of(alloc, job.circuit())?;
+        let (table, first) = open_table(alloc, &key, words)?;
         let dealt = deal_all(&table.shared, first, seats, room)?;
         let board = EvalBoard {
             job,
@@ -104,6 +126,40 @@ impl<'j, 'c, B: Allocator + Copy, A: Allocator, C: Allocator> EvalBoard<'j, 'c, 
             seats,
         };
         Ok((board, dealt))
+    }
+}
+
+impl<'j, 'c, B: Allocator + Copy + Send + Sync, A: Allocator, C: Allocator + Sync> EvalBoard<
+    'j,
+    'c,
+    B,
+    A,
+    C,
+> {
+    /// The same as [`EvalBoard::open`], by two threads where another can be started.
+    pub(crate) fn open_by_two<R: Threads>(
+        rt: &R,
+        alloc: B,
+        job: &'j Job<'c, A, C>,
+        seats: u32,
+    ) -> Result<(EvalBoard<'j, 'c, B, A, C>, Vec<EvalSeat<A, C>, B>), OpenFault>
+        requires { (0 < seats) × (seats ≤ MAX_SEATS) }
+        ensures job { IfOk result (λ b. job_on b.0 ≡ job.now) }
+        ensures count { IfOk result (λ b. (b.0.seats ≡ seats) × (length b.1.items ≡ seats)) }
+        ensures seats { IfOk result (λ b. All (λ s. IsSeatOf b.0 s × IsNew (view s)) b.1.items) }
+    {
+        let circuit = job.circuit();
+        let gates = circuit.gates();
+        let (words, wiring) = thread::join(
+            rt,
+            || -> Result<Vec<u64, B>, AllocError>
+                ensures { IfOk result (λ words. words.items ≡ replicate (3 * gates + 1) 0) }
+            { free_words(alloc, gates) },
+            || -> Result<Wiring<'_, B, C>, AllocError>
+                ensures { IfOk result (λ wiring. wiring ≡ circuit.entry.now) }
+            { Wiring::of(alloc, circuit) },
+        );
+        EvalBoard::of_tables(alloc, job, seats, words?, wiring?)
     }
 }
 
