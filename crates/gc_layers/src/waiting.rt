@@ -1,0 +1,116 @@
+//! AND gates that wait to be garbled.
+
+ghost use Rattle.std.specs.Prelude.{◌≡◌, ℕ, ◌<◌, ◌≤◌, ◌+◌, ◌*◌, Some, length, slice_get, slice_index_or};
+ghost use Rattle.gc_layers.specs.Layer.{garbled_of, IsPair};
+
+use gc_half::{AndGate, RowPair, garble_and, garble_two_ands};
+use gc_label::Label;
+use std::thread;
+use std::thread::Threads;
+
+/// An AND gate that waits to be garbled, and the wire that it sets.
+#[derive(Clone, Copy)]
+pub(crate) struct Waiting {
+    pub gate: AndGate,
+    pub set: u32,
+}
+
+/// What garbling an AND gate gives: the zero label of the wire that it sets, and its row pair.
+#[derive(Clone, Copy)]
+pub(crate) struct Garbled {
+    pub zero_label: Label,
+    pub rows: RowPair,
+}
+
+impl Garbled {
+    /// What fills a place that nothing was garbled for.
+    pub const NONE: Garbled = Garbled {
+        zero_label: Label::ZERO,
+        rows: RowPair {
+            generator: Label::ZERO,
+            evaluator: Label::ZERO,
+        },
+    };
+}
+
+/// A label, a generator's row and an evaluator's row, by names.
+#[inline]
+fn named(garbled: (Label, Label, Label)) -> Garbled
+    ensures { result ≡ record {
+      zero_label = garbled.0;
+      rows = record { generator = garbled.1; evaluator = garbled.2 };
+    } }
+{
+    let (zero_label, generator, evaluator) = garbled;
+    Garbled {
+        zero_label,
+        rows: RowPair {
+            generator,
+            evaluator,
+        },
+    }
+}
+
+/// Garbles the gates at the places 2 * i and 2 * i + 1 of those that wait, at once where there are both. That there is
+/// the first is the caller's condition.
+fn garble_pair(waiting: &[Waiting], i: usize) -> (Garbled, Garbled)
+    requires { 2 * i < length waiting.now }
+    ensures { IsPair waiting.now i result }
+{
+    let AndGate { k, offset, a, b } = waiting[2 * i].gate;
+    if 2 * i + 1 == waiting.len() {
+        return (named(garble_and(k, offset, a, b)), Garbled::NONE);
+    }
+    let (one, other) = garble_two_ands(AndGate { k, offset, a, b }, waiting[2 * i + 1].gate);
+    (named(one), named(other))
+}
+
+/// Garbles all gates that wait, by up to so many threads. Pairs after those that are needed stay as they are.
+pub(crate) fn garble_pairs<R: Threads + Sync>(
+    rt: &R,
+    waiting: &[Waiting],
+    pairs: &mut [(Garbled, Garbled)],
+    threads: usize,
+)
+    requires room { length waiting.now ≤ 2 * length pairs.old }
+    requires threads { 0 < threads }
+    ensures { (i : ℕ) (d : _) → 2 * i < length waiting.now → IsPair waiting.now i (slice_index_or pairs.new i d) }
+{
+    let (used, _) = pairs.split_at_mut(waiting.len().div_ceil(2));
+    garble_each(rt, waiting, used, threads);
+}
+
+/// Garbles each of these pairs.
+fn garble_each<R: Threads + Sync>(
+    rt: &R,
+    waiting: &[Waiting],
+    pairs: &mut [(Garbled, Garbled)],
+    threads: usize,
+)
+    requires pairs { 2 * length pairs.old ≤ length waiting.now + 1 }
+    requires threads { 0 < threads }
+    ensures { (i : ℕ) (d : _) → i < length pairs.old → IsPair waiting.now i (slice_index_or pairs.new i d) }
+{
+    thread::for_each_mut(
+        rt,
+        pairs,
+        threads,
+        &|i: usize, pair: &mut (Garbled, Garbled)|
+            requires { 2 * i < length waiting.now }
+            ensures { IsPair waiting.entry.now i pair.exit.now }
+        { *pair = garble_pair(waiting, i) },
+    );
+}
+
+/// What garbling the gate at a place among those that wait gave. That there is one, and that the pairs are theirs, is the
+/// caller's condition.
+#[inline]
+pub(crate) fn garbled_at(waiting: &[Waiting], pairs: &[(Garbled, Garbled)], place: usize) -> Garbled
+    requires place { place < length waiting.now }
+    requires room { length waiting.now ≤ 2 * length pairs.now }
+    requires pairs { (i : ℕ) (d : _) → 2 * i < length waiting.now → IsPair waiting.now i (slice_index_or pairs.now i d) }
+    ensures { (w : _) → slice_get waiting.now place ≡ Some w → result ≡ garbled_of w }
+{
+    let (one, other) = pairs[place / 2];
+    if place % 2 == 0 { one } else { other }
+}
