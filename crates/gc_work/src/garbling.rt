@@ -16,6 +16,7 @@ use gc_circuit::{Circuit, Memory};
 use gc_gatehouse::{Gatehouse, MAX_WORKERS};
 use gc_half::{Garbling, garble_one_thread};
 use gc_label::Seed;
+use gc_layers::garble_by_layers;
 use gc_store::{MAX_TALLIES, SharedStore, Store, Tally};
 use std::alloc::Allocator;
 use std::marker::Brand;
@@ -27,12 +28,13 @@ use std::thread::Threads;
 /// The room of a worker's pool, in tasks.
 const POOL_CAPACITY: u32 = 1024;
 
-/// Several workers garble a circuit where about one of so many gates is AND, or more.
+/// A circuit is garbled through a store where about one of so many gates is AND, or more.
 const GATES_FOR_AND: u32 = 3;
 
 /// The garbling of a circuit under a seed, made by so many workers. The calling thread is worker 0; a thread is
 /// started for each other worker, and where one can't be started the calling thread does its work too. Where few
-/// gates are AND, worker 0 garbles alone, which is faster. `house` is told of each gate before it is sealed.
+/// gates are AND, worker 0 goes from gate to gate, and so many threads garble the AND gates that
+/// none of them waits for ([`garble_by_layers`]), which is faster. `house` is told of each gate before it is sealed.
 ///
 /// It refuses 0 workers and more than [`MAX_WORKERS`]. Memory is the other fault.
 pub fn garble<
@@ -54,8 +56,12 @@ pub fn garble<
     if workers == 0 || workers > MAX_WORKERS {
         return Err(WorkFault::BadWorkers);
     }
-    if workers == 1 || is_mostly_free(circuit) {
+    if workers == 1 {
         return Ok(garble_alone(alloc, circuit, seed, house)?);
+    }
+    if is_mostly_free(circuit) {
+        tell_all(circuit, house);
+        return Ok(garble_by_layers(rt, alloc, circuit, seed, workers)?);
     }
     let ledger = Blank::new(u64::from(MAX_TALLIES));
     let garbling = garble_by::<Brand, A, C, H, R>(
@@ -64,7 +70,7 @@ pub fn garble<
     Ok(garbling)
 }
 
-/// Whether so few gates are AND that one thread seals the gates in less time than workers hand them to each other.
+/// Whether so few gates are AND that one thread garbles the others in less time than workers hand them to each other.
 fn is_mostly_free<C: Allocator>(circuit: &Circuit<C>) -> bool {
     circuit.and_count() < circuit.gates() / GATES_FOR_AND
 }
@@ -128,10 +134,15 @@ fn garble_alone<A: Allocator + Copy, C: Allocator, H: Gatehouse>(
 ) -> Result<Garbling<A>, Memory>
     ensures { IfOk result (IsGarbled circuit.now seed.now) }
 {
+    tell_all(circuit, house);
+    garble_one_thread(alloc, circuit, seed)
+}
+
+/// Tells of all gates, as worker 0.
+fn tell_all<C: Allocator, H: Gatehouse>(circuit: &Circuit<C>, house: &H) {
     for gate in 0..circuit.gates() {
         house.before(0, gate);
     }
-    garble_one_thread(alloc, circuit, seed)
 }
 
 /// Lets the workers finish what they can, each with a pool of this capacity. The answer is the store and worker 0's

@@ -1,10 +1,12 @@
-//! The tests of stores, of stores that threads share, of pools of tasks, and of garbling on many threads.
+//! The tests of stores, of stores that threads share, of pools of tasks, and of garbling by layers and on many threads.
 #![tactic(auto)]
 
 #[cfg(test)]
 mod garblings;
 #[cfg(test)]
 mod growth;
+#[cfg(test)]
+mod layers;
 #[cfg(test)]
 mod pools;
 #[cfg(test)]

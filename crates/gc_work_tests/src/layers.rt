@@ -1,0 +1,89 @@
+//! Tests of garbling by layers: the answer is that of one thread.
+
+use crate::garblings::are_same;
+use gc_circuit::{Circuit, Memory};
+use gc_half::garble_one_thread;
+use gc_label::Seed;
+use gc_layers::garble_by_layers;
+use gc_refusing::Refusing;
+use gc_worked::circuits::{FULL_ADDER, chain, many_ands};
+use gc_worked::growths::{Answer, plain_if, runs_refused};
+use gc_worked::random::{Numbers, random_circuit, random_window};
+use std::alloc::Global;
+use std::process::Abort;
+use std::test::Fail;
+use std::thread::Threads;
+
+/// Whether a circuit is garbled by layers as by one thread, with so many threads for each layer.
+fn is_garbled_so<R: Threads + Sync>(
+    rt: &R,
+    alloc: Global,
+    text: &str,
+    threads: u32,
+) -> Result<bool, Fail> {
+    let circuit = Circuit::read(alloc, text.as_bytes())?;
+    let seed = Seed::from_bytes([9; 32]);
+    let one_thread = garble_one_thread(alloc, &circuit, &seed)?;
+    let by_layers = garble_by_layers(rt, alloc, &circuit, &seed, threads)?;
+    Ok(are_same(&circuit, &by_layers, &one_thread))
+}
+
+/// Gates of all kinds, which read what gates that wait set.
+#[test]
+fn random_circuits_by_layers(rt: HostRuntime) -> Result<(), Fail> {
+    let mut numbers = Numbers { state: 3 };
+    for i in 0..300u32 {
+        let text = random_circuit(rt.alloc(), &mut numbers)?;
+        assert!(rt;
+            is_garbled_so(&rt, rt.alloc(), text.as_str(), 2)?,
+            "circuit {i}"
+        );
+    }
+    for i in 0..10u32 {
+        let text = random_window(rt.alloc(), &mut numbers, 4000)?;
+        assert!(rt;
+            is_garbled_so(&rt, rt.alloc(), text.as_str(), 2)?,
+            "window {i}"
+        );
+    }
+    Ok(())
+}
+
+/// Layers of one gate and of an odd number, of as many gates as a thread is started for, and of more than may wait; by
+/// no thread as by one.
+#[test]
+fn layers_of_all_sizes(rt: HostRuntime) -> Result<(), Fail> {
+    for gates in [1, 2, 3, 1023, 1024, 1025, 16384, 16385, 40_000] {
+        let text = many_ands(rt.alloc(), gates)?;
+        for threads in [0, 1, 4, 64] {
+            assert!(rt;
+                is_garbled_so(&rt, rt.alloc(), text.as_str(), threads)?,
+                "{gates} gates by {threads} threads"
+            );
+        }
+    }
+    Ok(())
+}
+
+/// A circuit without AND gates.
+#[test]
+fn no_layer(rt: HostRuntime) -> Result<(), Fail> {
+    let text = chain(rt.alloc())?;
+    assert!(rt; is_garbled_so(&rt, rt.alloc(), text.as_str(), 4)?);
+    Ok(())
+}
+
+/// Each growth refused in turn: the labels, the rows, the gates that wait, and what garbling them gives.
+#[test]
+fn each_growth_of_layers_refused(rt: HostRuntime) -> Result<(), Fail> {
+    let circuit = Circuit::read(rt.alloc(), FULL_ADDER.as_bytes())?;
+    let seed = Seed::from_bytes([9; 32]);
+    let refused = runs_refused(rt.alloc(), |heap: &Refusing<Global>| {
+        match garble_by_layers(&rt, heap, &circuit, &seed, 2) {
+            Ok(garbling) => plain_if(garbling.fits(&circuit)),
+            Err(Memory) => Answer::Memory,
+        }
+    });
+    assert_eq!(rt; refused, Ok(4));
+    Ok(())
+}
