@@ -15,9 +15,12 @@ processor() {
     echo --cpu=x86-64-v3
 }
 
-# From now on programs have large blocks of memory by large pages, where the system gives them to who asks: much of the
-# time that opening large tables takes is the handing out of their pages.
-use_large_pages() {
-    GLIBC_TUNABLES=${GLIBC_TUNABLES-glibc.malloc.hugetlb=1}
+# From now on programs have memory by large pages, where the system gives them to who asks, and keep what they give back
+# for what they take next, all their threads from one heap: much of the time that opening large tables takes is the handing
+# out of their pages.
+tune_memory() {
+    malloc=glibc.malloc
+    keeps=$malloc.arena_max=1:$malloc.mmap_threshold=1099511627776:$malloc.trim_threshold=1099511627776
+    GLIBC_TUNABLES=${GLIBC_TUNABLES-$malloc.hugetlb=1:$keeps:$malloc.top_pad=268435456}
     export GLIBC_TUNABLES
 }

@@ -18,7 +18,7 @@ if is_stale "$bench" && ! (cd "$top/crates/gc_bench" && rt run $(processor) && t
     tail -n 20 "$tmp/build" >&2
     exit 1
 fi
-use_large_pages
+tune_memory
 zero=$(printf '0%.0s' $(seq 64))
 
 circuit=${1:-$tmp/half.txt}
