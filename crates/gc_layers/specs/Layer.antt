@@ -18,11 +18,11 @@ pub record LayerParts : Type 0 where
 
 -- What garbling a gate that waits gives: the zero label of the wire that it sets,
 abbrev pub zero_by : Waiting → ℕ
-zero_by w = and_zero hash w.gate.k w.gate.offset w.gate.a w.gate.b
+zero_by w = and_zero hash w.k w.offset w.a w.b
 
 -- and its row pair.
 abbrev pub rows_by : Waiting → RowPair
-rows_by w = row_pair hash w.gate.offset w.gate.k w.gate.a w.gate.b
+rows_by w = row_pair hash w.offset w.k w.a w.b
 
 abbrev pub garbled_of : Waiting → Garbled
 garbled_of w = record { zero_label = zero_by w; rows = rows_by w }

@@ -12,7 +12,7 @@ use std::thread::Threads;
 
 /// The garbling of a circuit under a seed, gate by gate in file order, but that AND gates wait as long as no gate reads
 /// what they set, and are then garbled at once, by up to so many threads where they are many and threads can be started.
-/// It takes memory for the labels, for the rows, and for up to 16,384 gates that wait, each once.
+/// It takes memory for the labels, for the rows, and for up to 65,536 gates that wait, each once.
 pub fn garble_by_layers<A: Allocator + Copy, C: Allocator, R: Threads + Sync>(
     rt: &R,
     alloc: A,

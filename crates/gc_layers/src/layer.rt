@@ -13,14 +13,14 @@ ghost use Rattle.gc_layers.specs.Layer.{IsPair, settled, rows_by, IsSettled, IsK
 
 use crate::waiting::{Garbled, Waiting, garble_pairs, garbled_at};
 use gc_circuit::{Circuit, Gate, Memory, Operation};
-use gc_half::{AndGate, RowPair, garble_gate, input_zero_labels, labels_read};
+use gc_half::{RowPair, garble_gate, input_zero_labels, labels_read};
 use gc_label::{Label, Offset, Seed, offset};
 use std::alloc::Allocator;
 use std::marker::Model;
 use std::thread::Threads;
 
 /// The most pairs of AND gates that wait.
-const MOST_PAIRS: u32 = 8192;
+const MOST_PAIRS: u32 = 32_768;
 
 /// For so many AND gates a thread is worth starting.
 const GATES_FOR_THREAD: usize = 512;
@@ -185,14 +185,15 @@ impl<A: Allocator> Layer<A> {
         ensures waiting { OnOk result ((self.new.waiting ≡ self.old.waiting ++ set ∷ [])
             × (self.new.room ≡ self.old.room)) }
     {
-        let gate = AndGate {
+        let waiting = Waiting {
             k: (self.rows.len() + self.waiting.len()) as u32,
+            set,
             offset: self.offset,
             a: first,
             b: second,
         };
         self.zero_labels[set as usize] = Label::ZERO;
-        self.waiting.push(Waiting { gate, set })?;
+        self.waiting.push(waiting)?;
         Ok(())
     }
 

@@ -4,15 +4,32 @@ ghost use Rattle.std.specs.Prelude.{◌≡◌, ℕ, ◌<◌, ◌≤◌, ◌+◌,
 ghost use Rattle.gc_layers.specs.Layer.{garbled_of, IsPair};
 
 use gc_half::{AndGate, RowPair, garble_and, garble_two_ands};
-use gc_label::Label;
+use gc_label::{Label, Offset};
 use std::thread;
 use std::thread::Threads;
 
-/// An AND gate that waits to be garbled, and the wire that it sets.
+/// An AND gate that waits to be garbled, as [`AndGate`] has it, and the wire that it sets. It takes 64 bytes.
 #[derive(Clone, Copy)]
 pub(crate) struct Waiting {
-    pub gate: AndGate,
+    pub k: u32,
     pub set: u32,
+    pub offset: Offset,
+    pub a: Label,
+    pub b: Label,
+}
+
+impl Waiting {
+    #[inline]
+    fn gate(&self) -> AndGate
+        ensures { result ≡ record { k = self.now.k; offset = self.now.offset; a = self.now.a; b = self.now.b } }
+    {
+        AndGate {
+            k: self.k,
+            offset: self.offset,
+            a: self.a,
+            b: self.b,
+        }
+    }
 }
 
 /// What garbling an AND gate gives: the zero label of the wire that it sets, and its row pair.
@@ -57,11 +74,12 @@ fn garble_pair(waiting: &[Waiting], i: usize) -> (Garbled, Garbled)
     requires { 2 * i < length waiting.now }
     ensures { IsPair waiting.now i result }
 {
-    let AndGate { k, offset, a, b } = waiting[2 * i].gate;
+    let one = waiting[2 * i].gate();
     if 2 * i + 1 == waiting.len() {
+        let AndGate { k, offset, a, b } = one;
         return (named(garble_and(k, offset, a, b)), Garbled::NONE);
     }
-    let (one, other) = garble_two_ands(AndGate { k, offset, a, b }, waiting[2 * i + 1].gate);
+    let (one, other) = garble_two_ands(one, waiting[2 * i + 1].gate());
     (named(one), named(other))
 }
 
@@ -105,12 +123,16 @@ fn garble_each<R: Threads + Sync>(
 /// What garbling the gate at a place among those that wait gave. That there is one, and that the pairs are theirs, is the
 /// caller's condition.
 #[inline]
-pub(crate) fn garbled_at(waiting: &[Waiting], pairs: &[(Garbled, Garbled)], place: usize) -> Garbled
+pub(crate) fn garbled_at<'a>(
+    waiting: &[Waiting],
+    pairs: &'a [(Garbled, Garbled)],
+    place: usize,
+) -> &'a Garbled
     requires place { place < length waiting.now }
     requires room { length waiting.now ≤ 2 * length pairs.now }
     requires pairs { (i : ℕ) (d : _) → 2 * i < length waiting.now → IsPair waiting.now i (slice_index_or pairs.now i d) }
-    ensures { (w : _) → slice_get waiting.now place ≡ Some w → result ≡ garbled_of w }
+    ensures { (w : _) → slice_get waiting.now place ≡ Some w → result.now ≡ garbled_of w }
 {
-    let (one, other) = pairs[place / 2];
-    if place % 2 == 0 { one } else { other }
+    let pair = &pairs[place / 2];
+    if place % 2 == 0 { &pair.0 } else { &pair.1 }
 }

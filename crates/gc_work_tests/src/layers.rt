@@ -53,7 +53,7 @@ fn random_circuits_by_layers(rt: HostRuntime) -> Result<(), Fail> {
 /// no thread as by one.
 #[test]
 fn layers_of_all_sizes(rt: HostRuntime) -> Result<(), Fail> {
-    for gates in [1, 2, 3, 1023, 1024, 1025, 16384, 16385, 40_000] {
+    for gates in [1, 2, 3, 1023, 1024, 1025, 65_536, 65_537, 140_000] {
         let text = many_ands(rt.alloc(), gates)?;
         for threads in [0, 1, 4, 64] {
             assert!(rt;

@@ -10,7 +10,7 @@ loop-place-preserved g c =
     let waiting = c.args.waiting.now in
     let rows = c.args.rows.now.items in
     let place = c.loop-place.place in
-    let pair = c.garbled_at.result.rows in
+    let pair = c.garbled_at.result.now.rows in
     let next : suc place ≡ place + 1 = omega arith in
     c.in_ok-push.ensures.items
     ∙ ap (λ l. l ++ pair ∷ []) c.loop-place.invariant

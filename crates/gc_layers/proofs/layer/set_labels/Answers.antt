@@ -9,7 +9,7 @@ pub loop-place-preserved : goal.loop-place-preserved
 loop-place-preserved c =
     let waiting = c.args.waiting.now in
     let place = c.loop-place.place in
-    let label = c.garbled_at.result.zero_label in
+    let label = c.garbled_at.result.now.zero_label in
     let gate = c.index-waiting-place.result in
     let wire = (slice_index_or waiting place gate).set in
     let next : suc place ≡ place + 1 = omega arith in
