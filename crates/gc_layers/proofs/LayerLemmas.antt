@@ -1,6 +1,7 @@
 -- Zero labels while AND gates wait.
-use Rattle.std.proofs.Common.{◌≡◌, ◌≢◌, ℕ, zero, suc, ◌<◌, ◌++◌, List, [], ◌∷◌, All, Some, set, length, length-set, map, take, drop, get_or-set_same, get_or-set_other, slice_get, slice_index, slice_index_or, refl, sym, ap, ◌∙◌, arith}
-use Rattle.std.proofs.lemmas.List.{set_comm, set-set}
+use Rattle.std.proofs.Common.{◌≡◌, ◌≢◌, ℕ, zero, suc, ◌+◌, ◌<◌, ◌≤◌, ◌++◌, List, [], ◌∷◌, All, Some, set, length, length-set, map, take, drop, get_or-set_same, get_or-set_other, slice_get, slice_index, slice_index_or, refl, sym, ap, ◌∙◌, arith}
+use Rattle.std.proofs.lemmas.List.{set_comm, set-set, map-append, length-take-le, take-append-drop}
+use Rattle.std.proofs.Math.Seq.{take-append-add, drop-append-add}
 use Rattle.std.proofs.lemmas.List.Elements.{All-nil, All-cons, All-head, All-tail, All-push}
 use Rattle.gc_netlist.specs.declared.gate.Operation.{Operation}
 use Rattle.gc_netlist.specs.Circuit.{EachRead}
@@ -20,6 +21,11 @@ pub settled-push : (labels : List ℕ) (ws : List Waiting) (w : Waiting)
     → settled labels (ws ++ w ∷ []) ≡ set (settled labels ws) w.set (zero_by w)
 settled-push labels [] w = refl
 settled-push labels (v ∷ ws) w = settled-push (set labels v.set (zero_by v)) ws w
+
+pub settled-append : (labels : List ℕ) (ws more : List Waiting)
+    → settled labels (ws ++ more) ≡ settled (settled labels ws) more
+settled-append labels [] more = refl
+settled-append labels (w ∷ ws) more = settled-append (set labels w.set (zero_by w)) ws more
 
 -- A label may be put first where no gate that waits sets its wire,
 pub settled-put : (labels : List ℕ) (ws : List Waiting) (s x : ℕ) → All (λ (w : Waiting). w.set ≢ s) ws
@@ -116,3 +122,31 @@ settled-next labels (w ∷ ws) zero s label below sets gives =
     ∙ ap (λ x. settled (set labels w.set x) ws) (gives w refl)
 settled-next labels (w ∷ ws) (suc i) s label below sets gives =
     settled-next labels ws i s label (omega arith) sets gives
+
+-- One block more: its row pairs,
+module _ (ws : List Waiting) (i n : ℕ) (room : i ≤ length ws) where
+  before : length (take i ws) ≡ i
+  before = length-take-le i ws room
+
+  take-more : take (i + n) ws ≡ take i ws ++ take n (drop i ws)
+  take-more =
+      ap (λ l. take (i + n) l) (sym (take-append-drop i ws))
+      ∙ ap (λ k. take (k + n) (take i ws ++ drop i ws)) (sym before)
+      ∙ take-append-add (take i ws) (drop i ws) n
+
+  drop-more : drop (i + n) ws ≡ drop n (drop i ws)
+  drop-more =
+      ap (λ l. drop (i + n) l) (sym (take-append-drop i ws))
+      ∙ ap (λ k. drop (k + n) (take i ws ++ drop i ws)) (sym before)
+      ∙ drop-append-add (take i ws) (drop i ws) n
+
+  pub rows-block : map rows_by (take i ws) ++ map rows_by (take n (drop i ws)) ≡ map rows_by (take (i + n) ws)
+  rows-block = sym (ap (map rows_by) take-more ∙ map-append rows_by (take i ws) (take n (drop i ws)))
+
+  -- and the labels of its wires.
+  pub settled-block : (labels : List ℕ) → settled (settled labels (take n (drop i ws))) (drop (i + n) ws)
+      ≡ settled labels (drop i ws)
+  settled-block labels =
+      ap (settled (settled labels (take n (drop i ws)))) drop-more
+      ∙ sym (settled-append labels (take n (drop i ws)) (drop n (drop i ws)))
+      ∙ ap (settled labels) (take-append-drop n (drop i ws))

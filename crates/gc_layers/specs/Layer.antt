@@ -1,5 +1,5 @@
 -- A garbling of the gates so far, while AND gates wait to be garbled.
-use Rattle.std.specs.Prelude.{◌≡◌, ℕ, ◌+◌, ◌*◌, ◌<◌, ◌⊎◌, List, [], ◌∷◌, All, Some, length, slice_get, slice_index, slice_set}
+use Rattle.std.specs.Prelude.{◌≡◌, ℕ, ◌+◌, ◌*◌, ◌<◌, ◌⊎◌, List, [], ◌∷◌, All, Some, length, slice_get, slice_index, slice_index_or, slice_set}
 use Rattle.gc_half.specs.declared.garbling.RowPair.{RowPair}
 use Rattle.gc_half.specs.Hash.{hash}
 use Rattle.gc_half.specs.HalfGate.{and_zero}
@@ -34,6 +34,11 @@ set_by w = w.set
 pub record IsPair (waiting : List Waiting) (i : ℕ) (pair : Garbled × Garbled) : Type 0 where
   pub one : (w : Waiting) → slice_get waiting (2 * i) ≡ Some w → pair.0 ≡ garbled_of w
   pub other : (w : Waiting) → slice_get waiting (2 * i + 1) ≡ Some w → pair.1 ≡ garbled_of w
+
+-- The pairs are what garbling gives for these gates, two after two.
+abbrev pub ArePairs : List Waiting → List (Garbled × Garbled) → Type 0
+ArePairs waiting pairs =
+    (i : ℕ) (d : Garbled × Garbled) → 2 * i < length waiting → IsPair waiting i (slice_index_or pairs i d)
 
 -- The zero labels once the gates that wait are garbled, one after another.
 abbrev pub settled : List ℕ → List Waiting → List ℕ

@@ -1,31 +1,119 @@
 //! Garbling a whole circuit by layers.
 
-ghost use Rattle.std.specs.Prelude.{IfOk};
+ghost use Rattle.std.specs.Prelude.{◌<◌, IfOk};
 ghost use Rattle.gc_half.specs.Garbling.{IsGarbled};
 
-use crate::layer::Layer;
+use crate::block::BLOCK;
+use crate::crew::Crew;
+use crate::exchange::Exchange;
+use crate::layer::{Layer, MOST_WAITING};
 use gc_circuit::{Circuit, Memory};
+use gc_gatehouse::Gatehouse;
 use gc_half::Garbling;
 use gc_label::Seed;
 use std::alloc::Allocator;
+use std::sync::Wait;
+use std::thread;
 use std::thread::Threads;
 
+/// The most threads that garble beside the calling one.
+const MOST_HELPERS: usize = 63;
+
+/// For so many AND gates a thread is worth starting.
+const GATES_FOR_THREAD: usize = 1024;
+
 /// The garbling of a circuit under a seed, gate by gate in file order, but that AND gates wait as long as no gate reads
-/// what they set, and are then garbled at once, by up to so many threads where they are many and threads can be started.
-/// It takes memory for the labels, for the rows, and for up to 65,536 gates that wait, each once.
-pub fn garble_by_layers<A: Allocator + Copy, C: Allocator, R: Threads + Sync>(
+/// what they set, and are then garbled at once: by the calling thread and up to so many less one beside it, where there
+/// are enough of them and threads can be started. It takes memory for the labels, for the rows, and for up to 65,536
+/// gates that wait. `house` is told of each gate before it is garbled; the calling thread is worker 0.
+pub fn garble_by_layers<
+    A: Allocator + Copy + Send + Sync,
+    C: Allocator + Sync,
+    H: Gatehouse + Sync,
+    R: Threads + Wait + Sync,
+>(
     rt: &R,
     alloc: A,
     circuit: &Circuit<C>,
     seed: &Seed,
     threads: u32,
+    house: &H,
 ) -> Result<Garbling<A>, Memory>
     ensures { IfOk result (λ g. IsGarbled circuit.now seed.now g) }
 {
+    let ands = circuit.and_count() as usize;
+    let helpers = (threads as usize)
+        .saturating_sub(1)
+        .min(ands / GATES_FOR_THREAD)
+        .min(MOST_HELPERS);
+    let blocks = if helpers == 0 {
+        0
+    } else {
+        ands.min(MOST_WAITING) / BLOCK
+    };
+    let exchange = Exchange::open(alloc, blocks)?;
+    if helpers == 0 {
+        return garble_with(rt, alloc, circuit, seed, &exchange, blocks, house);
+    }
+    let (_, garbled) = thread::join(
+        rt,
+        ||
+            requires { 0 < helpers }
+        { help_by(rt, &exchange, helpers, house) },
+        || -> Result<Garbling<A>, Memory>
+            ensures { IfOk result (λ g. IsGarbled circuit.entry.now seed.entry.now g) }
+        {
+            let garbled = garble_with(rt, alloc, circuit, seed, &exchange, blocks, house);
+            exchange.close(rt);
+            garbled
+        },
+    );
+    garbled
+}
+
+/// So many threads garble what the exchange is offered, until it is closed.
+fn help_by<A: Allocator + Send + Sync, H: Gatehouse + Sync, R: Threads + Wait + Sync>(
+    rt: &R,
+    exchange: &Exchange<A>,
+    helpers: usize,
+    house: &H,
+)
+    requires { 0 < helpers }
+{
+    let mut each = [(); MOST_HELPERS];
+    let (each, _) = each.split_at_mut(helpers.min(MOST_HELPERS));
+    thread::for_each_mut(
+        rt,
+        each,
+        helpers,
+        &|i: usize, _one: &mut ()|
+            requires { i < 63 }
+        { exchange.help(rt, house, i as u32 + 1) },
+    );
+}
+
+/// The calling thread goes from gate to gate.
+fn garble_with<
+    A: Allocator + Copy + Send + Sync,
+    C: Allocator + Sync,
+    H: Gatehouse + Sync,
+    R: Threads + Wait + Sync,
+>(
+    rt: &R,
+    alloc: A,
+    circuit: &Circuit<C>,
+    seed: &Seed,
+    exchange: &Exchange<A>,
+    blocks: usize,
+    house: &H,
+) -> Result<Garbling<A>, Memory>
+    ensures { IfOk result (λ g. IsGarbled circuit.now seed.now g) }
+{
+    let mut crew = Crew::open(alloc, exchange, house, blocks)?;
     let mut layer = Layer::open(alloc, circuit, seed)?;
     for i in 0..circuit.gates() {
-        layer.step(rt, threads, circuit.gate(i))?;
+        layer.step(rt, &mut crew, i, circuit.gate(i))?;
     }
-    let (zero_labels, rows) = layer.into_parts(rt, threads)?;
+    let (zero_labels, rows) = layer.into_parts(rt, &mut crew)?;
     Ok(Garbling::from_parts(zero_labels, rows, circuit.output_wires()))
 }

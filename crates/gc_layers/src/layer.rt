@@ -1,6 +1,6 @@
 //! The zero labels and the rows of a garbling, while AND gates wait.
 
-ghost use Rattle.std.specs.Prelude.{◌≡◌, ◌≢◌, ℕ, ◌<◌, ◌≤◌, ◌*◌, ◌^◌, ◌++◌, ◌∷◌, ◌⊎◌, [], IfOk, OnOk, All, false, length, map, slice_index, slice_index_or, slice_set};
+ghost use Rattle.std.specs.Prelude.{◌≡◌, ◌≢◌, ℕ, ◌<◌, ◌≤◌, ◌*◌, ◌^◌, ◌++◌, ◌∷◌, ◌⊎◌, [], IfOk, OnOk, All, false, length, map, take, drop, slice_index, slice_index_or, slice_set};
 ghost use Rattle.std.specs.List.{range_with_len};
 ghost use Rattle.gc_netlist.specs.Circuit.{EachRead};
 ghost use Rattle.gc_label.specs.Seed.{offset_of};
@@ -11,19 +11,20 @@ ghost use Rattle.gc_half.specs.Garbling.{zero_of};
 ghost use Rattle.gc_half.specs.Canonical.{input_zero, with_operation};
 ghost use Rattle.gc_layers.specs.Layer.{IsPair, settled, rows_by, IsSettled, IsKept};
 
-use crate::waiting::{Garbled, Waiting, garble_pairs, garbled_at};
+use crate::block::BLOCK;
+use crate::crew::Crew;
+use crate::waiting::{Garbled, Waiting, garbled_at};
 use gc_circuit::{Circuit, Gate, Memory, Operation};
+use gc_gatehouse::Gatehouse;
 use gc_half::{RowPair, garble_gate, input_zero_labels, labels_read};
 use gc_label::{Label, Offset, Seed, offset};
 use std::alloc::Allocator;
 use std::marker::Model;
+use std::sync::Wait;
 use std::thread::Threads;
 
-/// The most pairs of AND gates that wait.
-const MOST_PAIRS: u32 = 32_768;
-
-/// For so many AND gates a thread is worth starting.
-const GATES_FOR_THREAD: usize = 512;
+/// The most AND gates that wait.
+pub(crate) const MOST_WAITING: usize = 65_536;
 
 /// The zero label of each wire and the row pair of each AND gate, but for the AND gates that wait: the wires that they set
 /// have zero in the table. They are garbled where there is no room for more, and before a gate that reads a wire which has
@@ -36,8 +37,8 @@ pub(crate) struct Layer<A: Allocator> {
     // By AND number.
     rows: Vec<RowPair, A>,
     waiting: Vec<Waiting, A>,
-    // Room for what garbling those that wait gives.
-    pairs: Vec<(Garbled, Garbled), A>,
+    // The most gates that wait.
+    room: usize,
 }
 
 impl<A: Allocator> Model for Layer<A> {
@@ -51,7 +52,7 @@ impl<A: Allocator> Model for Layer<A> {
       labels = settled t.zero_labels.items t.waiting.items;
       rows = t.rows.items ++ map rows_by t.waiting.items;
       waiting = map set_by t.waiting.items;
-      room = 2 * length t.pairs.items;
+      room = t.room;
     } };
 
     ghost invariant = { λ t. AreZero t.zero_labels.items t.waiting.items };
@@ -69,30 +70,31 @@ impl<A: Allocator + Copy> Layer<A> {
             map (input_zero circuit.now seed.now) (range_with_len 0 circuit.now.wires)) }
         ensures none { IfOk result (λ l. (l.rows ≡ []) × (l.waiting ≡ []) × (0 < l.room)) }
     {
-        let ands = circuit.and_count();
-        let pairs = ands.div_ceil(2).clamp(1, MOST_PAIRS) as usize;
+        let ands = circuit.and_count() as usize;
+        let room = ands.clamp(1, MOST_WAITING);
         Ok(Layer {
             offset: offset(seed),
             zero_labels: input_zero_labels(alloc, circuit, seed)?,
-            rows: Vec::with_capacity(alloc, ands as usize)?,
-            waiting: Vec::with_capacity(alloc, 2 * pairs)?,
-            pairs: Vec::from_elem(alloc, (Garbled::NONE, Garbled::NONE), pairs)?,
+            rows: Vec::with_capacity(alloc, ands)?,
+            waiting: Vec::with_capacity(alloc, room)?,
+            room,
         })
     }
 }
 
-impl<A: Allocator> Layer<A> {
-    /// Garbles one more gate, or has it wait. That there are the wires, that no gate waits that sets the same, and that
+impl<A: Allocator + Copy> Layer<A> {
+    /// Garbles one more gate, that at a place of the file, or has it wait. That there are the wires, that no gate waits that sets the same, and that
     /// there is room for one more to wait, are the caller's conditions.
     #[inline]
-    pub(crate) fn step<R: Threads + Sync>(
+    pub(crate) fn step<H: Gatehouse, R: Threads + Wait + Sync>(
         &mut self,
         rt: &R,
-        threads: u32,
+        crew: &mut Crew<'_, A, H>,
+        place: u32,
         gate: Gate,
     ) -> Result<(), Memory>
         requires read { EachRead (λ w. w < length self.old.labels) gate.operation }
-        requires place { gate.set < length self.old.labels }
+        requires set { gate.set < length self.old.labels }
         requires once { All (λ w. w ≢ gate.set) self.old.waiting }
         requires few { length self.old.rows < 2 ^ 32 }
         requires room { length self.old.waiting < self.old.room }
@@ -105,42 +107,44 @@ impl<A: Allocator> Layer<A> {
             ⊎ (self.new.waiting ≡ gate.set ∷ []) ⊎ (self.new.waiting ≡ self.old.waiting ++ gate.set ∷ [])) }
         ensures room { OnOk result (length self.new.waiting < self.new.room) }
     {
-        let (first, second) = self.read(rt, threads, gate.operation)?;
+        let (first, second) = self.read(rt, crew, gate.operation)?;
         if gate.operation.is_and() {
-            self.wait(first, second, gate.set)?;
-            self.settle_full(rt, threads)
+            self.wait(place, first, second, gate.set)?;
+            self.offer_block(rt, crew);
+            self.settle_full(rt, crew)
         } else {
+            crew.tell(place);
             self.put(gate, first, second);
             Ok(())
         }
     }
 
     /// The zero labels of all wires and the row pairs of all AND gates.
-    pub(crate) fn into_parts<R: Threads + Sync>(
+    pub(crate) fn into_parts<H: Gatehouse, R: Threads + Wait + Sync>(
         mut self,
         rt: &R,
-        threads: u32,
+        crew: &mut Crew<'_, A, H>,
     ) -> Result<(Vec<Label, A>, Vec<RowPair, A>), Memory>
         requires { length self.waiting ≤ self.room }
         ensures { IfOk result (λ p. (p.0.items ≡ self.labels) × (p.1.items ≡ self.rows)) }
     {
-        self.settle(rt, threads)?;
+        self.settle(rt, crew)?;
         let Layer {
             offset: _,
             zero_labels,
             rows,
             waiting: _,
-            pairs: _,
+            room: _,
         } = self;
         Ok((zero_labels, rows))
     }
 
     /// The zero labels of the wires that an operation reads first and second.
     #[inline]
-    fn read<R: Threads + Sync>(
+    fn read<H: Gatehouse, R: Threads + Wait + Sync>(
         &mut self,
         rt: &R,
-        threads: u32,
+        crew: &mut Crew<'_, A, H>,
         operation: Operation,
     ) -> Result<(Label, Label), Memory>
         requires read { EachRead (λ w. w < length self.old.labels) operation }
@@ -152,7 +156,7 @@ impl<A: Allocator> Layer<A> {
         if !reads_zero(&self.zero_labels, operation) {
             return Ok(labels_read(&self.zero_labels, operation));
         }
-        self.settle(rt, threads)?;
+        self.settle(rt, crew)?;
         Ok(labels_read(&self.zero_labels, operation))
     }
 
@@ -173,8 +177,8 @@ impl<A: Allocator> Layer<A> {
 
     /// Has an AND gate wait.
     #[inline]
-    fn wait(&mut self, first: Label, second: Label, set: u32) -> Result<(), Memory>
-        requires place { set < length self.old.labels }
+    fn wait(&mut self, place: u32, first: Label, second: Label, set: u32) -> Result<(), Memory>
+        requires set { set < length self.old.labels }
         requires once { All (λ w. w ≢ set) self.old.waiting }
         requires few { length self.old.rows < 2 ^ 32 }
         ensures labels { OnOk result (self.new.labels ≡ slice_set self.old.labels set
@@ -186,6 +190,7 @@ impl<A: Allocator> Layer<A> {
             × (self.new.room ≡ self.old.room)) }
     {
         let waiting = Waiting {
+            place,
             k: (self.rows.len() + self.waiting.len()) as u32,
             set,
             offset: self.offset,
@@ -199,29 +204,47 @@ impl<A: Allocator> Layer<A> {
 
     /// Garbles the gates that wait, where there is no room for more.
     #[inline]
-    fn settle_full<R: Threads + Sync>(&mut self, rt: &R, threads: u32) -> Result<(), Memory>
+    fn settle_full<H: Gatehouse, R: Threads + Wait + Sync>(
+        &mut self,
+        rt: &R,
+        crew: &mut Crew<'_, A, H>,
+    ) -> Result<(), Memory>
         requires { (length self.old.waiting ≤ self.old.room) × (0 < self.old.room) }
         ensures kept { OnOk result (IsKept self.old self.new) }
         ensures room { OnOk result (length self.new.waiting < self.new.room) }
     {
-        if self.waiting.len() < 2 * self.pairs.len() {
+        if self.waiting.len() < self.room {
             return Ok(());
         }
-        self.settle(rt, threads)
+        self.settle(rt, crew)
     }
 
-    /// Garbles the gates that wait, by up to so many threads where they are many.
-    fn settle<R: Threads + Sync>(&mut self, rt: &R, threads: u32) -> Result<(), Memory>
-        requires { length self.old.waiting ≤ self.old.room }
+    /// Offers the crew the last gates that wait, where they make a whole block.
+    #[inline]
+    fn offer_block<H: Gatehouse, R: Wait>(&self, rt: &R, crew: &mut Crew<'_, A, H>) {
+        let count = self.waiting.len();
+        if count.is_multiple_of(BLOCK) && count > 0 {
+            crew.offer(rt, count / BLOCK - 1, &self.waiting[count - BLOCK..]);
+        }
+    }
+
+    /// Garbles the gates that wait, with the crew.
+    fn settle<H: Gatehouse, R: Threads + Wait + Sync>(
+        &mut self,
+        rt: &R,
+        crew: &mut Crew<'_, A, H>,
+    ) -> Result<(), Memory>
         ensures { OnOk result (IsSettled self.old self.new) }
     {
-        let count = self.waiting.len();
-        let threads = (threads as usize).min(count / GATES_FOR_THREAD).max(1);
-        garble_pairs(rt, &self.waiting, &mut self.pairs, threads);
-        push_rows(&mut self.rows, &self.waiting, &self.pairs)?;
-        set_labels(&mut self.zero_labels, &self.waiting, &self.pairs);
+        let settled = settle_all(
+            rt,
+            crew,
+            &mut self.rows,
+            &mut self.zero_labels,
+            &self.waiting,
+        );
         self.waiting.clear();
-        Ok(())
+        settled
     }
 }
 
@@ -238,6 +261,39 @@ fn reads_zero(labels: &[Label], operation: Operation) -> bool
         Operation::Inv(a) | Operation::Eqw(a) => labels[a as usize] == Label::ZERO,
         Operation::Eq(_) => false,
     }
+}
+
+/// The gates of a block of those that wait. That there are some is the caller's condition.
+fn block_of(waiting: &[Waiting], number: usize) -> &[Waiting]
+    requires { number * 64 < length waiting.now }
+    ensures gates { result.now ≡ take 64 (drop (number * 64) waiting.now) }
+    ensures few { length result.now ≤ 64 }
+{
+    let (_, rest) = waiting.split_at(number * BLOCK);
+    let (gates, _) = rest.split_at(BLOCK.min(rest.len()));
+    gates
+}
+
+/// Adds the row pairs of gates that waited, and gives the wires that they set their labels, a block after the other.
+fn settle_all<A: Allocator + Copy, H: Gatehouse, R: Threads + Wait + Sync>(
+    rt: &R,
+    crew: &mut Crew<'_, A, H>,
+    rows: &mut Vec<RowPair, A>,
+    labels: &mut [Label],
+    waiting: &[Waiting],
+) -> Result<(), Memory>
+    requires { All (λ w. w.set < length labels.old) waiting.now }
+    ensures rows { OnOk result (rows.new.items ≡ rows.old.items ++ map rows_by waiting.now) }
+    ensures labels { OnOk result (labels.new ≡ settled labels.old waiting.now) }
+{
+    for number in 0..waiting.len().div_ceil(BLOCK) {
+        let gates = block_of(waiting, number);
+        let sealed = crew.sealed(rt, number, gates)?;
+        push_rows(rows, gates, sealed.pairs())?;
+        set_labels(labels, gates, sealed.pairs());
+        crew.release(sealed);
+    }
+    Ok(())
 }
 
 /// Adds the row pairs of gates that waited.

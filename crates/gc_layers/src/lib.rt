@@ -5,6 +5,9 @@
 //! [`garble_by_layers`] gives the garbling that [`garble_one_thread`](gc_half::garble_one_thread) gives.
 #![tactic(auto)]
 
+mod block;
+mod crew;
+mod exchange;
 mod garble;
 mod layer;
 mod waiting;

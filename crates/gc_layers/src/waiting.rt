@@ -1,6 +1,6 @@
 //! AND gates that wait to be garbled.
 
-ghost use Rattle.std.specs.Prelude.{◌≡◌, ℕ, ◌<◌, ◌≤◌, ◌+◌, ◌*◌, Some, length, slice_get, slice_index_or};
+ghost use Rattle.std.specs.Prelude.{◌≡◌, ℕ, ◌<◌, ◌≤◌, ◌+◌, ◌*◌, ◌↔◌, IsTrue, Some, length, slice_get, slice_index_or};
 ghost use Rattle.gc_layers.specs.Layer.{garbled_of, IsPair};
 
 use gc_half::{AndGate, RowPair, garble_and, garble_two_ands};
@@ -8,9 +8,11 @@ use gc_label::{Label, Offset};
 use std::thread;
 use std::thread::Threads;
 
-/// An AND gate that waits to be garbled, as [`AndGate`] has it, and the wire that it sets. It takes 64 bytes.
-#[derive(Clone, Copy)]
+/// An AND gate that waits to be garbled, as [`AndGate`] has it, its place in the file, and the wire that it sets. It
+/// takes 64 bytes.
+#[derive(Clone, Copy, PartialEq, Eq)]
 pub(crate) struct Waiting {
+    pub place: u32,
     pub k: u32,
     pub set: u32,
     pub offset: Offset,
@@ -30,6 +32,13 @@ impl Waiting {
             b: self.b,
         }
     }
+}
+
+/// Whether these are the same gates.
+pub(crate) fn are_same(left: &[Waiting], right: &[Waiting]) -> bool
+    ensures { IsTrue result ↔ (left.now ≡ right.now) }
+{
+    left == right
 }
 
 /// What garbling an AND gate gives: the zero label of the wire that it sets, and its row pair.

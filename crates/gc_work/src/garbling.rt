@@ -11,6 +11,7 @@ use crate::gather::gather;
 use crate::muster::muster;
 use crate::pool::TaskPool;
 use crate::sweep::sweep;
+use crate::width::layer_width;
 use crate::worker::{Member, work};
 use gc_circuit::{Circuit, Memory};
 use gc_gatehouse::{Gatehouse, MAX_WORKERS};
@@ -28,13 +29,17 @@ use std::thread::Threads;
 /// The room of a worker's pool, in tasks.
 const POOL_CAPACITY: u32 = 1024;
 
-/// A circuit is garbled through a store where about one of so many gates is AND, or more.
+/// A circuit of which less than about one gate in so many is AND is garbled by layers,
 const GATES_FOR_AND: u32 = 3;
+
+/// and so is one whose layers have about so many AND gates, or more.
+const WIDE_LAYER: u32 = 16;
 
 /// The garbling of a circuit under a seed, made by so many workers. The calling thread is worker 0; a thread is
 /// started for each other worker, and where one can't be started the calling thread does its work too. Where few
-/// gates are AND, worker 0 goes from gate to gate, and so many threads garble the AND gates that
-/// none of them waits for ([`garble_by_layers`]), which is faster. `house` is told of each gate before it is sealed.
+/// gates are AND, or many follow each other in the file of which none needs another, worker 0 goes from gate to gate
+/// and all garble the AND gates that it passed ([`garble_by_layers`]). Else they share a store, where each takes any
+/// gate that may go next. `house` is told of each gate before it is sealed.
 ///
 /// It refuses 0 workers and more than [`MAX_WORKERS`]. Memory is the other fault.
 pub fn garble<
@@ -59,9 +64,9 @@ pub fn garble<
     if workers == 1 {
         return Ok(garble_alone(alloc, circuit, seed, house)?);
     }
-    if is_mostly_free(circuit) {
-        tell_all(circuit, house);
-        return Ok(garble_by_layers(rt, alloc, circuit, seed, workers)?);
+    if goes_by_layers(alloc, circuit)? {
+        let garbling = garble_by_layers(rt, alloc, circuit, seed, workers, house)?;
+        return Ok(garbling);
     }
     let ledger = Blank::new(u64::from(MAX_TALLIES));
     let garbling = garble_by::<Brand, A, C, H, R>(
@@ -70,9 +75,14 @@ pub fn garble<
     Ok(garbling)
 }
 
-/// Whether so few gates are AND that one thread garbles the others in less time than workers hand them to each other.
-fn is_mostly_free<C: Allocator>(circuit: &Circuit<C>) -> bool {
-    circuit.and_count() < circuit.gates() / GATES_FOR_AND
+/// Whether a circuit is garbled in less time by layers than through a store: so few gates are AND that one thread garbles
+/// the others in less time than workers hand them to each other, or its layers are wide.
+fn goes_by_layers<A: Allocator + Copy, C: Allocator>(
+    alloc: A,
+    circuit: &Circuit<C>,
+) -> Result<bool, Memory> {
+    let is_mostly_free = circuit.and_count() < circuit.gates() / GATES_FOR_AND;
+    Ok(is_mostly_free || layer_width(alloc, circuit)? >= WIDE_LAYER)
 }
 
 /// The same, by several workers over a store that begins the ledger.

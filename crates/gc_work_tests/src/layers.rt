@@ -6,16 +6,18 @@ use gc_half::garble_one_thread;
 use gc_label::Seed;
 use gc_layers::garble_by_layers;
 use gc_refusing::Refusing;
+use gc_work::Open;
 use gc_worked::circuits::{FULL_ADDER, chain, many_ands};
 use gc_worked::growths::{Answer, plain_if, runs_refused};
 use gc_worked::random::{Numbers, random_circuit, random_window};
 use std::alloc::Global;
 use std::process::Abort;
+use std::sync::Wait;
 use std::test::Fail;
 use std::thread::Threads;
 
 /// Whether a circuit is garbled by layers as by one thread, with so many threads for each layer.
-fn is_garbled_so<R: Threads + Sync>(
+fn is_garbled_so<R: Threads + Wait + Sync>(
     rt: &R,
     alloc: Global,
     text: &str,
@@ -24,7 +26,7 @@ fn is_garbled_so<R: Threads + Sync>(
     let circuit = Circuit::read(alloc, text.as_bytes())?;
     let seed = Seed::from_bytes([9; 32]);
     let one_thread = garble_one_thread(alloc, &circuit, &seed)?;
-    let by_layers = garble_by_layers(rt, alloc, &circuit, &seed, threads)?;
+    let by_layers = garble_by_layers(rt, alloc, &circuit, &seed, threads, &Open)?;
     Ok(are_same(&circuit, &by_layers, &one_thread))
 }
 
@@ -49,11 +51,13 @@ fn random_circuits_by_layers(rt: HostRuntime) -> Result<(), Fail> {
     Ok(())
 }
 
-/// Layers of one gate and of an odd number, of as many gates as a thread is started for, and of more than may wait; by
-/// no thread as by one.
+/// Layers of one gate and of an odd number, of a block's gates, of as many gates as a thread is started for, and of more
+/// than may wait; by no thread as by one.
 #[test]
 fn layers_of_all_sizes(rt: HostRuntime) -> Result<(), Fail> {
-    for gates in [1, 2, 3, 1023, 1024, 1025, 65_536, 65_537, 140_000] {
+    for gates in [
+        1, 2, 3, 63, 64, 65, 1023, 1024, 1025, 65_536, 65_537, 140_000,
+    ] {
         let text = many_ands(rt.alloc(), gates)?;
         for threads in [0, 1, 4, 64] {
             assert!(rt;
@@ -73,17 +77,18 @@ fn no_layer(rt: HostRuntime) -> Result<(), Fail> {
     Ok(())
 }
 
-/// Each growth refused in turn: the labels, the rows, the gates that wait, and what garbling them gives.
+/// Each growth refused in turn: the list of blocks, the labels, the rows, the gates that wait, a block, and what garbling
+/// it gives.
 #[test]
 fn each_growth_of_layers_refused(rt: HostRuntime) -> Result<(), Fail> {
     let circuit = Circuit::read(rt.alloc(), FULL_ADDER.as_bytes())?;
     let seed = Seed::from_bytes([9; 32]);
     let refused = runs_refused(rt.alloc(), |heap: &Refusing<Global>| {
-        match garble_by_layers(&rt, heap, &circuit, &seed, 2) {
+        match garble_by_layers(&rt, heap, &circuit, &seed, 2, &Open) {
             Ok(garbling) => plain_if(garbling.fits(&circuit)),
             Err(Memory) => Answer::Memory,
         }
     });
-    assert_eq!(rt; refused, Ok(4));
+    assert_eq!(rt; refused, Ok(6));
     Ok(())
 }

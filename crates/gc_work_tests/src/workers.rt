@@ -6,7 +6,7 @@ use gc_half::garble_one_thread;
 use gc_label::Seed;
 use gc_refusing::Refusing;
 use gc_work::{Open, WorkFault, garble};
-use gc_worked::circuits::{FULL_ADDER, many_ands};
+use gc_worked::circuits::{FULL_ADDER, and_chains, many_ands};
 use gc_worked::meeting::Meeting;
 use gc_worked::random::{Numbers, random_circuit};
 use std::alloc::Global;
@@ -15,16 +15,27 @@ use std::sync::Wait;
 use std::test::Fail;
 use std::thread::Threads;
 
-/// Two workers seal the gates of 2,000 independent AND gates, each gate once.
-#[test]
-fn two_workers_meet(rt: HostRuntime) -> Result<(), Fail> {
-    let circuit = Circuit::read(rt.alloc(), many_ands(rt.alloc(), 2000)?.as_bytes())?;
+/// Whether two workers seal the gates of a circuit of 2,000 gates, each gate once, as one thread does.
+fn meet<R: Threads + Wait + Sync>(rt: &R, alloc: Global, text: &str) -> Result<bool, Fail> {
+    let circuit = Circuit::read(alloc, text.as_bytes())?;
     let seed = Seed::from_bytes([0; 32]);
     let house = Meeting::new();
-    let garbling = garble(&rt, rt.alloc(), &circuit, &seed, 2, &house)?;
-    assert_eq!(rt; (house.has_met(), house.calls()), (true, 2000));
-    let one_thread = garble_one_thread(rt.alloc(), &circuit, &seed)?;
-    assert!(rt; are_same(&circuit, &garbling, &one_thread));
+    let garbling = garble(rt, alloc, &circuit, &seed, 2, &house)?;
+    let one_thread = garble_one_thread(alloc, &circuit, &seed)?;
+    Ok(house.has_met() && house.calls() == 2000 && are_same(&circuit, &garbling, &one_thread))
+}
+
+/// 2,000 independent AND gates go by layers.
+#[test]
+fn two_workers_meet(rt: HostRuntime) -> Result<(), Fail> {
+    assert!(rt; meet(&rt, rt.alloc(), many_ands(rt.alloc(), 2000)?.as_str())?);
+    Ok(())
+}
+
+/// Forty chains, whose layers are of one gate, go through a store.
+#[test]
+fn two_workers_meet_at_a_store(rt: HostRuntime) -> Result<(), Fail> {
+    assert!(rt; meet(&rt, rt.alloc(), and_chains(rt.alloc(), 40, 50)?.as_str())?);
     Ok(())
 }
 
@@ -93,14 +104,16 @@ fn refused_runs<R: Threads + Wait + Sync + Abort>(
 
 #[test]
 fn each_growth_of_two_workers_refused(rt: HostRuntime) -> Result<(), Fail> {
-    let circuit = Circuit::read(rt.alloc(), many_ands(rt.alloc(), 2000)?.as_bytes())?;
+    let circuit = Circuit::read(rt.alloc(), and_chains(rt.alloc(), 40, 50)?.as_bytes())?;
     assert!(rt; refused_runs(&rt, rt.alloc(), &circuit, 2)? > 16);
+    let circuit = Circuit::read(rt.alloc(), many_ands(rt.alloc(), 2000)?.as_bytes())?;
+    assert!(rt; refused_runs(&rt, rt.alloc(), &circuit, 2)? > 8);
     Ok(())
 }
 
 #[test]
 fn each_growth_of_64_workers_refused(rt: HostRuntime) -> Result<(), Fail> {
-    let circuit = Circuit::read(rt.alloc(), many_ands(rt.alloc(), 256)?.as_bytes())?;
+    let circuit = Circuit::read(rt.alloc(), and_chains(rt.alloc(), 64, 4)?.as_bytes())?;
     assert!(rt; refused_runs(&rt, rt.alloc(), &circuit, 64)? > 128);
     Ok(())
 }

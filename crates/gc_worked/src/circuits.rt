@@ -83,3 +83,21 @@ pub fn many_ands(alloc: Global, gates: u32) -> Result<String, Fail> {
     }
     Ok(text)
 }
+
+/// So many chains of AND gates, one after another in the file, of so many gates each: a gate reads what the gate before
+/// it in its chain sets.
+pub fn and_chains(alloc: Global, chains: u32, length: u32) -> Result<String, Fail> {
+    let n = u64::from(chains);
+    let gates = n * u64::from(length);
+    let mut text = format!(in alloc; "{gates} {}\n1 {n}\n1 1\n", n + gates)?;
+    let mut set = n;
+    for chain in 0..n {
+        let mut read = chain;
+        for _gate in 0..length {
+            text.push_str(format!(in alloc; "2 1 {read} {chain} {set} AND\n")?.as_str())?;
+            read = set;
+            set = set.saturating_add(1);
+        }
+    }
+    Ok(text)
+}

@@ -10,7 +10,7 @@ pub index_mut-requires : goal.index_mut-requires
 index_mut-requires g c =
     omega (
       arith,
-      c.requires.place,
+      c.requires.set,
       ap (λ (t : LayerParts). length t.labels) c.self.view_is,
       length-settled c.self.inside.zero_labels.items c.self.inside.waiting.items,
     )
@@ -19,7 +19,7 @@ pub invariant_of-self-2 : goal.invariant_of-self-2
 invariant_of-self-2 g c =
     let room : c.args.set < length c.self.inside.zero_labels.items = omega (
       arith,
-      c.requires.place,
+      c.requires.set,
       ap (λ (t : LayerParts). length t.labels) c.self.view_is,
       length-settled c.self.inside.zero_labels.items c.self.inside.waiting.items,
     ) in

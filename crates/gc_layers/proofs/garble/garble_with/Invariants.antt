@@ -4,7 +4,7 @@ use Rattle.gc_label.specs.Seed.{offset_of}
 use Rattle.gc_half.specs.Hash.{hash}
 use Rattle.gc_half.specs.Canonical.{zero_label_of, rows_after}
 use Rattle.gc_half.proofs.GarbleLemmas.{label_table}
-use Rattle.gc_layers.proofs.garble.garble_by_layers.Given as goal
+use Rattle.gc_layers.proofs.garble.garble_with.Given as goal
 
 abbrev pub invariant-loop-i : goal.invariant-loop-i
 invariant-loop-i g l = record {

@@ -9,7 +9,7 @@ use Rattle.gc_half.specs.Garbling.{zero_of}
 use Rattle.gc_half.specs.Canonical.{zero_label_of}
 use Rattle.gc_half.proofs.RowLemmas.{rows_after-start}
 use Rattle.gc_half.proofs.GarbleLemmas.{table-start, table-length, table-reads, table-next, rows-few, rows-next, garbled-end}
-use Rattle.gc_layers.proofs.garble.garble_by_layers.Goals as goal
+use Rattle.gc_layers.proofs.garble.garble_with.Goals as goal
 
 pub loop-i-init : goal.loop-i-init
 loop-i-init g c = record {
@@ -29,8 +29,8 @@ step-requires-clause-read g c κs within =
     table-reads c.args.circuit.now c.args.seed.now c.gates-i-end.ensures.lawful c.loop-i.i c.gate.result
     c.gate.ensures c.loop-i.layer.labels c.loop-i.invariant.labels
 
-pub step-requires-clause-place : goal.step-requires-clause-place
-step-requires-clause-place g c κs within =
+pub step-requires-clause-set : goal.step-requires-clause-set
+step-requires-clause-set g c κs within =
     let lawful = c.gates-i-end.ensures.lawful in
     omega (
       arith,
@@ -38,6 +38,11 @@ step-requires-clause-place g c κs within =
           c.loop-i.invariant.labels,
       lawful.sets c.loop-i.i c.gate.result c.gate.ensures,
     )
+
+pub step-requires-clause-once : goal.step-requires-clause-once
+step-requires-clause-once g c κs within k d below same =
+    c.gates-i-end.ensures.lawful.sets_once c.loop-i.i c.gate.result c.gate.ensures
+    (subst (IsSetBefore c.args.circuit.now c.loop-i.i) same (c.loop-i.invariant.waiting k d below))
 
 pub step-requires-clause-few : goal.step-requires-clause-few
 step-requires-clause-few g c κs within =
