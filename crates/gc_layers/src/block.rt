@@ -81,7 +81,7 @@ impl<A: Allocator> Block<A> {
         for gate in &gates {
             house.before(worker, gate.place);
         }
-        garble_pairs(rt, &gates, &mut pairs, 1);
+        garble_pairs(rt, &gates, &mut pairs);
         Sealed {
             number,
             gates,

@@ -83,8 +83,8 @@ impl<A: Allocator + Copy> Layer<A> {
 }
 
 impl<A: Allocator + Copy> Layer<A> {
-    /// Garbles one more gate, that at a place of the file, or has it wait. That there are the wires, that no gate waits that sets the same, and that
-    /// there is room for one more to wait, are the caller's conditions.
+    /// Garbles one more gate, that at a place of the file, or has it wait. That there are the wires, that no gate waits
+    /// that sets the same, and that there is room for one more to wait, are the caller's conditions.
     #[inline]
     pub(crate) fn step<H: Gatehouse, R: Threads + Wait + Sync>(
         &mut self,

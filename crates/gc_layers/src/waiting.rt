@@ -92,36 +92,28 @@ fn garble_pair(waiting: &[Waiting], i: usize) -> (Garbled, Garbled)
     (named(one), named(other))
 }
 
-/// Garbles all gates that wait, by up to so many threads. Pairs after those that are needed stay as they are.
+/// Garbles all gates that wait, by pairs. Pairs after those that are needed stay as they are.
 pub(crate) fn garble_pairs<R: Threads + Sync>(
     rt: &R,
     waiting: &[Waiting],
     pairs: &mut [(Garbled, Garbled)],
-    threads: usize,
 )
-    requires room { length waiting.now ≤ 2 * length pairs.old }
-    requires threads { 0 < threads }
+    requires { length waiting.now ≤ 2 * length pairs.old }
     ensures { (i : ℕ) (d : _) → 2 * i < length waiting.now → IsPair waiting.now i (slice_index_or pairs.new i d) }
 {
     let (used, _) = pairs.split_at_mut(waiting.len().div_ceil(2));
-    garble_each(rt, waiting, used, threads);
+    garble_each(rt, waiting, used);
 }
 
-/// Garbles each of these pairs.
-fn garble_each<R: Threads + Sync>(
-    rt: &R,
-    waiting: &[Waiting],
-    pairs: &mut [(Garbled, Garbled)],
-    threads: usize,
-)
-    requires pairs { 2 * length pairs.old ≤ length waiting.now + 1 }
-    requires threads { 0 < threads }
+/// Garbles each of these pairs, on the thread that calls.
+fn garble_each<R: Threads + Sync>(rt: &R, waiting: &[Waiting], pairs: &mut [(Garbled, Garbled)])
+    requires { 2 * length pairs.old ≤ length waiting.now + 1 }
     ensures { (i : ℕ) (d : _) → i < length pairs.old → IsPair waiting.now i (slice_index_or pairs.new i d) }
 {
     thread::for_each_mut(
         rt,
         pairs,
-        threads,
+        1,
         &|i: usize, pair: &mut (Garbled, Garbled)|
             requires { 2 * i < length waiting.now }
             ensures { IsPair waiting.entry.now i pair.exit.now }
