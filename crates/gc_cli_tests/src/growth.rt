@@ -70,8 +70,8 @@ const ONE_VALUE: Part = (13, 1);
 
 const PLAIN_EVALUATION: Part = (13, 2);
 
-/// The zero labels and the rows.
-const GARBLING: Part = (23, 2);
+/// The list of blocks, the zero labels, the rows, the gates that wait, a block of them, and what its garbling gives.
+const GARBLING: Part = (23, 6);
 
 /// The bytes before the trailer, and the trailer.
 const GARBLED_FILE: Part = (52, 2);

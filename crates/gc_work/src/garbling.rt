@@ -36,8 +36,8 @@ const GATES_FOR_AND: u32 = 3;
 const WIDE_LAYER: u32 = 16;
 
 /// The garbling of a circuit under a seed, made by so many workers. The calling thread is worker 0; a thread is
-/// started for each other worker, and where one can't be started the calling thread does its work too. Where few
-/// gates are AND, or many follow each other in the file of which none needs another, worker 0 goes from gate to gate
+/// started for each other worker, and where one can't be started the calling thread does its work too. With one
+/// worker, and where few gates are AND or many follow each other in the file of which none needs another, worker 0 goes from gate to gate
 /// and all garble the AND gates that it passed ([`garble_by_layers`]). Else they share a store, where each takes any
 /// gate that may go next. `house` is told of each gate before it is sealed.
 ///
@@ -61,10 +61,7 @@ pub fn garble<
     if workers == 0 || workers > MAX_WORKERS {
         return Err(WorkFault::BadWorkers);
     }
-    if workers == 1 {
-        return Ok(garble_alone(alloc, circuit, seed, house)?);
-    }
-    if goes_by_layers(alloc, circuit)? {
+    if goes_by_layers(alloc, circuit, workers)? {
         let garbling = garble_by_layers(rt, alloc, circuit, seed, workers, house)?;
         return Ok(garbling);
     }
@@ -75,14 +72,15 @@ pub fn garble<
     Ok(garbling)
 }
 
-/// Whether a circuit is garbled in less time by layers than through a store: so few gates are AND that one thread garbles
-/// the others in less time than workers hand them to each other, or its layers are wide.
+/// Whether a circuit is garbled in less time by layers than through a store: there is one worker, or so few gates are
+/// AND that one thread garbles the others in less time than workers hand them to each other, or layers are wide.
 fn goes_by_layers<A: Allocator + Copy, C: Allocator>(
     alloc: A,
     circuit: &Circuit<C>,
+    workers: u32,
 ) -> Result<bool, Memory> {
     let is_mostly_free = circuit.and_count() < circuit.gates() / GATES_FOR_AND;
-    Ok(is_mostly_free || layer_width(alloc, circuit)? >= WIDE_LAYER)
+    Ok(workers == 1 || is_mostly_free || layer_width(alloc, circuit)? >= WIDE_LAYER)
 }
 
 /// The same, by several workers over a store that begins the ledger.
