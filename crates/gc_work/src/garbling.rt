@@ -37,9 +37,9 @@ const WIDE_LAYER: u32 = 16;
 
 /// The garbling of a circuit under a seed, made by so many workers. The calling thread is worker 0; a thread is
 /// started for each other worker, and where one can't be started the calling thread does its work too. With one
-/// worker, and where few gates are AND or many follow each other in the file of which none needs another, worker 0 goes from gate to gate
-/// and all garble the AND gates that it passed ([`garble_by_layers`]). Else they share a store, where each takes any
-/// gate that may go next. `house` is told of each gate before it is sealed.
+/// worker, and where few gates are AND or many follow each other in the file of which none needs another, worker 0
+/// goes from gate to gate and all garble the AND gates that it passed ([`garble_by_layers`]). Else they share a store,
+/// where each takes any gate that may go next. `house` is told of each gate before it is sealed.
 ///
 /// It refuses 0 workers and more than [`MAX_WORKERS`]. Memory is the other fault.
 pub fn garble<
