@@ -11,12 +11,12 @@ use std::marker::Model;
 use std::thread::Threads;
 
 /// How many gates a block has at the most.
-pub(crate) const BLOCK: usize = 64;
+pub(crate) const BLOCK: usize = 32;
 
 /// At most [`BLOCK`] AND gates that are garbled together, and room for what garbling them gives.
 #[derive(Drop)]
 pub(crate) struct Block<A: Allocator> {
-    // Its place among the blocks of its layer.
+    // The slot where its gates are kept too.
     number: usize,
     gates: Vec<Waiting, A>,
     pairs: Vec<(Garbled, Garbled), A>,
@@ -30,7 +30,7 @@ impl<A: Allocator> Model for Block<A> {
 
     ghost view = { λ t. t.gates.items };
 
-    ghost invariant = { λ t. (length t.gates.items ≤ 64) × (length t.pairs.items ≡ 32) };
+    ghost invariant = { λ t. (length t.gates.items ≤ 32) × (length t.pairs.items ≡ 16) };
 }
 
 impl<A: Allocator + Copy> Block<A> {
@@ -45,14 +45,14 @@ impl<A: Allocator + Copy> Block<A> {
 }
 
 impl<A: Allocator> Block<A> {
-    /// Its place among the blocks of its layer.
+    /// The slot where its gates are kept too.
     pub(crate) fn number(&self) -> usize {
         self.number
     }
 
     /// Puts gates in place of those that it has.
     pub(crate) fn fill(&mut self, number: usize, gates: &[Waiting]) -> Result<(), Memory>
-        requires { length gates.now ≤ 64 }
+        requires { length gates.now ≤ 32 }
         ensures { OnOk result (self.new ≡ gates.now) }
     {
         self.number = number;
@@ -107,12 +107,12 @@ impl<A: Allocator> Model for Sealed<A> {
 
     ghost view = { λ t. t.gates.items };
 
-    ghost invariant = { λ t. (length t.gates.items ≤ 64) × (length t.pairs.items ≡ 32)
+    ghost invariant = { λ t. (length t.gates.items ≤ 32) × (length t.pairs.items ≡ 16)
         × ArePairs t.gates.items t.pairs.items };
 }
 
 impl<A: Allocator> Sealed<A> {
-    /// Its place among the blocks of its layer.
+    /// The slot where its gates are kept too.
     pub(crate) fn number(&self) -> usize {
         self.number
     }
@@ -122,6 +122,13 @@ impl<A: Allocator> Sealed<A> {
         ensures { IsTrue result ↔ (self.now ≡ gates.now) }
     {
         are_same(&self.gates, gates)
+    }
+
+    /// Its gates.
+    pub(crate) fn gates(&self) -> &[Waiting]
+        ensures { result.now ≡ self.now }
+    {
+        &self.gates
     }
 
     /// What garbling its gates gave, by pairs.

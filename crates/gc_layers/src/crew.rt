@@ -8,20 +8,11 @@ use crate::waiting::Waiting;
 use gc_circuit::Memory;
 use gc_gatehouse::Gatehouse;
 use std::alloc::Allocator;
-use std::mem;
 use std::sync::Wait;
 use std::thread::Threads;
 
-/// Where a block of the layer is.
-#[derive(Drop)]
-enum Place<A: Allocator> {
-    /// It wasn't offered.
-    Here,
-    /// It was offered, and isn't back.
-    Out,
-    /// It is garbled.
-    Sealed(Sealed<A>),
-}
+/// Others may soon want for blocks where they have fewer than so many.
+const FEW: usize = 8;
 
 /// Blocks that others garble, or that are garbled here, by worker 0.
 #[derive(Drop)]
@@ -29,31 +20,45 @@ pub(crate) struct Crew<'e, A: Allocator, H: Gatehouse> {
     alloc: A,
     exchange: &'e Exchange<A>,
     house: &'e H,
-    // By number.
-    places: Vec<Place<A>, A>,
+    is_alone: bool,
+    // How many blocks were offered and aren't back.
+    out: usize,
     // Blocks that nothing is in.
     free: Vec<Block<A>, A>,
 }
 
 impl<'e, A: Allocator + Copy, H: Gatehouse> Crew<'e, A, H> {
-    /// A crew for so many blocks at once.
+    /// A crew of the calling thread and those that take blocks of the exchange, if there are any.
     pub(crate) fn open(
         alloc: A,
         exchange: &'e Exchange<A>,
         house: &'e H,
-        blocks: usize,
+        is_alone: bool,
     ) -> Result<Crew<'e, A, H>, Memory> {
-        let mut places = Vec::with_capacity(alloc, blocks)?;
-        for _i in 0..blocks {
-            places.push(Place::Here)?;
-        }
         Ok(Crew {
             alloc,
             exchange,
             house,
-            places,
-            free: Vec::with_capacity(alloc, blocks.saturating_add(1))?,
+            is_alone,
+            out: 0,
+            free: Vec::with_capacity(alloc, 1)?,
         })
+    }
+
+    /// Whether there are no other threads.
+    pub(crate) fn is_alone(&self) -> bool {
+        self.is_alone
+    }
+
+    /// Whether the others have so few blocks that they may soon want for more.
+    #[inline]
+    pub(crate) fn is_short(&self) -> bool {
+        !self.is_alone && self.out < FEW
+    }
+
+    /// Whether no block is with others.
+    pub(crate) fn has_all(&self) -> bool {
+        self.out == 0
     }
 
     /// Tells the house of a gate that is garbled as it comes.
@@ -64,7 +69,7 @@ impl<'e, A: Allocator + Copy, H: Gatehouse> Crew<'e, A, H> {
 
     /// A block with these gates.
     fn filled(&mut self, number: usize, gates: &[Waiting]) -> Result<Block<A>, Memory>
-        requires { length gates.now ≤ 64 }
+        requires { length gates.now ≤ 32 }
         ensures { IfOk result (λ b. b ≡ gates.now) }
     {
         let mut block = match self.free.pop() {
@@ -75,64 +80,64 @@ impl<'e, A: Allocator + Copy, H: Gatehouse> Crew<'e, A, H> {
         Ok(block)
     }
 
-    /// Offers gates to the others, where there is memory for a block.
-    pub(crate) fn offer<R: Wait>(&mut self, rt: &R, number: usize, gates: &[Waiting])
-        requires { length gates.now ≤ 64 }
-    {
-        if number >= self.places.len() {
-            return;
-        }
-        let Ok(block) = self.filled(number, gates) else {
-            return;
-        };
-        if self.exchange.offer(rt, block) {
-            self.mark(number, Place::Out);
-        }
-    }
-
-    /// The garbling of these gates: what came back for the block of this number, or else what is made here.
-    pub(crate) fn sealed<R: Threads + Wait + Sync>(
+    /// Offers the others a block of these gates. The answer is whether there was room for it.
+    pub(crate) fn offer<R: Wait>(
         &mut self,
         rt: &R,
         number: usize,
         gates: &[Waiting],
+    ) -> Result<bool, Memory>
+        requires { length gates.now ≤ 32 }
+    {
+        let block = self.filled(number, gates)?;
+        let has_room = self.exchange.offer(rt, block);
+        if has_room {
+            self.out = self.out.saturating_add(1);
+        }
+        Ok(has_room)
+    }
+
+    /// The garbling of these gates, which is made here.
+    pub(crate) fn seal<R: Threads + Sync>(
+        &mut self,
+        rt: &R,
+        gates: &[Waiting],
     ) -> Result<Sealed<A>, Memory>
-        requires { length gates.now ≤ 64 }
+        requires { length gates.now ≤ 32 }
         ensures { IfOk result (λ s. s ≡ gates.now) }
     {
-        if let Some(sealed) = self.fetch(rt, number) {
-            if sealed.is_of(gates) {
-                return Ok(sealed);
-            }
-        }
-        let block = self.filled(number, gates)?;
+        let block = self.filled(0, gates)?;
         Ok(block.seal(rt, self.house, 0))
     }
 
-    /// The block of this number, where it was offered. It waits for it, and garbles others meanwhile.
-    fn fetch<R: Threads + Wait + Sync>(&mut self, rt: &R, number: usize) -> Option<Sealed<A>> {
-        for _ in rt.forever() {
-            let place = self.places.get_mut(number)?;
-            match mem::replace(place, Place::Here) {
-                Place::Here => return None,
-                Place::Sealed(sealed) => return Some(sealed),
-                Place::Out => *place = Place::Out,
-            }
-            match self.exchange.look(rt) {
-                Finding::Sealed(sealed) => self.mark(sealed.number(), Place::Sealed(sealed)),
-                Finding::Offered(block) => {
-                    self.mark(block.number(), Place::Sealed(block.seal(rt, self.house, 0)));
-                }
-                Finding::Later | Finding::Nothing => return None,
-            }
-        }
-        unreachable!()
+    /// A block that came back, if one did.
+    pub(crate) fn returned<R: Wait>(&mut self, rt: &R) -> Option<Sealed<A>> {
+        let sealed = self.exchange.returned(rt)?;
+        self.out = self.out.saturating_sub(1);
+        Some(sealed)
     }
 
-    /// Marks where the block of this number is.
-    fn mark(&mut self, number: usize, now: Place<A>) {
-        if let Some(place) = self.places.get_mut(number) {
-            *place = now;
+    /// A block that was offered and that nobody took, garbled here.
+    pub(crate) fn taken_back<R: Threads + Wait + Sync>(&mut self, rt: &R) -> Option<Sealed<A>> {
+        let block = self.exchange.taken(rt)?;
+        self.out = self.out.saturating_sub(1);
+        Some(block.seal(rt, self.house, 0))
+    }
+
+    /// The next block that comes back, which is waited for; or else one that was offered, garbled here. There is none
+    /// where no block is with others.
+    pub(crate) fn awaited<R: Threads + Wait + Sync>(&mut self, rt: &R) -> Option<Sealed<A>> {
+        if self.out == 0 {
+            return None;
+        }
+        let Some(finding) = self.exchange.look(rt) else {
+            self.out = 0;
+            return None;
+        };
+        self.out = self.out.saturating_sub(1);
+        match finding {
+            Finding::Sealed(sealed) => Some(sealed),
+            Finding::Offered(block) => Some(block.seal(rt, self.house, 0)),
         }
     }
 

@@ -1,40 +1,52 @@
 //! Blocks that threads hand to each other.
 
 use crate::block::{Block, Sealed};
+use crossbeam_queue::ArrayQueue;
 use gc_circuit::Memory;
 use gc_gatehouse::Gatehouse;
 use std::alloc::Allocator;
-use std::collections::VecDeque;
 use std::hint::spin_loop;
-use std::sync::{Condvar, Mutex, MutexGuard, Wait};
+use std::sync::{Condvar, Mutex, Wait};
 use std::thread::Threads;
 
-/// How often a thread looks for a block before it sleeps: waking costs more than garbling a block takes.
-const TRIES: u32 = 400;
+/// How often a thread looks for a block before it asks whether more will come,
+const TRIES: u32 = 64;
+
+/// and how often it asks before it sleeps: waking costs more than garbling a block takes.
+const ROUNDS: u32 = 16;
 
 /// How long a thread pauses between two looks, in turns of a loop.
-const PAUSE: u32 = 20;
+const PAUSE: u32 = 8;
 
-/// What the lock is round: the blocks that wait to be garbled, those that are garbled, whether one was lost for want of
-/// memory, and whether no more will come.
+/// What those are told who find no block to garble.
 #[derive(Drop)]
-struct Desk<A: Allocator> {
-    offered: VecDeque<Block<A>, A>,
-    sealed: Vec<Sealed<A>, A>,
-    lost: bool,
+struct Offers {
+    // No more blocks will come.
     closed: bool,
-    // How many threads sleep for want of a block to garble.
+    // How many threads sleep for want of a block.
     sleeping: u32,
-    // Whether the thread that offers sleeps for want of one that is garbled.
+}
+
+/// What the thread is told that finds no block garbled.
+#[derive(Drop)]
+struct Returns {
+    // A block was lost for want of room.
+    lost: bool,
+    // Whether the thread sleeps for want of a block.
     is_awaited: bool,
 }
 
-/// Where the thread that goes from gate to gate offers blocks, and others take them and hand them in garbled.
+/// Where the thread that goes from gate to gate offers blocks, and others take them and hand them in garbled. The locks
+/// are round what they tell each other, and not round the blocks; there is one for either way, so that handing in
+/// doesn't wait for offering.
 #[derive(Drop)]
 pub(crate) struct Exchange<A: Allocator> {
-    desk: Mutex<Desk<A>>,
-    offered: Condvar,
-    returned: Condvar,
+    offered: ArrayQueue<Block<A>, A>,
+    sealed: ArrayQueue<Sealed<A>, A>,
+    offers: Mutex<Offers>,
+    returns: Mutex<Returns>,
+    has_offered: Condvar,
+    has_sealed: Condvar,
 }
 
 /// What a thread finds.
@@ -44,129 +56,126 @@ pub(crate) enum Finding<A: Allocator> {
     Sealed(Sealed<A>),
     /// A block to be garbled.
     Offered(Block<A>),
-    /// Neither, but there may be some later.
-    Later,
-    /// Neither, and a block was lost, or no more will come.
-    Nothing,
 }
 
-/// Pauses for as long as a critical section takes.
+/// Pauses for a little while.
 fn pause() {
     for _i in 0..PAUSE {
         spin_loop();
     }
 }
 
-impl<A: Allocator> Desk<A> {
-    /// Looks for a block to garble.
-    fn take(&mut self) -> Finding<A> {
-        match self.offered.pop_front() {
-            Some(block) => Finding::Offered(block),
-            None if self.closed => Finding::Nothing,
-            None => Finding::Later,
-        }
-    }
-
-    /// Looks for a block that is garbled, or else for one to garble.
-    fn look(&mut self) -> Finding<A> {
-        if let Some(sealed) = self.sealed.pop() {
-            return Finding::Sealed(sealed);
-        }
-        match self.take() {
-            Finding::Later if self.lost => Finding::Nothing,
-            finding => finding,
-        }
-    }
-}
-
 impl<A: Allocator + Copy> Exchange<A> {
-    /// An exchange with room for so many blocks.
+    /// An exchange with room for so many blocks, and for one at least.
     pub(crate) fn open(alloc: A, blocks: usize) -> Result<Exchange<A>, Memory> {
+        let room = blocks.max(1);
         Ok(Exchange {
-            desk: Mutex::new(Desk {
-                offered: VecDeque::with_capacity(alloc, blocks)?,
-                sealed: Vec::with_capacity(alloc, blocks)?,
-                lost: false,
+            offered: ArrayQueue::new(alloc, room)?,
+            sealed: ArrayQueue::new(alloc, room)?,
+            offers: Mutex::new(Offers {
                 closed: false,
                 sleeping: 0,
+            }),
+            returns: Mutex::new(Returns {
+                lost: false,
                 is_awaited: false,
             }),
-            offered: Condvar::new(),
-            returned: Condvar::new(),
+            has_offered: Condvar::new(),
+            has_sealed: Condvar::new(),
         })
     }
 }
 
 impl<A: Allocator> Exchange<A> {
-    /// Takes the lock: it tries for a while before it sleeps.
-    fn enter<R: Wait>(&self, rt: &R) -> MutexGuard<'_, Desk<A>> {
-        for _i in 0..TRIES {
-            if let Some(desk) = self.desk.try_lock() {
-                return desk;
-            }
-            pause();
-        }
-        self.desk.lock(rt)
-    }
-
     /// Offers a block. The answer is whether there was room for it.
     pub(crate) fn offer(&self, rt: &impl Wait, block: Block<A>) -> bool {
-        let mut desk = self.enter(rt);
-        let has_room = desk.offered.push_back(block).is_ok();
-        let sleeping = desk.sleeping;
-        drop(desk);
+        let has_room = self.offered.push(rt, block).is_ok();
+        let sleeping = self.offers.lock(rt).sleeping;
         if sleeping > 0 {
-            self.offered.notify_one();
+            self.has_offered.notify_one();
         }
         has_room
     }
 
     /// Hands a garbled block in.
     fn hand_in(&self, rt: &impl Wait, sealed: Sealed<A>) {
-        let mut desk = self.enter(rt);
-        if desk.sealed.push(sealed).is_err() {
-            desk.lost = true;
+        let has_room = self.sealed.push(rt, sealed).is_ok();
+        let mut returns = self.returns.lock(rt);
+        if !has_room {
+            returns.lost = true;
         }
-        let is_awaited = desk.is_awaited;
-        drop(desk);
+        let is_awaited = returns.is_awaited;
+        drop(returns);
         if is_awaited {
-            self.returned.notify_one();
+            self.has_sealed.notify_one();
         }
     }
 
-    /// Looks for a block that is garbled, or else for one to garble, and waits while there is none.
-    pub(crate) fn look<R: Wait>(&self, rt: &R) -> Finding<A> {
-        for _i in 0..TRIES {
-            match self.enter(rt).look() {
-                Finding::Later => pause(),
-                finding => return finding,
+    /// A block that is garbled, if there is one.
+    pub(crate) fn returned<R: Wait>(&self, rt: &R) -> Option<Sealed<A>> {
+        self.sealed.pop(rt)
+    }
+
+    /// A block to garble, if there is one.
+    pub(crate) fn taken<R: Wait>(&self, rt: &R) -> Option<Block<A>> {
+        self.offered.pop(rt)
+    }
+
+    /// A block that is garbled, or else one to garble.
+    fn find<R: Wait>(&self, rt: &R) -> Option<Finding<A>> {
+        if let Some(sealed) = self.sealed.pop(rt) {
+            return Some(Finding::Sealed(sealed));
+        }
+        let block = self.offered.pop(rt)?;
+        Some(Finding::Offered(block))
+    }
+
+    /// Looks for a block, and waits while there is none. None says that one was lost.
+    pub(crate) fn look<R: Wait>(&self, rt: &R) -> Option<Finding<A>> {
+        for _i in 0..TRIES * ROUNDS {
+            let finding = self.find(rt);
+            if finding.is_some() {
+                return finding;
             }
+            pause();
         }
         self.look_or_sleep(rt)
     }
 
     /// The same, and it sleeps while it waits.
-    fn look_or_sleep<R: Wait>(&self, rt: &R) -> Finding<A> {
-        let mut desk = self.enter(rt);
+    fn look_or_sleep<R: Wait>(&self, rt: &R) -> Option<Finding<A>> {
+        let mut returns = self.returns.lock(rt);
         for _ in rt.forever() {
-            match desk.look() {
-                Finding::Later => {}
-                finding => return finding,
+            let finding = self.find(rt);
+            if finding.is_some() || returns.lost {
+                return finding;
             }
-            desk.is_awaited = true;
-            desk = self.returned.wait(rt, desk);
-            desk.is_awaited = false;
+            returns.is_awaited = true;
+            returns = self.has_sealed.wait(rt, returns);
+            returns.is_awaited = false;
         }
         unreachable!()
     }
 
+    /// A block to garble, where one comes soon.
+    fn try_take<R: Wait>(&self, rt: &R) -> Option<Block<A>> {
+        for _i in 0..TRIES {
+            if let Some(block) = self.offered.pop(rt) {
+                return Some(block);
+            }
+            pause();
+        }
+        None
+    }
+
     /// A block to garble. None says that no more will come.
     fn take<R: Wait>(&self, rt: &R) -> Option<Block<A>> {
-        for _i in 0..TRIES {
-            match self.enter(rt).take() {
-                Finding::Offered(block) => return Some(block),
-                Finding::Later => pause(),
-                Finding::Nothing | Finding::Sealed(_) => return None,
+        for _i in 0..ROUNDS {
+            if let Some(block) = self.try_take(rt) {
+                return Some(block);
+            }
+            if self.offers.lock(rt).closed {
+                return None;
             }
         }
         self.take_or_sleep(rt)
@@ -174,16 +183,15 @@ impl<A: Allocator> Exchange<A> {
 
     /// The same, and it sleeps while it waits.
     fn take_or_sleep<R: Wait>(&self, rt: &R) -> Option<Block<A>> {
-        let mut desk = self.enter(rt);
+        let mut offers = self.offers.lock(rt);
         for _ in rt.forever() {
-            match desk.take() {
-                Finding::Offered(block) => return Some(block),
-                Finding::Later => {}
-                Finding::Nothing | Finding::Sealed(_) => return None,
+            let block = self.offered.pop(rt);
+            if block.is_some() || offers.closed {
+                return block;
             }
-            desk.sleeping = desk.sleeping.saturating_add(1);
-            desk = self.offered.wait(rt, desk);
-            desk.sleeping = desk.sleeping.saturating_sub(1);
+            offers.sleeping = offers.sleeping.saturating_add(1);
+            offers = self.has_offered.wait(rt, offers);
+            offers.sleeping = offers.sleeping.saturating_sub(1);
         }
         unreachable!()
     }
@@ -205,7 +213,7 @@ impl<A: Allocator> Exchange<A> {
 
     /// No more blocks will come: threads that wait end.
     pub(crate) fn close(&self, rt: &impl Wait) {
-        self.enter(rt).closed = true;
-        self.offered.notify_all();
+        self.offers.lock(rt).closed = true;
+        self.has_offered.notify_all();
     }
 }

@@ -3,10 +3,9 @@
 ghost use Rattle.std.specs.Prelude.{◌<◌, IfOk};
 ghost use Rattle.gc_half.specs.Garbling.{IsGarbled};
 
-use crate::block::BLOCK;
 use crate::crew::Crew;
 use crate::exchange::Exchange;
-use crate::layer::{Layer, MOST_WAITING};
+use crate::layer::{Layer, SLOTS};
 use gc_circuit::{Circuit, Memory};
 use gc_gatehouse::Gatehouse;
 use gc_half::Garbling;
@@ -22,10 +21,11 @@ const MOST_HELPERS: usize = 63;
 /// For so many AND gates a thread is worth starting.
 const GATES_FOR_THREAD: usize = 1024;
 
-/// The garbling of a circuit under a seed, gate by gate in file order, but that AND gates wait as long as no gate reads
-/// what they set, and are then garbled at once: by the calling thread and up to so many less one beside it, where there
-/// are enough of them and threads can be started. It takes memory for the labels, for the rows, and for up to 65,536
-/// gates that wait. `house` is told of each gate before it is garbled; the calling thread is worker 0.
+/// The garbling of a circuit under a seed, gate by gate in file order, but that AND gates wait to be garbled in blocks, by
+/// the calling thread and up to so many less one beside it, where there are enough AND gates and threads can be started;
+/// a gate that reads a label which isn't there yet is postponed until it is. It takes memory for the labels and their
+/// marks, for the rows, and for the gates that wait or are postponed: up to 64 blocks of 32 gates, twice, and 512 gates.
+/// `house` is told of each gate before it is garbled; the calling thread is worker 0.
 pub fn garble_by_layers<
     A: Allocator + Copy + Send + Sync,
     C: Allocator + Sync,
@@ -46,14 +46,9 @@ pub fn garble_by_layers<
         .saturating_sub(1)
         .min(ands / GATES_FOR_THREAD)
         .min(MOST_HELPERS);
-    let blocks = if helpers == 0 {
-        0
-    } else {
-        ands.min(MOST_WAITING) / BLOCK
-    };
-    let exchange = Exchange::open(alloc, blocks)?;
+    let exchange = Exchange::open(alloc, if helpers == 0 { 1 } else { SLOTS })?;
     if helpers == 0 {
-        return garble_with(rt, alloc, circuit, seed, &exchange, blocks, house);
+        return garble_with(rt, alloc, circuit, seed, &exchange, true, house);
     }
     let (_, garbled) = thread::join(
         rt,
@@ -63,7 +58,7 @@ pub fn garble_by_layers<
         || -> Result<Garbling<A>, Memory>
             ensures { IfOk result (λ g. IsGarbled circuit.entry.now seed.entry.now g) }
         {
-            let garbled = garble_with(rt, alloc, circuit, seed, &exchange, blocks, house);
+            let garbled = garble_with(rt, alloc, circuit, seed, &exchange, false, house);
             exchange.close(rt);
             garbled
         },
@@ -104,16 +99,14 @@ fn garble_with<
     circuit: &Circuit<C>,
     seed: &Seed,
     exchange: &Exchange<A>,
-    blocks: usize,
+    is_alone: bool,
     house: &H,
 ) -> Result<Garbling<A>, Memory>
     ensures { IfOk result (λ g. IsGarbled circuit.now seed.now g) }
 {
-    let mut crew = Crew::open(alloc, exchange, house, blocks)?;
-    let mut layer = Layer::open(alloc, circuit, seed)?;
-    for i in 0..circuit.gates() {
-        layer.step(rt, &mut crew, i, circuit.gate(i))?;
-    }
-    let (zero_labels, rows) = layer.into_parts(rt, &mut crew)?;
-    Ok(Garbling::from_parts(zero_labels, rows, circuit.output_wires()))
+    let mut crew = Crew::open(alloc, exchange, house, is_alone)?;
+    let mut layer = Layer::open(alloc, circuit, seed, !is_alone)?;
+    layer.pass(rt, &mut crew)?;
+    layer.finish(rt, &mut crew)?;
+    Ok(layer.into_garbling(&crew))
 }

@@ -1,6 +1,6 @@
-//! Garbling by layers. A layer is a list of AND gates, one after another in the file, of which none needs what another
-//! sets: they are garbled at once, eight hashes at a time, and by several threads where they are many. All other gates
-//! are garbled as they come.
+//! Garbling by layers. A layer is all AND gates whose labels are there: none needs what another sets, so they are garbled
+//! in blocks, eight hashes at a time, and by several threads where there are enough. One thread goes through the file: it
+//! garbles other gates as it comes to them, and postpones those that read a label which isn't there yet.
 //!
 //! [`garble_by_layers`] gives the garbling that [`garble_one_thread`](gc_half::garble_one_thread) gives.
 #![tactic(auto)]
@@ -10,6 +10,10 @@ mod crew;
 mod exchange;
 mod garble;
 mod layer;
+mod mark;
+mod place;
+mod postponed;
+mod rest;
 mod waiting;
 
 pub use garble::garble_by_layers;

@@ -1,0 +1,6 @@
+use Rattle.std.proofs.Common.{◌≡◌, ℕ, ◌<◌, slice_index_or}
+use Rattle.gc_layers.specs.declared.mark.Mark.TheVariants.{Absent, There}
+use Rattle.gc_layers.proofs.rest.are_marked.Given as goal
+
+abbrev pub invariant-loop-i : goal.invariant-loop-i
+invariant-loop-i l = (w : ℕ) → w < l.i → slice_index_or l.marks w Absent ≡ There

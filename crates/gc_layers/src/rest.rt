@@ -1,0 +1,124 @@
+//! Gates that no layer had.
+
+ghost use Rattle.std.specs.Prelude.{◌≡◌, ℕ, ◌≢◌, ◌<◌, IsTrue, length, true, false, slice_index, slice_index_or, slice_set};
+ghost use Rattle.gc_netlist.specs.Circuit.{EachRead, is_and, and_count};
+ghost use Rattle.gc_half.specs.Hash.{hash};
+ghost use Rattle.gc_half.specs.OneGate.{first_read, second_read, gate_rows};
+ghost use Rattle.gc_half.specs.Garbling.{zero_of};
+ghost use Rattle.gc_layers.specs.declared.mark.Mark.TheVariants.{Absent, There};
+ghost use Rattle.gc_layers.specs.Layer.{AreLabels, AreMarked, AreRows, with_pair, no_rows};
+
+use crate::crew::Crew;
+use crate::mark::Mark;
+use gc_circuit::{Circuit, Gate};
+use gc_gatehouse::Gatehouse;
+use gc_half::{RowPair, garble_gate, labels_read};
+use gc_label::{Label, Offset, Seed, offset};
+use std::alloc::Allocator;
+
+/// Garbles each gate whose label or row pair isn't there.
+pub(crate) fn garble_rest<A: Allocator + Copy, C: Allocator, H: Gatehouse>(
+    crew: &Crew<'_, A, H>,
+    circuit: &Circuit<C>,
+    seed: &Seed,
+    marks: &[Mark],
+    labels: &mut [Label],
+    rows: &mut [RowPair],
+)
+    requires count { length marks.now ≡ circuit.now.wires }
+    requires marks { AreMarked circuit.now seed.now marks.now labels.old }
+    requires labels { AreLabels circuit.now seed.now 0 labels.old }
+    requires rows { AreRows circuit.now seed.now 0 rows.old }
+    ensures labels { AreLabels circuit.now seed.now (length circuit.now.gates) labels.new }
+    ensures rows { AreRows circuit.now seed.now (and_count circuit.now) rows.new }
+{
+    let _ = circuit.gates();
+    if !are_marked(marks) || !are_present(rows) {
+        garble_missing(crew, circuit, seed, marks, labels, rows);
+    }
+}
+
+/// Whether all marks say that a label is there.
+fn are_marked(marks: &[Mark]) -> bool
+    ensures { IsTrue result → (w : ℕ) → w < length marks.now → slice_index_or marks.now w Absent ≡ There }
+{
+    for i in 0..marks.len() {
+        if !marks[i].is_there() {
+            return false;
+        }
+    }
+    true
+}
+
+/// Whether no row pair is one of those that the table begins with.
+fn are_present(rows: &[RowPair]) -> bool
+    ensures { IsTrue result → (k : ℕ) → k < length rows.now → (slice_index_or rows.now k no_rows).evaluator ≢ 0 }
+{
+    for i in 0..rows.len() {
+        if rows[i].evaluator == Label::ZERO {
+            return false;
+        }
+    }
+    true
+}
+
+/// The same, from gate to gate in file order.
+fn garble_missing<A: Allocator + Copy, C: Allocator, H: Gatehouse>(
+    crew: &Crew<'_, A, H>,
+    circuit: &Circuit<C>,
+    seed: &Seed,
+    marks: &[Mark],
+    labels: &mut [Label],
+    rows: &mut [RowPair],
+)
+    requires count { length marks.now ≡ circuit.now.wires }
+    requires marks { AreMarked circuit.now seed.now marks.now labels.old }
+    requires labels { AreLabels circuit.now seed.now 0 labels.old }
+    requires rows { AreRows circuit.now seed.now 0 rows.old }
+    ensures labels { AreLabels circuit.now seed.now (length circuit.now.gates) labels.new }
+    ensures rows { AreRows circuit.now seed.now (and_count circuit.now) rows.new }
+{
+    let offset = offset(seed);
+    let mut k = 0;
+    for i in 0..circuit.gates() {
+        let gate = circuit.gate(i);
+        if !is_there(marks, rows, k, gate) {
+            crew.tell(i);
+            garble_at(labels, rows, k, offset, gate);
+        }
+        if gate.operation.is_and() {
+            k += 1;
+        }
+    }
+}
+
+/// Whether the label of the wire that a gate sets is there and, of the k-th AND gate, its row pair.
+#[inline]
+fn is_there(marks: &[Mark], rows: &[RowPair], k: u32, gate: Gate) -> bool
+    requires set { gate.set < length marks.now }
+    requires number { IsTrue (is_and gate.operation) → k < length rows.now }
+    ensures label { IsTrue result → slice_index_or marks.now gate.set Absent ≡ There }
+    ensures row { IsTrue result → IsTrue (is_and gate.operation)
+        → (slice_index_or rows.now k no_rows).evaluator ≢ 0 }
+{
+    marks[gate.set as usize].is_there()
+        && (!gate.operation.is_and() || rows[k as usize].evaluator != Label::ZERO)
+}
+
+/// Garbles a gate where its label and its row pair belong. An AND gate is the k-th, counted from 0.
+fn garble_at(labels: &mut [Label], rows: &mut [RowPair], k: u32, offset: Offset, gate: Gate)
+    requires read { EachRead (λ w. w < length labels.old) gate.operation }
+    requires set { gate.set < length labels.old }
+    requires number { IsTrue (is_and gate.operation) → k < length rows.old }
+    ensures labels { labels.new ≡ slice_set labels.old gate.set
+        (zero_of hash offset (slice_index labels.old) k gate.operation) }
+    ensures rows { rows.new ≡ with_pair rows.old k (gate_rows hash offset k gate.operation
+        (first_read (slice_index labels.old) gate.operation) (second_read (slice_index labels.old) gate.operation)) }
+{
+    let (first, second) = labels_read(labels, gate.operation);
+    let (label, pair) = garble_gate(k, offset, gate.operation, first, second);
+    labels[gate.set as usize] = label;
+    if let Some(pair) = pair {
+        rows[k as usize] = pair;
+    }
+}
