@@ -70,8 +70,9 @@ const ONE_VALUE: Part = (13, 1);
 
 const PLAIN_EVALUATION: Part = (13, 2);
 
-/// The list of blocks, the zero labels, the rows, the gates that wait, a block of them, and what its garbling gives.
-const GARBLING: Part = (23, 6);
+/// The queues of blocks, the zero labels, their marks, the rows, the gates that wait or are postponed, a block of them, and
+/// what its garbling gives.
+const GARBLING: Part = (23, 18);
 
 /// The bytes before the trailer, and the trailer.
 const GARBLED_FILE: Part = (52, 2);

@@ -7,7 +7,7 @@ use gc_label::Seed;
 use gc_layers::garble_by_layers;
 use gc_refusing::Refusing;
 use gc_work::Open;
-use gc_worked::circuits::{FULL_ADDER, chain, many_ands};
+use gc_worked::circuits::{FULL_ADDER, and_chains, chain, many_ands};
 use gc_worked::growths::{Answer, plain_if, runs_refused};
 use gc_worked::random::{Numbers, random_circuit, random_window};
 use std::alloc::Global;
@@ -52,17 +52,30 @@ fn random_circuits_by_layers(rt: HostRuntime) -> Result<(), Fail> {
 }
 
 /// Layers of one gate and of an odd number, of a block's gates, of as many gates as a thread is started for, and of more
-/// than may wait; by no thread as by one.
+/// blocks than may be with others; by no thread as by one.
 #[test]
 fn layers_of_all_sizes(rt: HostRuntime) -> Result<(), Fail> {
-    for gates in [
-        1, 2, 3, 63, 64, 65, 1023, 1024, 1025, 65_536, 65_537, 140_000,
-    ] {
+    for gates in [1, 2, 3, 15, 16, 17, 1023, 1024, 1025, 2048, 20_000] {
         let text = many_ands(rt.alloc(), gates)?;
         for threads in [0, 1, 4, 64] {
             assert!(rt;
                 is_garbled_so(&rt, rt.alloc(), text.as_str(), threads)?,
                 "{gates} gates by {threads} threads"
+            );
+        }
+    }
+    Ok(())
+}
+
+/// Chains of AND gates, one after another in the file: more gates read a wire without a label than may be postponed.
+#[test]
+fn chains_by_layers(rt: HostRuntime) -> Result<(), Fail> {
+    for (chains, length) in [(1, 3000), (5, 1000), (100, 50)] {
+        let text = and_chains(rt.alloc(), chains, length)?;
+        for threads in [1, 2, 4] {
+            assert!(rt;
+                is_garbled_so(&rt, rt.alloc(), text.as_str(), threads)?,
+                "{chains} chains of {length} gates by {threads} threads"
             );
         }
     }
@@ -77,8 +90,8 @@ fn no_layer(rt: HostRuntime) -> Result<(), Fail> {
     Ok(())
 }
 
-/// Each growth refused in turn: the list of blocks, the labels, the rows, the gates that wait, a block, and what garbling
-/// it gives.
+/// Each growth refused in turn: the two queues of blocks, the crew's list of blocks, the labels, their marks, the rows, the
+/// gates that wait, those that are postponed with the slots that are spare and woken, a block, and what garbling it gives.
 #[test]
 fn each_growth_of_layers_refused(rt: HostRuntime) -> Result<(), Fail> {
     let circuit = Circuit::read(rt.alloc(), FULL_ADDER.as_bytes())?;
@@ -89,6 +102,6 @@ fn each_growth_of_layers_refused(rt: HostRuntime) -> Result<(), Fail> {
             Err(Memory) => Answer::Memory,
         }
     });
-    assert_eq!(rt; refused, Ok(6));
+    assert_eq!(rt; refused, Ok(18));
     Ok(())
 }
