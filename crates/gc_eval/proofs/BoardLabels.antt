@@ -6,15 +6,14 @@ use Rattle.gc_netlist.specs.declared.gate.Operation.{Operation}
 use Rattle.gc_netlist.specs.declared.gate.Operation.TheVariants.{Xor, And, Inv, Eq, Eqw}
 use Rattle.gc_netlist.specs.declared.gate.Gate.{Gate}
 use Rattle.gc_netlist.specs.Circuit.{Netlist, input_wires, IsSetBy, IsLawful, and_number}
-use Rattle.gc_netlist.proofs.SolutionLemmas.{solution_solves}
 use Rattle.gc_label.specs.Label.{◌⊕◌, low_half, high_half, label_of_halves}
 use Rattle.gc_label.proofs.HalvesLemmas.{label_of_halves-halves}
 use Rattle.gc_half.specs.Hash.{hash}
 use Rattle.gc_half.specs.HalfGate.{and_active}
 use Rattle.gc_half.specs.OneGate.{gate_active}
 use Rattle.gc_half.specs.declared.garbling.RowPair.{RowPair}
-use Rattle.gc_half.specs.Evaluation.{active_rule, active_of, row_at, IsEvaluation}
-use Rattle.gc_half.proofs.CircuitLaw.{active_local}
+use Rattle.gc_half.specs.Evaluation.{active_of, row_at, IsEvaluation}
+use Rattle.gc_half.proofs.CanonicalLemmas.{active_labels-solve}
 use Rattle.gc_board.specs.Counts.{times}
 use Rattle.gc_board.specs.Board.{Cell}
 use Rattle.gc_board.specs.declared.rule.View.{View}
@@ -28,11 +27,7 @@ use Rattle.gc_job.proofs.WiringLemmas.{set_once, input_not_set}
 -- They are an evaluation.
 pub active_solves : (job : JobParts) → IsLawful job.circuit
     → IsEvaluation hash job.circuit job.rows (labels_of job.inputs) (active job)
-unfolding active
-active_solves job lawful =
-    solution_solves (active_rule hash job.circuit job.rows)
-    (active_local hash job.circuit job.rows) job.circuit lawful
-    (labels_of job.inputs)
+active_solves job lawful = active_labels-solve job.circuit job.rows job.inputs lawful
 
 pub set_of_is : (job : JobParts) (w g : ℕ) → IsSetBy job.circuit w g → set_of job g ≡ w
 set_of_is job w g set = ap set_by set.at ∙ set.wire

@@ -1,5 +1,5 @@
 -- The garbling of a circuit under a seed, as functions: it is one, and there is no other.
-use Rattle.std.proofs.Common.{◌≡◌, ℕ, ◌-◌, ◌<◌, inl, inr, Bool, List, length, map, drop, get_or, slice_get, Some, if◌then◌else◌, refl, sym, ap, ◌∙◌, arith}
+use Rattle.std.proofs.Common.{◌≡◌, ℕ, ◌-◌, ◌<◌, inl, inr, Bool, List, length, map, drop, get_or, slice_get, slice_index, Some, if◌then◌else◌, refl, sym, ap, ◌∙◌, arith}
 use Rattle.std.specs.List.{range_with_len}
 use Rattle.std.proofs.lemmas.Bool.{lt-ltb}
 use Rattle.std.proofs.lemmas.Bool.Decides.{nat_tests}
@@ -17,10 +17,10 @@ use Rattle.gc_label.proofs.SeedLemmas.{colour-offset_of}
 use Rattle.gc_half.specs.declared.garbling.RowPair.{RowPair}
 use Rattle.gc_half.specs.Hash.{hash}
 use Rattle.gc_half.specs.Garbling.{zero_of, zero_rule, rows_of, IsGarbling, GarblingParts, decode_bits_of, IsGarbled}
-use Rattle.gc_half.specs.Evaluation.{IsEvaluation, encode, decode_bits}
-use Rattle.gc_half.specs.Canonical.{input_zero, zero_label_of, rows_after, row_pairs_of, garbling_of}
+use Rattle.gc_half.specs.Evaluation.{IsEvaluation, active_rule, encode, decode_bits}
+use Rattle.gc_half.specs.Canonical.{input_zero, zero_label_of, rows_after, row_pairs_of, garbling_of, active_label_of}
 use Rattle.gc_half.specs.Law.{HasOneGarbled, Decodes}
-use Rattle.gc_half.proofs.CircuitLaw.{garbling-decodes}
+use Rattle.gc_half.proofs.CircuitLaw.{active_local, garbling-decodes}
 use Rattle.gc_half.proofs.SetWires.{set_or_not, solution-not_set}
 use Rattle.gc_half.proofs.GarblingLemmas.{zero_local, IsGarbling-same, rows-garbling, one_garbling}
 
@@ -149,3 +149,10 @@ module _ (c : Netlist) (seed : List ℕ) where
 
     pub one_garbled : HasOneGarbled c seed
     one_garbled = record { computed = garbling_of-IsGarbled; no_other = IsGarbled-same }
+
+-- The active labels are those of an evaluation.
+pub active_labels-solve : (c : Netlist) (rows : List RowPair) (inputs : List ℕ) → IsLawful c
+    → IsEvaluation hash c rows (slice_index inputs) (active_label_of c rows inputs)
+unfolding active_label_of
+active_labels-solve c rows inputs lawful =
+    solution_solves (active_rule hash c rows) (active_local hash c rows) c lawful (slice_index inputs)

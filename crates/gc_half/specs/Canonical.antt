@@ -1,6 +1,6 @@
 -- The garbling of a circuit under a seed, as functions of both. `IsGarbled` says what it is; that these functions meet
--- it, and that nothing else does, is proved of them (`law_garblings`).
-use Rattle.std.specs.Prelude.{ℕ, zero, suc, List, [], ◌∷◌, ◌++◌, length, map, slice_get, Option, Some, None, nat_lt, if◌then◌else◌}
+-- it, and that nothing else does, is proved of them (`law_garblings`). Evaluation likewise: `IsEvaluation` says what it is.
+use Rattle.std.specs.Prelude.{ℕ, zero, suc, List, [], ◌∷◌, ◌++◌, length, map, slice_get, slice_index, Option, Some, None, nat_lt, if◌then◌else◌}
 use Rattle.std.specs.List.{range_with_len}
 use Rattle.gc_netlist.specs.declared.gate.Operation.{Operation}
 use Rattle.gc_netlist.specs.declared.gate.Gate.{Gate}
@@ -11,6 +11,7 @@ use Rattle.gc_half.specs.declared.garbling.RowPair.{RowPair}
 use Rattle.gc_half.specs.Hash.{hash}
 use Rattle.gc_half.specs.OneGate.{first_read, second_read, gate_rows}
 use Rattle.gc_half.specs.Garbling.{zero_rule, GarblingParts}
+use Rattle.gc_half.specs.Evaluation.{active_rule}
 
 -- The zero labels of the input wires, and 0 on every other wire.
 abbrev pub input_zero : Netlist → List ℕ → ℕ → ℕ
@@ -53,3 +54,8 @@ garbling_of c seed = record {
   rows = row_pairs_of c seed;
   outputs = output_wires c;
 }
+
+-- The active label of each wire in an evaluation of these rows on these labels of the input wires. All evaluations agree
+-- on the wires that are set.
+unfoldable pub active_label_of : Netlist → List RowPair → List ℕ → ℕ → ℕ
+active_label_of c rows inputs = solution (active_rule hash c rows) c (slice_index inputs)

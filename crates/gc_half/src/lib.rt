@@ -11,6 +11,7 @@
 #![tactic(auto)]
 
 mod entry;
+mod evaluate;
 mod garble;
 mod garbling;
 mod half_gate;
@@ -20,6 +21,7 @@ mod numbers;
 mod one_gate;
 
 pub use entry::output_entry;
+pub use evaluate::input_active_labels;
 pub use garble::{garble_one_thread, input_zero_labels};
 pub use garbling::{Garbling, RowPair};
 pub use half_gate::{

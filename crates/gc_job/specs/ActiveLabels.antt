@@ -2,23 +2,21 @@
 use Rattle.std.specs.Prelude.{◌≡◌, ℕ, zero, suc, ◌<◌, ◌^◌, length, slice_get, Option, Some, None}
 use Rattle.gc_netlist.specs.declared.gate.Gate.{Gate}
 use Rattle.gc_netlist.specs.Circuit.{and_number}
-use Rattle.gc_netlist.specs.Solution.{solution}
 use Rattle.gc_label.specs.Label.{low_half, high_half}
 use Rattle.gc_half.specs.Hash.{hash}
 use Rattle.gc_half.specs.declared.garbling.RowPair.{RowPair}
 use Rattle.gc_half.specs.OneGate.{gate_active}
-use Rattle.gc_half.specs.Evaluation.{active_rule, row_at}
+use Rattle.gc_half.specs.Evaluation.{row_at}
+use Rattle.gc_half.specs.Canonical.{active_label_of}
 use Rattle.gc_job.specs.Job.{JobParts}
-use Rattle.gc_job.specs.Evaluate.{labels_of}
 
 -- how many gates the job's circuit has
 abbrev pub gates_of : JobParts → ℕ
 gates_of job = length job.circuit.gates
 
--- The active label of each wire: those of an evaluation of the job's rows on its input labels. All evaluations agree on
--- the wires that are set.
-unfoldable pub active : JobParts → ℕ → ℕ
-active job = solution (active_rule hash job.circuit job.rows) job.circuit (labels_of job.inputs)
+-- The active label of each wire, in an evaluation of the job's rows on its input labels.
+abbrev pub active : JobParts → ℕ → ℕ
+active job = active_label_of job.circuit job.rows job.inputs
 
 -- the wire that a gate sets
 abbrev pub set_by : Option Gate → ℕ

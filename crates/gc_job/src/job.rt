@@ -103,14 +103,14 @@ impl<'c, A: Allocator, C: Allocator> Job<'c, A, C> {
     }
 
     /// The row pair of each AND gate, in file order.
-    pub(crate) fn rows(&self) -> &[RowPair]
+    pub fn rows(&self) -> &[RowPair]
         ensures { result.now ≡ self.now.rows }
     {
         self.garbled.rows()
     }
 
     /// The label of each input wire.
-    pub(crate) fn inputs(&self) -> &[Label]
+    pub fn inputs(&self) -> &[Label]
         ensures { result.now ≡ self.now.inputs }
     {
         &self.inputs

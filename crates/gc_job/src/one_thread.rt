@@ -1,10 +1,10 @@
-ghost use Rattle.std.specs.Prelude.{◌≡◌, ◌≤◌, ℕ, Bool, List, length, map, IfOk, MatchResult};
+ghost use Rattle.std.specs.Prelude.{◌≡◌, ℕ, Bool, List, length, map, IfOk, MatchResult};
 ghost use Rattle.std.specs.Result.{result_map_both};
 ghost use Rattle.std.specs.List.{range_with_len};
 ghost use Rattle.gc_netlist.specs.Circuit.{and_count, input_wires, output_wires};
 ghost use Rattle.gc_netlist.specs.Solution.{on_outputs};
 ghost use Rattle.gc_circuit.specs.Meaning.{AreOutputs};
-ghost use Rattle.gc_job.specs.Evaluate.{labels_of, AreActive, IsDecoded, IsEvaluated};
+ghost use Rattle.gc_job.specs.Evaluate.{AreActive, IsDecoded, IsEvaluated};
 ghost use Rattle.gc_job.specs.Honest.{IsHonest};
 
 use crate::decode::decoded;
@@ -12,24 +12,9 @@ use crate::fault::EvalFault;
 use crate::job::Job;
 use crate::table::LabelTable;
 use gc_circuit::{Circuit, Memory};
-use gc_half::RowPair;
+use gc_half::{RowPair, input_active_labels};
 use gc_label::Label;
 use std::alloc::Allocator;
-
-/// The labels of the input wires, and zero labels in the places of the other wires.
-fn input_table<A: Allocator + Copy>(
-    alloc: A,
-    wires: u32,
-    inputs: &[Label],
-) -> Result<Vec<Label, A>, Memory>
-    requires { length inputs.now ≤ wires }
-    ensures { IfOk result (λ v. v.items ≡ map (labels_of inputs.now) (range_with_len 0 wires)) }
-{
-    let mut table = Vec::with_capacity(alloc, wires as usize)?;
-    table.extend_from_slice(inputs)?;
-    table.resize(wires as usize, Label::ZERO)?;
-    Ok(table)
-}
 
 /// The active labels on all wires, from those on the input wires: zero on a wire that is not set.
 fn active_labels<A: Allocator + Copy, C: Allocator>(
@@ -42,7 +27,7 @@ fn active_labels<A: Allocator + Copy, C: Allocator>(
     requires inputs { length inputs.now ≡ input_wires circuit.now }
     ensures { IfOk result (λ v. AreActive circuit.now rows.now inputs.now v.items) }
 {
-    let mut active = LabelTable::new(input_table(alloc, circuit.wires(), inputs)?);
+    let mut active = LabelTable::new(input_active_labels(alloc, circuit.wires(), inputs)?);
     let mut and_number = 0;
     for i in 0..circuit.gates() {
         let gate = circuit.gate(i);

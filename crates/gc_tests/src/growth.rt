@@ -4,8 +4,8 @@ use gc_circuit::{
     Circuit, Gate, Memory, Operation, ReadFault, ValueFault, fits, plain_eval, read_value,
     show_value,
 };
-use gc_half::{garble_one_thread, input_zero_labels};
-use gc_label::Seed;
+use gc_half::{garble_one_thread, input_active_labels, input_zero_labels};
+use gc_label::{Label, Seed};
 use gc_refusing::Refusing;
 use gc_worked::circuits::{ADDER_DIGEST, FULL_ADDER, one_zero_one};
 use gc_worked::growths::{Answer, plain_if, runs_refused};
@@ -100,6 +100,21 @@ fn the_table_that_garbling_begins_with(rt: HostRuntime) -> Result<(), Fail> {
         },
     );
     assert_eq!(rt; (table.len(), refused), (8, Ok(1)));
+    Ok(())
+}
+
+#[test]
+fn the_table_that_evaluation_begins_with(rt: HostRuntime) -> Result<(), Fail> {
+    let (one, other) = (Label::from_bytes([1; 16]), Label::from_bytes([2; 16]));
+    let table = [one, other, Label::ZERO, Label::ZERO, Label::ZERO];
+    let refused = runs_refused(
+        rt.alloc(),
+        |heap| match input_active_labels(heap, 5, &[one, other]) {
+            Ok(same) => plain_if(same.as_slice() == table.as_slice()),
+            Err(Memory) => Answer::Memory,
+        },
+    );
+    assert_eq!(rt; refused, Ok(1));
     Ok(())
 }
 

@@ -6,15 +6,14 @@ use Rattle.gc_netlist.specs.Solution.{solution, values_after}
 use Rattle.gc_half.specs.Hash.{hash}
 use Rattle.gc_half.specs.Evaluation.{active_of, active_rule, row_at}
 use Rattle.gc_half.proofs.CircuitLaw.{active_local}
-use Rattle.gc_half.proofs.AndNumbers.{and_number-and, and_number-other}
+use Rattle.gc_half.proofs.AndNumbers.{and_number-and, and_number-other, and_number-below}
 use Rattle.gc_job.specs.Evaluate.{labels_of}
-use Rattle.gc_job.proofs.AndNumberLemmas.{and_number-below}
 use Rattle.gc_job.proofs.one_thread.active_labels.Goals as goal
 use Rattle.gc_job.proofs.one_thread.active_labels.Goals.{then-is_and, else-is_and}
 
 pub loop-i-init : goal.loop-i-init
 loop-i-init g c = record {
-  labels = c.new-active.ensures.labels ∙ c.in_ok-input_table.ensures
+  labels = c.new-active.ensures.labels ∙ c.in_ok-input_active_labels.ensures
       ∙ rw (
         c.wires.ensures.count,
         after-zero (active_rule hash c.args.circuit.now c.args.rows.now) c.args.circuit.now
