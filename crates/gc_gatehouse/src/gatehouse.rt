@@ -6,6 +6,13 @@ pub trait Gatehouse {
     fn before(&self, worker: u32, gate: u32);
 }
 
+/// Tells of all gates of a file in turn, of which there are so many, as worker 0.
+pub fn tell_all<H: Gatehouse>(house: &H, gates: u32) {
+    for gate in 0..gates {
+        house.before(0, gate);
+    }
+}
+
 /// A gatehouse that lets every worker pass.
 #[derive(Clone, Copy, Debug)]
 pub struct Open;

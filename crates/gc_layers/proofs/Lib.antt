@@ -1,1 +1,3 @@
+pub mod EvaluatorLemmas
+pub mod GarblerLemmas
 pub mod LayerLemmas

@@ -1,57 +1,55 @@
-//! Blocks of AND gates that are garbled together.
+//! Blocks of AND gates that are made together.
 
-ghost use Rattle.std.specs.Prelude.{◌≡◌, ◌≤◌, ◌*◌, ◌↔◌, OnOk, IsTrue, length};
-ghost use Rattle.gc_layers.specs.Layer.{ArePairs};
+ghost use Rattle.std.specs.Prelude.{◌≡◌, ◌≤◌, ◌↔◌, OnOk, IsTrue, length};
+ghost use Rattle.gc_layers.specs.Layer.{AreMade};
 
-use crate::waiting::{Garbled, Waiting, are_same, garble_pairs};
+use crate::pending::Pending;
 use gc_circuit::Memory;
 use gc_gatehouse::Gatehouse;
 use std::alloc::Allocator;
 use std::marker::Model;
-use std::thread::Threads;
 
 /// How many gates a block has at the most.
 pub(crate) const BLOCK: usize = 32;
 
-/// At most [`BLOCK`] AND gates that are garbled together, and room for what garbling them gives.
+/// At most [`BLOCK`] AND gates that are made together, and room for what making them gives.
 #[derive(Drop)]
-pub(crate) struct Block<A: Allocator> {
+pub(crate) struct Block<P: Pending, A: Allocator> {
     // The slot where its gates are kept too.
     number: usize,
-    gates: Vec<Waiting, A>,
-    pairs: Vec<(Garbled, Garbled), A>,
+    gates: Vec<P, A>,
+    made: Vec<P::Made, A>,
 }
 
-impl<A: Allocator> Model for Block<A> {
+impl<P: Pending, A: Allocator> Model for Block<P, A> {
     ghost use Rattle.std.specs.Prelude.{List, ◌≡◌, ◌≤◌, length};
-    ghost use Rattle.gc_layers.specs.declared.waiting.Waiting.{Waiting};
 
-    ghost Value = { List Waiting };
+    ghost Value = { List P };
 
     ghost view = { λ t. t.gates.items };
 
-    ghost invariant = { λ t. (length t.gates.items ≤ 32) × (length t.pairs.items ≡ 16) };
+    ghost invariant = { λ t. (length t.gates.items ≤ 32) × (length t.made.items ≡ 32) };
 }
 
-impl<A: Allocator + Copy> Block<A> {
+impl<P: Pending, A: Allocator + Copy> Block<P, A> {
     /// A block without gates.
-    pub(crate) fn open(alloc: A) -> Result<Block<A>, Memory> {
+    pub(crate) fn open(alloc: A) -> Result<Block<P, A>, Memory> {
         Ok(Block {
             number: 0,
             gates: Vec::with_capacity(alloc, BLOCK)?,
-            pairs: Vec::from_elem(alloc, (Garbled::NONE, Garbled::NONE), BLOCK / 2)?,
+            made: Vec::from_elem(alloc, P::nothing(), BLOCK)?,
         })
     }
 }
 
-impl<A: Allocator> Block<A> {
+impl<P: Pending, A: Allocator> Block<P, A> {
     /// The slot where its gates are kept too.
     pub(crate) fn number(&self) -> usize {
         self.number
     }
 
     /// Puts gates in place of those that it has.
-    pub(crate) fn fill(&mut self, number: usize, gates: &[Waiting]) -> Result<(), Memory>
+    pub(crate) fn fill(&mut self, number: usize, gates: &[P]) -> Result<(), Memory>
         requires { length gates.now ≤ 32 }
         ensures { OnOk result (self.new ≡ gates.now) }
     {
@@ -64,92 +62,86 @@ impl<A: Allocator> Block<A> {
         Ok(())
     }
 
-    /// Garbles its gates, of which a worker tells the house first.
-    pub(crate) fn seal<H: Gatehouse, R: Threads + Sync>(
-        self,
-        rt: &R,
-        house: &H,
-        worker: u32,
-    ) -> Sealed<A>
+    /// Makes its gates, of which a worker tells the house first.
+    pub(crate) fn seal<H: Gatehouse>(self, house: &H, worker: u32) -> Sealed<P, A>
         ensures { result ≡ self }
     {
         let Block {
             number,
             gates,
-            mut pairs,
+            mut made,
         } = self;
         for gate in &gates {
-            house.before(worker, gate.place);
+            house.before(worker, gate.place());
         }
-        garble_pairs(rt, &gates, &mut pairs);
+        P::make_all(&gates, &mut made);
         Sealed {
             number,
             gates,
-            pairs,
+            made,
         }
     }
 }
 
-/// A block whose gates are garbled. A contract sees the gates, which the rest follows from.
+/// A block whose gates are made. A contract sees the gates, which the rest follows from.
 #[derive(Drop)]
-pub(crate) struct Sealed<A: Allocator> {
+pub(crate) struct Sealed<P: Pending, A: Allocator> {
     number: usize,
-    gates: Vec<Waiting, A>,
-    pairs: Vec<(Garbled, Garbled), A>,
+    gates: Vec<P, A>,
+    made: Vec<P::Made, A>,
 }
 
-impl<A: Allocator> Model for Sealed<A> {
+impl<P: Pending, A: Allocator> Model for Sealed<P, A> {
     ghost use Rattle.std.specs.Prelude.{List, ◌≡◌, ◌≤◌, length};
-    ghost use Rattle.gc_layers.specs.declared.waiting.Waiting.{Waiting};
-    ghost use Rattle.gc_layers.specs.Layer.{ArePairs};
+    ghost use Rattle.gc_layers.specs.Layer.{AreMade};
 
-    ghost Value = { List Waiting };
+    ghost Value = { List P };
 
     ghost view = { λ t. t.gates.items };
 
-    ghost invariant = { λ t. (length t.gates.items ≤ 32) × (length t.pairs.items ≡ 16)
-        × ArePairs t.gates.items t.pairs.items };
+    ghost invariant = { λ t. (length t.gates.items ≤ 32) × (length t.made.items ≡ 32)
+        × AreMade P.made_of t.gates.items t.made.items };
 }
 
-impl<A: Allocator> Sealed<A> {
+impl<P: Pending, A: Allocator> Sealed<P, A> {
     /// The slot where its gates are kept too.
     pub(crate) fn number(&self) -> usize {
         self.number
     }
 
     /// Whether these are its gates.
-    pub(crate) fn is_of(&self, gates: &[Waiting]) -> bool
+    pub(crate) fn is_of(&self, gates: &[P]) -> bool
         ensures { IsTrue result ↔ (self.now ≡ gates.now) }
     {
-        are_same(&self.gates, gates)
+        P::are_same(&self.gates, gates)
     }
 
     /// Its gates.
-    pub(crate) fn gates(&self) -> &[Waiting]
+    pub(crate) fn gates(&self) -> &[P]
         ensures { result.now ≡ self.now }
     {
         &self.gates
     }
 
-    /// What garbling its gates gave, by pairs.
-    pub(crate) fn pairs(&self) -> &[(Garbled, Garbled)]
-        ensures room { length self.now ≤ 2 * length result.now }
-        ensures pairs { ArePairs self.now result.now }
+    /// What making its gates gave.
+    pub(crate) fn made(&self) -> &[P::Made]
+        ensures room { length self.now ≤ length result.now }
+        ensures made { AreMade P.made_of self.now result.now }
     {
-        &self.pairs
+        &self.made
     }
 
     /// The block, to be filled anew.
-    pub(crate) fn into_block(self) -> Block<A> {
+    pub(crate) fn into_block(self) -> Block<P, A> {
         let Sealed {
             number,
             gates,
-            pairs,
+            made,
         } = self;
         Block {
             number,
             gates,
-            pairs,
+            made,
         }
     }
 }

@@ -1,40 +1,39 @@
-//! The threads that garble blocks, as the one sees them that goes from gate to gate.
+//! The threads that make blocks, as the one sees them that goes from gate to gate.
 
 ghost use Rattle.std.specs.Prelude.{◌≡◌, ◌≤◌, IfOk, length};
 
 use crate::block::{Block, Sealed};
 use crate::exchange::{Exchange, Finding};
-use crate::waiting::Waiting;
+use crate::pending::Pending;
 use gc_circuit::Memory;
 use gc_gatehouse::Gatehouse;
 use std::alloc::Allocator;
 use std::sync::Wait;
-use std::thread::Threads;
 
 /// Others may soon want for blocks where they have fewer than so many.
 const FEW: usize = 8;
 
-/// Blocks that others garble, or that are garbled here, by worker 0.
+/// Blocks that others make, or that are made here, by worker 0.
 #[derive(Drop)]
-pub(crate) struct Crew<'e, A: Allocator, H: Gatehouse> {
+pub(crate) struct Crew<'e, P: Pending, A: Allocator, H: Gatehouse> {
     alloc: A,
-    exchange: &'e Exchange<A>,
+    exchange: &'e Exchange<P, A>,
     house: &'e H,
     is_alone: bool,
     // How many blocks were offered and aren't back.
     out: usize,
     // Blocks that nothing is in.
-    free: Vec<Block<A>, A>,
+    free: Vec<Block<P, A>, A>,
 }
 
-impl<'e, A: Allocator + Copy, H: Gatehouse> Crew<'e, A, H> {
+impl<'e, P: Pending, A: Allocator + Copy, H: Gatehouse> Crew<'e, P, A, H> {
     /// A crew of the calling thread and those that take blocks of the exchange, if there are any.
     pub(crate) fn open(
         alloc: A,
-        exchange: &'e Exchange<A>,
+        exchange: &'e Exchange<P, A>,
         house: &'e H,
         is_alone: bool,
-    ) -> Result<Crew<'e, A, H>, Memory> {
+    ) -> Result<Crew<'e, P, A, H>, Memory> {
         Ok(Crew {
             alloc,
             exchange,
@@ -61,14 +60,14 @@ impl<'e, A: Allocator + Copy, H: Gatehouse> Crew<'e, A, H> {
         self.out == 0
     }
 
-    /// Tells the house of a gate that is garbled as it comes.
+    /// Tells the house of a gate that is made as it comes.
     #[inline]
     pub(crate) fn tell(&self, gate: u32) {
         self.house.before(0, gate);
     }
 
     /// A block with these gates.
-    fn filled(&mut self, number: usize, gates: &[Waiting]) -> Result<Block<A>, Memory>
+    fn filled(&mut self, number: usize, gates: &[P]) -> Result<Block<P, A>, Memory>
         requires { length gates.now ≤ 32 }
         ensures { IfOk result (λ b. b ≡ gates.now) }
     {
@@ -85,7 +84,7 @@ impl<'e, A: Allocator + Copy, H: Gatehouse> Crew<'e, A, H> {
         &mut self,
         rt: &R,
         number: usize,
-        gates: &[Waiting],
+        gates: &[P],
     ) -> Result<bool, Memory>
         requires { length gates.now ≤ 32 }
     {
@@ -97,36 +96,32 @@ impl<'e, A: Allocator + Copy, H: Gatehouse> Crew<'e, A, H> {
         Ok(has_room)
     }
 
-    /// The garbling of these gates, which is made here.
-    pub(crate) fn seal<R: Threads + Sync>(
-        &mut self,
-        rt: &R,
-        gates: &[Waiting],
-    ) -> Result<Sealed<A>, Memory>
+    /// These gates, made here.
+    pub(crate) fn seal(&mut self, gates: &[P]) -> Result<Sealed<P, A>, Memory>
         requires { length gates.now ≤ 32 }
         ensures { IfOk result (λ s. s ≡ gates.now) }
     {
         let block = self.filled(0, gates)?;
-        Ok(block.seal(rt, self.house, 0))
+        Ok(block.seal(self.house, 0))
     }
 
     /// A block that came back, if one did.
-    pub(crate) fn returned<R: Wait>(&mut self, rt: &R) -> Option<Sealed<A>> {
+    pub(crate) fn returned<R: Wait>(&mut self, rt: &R) -> Option<Sealed<P, A>> {
         let sealed = self.exchange.returned(rt)?;
         self.out = self.out.saturating_sub(1);
         Some(sealed)
     }
 
-    /// A block that was offered and that nobody took, garbled here.
-    pub(crate) fn taken_back<R: Threads + Wait + Sync>(&mut self, rt: &R) -> Option<Sealed<A>> {
+    /// A block that was offered and that nobody took, made here.
+    pub(crate) fn taken_back<R: Wait>(&mut self, rt: &R) -> Option<Sealed<P, A>> {
         let block = self.exchange.taken(rt)?;
         self.out = self.out.saturating_sub(1);
-        Some(block.seal(rt, self.house, 0))
+        Some(block.seal(self.house, 0))
     }
 
-    /// The next block that comes back, which is waited for; or else one that was offered, garbled here. There is none
+    /// The next block that comes back, which is waited for; or else one that was offered, made here. There is none
     /// where no block is with others.
-    pub(crate) fn awaited<R: Threads + Wait + Sync>(&mut self, rt: &R) -> Option<Sealed<A>> {
+    pub(crate) fn awaited<R: Wait>(&mut self, rt: &R) -> Option<Sealed<P, A>> {
         if self.out == 0 {
             return None;
         }
@@ -137,12 +132,12 @@ impl<'e, A: Allocator + Copy, H: Gatehouse> Crew<'e, A, H> {
         self.out = self.out.saturating_sub(1);
         match finding {
             Finding::Sealed(sealed) => Some(sealed),
-            Finding::Offered(block) => Some(block.seal(rt, self.house, 0)),
+            Finding::Offered(block) => Some(block.seal(self.house, 0)),
         }
     }
 
-    /// Takes a block back when its garbling isn't needed any more.
-    pub(crate) fn release(&mut self, sealed: Sealed<A>) {
+    /// Takes a block back when what was made isn't needed any more.
+    pub(crate) fn release(&mut self, sealed: Sealed<P, A>) {
         let _ = self.free.push(sealed.into_block());
     }
 }

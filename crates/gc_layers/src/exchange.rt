@@ -1,13 +1,13 @@
 //! Blocks that threads hand to each other.
 
 use crate::block::{Block, Sealed};
+use crate::pending::Pending;
 use crossbeam_queue::ArrayQueue;
 use gc_circuit::Memory;
 use gc_gatehouse::Gatehouse;
 use std::alloc::Allocator;
 use std::hint::spin_loop;
 use std::sync::{Condvar, Mutex, Wait};
-use std::thread::Threads;
 
 /// How often a thread looks for a block before it asks whether more will come,
 const TRIES: u32 = 64;
@@ -18,7 +18,7 @@ const ROUNDS: u32 = 16;
 /// How long a thread pauses between two looks, in turns of a loop.
 const PAUSE: u32 = 8;
 
-/// What those are told who find no block to garble.
+/// What those are told who find no block to be made.
 #[derive(Drop)]
 struct Offers {
     // No more blocks will come.
@@ -27,7 +27,7 @@ struct Offers {
     sleeping: u32,
 }
 
-/// What the thread is told that finds no block garbled.
+/// What the thread is told that finds no block that is made.
 #[derive(Drop)]
 struct Returns {
     // A block was lost for want of room.
@@ -36,13 +36,13 @@ struct Returns {
     is_awaited: bool,
 }
 
-/// Where the thread that goes from gate to gate offers blocks, and others take them and hand them in garbled. The locks
+/// Where the thread that goes from gate to gate offers blocks, and others take them and hand them in when they are made. The locks
 /// are round what they tell each other, and not round the blocks; there is one for either way, so that handing in
 /// doesn't wait for offering.
 #[derive(Drop)]
-pub(crate) struct Exchange<A: Allocator> {
-    offered: ArrayQueue<Block<A>, A>,
-    sealed: ArrayQueue<Sealed<A>, A>,
+pub(crate) struct Exchange<P: Pending, A: Allocator> {
+    offered: ArrayQueue<Block<P, A>, A>,
+    sealed: ArrayQueue<Sealed<P, A>, A>,
     offers: Mutex<Offers>,
     returns: Mutex<Returns>,
     has_offered: Condvar,
@@ -51,11 +51,11 @@ pub(crate) struct Exchange<A: Allocator> {
 
 /// What a thread finds.
 #[derive(Drop)]
-pub(crate) enum Finding<A: Allocator> {
-    /// A block that is garbled.
-    Sealed(Sealed<A>),
-    /// A block to be garbled.
-    Offered(Block<A>),
+pub(crate) enum Finding<P: Pending, A: Allocator> {
+    /// A block that is made.
+    Sealed(Sealed<P, A>),
+    /// A block to be made.
+    Offered(Block<P, A>),
 }
 
 /// Pauses for a little while.
@@ -65,9 +65,9 @@ fn pause() {
     }
 }
 
-impl<A: Allocator + Copy> Exchange<A> {
+impl<P: Pending, A: Allocator + Copy> Exchange<P, A> {
     /// An exchange with room for so many blocks, and for one at least.
-    pub(crate) fn open(alloc: A, blocks: usize) -> Result<Exchange<A>, Memory> {
+    pub(crate) fn open(alloc: A, blocks: usize) -> Result<Exchange<P, A>, Memory> {
         let room = blocks.max(1);
         Ok(Exchange {
             offered: ArrayQueue::new(alloc, room)?,
@@ -86,9 +86,9 @@ impl<A: Allocator + Copy> Exchange<A> {
     }
 }
 
-impl<A: Allocator> Exchange<A> {
+impl<P: Pending, A: Allocator> Exchange<P, A> {
     /// Offers a block. The answer is whether there was room for it.
-    pub(crate) fn offer(&self, rt: &impl Wait, block: Block<A>) -> bool {
+    pub(crate) fn offer(&self, rt: &impl Wait, block: Block<P, A>) -> bool {
         let has_room = self.offered.push(rt, block).is_ok();
         let sleeping = self.offers.lock(rt).sleeping;
         if sleeping > 0 {
@@ -97,8 +97,8 @@ impl<A: Allocator> Exchange<A> {
         has_room
     }
 
-    /// Hands a garbled block in.
-    fn hand_in(&self, rt: &impl Wait, sealed: Sealed<A>) {
+    /// Hands a block in that is made.
+    fn hand_in(&self, rt: &impl Wait, sealed: Sealed<P, A>) {
         let has_room = self.sealed.push(rt, sealed).is_ok();
         let mut returns = self.returns.lock(rt);
         if !has_room {
@@ -111,18 +111,18 @@ impl<A: Allocator> Exchange<A> {
         }
     }
 
-    /// A block that is garbled, if there is one.
-    pub(crate) fn returned<R: Wait>(&self, rt: &R) -> Option<Sealed<A>> {
+    /// A block that is made, if there is one.
+    pub(crate) fn returned<R: Wait>(&self, rt: &R) -> Option<Sealed<P, A>> {
         self.sealed.pop(rt)
     }
 
-    /// A block to garble, if there is one.
-    pub(crate) fn taken<R: Wait>(&self, rt: &R) -> Option<Block<A>> {
+    /// A block to be made, if there is one.
+    pub(crate) fn taken<R: Wait>(&self, rt: &R) -> Option<Block<P, A>> {
         self.offered.pop(rt)
     }
 
-    /// A block that is garbled, or else one to garble.
-    fn find<R: Wait>(&self, rt: &R) -> Option<Finding<A>> {
+    /// A block that is made, or else one to garble.
+    fn find<R: Wait>(&self, rt: &R) -> Option<Finding<P, A>> {
         if let Some(sealed) = self.sealed.pop(rt) {
             return Some(Finding::Sealed(sealed));
         }
@@ -131,7 +131,7 @@ impl<A: Allocator> Exchange<A> {
     }
 
     /// Looks for a block, and waits while there is none. None says that one was lost.
-    pub(crate) fn look<R: Wait>(&self, rt: &R) -> Option<Finding<A>> {
+    pub(crate) fn look<R: Wait>(&self, rt: &R) -> Option<Finding<P, A>> {
         for _i in 0..TRIES * ROUNDS {
             let finding = self.find(rt);
             if finding.is_some() {
@@ -143,7 +143,7 @@ impl<A: Allocator> Exchange<A> {
     }
 
     /// The same, and it sleeps while it waits.
-    fn look_or_sleep<R: Wait>(&self, rt: &R) -> Option<Finding<A>> {
+    fn look_or_sleep<R: Wait>(&self, rt: &R) -> Option<Finding<P, A>> {
         let mut returns = self.returns.lock(rt);
         for _ in rt.forever() {
             let finding = self.find(rt);
@@ -157,8 +157,8 @@ impl<A: Allocator> Exchange<A> {
         unreachable!()
     }
 
-    /// A block to garble, where one comes soon.
-    fn try_take<R: Wait>(&self, rt: &R) -> Option<Block<A>> {
+    /// A block to be made, where one comes soon.
+    fn try_take<R: Wait>(&self, rt: &R) -> Option<Block<P, A>> {
         for _i in 0..TRIES {
             if let Some(block) = self.offered.pop(rt) {
                 return Some(block);
@@ -168,8 +168,8 @@ impl<A: Allocator> Exchange<A> {
         None
     }
 
-    /// A block to garble. None says that no more will come.
-    fn take<R: Wait>(&self, rt: &R) -> Option<Block<A>> {
+    /// A block to be made. None says that no more will come.
+    fn take<R: Wait>(&self, rt: &R) -> Option<Block<P, A>> {
         for _i in 0..ROUNDS {
             if let Some(block) = self.try_take(rt) {
                 return Some(block);
@@ -182,7 +182,7 @@ impl<A: Allocator> Exchange<A> {
     }
 
     /// The same, and it sleeps while it waits.
-    fn take_or_sleep<R: Wait>(&self, rt: &R) -> Option<Block<A>> {
+    fn take_or_sleep<R: Wait>(&self, rt: &R) -> Option<Block<P, A>> {
         let mut offers = self.offers.lock(rt);
         for _ in rt.forever() {
             let block = self.offered.pop(rt);
@@ -196,18 +196,13 @@ impl<A: Allocator> Exchange<A> {
         unreachable!()
     }
 
-    /// Garbles what is offered, as the worker of this number, until no more will come.
-    pub(crate) fn help<H: Gatehouse, R: Threads + Wait + Sync>(
-        &self,
-        rt: &R,
-        house: &H,
-        worker: u32,
-    ) {
+    /// Makes what is offered, as the worker of this number, until no more will come.
+    pub(crate) fn help<H: Gatehouse, R: Wait>(&self, rt: &R, house: &H, worker: u32) {
         for _ in rt.forever() {
             let Some(block) = self.take(rt) else {
                 return;
             };
-            self.hand_in(rt, block.seal(rt, house, worker));
+            self.hand_in(rt, block.seal(house, worker));
         }
     }
 

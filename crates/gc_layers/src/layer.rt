@@ -1,90 +1,85 @@
-//! A garbling that is partly there, while gates wait.
+//! A labelling that is partly there, while gates wait.
 
 ghost use Rattle.std.specs.Prelude.{◌≡◌, ℕ, ◌<◌, ◌≤◌, IfOk, Some, None, All, length, take, drop, slice_get, slice_index_or};
-ghost use Rattle.gc_netlist.specs.Circuit.{EachRead, input_wires};
-ghost use Rattle.gc_half.specs.Garbling.{IsGarbled};
-ghost use Rattle.gc_half.specs.Canonical.{zero_label_of};
+ghost use Rattle.gc_netlist.specs.Circuit.{EachRead, IsLawful, input_wires};
 ghost use Rattle.gc_layers.specs.declared.mark.Mark.TheVariants.{Absent, There};
-ghost use Rattle.gc_layers.specs.Layer.{IsPlace, IsGate, garbled_of};
+ghost use Rattle.gc_layers.specs.Layer.{AreLabels, AreMade, IsLabelled, IsPlace};
 
 use crate::block::{BLOCK, Sealed};
 use crate::crew::Crew;
+use crate::labelling::Labelling;
 use crate::mark::Mark;
+use crate::pending::Pending;
 use crate::place::Place;
 use crate::postponed::Postponed;
-use crate::rest::garble_rest;
-use crate::waiting::{Garbled, Waiting, garbled_at};
 use gc_circuit::{Circuit, Gate, Memory, Operation};
 use gc_gatehouse::Gatehouse;
-use gc_half::{Garbling, RowPair, garble_gate, input_zero_labels, labels_read};
-use gc_label::{Label, Offset, Seed, offset};
+use gc_half::labels_read;
+use gc_label::Label;
 use std::alloc::Allocator;
 use std::marker::Model;
 use std::sync::Wait;
-use std::thread::Threads;
 
 /// The most blocks that are with others.
 pub(crate) const SLOTS: usize = 64;
 
-/// The most gates that are postponed where several threads garble blocks. One thread garbles those that wait as soon as a
-/// gate is postponed, since a longer block saves it nothing.
+/// The most gates that are postponed where several threads make blocks. One thread makes those that wait as soon as a gate
+/// is postponed, since a longer block saves it nothing.
 const MOST_POSTPONED: u16 = 512;
 
-/// The garbling of a circuit under a seed, as far as it is there: a wire without a label has zero, and so has an AND gate
-/// without a row pair. AND gates that read labels which are there wait to be garbled together: they are a layer. Gates
-/// that read a wire without a label are postponed until the layer is garbled.
+/// A label for each wire of a circuit, as far as they are there: a wire without a label has zero. AND gates that read
+/// labels which are there wait to be made together: they are a layer. Gates that read a wire without a label are postponed
+/// until it has one.
 #[derive(Drop)]
-pub(crate) struct Layer<'c, A: Allocator, C: Allocator> {
+pub(crate) struct Layer<'c, P: Pending, L: Labelling<P>, A: Allocator, C: Allocator> {
     circuit: &'c Circuit<C>,
-    seed: &'c Seed,
-    offset: Offset,
+    labelling: L,
     // By wire.
-    zero_labels: Vec<Label, A>,
+    labels: Vec<Label, A>,
     // By wire: whether its label is there, which may be zero too.
     marks: Vec<Mark, A>,
-    // By AND number.
-    rows: Vec<RowPair, A>,
     // Fewer than a block has.
-    waiting: Vec<Waiting, A>,
+    waiting: Vec<P, A>,
     // The gates of blocks that are with others, each in a slot of its own.
-    lent: Vec<Waiting, A>,
+    lent: Vec<P, A>,
     // Slots whose blocks are back.
     free: Vec<usize, A>,
     postponed: Postponed<'c, A, C>,
 }
 
-impl<'c, A: Allocator, C: Allocator> Model for Layer<'c, A, C> {
-    ghost use Rattle.gc_layers.specs.Layer.{LayerParts, IsLayer};
+impl<'c, P: Pending, L: Labelling<P>, A: Allocator, C: Allocator> Model for Layer<'c, P, L, A, C> {
+    ghost use Rattle.gc_layers.specs.Layer.{IsLayer};
 
-    ghost Value = { LayerParts };
+    ghost Value = { L };
 
-    ghost view = { λ t. record { circuit = t.circuit.now; seed = t.seed.now } };
+    ghost view = { λ t. t.labelling };
 
-    ghost invariant = { λ t. IsLayer (record { circuit = t.circuit.now; seed = t.seed.now }) t.offset
-        t.zero_labels.items t.marks.items t.rows.items t.waiting.items t.lent.items t.postponed };
+    ghost invariant = { λ t. IsLayer (L.circuit_of t.labelling) (L.label_of t.labelling) (L.is_pending t.labelling)
+        t.circuit.now t.labels.items t.marks.items t.waiting.items t.lent.items t.postponed };
 }
 
-impl<'c, A: Allocator + Copy, C: Allocator> Layer<'c, A, C> {
-    /// The labels of the input wires under a seed, and no gate. It takes all the memory that is needed.
+impl<'c, P: Pending, L: Labelling<P>, A: Allocator + Copy, C: Allocator> Layer<'c, P, L, A, C> {
+    /// A labelling of which these labels are there, those of the input wires among them, and no gate waits. It takes all
+    /// the memory that is needed.
     pub(crate) fn open(
         alloc: A,
         circuit: &'c Circuit<C>,
-        seed: &'c Seed,
+        labelling: L,
+        labels: Vec<Label, A>,
         is_shared: bool,
-    ) -> Result<Layer<'c, A, C>, Memory>
-        ensures { IfOk result (λ l. l ≡ record { circuit = circuit.now; seed = seed.now }) }
+    ) -> Result<Layer<'c, P, L, A, C>, Memory>
+        requires circuit { L.circuit_of labelling ≡ circuit.now }
+        requires labels { AreLabels circuit.now (L.label_of labelling) 0 labels.items }
+        ensures { IfOk result (λ l. l ≡ labelling) }
     {
-        let ands = circuit.and_count() as usize;
         let most_postponed = if is_shared { MOST_POSTPONED } else { 1 };
         let slots = if is_shared { SLOTS } else { 0 };
         let _ = circuit.gates();
         Ok(Layer {
             circuit,
-            seed,
-            offset: offset(seed),
-            zero_labels: input_zero_labels(alloc, circuit, seed)?,
+            labelling,
+            labels,
             marks: input_marks(alloc, circuit)?,
-            rows: Vec::from_elem(alloc, Garbled::NONE.rows, ands)?,
             waiting: Vec::with_capacity(alloc, BLOCK)?,
             lent: Vec::with_capacity(alloc, slots * BLOCK)?,
             free: Vec::with_capacity(alloc, slots)?,
@@ -93,10 +88,10 @@ impl<'c, A: Allocator + Copy, C: Allocator> Layer<'c, A, C> {
     }
 
     /// Goes from gate to gate.
-    pub(crate) fn pass<H: Gatehouse, R: Threads + Wait + Sync>(
+    pub(crate) fn pass<H: Gatehouse, R: Wait>(
         &mut self,
         rt: &R,
-        crew: &mut Crew<'_, A, H>,
+        crew: &mut Crew<'_, P, A, H>,
     ) -> Result<(), Memory>
         ensures { self.new ≡ self.old }
     {
@@ -114,10 +109,10 @@ impl<'c, A: Allocator + Copy, C: Allocator> Layer<'c, A, C> {
     }
 
     /// Goes on until no gate waits.
-    pub(crate) fn finish<H: Gatehouse, R: Threads + Wait + Sync>(
+    pub(crate) fn finish<H: Gatehouse, R: Wait>(
         &mut self,
         rt: &R,
-        crew: &mut Crew<'_, A, H>,
+        crew: &mut Crew<'_, P, A, H>,
     ) -> Result<(), Memory>
         ensures { self.new ≡ self.old }
     {
@@ -130,33 +125,31 @@ impl<'c, A: Allocator + Copy, C: Allocator> Layer<'c, A, C> {
         unreachable!()
     }
 
-    /// The garbling, whole: gates that no layer had are garbled one after another.
-    pub(crate) fn into_garbling<H: Gatehouse>(self, crew: &Crew<'_, A, H>) -> Garbling<A>
-        ensures { IsGarbled self.entry.circuit self.entry.seed result }
+    /// The labelling, the labels and their marks.
+    pub(crate) fn into_parts(self) -> (L, Vec<Label, A>, Vec<Mark, A>)
+        ensures labelling { result.0 ≡ self.entry }
+        ensures labels { IsLabelled (L.circuit_of self.entry) (L.label_of self.entry) result.1.items result.2.items }
     {
         let Layer {
-            circuit,
-            seed,
-            offset: _,
-            mut zero_labels,
+            circuit: _,
+            labelling,
+            labels,
             marks,
-            mut rows,
             waiting: _,
             lent: _,
             free: _,
             postponed: _,
         } = self;
-        garble_rest(crew, circuit, seed, &marks, &mut zero_labels, &mut rows);
-        Garbling::from_parts(zero_labels, rows, circuit.output_wires())
+        (labelling, labels, marks)
     }
 
     /// Hands the gates out that wait, where they are a block, visits those whose labels are there now, and makes room for
     /// more that are postponed.
     #[inline]
-    fn keep_up<H: Gatehouse, R: Threads + Wait + Sync>(
+    fn keep_up<H: Gatehouse, R: Wait>(
         &mut self,
         rt: &R,
-        crew: &mut Crew<'_, A, H>,
+        crew: &mut Crew<'_, P, A, H>,
     ) -> Result<(), Memory>
         ensures { self.new ≡ self.old }
     {
@@ -174,49 +167,42 @@ impl<'c, A: Allocator + Copy, C: Allocator> Layer<'c, A, C> {
 
     /// Whether the gates that wait are a block: half of one will do where the others may soon want for blocks.
     #[inline]
-    fn is_block<H: Gatehouse>(&self, crew: &Crew<'_, A, H>) -> bool {
+    fn is_block<H: Gatehouse>(&self, crew: &Crew<'_, P, A, H>) -> bool {
         let gates = self.waiting.len();
         gates >= BLOCK / 2 && (gates >= BLOCK || crew.is_short())
     }
 
-    /// Garbles a gate, or has it wait where it is AND, or postpones it where a label that it reads isn't there.
+    /// Labels a gate's wire, or has it wait where it is AND, or postpones it where a label that it reads isn't there.
     #[inline]
     fn visit<H: Gatehouse>(
         &mut self,
-        crew: &Crew<'_, A, H>,
+        crew: &Crew<'_, P, A, H>,
         place: Place,
         gate: Gate,
     ) -> Result<(), Memory>
-        requires place { IsPlace self.old.circuit place }
-        requires gate { slice_get self.old.circuit.gates place.gate ≡ Some gate }
+        requires place { IsPlace (L.circuit_of self.old) place }
+        requires gate { slice_get (L.circuit_of self.old).gates place.gate ≡ Some gate }
         ensures { self.new ≡ self.old }
     {
         if let Some(wire) = missing(&self.marks, gate.operation) {
             return self.postpone(place, wire);
         }
-        let (first, second) = labels_read(&self.zero_labels, gate.operation);
-        let offset = self.offset;
+        let (first, second) = labels_read(&self.labels, gate.operation);
         if gate.operation.is_and() {
-            self.wait(Waiting {
-                place: place.gate,
-                k: place.k,
-                set: gate.set,
-                offset,
-                a: first,
-                b: second,
-            })?;
+            let pending = self.labelling.pending(place, gate, first, second);
+            self.wait(pending)
         } else {
             crew.tell(place.gate);
-            let (label, _) = garble_gate(place.k, offset, gate.operation, first, second);
+            let label = self.labelling.free(place, gate, first, second);
             self.settle(gate.set, label);
+            Ok(())
         }
-        Ok(())
     }
 
     /// Postpones a gate until the label of a wire is there. Where too many are postponed it is left to the end.
     fn postpone(&mut self, place: Place, wire: u32) -> Result<(), Memory>
-        requires place { IsPlace self.old.circuit place }
-        requires wire { wire < self.old.circuit.wires }
+        requires place { IsPlace (L.circuit_of self.old) place }
+        requires wire { wire < (L.circuit_of self.old).wires }
         ensures { self.new ≡ self.old }
     {
         let rest = self.marks[wire as usize];
@@ -229,12 +215,12 @@ impl<'c, A: Allocator + Copy, C: Allocator> Layer<'c, A, C> {
     /// Puts the label of a wire where it belongs, and wakes the gates that wait for it.
     #[inline]
     fn settle(&mut self, wire: u32, label: Label)
-        requires wire { wire < self.old.circuit.wires }
-        requires label { label ≡ zero_label_of self.old.circuit self.old.seed wire }
+        requires wire { wire < (L.circuit_of self.old).wires }
+        requires label { label ≡ L.label_of self.old wire }
         ensures { self.new ≡ self.old }
     {
         let mark = self.marks[wire as usize];
-        self.zero_labels[wire as usize] = label;
+        self.labels[wire as usize] = label;
         self.marks[wire as usize] = Mark::There;
         if let Mark::Awaited(slot) = mark {
             self.postponed.wake(slot);
@@ -243,46 +229,42 @@ impl<'c, A: Allocator + Copy, C: Allocator> Layer<'c, A, C> {
 
     /// Has a gate wait.
     #[inline]
-    fn wait(&mut self, gate: Waiting) -> Result<(), Memory>
-        requires { IsGate self.old.circuit self.old.seed gate }
+    fn wait(&mut self, gate: P) -> Result<(), Memory>
+        requires { L.is_pending self.old gate }
         ensures { self.new ≡ self.old }
     {
         self.waiting.push(gate)?;
         Ok(())
     }
 
-    /// Offers the crew the gates that wait, as a block, or garbles them where all have enough to do.
-    fn hand_out<H: Gatehouse, R: Threads + Wait + Sync>(
+    /// Offers the crew the gates that wait, as a block, or makes them where all have enough to do.
+    fn hand_out<H: Gatehouse, R: Wait>(
         &mut self,
         rt: &R,
-        crew: &mut Crew<'_, A, H>,
+        crew: &mut Crew<'_, P, A, H>,
     ) -> Result<(), Memory>
         ensures { self.new ≡ self.old }
     {
         if crew.is_alone() {
-            return self.garble_waiting(rt, crew);
+            return self.make_waiting(crew);
         }
         self.take_back(rt, crew);
         let Some(slot) = self.keep()? else {
-            return self.garble_waiting(rt, crew);
+            return self.make_waiting(crew);
         };
         let gates = block_from(&self.waiting, 0, BLOCK);
         if !crew.offer(rt, slot, gates)? {
-            return self.garble_waiting(rt, crew);
+            return self.make_waiting(crew);
         }
         self.waiting.clear();
         Ok(())
     }
 
-    /// Garbles the gates that wait.
-    fn garble_waiting<H: Gatehouse, R: Threads + Wait + Sync>(
-        &mut self,
-        rt: &R,
-        crew: &mut Crew<'_, A, H>,
-    ) -> Result<(), Memory>
+    /// Makes the gates that wait.
+    fn make_waiting<H: Gatehouse>(&mut self, crew: &mut Crew<'_, P, A, H>) -> Result<(), Memory>
         ensures { self.new ≡ self.old }
     {
-        let sealed = crew.seal(rt, block_from(&self.waiting, 0, BLOCK))?;
+        let sealed = crew.seal(block_from(&self.waiting, 0, BLOCK))?;
         self.put_all(&sealed);
         crew.release(sealed);
         self.waiting.clear();
@@ -320,8 +302,8 @@ impl<'c, A: Allocator + Copy, C: Allocator> Layer<'c, A, C> {
 
     /// Adds a place to the slots.
     #[inline]
-    fn add(&mut self, gate: Waiting) -> Result<(), Memory>
-        requires { IsGate self.old.circuit self.old.seed gate }
+    fn add(&mut self, gate: P) -> Result<(), Memory>
+        requires { L.is_pending self.old gate }
         ensures { self.new ≡ self.old }
     {
         self.lent.push(gate)?;
@@ -342,8 +324,8 @@ impl<'c, A: Allocator + Copy, C: Allocator> Layer<'c, A, C> {
 
     /// Puts a gate at a place of the slots.
     #[inline]
-    fn lend(&mut self, place: usize, gate: Waiting)
-        requires { IsGate self.old.circuit self.old.seed gate }
+    fn lend(&mut self, place: usize, gate: P)
+        requires { L.is_pending self.old gate }
         ensures { self.new ≡ self.old }
     {
         if place < self.lent.len() {
@@ -352,11 +334,7 @@ impl<'c, A: Allocator + Copy, C: Allocator> Layer<'c, A, C> {
     }
 
     /// Takes the blocks that came back. The answer is whether there were any.
-    fn take_back<H: Gatehouse, R: Threads + Wait + Sync>(
-        &mut self,
-        rt: &R,
-        crew: &mut Crew<'_, A, H>,
-    ) -> bool
+    fn take_back<H: Gatehouse, R: Wait>(&mut self, rt: &R, crew: &mut Crew<'_, P, A, H>) -> bool
         ensures { self.new ≡ self.old }
     {
         let mut is_any = false;
@@ -370,8 +348,8 @@ impl<'c, A: Allocator + Copy, C: Allocator> Layer<'c, A, C> {
         is_any
     }
 
-    /// Takes a block that is garbled, where it is the one of its slot.
-    fn land<H: Gatehouse>(&mut self, crew: &mut Crew<'_, A, H>, sealed: Sealed<A>)
+    /// Takes a block that is made, where it is the one of its slot.
+    fn land<H: Gatehouse>(&mut self, crew: &mut Crew<'_, P, A, H>, sealed: Sealed<P, A>)
         ensures { self.new ≡ self.old }
     {
         let slot = sealed.number();
@@ -383,43 +361,43 @@ impl<'c, A: Allocator + Copy, C: Allocator> Layer<'c, A, C> {
         crew.release(sealed);
     }
 
-    /// Has a block garbled, by others or here, and visits the gates that waited for its labels.
-    fn advance<H: Gatehouse, R: Threads + Wait + Sync>(
+    /// Has a block made, by others or here, and visits the gates that waited for its labels.
+    fn advance<H: Gatehouse, R: Wait>(
         &mut self,
         rt: &R,
-        crew: &mut Crew<'_, A, H>,
+        crew: &mut Crew<'_, P, A, H>,
     ) -> Result<(), Memory>
         ensures { self.new ≡ self.old }
     {
         if !self.take_back(rt, crew) {
-            self.garble_one(rt, crew)?;
+            self.make_one(rt, crew)?;
         }
         self.revisit(rt, crew)
     }
 
-    /// Garbles a block that nobody took, or the gates that wait, or waits for a block.
-    fn garble_one<H: Gatehouse, R: Threads + Wait + Sync>(
+    /// Makes a block that nobody took, or the gates that wait, or waits for a block.
+    fn make_one<H: Gatehouse, R: Wait>(
         &mut self,
         rt: &R,
-        crew: &mut Crew<'_, A, H>,
+        crew: &mut Crew<'_, P, A, H>,
     ) -> Result<(), Memory>
         ensures { self.new ≡ self.old }
     {
         if let Some(sealed) = crew.taken_back(rt) {
             self.land(crew, sealed);
         } else if !self.waiting.is_empty() {
-            self.garble_waiting(rt, crew)?;
+            self.make_waiting(crew)?;
         } else if let Some(sealed) = crew.awaited(rt) {
             self.land(crew, sealed);
         }
         Ok(())
     }
 
-    /// Has blocks garbled until there is room for another gate that is postponed, or no gate waits.
-    fn make_room<H: Gatehouse, R: Threads + Wait + Sync>(
+    /// Has blocks made until there is room for another gate that is postponed, or no gate waits.
+    fn make_room<H: Gatehouse, R: Wait>(
         &mut self,
         rt: &R,
-        crew: &mut Crew<'_, A, H>,
+        crew: &mut Crew<'_, P, A, H>,
     ) -> Result<(), Memory>
         ensures { self.new ≡ self.old }
     {
@@ -433,10 +411,10 @@ impl<'c, A: Allocator + Copy, C: Allocator> Layer<'c, A, C> {
     }
 
     /// Visits the gates whose labels are there now.
-    fn revisit<H: Gatehouse, R: Threads + Wait + Sync>(
+    fn revisit<H: Gatehouse, R: Wait>(
         &mut self,
         rt: &R,
-        crew: &mut Crew<'_, A, H>,
+        crew: &mut Crew<'_, P, A, H>,
     ) -> Result<(), Memory>
         ensures { self.new ≡ self.old }
     {
@@ -453,31 +431,31 @@ impl<'c, A: Allocator + Copy, C: Allocator> Layer<'c, A, C> {
         unreachable!()
     }
 
-    /// Puts what garbling gates of the circuit gave where it belongs.
-    fn put_all(&mut self, sealed: &Sealed<A>)
-        requires { All (IsGate self.old.circuit self.old.seed) sealed.now }
+    /// Puts what making gates of the circuit gave where it belongs.
+    fn put_all(&mut self, sealed: &Sealed<P, A>)
+        requires { All (L.is_pending self.old) sealed.now }
         ensures { self.new ≡ self.old }
     {
         let gates = sealed.gates();
         for i in 0..gates.len() {
-            self.put(&gates[i], garbled_at(gates, sealed.pairs(), i));
+            self.put(&gates[i], &sealed.made()[i]);
         }
     }
 
-    /// Puts the label and the row pair of an AND gate where they belong.
+    /// Puts what making an AND gate gave where it belongs.
     #[inline]
-    fn put(&mut self, gate: &Waiting, garbled: &Garbled)
-        requires gate { IsGate self.old.circuit self.old.seed gate.now }
-        requires garbled { garbled.now ≡ garbled_of gate.now }
+    fn put(&mut self, gate: &P, made: &P::Made)
+        requires gate { L.is_pending self.old gate.now }
+        requires made { made.now ≡ P.made_of gate.now }
         ensures { self.new ≡ self.old }
     {
-        self.rows[gate.k as usize] = garbled.rows;
-        self.settle(gate.set, garbled.zero_label);
+        let (wire, label) = self.labelling.keep(gate, made);
+        self.settle(wire, label);
     }
 }
 
 /// The gates from a place on among those that wait, so many at the most.
-fn block_from(waiting: &[Waiting], first: usize, most: usize) -> &[Waiting]
+fn block_from<P: Pending>(waiting: &[P], first: usize, most: usize) -> &[P]
     ensures gates { result.now ≡ take most (drop first waiting.now) }
     ensures few { length result.now ≤ most }
 {

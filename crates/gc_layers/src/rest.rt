@@ -6,9 +6,10 @@ ghost use Rattle.gc_half.specs.Hash.{hash};
 ghost use Rattle.gc_half.specs.OneGate.{first_read, second_read, gate_rows};
 ghost use Rattle.gc_half.specs.Garbling.{zero_of};
 ghost use Rattle.gc_layers.specs.declared.mark.Mark.TheVariants.{Absent, There};
-ghost use Rattle.gc_layers.specs.Layer.{AreLabels, AreMarked, AreRows, with_pair, no_rows};
+ghost use Rattle.gc_half.specs.Canonical.{zero_label_of};
+ghost use Rattle.gc_layers.specs.Layer.{AreLabels, AreMarked};
+ghost use Rattle.gc_layers.specs.Garbler.{AreRows, with_pair, no_rows};
 
-use crate::crew::Crew;
 use crate::mark::Mark;
 use gc_circuit::{Circuit, Gate};
 use gc_gatehouse::Gatehouse;
@@ -16,9 +17,9 @@ use gc_half::{RowPair, garble_gate, labels_read};
 use gc_label::{Label, Offset, Seed, offset};
 use std::alloc::Allocator;
 
-/// Garbles each gate whose label or row pair isn't there.
-pub(crate) fn garble_rest<A: Allocator + Copy, C: Allocator, H: Gatehouse>(
-    crew: &Crew<'_, A, H>,
+/// Garbles each gate whose label or row pair isn't there, of which the house is told as worker 0's.
+pub(crate) fn garble_rest<C: Allocator, H: Gatehouse>(
+    house: &H,
     circuit: &Circuit<C>,
     seed: &Seed,
     marks: &[Mark],
@@ -26,20 +27,20 @@ pub(crate) fn garble_rest<A: Allocator + Copy, C: Allocator, H: Gatehouse>(
     rows: &mut [RowPair],
 )
     requires count { length marks.now ≡ circuit.now.wires }
-    requires marks { AreMarked circuit.now seed.now marks.now labels.old }
-    requires labels { AreLabels circuit.now seed.now 0 labels.old }
+    requires marks { AreMarked (zero_label_of circuit.now seed.now) marks.now labels.old }
+    requires labels { AreLabels circuit.now (zero_label_of circuit.now seed.now) 0 labels.old }
     requires rows { AreRows circuit.now seed.now 0 rows.old }
-    ensures labels { AreLabels circuit.now seed.now (length circuit.now.gates) labels.new }
+    ensures labels { AreLabels circuit.now (zero_label_of circuit.now seed.now) (length circuit.now.gates) labels.new }
     ensures rows { AreRows circuit.now seed.now (and_count circuit.now) rows.new }
 {
     let _ = circuit.gates();
     if !are_marked(marks) || !are_present(rows) {
-        garble_missing(crew, circuit, seed, marks, labels, rows);
+        garble_missing(house, circuit, seed, marks, labels, rows);
     }
 }
 
 /// Whether all marks say that a label is there.
-fn are_marked(marks: &[Mark]) -> bool
+pub(crate) fn are_marked(marks: &[Mark]) -> bool
     ensures { IsTrue result → (w : ℕ) → w < length marks.now → slice_index_or marks.now w Absent ≡ There }
 {
     for i in 0..marks.len() {
@@ -63,8 +64,8 @@ fn are_present(rows: &[RowPair]) -> bool
 }
 
 /// The same, from gate to gate in file order.
-fn garble_missing<A: Allocator + Copy, C: Allocator, H: Gatehouse>(
-    crew: &Crew<'_, A, H>,
+fn garble_missing<C: Allocator, H: Gatehouse>(
+    house: &H,
     circuit: &Circuit<C>,
     seed: &Seed,
     marks: &[Mark],
@@ -72,10 +73,10 @@ fn garble_missing<A: Allocator + Copy, C: Allocator, H: Gatehouse>(
     rows: &mut [RowPair],
 )
     requires count { length marks.now ≡ circuit.now.wires }
-    requires marks { AreMarked circuit.now seed.now marks.now labels.old }
-    requires labels { AreLabels circuit.now seed.now 0 labels.old }
+    requires marks { AreMarked (zero_label_of circuit.now seed.now) marks.now labels.old }
+    requires labels { AreLabels circuit.now (zero_label_of circuit.now seed.now) 0 labels.old }
     requires rows { AreRows circuit.now seed.now 0 rows.old }
-    ensures labels { AreLabels circuit.now seed.now (length circuit.now.gates) labels.new }
+    ensures labels { AreLabels circuit.now (zero_label_of circuit.now seed.now) (length circuit.now.gates) labels.new }
     ensures rows { AreRows circuit.now seed.now (and_count circuit.now) rows.new }
 {
     let offset = offset(seed);
@@ -83,7 +84,7 @@ fn garble_missing<A: Allocator + Copy, C: Allocator, H: Gatehouse>(
     for i in 0..circuit.gates() {
         let gate = circuit.gate(i);
         if !is_there(marks, rows, k, gate) {
-            crew.tell(i);
+            house.before(0, i);
             garble_at(labels, rows, k, offset, gate);
         }
         if gate.operation.is_and() {

@@ -1,12 +1,12 @@
 //! AND gates that wait to be garbled.
 
 ghost use Rattle.std.specs.Prelude.{◌≡◌, ℕ, ◌<◌, ◌≤◌, ◌+◌, ◌*◌, ◌↔◌, IsTrue, Some, length, slice_get, slice_index_or};
-ghost use Rattle.gc_layers.specs.Layer.{garbled_of, IsPair};
+ghost use Rattle.gc_layers.specs.Layer.{AreMade};
+ghost use Rattle.gc_layers.specs.Garbler.{garbled_of};
 
+use crate::pending::Pending;
 use gc_half::{AndGate, RowPair, garble_and, garble_two_ands};
 use gc_label::{Label, Offset};
-use std::thread;
-use std::thread::Threads;
 
 /// An AND gate that waits to be garbled, as [`AndGate`] has it, its place in the file, and the wire that it sets. It
 /// takes 64 bytes.
@@ -77,63 +77,56 @@ fn named(garbled: (Label, Label, Label)) -> Garbled
     }
 }
 
-/// Garbles the gates at the places 2 * i and 2 * i + 1 of those that wait, at once where there are both. That there is
-/// the first is the caller's condition.
-fn garble_pair(waiting: &[Waiting], i: usize) -> (Garbled, Garbled)
-    requires { 2 * i < length waiting.now }
-    ensures { IsPair waiting.now i result }
-{
-    let one = waiting[2 * i].gate();
-    if 2 * i + 1 == waiting.len() {
-        let AndGate { k, offset, a, b } = one;
-        return (named(garble_and(k, offset, a, b)), Garbled::NONE);
-    }
-    let (one, other) = garble_two_ands(one, waiting[2 * i + 1].gate());
-    (named(one), named(other))
-}
-
-/// Garbles all gates that wait, by pairs. Pairs after those that are needed stay as they are.
-pub(crate) fn garble_pairs<R: Threads + Sync>(
-    rt: &R,
-    waiting: &[Waiting],
-    pairs: &mut [(Garbled, Garbled)],
-)
-    requires { length waiting.now ≤ 2 * length pairs.old }
-    ensures { (i : ℕ) (d : _) → 2 * i < length waiting.now → IsPair waiting.now i (slice_index_or pairs.new i d) }
-{
-    let (used, _) = pairs.split_at_mut(waiting.len().div_ceil(2));
-    garble_each(rt, waiting, used);
-}
-
-/// Garbles each of these pairs, on the thread that calls.
-fn garble_each<R: Threads + Sync>(rt: &R, waiting: &[Waiting], pairs: &mut [(Garbled, Garbled)])
-    requires { 2 * length pairs.old ≤ length waiting.now + 1 }
-    ensures { (i : ℕ) (d : _) → i < length pairs.old → IsPair waiting.now i (slice_index_or pairs.new i d) }
-{
-    thread::for_each_mut(
-        rt,
-        pairs,
-        1,
-        &|i: usize, pair: &mut (Garbled, Garbled)|
-            requires { 2 * i < length waiting.now }
-            ensures { IsPair waiting.entry.now i pair.exit.now }
-        { *pair = garble_pair(waiting, i) },
-    );
-}
-
-/// What garbling the gate at a place among those that wait gave. That there is one, and that the pairs are theirs, is the
+/// Garbles the gates at the places 2 * i and 2 * i + 1, at once where there are both. That there is the first is the
 /// caller's condition.
-#[inline]
-pub(crate) fn garbled_at<'a>(
-    waiting: &[Waiting],
-    pairs: &'a [(Garbled, Garbled)],
-    place: usize,
-) -> &'a Garbled
-    requires place { place < length waiting.now }
-    requires room { length waiting.now ≤ 2 * length pairs.now }
-    requires pairs { (i : ℕ) (d : _) → 2 * i < length waiting.now → IsPair waiting.now i (slice_index_or pairs.now i d) }
-    ensures { (w : _) → slice_get waiting.now place ≡ Some w → result.now ≡ garbled_of w }
+fn garble_pair(gates: &[Waiting], made: &mut [Garbled], i: usize)
+    requires place { 2 * i < length gates.now }
+    requires room { length gates.now ≤ length made.old }
+    ensures before { (j : ℕ) (d : _) → j < 2 * i → slice_index_or made.new j d ≡ slice_index_or made.old j d }
+    ensures now { (j : ℕ) (gate : _) (d : _) → 2 * i ≤ j → j < 2 * i + 2 → slice_get gates.now j ≡ Some gate
+        → slice_index_or made.new j d ≡ garbled_of gate }
 {
-    let pair = &pairs[place / 2];
-    if place % 2 == 0 { &pair.0 } else { &pair.1 }
+    let one = gates[2 * i].gate();
+    if 2 * i + 1 == gates.len() {
+        let AndGate { k, offset, a, b } = one;
+        made[2 * i] = named(garble_and(k, offset, a, b));
+        return;
+    }
+    let (one, other) = garble_two_ands(one, gates[2 * i + 1].gate());
+    made[2 * i] = named(one);
+    made[2 * i + 1] = named(other);
+}
+
+/// Garbles all gates that wait, by pairs.
+fn garble_pairs(gates: &[Waiting], made: &mut [Garbled])
+    requires { length gates.now ≤ length made.old }
+    ensures { AreMade garbled_of gates.now made.new }
+{
+    for i in 0..gates.len().div_ceil(2) {
+        garble_pair(gates, made, i);
+    }
+}
+
+impl Pending for Waiting {
+    ghost use Rattle.gc_layers.specs.Garbler.{garbled_of};
+
+    type Made = Garbled;
+
+    ghost made_of = { λ gate. garbled_of gate };
+
+    fn nothing() -> Garbled {
+        Garbled::NONE
+    }
+
+    fn place(&self) -> u32 {
+        self.place
+    }
+
+    fn are_same(left: &[Waiting], right: &[Waiting]) -> bool {
+        are_same(left, right)
+    }
+
+    fn make_all(gates: &[Waiting], made: &mut [Garbled]) {
+        garble_pairs(gates, made);
+    }
 }

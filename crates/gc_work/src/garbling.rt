@@ -11,13 +11,12 @@ use crate::gather::gather;
 use crate::muster::muster;
 use crate::pool::TaskPool;
 use crate::sweep::sweep;
-use crate::width::layer_width;
 use crate::worker::{Member, work};
 use gc_circuit::{Circuit, Memory};
-use gc_gatehouse::{Gatehouse, MAX_WORKERS};
+use gc_gatehouse::{Gatehouse, MAX_WORKERS, tell_all};
 use gc_half::{Garbling, garble_one_thread};
 use gc_label::Seed;
-use gc_layers::garble_by_layers;
+use gc_layers::{Way, garble_by_layers, way_of};
 use gc_store::{MAX_TALLIES, SharedStore, Store, Tally};
 use std::alloc::Allocator;
 use std::marker::Brand;
@@ -29,17 +28,11 @@ use std::thread::Threads;
 /// The room of a worker's pool, in tasks.
 const POOL_CAPACITY: u32 = 1024;
 
-/// A circuit of which less than about one gate in so many is AND is garbled by layers,
-const GATES_FOR_AND: u32 = 3;
-
-/// and so is one whose layers have about so many AND gates, or more.
-const WIDE_LAYER: u32 = 16;
-
 /// The garbling of a circuit under a seed, made by so many workers. The calling thread is worker 0; a thread is
 /// started for each other worker, and where one can't be started the calling thread does its work too. With one
-/// worker, and where few gates are AND or many follow each other in the file of which none needs another, worker 0
-/// goes from gate to gate and all garble the AND gates that it passed ([`garble_by_layers`]). Else they share a store,
-/// where each takes any gate that may go next. `house` is told of each gate before it is sealed.
+/// worker, and where few gates are AND or many near each other can be garbled at once, worker 0 goes from gate to gate and
+/// all garble the AND gates that it passed ([`garble_by_layers`]); where next to none are AND it garbles alone. Else they
+/// share a store, where each takes any gate that may go next. `house` is told of each gate before it is sealed.
 ///
 /// It refuses 0 workers and more than [`MAX_WORKERS`]. Memory is the other fault.
 pub fn garble<
@@ -61,26 +54,17 @@ pub fn garble<
     if workers == 0 || workers > MAX_WORKERS {
         return Err(WorkFault::BadWorkers);
     }
-    if goes_by_layers(alloc, circuit, workers)? {
-        let garbling = garble_by_layers(rt, alloc, circuit, seed, workers, house)?;
-        return Ok(garbling);
+    match way_of(alloc, circuit, workers)? {
+        Way::Alone => Ok(garble_alone(alloc, circuit, seed, house)?),
+        Way::Layers => Ok(garble_by_layers(rt, alloc, circuit, seed, workers, house)?),
+        Way::Together => {
+            let ledger = Blank::new(u64::from(MAX_TALLIES));
+            let garbling = garble_by::<Brand, A, C, H, R>(
+                rt, alloc, ledger, circuit, seed, workers, house,
+            )?;
+            Ok(garbling)
+        }
     }
-    let ledger = Blank::new(u64::from(MAX_TALLIES));
-    let garbling = garble_by::<Brand, A, C, H, R>(
-        rt, alloc, ledger, circuit, seed, workers, house,
-    )?;
-    Ok(garbling)
-}
-
-/// Whether a circuit is garbled in less time by layers than through a store: there is one worker, or so few gates are
-/// AND that one thread garbles the others in less time than workers hand them to each other, or layers are wide.
-fn goes_by_layers<A: Allocator + Copy, C: Allocator>(
-    alloc: A,
-    circuit: &Circuit<C>,
-    workers: u32,
-) -> Result<bool, Memory> {
-    let is_mostly_free = circuit.and_count() < circuit.gates() / GATES_FOR_AND;
-    Ok(workers == 1 || is_mostly_free || layer_width(alloc, circuit)? >= WIDE_LAYER)
 }
 
 /// The same, by several workers over a store that begins the ledger.
@@ -142,15 +126,8 @@ fn garble_alone<A: Allocator + Copy, C: Allocator, H: Gatehouse>(
 ) -> Result<Garbling<A>, Memory>
     ensures { IfOk result (IsGarbled circuit.now seed.now) }
 {
-    tell_all(circuit, house);
+    tell_all(house, circuit.gates());
     garble_one_thread(alloc, circuit, seed)
-}
-
-/// Tells of all gates, as worker 0.
-fn tell_all<C: Allocator, H: Gatehouse>(circuit: &Circuit<C>, house: &H) {
-    for gate in 0..circuit.gates() {
-        house.before(0, gate);
-    }
 }
 
 /// Lets the workers finish what they can, each with a pool of this capacity. The answer is the store and worker 0's

@@ -16,7 +16,6 @@ mod muster;
 mod pool;
 mod raid;
 mod sweep;
-mod width;
 mod worker;
 
 pub use account::{PoolAccount, PoolRule};

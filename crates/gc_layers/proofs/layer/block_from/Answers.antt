@@ -3,7 +3,7 @@ use Rattle.std.proofs.lemmas.List.{take_min, drop_min}
 use Rattle.gc_layers.proofs.layer.block_from.Goals as goal
 
 pub returns-clause-gates : goal.returns-clause-gates
-returns-clause-gates c =
+returns-clause-gates g c =
     let rest = c.split_at.result.1.now in
     c.split_at-2.ensures.front
     ∙ ap (λ n. take n rest) c.min-2.ensures

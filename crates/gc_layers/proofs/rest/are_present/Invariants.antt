@@ -1,5 +1,5 @@
 use Rattle.std.proofs.Common.{◌≢◌, ℕ, ◌<◌, slice_index_or}
-use Rattle.gc_layers.specs.Layer.{no_rows}
+use Rattle.gc_layers.specs.Garbler.{no_rows}
 use Rattle.gc_layers.proofs.rest.are_present.Given as goal
 
 abbrev pub invariant-loop-i : goal.invariant-loop-i

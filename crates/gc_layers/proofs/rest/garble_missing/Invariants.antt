@@ -1,12 +1,14 @@
 use Rattle.std.proofs.Common.{◌≡◌}
 use Rattle.gc_netlist.specs.Circuit.{and_number}
-use Rattle.gc_layers.specs.Layer.{AreLabels, AreMarked, AreRows}
+use Rattle.gc_half.specs.Canonical.{zero_label_of}
+use Rattle.gc_layers.specs.Layer.{AreLabels, AreMarked}
+use Rattle.gc_layers.specs.Garbler.{AreRows}
 use Rattle.gc_layers.proofs.rest.garble_missing.Given as goal
 
 abbrev pub invariant-loop-i : goal.invariant-loop-i
 invariant-loop-i g l = record {
-  labels : AreLabels l.circuit l.seed l.i l.labels;
-  marks : AreMarked l.circuit l.seed l.marks l.labels;
+  labels : AreLabels l.circuit (zero_label_of l.circuit l.seed) l.i l.labels;
+  marks : AreMarked (zero_label_of l.circuit l.seed) l.marks l.labels;
   rows : AreRows l.circuit l.seed l.k l.rows;
   number : l.k ≡ and_number l.circuit l.i;
 }

@@ -1,16 +1,17 @@
 use Rattle.std.proofs.Common.{◌≡◌, suc, ◌+◌, slice_get, Some, sym, ap, subst, ◌∙◌, arith}
+use Rattle.gc_netlist.specs.Circuit.{Netlist, and_number}
 use Rattle.gc_half.proofs.AndNumbers.{and_number-and, and_number-other}
-use Rattle.gc_layers.specs.Layer.{LayerParts}
 use Rattle.gc_layers.proofs.layer.Layer.pass.Goals as goal
 use Rattle.gc_layers.proofs.layer.Layer.pass.Goals.{then-is_and, else-is_and}
 
 pub loop-i-preserved : goal.loop-i-preserved
 loop-i-preserved g c =
-    let circuit = c.args.self.now.circuit in
+    let circuit = g.L.Labelling.circuit_of c.args.self.now in
     let i = c.loop-i.i in
     let gate = c.gate-gate.result in
     let one : i + 1 ≡ suc i = omega arith in
-    let at = subst (λ (t : LayerParts). slice_get t.circuit.gates i ≡ Some gate) c.self.view_is c.gate-gate.ensures in
+    let same = sym c.self.invariant.same ∙ ap g.L.Labelling.circuit_of c.self.view_is in
+    let at = subst (λ (n : Netlist). slice_get n.gates i ≡ Some gate) same c.gate-gate.ensures in
     record {
       same = c.keep_up.ensures ∙ c.visit.ensures ∙ c.loop-i.invariant.same;
       number = rw one (elim c.if-is_and.branch [

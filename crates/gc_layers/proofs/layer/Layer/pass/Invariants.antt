@@ -5,5 +5,5 @@ use Rattle.gc_layers.proofs.layer.Layer.pass.Given as goal
 abbrev pub invariant-loop-i : goal.invariant-loop-i
 invariant-loop-i g l = record {
   same : l.self ≡ l.fn.self;
-  number : l.k ≡ and_number l.fn.self.circuit l.i;
+  number : l.k ≡ and_number (g.L.Labelling.circuit_of l.fn.self) l.i;
 }

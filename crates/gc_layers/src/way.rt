@@ -1,7 +1,16 @@
-//! How many AND gates follow each other in a circuit of which none needs another.
+//! The way in which threads garble or evaluate a circuit in the least time.
 
 use gc_circuit::{Circuit, Memory, Operation};
 use std::alloc::Allocator;
+
+/// A circuit of which less than about one gate in so many is AND is left to one thread,
+const GATES_FOR_THREADS: u32 = 64;
+
+/// one of which less than about one gate in so many is AND goes by layers,
+const GATES_FOR_AND: u32 = 3;
+
+/// and so does one whose layers have about so many AND gates, or more.
+const WIDE_LAYER: u32 = 16;
 
 /// So many gates at the front of a circuit are looked at, and there are so many marks.
 const LOOKED_AT: u32 = 16_384;
@@ -37,9 +46,40 @@ impl<A: Allocator> Marks<A> {
     }
 }
 
+/// How threads garble or evaluate a circuit in the least time. Whatever the way, the answer is the same.
+#[derive(Clone, Copy, PartialEq, Eq, Debug)]
+pub enum Way {
+    /// One thread goes from gate to gate: there is next to nothing to do beside.
+    Alone,
+    /// One thread goes from gate to gate, and others make AND gates that it passed.
+    Layers,
+    /// All go from gate to gate.
+    Together,
+}
+
+/// The way that takes so many threads the least time, by the circuit's AND gates and the front of its file. It takes memory
+/// for a mark for each of 16,384 gates, where there are several threads.
+pub fn way_of<A: Allocator + Copy, C: Allocator>(
+    alloc: A,
+    circuit: &Circuit<C>,
+    threads: u32,
+) -> Result<Way, Memory> {
+    let ands = circuit.and_count();
+    if ands < circuit.gates() / GATES_FOR_THREADS {
+        return Ok(Way::Alone);
+    }
+    if threads == 1 || ands < circuit.gates() / GATES_FOR_AND {
+        return Ok(Way::Layers);
+    }
+    if layer_width(alloc, circuit)? >= WIDE_LAYER {
+        return Ok(Way::Layers);
+    }
+    Ok(Way::Together)
+}
+
 /// About how many AND gates a layer has, by the front of the circuit: they follow each other in the file, other gates
 /// between them, and no gate reads what one of them sets before the last has come.
-pub(crate) fn layer_width<A: Allocator + Copy, C: Allocator>(
+fn layer_width<A: Allocator + Copy, C: Allocator>(
     alloc: A,
     circuit: &Circuit<C>,
 ) -> Result<u32, Memory> {

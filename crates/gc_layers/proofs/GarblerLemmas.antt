@@ -1,0 +1,261 @@
+-- A garbling that is partly there.
+use Rattle.std.proofs.Common.{◌≡◌, ◌≢◌, ℕ, ◌+◌, ◌<◌, ◌≤◌, ◌⊎◌, inl, inr, true, false, List, length, length-set, map, set, get_or, replicate, slice_index, slice_get, Some, refl, sym, ap, subst, ◌∙◌, arith}
+use Rattle.std.specs.List.{range_with_len}
+use Rattle.std.proofs.lemmas.Bool.{cases_eq}
+use Rattle.std.proofs.lemmas.List.{get_or-set_same, get_or-replicate, get_or_past, length-replicate, ext_get_or}
+use Rattle.std.proofs.lemmas.List.FromFn.{fill_by_all, length-map-range_with_len}
+use Rattle.std.proofs.lemmas.Option.{get_or_from_slice_get}
+use Rattle.gc_netlist.specs.declared.gate.Operation.{Operation}
+use Rattle.gc_netlist.specs.declared.gate.Operation.TheVariants.{Xor, And, Inv, Eq, Eqw}
+use Rattle.gc_netlist.specs.declared.gate.Gate.{Gate}
+use Rattle.gc_netlist.specs.Circuit.{Netlist, IsLawful, IsSetBefore, EachRead, is_and, and_number, and_count, input_wires, output_wires}
+use Rattle.gc_netlist.proofs.SolutionLemmas.{EachRead-map}
+use Rattle.gc_netlist.proofs.Tables.{read-table}
+use Rattle.gc_label.specs.Seed.{offset_of}
+use Rattle.gc_half.specs.declared.garbling.RowPair.{RowPair}
+use Rattle.gc_half.specs.Hash.{hash}
+use Rattle.gc_half.specs.HalfGate.{and_zero}
+use Rattle.gc_half.specs.OneGate.{first_read, second_read, gate_zero, gate_rows, row_pair}
+use Rattle.gc_half.specs.Garbling.{rows_of, GarblingParts, IsGarbled}
+use Rattle.gc_half.specs.Canonical.{input_zero, zero_label_of, row_pairs_of}
+use Rattle.gc_half.proofs.CanonicalLemmas.{input_zero-input, input_zero-other, zero_label_of-input, zero_label_of-gate, zero_label_of-not_set, row_pairs_of-at, length-row_pairs_of, garbling_of-IsGarbled, parts-same}
+use Rattle.gc_half.proofs.AndNumbers.{and_or_other, and_number-below}
+use Rattle.gc_half.proofs.SetWires.{set_or_not, lt_or_le}
+use Rattle.gc_layers.specs.declared.mark.Mark.{Mark}
+use Rattle.gc_layers.specs.declared.mark.Mark.TheVariants.{Absent, There}
+use Rattle.gc_layers.specs.Layer.{AreLabels, AreMarked}
+use Rattle.gc_layers.specs.Garbler.{AreRows, IsGate, no_rows, row_of, with_pair}
+use Rattle.gc_layers.proofs.LayerLemmas.{partly-put, partly-more}
+
+module _ (c : Netlist) (seed : List ℕ) where
+  -- A row pair may be put where it belongs.
+  pub rows-put : (n k : ℕ) (pair : RowPair) (rows : List RowPair) → k < and_count c → pair ≡ row_of c seed k
+      → AreRows c seed n rows → AreRows c seed n (set rows k pair)
+  rows-put n k pair rows below is are = record {
+    count = length-set rows k pair ∙ are.count;
+    partly = partly-put (row_of c seed) no_rows (λ p. p.evaluator ≡ 0) (λ i. i < n) rows k pair
+        (omega (arith, below, are.count)) is are.partly;
+  }
+
+  -- One gate more: the label of the wire that it sets is there,
+  pub labels-next : (i : ℕ) (g : Gate) (labels : List ℕ) → slice_get c.gates i ≡ Some g
+      → slice_index labels g.set ≡ zero_label_of c seed g.set
+      → AreLabels c (zero_label_of c seed) i labels → AreLabels c (zero_label_of c seed) (i + 1) labels
+  labels-next i g labels at is are = record {
+    wires = are.wires;
+    partly = partly-more (zero_label_of c seed) 0 (λ label. label ≡ 0) (IsSetBefore c i) (IsSetBefore c (i + 1)) labels
+        more are.partly;
+  }
+    where
+      more : (w : ℕ) → IsSetBefore c (i + 1) w
+          → IsSetBefore c i w ⊎ (slice_index labels w ≡ zero_label_of c seed w)
+      more w (inl input) = inl (inl input)
+      more w (inr (j, below, by)) = elim (cases_eq j i) [
+        | inl e ↦
+            let same : Some by.gate ≡ Some g = sym by.at ∙ ap (slice_get c.gates) e ∙ at in
+            let gate : by.gate ≡ g = cc in
+            let wire : w ≡ g.set = sym by.wire ∙ ap (λ (x : Gate). x.set) gate in
+            inr (ap (slice_index labels) wire ∙ is ∙ ap (zero_label_of c seed) (sym wire))
+        | inr other ↦ inl (inr (j, omega arith, by))
+      ]
+
+  -- and one row pair more.
+  pub rows-next : (k : ℕ) (rows : List RowPair) → get_or rows k no_rows ≡ row_of c seed k
+      → AreRows c seed k rows → AreRows c seed (k + 1) rows
+  rows-next k rows is are = record {
+    count = are.count;
+    partly = partly-more (row_of c seed) no_rows (λ p. p.evaluator ≡ 0) (λ i. i < k) (λ i. i < k + 1) rows more are.partly;
+  }
+    where
+      more : (i : ℕ) → i < k + 1 → (i < k) ⊎ (get_or rows i no_rows ≡ row_of c seed i)
+      more i below = elim (cases_eq i k) [
+        | inl e ↦ inr (ap (λ j. get_or rows j no_rows) e ∙ is ∙ ap (row_of c seed) (sym e))
+        | inr other ↦ inl (omega arith)
+      ]
+
+  -- The row pair of a gate is put where it belongs, if it has one.
+  pub rows-gate : (op : Operation) (k offset x y : ℕ) (rows : List RowPair)
+      → (is_and op ≡ true → row_pair hash offset k x y ≡ row_of c seed k) → (is_and op ≡ true → k < and_count c)
+      → AreRows c seed k rows →
+      AreRows c seed k (with_pair rows k (gate_rows hash offset k op x y))
+      × (is_and op ≡ true → get_or (with_pair rows k (gate_rows hash offset k op x y)) k no_rows ≡ row_of c seed k)
+  rows-gate (Xor u v) k offset x y rows right below are = (are, λ h. cc)
+  rows-gate (And u v) k offset x y rows right below are = (
+    rows-put k k (row_pair hash offset k x y) rows (below refl) (right refl) are,
+    λ h. get_or-set_same rows k (row_pair hash offset k x y) no_rows (omega (arith, below refl, are.count))
+        ∙ right refl,
+  )
+  rows-gate (Inv u) k offset x y rows right below are = (are, λ h. cc)
+  rows-gate (Eq bit) k offset x y rows right below are = (are, λ h. cc)
+  rows-gate (Eqw u) k offset x y rows right below are = (are, λ h. cc)
+
+  -- At the start no row pair is there.
+  pub rows-start : (rows : List RowPair) (n : ℕ) → n ≡ and_count c → rows ≡ replicate n no_rows → AreRows c seed 0 rows
+  rows-start rows n count are = record {
+    count = ap length are ∙ length-replicate n no_rows ∙ count;
+    partly = record {
+      right = λ k present. absurd (present (ap (λ (p : RowPair). p.evaluator) (blank k)));
+      there = λ k below. absurd (omega arith);
+    };
+  }
+    where
+      blank : (k : ℕ) → get_or rows k no_rows ≡ no_rows
+      blank k = ap (λ l. get_or l k no_rows) are ∙ elim (lt_or_le k n) [
+        | inl below ↦ get_or-replicate n k no_rows no_rows below
+        | inr past ↦ get_or_past (replicate n no_rows) k no_rows (omega (arith, past, length-replicate n no_rows))
+      ]
+
+  -- At the end the row pairs are whole.
+  rows-end : IsLawful c → (rows : List RowPair) → AreRows c seed (and_count c) rows → rows ≡ row_pairs_of c seed
+  rows-end lawful rows are =
+      let long = length-row_pairs_of c seed lawful in
+      ext_get_or no_rows rows (row_pairs_of c seed) (are.count ∙ sym long)
+      (λ k below. are.partly.there k (omega (arith, below, are.count)))
+
+  -- At the end the labels are whole,
+  labels-end : (labels : List ℕ) → AreLabels c (zero_label_of c seed) (length c.gates) labels
+      → labels ≡ map (zero_label_of c seed) (range_with_len 0 c.wires)
+  labels-end labels are = fill_by_all (zero_label_of c seed) labels c.wires 0 are.wires at
+    where
+      at : (w : ℕ) → w < c.wires → slice_index labels w ≡ zero_label_of c seed w
+      at w below = elim (set_or_not c w) [
+        | inl set ↦ are.partly.there w set
+        | inr unset ↦ elim (cases_eq (slice_index labels w) 0) [
+          | inl blank ↦ blank ∙ sym (zero_label_of-not_set c seed w unset)
+          | inr present ↦ are.partly.right w present
+        ]
+      ]
+
+  -- Where all row pairs are there, they are those of all gates.
+  pub rows-whole : (rows : List RowPair) → ((k : ℕ) → k < length rows → (get_or rows k no_rows).evaluator ≢ 0)
+      → AreRows c seed 0 rows → AreRows c seed (and_count c) rows
+  rows-whole rows present are = record {
+    count = are.count;
+    partly = record {
+      right = are.partly.right;
+      there = λ k below. are.partly.right k (present k (omega (arith, below, are.count)));
+    };
+  }
+
+  module _ (lawful : IsLawful c) where
+    -- and both are the garbling.
+    pub garbled-end : (g : GarblingParts) (labels : List ℕ) (rows : List RowPair) (outputs : ℕ)
+        → g ≡ record { zero_labels = labels; rows = rows; outputs = outputs } → outputs ≡ output_wires c
+        → AreLabels c (zero_label_of c seed) (length c.gates) labels → AreRows c seed (and_count c) rows → IsGarbled c seed g
+    garbled-end g labels rows outputs is outputs_are are_labels are_rows =
+        subst (IsGarbled c seed) (sym (is ∙ parts-same (record { zero_labels = labels; rows = rows; outputs = outputs })
+        (map (zero_label_of c seed) (range_with_len 0 c.wires)) (row_pairs_of c seed) (output_wires c)
+        (labels-end labels are_labels) (rows-end lawful rows are_rows) outputs_are))
+        (garbling_of-IsGarbled c seed lawful)
+
+    -- At the start the labels of the input wires are there.
+    pub labels-start : (labels : List ℕ) → labels ≡ map (input_zero c seed) (range_with_len 0 c.wires)
+        → AreLabels c (zero_label_of c seed) 0 labels
+    labels-start labels are = record {
+      wires = ap length are ∙ length-map-range_with_len (input_zero c seed) 0 c.wires;
+      partly = record {
+        right = λ w present. elim (lt_or_le w (input_wires c)) [
+          | inl input ↦ at_input w input
+          | inr past ↦ absurd (present (blank w past))
+        ];
+        there = λ w set. elim set [
+          | inl input ↦ at_input w input
+          | inr before ↦ absurd (omega (arith, before.1))
+        ];
+      };
+    }
+      where
+        at_input : (w : ℕ) → w < input_wires c → slice_index labels w ≡ zero_label_of c seed w
+        at_input w input =
+            ap (λ l. slice_index l w) are
+            ∙ read-table (input_zero c seed) c.wires w 0 (omega (arith, input, lawful.inputs_fit))
+            ∙ input_zero-input c seed w input ∙ sym (zero_label_of-input c seed lawful w input)
+
+        blank : (w : ℕ) → input_wires c ≤ w → slice_index labels w ≡ 0
+        blank w past = ap (λ l. slice_index l w) are ∙ elim (lt_or_le w c.wires) [
+          | inl below ↦ read-table (input_zero c seed) c.wires w 0 below
+              ∙ input_zero-other c seed w (λ input. let none : ⊥ = absurd (omega arith) in none)
+          | inr past_all ↦ get_or_past (map (input_zero c seed) (range_with_len 0 c.wires)) w 0
+              (omega (arith, past_all, length-map-range_with_len (input_zero c seed) 0 c.wires))
+        ]
+
+    -- Where all wires are marked, the labels are those that all gates set.
+    pub labels-whole : (marks : List Mark) (labels : List ℕ) → length marks ≡ c.wires
+        → ((w : ℕ) → w < length marks → get_or marks w Absent ≡ There) → AreMarked (zero_label_of c seed) marks labels
+        → AreLabels c (zero_label_of c seed) 0 labels → AreLabels c (zero_label_of c seed) (length c.gates) labels
+    labels-whole marks labels count marked are_marks are = record {
+      wires = are.wires;
+      partly = record {
+        right = are.partly.right;
+        there = λ w set. are_marks w (marked w (omega (arith, count, below w set)));
+      };
+    }
+      where
+        below : (w : ℕ) → IsSetBefore c (length c.gates) w → w < c.wires
+        below w (inl input) = omega (arith, input, lawful.inputs_fit)
+        below w (inr (j, _, by)) = omega (arith, by.wire, lawful.sets j by.gate by.at)
+
+    -- What the first gates set, so what the next one reads, are the labels.
+    pub reads-there : (i : ℕ) (g : Gate) → slice_get c.gates i ≡ Some g → (labels : List ℕ) → AreLabels c (zero_label_of c seed) i labels
+        → EachRead (λ w. slice_index labels w ≡ zero_label_of c seed w) g.operation
+    reads-there i g at labels are =
+        EachRead-map (IsSetBefore c i) (λ w. slice_index labels w ≡ zero_label_of c seed w) g.operation
+        are.partly.there (lawful.reads i g at)
+
+    -- From the labels that a gate reads,
+    module _ (i : ℕ) (g : Gate) (at : slice_get c.gates i ≡ Some g) (k offset : ℕ) (number : k ≡ and_number c i)
+        (is_offset : offset ≡ offset_of seed) (first second : ℕ)
+        (is_first : first ≡ first_read (zero_label_of c seed) g.operation)
+        (is_second : second ≡ second_read (zero_label_of c seed) g.operation) where
+      -- garbling it gives the label of the wire that it sets,
+      pub gate-label : gate_zero hash offset k g.operation first second ≡ zero_label_of c seed g.set
+      gate-label =
+          ap (λ r. gate_zero hash r k g.operation first second) is_offset
+          ∙ ap (λ n. gate_zero hash (offset_of seed) n g.operation first second) number
+          ∙ ap (λ x. gate_zero hash (offset_of seed) (and_number c i) g.operation x second) is_first
+          ∙ ap (gate_zero hash (offset_of seed) (and_number c i) g.operation
+          (first_read (zero_label_of c seed) g.operation)) is_second
+          ∙ sym (zero_label_of-gate c seed lawful i g at)
+
+      -- and the row pair of an AND gate,
+      pub gate-row : is_and g.operation ≡ true → row_pair hash offset k first second ≡ row_of c seed k
+      gate-row and = elim (and_or_other g.operation) [
+        | inl (a, (b, is)) ↦
+            ap (λ r. row_pair hash r k first second) is_offset
+            ∙ ap (λ x. row_pair hash (offset_of seed) k x second)
+            (is_first ∙ ap (first_read (zero_label_of c seed)) is)
+            ∙ ap (row_pair hash (offset_of seed) k (zero_label_of c seed a))
+            (is_second ∙ ap (second_read (zero_label_of c seed)) is)
+            ∙ ap (λ n. rows_of hash (offset_of seed) (zero_label_of c seed) n a b) number
+            ∙ sym (get_or_from_slice_get (row_pairs_of c seed) (and_number c i) _ no_rows
+            (row_pairs_of-at c seed lawful i g a b at is))
+            ∙ ap (row_of c seed) (sym number)
+        | inr other ↦ absurd (not_both (sym and ∙ other))
+      ]
+        where
+          not_both : true ≡ false → ⊥
+          not_both e = cc
+
+      -- so that it may wait.
+      pub may-wait : is_and g.operation ≡ true → (place : ℕ) → IsGate c seed (record {
+        place = place;
+        k = k;
+        set = g.set;
+        offset = offset;
+        a = first;
+        b = second;
+      })
+      may-wait and place = record {
+        set = lawful.sets i g at;
+        label = of_and g.operation and k offset first second ∙ gate-label;
+        number = omega (arith, number, and_number-below c i g at and);
+        row = gate-row and;
+      }
+        where
+          of_and : (op : Operation) → is_and op ≡ true → (k r a b : ℕ)
+              → and_zero hash k r a b ≡ gate_zero hash r k op a b
+          of_and (Xor u v) h k r a b = cc
+          of_and (And u v) h k r a b = refl
+          of_and (Inv u) h k r a b = cc
+          of_and (Eq bit) h k r a b = cc
+          of_and (Eqw u) h k r a b = cc

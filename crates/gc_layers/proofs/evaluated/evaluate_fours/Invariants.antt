@@ -1,0 +1,10 @@
+use Rattle.std.proofs.Common.{◌≡◌, ℕ, ◌<◌, ◌≤◌, ◌*◌, length, slice_get, slice_index_or, Some}
+use Rattle.gc_layers.specs.Evaluator.{active_by}
+use Rattle.gc_layers.proofs.evaluated.evaluate_fours.Given as goal
+
+abbrev pub invariant-loop-i : goal.invariant-loop-i
+invariant-loop-i l = record {
+  made : (j : ℕ) (gate : _) (d : _) → j < 4 * l.i → slice_get l.gates j ≡ Some gate
+      → slice_index_or l.made j d ≡ active_by gate;
+  room : length l.gates ≤ length l.made;
+}

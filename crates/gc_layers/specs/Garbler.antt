@@ -1,0 +1,61 @@
+-- The garbling of a circuit as a labelling of its wires, partly there.
+use Rattle.std.specs.Prelude.{◌≡◌, ℕ, ◌<◌, List, Option, None, Some, length, slice_index_or, slice_set}
+use Rattle.gc_netlist.specs.Circuit.{Netlist, IsLawful, and_count}
+use Rattle.gc_label.specs.Seed.{offset_of}
+use Rattle.gc_half.specs.declared.garbling.RowPair.{RowPair}
+use Rattle.gc_half.specs.Hash.{hash}
+use Rattle.gc_half.specs.HalfGate.{and_zero}
+use Rattle.gc_half.specs.OneGate.{row_pair}
+use Rattle.gc_half.specs.Canonical.{zero_label_of, row_pairs_of}
+use Rattle.gc_layers.specs.declared.waiting.Waiting.{Waiting}
+use Rattle.gc_layers.specs.declared.waiting.Garbled.{Garbled}
+use Rattle.gc_layers.specs.Layer.{IsPartly}
+
+-- What garbling a gate that waits gives: the zero label of the wire that it sets,
+abbrev pub zero_by : Waiting → ℕ
+zero_by w = and_zero hash w.k w.offset w.a w.b
+
+-- and its row pair.
+abbrev pub rows_by : Waiting → RowPair
+rows_by w = row_pair hash w.offset w.k w.a w.b
+
+abbrev pub garbled_of : Waiting → Garbled
+garbled_of w = record { zero_label = zero_by w; rows = rows_by w }
+
+-- the row pairs, with that of the k-th AND gate where there is one
+abbrev pub with_pair : List RowPair → ℕ → Option RowPair → List RowPair
+with_pair rows k None = rows
+with_pair rows k (Some pair) = slice_set rows k pair
+
+-- a row pair of zeros
+abbrev pub no_rows : RowPair
+no_rows = record { generator = 0; evaluator = 0 }
+
+module _ (c : Netlist) (seed : List ℕ) where
+  -- the row pair of the circuit's k-th AND gate
+  abbrev pub row_of : ℕ → RowPair
+  row_of k = slice_index_or (row_pairs_of c seed) k no_rows
+
+  -- A row pair for each AND gate, right as far as they are there: one whose evaluator's row is zero is none, and the
+  -- first n are there.
+  pub record AreRows (n : ℕ) (rows : List RowPair) : Type 0 where
+    pub count : length rows ≡ and_count c
+    pub partly : IsPartly row_of no_rows (λ pair. pair.evaluator ≡ 0) (λ k. k < n) rows
+
+  -- The gate that waits is one of the circuit's AND gates, with the zero labels of the wires that it reads.
+  pub record IsGate (w : Waiting) : Type 0 where
+    pub set : w.set < c.wires
+    pub label : zero_by w ≡ zero_label_of c seed w.set
+    pub number : w.k < and_count c
+    pub row : rows_by w ≡ row_of w.k
+
+-- The circuit and the seed of a garbling.
+pub record GarblerParts : Type 0 where
+  pub circuit : Netlist
+  pub seed : List ℕ
+
+-- The offset is the seed's, and the row pairs are right as far as they are there.
+pub record IsGarbler (of : GarblerParts) (offset : ℕ) (rows : List RowPair) : Type 0 where
+  pub lawful : IsLawful of.circuit
+  pub is_offset : offset ≡ offset_of of.seed
+  pub are_rows : AreRows of.circuit of.seed 0 rows

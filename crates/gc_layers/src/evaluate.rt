@@ -1,0 +1,51 @@
+//! Evaluating a whole circuit by layers.
+
+ghost use Rattle.std.specs.Prelude.{◌≡◌, length, IfOk, IfSome};
+ghost use Rattle.gc_netlist.specs.Circuit.{and_count, input_wires};
+ghost use Rattle.gc_layers.specs.Evaluator.{AreOutputLabels};
+
+use crate::evaluator::Evaluator;
+use crate::threads::label_by_layers;
+use gc_circuit::{Circuit, Memory};
+use gc_gatehouse::Gatehouse;
+use gc_half::{RowPair, input_active_labels};
+use gc_label::Label;
+use std::alloc::Allocator;
+use std::sync::Wait;
+use std::thread::Threads;
+
+/// The active labels of the output wires, evaluated from row pairs and active labels of the input wires as
+/// [`garble_by_layers`](crate::garble_by_layers) garbles; four AND gates go together. `house` is told of each gate before it
+/// is evaluated; the calling thread is worker 0. There is no answer where a block was lost.
+///
+/// That there are as many row pairs as AND gates, and as many labels as input wires, is the caller's condition.
+pub fn evaluate_by_layers<
+    A: Allocator + Copy + Send + Sync,
+    C: Allocator + Sync,
+    H: Gatehouse + Sync,
+    R: Threads + Wait + Sync,
+>(
+    rt: &R,
+    alloc: A,
+    circuit: &Circuit<C>,
+    rows: &[RowPair],
+    inputs: &[Label],
+    threads: u32,
+    house: &H,
+) -> Result<Option<Vec<Label, A>>, Memory>
+    requires rows { length rows.now ≡ and_count circuit.now }
+    requires inputs { length inputs.now ≡ input_wires circuit.now }
+    ensures { IfOk result (λ o. IfSome o (λ labels. AreOutputLabels circuit.now rows.now inputs.now labels.items)) }
+{
+    let labels = input_active_labels(alloc, circuit.wires(), inputs)?;
+    let evaluator = Evaluator::new(circuit, rows, inputs);
+    let (evaluator, labels, marks) = label_by_layers(
+        rt, alloc, circuit, evaluator, labels, threads, house,
+    )?;
+    let Some(outputs) = evaluator.outputs(&labels, &marks) else {
+        return Ok(None);
+    };
+    let mut own = Vec::with_capacity(alloc, outputs.len())?;
+    own.extend_from_slice(outputs)?;
+    Ok(Some(own))
+}

@@ -1,0 +1,105 @@
+//! AND gates that wait to be evaluated.
+
+ghost use Rattle.std.specs.Prelude.{◌≡◌, ℕ, ◌<◌, ◌≤◌, ◌+◌, ◌*◌, ◌↔◌, IsTrue, Some, length, slice_get, slice_index_or};
+ghost use Rattle.gc_layers.specs.Layer.{AreMade};
+ghost use Rattle.gc_layers.specs.Evaluator.{active_by};
+
+use crate::pending::Pending;
+use gc_half::{AndStep, eval_and, eval_four_ands};
+use gc_label::Label;
+
+/// An AND gate that waits to be evaluated, its place in the file, and the wire that it sets.
+#[derive(Clone, Copy, PartialEq, Eq)]
+pub(crate) struct ToEvaluate {
+    pub place: u32,
+    pub set: u32,
+    pub step: AndStep,
+}
+
+/// Whether these are the same gates.
+fn are_same(left: &[ToEvaluate], right: &[ToEvaluate]) -> bool
+    ensures { IsTrue result ↔ (left.now ≡ right.now) }
+{
+    left == right
+}
+
+/// Evaluates the four gates from place 4 * i on, at once. That there are four is the caller's condition.
+fn evaluate_four(gates: &[ToEvaluate], made: &mut [Label], i: usize)
+    requires place { 4 * i + 4 ≤ length gates.now }
+    requires room { length gates.now ≤ length made.old }
+    ensures before { (j : ℕ) (d : _) → j < 4 * i → slice_index_or made.new j d ≡ slice_index_or made.old j d }
+    ensures now { (j : ℕ) (gate : _) (d : _) → 4 * i ≤ j → j < 4 * i + 4 → slice_get gates.now j ≡ Some gate
+        → slice_index_or made.new j d ≡ active_by gate }
+{
+    let [a, b, c, d] = eval_four_ands([
+        gates[4 * i].step,
+        gates[4 * i + 1].step,
+        gates[4 * i + 2].step,
+        gates[4 * i + 3].step,
+    ]);
+    made[4 * i] = a;
+    made[4 * i + 1] = b;
+    made[4 * i + 2] = c;
+    made[4 * i + 3] = d;
+}
+
+/// Evaluates the gate at place i alone. That there is one is the caller's condition.
+fn evaluate_one(gates: &[ToEvaluate], made: &mut [Label], i: usize)
+    requires place { i < length gates.now }
+    requires room { length gates.now ≤ length made.old }
+    ensures before { (j : ℕ) (d : _) → j < i → slice_index_or made.new j d ≡ slice_index_or made.old j d }
+    ensures now { (gate : _) (d : _) → slice_get gates.now i ≡ Some gate → slice_index_or made.new i d ≡ active_by gate }
+{
+    let AndStep { k, rows, a, b } = gates[i].step;
+    made[i] = eval_and(k, rows.generator, rows.evaluator, a, b);
+}
+
+/// Evaluates as many gates as there are whole fours of. The answer is how many these are.
+fn evaluate_fours(gates: &[ToEvaluate], made: &mut [Label]) -> usize
+    requires { length gates.now ≤ length made.old }
+    ensures { (j : ℕ) (gate : _) (d : _) → j < result → slice_get gates.now j ≡ Some gate
+        → slice_index_or made.new j d ≡ active_by gate }
+{
+    let fours = gates.len() / 4;
+    for i in 0..fours {
+        evaluate_four(gates, made, i);
+    }
+    4 * fours
+}
+
+/// Evaluates the gates from a place on. Those before it are evaluated.
+fn evaluate_rest(gates: &[ToEvaluate], made: &mut [Label], first: usize)
+    requires room { length gates.now ≤ length made.old }
+    requires others { (j : ℕ) (gate : _) (d : _) → j < first → slice_get gates.now j ≡ Some gate
+        → slice_index_or made.old j d ≡ active_by gate }
+    ensures { AreMade active_by gates.now made.new }
+{
+    for i in first..gates.len() {
+        evaluate_one(gates, made, i);
+    }
+}
+
+impl Pending for ToEvaluate {
+    ghost use Rattle.gc_layers.specs.Evaluator.{active_by};
+
+    type Made = Label;
+
+    ghost made_of = { λ gate. active_by gate };
+
+    fn nothing() -> Label {
+        Label::ZERO
+    }
+
+    fn place(&self) -> u32 {
+        self.place
+    }
+
+    fn are_same(left: &[ToEvaluate], right: &[ToEvaluate]) -> bool {
+        are_same(left, right)
+    }
+
+    fn make_all(gates: &[ToEvaluate], made: &mut [Label]) {
+        let first = evaluate_fours(gates, made);
+        evaluate_rest(gates, made, first);
+    }
+}
