@@ -11,11 +11,12 @@ use crate::files::Files;
 use crate::job::evaluate_files;
 use crate::lines::output_lines;
 use std::alloc::Allocator;
+use std::sync::Wait;
 use std::thread::Threads;
 
 /// Evaluates the circuit of a file from the garbled file and the label files of these names, by so many workers, and
 /// answers the lines of the output values that they decode to. Nothing of these files is trusted.
-pub fn eval<R: Threads + Sync, A: Allocator + Copy + Send + Sync, F: Files>(
+pub fn eval<R: Threads + Wait + Sync, A: Allocator + Copy + Send + Sync, F: Files>(
     rt: &R,
     alloc: A,
     circuit: &str,

@@ -12,11 +12,12 @@ use gc_eval::{Job, evaluate, evaluate_many};
 use gc_file::{Garbled, LabelFile};
 use gc_gatehouse::Open;
 use std::alloc::Allocator;
+use std::sync::Wait;
 use std::thread::Threads;
 
 /// The output bits that a garbled file and label files of a circuit decode to, by so many workers. That this is the
 /// digest of the circuit's canonical text is the caller's condition.
-pub fn evaluate_files<R: Threads + Sync, A: Allocator + Copy + Send + Sync>(
+pub fn evaluate_files<R: Threads + Wait + Sync, A: Allocator + Copy + Send + Sync>(
     rt: &R,
     alloc: A,
     circuit: &Circuit<A>,

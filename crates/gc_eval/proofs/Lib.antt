@@ -1,4 +1,5 @@
 pub mod BoardLabels
-pub mod RunLemmas
-pub mod GatherLemmas
 pub mod ClosedLemmas
+pub mod GatherLemmas
+pub mod LayerAnswers
+pub mod RunLemmas

@@ -11,16 +11,21 @@ ghost use Rattle.gc_eval.specs.Workers.{IsWorkerOf, AreWorkersOf};
 
 use crate::seat::EvalBoard;
 use crate::worker::{Worker, muster, seats_of};
-use gc_gatehouse::{Gatehouse, MAX_WORKERS};
+use gc_circuit::Memory;
+use gc_gatehouse::{Gatehouse, MAX_WORKERS, tell_all};
 use gc_job::{EvalFault, Job, evaluate};
+use gc_layers::{Way, evaluate_by_layers, way_of};
 use std::alloc::Allocator;
+use std::sync::Wait;
 use std::thread;
 use std::thread::Threads;
 
 /// Evaluates a job by so many workers: the answer is what [`evaluate`] answers, honest job or not. The calling thread is
 /// worker 0; a thread is started for each other worker, and where one can't be started the calling thread does its work
-/// too. `house` is told of each gate ahead of each step. Where the workers can't have a board, the job is evaluated on
-/// one thread.
+/// too. With one worker, and where few gates are AND or many near each other can be evaluated at once, worker 0 goes from
+/// gate to gate and all evaluate the AND gates that it passed ([`evaluate_by_layers`]); where next to none are AND it
+/// evaluates alone. Else each has a seat at a board. `house` is told of each gate before it is evaluated, and ahead of
+/// each step at a board. Where the workers can't have the memory for this, the job is evaluated on one thread.
 ///
 /// It refuses 0 workers and more than [`MAX_WORKERS`]: 22.
 pub fn evaluate_many<
@@ -28,7 +33,7 @@ pub fn evaluate_many<
     B: Allocator + Copy + Send + Sync,
     C: Allocator + Send + Sync,
     H: Gatehouse + Sync,
-    R: Threads + Sync,
+    R: Threads + Wait + Sync,
 >(rt: &R, alloc: B, job: &Job<'_, A, C>, workers: u32, house: &H) -> Result<Vec<bool, B>, EvalFault>
     ensures evaluated { IsEvaluatedBy workers job.now
         (result_map_both (λ bits. bits.items) (λ fault. fault) result) }
@@ -41,10 +46,65 @@ pub fn evaluate_many<
     }
     // A job is whole, which its circuit is told with.
     let _ = job.circuit();
-    match evaluate_together(rt, alloc, job, workers, house)? {
+    match evaluate_by_many(rt, alloc, job, workers, house)? {
         Some(bits) => Ok(bits),
-        None => evaluate(alloc, job),
+        None => {
+            tell_all(house, job.circuit().gates());
+            evaluate(alloc, job)
+        }
     }
+}
+
+/// What the workers evaluate by layers or on a board. There is no answer where there is no memory for it, or where one
+/// thread does as well.
+fn evaluate_by_many<
+    A: Allocator + Send + Sync,
+    B: Allocator + Copy + Send + Sync,
+    C: Allocator + Send + Sync,
+    H: Gatehouse + Sync,
+    R: Threads + Wait + Sync,
+>(
+    rt: &R,
+    alloc: B,
+    job: &Job<'_, A, C>,
+    workers: u32,
+    house: &H,
+) -> Result<Option<Vec<bool, B>>, EvalFault>
+    requires { AreFew workers }
+    ensures ok { IfOk result (λ o. IfSome o (λ v. IsEvaluated job.now (Ok v.items))) }
+    ensures err { IfErr result (λ fault. IsEvaluated job.now (Err fault)) }
+{
+    match way_of(alloc, job.circuit(), workers) {
+        Ok(Way::Layers) => evaluate_layers(rt, alloc, job, workers, house),
+        Ok(Way::Together) => evaluate_together(rt, alloc, job, workers, house),
+        Ok(Way::Alone) | Err(Memory) => Ok(None),
+    }
+}
+
+/// What the workers evaluate by layers. There is no answer where there is no memory for it.
+fn evaluate_layers<
+    A: Allocator + Send + Sync,
+    B: Allocator + Copy + Send + Sync,
+    C: Allocator + Send + Sync,
+    H: Gatehouse + Sync,
+    R: Threads + Wait + Sync,
+>(
+    rt: &R,
+    alloc: B,
+    job: &Job<'_, A, C>,
+    workers: u32,
+    house: &H,
+) -> Result<Option<Vec<bool, B>>, EvalFault>
+    ensures ok { IfOk result (λ o. IfSome o (λ v. IsEvaluated job.now (Ok v.items))) }
+    ensures err { IfErr result (λ fault. IsEvaluated job.now (Err fault)) }
+{
+    // A job is whole, which its circuit is told with.
+    let circuit = job.circuit();
+    let found = evaluate_by_layers(rt, alloc, circuit, job.rows(), job.inputs(), workers, house);
+    let Ok(Some(labels)) = found else {
+        return Ok(None);
+    };
+    Ok(Some(job.decode(alloc, &labels)?))
 }
 
 /// What the workers evaluate on a board. There is no answer where there is no memory for it, or where an output wire

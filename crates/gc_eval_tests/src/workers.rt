@@ -6,11 +6,12 @@ use gc_eval::{EvalFault, Job, evaluate, evaluate_many};
 use gc_file::{LabelFile, Version, read_garbled, read_labels};
 use gc_refusing::Refusing;
 use gc_work::Open;
-use gc_worked::circuits::{FULL_ADDER, many_ands};
+use gc_worked::circuits::{FULL_ADDER, and_chains, many_ands};
 use gc_worked::files::{label_file, write};
 use gc_worked::meeting::Meeting;
 use gc_worked::random::{Numbers, forge_labels, forge_rows, random_circuit, random_window};
 use std::alloc::Global;
+use std::sync::Wait;
 use std::test::Fail;
 use std::thread::Threads;
 
@@ -25,16 +26,26 @@ fn job_on_zeros<'c>(alloc: Global, circuit: &'c Circuit, text: &str) -> Result<J
     Ok(Job::bind(alloc, circuit, garbled, &labels)?)
 }
 
-/// Two workers step the gates of 2,000 independent AND gates.
+/// Whether two workers meet as they evaluate a circuit, and answer what one thread answers.
+fn meet<R: Threads + Wait + Sync>(rt: &R, alloc: Global, text: &str) -> Result<bool, Fail> {
+    let circuit = Circuit::read(alloc, text.as_bytes())?;
+    let job = job_on_zeros(alloc, &circuit, text)?;
+    let house = Meeting::new();
+    let found = evaluate_many(rt, alloc, &job, 2, &house);
+    Ok(house.has_met() && found == evaluate(alloc, &job))
+}
+
+/// Two workers evaluate 2,000 independent AND gates.
 #[test]
 fn two_evaluators_meet(rt: HostRuntime) -> Result<(), Fail> {
-    let text = many_ands(rt.alloc(), 2000)?;
-    let circuit = Circuit::read(rt.alloc(), text.as_bytes())?;
-    let job = job_on_zeros(rt.alloc(), &circuit, text.as_str())?;
-    let house = Meeting::new();
-    let found = evaluate_many(&rt, rt.alloc(), &job, 2, &house);
-    assert!(rt; house.has_met());
-    assert_eq!(rt; found, evaluate(rt.alloc(), &job));
+    assert!(rt; meet(&rt, rt.alloc(), many_ands(rt.alloc(), 2000)?.as_str())?);
+    Ok(())
+}
+
+/// Forty chains, whose layers are of one gate, are evaluated at a board.
+#[test]
+fn two_evaluators_meet_at_a_board(rt: HostRuntime) -> Result<(), Fail> {
+    assert!(rt; meet(&rt, rt.alloc(), and_chains(rt.alloc(), 40, 50)?.as_str())?);
     Ok(())
 }
 
@@ -55,7 +66,7 @@ fn refuses_numbers_of_workers(rt: HostRuntime) -> Result<(), Fail> {
 }
 
 /// Whether each of these numbers of workers answers what one thread answers.
-fn agree<R: Threads + Sync>(rt: &R, alloc: Global, job: &Job, numbers: &[u32]) -> bool {
+fn agree<R: Threads + Wait + Sync>(rt: &R, alloc: Global, job: &Job, numbers: &[u32]) -> bool {
     let wanted = evaluate(alloc, job);
     numbers.iter().all(|workers| evaluate_many(rt, alloc, job, *workers, &Open) == wanted)
 }
@@ -110,7 +121,10 @@ fn random_jobs(rt: HostRuntime) -> Result<(), Fail> {
         forge_rows(&mut file, &mut numbers, 32 * circuit.and_count() as usize)?;
         let labels = random_labels(alloc, &circuit, &mut numbers)?;
         let job = Job::bind(alloc, &circuit, read_garbled(alloc, &file)?, &labels)?;
-        assert!(rt; agree(&rt, alloc, &job, &[2, 3, 4, 5, 6, 7, 8]), "job {i}");
+        assert!(rt;
+            agree(&rt, alloc, &job, &[1, 2, 3, 4, 5, 6, 7, 8]),
+            "job {i}"
+        );
     }
     Ok(())
 }
@@ -126,9 +140,25 @@ fn many_blocks(rt: HostRuntime) -> Result<(), Fail> {
     Ok(())
 }
 
+/// Circuits whose AND gates are evaluated in blocks, and a chain of which next to none can be at once.
+#[test]
+fn many_layers(rt: HostRuntime) -> Result<(), Fail> {
+    let alloc = rt.alloc();
+    for text in [
+        many_ands(alloc, 3001)?,
+        and_chains(alloc, 50, 70)?,
+        and_chains(alloc, 1, 3000)?,
+    ] {
+        let circuit = Circuit::read(alloc, text.as_bytes())?;
+        let job = job_on_zeros(alloc, &circuit, text.as_str())?;
+        assert!(rt; agree(&rt, alloc, &job, &[1, 2, 4]));
+    }
+    Ok(())
+}
+
 /// With growth 1, 2, 3, .. refused, so many workers give the answer of one thread, or the fault for memory. The answer is
 /// how many runs met a refusal.
-fn refused_runs<R: Threads + Sync>(
+fn refused_runs<R: Threads + Wait + Sync>(
     rt: &R,
     alloc: Global,
     job: &Job,
@@ -149,13 +179,25 @@ fn refused_runs<R: Threads + Sync>(
     Err(Fail::new("each run met a refusal"))
 }
 
-/// The board takes memory six times, the workers once each and once together, the seats that are back once, and the output
-/// labels and bits once each.
+/// Which way to go takes memory once, the board six times, the workers once each and once together, the seats that are back
+/// once, and the output labels and bits once each. By layers one worker takes memory for all of its tables, a block, the
+/// output labels and the bits.
 #[test]
 fn each_growth_refused(rt: HostRuntime) -> Result<(), Fail> {
     let circuit = Circuit::read(rt.alloc(), FULL_ADDER.as_bytes())?;
     let job = job_on_zeros(rt.alloc(), &circuit, FULL_ADDER)?;
-    assert_eq!(rt; refused_runs(&rt, rt.alloc(), &job, 2)?, 12);
-    assert_eq!(rt; refused_runs(&rt, rt.alloc(), &job, 64)?, 74);
+    assert_eq!(rt; refused_runs(&rt, rt.alloc(), &job, 1)?, 19);
+    assert_eq!(rt; refused_runs(&rt, rt.alloc(), &job, 2)?, 13);
+    assert_eq!(rt; refused_runs(&rt, rt.alloc(), &job, 64)?, 75);
+    Ok(())
+}
+
+/// Two workers that go by layers: there are AND gates enough for a second thread.
+#[test]
+fn each_growth_of_layers_refused(rt: HostRuntime) -> Result<(), Fail> {
+    let text = many_ands(rt.alloc(), 1100)?;
+    let circuit = Circuit::read(rt.alloc(), text.as_bytes())?;
+    let job = job_on_zeros(rt.alloc(), &circuit, text.as_str())?;
+    assert!(rt; refused_runs(&rt, rt.alloc(), &job, 2)? > 8);
     Ok(())
 }
