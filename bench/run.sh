@@ -30,9 +30,9 @@ times() { "$bench" "$2" "$3" "${@:4}" | sed "s/^/$1_/; s/ /=/"; }
 eval "$(times half "$circuit" 9 read plain hashes lanes eight_lanes garble evaluate digest sha)"
 eval "$(times xor "$tmp/xor.txt" 25 open seal store)"
 eval "$(times xor "$tmp/xor.txt" 25 garble)"
-eval "$(times half "$circuit" 5 job job1 job4)"
+eval "$(times half "$circuit" 5 job board job1 job4)"
 python3 "$top/bench/make_circuit.py" 1000000 1 "$tmp/and.txt" independent
-eval "$(times and "$tmp/and.txt" 5 job job1 job4)"
+eval "$(times and "$tmp/and.txt" 5 job job4)"
 python3 "$top/bench/make_circuit.py" 7000 1 "$tmp/ands.txt" independent
 eval "$(times ands "$tmp/ands.txt" 5 list list1 list4)"
 eval "$(times file "$circuit" 9 file_sha write digest read_file pieces)"
@@ -56,8 +56,8 @@ echo "hashes eight at once: $(ratio "$half_eight_lanes" "$half_lanes") the same 
 echo "garbling on one thread: $half_garble ns, $(ratio "$half_garble" "$half_hashes") its hashes one after another (at most 0.5), and $(ratio "$half_garble" "$half_lanes") the same hashes four at once"
 echo "garbling XOR gates: $(per_gate "$xor_garble" "$xor_gates") (at most 8)"
 echo "evaluation from labels: $half_evaluate ns, $(ratio "$((2 * half_evaluate))" "$half_hashes") its hashes one after another (at most 0.65), and $(ratio "$((2 * half_evaluate))" "$half_lanes") the same hashes four at once"
-echo "evaluating at a board by one worker: $(per_gate "$((half_job1 - half_job))" "$half_gates") above one thread without one (at most 60)"
-echo "  by four workers: $(ratio "$half_job" "$half_job4") as fast as on one thread (at least 1.8); of independent AND gates $(ratio "$and_job" "$and_job4") (at least 3)"
+echo "evaluating at a board of one seat: $(per_gate "$((half_board - half_job))" "$half_gates") above one thread without one (at most 60)"
+echo "evaluating by one worker: $(ratio "$half_job" "$half_job1") as fast as on one thread, by four $(ratio "$half_job" "$half_job4") (at least 1.8); independent AND gates by four $(ratio "$and_job" "$and_job4") (at least 3)"
 echo "a thousand jobs on 7,000 independent AND gates: by four workers $(ratio "$ands_list4" "$ands_list") as long as one after another (at most 0.45), by one $(ratio "$ands_list1" "$ands_list") (at most 1.3)"
 echo "the store above sealing: $(per_gate "$((xor_store - xor_open - xor_seal))" "$xor_gates") (at most 30), and its opening with a copy of the circuit $(per_gate "$xor_open" "$xor_gates")"
 echo "digest: $half_digest ns, $(ratio "$half_digest" "$half_sha") SHA-256 over the canonical text (at most 1.5)"
@@ -67,8 +67,8 @@ echo "reading it: whole $(ratio "$file_read_file" "$file_file_sha"), in pieces o
 # Garbling by several workers, beside one thread in the same run.
 workers() {
     python3 "$top/bench/make_circuit.py" 1000000 "$2" "$tmp/workers.txt" $3
-    eval "$(times w "$tmp/workers.txt" 5 garble garble2 garble4)"
-    echo "$1: by two workers $(ratio "$w_garble" "$w_garble2") as fast as by one thread, by four $(ratio "$w_garble" "$w_garble4")"
+    eval "$(times w "$tmp/workers.txt" 5 garble garble1 garble2 garble4)"
+    echo "$1: by one worker $(ratio "$w_garble" "$w_garble1") as fast as by one thread, by two $(ratio "$w_garble" "$w_garble2"), by four $(ratio "$w_garble" "$w_garble4")"
 }
 workers "a million independent AND gates (by four at least 3.4)" 1 independent
 workers "independent gates, half of them AND" 0.5 independent

@@ -7,6 +7,7 @@ use gc_file::{LabelFile, MemSink, read_garbled, read_labels, write_labels};
 use gc_label::Seed;
 use gc_work::Open;
 use std::alloc::Global;
+use std::sync::Wait;
 use std::thread::Threads;
 
 /// The job of a garbled file and of label files for these values, dealt under the seed.
@@ -48,7 +49,12 @@ pub fn alone(alloc: Global, job: &Job) -> Result<()> {
 }
 
 /// Evaluates the job by so many workers.
-pub fn by_workers<R: Threads + Sync>(rt: &R, alloc: Global, job: &Job, workers: u32) -> Result<()> {
+pub fn by_workers<R: Threads + Wait + Sync>(
+    rt: &R,
+    alloc: Global,
+    job: &Job,
+    workers: u32,
+) -> Result<()> {
     evaluate_many(rt, alloc, job, workers, &Open)?;
     Ok(())
 }

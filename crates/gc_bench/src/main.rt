@@ -1,6 +1,7 @@
 //! Times the parts of the program on a circuit file, for the scripts in `bench/`.
 #![tactic(auto)]
 
+mod boards;
 mod evaluations;
 mod lists;
 mod measures;

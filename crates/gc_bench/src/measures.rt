@@ -1,5 +1,6 @@
 //! The parts that are timed.
 
+use crate::boards::at_a_board;
 use crate::evaluations::{alone, by_workers, job_of};
 use crate::lists::{one_after_another, together};
 use crate::part::Part;
@@ -146,9 +147,11 @@ impl Subject {
             Part::Open => open_once(alloc, &self.circuit, self.seed),
             Part::Store => garble_once(alloc, &self.circuit, self.seed),
             Part::Seal => self.seal(),
+            Part::Garble1 => self.garble(rt, alloc, 1),
             Part::Garble2 => self.garble(rt, alloc, 2),
             Part::Garble4 => self.garble(rt, alloc, 4),
             Part::Job => alone(alloc, job),
+            Part::Board => at_a_board(alloc, job),
             Part::Job1 => by_workers(rt, alloc, job, 1),
             Part::Job2 => by_workers(rt, alloc, job, 2),
             Part::Job4 => by_workers(rt, alloc, job, 4),

@@ -23,13 +23,17 @@ pub enum Part {
     Store,
     /// Sealing the same tasks alone.
     Seal,
-    /// Garbling by two workers over a shared store.
+    /// Garbling by one worker.
+    Garble1,
+    /// The same by two workers.
     Garble2,
-    /// Garbling by four workers over a shared store.
+    /// The same by four workers.
     Garble4,
     /// Evaluation of a job on one thread.
     Job,
-    /// Evaluation of a job at a board, by one worker.
+    /// Evaluation of a job at a board of one seat.
+    Board,
+    /// Evaluation of a job by one worker.
     Job1,
     /// The same by two workers.
     Job2,
@@ -56,7 +60,7 @@ pub enum Part {
 }
 
 /// All parts.
-const PARTS: [Part; 25] = [
+const PARTS: [Part; 27] = [
     Part::Read,
     Part::Plain,
     Part::Garble,
@@ -67,9 +71,11 @@ const PARTS: [Part; 25] = [
     Part::Open,
     Part::Store,
     Part::Seal,
+    Part::Garble1,
     Part::Garble2,
     Part::Garble4,
     Part::Job,
+    Part::Board,
     Part::Job1,
     Part::Job2,
     Part::Job4,
@@ -111,9 +117,11 @@ impl Part {
             Part::Open => "open",
             Part::Store => "store",
             Part::Seal => "seal",
+            Part::Garble1 => "garble1",
             Part::Garble2 => "garble2",
             Part::Garble4 => "garble4",
             Part::Job => "job",
+            Part::Board => "board",
             Part::Job1 => "job1",
             Part::Job2 => "job2",
             Part::Job4 => "job4",
