@@ -7,6 +7,5 @@ pub mod OpenLemmas
 pub mod GarblingLemmas
 pub mod CountLemmas
 pub mod ReopenLemmas
-pub mod FilledLemmas
 pub mod AwaitedLemmas
 pub mod ClaimLemmas

@@ -11,7 +11,6 @@ mod progress;
 mod refusal;
 mod shared;
 mod store;
-mod table;
 mod tally;
 mod task;
 

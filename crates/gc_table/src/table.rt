@@ -1,9 +1,8 @@
-//! A table that is filled as far as it is used.
+//! The table.
 
-ghost use Rattle.std.specs.Prelude.{◌≡◌, ◌<◌, ◌≤◌, ◌-◌, ◌++◌, IfOk, length, replicate, slice_set, vec_len, vec_capacity};
+ghost use Rattle.std.specs.Prelude.{◌≡◌, ◌<◌, ◌≤◌, ◌-◌, ◌++◌, IfOk, Some, length, replicate, slice_get, slice_set, vec_len, vec_capacity};
 
-use gc_circuit::Memory;
-use std::alloc::Allocator;
+use std::alloc::{AllocError, Allocator};
 use std::marker::Model;
 
 /// How many entries are filled at once.
@@ -11,9 +10,9 @@ const STRETCH: usize = 256;
 
 /// So many entries, each of one value until it is set. The memory for all is taken at the opening, but written only
 /// as far as entries are set: so a page of it is first touched by whoever sets an entry there, and not by the
-/// opening thread.
+/// opening thread. No call but [`Table::open`] takes memory.
 #[derive(Drop)]
-pub(crate) struct Table<T: Copy, A: Allocator> {
+pub struct Table<T: Copy, A: Allocator> {
     // The first entries, as far as they are filled.
     filled: Vec<T, A>,
     // What each entry after them is.
@@ -31,9 +30,9 @@ impl<T: Copy, A: Allocator> Model for Table<T, A> {
     ghost invariant = { λ t. (vec_len t.filled ≤ t.len) × (t.len ≤ vec_capacity t.filled) };
 }
 
-impl<T: Copy, A: Allocator + Copy> Table<T, A> {
-    /// So many entries of one value. It takes all the memory that is needed.
-    pub(crate) fn open(alloc: A, unset: T, len: u32) -> Result<Table<T, A>, Memory>
+impl<T: Copy, A: Allocator> Table<T, A> {
+    /// So many entries of one value. It takes all the memory that is needed, once.
+    pub fn open(alloc: A, unset: T, len: u32) -> Result<Table<T, A>, AllocError>
         ensures { IfOk result (λ t. t ≡ replicate len unset) }
     {
         Ok(Table {
@@ -42,12 +41,22 @@ impl<T: Copy, A: Allocator + Copy> Table<T, A> {
             len: len as usize,
         })
     }
-}
 
-impl<T: Copy, A: Allocator> Table<T, A> {
-    /// Sets an entry.
+    /// An entry. That there is one at this place is the caller's condition.
     #[inline]
-    pub(crate) fn set(&mut self, i: u32, entry: T)
+    pub fn get(&self, i: u32) -> T
+        requires { i < length self.now }
+        ensures { slice_get self.now i ≡ Some result }
+    {
+        match self.filled.get(i as usize) {
+            Some(entry) => *entry,
+            None => self.unset,
+        }
+    }
+
+    /// Sets an entry. That there is one at this place is the caller's condition.
+    #[inline]
+    pub fn set(&mut self, i: u32, entry: T)
         requires { i < length self.old }
         ensures { self.new ≡ slice_set self.old i entry }
     {
@@ -60,7 +69,7 @@ impl<T: Copy, A: Allocator> Table<T, A> {
     }
 
     /// All entries.
-    pub(crate) fn into_entries(self) -> Vec<T, A>
+    pub fn into_entries(self) -> Vec<T, A>
         ensures { result.items ≡ self }
     {
         let Table {

@@ -1,8 +1,8 @@
 use Rattle.std.proofs.Common.{◌≡◌, ◌<◌, ◌≤◌, ◌-◌, ◌++◌, length, set, replicate, vec_len, sym, subst, arith}
-use Rattle.gc_store.specs.declared.table.Table.TheInside.{Inside}
-use Rattle.gc_store.proofs.FilledLemmas.{set_filled, filled_up, filled_length}
-use Rattle.gc_store.proofs.table.Table.set.Goals as goal
-use Rattle.gc_store.proofs.table.Table.set.Goals.{then-i-len, else-i-len}
+use Rattle.gc_table.specs.declared.table.Table.TheInside.{Inside}
+use Rattle.gc_table.proofs.FilledLemmas.{set_filled, filled_up, filled_length}
+use Rattle.gc_table.proofs.table.Table.set.Goals as goal
+use Rattle.gc_table.proofs.table.Table.set.Goals.{then-i-len, else-i-len}
 
 pub returns : goal.returns
 returns g c =
