@@ -1,5 +1,5 @@
 -- A labelling that is partly there.
-use Rattle.std.proofs.Common.{◌≡◌, ◌≢◌, ℕ, ◌<◌, ◌⊎◌, inl, inr, List, length, length-set, set, get_or, slice_index, refl, sym, ap, subst, ◌∙◌, arith}
+use Rattle.std.proofs.Common.{◌≡◌, ◌≢◌, ℕ, ◌+◌, ◌<◌, ◌≤◌, ◌⊎◌, inl, inr, List, length, length-set, set, get_or, slice_index, refl, sym, ap, subst, ◌∙◌, arith}
 use Rattle.std.proofs.lemmas.Bool.{cases_eq}
 use Rattle.std.proofs.lemmas.List.{get_or-set_same, get_or-set_other}
 use Rattle.gc_netlist.specs.declared.gate.Operation.{Operation}
@@ -42,6 +42,31 @@ module _ {A : Type 0} (whole : ℕ → A) (none : A) (IsBlank : A → Type 0) wh
       | inr now ↦ now
     ];
   }
+
+-- Four things that are put at four places in a row stand there.
+module _ {A : Type 0} (made : List A) (n : ℕ) (w x y z : A) where
+  abbrev one : List A
+  one = set made n w
+
+  abbrev two : List A
+  two = set one (n + 1) x
+
+  abbrev three : List A
+  three = set two (n + 2) y
+
+  pub four-put : (d : A) → n + 4 ≤ length made → let all = set three (n + 3) z in
+      (get_or all n d ≡ w) × (get_or all (n + 1) d ≡ x) × (get_or all (n + 2) d ≡ y) × (get_or all (n + 3) d ≡ z)
+  four-put d room =
+      let l = length-set made n w in
+      let m = length-set one (n + 1) x in
+      let k = length-set two (n + 2) y in (
+        get_or-set_other three (n + 3) n z d (omega arith) ∙ get_or-set_other two (n + 2) n y d (omega arith)
+            ∙ get_or-set_other one (n + 1) n x d (omega arith) ∙ get_or-set_same made n w d (omega arith),
+        get_or-set_other three (n + 3) (n + 1) z d (omega arith)
+            ∙ get_or-set_other two (n + 2) (n + 1) y d (omega arith) ∙ get_or-set_same one (n + 1) x d (omega arith),
+        get_or-set_other three (n + 3) (n + 2) z d (omega arith) ∙ get_or-set_same two (n + 2) y d (omega arith),
+        get_or-set_same three (n + 3) z d (omega arith),
+      )
 
 -- Labels that agree on the wires that an operation reads are read the same.
 pub first-same : (f g : ℕ → ℕ) (op : Operation) → EachRead (λ w. f w ≡ g w) op → first_read f op ≡ first_read g op

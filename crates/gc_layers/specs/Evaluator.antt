@@ -11,7 +11,7 @@ use Rattle.gc_layers.specs.declared.evaluated.ToEvaluate.{ToEvaluate}
 
 -- What evaluating a gate that waits gives: the active label of the wire that it sets.
 abbrev pub active_by : ToEvaluate → ℕ
-active_by gate = and_active hash gate.step.k gate.step.rows.generator gate.step.rows.evaluator gate.step.a gate.step.b
+active_by gate = and_active hash gate.k gate.rows.generator gate.rows.evaluator gate.a gate.b
 
 -- The gate that waits is one of the circuit's AND gates, with its row pair and the active labels of the wires that it
 -- reads.

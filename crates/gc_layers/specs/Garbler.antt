@@ -1,5 +1,5 @@
 -- The garbling of a circuit as a labelling of its wires, partly there.
-use Rattle.std.specs.Prelude.{◌≡◌, ℕ, ◌<◌, List, Option, None, Some, length, slice_index_or, slice_set}
+use Rattle.std.specs.Prelude.{◌≡◌, ℕ, ◌<◌, Bool, List, Option, None, Some, count_by, length, nat_lt, slice_index_or, slice_set}
 use Rattle.gc_netlist.specs.Circuit.{Netlist, IsLawful, and_count}
 use Rattle.gc_label.specs.Seed.{offset_of}
 use Rattle.gc_half.specs.declared.garbling.RowPair.{RowPair}
@@ -31,6 +31,10 @@ with_pair rows k (Some pair) = slice_set rows k pair
 abbrev pub no_rows : RowPair
 no_rows = record { generator = 0; evaluator = 0 }
 
+-- A row pair is there unless the evaluator's row is zero.
+abbrev pub is_present : RowPair → Bool
+is_present pair = nat_lt 0 pair.evaluator
+
 module _ (c : Netlist) (seed : List ℕ) where
   -- the row pair of the circuit's k-th AND gate
   abbrev pub row_of : ℕ → RowPair
@@ -54,8 +58,9 @@ pub record GarblerParts : Type 0 where
   pub circuit : Netlist
   pub seed : List ℕ
 
--- The offset is the seed's, and the row pairs are right as far as they are there.
-pub record IsGarbler (of : GarblerParts) (offset : ℕ) (rows : List RowPair) : Type 0 where
+-- The offset is the seed's, and the row pairs are right as far as they are there. So many of them are.
+pub record IsGarbler (of : GarblerParts) (offset : ℕ) (rows : List RowPair) (present : ℕ) : Type 0 where
   pub lawful : IsLawful of.circuit
   pub is_offset : offset ≡ offset_of of.seed
   pub are_rows : AreRows of.circuit of.seed 0 rows
+  pub counted : present ≡ count_by is_present rows

@@ -34,15 +34,16 @@ AreMarked label_of marks labels = (w : ℕ) → slice_index_or marks w Absent �
 
 -- All that is there is the labelling's: the labels, their marks, and the gates that wait; those that are postponed are of
 -- the same circuit.
-pub record IsLayer {P : Type 0} (c : Netlist) (label_of : ℕ → ℕ) (IsPending : P → Type 0) (circuit : Netlist)
-    (labels : List ℕ) (marks : List Mark) (waiting lent : List P) (postponed : Netlist) : Type 0 where
+pub record IsLayer {P Slot : Type 0} (c : Netlist) (label_of : ℕ → ℕ) (IsPending : P → Type 0)
+    (gates_of : Slot → List P) (circuit : Netlist) (labels : List ℕ) (marks : List Mark) (waiting : List P)
+    (lent : List Slot) (postponed : Netlist) : Type 0 where
   pub same : c ≡ circuit
   pub lawful : IsLawful circuit
   pub are_labels : AreLabels circuit label_of 0 labels
   pub are_marks : AreMarked label_of marks labels
   pub as_many : length marks ≡ circuit.wires
   pub are_pending : All IsPending waiting
-  pub are_lent : All IsPending lent
+  pub are_lent : All (λ slot. All IsPending (gates_of slot)) lent
   pub are_postponed : postponed ≡ circuit
 
 -- The labels of a circuit's wires, right as far as they are there, and a mark for each wire.

@@ -10,7 +10,7 @@ use std::alloc::Allocator;
 use std::marker::Model;
 
 /// How many gates a block has at the most.
-pub(crate) const BLOCK: usize = 32;
+pub(crate) const BLOCK: usize = 64;
 
 /// At most [`BLOCK`] AND gates that are made together, and room for what making them gives.
 #[derive(Drop)]
@@ -28,7 +28,7 @@ impl<P: Pending, A: Allocator> Model for Block<P, A> {
 
     ghost view = { λ t. t.gates.items };
 
-    ghost invariant = { λ t. (length t.gates.items ≤ 32) × (length t.made.items ≡ 32) };
+    ghost invariant = { λ t. (length t.gates.items ≤ 64) × (length t.made.items ≡ 64) };
 }
 
 impl<P: Pending, A: Allocator + Copy> Block<P, A> {
@@ -50,7 +50,7 @@ impl<P: Pending, A: Allocator> Block<P, A> {
 
     /// Puts gates in place of those that it has.
     pub(crate) fn fill(&mut self, number: usize, gates: &[P]) -> Result<(), Memory>
-        requires { length gates.now ≤ 32 }
+        requires { length gates.now ≤ 64 }
         ensures { OnOk result (self.new ≡ gates.now) }
     {
         self.number = number;
@@ -99,7 +99,7 @@ impl<P: Pending, A: Allocator> Model for Sealed<P, A> {
 
     ghost view = { λ t. t.gates.items };
 
-    ghost invariant = { λ t. (length t.gates.items ≤ 32) × (length t.made.items ≡ 32)
+    ghost invariant = { λ t. (length t.gates.items ≤ 64) × (length t.made.items ≡ 64)
         × AreMade P.made_of t.gates.items t.made.items };
 }
 

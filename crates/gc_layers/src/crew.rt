@@ -1,8 +1,8 @@
 //! The threads that make blocks, as the one sees them that goes from gate to gate.
 
-ghost use Rattle.std.specs.Prelude.{◌≡◌, ◌≤◌, IfOk, length};
+ghost use Rattle.std.specs.Prelude.{◌≡◌, ◌≤◌, IfOk, [], length};
 
-use crate::block::{Block, Sealed};
+use crate::block::{BLOCK, Block, Sealed};
 use crate::exchange::{Exchange, Finding};
 use crate::pending::Pending;
 use gc_circuit::Memory;
@@ -10,8 +10,11 @@ use gc_gatehouse::Gatehouse;
 use std::alloc::Allocator;
 use std::sync::Wait;
 
-/// Others may soon want for blocks where they have fewer than so many.
+/// Others may soon want for blocks where they have fewer than so many,
 const FEW: usize = 8;
+
+/// and they have enough for a while where they have so many.
+const MANY: usize = 24;
 
 /// Blocks that others make, or that are made here, by worker 0.
 #[derive(Drop)]
@@ -49,10 +52,16 @@ impl<'e, P: Pending, A: Allocator + Copy, H: Gatehouse> Crew<'e, P, A, H> {
         self.is_alone
     }
 
-    /// Whether the others have so few blocks that they may soon want for more.
+    /// How many gates that wait are a block: the fewer, the sooner the others may want for one.
     #[inline]
-    pub(crate) fn is_short(&self) -> bool {
-        !self.is_alone && self.out < FEW
+    pub(crate) fn gates_of_block(&self) -> usize {
+        if self.is_alone || self.out >= MANY {
+            BLOCK
+        } else if self.out >= FEW {
+            BLOCK / 2
+        } else {
+            BLOCK / 4
+        }
     }
 
     /// Whether no block is with others.
@@ -66,9 +75,16 @@ impl<'e, P: Pending, A: Allocator + Copy, H: Gatehouse> Crew<'e, P, A, H> {
         self.house.before(0, gate);
     }
 
+    /// Room for the gates of a block.
+    pub(crate) fn room(&self) -> Result<Vec<P, A>, Memory>
+        ensures { IfOk result (λ v. v.items ≡ []) }
+    {
+        Ok(Vec::with_capacity(self.alloc, BLOCK)?)
+    }
+
     /// A block with these gates.
     fn filled(&mut self, number: usize, gates: &[P]) -> Result<Block<P, A>, Memory>
-        requires { length gates.now ≤ 32 }
+        requires { length gates.now ≤ 64 }
         ensures { IfOk result (λ b. b ≡ gates.now) }
     {
         let mut block = match self.free.pop() {
@@ -86,7 +102,7 @@ impl<'e, P: Pending, A: Allocator + Copy, H: Gatehouse> Crew<'e, P, A, H> {
         number: usize,
         gates: &[P],
     ) -> Result<bool, Memory>
-        requires { length gates.now ≤ 32 }
+        requires { length gates.now ≤ 64 }
     {
         let block = self.filled(number, gates)?;
         let has_room = self.exchange.offer(rt, block);
@@ -98,7 +114,7 @@ impl<'e, P: Pending, A: Allocator + Copy, H: Gatehouse> Crew<'e, P, A, H> {
 
     /// These gates, made here.
     pub(crate) fn seal(&mut self, gates: &[P]) -> Result<Sealed<P, A>, Memory>
-        requires { length gates.now ≤ 32 }
+        requires { length gates.now ≤ 64 }
         ensures { IfOk result (λ s. s ≡ gates.now) }
     {
         let block = self.filled(0, gates)?;

@@ -1,19 +1,38 @@
 //! AND gates that wait to be evaluated.
 
-ghost use Rattle.std.specs.Prelude.{◌≡◌, ℕ, ◌<◌, ◌≤◌, ◌+◌, ◌*◌, ◌↔◌, IsTrue, Some, length, slice_get, slice_index_or};
+ghost use Rattle.std.specs.Prelude.{◌≡◌, ℕ, ◌<◌, ◌≤◌, ◌+◌, ◌*◌, ◌↔◌, ◌∷◌, [], IsTrue, Some, length, map, slice_get, slice_index_or};
+ghost use Rattle.gc_half.specs.Hash.{hash};
+ghost use Rattle.gc_half.specs.HalfGate.{and_active};
 ghost use Rattle.gc_layers.specs.Layer.{AreMade};
 ghost use Rattle.gc_layers.specs.Evaluator.{active_by};
 
 use crate::pending::Pending;
-use gc_half::{AndStep, eval_and, eval_four_ands};
+use gc_half::{AndStep, RowPair, eval_and, eval_four_ands};
 use gc_label::Label;
 
-/// An AND gate that waits to be evaluated, its place in the file, and the wire that it sets.
+/// An AND gate that waits to be evaluated, as [`AndStep`] has it, its place in the file, and the wire that it sets.
 #[derive(Clone, Copy, PartialEq, Eq)]
 pub(crate) struct ToEvaluate {
     pub place: u32,
+    pub k: u32,
     pub set: u32,
-    pub step: AndStep,
+    pub rows: RowPair,
+    pub a: Label,
+    pub b: Label,
+}
+
+impl ToEvaluate {
+    #[inline]
+    fn step(&self) -> AndStep
+        ensures { result ≡ record { k = self.now.k; rows = self.now.rows; a = self.now.a; b = self.now.b } }
+    {
+        AndStep {
+            k: self.k,
+            rows: self.rows,
+            a: self.a,
+            b: self.b,
+        }
+    }
 }
 
 /// Whether these are the same gates.
@@ -21,6 +40,15 @@ fn are_same(left: &[ToEvaluate], right: &[ToEvaluate]) -> bool
     ensures { IsTrue result ↔ (left.now ≡ right.now) }
 {
     left == right
+}
+
+/// The steps of four gates.
+#[inline]
+fn steps_of(a: &ToEvaluate, b: &ToEvaluate, c: &ToEvaluate, d: &ToEvaluate) -> [AndStep; 4]
+    ensures { map (λ step. and_active hash step.k step.rows.generator step.rows.evaluator step.a step.b) result
+        ≡ active_by a.now ∷ active_by b.now ∷ active_by c.now ∷ active_by d.now ∷ [] }
+{
+    [a.step(), b.step(), c.step(), d.step()]
 }
 
 /// Evaluates the four gates from place 4 * i on, at once. That there are four is the caller's condition.
@@ -31,12 +59,12 @@ fn evaluate_four(gates: &[ToEvaluate], made: &mut [Label], i: usize)
     ensures now { (j : ℕ) (gate : _) (d : _) → 4 * i ≤ j → j < 4 * i + 4 → slice_get gates.now j ≡ Some gate
         → slice_index_or made.new j d ≡ active_by gate }
 {
-    let [a, b, c, d] = eval_four_ands([
-        gates[4 * i].step,
-        gates[4 * i + 1].step,
-        gates[4 * i + 2].step,
-        gates[4 * i + 3].step,
-    ]);
+    let [a, b, c, d] = eval_four_ands(steps_of(
+        &gates[4 * i],
+        &gates[4 * i + 1],
+        &gates[4 * i + 2],
+        &gates[4 * i + 3],
+    ));
     made[4 * i] = a;
     made[4 * i + 1] = b;
     made[4 * i + 2] = c;
@@ -50,7 +78,7 @@ fn evaluate_one(gates: &[ToEvaluate], made: &mut [Label], i: usize)
     ensures before { (j : ℕ) (d : _) → j < i → slice_index_or made.new j d ≡ slice_index_or made.old j d }
     ensures now { (gate : _) (d : _) → slice_get gates.now i ≡ Some gate → slice_index_or made.new i d ≡ active_by gate }
 {
-    let AndStep { k, rows, a, b } = gates[i].step;
+    let AndStep { k, rows, a, b } = gates[i].step();
     made[i] = eval_and(k, rows.generator, rows.evaluator, a, b);
 }
 

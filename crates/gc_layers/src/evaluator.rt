@@ -12,7 +12,7 @@ use crate::mark::Mark;
 use crate::place::Place;
 use crate::rest::are_marked;
 use gc_circuit::{Circuit, Gate};
-use gc_half::{AndStep, RowPair, evaluate_gate};
+use gc_half::{RowPair, evaluate_gate};
 use gc_label::Label;
 use std::alloc::Allocator;
 use std::marker::Model;
@@ -91,13 +91,11 @@ impl<'c, C: Allocator> Labelling<ToEvaluate> for Evaluator<'c, C> {
     fn pending(&self, place: Place, gate: Gate, first: Label, second: Label) -> ToEvaluate {
         ToEvaluate {
             place: place.gate,
+            k: place.k,
             set: gate.set,
-            step: AndStep {
-                k: place.k,
-                rows: self.rows[place.k as usize],
-                a: first,
-                b: second,
-            },
+            rows: self.rows[place.k as usize],
+            a: first,
+            b: second,
         }
     }
 

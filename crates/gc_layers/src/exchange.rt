@@ -23,6 +23,8 @@ const PAUSE: u32 = 8;
 struct Offers {
     // No more blocks will come.
     closed: bool,
+    // How many threads that take blocks haven't come yet.
+    absent: usize,
     // How many threads sleep for want of a block.
     sleeping: u32,
 }
@@ -66,14 +68,15 @@ fn pause() {
 }
 
 impl<P: Pending, A: Allocator + Copy> Exchange<P, A> {
-    /// An exchange with room for so many blocks, and for one at least.
-    pub(crate) fn open(alloc: A, blocks: usize) -> Result<Exchange<P, A>, Memory> {
+    /// An exchange with room for so many blocks, and for one at least, which so many threads take blocks of.
+    pub(crate) fn open(alloc: A, blocks: usize, helpers: usize) -> Result<Exchange<P, A>, Memory> {
         let room = blocks.max(1);
         Ok(Exchange {
             offered: ArrayQueue::new(alloc, room)?,
             sealed: ArrayQueue::new(alloc, room)?,
             offers: Mutex::new(Offers {
                 closed: false,
+                absent: helpers,
                 sleeping: 0,
             }),
             returns: Mutex::new(Returns {
@@ -196,8 +199,24 @@ impl<P: Pending, A: Allocator> Exchange<P, A> {
         unreachable!()
     }
 
+    /// Sleeps until the last thread comes, a block is offered, or no more will come. Threads that have just been started
+    /// may share a processor for many milliseconds while another is idle; one that is woken gets an idle one.
+    fn come<R: Wait>(&self, rt: &R) {
+        let mut offers = self.offers.lock(rt);
+        offers.absent = offers.absent.saturating_sub(1);
+        if offers.absent == 0 {
+            drop(offers);
+            self.has_offered.notify_all();
+        } else if !offers.closed {
+            offers.sleeping = offers.sleeping.saturating_add(1);
+            offers = self.has_offered.wait(rt, offers);
+            offers.sleeping = offers.sleeping.saturating_sub(1);
+        }
+    }
+
     /// Makes what is offered, as the worker of this number, until no more will come.
     pub(crate) fn help<H: Gatehouse, R: Wait>(&self, rt: &R, house: &H, worker: u32) {
+        self.come(rt);
         for _ in rt.forever() {
             let Some(block) = self.take(rt) else {
                 return;

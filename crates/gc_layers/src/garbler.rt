@@ -1,8 +1,8 @@
 //! The garbling of a circuit as a labelling of its wires.
 
-ghost use Rattle.std.specs.Prelude.{◌≡◌, IfOk, length};
-ghost use Rattle.gc_netlist.specs.Circuit.{IsLawful};
-ghost use Rattle.gc_layers.specs.Garbler.{AreRows, IsGate, garbled_of};
+ghost use Rattle.std.specs.Prelude.{◌≡◌, ◌≢◌, ℕ, ◌<◌, IfOk, IsTrue, length, slice_index_or};
+ghost use Rattle.gc_netlist.specs.Circuit.{IsLawful, and_count};
+ghost use Rattle.gc_layers.specs.Garbler.{AreRows, IsGate, garbled_of, is_present, no_rows, row_of};
 
 use crate::labelling::Labelling;
 use crate::place::Place;
@@ -10,6 +10,7 @@ use crate::waiting::{Garbled, Waiting};
 use gc_circuit::{Circuit, Gate, Memory};
 use gc_half::{RowPair, garble_gate};
 use gc_label::{Label, Offset, Seed, offset};
+use gc_table::Table;
 use std::alloc::Allocator;
 use std::marker::Model;
 
@@ -20,7 +21,17 @@ pub(crate) struct Garbler<'c, A: Allocator, C: Allocator> {
     seed: &'c Seed,
     offset: Offset,
     // By AND number.
-    rows: Vec<RowPair, A>,
+    rows: Table<RowPair, A>,
+    // How many row pairs are there.
+    present: u32,
+}
+
+/// Whether a row pair is there.
+#[inline]
+fn is_present(pair: &RowPair) -> bool
+    ensures { result ≡ is_present pair.now }
+{
+    pair.evaluator != Label::ZERO
 }
 
 impl<'c, A: Allocator, C: Allocator> Model for Garbler<'c, A, C> {
@@ -30,7 +41,7 @@ impl<'c, A: Allocator, C: Allocator> Model for Garbler<'c, A, C> {
 
     ghost view = { λ t. record { circuit = t.circuit.now; seed = t.seed.now } };
 
-    ghost invariant = { λ t. IsGarbler (record { circuit = t.circuit.now; seed = t.seed.now }) t.offset t.rows.items };
+    ghost invariant = { λ t. IsGarbler (record { circuit = t.circuit.now; seed = t.seed.now }) t.offset t.rows t.present };
 }
 
 impl<'c, A: Allocator, C: Allocator> Garbler<'c, A, C> {
@@ -42,21 +53,50 @@ impl<'c, A: Allocator, C: Allocator> Garbler<'c, A, C> {
     ) -> Result<Garbler<'c, A, C>, Memory>
         ensures { IfOk result (λ t. t ≡ record { circuit = circuit.now; seed = seed.now }) }
     {
-        let ands = circuit.and_count() as usize;
+        let ands = circuit.and_count();
         let _ = circuit.gates();
         Ok(Garbler {
             circuit,
             seed,
             offset: offset(seed),
-            rows: Vec::from_elem(alloc, Garbled::NONE.rows, ands)?,
+            rows: Table::open(alloc, Garbled::NONE.rows, ands)?,
+            present: 0,
         })
     }
 
-    /// The row pairs.
-    pub(crate) fn into_rows(self) -> Vec<RowPair, A>
-        ensures { AreRows self.entry.circuit self.entry.seed 0 result.items }
+    /// The row pairs, and whether all are there.
+    pub(crate) fn into_rows(self) -> (Vec<RowPair, A>, bool)
+        ensures rows { AreRows self.entry.circuit self.entry.seed 0 result.0.items }
+        ensures whole { IsTrue result.1 → (k : ℕ) → k < length result.0.items
+            → (slice_index_or result.0.items k no_rows).evaluator ≢ 0 }
     {
-        self.rows
+        let is_whole = self.present == self.circuit.and_count();
+        let Garbler {
+            circuit: _,
+            seed: _,
+            offset: _,
+            rows,
+            present: _,
+        } = self;
+        (rows.into_entries(), is_whole)
+    }
+
+    /// Puts the row pair of the k-th AND gate where it belongs, if it isn't there.
+    #[inline]
+    fn put(&mut self, k: u32, pair: RowPair)
+        requires number { k < and_count self.old.circuit }
+        requires pair { pair ≡ row_of self.old.circuit self.old.seed k }
+        ensures { self.new ≡ self.old }
+    {
+        let old = self.rows.get(k);
+        if is_present(&old) {
+            return;
+        }
+        let is_new = is_present(&pair);
+        self.rows.set(k, pair);
+        if is_new {
+            self.present += 1;
+        }
     }
 }
 
@@ -90,7 +130,7 @@ impl<'c, A: Allocator, C: Allocator> Labelling<Waiting> for Garbler<'c, A, C> {
 
     #[inline]
     fn keep(&mut self, gate: &Waiting, made: &Garbled) -> (u32, Label) {
-        self.rows[gate.k as usize] = made.rows;
+        self.put(gate.k, made.rows);
         (gate.set, made.zero_label)
     }
 }

@@ -1,6 +1,6 @@
 //! A labelling that is partly there, while gates wait.
 
-ghost use Rattle.std.specs.Prelude.{◌≡◌, ℕ, ◌<◌, ◌≤◌, IfOk, Some, None, All, length, take, drop, slice_get, slice_index_or};
+ghost use Rattle.std.specs.Prelude.{◌≡◌, ℕ, ◌<◌, ◌≤◌, IfOk, IsTrue, Some, None, All, length, take, drop, slice_get, slice_index_or};
 ghost use Rattle.gc_netlist.specs.Circuit.{EachRead, IsLawful, input_wires};
 ghost use Rattle.gc_layers.specs.declared.mark.Mark.TheVariants.{Absent, There};
 ghost use Rattle.gc_layers.specs.Layer.{AreLabels, AreMade, IsLabelled, IsPlace};
@@ -18,6 +18,7 @@ use gc_half::labels_read;
 use gc_label::Label;
 use std::alloc::Allocator;
 use std::marker::Model;
+use std::mem::swap;
 use std::sync::Wait;
 
 /// The most blocks that are with others.
@@ -40,8 +41,8 @@ pub(crate) struct Layer<'c, P: Pending, L: Labelling<P>, A: Allocator, C: Alloca
     marks: Vec<Mark, A>,
     // Fewer than a block has.
     waiting: Vec<P, A>,
-    // The gates of blocks that are with others, each in a slot of its own.
-    lent: Vec<P, A>,
+    // The gates of blocks that are with others, each block's in a slot of its own.
+    lent: Vec<Vec<P, A>, A>,
     // Slots whose blocks are back.
     free: Vec<usize, A>,
     postponed: Postponed<'c, A, C>,
@@ -55,7 +56,7 @@ impl<'c, P: Pending, L: Labelling<P>, A: Allocator, C: Allocator> Model for Laye
     ghost view = { λ t. t.labelling };
 
     ghost invariant = { λ t. IsLayer (L.circuit_of t.labelling) (L.label_of t.labelling) (L.is_pending t.labelling)
-        t.circuit.now t.labels.items t.marks.items t.waiting.items t.lent.items t.postponed };
+        (λ slot. slot.items) t.circuit.now t.labels.items t.marks.items t.waiting.items t.lent.items t.postponed };
 }
 
 impl<'c, P: Pending, L: Labelling<P>, A: Allocator + Copy, C: Allocator> Layer<'c, P, L, A, C> {
@@ -81,7 +82,7 @@ impl<'c, P: Pending, L: Labelling<P>, A: Allocator + Copy, C: Allocator> Layer<'
             labels,
             marks: input_marks(alloc, circuit)?,
             waiting: Vec::with_capacity(alloc, BLOCK)?,
-            lent: Vec::with_capacity(alloc, slots * BLOCK)?,
+            lent: Vec::with_capacity(alloc, slots)?,
             free: Vec::with_capacity(alloc, slots)?,
             postponed: Postponed::open(alloc, circuit, most_postponed)?,
         })
@@ -165,11 +166,10 @@ impl<'c, P: Pending, L: Labelling<P>, A: Allocator + Copy, C: Allocator> Layer<'
         Ok(())
     }
 
-    /// Whether the gates that wait are a block: half of one will do where the others may soon want for blocks.
+    /// Whether the gates that wait are a block.
     #[inline]
     fn is_block<H: Gatehouse>(&self, crew: &Crew<'_, P, A, H>) -> bool {
-        let gates = self.waiting.len();
-        gates >= BLOCK / 2 && (gates >= BLOCK || crew.is_short())
+        self.waiting.len() >= crew.gates_of_block()
     }
 
     /// Labels a gate's wire, or has it wait where it is AND, or postpones it where a label that it reads isn't there.
@@ -249,14 +249,14 @@ impl<'c, P: Pending, L: Labelling<P>, A: Allocator + Copy, C: Allocator> Layer<'
             return self.make_waiting(crew);
         }
         self.take_back(rt, crew);
-        let Some(slot) = self.keep()? else {
+        let Some(slot) = self.free_slot(crew)? else {
             return self.make_waiting(crew);
         };
         let gates = block_from(&self.waiting, 0, BLOCK);
         if !crew.offer(rt, slot, gates)? {
             return self.make_waiting(crew);
         }
-        self.waiting.clear();
+        self.lend(slot);
         Ok(())
     }
 
@@ -271,66 +271,29 @@ impl<'c, P: Pending, L: Labelling<P>, A: Allocator + Copy, C: Allocator> Layer<'
         Ok(())
     }
 
-    /// Keeps the gates that wait in a slot, while others have them. There may be none.
-    fn keep(&mut self) -> Result<Option<usize>, Memory>
+    /// A slot whose block is back, or a new one. There may be none.
+    fn free_slot<H: Gatehouse>(&mut self, crew: &Crew<'_, P, A, H>) -> Result<Option<usize>, Memory>
         ensures { self.new ≡ self.old }
     {
         if let Some(slot) = self.free.pop() {
-            self.fill(slot);
             return Ok(Some(slot));
         }
-        let slot = self.lent.len() / BLOCK;
+        let slot = self.lent.len();
         if slot >= SLOTS {
             return Ok(None);
         }
-        self.add_slot()?;
+        self.lent.push(crew.room()?)?;
         Ok(Some(slot))
     }
 
-    /// Adds a slot with the gates that wait, of which the last has all places that are left.
-    fn add_slot(&mut self) -> Result<(), Memory>
+    /// Keeps the gates that wait in a slot, while others have them. None waits from then on.
+    fn lend(&mut self, slot: usize)
         ensures { self.new ≡ self.old }
     {
-        let last = self.waiting.len().saturating_sub(1);
-        for i in 0..BLOCK {
-            if let Some(gate) = self.waiting.get(i.min(last)).copied() {
-                self.add(gate)?;
-            }
+        if slot < self.lent.len() {
+            swap(&mut self.waiting, &mut self.lent[slot]);
         }
-        Ok(())
-    }
-
-    /// Adds a place to the slots.
-    #[inline]
-    fn add(&mut self, gate: P) -> Result<(), Memory>
-        requires { L.is_pending self.old gate }
-        ensures { self.new ≡ self.old }
-    {
-        self.lent.push(gate)?;
-        Ok(())
-    }
-
-    /// Puts the gates that wait in a slot.
-    fn fill(&mut self, slot: usize)
-        ensures { self.new ≡ self.old }
-    {
-        let first = slot.saturating_mul(BLOCK);
-        for i in 0..self.waiting.len() {
-            if let Some(gate) = self.waiting.get(i).copied() {
-                self.lend(first.saturating_add(i), gate);
-            }
-        }
-    }
-
-    /// Puts a gate at a place of the slots.
-    #[inline]
-    fn lend(&mut self, place: usize, gate: P)
-        requires { L.is_pending self.old gate }
-        ensures { self.new ≡ self.old }
-    {
-        if place < self.lent.len() {
-            self.lent[place] = gate;
-        }
+        self.waiting.clear();
     }
 
     /// Takes the blocks that came back. The answer is whether there were any.
@@ -352,13 +315,19 @@ impl<'c, P: Pending, L: Labelling<P>, A: Allocator + Copy, C: Allocator> Layer<'
     fn land<H: Gatehouse>(&mut self, crew: &mut Crew<'_, P, A, H>, sealed: Sealed<P, A>)
         ensures { self.new ≡ self.old }
     {
-        let slot = sealed.number();
-        let count = sealed.gates().len();
-        if sealed.is_of(block_from(&self.lent, slot.saturating_mul(BLOCK), count)) {
+        if self.is_lent(&sealed) {
             self.put_all(&sealed);
-            let _ = self.free.push(slot);
+            let _ = self.free.push(sealed.number());
         }
         crew.release(sealed);
+    }
+
+    /// Whether a block has the gates that are kept in its slot.
+    fn is_lent(&self, sealed: &Sealed<P, A>) -> bool
+        ensures { IsTrue result → All (L.is_pending self.now) sealed.now }
+    {
+        let slot = sealed.number();
+        slot < self.lent.len() && sealed.is_of(&self.lent[slot])
     }
 
     /// Has a block made, by others or here, and visits the gates that waited for its labels.

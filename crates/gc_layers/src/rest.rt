@@ -17,7 +17,8 @@ use gc_half::{RowPair, garble_gate, labels_read};
 use gc_label::{Label, Offset, Seed, offset};
 use std::alloc::Allocator;
 
-/// Garbles each gate whose label or row pair isn't there, of which the house is told as worker 0's.
+/// Garbles each gate whose label or row pair isn't there, of which the house is told as worker 0's. Whether all row pairs
+/// are there the caller knows.
 pub(crate) fn garble_rest<C: Allocator, H: Gatehouse>(
     house: &H,
     circuit: &Circuit<C>,
@@ -25,16 +26,19 @@ pub(crate) fn garble_rest<C: Allocator, H: Gatehouse>(
     marks: &[Mark],
     labels: &mut [Label],
     rows: &mut [RowPair],
+    has_all_rows: bool,
 )
     requires count { length marks.now ≡ circuit.now.wires }
     requires marks { AreMarked (zero_label_of circuit.now seed.now) marks.now labels.old }
     requires labels { AreLabels circuit.now (zero_label_of circuit.now seed.now) 0 labels.old }
     requires rows { AreRows circuit.now seed.now 0 rows.old }
+    requires whole { IsTrue has_all_rows → (k : ℕ) → k < length rows.old
+        → (slice_index_or rows.old k no_rows).evaluator ≢ 0 }
     ensures labels { AreLabels circuit.now (zero_label_of circuit.now seed.now) (length circuit.now.gates) labels.new }
     ensures rows { AreRows circuit.now seed.now (and_count circuit.now) rows.new }
 {
     let _ = circuit.gates();
-    if !are_marked(marks) || !are_present(rows) {
+    if !has_all_rows || !are_marked(marks) {
         garble_missing(house, circuit, seed, marks, labels, rows);
     }
 }
@@ -45,18 +49,6 @@ pub(crate) fn are_marked(marks: &[Mark]) -> bool
 {
     for i in 0..marks.len() {
         if !marks[i].is_there() {
-            return false;
-        }
-    }
-    true
-}
-
-/// Whether no row pair is one of those that the table begins with.
-fn are_present(rows: &[RowPair]) -> bool
-    ensures { IsTrue result → (k : ℕ) → k < length rows.now → (slice_index_or rows.now k no_rows).evaluator ≢ 0 }
-{
-    for i in 0..rows.len() {
-        if rows[i].evaluator == Label::ZERO {
             return false;
         }
     }

@@ -26,7 +26,7 @@ const GATES_FOR_THREAD: usize = 1024;
 /// The labels that a labelling gives the wires of its circuit, and their marks, from those of the input wires: gate by gate
 /// in file order, but that AND gates wait to be made in blocks, by the calling thread and up to so many less one beside it,
 /// where there are enough AND gates and threads can be started; a gate that reads a label which isn't there yet is
-/// postponed until it is. It takes memory for the marks and for the gates that wait or are postponed: up to 64 blocks of 32
+/// postponed until it is. It takes memory for the marks and for the gates that wait or are postponed: up to 64 blocks of 64
 /// gates, twice, and 512 gates. `house` is told of each gate before it is made; the calling thread is worker 0.
 pub(crate) fn label_by_layers<
     P: Pending<Made = M> + Send + Sync,
@@ -55,7 +55,7 @@ pub(crate) fn label_by_layers<
         .saturating_sub(1)
         .min(ands / GATES_FOR_THREAD)
         .min(MOST_HELPERS);
-    let blocks = Exchange::open(alloc, if helpers == 0 { 1 } else { SLOTS })?;
+    let blocks = Exchange::open(alloc, if helpers == 0 { 1 } else { SLOTS }, helpers)?;
     let exchange = &blocks;
     if helpers == 0 {
         return label_with(rt, alloc, circuit, labelling, labels, exchange, true, house);

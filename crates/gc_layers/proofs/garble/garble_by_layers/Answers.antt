@@ -18,7 +18,7 @@ label_by_layers-requires-clause-labels g c κs within =
 pub returns : goal.returns
 returns g c =
     let old_labels = c.in_ok-garbler-2.labels in
-    let old_rows = c.into_rows-rows.result in
+    let old_rows = c.into_rows-rows.result.0 in
     let parts = c.from_parts.ensures in
     let labels_count : old_labels.len ≡ length old_labels.items = search rules in
     let rows_count : old_rows.len ≡ length old_rows.items = search rules in

@@ -8,5 +8,5 @@ put_all-requires g c =
     let IsPending = g.L.Labelling.is_pending c.args.self.now in
     let all = subst (λ t. All (g.L.Labelling.is_pending t) waiting) c.self.view_is c.self.invariant.are_pending in
     subst (All IsPending)
-    (sym (c.in_ok-sealed.ensures ∙ c.block_from.ensures.gates ∙ ap (λ l. take 32 (drop 0 l)) c.deref.ensures.value))
-    (All-take IsPending 32 (drop 0 waiting) (All-drop IsPending 0 waiting all))
+    (sym (c.in_ok-sealed.ensures ∙ c.block_from.ensures.gates ∙ ap (λ l. take 64 (drop 0 l)) c.deref.ensures.value))
+    (All-take IsPending 64 (drop 0 waiting) (All-drop IsPending 0 waiting all))

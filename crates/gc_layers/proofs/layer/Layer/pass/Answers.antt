@@ -1,5 +1,5 @@
 use Rattle.std.proofs.Common.{◌≡◌, suc, ◌+◌, slice_get, Some, sym, ap, subst, ◌∙◌, arith}
-use Rattle.gc_netlist.specs.Circuit.{Netlist, and_number}
+use Rattle.gc_netlist.specs.Circuit.{Netlist}
 use Rattle.gc_half.proofs.AndNumbers.{and_number-and, and_number-other}
 use Rattle.gc_layers.proofs.layer.Layer.pass.Goals as goal
 use Rattle.gc_layers.proofs.layer.Layer.pass.Goals.{then-is_and, else-is_and}
