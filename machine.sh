@@ -6,6 +6,17 @@ is_stale() {
     [ -n "$(find "$top/crates.txt" "$top"/crates/*/src "$top"/crates/*/specs "$top"/crates/*/proofs -newer "$1" -print 2>/dev/null | head -n 1)" ]
 }
 
+# The program of a crate as it is built for this processor. (The test command builds it in the crate's folder, for older
+# ones.)
+own() {
+    echo "$top/out/$1"
+}
+
+# Keeps the program of a crate that rt has just built for this processor.
+keep_own() {
+    mkdir -p "$top/out" && mv "$top/crates/$1/out/$1" "$(own "$1")" && touch "$(own "$1")"
+}
+
 # The processor to compile for: x86-64-v3, which most have since 2015, where this one is such; else the compiler's own
 # choice. A program that was compiled for more than a processor has says so as it starts.
 processor() {

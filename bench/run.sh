@@ -13,11 +13,22 @@ top=$(cd "$(dirname "$0")/.." && pwd)
 tmp=$(mktemp -d)
 trap 'rm -rf "$tmp"' EXIT
 
-bench=$top/crates/gc_bench/out/gc_bench
-if is_stale "$bench" && ! (cd "$top/crates/gc_bench" && rt run $(processor) && touch out/gc_bench) >"$tmp/build" 2>&1; then
+# Builds the program and the benchmark for this processor, where they aren't: what the test command built won't do.
+build() {
+    if is_stale "$(own halfgates)"; then
+        rm -f "$top/crates/halfgates/out/halfgates"
+        "$top/halfgates" --help >"$tmp/build" || return
+    fi
+    if is_stale "$(own gc_bench)"; then
+        (cd "$top/crates/gc_bench" && rt run $(processor)) >"$tmp/build" 2>&1 && keep_own gc_bench
+    fi
+}
+
+if ! build; then
     tail -n 20 "$tmp/build" >&2
     exit 1
 fi
+bench=$(own gc_bench)
 tune_memory
 zero=$(printf '0%.0s' $(seq 64))
 
@@ -77,5 +88,4 @@ workers "gates in a window of a thousand, half of them AND" 0.5 ""
 workers "a million XOR gates" 0 independent
 
 # The program itself: its times beside the sums of its parts, and its peak memory beyond the circuit's file.
-"$top/halfgates" --help >/dev/null
 "$top/bench/program.py" "$top/halfgates" "$bench" "$circuit"
