@@ -55,7 +55,7 @@ fn random_circuits_by_layers(rt: HostRuntime) -> Result<(), Fail> {
 /// blocks than may be with others; by no thread as by one.
 #[test]
 fn layers_of_all_sizes(rt: HostRuntime) -> Result<(), Fail> {
-    for gates in [1, 2, 3, 16, 17, 63, 64, 65, 1023, 1024, 1025, 2048, 20_000] {
+    for gates in [1, 2, 3, 16, 17, 63, 64, 65, 1023, 1024, 1025, 2048, 6000] {
         let text = many_ands(rt.alloc(), gates)?;
         for threads in [0, 1, 4, 64] {
             assert!(rt;
