@@ -60,12 +60,12 @@ if [ -n "${BASELINE:-}" ]; then
     done >"$tmp/reads"
     parse_ns=$(sed -n 'p;n' "$tmp/reads" | sort -n | head -n 1)
     read_ns=$(sed -n 'n;p' "$tmp/reads" | sort -n | head -n 1)
-    echo "  the C baseline: $parse_ns ns; reading takes $(ratio "$read_ns" "$parse_ns") as long (at most 2)"
+    echo "  the C baseline: $parse_ns ns; reading takes $(ratio "$read_ns" "$parse_ns") as long (at most 0.7)"
 fi
 echo "plain evaluation: $(per_gate "$half_plain" "$half_gates") (at most 10)"
 echo "hashes eight at once: $(ratio "$half_eight_lanes" "$half_lanes") the same hashes four at once"
 echo "garbling on one thread: $half_garble ns, $(ratio "$half_garble" "$half_hashes") its hashes one after another (at most 0.5), and $(ratio "$half_garble" "$half_lanes") the same hashes four at once"
-echo "garbling XOR gates: $(per_gate "$xor_garble" "$xor_gates") (at most 8)"
+echo "garbling XOR gates: $(per_gate "$xor_garble" "$xor_gates") (at most 5)"
 echo "evaluation from labels: $half_evaluate ns, $(ratio "$((2 * half_evaluate))" "$half_hashes") its hashes one after another (at most 0.65), and $(ratio "$((2 * half_evaluate))" "$half_lanes") the same hashes four at once"
 echo "evaluating at a board of one seat: $(per_gate "$((half_board - half_job))" "$half_gates") above one thread without one (at most 60)"
 echo "evaluating by one worker: $(ratio "$half_job" "$half_job1") as fast as on one thread, by four $(ratio "$half_job" "$half_job4") (at least 1.8); independent AND gates by four $(ratio "$and_job" "$and_job4") (at least 3)"
@@ -79,9 +79,9 @@ echo "reading it: whole $(ratio "$file_read_file" "$file_file_sha"), in pieces o
 workers() {
     python3 "$top/bench/make_circuit.py" 1000000 "$2" "$tmp/workers.txt" $3
     eval "$(times w "$tmp/workers.txt" 5 garble garble1 garble2 garble4)"
-    echo "$1: by one worker $(ratio "$w_garble" "$w_garble1") as fast as by one thread, by two $(ratio "$w_garble" "$w_garble2"), by four $(ratio "$w_garble" "$w_garble4")"
+    echo "$1: by one worker $(ratio "$w_garble" "$w_garble1") as fast as by one thread, by two $(ratio "$w_garble" "$w_garble2"), by four $(ratio "$w_garble" "$w_garble4"); by four $(ratio "$w_garble1" "$w_garble4") as fast as by one worker"
 }
-workers "a million independent AND gates (by four at least 3.4)" 1 independent
+workers "a million independent AND gates (by four at least 3.4, and 3.2 beside one worker)" 1 independent
 workers "independent gates, half of them AND" 0.5 independent
 workers "independent gates, a quarter of them AND (by four at least 2.3)" 0.25 independent
 workers "gates in a window of a thousand, half of them AND" 0.5 ""
