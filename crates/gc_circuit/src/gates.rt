@@ -6,7 +6,7 @@ use gc_netlist::{Gate, Operation, ReadFault};
 
 /// The operation of this name that reads two wires.
 #[tactic(auto, unfolding(gc_netlist::specs::Reading::operation_of_two))]
-#[inline]
+#[inline(always)]
 fn operation_of_two(name: &[u8], a: u32, b: u32) -> Result<Operation, ReadFault>
     ensures { result ≡ operation_of_two name.now a b }
 {
@@ -45,7 +45,7 @@ fn operation_of_one(name: &[u8], a: u32) -> Result<Operation, ReadFault>
 
 /// A gate after its counts 2 and 1.
 #[tactic(auto, unfolding(gc_netlist::specs::Reading::two_at))]
-#[inline]
+#[inline(always)]
 fn read_two(tokens: &mut Tokens<'_>) -> Result<Gate, ReadFault>
     ensures { MatchResult result (λ g. two_at tokens.old ≡ Ok (g, tokens.new))
         (λ e. two_at tokens.old ≡ Err e) }

@@ -4,12 +4,13 @@ ghost use Rattle.gc_netlist.specs.Reading.{number_at};
 
 use gc_netlist::ReadFault;
 
-/// Whether the byte stands between tokens: a tab, a line feed, a carriage return or a space.
+/// Whether the byte stands between tokens: a tab, a line feed, a carriage return or a space. Nearly all other bytes are
+/// above a space, so that one comparison tells them.
 #[inline]
 pub(crate) fn is_blank(byte: u8) -> bool
     ensures { result ≡ is_blank byte }
 {
-    matches!(byte, b'\t' | b'\n' | b'\r' | b' ')
+    byte <= b' ' && matches!(byte, b'\t' | b'\n' | b'\r' | b' ')
 }
 
 /// In how many bytes a short number and the blank after it are looked for.
@@ -17,7 +18,7 @@ const SHORT: usize = 9;
 
 /// The number that the text begins with, and how many bytes it takes, where it is short and a blank follows it. There
 /// are few turns at the most, so that they are compiled one after another, and no value is too large.
-#[inline]
+#[inline(always)]
 pub(crate) fn short_number(text: &[u8]) -> Option<(u32, usize)>
     requires { 0 < length text.now → is_blank (slice_index text.now 0) ≡ false }
     ensures { IfSome result (λ r. (r.1 ≤ length text.now)
@@ -41,7 +42,9 @@ pub(crate) fn short_number(text: &[u8]) -> Option<(u32, usize)>
     None
 }
 
-/// The number that the text begins with, and how many bytes it takes. Leading zeros are accepted.
+/// The number that the text begins with, and how many bytes it takes. Leading zeros are accepted. Few numbers are read
+/// here: the others don't pay for it.
+#[inline(never)]
 pub(crate) fn leading_number(text: &[u8]) -> Result<(u32, usize), ReadFault>
     requires { 0 < length text.now → is_blank (slice_index text.now 0) ≡ false }
     ensures { MatchResult result (λ r. (r.1 ≤ length text.now)

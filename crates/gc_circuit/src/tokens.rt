@@ -6,7 +6,7 @@ use crate::number::{is_blank, leading_number, short_number};
 use gc_netlist::ReadFault;
 use std::marker::Model;
 
-/// What is left of a text, seen as its tokens.
+/// What is left of a text, seen as its tokens. The calls that read gates are inlined, so that it stays in registers.
 #[derive(Drop)]
 pub(crate) struct Tokens<'a> {
     rest: &'a [u8],
@@ -77,7 +77,7 @@ impl<'a> Tokens<'a> {
     }
 
     /// Takes the numbers 2 and 1 where the text goes on with them and a space after each, and says whether it does.
-    #[inline]
+    #[inline(always)]
     pub fn two_and_one(&mut self) -> bool
         ensures taken { IsTrue result → self.old ≡ codes "2" ∷ codes "1" ∷ self.new }
         ensures left { IsFalse result → self.new ≡ self.old }
@@ -90,7 +90,7 @@ impl<'a> Tokens<'a> {
     }
 
     /// Takes a token that is due.
-    #[inline]
+    #[inline(always)]
     pub fn token(&mut self) -> Result<&'a [u8], ReadFault>
         ensures { MatchResult result (λ t. token_at self.old ≡ Ok (t.now, self.new))
             (λ e. token_at self.old ≡ Err e) }
@@ -108,7 +108,7 @@ impl<'a> Tokens<'a> {
     }
 
     /// Takes a token of three bytes and the line feed after it, where one space stands before it.
-    #[inline]
+    #[inline(always)]
     fn name_of_three(&mut self) -> Option<&'a [u8]>
         ensures { MatchOption result (self.new ≡ self.old) (λ t. token_at self.old ≡ Ok (t.now, self.new)) }
     {
@@ -121,6 +121,7 @@ impl<'a> Tokens<'a> {
     }
 
     /// Takes a number that is due.
+    #[inline(always)]
     pub fn number(&mut self) -> Result<u32, ReadFault>
         ensures { MatchResult result (λ n. number_at self.old ≡ Ok (n, self.new))
             (λ e. number_at self.old ≡ Err e) }
