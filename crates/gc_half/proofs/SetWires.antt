@@ -13,7 +13,7 @@ lt_or_le m n = grind arith
 
 module _ (c : Netlist) (w : ℕ) where
   -- the last of n + 1 gates set w, or w was set before
-  last_or_before : (n : ℕ) → IsSetBefore c (suc n) w → IsSetBefore c n w ⊎ IsSetBy c w n
+  pub last_or_before : (n : ℕ) → IsSetBefore c (suc n) w → IsSetBefore c n w ⊎ IsSetBy c w n
   last_or_before n (inl input) = inl (inl input)
   last_or_before n (inr (i, below, by)) = elim (cases_eq i n) [
     | inl e ↦ inr (subst (IsSetBy c w) e by)

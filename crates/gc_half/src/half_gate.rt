@@ -59,7 +59,9 @@ impl AndGate {
 }
 
 /// Garbles the k-th AND gate, counted from 0, from the zero labels `a` and `b` of the wires that it reads.
-/// The answer is the zero label of the wire that it sets, the generator's row and the evaluator's row.
+/// The answer is the zero label of the wire that it sets, the generator's row and the evaluator's row. It isn't inlined:
+/// its many variables would push those of the loops that call it out of the registers.
+#[inline(never)]
 pub fn garble_and(k: u32, offset: Offset, a: Label, b: Label) -> (Label, Label, Label)
     ensures zero_label { result.0 ≡ and_zero hash k offset a b }
     ensures generator { result.1 ≡ generator_row hash k offset a b }

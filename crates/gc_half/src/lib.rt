@@ -19,10 +19,11 @@ mod hash;
 mod laws;
 mod numbers;
 mod one_gate;
+mod zero_labels;
 
 pub use entry::output_entry;
 pub use evaluate::input_active_labels;
-pub use garble::{garble_one_thread, input_zero_labels};
+pub use garble::garble_one_thread;
 pub use garbling::{Garbling, RowPair};
 pub use half_gate::{
     AndGate, AndStep, eval_and, eval_four_ands, eval_two_ands, garble_and, garble_two_ands,
@@ -31,3 +32,4 @@ pub use hash::tweak_hash;
 pub use laws::{law_garblings, law_half_gates};
 pub use numbers::and_numbers;
 pub use one_gate::{evaluate_gate, garble_gate, labels_read};
+pub use zero_labels::input_zero_labels;

@@ -1,0 +1,7 @@
+use Rattle.gc_half.proofs.GarbleLemmas.{inputs-filled}
+use Rattle.gc_half.proofs.zero_labels.input_zero_labels.Goals as goal
+
+pub returns : goal.returns
+returns g c =
+    inputs-filled c.args.circuit.now c.wires.ensures.lawful c.args.seed.now _ _ _ c.wires.result c.in_ok-labels.labels.ok.0
+    c.wires.ensures.count c.in_ok-labels.ensures c.in_ok-resize.ensures.items

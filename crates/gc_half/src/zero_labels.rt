@@ -1,0 +1,84 @@
+//! Tables of zero labels.
+
+ghost use Rattle.std.specs.Prelude.{◌≡◌, ◌<◌, ◌≤◌, ℕ, IfOk, OnOk, length, map, slice_index};
+ghost use Rattle.std.specs.List.{range_with_len};
+ghost use Rattle.gc_netlist.specs.Circuit.{input_wires};
+ghost use Rattle.gc_netlist.specs.Solution.{put};
+ghost use Rattle.gc_label.specs.Seed.{input_label_of};
+ghost use Rattle.gc_half.specs.Canonical.{input_zero};
+
+use gc_circuit::{Circuit, Memory};
+use gc_label::{Label, Seed, fill_input_labels};
+use std::alloc::Allocator;
+
+/// How many entries of a table are written at once: they take no more memory than the C library writes by plain stores.
+const STRETCH: u32 = 64;
+
+/// The zero labels of the input wires under a seed, and 16 zero bytes for each other wire: the table that garbling
+/// begins with. It takes memory once, for all wires.
+pub fn input_zero_labels<A: Allocator + Copy, C: Allocator>(
+    alloc: A,
+    circuit: &Circuit<C>,
+    seed: &Seed,
+) -> Result<Vec<Label, A>, Memory>
+    ensures { IfOk result (λ v. v.items ≡
+        map (input_zero circuit.now seed.now) (range_with_len 0 circuit.now.wires)) }
+{
+    let mut labels = labels_of_inputs(alloc, circuit, seed)?;
+    labels.resize(circuit.wires() as usize, Label::ZERO)?;
+    Ok(labels)
+}
+
+/// The zero labels of the input wires under a seed, with room for those of all wires.
+pub(crate) fn labels_of_inputs<A: Allocator + Copy, C: Allocator>(
+    alloc: A,
+    circuit: &Circuit<C>,
+    seed: &Seed,
+) -> Result<Vec<Label, A>, Memory>
+    ensures { IfOk result (λ v. v.items ≡
+        map (input_label_of seed.now) (range_with_len 0 (input_wires circuit.now))) }
+{
+    let mut labels = Vec::with_capacity(alloc, circuit.wires() as usize)?;
+    labels.resize(circuit.input_wires() as usize, Label::ZERO)?;
+    fill_input_labels(seed, 0, &mut labels);
+    Ok(labels)
+}
+
+/// Puts the label of a wire into a table that is written as it is needed: an entry behind its end is 16 zero bytes. So
+/// most circuits, which set their wires in order, have each entry written while it is near, and not twice from afar.
+#[inline(always)]
+pub(crate) fn put_label<A: Allocator>(
+    labels: &mut Vec<Label, A>,
+    wires: u32,
+    wire: u32,
+    label: Label,
+) -> Result<(), Memory>
+    requires wire { wire < wires }
+    requires few { length labels.old.items ≤ wires }
+    ensures label { OnOk result ((w : ℕ) →
+        slice_index labels.new.items w ≡ put (slice_index labels.old.items) wire label w) }
+    ensures there { OnOk result (wire < length labels.new.items) }
+    ensures kept { OnOk result (length labels.old.items ≤ length labels.new.items) }
+    ensures few { OnOk result (length labels.new.items ≤ wires) }
+{
+    if wire as usize >= labels.len() {
+        lengthen(labels, wires, wire)?;
+    }
+    labels[wire as usize] = label;
+    Ok(())
+}
+
+/// Lengthens a table to a wire that is behind its end, and somewhat further.
+#[inline(never)]
+fn lengthen<A: Allocator>(labels: &mut Vec<Label, A>, wires: u32, wire: u32) -> Result<(), Memory>
+    requires wire { wire < wires }
+    requires behind { length labels.old.items ≤ wire }
+    ensures same { OnOk result ((w : ℕ) →
+        slice_index labels.new.items w ≡ slice_index labels.old.items w) }
+    ensures there { OnOk result (wire < length labels.new.items) }
+    ensures few { OnOk result (length labels.new.items ≤ wires) }
+{
+    let end = wire.saturating_add(STRETCH).min(wires);
+    labels.resize(end as usize, Label::ZERO)?;
+    Ok(())
+}
