@@ -21,11 +21,11 @@ use Rattle.gc_half.specs.Canonical.{input_zero, zero_label_of, row_pairs_of}
 use Rattle.gc_half.proofs.CanonicalLemmas.{input_zero-input, input_zero-other, zero_label_of-input, zero_label_of-gate, zero_label_of-not_set, row_pairs_of-at, length-row_pairs_of, garbling_of-IsGarbled, parts-same}
 use Rattle.gc_half.proofs.AndNumbers.{and_or_other, and_number-below}
 use Rattle.gc_half.proofs.SetWires.{set_or_not, lt_or_le}
-use Rattle.gc_layers.specs.declared.mark.Mark.{Mark}
-use Rattle.gc_layers.specs.declared.mark.Mark.TheVariants.{Absent, There}
-use Rattle.gc_layers.specs.Layer.{AreLabels, AreMarked}
+use Rattle.gc_labelling.specs.declared.mark.Mark.{Mark}
+use Rattle.gc_labelling.specs.declared.mark.Mark.TheVariants.{Absent, There}
+use Rattle.gc_labelling.specs.Layer.{AreLabels, AreMarked}
 use Rattle.gc_layers.specs.Garbler.{AreRows, IsGate, no_rows, row_of, with_pair}
-use Rattle.gc_layers.proofs.LayerLemmas.{partly-put, partly-more}
+use Rattle.gc_labelling.proofs.LayerLemmas.{partly-put, partly-more}
 
 module _ (c : Netlist) (seed : List ℕ) where
   -- A row pair may be put where it belongs.

@@ -1,3 +1,2 @@
 pub mod EvaluatorLemmas
 pub mod GarblerLemmas
-pub mod LayerLemmas

@@ -9,7 +9,7 @@ use Rattle.gc_half.specs.OneGate.{row_pair}
 use Rattle.gc_half.specs.Canonical.{zero_label_of, row_pairs_of}
 use Rattle.gc_layers.specs.declared.waiting.Waiting.{Waiting}
 use Rattle.gc_layers.specs.declared.waiting.Garbled.{Garbled}
-use Rattle.gc_layers.specs.Layer.{IsPartly}
+use Rattle.gc_labelling.specs.Layer.{IsPartly}
 
 -- What garbling a gate that waits gives: the zero label of the wire that it sets,
 abbrev pub zero_by : Waiting → ℕ

@@ -3,12 +3,12 @@
 ghost use Rattle.std.specs.Prelude.{◌≡◌, ℕ, ◌<◌, ◌≤◌, ◌+◌, ◌*◌, ◌↔◌, ◌∷◌, [], IsTrue, Some, length, map, slice_get, slice_index_or};
 ghost use Rattle.gc_half.specs.Hash.{hash};
 ghost use Rattle.gc_half.specs.HalfGate.{and_active};
-ghost use Rattle.gc_layers.specs.Layer.{AreMade};
+ghost use Rattle.gc_labelling.specs.Layer.{AreMade};
 ghost use Rattle.gc_layers.specs.Evaluator.{active_by};
 
-use crate::pending::Pending;
 use gc_half::{AndStep, RowPair, eval_and, eval_four_ands};
 use gc_label::Label;
+use gc_labelling::Pending;
 
 /// An AND gate that waits to be evaluated, as [`AndStep`] has it, its place in the file, and the wire that it sets.
 #[derive(Clone, Copy, PartialEq, Eq)]

@@ -5,11 +5,11 @@ ghost use Rattle.gc_half.specs.Garbling.{IsGarbled};
 
 use crate::garbler::Garbler;
 use crate::rest::garble_rest;
-use crate::threads::label_by_layers;
 use gc_circuit::{Circuit, Memory};
 use gc_gatehouse::Gatehouse;
 use gc_half::{Garbling, input_zero_labels};
 use gc_label::Seed;
+use gc_labelling::label_by_layers;
 use std::alloc::Allocator;
 use std::sync::Wait;
 use std::thread::Threads;

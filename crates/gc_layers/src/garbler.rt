@@ -4,12 +4,11 @@ ghost use Rattle.std.specs.Prelude.{◌≡◌, ◌≢◌, ℕ, ◌<◌, IfOk, Is
 ghost use Rattle.gc_netlist.specs.Circuit.{IsLawful, and_count};
 ghost use Rattle.gc_layers.specs.Garbler.{AreRows, IsGate, garbled_of, is_present, no_rows, row_of};
 
-use crate::labelling::Labelling;
-use crate::place::Place;
 use crate::waiting::{Garbled, Waiting};
 use gc_circuit::{Circuit, Gate, Memory};
 use gc_half::{RowPair, garble_gate};
 use gc_label::{Label, Offset, Seed, offset};
+use gc_labelling::{Labelling, Place};
 use gc_table::Table;
 use std::alloc::Allocator;
 use std::marker::Model;

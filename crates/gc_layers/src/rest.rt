@@ -5,16 +5,16 @@ ghost use Rattle.gc_netlist.specs.Circuit.{EachRead, is_and, and_count};
 ghost use Rattle.gc_half.specs.Hash.{hash};
 ghost use Rattle.gc_half.specs.OneGate.{first_read, second_read, gate_rows};
 ghost use Rattle.gc_half.specs.Garbling.{zero_of};
-ghost use Rattle.gc_layers.specs.declared.mark.Mark.TheVariants.{Absent, There};
+ghost use Rattle.gc_labelling.specs.declared.mark.Mark.TheVariants.{Absent, There};
 ghost use Rattle.gc_half.specs.Canonical.{zero_label_of};
-ghost use Rattle.gc_layers.specs.Layer.{AreLabels, AreMarked};
+ghost use Rattle.gc_labelling.specs.Layer.{AreLabels, AreMarked};
 ghost use Rattle.gc_layers.specs.Garbler.{AreRows, with_pair, no_rows};
 
-use crate::mark::Mark;
 use gc_circuit::{Circuit, Gate};
 use gc_gatehouse::Gatehouse;
 use gc_half::{RowPair, garble_gate, labels_read};
 use gc_label::{Label, Offset, Seed, offset};
+use gc_labelling::Mark;
 use std::alloc::Allocator;
 
 /// Garbles each gate whose label or row pair isn't there, of which the house is told as worker 0's. Whether all row pairs

@@ -1,12 +1,12 @@
 //! AND gates that wait to be garbled.
 
 ghost use Rattle.std.specs.Prelude.{◌≡◌, ℕ, ◌<◌, ◌≤◌, ◌+◌, ◌*◌, ◌↔◌, IsTrue, Some, length, slice_get, slice_index_or};
-ghost use Rattle.gc_layers.specs.Layer.{AreMade};
+ghost use Rattle.gc_labelling.specs.Layer.{AreMade};
 ghost use Rattle.gc_layers.specs.Garbler.{garbled_of};
 
-use crate::pending::Pending;
 use gc_half::{AndGate, RowPair, garble_and, garble_two_ands};
 use gc_label::{Label, Offset};
+use gc_labelling::Pending;
 
 /// An AND gate that waits to be garbled, as [`AndGate`] has it, its place in the file, and the wire that it sets. It
 /// takes 64 bytes.

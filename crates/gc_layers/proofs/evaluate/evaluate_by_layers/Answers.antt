@@ -1,7 +1,7 @@
 use Rattle.std.proofs.Common.{map, slice_index, sym, ap, subst, ◌∙◌}
 use Rattle.std.specs.List.{range_with_len}
 use Rattle.gc_half.specs.Canonical.{active_label_of}
-use Rattle.gc_layers.specs.Layer.{AreLabels}
+use Rattle.gc_labelling.specs.Layer.{AreLabels}
 use Rattle.gc_layers.specs.Evaluator.{EvaluatorParts}
 use Rattle.gc_layers.proofs.EvaluatorLemmas.{active-start}
 use Rattle.gc_layers.proofs.evaluate.evaluate_by_layers.Goals as goal

@@ -3,7 +3,7 @@ use Rattle.std.proofs.lemmas.Bool.{cases_eq}
 use Rattle.std.proofs.lemmas.Option.{get_or_from_slice_get}
 use Rattle.gc_layers.specs.declared.evaluated.ToEvaluate.{ToEvaluate}
 use Rattle.gc_layers.specs.Evaluator.{active_by}
-use Rattle.gc_layers.proofs.LayerLemmas.{four-put}
+use Rattle.gc_layers.proofs.EvaluatorLemmas.{four-put}
 use Rattle.gc_layers.proofs.evaluated.evaluate_four.Goals as goal
 
 pub returns-clause-now : goal.returns-clause-now

@@ -3,7 +3,7 @@ use Rattle.gc_gatehouse.proofs.Whole.{whole_back}
 use Rattle.gc_half.specs.Canonical.{zero_label_of}
 use Rattle.gc_half.specs.Garbling.{GarblingParts}
 use Rattle.gc_half.proofs.CanonicalLemmas.{parts-same}
-use Rattle.gc_layers.specs.Layer.{AreLabels}
+use Rattle.gc_labelling.specs.Layer.{AreLabels}
 use Rattle.gc_layers.specs.Garbler.{GarblerParts}
 use Rattle.gc_layers.proofs.GarblerLemmas.{labels-start, garbled-end}
 use Rattle.gc_layers.proofs.garble.garble_by_layers.Goals as goal

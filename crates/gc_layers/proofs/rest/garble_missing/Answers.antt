@@ -3,9 +3,10 @@ use Rattle.std.proofs.lemmas.List.{get_or-set_same}
 use Rattle.gc_netlist.specs.Circuit.{is_and, and_count}
 use Rattle.gc_half.proofs.AndNumbers.{and_number-and, and_number-other, and_number-below}
 use Rattle.gc_half.specs.Canonical.{zero_label_of}
-use Rattle.gc_layers.specs.Layer.{AreLabels, AreMarked}
+use Rattle.gc_half.proofs.OneGateLemmas.{first_read-local, second_read-local}
+use Rattle.gc_labelling.specs.Layer.{AreLabels, AreMarked}
 use Rattle.gc_layers.specs.Garbler.{AreRows, no_rows, row_of}
-use Rattle.gc_layers.proofs.LayerLemmas.{labels-put, marked-label, first-same, second-same}
+use Rattle.gc_labelling.proofs.LayerLemmas.{labels-put, marked-label}
 use Rattle.gc_layers.proofs.GarblerLemmas.{labels-next, rows-gate, rows-next, reads-there, gate-label, gate-row}
 use Rattle.gc_layers.proofs.rest.garble_missing.Goals as goal
 use Rattle.gc_layers.proofs.rest.garble_missing.Goals.{then-not-is_there, else-not-is_there, then-is_and, else-is_and}
@@ -40,8 +41,8 @@ loop-i-preserved g c =
     let number = c.loop-i.invariant.number in
     let one : i + 1 ≡ suc i = omega arith in
     let reads = reads-there circuit seed lawful i gate at labels c.loop-i.invariant.labels in
-    let first = first-same (slice_index labels) (zero_label_of circuit seed) gate.operation reads in
-    let second = second-same (slice_index labels) (zero_label_of circuit seed) gate.operation reads in
+    let first = first_read-local (slice_index labels) (zero_label_of circuit seed) gate.operation reads in
+    let second = second_read-local (slice_index labels) (zero_label_of circuit seed) gate.operation reads in
     let below : is_and gate.operation ≡ true → k < and_count circuit = λ and. omega (arith, number, and_number-below circuit i gate at and) in
     let Row : Type 0 = AreRows circuit seed k c.if-not-is_there.rows
     × (is_and gate.operation ≡ true → slice_index_or c.if-not-is_there.rows k no_rows ≡ row_of circuit seed k) in

@@ -1,6 +1,6 @@
 use Rattle.std.proofs.Common.{◌≡◌, ◌-◌, ◌<◌, ℕ, length, get_or, sym, ap, subst, ◌∙◌}
 use Rattle.gc_netlist.specs.Circuit.{IsLawful, output_wires}
-use Rattle.gc_layers.specs.declared.mark.Mark.TheVariants.{Absent, There}
+use Rattle.gc_labelling.specs.declared.mark.Mark.TheVariants.{Absent, There}
 use Rattle.gc_layers.specs.Evaluator.{EvaluatorParts, AreOutputLabels}
 use Rattle.gc_layers.proofs.EvaluatorLemmas.{outputs-end}
 use Rattle.gc_layers.proofs.evaluator.Evaluator.outputs.Goals as goal

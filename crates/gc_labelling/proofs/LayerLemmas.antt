@@ -1,0 +1,103 @@
+-- A labelling that is partly there.
+use Rattle.std.proofs.Common.{◌≡◌, ◌≢◌, ℕ, ◌<◌, ◌⊎◌, inl, inr, List, length, length-set, set, get_or, slice_index, sym, ap, subst, ◌∙◌, arith}
+use Rattle.std.proofs.lemmas.Bool.{cases_eq}
+use Rattle.std.proofs.lemmas.List.{get_or-set_same, get_or-set_other}
+use Rattle.gc_netlist.specs.declared.gate.Operation.{Operation}
+use Rattle.gc_netlist.specs.Circuit.{Netlist, IsSetBefore, EachRead, input_wires}
+use Rattle.gc_netlist.proofs.SolutionLemmas.{EachRead-map}
+use Rattle.gc_half.specs.OneGate.{first_read, second_read}
+use Rattle.gc_half.proofs.OneGateLemmas.{first_read-local, second_read-local}
+use Rattle.gc_labelling.specs.declared.mark.Mark.{Mark}
+use Rattle.gc_labelling.specs.declared.mark.Mark.TheVariants.{Absent, There}
+use Rattle.gc_labelling.specs.Layer.{IsPartly, AreLabels, AreMarked}
+
+module _ {A : Type 0} (whole : ℕ → A) (none : A) (IsBlank : A → Type 0) where
+  -- What belongs at a place may be put there,
+  pub partly-put : (IsThere : ℕ → Type 0) (table : List A) (s : ℕ) (x : A) → s < length table → x ≡ whole s
+      → IsPartly whole none IsBlank IsThere table → IsPartly whole none IsBlank IsThere (set table s x)
+  partly-put IsThere table s x below is partly = record {
+    right = λ i present. elim (cases_eq i s) [
+      | inl e ↦ here i e
+      | inr other ↦
+          let same = get_or-set_other table s i x none other in
+          same ∙ partly.right i (λ blank. present (subst IsBlank (sym same) blank))
+    ];
+    there = λ i there. elim (cases_eq i s) [
+      | inl e ↦ here i e
+      | inr other ↦ get_or-set_other table s i x none other ∙ partly.there i there
+    ];
+  }
+    where
+      here : (i : ℕ) → i ≡ s → get_or (set table s x) i none ≡ whole i
+      here i e = ap (λ k. get_or (set table s x) k none) e ∙ get_or-set_same table s x none below ∙ is ∙ ap whole (sym e)
+
+  -- and more is there.
+  pub partly-more : (IsThere More : ℕ → Type 0) (table : List A)
+      → ((i : ℕ) → More i → IsThere i ⊎ (get_or table i none ≡ whole i))
+      → IsPartly whole none IsBlank IsThere table → IsPartly whole none IsBlank More table
+  partly-more IsThere More table more partly = record {
+    right = partly.right;
+    there = λ i there. elim (more i there) [
+      | inl before ↦ partly.there i before
+      | inr now ↦ now
+    ];
+  }
+
+module _ (label_of : ℕ → ℕ) where
+  -- A label may be put where it belongs,
+  pub labels-put : (c : Netlist) (n w x : ℕ) (labels : List ℕ) → w < c.wires → x ≡ label_of w
+      → AreLabels c label_of n labels → AreLabels c label_of n (set labels w x)
+  labels-put c n w x labels below is are = record {
+    wires = length-set labels w x ∙ are.wires;
+    partly = partly-put label_of 0 (λ label. label ≡ 0) (IsSetBefore c n) labels w x
+        (omega (arith, below, are.wires)) is are.partly;
+  }
+
+  -- and what is marked stays there,
+  pub marked-label : (w x : ℕ) (marks : List Mark) (labels : List ℕ) → w < length labels → x ≡ label_of w
+      → AreMarked label_of marks labels → AreMarked label_of marks (set labels w x)
+  marked-label w x marks labels below is are u marked = elim (cases_eq u w) [
+    | inl e ↦ ap (slice_index (set labels w x)) e ∙ get_or-set_same labels w x 0 below ∙ is ∙ ap label_of (sym e)
+    | inr other ↦ get_or-set_other labels w u x 0 other ∙ are u marked
+  ]
+
+  -- also where its wire is marked,
+  pub marked-put : (w x : ℕ) (marks : List Mark) (labels : List ℕ) → w < length labels → x ≡ label_of w
+      → AreMarked label_of marks labels → AreMarked label_of (set marks w There) (set labels w x)
+  marked-put w x marks labels below is are u marked = elim (cases_eq u w) [
+    | inl e ↦ ap (slice_index (set labels w x)) e ∙ get_or-set_same labels w x 0 below ∙ is ∙ ap label_of (sym e)
+    | inr other ↦ get_or-set_other labels w u x 0 other
+        ∙ are u (sym (get_or-set_other marks w u There Absent other) ∙ marked)
+  ]
+
+  -- and another mark than this may stand anywhere.
+  pub marked-other : (w : ℕ) (mark : Mark) (marks : List Mark) (labels : List ℕ) → w < length marks → mark ≢ There
+      → AreMarked label_of marks labels → AreMarked label_of (set marks w mark) labels
+  marked-other w mark marks labels below other are u marked = elim (cases_eq u w) [
+    | inl e ↦ absurd (other (sym (ap (λ v. get_or (set marks w mark) v Absent) e
+        ∙ get_or-set_same marks w mark Absent below) ∙ marked))
+    | inr apart ↦ are u (sym (get_or-set_other marks w u mark Absent apart) ∙ marked)
+  ]
+
+  -- At the start the input wires alone are marked.
+  pub marked-start : (c : Netlist) (marks : List Mark) (labels : List ℕ)
+      → ((w : ℕ) → get_or marks w Absent ≡ There → w < input_wires c) → AreLabels c label_of 0 labels
+      → AreMarked label_of marks labels
+  marked-start c marks labels inputs are w marked = are.partly.there w (inl (inputs w marked))
+
+  -- What a gate reads, all of it marked, are the labels.
+  reads-marked : (op : Operation) (marks : List Mark) (labels : List ℕ) → AreMarked label_of marks labels
+      → EachRead (λ w. get_or marks w Absent ≡ There) op → EachRead (λ w. slice_index labels w ≡ label_of w) op
+  reads-marked op marks labels are marked =
+      EachRead-map (λ w. get_or marks w Absent ≡ There) (λ w. slice_index labels w ≡ label_of w) op are marked
+
+  pub first-marked : (op : Operation) (marks : List Mark) (labels : List ℕ) → AreMarked label_of marks labels
+      → EachRead (λ w. get_or marks w Absent ≡ There) op → first_read (slice_index labels) op ≡ first_read label_of op
+  first-marked op marks labels are marked =
+      first_read-local (slice_index labels) label_of op (reads-marked op marks labels are marked)
+
+  pub second-marked : (op : Operation) (marks : List Mark) (labels : List ℕ) → AreMarked label_of marks labels
+      → EachRead (λ w. get_or marks w Absent ≡ There) op
+      → second_read (slice_index labels) op ≡ second_read label_of op
+  second-marked op marks labels are marked =
+      second_read-local (slice_index labels) label_of op (reads-marked op marks labels are marked)

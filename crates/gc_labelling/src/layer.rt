@@ -1,0 +1,476 @@
+//! A labelling that is partly there, while gates wait.
+
+ghost use Rattle.std.specs.Prelude.{◌≡◌, ℕ, ◌<◌, ◌≤◌, IfOk, IsTrue, Some, None, All, length, take, drop, slice_get, slice_index_or};
+ghost use Rattle.gc_netlist.specs.Circuit.{EachRead, IsLawful, input_wires};
+ghost use Rattle.gc_labelling.specs.declared.mark.Mark.TheVariants.{Absent, There};
+ghost use Rattle.gc_labelling.specs.Layer.{AreLabels, AreMade, IsLabelled, IsPlace};
+
+use crate::block::{BLOCK, Sealed};
+use crate::crew::Crew;
+use crate::labelling::Labelling;
+use crate::mark::Mark;
+use crate::pending::Pending;
+use crate::place::Place;
+use crate::postponed::Postponed;
+use gc_circuit::{Circuit, Gate, Memory, Operation};
+use gc_gatehouse::Gatehouse;
+use gc_half::labels_read;
+use gc_label::Label;
+use std::alloc::Allocator;
+use std::marker::Model;
+use std::mem::swap;
+use std::sync::Wait;
+
+/// The most blocks that are with others.
+pub(crate) const SLOTS: usize = 64;
+
+/// The most gates that are postponed where several threads make blocks. One thread makes those that wait as soon as a gate
+/// is postponed, since a longer block saves it nothing.
+const MOST_POSTPONED: u16 = 512;
+
+/// A label for each wire of a circuit, as far as they are there: a wire without a label has zero. AND gates that read
+/// labels which are there wait to be made together: they are a layer. Gates that read a wire without a label are postponed
+/// until it has one.
+#[derive(Drop)]
+pub(crate) struct Layer<'c, P: Pending, L: Labelling<P>, A: Allocator, C: Allocator> {
+    circuit: &'c Circuit<C>,
+    labelling: L,
+    // By wire.
+    labels: Vec<Label, A>,
+    // By wire: whether its label is there, which may be zero too.
+    marks: Vec<Mark, A>,
+    // Fewer than a block has.
+    waiting: Vec<P, A>,
+    // The gates of blocks that are with others, each block's in a slot of its own.
+    lent: Vec<Vec<P, A>, A>,
+    // Slots whose blocks are back.
+    free: Vec<usize, A>,
+    postponed: Postponed<'c, A, C>,
+}
+
+impl<'c, P: Pending, L: Labelling<P>, A: Allocator, C: Allocator> Model for Layer<'c, P, L, A, C> {
+    ghost use Rattle.gc_labelling.specs.Layer.{IsLayer};
+
+    ghost Value = { L };
+
+    ghost view = { λ t. t.labelling };
+
+    ghost invariant = { λ t. IsLayer (L.circuit_of t.labelling) (L.label_of t.labelling) (L.is_pending t.labelling)
+        (λ slot. slot.items) t.circuit.now t.labels.items t.marks.items t.waiting.items t.lent.items t.postponed };
+}
+
+impl<'c, P: Pending, L: Labelling<P>, A: Allocator + Copy, C: Allocator> Layer<'c, P, L, A, C> {
+    /// A labelling of which these labels are there, those of the input wires among them, and no gate waits. It takes all
+    /// the memory that is needed.
+    pub(crate) fn open(
+        alloc: A,
+        circuit: &'c Circuit<C>,
+        labelling: L,
+        labels: Vec<Label, A>,
+        is_shared: bool,
+    ) -> Result<Layer<'c, P, L, A, C>, Memory>
+        requires circuit { L.circuit_of labelling ≡ circuit.now }
+        requires labels { AreLabels circuit.now (L.label_of labelling) 0 labels.items }
+        ensures { IfOk result (λ l. l ≡ labelling) }
+    {
+        let most_postponed = if is_shared { MOST_POSTPONED } else { 1 };
+        let slots = if is_shared { SLOTS } else { 0 };
+        let _ = circuit.gates();
+        Ok(Layer {
+            circuit,
+            labelling,
+            labels,
+            marks: input_marks(alloc, circuit)?,
+            waiting: Vec::with_capacity(alloc, BLOCK)?,
+            lent: Vec::with_capacity(alloc, slots)?,
+            free: Vec::with_capacity(alloc, slots)?,
+            postponed: Postponed::open(alloc, circuit, most_postponed)?,
+        })
+    }
+
+    /// Goes from gate to gate.
+    pub(crate) fn pass<H: Gatehouse, R: Wait>(
+        &mut self,
+        rt: &R,
+        crew: &mut Crew<'_, P, A, H>,
+    ) -> Result<(), Memory>
+        ensures { self.new ≡ self.old }
+    {
+        let circuit = self.circuit;
+        let mut k = 0;
+        for i in 0..circuit.gates() {
+            let gate = circuit.gate(i);
+            self.visit(crew, Place { gate: i, k }, gate)?;
+            if gate.operation.is_and() {
+                k += 1;
+            }
+            self.keep_up(rt, crew)?;
+        }
+        Ok(())
+    }
+
+    /// Goes on until no gate waits.
+    pub(crate) fn finish<H: Gatehouse, R: Wait>(
+        &mut self,
+        rt: &R,
+        crew: &mut Crew<'_, P, A, H>,
+    ) -> Result<(), Memory>
+        ensures { self.new ≡ self.old }
+    {
+        for _ in rt.forever() {
+            if self.waiting.is_empty() && crew.has_all() {
+                return Ok(());
+            }
+            self.advance(rt, crew)?;
+        }
+        unreachable!()
+    }
+
+    /// The labelling, the labels and their marks.
+    pub(crate) fn into_parts(self) -> (L, Vec<Label, A>, Vec<Mark, A>)
+        ensures labelling { result.0 ≡ self.entry }
+        ensures labels { IsLabelled (L.circuit_of self.entry) (L.label_of self.entry) result.1.items result.2.items }
+    {
+        let Layer {
+            circuit: _,
+            labelling,
+            labels,
+            marks,
+            waiting: _,
+            lent: _,
+            free: _,
+            postponed: _,
+        } = self;
+        (labelling, labels, marks)
+    }
+
+    /// Hands the gates out that wait, where they are a block, visits those whose labels are there now, and makes room for
+    /// more that are postponed.
+    #[inline]
+    fn keep_up<H: Gatehouse, R: Wait>(
+        &mut self,
+        rt: &R,
+        crew: &mut Crew<'_, P, A, H>,
+    ) -> Result<(), Memory>
+        ensures { self.new ≡ self.old }
+    {
+        if self.is_block(crew) {
+            self.hand_out(rt, crew)?;
+        }
+        if self.postponed.has_woken() {
+            self.revisit(rt, crew)?;
+        }
+        if self.postponed.is_full() {
+            self.make_room(rt, crew)?;
+        }
+        Ok(())
+    }
+
+    /// Whether the gates that wait are a block.
+    #[inline]
+    fn is_block<H: Gatehouse>(&self, crew: &Crew<'_, P, A, H>) -> bool {
+        self.waiting.len() >= crew.gates_of_block()
+    }
+
+    /// Labels a gate's wire, or has it wait where it is AND, or postpones it where a label that it reads isn't there.
+    #[inline]
+    fn visit<H: Gatehouse>(
+        &mut self,
+        crew: &Crew<'_, P, A, H>,
+        place: Place,
+        gate: Gate,
+    ) -> Result<(), Memory>
+        requires place { IsPlace (L.circuit_of self.old) place }
+        requires gate { slice_get (L.circuit_of self.old).gates place.gate ≡ Some gate }
+        ensures { self.new ≡ self.old }
+    {
+        if let Some(wire) = missing(&self.marks, gate.operation) {
+            return self.postpone(place, wire);
+        }
+        let (first, second) = labels_read(&self.labels, gate.operation);
+        if gate.operation.is_and() {
+            let pending = self.labelling.pending(place, gate, first, second);
+            self.wait(pending)
+        } else {
+            crew.tell(place.gate);
+            let label = self.labelling.free(place, gate, first, second);
+            self.settle(gate.set, label);
+            Ok(())
+        }
+    }
+
+    /// Postpones a gate until the label of a wire is there. Where too many are postponed it is left to the end.
+    fn postpone(&mut self, place: Place, wire: u32) -> Result<(), Memory>
+        requires place { IsPlace (L.circuit_of self.old) place }
+        requires wire { wire < (L.circuit_of self.old).wires }
+        ensures { self.new ≡ self.old }
+    {
+        let rest = self.marks[wire as usize];
+        if let Some(slot) = self.postponed.put(place, rest)? {
+            self.marks[wire as usize] = Mark::Awaited(slot);
+        }
+        Ok(())
+    }
+
+    /// Puts the label of a wire where it belongs, and wakes the gates that wait for it.
+    #[inline]
+    fn settle(&mut self, wire: u32, label: Label)
+        requires wire { wire < (L.circuit_of self.old).wires }
+        requires label { label ≡ L.label_of self.old wire }
+        ensures { self.new ≡ self.old }
+    {
+        let mark = self.marks[wire as usize];
+        self.labels[wire as usize] = label;
+        self.marks[wire as usize] = Mark::There;
+        if let Mark::Awaited(slot) = mark {
+            self.postponed.wake(slot);
+        }
+    }
+
+    /// Has a gate wait.
+    #[inline]
+    fn wait(&mut self, gate: P) -> Result<(), Memory>
+        requires { L.is_pending self.old gate }
+        ensures { self.new ≡ self.old }
+    {
+        self.waiting.push(gate)?;
+        Ok(())
+    }
+
+    /// Offers the crew the gates that wait, as a block, or makes them where all have enough to do.
+    fn hand_out<H: Gatehouse, R: Wait>(
+        &mut self,
+        rt: &R,
+        crew: &mut Crew<'_, P, A, H>,
+    ) -> Result<(), Memory>
+        ensures { self.new ≡ self.old }
+    {
+        if crew.is_alone() {
+            return self.make_waiting(crew);
+        }
+        self.take_back(rt, crew);
+        let Some(slot) = self.free_slot(crew)? else {
+            return self.make_waiting(crew);
+        };
+        let gates = block_from(&self.waiting, 0, BLOCK);
+        if !crew.offer(rt, slot, gates)? {
+            return self.make_waiting(crew);
+        }
+        self.lend(slot);
+        Ok(())
+    }
+
+    /// Makes the gates that wait.
+    fn make_waiting<H: Gatehouse>(&mut self, crew: &mut Crew<'_, P, A, H>) -> Result<(), Memory>
+        ensures { self.new ≡ self.old }
+    {
+        let sealed = crew.seal(block_from(&self.waiting, 0, BLOCK))?;
+        self.put_all(&sealed);
+        crew.release(sealed);
+        self.waiting.clear();
+        Ok(())
+    }
+
+    /// A slot whose block is back, or a new one. There may be none.
+    fn free_slot<H: Gatehouse>(&mut self, crew: &Crew<'_, P, A, H>) -> Result<Option<usize>, Memory>
+        ensures { self.new ≡ self.old }
+    {
+        if let Some(slot) = self.free.pop() {
+            return Ok(Some(slot));
+        }
+        let slot = self.lent.len();
+        if slot >= SLOTS {
+            return Ok(None);
+        }
+        self.lent.push(crew.room()?)?;
+        Ok(Some(slot))
+    }
+
+    /// Keeps the gates that wait in a slot, while others have them. None waits from then on.
+    fn lend(&mut self, slot: usize)
+        ensures { self.new ≡ self.old }
+    {
+        if slot < self.lent.len() {
+            swap(&mut self.waiting, &mut self.lent[slot]);
+        }
+        self.waiting.clear();
+    }
+
+    /// Takes the blocks that came back. The answer is whether there were any.
+    fn take_back<H: Gatehouse, R: Wait>(&mut self, rt: &R, crew: &mut Crew<'_, P, A, H>) -> bool
+        ensures { self.new ≡ self.old }
+    {
+        let mut is_any = false;
+        for _i in 0..SLOTS {
+            let Some(sealed) = crew.returned(rt) else {
+                return is_any;
+            };
+            self.land(crew, sealed);
+            is_any = true;
+        }
+        is_any
+    }
+
+    /// Takes a block that is made, where it is the one of its slot.
+    fn land<H: Gatehouse>(&mut self, crew: &mut Crew<'_, P, A, H>, sealed: Sealed<P, A>)
+        ensures { self.new ≡ self.old }
+    {
+        if self.is_lent(&sealed) {
+            self.put_all(&sealed);
+            let _ = self.free.push(sealed.number());
+        }
+        crew.release(sealed);
+    }
+
+    /// Whether a block has the gates that are kept in its slot.
+    fn is_lent(&self, sealed: &Sealed<P, A>) -> bool
+        ensures { IsTrue result → All (L.is_pending self.now) sealed.now }
+    {
+        let slot = sealed.number();
+        slot < self.lent.len() && sealed.is_of(&self.lent[slot])
+    }
+
+    /// Has a block made, by others or here, and visits the gates that waited for its labels.
+    fn advance<H: Gatehouse, R: Wait>(
+        &mut self,
+        rt: &R,
+        crew: &mut Crew<'_, P, A, H>,
+    ) -> Result<(), Memory>
+        ensures { self.new ≡ self.old }
+    {
+        if !self.take_back(rt, crew) {
+            self.make_one(rt, crew)?;
+        }
+        self.revisit(rt, crew)
+    }
+
+    /// Makes a block that nobody took, or the gates that wait, or waits for a block.
+    fn make_one<H: Gatehouse, R: Wait>(
+        &mut self,
+        rt: &R,
+        crew: &mut Crew<'_, P, A, H>,
+    ) -> Result<(), Memory>
+        ensures { self.new ≡ self.old }
+    {
+        if let Some(sealed) = crew.taken_back(rt) {
+            self.land(crew, sealed);
+        } else if !self.waiting.is_empty() {
+            self.make_waiting(crew)?;
+        } else if let Some(sealed) = crew.awaited(rt) {
+            self.land(crew, sealed);
+        }
+        Ok(())
+    }
+
+    /// Has blocks made until there is room for another gate that is postponed, or no gate waits.
+    fn make_room<H: Gatehouse, R: Wait>(
+        &mut self,
+        rt: &R,
+        crew: &mut Crew<'_, P, A, H>,
+    ) -> Result<(), Memory>
+        ensures { self.new ≡ self.old }
+    {
+        for _ in rt.forever() {
+            if !self.postponed.is_full() || self.waiting.is_empty() && crew.has_all() {
+                return Ok(());
+            }
+            self.advance(rt, crew)?;
+        }
+        unreachable!()
+    }
+
+    /// Visits the gates whose labels are there now.
+    fn revisit<H: Gatehouse, R: Wait>(
+        &mut self,
+        rt: &R,
+        crew: &mut Crew<'_, P, A, H>,
+    ) -> Result<(), Memory>
+        ensures { self.new ≡ self.old }
+    {
+        let circuit = self.circuit;
+        for _ in rt.forever() {
+            let Some(place) = self.postponed.next() else {
+                return Ok(());
+            };
+            self.visit(crew, place, circuit.gate(place.gate))?;
+            if self.is_block(crew) {
+                self.hand_out(rt, crew)?;
+            }
+        }
+        unreachable!()
+    }
+
+    /// Puts what making gates of the circuit gave where it belongs.
+    fn put_all(&mut self, sealed: &Sealed<P, A>)
+        requires { All (L.is_pending self.old) sealed.now }
+        ensures { self.new ≡ self.old }
+    {
+        let gates = sealed.gates();
+        for i in 0..gates.len() {
+            self.put(&gates[i], &sealed.made()[i]);
+        }
+    }
+
+    /// Puts what making an AND gate gave where it belongs.
+    #[inline]
+    fn put(&mut self, gate: &P, made: &P::Made)
+        requires gate { L.is_pending self.old gate.now }
+        requires made { made.now ≡ P.made_of gate.now }
+        ensures { self.new ≡ self.old }
+    {
+        let (wire, label) = self.labelling.keep(gate, made);
+        self.settle(wire, label);
+    }
+}
+
+/// The gates from a place on among those that wait, so many at the most.
+fn block_from<P: Pending>(waiting: &[P], first: usize, most: usize) -> &[P]
+    ensures gates { result.now ≡ take most (drop first waiting.now) }
+    ensures few { length result.now ≤ most }
+{
+    let (_, rest) = waiting.split_at(first.min(waiting.len()));
+    let (gates, _) = rest.split_at(most.min(rest.len()));
+    gates
+}
+
+/// A mark for each wire: the labels of the input wires are there.
+fn input_marks<A: Allocator + Copy, C: Allocator>(
+    alloc: A,
+    circuit: &Circuit<C>,
+) -> Result<Vec<Mark, A>, Memory>
+    ensures count { IfOk result (λ v. length v.items ≡ circuit.now.wires) }
+    ensures inputs { IfOk result (λ v. (w : ℕ) → slice_index_or v.items w Absent ≡ There → w < input_wires circuit.now) }
+{
+    let mut marks = Vec::with_capacity(alloc, circuit.wires() as usize)?;
+    marks.resize(circuit.input_wires() as usize, Mark::There)?;
+    marks.resize(circuit.wires() as usize, Mark::Absent)?;
+    Ok(marks)
+}
+
+/// A wire that an operation reads and whose label isn't there, if there is one.
+#[inline]
+fn missing(marks: &[Mark], operation: Operation) -> Option<u32>
+    requires { EachRead (λ w. w < length marks.now) operation }
+    ensures none { result ≡ None → EachRead (λ w. slice_index_or marks.now w Absent ≡ There) operation }
+    ensures some { (w : ℕ) → result ≡ Some w → w < length marks.now }
+{
+    match operation {
+        Operation::Xor(a, b) | Operation::And(a, b) => {
+            if !marks[a as usize].is_there() {
+                Some(a)
+            } else if !marks[b as usize].is_there() {
+                Some(b)
+            } else {
+                None
+            }
+        }
+        Operation::Inv(a) | Operation::Eqw(a) => {
+            if marks[a as usize].is_there() {
+                None
+            } else {
+                Some(a)
+            }
+        }
+        Operation::Eq(_) => None,
+    }
+}

@@ -1,0 +1,28 @@
+//! AND gates that wait.
+
+ghost use Rattle.std.specs.Prelude.{◌≡◌, ◌≤◌, ◌↔◌, IsTrue, length};
+ghost use Rattle.gc_labelling.specs.Layer.{AreMade};
+
+/// An AND gate that waits, with all that its label is made from.
+pub trait Pending: Copy {
+    /// What making it gives.
+    type Made: Copy;
+
+    // What making it gives.
+    ghost made_of: { Self → Self.Made };
+
+    /// What fills a place that nothing was made for.
+    fn nothing() -> Self::Made;
+
+    /// Its place in the file.
+    fn place(&self) -> u32;
+
+    /// Whether these are the same gates.
+    fn are_same(left: &[Self], right: &[Self]) -> bool
+        ensures { IsTrue result ↔ (left.now ≡ right.now) };
+
+    /// Makes all these gates. Places after those that are needed stay as they are.
+    fn make_all(gates: &[Self], made: &mut [Self::Made])
+        requires { length gates.now ≤ length made.old }
+        ensures { AreMade made_of gates.now made.new };
+}

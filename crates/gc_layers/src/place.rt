@@ -1,8 +1,0 @@
-//! Places of gates.
-
-/// A gate's place in the file, and how many AND gates stand before it.
-#[derive(Clone, Copy)]
-pub(crate) struct Place {
-    pub gate: u32,
-    pub k: u32,
-}
