@@ -22,7 +22,7 @@ impl<'a> Model for Tokens<'a> {
 }
 
 /// The text from its first byte that is no blank.
-#[inline]
+#[inline(always)]
 fn skip_blanks(text: &[u8]) -> &[u8]
     ensures same { tokens result.now ≡ tokens text.now }
     ensures begins { 0 < length result.now → is_blank (slice_index result.now 0) ≡ false }
@@ -50,7 +50,7 @@ fn run_len(text: &[u8]) -> usize
 }
 
 /// Whether the text begins with the numbers 2 and 1 and a space after each.
-#[inline]
+#[inline(always)]
 fn begins_with_two_and_one(text: &[u8]) -> bool
     ensures { IsTrue result → (4 ≤ length text.now) × (take 4 text.now ≡ codes "2 1 ") }
 {
@@ -58,7 +58,7 @@ fn begins_with_two_and_one(text: &[u8]) -> bool
 }
 
 /// Whether the text begins with a space, three bytes that are no blanks, and a line feed.
-#[inline]
+#[inline(always)]
 fn begins_with_name_of_three(text: &[u8]) -> bool
     ensures long { IsTrue result → 5 ≤ length text.now }
     ensures blanks { IsTrue result → (slice_index text.now 0 ≡ 32) × (slice_index text.now 4 ≡ 10) }

@@ -1,4 +1,4 @@
-use Rattle.std.proofs.Common.{◌≡◌, ◌≤◌, length, sym, ◌∙◌, arith}
+use Rattle.std.proofs.Common.{◌≡◌, ◌≤◌, length, refl, sym, ◌∙◌, arith}
 use Rattle.gc_label.specs.Seed.{offset_of}
 use Rattle.gc_half.specs.Hash.{hash}
 use Rattle.gc_half.specs.Canonical.{zero_label_of}
@@ -20,39 +20,36 @@ labels_read-first-requires g c =
     (labels-read c.args.circuit.now c.args.seed.now c.gates-i-end.ensures.lawful c.loop-i.i
     c.gate-gate.result c.gate-gate.ensures c.loop-i.zero_labels.items c.loop-i.invariant.labels)
 
-pub overflow_cast-number : goal.overflow_cast-number
-overflow_cast-number g c =
+pub garble_next-requires : goal.garble_next-requires
+garble_next-requires g c =
     let within : c.loop-i.i ≤ length c.args.circuit.now.gates = omega (arith, c.gates-i-end.ensures.count) in
     omega (
       arith,
       rows-few c.args.circuit.now c.args.seed.now c.gates-i-end.ensures.lawful c.loop-i.i within
           c.loop-i.rows.items c.loop-i.invariant.rows,
       c.gates-i-end.ensures.count,
-      c.len-number.ensures,
     )
 
 pub loop-i-preserved : goal.loop-i-preserved
 loop-i-preserved g c =
     let lawful = c.gates-i-end.ensures.lawful in
-    let gate = c.garble_gate-zero_label.ensures in
+    let gate = c.in_ok-zero_label.ensures in
     let read = c.labels_read-first.ensures in
-    let put = c.in_ok-put_label.ensures in
-    let number : c.len-number.result ≡ length c.loop-i.rows.items = c.len-number.ensures
-    ∙ c.loop-i.rows.ok.0 in record {
+    let put = c.in_ok-put_label.ensures in record {
       labels =
           labels-next c.args.circuit.now c.args.seed.now lawful c.loop-i.i
           c.gate-gate.result c.gate-gate.ensures
           c.loop-i.zero_labels.items c.loop-i.rows.items c.loop-i.invariant.labels c.loop-i.invariant.rows
-          c.garble_gate-zero_label.result.0
-          (rw (read.first, read.second, c.offset-offset.ensures, number, c.deref.ensures.value) at
-          gate.zero_label) c.put_label.new.labels.items put.label put.there put.kept
+          c.in_ok-zero_label.zero_label
+          (rw (read.first, read.second, c.offset-offset.ensures, c.deref.ensures.value) at gate.zero_label)
+          c.put_label.new.labels.items put.label put.there put.kept
           (omega (arith, put.few, c.wires.ensures.count));
       rows =
           rows-next c.args.circuit.now c.args.seed.now lawful c.loop-i.i
           c.gate-gate.result c.gate-gate.ensures
           c.loop-i.zero_labels.items c.loop-i.rows.items c.loop-i.invariant.labels c.loop-i.invariant.rows
-          c.push_pair.new.rows.items c.garble_gate-zero_label.result.1 c.in_ok-push_pair.ensures
-          (rw (read.first, read.second, c.offset-offset.ensures, number, c.deref.ensures.value) at gate.rows);
+          c.garble_next.new.rows.items _ gate.rows
+          (rw (read.first, read.second, c.offset-offset.ensures, c.deref.ensures.value) refl);
     }
 
 pub returns : goal.returns
