@@ -44,8 +44,8 @@ pub(crate) fn labels_of_inputs<A: Allocator + Copy, C: Allocator>(
     Ok(labels)
 }
 
-/// Puts the label of a wire into a table that is written as it is needed: an entry behind its end is 16 zero bytes. So
-/// most circuits, which set their wires in order, have each entry written while it is near, and not twice from afar.
+/// Puts the label of a wire into a table that is written as it is needed: an entry behind its end is 16 zero bytes. Most
+/// circuits set their wires in order, so that an entry is zeroed shortly before it is set, and is still in the cache then.
 #[inline(always)]
 pub(crate) fn put_label<A: Allocator>(
     labels: &mut Vec<Label, A>,

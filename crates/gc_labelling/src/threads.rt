@@ -29,8 +29,8 @@ const GATES_FOR_THREAD: usize = 1024;
 /// postponed until it is. It takes memory for the marks and for the gates that wait or are postponed: up to 64 blocks of 64
 /// gates, twice, and 512 gates. `house` is told of each gate before it is made; the calling thread is worker 0.
 ///
-/// Where a block was lost there are wires without a mark, and the labels there are zeros or right. That the labels begin
-/// with those of the input wires, and have zeros elsewhere, is the caller's condition.
+/// Where a block was lost there are wires without a mark, and the labels there are zeros or right. That those of the input
+/// wires are there, and that each other is zero or right, is the caller's condition.
 pub fn label_by_layers<
     P: Pending<Made = M> + Send + Sync,
     M: Copy + Send + Sync,
