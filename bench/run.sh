@@ -81,20 +81,23 @@ workers() {
     eval "$(times w "$tmp/workers.txt" 5 garble garble1 garble2 garble4)"
     echo "$1: by one worker $(ratio "$w_garble" "$w_garble1") as fast as by one thread, by two $(ratio "$w_garble" "$w_garble2"), by four $(ratio "$w_garble" "$w_garble4"); by four $(ratio "$w_garble1" "$w_garble4") as fast as by one worker"
 }
+
 # The mean of the times that a file has of one part.
 mean() { awk 'NF == 2 && $1 ~ /^garble/ { sum += $2; n++ } END { printf "%.0f", sum / n }' "$1"; }
 
 # Four workers beside four programs that garble the same circuit by one worker each, at once: so much the machine gives to
-# four, whatever else it does. Means of eight turns.
+# four, whatever else it does. Means of eight turns, one worker's too.
 beside_programs() {
     for _ in {1..8}; do
+        "$bench" "$1" 2 garble1 >>"$tmp/one"
         "$bench" "$1" 2 garble4 >>"$tmp/together"
         for _ in {1..4}; do "$bench" "$1" 2 garble1 >>"$tmp/apart" & done
         wait
     done
+    one=$(mean "$tmp/one")
     together=$(mean "$tmp/together")
     apart=$(mean "$tmp/apart")
-    echo "  four programs of one worker each, at once: $(ratio "$((4 * w_garble1))" "$apart") as fast as one worker; four workers take $(ratio "$((4 * together))" "$apart") as long as they do"
+    echo "  by the mean of eight turns: four workers $(ratio "$one" "$together") as fast as one, four programs of one worker each, at once, $(ratio "$((4 * one))" "$apart")"
 }
 
 workers "a million independent AND gates (by four at least 3.4, and 3.2 beside one worker)" 1 independent
