@@ -189,11 +189,11 @@ impl Subject {
 
     /// As many hashes, each of the label that the one before in its lane gave.
     fn lanes(&self) -> Result<()> {
-        let mut labels = [[0; 16]; 4];
+        let mut labels = [0; 4];
         for k in 0..u64::from(self.circuit.and_count()) {
-            labels = hash_four(&labels, &[k; 4]);
+            labels = hash_four(labels, [k; 4]);
         }
-        if labels == [[0; 16]; 4] {
+        if labels == [0; 4] {
             return Err(anyhow!("hashes of zeros"));
         }
         Ok(())
@@ -201,11 +201,11 @@ impl Subject {
 
     /// As many hashes, in eight lanes.
     fn eight_lanes(&self) -> Result<()> {
-        let mut labels = [[0; 16]; 8];
+        let mut labels = [0; 8];
         for k in 0..u64::from(self.circuit.and_count().div_ceil(2)) {
-            labels = hash_eight(&labels, &[k; 8]);
+            labels = hash_eight(labels, [k; 8]);
         }
-        if labels == [[0; 16]; 8] {
+        if labels == [0; 8] {
             return Err(anyhow!("hashes of zeros"));
         }
         Ok(())

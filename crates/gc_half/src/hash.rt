@@ -28,18 +28,13 @@ pub(crate) fn tweak_hash_four(inputs: [(Label, u64); 4]) -> [Label; 4]
     ensures { result ≡ map (λ input. hashes.hash input.0 input.1) inputs }
 {
     let [a, b, c, d] = inputs;
-    let labels = [
-        a.0.to_bytes(),
-        b.0.to_bytes(),
-        c.0.to_bytes(),
-        d.0.to_bytes(),
-    ];
-    let hashes = hash_four(&labels, &[a.1, b.1, c.1, d.1]);
+    let labels = [a.0.number(), b.0.number(), c.0.number(), d.0.number()];
+    let [a, b, c, d] = hash_four(labels, [a.1, b.1, c.1, d.1]);
     [
-        Label::from_bytes(hashes[0]),
-        Label::from_bytes(hashes[1]),
-        Label::from_bytes(hashes[2]),
-        Label::from_bytes(hashes[3]),
+        Label::from_number(a),
+        Label::from_number(b),
+        Label::from_number(c),
+        Label::from_number(d),
     ]
 }
 
@@ -55,28 +50,28 @@ pub(crate) fn tweak_hash_eight(
     let [a, b, c, d] = inputs;
     let [e, f, g, h] = others;
     let labels = [
-        a.0.to_bytes(),
-        b.0.to_bytes(),
-        c.0.to_bytes(),
-        d.0.to_bytes(),
-        e.0.to_bytes(),
-        f.0.to_bytes(),
-        g.0.to_bytes(),
-        h.0.to_bytes(),
+        a.0.number(),
+        b.0.number(),
+        c.0.number(),
+        d.0.number(),
+        e.0.number(),
+        f.0.number(),
+        g.0.number(),
+        h.0.number(),
     ];
-    let hashes = hash_eight(&labels, &[a.1, b.1, c.1, d.1, e.1, f.1, g.1, h.1]);
+    let [a, b, c, d, e, f, g, h] = hash_eight(labels, [a.1, b.1, c.1, d.1, e.1, f.1, g.1, h.1]);
     (
         [
-            Label::from_bytes(hashes[0]),
-            Label::from_bytes(hashes[1]),
-            Label::from_bytes(hashes[2]),
-            Label::from_bytes(hashes[3]),
+            Label::from_number(a),
+            Label::from_number(b),
+            Label::from_number(c),
+            Label::from_number(d),
         ],
         [
-            Label::from_bytes(hashes[4]),
-            Label::from_bytes(hashes[5]),
-            Label::from_bytes(hashes[6]),
-            Label::from_bytes(hashes[7]),
+            Label::from_number(e),
+            Label::from_number(f),
+            Label::from_number(g),
+            Label::from_number(h),
         ],
     )
 }

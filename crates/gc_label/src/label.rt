@@ -30,6 +30,22 @@ impl Label {
     /// The label of 16 zero bytes.
     pub const ZERO: Label = Label { number: 0 };
 
+    /// The label whose bytes spell this number, the first byte highest.
+    #[inline]
+    pub fn from_number(number: u128) -> Label
+        ensures { result ≡ number }
+    {
+        Label { number }
+    }
+
+    /// The number that its bytes spell, the first byte highest.
+    #[inline]
+    pub fn number(self) -> u128
+        ensures { result ≡ self }
+    {
+        self.number
+    }
+
     /// The label of these bytes.
     #[tactic(auto, unfolding(crate::specs::Label::label_of_bytes))]
     #[inline]

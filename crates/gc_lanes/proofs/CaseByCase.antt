@@ -9,6 +9,18 @@ below_four P p0 p1 p2 p3 (suc (suc zero)) lt = p2
 below_four P p0 p1 p2 p3 (suc (suc (suc zero))) lt = p3
 below_four P p0 p1 p2 p3 (suc (suc (suc (suc n)))) lt = absurd (omega arith)
 
+-- what holds of each number below eight
+pub below_eight : (P : ℕ → Type 0) → P 0 → P 1 → P 2 → P 3 → P 4 → P 5 → P 6 → P 7 → (j : ℕ) → j < 8 → P j
+below_eight P p0 p1 p2 p3 p4 p5 p6 p7 zero lt = p0
+below_eight P p0 p1 p2 p3 p4 p5 p6 p7 (suc zero) lt = p1
+below_eight P p0 p1 p2 p3 p4 p5 p6 p7 (suc (suc zero)) lt = p2
+below_eight P p0 p1 p2 p3 p4 p5 p6 p7 (suc (suc (suc zero))) lt = p3
+below_eight P p0 p1 p2 p3 p4 p5 p6 p7 (suc (suc (suc (suc zero)))) lt = p4
+below_eight P p0 p1 p2 p3 p4 p5 p6 p7 (suc (suc (suc (suc (suc zero))))) lt = p5
+below_eight P p0 p1 p2 p3 p4 p5 p6 p7 (suc (suc (suc (suc (suc (suc zero)))))) lt = p6
+below_eight P p0 p1 p2 p3 p4 p5 p6 p7 (suc (suc (suc (suc (suc (suc (suc zero))))))) lt = p7
+below_eight P p0 p1 p2 p3 p4 p5 p6 p7 (suc (suc (suc (suc (suc (suc (suc (suc n)))))))) lt = absurd (omega arith)
+
 -- what holds of each number below sixteen
 pub below_sixteen : (P : ℕ → Type 0) → P 0 → P 1 → P 2 → P 3 → P 4 → P 5 → P 6 → P 7
     → P 8 → P 9 → P 10 → P 11 → P 12 → P 13 → P 14 → P 15 → (k : ℕ) → k < 16 → P k

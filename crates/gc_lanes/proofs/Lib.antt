@@ -1,6 +1,7 @@
 pub mod Bits
-pub mod BytesOfWords
 pub mod CaseByCase
+pub mod LabelWords
 pub mod OneBlock
 pub mod Rotations
+pub mod Turning
 pub mod WordLanes

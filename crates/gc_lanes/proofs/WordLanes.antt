@@ -4,12 +4,9 @@ use Rattle.std.proofs.lemmas.Nat.{or_lt, shr_le}
 use Rattle.std.proofs.lemmas.Simd.{Each1-replicate, Each1-zip2, Each2-of, get_or-replicate, get_or-zip2, length-replicate, length-zip2}
 use Rattle.std.specs.Int.{w32, rotate_right}
 use Rattle.std.specs.Simd.Lanes.{zip2, Each1}
+use Rattle.gc_lanes.specs.Lanes.{lane}
 use mir.Val.{Fits}
 use native.Mathlib.Nat.{mod-eq_of_lt}
-
--- the word that lane j of a vector holds
-abbrev pub lane : List ℕ → ℕ → ℕ
-lane v j = slice_index v j % 2 ^ 32
 
 -- these are n words
 abbrev pub AreWords : ℕ → List ℕ → Type 0

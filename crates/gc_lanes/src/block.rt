@@ -1,10 +1,10 @@
 //! Messages of one block each, a label and a tweak, one in each lane.
 
-ghost use Rattle.std.specs.Prelude.{◌≡◌, ◌+◌, ◌<◌, ◌≤◌, ℕ, [], length, slice_index, slice_index_or};
+ghost use Rattle.std.specs.Prelude.{◌≡◌, ◌+◌, ◌<◌, ◌≤◌, ℕ, List, length, slice_index};
 ghost use Rattle.std.specs.Int.{to_le_bytes, w64};
 ghost use Rattle.sha2.specs.Sha256.{initial_hash_256, word_at};
 ghost use Rattle.gc_lanes.specs.Hash.{padded_words};
-ghost use Rattle.gc_lanes.specs.Lanes.{words_of_lane};
+ghost use Rattle.gc_lanes.specs.Lanes.{first_words, last_words, words_of_lane};
 
 use crate::compression::{State, Window};
 use crate::constants::INITIAL_HASH;
@@ -46,24 +46,9 @@ fn word_of(bytes: &[u8], start: usize) -> u32
     ])
 }
 
-// The word at this byte of each label.
-#[inline(always)]
-fn label_words<W: Words, const N: usize>(labels: &[[u8; 16]; N], start: usize) -> W
-    requires lanes { N ≡ W.lanes }
-    requires start { start + 4 ≤ 16 }
-    ensures words { (j : ℕ) → j < N → W.lane result j ≡ word_at (slice_index_or labels.now j []) start }
-    ensures lengths { (j : ℕ) → j < N → length (slice_index_or labels.now j []) ≡ 16 }
-{
-    let mut words = W::splat(0);
-    for j in 0..N {
-        words = words.with_word(j, word_of(&labels[j], start));
-    }
-    words
-}
-
 // The word at this byte of each tweak, whose 8 bytes stand lowest first.
 #[inline(always)]
-fn tweak_words<W: Words, const N: usize>(tweaks: &[u64; N], start: usize) -> W
+fn tweak_word<W: Words, const N: usize>(tweaks: &[u64; N], start: usize) -> W
     requires lanes { N ≡ W.lanes }
     requires start { start + 4 ≤ 8 }
     ensures { (j : ℕ) → j < N →
@@ -76,25 +61,33 @@ fn tweak_words<W: Words, const N: usize>(tweaks: &[u64; N], start: usize) -> W
     words
 }
 
-/// The words of each message's one block: its label, its tweak and the padding (FIPS 180-4, 5.1.1 and 5.2.1).
+/// The two words of each tweak, whose 8 bytes stand lowest first.
 #[inline(always)]
-pub(crate) fn padded_block<W: Words, const N: usize>(
-    labels: &[[u8; 16]; N],
-    tweaks: &[u64; N],
-) -> Window<W>
+pub(crate) fn tweak_words<W: Words, const N: usize>(tweaks: &[u64; N]) -> [W; 2]
     requires { N ≡ W.lanes }
-    ensures words { (j : ℕ) → j < N → words_of_lane W.lane j result
-        ≡ padded_words (slice_index_or labels.now j []) (to_le_bytes w64 (slice_index tweaks.now j)) }
-    ensures lengths { (j : ℕ) → j < N → length (slice_index_or labels.now j []) ≡ 16 }
+    ensures { (j : ℕ) → j < N → words_of_lane W.lane j result
+        ≡ first_words (to_le_bytes w64 (slice_index tweaks.now j)) }
+{
+    [tweak_word(tweaks, 0), tweak_word(tweaks, 4)]
+}
+
+/// The words of each message's one block: its label, whose words are given lowest first, its tweak, and the padding
+/// (FIPS 180-4, 5.1.1 and 5.2.1).
+#[inline(always)]
+pub(crate) fn padded_block<W: Words>(label: [W; 4], tweak: [W; 2]) -> Window<W>
+    ensures { (j : ℕ) (l t : List ℕ) → j < W.lanes → words_of_lane W.lane j label ≡ last_words l
+        → words_of_lane W.lane j tweak ≡ first_words t → words_of_lane W.lane j result ≡ padded_words l t }
 {
     let zero = W::splat(0);
+    let [d, c, b, a] = label;
+    let [first, second] = tweak;
     [
-        label_words(labels, 0),
-        label_words(labels, 4),
-        label_words(labels, 8),
-        label_words(labels, 12),
-        tweak_words(tweaks, 0),
-        tweak_words(tweaks, 4),
+        a,
+        b,
+        c,
+        d,
+        first,
+        second,
         W::splat(FIRST_PADDING),
         zero,
         zero,

@@ -1,43 +1,45 @@
 //! The tweaked hashes of labels.
 
-ghost use Rattle.std.specs.Prelude.{◌≡◌, ◌*◌, ◌^◌, ◌<◌, ℕ, [], slice_index, slice_index_or};
+ghost use Rattle.std.specs.Prelude.{◌≡◌, ◌*◌, ◌^◌, ◌<◌, ℕ, slice_index};
+ghost use Rattle.std.specs.Int.{to_le_bytes, w64};
 ghost use Rattle.std.specs.Mem.{type_size};
 ghost use Rattle.gc_lanes.specs.Hash.{tweaked_hash};
+ghost use Rattle.gc_lanes.specs.Lanes.{first_words, label_of_words, low_words, words_of_lane};
 
-use crate::block::{initial_state, padded_block};
-use crate::compression::{Window, add_states, four_rounds_of_block, four_rounds_of_schedule};
-use crate::digest::fronts_of_digests;
+use crate::block::{initial_state, padded_block, tweak_words};
+use crate::compression::{add_states, four_rounds_of_block, four_rounds_of_schedule};
+use crate::labels::{labels_of_eight, labels_of_four, words_of_eight, words_of_four};
 use crate::words::Words;
-use std::simd::{u32x4, u32x8};
 
-/// The tweaked hash of each label: the first 16 bytes of SHA-256 (FIPS 180-4) of the label followed by the
-/// 8 bytes of its tweak, the lowest first. It takes no memory.
-pub fn hash_four(labels: &[[u8; 16]; 4], tweaks: &[u64; 4]) -> [[u8; 16]; 4]
-    ensures { (i : ℕ) → i < 4 → slice_index_or result i []
-        ≡ tweaked_hash (slice_index_or labels.now i []) (slice_index tweaks.now i) }
+/// The tweaked hash of each label: the first 16 bytes of SHA-256 (FIPS 180-4) of the label's 16 bytes, the highest of its
+/// number first, followed by the 8 bytes of its tweak, the lowest first. It takes no memory.
+#[inline]
+pub fn hash_four(labels: [u128; 4], tweaks: [u64; 4]) -> [u128; 4]
+    ensures { (i : ℕ) → i < 4 → slice_index result i ≡ tweaked_hash (slice_index labels i) (slice_index tweaks i) }
 {
-    hash_each::<u32x4, 4>(labels, tweaks)
+    labels_of_four(hash_each(words_of_four(labels), tweak_words(&tweaks)))
 }
 
 /// The tweaked hash of each label, as [`hash_four`] gives it.
-pub fn hash_eight(labels: &[[u8; 16]; 8], tweaks: &[u64; 8]) -> [[u8; 16]; 8]
-    ensures { (i : ℕ) → i < 8 → slice_index_or result i []
-        ≡ tweaked_hash (slice_index_or labels.now i []) (slice_index tweaks.now i) }
+#[inline]
+pub fn hash_eight(labels: [u128; 8], tweaks: [u64; 8]) -> [u128; 8]
+    ensures { (i : ℕ) → i < 8 → slice_index result i ≡ tweaked_hash (slice_index labels i) (slice_index tweaks i) }
 {
-    hash_each::<u32x8, 8>(labels, tweaks)
+    labels_of_eight(hash_each(words_of_eight(labels), tweak_words(&tweaks)))
 }
 
-// The tweaked hash of each label, one in each lane. A window of such words fits in memory.
+// The words of the tweaked hash of each label, one in each lane; those of labels stand lowest first. A window of such words
+// fits in memory.
 #[inline(always)]
-fn hash_each<W: Words, const N: usize>(labels: &[[u8; 16]; N], tweaks: &[u64; N]) -> [[u8; 16]; N]
-    requires lanes { N ≡ W.lanes }
-    requires memory { 16 * type_size W.row < 2 ^ 63 }
-    ensures { (i : ℕ) → i < N → slice_index_or result i []
-        ≡ tweaked_hash (slice_index_or labels.now i []) (slice_index tweaks.now i) }
+fn hash_each<W: Words>(label: [W; 4], tweak: [W; 2]) -> [W; 4]
+    requires { 16 * type_size W.row < 2 ^ 63 }
+    ensures { (j l t : ℕ) → j < W.lanes → words_of_lane W.lane j label ≡ low_words l
+        → words_of_lane W.lane j tweak ≡ first_words (to_le_bytes w64 t)
+        → label_of_words (words_of_lane W.lane j result) ≡ tweaked_hash l t }
 {
     // The 64 rounds are written out, four a call, and the calls are inlined: in code without a loop the
     // compiler folds what it knows of the padding's words and of the initial hash value.
-    let mut window: Window<W> = padded_block(labels, tweaks);
+    let mut window = padded_block(label, tweak);
     let start = initial_state();
     let variables = four_rounds_of_block(&window, start, 0);
     let variables = four_rounds_of_block(&window, variables, 4);
@@ -55,5 +57,6 @@ fn hash_each<W: Words, const N: usize>(labels: &[[u8; 16]; N], tweaks: &[u64; N]
     let variables = four_rounds_of_schedule(&mut window, variables, 52);
     let variables = four_rounds_of_schedule(&mut window, variables, 56);
     let variables = four_rounds_of_schedule(&mut window, variables, 60);
-    fronts_of_digests(&add_states(start, variables))
+    let [a, b, c, d, ..] = add_states(start, variables);
+    [d, c, b, a]
 }

@@ -8,9 +8,9 @@
 mod block;
 mod compression;
 mod constants;
-mod digest;
 mod functions;
 mod hash;
+mod labels;
 mod words;
 
 pub use hash::{hash_eight, hash_four};

@@ -4,6 +4,7 @@ ghost use Rattle.std.specs.Prelude.{◌≡◌, ◌≢◌, ◌<◌, ◌/◌, ◌%
 ghost use Rattle.std.specs.Int.{rotate_right, w32};
 ghost use Rattle.std.proofs.Common.{mod-lt, pow_pos};
 ghost use Rattle.sha2.specs.Sha256.{add32};
+ghost use Rattle.gc_lanes.specs.Lanes as lanes_of;
 
 use std::simd::Simd;
 
@@ -60,8 +61,8 @@ pub(crate) trait Words: Copy {
 impl<const N: usize> Words for Simd<u32, N> {
     ghost lanes = { N };
 
-    // The remainder is the lane itself, which is below 2 ^ 32. It makes `fits` hold of any list.
-    ghost lane = { λ v j. slice_index v j % 2 ^ 32 };
+    // The remainder makes `fits` hold of any list.
+    ghost lane = { lanes_of.lane };
 
     #[inline(always)]
     fn splat(word: u32) -> Self {

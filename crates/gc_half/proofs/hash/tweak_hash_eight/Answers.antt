@@ -6,16 +6,24 @@ pub returns-clause-inputs : goal.returns-clause-inputs
 returns-clause-inputs c =
     let count : length c.args.inputs ≡ 4 = search rules in
     map-four _ c.args.inputs _ _ _ _ count
-    (c.from_bytes.ensures ∙ label-hash _ _ _ _ c.to_bytes.ensures.bytes (c.hash_eight-hashes.ensures 0 (omega arith)))
-    (c.from_bytes-2.ensures ∙ label-hash _ _ _ _ c.to_bytes-2.ensures.bytes (c.hash_eight-hashes.ensures 1 (omega arith)))
-    (c.from_bytes-3.ensures ∙ label-hash _ _ _ _ c.to_bytes-3.ensures.bytes (c.hash_eight-hashes.ensures 2 (omega arith)))
-    (c.from_bytes-4.ensures ∙ label-hash _ _ _ _ c.to_bytes-4.ensures.bytes (c.hash_eight-hashes.ensures 3 (omega arith)))
+    (c.from_number.ensures ∙ c.hash_eight.ensures 0 (omega arith)
+    ∙ label-hash _ _ _ c.number.ensures)
+    (c.from_number-2.ensures ∙ c.hash_eight.ensures 1 (omega arith)
+    ∙ label-hash _ _ _ c.number-2.ensures)
+    (c.from_number-3.ensures ∙ c.hash_eight.ensures 2 (omega arith)
+    ∙ label-hash _ _ _ c.number-3.ensures)
+    (c.from_number-4.ensures ∙ c.hash_eight.ensures 3 (omega arith)
+    ∙ label-hash _ _ _ c.number-4.ensures)
 
 pub returns-clause-others : goal.returns-clause-others
 returns-clause-others c =
     let count : length c.args.others ≡ 4 = search rules in
     map-four _ c.args.others _ _ _ _ count
-    (c.from_bytes-5.ensures ∙ label-hash _ _ _ _ c.to_bytes-5.ensures.bytes (c.hash_eight-hashes.ensures 4 (omega arith)))
-    (c.from_bytes-6.ensures ∙ label-hash _ _ _ _ c.to_bytes-6.ensures.bytes (c.hash_eight-hashes.ensures 5 (omega arith)))
-    (c.from_bytes-7.ensures ∙ label-hash _ _ _ _ c.to_bytes-7.ensures.bytes (c.hash_eight-hashes.ensures 6 (omega arith)))
-    (c.from_bytes-8.ensures ∙ label-hash _ _ _ _ c.to_bytes-8.ensures.bytes (c.hash_eight-hashes.ensures 7 (omega arith)))
+    (c.from_number-5.ensures ∙ c.hash_eight.ensures 4 (omega arith)
+    ∙ label-hash _ _ _ c.number-5.ensures)
+    (c.from_number-6.ensures ∙ c.hash_eight.ensures 5 (omega arith)
+    ∙ label-hash _ _ _ c.number-6.ensures)
+    (c.from_number-7.ensures ∙ c.hash_eight.ensures 6 (omega arith)
+    ∙ label-hash _ _ _ c.number-7.ensures)
+    (c.from_number-8.ensures ∙ c.hash_eight.ensures 7 (omega arith)
+    ∙ label-hash _ _ _ c.number-8.ensures)

@@ -6,7 +6,11 @@ pub returns : goal.returns
 returns c =
     let count : length c.args.inputs ≡ 4 = search rules in
     map-four _ c.args.inputs _ _ _ _ count
-    (c.from_bytes.ensures ∙ label-hash _ _ _ _ c.to_bytes.ensures.bytes (c.hash_four-hashes.ensures 0 (omega arith)))
-    (c.from_bytes-2.ensures ∙ label-hash _ _ _ _ c.to_bytes-2.ensures.bytes (c.hash_four-hashes.ensures 1 (omega arith)))
-    (c.from_bytes-3.ensures ∙ label-hash _ _ _ _ c.to_bytes-3.ensures.bytes (c.hash_four-hashes.ensures 2 (omega arith)))
-    (c.from_bytes-4.ensures ∙ label-hash _ _ _ _ c.to_bytes-4.ensures.bytes (c.hash_four-hashes.ensures 3 (omega arith)))
+    (c.from_number.ensures ∙ c.hash_four.ensures 0 (omega arith)
+    ∙ label-hash _ _ _ c.number.ensures)
+    (c.from_number-2.ensures ∙ c.hash_four.ensures 1 (omega arith)
+    ∙ label-hash _ _ _ c.number-2.ensures)
+    (c.from_number-3.ensures ∙ c.hash_four.ensures 2 (omega arith)
+    ∙ label-hash _ _ _ c.number-3.ensures)
+    (c.from_number-4.ensures ∙ c.hash_four.ensures 3 (omega arith)
+    ∙ label-hash _ _ _ c.number-4.ensures)

@@ -1,5 +1,5 @@
 use Rattle.std.proofs.Common.{◌∙◌, arith, below_more}
-use Rattle.gc_lanes.proofs.block.tweak_words.Goals as goal
+use Rattle.gc_lanes.proofs.block.tweak_word.Goals as goal
 
 pub loop-j-preserved : goal.loop-j-preserved
 loop-j-preserved g c =

@@ -1,7 +1,7 @@
 use Rattle.std.proofs.Common.{◌≡◌, ◌<◌, ℕ, slice_index}
 use Rattle.std.specs.Int.{to_le_bytes, w64}
 use Rattle.sha2.specs.Sha256.{word_at}
-use Rattle.gc_lanes.proofs.block.tweak_words.Given as goal
+use Rattle.gc_lanes.proofs.block.tweak_word.Given as goal
 
 abbrev pub invariant-loop-j : goal.invariant-loop-j
 invariant-loop-j g l =
