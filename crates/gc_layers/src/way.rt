@@ -1,5 +1,9 @@
 //! The way in which threads garble or evaluate a circuit in the least time.
 
+ghost use Rattle.std.specs.Prelude.{◌≡◌, ◌≢◌, ◌↔◌, ◌⊎◌, IfOk};
+ghost use Rattle.gc_layers.specs.Way.{HasFewAnds};
+ghost use Rattle.gc_layers.specs.declared.way.Way.TheVariants.{Alone, Together};
+
 use gc_circuit::{Circuit, Memory, Operation};
 use std::alloc::Allocator;
 
@@ -58,12 +62,16 @@ pub enum Way {
 }
 
 /// The way that takes so many threads the least time, by the circuit's AND gates and the front of its file. It takes memory
-/// for a mark for each of 16,384 gates, where there are several threads.
+/// for a mark for each of 16,384 gates, where there are several threads. Which of [`Way::Layers`] and [`Way::Together`]
+/// several threads go where a third of the gates are AND, or more, no clause says.
 pub fn way_of<A: Allocator + Copy, C: Allocator>(
     alloc: A,
     circuit: &Circuit<C>,
     threads: u32,
-) -> Result<Way, Memory> {
+) -> Result<Way, Memory>
+    ensures alone { IfOk result (λ way. way ≡ Alone ↔ HasFewAnds circuit.now 64) }
+    ensures layers { threads ≡ 1 ⊎ HasFewAnds circuit.now 3 → IfOk result (λ way. way ≢ Together) }
+{
     let ands = circuit.and_count();
     if ands < circuit.gates() / GATES_FOR_THREADS {
         return Ok(Way::Alone);
