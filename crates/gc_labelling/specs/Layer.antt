@@ -1,5 +1,5 @@
 -- A labelling of a circuit's wires that is partly there, while gates wait to be made.
-use Rattle.std.specs.Prelude.{◌≡◌, ℕ, ◌<◌, List, All, Some, length, slice_get, slice_index, slice_index_or}
+use Rattle.std.specs.Prelude.{◌≡◌, ℕ, ◌<◌, ◌↔◌, List, Some, length, slice_get, slice_index, slice_index_or}
 use Rattle.gc_netlist.specs.Circuit.{Netlist, IsLawful, IsSetBefore, and_number}
 use Rattle.gc_labelling.specs.declared.mark.Mark.{Mark}
 use Rattle.gc_labelling.specs.declared.mark.Mark.TheVariants.{Absent, There}
@@ -32,18 +32,20 @@ pub record AreLabels (c : Netlist) (label_of : ℕ → ℕ) (n : ℕ) (labels : 
 abbrev pub AreMarked : (ℕ → ℕ) → List Mark → List ℕ → Type 0
 AreMarked label_of marks labels = (w : ℕ) → slice_index_or marks w Absent ≡ There → slice_index labels w ≡ label_of w
 
+-- Gates of this origin are exactly those of a labelling that wait.
+abbrev pub IsOriginOf : {P : Type 0} → (P → Type 0) → (P → Type 0) → Type 0
+IsOriginOf {P} IsFrom IsPending = (gate : P) → IsFrom gate ↔ IsPending gate
+
 -- All that is there is the labelling's: the labels, their marks, and the gates that wait; those that are postponed are of
 -- the same circuit.
-pub record IsLayer {P Slot : Type 0} (c : Netlist) (label_of : ℕ → ℕ) (IsPending : P → Type 0)
-    (gates_of : Slot → List P) (circuit : Netlist) (labels : List ℕ) (marks : List Mark) (waiting : List P)
-    (lent : List Slot) (postponed : Netlist) : Type 0 where
+pub record IsLayer {P : Type 0} (c : Netlist) (label_of : ℕ → ℕ) (IsFrom IsPending : P → Type 0) (circuit : Netlist)
+    (labels : List ℕ) (marks : List Mark) (postponed : Netlist) : Type 0 where
   pub same : c ≡ circuit
   pub lawful : IsLawful circuit
   pub are_labels : AreLabels circuit label_of 0 labels
   pub are_marks : AreMarked label_of marks labels
   pub as_many : length marks ≡ circuit.wires
-  pub are_pending : All IsPending waiting
-  pub are_lent : All (λ slot. All IsPending (gates_of slot)) lent
+  pub origin : IsOriginOf IsFrom IsPending
   pub are_postponed : postponed ≡ circuit
 
 -- The labels of a circuit's wires, right as far as they are there, and a mark for each wire.

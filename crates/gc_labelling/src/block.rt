@@ -1,124 +1,121 @@
 //! Blocks of AND gates that are made together.
 
-ghost use Rattle.std.specs.Prelude.{◌≡◌, ◌≤◌, ◌↔◌, OnOk, IsTrue, length};
+ghost use Rattle.std.specs.Prelude.{◌≡◌, ◌≤◌, All, length};
 ghost use Rattle.gc_labelling.specs.Layer.{AreMade};
 
+use crate::origin::Origin;
 use crate::pending::Pending;
 use gc_circuit::Memory;
 use gc_gatehouse::Gatehouse;
 use std::alloc::Allocator;
-use std::marker::Model;
+use std::marker::{Model, PhantomData};
 
-/// How many gates a block has at the most.
+/// How many gates a block is opened for, and how many it has at the most when it is handed on.
 pub(crate) const BLOCK: usize = 64;
 
-/// At most [`BLOCK`] AND gates that are made together, and room for what making them gives.
+/// AND gates of one origin that are made together, and room for what making them gives.
 #[derive(Drop)]
-pub(crate) struct Block<P: Pending, A: Allocator> {
-    // The slot where its gates are kept too.
-    number: usize,
+pub(crate) struct Block<P: Pending, O: Origin<P>, A: Allocator> {
     gates: Vec<P, A>,
+    // Room for at least as many.
     made: Vec<P::Made, A>,
+    origin: PhantomData<O>,
 }
 
-impl<P: Pending, A: Allocator> Model for Block<P, A> {
-    ghost use Rattle.std.specs.Prelude.{List, ◌≡◌, ◌≤◌, length};
+impl<P: Pending, O: Origin<P>, A: Allocator> Model for Block<P, O, A> {
+    ghost use Rattle.std.specs.Prelude.{List, All, ◌≤◌, length};
 
     ghost Value = { List P };
 
     ghost view = { λ t. t.gates.items };
 
-    ghost invariant = { λ t. (length t.gates.items ≤ 64) × (length t.made.items ≡ 64) };
+    ghost invariant = { λ t. All O.is_pending t.gates.items × (length t.gates.items ≤ length t.made.items) };
 }
 
-impl<P: Pending, A: Allocator + Copy> Block<P, A> {
+impl<P: Pending, O: Origin<P>, A: Allocator + Copy> Block<P, O, A> {
     /// A block without gates.
-    pub(crate) fn open(alloc: A) -> Result<Block<P, A>, Memory> {
+    pub(crate) fn open(alloc: A) -> Result<Block<P, O, A>, Memory> {
         Ok(Block {
-            number: 0,
             gates: Vec::with_capacity(alloc, BLOCK)?,
             made: Vec::from_elem(alloc, P::nothing(), BLOCK)?,
+            origin: PhantomData,
         })
     }
 }
 
-impl<P: Pending, A: Allocator> Block<P, A> {
-    /// The slot where its gates are kept too.
-    pub(crate) fn number(&self) -> usize {
-        self.number
+impl<P: Pending, O: Origin<P>, A: Allocator> Block<P, O, A> {
+    /// How many gates it has.
+    #[inline]
+    pub(crate) fn len(&self) -> usize
+        ensures { result ≡ length self.now }
+    {
+        self.gates.len()
     }
 
-    /// Puts gates in place of those that it has.
-    pub(crate) fn fill(&mut self, number: usize, gates: &[P]) -> Result<(), Memory>
-        requires { length gates.now ≤ 64 }
-        ensures { OnOk result (self.new ≡ gates.now) }
+    /// Whether it has none.
+    #[inline]
+    pub(crate) fn is_empty(&self) -> bool {
+        self.gates.is_empty()
+    }
+
+    /// Puts a gate behind the others.
+    #[inline]
+    pub(crate) fn push(&mut self, gate: P) -> Result<(), Memory>
+        requires { O.is_pending gate }
     {
-        self.number = number;
-        self.gates.clear();
-        if self.gates.extend_from_slice(gates).is_err() {
-            self.gates.clear();
-            return Err(Memory);
+        if self.gates.len() >= self.made.len() {
+            self.made.push(P::nothing())?;
         }
+        self.gates.push(gate)?;
         Ok(())
     }
 
     /// Makes its gates, of which a worker tells the house first.
-    pub(crate) fn seal<H: Gatehouse>(self, house: &H, worker: u32) -> Sealed<P, A>
+    pub(crate) fn seal<H: Gatehouse>(self, house: &H, worker: u32) -> Sealed<P, O, A>
         ensures { result ≡ self }
     {
         let Block {
-            number,
             gates,
             mut made,
+            origin,
         } = self;
         for gate in &gates {
             house.before(worker, gate.place());
         }
         P::make_all(&gates, &mut made);
         Sealed {
-            number,
             gates,
             made,
+            origin,
         }
     }
 }
 
 /// A block whose gates are made. A contract sees the gates, which the rest follows from.
 #[derive(Drop)]
-pub(crate) struct Sealed<P: Pending, A: Allocator> {
-    number: usize,
+pub(crate) struct Sealed<P: Pending, O: Origin<P>, A: Allocator> {
     gates: Vec<P, A>,
     made: Vec<P::Made, A>,
+    origin: PhantomData<O>,
 }
 
-impl<P: Pending, A: Allocator> Model for Sealed<P, A> {
-    ghost use Rattle.std.specs.Prelude.{List, ◌≡◌, ◌≤◌, length};
+impl<P: Pending, O: Origin<P>, A: Allocator> Model for Sealed<P, O, A> {
+    ghost use Rattle.std.specs.Prelude.{List, All, ◌≤◌, length};
     ghost use Rattle.gc_labelling.specs.Layer.{AreMade};
 
     ghost Value = { List P };
 
     ghost view = { λ t. t.gates.items };
 
-    ghost invariant = { λ t. (length t.gates.items ≤ 64) × (length t.made.items ≡ 64)
+    ghost invariant = { λ t. All O.is_pending t.gates.items × (length t.gates.items ≤ length t.made.items)
         × AreMade P.made_of t.gates.items t.made.items };
 }
 
-impl<P: Pending, A: Allocator> Sealed<P, A> {
-    /// The slot where its gates are kept too.
-    pub(crate) fn number(&self) -> usize {
-        self.number
-    }
-
-    /// Whether these are its gates.
-    pub(crate) fn is_of(&self, gates: &[P]) -> bool
-        ensures { IsTrue result ↔ (self.now ≡ gates.now) }
-    {
-        P::are_same(&self.gates, gates)
-    }
-
+impl<P: Pending, O: Origin<P>, A: Allocator> Sealed<P, O, A> {
     /// Its gates.
     pub(crate) fn gates(&self) -> &[P]
-        ensures { result.now ≡ self.now }
+        ensures gates { result.now ≡ self.now }
+        ensures origin { All O.is_pending self.now }
     {
         &self.gates
     }
@@ -131,17 +128,18 @@ impl<P: Pending, A: Allocator> Sealed<P, A> {
         &self.made
     }
 
-    /// The block, to be filled anew.
-    pub(crate) fn into_block(self) -> Block<P, A> {
+    /// The block without its gates, to be filled anew.
+    pub(crate) fn into_empty(self) -> Block<P, O, A> {
         let Sealed {
-            number,
-            gates,
+            mut gates,
             made,
+            origin,
         } = self;
+        gates.clear();
         Block {
-            number,
             gates,
             made,
+            origin,
         }
     }
 }

@@ -1,9 +1,8 @@
 //! The threads that make blocks, as the one sees them that goes from gate to gate.
 
-ghost use Rattle.std.specs.Prelude.{◌≡◌, ◌≤◌, IfOk, [], length};
-
 use crate::block::{BLOCK, Block, Sealed};
-use crate::exchange::{Exchange, Finding};
+use crate::exchange::{Exchange, Finding, MOST_OUT};
+use crate::origin::Origin;
 use crate::pending::Pending;
 use gc_circuit::Memory;
 use gc_gatehouse::Gatehouse;
@@ -18,25 +17,25 @@ const MANY: usize = 24;
 
 /// Blocks that others make, or that are made here, by worker 0.
 #[derive(Drop)]
-pub(crate) struct Crew<'e, P: Pending, A: Allocator, H: Gatehouse> {
+pub(crate) struct Crew<'e, P: Pending, O: Origin<P>, A: Allocator, H: Gatehouse> {
     alloc: A,
-    exchange: &'e Exchange<P, A>,
+    exchange: &'e Exchange<P, O, A>,
     house: &'e H,
     is_alone: bool,
     // How many blocks were offered and aren't back.
     out: usize,
-    // Blocks that nothing is in.
-    free: Vec<Block<P, A>, A>,
+    // Blocks without gates.
+    free: Vec<Block<P, O, A>, A>,
 }
 
-impl<'e, P: Pending, A: Allocator + Copy, H: Gatehouse> Crew<'e, P, A, H> {
+impl<'e, P: Pending, O: Origin<P>, A: Allocator + Copy, H: Gatehouse> Crew<'e, P, O, A, H> {
     /// A crew of the calling thread and those that take blocks of the exchange, if there are any.
     pub(crate) fn open(
         alloc: A,
-        exchange: &'e Exchange<P, A>,
+        exchange: &'e Exchange<P, O, A>,
         house: &'e H,
         is_alone: bool,
-    ) -> Result<Crew<'e, P, A, H>, Memory> {
+    ) -> Result<Crew<'e, P, O, A, H>, Memory> {
         Ok(Crew {
             alloc,
             exchange,
@@ -45,11 +44,6 @@ impl<'e, P: Pending, A: Allocator + Copy, H: Gatehouse> Crew<'e, P, A, H> {
             out: 0,
             free: Vec::with_capacity(alloc, 1)?,
         })
-    }
-
-    /// Whether there are no other threads.
-    pub(crate) fn is_alone(&self) -> bool {
-        self.is_alone
     }
 
     /// How many gates that wait are a block: the fewer, the sooner the others may want for one.
@@ -75,69 +69,52 @@ impl<'e, P: Pending, A: Allocator + Copy, H: Gatehouse> Crew<'e, P, A, H> {
         self.house.before(0, gate);
     }
 
-    /// Room for the gates of a block.
-    pub(crate) fn room(&self) -> Result<Vec<P, A>, Memory>
-        ensures { IfOk result (λ v. v.items ≡ []) }
-    {
-        Ok(Vec::with_capacity(self.alloc, BLOCK)?)
+    /// A block without gates.
+    pub(crate) fn empty(&mut self) -> Result<Block<P, O, A>, Memory> {
+        match self.free.pop() {
+            Some(block) => Ok(block),
+            None => Block::open(self.alloc),
+        }
     }
 
-    /// A block with these gates.
-    fn filled(&mut self, number: usize, gates: &[P]) -> Result<Block<P, A>, Memory>
-        requires { length gates.now ≤ 64 }
-        ensures { IfOk result (λ b. b ≡ gates.now) }
-    {
-        let mut block = match self.free.pop() {
-            Some(block) => block,
-            None => Block::open(self.alloc)?,
-        };
-        block.fill(number, gates)?;
-        Ok(block)
-    }
-
-    /// Offers the others a block of these gates. The answer is whether there was room for it.
+    /// Offers a block to the others. It comes back at once where there are none, or where all have enough to do.
     pub(crate) fn offer<R: Wait>(
         &mut self,
         rt: &R,
-        number: usize,
-        gates: &[P],
-    ) -> Result<bool, Memory>
-        requires { length gates.now ≤ 64 }
-    {
-        let block = self.filled(number, gates)?;
-        let has_room = self.exchange.offer(rt, block);
-        if has_room {
+        block: Block<P, O, A>,
+    ) -> Option<Block<P, O, A>> {
+        if self.is_alone || self.out >= MOST_OUT {
+            return Some(block);
+        }
+        let refused = self.exchange.offer(rt, block);
+        if refused.is_none() {
             self.out = self.out.saturating_add(1);
         }
-        Ok(has_room)
+        refused
     }
 
-    /// These gates, made here.
-    pub(crate) fn seal(&mut self, gates: &[P]) -> Result<Sealed<P, A>, Memory>
-        requires { length gates.now ≤ 64 }
-        ensures { IfOk result (λ s. s ≡ gates.now) }
-    {
-        let block = self.filled(0, gates)?;
-        Ok(block.seal(self.house, 0))
+    /// A block, made here.
+    pub(crate) fn seal(&self, block: Block<P, O, A>) -> Sealed<P, O, A> {
+        block.seal(self.house, 0)
     }
 
     /// A block that came back, if one did.
-    pub(crate) fn returned<R: Wait>(&mut self, rt: &R) -> Option<Sealed<P, A>> {
+    pub(crate) fn returned<R: Wait>(&mut self, rt: &R) -> Option<Sealed<P, O, A>> {
         let sealed = self.exchange.returned(rt)?;
         self.out = self.out.saturating_sub(1);
         Some(sealed)
     }
 
     /// A block that was offered and that nobody took, made here.
-    pub(crate) fn taken_back<R: Wait>(&mut self, rt: &R) -> Option<Sealed<P, A>> {
+    pub(crate) fn taken_back<R: Wait>(&mut self, rt: &R) -> Option<Sealed<P, O, A>> {
         let block = self.exchange.taken(rt)?;
         self.out = self.out.saturating_sub(1);
-        Some(block.seal(self.house, 0))
+        Some(self.seal(block))
     }
 
     /// The next block that comes back, which is waited for; or else one that was offered, made here. There is none
     /// where no block is with others.
-    pub(crate) fn awaited<R: Wait>(&mut self, rt: &R) -> Option<Sealed<P, A>> {
+    pub(crate) fn awaited<R: Wait>(&mut self, rt: &R) -> Option<Sealed<P, O, A>> {
         if self.out == 0 {
             return None;
         }
@@ -148,12 +125,12 @@ impl<'e, P: Pending, A: Allocator + Copy, H: Gatehouse> Crew<'e, P, A, H> {
         self.out = self.out.saturating_sub(1);
         match finding {
             Finding::Sealed(sealed) => Some(sealed),
-            Finding::Offered(block) => Some(block.seal(self.house, 0)),
+            Finding::Offered(block) => Some(self.seal(block)),
         }
     }
 
     /// Takes a block back when what was made isn't needed any more.
-    pub(crate) fn release(&mut self, sealed: Sealed<P, A>) {
-        let _ = self.free.push(sealed.into_block());
+    pub(crate) fn release(&mut self, sealed: Sealed<P, O, A>) {
+        let _ = self.free.push(sealed.into_empty());
     }
 }

@@ -1,6 +1,7 @@
 //! Blocks that threads hand to each other.
 
 use crate::block::{Block, Sealed};
+use crate::origin::Origin;
 use crate::pending::Pending;
 use crossbeam_queue::ArrayQueue;
 use gc_circuit::Memory;
@@ -8,6 +9,9 @@ use gc_gatehouse::Gatehouse;
 use std::alloc::Allocator;
 use std::hint::spin_loop;
 use std::sync::{Condvar, Mutex, Wait};
+
+/// The most blocks that are with others.
+pub(crate) const MOST_OUT: usize = 64;
 
 /// How often a thread looks for a block before it asks whether more will come,
 const TRIES: u32 = 64;
@@ -42,9 +46,9 @@ struct Returns {
 /// are round what they tell each other, and not round the blocks; there is one for either way, so that handing in
 /// doesn't wait for offering.
 #[derive(Drop)]
-pub(crate) struct Exchange<P: Pending, A: Allocator> {
-    offered: ArrayQueue<Block<P, A>, A>,
-    sealed: ArrayQueue<Sealed<P, A>, A>,
+pub(crate) struct Exchange<P: Pending, O: Origin<P>, A: Allocator> {
+    offered: ArrayQueue<Block<P, O, A>, A>,
+    sealed: ArrayQueue<Sealed<P, O, A>, A>,
     offers: Mutex<Offers>,
     returns: Mutex<Returns>,
     has_offered: Condvar,
@@ -53,11 +57,11 @@ pub(crate) struct Exchange<P: Pending, A: Allocator> {
 
 /// What a thread finds.
 #[derive(Drop)]
-pub(crate) enum Finding<P: Pending, A: Allocator> {
+pub(crate) enum Finding<P: Pending, O: Origin<P>, A: Allocator> {
     /// A block that is made.
-    Sealed(Sealed<P, A>),
+    Sealed(Sealed<P, O, A>),
     /// A block to be made.
-    Offered(Block<P, A>),
+    Offered(Block<P, O, A>),
 }
 
 /// Pauses for a little while.
@@ -67,10 +71,10 @@ fn pause() {
     }
 }
 
-impl<P: Pending, A: Allocator + Copy> Exchange<P, A> {
-    /// An exchange with room for so many blocks, and for one at least, which so many threads take blocks of.
-    pub(crate) fn open(alloc: A, blocks: usize, helpers: usize) -> Result<Exchange<P, A>, Memory> {
-        let room = blocks.max(1);
+impl<P: Pending, O: Origin<P>, A: Allocator + Copy> Exchange<P, O, A> {
+    /// An exchange of which so many threads take blocks. Where there are none nobody offers any.
+    pub(crate) fn open(alloc: A, helpers: usize) -> Result<Exchange<P, O, A>, Memory> {
+        let room = if helpers == 0 { 1 } else { MOST_OUT };
         Ok(Exchange {
             offered: ArrayQueue::new(alloc, room)?,
             sealed: ArrayQueue::new(alloc, room)?,
@@ -89,19 +93,19 @@ impl<P: Pending, A: Allocator + Copy> Exchange<P, A> {
     }
 }
 
-impl<P: Pending, A: Allocator> Exchange<P, A> {
-    /// Offers a block. The answer is whether there was room for it.
-    pub(crate) fn offer(&self, rt: &impl Wait, block: Block<P, A>) -> bool {
-        let has_room = self.offered.push(rt, block).is_ok();
+impl<P: Pending, O: Origin<P>, A: Allocator> Exchange<P, O, A> {
+    /// Offers a block. It comes back where there is no room for it.
+    pub(crate) fn offer(&self, rt: &impl Wait, block: Block<P, O, A>) -> Option<Block<P, O, A>> {
+        let refused = self.offered.push(rt, block).err();
         let sleeping = self.offers.lock(rt).sleeping;
         if sleeping > 0 {
             self.has_offered.notify_one();
         }
-        has_room
+        refused
     }
 
     /// Hands a block in that is made.
-    fn hand_in(&self, rt: &impl Wait, sealed: Sealed<P, A>) {
+    fn hand_in(&self, rt: &impl Wait, sealed: Sealed<P, O, A>) {
         let has_room = self.sealed.push(rt, sealed).is_ok();
         let mut returns = self.returns.lock(rt);
         if !has_room {
@@ -115,17 +119,17 @@ impl<P: Pending, A: Allocator> Exchange<P, A> {
     }
 
     /// A block that is made, if there is one.
-    pub(crate) fn returned<R: Wait>(&self, rt: &R) -> Option<Sealed<P, A>> {
+    pub(crate) fn returned<R: Wait>(&self, rt: &R) -> Option<Sealed<P, O, A>> {
         self.sealed.pop(rt)
     }
 
     /// A block to be made, if there is one.
-    pub(crate) fn taken<R: Wait>(&self, rt: &R) -> Option<Block<P, A>> {
+    pub(crate) fn taken<R: Wait>(&self, rt: &R) -> Option<Block<P, O, A>> {
         self.offered.pop(rt)
     }
 
     /// A block that is made, or else one to garble.
-    fn find<R: Wait>(&self, rt: &R) -> Option<Finding<P, A>> {
+    fn find<R: Wait>(&self, rt: &R) -> Option<Finding<P, O, A>> {
         if let Some(sealed) = self.sealed.pop(rt) {
             return Some(Finding::Sealed(sealed));
         }
@@ -134,7 +138,7 @@ impl<P: Pending, A: Allocator> Exchange<P, A> {
     }
 
     /// Looks for a block, and waits while there is none. None says that one was lost.
-    pub(crate) fn look<R: Wait>(&self, rt: &R) -> Option<Finding<P, A>> {
+    pub(crate) fn look<R: Wait>(&self, rt: &R) -> Option<Finding<P, O, A>> {
         for _i in 0..TRIES * ROUNDS {
             let finding = self.find(rt);
             if finding.is_some() {
@@ -146,7 +150,7 @@ impl<P: Pending, A: Allocator> Exchange<P, A> {
     }
 
     /// The same, and it sleeps while it waits.
-    fn look_or_sleep<R: Wait>(&self, rt: &R) -> Option<Finding<P, A>> {
+    fn look_or_sleep<R: Wait>(&self, rt: &R) -> Option<Finding<P, O, A>> {
         let mut returns = self.returns.lock(rt);
         for _ in rt.forever() {
             let finding = self.find(rt);
@@ -161,7 +165,7 @@ impl<P: Pending, A: Allocator> Exchange<P, A> {
     }
 
     /// A block to be made, where one comes soon.
-    fn try_take<R: Wait>(&self, rt: &R) -> Option<Block<P, A>> {
+    fn try_take<R: Wait>(&self, rt: &R) -> Option<Block<P, O, A>> {
         for _i in 0..TRIES {
             if let Some(block) = self.offered.pop(rt) {
                 return Some(block);
@@ -172,7 +176,7 @@ impl<P: Pending, A: Allocator> Exchange<P, A> {
     }
 
     /// A block to be made. None says that no more will come.
-    fn take<R: Wait>(&self, rt: &R) -> Option<Block<P, A>> {
+    fn take<R: Wait>(&self, rt: &R) -> Option<Block<P, O, A>> {
         for _i in 0..ROUNDS {
             if let Some(block) = self.try_take(rt) {
                 return Some(block);
@@ -185,7 +189,7 @@ impl<P: Pending, A: Allocator> Exchange<P, A> {
     }
 
     /// The same, and it sleeps while it waits.
-    fn take_or_sleep<R: Wait>(&self, rt: &R) -> Option<Block<P, A>> {
+    fn take_or_sleep<R: Wait>(&self, rt: &R) -> Option<Block<P, O, A>> {
         let mut offers = self.offers.lock(rt);
         for _ in rt.forever() {
             let block = self.offered.pop(rt);

@@ -1,14 +1,16 @@
 //! A labelling that is partly there, while gates wait.
 
-ghost use Rattle.std.specs.Prelude.{◌≡◌, ℕ, ◌<◌, ◌≤◌, IfOk, IsTrue, Some, None, All, length, take, drop, slice_get, slice_index_or};
+ghost use Rattle.std.specs.Prelude.{◌≡◌, ℕ, ◌<◌, IfOk, Some, None, length, slice_get, slice_index_or};
 ghost use Rattle.gc_netlist.specs.Circuit.{EachRead, IsLawful, input_wires};
 ghost use Rattle.gc_labelling.specs.declared.mark.Mark.TheVariants.{Absent, There};
-ghost use Rattle.gc_labelling.specs.Layer.{AreLabels, AreMade, IsLabelled, IsPlace};
+ghost use Rattle.gc_labelling.specs.Layer.{AreLabels, IsLabelled, IsOriginOf, IsPlace};
 
-use crate::block::{BLOCK, Sealed};
+use crate::block::{Block, Sealed};
 use crate::crew::Crew;
+use crate::exchange::MOST_OUT;
 use crate::labelling::Labelling;
 use crate::mark::Mark;
+use crate::origin::Origin;
 use crate::pending::Pending;
 use crate::place::Place;
 use crate::postponed::Postponed;
@@ -18,11 +20,8 @@ use gc_half::labels_read;
 use gc_label::Label;
 use std::alloc::Allocator;
 use std::marker::Model;
-use std::mem::swap;
+use std::mem::replace;
 use std::sync::Wait;
-
-/// The most blocks that are with others.
-pub(crate) const SLOTS: usize = 64;
 
 /// The most gates that are postponed where several threads make blocks. One thread makes those that wait as soon as a gate
 /// is postponed, since a longer block saves it nothing.
@@ -32,58 +31,58 @@ const MOST_POSTPONED: u16 = 512;
 /// labels which are there wait to be made together: they are a layer. Gates that read a wire without a label are postponed
 /// until it has one.
 #[derive(Drop)]
-pub(crate) struct Layer<'c, P: Pending, L: Labelling<P>, A: Allocator, C: Allocator> {
+pub(crate) struct Layer<'c, P: Pending, O: Origin<P>, L: Labelling<P>, A: Allocator, C: Allocator> {
     circuit: &'c Circuit<C>,
     labelling: L,
     // By wire.
     labels: Vec<Label, A>,
     // By wire: whether its label is there, which may be zero too.
     marks: Vec<Mark, A>,
-    // Fewer than a block has.
-    waiting: Vec<P, A>,
-    // The gates of blocks that are with others, each block's in a slot of its own.
-    lent: Vec<Vec<P, A>, A>,
-    // Slots whose blocks are back.
-    free: Vec<usize, A>,
+    waiting: Block<P, O, A>,
     postponed: Postponed<'c, A, C>,
 }
 
-impl<'c, P: Pending, L: Labelling<P>, A: Allocator, C: Allocator> Model for Layer<'c, P, L, A, C> {
+impl<'c, P: Pending, O: Origin<P>, L: Labelling<P>, A: Allocator, C: Allocator> Model
+    for Layer<'c, P, O, L, A, C> {
     ghost use Rattle.gc_labelling.specs.Layer.{IsLayer};
 
     ghost Value = { L };
 
     ghost view = { λ t. t.labelling };
 
-    ghost invariant = { λ t. IsLayer (L.circuit_of t.labelling) (L.label_of t.labelling) (L.is_pending t.labelling)
-        (λ slot. slot.items) t.circuit.now t.labels.items t.marks.items t.waiting.items t.lent.items t.postponed };
+    ghost invariant = { λ t. IsLayer (L.circuit_of t.labelling) (L.label_of t.labelling) O.is_pending
+        (L.is_pending t.labelling) t.circuit.now t.labels.items t.marks.items t.postponed };
 }
 
-impl<'c, P: Pending, L: Labelling<P>, A: Allocator + Copy, C: Allocator> Layer<'c, P, L, A, C> {
-    /// A labelling of which these labels are there, those of the input wires among them, and no gate waits. It takes all
-    /// the memory that is needed.
+impl<'c, P: Pending, O: Origin<P>, L: Labelling<P>, A: Allocator + Copy, C: Allocator> Layer<
+    'c,
+    P,
+    O,
+    L,
+    A,
+    C,
+> {
+    /// A labelling of which these labels are there, those of the input wires among them, and no gate waits.
     pub(crate) fn open(
         alloc: A,
         circuit: &'c Circuit<C>,
         labelling: L,
         labels: Vec<Label, A>,
         is_shared: bool,
-    ) -> Result<Layer<'c, P, L, A, C>, Memory>
+    ) -> Result<Layer<'c, P, O, L, A, C>, Memory>
         requires circuit { L.circuit_of labelling ≡ circuit.now }
         requires labels { AreLabels circuit.now (L.label_of labelling) 0 labels.items }
+        requires origin { IsOriginOf O.is_pending (L.is_pending labelling) }
         ensures { IfOk result (λ l. l ≡ labelling) }
     {
         let most_postponed = if is_shared { MOST_POSTPONED } else { 1 };
-        let slots = if is_shared { SLOTS } else { 0 };
         let _ = circuit.gates();
         Ok(Layer {
             circuit,
             labelling,
             labels,
             marks: input_marks(alloc, circuit)?,
-            waiting: Vec::with_capacity(alloc, BLOCK)?,
-            lent: Vec::with_capacity(alloc, slots)?,
-            free: Vec::with_capacity(alloc, slots)?,
+            waiting: Block::open(alloc)?,
             postponed: Postponed::open(alloc, circuit, most_postponed)?,
         })
     }
@@ -92,7 +91,7 @@ impl<'c, P: Pending, L: Labelling<P>, A: Allocator + Copy, C: Allocator> Layer<'
     pub(crate) fn pass<H: Gatehouse, R: Wait>(
         &mut self,
         rt: &R,
-        crew: &mut Crew<'_, P, A, H>,
+        crew: &mut Crew<'_, P, O, A, H>,
     ) -> Result<(), Memory>
         ensures { self.new ≡ self.old }
     {
@@ -113,7 +112,7 @@ impl<'c, P: Pending, L: Labelling<P>, A: Allocator + Copy, C: Allocator> Layer<'
     pub(crate) fn finish<H: Gatehouse, R: Wait>(
         &mut self,
         rt: &R,
-        crew: &mut Crew<'_, P, A, H>,
+        crew: &mut Crew<'_, P, O, A, H>,
     ) -> Result<(), Memory>
         ensures { self.new ≡ self.old }
     {
@@ -137,8 +136,6 @@ impl<'c, P: Pending, L: Labelling<P>, A: Allocator + Copy, C: Allocator> Layer<'
             labels,
             marks,
             waiting: _,
-            lent: _,
-            free: _,
             postponed: _,
         } = self;
         (labelling, labels, marks)
@@ -150,7 +147,7 @@ impl<'c, P: Pending, L: Labelling<P>, A: Allocator + Copy, C: Allocator> Layer<'
     fn keep_up<H: Gatehouse, R: Wait>(
         &mut self,
         rt: &R,
-        crew: &mut Crew<'_, P, A, H>,
+        crew: &mut Crew<'_, P, O, A, H>,
     ) -> Result<(), Memory>
         ensures { self.new ≡ self.old }
     {
@@ -168,7 +165,7 @@ impl<'c, P: Pending, L: Labelling<P>, A: Allocator + Copy, C: Allocator> Layer<'
 
     /// Whether the gates that wait are a block.
     #[inline]
-    fn is_block<H: Gatehouse>(&self, crew: &Crew<'_, P, A, H>) -> bool {
+    fn is_block<H: Gatehouse>(&self, crew: &Crew<'_, P, O, A, H>) -> bool {
         self.waiting.len() >= crew.gates_of_block()
     }
 
@@ -176,7 +173,7 @@ impl<'c, P: Pending, L: Labelling<P>, A: Allocator + Copy, C: Allocator> Layer<'
     #[inline]
     fn visit<H: Gatehouse>(
         &mut self,
-        crew: &Crew<'_, P, A, H>,
+        crew: &Crew<'_, P, O, A, H>,
         place: Place,
         gate: Gate,
     ) -> Result<(), Memory>
@@ -233,75 +230,50 @@ impl<'c, P: Pending, L: Labelling<P>, A: Allocator + Copy, C: Allocator> Layer<'
         requires { L.is_pending self.old gate }
         ensures { self.new ≡ self.old }
     {
-        self.waiting.push(gate)?;
-        Ok(())
+        self.waiting.push(gate)
     }
 
-    /// Offers the crew the gates that wait, as a block, or makes them where all have enough to do.
+    /// The gates that wait, as a block. None waits from then on.
+    fn take_waiting<H: Gatehouse>(
+        &mut self,
+        crew: &mut Crew<'_, P, O, A, H>,
+    ) -> Result<Block<P, O, A>, Memory>
+        ensures { self.new ≡ self.old }
+    {
+        let empty = crew.empty()?;
+        Ok(replace(&mut self.waiting, empty))
+    }
+
+    /// Offers the crew the gates that wait, as a block, or makes them where nobody takes them.
     fn hand_out<H: Gatehouse, R: Wait>(
         &mut self,
         rt: &R,
-        crew: &mut Crew<'_, P, A, H>,
+        crew: &mut Crew<'_, P, O, A, H>,
     ) -> Result<(), Memory>
         ensures { self.new ≡ self.old }
     {
-        if crew.is_alone() {
-            return self.make_waiting(crew);
-        }
         self.take_back(rt, crew);
-        let Some(slot) = self.free_slot(crew)? else {
-            return self.make_waiting(crew);
-        };
-        let gates = block_from(&self.waiting, 0, BLOCK);
-        if !crew.offer(rt, slot, gates)? {
-            return self.make_waiting(crew);
+        let block = self.take_waiting(crew)?;
+        if let Some(block) = crew.offer(rt, block) {
+            self.make(crew, block);
         }
-        self.lend(slot);
         Ok(())
     }
 
-    /// Makes the gates that wait.
-    fn make_waiting<H: Gatehouse>(&mut self, crew: &mut Crew<'_, P, A, H>) -> Result<(), Memory>
+    /// Makes the gates of a block.
+    fn make<H: Gatehouse>(&mut self, crew: &mut Crew<'_, P, O, A, H>, block: Block<P, O, A>)
         ensures { self.new ≡ self.old }
     {
-        let sealed = crew.seal(block_from(&self.waiting, 0, BLOCK))?;
-        self.put_all(&sealed);
-        crew.release(sealed);
-        self.waiting.clear();
-        Ok(())
-    }
-
-    /// A slot whose block is back, or a new one. There may be none.
-    fn free_slot<H: Gatehouse>(&mut self, crew: &Crew<'_, P, A, H>) -> Result<Option<usize>, Memory>
-        ensures { self.new ≡ self.old }
-    {
-        if let Some(slot) = self.free.pop() {
-            return Ok(Some(slot));
-        }
-        let slot = self.lent.len();
-        if slot >= SLOTS {
-            return Ok(None);
-        }
-        self.lent.push(crew.room()?)?;
-        Ok(Some(slot))
-    }
-
-    /// Keeps the gates that wait in a slot, while others have them. None waits from then on.
-    fn lend(&mut self, slot: usize)
-        ensures { self.new ≡ self.old }
-    {
-        if slot < self.lent.len() {
-            swap(&mut self.waiting, &mut self.lent[slot]);
-        }
-        self.waiting.clear();
+        let sealed = crew.seal(block);
+        self.land(crew, sealed);
     }
 
     /// Takes the blocks that came back. The answer is whether there were any.
-    fn take_back<H: Gatehouse, R: Wait>(&mut self, rt: &R, crew: &mut Crew<'_, P, A, H>) -> bool
+    fn take_back<H: Gatehouse, R: Wait>(&mut self, rt: &R, crew: &mut Crew<'_, P, O, A, H>) -> bool
         ensures { self.new ≡ self.old }
     {
         let mut is_any = false;
-        for _i in 0..SLOTS {
+        for _i in 0..MOST_OUT {
             let Some(sealed) = crew.returned(rt) else {
                 return is_any;
             };
@@ -311,30 +283,23 @@ impl<'c, P: Pending, L: Labelling<P>, A: Allocator + Copy, C: Allocator> Layer<'
         is_any
     }
 
-    /// Takes a block that is made, where it is the one of its slot.
-    fn land<H: Gatehouse>(&mut self, crew: &mut Crew<'_, P, A, H>, sealed: Sealed<P, A>)
+    /// Takes a block that is made: what making its gates gave goes where it belongs.
+    fn land<H: Gatehouse>(&mut self, crew: &mut Crew<'_, P, O, A, H>, sealed: Sealed<P, O, A>)
         ensures { self.new ≡ self.old }
     {
-        if self.is_lent(&sealed) {
-            self.put_all(&sealed);
-            let _ = self.free.push(sealed.number());
+        let gates = sealed.gates();
+        let made = sealed.made();
+        for i in 0..gates.len() {
+            self.put(&gates[i], &made[i]);
         }
         crew.release(sealed);
-    }
-
-    /// Whether a block has the gates that are kept in its slot.
-    fn is_lent(&self, sealed: &Sealed<P, A>) -> bool
-        ensures { IsTrue result → All (L.is_pending self.now) sealed.now }
-    {
-        let slot = sealed.number();
-        slot < self.lent.len() && sealed.is_of(&self.lent[slot])
     }
 
     /// Has a block made, by others or here, and visits the gates that waited for its labels.
     fn advance<H: Gatehouse, R: Wait>(
         &mut self,
         rt: &R,
-        crew: &mut Crew<'_, P, A, H>,
+        crew: &mut Crew<'_, P, O, A, H>,
     ) -> Result<(), Memory>
         ensures { self.new ≡ self.old }
     {
@@ -348,14 +313,15 @@ impl<'c, P: Pending, L: Labelling<P>, A: Allocator + Copy, C: Allocator> Layer<'
     fn make_one<H: Gatehouse, R: Wait>(
         &mut self,
         rt: &R,
-        crew: &mut Crew<'_, P, A, H>,
+        crew: &mut Crew<'_, P, O, A, H>,
     ) -> Result<(), Memory>
         ensures { self.new ≡ self.old }
     {
         if let Some(sealed) = crew.taken_back(rt) {
             self.land(crew, sealed);
         } else if !self.waiting.is_empty() {
-            self.make_waiting(crew)?;
+            let block = self.take_waiting(crew)?;
+            self.make(crew, block);
         } else if let Some(sealed) = crew.awaited(rt) {
             self.land(crew, sealed);
         }
@@ -366,7 +332,7 @@ impl<'c, P: Pending, L: Labelling<P>, A: Allocator + Copy, C: Allocator> Layer<'
     fn make_room<H: Gatehouse, R: Wait>(
         &mut self,
         rt: &R,
-        crew: &mut Crew<'_, P, A, H>,
+        crew: &mut Crew<'_, P, O, A, H>,
     ) -> Result<(), Memory>
         ensures { self.new ≡ self.old }
     {
@@ -383,7 +349,7 @@ impl<'c, P: Pending, L: Labelling<P>, A: Allocator + Copy, C: Allocator> Layer<'
     fn revisit<H: Gatehouse, R: Wait>(
         &mut self,
         rt: &R,
-        crew: &mut Crew<'_, P, A, H>,
+        crew: &mut Crew<'_, P, O, A, H>,
     ) -> Result<(), Memory>
         ensures { self.new ≡ self.old }
     {
@@ -400,37 +366,16 @@ impl<'c, P: Pending, L: Labelling<P>, A: Allocator + Copy, C: Allocator> Layer<'
         unreachable!()
     }
 
-    /// Puts what making gates of the circuit gave where it belongs.
-    fn put_all(&mut self, sealed: &Sealed<P, A>)
-        requires { All (L.is_pending self.old) sealed.now }
-        ensures { self.new ≡ self.old }
-    {
-        let gates = sealed.gates();
-        for i in 0..gates.len() {
-            self.put(&gates[i], &sealed.made()[i]);
-        }
-    }
-
     /// Puts what making an AND gate gave where it belongs.
     #[inline]
     fn put(&mut self, gate: &P, made: &P::Made)
-        requires gate { L.is_pending self.old gate.now }
+        requires gate { O.is_pending gate.now }
         requires made { made.now ≡ P.made_of gate.now }
         ensures { self.new ≡ self.old }
     {
         let (wire, label) = self.labelling.keep(gate, made);
         self.settle(wire, label);
     }
-}
-
-/// The gates from a place on among those that wait, so many at the most.
-fn block_from<P: Pending>(waiting: &[P], first: usize, most: usize) -> &[P]
-    ensures gates { result.now ≡ take most (drop first waiting.now) }
-    ensures few { length result.now ≤ most }
-{
-    let (_, rest) = waiting.split_at(first.min(waiting.len()));
-    let (gates, _) = rest.split_at(most.min(rest.len()));
-    gates
 }
 
 /// A mark for each wire: the labels of the input wires are there.

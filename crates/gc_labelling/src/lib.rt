@@ -11,6 +11,7 @@ mod exchange;
 mod labelling;
 mod layer;
 mod mark;
+mod origin;
 mod pending;
 mod place;
 mod postponed;

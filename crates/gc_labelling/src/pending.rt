@@ -1,6 +1,6 @@
 //! AND gates that wait.
 
-ghost use Rattle.std.specs.Prelude.{◌≡◌, ◌≤◌, ◌↔◌, IsTrue, length};
+ghost use Rattle.std.specs.Prelude.{◌≤◌, length};
 ghost use Rattle.gc_labelling.specs.Layer.{AreMade};
 
 /// An AND gate that waits, with all that its label is made from.
@@ -16,10 +16,6 @@ pub trait Pending: Copy {
 
     /// Its place in the file.
     fn place(&self) -> u32;
-
-    /// Whether these are the same gates.
-    fn are_same(left: &[Self], right: &[Self]) -> bool
-        ensures { IsTrue result ↔ (left.now ≡ right.now) };
 
     /// Makes all these gates. Places after those that are needed stay as they are.
     fn make_all(gates: &[Self], made: &mut [Self::Made])

@@ -1,6 +1,6 @@
 //! AND gates that wait to be evaluated.
 
-ghost use Rattle.std.specs.Prelude.{◌≡◌, ℕ, ◌<◌, ◌≤◌, ◌+◌, ◌*◌, ◌↔◌, ◌∷◌, [], IsTrue, Some, length, map, slice_get, slice_index_or};
+ghost use Rattle.std.specs.Prelude.{◌≡◌, ℕ, ◌<◌, ◌≤◌, ◌+◌, ◌*◌, ◌∷◌, [], Some, length, map, slice_get, slice_index_or};
 ghost use Rattle.gc_half.specs.Hash.{hash};
 ghost use Rattle.gc_half.specs.HalfGate.{and_active};
 ghost use Rattle.gc_labelling.specs.Layer.{AreMade};
@@ -11,7 +11,7 @@ use gc_label::Label;
 use gc_labelling::Pending;
 
 /// An AND gate that waits to be evaluated, as [`AndStep`] has it, its place in the file, and the wire that it sets.
-#[derive(Clone, Copy, PartialEq, Eq)]
+#[derive(Clone, Copy)]
 pub(crate) struct ToEvaluate {
     pub place: u32,
     pub k: u32,
@@ -33,13 +33,6 @@ impl ToEvaluate {
             b: self.b,
         }
     }
-}
-
-/// Whether these are the same gates.
-fn are_same(left: &[ToEvaluate], right: &[ToEvaluate]) -> bool
-    ensures { IsTrue result ↔ (left.now ≡ right.now) }
-{
-    left == right
 }
 
 /// The steps of four gates.
@@ -120,10 +113,6 @@ impl Pending for ToEvaluate {
 
     fn place(&self) -> u32 {
         self.place
-    }
-
-    fn are_same(left: &[ToEvaluate], right: &[ToEvaluate]) -> bool {
-        are_same(left, right)
     }
 
     fn make_all(gates: &[ToEvaluate], made: &mut [Label]) {

@@ -17,7 +17,7 @@ use std::thread::Threads;
 /// The garbling of a circuit under a seed, gate by gate in file order, but that AND gates wait to be garbled in blocks, by
 /// the calling thread and up to so many less one beside it, where there are enough AND gates and threads can be started;
 /// a gate that reads a label which isn't there yet is postponed until it is. It takes memory for the labels and their
-/// marks, for the rows, and for the gates that wait or are postponed: up to 64 blocks of 64 gates, twice, and 512 gates.
+/// marks, for the rows, and for the gates that wait or are postponed: up to 66 blocks of 64 gates, and 512 gates.
 /// `house` is told of each gate before it is garbled; the calling thread is worker 0.
 pub fn garble_by_layers<
     A: Allocator + Copy + Send + Sync,

@@ -1,6 +1,6 @@
 //! AND gates that wait to be garbled.
 
-ghost use Rattle.std.specs.Prelude.{◌≡◌, ℕ, ◌<◌, ◌≤◌, ◌+◌, ◌*◌, ◌↔◌, IsTrue, Some, length, slice_get, slice_index_or};
+ghost use Rattle.std.specs.Prelude.{◌≡◌, ℕ, ◌<◌, ◌≤◌, ◌+◌, ◌*◌, Some, length, slice_get, slice_index_or};
 ghost use Rattle.gc_labelling.specs.Layer.{AreMade};
 ghost use Rattle.gc_layers.specs.Garbler.{garbled_of};
 
@@ -10,7 +10,7 @@ use gc_labelling::Pending;
 
 /// An AND gate that waits to be garbled, as [`AndGate`] has it, its place in the file, and the wire that it sets. It
 /// takes 64 bytes.
-#[derive(Clone, Copy, PartialEq, Eq)]
+#[derive(Clone, Copy)]
 pub(crate) struct Waiting {
     pub place: u32,
     pub k: u32,
@@ -32,13 +32,6 @@ impl Waiting {
             b: self.b,
         }
     }
-}
-
-/// Whether these are the same gates.
-pub(crate) fn are_same(left: &[Waiting], right: &[Waiting]) -> bool
-    ensures { IsTrue result ↔ (left.now ≡ right.now) }
-{
-    left == right
 }
 
 /// What garbling an AND gate gives: the zero label of the wire that it sets, and its row pair.
@@ -120,10 +113,6 @@ impl Pending for Waiting {
 
     fn place(&self) -> u32 {
         self.place
-    }
-
-    fn are_same(left: &[Waiting], right: &[Waiting]) -> bool {
-        are_same(left, right)
     }
 
     fn make_all(gates: &[Waiting], made: &mut [Garbled]) {

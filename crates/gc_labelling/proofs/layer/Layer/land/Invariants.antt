@@ -1,5 +1,5 @@
 use Rattle.std.proofs.Common.{◌≡◌}
-use Rattle.gc_labelling.proofs.layer.Layer.put_all.Given as goal
+use Rattle.gc_labelling.proofs.layer.Layer.land.Given as goal
 
 abbrev pub invariant-loop-i : goal.invariant-loop-i
 invariant-loop-i g l = l.self ≡ l.fn.self
