@@ -1,5 +1,5 @@
 -- The two halves of a label are the label's.
-use Rattle.std.proofs.Common.{◌≡◌, ℕ, zero, suc, ◌+◌, ◌^◌, ◌<◌, List, [], ◌∷◌, ◌++◌, length, take, drop, take-append-drop, length-take, length-drop, get_or, refl, ap, ◌∙◌, arith}
+use Rattle.std.proofs.Common.{◌≡◌, ℕ, zero, suc, ◌^◌, ◌<◌, List, [], ◌∷◌, ◌++◌, take, drop, take-append-drop, length-take, length-drop, get_or, refl, ap, ◌∙◌, arith}
 use Rattle.std.specs.Int.{w64, bytes_high_first, to_le_bytes}
 use Rattle.std.proofs.lemmas.Nat.{le_bytes_8}
 use Rattle.gc_label.specs.Label.{label_of_bytes, bytes_of_label, low_half, high_half, label_of_halves}

@@ -5,9 +5,13 @@ ghost use Rattle.gc_label.specs.Label.{◌⊕◌, colour, times, label_of_bytes,
 
 use std::fmt;
 use std::marker::Model;
+use std::simd::{u8x16, u64x2};
 
 // The place of the colour, the lowest bit of byte 0, in the number of a label.
 const COLOUR_BIT: u32 = 120;
+
+// The lowest 64 bits of a number have so many values.
+const HALF: u128 = 1 << 64;
 
 /// One of the two labels of a wire: 16 bytes, which are ordered as bytes are.
 #[derive(Clone, Copy, PartialEq, Eq, PartialOrd, Ord, Debug)]
@@ -57,6 +61,18 @@ impl Label {
         }
     }
 
+    /// The bytes of the label in a vector, where the compiler turns all of them round at once, and else one by one.
+    #[tactic(auto, unfolding(crate::specs::Label::bytes_of_label))]
+    #[inline]
+    fn byte_vector(self) -> u8x16
+        ensures bytes { result ≡ bytes_of_label self }
+        ensures fits { self < 2 ^ 128 }
+    {
+        let words = u64x2::from_array([(self.number % HALF) as u64, (self.number >> 64) as u64]);
+        let lowest_first = words.to_le_bytes();
+        lowest_first.swizzle([15, 14, 13, 12, 11, 10, 9, 8, 7, 6, 5, 4, 3, 2, 1, 0])
+    }
+
     /// The bytes of the label.
     #[tactic(auto, unfolding(crate::specs::Label::bytes_of_label))]
     #[inline]
@@ -64,7 +80,7 @@ impl Label {
         ensures bytes { result ≡ bytes_of_label self }
         ensures fits { self < 2 ^ 128 }
     {
-        self.number.to_be_bytes()
+        self.byte_vector().to_array()
     }
 
     /// The label in two words: its bytes 0 to 7, and its bytes 8 to 15, both little-endian.
@@ -75,11 +91,8 @@ impl Label {
         ensures high { result.1 ≡ high_half self }
         ensures fits { self < 2 ^ 128 }
     {
-        let b = self.to_bytes();
-        (
-            u64::from_le_bytes([b[0], b[1], b[2], b[3], b[4], b[5], b[6], b[7]]),
-            u64::from_le_bytes([b[8], b[9], b[10], b[11], b[12], b[13], b[14], b[15]]),
-        )
+        let [low, high] = u64x2::from_le_bytes(self.byte_vector()).to_array();
+        (low, high)
     }
 
     /// The label of two such words.
