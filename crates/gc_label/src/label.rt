@@ -61,7 +61,7 @@ impl Label {
         }
     }
 
-    /// The bytes of the label in a vector, where the compiler turns all of them round at once, and else one by one.
+    /// The bytes of the label in a vector: there the compiler turns them all round at once, and elsewhere one by one.
     #[tactic(auto, unfolding(crate::specs::Label::bytes_of_label))]
     #[inline]
     fn byte_vector(self) -> u8x16

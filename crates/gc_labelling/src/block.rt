@@ -1,6 +1,6 @@
 //! Blocks of AND gates that are made together.
 
-ghost use Rattle.std.specs.Prelude.{◌≡◌, ◌≤◌, All, length};
+ghost use Rattle.std.specs.Prelude.{◌≡◌, ◌≤◌, ◌++◌, ◌∷◌, ◌↔◌, [], All, IfOk, IsTrue, OnOk, length};
 ghost use Rattle.gc_labelling.specs.Layer.{AreMade};
 
 use crate::origin::Origin;
@@ -34,7 +34,9 @@ impl<P: Pending, O: Origin<P>, A: Allocator> Model for Block<P, O, A> {
 
 impl<P: Pending, O: Origin<P>, A: Allocator + Copy> Block<P, O, A> {
     /// A block without gates.
-    pub(crate) fn open(alloc: A) -> Result<Block<P, O, A>, Memory> {
+    pub(crate) fn open(alloc: A) -> Result<Block<P, O, A>, Memory>
+        ensures { IfOk result (λ b. b ≡ []) }
+    {
         Ok(Block {
             gates: Vec::with_capacity(alloc, BLOCK)?,
             made: Vec::from_elem(alloc, P::nothing(), BLOCK)?,
@@ -54,14 +56,24 @@ impl<P: Pending, O: Origin<P>, A: Allocator> Block<P, O, A> {
 
     /// Whether it has none.
     #[inline]
-    pub(crate) fn is_empty(&self) -> bool {
+    pub(crate) fn is_empty(&self) -> bool
+        ensures { IsTrue result ↔ (self.now ≡ []) }
+    {
         self.gates.is_empty()
+    }
+
+    /// Takes its gates out.
+    pub(crate) fn clear(&mut self)
+        ensures { self.new ≡ [] }
+    {
+        self.gates.clear();
     }
 
     /// Puts a gate behind the others.
     #[inline]
     pub(crate) fn push(&mut self, gate: P) -> Result<(), Memory>
         requires { O.is_pending gate }
+        ensures { OnOk result (self.new ≡ self.old ++ gate ∷ []) }
     {
         if self.gates.len() >= self.made.len() {
             self.made.push(P::nothing())?;
@@ -128,14 +140,15 @@ impl<P: Pending, O: Origin<P>, A: Allocator> Sealed<P, O, A> {
         &self.made
     }
 
-    /// The block without its gates, to be filled anew.
-    pub(crate) fn into_empty(self) -> Block<P, O, A> {
+    /// The block, to be filled anew.
+    pub(crate) fn into_block(self) -> Block<P, O, A>
+        ensures { result ≡ self }
+    {
         let Sealed {
-            mut gates,
+            gates,
             made,
             origin,
         } = self;
-        gates.clear();
         Block {
             gates,
             made,

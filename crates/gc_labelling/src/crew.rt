@@ -1,5 +1,7 @@
 //! The threads that make blocks, as the one sees them that goes from gate to gate.
 
+ghost use Rattle.std.specs.Prelude.{◌≡◌, IfOk, IfSome, []};
+
 use crate::block::{BLOCK, Block, Sealed};
 use crate::exchange::{Exchange, Finding, MOST_OUT};
 use crate::origin::Origin;
@@ -24,7 +26,7 @@ pub(crate) struct Crew<'e, P: Pending, O: Origin<P>, A: Allocator, H: Gatehouse>
     is_alone: bool,
     // How many blocks were offered and aren't back.
     out: usize,
-    // Blocks without gates.
+    // Blocks that are to be filled anew.
     free: Vec<Block<P, O, A>, A>,
 }
 
@@ -70,19 +72,20 @@ impl<'e, P: Pending, O: Origin<P>, A: Allocator + Copy, H: Gatehouse> Crew<'e, P
     }
 
     /// A block without gates.
-    pub(crate) fn empty(&mut self) -> Result<Block<P, O, A>, Memory> {
-        match self.free.pop() {
-            Some(block) => Ok(block),
-            None => Block::open(self.alloc),
-        }
+    pub(crate) fn empty(&mut self) -> Result<Block<P, O, A>, Memory>
+        ensures { IfOk result (λ b. b ≡ []) }
+    {
+        let Some(mut block) = self.free.pop() else {
+            return Block::open(self.alloc);
+        };
+        block.clear();
+        Ok(block)
     }
 
     /// Offers a block to the others. It comes back at once where there are none, or where all have enough to do.
-    pub(crate) fn offer<R: Wait>(
-        &mut self,
-        rt: &R,
-        block: Block<P, O, A>,
-    ) -> Option<Block<P, O, A>> {
+    pub(crate) fn offer<R: Wait>(&mut self, rt: &R, block: Block<P, O, A>) -> Option<Block<P, O, A>>
+        ensures { IfSome result (λ b. b ≡ block) }
+    {
         if self.is_alone || self.out >= MOST_OUT {
             return Some(block);
         }
@@ -94,7 +97,9 @@ impl<'e, P: Pending, O: Origin<P>, A: Allocator + Copy, H: Gatehouse> Crew<'e, P
     }
 
     /// A block, made here.
-    pub(crate) fn seal(&self, block: Block<P, O, A>) -> Sealed<P, O, A> {
+    pub(crate) fn seal(&self, block: Block<P, O, A>) -> Sealed<P, O, A>
+        ensures { result ≡ block }
+    {
         block.seal(self.house, 0)
     }
 
@@ -131,6 +136,6 @@ impl<'e, P: Pending, O: Origin<P>, A: Allocator + Copy, H: Gatehouse> Crew<'e, P
 
     /// Takes a block back when what was made isn't needed any more.
     pub(crate) fn release(&mut self, sealed: Sealed<P, O, A>) {
-        let _ = self.free.push(sealed.into_empty());
+        let _ = self.free.push(sealed.into_block());
     }
 }

@@ -1,5 +1,7 @@
 //! Blocks that threads hand to each other.
 
+ghost use Rattle.std.specs.Prelude.{◌≡◌, IfSome};
+
 use crate::block::{Block, Sealed};
 use crate::origin::Origin;
 use crate::pending::Pending;
@@ -16,7 +18,7 @@ pub(crate) const MOST_OUT: usize = 64;
 /// How often a thread looks for a block before it asks whether more will come,
 const TRIES: u32 = 64;
 
-/// and how often it asks before it sleeps: waking costs more than garbling a block takes.
+/// and how often it asks before it sleeps: waking costs more than making a block takes.
 const ROUNDS: u32 = 16;
 
 /// How long a thread pauses between two looks, in turns of a loop.
@@ -95,7 +97,9 @@ impl<P: Pending, O: Origin<P>, A: Allocator + Copy> Exchange<P, O, A> {
 
 impl<P: Pending, O: Origin<P>, A: Allocator> Exchange<P, O, A> {
     /// Offers a block. It comes back where there is no room for it.
-    pub(crate) fn offer(&self, rt: &impl Wait, block: Block<P, O, A>) -> Option<Block<P, O, A>> {
+    pub(crate) fn offer(&self, rt: &impl Wait, block: Block<P, O, A>) -> Option<Block<P, O, A>>
+        ensures { IfSome result (λ b. b ≡ block) }
+    {
         let refused = self.offered.push(rt, block).err();
         let sleeping = self.offers.lock(rt).sleeping;
         if sleeping > 0 {
@@ -128,7 +132,7 @@ impl<P: Pending, O: Origin<P>, A: Allocator> Exchange<P, O, A> {
         self.offered.pop(rt)
     }
 
-    /// A block that is made, or else one to garble.
+    /// A block that is made, or else one to be made.
     fn find<R: Wait>(&self, rt: &R) -> Option<Finding<P, O, A>> {
         if let Some(sealed) = self.sealed.pop(rt) {
             return Some(Finding::Sealed(sealed));

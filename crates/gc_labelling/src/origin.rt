@@ -2,11 +2,11 @@
 
 use std::marker::Brand;
 
-/// A name for the labelling that gates which wait are from. No contract follows them through a queue, but their type has this
-/// name: so what comes out of a queue is a gate of the labelling that put it in. The call that begins a labelling picks which
-/// gates these are.
+/// A name for the labelling that the gates of a block are from. No contract follows a block through a queue, but its type has
+/// this name: so a block that comes out of a queue has gates of the labelling that put it in. The call that begins a
+/// labelling picks which gates these are.
 pub(crate) trait Origin<P> {
-    // the gates
+    // A gate of the labelling that waits.
     ghost is_pending: { P → Type 0 };
 }
 

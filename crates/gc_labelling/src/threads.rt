@@ -58,7 +58,7 @@ pub fn label_by_layers<
     label_from::<Brand, P, M, L, A, C, H, R>(rt, alloc, circuit, labelling, labels, threads, house)
 }
 
-/// The same. All gates of this origin are the labelling's.
+/// The same. The gates of this origin are exactly the labelling's that wait.
 fn label_from<
     O: Origin<P> + Send + Sync,
     P: Pending<Made = M> + Send + Sync,

@@ -2,7 +2,7 @@
 use Rattle.std.proofs.Common.{◌≡◌, ℕ, zero, suc, ◌<◌, ◌+◌, ◌*◌, ◌/◌, ◌%◌, subst, arith}
 
 -- what holds of each number below four
-pub below_four : (P : ℕ → Type 0) → P 0 → P 1 → P 2 → P 3 → (j : ℕ) → j < 4 → P j
+below_four : (P : ℕ → Type 0) → P 0 → P 1 → P 2 → P 3 → (j : ℕ) → j < 4 → P j
 below_four P p0 p1 p2 p3 zero lt = p0
 below_four P p0 p1 p2 p3 (suc zero) lt = p1
 below_four P p0 p1 p2 p3 (suc (suc zero)) lt = p2

@@ -1,12 +1,20 @@
 -- A message of 24 bytes has one block, whose words are those of the label, the tweak and the padding.
-use Rattle.std.proofs.Common.{◌≡◌, ℕ, ◌+◌, ◌≤◌, List, ◌∷◌, ◌++◌, length, take, replicate, refl, sym, ap, ◌∙◌, arith, length-append}
+use Rattle.std.proofs.Common.{◌≡◌, ℕ, ◌+◌, ◌*◌, ◌<◌, ◌≤◌, List, ◌∷◌, ◌++◌, length, take, replicate, refl, sym, ap, ◌∙◌, arith, length-append}
 use Rattle.std.proofs.lemmas.List.{get_or-append-add, get_or_append_left, take_all}
-use Rattle.std.specs.Int.{w64, to_be_bytes}
+use Rattle.std.specs.Int.{w32, w64, to_be_bytes}
 use Rattle.std.specs.Prelude.{slice_index}
 use Rattle.sha2.specs.Sha256.{compress, digest_bytes, hash_after, initial_hash_256, sha256, word_at}
-use Rattle.gc_lanes.specs.Hash.{front_of_digest, padded_words}
-use Rattle.gc_lanes.specs.Lanes.{IsBlockOf}
+use Rattle.gc_lanes.specs.Hash.{padded_words}
 use Rattle.gc_lanes.proofs.CaseByCase.{below_sixteen}
+
+-- These are the sixteen words of a block (FIPS 180-4, 5.2.1).
+abbrev pub IsBlockOf : List ℕ → List ℕ → Type 0
+IsBlockOf block words = (k : ℕ) → k < 16 → slice_index words k ≡ word_at block (4 * k)
+
+-- The first 16 bytes of a digest, from the words of the hash value (FIPS 180-4, 6.2.2).
+abbrev pub front_of_digest : List ℕ → List ℕ
+front_of_digest h = to_be_bytes w32 (slice_index h 0) ++ to_be_bytes w32 (slice_index h 1)
+    ++ to_be_bytes w32 (slice_index h 2) ++ to_be_bytes w32 (slice_index h 3)
 
 -- the padding of 24 bytes
 abbrev pub ending : List ℕ

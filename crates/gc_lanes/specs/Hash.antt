@@ -1,7 +1,7 @@
 -- The tweaked hash of a label, and the words of the one block that it compresses. A label is 16 bytes, seen as the number
 -- that they spell, the first byte highest.
-use Rattle.std.specs.Prelude.{ℕ, List, [], ◌∷◌, ◌++◌, slice_index, take}
-use Rattle.std.specs.Int.{w32, w64, w128, from_be_bytes, to_be_bytes, to_le_bytes}
+use Rattle.std.specs.Prelude.{ℕ, List, [], ◌∷◌, ◌++◌, take}
+use Rattle.std.specs.Int.{w64, w128, from_be_bytes, to_be_bytes, to_le_bytes}
 use Rattle.sha2.specs.Sha256.{sha256, word_at}
 
 -- The first 16 bytes of SHA-256 (FIPS 180-4) of the label's bytes and the tweak's 8, the lowest first.
@@ -15,8 +15,3 @@ padded_words label tweak =
     word_at label 0 ∷ word_at label 4 ∷ word_at label 8 ∷ word_at label 12
     ∷ word_at tweak 0 ∷ word_at tweak 4 ∷ 0x80000000 ∷ 0
     ∷ 0 ∷ 0 ∷ 0 ∷ 0 ∷ 0 ∷ 0 ∷ 0 ∷ 192 ∷ []
-
--- The first 16 bytes of a digest, from the words of the hash value (FIPS 180-4, 6.2.2).
-abbrev pub front_of_digest : List ℕ → List ℕ
-front_of_digest h = to_be_bytes w32 (slice_index h 0) ++ to_be_bytes w32 (slice_index h 1)
-    ++ to_be_bytes w32 (slice_index h 2) ++ to_be_bytes w32 (slice_index h 3)

@@ -1,16 +1,12 @@
--- The words that stand in one lane of vectors.
-use Rattle.std.specs.Prelude.{◌≡◌, ◌<◌, ◌+◌, ◌*◌, ◌/◌, ◌%◌, ◌^◌, ◌∷◌, [], ℕ, List, map, slice_index}
+-- Labels and messages by their words, one of them in each lane of vectors.
+use Rattle.std.specs.Prelude.{◌+◌, ◌*◌, ◌/◌, ◌%◌, ◌^◌, ◌∷◌, [], ℕ, List, map, slice_index}
 use Rattle.sha2.specs.Sha256.{word_at}
 
 -- The words that lane j holds in each of the vectors, where `lane` says which word each lane of a vector holds.
 abbrev pub words_of_lane : {V : Type 0} → (V → ℕ → ℕ) → ℕ → List V → List ℕ
 words_of_lane lane j = map (λ v. lane v j)
 
--- These are the sixteen words of a block (FIPS 180-4, 5.2.1).
-abbrev pub IsBlockOf : List ℕ → List ℕ → Type 0
-IsBlockOf block words = (k : ℕ) → k < 16 → slice_index words k ≡ word_at block (4 * k)
-
--- The word that lane j of a vector of words holds. The remainder is the lane itself, which is below 2 ^ 32.
+-- The word that lane j of a vector of words holds. The remainder is that word itself, and below 2 ^ 32 of any list.
 abbrev pub lane : List ℕ → ℕ → ℕ
 lane v j = slice_index v j % 2 ^ 32
 
@@ -19,8 +15,8 @@ abbrev pub low_words : ℕ → List ℕ
 low_words label = label % 2 ^ 32 ∷ label / 2 ^ 32 % 2 ^ 32 ∷ label / 2 ^ 64 % 2 ^ 32 ∷ label / 2 ^ 96 % 2 ^ 32 ∷ []
 
 -- and the label of such words.
-abbrev pub label_of_words : List ℕ → ℕ
-label_of_words words = slice_index words 0 + 2 ^ 32 * slice_index words 1 + 2 ^ 64 * slice_index words 2
+abbrev pub label_of_low_words : List ℕ → ℕ
+label_of_low_words words = slice_index words 0 + 2 ^ 32 * slice_index words 1 + 2 ^ 64 * slice_index words 2
     + 2 ^ 96 * slice_index words 3
 
 -- What stands at place j in each of four rows.

@@ -4,15 +4,16 @@ ghost use Rattle.std.specs.Prelude.{◌≡◌, ◌*◌, ◌^◌, ◌<◌, ℕ, s
 ghost use Rattle.std.specs.Int.{to_le_bytes, w64};
 ghost use Rattle.std.specs.Mem.{type_size};
 ghost use Rattle.gc_lanes.specs.Hash.{tweaked_hash};
-ghost use Rattle.gc_lanes.specs.Lanes.{first_words, label_of_words, low_words, words_of_lane};
+ghost use Rattle.gc_lanes.specs.Lanes.{first_words, label_of_low_words, low_words, words_of_lane};
 
 use crate::block::{initial_state, padded_block, tweak_words};
 use crate::compression::{add_states, four_rounds_of_block, four_rounds_of_schedule};
 use crate::labels::{labels_of_eight, labels_of_four, words_of_eight, words_of_four};
 use crate::words::Words;
 
-/// The tweaked hash of each label: the first 16 bytes of SHA-256 (FIPS 180-4) of the label's 16 bytes, the highest of its
-/// number first, followed by the 8 bytes of its tweak, the lowest first. It takes no memory.
+/// The tweaked hash of each label: the first 16 bytes of SHA-256 (FIPS 180-4) of the label's 16 bytes followed by the 8 bytes
+/// of its tweak, the lowest first. Labels and hashes are the numbers that their bytes spell, the first byte highest. It takes
+/// no memory.
 #[inline]
 pub fn hash_four(labels: [u128; 4], tweaks: [u64; 4]) -> [u128; 4]
     ensures { (i : ℕ) → i < 4 → slice_index result i ≡ tweaked_hash (slice_index labels i) (slice_index tweaks i) }
@@ -35,7 +36,7 @@ fn hash_each<W: Words>(label: [W; 4], tweak: [W; 2]) -> [W; 4]
     requires { 16 * type_size W.row < 2 ^ 63 }
     ensures { (j l t : ℕ) → j < W.lanes → words_of_lane W.lane j label ≡ low_words l
         → words_of_lane W.lane j tweak ≡ first_words (to_le_bytes w64 t)
-        → label_of_words (words_of_lane W.lane j result) ≡ tweaked_hash l t }
+        → label_of_low_words (words_of_lane W.lane j result) ≡ tweaked_hash l t }
 {
     // The 64 rounds are written out, four a call, and the calls are inlined: in code without a loop the
     // compiler folds what it knows of the padding's words and of the initial hash value.

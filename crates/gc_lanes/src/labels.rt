@@ -2,11 +2,12 @@
 //! highest; its words stand lowest first here.
 
 ghost use Rattle.std.specs.Prelude.{◌≡◌, ◌<◌, ◌++◌, ◌∷◌, [], ℕ, slice_index};
-ghost use Rattle.gc_lanes.specs.Lanes.{column, label_of_words, lane, low_words, words_of_lane};
+ghost use Rattle.gc_lanes.specs.Lanes.{column, label_of_low_words, lane, low_words, words_of_lane};
 
 use std::simd::{u32x4, u32x8, u64x2};
 
-const HALF: u128 = 0x1_0000_0000_0000_0000;
+// The lowest 64 bits of a number have so many values.
+const HALF: u128 = 1 << 64;
 
 /// The words of a label. It goes by halves, since the compiler makes one move of them.
 #[inline(always)]
@@ -20,7 +21,7 @@ fn words_of(label: u128) -> u32x4
 /// The label of four words.
 #[inline(always)]
 fn label_of(words: u32x4) -> u128
-    ensures { result ≡ label_of_words (lane words 0 ∷ lane words 1 ∷ lane words 2 ∷ lane words 3 ∷ []) }
+    ensures { result ≡ label_of_low_words (lane words 0 ∷ lane words 1 ∷ lane words 2 ∷ lane words 3 ∷ []) }
 {
     u128::from_le_bytes(words.to_le_bytes().to_array())
 }
@@ -94,7 +95,7 @@ pub(crate) fn words_of_eight(labels: [u128; 8]) -> [u32x8; 4]
 /// Four labels by their words.
 #[inline(always)]
 pub(crate) fn labels_of_four(words: [u32x4; 4]) -> [u128; 4]
-    ensures { (j : ℕ) → j < 4 → slice_index result j ≡ label_of_words (words_of_lane lane j words) }
+    ensures { (j : ℕ) → j < 4 → slice_index result j ≡ label_of_low_words (words_of_lane lane j words) }
 {
     let [p, q, r, s] = words;
     let [a, b, c, d] = turned_four(p, q, r, s);
@@ -104,8 +105,8 @@ pub(crate) fn labels_of_four(words: [u32x4; 4]) -> [u128; 4]
 /// The two labels whose words stand side by side.
 #[inline(always)]
 fn labels_of_two(words: u32x8) -> (u128, u128)
-    ensures one { result.0 ≡ label_of_words (lane words 0 ∷ lane words 1 ∷ lane words 2 ∷ lane words 3 ∷ []) }
-    ensures other { result.1 ≡ label_of_words (lane words 4 ∷ lane words 5 ∷ lane words 6 ∷ lane words 7 ∷ []) }
+    ensures one { result.0 ≡ label_of_low_words (lane words 0 ∷ lane words 1 ∷ lane words 2 ∷ lane words 3 ∷ []) }
+    ensures other { result.1 ≡ label_of_low_words (lane words 4 ∷ lane words 5 ∷ lane words 6 ∷ lane words 7 ∷ []) }
 {
     (
         label_of(words.swizzle([0, 1, 2, 3])),
@@ -116,7 +117,7 @@ fn labels_of_two(words: u32x8) -> (u128, u128)
 /// Eight labels by their words.
 #[inline(always)]
 pub(crate) fn labels_of_eight(words: [u32x8; 4]) -> [u128; 8]
-    ensures { (j : ℕ) → j < 8 → slice_index result j ≡ label_of_words (words_of_lane lane j words) }
+    ensures { (j : ℕ) → j < 8 → slice_index result j ≡ label_of_low_words (words_of_lane lane j words) }
 {
     let [p, q, r, s] = words;
     let [one, two, three, four] = turned_eight(p, q, r, s);

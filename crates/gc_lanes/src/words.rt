@@ -1,6 +1,6 @@
 //! The operations of SHA-256 on words (FIPS 180-4, 2.2.2 and 3.2), in each lane of a vector at once.
 
-ghost use Rattle.std.specs.Prelude.{◌≡◌, ◌≢◌, ◌<◌, ◌/◌, ◌%◌, ◌^◌, ℕ, bit_and, bit_xor, slice_index};
+ghost use Rattle.std.specs.Prelude.{◌≡◌, ◌≢◌, ◌<◌, ◌/◌, ◌^◌, ℕ, bit_and, bit_xor, slice_index};
 ghost use Rattle.std.specs.Int.{rotate_right, w32};
 ghost use Rattle.std.proofs.Common.{mod-lt, pow_pos};
 ghost use Rattle.sha2.specs.Sha256.{add32};
@@ -19,11 +19,6 @@ pub(crate) trait Words: Copy {
     /// The same word in each lane.
     fn splat(word: u32) -> Self
         ensures { (j : ℕ) → j < lanes → lane result j ≡ word };
-
-    /// A lane's word.
-    fn word(self, place: usize) -> u32
-        requires { place < lanes }
-        ensures { result ≡ lane self place };
 
     /// The words with another in one lane.
     fn with_word(self, place: usize, word: u32) -> Self
@@ -61,17 +56,11 @@ pub(crate) trait Words: Copy {
 impl<const N: usize> Words for Simd<u32, N> {
     ghost lanes = { N };
 
-    // The remainder makes `fits` hold of any list.
     ghost lane = { lanes_of.lane };
 
     #[inline(always)]
     fn splat(word: u32) -> Self {
         Simd::splat(word)
-    }
-
-    #[inline(always)]
-    fn word(self, place: usize) -> u32 {
-        self[place]
     }
 
     #[inline(always)]

@@ -1,16 +1,16 @@
 //! The way in which threads garble or evaluate a circuit in the least time.
 
-ghost use Rattle.std.specs.Prelude.{◌≡◌, ◌≢◌, ◌↔◌, ◌⊎◌, IfOk};
+ghost use Rattle.std.specs.Prelude.{◌≡◌, ◌≢◌, ◌↔◌, ◌⊎◌, IfOk, IsTrue};
 ghost use Rattle.gc_layers.specs.Way.{HasFewAnds};
 ghost use Rattle.gc_layers.specs.declared.way.Way.TheVariants.{Alone, Together};
 
 use gc_circuit::{Circuit, Memory, Operation};
 use std::alloc::Allocator;
 
-/// A circuit of which less than about one gate in so many is AND is left to one thread,
+/// A circuit of which fewer than one gate in so many is AND is left to one thread,
 const GATES_FOR_THREADS: u32 = 64;
 
-/// one of which less than about one gate in so many is AND goes by layers,
+/// one of which fewer than one gate in so many is AND goes by layers,
 const GATES_FOR_AND: u32 = 3;
 
 /// and so does one whose layers have about so many AND gates, or more.
@@ -72,17 +72,23 @@ pub fn way_of<A: Allocator + Copy, C: Allocator>(
     ensures alone { IfOk result (λ way. way ≡ Alone ↔ HasFewAnds circuit.now 64) }
     ensures layers { threads ≡ 1 ⊎ HasFewAnds circuit.now 3 → IfOk result (λ way. way ≢ Together) }
 {
-    let ands = circuit.and_count();
-    if ands < circuit.gates() / GATES_FOR_THREADS {
+    if has_few_ands(circuit, GATES_FOR_THREADS) {
         return Ok(Way::Alone);
     }
-    if threads == 1 || ands < circuit.gates() / GATES_FOR_AND {
+    if threads == 1 || has_few_ands(circuit, GATES_FOR_AND) {
         return Ok(Way::Layers);
     }
     if layer_width(alloc, circuit)? >= WIDE_LAYER {
         return Ok(Way::Layers);
     }
     Ok(Way::Together)
+}
+
+/// Whether fewer than one gate in so many is AND.
+fn has_few_ands<C: Allocator>(circuit: &Circuit<C>, gates_for_and: u32) -> bool
+    ensures { IsTrue result ↔ HasFewAnds circuit.now gates_for_and }
+{
+    u64::from(gates_for_and) * u64::from(circuit.and_count()) < u64::from(circuit.gates())
 }
 
 /// About how many AND gates a layer has, by the front of the circuit: they follow each other in the file, other gates

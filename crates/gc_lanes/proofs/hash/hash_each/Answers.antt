@@ -4,9 +4,9 @@ use Rattle.std.specs.Int.{from_be_bytes, to_be_bytes, to_le_bytes, w64, w128}
 use Rattle.sha2.specs.Sha256.{add_state, compress, initial_hash_256, rounds}
 use Rattle.sha2.proofs.Schedule256.{IsWindow_first}
 use Rattle.gc_lanes.specs.Hash.{tweaked_hash}
-use Rattle.gc_lanes.specs.Lanes.{IsBlockOf, label_of_words, words_of_lane}
+use Rattle.gc_lanes.specs.Lanes.{label_of_low_words, words_of_lane}
 use Rattle.gc_lanes.proofs.LabelWords.{last_words-label, label-front}
-use Rattle.gc_lanes.proofs.OneBlock.{IsBlockOf_words, ending, take-sha256}
+use Rattle.gc_lanes.proofs.OneBlock.{IsBlockOf, IsBlockOf_words, ending, take-sha256}
 use Rattle.gc_lanes.proofs.hash.hash_each.Goals as goal
 
 pub returns : goal.returns
@@ -49,7 +49,7 @@ returns g c = λ j l t lt is_label is_tweak.
     let d = at 3 (omega arith) c.index-add_states-3.result in
     let fits : (v : g.row.W.Denot) (w : ℕ) → g.W.Words.lane v j ≡ w → w < 2 ^ 32 =
     λ v w is. subst (λ x. x < 2 ^ 32) is (g.met.W.Words.fits v j) in
-    (λ p. label_of_words (d p ∷ c' p ∷ b p ∷ a p ∷ []))
+    (λ p. label_of_low_words (d p ∷ c' p ∷ b p ∷ a p ∷ []))
     ∙ label-front (slice_index (words state) 0) (slice_index (words state) 1) (slice_index (words state) 2)
     (slice_index (words state) 3) (fits _ _ a) (fits _ _ b) (fits _ _ c') (fits _ _ d)
     ∙ ap (from_be_bytes w128) (take-sha256 label tweak (words state) refl refl end)
