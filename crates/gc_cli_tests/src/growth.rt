@@ -70,9 +70,9 @@ const ONE_VALUE: Part = (13, 1);
 
 const PLAIN_EVALUATION: Part = (13, 2);
 
-/// The queues of blocks, the zero labels, their marks, the rows, the gates that wait or are postponed, a block of them, and
-/// what its garbling gives.
-const GARBLING: Part = (23, 18);
+/// The queues of blocks, the zero labels, their marks, the rows, the gates that are postponed, and two blocks of gates that
+/// wait, with what their garbling gives.
+const GARBLING: Part = (23, 19);
 
 /// The bytes before the trailer, and the trailer.
 const GARBLED_FILE: Part = (52, 2);

@@ -180,13 +180,13 @@ fn refused_runs<R: Threads + Wait + Sync>(
 }
 
 /// Which way to go takes memory once, the board six times, the workers once each and once together, the seats that are back
-/// once, and the output labels and bits once each. By layers one worker takes memory for all of its tables, a block, the
+/// once, and the output labels and bits once each. By layers one worker takes memory for all of its tables, two blocks, the
 /// output labels and the bits.
 #[test]
 fn each_growth_refused(rt: HostRuntime) -> Result<(), Fail> {
     let circuit = Circuit::read(rt.alloc(), FULL_ADDER.as_bytes())?;
     let job = job_on_zeros(rt.alloc(), &circuit, FULL_ADDER)?;
-    assert_eq!(rt; refused_runs(&rt, rt.alloc(), &job, 1)?, 19);
+    assert_eq!(rt; refused_runs(&rt, rt.alloc(), &job, 1)?, 20);
     assert_eq!(rt; refused_runs(&rt, rt.alloc(), &job, 2)?, 13);
     assert_eq!(rt; refused_runs(&rt, rt.alloc(), &job, 64)?, 75);
     Ok(())

@@ -91,7 +91,7 @@ fn no_layer(rt: HostRuntime) -> Result<(), Fail> {
 }
 
 /// Each growth refused in turn: the two queues of blocks, the crew's list of blocks, the labels, their marks, the rows, the
-/// gates that wait, those that are postponed with the slots that are spare and woken, a block, and what garbling it gives.
+/// gates that are postponed with the slots that are spare and woken, and two blocks, with what garbling them gives.
 #[test]
 fn each_growth_of_layers_refused(rt: HostRuntime) -> Result<(), Fail> {
     let circuit = Circuit::read(rt.alloc(), FULL_ADDER.as_bytes())?;
@@ -102,6 +102,6 @@ fn each_growth_of_layers_refused(rt: HostRuntime) -> Result<(), Fail> {
             Err(Memory) => Answer::Memory,
         }
     });
-    assert_eq!(rt; refused, Ok(18));
+    assert_eq!(rt; refused, Ok(19));
     Ok(())
 }
