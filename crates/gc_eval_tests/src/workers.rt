@@ -6,7 +6,7 @@ use gc_eval::{EvalFault, Job, evaluate, evaluate_many};
 use gc_file::{LabelFile, Version, read_garbled, read_labels};
 use gc_refusing::Refusing;
 use gc_work::Open;
-use gc_worked::circuits::{FULL_ADDER, and_chains, many_ands};
+use gc_worked::circuits::{AND_INV_AND, FULL_ADDER, and_chains, many_ands};
 use gc_worked::files::{label_file, write};
 use gc_worked::meeting::Meeting;
 use gc_worked::random::{Numbers, forge_labels, forge_rows, random_circuit, random_window};
@@ -187,6 +187,8 @@ fn each_growth_refused(rt: HostRuntime) -> Result<(), Fail> {
     let circuit = Circuit::read(rt.alloc(), FULL_ADDER.as_bytes())?;
     let job = job_on_zeros(rt.alloc(), &circuit, FULL_ADDER)?;
     assert_eq!(rt; refused_runs(&rt, rt.alloc(), &job, 1)?, 20);
+    let circuit = Circuit::read(rt.alloc(), AND_INV_AND.as_bytes())?;
+    let job = job_on_zeros(rt.alloc(), &circuit, AND_INV_AND)?;
     assert_eq!(rt; refused_runs(&rt, rt.alloc(), &job, 2)?, 13);
     assert_eq!(rt; refused_runs(&rt, rt.alloc(), &job, 64)?, 75);
     Ok(())
