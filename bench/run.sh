@@ -13,22 +13,11 @@ top=$(cd "$(dirname "$0")/.." && pwd)
 tmp=$(mktemp -d)
 trap 'rm -rf "$tmp"' EXIT
 
-# Builds the program and the benchmark for this processor, where they aren't: what the test command built won't do.
-build() {
-    if is_stale "$(own halfgates)"; then
-        rm -f "$top/crates/halfgates/out/halfgates"
-        "$top/halfgates" --help >"$tmp/build" || return
-    fi
-    if is_stale "$(own gc_bench)"; then
-        (cd "$top/crates/gc_bench" && rt run $(processor)) >"$tmp/build" 2>&1 && keep_own gc_bench
-    fi
-}
-
-if ! build; then
-    tail -n 20 "$tmp/build" >&2
-    exit 1
-fi
-bench=$(own gc_bench)
+# The program and the benchmark, built for this processor: what the test command builds won't do.
+for program in halfgates gc_bench; do
+    is_built_from "$(sum_of_sources "$program")" "$top/out/$program" || "$top/build" "$program"
+done
+bench=$top/out/gc_bench
 tune_memory
 zero=$(printf '0%.0s' $(seq 64))
 
