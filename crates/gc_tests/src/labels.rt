@@ -25,7 +25,7 @@ const INPUT_ROWS: [u128; 7] = [
 
 /// The label whose bytes are these, the first of them highest.
 pub(crate) fn label(number: u128) -> Label {
-    Label::from_bytes(number.to_be_bytes())
+    Label::from_number(number)
 }
 
 #[test]
@@ -61,6 +61,7 @@ fn labels_as_bytes(rt: HostRuntime) -> Result<(), Fail> {
     let a = label(0x0102030405060708090a0b0c0d0e0f10);
     let bytes = [1, 2, 3, 4, 5, 6, 7, 8, 9, 10, 11, 12, 13, 14, 15, 16];
     assert_eq!(rt; (a.to_bytes(), Label::ZERO.to_bytes()), (bytes, [0; 16]));
+    assert!(rt; Label::from_bytes(bytes) == a);
     let shown = format!(in rt.alloc(); "{a}")?;
     assert_eq!(rt; shown.as_str(), "0102030405060708090a0b0c0d0e0f10");
     let high = label(0x80ffffffffffffffffffffffffffffff);
