@@ -60,9 +60,9 @@ pub fn label_by_layers<
 
 /// The same. The gates of this origin are exactly the labelling's that wait.
 fn label_from<
-    O: Origin<P> + Send + Sync,
-    P: Pending<Made = M> + Send + Sync,
-    M: Copy + Send + Sync,
+    O: Origin<P> + Send,
+    P: Pending<Made = M> + Send,
+    M: Copy + Send,
     L: Labelling<P> + Send,
     A: Allocator + Copy + Send + Sync,
     C: Allocator + Sync,
@@ -117,9 +117,9 @@ fn label_from<
 
 /// So many threads make what the exchange is offered, until it is closed.
 fn help_by<
-    O: Origin<P> + Send + Sync,
-    P: Pending<Made = M> + Send + Sync,
-    M: Copy + Send + Sync,
+    O: Origin<P> + Send,
+    P: Pending<Made = M> + Send,
+    M: Copy + Send,
     A: Allocator + Send + Sync,
     H: Gatehouse + Sync,
     R: Threads + Wait + Sync,
