@@ -151,14 +151,27 @@ impl<'c, P: Pending, O: Origin<P>, L: Labelling<P>, A: Allocator + Copy, C: Allo
     ) -> Result<(), Memory>
         ensures { self.new ≡ self.old }
     {
-        if self.is_block(crew) {
-            self.hand_out(rt, crew)?;
-        }
+        self.hand_out_block(rt, crew)?;
         if self.postponed.has_woken() {
             self.revisit(rt, crew)?;
         }
         if self.postponed.is_full() {
             self.make_room(rt, crew)?;
+        }
+        Ok(())
+    }
+
+    /// Hands the gates out that wait, where they are a block.
+    #[inline]
+    fn hand_out_block<H: Gatehouse, R: Wait>(
+        &mut self,
+        rt: &R,
+        crew: &mut Crew<'_, P, O, A, H>,
+    ) -> Result<(), Memory>
+        ensures { self.new ≡ self.old }
+    {
+        if self.is_block(crew) {
+            self.hand_out(rt, crew)?;
         }
         Ok(())
     }
@@ -359,9 +372,7 @@ impl<'c, P: Pending, O: Origin<P>, L: Labelling<P>, A: Allocator + Copy, C: Allo
                 return Ok(());
             };
             self.visit(crew, place, circuit.gate(place.gate))?;
-            if self.is_block(crew) {
-                self.hand_out(rt, crew)?;
-            }
+            self.hand_out_block(rt, crew)?;
         }
         unreachable!()
     }
