@@ -79,13 +79,21 @@ two hexadecimal digits for each 8 wires, of which the first wire is the lowest b
 pub(crate) fn halfgates<'a>(alloc: Global) -> Result<Command<'a>, AllocError>
     ensures { IfOk result (HasShape program) }
 {
-    let program = with_command(named_program(alloc), run(alloc))?;
-    let program = with_command(program, plain(alloc))?;
-    let program = with_command(program, check(alloc))?;
+    let program = circuit_program(alloc)?;
     let program = with_command(program, garble(alloc))?;
     let program = with_command(program, deal(alloc))?;
     let program = with_command(program, eval(alloc))?;
     with_command(program, jobs(alloc))
+}
+
+/// The program, with the commands that read no file but the circuit's.
+fn circuit_program<'a>(alloc: Global) -> Result<Command<'a>, AllocError>
+    ensures { IfOk result (HasShape (with_subcommand (with_subcommand (with_subcommand named_program
+        run_command.top) plain_command.top) check_command.top)) }
+{
+    let program = with_command(named_program(alloc), run(alloc))?;
+    let program = with_command(program, plain(alloc))?;
+    with_command(program, check(alloc))
 }
 
 /// The program with one command more.
@@ -96,7 +104,10 @@ fn with_command<'a>(
     ensures { IfOk result (λ made. (app sub : App) → HasShape app program.entry → IfOk command.entry (HasShape sub)
         → HasShape (with_subcommand app sub.top) made) }
 {
-    program.subcommand(command?)
+    match command {
+        Ok(command) => program.subcommand(command),
+        Err(error) => Err(error),
+    }
 }
 
 /// The program, without its commands.
@@ -118,7 +129,7 @@ fn run<'a>(alloc: Global) -> Result<Command<'a>, AllocError>
     let about = "Garbles a circuit, and evaluates it garbled on the given values";
     command_with_seed(alloc, "run", about, RUN_HELP)?
         .arg(workers_arg(alloc))?
-        .arg(more_arg(alloc, "values", "VALUES", VALUES_HELP))
+        .arg(values_arg(alloc))
 }
 
 /// The command `plain`.
@@ -126,12 +137,7 @@ fn plain<'a>(alloc: Global) -> Result<Command<'a>, AllocError>
     ensures { IfOk result (HasShape plain_command) }
 {
     let about = "Evaluates a circuit on the given values, without garbling";
-    command_on_circuit(alloc, "plain", about, PLAIN_HELP)?.arg(more_arg(
-        alloc,
-        "values",
-        "VALUES",
-        VALUES_HELP,
-    ))
+    command_on_circuit(alloc, "plain", about, PLAIN_HELP)?.arg(values_arg(alloc))
 }
 
 /// The command `check`.
@@ -146,16 +152,11 @@ fn check<'a>(alloc: Global) -> Result<Command<'a>, AllocError>
 fn garble<'a>(alloc: Global) -> Result<Command<'a>, AllocError>
     ensures { IfOk result (HasShape garble_command) }
 {
-    let out = "The garbled file, which is written";
-    command_with_seed(
-        alloc,
-        "garble",
-        "Garbles a circuit into a file",
-        GARBLE_HELP,
-    )?
-    .arg(word_arg(alloc, "out", "OUT", out))?
-    .arg(format_arg(alloc))?
-    .arg(workers_arg(alloc))
+    let about = "Garbles a circuit into a file";
+    command_with_seed(alloc, "garble", about, GARBLE_HELP)?
+        .arg(out_arg(alloc, "The garbled file, which is written"))?
+        .arg(format_arg(alloc))?
+        .arg(workers_arg(alloc))
 }
 
 /// The command `deal`.
@@ -163,11 +164,10 @@ fn deal<'a>(alloc: Global) -> Result<Command<'a>, AllocError>
     ensures { IfOk result (HasShape deal_command) }
 {
     let about = "Writes the labels of an input value into a file";
-    let out = "The label file, which is written";
     command_with_seed(alloc, "deal", about, DEAL_HELP)?
         .arg(index_arg(alloc))?
-        .arg(word_arg(alloc, "value", "VALUE", VALUE_HELP))?
-        .arg(word_arg(alloc, "out", "OUT", out))
+        .arg(value_arg(alloc))?
+        .arg(out_arg(alloc, "The label file, which is written"))
 }
 
 /// The command `eval`.
@@ -175,11 +175,10 @@ fn eval<'a>(alloc: Global) -> Result<Command<'a>, AllocError>
     ensures { IfOk result (HasShape eval_command) }
 {
     let about = "Evaluates a circuit garbled, from a garbled file and label files";
-    let garbled = "The garbled file of the circuit";
     command_on_circuit(alloc, "eval", about, EVAL_HELP)?
-        .arg(word_arg(alloc, "garbled", "GARBLED", garbled))?
+        .arg(garbled_arg(alloc))?
         .arg(workers_arg(alloc))?
-        .arg(more_arg(alloc, "labels", "LABELS", LABELS_HELP))
+        .arg(labels_arg(alloc))
 }
 
 /// The command `jobs`.
@@ -188,7 +187,7 @@ fn jobs<'a>(alloc: Global) -> Result<Command<'a>, AllocError>
 {
     let about = "Evaluates a list of garbled files of one circuit";
     command_on_circuit(alloc, "jobs", about, JOBS_HELP)?
-        .arg(word_arg(alloc, "list", "LIST", "The file of the list"))?
+        .arg(list_arg(alloc))?
         .arg(workers_arg(alloc))
 }
 
@@ -217,6 +216,39 @@ fn command_with_seed<'a>(
     ensures { IfOk result (HasShape (command_with_seed name.entry.now)) }
 {
     command_on_circuit(alloc, name, about, help)?.arg(word_arg(alloc, "seed", "SEED", SEED_HELP))
+}
+
+/// The word for the file that is written.
+fn out_arg<'a>(alloc: Global, help: &'a str) -> Arg<'a>
+    ensures { HasRule (required_word (codes "out")) result }
+{
+    word_arg(alloc, "out", "OUT", help)
+}
+
+/// The word for an input value.
+fn value_arg<'a>(alloc: Global) -> Arg<'a>
+    ensures { HasRule (required_word (codes "value")) result }
+{
+    word_arg(alloc, "value", "VALUE", VALUE_HELP)
+}
+
+/// The word for a garbled file.
+fn garbled_arg<'a>(alloc: Global) -> Arg<'a>
+    ensures { HasRule (required_word (codes "garbled")) result }
+{
+    word_arg(
+        alloc,
+        "garbled",
+        "GARBLED",
+        "The garbled file of the circuit",
+    )
+}
+
+/// The word for a list of jobs.
+fn list_arg<'a>(alloc: Global) -> Arg<'a>
+    ensures { HasRule (required_word (codes "list")) result }
+{
+    word_arg(alloc, "list", "LIST", "The file of the list")
 }
 
 /// A word that has to be there.
@@ -284,6 +316,20 @@ fn circuit_arg<'a>(alloc: Global) -> Arg<'a>
         .value_name("CIRCUIT")
         .help("The file of the circuit, in Bristol Fashion")
         .required(true)
+}
+
+/// The words for the input values.
+fn values_arg<'a>(alloc: Global) -> Arg<'a>
+    ensures { HasRule (more_words (codes "values")) result }
+{
+    more_arg(alloc, "values", "VALUES", VALUES_HELP)
+}
+
+/// The words for the label files.
+fn labels_arg<'a>(alloc: Global) -> Arg<'a>
+    ensures { HasRule (more_words (codes "labels")) result }
+{
+    more_arg(alloc, "labels", "LABELS", LABELS_HELP)
 }
 
 /// Any number of words.

@@ -5,5 +5,5 @@ use Rattle.gc_order.proofs.commands.deal.Goals as goal
 pub returns : goal.returns
 returns c =
     let one = has_shape-arg _ _ _ _ _ c.in_ok-command_with_seed.ensures c.index_arg.ensures c.in_ok-arg.ensures in
-    let two = has_shape-arg _ _ _ _ _ one c.word_arg.ensures c.in_ok-arg-2.ensures in
-    IfOk-weaker c.arg-3.result _ _ (λ r adds. has_shape-arg _ _ _ _ _ two c.word_arg-2.ensures adds) c.arg-3.ensures
+    let two = has_shape-arg _ _ _ _ _ one c.value_arg.ensures c.in_ok-arg-2.ensures in
+    IfOk-weaker c.arg-3.result _ _ (λ r adds. has_shape-arg _ _ _ _ _ two c.out_arg.ensures adds) c.arg-3.ensures

@@ -4,6 +4,6 @@ use Rattle.gc_order.proofs.commands.eval.Goals as goal
 
 pub returns : goal.returns
 returns c =
-    let one = has_shape-arg _ _ _ _ _ c.in_ok-command_on_circuit.ensures c.word_arg.ensures c.in_ok-arg.ensures in
+    let one = has_shape-arg _ _ _ _ _ c.in_ok-command_on_circuit.ensures c.garbled_arg.ensures c.in_ok-arg.ensures in
     let two = has_shape-arg _ _ _ _ _ one c.workers_arg.ensures c.in_ok-arg-2.ensures in
-    IfOk-weaker c.arg-3.result _ _ (λ r adds. has_shape-arg _ _ _ _ _ two c.more_arg.ensures adds) c.arg-3.ensures
+    IfOk-weaker c.arg-3.result _ _ (λ r adds. has_shape-arg _ _ _ _ _ two c.labels_arg.ensures adds) c.arg-3.ensures

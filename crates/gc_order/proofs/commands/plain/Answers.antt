@@ -4,4 +4,4 @@ use Rattle.gc_order.proofs.commands.plain.Goals as goal
 
 pub returns : goal.returns
 returns c =
-    IfOk-weaker c.arg.result _ _ (λ r adds. has_shape-arg _ _ _ _ _ c.in_ok-command_on_circuit.ensures c.more_arg.ensures adds) c.arg.ensures
+    IfOk-weaker c.arg.result _ _ (λ r adds. has_shape-arg _ _ _ _ _ c.in_ok-command_on_circuit.ensures c.values_arg.ensures adds) c.arg.ensures
