@@ -1,7 +1,7 @@
 //! The program's commands, as clap knows them, with their help.
 
 ghost use Rattle.std.specs.Prelude.{IfOk, codes};
-ghost use Rattle.clap.specs.Words.{App, with_subcommand};
+ghost use Rattle.clap.specs.Words.{App, Rule, with_rule, with_subcommand};
 ghost use Rattle.gc_order.specs.Order.{HasRule, HasShape, check_command, command_on_circuit, command_with_seed, deal_command};
 ghost use Rattle.gc_order.specs.Order.{eval_command, garble_command, jobs_command, more_words, named_program, number_option};
 ghost use Rattle.gc_order.specs.Order.{number_word, plain_command, program, required_word, run_command};
@@ -127,9 +127,9 @@ fn run<'a>(alloc: Global) -> Result<Command<'a>, AllocError>
     ensures { IfOk result (HasShape run_command) }
 {
     let about = "Garbles a circuit, and evaluates it garbled on the given values";
-    command_with_seed(alloc, "run", about, RUN_HELP)?
-        .arg(workers_arg(alloc))?
-        .arg(values_arg(alloc))
+    let command = command_with_seed(alloc, "run", about, RUN_HELP);
+    let command = with_arg(command, workers_arg(alloc));
+    with_arg(command, values_arg(alloc))
 }
 
 /// The command `plain`.
@@ -137,7 +137,8 @@ fn plain<'a>(alloc: Global) -> Result<Command<'a>, AllocError>
     ensures { IfOk result (HasShape plain_command) }
 {
     let about = "Evaluates a circuit on the given values, without garbling";
-    command_on_circuit(alloc, "plain", about, PLAIN_HELP)?.arg(values_arg(alloc))
+    let command = command_on_circuit(alloc, "plain", about, PLAIN_HELP);
+    with_arg(command, values_arg(alloc))
 }
 
 /// The command `check`.
@@ -153,10 +154,13 @@ fn garble<'a>(alloc: Global) -> Result<Command<'a>, AllocError>
     ensures { IfOk result (HasShape garble_command) }
 {
     let about = "Garbles a circuit into a file";
-    command_with_seed(alloc, "garble", about, GARBLE_HELP)?
-        .arg(out_arg(alloc, "The garbled file, which is written"))?
-        .arg(format_arg(alloc))?
-        .arg(workers_arg(alloc))
+    let command = command_with_seed(alloc, "garble", about, GARBLE_HELP);
+    let command = with_arg(
+        command,
+        out_arg(alloc, "The garbled file, which is written"),
+    );
+    let command = with_arg(command, format_arg(alloc));
+    with_arg(command, workers_arg(alloc))
 }
 
 /// The command `deal`.
@@ -164,10 +168,10 @@ fn deal<'a>(alloc: Global) -> Result<Command<'a>, AllocError>
     ensures { IfOk result (HasShape deal_command) }
 {
     let about = "Writes the labels of an input value into a file";
-    command_with_seed(alloc, "deal", about, DEAL_HELP)?
-        .arg(index_arg(alloc))?
-        .arg(value_arg(alloc))?
-        .arg(out_arg(alloc, "The label file, which is written"))
+    let command = command_with_seed(alloc, "deal", about, DEAL_HELP);
+    let command = with_arg(command, index_arg(alloc));
+    let command = with_arg(command, value_arg(alloc));
+    with_arg(command, out_arg(alloc, "The label file, which is written"))
 }
 
 /// The command `eval`.
@@ -175,10 +179,10 @@ fn eval<'a>(alloc: Global) -> Result<Command<'a>, AllocError>
     ensures { IfOk result (HasShape eval_command) }
 {
     let about = "Evaluates a circuit garbled, from a garbled file and label files";
-    command_on_circuit(alloc, "eval", about, EVAL_HELP)?
-        .arg(garbled_arg(alloc))?
-        .arg(workers_arg(alloc))?
-        .arg(labels_arg(alloc))
+    let command = command_on_circuit(alloc, "eval", about, EVAL_HELP);
+    let command = with_arg(command, garbled_arg(alloc));
+    let command = with_arg(command, workers_arg(alloc));
+    with_arg(command, labels_arg(alloc))
 }
 
 /// The command `jobs`.
@@ -186,9 +190,9 @@ fn jobs<'a>(alloc: Global) -> Result<Command<'a>, AllocError>
     ensures { IfOk result (HasShape jobs_command) }
 {
     let about = "Evaluates a list of garbled files of one circuit";
-    command_on_circuit(alloc, "jobs", about, JOBS_HELP)?
-        .arg(list_arg(alloc))?
-        .arg(workers_arg(alloc))
+    let command = command_on_circuit(alloc, "jobs", about, JOBS_HELP);
+    let command = with_arg(command, list_arg(alloc));
+    with_arg(command, workers_arg(alloc))
 }
 
 /// A command that reads a circuit, the file of which is its first word.
@@ -215,7 +219,22 @@ fn command_with_seed<'a>(
 ) -> Result<Command<'a>, AllocError>
     ensures { IfOk result (HasShape (command_with_seed name.entry.now)) }
 {
-    command_on_circuit(alloc, name, about, help)?.arg(word_arg(alloc, "seed", "SEED", SEED_HELP))
+    let command = command_on_circuit(alloc, name, about, help);
+    with_arg(command, word_arg(alloc, "seed", "SEED", SEED_HELP))
+}
+
+/// The command with one word or option more.
+fn with_arg<'a>(
+    command: Result<Command<'a>, AllocError>,
+    arg: Arg<'a>,
+) -> Result<Command<'a>, AllocError>
+    ensures { (app : App) (rule : Rule) → IfOk command.entry (HasShape app) → HasRule rule arg.entry
+        → IfOk result (HasShape (with_rule app rule)) }
+{
+    match command {
+        Ok(command) => command.arg(arg),
+        Err(error) => Err(error),
+    }
 }
 
 /// The word for the file that is written.

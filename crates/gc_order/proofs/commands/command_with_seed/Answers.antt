@@ -1,7 +1,5 @@
-use Rattle.std.proofs.lemmas.Result.{IfOk-weaker}
-use Rattle.gc_order.proofs.OrderLemmas.{has_shape-arg}
 use Rattle.gc_order.proofs.commands.command_with_seed.Goals as goal
 
 pub returns : goal.returns
 returns c =
-    IfOk-weaker c.arg.result _ _ (λ r adds. has_shape-arg _ _ _ _ _ c.in_ok-command_on_circuit.ensures c.word_arg.ensures adds) c.arg.ensures
+    c.with_arg.ensures _ _ c.command_on_circuit-command.ensures c.word_arg.ensures
