@@ -284,11 +284,8 @@ fn word_arg<'a>(alloc: Global, id: &'a str, name: &'a str, help: &'a str) -> Arg
 fn index_arg<'a>(alloc: Global) -> Arg<'a>
     ensures { HasRule (number_word (codes "index") 0 4294967295) result }
 {
-    Arg::new(alloc, "index")
-        .value_name("INDEX")
-        .help("The index of the input value, counted from 0")
-        .value_parser(ValueParser::unsigned(0, 4_294_967_295))
-        .required(true)
+    let help = "The index of the input value, counted from 0";
+    word_arg(alloc, "index", "INDEX", help).value_parser(ValueParser::unsigned(0, 4_294_967_295))
 }
 
 /// The option for the format of a garbled file.
@@ -331,10 +328,8 @@ fn number_arg<'a>(
 fn circuit_arg<'a>(alloc: Global) -> Arg<'a>
     ensures { HasRule (required_word (codes "circuit")) result }
 {
-    Arg::new(alloc, "circuit")
-        .value_name("CIRCUIT")
-        .help("The file of the circuit, in Bristol Fashion")
-        .required(true)
+    let help = "The file of the circuit, in Bristol Fashion";
+    word_arg(alloc, "circuit", "CIRCUIT", help)
 }
 
 /// The words for the input values.
