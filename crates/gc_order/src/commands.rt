@@ -1,7 +1,7 @@
 //! The program's commands, as clap knows them, with their help.
 
 ghost use Rattle.std.specs.Prelude.{IfOk, codes};
-ghost use Rattle.clap.specs.Words.{App, Rule, with_rule, with_subcommand};
+ghost use Rattle.clap.specs.Words.{App, Rule, new_rule, with_rule, with_subcommand};
 ghost use Rattle.gc_order.specs.Order.{HasRule, HasShape, check_command, command_on_circuit, command_with_seed, deal_command};
 ghost use Rattle.gc_order.specs.Order.{eval_command, garble_command, jobs_command, more_words, named_program, number_option};
 ghost use Rattle.gc_order.specs.Order.{number_word, plain_command, program, required_word, run_command};
@@ -274,10 +274,7 @@ fn list_arg<'a>(alloc: Global) -> Arg<'a>
 fn word_arg<'a>(alloc: Global, id: &'a str, name: &'a str, help: &'a str) -> Arg<'a>
     ensures { HasRule (required_word id.entry.now) result }
 {
-    Arg::new(alloc, id)
-        .value_name(name)
-        .help(help)
-        .required(true)
+    named_arg(alloc, id, name, help).required(true)
 }
 
 /// The word for the index of an input value.
@@ -316,10 +313,8 @@ fn number_arg<'a>(
 ) -> Arg<'a>
     ensures { HasRule (number_option id.entry.now low high default.entry.now) result }
 {
-    Arg::new(alloc, id)
+    named_arg(alloc, id, name, help)
         .long(id)
-        .value_name(name)
-        .help(help)
         .value_parser(ValueParser::unsigned(low, high))
         .default_value(default)
 }
@@ -350,8 +345,12 @@ fn labels_arg<'a>(alloc: Global) -> Arg<'a>
 fn more_arg<'a>(alloc: Global, id: &'a str, name: &'a str, help: &'a str) -> Arg<'a>
     ensures { HasRule (more_words id.entry.now) result }
 {
-    Arg::new(alloc, id)
-        .value_name(name)
-        .help(help)
-        .action(ArgAction::Append)
+    named_arg(alloc, id, name, help).action(ArgAction::Append)
+}
+
+/// The argument of this id, with the name that its value has in help, and its help.
+fn named_arg<'a>(alloc: Global, id: &'a str, name: &'a str, help: &'a str) -> Arg<'a>
+    ensures { HasRule (record (new_rule id.entry.now) { value_names = 1 }) result }
+{
+    Arg::new(alloc, id).value_name(name).help(help)
 }

@@ -11,14 +11,13 @@ returns c =
     let parsed = λ (r : Rule). record r { parser = c.value_parser.result.value_parser } in
     let defaulted = λ (r : Rule). record r { defaults = c.args.default.now ∷ [] } in
     let is_global = λ (a : Arg). a.global in
-    let whole = λ (p : Option ValueParser). record (defaulted (named (longed (new_rule c.args.id.now)))) { parser = p } in
+    let whole = λ (p : Option ValueParser). record (defaulted (longed (named (new_rule c.args.id.now)))) { parser = p } in
     let given = c.value_parser.ensures.given in
     record {
       rule_is = ap rule_of c.default_value.ensures
           ∙ ap defaulted (ap rule_of c.value_parser.ensures.others
-          ∙ ap parsed (ap rule_of c.help.ensures ∙ ap rule_of c.value_name.ensures
-          ∙ ap named (ap rule_of c.long.ensures ∙ ap longed c.new.ensures.rule)))
+          ∙ ap parsed (ap rule_of c.long.ensures ∙ ap longed c.named_arg.ensures.rule_is))
           ∙ ap whole (given.1 ∙ ap (λ (p : ValueParser). Some p) (given.2 ∙ c.unsigned.ensures));
-      local = ap is_global c.default_value.ensures ∙ ap is_global c.value_parser.ensures.others ∙ ap is_global c.help.ensures
-          ∙ ap is_global c.value_name.ensures ∙ ap is_global c.long.ensures ∙ c.new.ensures.optional.1;
+      local = ap is_global c.default_value.ensures ∙ ap is_global c.value_parser.ensures.others
+          ∙ ap is_global c.long.ensures ∙ c.named_arg.ensures.local;
     }

@@ -5,10 +5,9 @@ use Rattle.gc_order.proofs.commands.word_arg.Goals as goal
 
 pub returns : goal.returns
 returns c =
-    let named = λ (r : Rule). record r { value_names = 1 } in
     let needed = λ (r : Rule). record r { required = true } in
     let is_global = λ (a : Arg). a.global in
     record {
-      rule_is = ap rule_of c.required.ensures ∙ ap needed (ap rule_of c.help.ensures ∙ ap rule_of c.value_name.ensures ∙ ap named c.new.ensures.rule);
-      local = ap is_global c.required.ensures ∙ ap is_global c.help.ensures ∙ ap is_global c.value_name.ensures ∙ c.new.ensures.optional.1;
+      rule_is = ap rule_of c.required.ensures ∙ ap needed c.named_arg.ensures.rule_is;
+      local = ap is_global c.required.ensures ∙ c.named_arg.ensures.local;
     }
