@@ -5,7 +5,7 @@ use gc_bank::{evaluate_jobs, one_circuit};
 use gc_circuit::{Circuit, read_value};
 use gc_eval::{EvalFault, Job, evaluate};
 use gc_file::{Version, read_garbled, read_labels};
-use gc_work::{Gatehouse, Open};
+use gc_gatehouse::{Gatehouse, Open};
 use gc_worked::circuits::{FULL_ADDER, SPACED_ADDER, many_ands};
 use gc_worked::files::{label_file, write};
 use gc_worked::meeting::Meeting;

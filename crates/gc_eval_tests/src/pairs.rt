@@ -3,7 +3,7 @@
 use crate::boards::{job_of, made_by};
 use gc_circuit::Circuit;
 use gc_eval::{evaluate, evaluate_many};
-use gc_work::Open;
+use gc_gatehouse::Open;
 use std::alloc::Global;
 use std::test::Fail;
 
