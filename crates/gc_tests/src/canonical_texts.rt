@@ -23,11 +23,9 @@ fn writes_canonical_texts(rt: HostRuntime) -> Result<(), Fail> {
     for (text, canonical) in &CANONICAL_TEXTS {
         let circuit = Circuit::read(rt.alloc(), text.as_bytes())?;
         let written = circuit.canon(rt.alloc())?;
-        assert_eq!(rt; written.as_slice(), canonical.as_bytes(), "{text:?}");
-        assert!(rt;
-            Circuit::read(rt.alloc(), &written)?.equals(&circuit),
-            "{text:?}"
-        );
+        assert!(rt; written.as_slice() == canonical.as_bytes(), "{text:?}");
+        let again = Circuit::read(rt.alloc(), &written)?;
+        assert!(rt; again.equals(&circuit), "{text:?}");
     }
     Ok(())
 }

@@ -1,12 +1,13 @@
 //! Each growth refused in turn of the calls that read files and of sinks in memory, and calls that take no memory.
 
-use crate::hostile::flipped;
+use crate::hostile::{Kind, fault_of, flipped};
+use crate::labels::zero_seed;
 use crate::pieces::{FORGED_HEADER, same};
 use gc_circuit::Circuit;
 use gc_file::{
-    FileFault, GarbledReader, MemSink, MemSource, OutSink, Sink, SinkFault, TakeFault, Version,
-    WriteFault, read_garbled, read_garbled_from, read_labels, write_garbled, write_garbled2,
-    write_labels,
+    FileFault, Garbled, GarbledReader, MemSink, MemSource, OutSink, Sink, SinkFault, TakeFault,
+    Version, WriteFault, read_garbled, read_garbled_from, read_labels, write_garbled,
+    write_garbled2, write_labels,
 };
 use gc_half::{Garbling, garble_one_thread, output_entry};
 use gc_label::{Label, Seed, offset};
@@ -18,88 +19,125 @@ use gc_worked::worked_files::ONE_LABEL;
 use std::alloc::{Allocator, Global};
 use std::test::Fail;
 
-/// There is a growth for the rows, the decode bytes, the entries of version 2 and the decode bits.
-#[test]
-fn reading_garbled_files(rt: HostRuntime) -> Result<(), Fail> {
-    let alloc = rt.alloc();
-    for (version, growths) in [(Version::One, 3), (Version::Two, 4)] {
-        let file = and_file(alloc, version)?;
-        let whole = read_garbled(alloc, &file)?;
-        let refused = runs_refused(alloc, |heap| match read_garbled(heap, &file) {
-            Ok(garbled) => plain_if(same(&garbled, &whole)),
-            Err(FileFault::Memory) => Answer::Memory,
-            Err(_) => Answer::Other,
-        });
-        assert_eq!(rt; refused, Ok(growths));
-    }
-    Ok(())
+/// A call that reads a file.
+#[derive(Clone, Copy, Debug)]
+enum Call {
+    ReadGarbled,
+    TakeGarbled,
+    ReadLabels,
 }
 
-#[test]
-fn taking_garbled_files(rt: HostRuntime) -> Result<(), Fail> {
-    let alloc = rt.alloc();
-    let file = and_file(alloc, Version::Two)?;
-    let whole = read_garbled(alloc, &file)?;
-    let refused = runs_refused(alloc, |heap| {
-        match read_garbled_from(heap, &mut MemSource::new(&file, None)) {
-            Ok(garbled) => plain_if(same(&garbled, &whole)),
+/// The files of one AND gate: its garbled file, what that holds, and the label file of its second value.
+#[derive(Drop)]
+struct Files {
+    garbled: Vec<u8>,
+    whole: Garbled,
+    labels: Vec<u8>,
+}
+
+fn files_of(alloc: Global, version: Version) -> Result<Files, Fail> {
+    let garbled = and_file(alloc, version)?;
+    let whole = read_garbled(alloc, &garbled)?;
+    let circuit = Circuit::read(alloc, AND.as_bytes())?;
+    Ok(Files {
+        garbled,
+        whole,
+        labels: label_file(alloc, &circuit, 1, &[true])?,
+    })
+}
+
+impl Files {
+    fn answer(&self, call: Call, heap: &Refusing<Global>) -> Answer {
+        match call {
+            Call::ReadGarbled => self.read_garbled(heap),
+            Call::TakeGarbled => self.take_garbled(heap),
+            Call::ReadLabels => self.read_labels(heap),
+        }
+    }
+
+    fn read_garbled(&self, heap: &Refusing<Global>) -> Answer {
+        match read_garbled(heap, &self.garbled) {
+            Ok(garbled) => plain_if(same(&garbled, &self.whole)),
+            Err(FileFault::Memory) => Answer::Memory,
+            Err(_) => Answer::Other,
+        }
+    }
+
+    fn take_garbled(&self, heap: &Refusing<Global>) -> Answer {
+        match read_garbled_from(heap, &mut MemSource::new(&self.garbled, None)) {
+            Ok(garbled) => plain_if(same(&garbled, &self.whole)),
             Err(TakeFault::File(FileFault::Memory)) => Answer::Memory,
             Err(_) => Answer::Other,
         }
-    });
-    assert_eq!(rt; refused, Ok(4));
-    // The bytes that the source gave stay given, and these were all.
-    let heap = Refusing::nth(alloc, 1);
-    let mut source = MemSource::new(&file, None);
-    for fault in [FileFault::Memory, FileFault::Truncated] {
-        let taken = read_garbled_from(&heap, &mut source);
-        assert_eq!(rt; taken.err(), Some(TakeFault::File(fault)));
+    }
+
+    fn read_labels(&self, heap: &Refusing<Global>) -> Answer {
+        match read_labels(heap, &self.labels) {
+            Ok(labels) => plain_if(labels.index() == 1 && labels.labels().len() == 1),
+            Err(FileFault::Memory) => Answer::Memory,
+            Err(_) => Answer::Other,
+        }
+    }
+}
+
+/// There is a growth for the rows, the decode bytes, the entries of version 2 and the decode bits, and one for labels.
+#[test]
+fn reading_files(rt: HostRuntime) -> Result<(), Fail> {
+    for (call, version, growths) in [
+        (Call::ReadGarbled, Version::One, 3),
+        (Call::ReadGarbled, Version::Two, 4),
+        (Call::TakeGarbled, Version::Two, 4),
+        (Call::ReadLabels, Version::One, 1),
+    ] {
+        let files = files_of(rt.alloc(), version)?;
+        let refused = runs_refused(rt.alloc(), |heap| files.answer(call, heap));
+        assert_eq!(rt; refused, Ok(growths), "{call:?}");
     }
     Ok(())
 }
 
+/// The bytes that a source gave before a refusal stay given, and these were all.
 #[test]
-fn reading_label_files(rt: HostRuntime) -> Result<(), Fail> {
-    let alloc = rt.alloc();
-    let circuit = Circuit::read(alloc, AND.as_bytes())?;
-    let file = label_file(alloc, &circuit, 1, &[true])?;
-    let refused = runs_refused(alloc, |heap| match read_labels(heap, &file) {
-        Ok(labels) => plain_if(labels.index() == 1 && labels.labels().len() == 1),
-        Err(FileFault::Memory) => Answer::Memory,
-        Err(_) => Answer::Other,
-    });
-    assert_eq!(rt; refused, Ok(1));
+fn a_source_after_a_refusal(rt: HostRuntime) -> Result<(), Fail> {
+    let file = and_file(rt.alloc(), Version::Two)?;
+    let heap = Refusing::nth(rt.alloc(), 1);
+    let mut source = MemSource::new(&file, None);
+    for fault in [FileFault::Memory, FileFault::Truncated] {
+        let taken = read_garbled_from(&heap, &mut source);
+        assert!(rt; taken.err() == Some(TakeFault::File(fault)));
+    }
     Ok(())
 }
 
-/// A reader whose growth was refused answers so from then on.
+/// Whether a reader whose growth is refused at the file answers so from then on.
+fn stays_refused(heap: &Refusing<Global>, file: &[u8]) -> bool {
+    let mut reader = GarbledReader::new(heap);
+    reader.feed(file) == Err(FileFault::Memory)
+        && reader.feed(file) == Err(FileFault::Memory)
+        && reader.feed(&[]) == Err(FileFault::Memory)
+        && reader.end().err() == Some(FileFault::Memory)
+}
+
 #[test]
 fn a_reader_after_a_refusal(rt: HostRuntime) -> Result<(), Fail> {
     let file = and_file(rt.alloc(), Version::Two)?;
     for n in 1..4 {
         let heap = Refusing::nth(rt.alloc(), n);
-        let mut reader = GarbledReader::new(&heap);
-        for piece in [file.as_slice(), file.as_slice(), &[]] {
-            assert_eq!(rt;
-                reader.feed(piece),
-                Err(FileFault::Memory),
-                "growth {n} refused"
-            );
-        }
-        assert_eq!(rt; reader.end().err(), Some(FileFault::Memory));
+        assert!(rt; stays_refused(&heap, &file), "growth {n} refused");
     }
     Ok(())
 }
 
+static ROW_PAIR: [u8; 32] = [0; 32];
+
 /// How many growths a garbled reader asks for until so many row pairs have come, one at a time, after a header that
 /// tells of far more.
-fn growths_of_rows(alloc: Global, pairs: u32) -> Result<u64, Fail> {
+fn growths_of_rows(alloc: Global, header: &[u8], pairs: u32) -> Result<u64, FileFault> {
     let heap = Refusing::never(alloc);
-    let header = hex::decode(alloc, FORGED_HEADER)?;
     let mut reader = GarbledReader::new(&heap);
-    reader.feed(&header)?;
+    reader.feed(header)?;
     for _pair in 0..pairs {
-        reader.feed(&[0; 32])?;
+        reader.feed(&ROW_PAIR)?;
     }
     Ok(heap.growths())
 }
@@ -107,9 +145,10 @@ fn growths_of_rows(alloc: Global, pairs: u32) -> Result<u64, Fail> {
 /// Room for row pairs is made as they come, for twice as many each time, whatever number the header tells.
 #[test]
 fn room_for_rows_doubles(rt: HostRuntime) -> Result<(), Fail> {
+    let header = hex::decode(rt.alloc(), FORGED_HEADER)?;
     for (pairs, growths) in [(0, 0), (1, 1), (2, 2), (3, 3), (4, 3), (64, 7), (65, 8)] {
-        let found = growths_of_rows(rt.alloc(), pairs)?;
-        assert_eq!(rt; found, growths, "{pairs} row pairs");
+        let found = growths_of_rows(rt.alloc(), &header, pairs);
+        assert!(rt; found == Ok(growths), "{pairs} row pairs");
     }
     Ok(())
 }
@@ -119,31 +158,32 @@ fn room_for_rows_doubles(rt: HostRuntime) -> Result<(), Fail> {
 fn faults_before_the_rows_take_no_memory(rt: HostRuntime) -> Result<(), Fail> {
     let alloc = rt.alloc();
     let full = Refusing::always(alloc);
-    let file = and_file(alloc, Version::Two)?;
+    let garbled = and_file(alloc, Version::Two)?;
     let labels = hex::decode(alloc, ONE_LABEL)?;
-    // A bit of the magic, and one of the number of row pairs.
-    for (bit, fault) in [(0, FileFault::BadMagic), (351, FileFault::CountTooLarge)] {
-        let bad = flipped(alloc, &file, bit)?;
-        assert_eq!(rt; read_garbled(&full, &bad).err(), Some(fault), "bit {bit}");
-    }
-    // A bit of the magic, and three of the number of labels.
-    for (bit, fault) in [
-        (0, FileFault::BadMagic),
-        (96, FileFault::Trailing),
-        (97, FileFault::Truncated),
-        (127, FileFault::CountTooLarge),
+    // A bit of the magic and one of the number of row pairs, and a bit of the magic and three of the number of labels.
+    for (kind, bit, fault) in [
+        (Kind::Garbled, 0, FileFault::BadMagic),
+        (Kind::Garbled, 351, FileFault::CountTooLarge),
+        (Kind::Labels, 0, FileFault::BadMagic),
+        (Kind::Labels, 96, FileFault::Trailing),
+        (Kind::Labels, 97, FileFault::Truncated),
+        (Kind::Labels, 127, FileFault::CountTooLarge),
     ] {
-        let bad = flipped(alloc, &labels, bit)?;
-        assert_eq!(rt; read_labels(&full, &bad).err(), Some(fault), "bit {bit}");
+        let file = match kind {
+            Kind::Garbled => &garbled,
+            Kind::Labels => &labels,
+        };
+        let bad = flipped(alloc, file, bit)?;
+        assert!(rt; fault_of(&full, kind, &bad) == Some(fault), "bit {bit}");
     }
-    assert_eq!(rt; full.growths(), 0);
+    assert!(rt; full.growths() == 0);
     Ok(())
 }
 
 /// Writes a garbled file to a sink in memory. The answer is plain where the sink holds the file, and the fault for
 /// memory where it holds a beginning of it, of as many bytes as the writer tells.
-fn written_to_memory<A: Allocator>(
-    heap: A,
+fn written_to_memory(
+    heap: &Refusing<Global>,
     circuit: &Circuit,
     garbling: &Garbling,
     file: &[u8],
@@ -168,7 +208,7 @@ fn writing_to_memory(rt: HostRuntime) -> Result<(), Fail> {
     let text = many_ands(alloc, 1100)?;
     let file = write(alloc, text.as_str(), Version::One, None)?.bytes;
     let circuit = Circuit::read(alloc, text.as_bytes())?;
-    let garbling = garble_one_thread(alloc, &circuit, &Seed::from_bytes([0; 32]))?;
+    let garbling = garble_one_thread(alloc, &circuit, &zero_seed())?;
     let refused = runs_refused(
         alloc,
         |heap| written_to_memory(heap, &circuit, &garbling, &file),
@@ -177,54 +217,41 @@ fn writing_to_memory(rt: HostRuntime) -> Result<(), Fail> {
     Ok(())
 }
 
+const HALF: &[u8] = b"a half";
+
+const FOLLOWING: &[u8] = b", which another follows";
+
+const BOTH: &[u8] = b"a half, which another follows";
+
 /// A sink that is refused memory for a piece has taken nothing of it, and takes the piece the next time.
 #[test]
 fn a_sink_after_a_refusal(rt: HostRuntime) {
     let heap = Refusing::nth(rt.alloc(), 2);
     let mut sink = MemSink::new(&heap, None);
-    assert_eq!(rt; sink.put(b"a half"), Ok(6));
-    assert_eq!(rt; sink.put(b", which another follows"), Err(SinkFault));
-    assert_eq!(rt; sink.bytes(), b"a half".as_slice());
-    assert_eq!(rt; sink.put(b", which another follows"), Ok(23));
-    let held = sink.into_bytes();
-    assert_eq!(rt;
-        held.as_slice(),
-        b"a half, which another follows".as_slice()
-    );
+    assert!(rt; sink.put(HALF) == Ok(6));
+    assert!(rt; sink.put(FOLLOWING) == Err(SinkFault));
+    assert!(rt; sink.bytes() == HALF);
+    assert!(rt; sink.put(FOLLOWING) == Ok(23));
+    assert!(rt; sink.into_bytes().as_slice() == BOTH);
 }
 
-/// What the writers answer over 300 bytes of room: a garbled file of either version, a label file, and a second one, ten
-/// bytes into which the room ends.
-fn written_to_room<A: Allocator, B: Allocator>(
-    circuit: &Circuit<A>,
-    garbling: &Garbling<B>,
+/// What the writers answer over a room: a garbled file of either version, and a label file twice.
+fn written_to_room(
+    room: &mut [u8],
+    circuit: &Circuit<&Refusing<Global>>,
+    garbling: &Garbling<&Refusing<Global>>,
     seed: &Seed,
 ) -> Option<[Result<u64, WriteFault>; 4]> {
     if !garbling.fits(circuit) || circuit.input_widths() != [1, 1].as_slice() {
         return None;
     }
-    let mut room = [0; 300];
-    let mut sink = OutSink::new(room.as_mut_slice());
+    let mut sink = OutSink::new(room);
     Some([
         write_garbled(&mut sink, circuit, garbling),
         write_garbled2(&mut sink, circuit, garbling, seed),
         write_labels(&mut sink, circuit, seed, 1, &[true]),
         write_labels(&mut sink, circuit, seed, 1, &[true]),
     ])
-}
-
-/// The writers grow nothing over a sink that takes no memory.
-#[test]
-fn writing_takes_no_memory(rt: HostRuntime) -> Result<(), Fail> {
-    let heap = Refusing::never(rt.alloc());
-    let seed = Seed::from_bytes([0; 32]);
-    let circuit = Circuit::read(&heap, AND.as_bytes())?;
-    let garbling = garble_one_thread(&heap, &circuit, &seed)?;
-    let growths = heap.growths();
-    let written = written_to_room(&circuit, &garbling, &seed);
-    let wanted = [Ok(113), Ok(145), Ok(32), Err(WriteFault { sent: 10 })];
-    assert_eq!(rt; (written, heap.growths()), (Some(wanted), growths));
-    Ok(())
 }
 
 /// The entry of the first output's zero label.
@@ -239,16 +266,22 @@ fn first_entry<A: Allocator, B: Allocator>(
     Some(output_entry(circuit, garbling, offset(seed), 0, false))
 }
 
+/// The writers grow nothing over a sink that takes no memory, here of 300 bytes, which end ten bytes into the second
+/// label file. Nor does an entry.
 #[test]
-fn an_entry_takes_no_memory(rt: HostRuntime) -> Result<(), Fail> {
+fn writing_and_an_entry_take_no_memory(rt: HostRuntime) -> Result<(), Fail> {
+    let mut room = vec![in rt.alloc(); 0; 300]?;
     let heap = Refusing::never(rt.alloc());
-    let seed = Seed::from_bytes([0; 32]);
+    let seed = zero_seed();
     let circuit = Circuit::read(&heap, AND.as_bytes())?;
     let garbling = garble_one_thread(&heap, &circuit, &seed)?;
     let growths = heap.growths();
+    let written = written_to_room(&mut room, &circuit, &garbling, &seed);
+    let wanted = [Ok(113), Ok(145), Ok(32), Err(WriteFault { sent: 10 })];
+    assert!(rt; written == Some(wanted));
     let entry = first_entry(&circuit, &garbling, &seed);
     assert!(rt; entry.is_some() && entry != Some(Label::ZERO));
-    assert_eq!(rt; heap.growths(), growths);
+    assert!(rt; heap.growths() == growths);
     Ok(())
 }
 
@@ -257,5 +290,5 @@ fn making_a_sink_or_a_reader_takes_no_memory(rt: HostRuntime) {
     let full = Refusing::always(rt.alloc());
     drop(MemSink::new(&full, None));
     drop(GarbledReader::new(&full));
-    assert_eq!(rt; full.growths(), 0);
+    assert!(rt; full.growths() == 0);
 }

@@ -1,151 +1,184 @@
 //! Each growth refused in turn of the calls of circuits, values and garbling.
 
+use crate::labels::zero_seed;
 use gc_circuit::{
     Circuit, Gate, Memory, Operation, ReadFault, ValueFault, fits, plain_eval, read_value,
     show_value,
 };
 use gc_half::{garble_one_thread, input_active_labels, input_zero_labels};
-use gc_label::{Label, Seed};
+use gc_label::Label;
 use gc_refusing::Refusing;
 use gc_worked::circuits::{ADDER_DIGEST, FULL_ADDER, one_zero_one};
 use gc_worked::growths::{Answer, plain_if, runs_refused};
-use std::alloc::Allocator;
-use std::process::Abort;
+use std::alloc::{Allocator, Global};
 use std::test::Fail;
 
-#[test]
-fn reading(rt: HostRuntime) {
-    let refused = runs_refused(
-        rt.alloc(),
-        |heap| match Circuit::read(heap, FULL_ADDER.as_bytes()) {
-            Ok(circuit) => plain_if(circuit.gates() == 5),
-            Err(ReadFault::Memory) => Answer::Memory,
-            Err(_) => Answer::Other,
-        },
-    );
-    assert_eq!(rt; refused, Ok(4));
+/// A call that asks for memory.
+#[derive(Clone, Copy, Debug)]
+enum Call {
+    Read,
+    Copy,
+    Canon,
+    ReadBits,
+    ReadHex,
+    ShowValue,
+    PlainEval,
+    ZeroLabels,
+    ActiveLabels,
+    Garble,
 }
 
-#[test]
-fn copying(rt: HostRuntime) -> Result<(), Fail> {
-    let circuit = Circuit::read(rt.alloc(), FULL_ADDER.as_bytes())?;
-    let refused = runs_refused(rt.alloc(), |heap| match circuit.try_clone(heap) {
-        Ok(copy) => plain_if(copy.equals(&circuit)),
+/// The calls, and how many growths each asks for.
+static GROWTHS: [(Call, u64); 10] = [
+    (Call::Read, 4),
+    (Call::Copy, 3),
+    (Call::Canon, 4),
+    (Call::ReadBits, 1),
+    (Call::ReadHex, 1),
+    (Call::ShowValue, 1),
+    (Call::PlainEval, 2),
+    (Call::ZeroLabels, 1),
+    (Call::ActiveLabels, 1),
+    (Call::Garble, 2),
+];
+
+/// The full adder, input values for it, and what two calls give with ample memory.
+#[derive(Drop)]
+struct Adder {
+    circuit: Circuit,
+    values: Vec<Vec<bool>>,
+    canon: Vec<u8>,
+    zero_labels: Vec<Label>,
+}
+
+fn full_adder(alloc: Global) -> Result<Adder, Fail> {
+    let circuit = Circuit::read(alloc, FULL_ADDER.as_bytes())?;
+    let canon = circuit.canon(alloc)?;
+    let zero_labels = input_zero_labels(alloc, &circuit, &zero_seed())?;
+    Ok(Adder {
+        circuit,
+        values: one_zero_one(alloc)?,
+        canon,
+        zero_labels,
+    })
+}
+
+impl Adder {
+    fn answer(&self, call: Call, heap: &Refusing<Global>) -> Answer {
+        match call {
+            Call::Read => read(heap),
+            Call::Copy => self.copy(heap),
+            Call::Canon => self.canon(heap),
+            Call::ReadBits => value(heap, b"100000000001"),
+            Call::ReadHex => value(heap, b"x0108"),
+            Call::ShowValue => shown_value(heap),
+            Call::PlainEval => self.plain_eval(heap),
+            Call::ZeroLabels => self.zero_labels(heap),
+            Call::ActiveLabels => active_labels(heap),
+            Call::Garble => self.garble(heap),
+        }
+    }
+
+    fn copy(&self, heap: &Refusing<Global>) -> Answer {
+        match self.circuit.try_clone(heap) {
+            Ok(copy) => plain_if(copy.equals(&self.circuit)),
+            Err(Memory) => Answer::Memory,
+        }
+    }
+
+    fn canon(&self, heap: &Refusing<Global>) -> Answer {
+        match self.circuit.canon(heap) {
+            Ok(text) => plain_if(text.as_slice() == self.canon.as_slice()),
+            Err(Memory) => Answer::Memory,
+        }
+    }
+
+    fn plain_eval(&self, heap: &Refusing<Global>) -> Answer {
+        if !fits(&self.circuit, &self.values) {
+            return Answer::Other;
+        }
+        match plain_eval(heap, &self.circuit, &self.values) {
+            Ok(bits) => plain_if(bits.as_slice() == [false, true].as_slice()),
+            Err(Memory) => Answer::Memory,
+        }
+    }
+
+    fn zero_labels(&self, heap: &Refusing<Global>) -> Answer {
+        match input_zero_labels(heap, &self.circuit, &zero_seed()) {
+            Ok(table) => plain_if(table.as_slice() == self.zero_labels.as_slice()),
+            Err(Memory) => Answer::Memory,
+        }
+    }
+
+    fn garble(&self, heap: &Refusing<Global>) -> Answer {
+        match garble_one_thread(heap, &self.circuit, &zero_seed()) {
+            Ok(garbling) => plain_if(garbling.fits(&self.circuit)),
+            Err(Memory) => Answer::Memory,
+        }
+    }
+}
+
+fn read(heap: &Refusing<Global>) -> Answer {
+    match Circuit::read(heap, FULL_ADDER.as_bytes()) {
+        Ok(circuit) => plain_if(circuit.gates() == 5),
+        Err(ReadFault::Memory) => Answer::Memory,
+        Err(_) => Answer::Other,
+    }
+}
+
+fn value(heap: &Refusing<Global>, text: &[u8]) -> Answer {
+    match read_value(heap, text, 12) {
+        Ok(bits) => plain_if(bits.len() == 12),
+        Err(ValueFault::Memory) => Answer::Memory,
+        Err(_) => Answer::Other,
+    }
+}
+
+fn shown_value(heap: &Refusing<Global>) -> Answer {
+    match show_value(heap, &[true, false]) {
+        Ok(text) => plain_if(text.as_slice() == b"10".as_slice()),
         Err(Memory) => Answer::Memory,
-    });
-    assert_eq!(rt; refused, Ok(3));
-    Ok(())
+    }
 }
 
-#[test]
-fn canonical_text(rt: HostRuntime) -> Result<(), Fail> {
-    let circuit = Circuit::read(rt.alloc(), FULL_ADDER.as_bytes())?;
-    let text = circuit.canon(rt.alloc())?;
-    let refused = runs_refused(rt.alloc(), |heap| match circuit.canon(heap) {
-        Ok(same) => plain_if(same.as_slice() == text.as_slice()),
+/// The table that evaluation begins with has the labels of the input wires, and zeros.
+fn active_labels(heap: &Refusing<Global>) -> Answer {
+    let (one, other) = (Label::from_number(1), Label::from_number(2));
+    let wanted = [one, other, Label::ZERO, Label::ZERO, Label::ZERO];
+    match input_active_labels(heap, 5, &[one, other]) {
+        Ok(table) => plain_if(table.as_slice() == wanted.as_slice()),
         Err(Memory) => Answer::Memory,
-    });
-    assert_eq!(rt; refused, Ok(4));
-    Ok(())
-}
-
-#[test]
-fn values(rt: HostRuntime) {
-    for text in [b"100000000001".as_slice(), b"x0108".as_slice()] {
-        let refused = runs_refused(rt.alloc(), |heap| match read_value(heap, text, 12) {
-            Ok(bits) => plain_if(bits.len() == 12),
-            Err(ValueFault::Memory) => Answer::Memory,
-            Err(_) => Answer::Other,
-        });
-        assert_eq!(rt; refused, Ok(1));
     }
 }
 
 #[test]
-fn showing_a_value(rt: HostRuntime) {
-    let refused = runs_refused(rt.alloc(), |heap| match show_value(heap, &[true, false]) {
-        Ok(text) => plain_if(text.as_slice() == b"10".as_slice()),
-        Err(Memory) => Answer::Memory,
-    });
-    assert_eq!(rt; refused, Ok(1));
-}
-
-#[test]
-fn plain_evaluation(rt: HostRuntime) -> Result<(), Fail> {
-    let circuit = Circuit::read(rt.alloc(), FULL_ADDER.as_bytes())?;
-    let values = one_zero_one(rt.alloc())?;
-    let refused = runs_refused(rt.alloc(), |heap| {
-        if !fits(&circuit, &values) {
-            return Answer::Other;
-        }
-        match plain_eval(heap, &circuit, &values) {
-            Ok(bits) => plain_if(bits.as_slice() == [false, true].as_slice()),
-            Err(Memory) => Answer::Memory,
-        }
-    });
-    assert_eq!(rt; refused, Ok(2));
+fn each_growth_refused(rt: HostRuntime) -> Result<(), Fail> {
+    let adder = full_adder(rt.alloc())?;
+    assert!(rt; adder.zero_labels.len() == 8);
+    for (call, growths) in GROWTHS {
+        let refused = runs_refused(rt.alloc(), |heap| adder.answer(call, heap));
+        assert_eq!(rt; refused, Ok(growths), "{call:?}");
+    }
     Ok(())
 }
 
-#[test]
-fn the_table_that_garbling_begins_with(rt: HostRuntime) -> Result<(), Fail> {
-    let circuit = Circuit::read(rt.alloc(), FULL_ADDER.as_bytes())?;
-    let seed = Seed::from_bytes([0; 32]);
-    let table = input_zero_labels(rt.alloc(), &circuit, &seed)?;
-    let refused = runs_refused(
-        rt.alloc(),
-        |heap| match input_zero_labels(heap, &circuit, &seed) {
-            Ok(same) => plain_if(same.as_slice() == table.as_slice()),
-            Err(Memory) => Answer::Memory,
-        },
-    );
-    assert_eq!(rt; (table.len(), refused), (8, Ok(1)));
-    Ok(())
-}
-
-#[test]
-fn the_table_that_evaluation_begins_with(rt: HostRuntime) -> Result<(), Fail> {
-    let (one, other) = (Label::from_bytes([1; 16]), Label::from_bytes([2; 16]));
-    let table = [one, other, Label::ZERO, Label::ZERO, Label::ZERO];
-    let refused = runs_refused(
-        rt.alloc(),
-        |heap| match input_active_labels(heap, 5, &[one, other]) {
-            Ok(same) => plain_if(same.as_slice() == table.as_slice()),
-            Err(Memory) => Answer::Memory,
-        },
-    );
-    assert_eq!(rt; refused, Ok(1));
-    Ok(())
-}
-
-#[test]
-fn garbling(rt: HostRuntime) -> Result<(), Fail> {
-    let circuit = Circuit::read(rt.alloc(), FULL_ADDER.as_bytes())?;
-    let seed = Seed::from_bytes([0; 32]);
-    let refused = runs_refused(
-        rt.alloc(),
-        |heap| match garble_one_thread(heap, &circuit, &seed) {
-            Ok(garbling) => plain_if(garbling.fits(&circuit)),
-            Err(Memory) => Answer::Memory,
-        },
-    );
-    assert_eq!(rt; refused, Ok(2));
-    Ok(())
-}
-
-/// The full adder tells all that it has.
-fn tells_all<A: Allocator>(rt: &impl Abort, circuit: &Circuit<A>) {
-    let counts = (circuit.gates(), circuit.wires(), circuit.and_count());
-    assert_eq!(rt; counts, (5, 8, 1));
-    let widths = (circuit.input_widths(), circuit.output_widths());
-    assert_eq!(rt; widths, ([1, 1, 1].as_slice(), [2].as_slice()));
-    assert_eq!(rt; (circuit.input_wires(), circuit.output_wires()), (3, 2));
+/// Whether the full adder tells all that it has.
+fn tells_all<A: Allocator>(circuit: &Circuit<A>) -> bool {
+    if circuit.gates() != 5 {
+        return false;
+    }
     let third = Gate {
         operation: Operation::And(3, 4),
         set: 5,
     };
-    assert_eq!(rt; circuit.gate(2), third);
-    assert!(rt; circuit.equals(circuit));
+    circuit.wires() == 8
+        && circuit.and_count() == 1
+        && circuit.input_widths() == [1, 1, 1].as_slice()
+        && circuit.output_widths() == [2].as_slice()
+        && circuit.input_wires() == 3
+        && circuit.output_wires() == 2
+        && circuit.gate(2) == third
+        && circuit.equals(circuit)
 }
 
 /// A circuit over memory of which each further growth is refused still tells all that it has.
@@ -157,9 +190,9 @@ fn a_circuit_that_is_read_grows_nothing(rt: HostRuntime) -> Result<(), Fail> {
     drop(Circuit::read(&counting, FULL_ADDER.as_bytes())?);
     let heap = Refusing::nth(rt.alloc(), counting.growths().saturating_add(1));
     let circuit = Circuit::read(&heap, FULL_ADDER.as_bytes())?;
-    assert_eq!(rt; circuit.digest().as_slice(), digest.as_slice());
+    assert!(rt; circuit.digest().as_slice() == digest.as_slice());
     assert!(rt; fits(&circuit, &values));
-    tells_all(&rt, &circuit);
-    assert_eq!(rt; heap.refused(), 0);
+    assert!(rt; tells_all(&circuit));
+    assert!(rt; heap.refused() == 0);
     Ok(())
 }

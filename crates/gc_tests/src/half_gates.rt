@@ -19,17 +19,16 @@
 //! print('%032x %032x %032x' % garble(1, c ^ R, A))
 //! ```
 
-use crate::labels::{A, B, R, label};
+use crate::labels::{A, B, R, are_labels, label, zero_seed};
 use gc_circuit::Circuit;
 use gc_half::{
     AndGate, AndStep, Garbling, RowPair, eval_and, eval_four_ands, eval_two_ands, garble_and,
     garble_one_thread, garble_two_ands, tweak_hash,
 };
-use gc_label::{Label, Seed, offset};
+use gc_label::{Label, offset};
 use gc_worked::circuits::{
     AND, AND_INV_AND, CONSTANT, FAR_COPY, INV, NO_GATES, XOR, ZERO_CONSTANT,
 };
-use std::process::Abort;
 use std::test::Fail;
 
 #[test]
@@ -40,9 +39,8 @@ fn hashes(rt: HostRuntime) {
         (B, 0x0102030405060708, 0xe429e4d3233a1964d3d1f847f936cf19),
         (0, u64::MAX, 0x0fba003e5d62756059b291c7aeefed2b),
     ] {
-        assert_eq!(rt;
-            tweak_hash(label(number), tweak),
-            label(want),
+        assert!(rt;
+            tweak_hash(label(number), tweak) == label(want),
             "tweak {tweak}"
         );
     }
@@ -94,21 +92,18 @@ static AND_GATES: [(u32, u128, u128, (u128, u128, u128)); 4] = [
 /// The rows take the labels of two bits to the label of their conjunction.
 #[test]
 fn and_gates(rt: HostRuntime) {
-    let offset = offset(&Seed::from_bytes([0; 32]));
+    let offset = offset(&zero_seed());
     for (k, a, b, (zero, generator, evaluator)) in AND_GATES {
         let rows = (label(generator), label(evaluator));
         let garbled = garble_and(k, offset, label(a), label(b));
-        assert_eq!(rt; garbled, (label(zero), rows.0, rows.1));
+        assert!(rt; garbled == (label(zero), rows.0, rows.1));
         for (x, y, active) in [
             (a, b, zero),
             (a ^ R, b, zero),
             (a, b ^ R, zero),
             (a ^ R, b ^ R, zero ^ R),
         ] {
-            assert_eq!(rt;
-                eval_and(k, rows.0, rows.1, label(x), label(y)),
-                label(active)
-            );
+            assert!(rt; eval_and(k, rows.0, rows.1, label(x), label(y)) == label(active));
         }
     }
 }
@@ -130,7 +125,7 @@ fn step_of((k, a, b, (_, generator, evaluator)): (u32, u128, u128, (u128, u128, 
 fn gate_of((k, a, b, _): (u32, u128, u128, (u128, u128, u128))) -> AndGate {
     AndGate {
         k,
-        offset: offset(&Seed::from_bytes([0; 32])),
+        offset: offset(&zero_seed()),
         a: label(a),
         b: label(b),
     }
@@ -144,26 +139,16 @@ fn garbled_of(
 }
 
 #[test]
-fn four_and_gates_at_once(rt: HostRuntime) {
+fn two_and_four_and_gates_at_once(rt: HostRuntime) {
+    let second = AND_GATES[1];
     for (one, other) in AND_GATES.iter().zip(AND_GATES.iter().rev()) {
-        let found = eval_four_ands([
-            step_of(*one),
-            step_of(*other),
-            step_of(AND_GATES[1]),
-            step_of(*one),
-        ]);
-        let expected = [one.3.0, other.3.0, AND_GATES[1].3.0, one.3.0].map(label);
-        assert_eq!(rt; found, expected);
-    }
-}
-
-#[test]
-fn two_and_gates_at_once(rt: HostRuntime) {
-    for (one, other) in AND_GATES.iter().zip(AND_GATES.iter().rev()) {
-        let found = eval_two_ands(step_of(*one), step_of(*other));
-        assert_eq!(rt; found, (label(one.3.0), label(other.3.0)));
+        let (step, other_step) = (step_of(*one), step_of(*other));
+        let found = eval_two_ands(step, other_step);
+        assert!(rt; found == (label(one.3.0), label(other.3.0)));
         let found = garble_two_ands(gate_of(*one), gate_of(*other));
-        assert_eq!(rt; found, (garbled_of(*one), garbled_of(*other)));
+        assert!(rt; found == (garbled_of(*one), garbled_of(*other)));
+        let found = eval_four_ands([step, other_step, step_of(second), step]);
+        assert!(rt; are_labels(&found, &[one.3.0, other.3.0, second.3.0, one.3.0]));
     }
 }
 
@@ -234,53 +219,55 @@ static GARBLINGS: [Expected; 8] = [
     },
 ];
 
-fn has_zero_labels(rt: &impl Abort, garbling: &Garbling, circuit: &Circuit, expected: &Expected) {
-    assert!(rt; garbling.fits(circuit));
-    assert_eq!(rt; circuit.wires() as usize, expected.zero_labels.len());
+fn has_zero_labels(garbling: &Garbling, circuit: &Circuit, numbers: &[u128]) -> bool {
+    if !garbling.fits(circuit) || circuit.wires() as usize != numbers.len() {
+        return false;
+    }
     for wire in 0..circuit.wires() {
-        let want = expected.zero_labels[wire as usize];
-        assert_eq!(rt;
-            garbling.zero_label(wire),
-            label(want),
-            "wire {wire} of {}",
-            expected.text
-        );
+        if garbling.zero_label(wire) != label(numbers[wire as usize]) {
+            return false;
+        }
     }
+    true
 }
 
-fn has_rows(rt: &impl Abort, garbling: &Garbling, expected: &Expected) {
-    assert_eq!(rt; garbling.rows().len(), expected.rows.len());
-    for (pair, (generator, evaluator)) in garbling.rows().iter().zip(expected.rows) {
-        let want = RowPair {
-            generator: label(*generator),
-            evaluator: label(*evaluator),
-        };
-        assert_eq!(rt; *pair, want, "of {}", expected.text);
+fn has_rows(garbling: &Garbling, rows: &[(u128, u128)]) -> bool {
+    for (pair, (generator, evaluator)) in garbling.rows().iter().zip(rows) {
+        if pair.generator != label(*generator) || pair.evaluator != label(*evaluator) {
+            return false;
+        }
     }
+    garbling.rows().len() == rows.len()
 }
 
-fn has_decode_bits(rt: &impl Abort, garbling: &Garbling, expected: &Expected) {
-    assert_eq!(rt; garbling.outputs() as usize, expected.decode_bits.len());
+fn has_decode_bits(garbling: &Garbling, bits: &[bool]) -> bool {
+    if garbling.outputs() as usize != bits.len() {
+        return false;
+    }
     for i in 0..garbling.outputs() {
-        let want = expected.decode_bits[i as usize];
-        assert_eq!(rt;
-            garbling.decode_bit(i),
-            want,
-            "output {i} of {}",
-            expected.text
-        );
+        if garbling.decode_bit(i) != bits[i as usize] {
+            return false;
+        }
     }
+    true
 }
 
 #[test]
 fn circuits(rt: HostRuntime) -> Result<(), Fail> {
-    let seed = Seed::from_bytes([0; 32]);
+    let seed = zero_seed();
     for expected in &GARBLINGS {
-        let circuit = Circuit::read(rt.alloc(), expected.text.as_bytes())?;
+        let text = expected.text;
+        let circuit = Circuit::read(rt.alloc(), text.as_bytes())?;
         let garbling = garble_one_thread(rt.alloc(), &circuit, &seed)?;
-        has_zero_labels(&rt, &garbling, &circuit, expected);
-        has_rows(&rt, &garbling, expected);
-        has_decode_bits(&rt, &garbling, expected);
+        assert!(rt;
+            has_zero_labels(&garbling, &circuit, expected.zero_labels),
+            "{text:?}"
+        );
+        assert!(rt; has_rows(&garbling, expected.rows), "{text:?}");
+        assert!(rt;
+            has_decode_bits(&garbling, expected.decode_bits),
+            "{text:?}"
+        );
     }
     Ok(())
 }
@@ -308,9 +295,8 @@ fn garblings_of_other_numbers_do_not_fit(rt: HostRuntime) -> Result<(), Fail> {
         let zero_labels = vec![in alloc; Label::ZERO; wires]?;
         assert!(rt; outputs as usize <= zero_labels.len());
         let garbling = Garbling::from_parts(zero_labels, vec![in alloc; pair; rows]?, outputs);
-        assert_eq!(rt;
-            garbling.fits(&circuit),
-            fits,
+        assert!(rt;
+            garbling.fits(&circuit) == fits,
             "{wires} wires, {rows} rows, {outputs} outputs"
         );
     }

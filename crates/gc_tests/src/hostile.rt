@@ -1,8 +1,8 @@
 //! Changed bytes of files, for the tests of their readers.
 
-use gc_file::FileFault;
-use std::alloc::{AllocError, Global};
-use std::process::Abort;
+use gc_file::{FileFault, read_garbled, read_labels};
+use std::alloc::{AllocError, Allocator, Global};
+use std::cmp::Ordering;
 
 /// The bytes with one bit flipped. Bits are counted from the lowest bit of the first byte.
 pub(crate) fn flipped(alloc: Global, bytes: &[u8], bit: usize) -> Result<Vec<u8>, AllocError> {
@@ -13,47 +13,63 @@ pub(crate) fn flipped(alloc: Global, bytes: &[u8], bit: usize) -> Result<Vec<u8>
     Ok(copy)
 }
 
-/// What is found in the file with each bit flipped is as told: each line of the table is for the bits below its number
-/// that no line before it is for, and the last number is that of all bits.
-pub(crate) fn each_flip<F: Fn(&[u8]) -> Option<FileFault>>(
-    rt: &impl Abort,
+/// What a file is read as.
+#[derive(Clone, Copy)]
+pub(crate) enum Kind {
+    Garbled,
+    Labels,
+}
+
+pub(crate) fn fault_of<A: Allocator + Copy>(
+    alloc: A,
+    kind: Kind,
+    bytes: &[u8],
+) -> Option<FileFault> {
+    match kind {
+        Kind::Garbled => read_garbled(alloc, bytes).err(),
+        Kind::Labels => read_labels(alloc, bytes).err(),
+    }
+}
+
+/// The first bit that, flipped, gives another fault than is told: each line of the table is for the bits below its
+/// number that no line before it is for, and the last number is that of all bits.
+pub(crate) fn untold_flip(
     alloc: Global,
+    kind: Kind,
     file: &[u8],
-    found: &[(usize, Option<FileFault>)],
-    fault_of: F,
-) -> Result<(), AllocError>
-    requires { F.IsAlwaysCallable fault_of }
-{
+    told: &[(usize, Option<FileFault>)],
+) -> Result<Option<usize>, AllocError> {
     let mut first = 0;
-    for (end, fault) in found {
+    for (end, fault) in told {
         for bit in first..*end {
-            let copy = flipped(alloc, file, bit)?;
-            assert_eq!(rt; fault_of(&copy), *fault, "bit {bit}");
+            if fault_of(alloc, kind, &flipped(alloc, file, bit)?) != *fault {
+                return Ok(Some(bit));
+            }
         }
         first = *end;
     }
-    assert_eq!(rt; (first / 8, first % 8), (file.len(), 0));
-    Ok(())
+    let all = first / 8 == file.len() && first % 8 == 0;
+    Ok(if all { None } else { Some(first) })
 }
 
-/// The file is one, each of its proper beginnings is truncated, and with a byte more it has a trailing byte.
-pub(crate) fn each_length<F: Fn(&[u8]) -> Option<FileFault>>(
-    rt: &impl Abort,
+/// The first number of bytes with another fault than it should have: the file has none, each of its proper beginnings is
+/// truncated, and with a byte more it has a trailing byte.
+pub(crate) fn untold_length(
     alloc: Global,
+    kind: Kind,
     file: &[u8],
-    fault_of: F,
-) -> Result<(), AllocError>
-    requires { F.IsAlwaysCallable fault_of }
-{
-    for length in 0..file.len() {
-        let found = fault_of(&file[..length]);
-        assert_eq!(rt; found, Some(FileFault::Truncated), "{length} bytes");
-    }
+) -> Result<Option<usize>, AllocError> {
     let mut longer = Vec::from_slice(alloc, file)?;
     longer.push(0)?;
-    assert_eq!(rt;
-        (fault_of(file), fault_of(&longer)),
-        (None, Some(FileFault::Trailing))
-    );
-    Ok(())
+    for length in 0..=longer.len() {
+        let wanted = match length.cmp(&file.len()) {
+            Ordering::Less => Some(FileFault::Truncated),
+            Ordering::Equal => None,
+            Ordering::Greater => Some(FileFault::Trailing),
+        };
+        if fault_of(alloc, kind, &longer[..length]) != wanted {
+            return Ok(Some(length));
+        }
+    }
+    Ok(None)
 }

@@ -1,7 +1,7 @@
 //! Tests of label files: what is written and read, and the faults of bytes that are no file.
 
-use crate::hostile::{each_flip, each_length};
-use crate::labels::{A, B, R, label};
+use crate::hostile::{Kind, untold_flip, untold_length};
+use crate::labels::{A, B, R, are_labels};
 use gc_circuit::Circuit;
 use gc_file::{FileFault, read_labels};
 use gc_worked::files::label_file;
@@ -14,22 +14,18 @@ fn are_written(rt: HostRuntime) -> Result<(), Fail> {
         let circuit = Circuit::read(rt.alloc(), text.as_bytes())?;
         let bytes = label_file(rt.alloc(), &circuit, *index, bits)?;
         let shown = hex::encode(rt.alloc(), bytes.as_slice())?;
-        assert_eq!(rt; shown.as_str(), *file, "value {index} of {text:?}");
+        assert!(rt; shown.as_str() == *file, "value {index} of {text:?}");
     }
     Ok(())
 }
 
 #[test]
 fn are_read(rt: HostRuntime) -> Result<(), Fail> {
-    let labels = [label(A ^ R), label(B)];
     for (_, index, bits, file) in &LABEL_FILES {
         let labels_of = read_labels(rt.alloc(), &hex::decode(rt.alloc(), *file)?)?;
-        assert_eq!(rt;
-            (labels_of.index(), labels_of.labels().len()),
-            (*index, bits.len())
-        );
+        assert!(rt; labels_of.index() == *index && labels_of.labels().len() == bits.len());
         if bits.len() == 2 {
-            assert_eq!(rt; labels_of.labels(), labels.as_slice());
+            assert!(rt; are_labels(labels_of.labels(), &[A ^ R, B]));
         }
     }
     Ok(())
@@ -50,8 +46,7 @@ static FLIPS: [(usize, Option<FileFault>); 6] = [
 fn of_other_bytes(rt: HostRuntime) -> Result<(), Fail> {
     let alloc = rt.alloc();
     let file = hex::decode(alloc, ONE_LABEL)?;
-    let fault_of = |bytes: &[u8]| read_labels(alloc, bytes).err();
-    each_length(&rt, alloc, &file, &fault_of)?;
-    each_flip(&rt, alloc, &file, &FLIPS, &fault_of)?;
+    assert_eq!(rt; untold_length(alloc, Kind::Labels, &file)?, None);
+    assert_eq!(rt; untold_flip(alloc, Kind::Labels, &file, &FLIPS)?, None);
     Ok(())
 }

@@ -28,84 +28,106 @@ pub(crate) fn label(number: u128) -> Label {
     Label::from_number(number)
 }
 
-#[test]
-fn labels_are_rows_of_the_keystream(rt: HostRuntime) {
-    let seed = Seed::from_bytes([0; 32]);
-    assert_eq!(rt; offset(&seed).label(), label(R));
-    for (wire, row) in (0..).zip(&INPUT_ROWS) {
-        assert_eq!(rt; input_label(&seed, wire), label(*row), "wire {wire}");
-    }
-    // The first row of block 2^30, by `openssl enc -chacha20`.
-    let last = label(0x2d7f21b01b50505974f4e879dcf8c377);
-    assert_eq!(rt; input_label(&seed, u32::MAX), last);
-    let mut labels = [Label::ZERO; 1];
-    fill_input_labels(&seed, u32::MAX, &mut labels);
-    assert_eq!(rt; labels, [last]);
-}
-
-/// From the first wire on, and from one in the middle of a block.
-#[test]
-fn fills_labels_of_many_wires(rt: HostRuntime) {
-    let seed = Seed::from_bytes([0; 32]);
-    for first in [0, 1] {
-        let mut labels = [Label::ZERO; 6];
-        fill_input_labels(&seed, first, &mut labels);
-        for (filled, row) in labels.iter().zip(&INPUT_ROWS[first as usize..]) {
-            assert_eq!(rt; *filled, label(*row), "from wire {first}");
+/// Whether these are the labels of the numbers, one for each.
+pub(crate) fn are_labels(labels: &[Label], numbers: &[u128]) -> bool {
+    for (one, number) in labels.iter().zip(numbers) {
+        if *one != label(*number) {
+            return false;
         }
     }
+    labels.len() == numbers.len()
 }
+
+/// The seed of 32 zero bytes.
+pub(crate) fn zero_seed() -> Seed {
+    Seed::from_bytes([0; 32])
+}
+
+/// The first row of block 2^30, by `openssl enc -chacha20`.
+const LAST: u128 = 0x2d7f21b01b50505974f4e879dcf8c377;
+
+#[test]
+fn labels_are_rows_of_the_keystream(rt: HostRuntime) {
+    let seed = zero_seed();
+    assert!(rt; offset(&seed).label() == label(R));
+    for (wire, row) in (0..).zip(&INPUT_ROWS) {
+        assert!(rt; input_label(&seed, wire) == label(*row), "wire {wire}");
+    }
+    assert!(rt; input_label(&seed, u32::MAX) == label(LAST));
+}
+
+/// From the first wire on, from one in the middle of a block, and the last wire alone.
+#[test]
+fn fills_labels_of_many_wires(rt: HostRuntime) {
+    let seed = zero_seed();
+    let mut labels = [Label::ZERO; 6];
+    fill_input_labels(&seed, 0, &mut labels);
+    assert!(rt; are_labels(&labels, &INPUT_ROWS[..6]));
+    fill_input_labels(&seed, 1, &mut labels);
+    assert!(rt; are_labels(&labels, &INPUT_ROWS[1..]));
+    let mut labels = [Label::ZERO; 1];
+    fill_input_labels(&seed, u32::MAX, &mut labels);
+    assert!(rt; are_labels(&labels, &[LAST]));
+}
+
+/// The bytes of the label 0x0102030405060708090a0b0c0d0e0f10.
+static BYTES: [u8; 16] = [1, 2, 3, 4, 5, 6, 7, 8, 9, 10, 11, 12, 13, 14, 15, 16];
 
 #[test]
 fn labels_as_bytes(rt: HostRuntime) -> Result<(), Fail> {
     let a = label(0x0102030405060708090a0b0c0d0e0f10);
-    let bytes = [1, 2, 3, 4, 5, 6, 7, 8, 9, 10, 11, 12, 13, 14, 15, 16];
-    assert_eq!(rt; (a.to_bytes(), Label::ZERO.to_bytes()), (bytes, [0; 16]));
-    assert!(rt; Label::from_bytes(bytes) == a);
     let shown = format!(in rt.alloc(); "{a}")?;
-    assert_eq!(rt; shown.as_str(), "0102030405060708090a0b0c0d0e0f10");
+    assert!(rt; shown.as_str() == "0102030405060708090a0b0c0d0e0f10");
+    assert!(rt; a.to_bytes() == BYTES && Label::from_bytes(BYTES) == a);
+    assert!(rt; Label::ZERO.to_bytes() == [0; 16]);
     let high = label(0x80ffffffffffffffffffffffffffffff);
-    assert_eq!(rt; (a.colour(), high.colour()), (true, false));
+    assert!(rt; a.colour() && !high.colour());
     // The order is that of the bytes, the first byte before all others.
     assert!(rt; label(0x00ffffffffffffffffffffffffffffff) < a && a < high);
     assert!(rt; a < label(0x0102030405060708090a0b0c0d0e0f11));
     Ok(())
 }
 
+/// The bytes of the seed that a text tells.
+fn bytes_told(text: &str) -> Option<[u8; 32]> {
+    match Seed::from_hex(text) {
+        Ok(seed) => Some(seed.to_bytes()),
+        Err(BadSeed) => None,
+    }
+}
+
 #[test]
 fn seeds_from_hex(rt: HostRuntime) {
+    assert!(rt; Seed::from_hex(SEED) == Ok(zero_seed()));
     let mut bytes = [0; 32];
-    assert_eq!(rt; Seed::from_hex(SEED), Ok(Seed::from_bytes(bytes)));
     bytes[1] = 0x1a;
     bytes[31] = 0xff;
     for text in [
         "001a0000000000000000000000000000000000000000000000000000000000ff",
         "001A0000000000000000000000000000000000000000000000000000000000Ff",
     ] {
-        assert_eq!(rt;
-            Seed::from_hex(text).map(|seed| seed.to_bytes()),
-            Ok(bytes),
-            "of {text}"
-        );
+        assert!(rt; bytes_told(text) == Some(bytes), "of {text}");
     }
 }
 
+/// Texts of other lengths and with other characters.
+static NO_SEEDS: [&str; 10] = [
+    "",
+    "00",
+    "000000000000000000000000000000000000000000000000000000000000000",
+    "00000000000000000000000000000000000000000000000000000000000000000",
+    "00000000000000000000000000000000000000000000000000000000000000",
+    "000000000000000000000000000000000000000000000000000000000000000000",
+    "g000000000000000000000000000000000000000000000000000000000000000",
+    "000000000000000000000000000000000000000000000000000000000000000 ",
+    "0x00000000000000000000000000000000000000000000000000000000000000",
+    "00000000000000000000000000000000000000000000000000000000000000é",
+];
+
 #[test]
 fn texts_that_are_no_seed(rt: HostRuntime) {
-    let texts = [
-        "",
-        "00",
-        "000000000000000000000000000000000000000000000000000000000000000",
-        "00000000000000000000000000000000000000000000000000000000000000000",
-        "00000000000000000000000000000000000000000000000000000000000000",
-        "000000000000000000000000000000000000000000000000000000000000000000",
-        "g000000000000000000000000000000000000000000000000000000000000000",
-        "000000000000000000000000000000000000000000000000000000000000000 ",
-        "0x00000000000000000000000000000000000000000000000000000000000000",
-        "00000000000000000000000000000000000000000000000000000000000000é",
-    ];
-    for text in texts {
-        assert_eq!(rt; Seed::from_hex(text), Err(BadSeed), "of {text}");
+    for text in NO_SEEDS {
+        assert!(rt; bytes_told(text).is_none(), "of {text}");
     }
-    assert_eq!(rt; (BadSeed.code(), BadSeed.name()), (18, "BadSeed"));
+    assert!(rt; BadSeed.code() == 18 && BadSeed.name() == "BadSeed");
 }
