@@ -1,6 +1,6 @@
 //! Each growth refused in turn of the calls of circuits, values and garbling.
 
-use crate::labels::zero_seed;
+use crate::labels::{label, zero_seed};
 use gc_circuit::{
     Circuit, Gate, Memory, Operation, ReadFault, ValueFault, fits, plain_eval, read_value,
     show_value,
@@ -143,7 +143,8 @@ fn shown_value(heap: &Refusing<Global>) -> Answer {
 
 /// The table that evaluation begins with has the labels of the input wires, and zeros.
 fn active_labels(heap: &Refusing<Global>) -> Answer {
-    let (one, other) = (Label::from_number(1), Label::from_number(2));
+    let one = label(0x01010101010101010101010101010101);
+    let other = label(0x02020202020202020202020202020202);
     let wanted = [one, other, Label::ZERO, Label::ZERO, Label::ZERO];
     match input_active_labels(heap, 5, &[one, other]) {
         Ok(table) => plain_if(table.as_slice() == wanted.as_slice()),

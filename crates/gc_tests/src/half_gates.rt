@@ -140,15 +140,19 @@ fn garbled_of(
 
 #[test]
 fn two_and_four_and_gates_at_once(rt: HostRuntime) {
-    let second = AND_GATES[1];
     for (one, other) in AND_GATES.iter().zip(AND_GATES.iter().rev()) {
-        let (step, other_step) = (step_of(*one), step_of(*other));
-        let found = eval_two_ands(step, other_step);
+        let found = eval_two_ands(step_of(*one), step_of(*other));
         assert!(rt; found == (label(one.3.0), label(other.3.0)));
         let found = garble_two_ands(gate_of(*one), gate_of(*other));
         assert!(rt; found == (garbled_of(*one), garbled_of(*other)));
-        let found = eval_four_ands([step, other_step, step_of(second), step]);
-        assert!(rt; are_labels(&found, &[one.3.0, other.3.0, second.3.0, one.3.0]));
+        let found = eval_four_ands([
+            step_of(*one),
+            step_of(*other),
+            step_of(AND_GATES[1]),
+            step_of(*one),
+        ]);
+        let wanted = [one.3.0, other.3.0, AND_GATES[1].3.0, one.3.0];
+        assert!(rt; are_labels(&found, &wanted));
     }
 }
 
