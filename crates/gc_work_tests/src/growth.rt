@@ -5,9 +5,8 @@ ghost use Rattle.std.specs.Prelude.{◌≡◌};
 ghost use Rattle.gc_store.specs.Account.{IsForStore};
 ghost use Rattle.gc_store.specs.declared.tally.TheConstants.{MAX_TALLIES};
 
-use crate::stores::{finish_gates, ledger};
+use crate::fixtures::{finish_gates, ledger, open, open_with_tally, read, seed_of};
 use gc_circuit::{Circuit, Memory};
-use gc_label::Seed;
 use gc_refusing::Refusing;
 use gc_store::{Batch, Sealed, SharedStore, Store, Tally};
 use gc_work::TaskPool;
@@ -18,7 +17,6 @@ use std::marker::Brand;
 use std::process::Abort;
 use std::sync::Wait;
 use std::sync::ledger::{Blank, Ledger};
-use std::test::Fail;
 
 /// Whether a store of the circuit opens with no gate finished.
 fn opens<L: Ledger>(heap: &Refusing<Global>, ledger: Blank, circuit: &Circuit) -> Answer
@@ -27,7 +25,7 @@ fn opens<L: Ledger>(heap: &Refusing<Global>, ledger: Blank, circuit: &Circuit) -
     let Ok(copy) = circuit.try_clone(heap) else {
         return Answer::Memory;
     };
-    match Store::<L, &Refusing<Global>>::open(heap, ledger, copy, Seed::from_bytes([0; 32])) {
+    match Store::<L, &Refusing<Global>>::open(heap, ledger, copy, seed_of(0)) {
         Ok(store) => plain_if(store.finished() == 0),
         Err(Memory) => Answer::Memory,
     }
@@ -38,111 +36,69 @@ fn opens_anew(heap: &Refusing<Global>, circuit: &Circuit) -> Answer {
     opens::<Brand>(heap, ledger(), circuit)
 }
 
+/// Whether a pool with three thieves opens.
+fn opens_pool(heap: &Refusing<Global>) -> Answer {
+    match TaskPool::open(heap, 2, 3) {
+        Ok((_, _, thieves)) => plain_if(thieves.len() == 3),
+        Err(Memory) => Answer::Memory,
+    }
+}
+
 #[test]
-fn opening_a_store(rt: HostRuntime) -> Result<(), Fail> {
-    let circuit = Circuit::read(rt.alloc(), FULL_ADDER.as_bytes())?;
+fn opening(rt: HostRuntime) {
+    let circuit = read(rt.alloc(), FULL_ADDER).expect(&rt, "there is memory");
     let refused = runs_refused(rt.alloc(), |heap| opens_anew(heap, &circuit));
-    assert_eq!(rt; refused, Ok(12));
-    Ok(())
+    assert!(rt; refused == Ok(12), "a store: {refused:?}");
+    let refused = runs_refused(rt.alloc(), opens_pool);
+    assert!(rt; refused == Ok(4), "a pool: {refused:?}");
 }
 
-#[test]
-fn opening_a_pool(rt: HostRuntime) {
-    let refused = runs_refused(rt.alloc(), |heap: &Refusing<Global>| {
-        match TaskPool::open(heap, 2, 3) {
-            Ok((_, _, thieves)) => plain_if(thieves.len() == 3),
-            Err(Memory) => Answer::Memory,
-        }
-    });
-    assert_eq!(rt; refused, Ok(4));
+/// A list of this tally, with no room for another.
+fn list_of<L: Ledger>(alloc: Global, tally: Tally<L>) -> Option<Vec<Tally<L>>> {
+    let mut tallies = Vec::with_capacity(alloc, 1).ok()?;
+    tallies.push(tally).ok()?;
+    Some(tallies)
 }
 
-/// A store of the full adder under the seed of 32 zero bytes, and a tally of it.
-fn open_on<L: Ledger>(
-    heap: &Refusing<Global>,
-    ledger: Blank,
-) -> Result<(Store<L, &Refusing<Global>>, Tally<L>), Fail>
-    requires { IsForStore L.name L.parts ledger }
-{
-    let circuit = Circuit::read(heap, FULL_ADDER.as_bytes())?;
-    let seed = Seed::from_bytes([0; 32]);
-    let mut store = Store::<L, &Refusing<Global>>::open(heap, ledger, circuit, seed)?;
-    let tally = store.tally().ok_or("a tally is dealt")?;
-    Ok((store, tally))
-}
-
-/// Garbles the full adder over an opened store, which asks for no memory.
-fn grows_nothing<L: Ledger>(
-    rt: &impl Abort,
-    heap: &Refusing<Global>,
-    ledger: Blank,
-) -> Result<(), Fail>
-    requires { IsForStore L.name L.parts ledger }
-{
-    let (mut store, mut tally) = open_on::<L>(heap, ledger)?;
-    let opened = heap.growths();
-    let finished = finish_gates(&mut store, &mut tally, 5);
-    assert_eq!(rt; (finished, store.is_complete()), (5, true));
-    assert_eq!(rt;
-        (store.into_garbling().is_ok(), heap.growths()),
-        (true, opened)
-    );
-    Ok(())
-}
-
-#[test]
-fn an_opened_store_grows_nothing(rt: HostRuntime) -> Result<(), Fail> {
-    grows_nothing::<Brand>(&rt, &Refusing::never(rt.alloc()), ledger())
-}
-
-/// A tally of the store, in a list with room for it alone.
-fn one_tally<L: Ledger, A: Allocator>(
-    alloc: Global,
-    store: &mut Store<L, A>,
-) -> Result<Vec<Tally<L>>, Fail> {
-    let mut tallies = Vec::with_capacity(alloc, 1)?;
-    tallies.push(store.tally().ok_or("a tally is dealt")?)?;
-    Ok(tallies)
-}
-
-/// Claims two gates, puts them back and settles.
+/// Whether two gates can be claimed and put back, and the tallies add up to nothing.
 fn claims_and_settles<L: Ledger, A: Allocator>(
-    rt: &impl Abort,
     store: &mut Store<L, A>,
     tallies: &mut Vec<Tally<L>>,
-)
+) -> bool
     requires { L.parts ≡ MAX_TALLIES }
 {
     let mut batch = Batch::new();
-    assert_eq!(rt; (store.claim_some(&mut batch), batch.len()), (2, 2));
-    assert_eq!(rt; (store.reopen(), batch.pop().is_some()), (2, true));
-    assert_eq!(rt; store.settle(tallies), Ok(0));
+    let claimed = store.claim_some(&mut batch) == 2 && batch.len() == 2;
+    let reopened = store.reopen() == 2 && batch.pop().is_some();
+    claimed && reopened && matches!(store.settle(tallies), Ok(0))
 }
 
-/// Claims, puts back and settles, which ask an opened store of the full adder for no memory.
-fn claims_without_memory<L: Ledger>(
+/// Deals a tally, claims, puts back, settles and then garbles the full adder over an opened store, which asks for no memory.
+fn grows_nothing<L: Ledger>(
     rt: &impl Abort,
     heap: &Refusing<Global>,
     alloc: Global,
     ledger: Blank,
-) -> Result<(), Fail>
+) -> Option<()>
     requires { IsForStore L.name L.parts ledger }
 {
-    let circuit = Circuit::read(alloc, FULL_ADDER.as_bytes())?;
-    let seed = Seed::from_bytes([0; 32]);
-    let copy = circuit.try_clone(heap)?;
-    let mut store = Store::<L, &Refusing<Global>>::open(heap, ledger, copy, seed)?;
+    let circuit = read(alloc, FULL_ADDER)?;
+    let mut store = open::<L, &Refusing<Global>>(heap, ledger, seed_of(0))?;
     let opened = heap.growths();
-    let mut tallies = one_tally(alloc, &mut store)?;
-    claims_and_settles(rt, &mut store, &mut tallies);
-    assert!(rt; store.is_for(&circuit, &seed));
-    assert_eq!(rt; heap.growths(), opened);
-    Ok(())
+    let mut tallies = list_of(alloc, store.tally()?)?;
+    assert!(rt; claims_and_settles(&mut store, &mut tallies));
+    assert!(rt; store.is_for(&circuit, &seed_of(0)));
+    let mut tally = tallies.pop()?;
+    assert!(rt; finish_gates(&mut store, &mut tally, 5) == 5 && store.is_complete());
+    assert!(rt; store.into_garbling().is_ok() && heap.growths() == opened);
+    Some(())
 }
 
 #[test]
-fn an_opened_store_reopens_without_memory(rt: HostRuntime) -> Result<(), Fail> {
-    claims_without_memory::<Brand>(&rt, &Refusing::never(rt.alloc()), rt.alloc(), ledger())
+fn an_opened_store_grows_nothing(rt: HostRuntime) {
+    let heap = Refusing::never(rt.alloc());
+    let done = grows_nothing::<Brand>(&rt, &heap, rt.alloc(), ledger());
+    assert!(rt; done.is_some());
 }
 
 /// Hands in gates 0 and 1, one by itself and one among several, and a gate that then may go next where the lock is free,
@@ -155,16 +111,12 @@ fn hands_in_three<L: Ledger, A: Allocator, R: Abort + Wait>(
     let mut batches = [Batch::new()];
     let zero = Sealed::make(shared.take(rt)?);
     let one = Sealed::make(shared.take(rt)?);
-    let alone = shared.hand_in(rt, zero, tally, &mut batches[0]);
-    let among = shared.hand_in_all(rt, &[one], tally, &mut batches);
+    assert!(rt; shared.hand_in(rt, zero, tally, &mut batches[0]) == Ok(false));
+    assert!(rt; shared.hand_in_all(rt, &[one], tally, &mut batches) == Ok(false));
     let next = Sealed::make(batches[0].pop()?);
-    let tried = shared.try_hand_in_all(&[next], tally, &mut batches);
-    assert_eq!(rt;
-        (alone, among, tried),
-        (Ok(false), Ok(false), Some(Ok(false)))
-    );
+    assert!(rt; shared.try_hand_in_all(&[next], tally, &mut batches) == Some(Ok(false)));
     shared.stop(rt);
-    assert_eq!(rt; shared.take(rt), None);
+    assert!(rt; shared.take(rt).is_none());
     Some(())
 }
 
@@ -173,20 +125,21 @@ fn shares_without_memory<L: Ledger, R: Abort + Wait>(
     rt: &R,
     heap: &Refusing<Global>,
     ledger: Blank,
-) -> Result<(), Fail>
+) -> Option<()>
     requires { IsForStore L.name L.parts ledger }
 {
-    let (store, mut tally) = open_on::<L>(heap, ledger)?;
+    let (store, mut tally) = open_with_tally::<L, &Refusing<Global>>(heap, ledger)?;
     let opened = heap.growths();
     let shared = SharedStore::new(store);
-    let handed_in = hands_in_three(rt, &shared, &mut tally);
-    let finished = shared.into_store().finished();
-    assert_eq!(rt; (handed_in, finished, tally.count()), (Some(()), 3, 3));
-    assert_eq!(rt; heap.growths(), opened);
-    Ok(())
+    hands_in_three(rt, &shared, &mut tally)?;
+    assert!(rt; shared.into_store().finished() == 3 && tally.count() == 3);
+    assert!(rt; heap.growths() == opened);
+    Some(())
 }
 
 #[test]
-fn a_shared_store_grows_nothing(rt: HostRuntime) -> Result<(), Fail> {
-    shares_without_memory::<Brand, HostRuntime>(&rt, &Refusing::never(rt.alloc()), ledger())
+fn a_shared_store_grows_nothing(rt: HostRuntime) {
+    let heap = Refusing::never(rt.alloc());
+    let done = shares_without_memory::<Brand, HostRuntime>(&rt, &heap, ledger());
+    assert!(rt; done.is_some());
 }

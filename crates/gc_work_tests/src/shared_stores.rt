@@ -4,62 +4,48 @@ ghost use Rattle.std.specs.Prelude.{◌≡◌};
 ghost use Rattle.gc_store.specs.Account.{IsForStore};
 ghost use Rattle.gc_store.specs.declared.tally.TheConstants.{MAX_TALLIES};
 
-use crate::stores::{finish_gates, foreign_task, ledger, open, open_with_tally};
+use crate::fixtures::{
+    claim_gate, finish_gates, foreign_task, ledger, open, open_with_tally, seed_of,
+};
 use gc_store::{Batch, Refused, Sealed, SharedStore, Store, Tally, TallyMissing, Task};
-use gc_worked::circuits::FULL_ADDER;
 use std::alloc::Global;
 use std::marker::Brand;
 use std::process::Abort;
 use std::sync::Wait;
 use std::sync::ledger::{Blank, Ledger};
-use std::test::Fail;
 use std::thread;
 use std::thread::Threads;
 
-/// Two tallies of the store: with the first two gates are finished, and with the second one.
-fn two_tallies<L: Ledger>(rt: &impl Abort, store: &mut Store<L>) -> Option<(Tally<L>, Tally<L>)> {
-    let mut first = store.tally()?;
-    let mut second = store.tally()?;
-    let finished = (
-        finish_gates(store, &mut first, 2),
-        finish_gates(store, &mut second, 1),
-    );
-    assert_eq!(rt; finished, (2, 1));
-    Some((first, second))
-}
-
-/// Without the second tally nothing is added up, and with it three gates are.
-fn settles_with_both<L: Ledger>(
-    rt: &impl Abort,
-    alloc: Global,
-    store: &mut Store<L>,
-) -> Result<(), Fail>
+/// Two gates are finished with one tally and one with another. Without the second tally nothing is added up, and with it
+/// three gates are.
+fn settles_with_both<L: Ledger>(rt: &impl Abort, alloc: Global, store: &mut Store<L>) -> Option<()>
     requires { L.parts ≡ MAX_TALLIES }
 {
-    let (first, second) = two_tallies(rt, store).ok_or("two tallies are dealt")?;
+    let (mut first, mut second) = (store.tally()?, store.tally()?);
+    assert!(rt; finish_gates(store, &mut first, 2) == 2);
+    assert!(rt; finish_gates(store, &mut second, 1) == 1);
     let mut tallies = Vec::new(alloc);
-    tallies.push(first)?;
-    assert_eq!(rt; store.settle(&mut tallies), Err(TallyMissing));
-    tallies.push(second)?;
-    assert_eq!(rt; store.settle(&mut tallies), Ok(3));
-    Ok(())
+    tallies.push(first).ok()?;
+    assert!(rt; matches!(store.settle(&mut tallies), Err(TallyMissing)));
+    tallies.push(second).ok()?;
+    assert!(rt; matches!(store.settle(&mut tallies), Ok(3)));
+    Some(())
 }
 
-fn settles<L: Ledger>(rt: &impl Abort, alloc: Global, ledger: Blank) -> Result<(), Fail>
+fn settles<L: Ledger>(rt: &impl Abort, alloc: Global, ledger: Blank) -> Option<()>
     requires { IsForStore L.name L.parts ledger }
 {
-    let mut store = open::<L>(alloc, ledger, FULL_ADDER, [0; 32])?;
-    settles_with_both(rt, alloc, &mut store)
+    settles_with_both(
+        rt,
+        alloc,
+        &mut open::<L, Global>(alloc, ledger, seed_of(0))?,
+    )
 }
 
 #[test]
-fn tallies_add_up(rt: HostRuntime) -> Result<(), Fail> {
-    settles::<Brand>(&rt, rt.alloc(), ledger())?;
-    assert_eq!(rt;
-        (TallyMissing.code(), TallyMissing.name()),
-        (27, "TallyMissing")
-    );
-    Ok(())
+fn tallies_add_up(rt: HostRuntime) {
+    assert!(rt; settles::<Brand>(&rt, rt.alloc(), ledger()).is_some());
+    assert!(rt; TallyMissing.code() == 27 && TallyMissing.name() == "TallyMissing");
 }
 
 /// Stops the store in another thread, where one can be started.
@@ -67,9 +53,7 @@ fn stop_elsewhere<L: Ledger + Send + Sync, R: Threads + Wait + Sync>(
     rt: &R,
     shared: &SharedStore<L>,
 ) {
-    thread::scope(thread::scope_env(), rt, |scope| {
-        let _ = scope.spawn(move || shared.stop(rt));
-    });
+    let _ = thread::join(rt, || shared.stop(rt), || ());
 }
 
 /// Gates 0 and 1 are taken, and 0 is handed in. The holder of 1, a thread, stops the store and ends. The answer is the
@@ -82,11 +66,11 @@ fn leave<L: Ledger + Send + Sync, R: Abort + Threads + Wait + Sync>(
     let mut batch = Batch::new();
     let zero = Sealed::make(shared.take(rt)?);
     let one = shared.take(rt)?;
-    assert_eq!(rt; shared.hand_in(rt, zero, tally, &mut batch), Ok(false));
-    assert_eq!(rt; batch.pop().map(|task| task.gate), Some(3));
+    assert!(rt; shared.hand_in(rt, zero, tally, &mut batch) == Ok(false));
+    assert!(rt; batch.pop()?.gate == 3);
     stop_elsewhere(rt, shared);
     shared.stop(rt);
-    assert_eq!(rt; shared.take(rt), None);
+    assert!(rt; shared.take(rt).is_none());
     Some(one)
 }
 
@@ -97,36 +81,32 @@ fn comes_late<L: Ledger>(
     tally: &mut Tally<L>,
     late: Sealed,
 ) {
-    assert_eq!(rt; store.reopen(), 2);
-    assert_eq!(rt; store.finish(late, tally), Err(Refused::NotClaimed(late)));
-    let gates = (
-        store.claim().map(|task| task.gate),
-        store.claim().map(|task| task.gate),
-    );
+    assert!(rt; store.reopen() == 2);
+    assert!(rt; store.finish(late, tally) == Err(Refused::NotClaimed(late)));
+    let gates = (claim_gate(store), claim_gate(store));
     assert!(rt; gates == (Some(1), Some(3)) || gates == (Some(3), Some(1)));
-    assert_eq!(rt; store.claim(), None);
-    assert_eq!(rt; store.finish(late, tally), Ok(false));
+    assert!(rt; store.claim().is_none());
+    assert!(rt; store.finish(late, tally) == Ok(false));
 }
 
 fn holder_leaves<L: Ledger + Send + Sync, R: Abort + Threads + Wait + Sync>(
     rt: &R,
     alloc: Global,
     ledger: Blank,
-) -> Result<(), Fail>
+) -> Option<()>
     requires { IsForStore L.name L.parts ledger }
 {
-    let (store, mut tally) = open_with_tally::<L>(alloc, ledger)?;
+    let (store, mut tally) = open_with_tally::<L, Global>(alloc, ledger)?;
     let shared = SharedStore::new(store);
-    let late = leave(rt, &shared, &mut tally).ok_or("gates 0 and 1 may go next")?;
-    let stopped = shared.into_store().into_garbling().err();
-    let mut store = stopped.ok_or("garbled too early")?;
+    let late = leave(rt, &shared, &mut tally)?;
+    let mut store = shared.into_store().into_garbling().err()?;
     comes_late(rt, &mut store, &mut tally, Sealed::make(late));
-    Ok(())
+    Some(())
 }
 
 #[test]
-fn a_holder_leaves(rt: HostRuntime) -> Result<(), Fail> {
-    holder_leaves::<Brand, HostRuntime>(&rt, rt.alloc(), ledger())
+fn a_holder_leaves(rt: HostRuntime) {
+    assert!(rt; holder_leaves::<Brand, HostRuntime>(&rt, rt.alloc(), ledger()).is_some());
 }
 
 /// One by one strangers are refused; tally and batch stay.
@@ -142,13 +122,11 @@ fn refused_one_by_one<L: Ledger, R: Abort + Wait>(
         gate: 5,
         ..other.task()
     });
-    let answers = [
-        shared.hand_in(rt, other, tally, &mut batch),
-        shared.hand_in(rt, beyond, tally, &mut batch),
-    ];
-    let refusals = [Refused::OtherInputs(other), Refused::NotClaimed(beyond)];
-    assert_eq!(rt; answers, refusals.map(Err));
-    assert_eq!(rt; (tally.count(), batch.is_empty()), (0, true));
+    for refused in [Refused::OtherInputs(other), Refused::NotClaimed(beyond)] {
+        let answer = shared.hand_in(rt, refused.sealed(), tally, &mut batch);
+        assert!(rt; answer == Err(refused));
+    }
+    assert!(rt; tally.count() == 0 && batch.is_empty());
 }
 
 /// Of two handed in at once that are of one gate the second is refused, and the first is counted.
@@ -159,15 +137,10 @@ fn refused_among_several<L: Ledger, R: Abort + Wait>(
     own: Sealed,
 ) {
     let mut batches = [Batch::new()];
-    assert_eq!(rt;
-        shared.hand_in_all(rt, &[own, own], tally, &mut batches),
-        Err(Refused::NotClaimed(own))
-    );
-    assert_eq!(rt;
-        shared.try_hand_in_all(&[own], tally, &mut batches),
-        Some(Err(Refused::NotClaimed(own)))
-    );
-    assert_eq!(rt; (tally.count(), batches[0].is_empty()), (1, true));
+    let refused = Err(Refused::NotClaimed(own));
+    assert!(rt; shared.hand_in_all(rt, &[own, own], tally, &mut batches) == refused);
+    assert!(rt; shared.try_hand_in_all(&[own], tally, &mut batches) == Some(refused));
+    assert!(rt; tally.count() == 1 && batches[0].is_empty());
 }
 
 /// What the store refuses a shared store refuses, one by one and several at once.
@@ -176,19 +149,21 @@ fn strangers_are_refused<L: Ledger, R: Abort + Wait>(
     alloc: Global,
     ledger: Blank,
     foreign: Task,
-) -> Result<(), Fail>
+) -> Option<()>
     requires { IsForStore L.name L.parts ledger }
 {
-    let (store, mut tally) = open_with_tally::<L>(alloc, ledger)?;
+    let (store, mut tally) = open_with_tally::<L, Global>(alloc, ledger)?;
     let shared = SharedStore::new(store);
-    let own = shared.take(rt).ok_or("gate 0 may go next")?;
+    let own = shared.take(rt)?;
     refused_one_by_one(rt, &shared, &mut tally, foreign);
     refused_among_several(rt, &shared, &mut tally, Sealed::make(own));
-    Ok(())
+    Some(())
 }
 
 #[test]
-fn a_shared_store_refuses(rt: HostRuntime) -> Result<(), Fail> {
-    let foreign = foreign_task::<Brand>(rt.alloc(), ledger())?;
-    strangers_are_refused::<Brand, HostRuntime>(&rt, rt.alloc(), ledger(), foreign)
+fn a_shared_store_refuses(rt: HostRuntime) {
+    let foreign = foreign_task::<Brand>(rt.alloc(), ledger());
+    let foreign = foreign.expect(&rt, "a gate may go next");
+    let refused = strangers_are_refused::<Brand, HostRuntime>(&rt, rt.alloc(), ledger(), foreign);
+    assert!(rt; refused.is_some());
 }

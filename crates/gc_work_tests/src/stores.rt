@@ -1,74 +1,14 @@
 //! Tests of the store: the order in which gates may go, refusals, tallies, and whose store it is.
 
-ghost use Rattle.std.specs.Prelude.{◌≡◌};
 ghost use Rattle.gc_store.specs.Account.{IsForStore};
-ghost use Rattle.gc_store.specs.declared.tally.TheConstants.{MAX_TALLIES};
 
-use gc_circuit::Circuit;
-use gc_label::Seed;
-use gc_store::{MAX_TALLIES, Refused, Sealed, Store, Tally, Task};
+use crate::fixtures::{claim_gate, foreign_task, ledger, open, open_with_tally, read, seed_of};
+use gc_store::{Refused, Sealed, Store, Tally, Task};
 use gc_worked::circuits::{FULL_ADDER, NO_GATES};
-use std::alloc::{Allocator, Global};
+use std::alloc::Global;
 use std::marker::Brand;
 use std::process::Abort;
 use std::sync::ledger::{Blank, Ledger};
-use std::test::Fail;
-
-/// What begins the ledger of a store.
-pub(crate) fn ledger() -> Blank
-    ensures { result.parts ≡ MAX_TALLIES }
-{
-    Blank::new(u64::from(MAX_TALLIES))
-}
-
-pub(crate) fn open<L: Ledger>(
-    alloc: Global,
-    ledger: Blank,
-    text: &str,
-    seed: [u8; 32],
-) -> Result<Store<L>, Fail>
-    requires { IsForStore L.name L.parts ledger }
-{
-    let circuit = Circuit::read(alloc, text.as_bytes())?;
-    Ok(Store::<L>::open(alloc, ledger, circuit, Seed::from_bytes(seed))?)
-}
-
-/// A store of the full adder under the seed of 32 zero bytes, and a tally of it.
-pub(crate) fn open_with_tally<L: Ledger>(
-    alloc: Global,
-    ledger: Blank,
-) -> Result<(Store<L>, Tally<L>), Fail>
-    requires { IsForStore L.name L.parts ledger }
-{
-    let mut store = open::<L>(alloc, ledger, FULL_ADDER, [0; 32])?;
-    let tally = store.tally().ok_or("a tally is dealt")?;
-    Ok((store, tally))
-}
-
-/// Finishes the gates that may go next, this many at the most. The answer is how many were finished.
-pub(crate) fn finish_gates<L: Ledger, A: Allocator>(
-    store: &mut Store<L, A>,
-    tally: &mut Tally<L>,
-    most: u32,
-) -> u32 {
-    for finished in 0..most {
-        let Some(task) = store.claim() else {
-            return finished;
-        };
-        if store.finish(Sealed::make(task), tally).is_err() {
-            return finished;
-        }
-    }
-    most
-}
-
-/// The first task of a full adder's store under another seed.
-pub(crate) fn foreign_task<L: Ledger>(alloc: Global, ledger: Blank) -> Result<Task, Fail>
-    requires { IsForStore L.name L.parts ledger }
-{
-    let claimed = open::<L>(alloc, ledger, FULL_ADDER, [1; 32])?.claim();
-    Ok(claimed.ok_or("a gate may go next")?)
-}
 
 /// A step of the work on a circuit.
 #[derive(Clone, Copy)]
@@ -133,190 +73,169 @@ static ORDERS: [&[Step]; 4] = [
 ];
 
 /// The claimed task of a gate.
-fn task_of(claimed: &[Task], gate: u32) -> Result<Task, Fail> {
-    let task = claimed.iter().find(|task| task.gate == gate);
-    Ok(*task.ok_or("the gate was claimed")?)
-}
-
-/// Claims all gates that may go next. Their tasks are put to those of gates that were claimed before.
-fn claim_ready<L: Ledger>(
-    rt: &impl Abort,
-    store: &mut Store<L>,
-    claimed: &mut Vec<Task>,
-    gates: &[u32],
-) -> Result<(), Fail> {
-    for _ in 0..gates.len() {
-        let task = store.claim().ok_or("a gate may go next")?;
-        assert!(rt; gates.iter().any(|gate| *gate == task.gate));
-        claimed.push(task)?;
+fn task_of(claimed: &[Task], gate: u32) -> Option<Task> {
+    for task in claimed {
+        if task.gate == gate {
+            return Some(*task);
+        }
     }
-    assert_eq!(rt; store.claim(), None);
-    Ok(())
+    None
 }
 
-/// Finishes a gate that was claimed.
+/// Whether these gates may go next, and no others. It claims them, and puts their tasks to those that were claimed
+/// before.
+fn are_ready<L: Ledger>(store: &mut Store<L>, claimed: &mut Vec<Task>, gates: &[u32]) -> bool {
+    for _ in 0..gates.len() {
+        let Some(task) = store.claim() else {
+            return false;
+        };
+        if !gates.contains(&task.gate) || claimed.push(task).is_err() {
+            return false;
+        }
+    }
+    store.claim().is_none()
+}
+
+/// Finishes a gate that was claimed. The answer is the store's, or None where it refuses or the gate was not claimed.
 fn finish<L: Ledger>(
     store: &mut Store<L>,
     tally: &mut Tally<L>,
     claimed: &[Task],
     gate: u32,
-) -> Result<Result<bool, Refused>, Fail> {
-    let task = task_of(claimed, gate)?;
-    Ok(store.finish(Sealed::make(task), tally))
+) -> Option<bool> {
+    store
+        .finish(Sealed::make(task_of(claimed, gate)?), tally)
+        .ok()
 }
 
-/// The store takes this step.
-fn take<L: Ledger>(
-    rt: &impl Abort,
+/// Whether the store takes this step as the step says.
+fn takes<L: Ledger>(
     store: &mut Store<L>,
     tally: &mut Tally<L>,
     claimed: &mut Vec<Task>,
     step: Step,
-) -> Result<(), Fail> {
+) -> bool {
     match step {
-        Step::Ready(gates) => claim_ready(rt, store, claimed, gates)?,
-        Step::Reopens(count) => assert_eq!(rt; store.reopen(), count),
-        Step::Claims(gate) => assert_eq!(rt; store.claim().map(|task| task.gate), Some(gate)),
-        Step::Finishes(gate) => {
-            assert_eq!(rt; finish(store, tally, claimed, gate)?, Ok(false));
-        }
+        Step::Ready(gates) => are_ready(store, claimed, gates),
+        Step::Reopens(count) => store.reopen() == count,
+        Step::Claims(gate) => claim_gate(store) == Some(gate),
+        Step::Finishes(gate) => finish(store, tally, claimed, gate) == Some(false),
         Step::Completes(gate) => {
-            let answer = finish(store, tally, claimed, gate)?;
-            assert_eq!(rt; (answer, store.finished(), tally.count()), (Ok(true), 5, 5));
+            let complete = finish(store, tally, claimed, gate) == Some(true);
+            complete && store.finished() == 5 && tally.count() == 5
         }
     }
-    Ok(())
 }
 
-/// A store of the full adder takes these steps.
-fn takes<L: Ledger>(
-    rt: &impl Abort,
-    alloc: Global,
-    ledger: Blank,
-    steps: &[Step],
-) -> Result<(), Fail>
+/// How many of these steps a store of the full adder takes as they say.
+fn steps_taken<L: Ledger>(alloc: Global, ledger: Blank, steps: &[Step]) -> Option<usize>
     requires { IsForStore L.name L.parts ledger }
 {
-    let (mut store, mut tally) = open_with_tally::<L>(alloc, ledger)?;
+    let (mut store, mut tally) = open_with_tally::<L, Global>(alloc, ledger)?;
     let mut claimed = Vec::new(alloc);
+    let mut taken = 0usize;
     for step in steps {
-        take(rt, &mut store, &mut tally, &mut claimed, *step)?;
+        if !takes(&mut store, &mut tally, &mut claimed, *step) {
+            break;
+        }
+        taken = taken.saturating_add(1);
     }
-    Ok(())
+    Some(taken)
 }
 
 #[test]
-fn gates_go_in_order(rt: HostRuntime) -> Result<(), Fail> {
+fn gates_go_in_order(rt: HostRuntime) {
     for steps in ORDERS {
-        takes::<Brand>(&rt, rt.alloc(), ledger(), steps)?;
+        let taken = steps_taken::<Brand>(rt.alloc(), ledger(), steps).unwrap_or(0);
+        assert!(rt; taken == steps.len(), "after {taken} steps");
     }
-    Ok(())
 }
 
-fn refuses_other_inputs<L: Ledger>(
-    rt: &impl Abort,
-    alloc: Global,
-    ledger: Blank,
-    foreign: Task,
-) -> Result<(), Fail>
+/// Whether so many gates are finished, all with this tally.
+fn are_counted<L: Ledger>(store: &Store<L>, tally: &Tally<L>, gates: u32) -> bool {
+    store.finished() == gates && tally.count() == u64::from(gates)
+}
+
+/// Whether a refusal has this number and this name.
+fn is_named(refused: &Refused, code: u32, name: &str) -> bool {
+    refused.code() == code && refused.name() == name
+}
+
+/// A task that was made of other inputs is refused, while its gate is claimed. So is a task whose gate is finished, free,
+/// or not there, which is not asked for its inputs. A refusal counts nothing.
+fn refuses<L: Ledger>(rt: &impl Abort, alloc: Global, ledger: Blank, foreign: Task) -> Option<()>
     requires { IsForStore L.name L.parts ledger }
 {
-    let (mut store, mut tally) = open_with_tally::<L>(alloc, ledger)?;
-    let own = Sealed::make(store.claim().ok_or("a gate may go next")?);
-    let foreign = Sealed::make(foreign);
-    let refused = Refused::OtherInputs(foreign);
-    assert_eq!(rt; store.finish(foreign, &mut tally), Err(refused));
-    assert_eq!(rt; (refused.code(), refused.name()), (21, "OtherInputs"));
-    // The gate is still claimed, and nothing was counted.
-    let answer = store.finish(own, &mut tally);
-    assert_eq!(rt;
-        (answer, store.finished(), tally.count()),
-        (Ok(false), 1, 1)
-    );
-    Ok(())
-}
-
-#[test]
-fn refuses_a_task_of_other_inputs(rt: HostRuntime) -> Result<(), Fail> {
-    let foreign = foreign_task::<Brand>(rt.alloc(), ledger())?;
-    refuses_other_inputs::<Brand>(&rt, rt.alloc(), ledger(), foreign)
-}
-
-/// A task is refused whose gate is finished, free, or not there. It is not asked for its inputs.
-fn refuses_unclaimed<L: Ledger>(rt: &impl Abort, alloc: Global, ledger: Blank) -> Result<(), Fail>
-    requires { IsForStore L.name L.parts ledger }
-{
-    let (mut store, mut tally) = open_with_tally::<L>(alloc, ledger)?;
-    let own = Sealed::make(store.claim().ok_or("a gate may go next")?);
-    assert_eq!(rt; store.finish(own, &mut tally), Ok(false));
+    let (mut store, mut tally) = open_with_tally::<L, Global>(alloc, ledger)?;
+    let own = Sealed::make(store.claim()?);
+    let other = Sealed::make(foreign);
+    assert!(rt; store.finish(other, &mut tally) == Err(Refused::OtherInputs(other)));
+    assert!(rt; store.finish(own, &mut tally) == Ok(false));
+    assert!(rt; are_counted(&store, &tally, 1));
     for gate in [0, 1, 5, u32::MAX] {
         let sealed = Sealed::make(Task { gate, ..own.task() });
-        let answer = store.finish(sealed, &mut tally);
-        assert_eq!(rt;
-            (answer, store.finished(), tally.count()),
-            (Err(Refused::NotClaimed(sealed)), 1, 1)
-        );
+        let refused = store.finish(sealed, &mut tally) == Err(Refused::NotClaimed(sealed));
+        assert!(rt; refused && are_counted(&store, &tally, 1), "gate {gate}");
     }
-    let refused = Refused::NotClaimed(own);
-    assert_eq!(rt; (refused.code(), refused.name()), (20, "NotClaimed"));
-    Ok(())
+    assert!(rt; is_named(&Refused::NotClaimed(own), 20, "NotClaimed"));
+    assert!(rt; is_named(&Refused::OtherInputs(other), 21, "OtherInputs"));
+    Some(())
+}
+
+/// A store refuses tasks, with one of a store under another seed among them.
+fn refuses_foreign(rt: &impl Abort, alloc: Global) -> Option<()> {
+    let foreign = foreign_task::<Brand>(alloc, ledger())?;
+    refuses::<Brand>(rt, alloc, ledger(), foreign)
 }
 
 #[test]
-fn refuses_a_gate_that_is_not_claimed(rt: HostRuntime) -> Result<(), Fail> {
-    refuses_unclaimed::<Brand>(&rt, rt.alloc(), ledger())
+fn refuses_tasks(rt: HostRuntime) {
+    assert!(rt; refuses_foreign(&rt, rt.alloc()).is_some());
 }
 
-fn deals_64<L: Ledger>(rt: &impl Abort, alloc: Global, ledger: Blank) -> Result<(), Fail>
+/// Whether a store deals 64 tallies of nothing, and then none.
+fn deals_64<L: Ledger>(alloc: Global, ledger: Blank) -> Option<bool>
     requires { IsForStore L.name L.parts ledger }
 {
-    let mut store = open::<L>(alloc, ledger, FULL_ADDER, [0; 32])?;
-    for i in 0..64 {
-        let count = store.tally().map(|tally| tally.count());
-        assert_eq!(rt; count, Some(0), "tally {i}");
+    let mut store = open::<L, Global>(alloc, ledger, seed_of(0))?;
+    for _ in 0..64 {
+        if store.tally()?.count() != 0 {
+            return Some(false);
+        }
     }
-    assert!(rt; store.tally().is_none());
-    Ok(())
+    Some(store.tally().is_none())
 }
 
 #[test]
-fn deals_64_tallies(rt: HostRuntime) -> Result<(), Fail> {
-    deals_64::<Brand>(&rt, rt.alloc(), ledger())
+fn deals_64_tallies(rt: HostRuntime) {
+    assert!(rt; deals_64::<Brand>(rt.alloc(), ledger()) == Some(true));
 }
 
-fn is_for_its_own<L: Ledger>(rt: &impl Abort, alloc: Global, ledger: Blank) -> Result<(), Fail>
+/// Whether the full adder's store under 32 zero bytes is for its circuit and its seed, and for no other.
+fn is_for_its_own<L: Ledger>(alloc: Global, store: &Store<L>) -> Option<bool> {
+    let own = read(alloc, FULL_ADDER)?;
+    let other = read(alloc, NO_GATES)?;
+    Some(
+        store.is_for(&own, &seed_of(0))
+            && !store.is_for(&own, &seed_of(1))
+            && !store.is_for(&other, &seed_of(0)),
+    )
+}
+
+/// A store whose gate is claimed is given back as it is.
+fn is_given_back<L: Ledger>(rt: &impl Abort, alloc: Global, ledger: Blank) -> Option<()>
     requires { IsForStore L.name L.parts ledger }
 {
-    let own = Circuit::read(alloc, FULL_ADDER.as_bytes())?;
-    let other = Circuit::read(alloc, NO_GATES.as_bytes())?;
-    let (seed, other_seed) = (Seed::from_bytes([0; 32]), Seed::from_bytes([1; 32]));
-    let store = open::<L>(alloc, ledger, FULL_ADDER, [0; 32])?;
-    let answers = [
-        store.is_for(&own, &seed),
-        store.is_for(&own, &other_seed),
-        store.is_for(&other, &seed),
-    ];
-    assert_eq!(rt; answers, [true, false, false]);
-    Ok(())
+    let (mut store, mut tally) = open_with_tally::<L, Global>(alloc, ledger)?;
+    assert!(rt; is_for_its_own(alloc, &store) == Some(true));
+    let task = store.claim()?;
+    let mut store = store.into_garbling().err()?;
+    assert!(rt; store.finish(Sealed::make(task), &mut tally) == Ok(false));
+    assert!(rt; store.finished() == 1);
+    Some(())
 }
 
 #[test]
-fn is_for_its_circuit_and_seed(rt: HostRuntime) -> Result<(), Fail> {
-    is_for_its_own::<Brand>(&rt, rt.alloc(), ledger())
-}
-
-fn is_given_back<L: Ledger>(rt: &impl Abort, alloc: Global, ledger: Blank) -> Result<(), Fail>
-    requires { IsForStore L.name L.parts ledger }
-{
-    let (mut store, mut tally) = open_with_tally::<L>(alloc, ledger)?;
-    let task = store.claim().ok_or("a gate may go next")?;
-    let mut store = store.into_garbling().err().ok_or("garbled too early")?;
-    let answer = store.finish(Sealed::make(task), &mut tally);
-    assert_eq!(rt; (answer, store.finished()), (Ok(false), 1));
-    Ok(())
-}
-
-#[test]
-fn an_incomplete_store_is_given_back(rt: HostRuntime) -> Result<(), Fail> {
-    is_given_back::<Brand>(&rt, rt.alloc(), ledger())
+fn an_incomplete_store_is_given_back(rt: HostRuntime) {
+    assert!(rt; is_given_back::<Brand>(&rt, rt.alloc(), ledger()).is_some());
 }
