@@ -1,7 +1,7 @@
 //! The names of the parts that are timed.
 
 /// A part of the program's work.
-#[derive(Clone, Copy)]
+#[derive(Clone, Copy, PartialEq, Eq, Debug)]
 pub enum Part {
     /// Reading the circuit from bytes.
     Read,
@@ -59,42 +59,41 @@ pub enum Part {
     FileSha,
 }
 
-/// All parts, with their names on the command line.
-const PARTS: [(&str, Part); 27] = [
-    ("read", Part::Read),
-    ("plain", Part::Plain),
-    ("garble", Part::Garble),
-    ("hashes", Part::Hashes),
-    ("lanes", Part::Lanes),
-    ("eight_lanes", Part::EightLanes),
-    ("evaluate", Part::Evaluate),
-    ("open", Part::Open),
-    ("store", Part::Store),
-    ("seal", Part::Seal),
-    ("garble1", Part::Garble1),
-    ("garble2", Part::Garble2),
-    ("garble4", Part::Garble4),
-    ("job", Part::Job),
-    ("board", Part::Board),
-    ("job1", Part::Job1),
-    ("job2", Part::Job2),
-    ("job4", Part::Job4),
-    ("list", Part::List),
-    ("list1", Part::List1),
-    ("list4", Part::List4),
-    ("digest", Part::Digest),
-    ("sha", Part::Sha),
-    ("write", Part::Write),
-    ("read_file", Part::ReadFile),
-    ("pieces", Part::Pieces),
-    ("file_sha", Part::FileSha),
+/// All parts.
+const PARTS: [Part; 27] = [
+    Part::Read,
+    Part::Plain,
+    Part::Garble,
+    Part::Hashes,
+    Part::Lanes,
+    Part::EightLanes,
+    Part::Evaluate,
+    Part::Open,
+    Part::Store,
+    Part::Seal,
+    Part::Garble1,
+    Part::Garble2,
+    Part::Garble4,
+    Part::Job,
+    Part::Board,
+    Part::Job1,
+    Part::Job2,
+    Part::Job4,
+    Part::List,
+    Part::List1,
+    Part::List4,
+    Part::Digest,
+    Part::Sha,
+    Part::Write,
+    Part::ReadFile,
+    Part::Pieces,
+    Part::FileSha,
 ];
 
 impl Part {
     /// The part of this name, where there is one.
     pub fn named(name: &str) -> Option<Part> {
-        let found = PARTS.iter().find(|(known, _)| *known == name);
-        found.map(|(_, part)| *part)
+        PARTS.iter().copied().find(|part| part.name() == name)
     }
 
     /// How many jobs the list that it takes has, if it takes one.
@@ -102,6 +101,39 @@ impl Part {
         match self {
             Part::List | Part::List1 | Part::List4 => 1000,
             _ => 0,
+        }
+    }
+
+    /// Its name on the command line.
+    fn name(self) -> &'static str {
+        match self {
+            Part::Read => "read",
+            Part::Plain => "plain",
+            Part::Garble => "garble",
+            Part::Hashes => "hashes",
+            Part::Lanes => "lanes",
+            Part::EightLanes => "eight_lanes",
+            Part::Evaluate => "evaluate",
+            Part::Open => "open",
+            Part::Store => "store",
+            Part::Seal => "seal",
+            Part::Garble1 => "garble1",
+            Part::Garble2 => "garble2",
+            Part::Garble4 => "garble4",
+            Part::Job => "job",
+            Part::Board => "board",
+            Part::Job1 => "job1",
+            Part::Job2 => "job2",
+            Part::Job4 => "job4",
+            Part::List => "list",
+            Part::List1 => "list1",
+            Part::List4 => "list4",
+            Part::Digest => "digest",
+            Part::Sha => "sha",
+            Part::Write => "write",
+            Part::ReadFile => "read_file",
+            Part::Pieces => "pieces",
+            Part::FileSha => "file_sha",
         }
     }
 }
