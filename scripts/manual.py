@@ -8,6 +8,9 @@ import re
 import subprocess
 import sys
 
+# Each command has this option; the page says it once.
+HELP = "-h, --help"
+
 EXIT_STATUS = [
     ("0", "The command succeeded, or a text that was asked for was printed."),
     ("1", "A fault: a line on standard error says \\(oqhalfgates: fault CODE NAME\\(cq."),
@@ -26,12 +29,12 @@ def escaped(text):
 
 
 def tagged(rows):
-    """A list of terms, each with what it says."""
+    """A list of terms, each with what is said of it."""
     return "".join(f".TP\n.B {escaped(term)}\n{escaped(said)}\n" for term, said in rows)
 
 
 def rows(block):
-    """The terms of a block of help and what it says of each. Two spaces or more part them."""
+    """The terms of a block of help, each with what is said of it. Two spaces or more part them."""
     return [re.split(r" {2,}", line.strip(), maxsplit=1) for line in block.splitlines()[1:]]
 
 
@@ -49,15 +52,17 @@ def command(program, name):
     about, usage, *blocks = asked(program, name, "--help").rstrip("\n").split("\n\n")
     page = f".SS {escaped(usage.removeprefix('Usage: '))}\n{escaped(about)}.\n"
     for block in blocks:
-        head = block.splitlines()[0]
-        page += tagged(rows(block)) if head in ("Arguments:", "Options:") else paragraph(block)
+        if block.splitlines()[0] in ("Arguments:", "Options:"):
+            page += tagged((term, said) for term, said in rows(block) if term != HELP)
+        else:
+            page += paragraph(block)
     return page
 
 
 def manual(program):
     about, usage, commands, options = asked(program, "--help").rstrip("\n").split("\n\n")
     page = f'.TH HALFGATES 1 "" "{asked(program, "--version").strip()}" "User Commands"\n'
-    page += f".SH NAME\nhalfgates \\- {escaped(about)}\n"
+    page += f".SH NAME\nhalfgates \\- {escaped(about[0].lower() + about[1:])}\n"
     page += f".SH SYNOPSIS\n{escaped(usage.removeprefix('Usage: '))}\n"
     page += ".SH COMMANDS\n" + "".join(command(program, name) for name, _ in rows(commands))
     page += f".SH OPTIONS\n{tagged(rows(options))}"
