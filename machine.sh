@@ -1,9 +1,9 @@
 # What the launcher, the build, the tests and the benchmarks share. A script sources it, with the folder of the
 # repository as $top.
 
-# The checksum of the sources of a program: crates.txt, and src/ and specs/ of the crates that it stands on.
-sum_of_sources() {
-    awk -F: -v program="$1" '
+# Where the sources of a program lie: crates.txt, and src/ and specs/ of the crates that it stands on.
+places_of_sources() {
+    names=$(awk -F: -v program="$1" '
         { sub(/#.*/, "") }
         NF > 1 { split($1, first, " "); uses[first[1]] = $2 }
         function visit(name,    names, i, n) {
@@ -11,12 +11,19 @@ sum_of_sources() {
             seen[name]
             n = split(uses[name], names, " ")
             for (i = 1; i <= n; i++) visit(names[i])
-            print "crates/" name "/src"
-            print "crates/" name "/specs"
+            print name
         }
-        END { print "crates.txt"; visit(program) }' "$top/crates.txt" |
-        (cd "$top" && xargs sh -c 'find "$@" -type f' find 2>/dev/null | LC_ALL=C sort | xargs sha256sum) |
-        sha256sum | cut -d' ' -f1
+        END { visit(program) }' "$top/crates.txt")
+    for name in $names; do
+        for place in "crates/$name/src" "crates/$name/specs"; do
+            [ -d "$top/$place" ] && echo "$place"
+        done
+    done | xargs echo crates.txt
+}
+
+# The checksum of the sources of a program.
+sum_of_sources() {
+    (cd "$top" && find $(places_of_sources "$1") -type f | LC_ALL=C sort | xargs sha256sum) | sha256sum | cut -d' ' -f1
 }
 
 # Whether a program was built from sources with this checksum: the file beside it says from which it was.
