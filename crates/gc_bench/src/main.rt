@@ -1,12 +1,9 @@
 //! Times the parts of the program on a circuit file, for the scripts in `bench/`.
 #![tactic(auto)]
 
-mod boards;
-mod evaluations;
-mod lists;
+mod jobs;
 mod measures;
 mod part;
-mod stores;
 mod timing;
 
 use anyhow::Result;

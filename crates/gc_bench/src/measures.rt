@@ -1,18 +1,14 @@
 //! The parts that are timed.
 
-use crate::boards::at_a_board;
-use crate::evaluations::{alone, by_workers, job_of};
-use crate::lists::{one_after_another, together};
+use crate::jobs::{job_of, one_after_another, together};
 use crate::part::Part;
-use crate::stores::{garble_once, open_once, tasks};
 use anyhow::{Result, anyhow};
 use gc_circuit::{Circuit, fits, plain_eval};
-use gc_eval::{Job, evaluate_labels};
+use gc_eval::{Job, evaluate, evaluate_many};
 use gc_file::{GarbledReader, MemSink, Sink, SinkFault, read_garbled, write_garbled2};
-use gc_half::{Garbling, garble_one_thread, tweak_hash};
-use gc_label::{Label, Seed, fill_input_labels};
+use gc_half::{Garbling, garble_one_thread};
+use gc_label::Seed;
 use gc_lanes::{hash_eight, hash_four};
-use gc_store::{Sealed, Task};
 use gc_work::{Open, garble};
 use sha2::{Digest, Sha256};
 use std::alloc::Global;
@@ -32,9 +28,6 @@ pub struct Subject {
 #[derive(Drop)]
 struct Materials {
     values: Vec<Vec<bool>>,
-    labels: Vec<Label>,
-    decode_bits: Vec<bool>,
-    tasks: Vec<Task>,
     canonical_text: Vec<u8>,
     garbled_file: Vec<u8>,
 }
@@ -43,9 +36,6 @@ impl Materials {
     fn of(alloc: Global, circuit: &Circuit, garbling: &Garbling, seed: &Seed) -> Result<Materials> {
         Ok(Materials {
             values: values_of(alloc, circuit)?,
-            labels: labels_of(alloc, circuit, seed)?,
-            decode_bits: decode_bits_of(alloc, garbling)?,
-            tasks: tasks(alloc, circuit, *seed)?,
             canonical_text: circuit.canon(alloc)?,
             garbled_file: file_of(alloc, circuit, garbling, seed)?,
         })
@@ -59,21 +49,6 @@ fn values_of(alloc: Global, circuit: &Circuit) -> Result<Vec<Vec<bool>>> {
         values.push(vec![in alloc; false; *width as usize]?)?;
     }
     Ok(values)
-}
-
-/// The labels of these values.
-fn labels_of(alloc: Global, circuit: &Circuit, seed: &Seed) -> Result<Vec<Label>> {
-    let mut labels = vec![in alloc; Label::ZERO; circuit.input_wires() as usize]?;
-    fill_input_labels(seed, 0, &mut labels);
-    Ok(labels)
-}
-
-fn decode_bits_of(alloc: Global, garbling: &Garbling) -> Result<Vec<bool>> {
-    let mut decode_bits = Vec::new(alloc);
-    for i in 0..garbling.outputs() {
-        decode_bits.push(garbling.decode_bit(i))?;
-    }
-    Ok(decode_bits)
 }
 
 /// A sink that takes all and keeps nothing.
@@ -117,7 +92,7 @@ impl Subject {
         )
     }
 
-    /// So many such jobs.
+    /// This many such jobs.
     pub fn jobs(&self, alloc: Global, count: u32) -> Result<Vec<Job<'_>>> {
         let mut jobs = Vec::with_capacity(alloc, count as usize)?;
         for _ in 0..count {
@@ -139,25 +114,14 @@ impl Subject {
         match part {
             Part::Read => read(alloc, text),
             Part::Plain => self.plain(alloc),
-            Part::Garble => self.garble_alone(alloc),
-            Part::Hashes => self.hashes(),
             Part::Lanes => self.lanes(),
             Part::EightLanes => self.eight_lanes(),
-            Part::Evaluate => self.evaluate(alloc),
-            Part::Open => open_once(alloc, &self.circuit, self.seed),
-            Part::Store => garble_once(alloc, &self.circuit, self.seed),
-            Part::Seal => self.seal(),
-            Part::Garble1 => self.garble(rt, alloc, 1),
-            Part::Garble2 => self.garble(rt, alloc, 2),
-            Part::Garble4 => self.garble(rt, alloc, 4),
-            Part::Job => alone(alloc, job),
-            Part::Board => at_a_board(alloc, job),
-            Part::Job1 => by_workers(rt, alloc, job, 1),
-            Part::Job2 => by_workers(rt, alloc, job, 2),
-            Part::Job4 => by_workers(rt, alloc, job, 4),
+            Part::Garble => self.garble_alone(alloc),
+            Part::GarbleBy(workers) => self.garble(rt, alloc, workers),
+            Part::Job => evaluate_alone(alloc, job),
+            Part::JobBy(workers) => evaluate_by(rt, alloc, job, workers),
             Part::List => one_after_another(alloc, jobs),
-            Part::List1 => together(rt, alloc, jobs, 1),
-            Part::List4 => together(rt, alloc, jobs, 4),
+            Part::ListBy(workers) => together(rt, alloc, jobs, workers),
             Part::Digest => self.digest(),
             Part::Sha => sha(&self.materials.canonical_text),
             Part::Write => write(&mut Nowhere, &self.circuit, &self.garbling, &self.seed),
@@ -175,19 +139,7 @@ impl Subject {
         Ok(())
     }
 
-    /// The hashes of garbling, each of the label that the one before gave.
-    fn hashes(&self) -> Result<()> {
-        let mut label = Label::ZERO;
-        for k in 0..4 * u64::from(self.circuit.and_count()) {
-            label = tweak_hash(label, k);
-        }
-        if label == Label::ZERO {
-            return Err(anyhow!("a hash of zeros"));
-        }
-        Ok(())
-    }
-
-    /// As many hashes, each of the label that the one before in its lane gave.
+    /// The hashes of garbling in four lanes, each of the label that the one before in its lane gave.
     fn lanes(&self) -> Result<()> {
         let mut labels = [0; 4];
         for k in 0..u64::from(self.circuit.and_count()) {
@@ -199,7 +151,7 @@ impl Subject {
         Ok(())
     }
 
-    /// As many hashes, in eight lanes.
+    /// The same number of hashes, in eight lanes.
     fn eight_lanes(&self) -> Result<()> {
         let mut labels = [0; 8];
         for k in 0..u64::from(self.circuit.and_count().div_ceil(2)) {
@@ -216,7 +168,7 @@ impl Subject {
         Ok(())
     }
 
-    /// Garbles by so many workers.
+    /// Garbles by this many workers.
     fn garble<R: Threads + Wait + Sync>(&self, rt: &R, alloc: Global, workers: u32) -> Result<()> {
         garble(rt, alloc, &self.circuit, &self.seed, workers, &Open).map_err(|_| anyhow!(
             "no garbling"
@@ -239,44 +191,23 @@ impl Subject {
         }
         not_zeros(reader.end()?.digest())
     }
+}
 
-    /// Seals the tasks, and adds up their labels and rows, so that each has to be computed.
-    fn seal(&self) -> Result<()> {
-        let mut sum = Label::ZERO;
-        for task in &self.materials.tasks {
-            let sealed = Sealed::make(*task);
-            sum = sum.xor(sealed.zero_label());
-            if let Some(rows) = sealed.rows() {
-                sum = sum.xor(rows.generator).xor(rows.evaluator);
-            }
-        }
-        if sum == Label::ZERO {
-            return Err(anyhow!("a sum of zeros"));
-        }
-        Ok(())
-    }
+/// Evaluates a job on one thread.
+fn evaluate_alone(alloc: Global, job: &Job) -> Result<()> {
+    evaluate(alloc, job)?;
+    Ok(())
+}
 
-    fn evaluate(&self, alloc: Global) -> Result<()> {
-        let Materials {
-            labels,
-            decode_bits,
-            ..
-        } = &self.materials;
-        let fit = self.garbling.fits(&self.circuit)
-            && decode_bits.len() == self.circuit.output_wires() as usize
-            && labels.len() == self.circuit.input_wires() as usize;
-        if !fit {
-            return Err(anyhow!("the parts do not fit"));
-        }
-        evaluate_labels(
-            alloc,
-            &self.circuit,
-            self.garbling.rows(),
-            decode_bits,
-            labels,
-        )?;
-        Ok(())
-    }
+/// Evaluates a job by this many workers.
+fn evaluate_by<R: Threads + Wait + Sync>(
+    rt: &R,
+    alloc: Global,
+    job: &Job,
+    workers: u32,
+) -> Result<()> {
+    evaluate_many(rt, alloc, job, workers, &Open)?;
+    Ok(())
 }
 
 /// Reads a circuit.

@@ -1,16 +1,14 @@
-//! The tests of the commands over files in memory: from files to files, lists of jobs, files that fail, and each
-//! growth of a command refused in turn.
+//! The tests of commands that need what no disk gives: files that fail at each call and in mid-stream, each growth
+//! refused in turn, and streams that fail.
 #![tactic(auto)]
 
 #[cfg(test)]
-mod checks;
+mod command_line;
 #[cfg(test)]
 mod failing_files;
 #[cfg(test)]
 mod growth;
 #[cfg(test)]
-mod job_lists;
+mod host_files;
 #[cfg(test)]
-mod walks;
-#[cfg(test)]
-mod zero_labels;
+mod jobs;

@@ -12,7 +12,7 @@ use gc_format::Version;
 use std::alloc::{AllocError, Global};
 
 /// A command with its words. What the words of a command name, as files, is the command's own affair.
-#[derive(Debug, PartialEq, Eq, Drop)]
+#[derive(Drop)]
 pub enum Order {
     /// Garble a circuit and evaluate it on these values.
     Run {

@@ -43,9 +43,6 @@ pub const EMPTY: &str = "00 00 00 00";
 
 pub const SQUARE: &str = "1 2\n1 1\n1 1\n2 1 0 0 1 AND";
 
-/// A value of twelve wires, and two output values of one and twelve wires.
-pub const WIDE: &str = "1 13\n1 12\n2 1 12\n1 1 0 12 EQW";
-
 /// Wires with numbers of seven digits.
 pub const MANY_WIRES: &str =
     "3 2097152\n2 2097149 0\n0\n1 1 2097148 2097149 INV\n1 1 0 2097150 EQ\n1 1 2097150 2097151 EQW";

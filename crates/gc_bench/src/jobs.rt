@@ -1,13 +1,13 @@
-//! The evaluation of a job, on one thread and by workers.
+//! A job, and the evaluation of a list of jobs on one thread and by workers.
 
 use anyhow::{Result, anyhow};
+use gc_bank::{MAX_JOBS, evaluate_jobs, one_circuit};
 use gc_circuit::Circuit;
-use gc_eval::{Job, evaluate, evaluate_many};
+use gc_eval::{Job, evaluate};
 use gc_file::{LabelFile, MemSink, read_garbled, read_labels, write_labels};
 use gc_label::Seed;
 use gc_work::Open;
 use std::alloc::Global;
-use std::sync::Wait;
 use std::thread::Threads;
 
 /// The job of a garbled file and of label files for these values, dealt under the seed.
@@ -42,19 +42,24 @@ fn label_file(
     Ok(read_labels(alloc, &sink.into_bytes())?)
 }
 
-/// Evaluates the job on one thread.
-pub fn alone(alloc: Global, job: &Job) -> Result<()> {
-    evaluate(alloc, job)?;
+/// Evaluates the jobs on one thread, one after another.
+pub fn one_after_another(alloc: Global, jobs: &[Job]) -> Result<()> {
+    for job in jobs {
+        evaluate(alloc, job)?;
+    }
     Ok(())
 }
 
-/// Evaluates the job by so many workers.
-pub fn by_workers<R: Threads + Wait + Sync>(
+/// Evaluates the jobs by this many workers.
+pub fn together<R: Threads + Sync>(
     rt: &R,
     alloc: Global,
-    job: &Job,
+    jobs: &[Job],
     workers: u32,
 ) -> Result<()> {
-    evaluate_many(rt, alloc, job, workers, &Open)?;
+    if jobs.is_empty() || jobs.len() > MAX_JOBS || !one_circuit(jobs) {
+        return Err(anyhow!("the jobs are no list on one circuit"));
+    }
+    evaluate_jobs(rt, alloc, jobs, workers, &Open)?;
     Ok(())
 }

@@ -1,0 +1,66 @@
+//! Tests of a command line that can't be read, and of the numbers of faults.
+
+use gc_circuit::{ReadFault, ValueFault};
+use gc_cli::{Ending, Fault, Output, refuse_line};
+use gc_eval::{BindFault, EvalFault};
+use gc_file::FileFault;
+use gc_work::WorkFault;
+use std::io::{self, ErrorKind, Write};
+
+/// A writer that takes nothing.
+#[derive(Drop)]
+struct Closed;
+
+impl Write for Closed {
+    fn write(&mut self, _buf: &[u8]) -> io::Result<usize> {
+        Err(io::ErrorKind::BrokenPipe.into())
+    }
+
+    fn flush(&mut self) -> io::Result<()> {
+        Ok(())
+    }
+}
+
+/// A line whose words can't be had is a line that can't be read, whether or not that can be said.
+#[test]
+fn refuses_words_that_cannot_be_had(rt: HostRuntime) {
+    let rows = [
+        (
+            ErrorKind::InvalidData,
+            "error: the command line can't be read: a word is not UTF-8\n",
+        ),
+        (
+            ErrorKind::OutOfMemory,
+            "error: the command line can't be read: out of memory\n",
+        ),
+        (
+            ErrorKind::Other,
+            "error: the command line can't be read: its words can't be had\n",
+        ),
+    ];
+    for (kind, errors) in rows {
+        let mut err = Output::new(Vec::new(rt.alloc()));
+        assert_eq!(rt; refuse_line(&kind.into(), &mut err), Ending::Usage);
+        assert_eq!(rt; err.into_inner().as_slice(), errors.as_bytes());
+        assert_eq!(rt;
+            refuse_line(&kind.into(), &mut Output::new(Closed)),
+            Ending::Usage
+        );
+    }
+}
+
+#[test]
+fn want_of_memory_has_numbers(rt: HostRuntime) {
+    let faults = [
+        (Fault::Circuit(ReadFault::Memory), 13),
+        (Fault::Value(ValueFault::Memory), 13),
+        (Fault::Garbling(WorkFault::Memory), 23),
+        (Fault::File(FileFault::Memory), 36),
+        (Fault::Binding(BindFault::Memory), 46),
+        (Fault::Evaluation(EvalFault::Memory), 46),
+        (Fault::Memory, 52),
+    ];
+    for (fault, code) in faults {
+        assert_eq!(rt; (fault.code(), fault.name()), (code, "Memory"));
+    }
+}

@@ -1,0 +1,79 @@
+//! Tests of a reader that fails in mid-stream, and of files on a disk whose growth is refused.
+
+use gc_cli::{FileError, Files, HostFiles, read_all};
+use gc_refusing::Refusing;
+use std::alloc::Global;
+use std::io::{self, ErrorKind, Read};
+use std::test::Fail;
+use std::{env, fs, process, rt};
+
+/// A reader that gives this many bytes, each 7, and then fails for this reason.
+#[derive(Drop)]
+struct Failing {
+    left: usize,
+    reason: ErrorKind,
+}
+
+impl Read for Failing {
+    fn read(&mut self, buf: &mut [u8]) -> io::Result<usize> {
+        if self.left == 0 {
+            return Err(self.reason.into());
+        }
+        let count = buf.len().min(self.left);
+        buf[..count].fill(7);
+        self.left -= count;
+        Ok(count)
+    }
+}
+
+/// No byte is answered of a stream that fails, neither at once nor after some bytes.
+#[test]
+fn fails_where_a_stream_fails(rt: HostRuntime) {
+    let reasons = [
+        (ErrorKind::BrokenPipe, FileError::CannotRead),
+        (ErrorKind::UnexpectedEof, FileError::CannotRead),
+        (ErrorKind::OutOfMemory, FileError::Memory),
+    ];
+    for (reason, error) in reasons {
+        for left in [0, 1, 5000] {
+            let answer = read_all(rt.alloc(), &mut Failing { left, reason });
+            assert_eq!(rt; answer.err(), Some(error), "after {left} bytes");
+        }
+    }
+}
+
+/// The path of a file of this process alone, in the folder for such files.
+fn own_path(rt: &HostRuntime) -> Result<String, Fail> {
+    let alloc = rt.alloc();
+    let file = format!(in alloc; "halfgates_host_files_{}", process::id(rt.process()))?;
+    let path = env::temp_dir(rt)?.join(alloc, file.as_str())?;
+    Ok(String::from_str(alloc, path.as_str())?)
+}
+
+/// Whether the file is read, and has these bytes.
+fn is_read(rt: &impl rt::Files, alloc: Global, path: &str, bytes: &[u8]) -> bool {
+    match HostFiles::new(rt).read(alloc, path) {
+        Ok(read) => read.as_slice() == bytes,
+        Err(_) => false,
+    }
+}
+
+/// Why the file isn't read where the first growth is refused.
+fn refused(rt: &impl rt::Files, alloc: Global, path: &str) -> Option<FileError> {
+    let heap = Refusing::nth(alloc, 1);
+    HostFiles::new(rt).read(&heap, path).err()
+}
+
+/// A file of ten thousand bytes is read whole, and with its first growth refused not at all.
+#[test]
+fn reads_a_file_whole(rt: HostRuntime) -> Result<(), Fail> {
+    let path = own_path(&rt)?;
+    let bytes = vec![in rt.alloc(); 200u8; 10_000]?;
+    fs::write(&rt, path.as_str(), bytes.as_slice())?;
+    let whole = is_read(&rt, rt.alloc(), path.as_str(), &bytes);
+    let error = refused(&rt, rt.alloc(), path.as_str());
+    fs::remove_file(&rt, path.as_str())?;
+    assert!(rt; whole);
+    assert_eq!(rt; error, Some(FileError::Memory));
+    Ok(())
+}

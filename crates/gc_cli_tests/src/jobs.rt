@@ -1,0 +1,47 @@
+//! The files of a job and the orders over them.
+
+use gc_circuit::Circuit;
+use gc_cli::{Order, order_of};
+use gc_file::Version;
+use gc_worked::files::{label_file, write};
+use std::alloc::{AllocError, Global};
+use std::test::Fail;
+
+/// Files, each with its name.
+pub type NamedFiles = Vec<(&'static str, Vec<u8>)>;
+
+/// The files of an honest job under the seed of zeros: the circuit `c.txt`, its garbled file `g`, a label file for each
+/// bit, named by its index, and a list of these.
+pub fn job_files(alloc: Global, text: &str, bits: &[bool]) -> Result<NamedFiles, Fail> {
+    let circuit = Circuit::read(alloc, text.as_bytes())?;
+    let mut files = Vec::new(alloc);
+    files.push(("c.txt", Vec::from_slice(alloc, text.as_bytes())?))?;
+    files.push(("g", write(alloc, text, Version::Two, None)?.bytes))?;
+    let mut list = Vec::from_slice(alloc, b"g".as_slice())?;
+    for ((index, name), bit) in (0..).zip(["0", "1", "2"]).zip(bits) {
+        files.push((name, label_file(alloc, &circuit, index, &[*bit])?))?;
+        list.extend_from_slice(b" ")?;
+        list.extend_from_slice(name.as_bytes())?;
+    }
+    files.push(("list", list))?;
+    Ok(files)
+}
+
+/// The files as files in memory take them.
+pub fn held(alloc: Global, files: &NamedFiles) -> Result<Vec<(&str, &[u8])>, AllocError> {
+    let mut held = Vec::new(alloc);
+    for (name, bytes) in files {
+        held.push((*name, bytes.as_slice()))?;
+    }
+    Ok(held)
+}
+
+/// The order of these words.
+pub fn order(alloc: Global, words: &[&str]) -> Result<Order, Fail> {
+    let mut copies = Vec::new(alloc);
+    copies.push(String::from_str(alloc, "halfgates")?)?;
+    for word in words {
+        copies.push(String::from_str(alloc, word)?)?;
+    }
+    Ok(order_of(alloc, &copies)?)
+}

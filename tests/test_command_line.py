@@ -1,0 +1,143 @@
+"""The words of the command line: help, orders, and words that are no order."""
+import unittest
+
+from program import FULL_ADDER, SEED, XOR, ProgramTest
+
+RUN_HELP = """\
+Garbles a circuit, and evaluates it garbled on the given values
+
+Usage: halfgates run [OPTIONS] <CIRCUIT> <SEED> [VALUES]...
+
+Arguments:
+  <CIRCUIT>    The file of the circuit, in Bristol Fashion
+  <SEED>       The seed of the garbling: 64 hexadecimal digits
+  [VALUES]...  A value for each input value of the circuit: a character 0 or 1 for each wire, in \
+wire order, or x and two hexadecimal digits for each 8 wires, of which the first wire is the \
+lowest bit
+
+Options:
+      --workers <WORKERS>  How many threads work, from 1 to 64; what they make is the same \
+[default: 1]
+  -h, --help               Print help
+
+Prints the output values, one a line: a character 0 or 1 for each wire, in wire order.
+
+Example, with a full adder in adder.txt that reads three bits:
+  halfgates run adder.txt 0000000000000000000000000000000000000000000000000000000000000000 1 0 1
+"""
+
+HELP = """\
+Garbles Boolean circuits, and evaluates them garbled
+
+Usage: halfgates <COMMAND>
+
+Commands:
+  run     Garbles a circuit, and evaluates it garbled on the given values
+  plain   Evaluates a circuit on the given values, without garbling
+  check   Tells a circuit's numbers and its digest
+  garble  Garbles a circuit into a file
+  deal    Writes the labels of an input value into a file
+  eval    Evaluates a circuit garbled, from a garbled file and label files
+  jobs    Evaluates a list of garbled files of one circuit
+
+Options:
+  -h, --help     Print help
+  -V, --version  Print version
+"""
+
+TRY_HELP = "\nFor more information, try '--help'.\n"
+
+
+def missing(word, usage):
+    """What is printed where a required word is missing."""
+    return (
+        "error: the following required arguments were not provided:\n"
+        f"  <{word}>\n\nUsage: halfgates {usage}\n{TRY_HELP}"
+    )
+
+
+# Words that are no order, and what standard error says.
+NO_ORDERS = [
+    ([], HELP),
+    (
+        ["walk"],
+        "error: unrecognized subcommand 'walk'\n\nUsage: halfgates <COMMAND>\n" + TRY_HELP,
+    ),
+    (["run", "c.txt"], missing("SEED", "run <CIRCUIT> <SEED> [VALUES]...")),
+    (["plain"], missing("CIRCUIT", "plain <CIRCUIT> [VALUES]...")),
+    (
+        ["run", "c.txt", SEED, "--walk"],
+        "error: unexpected argument '--walk' found\n\n"
+        "  tip: to pass '--walk' as a value, use '-- --walk'\n\n"
+        "Usage: halfgates run <CIRCUIT> <SEED> [VALUES]...\n" + TRY_HELP,
+    ),
+    (
+        ["check", "c.txt", "1"],
+        "error: unexpected argument '1' found\n\nUsage: halfgates check <CIRCUIT>\n" + TRY_HELP,
+    ),
+]
+
+NO_NUMBERS = "", "x", "-1", "1.5", "4294967296"
+
+
+class CommandLine(ProgramTest):
+    def setUp(self):
+        super().setUp()
+        self.put("c.txt", XOR)
+
+    def test_help_and_version(self):
+        for words, text in [
+            (["--help"], HELP),
+            (["-h"], HELP),
+            (["run", "--help"], RUN_HELP),
+            (["--version"], "halfgates 0.1.0\n"),
+            (["-V"], "halfgates 0.1.0\n"),
+        ]:
+            self.assert_prints(text, *words)
+
+    def test_words_that_are_no_order(self):
+        for words, errors in NO_ORDERS:
+            self.assertEqual(self.run_program(*words), (2, "", errors))
+
+    def test_numbers_that_are_none(self):
+        for number in NO_NUMBERS:
+            for words in [
+                ("run", "c.txt", SEED, "1", "1", f"--workers={number}"),
+                ("garble", "c.txt", SEED, "g", f"--workers={number}"),
+                ("eval", "c.txt", "g", f"--workers={number}"),
+                ("jobs", "c.txt", "list", f"--workers={number}"),
+                ("garble", "c.txt", SEED, "g", f"--format={number}"),
+                ("deal", "c.txt", SEED, "--", number, "1", "l"),
+            ]:
+                self.assert_usage(*words)
+
+    def test_formats_that_are_none(self):
+        for version in "0", "3", "12":
+            self.assert_usage("garble", "c.txt", SEED, "g", "--format", version)
+
+    def assert_usage(self, *words):
+        status, printed, errors = self.run_program(*words)
+        self.assertEqual((status, printed), (2, ""), words)
+        self.assertTrue(errors.startswith("error: "), errors)
+
+    def test_a_word_that_is_not_utf_8(self):
+        errors = "error: the command line can't be read: a word is not UTF-8\n"
+        self.assertEqual(self.run_program("check", b"\xff"), (2, "", errors))
+
+    def test_words_that_look_like_options(self):
+        self.put("-c", FULL_ADDER)
+        self.assert_prints("01\n", "run", "--", "-c", SEED, "1", "x00", "1")
+        self.assert_prints("0\n", "plain", "c.txt", "1", "--", "1")
+        self.assert_fault("16 WrongLength", "plain", "c.txt", "1", "--", "--")
+
+    def test_options_between_words(self):
+        self.assert_prints("wrote 113\n", "garble", "--format", "2", "c.txt", SEED, "g")
+        self.assert_prints("wrote 32\n", "deal", "c.txt", SEED, "0", "1", "a")
+        self.assert_prints("wrote 32\n", "deal", "c.txt", SEED, "1", "0", "b")
+        self.assert_prints("1\n", "eval", "c.txt", "g", "--workers", "2", "b", "a")
+        self.put("list", "g a b")
+        self.assert_prints("1\n\n", "jobs", "--workers", "64", "c.txt", "list")
+
+
+if __name__ == "__main__":
+    unittest.main()
