@@ -1,5 +1,6 @@
 """The program's commands over files on a disk: what each prints and writes, and its first fault."""
 import unittest
+from hashlib import sha256
 
 from program import (
     AND, CONSTANT_AND, EMPTY, FAR_COPY, FULL_ADDER, INV, MANY_WIRES, NO_GATES, ONE, SEED, SQUARE,
@@ -128,6 +129,12 @@ VALUE_FAULTS = [
 
 CHAIN_GATES = 1_048_577
 
+# The labels of the chain's last wire, of colour 0 and of colour 1.
+LAST_LABELS = [
+    bytes.fromhex("ca6af915007cd08ae86b8529d8f1b0ef"),
+    bytes.fromhex("bdd219b8a08ded1aa836efcc8b770dc7"),
+]
+
 
 def chain():
     """A chain of more than a million gates: gate i negates wire i."""
@@ -153,7 +160,7 @@ class Circuits(ProgramTest):
         self.put("c.txt", FULL_ADDER)
         for workers in WORKERS:
             self.assert_prints("01\n", "run", "c.txt", SEED, "1", "0", "1", "--workers", workers)
-        for workers in "0", "65":
+        for workers in 0, 65, 2**32 - 1:
             words = "run", "c.txt", SEED, "1", "0", "1", "--workers", workers
             self.assert_fault("22 BadWorkers", *words)
 
@@ -186,6 +193,10 @@ class Circuits(ProgramTest):
         self.assert_prints("1\n", "run", "c.txt", SEED, "0")
         self.assert_prints("wrote 81\n", "garble", "c.txt", SEED, "g", "--format", "1")
         self.assertEqual(self.bytes_of("g")[48], 0)
+        # The entries are the hashes of the last wire's labels, under the tweak 0.
+        self.assert_prints("wrote 113\n", "garble", "c.txt", SEED, "g", "--format", "2")
+        hashes = [sha256(label + bytes(8)).digest()[:16] for label in LAST_LABELS]
+        self.assertEqual(self.bytes_of("g")[49:81], b"".join(hashes))
 
 
 # Garbled files under a seed of zeros: magic, digest, counts, rows, decode byte, entries, trailer.
@@ -382,6 +393,88 @@ class AnyFiles(ProgramTest):
         for text, garbled, labels, fault in EVALUATION_FAULTS:
             self.put_files(text, garbled)
             self.assert_fault(fault, "eval", "c.txt", "g", *labels)
+
+
+# The fault of the AND gate's file with one bit flipped, up to each bit: those of the magic, of the
+# digest, of the two counts, of the rows, of the decode byte, of the entries and of the trailer. A count
+# that is a little larger or smaller leaves another byte where the decode byte is.
+FLIPS = [
+    (64, "30 BadMagic"),
+    (320, "35 BadTrailer"),
+    (321, "34 SpareBits"),
+    (344, "31 Truncated"),
+    (352, "33 CountTooLarge"),
+    (355, "35 BadTrailer"),
+    (361, "34 SpareBits"),
+    (377, "31 Truncated"),
+    (384, "33 CountTooLarge"),
+    (641, "35 BadTrailer"),
+    (648, "34 SpareBits"),
+    (904, "35 BadTrailer"),
+]
+FLIPS_2 = [
+    (64, "30 BadMagic"),
+    (320, "35 BadTrailer"),
+    (322, "34 SpareBits"),
+    (344, "31 Truncated"),
+    (352, "33 CountTooLarge"),
+    (353, "35 BadTrailer"),
+    (355, "31 Truncated"),
+    (362, "34 SpareBits"),
+    (377, "31 Truncated"),
+    (384, "33 CountTooLarge"),
+    (641, "35 BadTrailer"),
+    (648, "34 SpareBits"),
+    (1160, "35 BadTrailer"),
+]
+# The same of the label file of the first value: of the magic, of the index and of the width.
+LABEL_FLIPS = [
+    (64, "30 BadMagic"),
+    (65, "44 DoubleValue"),
+    (96, "42 NoSuchValue"),
+    (97, "32 Trailing"),
+    (121, "31 Truncated"),
+    (128, "33 CountTooLarge"),
+]
+
+
+def flipped(data, bit):
+    """The bytes with one bit flipped, counted from the lowest bit of the first byte."""
+    copy = bytearray(data)
+    copy[bit // 8] ^= 1 << bit % 8
+    return bytes(copy)
+
+
+class ChangedFiles(ProgramTest):
+    """Each bit of a file flipped, each of its beginnings, and one byte more."""
+
+    def setUp(self):
+        super().setUp()
+        self.put("c.txt", AND)
+        for index, label in enumerate(ONE_LABELS):
+            self.put(str(index), label_file(index, label))
+
+    def assert_each_fault(self, name, file, flips):
+        bit = 0
+        for end, fault in flips:
+            for bit in range(bit, end):
+                self.put(name, flipped(file, bit))
+                self.assert_fault(fault, "eval", "c.txt", "g", "0", "1")
+            bit = end
+        for length in range(len(file)):
+            self.put(name, file[:length])
+            self.assert_fault("31 Truncated", "eval", "c.txt", "g", "0", "1")
+        self.put(name, file + b"\0")
+        self.assert_fault("32 Trailing", "eval", "c.txt", "g", "0", "1")
+
+    def test_garbled_files(self):
+        for file, flips in (AND_FILE, FLIPS), (AND_FILE_2, FLIPS_2):
+            self.assertEqual(flips[-1][0], 8 * len(file))
+            self.assert_each_fault("g", file, flips)
+
+    def test_label_files(self):
+        self.put("g", AND_FILE)
+        self.assert_each_fault("0", label_file(0, ONE_LABELS[0]), LABEL_FLIPS)
 
 
 # Three jobs, with any white space between lines and words.

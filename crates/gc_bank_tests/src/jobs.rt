@@ -5,7 +5,7 @@ use gc_bank::{evaluate_jobs, one_circuit};
 use gc_circuit::{Circuit, read_value};
 use gc_eval::{EvalFault, Job, evaluate};
 use gc_file::{Version, read_garbled, read_labels};
-use gc_gatehouse::{Gatehouse, Open};
+use gc_gatehouse::Gatehouse;
 use gc_worked::circuits::{FULL_ADDER, SPACED_ADDER, many_ands};
 use gc_worked::files::{label_file, write};
 use gc_worked::meeting::Meeting;
@@ -58,45 +58,6 @@ pub(crate) fn one_after_another(alloc: Global, jobs: &[Job]) -> Result<Vec<Vec<b
     Ok(all)
 }
 
-/// The values of the jobs of the full adder.
-static ADDENDS: [&[&str]; 5] = [
-    &["1", "0", "1"],
-    &["1", "1", "1"],
-    &["0", "0", "0"],
-    &["0", "1", "0"],
-    &["1", "1", "0"],
-];
-
-/// Whether each of these numbers of workers answers what one thread answers.
-pub(crate) fn agree<R: Threads + Wait + Sync>(
-    rt: &R,
-    alloc: Global,
-    jobs: &[Job],
-    numbers: &[u32],
-) -> Result<bool, Fail> {
-    let wanted = one_after_another(alloc, jobs);
-    for workers in numbers {
-        if evaluated(rt, alloc, jobs, *workers, &Open)? != wanted {
-            return Ok(false);
-        }
-    }
-    Ok(true)
-}
-
-/// Lists of two to ten jobs, in both versions, with each number of workers.
-#[test]
-fn full_adders(rt: HostRuntime) -> Result<(), Fail> {
-    let alloc = rt.alloc();
-    let circuit = Circuit::read(alloc, FULL_ADDER.as_bytes())?;
-    let mut jobs = Vec::new(alloc);
-    for values in &ADDENDS {
-        jobs.push(job_of(alloc, &circuit, FULL_ADDER, Version::One, values)?)?;
-        jobs.push(job_of(alloc, &circuit, FULL_ADDER, Version::Two, values)?)?;
-        assert!(rt; agree(&rt, alloc, &jobs, &[1, 2, 3, 4, 5, 6, 7, 8, 64])?);
-    }
-    Ok(())
-}
-
 /// Whether a job on the full adder, which the one circuit is, and a job on the other one, of this text, are on one
 /// circuit.
 fn are_on_one(alloc: Global, adder: &Circuit, other: &Circuit, text: &str) -> Result<bool, Fail> {
@@ -126,36 +87,6 @@ fn circuits_are_compared(rt: HostRuntime) -> Result<(), Fail> {
         let other = Circuit::read(alloc, text.as_bytes())?;
         assert!(rt; !are_on_one(alloc, &adder, &other, text)?, "{text:?}");
     }
-    Ok(())
-}
-
-/// Whether this number of workers is refused for a job on the full adder.
-fn is_refused<R: Threads + Wait + Sync>(
-    rt: &R,
-    alloc: Global,
-    circuit: &Circuit,
-    workers: u32,
-) -> Result<bool, Fail> {
-    let mut jobs = Vec::new(alloc);
-    jobs.push(job_of(alloc, circuit, FULL_ADDER, Version::One, &["1", "0", "1"])?)?;
-    match evaluated(rt, alloc, &jobs, workers, &Open)? {
-        Err(EvalFault::BadWorkers) => Ok(true),
-        _ => Ok(false),
-    }
-}
-
-/// 0 workers and 65 are refused, and 64 are not.
-#[test]
-fn refuses_numbers_of_workers(rt: HostRuntime) -> Result<(), Fail> {
-    let alloc = rt.alloc();
-    let circuit = Circuit::read(alloc, FULL_ADDER.as_bytes())?;
-    for workers in [0, 65, u32::MAX] {
-        assert!(rt;
-            is_refused(&rt, alloc, &circuit, workers)?,
-            "{workers} workers"
-        );
-    }
-    assert!(rt; !is_refused(&rt, alloc, &circuit, 64)?);
     Ok(())
 }
 

@@ -7,5 +7,3 @@ mod banks;
 mod growth;
 #[cfg(test)]
 mod jobs;
-#[cfg(test)]
-mod random;

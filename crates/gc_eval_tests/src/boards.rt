@@ -3,16 +3,14 @@
 ghost use Rattle.std.specs.Prelude.{◌≡◌, ◌<◌, ◌≤◌, All, IfOk};
 ghost use Rattle.gc_eval.specs.Seats.{IsSeatOf, job_on};
 
-use crate::jobs::{ROWS, job_files};
+use crate::jobs::job_of;
 use gc_circuit::{Circuit, show_value};
 use gc_eval::{
     Active, Answer, CloseRefused, EvalBoard, EvalFault, EvalSeat, Job, OpenFault, evaluate,
 };
-use gc_file::{Version, read_garbled};
 use gc_label::Label;
 use gc_refusing::Refusing;
-use gc_worked::circuits::FULL_ADDER;
-use gc_worked::files::write;
+use gc_worked::circuits::{AND_INV_AND, CONSTANT_AND, FULL_ADDER};
 use gc_worked::growths::{Answer as Run, Stray, plain_if, runs_refused};
 use std::alloc::{Allocator, Global};
 use std::process::Abort;
@@ -22,18 +20,6 @@ use std::thread::Threads;
 
 /// Values of the full adder.
 const ADDENDS: [&str; 3] = ["1", "0", "1"];
-
-/// The job of a circuit's file on these values.
-pub(crate) fn job_of<'c>(
-    alloc: Global,
-    circuit: &'c Circuit,
-    text: &str,
-    values: &[&str],
-) -> Result<Job<'c>, Fail> {
-    let file = write(alloc, text, Version::Two, None)?.bytes;
-    let labels = job_files(alloc, circuit, values)?;
-    Ok(Job::bind(alloc, circuit, read_garbled(alloc, &file)?, &labels)?)
-}
 
 /// A board with two seats.
 fn two_seats<'j, 'c>(
@@ -299,7 +285,7 @@ fn an_opened_board_grows_nothing(rt: HostRuntime) -> Result<(), Fail> {
     Ok(())
 }
 
-/// Lets each seat step all gates, in so many threads at the most.
+/// Lets each seat step all gates, in this many threads at the most.
 fn step_together<'j, 'c, R: Threads + Sync>(
     rt: &R,
     threads: usize,
@@ -323,8 +309,8 @@ fn step_together<'j, 'c, R: Threads + Sync>(
     );
 }
 
-/// What so many seats make, at first each in a thread of its own, and then one after another, decodes to the output bits.
-pub(crate) fn made_by<R: Threads + Sync>(
+/// What this many seats make, at first each in a thread of its own, and then one after another, decodes to the output bits.
+fn made_by<R: Threads + Sync>(
     rt: &R,
     alloc: Global,
     job: &Job,
@@ -337,6 +323,14 @@ pub(crate) fn made_by<R: Threads + Sync>(
     step_together(rt, 1, &board, job, all.as_mut_slice());
     Ok(closed(board, all)?.decode(alloc)?)
 }
+
+/// Circuits, input values, and output bits.
+static ROWS: [(&str, &[&str], &str); 4] = [
+    (FULL_ADDER, &ADDENDS, "01"),
+    (FULL_ADDER, &["1", "1", "1"], "11"),
+    (CONSTANT_AND, &["1"], "1"),
+    (AND_INV_AND, &["1", "0"], "11"),
+];
 
 #[test]
 fn many_seats(rt: HostRuntime) -> Result<(), Fail> {

@@ -8,6 +8,4 @@ mod growth;
 #[cfg(test)]
 mod jobs;
 #[cfg(test)]
-mod pairs;
-#[cfg(test)]
 mod workers;

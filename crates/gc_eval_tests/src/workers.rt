@@ -1,15 +1,13 @@
 //! Tests of evaluation on many threads: the answer is that of one thread, and the threads are really at work.
 
-use crate::jobs::{ROWS, job_files};
 use gc_circuit::Circuit;
 use gc_eval::{EvalFault, Job, evaluate, evaluate_many};
-use gc_file::{LabelFile, Version, read_garbled, read_labels};
+use gc_file::{Version, read_garbled, read_labels};
 use gc_gatehouse::Open;
 use gc_refusing::Refusing;
 use gc_worked::circuits::{AND_INV_AND, FULL_ADDER, and_chains, many_ands};
 use gc_worked::files::{label_file, write};
 use gc_worked::meeting::Meeting;
-use gc_worked::random::{Numbers, forge_labels, forge_rows, random_circuit, random_window};
 use std::alloc::Global;
 use std::sync::Wait;
 use std::test::Fail;
@@ -46,113 +44,6 @@ fn two_evaluators_meet(rt: HostRuntime) -> Result<(), Fail> {
 #[test]
 fn two_evaluators_meet_at_a_board(rt: HostRuntime) -> Result<(), Fail> {
     assert!(rt; meet(&rt, rt.alloc(), and_chains(rt.alloc(), 40, 50)?.as_str())?);
-    Ok(())
-}
-
-/// 0 workers and 65 are refused.
-#[test]
-fn refuses_numbers_of_workers(rt: HostRuntime) -> Result<(), Fail> {
-    let circuit = Circuit::read(rt.alloc(), FULL_ADDER.as_bytes())?;
-    let job = job_on_zeros(rt.alloc(), &circuit, FULL_ADDER)?;
-    for workers in [0, 65, u32::MAX] {
-        let refused = evaluate_many(&rt, rt.alloc(), &job, workers, &Open);
-        assert_eq!(rt; refused, Err(EvalFault::BadWorkers));
-    }
-    assert_eq!(rt;
-        (EvalFault::BadWorkers.code(), EvalFault::BadWorkers.name()),
-        (22, "BadWorkers")
-    );
-    Ok(())
-}
-
-/// Whether each of these numbers of workers answers what one thread answers.
-fn agree<R: Threads + Wait + Sync>(rt: &R, alloc: Global, job: &Job, numbers: &[u32]) -> bool {
-    let wanted = evaluate(alloc, job);
-    numbers.iter().all(|workers| evaluate_many(rt, alloc, job, *workers, &Open) == wanted)
-}
-
-/// Honest files of worked circuits.
-#[test]
-fn worked_circuits(rt: HostRuntime) -> Result<(), Fail> {
-    let alloc = rt.alloc();
-    for (text, values, _) in &ROWS {
-        let circuit = Circuit::read(alloc, text.as_bytes())?;
-        let labels = job_files(alloc, &circuit, values)?;
-        let garbled = read_garbled(alloc, &write(alloc, text, Version::Two, None)?.bytes)?;
-        let job = Job::bind(alloc, &circuit, garbled, &labels)?;
-        assert!(rt;
-            agree(&rt, alloc, &job, &[1, 2, 64]),
-            "{text:?} on {values:?}"
-        );
-    }
-    Ok(())
-}
-
-/// A label file with random labels for each input value of a circuit.
-fn random_labels(
-    alloc: Global,
-    circuit: &Circuit,
-    numbers: &mut Numbers,
-) -> Result<Vec<LabelFile>, Fail> {
-    let mut files = Vec::new(alloc);
-    for (index, width) in (0..).zip(circuit.input_widths()) {
-        let zeros = vec![in alloc; false; *width as usize]?;
-        let mut file = label_file(alloc, circuit, index, &zeros)?;
-        forge_labels(&mut file, numbers);
-        files.push(read_labels(alloc, &file)?)?;
-    }
-    Ok(files)
-}
-
-/// Random circuits, with random rows and random labels.
-#[test]
-fn random_jobs(rt: HostRuntime) -> Result<(), Fail> {
-    let alloc = rt.alloc();
-    let mut numbers = Numbers { state: 3 };
-    for i in 0..100u32 {
-        let text = random_circuit(alloc, &mut numbers)?;
-        let circuit = Circuit::read(alloc, text.as_bytes())?;
-        let version = if i % 2 == 0 {
-            Version::One
-        } else {
-            Version::Two
-        };
-        let mut file = write(alloc, text.as_str(), version, None)?.bytes;
-        forge_rows(&mut file, &mut numbers, 32 * circuit.and_count() as usize)?;
-        let labels = random_labels(alloc, &circuit, &mut numbers)?;
-        let job = Job::bind(alloc, &circuit, read_garbled(alloc, &file)?, &labels)?;
-        assert!(rt;
-            agree(&rt, alloc, &job, &[1, 2, 3, 4, 5, 6, 7, 8]),
-            "job {i}"
-        );
-    }
-    Ok(())
-}
-
-/// A circuit of so many blocks of gates that workers leave some to each other, and wait for gates of others.
-#[test]
-fn many_blocks(rt: HostRuntime) -> Result<(), Fail> {
-    let mut numbers = Numbers { state: 5 };
-    let text = random_window(rt.alloc(), &mut numbers, 10_000)?;
-    let circuit = Circuit::read(rt.alloc(), text.as_bytes())?;
-    let job = job_on_zeros(rt.alloc(), &circuit, text.as_str())?;
-    assert!(rt; agree(&rt, rt.alloc(), &job, &[1, 2, 3, 4, 64]));
-    Ok(())
-}
-
-/// Circuits whose AND gates are evaluated in blocks, and a chain of which next to none can be at once.
-#[test]
-fn many_layers(rt: HostRuntime) -> Result<(), Fail> {
-    let alloc = rt.alloc();
-    for text in [
-        many_ands(alloc, 3001)?,
-        and_chains(alloc, 50, 70)?,
-        and_chains(alloc, 1, 3000)?,
-    ] {
-        let circuit = Circuit::read(alloc, text.as_bytes())?;
-        let job = job_on_zeros(alloc, &circuit, text.as_str())?;
-        assert!(rt; agree(&rt, alloc, &job, &[1, 2, 4]));
-    }
     Ok(())
 }
 

@@ -3,8 +3,6 @@
 #![tactic(auto)]
 
 #[cfg(test)]
-mod canonical_texts;
-#[cfg(test)]
 mod file_growth;
 #[cfg(test)]
 mod garbled_files;
@@ -15,16 +13,8 @@ mod half_gates;
 #[cfg(test)]
 mod hostile;
 #[cfg(test)]
-mod label_files;
-#[cfg(test)]
 mod labels;
 #[cfg(test)]
 mod lanes;
 #[cfg(test)]
-mod long_chain;
-#[cfg(test)]
 mod pieces;
-#[cfg(test)]
-mod reading;
-#[cfg(test)]
-mod values;

@@ -4,11 +4,7 @@
 #[cfg(test)]
 mod fixtures;
 #[cfg(test)]
-mod garblings;
-#[cfg(test)]
 mod growth;
-#[cfg(test)]
-mod layers;
 #[cfg(test)]
 mod pools;
 #[cfg(test)]

@@ -1,18 +1,33 @@
 //! Tests of garbling on many threads: the answer is that of one thread, and the threads are really at work.
 
 use crate::fixtures::{read, seed_of};
-use crate::garblings::are_same;
 use gc_circuit::Circuit;
-use gc_half::garble_one_thread;
+use gc_half::{Garbling, garble_one_thread};
 use gc_refusing::Refusing;
 use gc_work::{Open, WorkFault, garble};
-use gc_worked::circuits::{FULL_ADDER, and_chains, many_ands};
+use gc_worked::circuits::{and_chains, many_ands};
 use gc_worked::meeting::Meeting;
-use gc_worked::random::{Numbers, random_circuit};
-use std::alloc::Global;
+use std::alloc::{Allocator, Global};
 use std::sync::Wait;
 use std::test::Fail;
 use std::thread::Threads;
+
+/// Whether two garblings of a circuit are the same, byte for byte.
+fn are_same<A: Allocator, B: Allocator>(
+    circuit: &Circuit,
+    one: &Garbling<A>,
+    other: &Garbling<B>,
+) -> bool {
+    if !(one.fits(circuit) && other.fits(circuit)) || one.rows() != other.rows() {
+        return false;
+    }
+    for wire in 0..circuit.wires() {
+        if one.zero_label(wire) != other.zero_label(wire) {
+            return false;
+        }
+    }
+    true
+}
 
 /// Whether two workers seal the gates of a circuit of 2,000 gates, each gate once, as one thread does.
 fn meet<R: Threads + Wait + Sync>(rt: &R, alloc: Global, text: &str) -> Option<bool> {
@@ -37,54 +52,6 @@ fn two_workers_meet(rt: HostRuntime) -> Result<(), Fail> {
 fn two_workers_meet_at_a_store(rt: HostRuntime) -> Result<(), Fail> {
     let text = and_chains(rt.alloc(), 40, 50)?;
     assert!(rt; meet(&rt, rt.alloc(), text.as_str()) == Some(true));
-    Ok(())
-}
-
-/// Whether a fault has this number and this name.
-fn is_named(fault: WorkFault, code: u32, name: &str) -> bool {
-    fault.code() == code && fault.name() == name
-}
-
-/// 0 workers and 65 are refused.
-#[test]
-fn refuses_numbers_of_workers(rt: HostRuntime) {
-    let circuit = read(rt.alloc(), FULL_ADDER).expect(&rt, "there is memory");
-    let seed = seed_of(0);
-    for workers in [0, 65, u32::MAX] {
-        let refused = garble(&rt, rt.alloc(), &circuit, &seed, workers, &Open).err();
-        assert!(rt; refused == Some(WorkFault::BadWorkers), "{workers} workers");
-    }
-    assert!(rt; is_named(WorkFault::BadWorkers, 22, "BadWorkers"));
-    assert!(rt; is_named(WorkFault::Memory, 23, "Memory"));
-}
-
-/// Whether each of these numbers of workers gives the garbling that one thread gives. None where memory runs out.
-fn is_garbled_so<R: Threads + Wait + Sync>(
-    rt: &R,
-    alloc: Global,
-    text: &str,
-    numbers: &[u32],
-) -> Option<bool> {
-    let circuit = read(alloc, text)?;
-    let seed = seed_of(7);
-    let one_thread = garble_one_thread(alloc, &circuit, &seed).ok()?;
-    for workers in numbers {
-        let garbling = garble(rt, alloc, &circuit, &seed, *workers, &Open).ok()?;
-        if !are_same(&circuit, &garbling, &one_thread) {
-            return Some(false);
-        }
-    }
-    Some(true)
-}
-
-#[test]
-fn random_circuits_by_workers(rt: HostRuntime) -> Result<(), Fail> {
-    let mut numbers = Numbers { state: 2 };
-    for i in 0..300u32 {
-        let text = random_circuit(rt.alloc(), &mut numbers)?;
-        let is_garbled = is_garbled_so(&rt, rt.alloc(), text.as_str(), &[1, 2, 3, 7, 64]);
-        assert!(rt; is_garbled == Some(true), "circuit {i}");
-    }
     Ok(())
 }
 

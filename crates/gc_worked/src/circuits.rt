@@ -21,31 +21,12 @@ pub const XOR: &str = "1 3\n2 1 1\n1 1\n2 1 0 1 2 XOR";
 
 pub const AND: &str = "1 3\n2 1 1\n1 1\n2 1 0 1 2 AND";
 
-pub const INV: &str = "1 2\n1 1\n1 1\n1 1 0 1 INV";
-
-/// A copy of a wire. Wires 1 and 2 are not set.
-pub const FAR_COPY: &str = "1 4\n1 1\n1 1\n1 1 0 3 EQW";
-
-/// A constant 1, without input values.
-pub const CONSTANT: &str = "1 1\n0\n1 1\n1 1 1 0 EQ";
-
-pub const ZERO_CONSTANT: &str = "1 1\n0\n1 1\n1 1 0 0 EQ";
-
 pub const CONSTANT_AND: &str = "2 3\n1 1\n1 1\n1 1 1 1 EQ\n2 1 0 1 2 AND";
 
 /// Two AND gates, of which the second reads the negation of the first.
 pub const AND_INV_AND: &str = "3 5\n2 1 1\n2 1 1\n2 1 0 1 2 AND\n1 1 2 3 INV\n2 1 3 0 4 AND";
 
 pub const NO_GATES: &str = "0 2\n1 2\n1 2";
-
-/// No gates, no wires and no values.
-pub const EMPTY: &str = "00 00 00 00";
-
-pub const SQUARE: &str = "1 2\n1 1\n1 1\n2 1 0 0 1 AND";
-
-/// Wires with numbers of seven digits.
-pub const MANY_WIRES: &str =
-    "3 2097152\n2 2097149 0\n0\n1 1 2097148 2097149 INV\n1 1 0 2097150 EQ\n1 1 2097150 2097151 EQW";
 
 /// A seed of zeros.
 pub const SEED: &str = "0000000000000000000000000000000000000000000000000000000000000000";
@@ -59,18 +40,6 @@ pub fn one_zero_one(alloc: Global) -> Result<Vec<Vec<bool>>, AllocError> {
     Ok(values)
 }
 
-/// How many gates the chain has.
-pub const CHAIN_GATES: u32 = 1_048_577;
-
-/// A chain of more than a million gates: one input and one output of one wire, and gate i negates wire i.
-pub fn chain(alloc: Global) -> Result<String, Fail> {
-    let mut text = format!(in alloc; "{CHAIN_GATES} 1048578\n1 1\n1 1\n\n")?;
-    for wire in 0..CHAIN_GATES {
-        write!(text, "1 1 {wire} {} INV\n", wire + 1)?;
-    }
-    Ok(text)
-}
-
 /// This many AND gates, none of which reads what another sets.
 pub fn many_ands(alloc: Global, gates: u32) -> Result<String, Fail> {
     let n = u64::from(gates);
@@ -81,8 +50,8 @@ pub fn many_ands(alloc: Global, gates: u32) -> Result<String, Fail> {
     Ok(text)
 }
 
-/// So many chains of AND gates, one after another in the file, of so many gates each: a gate reads what the gate before
-/// it in its chain sets.
+/// Chains of AND gates, one after another in the file, each of this length: a gate reads what the gate before it in its
+/// chain sets.
 pub fn and_chains(alloc: Global, chains: u32, length: u32) -> Result<String, Fail> {
     let n = u64::from(chains);
     let gates = n * u64::from(length);

@@ -6,5 +6,4 @@ pub mod circuits;
 pub mod files;
 pub mod growths;
 pub mod meeting;
-pub mod random;
 pub mod worked_files;

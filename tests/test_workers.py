@@ -1,0 +1,159 @@
+"""Each number of workers makes the garbled file and the outputs that the reference of vectors/ makes."""
+import random
+import sys
+import unittest
+from hashlib import sha256
+
+from program import SEED, TOP, ProgramTest
+
+sys.path.insert(0, str(TOP / "vectors"))
+import bristol  # noqa: E402
+import reference  # noqa: E402
+
+WORKERS = 1, 2, 3, 4, 7, 64
+
+
+def text_of(inputs, outputs, gates):
+    """A circuit in Bristol Fashion: the widths of its values, and its gates after the input wires."""
+    sides = [" ".join(map(str, [len(widths), *widths])) for widths in (inputs, outputs)]
+    return "\n".join([f"{len(gates)} {sum(inputs) + len(gates)}", *sides, "", *gates, ""])
+
+
+def many_ands(count):
+    """AND gates of which none reads what another sets."""
+    gates = [f"2 1 {i} {count + i} {2 * count + i} AND" for i in range(count)]
+    return text_of([count, count], [count], gates)
+
+
+def and_chains(chains, length):
+    """Chains of AND gates, one after another in the file."""
+    gates = []
+    for chain in range(chains):
+        read = chain
+        for _ in range(length):
+            wire = chains + len(gates)
+            gates.append(f"2 1 {read} {chain} {wire} AND")
+            read = wire
+    return text_of([chains], [1], gates)
+
+
+def window(draw, count, width, inputs, outputs):
+    """Gates that read two of this many wires before their own."""
+    gates = []
+    for wire in range(inputs, inputs + count):
+        first = max(0, wire - width)
+        a, b = draw.randrange(first, wire), draw.randrange(first, wire)
+        gates.append(f"2 1 {a} {b} {wire} {draw.choice(['XOR', 'AND'])}")
+    return text_of([inputs], [outputs], gates)
+
+
+def small_circuit(draw):
+    """Up to 16 gates of all operations, which read any wire before their own."""
+    gates = []
+    for wire in range(3, 4 + draw.randrange(16)):
+        a, b = draw.randrange(wire), draw.randrange(wire)
+        one = [f"1 1 {a} {wire} INV", f"1 1 {a % 2} {wire} EQ", f"1 1 {a} {wire} EQW"]
+        two = [f"2 1 {a} {b} {wire} {name}" for name in ("XOR", "AND", "AND", "AND")]
+        gates.append(draw.choice(one + two))
+    return text_of([3], [2], gates)
+
+
+def circuits(draw):
+    """Layers of one gate, of an odd number, and of as many gates as a block or a thread gets; chains
+    that are evaluated at a board and garbled at a store; gates that wait for each other's."""
+    yield from map(many_ands, [1, 2, 3, 16, 17, 63, 64, 65, 1023, 1024, 1025, 2048, 6000])
+    for chains, length in (1, 3000), (5, 1000), (40, 50), (64, 4), (100, 50):
+        yield and_chains(chains, length)
+    for _ in range(3):
+        yield window(draw, 4000, 100, 128, 64)
+    for _ in range(20):
+        yield window(draw, 24, 3, 3, 12)
+    for _ in range(60):
+        yield small_circuit(draw)
+
+
+def forged_file(draw, data, rows):
+    """A garbled file with random rows, and a trailer to match."""
+    body = data[:48] + draw.randbytes(32 * rows) + data[48 + 32 * rows : -32]
+    return body + sha256(body).digest()
+
+
+class Job:
+    """A garbled file and the label files of a circuit, and what evaluating them gives."""
+
+    def __init__(self, draw, circuit, garbling, is_honest):
+        version = draw.choice([1, 2])
+        values = [[draw.randrange(2) for _ in range(width)] for width in circuit.input_widths]
+        self.garbled = reference.garbled_file(circuit, garbling, version)
+        self.labels = reference.deal(circuit, garbling, values)
+        if not is_honest:
+            self.garbled = forged_file(draw, self.garbled, len(garbling.rows))
+            self.labels = [file[:16] + draw.randbytes(len(file) - 16) for file in self.labels]
+        try:
+            bits = reference.eval_files(circuit, self.garbled, self.labels)[1]
+            self.lines = "".join(
+                f"{line}\n" for line in reference.show_values(bits, circuit.output_widths)
+            )
+            self.fault = None
+        except bristol.Fault as fault:
+            self.lines, self.fault = None, f"{fault.number} {fault.name}"
+
+
+class Workers(ProgramTest):
+    def setUp(self):
+        super().setUp()
+        self.draw = random.Random(15)
+
+    def put_job(self, job, name):
+        """Writes the files of a job, and answers their names, the garbled file's first."""
+        files = [job.garbled, *job.labels]
+        names = [f"{name}_{i}" for i in range(len(files))]
+        for file_name, data in zip(names, files):
+            self.put(file_name, data)
+        return names
+
+    def assert_answers(self, job, *words):
+        if job.fault is None:
+            self.assert_prints(job.lines, *words)
+        else:
+            self.assert_fault(job.fault, *words)
+
+    def test_garbled_files_and_outputs(self):
+        for text in circuits(self.draw):
+            self.put("c.txt", text)
+            circuit = reference.read_circuit(text.encode())
+            garbling = reference.garble(circuit, bytes(32))
+            file = reference.garbled_file(circuit, garbling, 2)
+            jobs = [Job(self.draw, circuit, garbling, is_honest) for is_honest in (True, False)]
+            names = [self.put_job(job, f"job{i}") for i, job in enumerate(jobs)]
+            for workers in WORKERS:
+                words = "c.txt", SEED, "g", "--workers", workers
+                self.assert_prints(f"wrote {len(file)}\n", "garble", *words)
+                self.assertEqual(self.bytes_of("g"), file)
+                for job, files in zip(jobs, names):
+                    self.assert_answers(job, "eval", "c.txt", *files, "--workers", workers)
+
+    def test_lists_of_jobs(self):
+        faults = 0
+        for _ in range(60):
+            text = small_circuit(self.draw)
+            self.put("c.txt", text)
+            circuit = reference.read_circuit(text.encode())
+            garbling = reference.garble(circuit, bytes(32))
+            honest = [self.draw.randrange(3) > 0 for _ in range(1 + self.draw.randrange(6))]
+            jobs = [Job(self.draw, circuit, garbling, is_honest) for is_honest in honest]
+            names = [self.put_job(job, f"job{i}") for i, job in enumerate(jobs)]
+            self.put("list", "".join(" ".join(files) + "\n" for files in names))
+            fault = next((job.fault for job in jobs if job.fault), None)
+            faults += fault is not None
+            for workers in 1, 2, 3, 5, 8:
+                words = "jobs", "c.txt", "list", "--workers", workers
+                if fault:
+                    self.assert_fault(fault, *words)
+                else:
+                    self.assert_prints("".join(f"{job.lines}\n" for job in jobs), *words)
+        self.assertTrue(10 < faults < 50, faults)
+
+
+if __name__ == "__main__":
+    unittest.main()
