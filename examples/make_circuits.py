@@ -1,68 +1,156 @@
 #!/usr/bin/env python3
-"""Writes the example circuits beside this script, in Bristol Fashion: full_adder.txt, adder64.txt and less8.txt."""
+"""Writes circuits in Bristol Fashion.
+
+Without words it writes full_adder.txt, adder64.txt and less8.txt beside this script. With the name
+of a circuit it writes that circuit to FILE.
+
+Wire 0 of a value is its lowest bit. So a number is typed as x and its bytes in hexadecimal digits,
+lowest byte first: x0100000000000000 is the 1 of 64 bits. Byte i of a key, a block or a digest is
+the wires 8i to 8i+7, lowest bit first: it is typed as x and its bytes as the standards print them.
+
+The program prints a character for each wire, wire 0 first. This turns what it prints into bytes in
+hexadecimal digits, in the order in which they are typed:
+
+  ./halfgates plain aes128.txt xKEY xBLOCK |
+  python3 -c 'for v in open(0): print(int(v[-2::-1], 2).to_bytes(len(v) // 8, "little").hex())'
+
+answers.json beside this script has values to try, and what the circuits answer.
+"""
+
+from argparse import ArgumentParser, RawDescriptionHelpFormatter
+from functools import partial
 from pathlib import Path
 
-
-class Builder:
-    """A circuit in the making: input wires come first, and each gate sets the next wire."""
-
-    def __init__(self, *input_widths):
-        self.input_widths = input_widths
-        self.wires = sum(input_widths)
-        self.gates = []
-
-    def gate(self, name, *read):
-        wire, self.wires = self.wires, self.wires + 1
-        self.gates.append(f"{len(read)} 1 {' '.join(map(str, read))} {wire} {name}")
-        return wire
-
-    def xor(self, a, b):
-        return self.gate("XOR", a, b)
-
-    def both(self, a, b):
-        return self.gate("AND", a, b)
-
-    def write(self, name, *output_widths):
-        widths = [f"{len(ws)} {' '.join(map(str, ws))}" for ws in (self.input_widths, output_widths)]
-        lines = [f"{len(self.gates)} {self.wires}", *widths, "", *self.gates]
-        Path(__file__).with_name(name).write_text("\n".join(lines) + "\n")
+from circuits import aes, arithmetic, sha256
+from circuits.builder import Builder
 
 
 def full_adder():
-    """Three bits: their sum and their carry, as one value of two bits."""
-    c = Builder(1, 1, 1)
-    a_carry, b_carry = c.xor(0, 2), c.xor(1, 2)
-    both = c.both(a_carry, b_carry)
-    c.xor(a_carry, 1)
-    c.xor(both, 2)
-    c.write("full_adder.txt", 2)
+    circuit = Builder(1, 1, 1)
+    [a], [b], [carry] = circuit.inputs
+    a_carry, b_carry = circuit.xor(a, carry), circuit.xor(b, carry)
+    both = circuit.and_(a_carry, b_carry)
+    circuit.output([circuit.xor(a_carry, b), circuit.xor(both, carry)])
+    return circuit
 
 
-def adder64():
-    """The sum of two numbers of 64 bits, modulo 2^64, lowest bit first."""
-    c = Builder(64, 64)
-    sums = [(0, 64)]
-    carry = c.both(0, 64)
-    for i in range(1, 64):
-        a_carry = c.xor(i, carry)
-        sums.append((a_carry, 64 + i))
-        if i < 63:
-            carry = c.xor(c.both(a_carry, c.xor(64 + i, carry)), carry)
-    for a, b in sums:
-        c.xor(a, b)
-    c.write("adder64.txt", 64)
+def add(width):
+    circuit = Builder(width, width)
+    circuit.output(arithmetic.add(circuit, *circuit.inputs))
+    return circuit
 
 
-def less8():
-    """Whether the first of two numbers of 8 bits is below the second, lowest bit first."""
-    c = Builder(8, 8)
-    less = c.gate("EQ", 0)
-    for i in range(8):
-        differ, take = c.xor(i, 8 + i), c.xor(less, 8 + i)
-        less = c.xor(c.both(differ, take), less)
-    c.write("less8.txt", 1)
+def less(width):
+    circuit = Builder(width, width)
+    circuit.output([arithmetic.less(circuit, *circuit.inputs, tie=circuit.constant(0))])
+    return circuit
 
 
-full_adder()
-adder64()
-less8()
+def multiply(width):
+    circuit = Builder(width, width)
+    circuit.output(arithmetic.multiply(circuit, *circuit.inputs))
+    return circuit
+
+
+def sort(count, width):
+    circuit = Builder(*[width] * count)
+    circuit.output(*arithmetic.sort(circuit, circuit.inputs))
+    return circuit
+
+
+def aes128():
+    circuit = Builder(128, 128)
+    circuit.output(aes.cipher(circuit, *circuit.inputs))
+    return circuit
+
+
+def sha256_block():
+    circuit = Builder(512, 256)
+    circuit.output(sha256.compress(circuit, *circuit.inputs))
+    return circuit
+
+
+def chains(count, length):
+    """Chain i begins with wire i of the first value, and each of its gates takes wire i of the
+    second.
+    """
+    circuit = Builder(count, count)
+    ends = []
+    for end, other in zip(*circuit.inputs):
+        for _ in range(length):
+            end = circuit.and_(end, other)
+        ends.append(end)
+    circuit.output(ends)
+    return circuit
+
+
+# What makes each circuit, and what it computes.
+CIRCUITS = {
+    "full_adder": (full_adder, "The sum and the carry of three bits, as one value of two bits."),
+    "add64": (partial(add, 64), "The sum of two numbers of 64 bits, modulo 2^64."),
+    "less8": (partial(less, 8), "Whether the first of two numbers of 8 bits is less."),
+    "less64": (partial(less, 64), "Whether the first of two numbers of 64 bits is less."),
+    "mul32": (partial(multiply, 32), "The product, of 64 bits, of two numbers of 32 bits."),
+    "mul64": (partial(multiply, 64), "The product, of 128 bits, of two numbers of 64 bits."),
+    "sort8x8": (partial(sort, 8, 8), "Eight numbers of 8 bits in ascending order."),
+    "aes128": (aes128, "AES-128 (FIPS 197): of a key and a block, the encrypted block."),
+    "sha256": (
+        sha256_block,
+        "SHA-256's compression (FIPS 180-4): of a block of 64 bytes and a chaining value of 32, the"
+        " next chaining value.",
+    ),
+    "chains": (chains, "Chains of AND gates, one after another in the file, on two values."),
+}
+
+# What is written where no circuit is named.
+BESIDE = {"full_adder.txt": "full_adder", "adder64.txt": "add64", "less8.txt": "less8"}
+
+
+def positive(word):
+    number = int(word)
+    if number < 1:
+        raise ValueError
+    return number
+
+
+def command_line():
+    """The words of the command line."""
+    parser = ArgumentParser(description=__doc__, formatter_class=RawDescriptionHelpFormatter)
+    names = parser.add_subparsers(dest="name", metavar="NAME", title="circuits")
+    for name, (_, said) in CIRCUITS.items():
+        command = names.add_parser(name, help=said, description=said)
+        if name == "chains":
+            command.add_argument("count", type=positive, metavar="CHAINS")
+            command.add_argument("length", type=positive, metavar="LENGTH")
+        command.add_argument("file", type=Path, metavar="FILE")
+        command.add_argument(
+            "--times",
+            type=positive,
+            default=1,
+            metavar="N",
+            help="write N copies, one after another, each on values of its own: first the values of"
+            " the first copy (the program takes 256 values at most)",
+        )
+    return parser.parse_args()
+
+
+def write(path, times, name, *numbers):
+    """Writes the circuit of this name."""
+    make, _ = CIRCUITS[name]
+    with path.open("w") as file:
+        make(*numbers).write(file, times)
+
+
+def main():
+    words = command_line()
+    if words.name is None:
+        for file, name in BESIDE.items():
+            write(Path(__file__).with_name(file), 1, name)
+    elif words.name == "chains":
+        write(words.file, words.times, words.name, words.count, words.length)
+    else:
+        write(words.file, words.times, words.name)
+
+
+if __name__ == "__main__":
+    main()

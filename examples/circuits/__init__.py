@@ -1,0 +1,1 @@
+"""Well-known circuits, built from gates."""
