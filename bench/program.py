@@ -14,34 +14,28 @@ import sys
 import tempfile
 import time
 
+from measure import times
+
 SEED = 64 * "0"
 REPEATS = 12
 PARTS = ["read", "digest", "lanes", "file_sha"]
 
 
 def run(words):
-    """The nanoseconds and the peak memory in bytes of one run, and what it printed."""
+    """The nanoseconds and the peak memory in bytes of one run."""
     start = time.monotonic_ns()
-    child = subprocess.Popen(words, stdout=subprocess.PIPE, text=True)
-    printed = child.stdout.read()
+    child = subprocess.Popen(words, stdout=subprocess.DEVNULL)
     _, status, usage = os.wait4(child.pid, 0)
     took = time.monotonic_ns() - start
     if status:
         sys.exit(f"failed: {' '.join(words)}")
-    return took, usage.ru_maxrss * 1024, printed
+    return took, usage.ru_maxrss * 1024
 
 
 def input_widths(circuit):
     with open(circuit) as file:
         file.readline()
         return [int(width) for width in file.readline().split()[1:]]
-
-
-def run_parts(bench, circuit):
-    """The number of gates, and the nanoseconds of each part in one run."""
-    _, _, printed = run([bench, circuit, "1", *PARTS])
-    told = {name: int(number) for name, number in map(str.split, printed.splitlines())}
-    return told["gates"], {name: told[name] for name in PARTS}
 
 
 def sums_of_parts(parts):
@@ -71,10 +65,10 @@ def main():
             "run": [circuit, SEED, *values],
         }
         for _ in range(REPEATS):
-            gates, once = run_parts(bench, circuit)
-            parts = {name: min(once[name], parts.get(name, once[name])) for name in PARTS}
+            once = times(bench, circuit, 1, *PARTS)
+            parts = {name: min(once[name], parts.get(name, once[name])) for name in once}
             for name, words in commands.items():
-                nanoseconds, peak, _ = run([program, name, *words])
+                nanoseconds, peak = run([program, name, *words])
                 took[name] = min(nanoseconds, took.get(name, nanoseconds))
                 peaks[name] = min(peak, peaks.get(name, peak))
     beyond = os.path.getsize(circuit)
@@ -82,7 +76,7 @@ def main():
     for name, sum_of_parts in sums_of_parts(parts).items():
         print(
             f"{name}: {took[name]} ns, {took[name] / sum_of_parts:.2f} times its parts (at most 1.2); peak memory beyond"
-            f" the circuit's file: {(peaks[name] - beyond) / gates:.0f} bytes a gate (at most {most[name]})"
+            f" the circuit's file: {(peaks[name] - beyond) / parts['gates']:.0f} bytes a gate (at most {most[name]})"
         )
 
 

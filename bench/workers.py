@@ -1,0 +1,96 @@
+#!/usr/bin/env python3
+"""Times garbling and evaluating, on one thread and by one, two and four workers.
+
+  workers.py BENCH
+
+BENCH is gc_bench. It prints a table of the fastest of five runs, of garbling and evaluating alone:
+reading, digests and files are not timed. The columns 1, 2 and 4 are workers.
+"""
+
+import sys
+import tempfile
+from concurrent.futures import ThreadPoolExecutor
+from statistics import mean
+
+from measure import make, times
+
+# Circuits of about a million gates, and what makes them. A circuit has 256 input values at most, so
+# there are no more than 128 products.
+CIRCUITS = {
+    "sha256, 8 times": "examples/make_circuits.py sha256 FILE --times 8",
+    "aes128, 33 times": "examples/make_circuits.py aes128 FILE --times 33",
+    "mul32, 128 times": "examples/make_circuits.py mul32 FILE --times 128",
+    "64 chains of AND gates": "examples/make_circuits.py chains 64 15625 FILE",
+    "independent, all AND": "bench/make_circuit.py 1000000 1 FILE independent",
+    "independent, half AND": "bench/make_circuit.py 1000000 0.5 FILE independent",
+    "independent, a quarter AND": "bench/make_circuit.py 1000000 0.25 FILE independent",
+    "independent, all XOR": "bench/make_circuit.py 1000000 0 FILE independent",
+    "within a thousand, half AND": "bench/make_circuit.py 1000000 0.5 FILE",
+}
+PARTS = ["garble", "garble1", "garble2", "garble4", "job", "job1", "job2", "job4"]
+
+# How many times as fast as one part another is to be, at the least.
+TARGETS = [
+    ("independent, all AND", "garble", "garble4", 3.4),
+    ("independent, all AND", "garble1", "garble4", 3.2),
+    ("independent, a quarter AND", "garble", "garble4", 2.3),
+    ("independent, all AND", "job", "job4", 3.0),
+    ("within a thousand, half AND", "job", "job4", 1.8),
+]
+
+
+def main():
+    [bench] = sys.argv[1:]
+    with tempfile.TemporaryDirectory() as folder:
+        file = f"{folder}/circuit"
+        print_targets(print_table(bench, file))
+        make(CIRCUITS["independent, all AND"], file)
+        print_beside_programs(bench, file)
+
+
+def print_table(bench, file):
+    """Prints the table, and returns the times in nanoseconds."""
+    took = {}
+    print_row("milliseconds", "", "", "garbling", "", "", "", "evaluating")
+    print_row("circuit", "gates", "AND", *2 * ["thread", "1", "2", "4"])
+    for name, command in CIRCUITS.items():
+        make(command, file)
+        took[name] = times(bench, file, 5, *PARTS)
+        counts = [f"{took[name][count]:,}" for count in ("gates", "and")]
+        print_row(name, *counts, *[f"{took[name][part] / 1e6:.1f}" for part in PARTS])
+    return took
+
+
+def print_row(name, *cells):
+    print(f"{name:28}", *[f"{cell:>9}" for cell in cells], flush=True)
+
+
+def print_targets(took):
+    for name, slow, fast, least in TARGETS:
+        ratio = took[name][slow] / took[name][fast]
+        print(f"{name}: {fast} {ratio:.2f} times as fast as {slow} (at least {least})")
+
+
+def print_beside_programs(bench, circuit):
+    """Four workers, beside four programs that garble by one worker each, at once.
+
+    So much the machine gives to four, whatever else it does.
+    """
+
+    def garbling(part):
+        return times(bench, circuit, 2, part)[part]
+
+    one, four, apart = [], [], []
+    with ThreadPoolExecutor(4) as programs:
+        for _ in range(8):
+            one.append(garbling("garble1"))
+            four.append(garbling("garble4"))
+            apart += programs.map(garbling, 4 * ["garble1"])
+    print(
+        "independent, all AND, by the mean of eight turns: four workers"
+        f" {mean(one) / mean(four):.2f} times as fast as one, four programs of one worker each, at"
+        f" once, {4 * mean(one) / mean(apart):.2f} times"
+    )
+
+
+main()
