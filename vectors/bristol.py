@@ -1,0 +1,208 @@
+"""Circuits in Bristol Fashion, and values as texts: reading, spelling and plain evaluation.
+
+It follows the page "Bristol Fashion MPC Circuits" and the project's docs/. Each function that reads
+raises the first fault of its input, as a Fault.
+"""
+import re
+from collections import namedtuple
+from hashlib import sha256
+
+MAX_GATES, MAX_WIRES, MAX_VALUES = 2**24, 2**25, 2**8
+
+
+class Fault(Exception):
+    """The first fault of an input: its number and its name."""
+
+    def __init__(self, number, name):
+        super().__init__(f"fault {number} {name}")
+        self.number, self.name = number, name
+
+
+def demand(condition, number, name):
+    """Raises this fault unless the condition holds."""
+    if not condition:
+        raise Fault(number, name)
+
+
+# Circuits in Bristol Fashion.
+
+# `numbers` are the wires that the gate reads, or the constant of EQ; it sets the wire `target`.
+Gate = namedtuple("Gate", "operation numbers target")
+Circuit = namedtuple("Circuit", "wires input_widths output_widths gates")
+
+FIRST_COUNTS = {"XOR": 2, "AND": 2, "INV": 1, "EQ": 1, "EQW": 1}
+
+
+class Tokens:
+    """The tokens of a text: the longest runs of bytes other than tab, line feed, CR and space."""
+
+    def __init__(self, text):
+        self.left = iter(re.findall(rb"[^\t\n\r ]+", text))
+
+    def word(self):
+        """The next token."""
+        token = next(self.left, None)
+        demand(token is not None, 1, "Truncated")
+        return token
+
+    def number(self, limit=2**32 - 1):
+        """The next token as a number; leading zeros are allowed."""
+        digits = self.word()
+        demand(re.fullmatch(rb"[0-9]+", digits), 2, "BadNumber")
+        value = int(digits.lstrip(b"0")[:11] or b"0")  # 11 digits are above each limit.
+        demand(value < 2**32, 2, "BadNumber")
+        demand(value <= limit, 3, "TooLarge")
+        return value
+
+
+def read_circuit(text):
+    """The circuit that the bytes spell."""
+    tokens = Tokens(text)
+    gate_count = tokens.number(MAX_GATES)
+    wires = tokens.number(MAX_WIRES)
+    input_widths = read_widths(tokens, wires)
+    output_widths = read_widths(tokens, wires)
+    circuit = Circuit(wires, input_widths, output_widths, [])
+    targets = set()
+    for _ in range(gate_count):
+        gate = read_gate(tokens, circuit, targets)
+        circuit.gates.append(gate)
+        targets.add(gate.target)
+    demand(all(is_set(circuit, targets, wire) for wire in output_wires(circuit)), 10, "OutputUnset")
+    demand(next(tokens.left, None) is None, 11, "TrailingTokens")
+    return circuit
+
+
+def read_widths(tokens, wires):
+    """The widths of the input values, or of the output values. Together they exceed no wires."""
+    widths = [tokens.number() for _ in range(tokens.number(MAX_VALUES))]
+    demand(sum(widths) <= wires, 12, "WidthsExceedWires")
+    return widths
+
+
+def read_gate(tokens, circuit, targets):
+    """One gate. Its tokens come first, and then what they mean."""
+    counts = tokens.number(), tokens.number()
+    demand(counts in ((1, 1), (2, 1)), 4, "BadShape")
+    *numbers, target = [tokens.number() for _ in range(sum(counts))]
+    operation = tokens.word().decode("latin-1")
+    demand(operation in FIRST_COUNTS, 5, "UnknownOperation")
+    demand(FIRST_COUNTS[operation] == counts[0], 4, "BadShape")
+    gate = Gate(operation, numbers, target)
+    demand(operation != "EQ" or numbers[0] in (0, 1), 6, "BadConstant")
+    for wire in wires_read(gate):
+        demand(wire < circuit.wires, 7, "NoSuchWire")
+        demand(is_set(circuit, targets, wire), 8, "Unset")
+    demand(target < circuit.wires, 7, "NoSuchWire")
+    demand(not is_set(circuit, targets, target), 9, "SetTwice")
+    return gate
+
+
+def wires_read(gate):
+    """The wires that the gate reads."""
+    return [] if gate.operation == "EQ" else gate.numbers
+
+
+def input_wires(circuit):
+    """The first wires, value after value."""
+    return range(sum(circuit.input_widths))
+
+
+def output_wires(circuit):
+    """The last wires, value after value."""
+    return range(circuit.wires - sum(circuit.output_widths), circuit.wires)
+
+
+def is_set(circuit, targets, wire):
+    """Whether the wire is an input wire, or one of the targets."""
+    return wire in input_wires(circuit) or wire in targets
+
+
+def and_count(circuit):
+    """The number of AND gates."""
+    return sum(gate.operation == "AND" for gate in circuit.gates)
+
+
+def canonical_text(circuit):
+    """The one spelling that stands for all spellings of the circuit."""
+    lines = [
+        [len(circuit.gates), circuit.wires],
+        [len(circuit.input_widths), *circuit.input_widths],
+        [len(circuit.output_widths), *circuit.output_widths],
+        [],
+        *([len(g.numbers), 1, *g.numbers, g.target, g.operation] for g in circuit.gates),
+    ]
+    return "".join(" ".join(map(str, line)) + "\n" for line in lines).encode()
+
+
+def digest(circuit):
+    """The SHA-256 of the canonical text, 32 bytes."""
+    return sha256(canonical_text(circuit)).digest()
+
+
+def walk(circuit, inputs, rule):
+    """What stands on each set wire: on input wires what is given, and else what the rule gives.
+
+    The rule takes a gate, and what stands on the wires that the gate reads.
+    """
+    on_wires = dict(enumerate(inputs))
+    for gate in circuit.gates:
+        on_wires[gate.target] = rule(gate, *[on_wires[wire] for wire in wires_read(gate)])
+    return on_wires
+
+
+def plain_eval(circuit, values):
+    """The bits on the output wires for the bits of each input value, computed without garbling."""
+
+    def bit_of(gate, a=0, b=0):
+        bits = {"XOR": a ^ b, "AND": a & b, "INV": 1 - a, "EQ": gate.numbers[0], "EQW": a}
+        return bits[gate.operation]
+
+    on_wires = walk(circuit, [bit for bits in values for bit in bits], bit_of)
+    return [on_wires[wire] for wire in output_wires(circuit)]
+
+
+# Bits, values and seeds as texts.
+
+
+def pack(bits):
+    """Eight bits to a byte, the first bit lowest; bits left over are 0."""
+    padded = [*bits, *[0] * (-len(bits) % 8)]
+    return bytes(sum(padded[i + j] << j for j in range(8)) for i in range(0, len(bits), 8))
+
+
+def unpack(data, count):
+    """The first bits of these bytes, and whether all others are 0."""
+    bits = [byte >> j & 1 for byte in data for j in range(8)]
+    return bits[:count], not any(bits[count:])
+
+
+def read_value(text, width):
+    """The bits that a text tells: binary digits in wire order, or x and hexadecimal digits."""
+    text = text.encode()
+    is_hex = text.startswith(b"x")
+    demand(len(text) == (1 + 2 * ((width + 7) // 8) if is_hex else width), 16, "WrongLength")
+    demand(re.fullmatch(rb"x[0-9a-fA-F]*" if is_hex else rb"[01]*", text), 15, "BadDigit")
+    if not is_hex:
+        return [digit - ord("0") for digit in text]
+    bits, others_zero = unpack(bytes.fromhex(text[1:].decode()), width)
+    demand(others_zero, 17, "SpareBits")
+    return bits
+
+
+def read_values(texts, widths):
+    """The bits of each value."""
+    demand(len(texts) == len(widths), 14, "WrongCount")
+    return [read_value(text, width) for text, width in zip(texts, widths)]
+
+
+def show_values(bits, widths):
+    """A binary text for each value."""
+    digits = iter("".join(map(str, bits)))
+    return ["".join(next(digits) for _ in range(width)) for width in widths]
+
+
+def read_seed(text):
+    """The 32 bytes of a seed."""
+    demand(re.fullmatch("[0-9a-fA-F]{64}", text), 18, "BadSeed")
+    return bytes.fromhex(text)
