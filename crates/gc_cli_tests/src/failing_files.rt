@@ -106,12 +106,7 @@ fn each_call_in_turn(rt: HostRuntime) -> Result<(), Fail> {
 static STREAMS: [(&[&str], usize, Fault, &str); 4] = [
     (&["eval", "c.txt", "g", "0", "1"], 114, READ, "1\n"),
     (&["jobs", "c.txt", "list"], 114, READ, "1\n\n"),
-    (
-        &["garble", "c.txt", SEED, "out"],
-        113,
-        WRITE,
-        "wrote 113\n",
-    ),
+    (&["garble", "c.txt", SEED, "out"], 113, WRITE, "wrote 113\n"),
     (
         &["deal", "c.txt", SEED, "1", "0", "out"],
         32,

@@ -1,4 +1,4 @@
-//! Sets of numbers, of gates or of blocks of gates, by which workers save steps.
+//! Sets of gates, by which workers save steps.
 
 use std::alloc::{AllocError, Allocator};
 
@@ -24,24 +24,6 @@ impl<B: Allocator> NumberSet<B> {
     pub fn has(&self, number: u32) -> bool {
         match self.words.get((number / u64::BITS) as usize) {
             Some(word) => word >> (number % u64::BITS) & 1 == 1,
-            None => false,
-        }
-    }
-
-    /// Whether a number is in the set that has the same quotient by 64 as this one.
-    #[inline]
-    pub fn has_near(&self, number: u32) -> bool {
-        match self.words.get((number / u64::BITS) as usize) {
-            Some(word) => *word != 0,
-            None => false,
-        }
-    }
-
-    /// Whether all numbers are in the set that have the same quotient by 64 as this one.
-    #[inline]
-    pub fn has_all_near(&self, number: u32) -> bool {
-        match self.words.get((number / u64::BITS) as usize) {
-            Some(word) => *word == u64::MAX,
             None => false,
         }
     }

@@ -5,7 +5,7 @@ use gc_eval::{EvalFault, Job, evaluate, evaluate_many};
 use gc_file::{Version, read_garbled, read_labels};
 use gc_gatehouse::Open;
 use gc_refusing::Refusing;
-use gc_worked::circuits::{AND_INV_AND, FULL_ADDER, and_chains, many_ands};
+use gc_worked::circuits::{FULL_ADDER, and_chains, many_ands};
 use gc_worked::files::{label_file, write};
 use gc_worked::meeting::Meeting;
 use std::alloc::Global;
@@ -70,7 +70,7 @@ fn refused_runs<R: Threads + Wait + Sync>(
     Err(Fail::new("each run met a refusal"))
 }
 
-/// Which way to go takes memory once, the board six times, the workers once each and once together, the seats that are back
+/// Which way to go takes memory twice, the board six times, the workers once each and once together, the seats that are back
 /// once, and the output labels and bits once each. By layers one worker takes memory for all of its tables, two blocks, the
 /// output labels and the bits.
 #[test]
@@ -78,10 +78,11 @@ fn each_growth_refused(rt: HostRuntime) -> Result<(), Fail> {
     let circuit = Circuit::read(rt.alloc(), FULL_ADDER.as_bytes())?;
     let job = job_on_zeros(rt.alloc(), &circuit, FULL_ADDER)?;
     assert_eq!(rt; refused_runs(&rt, rt.alloc(), &job, 1)?, 20);
-    let circuit = Circuit::read(rt.alloc(), AND_INV_AND.as_bytes())?;
-    let job = job_on_zeros(rt.alloc(), &circuit, AND_INV_AND)?;
-    assert_eq!(rt; refused_runs(&rt, rt.alloc(), &job, 2)?, 13);
-    assert_eq!(rt; refused_runs(&rt, rt.alloc(), &job, 64)?, 75);
+    let text = and_chains(rt.alloc(), 64, 4)?;
+    let circuit = Circuit::read(rt.alloc(), text.as_bytes())?;
+    let job = job_on_zeros(rt.alloc(), &circuit, text.as_str())?;
+    assert_eq!(rt; refused_runs(&rt, rt.alloc(), &job, 2)?, 14);
+    assert_eq!(rt; refused_runs(&rt, rt.alloc(), &job, 64)?, 76);
     Ok(())
 }
 

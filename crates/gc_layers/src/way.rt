@@ -7,16 +7,16 @@ ghost use Rattle.gc_layers.specs.declared.way.Way.TheVariants.{Alone, Together};
 use gc_circuit::{Circuit, Memory, Operation};
 use std::alloc::Allocator;
 
-/// A circuit of which fewer than one gate in so many is AND is left to one thread,
+/// A circuit of which fewer than one gate in this many is AND is left to one thread,
 const GATES_FOR_THREADS: u32 = 64;
 
-/// one of which fewer than one gate in so many is AND goes by layers,
-const GATES_FOR_AND: u32 = 3;
+/// one of which fewer than one gate in this many is AND goes by layers,
+const GATES_FOR_AND: u32 = 2;
 
-/// and so does one whose layers have about so many AND gates, or more.
+/// and so does one whose layers have about this many AND gates, or more.
 const WIDE_LAYER: u32 = 16;
 
-/// So many gates at the front of a circuit are looked at, and there are so many marks.
+/// This many gates at the front of a circuit are looked at for its layers, and there are as many marks.
 const LOOKED_AT: u32 = 16_384;
 
 /// Which wires the AND gates of the present layer set. A mark serves all wires whose numbers are equal modulo
@@ -61,16 +61,16 @@ pub enum Way {
     Together,
 }
 
-/// The way that takes so many threads the least time, by the circuit's AND gates and the front of its file. It takes memory
-/// for a mark for each of 16,384 gates, where there are several threads. Which of [`Way::Layers`] and [`Way::Together`]
-/// several threads go where a third of the gates are AND, or more, no clause says.
+/// The way that takes this many threads the least time. It takes memory for a mark for each of 16,384 gates, and for a bit
+/// for each wire, where there are several threads. Which of [`Way::Layers`] and [`Way::Together`] several threads go where
+/// half of the gates are AND, or more, no clause says.
 pub fn way_of<A: Allocator + Copy, C: Allocator>(
     alloc: A,
     circuit: &Circuit<C>,
     threads: u32,
 ) -> Result<Way, Memory>
     ensures alone { IfOk result (λ way. way ≡ Alone ↔ HasFewAnds circuit.now 64) }
-    ensures layers { threads ≡ 1 ⊎ HasFewAnds circuit.now 3 → IfOk result (λ way. way ≢ Together) }
+    ensures layers { threads ≡ 1 ⊎ HasFewAnds circuit.now 2 → IfOk result (λ way. way ≢ Together) }
 {
     if has_few_ands(circuit, GATES_FOR_THREADS) {
         return Ok(Way::Alone);
@@ -78,13 +78,13 @@ pub fn way_of<A: Allocator + Copy, C: Allocator>(
     if threads == 1 || has_few_ands(circuit, GATES_FOR_AND) {
         return Ok(Way::Layers);
     }
-    if layer_width(alloc, circuit)? >= WIDE_LAYER {
+    if layer_width(alloc, circuit)? >= WIDE_LAYER || !has_free_shares(alloc, circuit, threads)? {
         return Ok(Way::Layers);
     }
     Ok(Way::Together)
 }
 
-/// Whether fewer than one gate in so many is AND.
+/// Whether fewer than one gate in this many is AND.
 fn has_few_ands<C: Allocator>(circuit: &Circuit<C>, gates_for_and: u32) -> bool
     ensures { IsTrue result ↔ HasFewAnds circuit.now gates_for_and }
 {
@@ -113,4 +113,63 @@ fn layer_width<A: Allocator + Copy, C: Allocator>(
         }
     }
     Ok(ands.checked_div(marks.layer).unwrap_or(0))
+}
+
+/// Which wires the free gates of a share set: a bit for each wire.
+#[derive(Drop)]
+struct FreeWires<A: Allocator> {
+    inputs: u32,
+    words: Vec<u64, A>,
+}
+
+impl<A: Allocator> FreeWires<A> {
+    /// Whether an operation reads input wires and wires that free gates set, and no other.
+    fn are_read(&self, operation: Operation) -> bool {
+        match operation {
+            Operation::Xor(a, b) | Operation::And(a, b) => self.is_free(a) && self.is_free(b),
+            Operation::Inv(a) | Operation::Eqw(a) => self.is_free(a),
+            Operation::Eq(_) => true,
+        }
+    }
+
+    fn is_free(&self, wire: u32) -> bool {
+        match self.words.get((wire / u64::BITS) as usize) {
+            Some(word) => wire < self.inputs || word >> (wire % u64::BITS) & 1 == 1,
+            None => false,
+        }
+    }
+
+    fn set(&mut self, wire: u32) {
+        if let Some(word) = self.words.get_mut((wire / u64::BITS) as usize) {
+            *word |= 1 << (wire % u64::BITS);
+        }
+    }
+}
+
+/// Whether at least three gates in four are free in their shares, of which each thread has one: they need no gate of
+/// another share.
+fn has_free_shares<A: Allocator + Copy, C: Allocator>(
+    alloc: A,
+    circuit: &Circuit<C>,
+    threads: u32,
+) -> Result<bool, Memory> {
+    let share = circuit.gates().div_ceil(threads.max(1)).max(1);
+    let words = circuit.wires().div_ceil(u64::BITS) as usize;
+    let mut wires = FreeWires {
+        inputs: circuit.input_wires(),
+        words: Vec::from_elem(alloc, 0u64, words)?,
+    };
+    let mut bound = 0u32;
+    for i in 0..circuit.gates() {
+        if i % share == 0 {
+            wires.words.fill(0);
+        }
+        let gate = circuit.gate(i);
+        if wires.are_read(gate.operation) {
+            wires.set(gate.set);
+        } else {
+            bound = bound.saturating_add(1);
+        }
+    }
+    Ok(bound <= circuit.gates() / 4)
 }

@@ -129,21 +129,21 @@ fn refused_one_by_one<L: Ledger, R: Abort + Wait>(
     assert!(rt; tally.count() == 0 && batch.is_empty());
 }
 
-/// Of two handed in at once that are of one gate the second is refused, and the first is counted.
-fn refused_among_several<L: Ledger, R: Abort + Wait>(
+/// A task that is handed in twice is refused the second time; tally and batch stay.
+fn refused_again<L: Ledger, R: Abort + Wait>(
     rt: &R,
     shared: &SharedStore<L>,
     tally: &mut Tally<L>,
     own: Sealed,
 ) {
-    let mut batches = [Batch::new()];
-    let refused = Err(Refused::NotClaimed(own));
-    assert!(rt; shared.hand_in_all(rt, &[own, own], tally, &mut batches) == refused);
-    assert!(rt; shared.try_hand_in_all(&[own], tally, &mut batches) == Some(refused));
-    assert!(rt; tally.count() == 1 && batches[0].is_empty());
+    let mut batch = Batch::new();
+    assert!(rt; shared.hand_in(rt, own, tally, &mut batch) == Ok(false));
+    assert!(rt; tally.count() == 1 && batch.len() == 2);
+    assert!(rt; shared.hand_in(rt, own, tally, &mut batch) == Err(Refused::NotClaimed(own)));
+    assert!(rt; tally.count() == 1 && batch.len() == 2);
 }
 
-/// What the store refuses a shared store refuses, one by one and several at once.
+/// What the store refuses a shared store refuses.
 fn strangers_are_refused<L: Ledger, R: Abort + Wait>(
     rt: &R,
     alloc: Global,
@@ -156,7 +156,7 @@ fn strangers_are_refused<L: Ledger, R: Abort + Wait>(
     let shared = SharedStore::new(store);
     let own = shared.take(rt)?;
     refused_one_by_one(rt, &shared, &mut tally, foreign);
-    refused_among_several(rt, &shared, &mut tally, Sealed::make(own));
+    refused_again(rt, &shared, &mut tally, Sealed::make(own));
     Some(())
 }
 
@@ -166,4 +166,28 @@ fn a_shared_store_refuses(rt: HostRuntime) {
     let foreign = foreign.expect(&rt, "a gate may go next");
     let refused = strangers_are_refused::<Brand, HostRuntime>(&rt, rt.alloc(), ledger(), foreign);
     assert!(rt; refused.is_some());
+}
+
+/// Hands in each gate of the full adder. The last one completes the store, and then nothing is left to take.
+fn completes<L: Ledger, R: Abort + Wait>(rt: &R, alloc: Global, ledger: Blank) -> Option<()>
+    requires { IsForStore L.name L.parts ledger }
+{
+    let (store, mut tally) = open_with_tally::<L, Global>(alloc, ledger)?;
+    let shared = SharedStore::new(store);
+    let mut batch = Batch::new();
+    let mut task = shared.take(rt)?;
+    for _gate in 0..4 {
+        let answer = shared.hand_in(rt, Sealed::make(task), &mut tally, &mut batch);
+        assert!(rt; answer == Ok(false));
+        task = batch.pop()?;
+    }
+    let answer = shared.hand_in(rt, Sealed::make(task), &mut tally, &mut batch);
+    assert!(rt; answer == Ok(true) && batch.is_empty());
+    assert!(rt; shared.take(rt).is_none());
+    Some(())
+}
+
+#[test]
+fn the_last_gate_completes_a_shared_store(rt: HostRuntime) {
+    assert!(rt; completes::<Brand, HostRuntime>(&rt, rt.alloc(), ledger()).is_some());
 }
