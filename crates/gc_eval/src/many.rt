@@ -21,12 +21,12 @@ use std::thread;
 use std::thread::Threads;
 
 /// Evaluates a job by this many workers: the answer is what [`evaluate`] answers, honest job or not. The calling thread is
-/// worker 0; a thread is started for each other worker, and where one can't be started the calling thread does its work
-/// too. Worker 0 goes from gate to gate and all evaluate the AND gates that it passed ([`evaluate_by_layers`]); where next
-/// to none are AND it evaluates alone. Where half of the gates are AND, few of which can be evaluated at once, and the
-/// workers' shares of the gates need nothing of each other, each has a seat at a board. `house.before` is called for each
-/// gate before it is evaluated, and ahead of each step at a board. Where the workers can't have the memory for this, the
-/// job is evaluated on one thread.
+/// worker 0; a thread is started for each other worker that has something to do, and where one can't be started the calling
+/// thread does its work too. Where many AND gates near each other can be evaluated at once, worker 0 goes from gate to gate
+/// and all evaluate the AND gates that it passed ([`evaluate_by_layers`]). Where half of the gates are AND and the workers'
+/// shares of the file need nothing of each other, each has a seat at a board. Else worker 0 evaluates alone, as it does where
+/// the workers can't have their memory. `house.before` is called for each gate before it is evaluated, and ahead of each step
+/// at a board.
 ///
 /// It refuses 0 workers and more than [`MAX_WORKERS`]: 22.
 pub fn evaluate_many<

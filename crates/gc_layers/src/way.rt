@@ -7,14 +7,14 @@ ghost use Rattle.gc_layers.specs.declared.way.Way.TheVariants.{Alone, Together};
 use gc_circuit::{Circuit, Memory, Operation};
 use std::alloc::Allocator;
 
-/// A circuit of which fewer than one gate in this many is AND is left to one thread,
+/// A circuit of which fewer than one gate in this many is AND is left to one thread.
 const GATES_FOR_THREADS: u32 = 64;
 
-/// one of which fewer than one gate in this many is AND goes by layers,
-const GATES_FOR_AND: u32 = 2;
-
-/// and so does one whose layers have about this many AND gates, or more.
+/// One whose layers have about this many AND gates, or more, goes by layers.
 const WIDE_LAYER: u32 = 16;
+
+/// Of another one that all threads go through at least one gate in this many is AND.
+const GATES_FOR_AND: u32 = 2;
 
 /// This many gates at the front of a circuit are looked at for its layers, and there are as many marks.
 const LOOKED_AT: u32 = 16_384;
@@ -53,35 +53,39 @@ impl<A: Allocator> Marks<A> {
 /// How threads garble or evaluate a circuit in the least time. Whatever the way, the answer is the same.
 #[derive(Clone, Copy, PartialEq, Eq, Debug)]
 pub enum Way {
-    /// One thread goes from gate to gate: there is next to nothing to do beside.
+    /// One thread goes from gate to gate: others would save it less than they cost.
     Alone,
-    /// One thread goes from gate to gate, and others make AND gates that it passed.
+    /// One thread goes from gate to gate, and AND gates that it passed are made several at once, by others too.
     Layers,
     /// All go from gate to gate.
     Together,
 }
 
-/// The way that takes this many threads the least time. It takes memory for a mark for each of 16,384 gates, and for a bit
-/// for each wire, where there are several threads. Which of [`Way::Layers`] and [`Way::Together`] several threads go where
-/// half of the gates are AND, or more, no clause says.
+/// The way that takes this many threads the least time. It takes memory for a mark for each of 16,384 gates and, where there
+/// are several threads, for a bit for each wire. Where one gate in 64 is AND, or more, no clause says which way it is, but
+/// that it is [`Way::Together`] only for several threads and where half of the gates are AND.
 pub fn way_of<A: Allocator + Copy, C: Allocator>(
     alloc: A,
     circuit: &Circuit<C>,
     threads: u32,
 ) -> Result<Way, Memory>
-    ensures alone { IfOk result (λ way. way ≡ Alone ↔ HasFewAnds circuit.now 64) }
+    ensures alone { HasFewAnds circuit.now 64 → IfOk result (λ way. way ≡ Alone) }
     ensures layers { threads ≡ 1 ⊎ HasFewAnds circuit.now 2 → IfOk result (λ way. way ≢ Together) }
 {
     if has_few_ands(circuit, GATES_FOR_THREADS) {
         return Ok(Way::Alone);
     }
+    if layer_width(alloc, circuit)? >= WIDE_LAYER {
+        return Ok(Way::Layers);
+    }
     if threads == 1 || has_few_ands(circuit, GATES_FOR_AND) {
-        return Ok(Way::Layers);
+        return Ok(Way::Alone);
     }
-    if layer_width(alloc, circuit)? >= WIDE_LAYER || !has_free_shares(alloc, circuit, threads)? {
-        return Ok(Way::Layers);
+    if has_free_shares(alloc, circuit, threads)? {
+        Ok(Way::Together)
+    } else {
+        Ok(Way::Alone)
     }
-    Ok(Way::Together)
 }
 
 /// Whether fewer than one gate in this many is AND.

@@ -1,10 +1,13 @@
 //! Tasks, and tasks that are sealed: garbled.
 
-ghost use Rattle.std.specs.Prelude.{◌≡◌};
+ghost use Rattle.std.specs.Prelude.{◌≡◌, IsTrue};
+ghost use Rattle.gc_netlist.specs.Circuit.{is_and};
+ghost use Rattle.gc_half.specs.Hash.{hash};
+ghost use Rattle.gc_half.specs.HalfGate.{and_garbled};
 ghost use Rattle.gc_store.specs.Task.{sealed_zero_label, sealed_rows};
 
 use gc_circuit::Operation;
-use gc_half::{RowPair, garble_gate};
+use gc_half::{AndGate, RowPair, garble_gate, garble_two_ands};
 use gc_label::{Label, Offset};
 use std::marker::Model;
 
@@ -23,6 +26,24 @@ pub struct Task {
     pub first: Label,
     /// The zero label of the wire that the gate reads second, [`Label::ZERO`] where it reads no second.
     pub second: Label,
+}
+
+impl Task {
+    /// The task's gate, as an AND gate.
+    #[inline]
+    fn and_gate(&self) -> AndGate
+        ensures k { result.k ≡ self.now.and_number }
+        ensures offset { result.offset ≡ self.now.offset }
+        ensures first { result.a ≡ self.now.first }
+        ensures second { result.b ≡ self.now.second }
+    {
+        AndGate {
+            k: self.and_number,
+            offset: self.offset,
+            a: self.first,
+            b: self.second,
+        }
+    }
 }
 
 /// A task that is garbled: the zero label of the wire that its gate sets and, where it is AND, its row pair.
@@ -65,6 +86,44 @@ impl Sealed {
             task,
             zero_label,
             rows,
+        }
+    }
+
+    /// Garbles two tasks, at once where both gates are AND. It takes no memory.
+    #[inline]
+    pub fn make_two(one: Task, other: Task) -> (Sealed, Sealed)
+        ensures one { result.0 ≡ one }
+        ensures other { result.1 ≡ other }
+    {
+        match (one.operation, other.operation) {
+            (Operation::And(_, _), Operation::And(_, _)) => {
+                let (garbled, other_garbled) = garble_two_ands(one.and_gate(), other.and_gate());
+                (
+                    Sealed::of_and(one, garbled),
+                    Sealed::of_and(other, other_garbled),
+                )
+            }
+            _ => (Sealed::make(one), Sealed::make(other)),
+        }
+    }
+
+    /// A task whose gate is AND, with what garbling it gave: the zero label of the wire that it sets, the generator's
+    /// row and the evaluator's row.
+    #[inline]
+    fn of_and(task: Task, garbled: (Label, Label, Label)) -> Sealed
+        requires and { IsTrue (is_and task.operation) }
+        requires garbled { garbled ≡ and_garbled hash task.and_number task.offset task.first task.second }
+        ensures { result ≡ task }
+    {
+        let (zero_label, generator, evaluator) = garbled;
+        let rows = RowPair {
+            generator,
+            evaluator,
+        };
+        Sealed {
+            task,
+            zero_label,
+            rows: Some(rows),
         }
     }
 

@@ -28,11 +28,12 @@ use std::thread::Threads;
 /// The room of a worker's pool, in tasks.
 const POOL_CAPACITY: u32 = 1024;
 
-/// The garbling of a circuit under a seed, made by so many workers. The calling thread is worker 0; a thread is
-/// started for each other worker, and where one can't be started the calling thread does its work too. With one
-/// worker, and where few gates are AND or many near each other can be garbled at once, worker 0 goes from gate to gate and
-/// all garble the AND gates that it passed ([`garble_by_layers`]); where next to none are AND it garbles alone. Else they
-/// share a store, where each takes any gate that may go next. `house` is told of each gate before it is sealed.
+/// The garbling of a circuit under a seed, made by this many workers. The calling thread is worker 0; a thread is started
+/// for each other worker that has something to do, and where one can't be started the calling thread does its work too. Where
+/// many AND gates near each other can be garbled at once, worker 0 goes from gate to gate and all garble the AND gates that it
+/// passed ([`garble_by_layers`]). Where half of the gates are AND and the workers' shares of the file need nothing of each
+/// other, they share a store, where each takes any gate that is ready. Else worker 0 garbles alone. `house.before` is called
+/// for each gate before it is sealed.
 ///
 /// It refuses 0 workers and more than [`MAX_WORKERS`]. Memory is the other fault.
 pub fn garble<

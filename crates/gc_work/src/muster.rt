@@ -8,7 +8,7 @@ ghost use Rattle.gc_work.specs.Seats.{AreHeld};
 
 use crate::pool::{Owner, TaskPool, Thief};
 use crate::raid::Raid;
-use crate::worker::Member;
+use crate::worker::{MAX_SEALED, Member};
 use gc_circuit::Memory;
 use gc_store::Store;
 use std::alloc::Allocator;
@@ -111,12 +111,14 @@ fn seated<L: Ledger, A: Allocator + Copy>(
         let Some(tally) = store.tally() else {
             break;
         };
+        let sealed = Vec::with_capacity(alloc, MAX_SEALED)?;
         members.push(Member {
             place,
             number,
             tally,
             owner,
             raids,
+            sealed,
         })?;
     }
     Ok(members)

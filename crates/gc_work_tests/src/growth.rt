@@ -101,18 +101,20 @@ fn an_opened_store_grows_nothing(rt: HostRuntime) {
     assert!(rt; done.is_some());
 }
 
-/// Hands in three gates, and stops. None where they weren't there to take.
+/// Hands in gates 0 and 1, one by itself and one among several, and a gate that then may go next where the lock is free,
+/// and stops. None where they weren't there to take.
 fn hands_in_three<L: Ledger, A: Allocator, R: Abort + Wait>(
     rt: &R,
     shared: &SharedStore<L, A>,
     tally: &mut Tally<L>,
 ) -> Option<()> {
-    let mut batch = Batch::new();
-    let mut task = shared.take(rt)?;
-    for _gate in 0..3 {
-        assert!(rt; shared.hand_in(rt, Sealed::make(task), tally, &mut batch) == Ok(false));
-        task = batch.pop()?;
-    }
+    let mut batches = [Batch::new()];
+    let zero = Sealed::make(shared.take(rt)?);
+    let one = Sealed::make(shared.take(rt)?);
+    assert!(rt; shared.hand_in(rt, zero, tally, &mut batches[0]) == Ok(false));
+    assert!(rt; shared.hand_in_all(rt, &[one], tally, &mut batches) == Ok(false));
+    let next = Sealed::make(batches[0].pop()?);
+    assert!(rt; shared.try_hand_in_all(&[next], tally, &mut batches) == Some(Ok(false)));
     shared.stop(rt);
     assert!(rt; shared.take(rt).is_none());
     Some(())

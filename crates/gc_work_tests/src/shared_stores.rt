@@ -129,21 +129,21 @@ fn refused_one_by_one<L: Ledger, R: Abort + Wait>(
     assert!(rt; tally.count() == 0 && batch.is_empty());
 }
 
-/// A task that is handed in twice is refused the second time; tally and batch stay.
-fn refused_again<L: Ledger, R: Abort + Wait>(
+/// Of two handed in at once that are of one gate the second is refused, and the first is counted.
+fn refused_among_several<L: Ledger, R: Abort + Wait>(
     rt: &R,
     shared: &SharedStore<L>,
     tally: &mut Tally<L>,
     own: Sealed,
 ) {
-    let mut batch = Batch::new();
-    assert!(rt; shared.hand_in(rt, own, tally, &mut batch) == Ok(false));
-    assert!(rt; tally.count() == 1 && batch.len() == 2);
-    assert!(rt; shared.hand_in(rt, own, tally, &mut batch) == Err(Refused::NotClaimed(own)));
-    assert!(rt; tally.count() == 1 && batch.len() == 2);
+    let mut batches = [Batch::new()];
+    let refused = Err(Refused::NotClaimed(own));
+    assert!(rt; shared.hand_in_all(rt, &[own, own], tally, &mut batches) == refused);
+    assert!(rt; shared.try_hand_in_all(&[own], tally, &mut batches) == Some(refused));
+    assert!(rt; tally.count() == 1 && batches[0].is_empty());
 }
 
-/// What the store refuses a shared store refuses.
+/// What the store refuses a shared store refuses, one by one and several at once.
 fn strangers_are_refused<L: Ledger, R: Abort + Wait>(
     rt: &R,
     alloc: Global,
@@ -156,7 +156,7 @@ fn strangers_are_refused<L: Ledger, R: Abort + Wait>(
     let shared = SharedStore::new(store);
     let own = shared.take(rt)?;
     refused_one_by_one(rt, &shared, &mut tally, foreign);
-    refused_again(rt, &shared, &mut tally, Sealed::make(own));
+    refused_among_several(rt, &shared, &mut tally, Sealed::make(own));
     Some(())
 }
 
