@@ -1,0 +1,150 @@
+#!/usr/bin/env python3
+"""Prints an SVG picture of the program and the crates that it stands on, made from crates.txt.
+
+  picture.py
+
+A crate stands one row above the highest crate that it uses. An arrow leads from a crate to each
+crate that it uses, unless a path of other arrows leads there.
+"""
+
+from graphlib import TopologicalSorter
+from pathlib import Path
+
+PROGRAM = "halfgates"
+CRATES = Path(__file__).resolve().parent.parent / "crates.txt"
+
+# Pixels: the heights of a box and of a row, the widths of a letter and of what a box has beside
+# its name, and the room between boxes, between the arrows at one side of a box, and at the edge.
+BOX, ROW, LETTER, BESIDE = 30, 74, 9, 20
+GAP, PORT, MARGIN = 24, 14, 20
+
+# The pull between two bends of an arrow, where all others are 1, and how often places follow it.
+STIFFNESS, SWEEPS = 30, 300
+
+SVG = """\
+<svg xmlns="http://www.w3.org/2000/svg" viewBox="0 0 {wide} {high}" width="{wide}" height="{high}">
+<title>The crates that {program} stands on, each above those that it uses</title>
+<marker id="head" refX="9" refY="4" markerWidth="9" markerHeight="8" orient="auto">
+<path d="M0 0L9 4L0 8z"/></marker>
+<rect width="{wide}" height="{high}" fill="white"/>
+<g fill="none" stroke="black">
+{lines}</g>
+<g fill="white" stroke="black" font-family="monospace" font-size="14" text-anchor="middle">
+{boxes}</g>
+</svg>"""
+
+
+def read_uses():
+    """By crate of the repository, the crates of the repository that it uses."""
+    lines = [line.partition("#")[0].partition(":") for line in CRATES.read_text().splitlines()]
+    rows = {head.split()[0]: words.split() for head, colon, words in lines if colon}
+    return {name: [used for used in words if used in rows] for name, words in rows.items()}
+
+
+def arrange(uses):
+    """The row of each crate, the lowest being 0, and the arrows at and below the program."""
+    row_of, below = {}, {}
+    for name in TopologicalSorter(uses).static_order():
+        row_of[name] = max((row_of[used] + 1 for used in uses[name]), default=0)
+        below[name] = set(uses[name]).union(*(below[used] for used in uses[name]))
+    shown = [name for name in uses if name in below[PROGRAM] or name == PROGRAM]
+    pairs = [(name, used) for name in shown for used in uses[name]]
+    return row_of, [(a, b) for a, b in pairs if not any(b in below[it] for it in uses[a])]
+
+
+def width(place):
+    return LETTER * len(place) + BESIDE if isinstance(place, str) else 0
+
+
+class Picture:
+    """Places in rows: crates, by their names, and bends, where an arrow passes a row."""
+
+    def __init__(self, row_of, arrows):
+        self.chains = [
+            [a, *((a, b, row) for row in range(row_of[a] - 1, row_of[b], -1)), b] for a, b in arrows
+        ]
+        self.row_of = {it: row_of[c[0]] - i for c in self.chains for i, it in enumerate(c)}
+        rows = range(row_of[PROGRAM] + 1)
+        self.rows = [[it for it in self.row_of if self.row_of[it] == row] for row in rows]
+        self.above, self.below = {it: [] for it in self.row_of}, {it: [] for it in self.row_of}
+        for upper, lower in (link for chain in self.chains for link in zip(chain, chain[1:])):
+            self.below[upper].append(lower)
+            self.above[lower].append(upper)
+        self.order()
+        self.spread()
+
+    def order(self):
+        """Orders each row by the one above, and then swaps neighbours while fewer arrows cross."""
+        self.at = {place: i for row in self.rows for i, place in enumerate(row)}
+        for row in reversed(self.rows[:-1]):
+            row.sort(key=lambda it: sum(map(self.at.get, self.above[it])) / len(self.above[it]))
+            self.at.update((place, i) for i, place in enumerate(row))
+        while any(self.swap(row, i) for row in self.rows for i in range(len(row) - 1)):
+            pass
+
+    def swap(self, row, i):
+        """Swaps two neighbours if fewer arrows cross then, and says whether it did."""
+        one, other = row[i : i + 2]
+        pairs = [(p, q) for far in (self.above, self.below) for p in far[one] for q in far[other]]
+        fewer = sum((self.at[p] > self.at[q]) - (self.at[p] < self.at[q]) for p, q in pairs)
+        if fewer > 0:
+            row[i : i + 2] = other, one
+            self.at[one], self.at[other] = i + 1, i
+        return fewer > 0
+
+    def spread(self):
+        """Moves the places of each row to where their arrows pull them, as far as there is room."""
+        self.x = dict.fromkeys(self.row_of, 0.0)
+        for row in SWEEPS * self.rows:
+            self.spread_row(row)
+        left = min(x - width(place) / 2 for place, x in self.x.items())
+        self.x = {place: round(x - left + MARGIN) for place, x in self.x.items()}
+
+    def spread_row(self, row):
+        """Places a row where the squares of the pulls are least. Touching places are one group."""
+        groups, room = [], 0.0
+        for place in row:
+            offset, room = room + width(place) / 2, room + width(place) + GAP
+            ends = self.above[place] + self.below[place]
+            pulls = [STIFFNESS if width(place) + width(it) == 0 else 1 for it in ends]
+            pulled = sum(pull * (self.x[it] - offset) for pull, it in zip(pulls, ends))
+            groups.append((pulled, sum(pulls), [(place, offset)]))
+            while len(groups) > 1 and groups[-2][0] * groups[-1][1] > groups[-1][0] * groups[-2][1]:
+                last = groups.pop()
+                groups[-1] = tuple(mine + more for mine, more in zip(groups[-1], last))
+        for pulled, pull, places in groups:
+            self.x.update((place, pulled / pull + offset) for place, offset in places)
+
+    def top(self, place):
+        return MARGIN + ROW * (len(self.rows) - 1 - self.row_of[place])
+
+    def port(self, place, end, ends):
+        """Where at a side of a place the arrow to one of these ends begins."""
+        ends = sorted(ends, key=self.x.get)
+        return self.x[place] + PORT * ends.index(end) - PORT * (len(ends) - 1) // 2
+
+    def line(self, chain):
+        """An arrow, which is straight where it passes a row."""
+        path = f"M{self.port(chain[0], chain[1], self.below[chain[0]])} {self.top(chain[0]) + BOX}"
+        for upper, lower in zip(chain, chain[1:]):
+            a = self.port(upper, lower, self.below[upper])
+            b, y = self.port(lower, upper, self.above[lower]), self.top(lower)
+            half = y - (ROW - BOX) // 2
+            path += f"C{a} {half} {b} {half} {b} {y}" + (f"v{BOX}" if lower != chain[-1] else "")
+        return f'<path d="{path}" marker-end="url(#head)"/>'
+
+    def box(self, name):
+        x, y, wide = self.x[name], self.top(name), width(name)
+        rect = f'<rect x="{x - wide // 2}" y="{y}" width="{wide}" height="{BOX}" rx="4"/>'
+        return f'{rect}\n<text x="{x}" y="{y + 20}" fill="black" stroke="none">{name}</text>'
+
+    def svg(self):
+        wide = max(x + width(place) // 2 for place, x in self.x.items()) + MARGIN
+        high = 2 * MARGIN + ROW * (len(self.rows) - 1) + BOX
+        lines = "\n".join(map(self.line, self.chains))
+        boxes = "\n".join(self.box(it) for it in self.x if isinstance(it, str))
+        return SVG.format(wide=wide, high=high, program=PROGRAM, lines=lines, boxes=boxes)
+
+
+if __name__ == "__main__":
+    print(Picture(*arrange(read_uses())).svg())

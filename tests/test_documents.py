@@ -1,0 +1,115 @@
+"""The documents name no file and no crate that is missing, and the picture is of crates.txt."""
+import glob
+import re
+import subprocess
+import sys
+import unittest
+
+from program import TOP
+
+DOCUMENTS = [TOP / f"{name}.md" for name in ("README", "CONTRIBUTING", "SECURITY", "CHANGELOG")]
+DOCUMENTS += [*sorted(TOP.glob("docs/*.md")), TOP / "vectors/README.md"]
+
+CRATES = set(re.findall(r"^(\w+)[^:\n]*:", (TOP / "crates.txt").read_text(), re.M))
+
+# A name without a folder is taken for that of a file of the repository where it ends so.
+SUFFIXES = ".antt", ".edit", ".json", ".md", ".py", ".rt", ".sh", ".svg"
+
+# The folders of any crate and the proof files of any function, which documents name without one.
+ANYWHERE = "src", "specs", "proofs", "must-fail", "Answers.antt", "Invariants.antt"
+
+
+def crates_of(text):
+    """What a text names as crates of libraries or tests."""
+    return re.findall(r"\bgc_\w+", text)
+
+
+def numbered_lines(document):
+    return enumerate(document.read_text().splitlines(), 1)
+
+
+def sections(document):
+    """The sections of a document, each with the number of its first line and its lines."""
+    found, in_code = [(1, [])], False
+    for number, line in numbered_lines(document):
+        in_code ^= line.startswith("```")
+        if line.startswith("#") and not in_code:
+            found.append((number, []))
+        found[-1][1].append(line)
+    return found
+
+
+def code_lines(document):
+    """The number of each line, its code, which is what stands in backticks, or the whole line in a
+    block, and the crates that paths there may begin at: those that a row of a table names, else
+    those that the section names, else all."""
+    in_code = False
+    for first, lines in sections(document):
+        named = crates_of("\n".join(lines)) or CRATES
+        for number, line in enumerate(lines, first):
+            in_code ^= line.startswith("```")
+            code = [line] if in_code else re.findall(r"`([^`]+)`", line)
+            in_row = crates_of(line) if line.startswith("|") else []
+            yield number, " ".join(code), in_row or named
+
+
+def looks_like_a_path(word):
+    """Whether a word looks like a path of the repository, and of nothing that a build makes. A part
+    in capitals stands for any name, as NAME in crates/NAME, unless it is a document's."""
+    if not re.search(r"\w", word) or word in SUFFIXES or word.rstrip("/") in ANYWHERE:
+        return False
+    parts = word.split("/")
+    stands_for_any = any(it.split(".")[0].isupper() and not it.endswith(".md") for it in parts)
+    is_elsewhere = word.startswith("/") or "out" in parts
+    return ("/" in word or word.endswith(SUFFIXES)) and not stands_for_any and not is_elsewhere
+
+
+def is_there(path, document, crates):
+    """Whether there is such a file or folder, from the top, the document's folder, or a crate."""
+    folders = [TOP, document.parent, TOP / "crates"]
+    for crate in crates:
+        folders += [TOP / "crates" / crate, TOP / "crates" / crate / "specs"]
+    return any(glob.glob(str(folder / path)) for folder in folders)
+
+
+def place(document, number):
+    return f"{document.relative_to(TOP)}:{number}"
+
+
+class Documents(unittest.TestCase):
+    def test_the_picture_is_that_of_the_crates(self):
+        script = [sys.executable, TOP / "scripts/picture.py"]
+        printed = subprocess.run(script, capture_output=True, text=True, check=True).stdout
+        is_same = (TOP / "docs/crates.svg").read_text() == printed
+        self.assertTrue(is_same, "scripts/picture.py >docs/crates.svg draws the picture anew")
+
+    def test_links(self):
+        missing = []
+        for document in DOCUMENTS:
+            for number, line in numbered_lines(document):
+                for link in re.findall(r"\]\(([^)\s]+)", line):
+                    target = link.partition("#")[0]
+                    if not re.match(r"\w+:", link) and not (document.parent / target).exists():
+                        missing.append(f"{place(document, number)} {link}")
+        self.assertEqual(missing, [])
+
+    def test_paths(self):
+        missing = []
+        for document in DOCUMENTS:
+            for number, code, crates in code_lines(document):
+                for word in filter(looks_like_a_path, re.findall(r"[\w./*-]+", code)):
+                    if not is_there(word, document, crates):
+                        missing.append(f"{place(document, number)} {word}")
+        self.assertEqual(missing, [])
+
+    def test_crates(self):
+        missing = []
+        for document in DOCUMENTS:
+            for number, line in numbered_lines(document):
+                unknown = [it for it in crates_of(line) if it not in CRATES]
+                missing += [f"{place(document, number)} {it}" for it in unknown]
+        self.assertEqual(missing, [])
+
+
+if __name__ == "__main__":
+    unittest.main()
