@@ -384,12 +384,12 @@ class AnyFiles(ProgramTest):
         self.put("none", label_file(1))
         self.put("empty", b"")
 
-    def test_outputs(self):
+    def test_outputs_of_any_files(self):
         for text, garbled, labels, output in EVALUATIONS:
             self.put_files(text, garbled)
             self.assert_prints(output, "eval", "c.txt", "g", *labels)
 
-    def test_the_first_fault(self):
+    def test_the_first_fault_of_any_files(self):
         for text, garbled, labels, fault in EVALUATION_FAULTS:
             self.put_files(text, garbled)
             self.assert_fault(fault, "eval", "c.txt", "g", *labels)
@@ -467,12 +467,12 @@ class ChangedFiles(ProgramTest):
         self.put(name, file + b"\0")
         self.assert_fault("32 Trailing", "eval", "c.txt", "g", "0", "1")
 
-    def test_garbled_files(self):
+    def test_changed_garbled_files(self):
         for file, flips in (AND_FILE, FLIPS), (AND_FILE_2, FLIPS_2):
             self.assertEqual(flips[-1][0], 8 * len(file))
             self.assert_each_fault("g", file, flips)
 
-    def test_label_files(self):
+    def test_changed_label_files(self):
         self.put("g", AND_FILE)
         self.assert_each_fault("0", label_file(0, ONE_LABELS[0]), LABEL_FLIPS)
 

@@ -72,6 +72,30 @@ def is_there(path, document, crates):
     return any(glob.glob(str(folder / path)) for folder in folders)
 
 
+# The crates of tests, by the first part of the names of their tests, if these have one.
+TESTS = {
+    "cli": ["gc_cli_tests"],
+    "bank": ["gc_bank_tests"],
+    "refusing": ["gc_refusing"],
+    "": ["gc_tests", "gc_work_tests", "gc_eval_tests"],
+}
+
+
+def is_test(name):
+    """Whether there is a test of this name, or a file of tests; None where the name is no test's."""
+    first, _, rest = name.partition("::")
+    if first == "tests":
+        file, _, test = rest.partition("::")
+        path = TOP / f"tests/test_{file}.py"
+        return path.exists() and f"def test_{test}" in path.read_text()
+    crates, rest = (TESTS[first], rest) if first in TESTS else (TESTS[""], name)
+    file, _, test = rest.partition("::") if first != "refusing" else ("tests", "", rest)
+    texts = [p.read_text() for it in crates for p in (TOP / "crates" / it / "src").glob(f"{file}.rt")]
+    if first not in TESTS and not texts:
+        return None
+    return any(f"fn {test}" in text for text in texts)
+
+
 def place(document, number):
     return f"{document.relative_to(TOP)}:{number}"
 
@@ -100,6 +124,14 @@ class Documents(unittest.TestCase):
                 for word in filter(looks_like_a_path, re.findall(r"[\w./*-]+", code)):
                     if not is_there(word, document, crates):
                         missing.append(f"{place(document, number)} {word}")
+        self.assertEqual(missing, [])
+
+    def test_names_of_tests(self):
+        missing = []
+        for number, line in numbered_lines(TOP / "docs/PROMISES.md"):
+            for name in re.findall(r"`((?:tests|cli|bank)::[\w:]+|\w+::\w+)`", line):
+                if not name.endswith("::name") and is_test(name) is False:
+                    missing.append(f"{number} {name}")
         self.assertEqual(missing, [])
 
     def test_crates(self):

@@ -18,3 +18,5 @@ mod labels;
 mod lanes;
 #[cfg(test)]
 mod pieces;
+#[cfg(test)]
+mod reading;
