@@ -6,7 +6,7 @@ from pathlib import Path
 from unittest import TestCase
 
 TOP = Path(__file__).resolve().parent.parent
-PROGRAM = os.environ.get("HALFGATES", str(TOP / "crates/halfgates/out/halfgates"))
+PROGRAM = Path(os.environ.get("HALFGATES", TOP / "crates/halfgates/out/halfgates")).resolve()
 
 SEED = 64 * "0"
 

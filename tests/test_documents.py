@@ -134,6 +134,16 @@ class Documents(unittest.TestCase):
                     missing.append(f"{number} {name}")
         self.assertEqual(missing, [])
 
+    def test_faults(self):
+        """The faults of the vectors stand in the table of faults, under their codes."""
+        table = (TOP / "docs/FAULTS.md").read_text()
+        told = dict(re.findall(r"^\| (\d+) \| (\w+) \|", table, re.M))
+        for file in TOP.glob("vectors/bad_*.json"):
+            found = re.findall(r'"fault": (\d+), "name": "(\w+)"', file.read_text())
+            self.assertTrue(found, file.name)
+            for code, name in found:
+                self.assertEqual(told[code], name)
+
     def test_crates(self):
         missing = []
         for document in DOCUMENTS:
