@@ -139,7 +139,7 @@ class Documents(unittest.TestCase):
         table = (TOP / "docs/FAULTS.md").read_text()
         told = dict(re.findall(r"^\| (\d+) \| (\w+) \|", table, re.M))
         for file in TOP.glob("vectors/bad_*.json"):
-            found = re.findall(r'"fault": (\d+), "name": "(\w+)"', file.read_text())
+            found = re.findall(r'"fault": (\d+),\s+"name": "(\w+)"', file.read_text())
             self.assertTrue(found, file.name)
             for code, name in found:
                 self.assertEqual(told[code], name)
