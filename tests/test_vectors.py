@@ -7,20 +7,16 @@ command built. What is random here is drawn from the variable DRAWS, and is the 
 """
 import json
 import os
-import subprocess
 import sys
-import tempfile
 import unittest
 from hashlib import sha256
-from pathlib import Path
 
-TOP = Path(__file__).resolve().parent.parent
+from program import TOP, ProgramTest
+
 VECTORS = TOP / "vectors"
-PROGRAM = Path(os.environ.get("HALFGATES", TOP / "crates/halfgates/out/halfgates")).resolve()
 DRAWS = os.environ.get("DRAWS", "0")
 
 sys.path.insert(0, str(VECTORS))
-sys.dont_write_bytecode = True
 import bristol  # noqa: E402
 import cases  # noqa: E402
 import reference  # noqa: E402
@@ -77,16 +73,8 @@ class Standards(unittest.TestCase):
             self.assertEqual(block.hex(), first + second)
 
 
-class ProgramTest(unittest.TestCase):
-    """Runs the program in a temporary folder."""
-
-    @classmethod
-    def setUpClass(cls):
-        if not PROGRAM.is_file():
-            raise FileNotFoundError(f"there is no program {PROGRAM}")
-        holder = tempfile.TemporaryDirectory()
-        cls.addClassCleanup(holder.cleanup)
-        cls.folder, cls.written = Path(holder.name), {}
+class VectorTest(ProgramTest):
+    """Holds the program against what JSON files and the reference say."""
 
     def each(self, named, hold):
         """Holds each of these, in a subtest of its name."""
@@ -94,44 +82,31 @@ class ProgramTest(unittest.TestCase):
             with self.subTest(name):
                 hold(item)
 
-    def run_program(self, *words):
-        """What the program prints on these words, and its status."""
-        ended = subprocess.run([PROGRAM, *words], cwd=self.folder, capture_output=True, check=False)
-        return ended.stdout.decode(), ended.stderr.decode(), ended.returncode
-
-    def assert_prints(self, lines, *words):
-        """The program prints these lines, and has status 0."""
-        text = "".join(f"{line}\n" for line in lines)
-        self.assertEqual(self.run_program(*words), (text, "", 0), words)
-
-    def assert_fault(self, bad, *words):
-        """The program prints the fault alone that `bad` names, and has status 1."""
-        text = f"halfgates: fault {bad['fault']} {bad['name']}\n"
-        self.assertEqual(self.run_program(*words), ("", text, 1), words)
-
-    def assert_writes(self, data, name, *words):
-        """The program writes exactly these bytes to the file of this name."""
-        self.assert_prints([f"wrote {len(data)}"], *words)
-        self.assertEqual(self.read(name).hex(), data.hex(), words)
-
     def write(self, name, data):
-        """Writes a file of the folder, unless these are its bytes, and tells its name."""
-        if self.written.get(name) != data:
-            (self.folder / name).write_bytes(data)
-            self.written[name] = data
+        """Writes a file of the folder, and returns its name."""
+        self.put(name, data)
         return name
 
     def write_circuit(self, document):
-        """Writes the circuit of a JSON file, and tells its name."""
-        return self.write("circuit.txt", "\n".join(document["circuit"]).encode())
+        """Writes the circuit of a JSON file, and returns its name."""
+        return self.write("circuit.txt", "\n".join(document["circuit"]))
 
     def write_all(self, name, all_data):
-        """Writes numbered files, and tells their names."""
+        """Writes numbered files, and returns their names."""
         return [self.write(f"{name}{i}", data) for i, data in enumerate(all_data)]
 
-    def read(self, name):
-        """The bytes of a file of the folder."""
-        return (self.folder / name).read_bytes()
+    def assert_lines(self, lines, *words):
+        """The program prints these lines, and has status 0."""
+        self.assert_prints("".join(f"{line}\n" for line in lines), *words)
+
+    def assert_bad(self, bad, *words):
+        """The program prints the fault alone that `bad` names, and has status 1."""
+        self.assert_fault(f"{bad['fault']} {bad['name']}", *words)
+
+    def assert_writes(self, data, name, *words):
+        """The program writes exactly these bytes to the file of this name."""
+        self.assert_lines([f"wrote {len(data)}"], *words)
+        self.assertEqual(self.bytes_of(name).hex(), data.hex(), words)
 
 
 def lines_of_check(gates, wires, and_gates, input_widths, output_widths, digest):
@@ -149,7 +124,7 @@ def lines_of_circuit(circuit):
                           bristol.digest(circuit).hex())
 
 
-class WorkedCircuits(ProgramTest):
+class WorkedCircuits(VectorTest):
     """The program, held against the JSON files of worked circuits."""
 
     def test_check(self):
@@ -170,14 +145,14 @@ class WorkedCircuits(ProgramTest):
     def hold_check(self, vector):
         names = "gates wires and_gates input_widths output_widths digest".split()
         lines = lines_of_check(*(vector[name] for name in names))
-        self.assert_prints(lines, "check", self.write_circuit(vector))
+        self.assert_lines(lines, "check", self.write_circuit(vector))
 
     def hold_run_and_plain(self, vector):
         circuit, seed = self.write_circuit(vector), vector["seed"]
         for evaluation in vector["evaluations"]:
             outputs = evaluation["outputs"]
-            self.assert_prints(outputs, "run", circuit, seed, *evaluation["values"])
-            self.assert_prints(outputs, "plain", circuit, *evaluation["hex_values"])
+            self.assert_lines(outputs, "run", circuit, seed, *evaluation["values"])
+            self.assert_lines(outputs, "plain", circuit, *evaluation["hex_values"])
 
     def hold_garble(self, vector):
         circuit, seed = self.write_circuit(vector), vector["seed"]
@@ -199,10 +174,10 @@ class WorkedCircuits(ProgramTest):
             for version in "12":
                 data = bytes.fromhex("".join(vector[f"garbled_file_{version}"]))
                 garbled = self.write("garbled", data)
-                self.assert_prints(evaluation["outputs"], "eval", circuit, garbled, *labels[::-1])
+                self.assert_lines(evaluation["outputs"], "eval", circuit, garbled, *labels[::-1])
 
 
-class Faults(ProgramTest):
+class Faults(VectorTest):
     """The program, held against the JSON files of inputs with faults."""
 
     def test_of_circuits(self):
@@ -221,26 +196,26 @@ class Faults(ProgramTest):
 
     def hold_fault_of_circuit(self, bad):
         circuit = self.write("circuit.txt", bad["text"].encode())
-        self.assert_fault(bad, "check", circuit)
+        self.assert_bad(bad, "check", circuit)
 
     def hold_fault_of_values(self, bad):
         widths = bad["widths"]
         words = map(str, [0, sum(widths), len(widths), *widths, 0])
         circuit = self.write("circuit.txt", " ".join(words).encode())
         values = [value.encode() for value in bad["values"]]
-        self.assert_fault(bad, "plain", circuit, *values)
-        self.assert_fault(bad, "run", circuit, "00" * 32, *values)
+        self.assert_bad(bad, "plain", circuit, *values)
+        self.assert_bad(bad, "run", circuit, "00" * 32, *values)
 
     def hold_fault_of_seed(self, bad):
         circuit = self.write("circuit.txt", b"0 0 0 0")
-        self.assert_fault(bad, "run", circuit, bad["seed"])
-        self.assert_fault(bad, "garble", circuit, bad["seed"], "unwritten")
+        self.assert_bad(bad, "run", circuit, bad["seed"])
+        self.assert_bad(bad, "garble", circuit, bad["seed"], "unwritten")
         self.assertFalse((self.folder / "unwritten").exists())
 
     def hold_fault_of_files(self, bad):
         garbled = self.write("garbled", bytes.fromhex(bad["garbled"]))
         labels = self.write_all("labels", map(bytes.fromhex, bad["labels"]))
-        self.assert_fault(bad, "eval", "circuit.txt", garbled, *labels)
+        self.assert_bad(bad, "eval", "circuit.txt", garbled, *labels)
 
 
 def by_about(items):
@@ -249,7 +224,7 @@ def by_about(items):
 
 
 def draws(count, what):
-    """So many draws, each with a name that decides it."""
+    """This many draws, each with a name that decides it."""
     names = [f"{DRAWS} {what} {i}" for i in range(count)]
     return [(name, cases.Draws(name)) for name in names]
 
@@ -336,7 +311,7 @@ def one_more(number):
     return (int.from_bytes(number, "little") + 1).to_bytes(4, "little")
 
 
-class Agreement(ProgramTest):
+class Agreement(VectorTest):
     """The program and the reference, on random inputs."""
 
     def test_random_circuits(self):
@@ -358,9 +333,9 @@ class Agreement(ProgramTest):
         labels = reference.deal(circuit, garbling, values)
         outputs = bristol.show_values(bristol.plain_eval(circuit, values), circuit.output_widths)
 
-        self.assert_prints(lines_of_circuit(circuit), "check", name)
-        self.assert_prints(outputs, "plain", name, *texts)
-        self.assert_prints(outputs, "run", name, seed.hex(), *texts)
+        self.assert_lines(lines_of_circuit(circuit), "check", name)
+        self.assert_lines(outputs, "plain", name, *texts)
+        self.assert_lines(outputs, "run", name, seed.hex(), *texts)
         files = [reference.garbled_file(circuit, garbling, version) for version in (1, 2)]
         for version, data in enumerate(files, 1):
             words = name, seed.hex(), "out", "--format", str(version)
@@ -402,9 +377,9 @@ class Agreement(ProgramTest):
         try:
             lines = work()
         except bristol.Fault as fault:
-            self.assert_fault({"fault": fault.number, "name": fault.name}, *words)
+            self.assert_bad({"fault": fault.number, "name": fault.name}, *words)
         else:
-            self.assert_prints(lines, *words)
+            self.assert_lines(lines, *words)
 
     def assert_same_eval(self, circuit, garbled, labels):
         """Both evaluate these files to the same outputs, or tell the same fault."""

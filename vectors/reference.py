@@ -180,7 +180,7 @@ class Pieces:
         self.magic = self.take(8)
 
     def take(self, count):
-        """The next bytes, so many."""
+        """The next bytes, this many."""
         piece = self.data[self.at:self.at + count]
         demand(len(piece) == count, 31, "Truncated")
         self.at += count
@@ -193,12 +193,12 @@ class Pieces:
         return value
 
     def labels(self, count):
-        """So many pieces of 16 bytes."""
+        """This many pieces of 16 bytes."""
         data = self.take(16 * count)
         return [data[i:i + 16] for i in range(0, len(data), 16)]
 
     def pairs(self, count):
-        """So many pairs of pieces of 16 bytes."""
+        """This many pairs of pieces of 16 bytes."""
         halves = iter(self.labels(2 * count))
         return list(zip(halves, halves))
 
