@@ -58,18 +58,17 @@ class ProgramTest(TestCase):
 
     def run_program(self, *words, **how):
         """The status, and what the program prints on standard output and on standard error."""
-        how.setdefault("stdout", subprocess.PIPE)
+        how = {"stdout": subprocess.PIPE, "stderr": subprocess.PIPE, **how}
         words = [word if isinstance(word, bytes) else str(word) for word in words]
         done = subprocess.run(
             [PROGRAM, *words],
             cwd=self.folder,
             stdin=subprocess.DEVNULL,
-            stderr=subprocess.PIPE,
             timeout=120,
             check=False,
             **how,
         )
-        return done.returncode, (done.stdout or b"").decode(), done.stderr.decode()
+        return done.returncode, (done.stdout or b"").decode(), (done.stderr or b"").decode()
 
     def assert_prints(self, printed, *words):
         """The program succeeds and prints this."""

@@ -1,6 +1,7 @@
 """The program's commands over files on a disk: what each prints and writes, and its first fault."""
 import unittest
 from hashlib import sha256
+from pathlib import Path
 
 from program import (
     AND, CONSTANT_AND, EMPTY, FAR_COPY, FULL_ADDER, INV, MANY_WIRES, NO_GATES, ONE, SEED, SQUARE,
@@ -94,6 +95,8 @@ RUNS = [
     # Two values on either side.
     ("0 3\n2 1 2\n2 2 1", ["0", "11"], "01\n1\n"),
     (WIDE, ["x0108"], "1\n000000000011\n"),
+    ("0 8\n1 8\n1 8", ["xaF"], "11110101\n"),
+    ("0 8\n1 8\n1 8", ["xAf"], "11110101\n"),
 ]
 
 # Texts that are no circuits, and their first faults.
@@ -232,7 +235,24 @@ AND_FILE_2 = bytes.fromhex(
     "618dfefbe857572b9c6ab3cac843348f6aa4df5947a092947b4b318b3caa9af4"
     "024c1a0ab387fcd706ba4af5e36a2a8b429f5fa1a5e7a2c2469e843095c9cb5f"
 )
+NO_GATES_FILE = bytes.fromhex(
+    "48474152424c4531"
+    "ebfb25b65880975f4652b0a8709343583318e6d736c161e56fb08550486df972"
+    "0000000002000000"
+    "01"
+    "1681e828aebb8d990881e775aaf46dc278dc7667919321b500e7dd7df38248c1"
+)
+ONE_FILE_2 = bytes.fromhex(
+    "48474152424c4532"
+    "e38480e617d96608e2bcec3ff48b68f61b5ec1e37c0dd207dd28f629efd5c868"
+    "0000000001000000"
+    "01"
+    "9d908ecfb6b256def8b49a7c504e6c880d6be0c6cc56ce7f3b5cf6618b88bf82"
+    "1fc4abffeaa2779a468b666105a4282a85f9babb6c7f833dd31ec2897e2451d0"
+)
 GARBLED_FILES = [
+    (NO_GATES, "1", NO_GATES_FILE),
+    (ONE, "2", ONE_FILE_2),
     (XOR, "1", XOR_FILE),
     (XOR, "2", XOR_FILE_2),
     (AND, "1", AND_FILE),
@@ -285,8 +305,10 @@ class TwoParties(ProgramTest):
             self.put("c.txt", text)
             labels = self.deal(values)
             for version in FORMATS:
-                self.garble("--format", version)
-                self.assert_prints(output, "eval", "c.txt", "g", *labels)
+                for workers in WORKERS:
+                    self.garble("--format", version, "--workers", workers)
+                    words = "c.txt", "g", *labels, "--workers", workers
+                    self.assert_prints(output, "eval", *words)
 
     def test_garbled_files(self):
         for text, version, file in GARBLED_FILES:
@@ -307,6 +329,12 @@ class TwoParties(ProgramTest):
             self.assert_prints(f"wrote {len(file)}\n", "deal", "c.txt", SEED, index, value, "l")
             self.assertEqual(self.bytes_of("l"), file)
 
+    def test_a_forged_row(self):
+        self.put("c.txt", AND)
+        self.put("g", OTHER_ROW)
+        for values, output in ("00", "1\n"), ("01", "1\n"), ("10", "0\n"), ("11", "1\n"):
+            self.assert_prints(output, "eval", "c.txt", "g", *self.deal(values))
+
     def test_faults_of_garbling_and_dealing(self):
         self.put("c.txt", XOR)
         self.assert_fault("18 BadSeed", "garble", "c.txt", "0", "g", "--workers", "0")
@@ -318,6 +346,15 @@ class TwoParties(ProgramTest):
         self.assert_fault("17 SpareBits", "deal", "c.txt", SEED, "1", "x02", "l")
         self.assertEqual([file.name for file in self.folder.iterdir()], ["c.txt"])
 
+
+def sealed(body):
+    """A garbled file with a trailer to match."""
+    return body + sha256(body).digest()
+
+
+# The AND gate's file with the colour of a row flipped, and with a row pair too many.
+OTHER_ROW = sealed(AND_FILE[:48] + b"\xdc" + AND_FILE[49:-32])
+TWO_ROWS = sealed(AND_FILE[:40] + b"\2\0\0\0" + AND_FILE[44:48] + bytes(64) + b"\1")
 
 # Circuits, garbled files, label files, and what `eval` prints: the outputs, or its first fault.
 EVALUATIONS = [
@@ -342,6 +379,9 @@ EVALUATION_FAULTS = [
     # Files that are bound to no job.
     (XOR, AND_FILE, ["0", "1"], "40 OtherCircuit"),
     (FULL_ADDER, AND_FILE, ["0", "1"], "40 OtherCircuit"),
+    (AND, TWO_ROWS, ["0", "1"], "41 OtherCounts"),
+    (AND, TWO_ROWS, ["z2"], "41 OtherCounts"),
+    (XOR, TWO_ROWS, [], "40 OtherCircuit"),
     (XOR, XOR_FILE, ["0", "z2"], "42 NoSuchValue"),
     (XOR, XOR_FILE, ["z2", "none"], "42 NoSuchValue"),
     (XOR, XOR_FILE, ["two"], "43 WrongWidth"),
@@ -472,6 +512,21 @@ class ChangedFiles(ProgramTest):
             self.assertEqual(flips[-1][0], 8 * len(file))
             self.assert_each_fault("g", file, flips)
 
+    def test_each_bit_of_a_digest(self):
+        for bit in range(64, 320):
+            self.put("g", sealed(flipped(AND_FILE, bit)[:-32]))
+            self.assert_fault("40 OtherCircuit", "eval", "c.txt", "g", "0", "1")
+
+    def test_each_bit_of_a_label(self):
+        """The label file is in order. Version 1 sees the colour alone, version 2 each bit."""
+        self.put("c.txt", XOR)
+        for bit in range(128, 256):
+            self.put("0", flipped(label_file(0, ONE_LABELS[0]), bit))
+            self.put("g", XOR_FILE)
+            self.assert_prints("1\n" if bit == 128 else "0\n", "eval", "c.txt", "g", "0", "1")
+            self.put("g", XOR_FILE_2)
+            self.assert_fault("48 UnknownOutputLabel", "eval", "c.txt", "g", "0", "1")
+
     def test_changed_label_files(self):
         self.put("g", AND_FILE)
         self.assert_each_fault("0", label_file(0, ONE_LABELS[0]), LABEL_FLIPS)
@@ -513,10 +568,11 @@ class Jobs(ProgramTest):
     def setUp(self):
         super().setUp()
         self.put("c.txt", FULL_ADDER)
-        self.run_program("garble", "c.txt", SEED, "g")
+        self.assert_prints("wrote 177\n", "garble", "c.txt", SEED, "g")
         for index, name in enumerate("abc"):
             for bit in "01":
-                self.run_program("deal", "c.txt", SEED, index, bit, name + bit)
+                words = "c.txt", SEED, index, bit, name + bit
+                self.assert_prints("wrote 32\n", "deal", *words)
         self.put("z", label_file(0, NOBODYS_LABEL))
         self.put("d", label_file(3, NOBODYS_LABEL))
         self.put("two", label_file(0, NOBODYS_LABEL, NOBODYS_LABEL))
@@ -544,6 +600,10 @@ class Jobs(ProgramTest):
         self.assert_fault("1 Truncated", "jobs", "c.txt", "list")
 
 
+# It takes nothing.
+FULL = Path("/dev/full")
+
+
 class Disk(ProgramTest):
     """Files and outputs that fail."""
 
@@ -566,15 +626,30 @@ class Disk(ProgramTest):
     def test_a_file_that_cannot_be_written(self):
         self.put("c.txt", XOR)
         for words in ("garble", "c.txt", SEED), ("deal", "c.txt", SEED, "0", "1"):
-            for out in "no folder/out", ".", "/dev/full":
+            for out in "no folder/out", ".", *([FULL] if FULL.is_char_device() else []):
                 self.assert_fault("51 CannotWrite", *words, out)
 
+    @unittest.skipUnless(FULL.is_char_device(), "there is no /dev/full")
     def test_an_output_that_takes_nothing(self):
         self.put("c.txt", XOR)
         for words in ("run", "c.txt", SEED, "1", "1"), ("check", "c.txt"), ("--help",):
-            with open("/dev/full", "wb") as full:
+            with FULL.open("wb") as full:
                 status, _, errors = self.run_program(*words, stdout=full)
             self.assertEqual((status, errors), (1, "halfgates: fault 51 CannotWrite\n"), words)
+
+    @unittest.skipUnless(FULL.is_char_device(), "there is no /dev/full")
+    def test_errors_that_nobody_takes(self):
+        self.put("c.txt", XOR)
+        for words, wanted in [
+            (("run", "c.txt", SEED, "1", "1"), 1),
+            (("--help",), 1),
+            (("run", "c.txt", "0"), 1),
+            (("walk",), 2),
+            ((), 2),
+        ]:
+            with FULL.open("wb") as full:
+                status, _, _ = self.run_program(*words, stdout=full, stderr=full)
+            self.assertEqual(status, wanted, words)
 
 
 if __name__ == "__main__":

@@ -338,7 +338,8 @@ class Agreement(VectorTest):
         self.assert_lines(outputs, "run", name, seed.hex(), *texts)
         files = [reference.garbled_file(circuit, garbling, version) for version in (1, 2)]
         for version, data in enumerate(files, 1):
-            words = name, seed.hex(), "out", "--format", str(version)
+            workers = str(draw.choice((1, 2, 3, 64)))
+            words = name, seed.hex(), "out", "--format", str(version), "--workers", workers
             self.assert_writes(data, "out", "garble", *words)
         self.assert_same_eval(circuit, draw.choice(files), draw.shuffled(labels))
         for index, (text, data) in enumerate(zip(texts, labels)):

@@ -34,17 +34,45 @@ def and_chains(chains, length):
             wire = chains + len(gates)
             gates.append(f"2 1 {read} {chain} {wire} AND")
             read = wire
-    return text_of([chains], [1], gates)
+    return text_of([chains], [len(gates)], gates)
 
 
-def window(draw, count, width, inputs, outputs):
-    """Gates that read two of this many wires before their own."""
+# Operations to draw from. Most are AND: threads share no circuit of which fewer than half are.
+OPERATIONS = 6 * ["AND"] + ["XOR", "INV", "EQ", "EQW"]
+
+
+def gate(name, a, b, wire):
+    """The line of a gate. INV and EQW read the first wire; its parity is the constant of EQ."""
+    if name in ("XOR", "AND"):
+        return f"2 1 {a} {b} {wire} {name}"
+    return f"1 1 {a % 2 if name == 'EQ' else a} {wire} {name}"
+
+
+def layered(draw, groups):
+    """Groups of layers of these widths, one after another in the file. Each gate reads the layer
+    before its own, or input wires, and each wire that a gate sets is an output."""
     gates = []
-    for wire in range(inputs, inputs + count):
-        first = max(0, wire - width)
-        a, b = draw.randrange(first, wire), draw.randrange(first, wire)
-        gates.append(f"2 1 {a} {b} {wire} {draw.choice(['XOR', 'AND'])}")
-    return text_of([inputs], [outputs], gates)
+    for widths in groups:
+        layer = range(64)
+        for width in widths:
+            first = 64 + len(gates)
+            read, layer = layer, range(first, first + width)
+            for wire in layer:
+                a, b = draw.choice(read), draw.choice(read)
+                gates.append(gate(draw.choice(OPERATIONS), a, b, wire))
+    return text_of([64], [len(gates)], gates)
+
+
+# The first three go by layers. The others go through a store or a board, but for the last one by
+# 64 workers; by one worker they run on one thread.
+LAYERED = [
+    [20 * [100]],
+    [[1, 2, 3, 16, 17, 63, 64, 65, 1023, 1024, 1025]],
+    [3 * [1500]],
+    64 * [8 * [1]],
+    64 * [4 * [8]],
+    30 * [10 * [10]],
+]
 
 
 def small_circuit(draw):
@@ -52,22 +80,18 @@ def small_circuit(draw):
     gates = []
     for wire in range(3, 4 + draw.randrange(16)):
         a, b = draw.randrange(wire), draw.randrange(wire)
-        one = [f"1 1 {a} {wire} INV", f"1 1 {a % 2} {wire} EQ", f"1 1 {a} {wire} EQW"]
-        two = [f"2 1 {a} {b} {wire} {name}" for name in ("XOR", "AND", "AND", "AND")]
-        gates.append(draw.choice(one + two))
-    return text_of([3], [2], gates)
+        gates.append(gate(draw.choice(OPERATIONS), a, b, wire))
+    return text_of([3], [min(2, len(gates))], gates)
 
 
 def circuits(draw):
-    """Layers of one gate, of an odd number, and of as many gates as a block or a thread gets; chains
-    that are evaluated at a board and garbled at a store; gates that wait for each other's."""
-    yield from map(many_ands, [1, 2, 3, 16, 17, 63, 64, 65, 1023, 1024, 1025, 2048, 6000])
-    for chains, length in (1, 3000), (5, 1000), (40, 50), (64, 4), (100, 50):
+    """One layer of few and of many gates, chains, layers whose gates read each other, and circuits of
+    a few gates."""
+    yield from map(many_ands, [1, 2, 16, 17, 64, 65, 1023, 1024, 1025, 6000])
+    for chains, length in (1, 3000), (40, 50), (64, 4), (100, 50):
         yield and_chains(chains, length)
-    for _ in range(3):
-        yield window(draw, 4000, 100, 128, 64)
-    for _ in range(20):
-        yield window(draw, 24, 3, 3, 12)
+    for groups in LAYERED:
+        yield layered(draw, groups)
     for _ in range(60):
         yield small_circuit(draw)
 
@@ -92,7 +116,7 @@ class Job:
         try:
             bits = reference.eval_files(circuit, self.garbled, self.labels)[1]
             self.lines = "".join(
-                f"{line}\n" for line in reference.show_values(bits, circuit.output_widths)
+                f"{line}\n" for line in bristol.show_values(bits, circuit.output_widths)
             )
             self.fault = None
         except bristol.Fault as fault:
@@ -121,7 +145,7 @@ class Workers(ProgramTest):
     def test_garbled_files_and_outputs(self):
         for text in circuits(self.draw):
             self.put("c.txt", text)
-            circuit = reference.read_circuit(text.encode())
+            circuit = bristol.read_circuit(text.encode())
             garbling = reference.garble(circuit, bytes(32))
             file = reference.garbled_file(circuit, garbling, 2)
             jobs = [Job(self.draw, circuit, garbling, is_honest) for is_honest in (True, False)]
@@ -135,10 +159,10 @@ class Workers(ProgramTest):
 
     def test_lists_of_jobs(self):
         faults = 0
-        for _ in range(60):
-            text = small_circuit(self.draw)
+        wide = [layered(self.draw, groups) for groups in (64 * [4 * [8]], [20 * [100]])]
+        for text in [*wide, *(small_circuit(self.draw) for _ in range(60))]:
             self.put("c.txt", text)
-            circuit = reference.read_circuit(text.encode())
+            circuit = bristol.read_circuit(text.encode())
             garbling = reference.garble(circuit, bytes(32))
             honest = [self.draw.randrange(3) > 0 for _ in range(1 + self.draw.randrange(6))]
             jobs = [Job(self.draw, circuit, garbling, is_honest) for is_honest in honest]

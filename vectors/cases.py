@@ -186,6 +186,7 @@ BAD_CIRCUITS = [
     ("wires above 33554432", f"1 {2**25 + 1}"),
     ("input values above 256", "1 5\n257"),
     ("output values above 256", f"1 5\n2 1 1\n{FAR}"),
+    ("output values, one above 256", "1 5\n2 1 1\n257"),
     # 4 BadShape.
     ("a first count of 0", ONE + "0 1"),
     ("a first count of 3, at once", ONE + "3 1 x"),
@@ -208,6 +209,7 @@ BAD_CIRCUITS = [
     ("the constant 2", ONE + "1 1 2 4 EQ\n"),
     ("the constant 4294967295", ONE + f"1 1 {FAR} 4 EQ\n"),
     ("before a wire set that is wrong", THREE + "1 1 2 0 EQ\n" + LAST),
+    ("before a wire set that is not there", ONE + "1 1 2 5 EQ\n"),
     # 7 NoSuchWire.
     ("the first wire read", ONE + "2 1 5 1 4 XOR\n"),
     ("the second wire read, before the wire set", ONE + f"2 1 0 {FAR} 0 AND\n"),
@@ -259,6 +261,9 @@ BAD_VALUES = [
     ("hexadecimal digits too many", [9, 3], ["000000000", "x0000"]),
     ("before a digit", [9, 3], ["2", "000"]),
     ("x as a binary text of one digit", [1, 3], ["x", "000"]),
+    ("a digit for no wire", [0, 3], ["0", "000"]),
+    ("half a byte", [1, 3], ["x0", "000"]),
+    ("one letter of two bytes", [1, 3], ["\u00e9", "000"]),
     # 17 SpareBits.
     ("the lowest spare bit", [9, 3], ["x0002", "000"]),
     ("the highest spare bit", [9, 3], ["000000000", "x80"]),

@@ -1,4 +1,4 @@
-//! The tests of stores, of stores that threads share, of pools of tasks, and of garbling by layers and on many threads.
+//! The tests of stores, of stores that threads share, of pools of tasks, and of garbling on many threads.
 #![tactic(auto)]
 
 #[cfg(test)]
@@ -11,5 +11,7 @@ mod pools;
 mod shared_stores;
 #[cfg(test)]
 mod stores;
+#[cfg(test)]
+mod ways;
 #[cfg(test)]
 mod workers;

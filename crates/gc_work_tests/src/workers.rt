@@ -55,7 +55,7 @@ fn two_workers_meet_at_a_store(rt: HostRuntime) -> Result<(), Fail> {
     Ok(())
 }
 
-/// With growth 1, 2, 3, .. refused, so many workers answer the garbling of one thread or the fault for memory, whichever
+/// With growth 1, 2, 3, .. refused, this many workers answer the garbling of one thread or the fault for memory, whichever
 /// threads get it. The answer is how many runs met a refusal; None where one answered something else, or each met one.
 fn refused_runs<R: Threads + Wait + Sync>(
     rt: &R,
@@ -94,11 +94,13 @@ fn are_refused<R: Threads + Wait + Sync>(
 }
 
 #[test]
-fn each_growth_of_two_workers_refused(rt: HostRuntime) -> Result<(), Fail> {
+fn each_growth_of_few_workers_refused(rt: HostRuntime) -> Result<(), Fail> {
     let by_store = and_chains(rt.alloc(), 40, 50)?;
     assert!(rt; are_refused(&rt, rt.alloc(), by_store.as_str(), 2, 16) == Some(true));
     let by_layers = many_ands(rt.alloc(), 2000)?;
     assert!(rt; are_refused(&rt, rt.alloc(), by_layers.as_str(), 2, 8) == Some(true));
+    let by_one = many_ands(rt.alloc(), 16)?;
+    assert!(rt; are_refused(&rt, rt.alloc(), by_one.as_str(), 1, 8) == Some(true));
     Ok(())
 }
 
