@@ -1,12 +1,21 @@
-"""The program under test, and the worked circuits and files that several tests share."""
+"""The program under test, and the circuits, files and endings of runs that several tests share.
+
+The program is the one that the environment variable HALFGATES names, or else the one that the test
+command built. What lies in vectors/ and examples/ is imported by its name, after this module.
+"""
 import os
 import subprocess
+import sys
 import tempfile
 from pathlib import Path
 from unittest import TestCase
 
 TOP = Path(__file__).resolve().parent.parent
 PROGRAM = Path(os.environ.get("HALFGATES", TOP / "crates/halfgates/out/halfgates")).resolve()
+
+sys.path += [str(TOP / folder) for folder in ("vectors", "examples")]
+import bristol  # noqa: E402
+import reference  # noqa: E402
 
 SEED = 64 * "0"
 
@@ -40,6 +49,39 @@ def label_file(index, *labels):
     return head + b"".join(labels)
 
 
+def text_of_lines(lines):
+    """The text of these lines."""
+    return "".join(f"{line}\n" for line in lines)
+
+
+def prints(text):
+    """The ending of a run that prints this: its status, standard output and standard error."""
+    return 0, text, ""
+
+
+def fails(fault):
+    """The ending of a run with this fault, such as `18 BadSeed`."""
+    return 1, "", f"halfgates: fault {fault}\n"
+
+
+def ending_of(work):
+    """The ending of a run whose lines, or whose fault, this work of the reference comes to."""
+    try:
+        return prints(text_of_lines(work()))
+    except bristol.Fault as fault:
+        return fails(f"{fault.number} {fault.name}")
+
+
+def ending_of_eval(circuit, garbled, labels):
+    """The ending of `eval` over a garbled file and label files, by the reference."""
+
+    def work():
+        _, bits = reference.eval_files(circuit, garbled, labels)
+        return bristol.show_values(bits, circuit.output_widths)
+
+    return ending_of(work)
+
+
 class ProgramTest(TestCase):
     """A test that runs the program in a folder of its own, over files there."""
 
@@ -49,9 +91,14 @@ class ProgramTest(TestCase):
         self.folder = Path(folder.name)
 
     def put(self, name, content):
-        """Writes a file, of text or of bytes."""
+        """Writes a file, of text or of bytes, and returns its name."""
         data = content.encode() if isinstance(content, str) else content
         (self.folder / name).write_bytes(data)
+        return name
+
+    def put_all(self, name, contents):
+        """Writes numbered files, and returns their names."""
+        return [self.put(f"{name}{i}", content) for i, content in enumerate(contents)]
 
     def bytes_of(self, name):
         return (self.folder / name).read_bytes()
@@ -70,11 +117,19 @@ class ProgramTest(TestCase):
         )
         return done.returncode, (done.stdout or b"").decode(), (done.stderr or b"").decode()
 
-    def assert_prints(self, printed, *words):
+    def assert_ends(self, ending, *words):
+        """The program has this status, and prints this on standard output and standard error."""
+        self.assertEqual(self.run_program(*words), ending, words)
+
+    def assert_prints(self, text, *words):
         """The program succeeds and prints this."""
-        self.assertEqual(self.run_program(*words), (0, printed, ""), words)
+        self.assert_ends(prints(text), *words)
 
     def assert_fault(self, fault, *words):
         """The program ends with this fault, and prints no output."""
-        wanted = (1, "", f"halfgates: fault {fault}\n")
-        self.assertEqual(self.run_program(*words), wanted, words)
+        self.assert_ends(fails(fault), *words)
+
+    def assert_writes(self, data, name, *words):
+        """The program writes these bytes to the file of this name, and prints how many they are."""
+        self.assert_prints(f"wrote {len(data)}\n", *words)
+        self.assertEqual(self.bytes_of(name), data, words)

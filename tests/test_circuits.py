@@ -8,12 +8,12 @@ import subprocess
 import sys
 import unittest
 
-from program import SEED, TOP, ProgramTest
+from program import SEED, TOP, ProgramTest, text_of_lines
 
-EXAMPLES = TOP / "examples"
-sys.path.insert(0, str(EXAMPLES))
 from circuits import aes
 from circuits.builder import Builder
+
+EXAMPLES = TOP / "examples"
 
 # By circuit, input values and the output values: published ones, and those of numbers at the edges.
 ANSWERS = json.loads((EXAMPLES / "answers.json").read_text())
@@ -71,7 +71,7 @@ class CircuitTest(ProgramTest):
 
     def assert_answers(self, name, inputs, outputs):
         """The circuit has these outputs: in the plain, and garbled."""
-        printed = "".join(f"{bits(output)}\n" for output in outputs)
+        printed = text_of_lines(map(bits, outputs))
         self.assert_prints(printed, "plain", name, *inputs)
         self.assert_prints(printed, "run", name, SEED, *inputs)
 

@@ -315,8 +315,7 @@ class TwoParties(ProgramTest):
             self.put("c.txt", text)
             for workers in WORKERS:
                 options = "--format", version, "--workers", workers
-                self.assert_prints(f"wrote {len(file)}\n", "garble", "c.txt", SEED, "g", *options)
-                self.assertEqual(self.bytes_of("g"), file)
+                self.assert_writes(file, "g", "garble", "c.txt", SEED, "g", *options)
 
     def test_version_2_is_the_default(self):
         self.put("c.txt", XOR)
@@ -326,8 +325,7 @@ class TwoParties(ProgramTest):
     def test_label_files(self):
         for text, index, value, file in LABEL_FILES:
             self.put("c.txt", text)
-            self.assert_prints(f"wrote {len(file)}\n", "deal", "c.txt", SEED, index, value, "l")
-            self.assertEqual(self.bytes_of("l"), file)
+            self.assert_writes(file, "l", "deal", "c.txt", SEED, index, value, "l")
 
     def test_a_forged_row(self):
         self.put("c.txt", AND)

@@ -1,25 +1,22 @@
 """Holds the program against vectors/: its JSON files, and the reference that made them.
 
-It runs the program that the environment variable HALFGATES names, or else the one that the test
-command built. What is random here is drawn from the variable DRAWS, and is the same each time.
+What is random here is drawn from the environment variable DRAWS, and is the same each time.
 
     HALFGATES=dist/halfgates python3 tests/test_vectors.py
 """
 import json
 import os
-import sys
 import unittest
 from hashlib import sha256
 
-from program import TOP, ProgramTest
+from program import TOP, ProgramTest, ending_of, ending_of_eval, text_of_lines
+
+import bristol
+import cases
+import reference
 
 VECTORS = TOP / "vectors"
 DRAWS = os.environ.get("DRAWS", "0")
-
-sys.path.insert(0, str(VECTORS))
-import bristol  # noqa: E402
-import cases  # noqa: E402
-import reference  # noqa: E402
 
 
 def load(name):
@@ -82,31 +79,17 @@ class VectorTest(ProgramTest):
             with self.subTest(name):
                 hold(item)
 
-    def write(self, name, data):
-        """Writes a file of the folder, and returns its name."""
-        self.put(name, data)
-        return name
-
-    def write_circuit(self, document):
+    def put_circuit(self, document):
         """Writes the circuit of a JSON file, and returns its name."""
-        return self.write("circuit.txt", "\n".join(document["circuit"]))
-
-    def write_all(self, name, all_data):
-        """Writes numbered files, and returns their names."""
-        return [self.write(f"{name}{i}", data) for i, data in enumerate(all_data)]
+        return self.put("circuit.txt", "\n".join(document["circuit"]))
 
     def assert_lines(self, lines, *words):
         """The program prints these lines, and has status 0."""
-        self.assert_prints("".join(f"{line}\n" for line in lines), *words)
+        self.assert_prints(text_of_lines(lines), *words)
 
     def assert_bad(self, bad, *words):
         """The program prints the fault alone that `bad` names, and has status 1."""
         self.assert_fault(f"{bad['fault']} {bad['name']}", *words)
-
-    def assert_writes(self, data, name, *words):
-        """The program writes exactly these bytes to the file of this name."""
-        self.assert_lines([f"wrote {len(data)}"], *words)
-        self.assertEqual(self.bytes_of(name).hex(), data.hex(), words)
 
 
 def lines_of_check(gates, wires, and_gates, input_widths, output_widths, digest):
@@ -145,35 +128,35 @@ class WorkedCircuits(VectorTest):
     def hold_check(self, vector):
         names = "gates wires and_gates input_widths output_widths digest".split()
         lines = lines_of_check(*(vector[name] for name in names))
-        self.assert_lines(lines, "check", self.write_circuit(vector))
+        self.assert_lines(lines, "check", self.put_circuit(vector))
 
     def hold_run_and_plain(self, vector):
-        circuit, seed = self.write_circuit(vector), vector["seed"]
+        circuit, seed = self.put_circuit(vector), vector["seed"]
         for evaluation in vector["evaluations"]:
             outputs = evaluation["outputs"]
             self.assert_lines(outputs, "run", circuit, seed, *evaluation["values"])
             self.assert_lines(outputs, "plain", circuit, *evaluation["hex_values"])
 
     def hold_garble(self, vector):
-        circuit, seed = self.write_circuit(vector), vector["seed"]
+        circuit, seed = self.put_circuit(vector), vector["seed"]
         for version in "12":
             data = bytes.fromhex("".join(vector[f"garbled_file_{version}"]))
             self.assert_writes(data, "out", "garble", circuit, seed, "out", "--format", version)
 
     def hold_deal(self, vector):
-        circuit, seed = self.write_circuit(vector), vector["seed"]
+        circuit, seed = self.put_circuit(vector), vector["seed"]
         for evaluation in vector["evaluations"]:
             files = map(bytes.fromhex, evaluation["label_files"])
             for index, (text, data) in enumerate(zip(evaluation["values"], files)):
-                self.assert_writes(data, "out", "deal", circuit, seed, str(index), text, "out")
+                self.assert_writes(data, "out", "deal", circuit, seed, index, text, "out")
 
     def hold_eval(self, vector):
-        circuit = self.write_circuit(vector)
+        circuit = self.put_circuit(vector)
         for evaluation in vector["evaluations"]:
-            labels = self.write_all("labels", map(bytes.fromhex, evaluation["label_files"]))
+            labels = self.put_all("labels", map(bytes.fromhex, evaluation["label_files"]))
             for version in "12":
                 data = bytes.fromhex("".join(vector[f"garbled_file_{version}"]))
-                garbled = self.write("garbled", data)
+                garbled = self.put("garbled", data)
                 self.assert_lines(evaluation["outputs"], "eval", circuit, garbled, *labels[::-1])
 
 
@@ -191,30 +174,30 @@ class Faults(VectorTest):
 
     def test_of_files(self):
         document = load("bad_files")
-        self.write_circuit(document)
+        self.put_circuit(document)
         self.each(by_about(document["files"]), self.hold_fault_of_files)
 
     def hold_fault_of_circuit(self, bad):
-        circuit = self.write("circuit.txt", bad["text"].encode())
+        circuit = self.put("circuit.txt", bad["text"].encode())
         self.assert_bad(bad, "check", circuit)
 
     def hold_fault_of_values(self, bad):
         widths = bad["widths"]
         words = map(str, [0, sum(widths), len(widths), *widths, 0])
-        circuit = self.write("circuit.txt", " ".join(words).encode())
+        circuit = self.put("circuit.txt", " ".join(words).encode())
         values = [value.encode() for value in bad["values"]]
         self.assert_bad(bad, "plain", circuit, *values)
         self.assert_bad(bad, "run", circuit, "00" * 32, *values)
 
     def hold_fault_of_seed(self, bad):
-        circuit = self.write("circuit.txt", b"0 0 0 0")
+        circuit = self.put("circuit.txt", b"0 0 0 0")
         self.assert_bad(bad, "run", circuit, bad["seed"])
         self.assert_bad(bad, "garble", circuit, bad["seed"], "unwritten")
         self.assertFalse((self.folder / "unwritten").exists())
 
     def hold_fault_of_files(self, bad):
-        garbled = self.write("garbled", bytes.fromhex(bad["garbled"]))
-        labels = self.write_all("labels", map(bytes.fromhex, bad["labels"]))
+        garbled = self.put("garbled", bytes.fromhex(bad["garbled"]))
+        labels = self.put_all("labels", map(bytes.fromhex, bad["labels"]))
         self.assert_bad(bad, "eval", "circuit.txt", garbled, *labels)
 
 
@@ -326,7 +309,7 @@ class Agreement(VectorTest):
     def agree_on_circuit(self, draw):
         inputs, gates, unset = draw.below(12), draw.below(61), draw.below(2) * draw.below(9)
         text = respelled(draw, cases.random_circuit(draw, inputs, gates, unset))
-        name, circuit = self.write_and_read(text.encode())
+        name, circuit = self.put_and_read(text.encode())
         seed = sha256(draw.name.encode()).digest()
         garbling = reference.garble(circuit, seed)
         values, texts = self.draw_values(draw, circuit)
@@ -338,22 +321,23 @@ class Agreement(VectorTest):
         self.assert_lines(outputs, "run", name, seed.hex(), *texts)
         files = [reference.garbled_file(circuit, garbling, version) for version in (1, 2)]
         for version, data in enumerate(files, 1):
-            workers = str(draw.choice((1, 2, 3, 64)))
-            words = name, seed.hex(), "out", "--format", str(version), "--workers", workers
+            workers = draw.choice((1, 2, 3, 64))
+            words = name, seed.hex(), "out", "--format", version, "--workers", workers
             self.assert_writes(data, "out", "garble", *words)
         self.assert_same_eval(circuit, draw.choice(files), draw.shuffled(labels))
         for index, (text, data) in enumerate(zip(texts, labels)):
-            self.assert_writes(data, "out", "deal", name, seed.hex(), str(index), text, "out")
+            self.assert_writes(data, "out", "deal", name, seed.hex(), index, text, "out")
 
     def agree_on_text(self, draw):
         text = cases.random_circuit(draw, draw.below(6), draw.below(10), draw.below(2))
         text = damaged_text(draw, text.encode())
-        name = self.write("circuit.txt", text)
-        self.assert_agree(lambda: lines_of_circuit(bristol.read_circuit(text)), "check", name)
+        name = self.put("circuit.txt", text)
+        ending = ending_of(lambda: lines_of_circuit(bristol.read_circuit(text)))
+        self.assert_ends(ending, "check", name)
 
     def agree_on_files(self, draw):
         text = cases.random_circuit(draw, 1 + draw.below(12), draw.below(21), draw.below(2))
-        _, circuit = self.write_and_read(text.encode())
+        _, circuit = self.put_and_read(text.encode())
         garbling = reference.garble(circuit, sha256(draw.name.encode()).digest())
         labels = reference.deal(circuit, garbling, self.draw_values(draw, circuit)[0])
         for version in 1, 2:
@@ -362,9 +346,9 @@ class Agreement(VectorTest):
                 self.assert_same_eval(circuit, damaged_garbled(draw, garbled), labels)
                 self.assert_same_eval(circuit, garbled, damaged_labels(draw, labels))
 
-    def write_and_read(self, text):
+    def put_and_read(self, text):
         """The name of a circuit's file, and the circuit."""
-        return self.write("circuit.txt", text), bristol.read_circuit(text)
+        return self.put("circuit.txt", text), bristol.read_circuit(text)
 
     def draw_values(self, draw, circuit):
         """The bits of each input value, and texts for them, binary or hexadecimal."""
@@ -373,23 +357,11 @@ class Agreement(VectorTest):
                  for bits in values]
         return values, texts
 
-    def assert_agree(self, work, *words):
-        """The program prints the lines, or the fault, that the work of the reference comes to."""
-        try:
-            lines = work()
-        except bristol.Fault as fault:
-            self.assert_bad({"fault": fault.number, "name": fault.name}, *words)
-        else:
-            self.assert_lines(lines, *words)
-
     def assert_same_eval(self, circuit, garbled, labels):
         """Both evaluate these files to the same outputs, or tell the same fault."""
-        def work():
-            _, bits = reference.eval_files(circuit, garbled, labels)
-            return bristol.show_values(bits, circuit.output_widths)
-
-        names = [self.write("garbled", garbled), *self.write_all("labels", labels)]
-        self.assert_agree(work, "eval", "circuit.txt", *names)
+        ending = ending_of_eval(circuit, garbled, labels)
+        names = [self.put("garbled", garbled), *self.put_all("labels", labels)]
+        self.assert_ends(ending, "eval", "circuit.txt", *names)
 
 
 if __name__ == "__main__":

@@ -1,14 +1,12 @@
 """Each number of workers makes the garbled file and the outputs that the reference of vectors/ makes."""
 import random
-import sys
 import unittest
 from hashlib import sha256
 
-from program import SEED, TOP, ProgramTest
+from program import SEED, ProgramTest, ending_of_eval, prints, text_of_lines
 
-sys.path.insert(0, str(TOP / "vectors"))
-import bristol  # noqa: E402
-import reference  # noqa: E402
+import bristol
+import reference
 
 WORKERS = 1, 2, 3, 4, 7, 64
 
@@ -103,24 +101,25 @@ def forged_file(draw, data, rows):
 
 
 class Job:
-    """A garbled file and the label files of a circuit, and what evaluating them gives."""
+    """The files of a job, the garbled file first, and the ending of evaluating them."""
 
     def __init__(self, draw, circuit, garbling, is_honest):
         version = draw.choice([1, 2])
         values = [[draw.randrange(2) for _ in range(width)] for width in circuit.input_widths]
-        self.garbled = reference.garbled_file(circuit, garbling, version)
-        self.labels = reference.deal(circuit, garbling, values)
+        garbled = reference.garbled_file(circuit, garbling, version)
+        labels = reference.deal(circuit, garbling, values)
         if not is_honest:
-            self.garbled = forged_file(draw, self.garbled, len(garbling.rows))
-            self.labels = [file[:16] + draw.randbytes(len(file) - 16) for file in self.labels]
-        try:
-            bits = reference.eval_files(circuit, self.garbled, self.labels)[1]
-            self.lines = "".join(
-                f"{line}\n" for line in bristol.show_values(bits, circuit.output_widths)
-            )
-            self.fault = None
-        except bristol.Fault as fault:
-            self.lines, self.fault = None, f"{fault.number} {fault.name}"
+            garbled = forged_file(draw, garbled, len(garbling.rows))
+            labels = [file[:16] + draw.randbytes(len(file) - 16) for file in labels]
+        self.files = [garbled, *labels]
+        self.ending = ending_of_eval(circuit, garbled, labels)
+
+
+def ending_of_list(jobs):
+    """The ending of `jobs` over these: the first fault, or the lines of each and an empty line."""
+    endings = [job.ending for job in jobs]
+    faults = [ending for ending in endings if ending[0]]
+    return faults[0] if faults else prints(text_of_lines(text for _, text, _ in endings))
 
 
 class Workers(ProgramTest):
@@ -128,19 +127,9 @@ class Workers(ProgramTest):
         super().setUp()
         self.draw = random.Random(15)
 
-    def put_job(self, job, name):
-        """Writes the files of a job, and answers their names, the garbled file's first."""
-        files = [job.garbled, *job.labels]
-        names = [f"{name}_{i}" for i in range(len(files))]
-        for file_name, data in zip(names, files):
-            self.put(file_name, data)
-        return names
-
-    def assert_answers(self, job, *words):
-        if job.fault is None:
-            self.assert_prints(job.lines, *words)
-        else:
-            self.assert_fault(job.fault, *words)
+    def put_jobs(self, jobs):
+        """Writes the files of each job, and returns their names."""
+        return [self.put_all(f"job{i}_", job.files) for i, job in enumerate(jobs)]
 
     def test_garbled_files_and_outputs(self):
         for text in circuits(self.draw):
@@ -149,13 +138,12 @@ class Workers(ProgramTest):
             garbling = reference.garble(circuit, bytes(32))
             file = reference.garbled_file(circuit, garbling, 2)
             jobs = [Job(self.draw, circuit, garbling, is_honest) for is_honest in (True, False)]
-            names = [self.put_job(job, f"job{i}") for i, job in enumerate(jobs)]
+            names = self.put_jobs(jobs)
             for workers in WORKERS:
-                words = "c.txt", SEED, "g", "--workers", workers
-                self.assert_prints(f"wrote {len(file)}\n", "garble", *words)
-                self.assertEqual(self.bytes_of("g"), file)
+                option = "--workers", workers
+                self.assert_writes(file, "g", "garble", "c.txt", SEED, "g", *option)
                 for job, files in zip(jobs, names):
-                    self.assert_answers(job, "eval", "c.txt", *files, "--workers", workers)
+                    self.assert_ends(job.ending, "eval", "c.txt", *files, *option)
 
     def test_lists_of_jobs(self):
         faults = 0
@@ -166,16 +154,11 @@ class Workers(ProgramTest):
             garbling = reference.garble(circuit, bytes(32))
             honest = [self.draw.randrange(3) > 0 for _ in range(1 + self.draw.randrange(6))]
             jobs = [Job(self.draw, circuit, garbling, is_honest) for is_honest in honest]
-            names = [self.put_job(job, f"job{i}") for i, job in enumerate(jobs)]
-            self.put("list", "".join(" ".join(files) + "\n" for files in names))
-            fault = next((job.fault for job in jobs if job.fault), None)
-            faults += fault is not None
+            self.put("list", text_of_lines(map(" ".join, self.put_jobs(jobs))))
+            ending = ending_of_list(jobs)
+            faults += ending[0]
             for workers in 1, 2, 3, 5, 8:
-                words = "jobs", "c.txt", "list", "--workers", workers
-                if fault:
-                    self.assert_fault(fault, *words)
-                else:
-                    self.assert_prints("".join(f"{job.lines}\n" for job in jobs), *words)
+                self.assert_ends(ending, "jobs", "c.txt", "list", "--workers", workers)
         self.assertTrue(10 < faults < 50, faults)
 
 
