@@ -10,28 +10,28 @@ use Rattle.gc_netlist.specs.Reading.{◌>>=◌, limited_at, widths_at, gates_at,
 use Rattle.gc_netlist.proofs.Tables.{table_end}
 use Rattle.gc_circuit.proofs.CheckLemmas.{marks_len}
 
--- What the text tells before the outputs are checked, and the tokens that are left then.
-pub record Told (ts : List (List ℕ)) (c : Netlist) (rest : List (List ℕ)) : Type 0 where
+-- What is read before the outputs are checked, and the tokens that are left then.
+pub record ReadSteps (ts : List (List ℕ)) (c : Netlist) (rest : List (List ℕ)) : Type 0 where
   pub after_count : List (List ℕ)
   pub after_wires : List (List ℕ)
   pub after_inputs : List (List ℕ)
   pub after_outputs : List (List ℕ)
   pub count : ℕ
-  pub told_count : limited_at MAX_GATES ts ≡ Ok (count, after_count)
-  pub told_wires : limited_at MAX_WIRES after_count ≡ Ok (c.wires, after_wires)
-  pub told_inputs : widths_at c.wires after_wires ≡ Ok (c.input_widths, after_inputs)
-  pub told_outputs : widths_at c.wires after_inputs ≡ Ok (c.output_widths, after_outputs)
-  pub told_gates : gates_at c.wires (sum c.input_widths) count [] after_outputs ≡ Ok (c.gates, rest)
+  pub count_read : limited_at MAX_GATES ts ≡ Ok (count, after_count)
+  pub wires_read : limited_at MAX_WIRES after_count ≡ Ok (c.wires, after_wires)
+  pub inputs_read : widths_at c.wires after_wires ≡ Ok (c.input_widths, after_inputs)
+  pub outputs_read : widths_at c.wires after_inputs ≡ Ok (c.output_widths, after_outputs)
+  pub gates_read : gates_at c.wires (sum c.input_widths) count [] after_outputs ≡ Ok (c.gates, rest)
 
-pub tell : (all ts after_count after_wires after_inputs after_outputs rest : List (List ℕ))
+pub steps_of : (all ts after_count after_wires after_inputs after_outputs rest : List (List ℕ))
     (c : Netlist) (count inputs : ℕ) → ts ≡ all →
     limited_at MAX_GATES ts ≡ Ok (count, after_count) →
     limited_at MAX_WIRES after_count ≡ Ok (c.wires, after_wires) →
     widths_at c.wires after_wires ≡ Ok (c.input_widths, after_inputs) →
     widths_at c.wires after_inputs ≡ Ok (c.output_widths, after_outputs) →
     inputs ≡ sum c.input_widths → gates_at c.wires inputs count [] after_outputs
-    ≡ Ok (c.gates, rest) → Told all c rest
-tell all ts after_count after_wires after_inputs after_outputs rest c count inputs same h_count h_wires
+    ≡ Ok (c.gates, rest) → ReadSteps all c rest
+steps_of all ts after_count after_wires after_inputs after_outputs rest c count inputs same h_count h_wires
     h_inputs h_outputs is h_gates =
     record {
       after_count = after_count;
@@ -39,22 +39,22 @@ tell all ts after_count after_wires after_inputs after_outputs rest c count inpu
       after_inputs = after_inputs;
       after_outputs = after_outputs;
       count = count;
-      told_count = ap (limited_at MAX_GATES) (sym same) ∙ h_count;
-      told_wires = h_wires;
-      told_inputs = h_inputs;
-      told_outputs = h_outputs;
-      told_gates = ap (λ n. gates_at c.wires n count [] after_outputs) (sym is) ∙ h_gates;
+      count_read = ap (limited_at MAX_GATES) (sym same) ∙ h_count;
+      wires_read = h_wires;
+      inputs_read = h_inputs;
+      outputs_read = h_outputs;
+      gates_read = ap (λ n. gates_at c.wires n count [] after_outputs) (sym is) ∙ h_gates;
     }
 
-module _ (ts : List (List ℕ)) (c : Netlist) (rest : List (List ℕ)) (told : Told ts c rest) where
+module _ (ts : List (List ℕ)) (c : Netlist) (rest : List (List ℕ)) (steps : ReadSteps ts c rest) where
   last_steps : circuit_of ts ≡ (check_outputs c >>= (λ u. check_end rest >>= (λ v. Ok c)))
   unfolding circuit_of
   last_steps = rw (
-    told.told_count,
-    told.told_wires,
-    told.told_inputs,
-    told.told_outputs,
-    told.told_gates,
+    steps.count_read,
+    steps.wires_read,
+    steps.inputs_read,
+    steps.outputs_read,
+    steps.gates_read,
   ) refl
 
   pub outputs_refused : (e : ReadFault) → check_outputs c ≡ Err e → circuit_of ts ≡ Err e

@@ -14,7 +14,7 @@ use Rattle.hex.specs.Hex.{decode_pairs, decode_sized, digit_or_error, hex_digit_
 use Rattle.hex.specs.declared.error.FromHexError.{FromHexError}
 use Rattle.gc_circuit.specs.declared.value.ValueFault.{ValueFault}
 use Rattle.gc_circuit.specs.declared.value.ValueFault.TheVariants.{Memory, WrongLength, BadDigit, SpareBits}
-use Rattle.gc_circuit.specs.Value.{ValueText, Binary, Hexadecimal, has_length, has_digits, has_spare_bit, is_binary_digit, digit_value, byte_at, byte_count, low_bits, wire_bit, form_of, value_told, value_of_text, binary_digit, IsValue, IsFirstFault, ValueTextLaw}
+use Rattle.gc_circuit.specs.Value.{ValueText, Binary, Hexadecimal, has_length, has_digits, has_spare_bit, is_binary_digit, digit_value, byte_at, byte_count, low_bits, wire_bit, form_of, value_of_form, value_of_text, binary_digit, IsValue, IsFirstFault, ValueTextLaw}
 
 -- ---- a test over a range of places
 
@@ -85,23 +85,18 @@ map_pushed f i before bits new b is pushed bit =
     ∙ ap (λ l. before ++ l) (ap (λ x. map f (range_with_len 0 i) ++ x ∷ []) bit
     ∙ sym (map-range_with_len_more f 0 i i (zero-add i)))
 
--- ---- what a text tells
+-- ---- what reading a text gives
 
 -- a text without a fault
-pub told_ok : (t : ValueText) (n : ℕ) (bits : List Bool) → has_length n t ≡ true →
+pub value_ok : (t : ValueText) (n : ℕ) (bits : List Bool) → has_length n t ≡ true →
     has_digits t ≡ true → has_spare_bit n t ≡ false →
-    bits ≡ map (wire_bit t) (range_with_len 0 n) → value_told t n ≡ Ok bits
-told_ok t n bits long digits spare is = rw (long, digits, spare) (ap Ok (sym is))
-
--- a bad digit
-pub told_bad_digit : (t : ValueText) (n : ℕ) → has_length n t ≡ true → has_digits t ≡ false →
-    value_told t n ≡ Err BadDigit
-told_bad_digit t n long digits = rw (long, digits) refl
+    bits ≡ map (wire_bit t) (range_with_len 0 n) → value_of_form t n ≡ Ok bits
+value_ok t n bits long digits spare is = rw (long, digits, spare) (ap Ok (sym is))
 
 -- a spare bit
-pub told_spare_bits : (t : ValueText) (n : ℕ) → has_length n t ≡ true → has_digits t ≡ true →
-    has_spare_bit n t ≡ true → value_told t n ≡ Err SpareBits
-told_spare_bits t n long digits spare = rw (long, digits, spare) refl
+pub value_spare_bits : (t : ValueText) (n : ℕ) → has_length n t ≡ true → has_digits t ≡ true →
+    has_spare_bit n t ≡ true → value_of_form t n ≡ Err SpareBits
+value_spare_bits t n long digits spare = rw (long, digits, spare) refl
 
 -- ---- the first form
 
@@ -111,10 +106,10 @@ binary_past digits i past = ap (λ c. c == 49) (get_or_past digits i 0 past)
 
 pub binary_ok : (digits : List ℕ) (n : ℕ) (bits : List Bool) → length digits ≡ n →
     list_all is_binary_digit digits ≡ true →
-    bits ≡ map (wire_bit (Binary digits)) (range_with_len 0 n) → value_told (Binary digits) n ≡ Ok bits
+    bits ≡ map (wire_bit (Binary digits)) (range_with_len 0 n) → value_of_form (Binary digits) n ≡ Ok bits
 binary_ok digits n bits long all is =
     let test : (length digits == n) ≡ true = grind (arith, nat_tests) in
-    told_ok (Binary digits) n bits test all
+    value_ok (Binary digits) n bits test all
     (none_in_range (wire_bit (Binary digits)) n (8 * byte_count n - n)
     (λ i from below. binary_past digits i (omega arith))) is
 
@@ -266,19 +261,19 @@ pub hexadecimal_ok : (digits : List ℕ) (n : ℕ) (bits : List Bool) →
     length digits ≡ 2 * byte_count n → list_all is_hex_digit digits ≡ true →
     ((i : ℕ) → n ≤ i → i < 8 * byte_count n → wire_bit (Hexadecimal digits) i ≡ false) →
     bits ≡ map (wire_bit (Hexadecimal digits)) (range_with_len 0 n) →
-    value_told (Hexadecimal digits) n ≡ Ok bits
+    value_of_form (Hexadecimal digits) n ≡ Ok bits
 hexadecimal_ok digits n bits long all zero_past is =
     let test : (length digits == 2 * byte_count n) ≡ true = grind (arith, nat_tests) in
-    told_ok (Hexadecimal digits) n bits test all
+    value_ok (Hexadecimal digits) n bits test all
     (none_in_range (wire_bit (Hexadecimal digits)) n (8 * byte_count n - n)
     (λ i from below. zero_past i from (omega arith))) is
 
 pub hexadecimal_spare : (digits : List ℕ) (n : ℕ) → length digits ≡ 2 * byte_count n →
     list_all is_hex_digit digits ≡ true →
-    has_spare_bit n (Hexadecimal digits) ≡ true → value_told (Hexadecimal digits) n ≡ Err SpareBits
+    has_spare_bit n (Hexadecimal digits) ≡ true → value_of_form (Hexadecimal digits) n ≡ Err SpareBits
 hexadecimal_spare digits n long all spare =
     let test : (length digits == 2 * byte_count n) ≡ true = grind (arith, nat_tests) in
-    told_spare_bits (Hexadecimal digits) n test all spare
+    value_spare_bits (Hexadecimal digits) n test all spare
 
 -- ---- the law
 
@@ -411,7 +406,7 @@ shown_bit (b ∷ bits) (suc k) = shown_bit bits k
 
 pub shown_is_read : (bits : List Bool) → value_of_text (map binary_digit bits) (length bits) ≡ Ok bits
 shown_is_read bits =
-    ap (λ t. value_told t (length bits)) (shown_form bits)
+    ap (λ t. value_of_form t (length bits)) (shown_form bits)
     ∙ binary_ok (map binary_digit bits) (length bits) bits (length-map bits binary_digit) (shown_digits bits)
     (fill_by_all (wire_bit (Binary (map binary_digit bits))) bits (length bits) false refl
     (λ k below. shown_bit bits k))

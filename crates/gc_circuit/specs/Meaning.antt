@@ -42,4 +42,5 @@ pub record AreOutputs (c : Netlist) (x outputs : List Bool) : Type 0 where
 -- so each wire that is set has one bit.
 pub record AssignmentLaw (c : Netlist) (x : ℕ → Bool) : Type 0 where
   pub one : (bits : ℕ → Bool) × IsAssignment c x bits
-  pub no_other : (u v : ℕ → Bool) → IsAssignment c x u → IsAssignment c x v → (w : ℕ) → IsSet c w → u w ≡ v w
+  pub no_other : (u v : ℕ → Bool) → IsAssignment c x u → IsAssignment c x v
+      → (w : ℕ) → IsSet c w → u w ≡ v w

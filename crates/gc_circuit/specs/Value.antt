@@ -28,7 +28,8 @@ pub data ValueText : Type 0 where
 
 -- a text that begins with `x` has the second form
 abbrev pub form_of : List ℕ → ValueText
-form_of text = if starts_with nat_eq text (codes "x") then Hexadecimal (drop 1 text) else Binary text
+form_of text =
+    if starts_with nat_eq text (codes "x") then Hexadecimal (drop 1 text) else Binary text
 
 -- how many bytes n wires need
 abbrev pub byte_count : ℕ → ℕ
@@ -76,16 +77,16 @@ abbrev pub has_spare_bit : ℕ → ValueText → Bool
 has_spare_bit n t = list_any (wire_bit t) (range_with_len n (8 * byte_count n - n))
 
 -- the bits of n wires, or the first fault
-abbrev pub value_told : ValueText → ℕ → Result (List Bool) ValueFault
-value_told t n =
+abbrev pub value_of_form : ValueText → ℕ → Result (List Bool) ValueFault
+value_of_form t n =
     if not (has_length n t) then Err WrongLength
     else if not (has_digits t) then Err BadDigit
     else if has_spare_bit n t then Err SpareBits
     else Ok (map (wire_bit t) (range_with_len 0 n))
 
--- what a text tells of a value of n wires
+-- the bits of a text as a value of n wires, or its first fault
 abbrev pub value_of_text : List ℕ → ℕ → Result (List Bool) ValueFault
-value_of_text text n = value_told (form_of text) n
+value_of_text text n = value_of_form (form_of text) n
 
 -- The text is the value of n wires with these bits.
 pub record IsValue (t : ValueText) (n : ℕ) (bits : List Bool) : Type 0 where
@@ -102,7 +103,7 @@ IsFirstFault t n SpareBits =
     IsTrue (has_length n t) × IsTrue (has_digits t) × ((i : ℕ) × (n ≤ i) × (wire_bit t i ≡ true))
 IsFirstFault t n Memory = ⊥
 
--- A text tells bits exactly where it is the value with these bits, and a fault exactly where that is its first.
+-- Reading a text gives bits exactly where it is the value with these bits, and a fault exactly where that is its first.
 pub record ValueTextLaw (text : List ℕ) (n : ℕ) : Type 0 where
   pub value : (bits : List Bool) → (value_of_text text n ≡ Ok bits) ↔ IsValue (form_of text) n bits
   pub fault : (e : ValueFault) → (value_of_text text n ≡ Err e) ↔ IsFirstFault (form_of text) n e

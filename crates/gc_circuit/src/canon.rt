@@ -23,7 +23,8 @@ trait TextSink {
 
     /// Takes the piece after the text so far.
     fn put(&mut self, piece: &[u8]) -> Result<(), Self::Fault>
-        ensures { OnOk result ((text : List ℕ) → holds self.old text → holds self.new (text ++ piece.now)) };
+        ensures { OnOk result
+            ((text : List ℕ) → holds self.old text → holds self.new (text ++ piece.now)) };
 }
 
 impl<B: Allocator> TextSink for Vec<u8, B> {
@@ -53,7 +54,7 @@ const ROOM: usize = 512;
 /// The most bytes in the line of a gate.
 const LONGEST: usize = 41;
 
-/// The lines of how many gates are given to a sink at once. There is room for as many of the longest.
+/// The number of gates whose lines are given to a sink at once. The room holds this many of the longest lines.
 const GATES_AT_ONCE: u32 = 12;
 
 /// Room for text. It is written from its end to its beginning, so that the digits of a number fall into place, and
@@ -199,7 +200,8 @@ impl<A: Allocator> Circuit<A> {
     /// The lines of the gates from place `from` up to place `to`.
     fn gate_lines<'a>(&self, room: &'a mut Room, from: u32, to: u32) -> &'a [u8]
         requires { (from ≤ to) × (to ≤ from + GATES_AT_ONCE) × (to ≤ length self.now.gates) }
-        ensures { result.now ≡ flat_map line (map words_of_gate (drop from (take to self.now.gates))) }
+        ensures { result.now
+            ≡ flat_map line (map words_of_gate (drop from (take to self.now.gates))) }
     {
         let mut start = ROOM;
         for i in (from..to).rev() {

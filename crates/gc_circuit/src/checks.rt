@@ -6,7 +6,8 @@ use gc_netlist::{Gate, Operation, ReadFault};
 /// A wire that is read: there is such a wire, and it is set.
 #[tactic(auto, unfolding(gc_netlist::specs::Reading::check_read))]
 fn check_read(is_set: &[bool], wire: u32) -> Result<(), ReadFault>
-    ensures { result ≡ check_read (length is_set.now) (λ w. slice_index_or is_set.now w false) wire }
+    ensures { result
+        ≡ check_read (length is_set.now) (λ w. slice_index_or is_set.now w false) wire }
 {
     match is_set.get(wire as usize) {
         Some(true) => Ok(()),
@@ -30,7 +31,8 @@ fn check_set(is_set: &[bool], wire: u32) -> Result<(), ReadFault>
 /// Each wire that the operation reads, left to right.
 #[tactic(auto, unfolding(gc_netlist::specs::Reading::check_reads))]
 fn check_reads(is_set: &[bool], operation: Operation) -> Result<(), ReadFault>
-    ensures { result ≡ check_reads (length is_set.now) (λ w. slice_index_or is_set.now w false) operation }
+    ensures { result
+        ≡ check_reads (length is_set.now) (λ w. slice_index_or is_set.now w false) operation }
 {
     match operation {
         Operation::Xor(a, b) | Operation::And(a, b) => {
@@ -45,7 +47,8 @@ fn check_reads(is_set: &[bool], operation: Operation) -> Result<(), ReadFault>
 /// The wires that the gate reads, and then the wire that it sets.
 #[tactic(auto, unfolding(gc_netlist::specs::Reading::check_gate))]
 pub(crate) fn check_gate(is_set: &[bool], gate: Gate) -> Result<(), ReadFault>
-    ensures { result ≡ check_gate (length is_set.now) (λ w. slice_index_or is_set.now w false) gate }
+    ensures { result
+        ≡ check_gate (length is_set.now) (λ w. slice_index_or is_set.now w false) gate }
 {
     check_reads(is_set, gate.operation)?;
     check_set(is_set, gate.set)

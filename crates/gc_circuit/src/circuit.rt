@@ -9,7 +9,7 @@ use std::fmt;
 use std::marker::Model;
 
 /// A lawful circuit: within the limits, each gate reads only input wires and wires that gates before it
-/// set, each wire is set once at the most, and each output wire is an input wire or set by a gate.
+/// set, each wire is set at most once, and each output wire is an input wire or set by a gate.
 ///
 /// The first wires are those of input value 0, then of value 1, and so on; the last wires are those of the
 /// output values in order.
@@ -29,7 +29,8 @@ impl<A: Allocator> Model for Circuit<A> {
 
     ghost Value = { Netlist };
 
-    ghost view = { λ c. netlist_of c.wires c.input_widths.items c.output_widths.items c.gates.items };
+    ghost view = { λ c.
+        netlist_of c.wires c.input_widths.items c.output_widths.items c.gates.items };
 
     ghost invariant = { λ c. IsSummary
         (netlist_of c.wires c.input_widths.items c.output_widths.items c.gates.items)
@@ -69,6 +70,14 @@ impl<A: Allocator> Circuit<A> {
             output_widths: outputs.widths,
             gates,
         }
+    }
+
+    /// The law of the type: the circuit is lawful. A call of it does nothing.
+    #[inline(always)]
+    pub fn law_lawful(&self)
+        ensures { IsLawful self.now }
+    {
+        let _ = &self.wires;
     }
 
     /// How many gates the circuit has.

@@ -95,7 +95,8 @@ pub fn plain_eval<A: Allocator + Copy, C: Allocator, V: Allocator>(
     values: &[Vec<bool, V>],
 ) -> Result<Vec<bool, A>, Memory>
     requires { Fits circuit.now (map (λ v. v.items) values.now) }
-    ensures { IfOk result (λ v. AreOutputs circuit.now (flat_map (λ x. x.items) values.now) v.items) }
+    ensures { IfOk result (λ v.
+        AreOutputs circuit.now (flat_map (λ x. x.items) values.now) v.items) }
 {
     let bits = wire_bits(alloc, circuit, values)?;
     let first = circuit.wires() - circuit.output_wires();

@@ -1,6 +1,7 @@
 //! Boolean circuits in Bristol Fashion: reading and writing them, their digests, and evaluating them in the plain.
 //!
-//! What they are, and what a text spells, is told in `gc_netlist`, whose names are passed on.
+//! It re-exports the names of `gc_netlist`, which defines what a circuit is and what a text spells. Crates above take
+//! these names from here.
 #![tactic(auto)]
 
 mod canon;

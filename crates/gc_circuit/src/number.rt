@@ -5,7 +5,7 @@ ghost use Rattle.gc_netlist.specs.Reading.{number_at};
 use gc_netlist::ReadFault;
 
 /// Whether the byte stands between tokens: a tab, a line feed, a carriage return or a space. Nearly all other bytes are
-/// above a space, so that one comparison tells them.
+/// above a space, so that one comparison suffices for them.
 #[inline]
 pub(crate) fn is_blank(byte: u8) -> bool
     ensures { result ≡ is_blank byte }
@@ -13,11 +13,11 @@ pub(crate) fn is_blank(byte: u8) -> bool
     byte <= b' ' && matches!(byte, b'\t' | b'\n' | b'\r' | b' ')
 }
 
-/// In how many bytes a short number and the blank after it are looked for.
+/// The number of bytes in which a short number and the blank after it are sought.
 const SHORT: usize = 9;
 
-/// The number that the text begins with, and how many bytes it takes, where it is short and a blank follows it. There
-/// are few turns at the most, so that they are compiled one after another, and no value is too large.
+/// The number that the text begins with, and how many bytes it takes, where it is short and a blank follows it. The
+/// loop has few turns, so that the compiler unrolls it, and no value is too large.
 #[inline(always)]
 pub(crate) fn short_number(text: &[u8]) -> Option<(u32, usize)>
     requires { 0 < length text.now → is_blank (slice_index text.now 0) ≡ false }

@@ -31,7 +31,7 @@ struct Gates<A: Allocator> {
     is_set: Vec<bool, A>,
 }
 
-/// The next numbers, this many.
+/// The next numbers, a given number of them.
 fn read_numbers<A: Allocator>(
     alloc: A,
     tokens: &mut Tokens<'_>,
@@ -96,7 +96,7 @@ fn inputs_set<A: Allocator>(alloc: A, wires: u32, inputs: u32) -> Result<Vec<boo
     Ok(is_set)
 }
 
-/// The next gates, this many, each checked against those before it. Room for some is taken at once.
+/// The next gates, a given number of them, each checked against those before it. Room for some is taken at once.
 fn read_gates<A: Allocator + Copy>(
     alloc: A,
     tokens: &mut Tokens<'_>,
@@ -111,7 +111,8 @@ fn read_gates<A: Allocator + Copy>(
         (λ e. e ≢ ReadFault.Memory → gates_at wires inputs count [] tokens.old ≡ Err e) }
     ensures table { IfOk result (λ g. g.is_set.items
         ≡ map (is_set inputs g.gates.items) (range_with_len 0 wires)) }
-    ensures ands { IfOk result (λ g. g.and_count ≡ count_by (λ x. is_and x.operation) g.gates.items) }
+    ensures ands { IfOk result (λ g.
+        g.and_count ≡ count_by (λ x. is_and x.operation) g.gates.items) }
 {
     let mut is_set = inputs_set(alloc, wires, inputs)?;
     let mut gates = Vec::with_capacity(alloc, room)?;
@@ -137,7 +138,7 @@ fn all_set(is_set: &[bool]) -> bool
     is_set.iter().all(|set| *set)
 }
 
-/// Each output wire is set: the last wires, this many.
+/// Each output wire is set. They are the last wires.
 fn check_outputs(is_set: &[bool], outputs: u32) -> Result<(), ReadFault>
     requires { outputs ≤ length is_set.now }
     ensures { result ≡ (if list_all (λ b. b) (drop (length is_set.now - outputs) is_set.now)
@@ -160,7 +161,8 @@ impl<A: Allocator + Copy> Circuit<A> {
         ensures spelled { IfOk result (Spells text.now) }
         ensures exactly { (c : Netlist) → IsLawful c → Spells text.now c
             → MatchResult result (λ d. d ≡ c) (λ e. e ≡ ReadFault.Memory) }
-        ensures first_fault { IfErr result (λ e. e ≢ ReadFault.Memory → FirstFault (tokens text.now) e) }
+        ensures first_fault { IfErr result (λ e.
+            e ≢ ReadFault.Memory → FirstFault (tokens text.now) e) }
 
         // What reading from left to right gives, which `law_reading` ties to the clauses above.
         ensures reading { MatchResult result (λ c. circuit_of (tokens text.now) ≡ Ok c)

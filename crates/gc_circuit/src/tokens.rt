@@ -35,7 +35,7 @@ fn skip_blanks(text: &[u8]) -> &[u8]
     &[]
 }
 
-/// How many bytes the text begins with that are no blanks.
+/// The number of bytes before the first blank of the text.
 fn run_len(text: &[u8]) -> usize
     ensures within { result ≤ length text.now }
     ensures run { All (λ b. is_blank b ≡ false) (take result text.now) }
@@ -63,7 +63,8 @@ fn begins_with_name_of_three(text: &[u8]) -> bool
     ensures long { IsTrue result → 5 ≤ length text.now }
     ensures blanks { IsTrue result → (slice_index text.now 0 ≡ 32) × (slice_index text.now 4 ≡ 10) }
     ensures name { IsTrue result → (is_blank (slice_index text.now 1) ≡ false)
-        × (is_blank (slice_index text.now 2) ≡ false) × (is_blank (slice_index text.now 3) ≡ false) }
+        × (is_blank (slice_index text.now 2) ≡ false)
+        × (is_blank (slice_index text.now 3) ≡ false) }
 {
     matches!(text, [b' ', a, b, c, b'\n', ..] if !is_blank(*a) && !is_blank(*b) && !is_blank(*c))
 }
@@ -76,7 +77,7 @@ impl<'a> Tokens<'a> {
         Tokens { rest: text }
     }
 
-    /// Takes the numbers 2 and 1 where the text goes on with them and a space after each, and says whether it does.
+    /// Takes the numbers 2 and 1 where they come next, each with a space after it. Returns whether they do.
     #[inline(always)]
     pub fn two_and_one(&mut self) -> bool
         ensures taken { IsTrue result → self.old ≡ codes "2" ∷ codes "1" ∷ self.new }
@@ -107,10 +108,11 @@ impl<'a> Tokens<'a> {
         Ok(token)
     }
 
-    /// Takes a token of three bytes and the line feed after it, where one space stands before it.
+    /// Takes a token of three bytes and the line feed after it, where one space comes before it.
     #[inline(always)]
     fn name_of_three(&mut self) -> Option<&'a [u8]>
-        ensures { MatchOption result (self.new ≡ self.old) (λ t. token_at self.old ≡ Ok (t.now, self.new)) }
+        ensures { MatchOption result (self.new ≡ self.old)
+            (λ t. token_at self.old ≡ Ok (t.now, self.new)) }
     {
         if !begins_with_name_of_three(self.rest) {
             return None;

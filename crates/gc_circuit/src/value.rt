@@ -2,7 +2,7 @@
 
 ghost use Rattle.std.specs.Prelude.{◌≡◌, ◌+◌, ◌*◌, ◌^◌, ◌⊎◌, ◌<◌, ◌≤◌, ◌&&◌, ◌++◌, ℕ, Bool, List, length, map, IfOk, IfErr, OnOk, IsTrue, IsFalse};
 ghost use Rattle.hex.specs.Hex.{is_hex_digit};
-ghost use Rattle.gc_circuit.specs.Value.{Binary, Hexadecimal, form_of, has_length, value_told, value_of_text, digit_value, low_bits, binary_digit, code_of, name_of, ValueTextLaw};
+ghost use Rattle.gc_circuit.specs.Value.{Binary, Hexadecimal, form_of, has_length, value_of_form, value_of_text, digit_value, low_bits, binary_digit, code_of, name_of, ValueTextLaw};
 
 use crate::memory::Memory;
 use hex::FromHex;
@@ -122,8 +122,8 @@ pub fn show_value<A: Allocator + Copy>(alloc: A, bits: &[bool]) -> Result<Vec<u8
     Ok(text)
 }
 
-/// The law of value texts. A text tells bits exactly where it is the value with these bits, and a fault exactly
-/// where that is the first that it has. What `show_value` writes tells the bits shown.
+/// The law of value texts. Reading a text gives bits exactly where it is the value with these bits, and a fault exactly
+/// where that is its first. What `show_value` writes is read back as the bits shown.
 pub fn law_value_texts()
     ensures meaning { (text : List ℕ) (n : ℕ) → ValueTextLaw text n }
     ensures round_trip { (bits : List Bool) →
@@ -136,9 +136,9 @@ fn read_binary<A: Allocator + Copy>(
     digits: &[u8],
     width: usize,
 ) -> Result<Vec<bool, A>, ValueFault>
-    ensures ok { IfOk result (λ v. value_told (Binary digits.now) width ≡ Ok v.items) }
+    ensures ok { IfOk result (λ v. value_of_form (Binary digits.now) width ≡ Ok v.items) }
     ensures err { IfErr result (λ fault.
-        (fault ≡ ValueFault.Memory) ⊎ (value_told (Binary digits.now) width ≡ Err fault)) }
+        (fault ≡ ValueFault.Memory) ⊎ (value_of_form (Binary digits.now) width ≡ Err fault)) }
     ensures length_first { IsFalse (has_length width (Binary digits.now)) →
         result ≡ Err ValueFault.WrongLength }
 {
@@ -164,9 +164,9 @@ fn read_hexadecimal<A: Allocator + Copy>(
     width: usize,
 ) -> Result<Vec<bool, A>, ValueFault>
     requires { width < 2 ^ 32 }
-    ensures ok { IfOk result (λ v. value_told (Hexadecimal digits.now) width ≡ Ok v.items) }
+    ensures ok { IfOk result (λ v. value_of_form (Hexadecimal digits.now) width ≡ Ok v.items) }
     ensures err { IfErr result (λ fault.
-        (fault ≡ ValueFault.Memory) ⊎ (value_told (Hexadecimal digits.now) width ≡ Err fault)) }
+        (fault ≡ ValueFault.Memory) ⊎ (value_of_form (Hexadecimal digits.now) width ≡ Err fault)) }
     ensures length_first { IsFalse (has_length width (Hexadecimal digits.now)) →
         result ≡ Err ValueFault.WrongLength }
 {

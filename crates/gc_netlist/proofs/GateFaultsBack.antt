@@ -15,7 +15,7 @@ use Rattle.gc_netlist.proofs.SolutionLemmas.{EachRead-map}
 use Rattle.gc_netlist.proofs.Tables.{IsSetBefore-below}
 use Rattle.gc_netlist.proofs.SpellingLemmas.{words_of_one}
 use Rattle.gc_netlist.proofs.LawfulLemmas.{set_before, before_set}
-use Rattle.gc_netlist.proofs.ReadingBack.{number_back, two_told, one_told, read_good, reads_good, set_without, set_with, is_set-whole}
+use Rattle.gc_netlist.proofs.ReadingBack.{number_back, gate_of_two, gate_of_one, read_good, reads_good, set_without, set_with, is_set-whole}
 
 -- A number is missing after the counts 2 and 1,
 two_stops : (numbers : List ℕ) (us vs : List (List ℕ)) (e : ReadFault) → length numbers ≤ 2 →
@@ -127,7 +127,7 @@ two_misnamed : (numbers : List ℕ) (name : List ℕ) (us rest : List (List ℕ)
 two_misnamed [] name us rest e len s bad = absurd (omega arith)
 two_misnamed (a ∷ []) name us rest e len s bad = absurd (omega arith)
 two_misnamed (a ∷ b ∷ []) name us rest e len s bad = absurd (omega arith)
-two_misnamed (a ∷ b ∷ w ∷ []) name us rest e len s bad = two_told a b w name us rest s
+two_misnamed (a ∷ b ∷ w ∷ []) name us rest e len s bad = gate_of_two a b w name us rest s
     ∙ ap (λ r. r >>= (λ (op : Operation). Ok (record { operation = op; set = w }, rest))) (bad a b)
 two_misnamed (a ∷ b ∷ w ∷ v ∷ more) name us rest e len s bad = absurd (omega arith)
 
@@ -137,7 +137,7 @@ one_misnamed : (numbers : List ℕ) (name : List ℕ) (us rest : List (List ℕ)
     ((a : ℕ) → operation_of_one name a ≡ Err e) → gate_at us ≡ Err e
 one_misnamed [] name us rest e len s bad = absurd (omega arith)
 one_misnamed (a ∷ []) name us rest e len s bad = absurd (omega arith)
-one_misnamed (a ∷ w ∷ []) name us rest e len s bad = one_told a w name us rest s
+one_misnamed (a ∷ w ∷ []) name us rest e len s bad = gate_of_one a w name us rest s
     ∙ ap (λ r. r >>= (λ (op : Operation). Ok (record { operation = op; set = w }, rest))) (bad a)
 one_misnamed (a ∷ b ∷ w ∷ more) name us rest e len s bad = absurd (omega arith)
 
@@ -246,7 +246,7 @@ unfolding operation_of_one
 constant_stops v w us rest s large =
     let not_none : (v == 0) ≡ false = grind (arith, nat_tests) in
     let not_one : (v == 1) ≡ false = grind (arith, nat_tests) in
-    one_told v w (codes "EQ") us rest s ∙ rw (not_none, not_one) refl
+    gate_of_one v w (codes "EQ") us rest s ∙ rw (not_none, not_one) refl
 
 -- The wires of a gate.
 module _ (c : Netlist) (lawful : IsLawful (without_outputs c)) where

@@ -80,11 +80,11 @@ widths_back wires widths ts us s few fit =
     rw (h, all, yes) refl)
 
 -- A gate with the counts 2 and 1, or 1 and 1, is what its name and its numbers say.
-pub two_told : (a b c : ℕ) (name : List ℕ) (ts rest : List (List ℕ)) →
+pub gate_of_two : (a b c : ℕ) (name : List ℕ) (ts rest : List (List ℕ)) →
     SpellWords ts (words_of_two a b c name) rest →
     gate_at ts ≡ (operation_of_two name a b >>= (λ op. Ok (record { operation = op; set = c }, rest)))
 unfolding gate_at two_at
-two_told a b c name ts rest s =
+gate_of_two a b c name ts rest s =
     number_back ts rest 2 (Number 1 ∷ Number a ∷ Number b ∷ Number c ∷ Name name ∷ []) s (λ t1 h1 s1.
     number_back t1 rest 1 (Number a ∷ Number b ∷ Number c ∷ Name name ∷ []) s1 (λ t2 h2 s2.
     number_back t2 rest a (Number b ∷ Number c ∷ Name name ∷ []) s2 (λ t3 h3 s3.
@@ -94,11 +94,11 @@ two_told a b c name ts rest s =
     let left : t6 ≡ rest = s6 in
     rw (h1, h2, h3, h4, h5, h6, left) refl))))))
 
-pub one_told : (a c : ℕ) (name : List ℕ) (ts rest : List (List ℕ)) →
+pub gate_of_one : (a c : ℕ) (name : List ℕ) (ts rest : List (List ℕ)) →
     SpellWords ts (words_of_one a c name) rest →
     gate_at ts ≡ (operation_of_one name a >>= (λ op. Ok (record { operation = op; set = c }, rest)))
 unfolding gate_at one_at
-one_told a c name ts rest s =
+gate_of_one a c name ts rest s =
     number_back ts rest 1 (Number 1 ∷ Number a ∷ Number c ∷ Name name ∷ []) s (λ t1 h1 s1.
     number_back t1 rest 1 (Number a ∷ Number c ∷ Name name ∷ []) s1 (λ t2 h2 s2.
     number_back t2 rest a (Number c ∷ Name name ∷ []) s2 (λ t3 h3 s3.
@@ -111,13 +111,13 @@ one_told a c name ts rest s =
 two_back : (op : Operation) (a b c : ℕ) (name : List ℕ) (ts rest : List (List ℕ)) →
     operation_of_two name a b ≡ Ok op → SpellWords ts (words_of_two a b c name) rest →
     gate_at ts ≡ Ok (record { operation = op; set = c }, rest)
-two_back op a b c name ts rest is s = two_told a b c name ts rest s
+two_back op a b c name ts rest is s = gate_of_two a b c name ts rest s
     ∙ ap (λ r. r >>= (λ (o : Operation). Ok (record { operation = o; set = c }, rest))) is
 
 one_back : (op : Operation) (a c : ℕ) (name : List ℕ) (ts rest : List (List ℕ)) →
     operation_of_one name a ≡ Ok op → SpellWords ts (words_of_one a c name) rest →
     gate_at ts ≡ Ok (record { operation = op; set = c }, rest)
-one_back op a c name ts rest is s = one_told a c name ts rest s
+one_back op a c name ts rest is s = gate_of_one a c name ts rest s
     ∙ ap (λ r. r >>= (λ (o : Operation). Ok (record { operation = o; set = c }, rest))) is
 
 operation_back : (op : Operation) (c : ℕ) (ts rest : List (List ℕ)) →

@@ -1,4 +1,4 @@
--- Steps of reading, one after another: where what they told comes from, and where a fault does.
+-- Steps of reading, one after another: where their results come from, and where a fault does.
 use Rattle.std.proofs.Common.{◌≡◌, Bool, true, false, cond, Result, Ok, Err, refl, ap}
 use Rattle.gc_netlist.specs.declared.fault.ReadFault.{ReadFault}
 use Rattle.gc_netlist.specs.Reading.{◌>>=◌}

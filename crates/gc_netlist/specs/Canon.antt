@@ -15,7 +15,8 @@ written (Name name) = name
 abbrev pub line : List Word → List ℕ
 line words = join_with_byte 32 (map written words) ++ 10 ∷ []
 
--- The lines of a circuit: its numbers of gates and wires, its input values, its output values, an empty line, and each gate.
+-- The lines of a circuit: its numbers of gates and wires, its input values, its output values, an empty line, and each
+-- gate.
 abbrev pub lines_of_circuit : Netlist → List (List Word)
 lines_of_circuit c =
     (Number (length c.gates) ∷ Number c.wires ∷ []) ∷ words_of_widths c.input_widths

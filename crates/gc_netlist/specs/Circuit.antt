@@ -1,5 +1,5 @@
 -- Circuits, and which of them are lawful (the Bristol Fashion page).
-use Rattle.std.specs.Prelude.{◌≡◌, ℕ, ◌<◌, ◌≤◌, ◌+◌, ◌⊎◌, Bool, true, false, List, length, sum, take, count_by, slice_get, Some}
+use Rattle.std.specs.Prelude.{◌≡◌, ℕ, ◌<◌, ◌≤◌, ◌+◌, ◌⊎◌, ◌==◌, ◌||◌, Bool, true, false, List, length, sum, take, count_by, slice_get, Option, Some, None}
 use Rattle.gc_netlist.specs.declared.limits.TheConstants.{MAX_GATES, MAX_WIRES, MAX_VALUES}
 use Rattle.gc_netlist.specs.declared.gate.Operation.{Operation}
 use Rattle.gc_netlist.specs.declared.gate.Operation.TheVariants.{Xor, And, Inv, Eq, Eqw}
@@ -37,6 +37,30 @@ EachRead P (Inv a) = P a
 EachRead P (Eq v) = Unit {0}
 EachRead P (Eqw a) = P a
 
+-- the wire that an operation reads first,
+abbrev pub first_wire : Operation → Option ℕ
+first_wire (Xor a b) = Some a
+first_wire (And a b) = Some a
+first_wire (Inv a) = Some a
+first_wire (Eq v) = None
+first_wire (Eqw a) = Some a
+
+-- and the one that it reads second
+abbrev pub second_wire : Operation → Option ℕ
+second_wire (Xor a b) = Some b
+second_wire (And a b) = Some b
+second_wire (Inv a) = None
+second_wire (Eq v) = None
+second_wire (Eqw a) = None
+
+-- whether the operation reads wire w
+abbrev pub reads : Operation → ℕ → Bool
+reads (Xor a b) w = a == w || b == w
+reads (And a b) w = a == w || b == w
+reads (Inv a) w = a == w
+reads (Eq v) w = false
+reads (Eqw a) w = a == w
+
 -- Gate i sets wire w.
 pub record IsSetBy (c : Netlist) (w i : ℕ) : Type 0 where
   pub gate : Gate
@@ -61,7 +85,8 @@ pub record IsLawful (c : Netlist) : Type 0 where
   pub inputs_fit : input_wires c ≤ c.wires
   pub outputs_fit : output_wires c ≤ c.wires
   -- A gate reads only input wires and wires that gates before it set.
-  pub reads : (i : ℕ) (g : Gate) → slice_get c.gates i ≡ Some g → EachRead (IsSetBefore c i) g.operation
+  pub reads : (i : ℕ) (g : Gate) → slice_get c.gates i ≡ Some g
+      → EachRead (IsSetBefore c i) g.operation
   -- It sets a wire that is no input wire and that no gate before it sets.
   pub sets : (i : ℕ) (g : Gate) → slice_get c.gates i ≡ Some g → g.set < c.wires
   pub sets_once : (i : ℕ) (g : Gate) → slice_get c.gates i ≡ Some g → IsSetBefore c i g.set → ⊥

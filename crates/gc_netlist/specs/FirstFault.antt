@@ -32,9 +32,11 @@ words_so_far n c = Number n ∷ Number c.wires
     ∷ (words_of_widths c.input_widths ++ words_of_widths c.output_widths
     ++ flat_map words_of_gate c.gates)
 
--- After these words, which are in order, the values of a side are due: after the two sizes the inputs, and after these the outputs.
+-- After these words, which are in order, the values of a side are due: after the two sizes the inputs, and after these
+-- the outputs.
 pub data SideDue (wires : ℕ) : List Word → Type 0 where
-  input_side : (n : ℕ) → n ≤ MAX_GATES → wires ≤ MAX_WIRES → SideDue wires (Number n ∷ Number wires ∷ [])
+  input_side : (n : ℕ) → n ≤ MAX_GATES → wires ≤ MAX_WIRES →
+      SideDue wires (Number n ∷ Number wires ∷ [])
   output_side : (n : ℕ) (widths : List ℕ) → n ≤ MAX_GATES → wires ≤ MAX_WIRES →
       length widths ≤ MAX_VALUES → sum widths ≤ wires →
       SideDue wires (Number n ∷ Number wires ∷ words_of_widths widths)
@@ -47,9 +49,10 @@ pub data GateDue (c : Netlist) : List Word → Type 0 where
 pub data LimitedDue : List Word → ℕ → Type 0 where
   number_of_gates : LimitedDue [] MAX_GATES
   number_of_wires : (n : ℕ) → n ≤ MAX_GATES → LimitedDue (Number n ∷ []) MAX_WIRES
-  number_of_values : (wires : ℕ) (words : List Word) → SideDue wires words → LimitedDue words MAX_VALUES
+  number_of_values : (wires : ℕ) (words : List Word) → SideDue wires words →
+      LimitedDue words MAX_VALUES
 
--- The first count of a gate: so many numbers stand between the two counts and the wire that it sets.
+-- The first count of a gate: it is how many numbers stand between the two counts and the wire that the gate sets.
 abbrev pub IsCount : ℕ → Type 0
 IsCount r = (r ≡ 1) ⊎ (r ≡ 2)
 
@@ -57,7 +60,8 @@ IsCount r = (r ≡ 1) ⊎ (r ≡ 2)
 pub data GateNumberDue : List ℕ → Type 0 where
   first_count : GateNumberDue []
   second_count : (r : ℕ) → GateNumberDue (r ∷ [])
-  wire_number : (r : ℕ) (numbers : List ℕ) → IsCount r → length numbers ≤ r → GateNumberDue (r ∷ 1 ∷ numbers)
+  wire_number : (r : ℕ) (numbers : List ℕ) → IsCount r → length numbers ≤ r →
+      GateNumberDue (r ∷ 1 ∷ numbers)
 
 -- After these words, which are in order, a number is due.
 pub data NumberDue : List Word → Type 0 where
@@ -95,8 +99,10 @@ IsFirstUnset c (a ∷ more) w = ((a ≡ w) × (IsSet c a → ⊥)) ⊎ (IsSet c 
 -- The tokens are in order up to some place, and this is the fault there.
 pub data FirstFault (ts : List (List ℕ)) : ReadFault → Type 0 where
   -- The text ends where a number is due, or a name.
-  no_number : (words : List Word) → NumberDue words → SpellWords ts words [] → FirstFault ts Truncated
-  no_name : (r : ℕ) (words : List Word) → NameDue r words → SpellWords ts words [] → FirstFault ts Truncated
+  no_number : (words : List Word) → NumberDue words → SpellWords ts words [] →
+      FirstFault ts Truncated
+  no_name : (r : ℕ) (words : List Word) → NameDue r words → SpellWords ts words [] →
+      FirstFault ts Truncated
   -- The token where a number is due spells none.
   bad_number : (words : List Word) (token : List ℕ) (rest : List (List ℕ)) → NumberDue words →
       SpellWords ts words (token ∷ rest) → number_of token ≡ None → FirstFault ts BadNumber
@@ -121,7 +127,8 @@ pub data FirstFault (ts : List (List ℕ)) : ReadFault → Type 0 where
       NameDue r words → SpellWords ts (words ++ Name name ∷ []) rest →
       IsNamed k name → k ≢ r → FirstFault ts BadShape
   -- The constant of an EQ gate is neither 0 nor 1.
-  bad_constant : (c : Netlist) (words : List Word) (v w : ℕ) (rest : List (List ℕ)) → GateDue c words →
+  bad_constant : (c : Netlist) (words : List Word) (v w : ℕ) (rest : List (List ℕ)) →
+      GateDue c words →
       SpellWords ts (words ++ Number 1 ∷ Number 1 ∷ Number v ∷ Number w ∷ Name (codes "EQ") ∷ [])
       rest → 1 < v → FirstFault ts BadConstant
   -- A gate reads a wire that isn't set, and the first such wire isn't below the number of wires, or is.
@@ -148,10 +155,14 @@ pub data FirstFault (ts : List (List ℕ)) : ReadFault → Type 0 where
 
 -- Each text spells one lawful circuit or has one first fault.
 pub record ReadingLaw (text : List ℕ) : Type 0 where
-  pub either : ((c : Netlist) × IsLawful c × Spells text c) ⊎ ((e : ReadFault) × FirstFault (tokens text) e)
-  pub not_both : (c : Netlist) (e : ReadFault) → IsLawful c → Spells text c → FirstFault (tokens text) e → ⊥
-  pub one_circuit : (c d : Netlist) → IsLawful c → Spells text c → IsLawful d → Spells text d → c ≡ d
-  pub one_fault : (e f : ReadFault) → FirstFault (tokens text) e → FirstFault (tokens text) f → e ≡ f
-  -- Reading from left to right tells that circuit or that fault.
+  pub either : ((c : Netlist) × IsLawful c × Spells text c)
+      ⊎ ((e : ReadFault) × FirstFault (tokens text) e)
+  pub not_both : (c : Netlist) (e : ReadFault) → IsLawful c → Spells text c
+      → FirstFault (tokens text) e → ⊥
+  pub one_circuit : (c d : Netlist) → IsLawful c → Spells text c → IsLawful d → Spells text d
+      → c ≡ d
+  pub one_fault : (e f : ReadFault) → FirstFault (tokens text) e → FirstFault (tokens text) f
+      → e ≡ f
+  -- Reading from left to right gives that circuit or that fault.
   pub reads : (c : Netlist) → circuit_of (tokens text) ≡ Ok c ↔ IsLawful c × Spells text c
   pub faults : (e : ReadFault) → circuit_of (tokens text) ≡ Err e ↔ FirstFault (tokens text) e

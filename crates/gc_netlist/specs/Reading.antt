@@ -1,4 +1,4 @@
--- Reading tokens from left to right: what they tell and the tokens that are left, or the first fault that is met.
+-- Reading tokens from left to right: what is read and the tokens that are left, or the first fault that is met.
 use Rattle.std.specs.Prelude.{ℕ, zero, suc, ◌-◌, ◌&&◌, ◌||◌, ◌==◌, ◌++◌, Bool, true, false, List, [], ◌∷◌, sum, nat_lt, nat_le, Option, Some, None, Result, Ok, Err, if◌then◌else◌, bytes_eq, codes}
 use Rattle.std.specs.List.{list_any, list_all, range_with_len}
 use Rattle.gc_netlist.specs.declared.limits.TheConstants.{MAX_GATES, MAX_WIRES, MAX_VALUES}
@@ -12,7 +12,8 @@ use Rattle.gc_netlist.specs.Text.{number_of}
 
 -- One step after another: the first fault ends it.
 infixl 10 ◌>>=◌
-abbrev pub ◌>>=◌ : {A B : Type 0} → Result A ReadFault → (A → Result B ReadFault) → Result B ReadFault
+abbrev pub ◌>>=◌ : {A B : Type 0} → Result A ReadFault → (A → Result B ReadFault)
+    → Result B ReadFault
 (Ok x) >>= f = f x
 (Err e) >>= f = Err e
 
@@ -131,7 +132,8 @@ module _ (wires : ℕ) (set : ℕ → Bool) where
     check_set g.set
 
 -- n gates, after those that were read before. Each is judged by these.
-unfoldable pub gates_at : ℕ → ℕ → ℕ → List Gate → List (List ℕ) → Result (List Gate × List (List ℕ)) ReadFault
+unfoldable pub gates_at : ℕ → ℕ → ℕ → List Gate → List (List ℕ)
+    → Result (List Gate × List (List ℕ)) ReadFault
 gates_at wires inputs zero before ts = Ok (before, ts)
 gates_at wires inputs (suc n) before ts = do
   g ← gate_at ts

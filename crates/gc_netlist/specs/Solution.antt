@@ -30,9 +30,11 @@ put_gate rule values i None = values
 put_gate rule values i (Some g) = put values g.set (rule values i g)
 
 -- the values after the first n gates, each computed from the values before it
-unfoldable pub values_after : {A : Type 0} → ((ℕ → A) → ℕ → Gate → A) → Netlist → (ℕ → A) → ℕ → ℕ → A
+unfoldable pub values_after : {A : Type 0} → ((ℕ → A) → ℕ → Gate → A) → Netlist → (ℕ → A) → ℕ
+    → ℕ → A
 values_after rule c given zero = given
-values_after rule c given (suc n) = put_gate rule (values_after rule c given n) n (slice_get c.gates n)
+values_after rule c given (suc n) =
+    put_gate rule (values_after rule c given n) n (slice_get c.gates n)
 
 -- The solution that computing gate by gate gives. On wires that are not set it has the given values.
 abbrev pub solution : {A : Type 0} → ((ℕ → A) → ℕ → Gate → A) → Netlist → (ℕ → A) → ℕ → A

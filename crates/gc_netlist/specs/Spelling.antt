@@ -34,7 +34,8 @@ words_of_operation c (Xor a b) =
 words_of_operation c (And a b) =
     Number 2 ∷ Number 1 ∷ Number a ∷ Number b ∷ Number c ∷ Name (codes "AND") ∷ []
 words_of_operation c (Inv a) = Number 1 ∷ Number 1 ∷ Number a ∷ Number c ∷ Name (codes "INV") ∷ []
-words_of_operation c (Eq v) = Number 1 ∷ Number 1 ∷ Number (bit_number v) ∷ Number c ∷ Name (codes "EQ") ∷ []
+words_of_operation c (Eq v) =
+    Number 1 ∷ Number 1 ∷ Number (bit_number v) ∷ Number c ∷ Name (codes "EQ") ∷ []
 words_of_operation c (Eqw a) = Number 1 ∷ Number 1 ∷ Number a ∷ Number c ∷ Name (codes "EQW") ∷ []
 
 abbrev pub words_of_gate : Gate → List Word
