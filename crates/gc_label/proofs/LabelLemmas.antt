@@ -2,11 +2,10 @@
 use Rattle.std.proofs.Common.{◌≡◌, ℕ, zero, suc, ◌+◌, ◌*◌, ◌/◌, ◌%◌, ◌^◌, ◌<◌, IsTrue, bit_or, nat_eq, List, [], ◌∷◌, length, get_or, map, ap, ◌∙◌, sym, refl, arith}
 use Rattle.std.specs.Int.{bit_at, byte_at, bytes_high_first}
 use Rattle.std.specs.List.{range_with_len}
-use Rattle.std.proofs.Math.Bool.{xor}
 use Rattle.std.proofs.Math.Nat.{div-div-eq-div-mul, pow-suc}
-use Rattle.std.proofs.lemmas.Nat.Bits.{bit_at_or, bit_at_xor, bit_at-pow_same, bit_at-lt}
+use Rattle.std.proofs.lemmas.Nat.Bits.{bit_at_or, bit_at-pow_same, bit_at-lt}
 use Rattle.std.proofs.lemmas.List.FromFn.{fill_by_all}
-use Rattle.gc_label.specs.Label.{◌⊕◌, colour, label_of_bytes, bytes_of_label}
+use Rattle.gc_label.specs.Label.{colour, label_of_bytes, bytes_of_label}
 
 -- ---- the colour
 
@@ -16,23 +15,6 @@ colour-bit_or label =
     let one : bit_at (bit_or label (2 ^ 120)) 120 ≡ 1 =
     omega (arith, bit_at_or label (2 ^ 120) 120, bit_at-pow_same 120, bit_at-lt label 120) in
     ap (λ b. nat_eq b 1) one
-
--- the lowest bit of the sum of two bits
-sum_of_bits : (x y z : ℕ) → x < 2 → y < 2 → z ≡ (x + y) % 2 → nat_eq z 1 ≡ xor (nat_eq x 1) (nat_eq y 1)
-unfolding xor
-sum_of_bits zero zero z hx hy e = ap (λ n. nat_eq n 1) e
-sum_of_bits zero (suc zero) z hx hy e = ap (λ n. nat_eq n 1) e
-sum_of_bits (suc zero) zero z hx hy e = ap (λ n. nat_eq n 1) e
-sum_of_bits (suc zero) (suc zero) z hx hy e = ap (λ n. nat_eq n 1) e
-sum_of_bits (suc (suc x)) y z hx hy e = absurd (omega arith)
-sum_of_bits zero (suc (suc y)) z hx hy e = absurd (omega arith)
-sum_of_bits (suc zero) (suc (suc y)) z hx hy e = absurd (omega arith)
-
--- the colour of a sum is the sum of the colours
-pub colour-⊕ : (a b : ℕ) → colour (a ⊕ b) ≡ xor (colour a) (colour b)
-colour-⊕ a b =
-    sum_of_bits (bit_at a 120) (bit_at b 120) (bit_at (a ⊕ b) 120) (bit_at-lt a 120) (bit_at-lt b 120)
-    (bit_at_xor a b 120)
 
 -- ---- the bytes of a label
 

@@ -15,11 +15,13 @@ word seed p = word_at 10 (key_of seed) 0 p
 -- the label of four words, each written as four bytes, the lowest first
 unfoldable pub label_of_words : ℕ → ℕ → ℕ → ℕ → ℕ
 label_of_words a b c d =
-    label_of_bytes (to_le_bytes w32 a ++ to_le_bytes w32 b ++ to_le_bytes w32 c ++ to_le_bytes w32 d)
+    label_of_bytes
+    (to_le_bytes w32 a ++ to_le_bytes w32 b ++ to_le_bytes w32 c ++ to_le_bytes w32 d)
 
 -- the label of the keystream's words p to p + 3
 unfoldable pub label_at : List ℕ → ℕ → ℕ
-label_at seed p = label_of_words (word seed p) (word seed (p + 1)) (word seed (p + 2)) (word seed (p + 3))
+label_at seed p =
+    label_of_words (word seed p) (word seed (p + 1)) (word seed (p + 2)) (word seed (p + 3))
 
 -- the offset: words 0 to 3, with the lowest bit of byte 0 set to 1
 unfoldable pub offset_of : List ℕ → ℕ

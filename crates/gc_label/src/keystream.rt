@@ -33,7 +33,8 @@ pub fn input_label(seed: &Seed, wire: u32) -> Label
 /// the keystream. All of these wires have numbers below 2^32.
 pub fn fill_input_labels(seed: &Seed, first_wire: u32, labels: &mut [Label])
     requires { first_wire + length labels.old ≤ 2 ^ 32 }
-    ensures { labels.new ≡ map (input_label_of seed.now) (range_with_len first_wire (length labels.old)) }
+    ensures { labels.new
+        ≡ map (input_label_of seed.now) (range_with_len first_wire (length labels.old)) }
 {
     let mut keystream = keystream_at(seed, input_place(first_wire));
     for label in labels.iter_mut() {
@@ -63,7 +64,8 @@ fn next_label(keystream: &mut ChaCha20Rng) -> Label
     ensures label { let word = word_at 10 keystream.old.key keystream.old.stream in
         let p = keystream.old.word_pos in
         result ≡ seed.label_of_words (word p) (word (p + 1)) (word (p + 2)) (word (p + 3)) }
-    ensures advanced { keystream.new ≡ record keystream.old { word_pos = keystream.old.word_pos + 4 } }
+    ensures advanced { keystream.new
+        ≡ record keystream.old { word_pos = keystream.old.word_pos + 4 } }
 {
     let a = keystream.next_word();
     let b = keystream.next_word();

@@ -10,7 +10,7 @@ use std::simd::{u8x16, u64x2};
 // The place of the colour, the lowest bit of byte 0, in the number of a label.
 const COLOUR_BIT: u32 = 120;
 
-// The lowest 64 bits of a number have so many values.
+// The number of values of 64 bits.
 const HALF: u128 = 1 << 64;
 
 /// One of the two labels of a wire: 16 bytes, which are ordered as bytes are.

@@ -10,13 +10,17 @@ words_of_lane lane j = map (λ v. lane v j)
 abbrev pub lane : List ℕ → ℕ → ℕ
 lane v j = slice_index v j % 2 ^ 32
 
--- The words of a label of 16 bytes, lowest first, where the label is the number that its bytes spell, the first highest,
+-- The words of a label of 16 bytes, lowest first, where the label is the number that its bytes spell, the first byte
+-- highest,
 abbrev pub low_words : ℕ → List ℕ
-low_words label = label % 2 ^ 32 ∷ label / 2 ^ 32 % 2 ^ 32 ∷ label / 2 ^ 64 % 2 ^ 32 ∷ label / 2 ^ 96 % 2 ^ 32 ∷ []
+low_words label =
+    label % 2 ^ 32 ∷ label / 2 ^ 32 % 2 ^ 32 ∷ label / 2 ^ 64 % 2 ^ 32
+    ∷ label / 2 ^ 96 % 2 ^ 32 ∷ []
 
 -- and the label of such words.
 abbrev pub label_of_low_words : List ℕ → ℕ
-label_of_low_words words = slice_index words 0 + 2 ^ 32 * slice_index words 1 + 2 ^ 64 * slice_index words 2
+label_of_low_words words =
+    slice_index words 0 + 2 ^ 32 * slice_index words 1 + 2 ^ 64 * slice_index words 2
     + 2 ^ 96 * slice_index words 3
 
 -- What stands at place j in each of four rows.

@@ -76,7 +76,8 @@ pub(crate) fn tweak_words<W: Words, const N: usize>(tweaks: &[u64; N]) -> [W; 2]
 #[inline(always)]
 pub(crate) fn padded_block<W: Words>(label: [W; 4], tweak: [W; 2]) -> Window<W>
     ensures { (j : ℕ) (l t : List ℕ) → j < W.lanes → words_of_lane W.lane j label ≡ last_words l
-        → words_of_lane W.lane j tweak ≡ first_words t → words_of_lane W.lane j result ≡ padded_words l t }
+        → words_of_lane W.lane j tweak ≡ first_words t
+        → words_of_lane W.lane j result ≡ padded_words l t }
 {
     let zero = W::splat(0);
     let [d, c, b, a] = label;

@@ -94,7 +94,8 @@ fn round_of_schedule<W: Words>(window: &mut Window<W>, variables: State<W>, t: u
     requires before { t < 64 }
     ensures { (j : ℕ) (b h : List ℕ) → j < W.lanes
         → IsRoundsAt b h (words_of_lane W.lane j window.old) (words_of_lane W.lane j variables) t
-        → IsRoundsAt b h (words_of_lane W.lane j window.new) (words_of_lane W.lane j result) (t + 1) }
+        → IsRoundsAt b h (words_of_lane W.lane j window.new)
+        (words_of_lane W.lane j result) (t + 1) }
 {
     let word = next_word(window, t);
     round(variables, ROUND_CONSTANTS[t], word)
@@ -111,7 +112,8 @@ pub(crate) fn four_rounds_of_schedule<W: Words>(
     requires before { t + 4 ≤ 64 }
     ensures { (j : ℕ) (b h : List ℕ) → j < W.lanes
         → IsRoundsAt b h (words_of_lane W.lane j window.old) (words_of_lane W.lane j variables) t
-        → IsRoundsAt b h (words_of_lane W.lane j window.new) (words_of_lane W.lane j result) (t + 4) }
+        → IsRoundsAt b h (words_of_lane W.lane j window.new)
+        (words_of_lane W.lane j result) (t + 4) }
 {
     let variables = round_of_schedule(window, variables, t);
     let variables = round_of_schedule(window, variables, t + 1);

@@ -11,12 +11,13 @@ use crate::compression::{add_states, four_rounds_of_block, four_rounds_of_schedu
 use crate::labels::{labels_of_eight, labels_of_four, words_of_eight, words_of_four};
 use crate::words::Words;
 
-/// The tweaked hash of each label: the first 16 bytes of SHA-256 (FIPS 180-4) of the label's 16 bytes followed by the 8 bytes
-/// of its tweak, the lowest first. Labels and hashes are the numbers that their bytes spell, the first byte highest. It takes
-/// no memory.
+/// The tweaked hash of each label: the first 16 bytes of SHA-256 (FIPS 180-4) of the label's 16 bytes followed by the 8
+/// bytes of its tweak, the lowest first. Labels and hashes are the numbers that their bytes spell, the first byte
+/// highest. It takes no memory.
 #[inline]
 pub fn hash_four(labels: [u128; 4], tweaks: [u64; 4]) -> [u128; 4]
-    ensures { (i : ℕ) → i < 4 → slice_index result i ≡ tweaked_hash (slice_index labels i) (slice_index tweaks i) }
+    ensures { (i : ℕ) → i < 4
+        → slice_index result i ≡ tweaked_hash (slice_index labels i) (slice_index tweaks i) }
 {
     labels_of_four(hash_each(words_of_four(labels), tweak_words(&tweaks)))
 }
@@ -24,13 +25,14 @@ pub fn hash_four(labels: [u128; 4], tweaks: [u64; 4]) -> [u128; 4]
 /// The tweaked hash of each label, as [`hash_four`] gives it.
 #[inline]
 pub fn hash_eight(labels: [u128; 8], tweaks: [u64; 8]) -> [u128; 8]
-    ensures { (i : ℕ) → i < 8 → slice_index result i ≡ tweaked_hash (slice_index labels i) (slice_index tweaks i) }
+    ensures { (i : ℕ) → i < 8
+        → slice_index result i ≡ tweaked_hash (slice_index labels i) (slice_index tweaks i) }
 {
     labels_of_eight(hash_each(words_of_eight(labels), tweak_words(&tweaks)))
 }
 
-// The words of the tweaked hash of each label, one in each lane; those of labels stand lowest first. A window of such words
-// fits in memory.
+// The words of the tweaked hash of each label, one in each lane; those of labels stand lowest first. A window of such
+// words fits in memory.
 #[inline(always)]
 fn hash_each<W: Words>(label: [W; 4], tweak: [W; 2]) -> [W; 4]
     requires { 16 * type_size W.row < 2 ^ 63 }

@@ -1,12 +1,12 @@
-//! Labels by their words, one label in each lane. A label is 16 bytes, seen as the number that they spell, the first byte
-//! highest; its words stand lowest first here.
+//! Labels by their words, one label in each lane. A label is 16 bytes, seen as the number that they spell, the first
+//! byte highest; its words stand lowest first here.
 
 ghost use Rattle.std.specs.Prelude.{◌≡◌, ◌<◌, ◌++◌, ◌∷◌, [], ℕ, slice_index};
 ghost use Rattle.gc_lanes.specs.Lanes.{column, label_of_low_words, lane, low_words, words_of_lane};
 
 use std::simd::{u32x4, u32x8, u64x2};
 
-// The lowest 64 bits of a number have so many values.
+// The number of values of 64 bits.
 const HALF: u128 = 1 << 64;
 
 /// The words of a label. It goes by halves, since the compiler makes one move of them.
@@ -21,7 +21,8 @@ fn words_of(label: u128) -> u32x4
 /// The label of four words.
 #[inline(always)]
 fn label_of(words: u32x4) -> u128
-    ensures { result ≡ label_of_low_words (lane words 0 ∷ lane words 1 ∷ lane words 2 ∷ lane words 3 ∷ []) }
+    ensures { result
+        ≡ label_of_low_words (lane words 0 ∷ lane words 1 ∷ lane words 2 ∷ lane words 3 ∷ []) }
 {
     u128::from_le_bytes(words.to_le_bytes().to_array())
 }
@@ -29,7 +30,8 @@ fn label_of(words: u32x4) -> u128
 /// Four rows as columns.
 #[inline(always)]
 fn turned_four(p: u32x4, q: u32x4, r: u32x4, s: u32x4) -> [u32x4; 4]
-    ensures { result ≡ column p q r s 0 ∷ column p q r s 1 ∷ column p q r s 2 ∷ column p q r s 3 ∷ [] }
+    ensures { result
+        ≡ column p q r s 0 ∷ column p q r s 1 ∷ column p q r s 2 ∷ column p q r s 3 ∷ [] }
 {
     let a = p.shuffle(q, [0, 4, 1, 5]);
     let b = p.shuffle(q, [2, 6, 3, 7]);
@@ -43,10 +45,11 @@ fn turned_four(p: u32x4, q: u32x4, r: u32x4, s: u32x4) -> [u32x4; 4]
     ]
 }
 
-/// Four rows as columns, each of the first four beside one of the others.
+/// Four rows as columns, each of the first four joined with one of the others.
 #[inline(always)]
 fn turned_eight(p: u32x8, q: u32x8, r: u32x8, s: u32x8) -> [u32x8; 4]
-    ensures { result ≡ (column p q r s 0 ++ column p q r s 4) ∷ (column p q r s 1 ++ column p q r s 5)
+    ensures { result
+        ≡ (column p q r s 0 ++ column p q r s 4) ∷ (column p q r s 1 ++ column p q r s 5)
         ∷ (column p q r s 2 ++ column p q r s 6) ∷ (column p q r s 3 ++ column p q r s 7) ∷ [] }
 {
     let a = p.shuffle(q, [0, 8, 1, 9, 4, 12, 5, 13]);
@@ -95,7 +98,8 @@ pub(crate) fn words_of_eight(labels: [u128; 8]) -> [u32x8; 4]
 /// Four labels by their words.
 #[inline(always)]
 pub(crate) fn labels_of_four(words: [u32x4; 4]) -> [u128; 4]
-    ensures { (j : ℕ) → j < 4 → slice_index result j ≡ label_of_low_words (words_of_lane lane j words) }
+    ensures { (j : ℕ) → j < 4
+        → slice_index result j ≡ label_of_low_words (words_of_lane lane j words) }
 {
     let [p, q, r, s] = words;
     let [a, b, c, d] = turned_four(p, q, r, s);
@@ -105,8 +109,10 @@ pub(crate) fn labels_of_four(words: [u32x4; 4]) -> [u128; 4]
 /// The two labels whose words stand side by side.
 #[inline(always)]
 fn labels_of_two(words: u32x8) -> (u128, u128)
-    ensures one { result.0 ≡ label_of_low_words (lane words 0 ∷ lane words 1 ∷ lane words 2 ∷ lane words 3 ∷ []) }
-    ensures other { result.1 ≡ label_of_low_words (lane words 4 ∷ lane words 5 ∷ lane words 6 ∷ lane words 7 ∷ []) }
+    ensures one { result.0
+        ≡ label_of_low_words (lane words 0 ∷ lane words 1 ∷ lane words 2 ∷ lane words 3 ∷ []) }
+    ensures other { result.1
+        ≡ label_of_low_words (lane words 4 ∷ lane words 5 ∷ lane words 6 ∷ lane words 7 ∷ []) }
 {
     (
         label_of(words.swizzle([0, 1, 2, 3])),
@@ -117,7 +123,8 @@ fn labels_of_two(words: u32x8) -> (u128, u128)
 /// Eight labels by their words.
 #[inline(always)]
 pub(crate) fn labels_of_eight(words: [u32x8; 4]) -> [u128; 8]
-    ensures { (j : ℕ) → j < 8 → slice_index result j ≡ label_of_low_words (words_of_lane lane j words) }
+    ensures { (j : ℕ) → j < 8
+        → slice_index result j ≡ label_of_low_words (words_of_lane lane j words) }
 {
     let [p, q, r, s] = words;
     let [one, two, three, four] = turned_eight(p, q, r, s);

@@ -4,7 +4,7 @@ use Rattle.gc_lanes.proofs.CaseByCase.{below_eight}
 use Rattle.gc_lanes.proofs.Turning.{low_words-fit}
 use Rattle.gc_lanes.proofs.labels.words_of_eight.Goals as goal
 
--- the columns of four rows, the first four beside the others
+-- the columns of four rows, the first four joined with the others
 abbrev columns : List ℕ → List ℕ → List ℕ → List ℕ → List (List ℕ)
 columns p q r s = (column p q r s 0 ++ column p q r s 4) ∷ (column p q r s 1 ++ column p q r s 5)
     ∷ (column p q r s 2 ++ column p q r s 6) ∷ (column p q r s 3 ++ column p q r s 7) ∷ []
