@@ -1,5 +1,6 @@
--- The garbling of a circuit under a seed, as functions of both. `IsGarbled` says what it is; that these functions meet
--- it, and that nothing else does, is proved of them (`law_garblings`). Evaluation likewise: `IsEvaluation` says what it is.
+-- The garbling of a circuit under a seed, as functions of both. `IsGarbled` says what it is; that these functions
+-- meet it, and that nothing else does, is proved of them (`law_garblings`). Evaluation likewise: `IsEvaluation` says
+-- what it is.
 use Rattle.std.specs.Prelude.{ℕ, zero, suc, List, [], ◌∷◌, ◌++◌, length, map, slice_get, slice_index, Option, Some, None, nat_lt, if◌then◌else◌}
 use Rattle.std.specs.List.{range_with_len}
 use Rattle.gc_netlist.specs.declared.gate.Operation.{Operation}
@@ -55,7 +56,7 @@ garbling_of c seed = record {
   outputs = output_wires c;
 }
 
--- The active label of each wire in an evaluation of these rows on these labels of the input wires. All evaluations agree
--- on the wires that are set.
+-- The active label of each wire in an evaluation of these rows on these labels of the input wires. All evaluations
+-- agree on the wires that are set.
 unfoldable pub active_label_of : Netlist → List RowPair → List ℕ → ℕ → ℕ
 active_label_of c rows inputs = solution (active_rule hash c rows) c (slice_index inputs)

@@ -1,4 +1,5 @@
--- The entries of the outputs: for each output wire the hashes of its two labels, by which an output label is recognised.
+-- The entries of the outputs: for each output wire the hashes of its two labels, by which an output label is
+-- recognised.
 use Rattle.std.specs.Prelude.{ℕ, ◌+◌, ◌-◌, ◌*◌, Bool, length, slice_index}
 use Rattle.gc_circuit.specs.Meaning.{xor}
 use Rattle.gc_label.specs.Label.{colour}

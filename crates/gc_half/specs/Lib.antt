@@ -6,3 +6,4 @@ pub mod Evaluation
 pub mod Entry
 pub mod Canonical
 pub mod Law
+pub mod Waiting

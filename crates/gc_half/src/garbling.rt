@@ -33,7 +33,11 @@ impl<A: Allocator> Model for Garbling<A> {
 
     ghost Value = { GarblingParts };
 
-    ghost view = { λ g. record { zero_labels = g.zero_labels.items; rows = g.rows.items; outputs = g.outputs } };
+    ghost view = { λ g. record {
+      zero_labels = g.zero_labels.items;
+      rows = g.rows.items;
+      outputs = g.outputs;
+    } };
 
     ghost invariant = { λ g. g.outputs ≤ length g.zero_labels.items };
 }
@@ -47,7 +51,11 @@ impl<A: Allocator> Garbling<A> {
         outputs: u32,
     ) -> Garbling<A>
         requires { outputs ≤ length zero_labels.items }
-        ensures { result ≡ record { zero_labels = zero_labels.items; rows = rows.items; outputs = outputs } }
+        ensures { result ≡ record {
+          zero_labels = zero_labels.items;
+          rows = rows.items;
+          outputs = outputs;
+        } }
     {
         Garbling {
             zero_labels,

@@ -58,9 +58,9 @@ impl AndGate {
     }
 }
 
-/// Garbles the k-th AND gate, counted from 0, from the zero labels `a` and `b` of the wires that it reads.
-/// The answer is the zero label of the wire that it sets, the generator's row and the evaluator's row. It isn't inlined:
-/// its many variables would push those of the loops that call it out of the registers.
+/// Garbles the k-th AND gate, counted from 0, from the zero labels `a` and `b` of the wires that it reads. The answer
+/// is the zero label of the wire that it sets, the generator's row and the evaluator's row. It is not inlined: its
+/// many variables would push those of the loops that call it out of the registers.
 #[inline(never)]
 pub fn garble_and(k: u32, offset: Offset, a: Label, b: Label) -> (Label, Label, Label)
     ensures zero_label { result.0 ≡ and_zero hash k offset a b }
@@ -112,8 +112,8 @@ impl AndStep {
     fn active(&self, hash_a: Label, hash_b: Label) -> Label
         requires first { hash_a ≡ hash self.now.a (2 * self.now.k) }
         requires second { hash_b ≡ hash self.now.b (2 * self.now.k + 1) }
-        ensures { result ≡ and_active hash self.now.k self.now.rows.generator self.now.rows.evaluator
-            self.now.a self.now.b }
+        ensures { result ≡ and_active hash self.now.k
+            self.now.rows.generator self.now.rows.evaluator self.now.a self.now.b }
     {
         let generator_half = hash_a.xor(self.rows.generator.times(self.a.colour()));
         let evaluator_half = hash_b.xor(self.rows.evaluator.xor(self.a).times(self.b.colour()));
@@ -144,7 +144,8 @@ pub fn eval_and(k: u32, generator: Label, evaluator: Label, a: Label, b: Label) 
 
 /// Evaluates two AND gates at once, each as [`eval_and`] does.
 pub fn eval_two_ands(one: AndStep, other: AndStep) -> (Label, Label)
-    ensures one { result.0 ≡ and_active hash one.k one.rows.generator one.rows.evaluator one.a one.b }
+    ensures one { result.0
+        ≡ and_active hash one.k one.rows.generator one.rows.evaluator one.a one.b }
     ensures other { result.1
         ≡ and_active hash other.k other.rows.generator other.rows.evaluator other.a other.b }
 {
@@ -161,8 +162,8 @@ pub fn eval_two_ands(one: AndStep, other: AndStep) -> (Label, Label)
 
 /// Evaluates four AND gates at once, each as [`eval_and`] does.
 pub fn eval_four_ands(steps: [AndStep; 4]) -> [Label; 4]
-    ensures { result ≡ map (λ step. and_active hash step.k step.rows.generator step.rows.evaluator step.a step.b)
-        steps }
+    ensures { result ≡ map (λ step.
+        and_active hash step.k step.rows.generator step.rows.evaluator step.a step.b) steps }
 {
     let [a, b, c, d] = steps;
     let (a_first, a_second) = a.hashed();

@@ -19,6 +19,8 @@ mod hash;
 mod laws;
 mod numbers;
 mod one_gate;
+mod table;
+mod waiting;
 mod zero_labels;
 
 pub use entry::output_entry;
@@ -32,4 +34,5 @@ pub use hash::tweak_hash;
 pub use laws::{law_garblings, law_half_gates};
 pub use numbers::and_numbers;
 pub use one_gate::{evaluate_gate, garble_gate, labels_read};
+pub use waiting::{WaitingGate, WaitingGates};
 pub use zero_labels::input_zero_labels;

@@ -12,7 +12,8 @@ pub fn and_numbers<A: Allocator + Copy, C: Allocator>(
     alloc: A,
     circuit: &Circuit<C>,
 ) -> Result<Vec<u32, A>, AllocError>
-    ensures { IfOk result (λ v. v.items ≡ map (and_number circuit.now) (range_with_len 0 (length circuit.now.gates))) }
+    ensures { IfOk result (λ v. v.items
+        ≡ map (and_number circuit.now) (range_with_len 0 (length circuit.now.gates))) }
 {
     let mut numbers = Vec::with_capacity(alloc, circuit.gates() as usize)?;
     let mut next = 0u32;

@@ -44,38 +44,21 @@ pub(crate) fn labels_of_inputs<A: Allocator + Copy, C: Allocator>(
     Ok(labels)
 }
 
-/// Puts the label of a wire into a table that is written as it is needed: an entry behind its end is 16 zero bytes. Most
-/// circuits set their wires in order, so that an entry is zeroed shortly before it is set, and is still in the cache then.
-#[inline(always)]
-pub(crate) fn put_label<A: Allocator>(
+/// Lengthens a table, which is written as it is needed, to a wire that is behind its end, and somewhat further: each
+/// new entry is 16 zero bytes. Most circuits set their wires in order, so that an entry is zeroed shortly before it
+/// is set, and is still in the cache then.
+#[inline(never)]
+pub(crate) fn lengthen<A: Allocator>(
     labels: &mut Vec<Label, A>,
     wires: u32,
     wire: u32,
-    label: Label,
 ) -> Result<(), Memory>
-    requires wire { wire < wires }
-    requires few { length labels.old.items ≤ wires }
-    ensures label { OnOk result ((w : ℕ) →
-        slice_index labels.new.items w ≡ put (slice_index labels.old.items) wire label w) }
-    ensures there { OnOk result (wire < length labels.new.items) }
-    ensures kept { OnOk result (length labels.old.items ≤ length labels.new.items) }
-    ensures few { OnOk result (length labels.new.items ≤ wires) }
-{
-    if wire as usize >= labels.len() {
-        lengthen(labels, wires, wire)?;
-    }
-    labels[wire as usize] = label;
-    Ok(())
-}
-
-/// Lengthens a table to a wire that is behind its end, and somewhat further.
-#[inline(never)]
-fn lengthen<A: Allocator>(labels: &mut Vec<Label, A>, wires: u32, wire: u32) -> Result<(), Memory>
     requires wire { wire < wires }
     requires behind { length labels.old.items ≤ wire }
     ensures same { OnOk result ((w : ℕ) →
         slice_index labels.new.items w ≡ slice_index labels.old.items w) }
     ensures there { OnOk result (wire < length labels.new.items) }
+    ensures kept { length labels.old.items ≤ length labels.new.items }
     ensures few { OnOk result (length labels.new.items ≤ wires) }
 {
     let end = wire.saturating_add(STRETCH).min(wires);

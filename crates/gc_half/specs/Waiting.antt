@@ -1,0 +1,48 @@
+-- AND gates that wait to be made together.
+use Rattle.std.specs.Prelude.{◌≢◌, ℕ, List, [], ◌∷◌, slice_set, Option, Some, None}
+use Rattle.gc_half.specs.declared.waiting.WaitingGate.{WaitingGate}
+use Rattle.gc_half.specs.declared.waiting.WaitingGates.{WaitingGates}
+use Rattle.gc_half.specs.declared.half_gate.AndGate.{AndGate}
+use Rattle.gc_half.specs.declared.garbling.RowPair.{RowPair}
+use Rattle.gc_half.specs.Hash.{hash}
+use Rattle.gc_half.specs.HalfGate.{and_zero}
+use Rattle.gc_half.specs.OneGate.{row_pair}
+
+abbrev pub list_of : {A : Type 0} → Option A → Option A → Option A → List A
+list_of None second third = []
+list_of (Some a) None third = a ∷ []
+list_of (Some a) (Some b) None = a ∷ b ∷ []
+list_of (Some a) (Some b) (Some c) = a ∷ b ∷ c ∷ []
+
+-- The gates that wait, in order: those in the places before an empty one.
+abbrev pub gates_in : {T : Type 0} → WaitingGates T → List (WaitingGate T)
+gates_in waiting = list_of waiting.first waiting.second waiting.third
+
+-- P holds of each wire that one of them sets.
+abbrev pub EachSets : {T : Type 0} → (ℕ → Type 0) → List (WaitingGate T) → Type 0
+EachSets P [] = Unit {0}
+EachSets P (waits ∷ others) = P waits.set × EachSets P others
+
+-- None of them sets this wire.
+abbrev pub NoneSets : {T : Type 0} → ℕ → List (WaitingGate T) → Type 0
+NoneSets wire = EachSets (λ set. wire ≢ set)
+
+-- The labels of the wires once the gates are made, where making one gives the wire that it sets this label.
+abbrev pub settled : {T : Type 0} → (T → ℕ) → List ℕ → List (WaitingGate T) → List ℕ
+settled label labels [] = labels
+settled label labels (waits ∷ others) =
+    settled label (slice_set labels waits.set (label waits.gate)) others
+
+-- The zero label of the wire that an AND gate sets, and its row pair.
+abbrev pub zero_label_of_gate : AndGate → ℕ
+zero_label_of_gate g = and_zero hash g.k g.offset g.a g.b
+
+abbrev pub row_pair_of_gate : AndGate → RowPair
+row_pair_of_gate g = row_pair hash g.offset g.k g.a g.b
+
+-- A circuit that is garbled gate after gate: the labels of its wires and the row pairs so far, as if no gate waited,
+-- and the gates that wait.
+pub record TableParts : Type 0 where
+  pub labels : List ℕ
+  pub rows : List RowPair
+  pub waiting : List (WaitingGate AndGate)
