@@ -122,7 +122,7 @@ parts_from h r d e = record {
   entries = pairs_from entry_of (entry_count (version_of h) (output_count h)) e;
 }
 
--- Bytes that are cut where their header tells, and are in order up to the end of the trailer, are a file.
+-- Bytes that are cut where their header says, and are in order up to the end of the trailer, are a file.
 module _ (h r d e t : List ℕ) (v : Version) (b : List ℕ) (cut : h ++ r ++ d ++ e ++ t ≡ b)
     (are_header : AreSmall h) (are_rows : AreSmall r)
     (are_decode : AreSmall d) (are_entries : AreSmall e) (in_order : IsInOrder v b) (whole : length h ≡ 48)
@@ -138,7 +138,7 @@ module _ (h r d e t : List ℕ) (v : Version) (b : List ℕ) (cut : h ++ r ++ d 
 
   header_ordered : IsHeaderInOrder (version_of h) h
   header_ordered =
-      let told = ordered.header in
+      let header_order = ordered.header in
       let long = length_is h r d e t whole in
       let start : take 8 (h ++ r ++ d ++ e ++ t) ≡ take 8 h =
       rw nested (take-append-le 8 h (r ++ (d ++ (e ++ t))) (omega arith)) in
@@ -148,9 +148,9 @@ module _ (h r d e t : List ℕ) (v : Version) (b : List ℕ) (cut : h ++ r ++ d 
       ∙ number_at-append 44 h (r ++ (d ++ (e ++ t))) (omega arith) in
       record {
         begun = begun (version_of h) h (omega arith) (sym start
-            ∙ begins (version_of h) (h ++ r ++ d ++ e ++ t) (omega arith) told.begun);
-        few_rows = λ reaches. rw rows at (told.few_rows (omega arith));
-        few_outputs = λ reaches. rw outputs at (told.few_outputs (omega arith));
+            ∙ begins (version_of h) (h ++ r ++ d ++ e ++ t) (omega arith) header_order.begun);
+        few_rows = λ reaches. rw rows at (header_order.few_rows (omega arith));
+        few_outputs = λ reaches. rw outputs at (header_order.few_outputs (omega arith));
       }
     where
       nested : h ++ r ++ d ++ e ++ t ≡ h ++ (r ++ (d ++ (e ++ t)))

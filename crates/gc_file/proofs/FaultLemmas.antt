@@ -7,7 +7,7 @@ use Rattle.gc_format.specs.GarbledFile.{magic}
 use Rattle.gc_read.specs.FileFault.{IsTrailerRight, trailer_end, LastingFault, bad_magic, too_many_rows, too_many_outputs, spare_bits, bad_trailer, trailing, IsInOrder, FirstFault, lasting, truncated}
 use Rattle.gc_read.proofs.PlaceLemmas.{begins, begun}
 
--- A magic tells its version.
+-- A magic gives its version.
 pub one_magic : (v w : Version) → magic v ≡ magic w → v ≡ w
 one_magic One One is = refl
 one_magic Two Two is = refl

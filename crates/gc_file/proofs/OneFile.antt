@@ -181,12 +181,12 @@ file_not_fault b p _ file (lasting e is) =
 file_not_fault b p _ file (truncated v in_order short) =
     let long : 48 ≤ length b = omega (arith, ap length file.spelled, file_whole b p file) in
     let P : List ℕ → Type 0 = λ l. take 8 l ≡ magic v in
-    let told : take 8 (garbled_file p) ≡ magic v =
+    let known : take 8 (garbled_file p) ≡ magic v =
     subst P file.spelled (begins v b (omega arith) in_order.header.begun) in
     let own : take 8 (garbled_file p) ≡ magic (version_of (header p)) =
     begins (version_of (header p)) (garbled_file p) (omega (arith, file_whole b p file))
     (file_in_order b p file).header.begun in
-    let same = one_version v (version_of (header p)) (garbled_file p) told own in
+    let same = one_version v (version_of (header p)) (garbled_file p) known own in
     let Q : List ℕ → Type 0 = λ l. length l < trailer_end v l in
     let R : Version → Type 0 = λ w. length (garbled_file p) < trailer_end w (garbled_file p) in
     let less = subst R same (subst Q file.spelled short) in

@@ -17,12 +17,15 @@ pub record GarbledFileLaw (bytes : List ℕ) : Type 0 where
   pub one_file : (p q : GarbledParts) → IsGarbledFile bytes p → IsGarbledFile bytes q → p ≡ q
   pub one_fault : (e f : FileFault) → FirstFault bytes e → FirstFault bytes f → e ≡ f
   -- A lasting fault is that of all longer bytes.
-  pub lasts : (e : FileFault) (more : List ℕ) → LastingFault bytes e → LastingFault (bytes ++ more) e
+  pub lasts : (e : FileFault) (more : List ℕ) → LastingFault bytes e
+      → LastingFault (bytes ++ more) e
 
 -- Bytes are one label file or have one first fault, and not both.
 pub record LabelFileLaw (bytes : List ℕ) : Type 0 where
-  pub either : ((p : LabelFileParts) × IsLabelFile bytes p) ⊎ ((e : FileFault) × FirstLabelFault bytes e)
-  pub not_both : (p : LabelFileParts) (e : FileFault) → IsLabelFile bytes p → FirstLabelFault bytes e → ⊥
+  pub either : ((p : LabelFileParts) × IsLabelFile bytes p)
+      ⊎ ((e : FileFault) × FirstLabelFault bytes e)
+  pub not_both : (p : LabelFileParts) (e : FileFault) → IsLabelFile bytes p
+      → FirstLabelFault bytes e → ⊥
   pub one_file : (p q : LabelFileParts) → IsLabelFile bytes p → IsLabelFile bytes q → p ≡ q
   pub one_fault : (e f : FileFault) → FirstLabelFault bytes e → FirstLabelFault bytes f → e ≡ f
   -- A fault other than Truncated is that of all longer bytes.

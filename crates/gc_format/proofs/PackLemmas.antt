@@ -9,9 +9,6 @@ use Rattle.std.proofs.lemmas.Nat.Bits.{bit_at_lowest, bit_at-suc, bit_at-zero, b
 use Rattle.gc_half.proofs.SetWires.{lt_or_le}
 use Rattle.gc_format.specs.DecodeBits.{bits_number, bytes_for, packed, bit_in, IsSpare}
 
-value : Bool → ℕ
-value bit = if bit then 1 else 0
-
 bits_number-lt : (bits : List Bool) → bits_number bits < 2 ^ length bits
 bits_number-lt [] = omega arith
 bits_number-lt (true ∷ bits) = let rest = bits_number-lt bits in rw (pow-suc 2 (length bits)) (omega arith)

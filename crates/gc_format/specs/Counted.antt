@@ -5,6 +5,6 @@ use Rattle.std.specs.Prelude.{◌≡◌, ℕ, ◌+◌, ◌-◌, ◌^◌, min, Re
 abbrev pub CountsFailure : {T E : Type 0} → Result T E → ℕ → ℕ → Type 0
 CountsFailure result old new = MatchResult result (λ _. new ≡ old) (λ _. new ≡ old + 1)
 
--- A number of bytes as it is told: it stops at the last number of 64 bits.
+-- A number of bytes as it is reported: it stops at the last number of 64 bits.
 abbrev pub counted : ℕ → ℕ
 counted n = min n (2 ^ 64 - 1)

@@ -8,14 +8,16 @@ abbrev pub bits_number : List Bool → ℕ
 bits_number [] = 0
 bits_number (bit ∷ bits) = (if bit then 1 else 0) + 2 * bits_number bits
 
--- How many bytes hold so many bits.
+-- The number of bytes that a given number of bits takes.
 abbrev pub bytes_for : ℕ → ℕ
 bytes_for bits = (bits + 7) / 8
 
 -- The bytes of these bits: bit i stands at place i mod 8, 0 the lowest, of byte i / 8. The places of the last byte that
 -- are left over are 0.
 unfoldable pub packed : List Bool → List ℕ
-packed bits = map (λ k. bits_number (take 8 (drop (8 * k) bits))) (range_with_len 0 (bytes_for (length bits)))
+packed bits =
+    map (λ k. bits_number (take 8 (drop (8 * k) bits)))
+    (range_with_len 0 (bytes_for (length bits)))
 
 -- Bit i of these bytes.
 abbrev pub bit_in : List ℕ → ℕ → Bool

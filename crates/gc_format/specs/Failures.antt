@@ -1,4 +1,4 @@
--- How many failures a history tells of.
+-- The number of failures in a history.
 use Rattle.std.specs.Prelude.{ℕ, ◌+◌}
 use Rattle.gc_format.specs.declared.failures.History.{History, Start, After'}
 

@@ -22,7 +22,7 @@ pub record GarbledParts : Type 0 where
   pub decode_bits : List Bool
   pub entries : List EntryPair
 
--- The first eight bytes tell the version.
+-- The first eight bytes give the version.
 abbrev pub magic : Version → List ℕ
 magic One = codes "HGARBLE1"
 magic Two = codes "HGARBLE2"
@@ -37,17 +37,20 @@ entry_bytes pair = bytes_of_label pair.entry_zero ++ bytes_of_label pair.entry_o
 
 -- The header: the version, the digest, and how many AND gates and output wires there are.
 abbrev pub header : GarbledParts → List ℕ
-header p = magic p.version ++ p.digest ++ number_bytes (length p.rows) ++ number_bytes (length p.decode_bits)
+header p =
+    magic p.version ++ p.digest
+    ++ number_bytes (length p.rows) ++ number_bytes (length p.decode_bits)
 
 -- The bytes before the trailer.
 abbrev pub body : GarbledParts → List ℕ
-body p = header p ++ flat_map row_bytes p.rows ++ packed p.decode_bits ++ flat_map entry_bytes p.entries
+body p =
+    header p ++ flat_map row_bytes p.rows ++ packed p.decode_bits ++ flat_map entry_bytes p.entries
 
 -- The garbled file. The trailer is the SHA-256 (FIPS 180-4) of the bytes before it.
 unfoldable pub garbled_file : GarbledParts → List ℕ
 garbled_file p = body p ++ sha256 (body p)
 
--- How many entry pairs there are for so many output wires.
+-- The number of entry pairs for a given number of output wires.
 abbrev pub entry_count : Version → ℕ → ℕ
 entry_count One outputs = 0
 entry_count Two outputs = outputs

@@ -7,7 +7,7 @@ pub record Held : Type 0 where
   pub limit : Option ℕ
   pub failures : ℕ
 
--- How many of so many bytes still fit under the limit, where so many are held.
+-- How many of `count` bytes still fit under the limit, where `held` bytes are held.
 abbrev pub fitting : Option ℕ → ℕ → ℕ → ℕ
 fitting (Some limit) held count = min count (limit - held)
 fitting None held count = count

@@ -8,12 +8,12 @@ pub record Left : Type 0 where
   pub limit : Option ℕ
   pub failures : ℕ
 
--- How many bytes it gives, where so many are left and there is room for so many.
+-- The number of bytes that it gives, for a given number of bytes left and a given room.
 abbrev pub given : Option ℕ → ℕ → ℕ → ℕ
 given (Some limit) left room = min (min left room) limit
 given None left room = min left room
 
--- The limit after so many bytes were given.
+-- The limit after n bytes were given.
 abbrev pub limit_after : Option ℕ → ℕ → Option ℕ
 limit_after (Some limit) n = Some (limit - n)
 limit_after None n = None

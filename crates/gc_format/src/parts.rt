@@ -26,8 +26,7 @@ impl Version {
     }
 }
 
-/// The entries of an output wire, by which its two labels are recognised: each is the hash of the one that has the
-/// colour told.
+/// The entries of an output wire, by which its two labels are recognised: each is the hash of the label of its colour.
 #[derive(Clone, Copy, PartialEq, Eq, Debug)]
 pub struct EntryPair {
     /// The entry of the label of colour 0.

@@ -1,6 +1,7 @@
 //! What takes the bytes of a file.
 
-ghost use Rattle.std.specs.Prelude.{◌≡◌, ◌<◌, ◌≤◌, ℕ, List, Option, length, IfOk, IsOk, OnErr, Some, None, []};
+ghost use Rattle.std.specs.Prelude.{◌≡◌, ◌≢◌, ◌<◌, ◌≤◌, ℕ, List, Option, length, IfOk, IfErr, IsOk, OnErr, Some, None, []};
+ghost use Rattle.std.specs.IoError.{error_kind};
 ghost use Rattle.std.specs.Io.KnownBytes.{WriteAppends};
 ghost use Rattle.gc_format.specs.Counted.{CountsFailure};
 ghost use Rattle.gc_format.specs.MemSink.{fitting};
@@ -24,8 +25,8 @@ pub trait Sink {
     // How often it has failed so far.
     ghost failures: { Self → ℕ };
 
-    /// Takes a beginning of the piece and tells its length, which is at least one byte where the piece has one.
-    /// Else it fails, and has taken none.
+    /// Takes a beginning of the piece and returns its length, which is at least one byte where the piece has one.
+    /// Otherwise it fails, and takes nothing.
     fn put(&mut self, piece: &[u8]) -> Result<usize, SinkFault>
         ensures bound { IfOk result (λ n. n ≤ length piece.now) }
         ensures some { 0 < length piece.now → IfOk result (λ n. 0 < n) }
@@ -77,7 +78,7 @@ impl<A: Allocator> MemSink<A> {
 }
 
 impl<A: Allocator> Sink for MemSink<A> {
-    ghost use Rattle.std.specs.Prelude.{◌≡◌, ◌<◌, ◌≤◌, length, IfOk, Some};
+    ghost use Rattle.std.specs.Prelude.{◌≡◌, ◌<◌, ◌≤◌, length, IfOk, IsOk, Some, []};
     ghost use Rattle.std.specs.Io.KnownBytes.{WriteAppends};
     ghost use Rattle.gc_format.specs.Counted.{CountsFailure};
     ghost use Rattle.gc_format.specs.MemSink.{fitting};
@@ -87,17 +88,22 @@ impl<A: Allocator> Sink for MemSink<A> {
     ghost failures = { λ s. s.failures };
 
     /// Takes as much of the piece as still fits under the limit. It fails where that is nothing of a piece with
-    /// bytes, or where memory for it is refused.
+    /// bytes, or where memory for it is refused; the limit and the bytes then stay as they are.
     fn put(&mut self, piece: &[u8]) -> Result<usize, SinkFault>
         ensures bound { IfOk result (λ n. n ≤ length piece.now) }
         ensures some { 0 < length piece.now → IfOk result (λ n. 0 < n) }
         ensures bytes { WriteAppends (Some self.old.bytes) (Some self.new.bytes) result piece.now }
         ensures counted { CountsFailure result self.old.failures self.new.failures }
-        ensures fitting { IfOk result (λ n. n ≡ fitting self.old.limit (length self.old.bytes) (length piece.now)) }
+        ensures fitting { IfOk result (λ n.
+            n ≡ fitting self.old.limit (length self.old.bytes) (length piece.now)) }
         ensures limit { self.new.limit ≡ self.old.limit }
+        ensures empty { piece.now ≡ [] → IsOk result }
     {
+        if piece.is_empty() {
+            return Ok(0);
+        }
         let n = fitting(self.limit, self.bytes.len(), piece.len());
-        if (n > 0 || piece.is_empty()) && self.bytes.extend_from_slice(&piece[..n]).is_ok() {
+        if n > 0 && self.bytes.extend_from_slice(&piece[..n]).is_ok() {
             return Ok(n);
         }
         self.failures.add_one();
@@ -105,7 +111,7 @@ impl<A: Allocator> Sink for MemSink<A> {
     }
 }
 
-/// How many of so many bytes still fit under the limit, where so many are held.
+/// How many of `count` bytes still fit under the limit, where `held` bytes are held.
 fn fitting(limit: Option<usize>, held: usize, count: usize) -> usize
     ensures value { result ≡ fitting limit held count }
     ensures bound { result ≤ count }
@@ -166,11 +172,13 @@ impl<W: Write> Sink for OutSink<W> {
     }
 }
 
-/// Writes a beginning of the piece, as [`write_once`] does, and tries again where it is interrupted.
+/// Writes a beginning of the piece, as [`write_once`] does, and tries again where it is interrupted. So no interruption
+/// is ever its answer.
 fn write_some<W: Write>(writer: &mut W, piece: &[u8]) -> io::Result<usize>
     ensures bound { IfOk result (λ n. n ≤ length piece.now) }
     ensures some { 0 < length piece.now → IfOk result (λ n. 0 < n) }
     ensures bytes { WriteAppends (W.contents writer.old) (W.contents writer.new) result piece.now }
+    ensures retried { IfErr result (λ e. error_kind e ≢ ErrorKind.Interrupted) }
 {
     for _ in 0..u64::MAX {
         match write_once(writer, piece) {
@@ -178,7 +186,7 @@ fn write_some<W: Write>(writer: &mut W, piece: &[u8]) -> io::Result<usize>
             outcome => return outcome,
         }
     }
-    Err(ErrorKind::Interrupted.into())
+    Err(ErrorKind::TimedOut.into())
 }
 
 /// Writes a beginning of the piece once: at least one byte where the piece has one, or nothing at a failure.

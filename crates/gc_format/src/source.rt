@@ -1,6 +1,7 @@
 //! What gives the bytes of a file.
 
-ghost use Rattle.std.specs.Prelude.{◌≡◌, ◌≤◌, ℕ, List, Option, IfSome};
+ghost use Rattle.std.specs.Prelude.{◌≡◌, ◌≢◌, ◌≤◌, ℕ, List, Option, IfSome, IfErr};
+ghost use Rattle.std.specs.IoError.{error_kind};
 ghost use Rattle.std.specs.Io.{ReadsAtMost};
 ghost use Rattle.std.specs.Io.KnownBytes.{ReadConsumes};
 ghost use Rattle.gc_format.specs.Counted.{CountsFailure};
@@ -24,8 +25,8 @@ pub trait Source {
     // How often it has failed so far.
     ghost failures: { Self → ℕ };
 
-    /// Puts a beginning of what is left into the room and tells its length, which is 0 only at the end or where there
-    /// is no room. Else it fails, and has given none.
+    /// Puts a beginning of what is left into the room and returns its length, which is 0 only at the end or where there
+    /// is no room. Otherwise it fails, and gives nothing.
     fn get(&mut self, room: &mut [u8]) -> Result<usize, SourceFault>
         ensures bound { ReadsAtMost result room.new }
         ensures bytes { ReadConsumes (left self.old) (left self.new) result room.new }
@@ -62,7 +63,7 @@ impl<'b> MemSource<'b> {
 }
 
 impl Source for MemSource<'_> {
-    ghost use Rattle.std.specs.Prelude.{◌≡◌, ◌↔◌, length, IfOk, IsErr, Some};
+    ghost use Rattle.std.specs.Prelude.{◌≡◌, ◌↔◌, length, IfOk, IsErr, MatchResult, Some};
     ghost use Rattle.std.specs.Io.{ReadsAtMost};
     ghost use Rattle.std.specs.Io.KnownBytes.{ReadConsumes};
     ghost use Rattle.gc_format.specs.Counted.{CountsFailure};
@@ -72,13 +73,17 @@ impl Source for MemSource<'_> {
 
     ghost failures = { λ s. s.failures };
 
-    /// Gives as much as there is room for and the limit allows. It fails exactly where the limit allows no more.
+    /// Gives as much as there is room for and the limit allows. It fails exactly where the limit allows no more, and
+    /// then keeps that limit, so that it fails from then on.
     fn get(&mut self, room: &mut [u8]) -> Result<usize, SourceFault>
         ensures bound { ReadsAtMost result room.new }
         ensures bytes { ReadConsumes (Some self.old.left) (Some self.new.left) result room.new }
         ensures counted { CountsFailure result self.old.failures self.new.failures }
-        ensures given { IfOk result (λ n. n ≡ given self.old.limit (length self.old.left) (length room.new)) }
-        ensures limit { IfOk result (λ n. self.new.limit ≡ limit_after self.old.limit n) }
+        ensures given { IfOk result (λ n.
+            n ≡ given self.old.limit (length self.old.left) (length room.new)) }
+        ensures limit { MatchResult result
+            (λ n. self.new.limit ≡ limit_after self.old.limit n)
+            (λ _. self.new.limit ≡ self.old.limit) }
         ensures fails { IsErr result ↔ (self.old.limit ≡ Some 0) }
     {
         if self.limit == Some(0) {
@@ -94,7 +99,7 @@ impl Source for MemSource<'_> {
     }
 }
 
-/// How many bytes are given under the limit, where so many are left and there is room for so many.
+/// How many bytes are given under the limit, where `left` bytes are left and there is room for `room`.
 fn given(limit: Option<usize>, left: usize, room: usize) -> usize
     ensures value { result ≡ given limit left room }
     ensures bound { (result ≤ left) × (result ≤ room) }
@@ -157,10 +162,11 @@ impl<R: Read> Source for InSource<R> {
     }
 }
 
-/// Reads once, and again where it is interrupted.
+/// Reads once, and again where it is interrupted. So no interruption is ever its answer.
 fn read_some<R: Read>(reader: &mut R, room: &mut [u8]) -> io::Result<usize>
     ensures bound { ReadsAtMost result room.new }
     ensures bytes { ReadConsumes (R.remaining reader.old) (R.remaining reader.new) result room.new }
+    ensures retried { IfErr result (λ e. error_kind e ≢ ErrorKind.Interrupted) }
 {
     for _ in 0..u64::MAX {
         match reader.read(room) {
@@ -168,5 +174,5 @@ fn read_some<R: Read>(reader: &mut R, room: &mut [u8]) -> io::Result<usize>
             outcome => return outcome,
         }
     }
-    Err(ErrorKind::Interrupted.into())
+    Err(ErrorKind::TimedOut.into())
 }

@@ -39,7 +39,7 @@ header_in_order v bytes short header = record {
   ends = λ whole. absurd (omega arith);
 }
 
--- What is told of bytes stays when more follow.
+-- What holds of bytes stays when more follow.
 module _ (bytes more : List ℕ) where
   magic-more : 8 ≤ length bytes → take 8 (bytes ++ more) ≡ take 8 bytes
   magic-more long = take-append-le 8 bytes more long

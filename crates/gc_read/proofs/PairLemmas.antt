@@ -6,7 +6,7 @@ use Rattle.std.proofs.lemmas.List.{append-nil, take-append-drop, take-take, drop
 use Rattle.std.proofs.lemmas.Grind.{flat_map-append}
 use Rattle.gc_read.proofs.PieceLemmas.{empty_list}
 
--- The bytes of items, so many each.
+-- The bytes of items, the same number for each.
 pub length-items : {P : Type 0} (size : ℕ) (bytes_of : P → List ℕ) → ((p : P) → length (bytes_of p) ≡ size)
     → (items : List P)
     → length (flat_map bytes_of items) ≡ size * length items

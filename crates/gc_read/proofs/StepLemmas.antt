@@ -14,7 +14,7 @@ use Rattle.gc_read.specs.Body.{version_of, row_size, decode_size, entry_size, Is
 use Rattle.gc_read.proofs.PieceLemmas.{empty_list, by_zero, IsCut, filled_more, left_over, whole_more}
 use Rattle.gc_read.proofs.PlaceLemmas.{begins, spare_fault, bad_trailer_fault, more_fault}
 
--- The eighth byte of a magic tells its version.
+-- The eighth byte of a magic gives its version.
 pub version_of-begun : (v : Version) (bytes : List ℕ) → take 8 bytes ≡ magic v → version_of bytes ≡ v
 unfolding version_of
 version_of-begun One bytes is = rw (← get_or-take 8 bytes 7 0 (omega arith), is) refl

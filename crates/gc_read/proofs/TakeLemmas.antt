@@ -1,20 +1,17 @@
 -- A garbled file that is taken from a source.
-use Rattle.std.proofs.Common.{◌≡◌, ℕ, ◌+◌, ◌*◌, ◌≤◌, inl, inr, List, [], ◌++◌, length, Option, Some, None, Result, Ok, Err, refl, sym, ap, subst, ◌∙◌, append_assoc, length-append, arith}
+use Rattle.std.proofs.Common.{◌≡◌, ℕ, ◌+◌, ◌*◌, inl, inr, List, ◌++◌, length, Option, Some, None, Result, Ok, Err, refl, sym, ap, subst, ◌∙◌, append_assoc, length-append, arith}
 use Rattle.std.proofs.lemmas.List.{append-nil}
-use Rattle.std.specs.Io.KnownBytes.{Keeps, Consumes, IsAtEnd}
+use Rattle.std.specs.Io.KnownBytes.{Consumes}
 use Rattle.gc_netlist.specs.declared.limits.TheConstants.{MAX_GATES, MAX_WIRES}
-use Rattle.gc_half.proofs.SetWires.{lt_or_le}
 use Rattle.gc_read.specs.declared.fault.FileFault.{FileFault}
-use Rattle.gc_format.specs.declared.parts.Version.{Version}
-use Rattle.gc_format.specs.declared.parts.Version.TheVariants.{One, Two}
 use Rattle.gc_read.specs.declared.take.TakeFault.{TakeFault}
 use Rattle.gc_read.specs.declared.take.TakeFault.TheVariants.{File, ReadFault}
-use Rattle.gc_format.specs.GarbledFile.{GarbledParts, entry_count, IsGarbledFile}
-use Rattle.gc_read.specs.FileFault.{IsSound, output_count, FirstFault, lasting}
-use Rattle.gc_read.specs.Reading.{Fed, IsFed, IsEnded}
+use Rattle.gc_format.specs.GarbledFile.{GarbledParts, IsGarbledFile}
+use Rattle.gc_read.specs.FileFault.{FirstFault, lasting}
+use Rattle.gc_read.specs.Reading.{Fed, IsFed}
 use Rattle.gc_format.specs.Counted.{counted}
 use Rattle.gc_read.specs.Taking.{IsAnswer, IsTaken, IsAnswerOfAll, IsTaking}
-use Rattle.gc_read.proofs.HeaderLemmas.{header_in_order, lasts}
+use Rattle.gc_read.proofs.HeaderLemmas.{lasts}
 
 -- More bytes than any file has.
 abbrev pub most_bytes : ℕ
@@ -24,36 +21,6 @@ most_bytes = 128 + 32 * MAX_GATES + 33 * MAX_WIRES
 abbrev pub fed_length : Fed → ℕ
 fed_length (Ok bytes) = length bytes
 fed_length (Err e) = 0
-
-few_entries : (v : Version) (outputs : ℕ) → entry_count v outputs ≤ outputs
-few_entries One outputs = omega arith
-few_entries Two outputs = omega arith
-
--- Bytes that are in order are not too many.
-pub few_bytes : (bytes : List ℕ) → IsSound bytes → length bytes ≤ most_bytes
-few_bytes bytes (v, in_order) = elim (lt_or_le (length bytes) 48) [
-  | inl short ↦ omega arith
-  | inr whole ↦ (
-      let ends = in_order.ends whole in
-      let rows = in_order.header.few_rows (omega arith) in
-      let outputs = in_order.header.few_outputs whole in
-      omega (arith, few_entries v (output_count bytes)))
-]
-
--- No bytes at all are in order.
-pub none_sound : IsSound []
-none_sound = (
-  One,
-  header_in_order One [] (omega arith) (record {
-    begun = refl;
-    few_rows = λ long. absurd (omega arith);
-    few_outputs = λ long. absurd (omega arith);
-  }),
-)
-
-pub Consumes-none : (a : Option (List ℕ)) → Consumes a a []
-Consumes-none None = tt
-Consumes-none (Some xs) = refl
 
 pub Consumes-more : (a b c : Option (List ℕ)) (xs ys : List ℕ) → Consumes a b xs → Consumes b c ys
     → Consumes a c (xs ++ ys)
@@ -120,50 +87,3 @@ taken_fault (Ok bytes) after piece e a b d got taking fed consumed =
       consumed = Consumes-more a b d bytes piece (subst P (sym is) taking.consumed) consumed;
       answer = λ other. inl (fed.1 other);
     }
-
--- The end of what there was: the file that it is,
-pub taken_file : (reader : Fed) (parts : GarbledParts) (a b d : Option (List ℕ)) (none : List ℕ) (got : ℕ)
-    → IsTaking reader a b got → IsEnded reader (Ok parts) → Consumes b d none → none ≡ [] → IsAtEnd d
-    → IsTaken a d (Ok parts)
-taken_file (Err f) parts a b d none got taking ended consumed empty at_end = let is = taking.fed in cc
-taken_file (Ok bytes) parts a b d none got taking ended consumed empty at_end =
-    let is : bytes ≡ taking.given = let h = taking.fed in cc in
-    let P : List ℕ → Type 0 = λ l. Consumes a b l in
-    let Q : List ℕ → Type 0 = λ l. Consumes a d l in
-    record {
-      given = bytes;
-      consumed = subst Q (ap (λ l. bytes ++ l) empty ∙ append-nil bytes)
-          (Consumes-more a b d bytes none (subst P (sym is) taking.consumed) consumed);
-      answer = (ended, at_end);
-    }
-
--- or its first fault.
-pub taken_short : (reader : Fed) (e : FileFault) (a b d : Option (List ℕ)) (none : List ℕ) (got : ℕ)
-    → IsTaking reader a b got → IsEnded reader (Err e) → Consumes b d none → none ≡ [] → IsAtEnd d
-    → IsTaken a d (Err (File e))
-taken_short (Err f) e a b d none got taking ended consumed empty at_end = let is = taking.fed in cc
-taken_short (Ok bytes) e a b d none got taking ended consumed empty at_end =
-    let is : bytes ≡ taking.given = let h = taking.fed in cc in
-    let P : List ℕ → Type 0 = λ l. Consumes a b l in
-    let Q : List ℕ → Type 0 = λ l. Consumes a d l in
-    record {
-      given = bytes;
-      consumed = subst Q (ap (λ l. bytes ++ l) empty ∙ append-nil bytes)
-          (Consumes-more a b d bytes none (subst P (sym is) taking.consumed) consumed);
-      answer = λ other. inr (ended other, at_end);
-    }
-
--- The source failed.
-pub taken_failed : (reader : Fed) (a b d : Option (List ℕ)) (got : ℕ) → IsTaking reader a b got → Keeps b d
-    → IsTaken a d (Err (ReadFault got))
-taken_failed reader a b d got taking kept = record {
-  given = taking.given;
-  consumed = keeps a b d taking.given taking.consumed kept;
-  answer = (taking.sound, taking.count);
-}
-  where
-    keeps : (a b d : Option (List ℕ)) (xs : List ℕ) → Consumes a b xs → Keeps b d → Consumes a d xs
-    keeps None b d xs first second = tt
-    keeps (Some us) None d xs first second = absurd first
-    keeps (Some us) (Some vs) None xs first second = absurd second
-    keeps (Some us) (Some vs) (Some ws) xs first second = first ∙ ap (λ l. xs ++ l) (sym second)

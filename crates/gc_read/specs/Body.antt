@@ -9,11 +9,11 @@ use Rattle.gc_format.specs.DecodeBits.{bytes_for, IsSpare}
 use Rattle.gc_format.specs.GarbledFile.{entry_count}
 use Rattle.gc_read.specs.FileFault.{row_count, output_count, IsHeaderInOrder}
 
--- The version that the eighth byte tells; 50 is the digit 2.
+-- The version that the eighth byte gives; 50 is the digit 2.
 unfoldable pub version_of : List ℕ → Version
 version_of bytes = if slice_index bytes 7 == 50 then Two else One
 
--- How many bytes of rows, of decode bits and of entries follow after a header.
+-- The numbers of bytes of rows, of decode bits and of entries that follow a header.
 abbrev pub row_size : List ℕ → ℕ
 row_size header = 32 * row_count header
 
@@ -23,16 +23,17 @@ decode_size header = bytes_for (output_count header)
 abbrev pub entry_size : List ℕ → ℕ
 entry_size header = 32 * entry_count (version_of header) (output_count header)
 
--- The four parts after a header have no more bytes than these, and none before the parts that stand before it are whole.
-pub record IsFilled (row_size decode_size entry_size : ℕ) (rows decode entries trailer : List ℕ) : Type 0
-  where
-    pub rows_fit : length rows ≤ row_size
-    pub decode_fits : length decode ≤ decode_size
-    pub entries_fit : length entries ≤ entry_size
-    pub trailer_fits : length trailer ≤ 32
-    pub rows_first : 0 < length decode + length entries + length trailer → length rows ≡ row_size
-    pub decode_first : 0 < length entries + length trailer → length decode ≡ decode_size
-    pub entries_first : 0 < length trailer → length entries ≡ entry_size
+-- The four parts after a header have no more bytes than these, and none before the parts that stand before it are
+-- whole.
+pub record IsFilled (row_size decode_size entry_size : ℕ)
+    (rows decode entries trailer : List ℕ) : Type 0 where
+  pub rows_fit : length rows ≤ row_size
+  pub decode_fits : length decode ≤ decode_size
+  pub entries_fit : length entries ≤ entry_size
+  pub trailer_fits : length trailer ≤ 32
+  pub rows_first : 0 < length decode + length entries + length trailer → length rows ≡ row_size
+  pub decode_first : 0 < length entries + length trailer → length decode ≡ decode_size
+  pub entries_first : 0 < length trailer → length entries ≡ entry_size
 
 -- Until the trailer is whole the hasher holds the message before it; then the trailer is the message's digest.
 pub record IsHashed (message trailer : List ℕ) (hasher : Sha256) : Type 0 where
@@ -43,7 +44,8 @@ pub record IsHashed (message trailer : List ℕ) (hasher : Sha256) : Type 0 wher
 pub record IsBody (header rows decode entries trailer : List ℕ) (hasher : Sha256) : Type 0 where
   pub whole : length header ≡ 48
   pub in_order : IsHeaderInOrder (version_of header) header
-  pub filled : IsFilled (row_size header) (decode_size header) (entry_size header) rows decode entries trailer
+  pub filled : IsFilled (row_size header) (decode_size header) (entry_size header)
+      rows decode entries trailer
   pub no_spare_bit : length decode ≡ decode_size header → IsSpare (output_count header) decode → ⊥
   pub hashed : IsHashed (header ++ rows ++ decode ++ entries) trailer hasher
 

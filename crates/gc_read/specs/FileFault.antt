@@ -56,12 +56,14 @@ trailer version bytes = take 32 (drop (entries_end version bytes) bytes)
 
 -- The trailer is the digest of the bytes before it.
 abbrev pub IsTrailerRight : Version → List ℕ → Type 0
-IsTrailerRight version bytes = trailer version bytes ≡ sha256 (take (entries_end version bytes) bytes)
+IsTrailerRight version bytes =
+    trailer version bytes ≡ sha256 (take (entries_end version bytes) bytes)
 
 -- The bytes are in order up to some place, and this is the fault there. It stays, whatever bytes follow.
 pub data LastingFault (bytes : List ℕ) : FileFault → Type 0 where
   -- The first bytes are those of no magic.
-  bad_magic : ((version : Version) → IsBegun (magic version) bytes → ⊥) → LastingFault bytes BadMagic
+  bad_magic : ((version : Version) → IsBegun (magic version) bytes → ⊥)
+      → LastingFault bytes BadMagic
   -- A count is above its limit.
   too_many_rows : (version : Version) → take 8 bytes ≡ magic version → 44 ≤ length bytes
       → MAX_GATES < row_count bytes
@@ -69,15 +71,17 @@ pub data LastingFault (bytes : List ℕ) : FileFault → Type 0 where
   too_many_outputs : (version : Version) → take 8 bytes ≡ magic version → 48 ≤ length bytes
       → MAX_WIRES < output_count bytes
       → LastingFault bytes CountTooLarge
-  -- The last decode byte is there, and has a bit too many.
+  -- The last decode byte is there, and has a spare bit set.
   spare_bits : (version : Version) → HasHeader version bytes → decode_end bytes ≤ length bytes
       → HasSpareBit bytes
       → LastingFault bytes SpareBits
-  -- The trailer is there, and is another.
-  bad_trailer : (version : Version) → HasDecodeBits version bytes → trailer_end version bytes ≤ length bytes
+  -- The trailer is there, and is wrong.
+  bad_trailer : (version : Version) → HasDecodeBits version bytes
+      → trailer_end version bytes ≤ length bytes
       → (IsTrailerRight version bytes → ⊥) → LastingFault bytes BadTrailer
   -- The file is whole, and more bytes follow.
-  trailing : (version : Version) → HasDecodeBits version bytes → trailer_end version bytes < length bytes
+  trailing : (version : Version) → HasDecodeBits version bytes
+      → trailer_end version bytes < length bytes
       → IsTrailerRight version bytes → LastingFault bytes Trailing
 
 -- A beginning of a header is in order as far as it goes.
@@ -100,7 +104,8 @@ IsSound bytes = (version : Version) × IsInOrder version bytes
 -- go, that they end before the trailer does.
 pub data FirstFault (bytes : List ℕ) : FileFault → Type 0 where
   lasting : (e : FileFault) → LastingFault bytes e → FirstFault bytes e
-  truncated : (version : Version) → IsInOrder version bytes → length bytes < trailer_end version bytes
+  truncated : (version : Version) → IsInOrder version bytes
+      → length bytes < trailer_end version bytes
       → FirstFault bytes Truncated
 
 -- The number of labels of a label file, and the place where it ends.

@@ -28,7 +28,8 @@ abbrev pub IsLabelsChecked : List ℕ → Result (Unit {0}) FileFault → Type 0
 IsLabelsChecked bytes (Ok done) = IsLabelForm bytes
 IsLabelsChecked bytes (Err e) = FirstLabelFault bytes e
 
--- A reader of pieces is seen as the bytes that it was fed, which are sound, or as the fault that it answers from then on.
+-- A reader of pieces is seen as the bytes that it was fed, which are sound, or as the fault that it answers from then
+-- on.
 abbrev pub Fed : Type 0
 Fed = Result (List ℕ) FileFault
 
@@ -36,7 +37,8 @@ Fed = Result (List ℕ) FileFault
 abbrev pub IsFed : Fed → List ℕ → Result (Unit {0}) FileFault → Fed → Type 0
 IsFed (Err fault) piece answer after = (answer ≡ Err fault) × (after ≡ Err fault)
 IsFed (Ok bytes) piece (Ok done) after = (after ≡ Ok (bytes ++ piece)) × IsSound (bytes ++ piece)
-IsFed (Ok bytes) piece (Err e) after = (after ≡ Err e) × (e ≢ Memory → LastingFault (bytes ++ piece) e)
+IsFed (Ok bytes) piece (Err e) after =
+    (after ≡ Err e) × (e ≢ Memory → LastingFault (bytes ++ piece) e)
 
 -- A reader is asked for the file.
 abbrev pub IsEnded : Fed → Result GarbledParts FileFault → Type 0

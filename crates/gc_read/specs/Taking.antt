@@ -18,8 +18,9 @@ abbrev pub name_of : TakeFault → List ℕ
 name_of (File fault) = faults.name_of fault
 name_of (ReadFault got) = codes "ReadFault"
 
--- What is answered of the bytes that a source gave, of which so many are left. A fault of the file is one that no bytes
--- after them can mend, or there are none; a source that failed gave so many bytes, which are in order as far as they go.
+-- What is answered of the bytes that a source gave, with the bytes that it has left. A fault of the file is one that no
+-- further bytes can mend, or none are left; a source that failed gave `got` bytes, which are in order as far as they
+-- go.
 abbrev pub IsAnswer : List ℕ → Option (List ℕ) → Result GarbledParts TakeFault → Type 0
 IsAnswer given left (Ok parts) = IsGarbledFile given parts × IsAtEnd left
 IsAnswer given left (Err (File fault)) = fault ≢ Memory
@@ -27,19 +28,20 @@ IsAnswer given left (Err (File fault)) = fault ≢ Memory
 IsAnswer given left (Err (ReadFault got)) = IsSound given × (got ≡ counted (length given))
 
 -- A garbled file is taken from a source: which bytes the source gave, and what is answered of them.
-pub record IsTaken (old new : Option (List ℕ)) (result : Result GarbledParts TakeFault) : Type 0 where
+pub record IsTaken (old new : Option (List ℕ))
+    (result : Result GarbledParts TakeFault) : Type 0 where
   pub given : List ℕ
   pub consumed : Consumes old new given
   pub answer : IsAnswer given new result
 
--- What is answered of all the bytes that a source had, where it tells them: what is answered where they are read, unless the
--- source failed.
+-- What is answered of all the bytes that a source had, where they are known: what is answered where they are read,
+-- unless the source failed.
 abbrev pub IsAnswerOfAll : List ℕ → Result GarbledParts TakeFault → Type 0
 IsAnswerOfAll bytes (Ok parts) = IsGarbledFile bytes parts
 IsAnswerOfAll bytes (Err (File fault)) = fault ≢ Memory → FirstFault bytes fault
 IsAnswerOfAll bytes (Err (ReadFault got)) = Unit {0}
 
--- The source failed once more where that is answered, and else not.
+-- The source failed once more where that is answered, and otherwise not.
 abbrev pub CountsReadFault : {T : Type 0} → Result T TakeFault → ℕ → ℕ → Type 0
 CountsReadFault (Ok parts) old new = new ≡ old
 CountsReadFault (Err (File fault)) old new = new ≡ old

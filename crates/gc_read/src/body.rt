@@ -42,7 +42,8 @@ impl<A: Allocator> Model for Body<A> {
 
     ghost Value = { List ℕ };
 
-    ghost view = { λ b. b.header.items ++ b.rows ++ b.decode_bytes.items ++ b.entries ++ b.trailer.items };
+    ghost view = { λ b.
+        b.header.items ++ b.rows ++ b.decode_bytes.items ++ b.entries ++ b.trailer.items };
 
     ghost invariant = { λ b.
         IsBody b.header.items b.rows b.decode_bytes.items b.entries b.trailer.items b.hasher };
@@ -67,7 +68,7 @@ fn digest_in(header: &[u8]) -> [u8; 32]
     digest
 }
 
-/// The first bits of these bytes, as many as told.
+/// The first `count` bits of these bytes.
 fn unpacked<A: Allocator>(alloc: A, bytes: &[u8], count: usize) -> Result<Vec<bool, A>, FileFault>
     requires { bytes_for count ≤ length bytes.now }
     ensures bits { IfOk result (λ v. v.items ≡ map (bit_in bytes.now) (range_with_len 0 count)) }
@@ -99,8 +100,8 @@ fn cut_up(
     entries: usize,
     trailer: usize,
 ) -> Cuts<'_>
-    ensures { IsCutUp rows decode_bytes entries trailer piece.now
-        result.rows.now result.decode_bytes.now result.entries.now result.trailer.now result.rest.now }
+    ensures { IsCutUp rows decode_bytes entries trailer piece.now result.rows.now
+        result.decode_bytes.now result.entries.now result.trailer.now result.rest.now }
 {
     let (rows, rest) = cut(piece, rows);
     let (decode_bytes, rest) = cut(rest, decode_bytes);
@@ -123,7 +124,8 @@ fn add_decode_bytes<A: Allocator>(
 ) -> Result<(), FileFault>
     requires { counts.decode_bytes ≡ bytes_for counts.outputs }
     ensures ok { OnOk result (decode_bytes.new.items ≡ decode_bytes.old.items ++ bytes.now) }
-    ensures checked { OnOk result (length (decode_bytes.old.items ++ bytes.now) ≡ counts.decode_bytes
+    ensures checked { OnOk result
+        (length (decode_bytes.old.items ++ bytes.now) ≡ counts.decode_bytes
         → IsSpare counts.outputs (decode_bytes.old.items ++ bytes.now) → ⊥) }
     ensures err { IfErr result (λ e. e ≢ FileFault.Memory → (e ≡ FileFault.SpareBits)
         × (length (decode_bytes.old.items ++ bytes.now) ≡ counts.decode_bytes)
@@ -193,7 +195,8 @@ impl<A: Allocator + Copy> Body<A> {
     pub(crate) fn with(self, piece: &[u8]) -> Result<Body<A>, FileFault>
         ensures ok { IfOk result (λ b. b ≡ self ++ piece.now) }
         ensures sound { IfOk result IsSound }
-        ensures err { IfErr result (λ e. e ≢ FileFault.Memory → LastingFault (self ++ piece.now) e) }
+        ensures err { IfErr result (λ e.
+            e ≢ FileFault.Memory → LastingFault (self ++ piece.now) e) }
     {
         let Body {
             header,

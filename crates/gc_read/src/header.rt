@@ -17,16 +17,16 @@ use gc_format::{Version, number_at};
 /// The bytes of a header: magic, digest and two counts.
 pub(crate) const HEADER: usize = 48;
 
-/// Where the digest stands in the header.
+/// The place of the digest in the header.
 pub(crate) const DIGEST: usize = 8;
 
-/// Where the number of row pairs stands in the header.
+/// The place of the number of row pairs in the header.
 const ROWS: usize = 40;
 
-/// Where the number of output wires stands in the header.
+/// The place of the number of output wires in the header.
 const OUTPUTS: usize = 44;
 
-/// The place in the magic that tells the version.
+/// The place of the version's digit in the magic.
 const VERSION: usize = 7;
 
 /// Whether the bytes begin with the magic, or are a beginning of it.
@@ -40,13 +40,14 @@ pub(crate) fn is_begun(bytes: &[u8], magic: [u8; 8]) -> bool
 /// Whether the count at this place, where its four bytes are there, is within the limit.
 pub(crate) fn count_fits(bytes: &[u8], place: usize, limit: u32) -> bool
     requires { place < 64 }
-    ensures { MatchBool result (place + 4 ≤ length bytes.now → numbers.number_at place bytes.now ≤ limit)
+    ensures { MatchBool result
+        (place + 4 ≤ length bytes.now → numbers.number_at place bytes.now ≤ limit)
         ((place + 4 ≤ length bytes.now) × (limit < numbers.number_at place bytes.now)) }
 {
     bytes.len() < place + 4 || number_at(place, bytes) <= limit
 }
 
-/// The version whose magic begins so.
+/// The version whose magic the bytes begin with, or are a beginning of.
 fn begun_version(header: &[u8]) -> Option<Version>
     ensures { MatchOption result ((v : Version) → IsBegun (files.magic v) header.now → ⊥)
         (λ v. IsBegun (files.magic v) header.now) }
@@ -63,7 +64,8 @@ fn begun_version(header: &[u8]) -> Option<Version>
 /// Checks a beginning of a header as far as it goes.
 pub(crate) fn check_header(header: &[u8]) -> Result<(), FileFault>
     requires { length header.now ≤ HEADER }
-    ensures { MatchResult result (λ _. (v : Version) × IsHeaderInOrder v header.now) (LastingFault header.now) }
+    ensures { MatchResult result (λ _. (v : Version) × IsHeaderInOrder v header.now)
+        (LastingFault header.now) }
 {
     let Some(_) = begun_version(header) else {
         return Err(FileFault::BadMagic);
@@ -77,7 +79,7 @@ pub(crate) fn check_header(header: &[u8]) -> Result<(), FileFault>
     Ok(())
 }
 
-/// What a whole header tells of the bytes that follow.
+/// What a whole header says of the bytes that follow.
 #[derive(Clone, Copy)]
 pub(crate) struct Counts {
     /// The version of the file.
@@ -93,7 +95,7 @@ pub(crate) struct Counts {
 }
 
 impl Counts {
-    /// The counts that a header tells.
+    /// The counts of a header.
     #[tactic(auto, unfolding(crate::specs::Body::version_of))]
     pub(crate) fn of(header: &[u8]) -> Counts
         requires { length header.now ≡ HEADER }
@@ -101,7 +103,8 @@ impl Counts {
         ensures rows { result.rows ≡ row_count header.now }
         ensures outputs { result.outputs ≡ output_count header.now }
         ensures decode_bytes { result.decode_bytes ≡ bytes_for (output_count header.now) }
-        ensures entries { result.entries ≡ entry_count (version_of header.now) (output_count header.now) }
+        ensures entries { result.entries
+            ≡ entry_count (version_of header.now) (output_count header.now) }
     {
         let version = if header[VERSION] == b'2' {
             Version::Two

@@ -17,10 +17,10 @@ use std::marker::Model;
 /// The bytes of a header: magic, index and count.
 const HEADER: usize = 16;
 
-/// Where the index stands in the header.
+/// The place of the index in the header.
 const INDEX: usize = 8;
 
-/// Where the number of labels stands in the header.
+/// The place of the number of labels in the header.
 const COUNT: usize = 12;
 
 /// The bytes of a label.
@@ -95,9 +95,9 @@ fn check_labels(bytes: &[u8]) -> Result<(), FileFault>
     }
 }
 
-/// Reads a label file. The answer is the file exactly where the bytes are one, and otherwise their first fault; `Memory`
-/// stands in place of the file only where a growth was refused. Whether there is an input value of this index, with as
-/// many wires, is not looked at.
+/// Reads a label file. The answer is the file exactly where the bytes are one, and otherwise their first fault;
+/// `Memory` stands in place of the file only where a growth was refused. Whether there is an input value of this index,
+/// with as many wires, is not checked.
 pub fn read_labels<A: Allocator>(alloc: A, bytes: &[u8]) -> Result<LabelFile<A>, FileFault>
     ensures { IsLabelsRead bytes.now result }
 {

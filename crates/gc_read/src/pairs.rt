@@ -96,7 +96,8 @@ fn push_pairs<P: LabelPair, A: Allocator>(
 ) -> Result<(), FileFault>
     requires whole { length bytes.now % 32 ≡ 0 }
     requires labels { All P.are_labels pairs.old.items }
-    ensures bytes { OnOk result (flat_map P.bytes_of pairs.new.items ≡ flat_map P.bytes_of pairs.old.items ++ bytes.now) }
+    ensures bytes { OnOk result (flat_map P.bytes_of pairs.new.items
+        ≡ flat_map P.bytes_of pairs.old.items ++ bytes.now) }
     ensures labels { All P.are_labels pairs.new.items }
     ensures memory { IfErr result (λ e. e ≡ FileFault.Memory) }
 {

@@ -6,7 +6,7 @@ ghost use Rattle.arrayvec.specs.ArrayVec.{array_vec_len};
 use arrayvec::ArrayVec;
 use std::alloc::{AllocError, Allocator};
 
-/// The first bytes, this many or all, and the others.
+/// The first `at` bytes, or all where there are fewer, and the others.
 #[inline]
 pub(crate) fn cut(bytes: &[u8], at: usize) -> (&[u8], &[u8])
     ensures front { result.0.now ≡ take at bytes.now }
@@ -25,8 +25,8 @@ pub(crate) fn append<const N: usize>(room: &mut ArrayVec<u8, N>, bytes: &[u8])
     let _ = room.try_extend_from_slice(bytes);
 }
 
-/// Makes room for more items, where there is none: at least as much again as there was, and for no more than `most` items
-/// in all where these are enough. So a growth never needs more room than twice what `most` items take.
+/// Makes room for more items, where there is none: at least as much again as there was, and for no more than `most`
+/// items in all where these are enough. So a growth never needs more room than twice what `most` items take.
 pub(crate) fn make_room<T, A: Allocator>(
     items: &mut Vec<T, A>,
     more: usize,

@@ -52,8 +52,10 @@ fn advance_header<A: Allocator + Copy>(
     piece: &[u8],
 ) -> Result<State<A>, FileFault>
     requires { length header.items < 48 }
-    ensures ok { IfOk result (λ state. (fed_of state ≡ Ok (header.items ++ piece.now)) × IsState state) }
-    ensures err { IfErr result (λ e. e ≢ FileFault.Memory → LastingFault (header.items ++ piece.now) e) }
+    ensures ok { IfOk result (λ state.
+        (fed_of state ≡ Ok (header.items ++ piece.now)) × IsState state) }
+    ensures err { IfErr result (λ e.
+        e ≢ FileFault.Memory → LastingFault (header.items ++ piece.now) e) }
 {
     let (front, rest) = cut(piece, HEADER - header.len());
     append(&mut header, front);
@@ -92,9 +94,9 @@ impl<A: Allocator + Copy> GarbledReader<A> {
         }
     }
 
-    /// Takes the next bytes of the file. The answer is Ok exactly where all bytes so far are in order as far as they go,
-    /// and else their first fault, however they were cut into pieces; `Memory` stands in place of either only where a
-    /// growth was refused. A fault is answered again from then on.
+    /// Takes the next bytes of the file. The answer is Ok exactly where all bytes so far are in order as far as they
+    /// go, and otherwise their first fault, however they were cut into pieces; `Memory` stands in place of either only
+    /// where a growth was refused. A fault is answered again from then on.
     pub fn feed(&mut self, piece: &[u8]) -> Result<(), FileFault>
         ensures { IsFed self.old piece.now result self.new }
     {

@@ -19,7 +19,7 @@ pub enum TakeFault {
     /// The bytes that it gave have this fault.
     #[error("{0}")]
     File(FileFault),
-    /// It failed, after it had given so many bytes.
+    /// It failed, after it had given `got` bytes.
     #[error("ReadFault after {got} bytes")]
     ReadFault { got: u64 },
 }
@@ -59,6 +59,7 @@ pub fn read_garbled_from<A: Allocator + Copy, S: Source>(
 {
     let mut reader = GarbledReader::new(alloc);
     let mut room = [0; PIECE];
+    prove!(room.len() <= 4_096);
     let mut got = 0;
     loop {
         match source.get(&mut room) {

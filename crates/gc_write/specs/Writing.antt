@@ -5,8 +5,8 @@ use Rattle.gc_format.specs.Counted.{counted}
 use Rattle.gc_write.specs.declared.writer.FileWriter.{FileWriter}
 use Rattle.gc_write.specs.declared.writer.WriteFault.{WriteFault}
 
--- The file was written so far: the sink took a beginning of it, which the observer has seen, and the rest is held. The sink
--- had taken `before` ahead of the file, and has taken `now`.
+-- The file was written so far: the sink took a beginning of it, which the observer has seen, and the rest is held. The
+-- sink had taken `before` ahead of the file, and has taken `now`.
 pub record IsUnderWay {O : Type 0} (Saw : O → List ℕ → Type 0) (writer : FileWriter O)
     (now before : Option (List ℕ))
     (file : List ℕ) : Type 0 where
@@ -34,13 +34,14 @@ pub record Proceeds {O : Type 0} (Saw : O → List ℕ → Type 0) (old new : Fi
       (λ fault. IsStopped before now (file ++ bytes) fault.sent)
 
 -- These last bytes were written after whatever file was under way, and the sink took all of it; or it stopped before.
-pub record Ends {O : Type 0} (Saw : O → List ℕ → Type 0) (writer : FileWriter O) (taken now : Option (List ℕ))
+pub record Ends {O : Type 0} (Saw : O → List ℕ → Type 0) (writer : FileWriter O)
+    (taken now : Option (List ℕ))
     (result : Result ℕ WriteFault) (last : List ℕ → List ℕ) : Type 0 where
   pub goes : (before : Option (List ℕ)) (file : List ℕ) → IsUnderWay Saw writer taken before file →
       let whole = file ++ last file in
       MatchResult result (λ n. Appends before now whole × (n ≡ counted (length whole)))
       (λ fault. IsStopped before now whole fault.sent)
 
--- An observer that looks away may have seen any bytes.
+-- An observer that ignores the bytes may have seen any.
 abbrev pub Unseen : {O : Type 0} → O → List ℕ → Type 0
 Unseen observer bytes = ⊤

@@ -12,11 +12,12 @@ use Rattle.gc_write.specs.declared.writer.WriteFault.{WriteFault}
 use Rattle.gc_format.specs.DecodeBits.{packed}
 use Rattle.gc_format.specs.GarbledFile.{GarbledParts, parts_of, header, row_bytes}
 
--- The sink took the whole file, whose length is told; or it took the first `sent` bytes of it, which are not all, and no
--- others. `old` and `new` are the bytes that it has taken, where they are known.
+-- The sink took the whole file, and its length is the answer; or it took the first `sent` bytes of it, which are not
+-- all, and no others. `old` and `new` are the bytes that it has taken, where they are known.
 abbrev pub IsWritten : List ℕ → Result ℕ WriteFault → Option (List ℕ) → Option (List ℕ) → Type 0
 IsWritten file (Ok n) old new = (n ≡ length file) × Appends old new file
-IsWritten file (Err fault) old new = (fault.sent < length file) × Appends old new (take fault.sent file)
+IsWritten file (Err fault) old new =
+    (fault.sent < length file) × Appends old new (take fault.sent file)
 
 -- The counts of the garbling are numbers of 32 bits, and it has a zero label for each output wire.
 pub record IsSmall (g : GarblingParts) : Type 0 where
@@ -28,8 +29,7 @@ pub record IsSmall (g : GarblingParts) : Type 0 where
 abbrev pub entry_pair_of : ℕ → GarblingParts → ℕ → EntryPair
 entry_pair_of offset g i = record {
   entry_zero = entry_of offset g i false;
-  entry_one =
-      entry_of offset g i true;
+  entry_one = entry_of offset g i true;
 }
 
 -- and of each of them, in order.
@@ -44,6 +44,6 @@ parts_one c g = parts_of One c g []
 abbrev pub parts_two : Netlist → GarblingParts → List ℕ → GarbledParts
 parts_two c g seed = parts_of Two c g (entry_pairs_of (offset_of seed) g)
 
--- What stands in a garbled file before its entries.
+-- The part of a garbled file before its entries.
 abbrev pub front : GarbledParts → List ℕ
 front p = header p ++ flat_map row_bytes p.rows ++ packed p.decode_bits

@@ -8,7 +8,8 @@ use Rattle.gc_write.specs.Written.{parts_one, parts_two}
 
 -- The files of a circuit's garbling under a seed, in both versions, and of the bits of each input value.
 pub record AreFiles (c : Netlist) (seed : List ℕ) : Type 0 where
-  pub one : IsGarbledFile (garbled_file (parts_one c (garbling_of c seed))) (parts_one c (garbling_of c seed))
+  pub one : IsGarbledFile (garbled_file (parts_one c (garbling_of c seed)))
+      (parts_one c (garbling_of c seed))
   pub two : IsGarbledFile (garbled_file (parts_two c (garbling_of c seed) seed))
       (parts_two c (garbling_of c seed) seed)
   pub labels : (index : ℕ) (bits : List Bool) → index < 2 ^ 32

@@ -15,12 +15,12 @@ use gc_format::Sink;
 use gc_label::{Label, Offset, Seed, fill_input_labels, offset};
 use std::alloc::Allocator;
 
-/// How many labels are made at once.
+/// The number of labels that are made at once.
 const LABELS: usize = 64;
 
 impl FileWriter<Unobserved> {
-    /// Writes the labels that stand for these bits on the input wires from the first one on, of which there are at most
-    /// as many as are made at once.
+    /// Writes the labels that stand for these bits on the input wires from the first one on. There are at most as many
+    /// bits as labels that are made at once.
     fn write_some_labels<S: Sink>(
         &mut self,
         sink: &mut S,
@@ -30,7 +30,8 @@ impl FileWriter<Unobserved> {
     ) -> Result<(), WriteFault>
         requires few { length bits.now ≤ LABELS }
         requires wires { first + LABELS ≤ 2 ^ 32 }
-        ensures bytes { Proceeds Unseen self.old self.new (S.taken sink.old) (S.taken sink.new) result
+        ensures bytes { Proceeds Unseen self.old self.new
+            (S.taken sink.old) (S.taken sink.new) result
             (flat_map bytes_of_label (encoded_from first seed.now bits.now)) }
         ensures counted { CountsFailure result (S.failures sink.old) (S.failures sink.new) }
     {
@@ -52,7 +53,8 @@ impl FileWriter<Unobserved> {
         bits: &[bool],
     ) -> Result<(), WriteFault>
         requires { first + length bits.now + LABELS ≤ 2 ^ 32 }
-        ensures bytes { Proceeds Unseen self.old self.new (S.taken sink.old) (S.taken sink.new) result
+        ensures bytes { Proceeds Unseen self.old self.new
+            (S.taken sink.old) (S.taken sink.new) result
             (flat_map bytes_of_label (encoded_from first seed.now bits.now)) }
         ensures counted { CountsFailure result (S.failures sink.old) (S.failures sink.new) }
     {
@@ -85,10 +87,10 @@ fn sum_of(widths: &[u32]) -> u32
     widths.iter().sum()
 }
 
-/// Writes the label file of the input value with this index to the sink and tells how many bytes it has: for each of
-/// the value's wires, in wire order, the label that stands for its bit, which is the wire's zero label plus the bit times
-/// the offset of the seed. That there is such a value, and that the bits have its width, are the caller's conditions. It
-/// takes no memory but what the sink takes.
+/// Writes the label file of the input value with this index to the sink and returns how many bytes it has: for each of
+/// the value's wires, in wire order, the label that stands for its bit, which is the wire's zero label plus the bit
+/// times the offset of the seed. That there is such a value, and that the bits have its width, are the caller's
+/// conditions. It takes no memory but what the sink takes.
 ///
 /// Where the sink fails, it has taken the first `sent` bytes of the file, and no others.
 pub fn write_labels<S: Sink, A: Allocator>(

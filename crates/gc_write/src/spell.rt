@@ -27,7 +27,8 @@ pub(crate) fn header(
     rows: u32,
     outputs: u32,
 ) -> ArrayVec<u8, HEADER>
-    ensures { result.items ≡ files.magic version ++ digest ++ bytes_of_number rows ++ bytes_of_number outputs }
+    ensures { result.items ≡ files.magic version ++ digest
+        ++ bytes_of_number rows ++ bytes_of_number outputs }
 {
     let mut header = ArrayVec::new();
     header.try_extend_from_slice(&version.magic()).unwrap();
@@ -62,7 +63,7 @@ pub(crate) fn pair_bytes(first: Label, second: Label) -> [u8; 32]
     bytes
 }
 
-/// Byte k of the decode bits: bits 8k and on, as many as there are up to eight, the first of them lowest.
+/// Byte k of the decode bits: bits 8k to 8k + 7, or to the last one, the first of them lowest.
 pub(crate) fn decode_byte<A: Allocator>(garbling: &Garbling<A>, k: u32) -> u8
     requires { 8 * k < garbling.now.outputs }
     ensures { result ≡ bits_number (take 8 (drop (8 * k) (decode_bits_of garbling.now))) }

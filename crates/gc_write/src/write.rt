@@ -21,7 +21,7 @@ use sha2::{Digest, Sha256};
 use std::alloc::Allocator;
 
 impl FileWriter<Sha256> {
-    /// Writes what stands before the entries: the header, the row pairs and the decode bits.
+    /// Writes the part before the entries: the header, the row pairs and the decode bits.
     fn write_front<S: Sink, A: Allocator, B: Allocator>(
         &mut self,
         sink: &mut S,
@@ -32,7 +32,8 @@ impl FileWriter<Sha256> {
     ) -> Result<(), WriteFault>
         requires digest { digest.now ≡ sha256 (canonical_text circuit.now) }
         requires fits { FitsCircuit circuit.now garbling.now }
-        ensures bytes { Proceeds Holds256 self.old self.new (S.taken sink.old) (S.taken sink.new) result
+        ensures bytes { Proceeds Holds256 self.old self.new
+            (S.taken sink.old) (S.taken sink.new) result
             (front (parts_of version circuit.now garbling.now [])) }
         ensures small { IsSmall garbling.now }
         ensures counted { CountsFailure result (S.failures sink.old) (S.failures sink.new) }
@@ -45,8 +46,8 @@ impl FileWriter<Sha256> {
 
     /// Writes the row pairs.
     fn write_rows<S: Sink>(&mut self, sink: &mut S, rows: &[RowPair]) -> Result<(), WriteFault>
-        ensures bytes { Proceeds Holds256 self.old self.new (S.taken sink.old) (S.taken sink.new) result
-            (flat_map row_bytes rows.now) }
+        ensures bytes { Proceeds Holds256 self.old self.new
+            (S.taken sink.old) (S.taken sink.new) result (flat_map row_bytes rows.now) }
         ensures counted { CountsFailure result (S.failures sink.old) (S.failures sink.new) }
     {
         for row in rows {
@@ -61,8 +62,8 @@ impl FileWriter<Sha256> {
         sink: &mut S,
         garbling: &Garbling<A>,
     ) -> Result<(), WriteFault>
-        ensures bytes { Proceeds Holds256 self.old self.new (S.taken sink.old) (S.taken sink.new) result
-            (packed (decode_bits_of garbling.now)) }
+        ensures bytes { Proceeds Holds256 self.old self.new
+            (S.taken sink.old) (S.taken sink.new) result (packed (decode_bits_of garbling.now)) }
         ensures counted { CountsFailure result (S.failures sink.old) (S.failures sink.new) }
     {
         for k in 0..garbling.outputs().div_ceil(8) {
@@ -80,7 +81,8 @@ impl FileWriter<Sha256> {
         offset: Offset,
     ) -> Result<(), WriteFault>
         requires { FitsCircuit circuit.now garbling.now }
-        ensures bytes { Proceeds Holds256 self.old self.new (S.taken sink.old) (S.taken sink.new) result
+        ensures bytes { Proceeds Holds256 self.old self.new
+            (S.taken sink.old) (S.taken sink.new) result
             (flat_map entry_bytes (entry_pairs_of offset garbling.now)) }
         ensures counted { CountsFailure result (S.failures sink.old) (S.failures sink.new) }
     {
@@ -93,7 +95,7 @@ impl FileWriter<Sha256> {
     }
 }
 
-/// Writes the garbled file of version 1 to the sink and tells how many bytes it has: the digest of the circuit's
+/// Writes the garbled file of version 1 to the sink and returns how many bytes it has: the digest of the circuit's
 /// canonical text, the garbling's rows and its decode bits. That the garbling fits the circuit is the caller's
 /// condition. It takes no memory but what the sink takes.
 ///

@@ -12,7 +12,7 @@ use gc_format::Sink;
 use sha2::{Digest, Sha256};
 use thiserror::Error;
 
-/// How many bytes are handed to a sink at once.
+/// The most bytes that are sent to a sink at once.
 const ROOM: usize = 16_384;
 
 /// The sink failed. It has taken the first `sent` bytes of the file, and no others.
@@ -57,7 +57,7 @@ impl Observer for Sha256 {
     }
 }
 
-/// Looks away, where a file has no trailer.
+/// Ignores the bytes, where a file has no trailer.
 #[derive(Drop)]
 pub(crate) struct Unobserved;
 
@@ -69,7 +69,7 @@ impl Observer for Unobserved {
     fn see(&mut self, _piece: &[u8]) {}
 }
 
-/// A file on its way to a sink. Its bytes are gathered, and handed over when there is room for no more.
+/// A file on its way to a sink. Its bytes are buffered, and sent when the buffer is full.
 #[derive(Drop)]
 pub(crate) struct FileWriter<O> {
     observer: O,
@@ -94,8 +94,8 @@ impl<O: Observer> FileWriter<O> {
     /// Writes these bytes of the file.
     pub(crate) fn write<S: Sink>(&mut self, sink: &mut S, bytes: &[u8]) -> Result<(), WriteFault>
         requires { length bytes.now ≤ ROOM }
-        ensures bytes { Proceeds O.saw self.old self.new (S.taken sink.old) (S.taken sink.new) result
-            bytes.now }
+        ensures bytes { Proceeds O.saw self.old self.new
+            (S.taken sink.old) (S.taken sink.new) result bytes.now }
         ensures counted { CountsFailure result (S.failures sink.old) (S.failures sink.new) }
     {
         if self.held.remaining_capacity() < bytes.len() {
@@ -105,7 +105,7 @@ impl<O: Observer> FileWriter<O> {
         Ok(())
     }
 
-    /// Ends the file, and tells how many bytes it has.
+    /// Ends the file, and returns how many bytes it has.
     pub(crate) fn end<S: Sink>(mut self, sink: &mut S) -> Result<u64, WriteFault>
         ensures bytes { Ends O.saw self (S.taken sink.old) (S.taken sink.new) result (λ _. []) }
         ensures counted { CountsFailure result (S.failures sink.old) (S.failures sink.new) }
@@ -114,10 +114,10 @@ impl<O: Observer> FileWriter<O> {
         Ok(self.sent)
     }
 
-    /// Hands over what is held.
+    /// Sends what is held to the sink.
     fn send<S: Sink>(&mut self, sink: &mut S) -> Result<(), WriteFault>
-        ensures bytes { Proceeds O.saw self.old self.new (S.taken sink.old) (S.taken sink.new) result
-            [] }
+        ensures bytes { Proceeds O.saw self.old self.new
+            (S.taken sink.old) (S.taken sink.new) result [] }
         ensures empty { OnOk result (self.new.held.items ≡ []) }
         ensures counted { CountsFailure result (S.failures sink.old) (S.failures sink.new) }
     {
@@ -136,7 +136,7 @@ impl<O: Observer> FileWriter<O> {
 }
 
 impl FileWriter<Sha256> {
-    /// Ends a garbled file with its trailer, the digest of the bytes before it, and tells how many bytes it has.
+    /// Ends a garbled file with its trailer, the digest of the bytes before it, and returns how many bytes it has.
     pub(crate) fn end_with_digest<S: Sink>(mut self, sink: &mut S) -> Result<u64, WriteFault>
         ensures bytes { Ends Holds256 self (S.taken sink.old) (S.taken sink.new) result sha256 }
         ensures counted { CountsFailure result (S.failures sink.old) (S.failures sink.new) }
@@ -157,9 +157,10 @@ impl FileWriter<Sha256> {
     }
 }
 
-/// Hands over the whole piece. `sent` in the fault is how many of its bytes were taken.
+/// Sends the whole piece to the sink. `sent` in the fault is the number of its bytes that were taken.
 fn put_all<S: Sink>(sink: &mut S, piece: &[u8]) -> Result<(), WriteFault>
-    ensures bytes { MatchResult result (λ _. Appends (S.taken sink.old) (S.taken sink.new) piece.now)
+    ensures bytes { MatchResult result
+        (λ _. Appends (S.taken sink.old) (S.taken sink.new) piece.now)
         (λ fault. Appends (S.taken sink.old) (S.taken sink.new) (take fault.sent piece.now)) }
     ensures sent { IfErr result (λ fault. fault.sent < length piece.now) }
     ensures counted { CountsFailure result (S.failures sink.old) (S.failures sink.new) }
