@@ -216,3 +216,18 @@ module _ (words filled : List ℕ) (start : ℕ) (s : IsGateSet words filled sta
         (λ j before.
         get_or-set_other filled (k / 64) j f 0 (λ same. let z : ⊥ = absurd (omega (arith, same, before, from)) in z)
         ∙ s.passed j before)
+
+-- A word has a gate where one of the bits above it is its own,
+pub found_word : (words filled : List ℕ) (start block bits b : ℕ) → IsGateSet words filled start
+    → block < length filled → bits ≡ get_or filled block bits → (b < 64) × (bit_at bits b ≡ 1)
+    → 0 < get_or words (block * 64 + b) 0
+found_word words filled start block bits b s within read is =
+    word_found words filled start s block bits b (read_at filled block bits within read) is.0 is.1
+
+-- and is one of the words.
+pub found_fits : (words filled : List ℕ) (start block bits b : ℕ) → IsGateSet words filled start
+    → block < length filled → bits ≡ get_or filled block bits → (b < 64) × (bit_at bits b ≡ 1)
+    → block * 64 + b < 2 ^ 26
+found_fits words filled start block bits b s within read is =
+    let below = some_word words (block * 64 + b) (found_word words filled start block bits b s within read is) in
+    omega (arith, below, s.few)

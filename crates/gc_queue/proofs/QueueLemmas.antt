@@ -2,12 +2,12 @@
 use Rattle.std.proofs.Common.{◌≡◌, ◌≢◌, ℕ, zero, suc, ◌+◌, ◌-◌, ◌*◌, ◌^◌, ◌<◌, ◌≤◌, ◌↔◌, inl, inr, List, [], ◌∷◌, length, length-set, set, get_or, slice_get, Some, true, cond, count_by, replicate, refl, sym, ap, ◌∙◌, subst, arith}
 use Rattle.std.proofs.lemmas.Bool.{cases_eq}
 use Rattle.std.proofs.lemmas.Option.{slice_get_within, slice_get-get_or, get_or_from_slice_get}
-use Rattle.std.proofs.lemmas.List.Sums.{sum_by-cons}
+use Rattle.std.proofs.lemmas.List.Sums.{count_by-le-length}
 use Rattle.std.proofs.Math.ListN.{length-replicate}
 use Rattle.gc_queue.specs.declared.mark.Mark.{Mark}
 use Rattle.gc_queue.specs.declared.mark.Mark.TheVariants as mark
 use Rattle.gc_queue.specs.GateSet.{Has, Adds, Removes}
-use Rattle.gc_queue.specs.Queue.{Standing, IsReady, with_mark, is_busy, is_positive, IsQueue}
+use Rattle.gc_queue.specs.Queue.{Standing, IsReady, with_mark, is_busy, IsQueue}
 use Rattle.gc_queue.proofs.ListLemmas.{slice_get-set_other, slice_get-set_same, slice_get-replicate, count_by-set, count_by-set_more, count_by-set_less, count_by-all, count_by-replicate, count_by-some}
 
 -- a number of a list that is not 0 is there
@@ -16,38 +16,7 @@ positive_at [] i positive = absurd (omega arith)
 positive_at (x ∷ xs) zero positive = refl
 positive_at (x ∷ xs) (suc i) positive = positive_at xs i positive
 
-is_positive-yes : (n : ℕ) → 0 < n → is_positive n ≡ true
-is_positive-yes zero h = absurd (omega arith)
-is_positive-yes (suc n) h = refl
-
--- ---- a gate that is busy isn't waiting
-
-one_of : (m : Mark) (n : ℕ) → (m ≢ mark.Free → n ≡ 0) → cond (is_busy m) 1 0 + cond (is_positive n) 1 0 ≤ 1
-one_of mark.Free zero known = omega arith
-one_of mark.Free (suc n) known = omega arith
-one_of mark.Claimed zero known = omega arith
-one_of mark.Claimed (suc n) known = let none = known (λ same. let z : ⊥ = cc in z) in absurd (omega (arith, none))
-one_of mark.Finished zero known = omega arith
-one_of mark.Finished (suc n) known = let none = known (λ same. let z : ⊥ = cc in z) in absurd (omega (arith, none))
-
-few_busy : (marks : List Mark) (countdowns : List ℕ) → length marks ≡ length countdowns
-    → ((i : ℕ) (m : Mark) → slice_get marks i ≡ Some m → m ≢ mark.Free → slice_get countdowns i ≡ Some 0)
-    → count_by is_busy marks + count_by is_positive countdowns ≤ length countdowns
-few_busy [] [] count known = omega arith
-few_busy [] (n ∷ ns) count known = absurd (omega (arith, count))
-few_busy (m ∷ ms) [] count known = absurd (omega (arith, count))
-few_busy (m ∷ ms) (n ∷ ns) count known =
-    let rest = few_busy ms ns (omega (arith, count)) (λ i x at. known (suc i) x at) in
-    let first = one_of m n (λ busy. let at = known 0 m refl busy in let z : n ≡ 0 = cc in z) in
-    let one = sum_by-cons (λ x. cond (is_busy x) 1 0) m ms in
-    let two = sum_by-cons (λ x. cond (is_positive x) 1 0) n ns in omega (arith, rest, first, one, two)
-
--- as many gates are counted down as are busy, or more
-pub busy_counted : (s : Standing) (queued : List ℕ) (busy counted : ℕ) → IsQueue s queued busy counted → busy ≤ counted
-busy_counted s queued busy counted q =
-    let few = few_busy s.marks s.countdowns q.marks q.known in omega (arith, few, q.passed, q.left)
-
-module _ (s : Standing) (queued : List ℕ) (busy counted : ℕ) (q : IsQueue s queued busy counted) where
+module _ (s : Standing) (queued : List ℕ) (busy : ℕ) (q : IsQueue s queued busy) where
   -- ---- counting down
 
   module _ (j n : ℕ) (at : slice_get s.countdowns j ≡ Some (suc n)) where
@@ -90,7 +59,7 @@ module _ (s : Standing) (queued : List ℕ) (busy counted : ℕ) (q : IsQueue s 
 
   -- a gate that is counted down and isn't ready yet
   count_down_keeps : (j n : ℕ) → slice_get s.countdowns j ≡ Some (suc (suc n))
-      → IsQueue (record s { countdowns = set s.countdowns j (suc n) }) queued busy counted
+      → IsQueue (record s { countdowns = set s.countdowns j (suc n) }) queued busy
   count_down_keeps j n at = record {
     few = rw length-set q.few;
     marks = q.marks ∙ sym (length-set s.countdowns j (suc n));
@@ -108,13 +77,11 @@ module _ (s : Standing) (queued : List ℕ) (busy counted : ℕ) (q : IsQueue s 
     ];
     known = known_still j (suc n) at;
     passed = q.passed;
-    left = let same = count_by-set is_positive s.countdowns j (suc (suc n)) (suc n) at refl in
-        let len = length-set s.countdowns j (suc n) in omega (arith, q.left, same, len);
   }
 
   -- a gate that is counted down and is ready now
   pub count_down_last_keeps : (j : ℕ) (more : List ℕ) → slice_get s.countdowns j ≡ Some 1 → Adds queued j more
-      → IsQueue (record s { countdowns = set s.countdowns j 0 }) more busy (counted + 1)
+      → IsQueue (record s { countdowns = set s.countdowns j 0 }) more busy
   count_down_last_keeps j more at added = record {
     few = rw length-set q.few;
     marks = q.marks ∙ sym (length-set s.countdowns j 0);
@@ -132,8 +99,6 @@ module _ (s : Standing) (queued : List ℕ) (busy counted : ℕ) (q : IsQueue s 
     ];
     known = known_still j 0 at;
     passed = q.passed;
-    left = let less = count_by-set_less is_positive s.countdowns j 1 0 at refl refl in
-        let len = length-set s.countdowns j 0 in omega (arith, q.left, less, len);
   }
 
   -- ---- taking
@@ -145,7 +110,7 @@ module _ (s : Standing) (queued : List ℕ) (busy counted : ℕ) (q : IsQueue s 
     mark_at : slice_get (set s.marks i mark.Claimed) i ≡ Some mark.Claimed
     mark_at = slice_get-set_same s.marks i mark.Claimed (slice_get_within s.marks i mark.Free first_ready.0)
 
-    pub take_keeps : IsQueue (with_mark s i mark.Claimed) less (busy + 1) counted
+    pub take_keeps : IsQueue (with_mark s i mark.Claimed) less (busy + 1)
     take_keeps = record {
       few = q.few;
       marks = length-set s.marks i mark.Claimed ∙ q.marks;
@@ -172,12 +137,13 @@ module _ (s : Standing) (queued : List ℕ) (busy counted : ℕ) (q : IsQueue s 
       ];
       passed = let more = count_by-set_more is_busy s.marks i mark.Free mark.Claimed first_ready.0 refl refl in
           omega (arith, more, q.passed);
-      left = q.left;
     }
 
     pub busy_fits : busy + 1 < 2 ^ 32
     busy_fits =
-        let most = busy_counted _ _ _ _ take_keeps in omega (arith, most, q.left, q.few)
+        let more = take_keeps in
+        let most = count_by-le-length is_busy (set s.marks i mark.Claimed) in
+        omega (arith, most, more.passed, more.marks, more.few)
 
   -- ---- finishing, and putting back
 
@@ -185,7 +151,7 @@ module _ (s : Standing) (queued : List ℕ) (busy counted : ℕ) (q : IsQueue s 
     claimed_apart : (j : ℕ) → IsReady s j → j ≢ i
     claimed_apart j is same = let e = is.0 in let f = ap (slice_get s.marks) same in cc
 
-    pub finish_keeps : IsQueue (with_mark s i mark.Finished) queued busy counted
+    pub finish_keeps : IsQueue (with_mark s i mark.Finished) queued busy
     finish_keeps = record {
       few = q.few;
       marks = length-set s.marks i mark.Finished ∙ q.marks;
@@ -207,7 +173,6 @@ module _ (s : Standing) (queued : List ℕ) (busy counted : ℕ) (q : IsQueue s 
         | inr other ↦ q.known j m (sym (slice_get-set_other s.marks i j mark.Finished other) ∙ has) is_busy
       ];
       passed = q.passed ∙ sym (count_by-set is_busy s.marks i mark.Claimed mark.Finished at refl);
-      left = q.left;
     }
 
     pub some_busy : 0 < busy
@@ -222,7 +187,7 @@ module _ (s : Standing) (queued : List ℕ) (busy counted : ℕ) (q : IsQueue s 
     ready_again : IsReady (with_mark s i mark.Free) i
     ready_again = (free_again, q.known i mark.Claimed at (λ e. let z : ⊥ = cc in z))
 
-    pub put_back_keeps : (more : List ℕ) → Adds queued i more → IsQueue (with_mark s i mark.Free) more (busy - 1) counted
+    pub put_back_keeps : (more : List ℕ) → Adds queued i more → IsQueue (with_mark s i mark.Free) more (busy - 1)
     put_back_keeps more added = record {
       few = q.few;
       marks = length-set s.marks i mark.Free ∙ q.marks;
@@ -248,7 +213,6 @@ module _ (s : Standing) (queued : List ℕ) (busy counted : ℕ) (q : IsQueue s 
       ];
       passed = let less = count_by-set_less is_busy s.marks i mark.Claimed mark.Free at refl refl in
           omega (arith, less, q.passed);
-      left = q.left;
     }
 
 -- ---- as the queue's calls meet these
@@ -260,31 +224,31 @@ count_at xs i n positive read =
     let same = get_or_from_slice_get xs i (get_or xs i 0) n at in
     at ∙ ap Some (omega (arith, same, read, positive))
 
-pub count_down_rest : (s : Standing) (queued : List ℕ) (busy counted : ℕ) → IsQueue s queued busy counted → (j rest : ℕ)
+pub count_down_rest : (s : Standing) (queued : List ℕ) (busy : ℕ) → IsQueue s queued busy → (j rest : ℕ)
     → slice_get s.countdowns j ≡ Some (rest + 1) → rest ≢ 0
-    → IsQueue (record s { countdowns = set s.countdowns j rest }) queued busy counted
-count_down_rest s queued busy counted q j zero at some = absurd (some refl)
-count_down_rest s queued busy counted q j (suc n) at some =
-    count_down_keeps s queued busy counted q j n (at ∙ ap Some (omega arith))
+    → IsQueue (record s { countdowns = set s.countdowns j rest }) queued busy
+count_down_rest s queued busy q j zero at some = absurd (some refl)
+count_down_rest s queued busy q j (suc n) at some =
+    count_down_keeps s queued busy q j n (at ∙ ap Some (omega arith))
 
-pub count_down_last : (s : Standing) (queued : List ℕ) (busy counted : ℕ) → IsQueue s queued busy counted → (j rest : ℕ)
+pub count_down_last : (s : Standing) (queued : List ℕ) (busy : ℕ) → IsQueue s queued busy → (j rest : ℕ)
     → slice_get s.countdowns j ≡ Some (rest + 1) → rest ≡ 0 → (more : List ℕ) → Adds queued j more
-    → IsQueue (record s { countdowns = set s.countdowns j rest }) more busy (counted + 1)
-count_down_last s queued busy counted q j rest at none more added =
-    let P : ℕ → Type 0 = λ n. IsQueue (record s { countdowns = set s.countdowns j n }) more busy (counted + 1) in
-    subst P (sym none) (count_down_last_keeps s queued busy counted q j more (at ∙ ap (λ n. Some (n + 1)) none) added)
+    → IsQueue (record s { countdowns = set s.countdowns j rest }) more busy
+count_down_last s queued busy q j rest at none more added =
+    let P : ℕ → Type 0 = λ n. IsQueue (record s { countdowns = set s.countdowns j n }) more busy in
+    subst P (sym none) (count_down_last_keeps s queued busy q j more (at ∙ ap (λ n. Some (n + 1)) none) added)
 
 -- where no gate is queued none is ready
-pub none_ready : (s now : Standing) (queued : List ℕ) (busy counted : ℕ) → s ≡ now → IsQueue s queued busy counted
+pub none_ready : (s now : Standing) (queued : List ℕ) (busy : ℕ) → s ≡ now → IsQueue s queued busy
     → ((i : ℕ) → ¬ Has queued i) → (i : ℕ) → ¬ IsReady now i
-none_ready s now queued busy counted same q empty i is =
+none_ready s now queued busy same q empty i is =
     let P : Standing → Type 0 = λ x. IsReady x i in empty i ((q.ready i).1 (subst P (sym same) is))
 
 -- before the opening counts the gates down none is ready
 pub unopened : (n : ℕ) (countdowns queued : List ℕ) → n ≡ length countdowns → n < 2 ^ 32
     → ((i : ℕ) → i < length countdowns → 0 < get_or countdowns i 0) → n ≤ 64 * length queued
     → ((i : ℕ) → ¬ Has queued i)
-    → IsQueue (record { marks = replicate n mark.Free; countdowns = countdowns }) queued 0 0
+    → IsQueue (record { marks = replicate n mark.Free; countdowns = countdowns }) queued 0
 unopened n countdowns queued count few positive room empty = record {
   few = omega (arith, count, few);
   marks = length-replicate n mark.Free ∙ count;
@@ -297,8 +261,4 @@ unopened n countdowns queued count few positive room empty = record {
   );
   known = λ i m has busy. absurd (busy (slice_get-replicate n i mark.Free m has));
   passed = sym (count_by-replicate is_busy n mark.Free refl);
-  left = let all = count_by-all is_positive countdowns (λ i x at.
-      let read = get_or_from_slice_get countdowns i x 0 at in
-      is_positive-yes x (let some = positive i (slice_get_within countdowns i x at) in omega (arith, read, some))) in
-      omega (arith, all);
 }

@@ -7,9 +7,9 @@ use Rattle.std.proofs.lemmas.Option.{slice_get_within}
 use Rattle.gc_netlist.specs.declared.gate.Operation.{Operation}
 use Rattle.gc_netlist.specs.declared.gate.Operation.TheVariants.{Xor, And, Inv, Eq, Eqw}
 use Rattle.gc_netlist.specs.declared.gate.Gate.{Gate}
-use Rattle.gc_netlist.specs.Circuit.{Netlist, EachRead, IsLawful}
+use Rattle.gc_netlist.specs.Circuit.{Netlist, EachRead, IsLawful, first_wire, second_wire}
 use Rattle.gc_netlist.proofs.Tables.{EachRead-below}
-use Rattle.gc_queue.specs.Readers.{first_wire, second_wire, read_count, IsRead, IsNextRead, IsLinkedFrom}
+use Rattle.gc_queue.specs.Readers.{read_count, IsRead, IsNextRead, IsLinkedFrom}
 
 -- a read is one of a circuit's reads,
 pub IsRead-within : (c : Netlist) (r w : ℕ) → IsRead c r w → r < read_count c

@@ -6,8 +6,8 @@ use Rattle.std.proofs.lemmas.List.{get_or-set_same, get_or-set_other}
 use Rattle.std.proofs.lemmas.Option.{slice_get_within}
 use Rattle.gc_netlist.specs.declared.gate.Operation.{Operation}
 use Rattle.gc_netlist.specs.declared.gate.Gate.{Gate}
-use Rattle.gc_netlist.specs.Circuit.{Netlist}
-use Rattle.gc_queue.specs.Readers.{first_wire, second_wire, is_wire, reads_of, read_count, IsRead, IsNextRead}
+use Rattle.gc_netlist.specs.Circuit.{Netlist, first_wire, second_wire}
+use Rattle.gc_queue.specs.Readers.{is_wire, reads_of, read_count, IsRead, IsNextRead}
 use Rattle.gc_queue.proofs.QueueLemmas.{positive_at}
 
 -- another wire is not counted,

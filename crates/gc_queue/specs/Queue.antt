@@ -1,4 +1,4 @@
--- How far each gate is, and which gates may go next.
+-- How far each gate is, and which gates are ready.
 use Rattle.std.specs.Prelude.{◌≡◌, ◌≢◌, ℕ, zero, suc, ◌+◌, ◌*◌, ◌^◌, ◌<◌, ◌≤◌, ◌↔◌, Bool, true, false, List, length, count_by, Option, Some, None, slice_get, slice_set}
 use Rattle.gc_queue.specs.GateSet.{Has}
 use Rattle.gc_queue.specs.declared.mark.Mark.{Mark}
@@ -28,25 +28,19 @@ freed mark.Free = mark.Free
 freed mark.Claimed = mark.Free
 freed mark.Finished = mark.Finished
 
--- whether a gate is claimed or finished,
+-- whether a gate is claimed or finished
 abbrev pub is_busy : Mark → Bool
 is_busy mark.Free = false
 is_busy mark.Claimed = true
 is_busy mark.Finished = true
 
--- and whether a number is not 0
-abbrev pub is_positive : ℕ → Bool
-is_positive zero = false
-is_positive (suc n) = true
-
 -- The queue has exactly the ready gates.
-pub record IsQueue (s : Standing) (queued : List ℕ) (busy counted : ℕ) : Type 0 where
+pub record IsQueue (s : Standing) (queued : List ℕ) (busy : ℕ) : Type 0 where
   pub few : length s.countdowns < 2 ^ 32
   pub marks : length s.marks ≡ length s.countdowns
   pub room : length s.countdowns ≤ 64 * length queued
   pub ready : (i : ℕ) → Has queued i ↔ IsReady s i
   -- A gate that is claimed or finished reads known wires alone.
   pub known : (i : ℕ) (m : Mark) → slice_get s.marks i ≡ Some m → m ≢ mark.Free → slice_get s.countdowns i ≡ Some 0
-  -- so many gates are claimed or finished, and so many are counted down to 0
+  -- This number of gates is claimed or finished.
   pub passed : busy ≡ count_by is_busy s.marks
-  pub left : counted + count_by is_positive s.countdowns ≡ length s.countdowns

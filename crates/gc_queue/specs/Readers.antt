@@ -1,30 +1,13 @@
 -- The reads of a circuit's gates, and the list of those of each wire.
 use Rattle.std.specs.Prelude.{◌≡◌, ℕ, ◌+◌, ◌*◌, ◌<◌, ◌≤◌, ◌⊎◌, ◌==◌, if◌then◌else◌, Bool, List, length, Option, Some, None, slice_get, slice_index}
 use Rattle.gc_netlist.specs.declared.gate.Operation.{Operation}
-use Rattle.gc_netlist.specs.declared.gate.Operation.TheVariants.{Xor, And, Inv, Eq, Eqw}
 use Rattle.gc_netlist.specs.declared.gate.Gate.{Gate}
-use Rattle.gc_netlist.specs.Circuit.{Netlist}
+use Rattle.gc_netlist.specs.Circuit.{Netlist, first_wire, second_wire}
 
 -- The reads as lists: for each wire its first read, and for each read the next one of its wire.
 pub record Links : Type 0 where
   pub firsts : List ℕ
   pub nexts : List ℕ
-
--- the wire that an operation reads first,
-abbrev pub first_wire : Operation → Option ℕ
-first_wire (Xor a b) = Some a
-first_wire (And a b) = Some a
-first_wire (Inv a) = Some a
-first_wire (Eq v) = None
-first_wire (Eqw a) = Some a
-
--- and the one that it reads second
-abbrev pub second_wire : Operation → Option ℕ
-second_wire (Xor a b) = Some b
-second_wire (And a b) = Some b
-second_wire (Inv a) = None
-second_wire (Eq v) = None
-second_wire (Eqw a) = None
 
 -- whether a read of an operation is of wire w, as 1 or 0
 abbrev pub is_wire : ℕ → Option ℕ → ℕ

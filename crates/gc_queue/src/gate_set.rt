@@ -1,6 +1,6 @@
 //! Sets of gates, from which the first in file order is taken.
 
-ghost use Rattle.std.specs.Prelude.{◌≡◌, ◌<◌, ◌≤◌, ◌*◌, ℕ, IfOk, MatchOption, length, slice_index_or};
+ghost use Rattle.std.specs.Prelude.{◌≡◌, ◌<◌, ◌≤◌, ◌*◌, ℕ, IfOk, IfSome, MatchOption, length, slice_index_or};
 ghost use Rattle.std.specs.Int.{bit_at};
 ghost use Rattle.gc_queue.specs.GateSet.{Has, Adds, TakesOne};
 
@@ -11,6 +11,9 @@ use std::marker::Model;
 
 /// How many bits a word has.
 const WORD_BITS: usize = 64;
+
+/// How many gates a word of `filled` stands for.
+const BLOCK_BITS: usize = WORD_BITS * WORD_BITS;
 
 /// A set of gates: a bit for each gate, and above these a bit for each of their words that says whether a gate of the
 /// word is in the set. So the first gate is found in a few steps, whether the set has few gates or many.
@@ -38,7 +41,7 @@ impl<A: Allocator> Model for GateSet<A> {
 }
 
 impl<A: Allocator + Copy> GateSet<A> {
-    /// The empty set, with room for so many gates.
+    /// The empty set, with room for this many gates.
     pub(crate) fn open(alloc: A, gates: u32) -> Result<GateSet<A>, Memory>
         ensures room { IfOk result (λ s. gates ≤ 64 * length s) }
         ensures empty { IfOk result (λ s. (i : ℕ) → ¬ Has s i) }
@@ -65,12 +68,12 @@ impl<A: Allocator> GateSet<A> {
         self.start = self.start.min(word / WORD_BITS);
     }
 
-    /// Takes the first gate out of the set.
+    /// Takes a gate out of the set: the first one at or after the block of this gate, or else the first of all.
     #[inline]
-    pub(crate) fn take(&mut self) -> Option<u32>
+    pub(crate) fn take(&mut self, from: u32) -> Option<u32>
         ensures { TakesOne self.old result self.new }
     {
-        let word = self.first_word()?;
+        let word = self.word_from(from as usize / BLOCK_BITS)?;
         let gates = self.words[word];
         let bit = lowest_bit(gates);
         let others = gates & !(1 << bit);
@@ -79,6 +82,37 @@ impl<A: Allocator> GateSet<A> {
             self.filled[word / WORD_BITS] &= !(1 << (word % WORD_BITS));
         }
         Some((word * WORD_BITS + bit) as u32)
+    }
+
+    /// A word that has a gate: the first one from this block on, or else the first of all.
+    #[inline]
+    fn word_from(&mut self, block: usize) -> Option<usize>
+        ensures found { MatchOption result ((k : ℕ) → slice_index_or self.old k 0 ≡ 0)
+            (λ word. 0 < slice_index_or self.old word 0) }
+        ensures same { self.new ≡ self.old }
+    {
+        match self.next_word(block) {
+            Some(word) => Some(word),
+            None => self.first_word(),
+        }
+    }
+
+    /// The first word from this block on that has a gate, where the block comes after the first that may have one.
+    #[inline]
+    fn next_word(&self, block: usize) -> Option<usize>
+        ensures { IfSome result (λ word. 0 < slice_index_or self.now word 0) }
+    {
+        if block <= self.start {
+            return None;
+        }
+        for i in block..self.filled.len() {
+            let filled = self.filled[i];
+            if filled != 0 {
+                let bit = lowest_bit(filled);
+                return Some(i * WORD_BITS + bit);
+            }
+        }
+        None
     }
 
     /// The first word that has a gate.

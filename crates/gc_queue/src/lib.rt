@@ -1,4 +1,4 @@
-//! Which gates of a circuit may go next: how far each gate is, how many of its reads are of wires that are not known
+//! Which gates of a circuit are ready: how far each gate is, how many of its reads are of wires that are not known
 //! yet, and which gates read a wire.
 //!
 //! A gate of a [`Queue`] is free, claimed or finished, and has a countdown. [`Readers::count_down`] counts the gates

@@ -1,8 +1,8 @@
-//! How far each gate is, and the queue of those that may go next.
+//! How far each gate is, and the queue of those that are ready.
 
 ghost use Rattle.std.specs.Prelude.{◌≡◌, ◌↔◌, ◌<◌, ◌+◌, ◌-◌, ◌^◌, ℕ, IsTrue, IfOk, Some, length, map, replicate, count_by, slice_get, slice_set, slice_index_or};
 ghost use Rattle.gc_queue.specs.declared.mark.Mark.TheVariants as mark;
-ghost use Rattle.gc_queue.specs.Queue.{with_mark, Takes, freed, is_busy, is_positive};
+ghost use Rattle.gc_queue.specs.Queue.{with_mark, Takes, freed, is_busy};
 
 use crate::gate_set::GateSet;
 use crate::mark::Mark;
@@ -21,9 +21,8 @@ pub struct Queue<A: Allocator> {
     marks: Vec<Mark, A>,
     countdowns: Vec<u8, A>,
     queued: GateSet<A>,
-    // How many gates are claimed or finished, and how many have the countdown 0.
+    // How many gates are claimed or finished.
     busy: u32,
-    counted: u32,
 }
 
 impl<A: Allocator> Model for Queue<A> {
@@ -34,7 +33,7 @@ impl<A: Allocator> Model for Queue<A> {
     ghost view = { λ q. record { marks = q.marks.items; countdowns = q.countdowns.items } };
 
     ghost invariant = { λ q.
-        IsQueue (record { marks = q.marks.items; countdowns = q.countdowns.items }) q.queued q.busy q.counted };
+        IsQueue (record { marks = q.marks.items; countdowns = q.countdowns.items }) q.queued q.busy };
 }
 
 impl<A: Allocator + Copy> Queue<A> {
@@ -53,7 +52,6 @@ impl<A: Allocator + Copy> Queue<A> {
             queued: GateSet::open(alloc, gates)?,
             countdowns,
             busy: 0,
-            counted: 0,
         };
         for gate in 0..gates {
             queue.count_down(gate);
@@ -72,21 +70,12 @@ impl<A: Allocator> Queue<A> {
         self.marks[gate as usize].is_claimed()
     }
 
-    /// How many gates are free and have the countdown 0.
+    /// Claims a ready gate. It looks for one from the gate `from` on, and then from the first on.
     #[inline]
-    pub fn len(&self) -> u32
-        ensures { result + count_by is_busy self.now.marks + count_by is_positive self.now.countdowns
-            ≡ length self.now.countdowns }
-    {
-        self.counted - self.busy
-    }
-
-    /// Claims the first gate of the queue.
-    #[inline]
-    pub fn take(&mut self) -> Option<u32>
+    pub fn take(&mut self, from: u32) -> Option<u32>
         ensures { Takes self.old result self.new }
     {
-        let gate = self.queued.take()?;
+        let gate = self.queued.take(from)?;
         self.marks[gate as usize] = Mark::Claimed;
         self.busy += 1;
         Some(gate)
@@ -113,7 +102,6 @@ impl<A: Allocator> Queue<A> {
         self.countdowns[gate as usize] = rest;
         if rest == 0 {
             self.queued.insert(gate);
-            self.counted += 1;
         }
     }
 

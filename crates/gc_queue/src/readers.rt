@@ -2,7 +2,7 @@
 
 ghost use Rattle.std.specs.Prelude.{◌≡◌, ◌<◌, ◌≤◌, ◌+◌, ℕ, IfOk, MatchOption, Some, length, slice_get, slice_index_or};
 ghost use Rattle.gc_netlist.specs.declared.gate.Gate.{Gate};
-ghost use Rattle.gc_queue.specs.Readers.{first_wire, second_wire, reads_of, read_count, IsRead, IsLinked};
+ghost use Rattle.gc_queue.specs.Readers.{reads_of, read_count, IsRead, IsLinked};
 
 use crate::queue::Queue;
 use crate::tables::repeated;
@@ -77,36 +77,8 @@ fn wire_read<C: Allocator>(circuit: &Circuit<C>, read: u32) -> Option<u32>
 {
     let operation = circuit.gate(read / 2).operation;
     if read % 2 == 0 {
-        first_wire(operation)
+        operation.first_wire()
     } else {
-        second_wire(operation)
-    }
-}
-
-/// The wire that an operation reads first.
-#[inline]
-fn first_wire(operation: Operation) -> Option<u32>
-    ensures { result ≡ first_wire operation }
-{
-    match operation {
-        Operation::Xor(a, _) => Some(a),
-        Operation::And(a, _) => Some(a),
-        Operation::Inv(a) => Some(a),
-        Operation::Eq(_) => None,
-        Operation::Eqw(a) => Some(a),
-    }
-}
-
-/// The wire that an operation reads second.
-#[inline]
-fn second_wire(operation: Operation) -> Option<u32>
-    ensures { result ≡ second_wire operation }
-{
-    match operation {
-        Operation::Xor(_, b) => Some(b),
-        Operation::And(_, b) => Some(b),
-        Operation::Inv(_) => None,
-        Operation::Eq(_) => None,
-        Operation::Eqw(_) => None,
+        operation.second_wire()
     }
 }

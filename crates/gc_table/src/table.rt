@@ -8,7 +8,7 @@ use std::marker::Model;
 /// How many entries are filled at once.
 const STRETCH: usize = 256;
 
-/// So many entries, each of one value until it is set. The memory for all is taken at the opening, but written only
+/// This many entries, each of one value until it is set. The memory for all is taken at the opening, but written only
 /// as far as entries are set: so a page of it is first touched by whoever sets an entry there, and not by the
 /// opening thread. No call but [`Table::open`] takes memory.
 #[derive(Drop)]
@@ -31,7 +31,7 @@ impl<T: Copy, A: Allocator> Model for Table<T, A> {
 }
 
 impl<T: Copy, A: Allocator> Table<T, A> {
-    /// So many entries of one value. It takes all the memory that is needed, once.
+    /// This many entries of one value. It takes all the memory that is needed, once.
     pub fn open(alloc: A, unset: T, len: u32) -> Result<Table<T, A>, AllocError>
         ensures { IfOk result (λ t. t ≡ replicate len unset) }
     {

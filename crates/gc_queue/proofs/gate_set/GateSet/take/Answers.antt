@@ -13,7 +13,7 @@ word_read was now words k gates found same inside read =
 
 pub invariant_of-self : goal.invariant_of-self
 invariant_of-self g c =
-    let read = word_read c.args.self.now c.first_word.new.self c.self.inside.words.items c.in_ok-word.word
+    let read = word_read c.args.self.now c.word_from.new.self c.self.inside.words.items c.in_ok-word.word
     c.index-gates.result.now c.in_ok-word.ensures.found c.in_ok-word.ensures.same c.self.view_is c.index-gates.ensures in
     last_keeps _ _ _ c.self.invariant c.in_ok-word.word c.index-gates.result.now c.lowest_bit-bit.result read
     c.lowest_bit-bit.ensures.0 c.lowest_bit-bit.ensures.1 c.index_mut-then-others-eq0.result.now
@@ -21,7 +21,7 @@ invariant_of-self g c =
 
 pub overflow_cast-result : goal.overflow_cast-result
 overflow_cast-result g c =
-    let read = word_read c.args.self.now c.first_word.new.self c.self.inside.words.items c.in_ok-word.word
+    let read = word_read c.args.self.now c.word_from.new.self c.self.inside.words.items c.in_ok-word.word
     c.index-gates.result.now c.in_ok-word.ensures.found c.in_ok-word.ensures.same c.self.view_is c.index-gates.ensures in
     let fits = gate_fits c.self.inside.words.items _ _ c.self.invariant c.in_ok-word.word c.index-gates.result.now
     c.lowest_bit-bit.result read c.lowest_bit-bit.ensures.0 c.lowest_bit-bit.ensures.1 in
@@ -30,7 +30,7 @@ overflow_cast-result g c =
 pub returns : goal.returns
 returns g c =
     let words = c.self.inside.words.items in
-    let read = word_read c.args.self.now c.first_word.new.self words c.in_ok-word.word c.index-gates.result.now
+    let read = word_read c.args.self.now c.word_from.new.self words c.in_ok-word.word c.index-gates.result.now
     c.in_ok-word.ensures.found c.in_ok-word.ensures.same c.self.view_is c.index-gates.ensures in
     let gone = taken words _ _ c.self.invariant c.in_ok-word.word c.index-gates.result.now c.lowest_bit-bit.result read
     c.lowest_bit-bit.ensures.0 c.lowest_bit-bit.ensures.1 in

@@ -13,10 +13,10 @@ counted inside now i n same positive read =
 pub invariant_of-self : goal.invariant_of-self
 invariant_of-self g c =
     let at = counted _ _ c.args.gate c.index.result.now c.self.view_is c.requires c.index.ensures in
-    count_down_last _ _ _ _ c.self.invariant c.args.gate (c.index.result.now - 1) at c.if-rest-eq0.true
+    count_down_last _ _ _ c.self.invariant c.args.gate (c.index.result.now - 1) at c.if-rest-eq0.true
     c.insert.new.self c.insert.ensures
 
 pub invariant_of-self-else-rest-eq0 : goal.invariant_of-self-else-rest-eq0
 invariant_of-self-else-rest-eq0 g c =
     let at = counted _ _ c.args.gate c.index.result.now c.self.view_is c.requires c.index.ensures in
-    count_down_rest _ _ _ _ c.self.invariant c.args.gate (c.index.result.now - 1) at c.if-rest-eq0.false
+    count_down_rest _ _ _ c.self.invariant c.args.gate (c.index.result.now - 1) at c.if-rest-eq0.false

@@ -7,4 +7,4 @@ use Rattle.gc_queue.proofs.queue.Queue.finish.Goals as goal
 pub invariant_of-self : goal.invariant_of-self
 invariant_of-self g c =
     let P : Standing → Type 0 = λ s. slice_get s.marks c.args.gate ≡ Some mark.Claimed in
-    finish_keeps _ _ _ _ c.self.invariant c.args.gate (subst P (sym c.self.view_is) c.requires)
+    finish_keeps _ _ _ c.self.invariant c.args.gate (subst P (sym c.self.view_is) c.requires)

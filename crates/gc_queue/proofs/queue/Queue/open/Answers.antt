@@ -9,7 +9,7 @@ pub invariant_of-queue : goal.invariant_of-queue
 invariant_of-queue g c =
     let countdowns : List ℕ = c.args.countdowns.items in
     let P : List Mark → Type 0 = λ marks.
-    IsQueue (record { marks = marks; countdowns = countdowns }) c.in_ok-open.field-0 0 0 in
+    IsQueue (record { marks = marks; countdowns = countdowns }) c.in_ok-open.field-0 0 in
     subst P (sym c.in_ok-repeated.ensures)
     (unopened c.len-gates.result countdowns c.in_ok-open.field-0 (omega (arith, c.len-gates.ensures))
     (omega (arith, c.len-gates.ensures, c.requires.few)) c.requires.positive
