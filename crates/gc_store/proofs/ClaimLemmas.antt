@@ -1,7 +1,7 @@
 -- Claims one after the other.
 use Rattle.std.proofs.Common.{◌≡◌, ℕ, ◌+◌, List, [], ◌∷◌, ◌++◌, length, length-append, append_assoc, Some, None, inr, refl, sym, ap, ◌∙◌, subst, arith}
 use Rattle.gc_store.specs.declared.task.Task.{Task}
-use Rattle.gc_store.specs.Content.{Content, MayGoNext}
+use Rattle.gc_store.specs.Content.{Content, IsReady}
 use Rattle.gc_store.specs.Step.{Claims, ClaimsAll, ClaimsSome}
 
 -- How far claiming into a batch has come.
@@ -28,12 +28,12 @@ claimed_more old middle new before batch after answer task has claims more = rec
   batch = more ∙ ap (λ l. l ++ task ∷ []) has.batch ∙ append_assoc before has.tasks (task ∷ []);
 }
 
--- where no gate may go next, claiming ends
+-- where no gate is ready, claiming ends
 pub claimed_end : (old middle new : Content) (before after : List Task) (answer : ℕ)
     → HasClaimed old before answer middle after → Claims middle None new → ClaimsSome old before answer new after
 claimed_end old middle new before after answer has none =
     let P : Content → Type 0 = λ s. HasClaimed old before answer s after in
-    let Q : Content → Type 0 = λ s. (i : ℕ) → ¬ MayGoNext s i in
+    let Q : Content → Type 0 = λ s. (i : ℕ) → ¬ IsReady s i in
     let moved = subst P (sym none.1) has in
     record {
       tasks = moved.tasks;

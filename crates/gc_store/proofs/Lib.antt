@@ -9,3 +9,5 @@ pub mod CountLemmas
 pub mod ReopenLemmas
 pub mod AwaitedLemmas
 pub mod ClaimLemmas
+pub mod HandInLemmas
+pub mod StoredLemmas

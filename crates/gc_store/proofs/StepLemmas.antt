@@ -14,7 +14,7 @@ use Rattle.gc_half.proofs.CanonicalLemmas.{zero_label_of-gate}
 use Rattle.gc_store.specs.declared.task.Task.{Task}
 use Rattle.gc_half.specs.OneGate.{gate_rows}
 use Rattle.gc_store.specs.Task.{task_of, sealed_zero_label, sealed_rows}
-use Rattle.gc_store.specs.Content.{State, Free, Claimed, Finished, Content, is_finished, has_rows, IsClaimed, IsFinished, IsKnown, MayGoNext, AllFinished, IsLawfulContent}
+use Rattle.gc_store.specs.Content.{State, Free, Claimed, Finished, Content, is_finished, has_rows, IsClaimed, IsFinished, IsKnown, IsReady, AllFinished, IsLawfulContent}
 use Rattle.gc_store.specs.Step.{with_state, with_sealed}
 use Rattle.gc_queue.proofs.ListLemmas.{slice_get-set_other, slice_get-set_same, count_by-set, count_by-set_more, count_by-all, count_by-all_back}
 
@@ -62,7 +62,7 @@ module _ (s : Content) (i : ℕ) (was : State) (at : slice_get s.states i ≡ So
 
 -- ---- claiming
 
-module _ (s : Content) (i : ℕ) (next : MayGoNext s i) where
+module _ (s : Content) (i : ℕ) (next : IsReady s i) where
   not_finished_later : (j : ℕ) (label : ℕ) (rows : Option RowPair) → slice_get (set s.states i Claimed) j
       ≡ Some (Finished label rows)
       → slice_get s.states j ≡ Some (Finished label rows)
@@ -94,7 +94,7 @@ module _ (s : Content) (i : ℕ) (next : MayGoNext s i) where
         | inr other ↦ lawful.reads j g state at (sym (slice_get-set_other s.states i j Claimed other) ∙ has) busy
       ])
 
-  -- claiming a gate that may go next keeps a content lawful
+  -- claiming a ready gate keeps a content lawful
   pub claim_lawful : IsLawfulContent s → IsLawfulContent (with_state s i Claimed)
   claim_lawful lawful = record {
     circuit = lawful.circuit;

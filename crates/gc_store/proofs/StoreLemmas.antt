@@ -19,11 +19,12 @@ use Rattle.gc_store.specs.declared.task.Task.{Task}
 use Rattle.gc_half.specs.OneGate.{first_read, second_read}
 use Rattle.gc_half.proofs.OneGateLemmas.{first_read-local, second_read-local}
 use Rattle.gc_store.specs.Task.{task_of, sealed_zero_label, sealed_rows}
-use Rattle.gc_queue.specs.Queue.{Standing, IsReady, with_mark, Takes}
+use Rattle.gc_queue.specs.Queue as queue
+use Rattle.gc_queue.specs.Queue.{Standing, with_mark, Takes}
 use Rattle.gc_queue.specs.Readers.{reads_of, unknown, unknown_reads}
-use Rattle.gc_store.specs.Content.{Free, Claimed, Content, is_finished, IsClaimed, IsKnown, MayGoNext, AllFinished, IsLawfulContent}
+use Rattle.gc_store.specs.Content.{Free, Claimed, Content, is_finished, IsClaimed, IsKnown, IsReady, AllFinished, IsLawfulContent}
 use Rattle.gc_store.specs.Step.{with_state, with_sealed, IsOwnTask, Claims}
-use Rattle.gc_store.specs.Kept.{Tables, finished_state, state_at, content_of, IsKept, ReadsKnown}
+use Rattle.gc_store.specs.Kept.{Tables, queue_of, finished_state, state_at, content_of, IsKept, ReadsKnown}
 use Rattle.gc_store.proofs.CircuitLemmas.{and_number-lt}
 use Rattle.gc_store.proofs.StepLemmas.{known-claim, all_finished, all_finished_back}
 use Rattle.gc_store.proofs.TableLemmas.{state_is, known_label, finished_queue, finished_tables, is_some-gate_rows, claim_keeps, content-claim, finish_keeps, content-finish, counts_set}
@@ -151,7 +152,7 @@ module _ (c : Netlist) (seed : List ℕ) (r : ℕ) (t : Tables) (kept : IsKept c
     λ claimed. claimed_back m (let by = state_by m read in cc),
   )
 
--- ---- which gates may go next
+-- ---- which gates are ready
 
 known_counts : (known : ℕ → Bool) (w : ℕ) → IsTrue (known w) → unknown known (Some w) ≡ 0
 known_counts known w is = ap {B = ℕ} (λ b. if b then 0 else 1) is
@@ -181,14 +182,10 @@ each_known known (Inv a) none = counts_known known a (omega (arith, none))
 each_known known (Eq v) none = tt
 each_known known (Eqw a) none = counts_known known a (omega (arith, none))
 
--- the marks and countdowns among the tables
-abbrev pub queue_of : Tables → Standing
-queue_of t = record { marks = t.marks; countdowns = t.countdowns }
-
--- a gate may go next where it is ready,
-pub ready_may_go : (c : Netlist) (seed : List ℕ) (r : ℕ) (t : Tables) → IsKept c seed r t → (i : ℕ)
-    → IsReady (queue_of t) i → MayGoNext (content_of c seed t) i
-ready_may_go c seed r t kept i ready =
+-- a gate of the queue is ready
+pub queued_ready : (c : Netlist) (seed : List ℕ) (r : ℕ) (t : Tables) → IsKept c seed r t → (i : ℕ)
+    → queue.IsReady (queue_of t) i → IsReady (content_of c seed t) i
+queued_ready c seed r t kept i ready =
     let within : i < length c.gates =
     (let w = slice_get_within t.marks i mark.Free ready.0 in let e = kept.marks in omega (arith, w, e)) in
     let g : Gate = get_or c.gates i (record { operation = Eq false; set = 0 }) in
@@ -205,9 +202,9 @@ ready_may_go c seed r t kept i ready =
     }
 
 -- and only there
-pub may_go_ready : (c : Netlist) (seed : List ℕ) (r : ℕ) (t : Tables) → IsKept c seed r t → (i : ℕ)
-    → MayGoNext (content_of c seed t) i → IsReady (queue_of t) i
-may_go_ready c seed r t kept i next =
+pub ready_queued : (c : Netlist) (seed : List ℕ) (r : ℕ) (t : Tables) → IsKept c seed r t → (i : ℕ)
+    → IsReady (content_of c seed t) i → queue.IsReady (queue_of t) i
+ready_queued c seed r t kept i next =
     let within = slice_get_within c.gates i next.gate next.at in
     let inside : i < length t.marks = (let e = kept.marks in omega (arith, within, e)) in
     let counted : i < length t.countdowns = (let e = kept.countdowns in omega (arith, within, e)) in
@@ -384,8 +381,8 @@ with_queue t q = record t { marks = q.marks; countdowns = q.countdowns }
 module _ (c : Netlist) (seed : List ℕ) (r : ℕ) (t : Tables) (now : Content) (q : Standing)
     (same : content_of c seed t ≡ now) (kept : IsKept c seed r t) where
   module _ (i : ℕ) (takes : Takes (queue_of t) (Some i) q) where
-    next : MayGoNext (content_of c seed t) i
-    next = ready_may_go c seed r t kept i takes.0
+    next : IsReady (content_of c seed t) i
+    next = queued_ready c seed r t kept i takes.0
 
     -- a ready gate that was taken is claimed,
     pub take_keeps : IsKept c seed r (with_queue t q)
@@ -414,7 +411,7 @@ module _ (c : Netlist) (seed : List ℕ) (r : ℕ) (t : Tables) (now : Content) 
     pub claims : (task : Task) → task.gate ≡ i → IsOwnTask (content_of c seed (with_queue t q)) task
         → Claims now (Some task) (content_of c seed (with_queue t q))
     claims task gate owned =
-        let P : ℕ → Type 0 = MayGoNext (content_of c seed t) in
+        let P : ℕ → Type 0 = IsReady (content_of c seed t) in
         let Q : ℕ → Type 0 =
         λ x. content_of c seed (with_queue t q) ≡ with_state (content_of c seed t) x Claimed in
         let R : Content → Type 0 = λ x. Claims x (Some task) (content_of c seed (with_queue t q)) in
@@ -427,8 +424,8 @@ module _ (c : Netlist) (seed : List ℕ) (r : ℕ) (t : Tables) (now : Content) 
   pub claims_none : (task : Option Task) → task ≡ None → Takes (queue_of t) None q
       → Claims now task (content_of c seed (with_queue t q))
   claims_none None is takes =
-      let P : (i : ℕ) → Content → Type 0 = λ i x. MayGoNext x i in (
-        λ i next. takes.0 i (may_go_ready c seed r t kept i (subst (P i) (sym same) next)),
+      let P : (i : ℕ) → Content → Type 0 = λ i x. IsReady x i in (
+        λ i next. takes.0 i (ready_queued c seed r t kept i (subst (P i) (sym same) next)),
         ap (λ x. content_of c seed (with_queue t x)) takes.1 ∙ same,
       )
   claims_none (Some task) is takes = cc

@@ -9,7 +9,7 @@ use Rattle.std.proofs.lemmas.Option.{slice_get_within, slice_get-get_or}
 use Rattle.gc_netlist.specs.declared.gate.Operation.{Operation}
 use Rattle.gc_netlist.specs.declared.gate.Operation.TheVariants.{Xor, And, Inv, Eq, Eqw}
 use Rattle.gc_netlist.specs.declared.gate.Gate.{Gate}
-use Rattle.gc_netlist.specs.Circuit.{Netlist, IsLawful, is_and, and_number, and_count}
+use Rattle.gc_netlist.specs.Circuit.{Netlist, IsLawful, first_wire, second_wire, is_and, and_number, and_count}
 use Rattle.gc_half.specs.declared.garbling.RowPair.{RowPair}
 use Rattle.gc_half.specs.Canonical.{zero_label_of}
 use Rattle.gc_queue.specs.declared.mark.Mark.{Mark}
@@ -19,8 +19,8 @@ use Rattle.gc_half.specs.Hash.{hash}
 use Rattle.gc_half.specs.OneGate.{gate_rows}
 use Rattle.gc_store.specs.Task.{task_of, sealed_zero_label, sealed_rows}
 use Rattle.gc_queue.specs.Queue.{Standing}
-use Rattle.gc_queue.specs.Readers.{first_wire, second_wire, is_wire, reads_of, unknown, unknown_reads}
-use Rattle.gc_store.specs.Content.{Free, Claimed, Finished, Content, is_finished, IsClaimed, IsKnown, MayGoNext, IsLawfulContent}
+use Rattle.gc_queue.specs.Readers.{is_wire, reads_of, unknown, unknown_reads}
+use Rattle.gc_store.specs.Content.{Free, Claimed, Finished, Content, is_finished, IsClaimed, IsKnown, IsReady, IsLawfulContent}
 use Rattle.gc_store.specs.Step.{with_state, with_sealed}
 use Rattle.gc_store.specs.Kept.{Tables, rows_at, finished_state, state_at, states_of, content_of, IsKept}
 use Rattle.gc_queue.proofs.ListLemmas.{slice_get-set_other, slice_get-set_same, count_by-set, count_by-set_more, slice_get-table, set-table_is}
@@ -165,7 +165,7 @@ module _ (c : Netlist) (lawful : IsLawful c) (t : Tables) (i : ℕ) (g : Gate) (
 -- ---- claiming
 
 module _ (c : Netlist) (seed : List ℕ) (r : ℕ) (t : Tables) (kept : IsKept c seed r t) (i : ℕ)
-    (next : MayGoNext (content_of c seed t) i) where
+    (next : IsReady (content_of c seed t) i) where
   abbrev s : Content
   s = content_of c seed t
 

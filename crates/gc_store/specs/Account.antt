@@ -14,7 +14,7 @@ pub record IsLawfulAccount (s : Account) : Type 0 where
   pub content : IsLawfulContent s.content
   pub tallies : s.tallies ≤ MAX_TALLIES
 
--- A ledger, not begun, for a store whose type gives the ledger this name and so many parts: a part for each tally.
+-- A ledger, not begun, for a store whose type gives the ledger this name and this many parts: a part for each tally.
 pub record IsForStore (type_name type_parts : ℕ) (ledger : Blank) : Type 0 where
   pub name : ledger.name ≡ type_name
   pub parts : ledger.parts ≡ type_parts

@@ -53,8 +53,8 @@ pub record IsFinished (s : Content) (i : ℕ) : Type 0 where
 abbrev pub IsKnown : Content → ℕ → Type 0
 IsKnown s w = (w < input_wires s.circuit) ⊎ ((i : ℕ) × IsSetBy s.circuit w i × IsFinished s i)
 
--- Gate i may go next: it is free, and each wire that it reads is known.
-pub record MayGoNext (s : Content) (i : ℕ) : Type 0 where
+-- Gate i is ready: it is free, and each wire that it reads is known.
+pub record IsReady (s : Content) (i : ℕ) : Type 0 where
   pub gate : Gate
   pub at : slice_get s.circuit.gates i ≡ Some gate
   pub free : slice_get s.states i ≡ Some Free

@@ -1,16 +1,18 @@
 -- How the tables of a store hold its content.
-use Rattle.std.specs.Prelude.{◌≡◌, ℕ, ◌*◌, ◌↔◌, Bool, IsTrue, if◌then◌else◌, List, length, map, Option, Some, None, slice_get, slice_index, slice_index_or, count_by}
+use Rattle.std.specs.Prelude.{◌≡◌, ℕ, ◌+◌, ◌*◌, ◌↔◌, Bool, IsTrue, if◌then◌else◌, List, length, map, Option, Some, None, slice_get, slice_index, slice_index_or, count_by}
 use Rattle.std.specs.List.{range_with_len}
 use Rattle.gc_netlist.specs.declared.gate.Operation.{Operation}
 use Rattle.gc_netlist.specs.declared.gate.Gate.{Gate}
-use Rattle.gc_netlist.specs.Circuit.{Netlist, EachRead, IsSetBy, is_and, and_number, and_count}
+use Rattle.gc_netlist.specs.Circuit.{Netlist, EachRead, IsSetBy, first_wire, second_wire, is_and, and_number, and_count}
 use Rattle.gc_label.specs.Seed.{offset_of}
 use Rattle.gc_half.specs.declared.garbling.RowPair.{RowPair}
 use Rattle.gc_half.specs.Canonical.{zero_label_of}
 use Rattle.gc_queue.specs.declared.mark.Mark.{Mark}
 use Rattle.gc_queue.specs.declared.mark.Mark.TheVariants as mark
+use Rattle.gc_queue.specs.Queue as queue
+use Rattle.gc_queue.specs.Queue.{Standing}
 use Rattle.gc_queue.specs.Readers.{unknown_reads, IsLinked}
-use Rattle.gc_store.specs.Content.{State, Free, Claimed, Finished, Content, is_finished, IsFinished, IsKnown, IsLawfulContent}
+use Rattle.gc_store.specs.Content.{State, Free, Claimed, Finished, Content, is_finished, IsFinished, IsKnown, IsReady, IsLawfulContent}
 
 -- The tables: a mark and a countdown for each gate, the first read of each wire and the next read after each, a zero
 -- label for each wire, the AND number of each gate and a row pair for each AND gate. Then how many gates are finished,
@@ -46,6 +48,10 @@ module _ (c : Netlist) (zero_labels : List ℕ) (rows : List RowPair) where
   unfoldable pub states_of : List Mark → List State
   states_of marks = map (λ i. state_at i (slice_index_or marks i mark.Free)) (range_with_len 0 (length c.gates))
 
+-- the marks and countdowns among the tables, which are the queue's
+abbrev pub queue_of : Tables → Standing
+queue_of t = record { marks = t.marks; countdowns = t.countdowns }
+
 -- The content that the tables hold.
 abbrev pub content_of : Netlist → List ℕ → Tables → Content
 content_of c seed t = record {
@@ -59,6 +65,15 @@ content_of c seed t = record {
 abbrev pub IsAwaited : Content → ℕ → Type 0
 IsAwaited s w = (i : ℕ) × IsSetBy s.circuit w i × (¬ IsFinished s i)
 
+-- whether a read is of a wire that a test picks, as 1 or 0
+abbrev pub picked : (ℕ → Bool) → Option ℕ → ℕ
+picked test None = 0
+picked test (Some w) = if test w then 1 else 0
+
+-- How many reads of an operation are of wires that a test picks.
+abbrev pub picked_reads : (ℕ → Bool) → Operation → ℕ
+picked_reads test op = picked test (first_wire op) + picked test (second_wire op)
+
 -- What the tables keep.
 pub record IsKept (c : Netlist) (seed : List ℕ) (offset : ℕ) (t : Tables) : Type 0 where
   pub lawful : IsLawfulContent (content_of c seed t)
@@ -68,8 +83,7 @@ pub record IsKept (c : Netlist) (seed : List ℕ) (offset : ℕ) (t : Tables) : 
   -- whether each wire is known
   pub known : ℕ → Bool
   pub tells_known : (w : ℕ) → IsTrue (known w) ↔ IsKnown (content_of c seed t) w
-  -- A gate's countdown is the number of its reads of wires that are not known, which are those that an unfinished
-  -- gate sets (IsAwaited).
+  -- A gate's countdown is the number of its reads of wires that are not known.
   pub countdowns : length t.countdowns ≡ length c.gates
   pub counted : (i : ℕ) (g : Gate) → slice_get c.gates i ≡ Some g
       → slice_index_or t.countdowns i 0 ≡ unknown_reads known g.operation
@@ -79,6 +93,15 @@ pub record IsKept (c : Netlist) (seed : List ℕ) (offset : ℕ) (t : Tables) : 
   pub and_numbers : t.and_numbers ≡ map (and_number c) (range_with_len 0 (length c.gates))
   pub rows : length t.rows ≡ and_count c
   pub finished : t.finished ≡ count_by is_finished (content_of c seed t).states
+
+-- What the tables keep, and what follows for the content: the gates of the queue are exactly the ready ones, and a gate's
+-- countdown is the number of its reads whose wire an unfinished gate sets.
+pub record IsStored (c : Netlist) (seed : List ℕ) (offset : ℕ) (t : Tables) : Type 0 where
+  pub kept : IsKept c seed offset t
+  pub ready : (i : ℕ) → queue.IsReady (queue_of t) i ↔ IsReady (content_of c seed t) i
+  pub countdowns : (i : ℕ) (g : Gate) (awaited : ℕ → Bool) → slice_get c.gates i ≡ Some g
+      → ((w : ℕ) → IsTrue (awaited w) ↔ IsAwaited (content_of c seed t) w)
+      → slice_index_or t.countdowns i 0 ≡ picked_reads awaited g.operation
 
 -- Gate i reads known wires alone.
 pub record ReadsKnown (s : Content) (i : ℕ) : Type 0 where

@@ -11,7 +11,7 @@ use Rattle.gc_store.specs.declared.tally.TheConstants.{MAX_TALLIES}
 use Rattle.gc_store.specs.Task.{task_of, sealed_zero_label, sealed_rows}
 use Rattle.gc_store.specs.declared.batch.TheConstants.{BATCH_SIZE}
 use Rattle.gc_store.specs.Account.{Account}
-use Rattle.gc_store.specs.Content.{State, Free, Claimed, Finished, Content, is_claimed, is_finished, IsClaimed, MayGoNext, AllFinished}
+use Rattle.gc_store.specs.Content.{State, Free, Claimed, Finished, Content, is_claimed, is_finished, IsClaimed, IsReady, AllFinished}
 
 -- The task is the store's task for its gate.
 pub record IsOwnTask (s : Content) (task : Task) : Type 0 where
@@ -23,11 +23,11 @@ pub record IsOwnTask (s : Content) (task : Task) : Type 0 where
 abbrev pub with_state : Content → ℕ → State → Content
 with_state s i state = record s { states = slice_set s.states i state }
 
--- A claim: a gate that may go next is claimed from then on, and the answer is its task. Where no gate may go next the
--- answer is None, and nothing changes.
+-- A claim: a ready gate is claimed from then on, and the answer is its task. Where no gate is ready the answer is None,
+-- and nothing changes.
 abbrev pub Claims : Content → Option Task → Content → Type 0
-Claims old None new = ((i : ℕ) → ¬ MayGoNext old i) × (new ≡ old)
-Claims old (Some task) new = MayGoNext old task.gate × IsOwnTask old task × (new ≡ with_state old task.gate Claimed)
+Claims old None new = ((i : ℕ) → ¬ IsReady old i) × (new ≡ old)
+Claims old (Some task) new = IsReady old task.gate × IsOwnTask old task × (new ≡ with_state old task.gate Claimed)
 
 -- Claims one after the other, with these tasks as their answers.
 abbrev pub ClaimsAll : Content → List Task → Content → Type 0
@@ -35,13 +35,13 @@ ClaimsAll old [] new = new ≡ old
 ClaimsAll old (task ∷ tasks) new = (next : Content) × Claims old (Some task) next × ClaimsAll next tasks new
 
 -- Claiming into a batch: tasks are claimed one after the other and put at the end of the batch, until it is full or no
--- gate may go next. The answer is how many this call claimed.
+-- gate is ready. The answer is how many this call claimed.
 pub record ClaimsSome (old : Content) (before : List Task) (answer : ℕ) (new : Content) (after : List Task) : Type 0 where
   pub tasks : List Task
   pub claims : ClaimsAll old tasks new
   pub answer_is : answer ≡ length tasks
   pub batch : after ≡ before ++ tasks
-  pub ends : (length after ≡ BATCH_SIZE) ⊎ ((i : ℕ) → ¬ MayGoNext new i)
+  pub ends : (length after ≡ BATCH_SIZE) ⊎ ((i : ℕ) → ¬ IsReady new i)
 
 -- The content once a sealed task's gate is finished with its zero label and rows.
 abbrev pub with_sealed : Content → Task → Content

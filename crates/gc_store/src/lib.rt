@@ -1,4 +1,4 @@
-//! The store of a garbling in progress: how far each gate of a circuit is, and which gates may go next.
+//! The store of a garbling in progress: how far each gate of a circuit is, and which gates are ready.
 //!
 //! A gate of a [`Store`] is free, claimed or finished. [`Store::claim`] hands out the [`Task`] of a free gate
 //! whose input labels are known, [`Sealed::make`] garbles it, apart from the store, and [`Store::finish`] takes

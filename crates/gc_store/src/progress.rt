@@ -22,7 +22,7 @@ use std::marker::Model;
 use std::thread;
 use std::thread::Threads;
 
-/// From so many threads on, the four parts of an opening go side by side.
+/// From this many threads on, the four parts of an opening go side by side.
 const FOUR: u32 = 4;
 
 /// The gates of a circuit under a seed, and how far each is: free, claimed, or finished with its zero label
@@ -34,7 +34,7 @@ pub(crate) struct Progress<A: Allocator = Global> {
     circuit: Circuit<A>,
     seed: Seed,
     offset: Offset,
-    // How far each gate is, and which may go next.
+    // How far each gate is, and which are ready.
     queue: Queue<A>,
     readers: Readers<A>,
     // By gate.
@@ -52,12 +52,12 @@ impl<A: Allocator> Model for Progress<A> {
 
     ghost Value = { Content };
 
-    ghost use Rattle.gc_store.specs.Kept.{content_of, IsKept};
+    ghost use Rattle.gc_store.specs.Kept.{content_of, IsStored};
     ghost use Rattle.gc_store.specs.Fields.{tables_of};
 
     ghost view = { λ s. content_of s.circuit s.seed (tables_of s) };
 
-    ghost invariant = { λ s. IsKept s.circuit s.seed s.offset (tables_of s) };
+    ghost invariant = { λ s. IsStored s.circuit s.seed s.offset (tables_of s) };
 }
 
 impl<A: Allocator> Progress<A> {
@@ -100,7 +100,8 @@ impl<A: Allocator + Copy> Progress<A> {
 }
 
 impl<A: Allocator + Copy + Send + Sync> Progress<A> {
-    /// A copy of this circuit and this seed with every gate free, by up to so many threads, where they can be started.
+    /// A copy of this circuit and this seed with every gate free, by up to this many threads, where they can
+    /// be started.
     pub(crate) fn open_by<C: Allocator + Sync, R: Threads + Sync>(
         rt: &R,
         alloc: A,
@@ -178,37 +179,31 @@ impl<A: Allocator> Progress<A> {
         self.circuit.equals(circuit) && self.seed == *seed
     }
 
-    /// Claims a gate that may go next, the first of these in file order, and answers its task; or None, exactly where no
-    /// gate may go next.
+    /// Claims a ready gate and answers its task; or None, exactly where no gate is ready. It looks for one from the gate
+    /// `from` on, and then from the first on.
     // A task is so large that returning it takes long where the call is not inlined.
     #[inline(always)]
-    pub(crate) fn claim(&mut self) -> Option<Task>
+    pub(crate) fn claim(&mut self, from: u32) -> Option<Task>
         ensures { Claims self.old result self.new }
     {
-        let gate = self.queue.take()?;
+        let gate = self.queue.take(from)?;
         Some(self.task(gate))
     }
 
-    /// Claims gates until the batch is full or no gate may go next, and puts their tasks into the batch. The
-    /// answer is how many gates this call claimed.
-    pub(crate) fn claim_some(&mut self, batch: &mut Batch) -> u32
+    /// Claims gates until the batch is full or no gate is ready, each as [`Progress::claim`] does, and puts their tasks
+    /// into the batch. The answer is how many gates this call claimed.
+    pub(crate) fn claim_some(&mut self, from: u32, batch: &mut Batch) -> u32
         ensures { ClaimsSome self.old batch.old result self.new batch.new }
     {
         let mut count = 0;
         while !batch.is_full() {
-            let Some(task) = self.claim() else {
+            let Some(task) = self.claim(from) else {
                 break;
             };
             batch.push(task);
             count += 1;
         }
         count
-    }
-
-    /// How many gates may go next.
-    #[inline]
-    pub(crate) fn ready(&self) -> u32 {
-        self.queue.len()
     }
 
     /// Whether a gate is claimed.

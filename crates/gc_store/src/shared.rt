@@ -1,7 +1,7 @@
 //! A store that threads share.
 
-ghost use Rattle.std.specs.Prelude.{◌≡◌, IfSome, IfNone};
-ghost use Rattle.gc_store.specs.Shared.{ClaimsMore, ClaimsMoreEach, FinishesAll, HandsIn, HandsInAll};
+ghost use Rattle.std.specs.Prelude.{◌≡◌, IsFalse};
+ghost use Rattle.gc_store.specs.Shared.{ClaimsUnless, FinishesAll, FinishesUpTo, HandsIn, HandsInAll, HandsOver, Looks, NoneReady, Wakes};
 
 use crate::batch::Batch;
 use crate::refusal::Refused;
@@ -14,15 +14,11 @@ use std::hint::spin_loop;
 use std::sync::ledger::Ledger;
 use std::sync::{Condvar, Mutex, MutexGuard, Wait};
 
-/// How often a thread tries for the lock, or looks for a gate, before it sleeps: waking costs more than a section
-/// takes.
+/// How often a thread tries for the lock before it sleeps: waking costs more than a section takes.
 const TRIES: u32 = 200;
 
-/// How long a thread pauses between two tries, in turns of a loop.
+/// How long a thread pauses between two tries, in turns of a loop: less than a section takes.
 const PAUSE: u32 = 10;
-
-/// How many gates have to be ready for a second batch: a claim of many is to leave others as many.
-const PLENTY: u32 = 256;
 
 /// What the lock is round: a store, whether it was stopped, and how many threads sleep for want of a task and were
 /// not woken yet.
@@ -48,7 +44,7 @@ pub struct SharedStore<L: Ledger, A: Allocator = Global> {
 enum Finding {
     /// A task.
     Task(Task),
-    /// No gate may go next, but some are claimed.
+    /// No gate is ready, but one is claimed.
     Later,
     /// Nothing is left to do, or the store was stopped.
     Nothing,
@@ -56,24 +52,21 @@ enum Finding {
 
 /// Whom a hand-in wakes.
 enum Call {
-    /// A gate may go next, so one thread that sleeps.
+    /// A gate may be ready, so one thread that sleeps.
     One,
-    /// No gate is claimed, so all threads that sleep are to end.
+    /// No gate is claimed, so all threads that sleep.
     All,
     /// Nobody.
     Nobody,
 }
 
-/// Pauses for less than a critical section takes.
-fn pause() {
-    for _i in 0..PAUSE {
-        spin_loop();
-    }
-}
-
 impl<L: Ledger, A: Allocator> Desk<L, A> {
     /// Looks for a task.
-    fn look(&mut self) -> Finding {
+    fn look(&mut self) -> Finding
+        ensures looks { Looks self.old.stopped self.old.store.content result self.new.store.content }
+        ensures stopped { self.new.stopped ≡ self.old.stopped }
+        ensures sleeping { self.new.sleeping ≡ self.old.sleeping }
+    {
         if self.stopped {
             return Finding::Nothing;
         }
@@ -84,44 +77,27 @@ impl<L: Ledger, A: Allocator> Desk<L, A> {
         }
     }
 
-    /// Claims into the batches, one after another, into the first where so many gates may go next and into the others
-    /// where they are plenty.
-    fn claim_each(&mut self, batches: &mut [Batch], reserve: u32)
-        ensures { ClaimsMoreEach batches.old batches.new }
+    /// Claims into the batch from the gate `from` on, unless the store was stopped. The answer is whether ready gates may
+    /// be left.
+    fn claim_from(&mut self, from: u32, batch: &mut Batch) -> bool
+        ensures claims { ClaimsUnless self.old.stopped self.old.store.content batch.old self.new.store.content batch.new }
+        ensures none { IsFalse result → NoneReady self.new.store.content }
+        ensures stopped { self.new.stopped ≡ self.old.stopped }
+        ensures sleeping { self.new.sleeping ≡ self.old.sleeping }
     {
-        if let Some((first, others)) = batches.split_first_mut() {
-            self.claim_some(first, reserve);
-            self.claim_each(others, PLENTY);
+        if self.stopped {
+            return true;
         }
-    }
-
-    /// Claims into the batch, unless the store was stopped or fewer gates may go next than the reserve. Threads
-    /// that sleep are left as many gates each as it claims.
-    fn claim_some(&mut self, batch: &mut Batch, reserve: u32)
-        ensures { ClaimsMore batch.old batch.new }
-    {
-        if self.stopped || self.store.ready() < reserve {
-            return;
-        }
-        if self.sleeping == 0 {
-            self.store.claim_some(batch);
-            return;
-        }
-        let share = self.store.ready() / self.sleeping.saturating_add(1);
-        for _i in 0..share.max(1) {
-            if batch.is_full() {
-                return;
-            }
-            let Some(task) = self.store.claim() else {
-                return;
-            };
-            batch.push(task);
-        }
+        self.store.claim_from(from, batch);
+        batch.is_full()
     }
 
     /// Finishes sealed tasks one after another, until one is refused.
     fn finish_all(&mut self, sealed: &[Sealed], tally: &mut Tally<L>) -> Result<(), Refused>
-        ensures { FinishesAll sealed.now tally.old result tally.new }
+        ensures tally { FinishesAll sealed.now tally.old result tally.new }
+        ensures content { FinishesUpTo self.old.store.content sealed.now result self.new.store.content }
+        ensures stopped { self.new.stopped ≡ self.old.stopped }
+        ensures sleeping { self.new.sleeping ≡ self.old.sleeping }
     {
         for task in sealed {
             if let Err(refused) = self.store.finish(*task, tally) {
@@ -131,42 +107,46 @@ impl<L: Ledger, A: Allocator> Desk<L, A> {
         Ok(())
     }
 
-    /// Finishes sealed tasks, and claims into the batches where none is refused. The answer is whether the store is now
-    /// complete, and whom to wake.
-    #[inline(always)]
+    /// Finishes sealed tasks, and claims into the batch where none is refused, from the first of their gates on. The
+    /// answer is whether the store is now complete, and whom to wake.
     fn hand_in_all(
         &mut self,
         sealed: &[Sealed],
         tally: &mut Tally<L>,
-        batches: &mut [Batch],
+        batch: &mut Batch,
     ) -> (Result<bool, Refused>, Call)
-        ensures { HandsInAll sealed.now tally.old batches.old result.0 tally.new batches.new }
+        ensures lent { HandsInAll sealed.now tally.old batch.old result.0 tally.new batch.new }
+        ensures content { HandsOver self.old.stopped self.old.store.content sealed.now batch.old result.0
+            self.new.store.content batch.new }
+        ensures wakes { Wakes self.new.store.content self.old.sleeping result.1 self.new.sleeping }
+        ensures stopped { self.new.stopped ≡ self.old.stopped }
     {
-        let finished = self.finish_all(sealed, tally);
-        if finished.is_ok() {
-            self.claim_each(batches, 0);
+        if let Err(refused) = self.finish_all(sealed, tally) {
+            return (Err(refused), self.call(true));
         }
-        let call = self.call();
-        match finished {
-            Ok(()) => (Ok(self.store.is_complete()), call),
-            Err(refused) => (Err(refused), call),
-        }
+        let from = sealed.first().map_or(0, |first| first.task().gate);
+        let may_be_ready = self.claim_from(from, batch);
+        (Ok(self.store.is_complete()), self.call(may_be_ready))
     }
 
     /// Whom to wake, and counts them as awake.
-    fn call(&mut self) -> Call {
+    fn call(&mut self, may_be_ready: bool) -> Call
+        requires { IsFalse may_be_ready → NoneReady self.old.store.content }
+        ensures wakes { Wakes self.new.store.content self.old.sleeping result self.new.sleeping }
+        ensures same { self.new.store ≡ self.old.store }
+        ensures stopped { self.new.stopped ≡ self.old.stopped }
+    {
         if self.sleeping == 0 {
-            return Call::Nobody;
-        }
-        if self.store.ready() > 0 {
+            Call::Nobody
+        } else if !self.store.has_claimed() {
+            self.sleeping = 0;
+            Call::All
+        } else if may_be_ready {
             self.sleeping -= 1;
-            return Call::One;
+            Call::One
+        } else {
+            Call::Nobody
         }
-        if self.store.has_claimed() {
-            return Call::Nobody;
-        }
-        self.sleeping = 0;
-        Call::All
     }
 }
 
@@ -185,11 +165,13 @@ impl<L: Ledger, A: Allocator> SharedStore<L, A> {
 
     /// Takes the lock: it tries for a while before it sleeps.
     fn enter<R: Wait>(&self, rt: &R) -> MutexGuard<'_, CachePadded<Desk<L, A>>> {
-        for _i in 0..TRIES {
+        for _try in 0..TRIES {
             if let Some(desk) = self.desk.try_lock() {
                 return desk;
             }
-            pause();
+            for _turn in 0..PAUSE {
+                spin_loop();
+            }
         }
         self.desk.lock(rt)
     }
@@ -203,21 +185,9 @@ impl<L: Ledger, A: Allocator> SharedStore<L, A> {
         }
     }
 
-    /// Claims a gate that may go next, and answers its task. It waits while no gate may go next and some gate is
-    /// claimed. None says that nothing is left to do, or that the store was stopped.
-    pub fn take(&self, rt: &impl Wait) -> Option<Task> {
-        for _i in 0..TRIES {
-            match self.enter(rt).look() {
-                Finding::Task(task) => return Some(task),
-                Finding::Nothing => return None,
-                Finding::Later => pause(),
-            }
-        }
-        self.take_or_sleep(rt)
-    }
-
-    /// The same, and it sleeps while it waits.
-    fn take_or_sleep<R: Wait>(&self, rt: &R) -> Option<Task> {
+    /// Claims a ready gate, and answers its task. It waits while no gate is ready and some gate is claimed. None says that
+    /// nothing is left to do, or that the store was stopped.
+    pub fn take<R: Wait>(&self, rt: &R) -> Option<Task> {
         let mut desk = self.enter(rt);
         for _ in rt.forever() {
             match desk.look() {
@@ -245,19 +215,11 @@ impl<L: Ledger, A: Allocator> SharedStore<L, A> {
     ) -> Result<bool, Refused>
         ensures { HandsIn sealed tally.old batch.old result tally.new batch.new }
     {
-        let mut guard = self.enter(rt);
-        let desk = &mut **guard;
-        let complete = desk.store.finish(sealed, tally)?;
-        desk.claim_some(batch, 0);
-        let call = desk.call();
-        drop(guard);
-        self.wake(call);
-        Ok(complete)
+        self.hand_in_all(rt, &[sealed], tally, batch)
     }
 
     /// Takes sealed tasks back one after another, each as [`SharedStore::hand_in`] does, and then claims gates into
-    /// the batches; all in one critical section. Into batches after the first it claims only where many gates may
-    /// go next. The answer is whether the store is now complete.
+    /// the batch; all in one critical section. The answer is whether the store is now complete.
     ///
     /// It ends at the first that is refused, and then claims nothing. Those before it are finished and counted, and
     /// those after it are not.
@@ -266,33 +228,15 @@ impl<L: Ledger, A: Allocator> SharedStore<L, A> {
         rt: &impl Wait,
         sealed: &[Sealed],
         tally: &mut Tally<L>,
-        batches: &mut [Batch],
+        batch: &mut Batch,
     ) -> Result<bool, Refused>
-        ensures { HandsInAll sealed.now tally.old batches.old result tally.new batches.new }
+        ensures { HandsInAll sealed.now tally.old batch.old result tally.new batch.new }
     {
-        let mut guard = self.enter(rt);
-        let (handed_in, call) = guard.hand_in_all(sealed, tally, batches);
-        drop(guard);
+        let mut desk = self.enter(rt);
+        let (handed_in, call) = desk.hand_in_all(sealed, tally, batch);
+        drop(desk);
         self.wake(call);
         handed_in
-    }
-
-    /// The same, where it gets the lock at once. None says that it doesn't, and then nothing changes.
-    pub fn try_hand_in_all(
-        &self,
-        sealed: &[Sealed],
-        tally: &mut Tally<L>,
-        batches: &mut [Batch],
-    ) -> Option<Result<bool, Refused>>
-        ensures some { IfSome result (λ handed_in.
-            HandsInAll sealed.now tally.old batches.old handed_in tally.new batches.new) }
-        ensures none { IfNone result ((tally.new ≡ tally.old) × (batches.new ≡ batches.old)) }
-    {
-        let mut guard = self.desk.try_lock()?;
-        let (handed_in, call) = guard.hand_in_all(sealed, tally, batches);
-        drop(guard);
-        self.wake(call);
-        Some(handed_in)
     }
 
     /// Ends the work: from now on no task is given out, and what is sealed is still taken back.

@@ -1,8 +1,8 @@
 //! The store: the progress of a garbling, and the tallies of those who work at it.
 
-ghost use Rattle.std.specs.Prelude.{◌≡◌, ◌↔◌, ◌+◌, IsTrue, IfOk, IfErr, OnOk, OnErr, count_by};
+ghost use Rattle.std.specs.Prelude.{◌≡◌, ◌↔◌, ◌+◌, ℕ, IsTrue, IfOk, IfErr, OnOk, OnErr, count_by};
 ghost use Rattle.gc_half.specs.Garbling.{IsGarbled};
-ghost use Rattle.gc_store.specs.Content.{is_finished, AllFinished};
+ghost use Rattle.gc_store.specs.Content.{is_finished, AllFinished, IsClaimed};
 ghost use Rattle.gc_store.specs.Account.{IsLawfulAccount, IsForStore, IsOpened};
 ghost use Rattle.gc_store.specs.declared.tally.TheConstants.{MAX_TALLIES};
 ghost use Rattle.gc_store.specs.Step.{Claims, ClaimsSome, Finishes, Deals, Settles, Reopens};
@@ -47,7 +47,7 @@ impl<L: Ledger, A: Allocator> Model for Store<L, A> {
     ghost view = { λ s. record { content = s.progress; tallies = s.tallies } };
 
     ghost invariant = { λ s. (s.book.total ≡ count_by is_finished s.progress.states)
-        × (s.rest.parts + s.tallies ≡ MAX_TALLIES) × (s.rest.amount ≡ 0) };
+        × (s.rest.parts + s.tallies ≡ MAX_TALLIES) × (s.rest.amount ≡ 0) × (L.parts ≡ MAX_TALLIES) };
 }
 
 impl<L: Ledger, A: Allocator> Store<L, A> {
@@ -84,8 +84,8 @@ impl<L: Ledger, A: Allocator + Copy> Store<L, A> {
 }
 
 impl<L: Ledger, A: Allocator + Copy + Send + Sync> Store<L, A> {
-    /// A store of a copy of this circuit, else as [`Store::open`] opens one. It is opened by up to so many threads, where
-    /// they can be started: by two, or by four where four are asked for.
+    /// A store of a copy of this circuit, else as [`Store::open`] opens one. It is opened by up to this many threads,
+    /// where they can be started: by two, or by four where four are asked for.
     pub fn open_by<C: Allocator + Sync, R: Threads + Sync>(
         rt: &R,
         alloc: A,
@@ -138,23 +138,30 @@ impl<L: Ledger, A: Allocator> Store<L, A> {
         Some(Tally::new(share))
     }
 
-    /// Claims a gate that may go next, the first of these in file order, and answers its task; or None, exactly where no
-    /// gate may go next.
+    /// Claims a ready gate and answers its task; or None, exactly where no gate is ready.
     #[inline(always)]
     pub fn claim(&mut self) -> Option<Task>
         ensures step { Claims self.old.content result self.new.content }
         ensures tallies { self.new.tallies ≡ self.old.tallies }
     {
-        self.progress.claim()
+        self.progress.claim(0)
     }
 
-    /// Claims gates that may go next, and puts their tasks into the batch, until it is full or no gate may go next.
-    /// The answer is how many this call claimed.
+    /// Claims ready gates, and puts their tasks into the batch, until it is full or no gate is ready. The answer is how
+    /// many this call claimed.
     pub fn claim_some(&mut self, batch: &mut Batch) -> u32
         ensures step { ClaimsSome self.old.content batch.old result self.new.content batch.new }
         ensures tallies { self.new.tallies ≡ self.old.tallies }
     {
-        self.progress.claim_some(batch)
+        self.claim_from(0, batch)
+    }
+
+    /// The same. It looks for ready gates from the gate `from` on, and then from the first on.
+    pub(crate) fn claim_from(&mut self, from: u32, batch: &mut Batch) -> u32
+        ensures step { ClaimsSome self.old.content batch.old result self.new.content batch.new }
+        ensures tallies { self.new.tallies ≡ self.old.tallies }
+    {
+        self.progress.claim_some(from, batch)
     }
 
     /// Makes each claimed gate free again. The answer is how many they were.
@@ -165,13 +172,10 @@ impl<L: Ledger, A: Allocator> Store<L, A> {
         self.progress.reopen()
     }
 
-    /// How many gates may go next.
-    pub(crate) fn ready(&self) -> u32 {
-        self.progress.ready()
-    }
-
     /// Whether a gate is claimed.
-    pub(crate) fn has_claimed(&self) -> bool {
+    pub(crate) fn has_claimed(&self) -> bool
+        ensures { IsTrue result ↔ ((i : ℕ) × IsClaimed self.now.content i) }
+    {
         self.progress.has_claimed()
     }
 
@@ -200,7 +204,6 @@ impl<L: Ledger, A: Allocator> Store<L, A> {
         &mut self,
         tallies: &mut Vec<Tally<L>, C>,
     ) -> Result<u64, TallyMissing>
-        requires { L.parts ≡ MAX_TALLIES }
         ensures answer { Settles self.old tallies.old.items result }
         ensures same { (self.new ≡ self.old) × (tallies.new.items ≡ tallies.old.items) }
     {

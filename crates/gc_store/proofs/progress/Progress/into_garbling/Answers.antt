@@ -6,10 +6,10 @@ use Rattle.gc_store.proofs.progress.Progress.into_garbling.Goals as goal
 
 pub from_parts-requires : goal.from_parts-requires
 from_parts-requires g c =
-    let count = ap length c.self.invariant.zero_labels
+    let count = ap length c.self.invariant.kept.zero_labels
     ∙ length-map-range_with_len
-    (known_label c.self.inside.circuit c.self.inside.seed c.self.invariant.known) 0 c.self.inside.circuit.wires in
-    omega (arith, count, c.output_wires.ensures, c.self.invariant.lawful.circuit.outputs_fit)
+    (known_label c.self.inside.circuit c.self.inside.seed c.self.invariant.kept.known) 0 c.self.inside.circuit.wires in
+    omega (arith, count, c.output_wires.ensures, c.self.invariant.kept.lawful.circuit.outputs_fit)
 
 pub returns-clause-complete : goal.returns-clause-complete
 returns-clause-complete g c =
@@ -23,4 +23,4 @@ returns-clause-complete g c =
       rows = c.self.inside.rows;
       outputs = n;
     }) c.output_wires.ensures in
-    (all, garbling_is _ _ _ _ _ c.from_parts.result c.self.view_is c.self.invariant all parts)
+    (all, garbling_is _ _ _ _ _ c.from_parts.result c.self.view_is c.self.invariant.kept all parts)

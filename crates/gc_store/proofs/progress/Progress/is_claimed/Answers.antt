@@ -4,14 +4,14 @@ use Rattle.gc_store.proofs.StoreLemmas.{claimed_is, not_claimed, claimed_reads}
 use Rattle.gc_store.proofs.progress.Progress.is_claimed.Goals as goal
 
 pub is_claimed-requires : goal.is_claimed-requires
-is_claimed-requires g c = omega (arith, c.gates.ensures.count, c.if-i-gates.true, c.self.invariant.marks)
+is_claimed-requires g c = omega (arith, c.gates.ensures.count, c.if-i-gates.true, c.self.invariant.kept.marks)
 
 pub returns-then-i-gates : goal.returns-then-i-gates
 returns-then-i-gates g c =
-    let is = claimed_is _ _ _ _ _ c.args.i c.self.view_is c.self.invariant in
+    let is = claimed_is _ _ _ _ _ c.args.i c.self.view_is c.self.invariant.kept in
     record {
       claimed = (λ yes. is.0 (c.is_claimed.ensures.0 yes), λ claimed. c.is_claimed.ensures.1 (is.1 claimed));
-      reads = λ yes. claimed_reads _ _ _ _ _ c.args.i c.self.view_is c.self.invariant (is.0 (c.is_claimed.ensures.0 yes));
+      reads = λ yes. claimed_reads _ _ _ _ _ c.args.i c.self.view_is c.self.invariant.kept (is.0 (c.is_claimed.ensures.0 yes));
     }
 
 pub returns-else-i-gates : goal.returns-else-i-gates
@@ -21,7 +21,7 @@ returns-else-i-gates g c =
     record {
       claimed = (
         λ yes. let z : ⊥ = cc in absurd z,
-        λ claimed. absurd (not_claimed _ _ _ _ _ c.args.i c.self.view_is c.self.invariant
+        λ claimed. absurd (not_claimed _ _ _ _ _ c.args.i c.self.view_is c.self.invariant.kept
             (omega (arith, c.gates.ensures.count)) claimed),
       );
       reads = λ yes. let z : ⊥ = cc in absurd z;

@@ -10,4 +10,5 @@ invariant_of-self-2 g c = (
   omega (arith, c.self.invariant, c.raise.ensures.total, finishes-count _ _ _ _ c.in_ok-complete.ensures),
   c.self.invariant.1,
   c.self.invariant.2,
+  c.self.invariant.3,
 )
