@@ -1,5 +1,5 @@
-//! The workers that garble or evaluate a circuit together: how many there may be, and who is told of each gate before one
-//! of them goes about it.
+//! The workers that garble or evaluate a circuit together: how many there may be, and the [`Gatehouse`], which observes
+//! them.
 #![tactic(auto)]
 
 mod gatehouse;

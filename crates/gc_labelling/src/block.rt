@@ -29,7 +29,8 @@ impl<P: Pending, O: Origin<P>, A: Allocator> Model for Block<P, O, A> {
 
     ghost view = { λ t. t.gates.items };
 
-    ghost invariant = { λ t. All O.is_pending t.gates.items × (length t.gates.items ≤ length t.made.items) };
+    ghost invariant = { λ t. All O.is_pending t.gates.items
+        × (length t.gates.items ≤ length t.made.items) };
 }
 
 impl<P: Pending, O: Origin<P>, A: Allocator + Copy> Block<P, O, A> {
@@ -82,8 +83,8 @@ impl<P: Pending, O: Origin<P>, A: Allocator> Block<P, O, A> {
         Ok(())
     }
 
-    /// Makes its gates, of which a worker tells the house first.
-    pub(crate) fn seal<H: Gatehouse>(self, house: &H, worker: u32) -> Sealed<P, O, A>
+    /// Makes its gates, as this worker, which reports each to the observer first.
+    pub(crate) fn seal<H: Gatehouse>(self, observer: &H, worker: u32) -> Sealed<P, O, A>
         ensures { result ≡ self }
     {
         let Block {
@@ -92,7 +93,7 @@ impl<P: Pending, O: Origin<P>, A: Allocator> Block<P, O, A> {
             origin,
         } = self;
         for gate in &gates {
-            house.before(worker, gate.place());
+            observer.before(worker, gate.place());
         }
         P::make_all(&gates, &mut made);
         Sealed {
@@ -119,7 +120,8 @@ impl<P: Pending, O: Origin<P>, A: Allocator> Model for Sealed<P, O, A> {
 
     ghost view = { λ t. t.gates.items };
 
-    ghost invariant = { λ t. All O.is_pending t.gates.items × (length t.gates.items ≤ length t.made.items)
+    ghost invariant = { λ t. All O.is_pending t.gates.items
+        × (length t.gates.items ≤ length t.made.items)
         × AreMade P.made_of t.gates.items t.made.items };
 }
 

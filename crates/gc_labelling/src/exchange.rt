@@ -12,41 +12,40 @@ use std::alloc::Allocator;
 use std::hint::spin_loop;
 use std::sync::{Condvar, Mutex, Wait};
 
-/// The most blocks that are with others.
+/// The most blocks that are with the helpers.
 pub(crate) const MOST_OUT: usize = 64;
 
-/// How often a thread looks for a block before it asks whether more will come,
+/// How often a thread looks for a block before it checks whether more will come,
 const TRIES: u32 = 64;
 
-/// and how often it asks before it sleeps: waking costs more than making a block takes.
+/// and how often it checks before it sleeps: waking costs more than making a block.
 const ROUNDS: u32 = 16;
 
-/// How long a thread pauses between two looks, in turns of a loop.
+/// How many turns of a loop a thread pauses between two looks.
 const PAUSE: u32 = 8;
 
-/// What those are told who find no block to be made.
+/// What a helper that finds no block to be made needs to know.
 #[derive(Drop)]
 struct Offers {
     // No more blocks will come.
     closed: bool,
-    // How many threads that take blocks haven't come yet.
+    // How many helpers haven't begun yet.
     absent: usize,
-    // How many threads sleep for want of a block.
+    // How many helpers sleep until a block is offered.
     sleeping: u32,
 }
 
-/// What the thread is told that finds no block that is made.
+/// What the calling thread needs to know where it finds no block that is made.
 #[derive(Drop)]
 struct Returns {
     // A block was lost for want of room.
     lost: bool,
-    // Whether the thread sleeps for want of a block.
+    // Whether the thread sleeps until a block is made.
     is_awaited: bool,
 }
 
-/// Where the thread that goes from gate to gate offers blocks, and others take them and hand them in when they are made. The locks
-/// are round what they tell each other, and not round the blocks; there is one for either way, so that handing in
-/// doesn't wait for offering.
+/// Where the calling thread offers blocks, and helpers take them, make them and hand them in. The blocks go through
+/// queues without a lock. A lock for each queue guards who sleeps, so that handing in doesn't wait for offering.
 #[derive(Drop)]
 pub(crate) struct Exchange<P: Pending, O: Origin<P>, A: Allocator> {
     offered: ArrayQueue<Block<P, O, A>, A>,
@@ -74,12 +73,11 @@ fn pause() {
 }
 
 impl<P: Pending, O: Origin<P>, A: Allocator + Copy> Exchange<P, O, A> {
-    /// An exchange of which so many threads take blocks. Where there are none nobody offers any.
+    /// An exchange of which this many helpers take blocks.
     pub(crate) fn open(alloc: A, helpers: usize) -> Result<Exchange<P, O, A>, Memory> {
-        let room = if helpers == 0 { 1 } else { MOST_OUT };
         Ok(Exchange {
-            offered: ArrayQueue::new(alloc, room)?,
-            sealed: ArrayQueue::new(alloc, room)?,
+            offered: ArrayQueue::new(alloc, MOST_OUT)?,
+            sealed: ArrayQueue::new(alloc, MOST_OUT)?,
             offers: Mutex::new(Offers {
                 closed: false,
                 absent: helpers,
@@ -207,9 +205,9 @@ impl<P: Pending, O: Origin<P>, A: Allocator> Exchange<P, O, A> {
         unreachable!()
     }
 
-    /// Sleeps until the last thread comes, a block is offered, or no more will come. Threads that have just been started
-    /// may share a processor for many milliseconds while another is idle; one that is woken gets an idle one.
-    fn come<R: Wait>(&self, rt: &R) {
+    /// Sleeps until the last helper begins, a block is offered, or no more will come. Threads that have just been
+    /// started may share a processor for many milliseconds while another is idle; one that is woken gets an idle one.
+    fn begin<R: Wait>(&self, rt: &R) {
         let mut offers = self.offers.lock(rt);
         offers.absent = offers.absent.saturating_sub(1);
         if offers.absent == 0 {
@@ -223,17 +221,17 @@ impl<P: Pending, O: Origin<P>, A: Allocator> Exchange<P, O, A> {
     }
 
     /// Makes what is offered, as the worker of this number, until no more will come.
-    pub(crate) fn help<H: Gatehouse, R: Wait>(&self, rt: &R, house: &H, worker: u32) {
-        self.come(rt);
+    pub(crate) fn help<H: Gatehouse, R: Wait>(&self, rt: &R, observer: &H, worker: u32) {
+        self.begin(rt);
         for _ in rt.forever() {
             let Some(block) = self.take(rt) else {
                 return;
             };
-            self.hand_in(rt, block.seal(house, worker));
+            self.hand_in(rt, block.seal(observer, worker));
         }
     }
 
-    /// No more blocks will come: threads that wait end.
+    /// No more blocks will come: helpers that wait end.
     pub(crate) fn close(&self, rt: &impl Wait) {
         self.offers.lock(rt).closed = true;
         self.has_offered.notify_all();

@@ -10,8 +10,8 @@ use crate::place::Place;
 use gc_circuit::Gate;
 use gc_label::Label;
 
-/// A label for each wire of a circuit, of which each gate's follows from those of the wires that it reads. AND gates can
-/// wait, and be made many at once.
+/// A label for each wire of a circuit, of which each gate's follows from those of the wires that it reads. AND gates
+/// can wait, and be made many at once.
 pub trait Labelling<P: Pending>: Drop {
     // the circuit
     ghost circuit_of: { Self → Netlist };

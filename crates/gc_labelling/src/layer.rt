@@ -6,8 +6,9 @@ ghost use Rattle.gc_labelling.specs.declared.mark.Mark.TheVariants.{Absent, Ther
 ghost use Rattle.gc_labelling.specs.Layer.{AreLabels, IsLabelled, IsOriginOf, IsPlace};
 
 use crate::block::{Block, Sealed};
-use crate::crew::Crew;
 use crate::exchange::MOST_OUT;
+use crate::helpers::Helpers;
+use crate::labelled::Labelled;
 use crate::labelling::Labelling;
 use crate::mark::Mark;
 use crate::origin::Origin;
@@ -23,15 +24,19 @@ use std::marker::Model;
 use std::mem::replace;
 use std::sync::Wait;
 
-/// The most gates that are postponed where several threads make blocks. One thread makes those that wait as soon as a gate
-/// is postponed, since a longer block saves it nothing.
-const MOST_POSTPONED: u16 = 512;
-
 /// A label for each wire of a circuit, as far as they are there: a wire without a label has zero. AND gates that read
-/// labels which are there wait to be made together: they are a layer. Gates that read a wire without a label are postponed
-/// until it has one.
+/// labels which are there wait to be made together: they are a layer. Gates that read a wire without a label are
+/// postponed until it has one.
 #[derive(Drop)]
-pub(crate) struct Layer<'c, P: Pending, O: Origin<P>, L: Labelling<P>, A: Allocator, C: Allocator> {
+pub(crate) struct Layer<
+    'c,
+    P: Pending,
+    O: Origin<P>,
+    L: Labelling<P>,
+    A: Allocator,
+    C: Allocator,
+    H: Gatehouse,
+> {
     circuit: &'c Circuit<C>,
     labelling: L,
     // By wire.
@@ -40,95 +45,90 @@ pub(crate) struct Layer<'c, P: Pending, O: Origin<P>, L: Labelling<P>, A: Alloca
     marks: Vec<Mark, A>,
     waiting: Block<P, O, A>,
     postponed: Postponed<'c, A, C>,
+    helpers: Helpers<'c, P, O, A, H>,
 }
 
-impl<'c, P: Pending, O: Origin<P>, L: Labelling<P>, A: Allocator, C: Allocator> Model
-    for Layer<'c, P, O, L, A, C> {
+impl<'c, P: Pending, O: Origin<P>, L: Labelling<P>, A: Allocator, C: Allocator, H: Gatehouse> Model
+    for Layer<'c, P, O, L, A, C, H> {
     ghost use Rattle.gc_labelling.specs.Layer.{IsLayer};
 
     ghost Value = { L };
 
     ghost view = { λ t. t.labelling };
 
-    ghost invariant = { λ t. IsLayer (L.circuit_of t.labelling) (L.label_of t.labelling) O.is_pending
-        (L.is_pending t.labelling) t.circuit.now t.labels.items t.marks.items t.postponed };
+    ghost invariant = { λ t. IsLayer (L.circuit_of t.labelling) (L.label_of t.labelling)
+        O.is_pending (L.is_pending t.labelling) t.circuit.now t.labels.items t.marks.items t.postponed };
 }
 
-impl<'c, P: Pending, O: Origin<P>, L: Labelling<P>, A: Allocator + Copy, C: Allocator> Layer<
+impl<
     'c,
-    P,
-    O,
-    L,
-    A,
-    C,
-> {
+    P: Pending,
+    O: Origin<P>,
+    L: Labelling<P>,
+    A: Allocator + Copy,
+    C: Allocator,
+    H: Gatehouse,
+> Layer<'c, P, O, L, A, C, H> {
     /// A labelling of which these labels are there, those of the input wires among them, and no gate waits.
     pub(crate) fn open(
         alloc: A,
         circuit: &'c Circuit<C>,
         labelling: L,
         labels: Vec<Label, A>,
-        is_shared: bool,
-    ) -> Result<Layer<'c, P, O, L, A, C>, Memory>
+        helpers: Helpers<'c, P, O, A, H>,
+    ) -> Result<Layer<'c, P, O, L, A, C, H>, Memory>
         requires circuit { L.circuit_of labelling ≡ circuit.now }
         requires labels { AreLabels circuit.now (L.label_of labelling) 0 labels.items }
         requires origin { IsOriginOf O.is_pending (L.is_pending labelling) }
         ensures { IfOk result (λ l. l ≡ labelling) }
     {
-        let most_postponed = if is_shared { MOST_POSTPONED } else { 1 };
-        let _ = circuit.gates();
+        circuit.law_lawful();
         Ok(Layer {
             circuit,
             labelling,
             labels,
             marks: input_marks(alloc, circuit)?,
             waiting: Block::open(alloc)?,
-            postponed: Postponed::open(alloc, circuit, most_postponed)?,
+            postponed: Postponed::open(alloc, circuit)?,
+            helpers,
         })
     }
 
     /// Goes from gate to gate.
-    pub(crate) fn pass<H: Gatehouse, R: Wait>(
-        &mut self,
-        rt: &R,
-        crew: &mut Crew<'_, P, O, A, H>,
-    ) -> Result<(), Memory>
+    pub(crate) fn pass<R: Wait>(&mut self, rt: &R) -> Result<(), Memory>
         ensures { self.new ≡ self.old }
     {
         let circuit = self.circuit;
         let mut k = 0;
         for i in 0..circuit.gates() {
             let gate = circuit.gate(i);
-            self.visit(crew, Place { gate: i, k }, gate)?;
+            self.visit(Place { gate: i, k }, gate)?;
             if gate.operation.is_and() {
                 k += 1;
             }
-            self.keep_up(rt, crew)?;
+            self.keep_up(rt)?;
         }
         Ok(())
     }
 
     /// Goes on until no gate waits.
-    pub(crate) fn finish<H: Gatehouse, R: Wait>(
-        &mut self,
-        rt: &R,
-        crew: &mut Crew<'_, P, O, A, H>,
-    ) -> Result<(), Memory>
+    pub(crate) fn finish<R: Wait>(&mut self, rt: &R) -> Result<(), Memory>
         ensures { self.new ≡ self.old }
     {
         for _ in rt.forever() {
-            if self.waiting.is_empty() && crew.has_all() {
+            if self.waiting.is_empty() && self.helpers.are_idle() {
                 return Ok(());
             }
-            self.advance(rt, crew)?;
+            self.advance(rt)?;
         }
         unreachable!()
     }
 
     /// The labelling, the labels and their marks.
-    pub(crate) fn into_parts(self) -> (L, Vec<Label, A>, Vec<Mark, A>)
-        ensures labelling { result.0 ≡ self.entry }
-        ensures labels { IsLabelled (L.circuit_of self.entry) (L.label_of self.entry) result.1.items result.2.items }
+    pub(crate) fn into_labelled(self) -> Labelled<L, A>
+        ensures labelling { result.labelling ≡ self.entry }
+        ensures labels { IsLabelled (L.circuit_of self.entry) (L.label_of self.entry)
+            result.labels.items result.marks.items }
     {
         let Layer {
             circuit: _,
@@ -137,59 +137,51 @@ impl<'c, P: Pending, O: Origin<P>, L: Labelling<P>, A: Allocator + Copy, C: Allo
             marks,
             waiting: _,
             postponed: _,
+            helpers: _,
         } = self;
-        (labelling, labels, marks)
+        Labelled {
+            labelling,
+            labels,
+            marks,
+        }
     }
 
-    /// Hands the gates out that wait, where they are a block, visits those whose labels are there now, and makes room for
-    /// more that are postponed.
+    /// Hands the gates out that wait, where they are a block, visits those whose labels are there now, and makes room
+    /// for more that are postponed.
     #[inline]
-    fn keep_up<H: Gatehouse, R: Wait>(
-        &mut self,
-        rt: &R,
-        crew: &mut Crew<'_, P, O, A, H>,
-    ) -> Result<(), Memory>
+    fn keep_up<R: Wait>(&mut self, rt: &R) -> Result<(), Memory>
         ensures { self.new ≡ self.old }
     {
-        self.hand_out_block(rt, crew)?;
+        self.hand_out_block(rt)?;
         if self.postponed.has_woken() {
-            self.revisit(rt, crew)?;
+            self.revisit(rt)?;
         }
         if self.postponed.is_full() {
-            self.make_room(rt, crew)?;
+            self.make_room(rt)?;
         }
         Ok(())
     }
 
     /// Hands the gates out that wait, where they are a block.
     #[inline]
-    fn hand_out_block<H: Gatehouse, R: Wait>(
-        &mut self,
-        rt: &R,
-        crew: &mut Crew<'_, P, O, A, H>,
-    ) -> Result<(), Memory>
+    fn hand_out_block<R: Wait>(&mut self, rt: &R) -> Result<(), Memory>
         ensures { self.new ≡ self.old }
     {
-        if self.is_block(crew) {
-            self.hand_out(rt, crew)?;
+        if self.is_block() {
+            self.hand_out(rt)?;
         }
         Ok(())
     }
 
     /// Whether the gates that wait are a block.
     #[inline]
-    fn is_block<H: Gatehouse>(&self, crew: &Crew<'_, P, O, A, H>) -> bool {
-        self.waiting.len() >= crew.gates_of_block()
+    fn is_block(&self) -> bool {
+        self.waiting.len() >= self.helpers.gates_of_block()
     }
 
-    /// Labels a gate's wire, or has it wait where it is AND, or postpones it where a label that it reads isn't there.
+    /// Labels a gate's wire; an AND gate waits; a gate that reads a label which isn't there is postponed.
     #[inline]
-    fn visit<H: Gatehouse>(
-        &mut self,
-        crew: &Crew<'_, P, O, A, H>,
-        place: Place,
-        gate: Gate,
-    ) -> Result<(), Memory>
+    fn visit(&mut self, place: Place, gate: Gate) -> Result<(), Memory>
         requires place { IsPlace (L.circuit_of self.old) place }
         requires gate { slice_get (L.circuit_of self.old).gates place.gate ≡ Some gate }
         ensures { self.new ≡ self.old }
@@ -202,7 +194,7 @@ impl<'c, P: Pending, O: Origin<P>, L: Labelling<P>, A: Allocator + Copy, C: Allo
             let pending = self.labelling.pending(place, gate, first, second);
             self.wait(pending)
         } else {
-            crew.tell(place.gate);
+            self.helpers.report(place.gate);
             let label = self.labelling.free(place, gate, first, second);
             self.settle(gate.set, label);
             Ok(())
@@ -237,7 +229,7 @@ impl<'c, P: Pending, O: Origin<P>, L: Labelling<P>, A: Allocator + Copy, C: Allo
         }
     }
 
-    /// Has a gate wait.
+    /// Adds a gate to those that wait.
     #[inline]
     fn wait(&mut self, gate: P) -> Result<(), Memory>
         requires { L.is_pending self.old gate }
@@ -247,57 +239,50 @@ impl<'c, P: Pending, O: Origin<P>, L: Labelling<P>, A: Allocator + Copy, C: Allo
     }
 
     /// The gates that wait, as a block. None waits from then on.
-    fn take_waiting<H: Gatehouse>(
-        &mut self,
-        crew: &mut Crew<'_, P, O, A, H>,
-    ) -> Result<Block<P, O, A>, Memory>
+    fn take_waiting(&mut self) -> Result<Block<P, O, A>, Memory>
         ensures { self.new ≡ self.old }
     {
-        let empty = crew.empty()?;
+        let empty = self.helpers.empty()?;
         Ok(replace(&mut self.waiting, empty))
     }
 
-    /// Offers the crew the gates that wait, as a block, or makes them where nobody takes them.
-    fn hand_out<H: Gatehouse, R: Wait>(
-        &mut self,
-        rt: &R,
-        crew: &mut Crew<'_, P, O, A, H>,
-    ) -> Result<(), Memory>
+    /// Offers the helpers the gates that wait, as a block, or makes them where the helpers have enough to do.
+    fn hand_out<R: Wait>(&mut self, rt: &R) -> Result<(), Memory>
         ensures { self.new ≡ self.old }
     {
-        self.take_back(rt, crew);
-        let block = self.take_waiting(crew)?;
-        if let Some(block) = crew.offer(rt, block) {
-            self.make(crew, block);
+        self.take_back(rt);
+        let block = self.take_waiting()?;
+        if let Some(block) = self.helpers.offer(rt, block) {
+            self.make(block);
         }
         Ok(())
     }
 
     /// Makes the gates of a block.
-    fn make<H: Gatehouse>(&mut self, crew: &mut Crew<'_, P, O, A, H>, block: Block<P, O, A>)
+    fn make(&mut self, block: Block<P, O, A>)
         ensures { self.new ≡ self.old }
     {
-        let sealed = crew.seal(block);
-        self.land(crew, sealed);
+        let sealed = self.helpers.seal(block);
+        self.land(sealed);
     }
 
     /// Takes the blocks that came back. The answer is whether there were any.
-    fn take_back<H: Gatehouse, R: Wait>(&mut self, rt: &R, crew: &mut Crew<'_, P, O, A, H>) -> bool
+    fn take_back<R: Wait>(&mut self, rt: &R) -> bool
         ensures { self.new ≡ self.old }
     {
         let mut is_any = false;
         for _i in 0..MOST_OUT {
-            let Some(sealed) = crew.returned(rt) else {
+            let Some(sealed) = self.helpers.returned(rt) else {
                 return is_any;
             };
-            self.land(crew, sealed);
+            self.land(sealed);
             is_any = true;
         }
         is_any
     }
 
     /// Takes a block that is made: what making its gates gave goes where it belongs.
-    fn land<H: Gatehouse>(&mut self, crew: &mut Crew<'_, P, O, A, H>, sealed: Sealed<P, O, A>)
+    fn land(&mut self, sealed: Sealed<P, O, A>)
         ensures { self.new ≡ self.old }
     {
         let gates = sealed.gates();
@@ -305,65 +290,49 @@ impl<'c, P: Pending, O: Origin<P>, L: Labelling<P>, A: Allocator + Copy, C: Allo
         for i in 0..gates.len() {
             self.put(&gates[i], &made[i]);
         }
-        crew.release(sealed);
+        self.helpers.release(sealed);
     }
 
-    /// Has a block made, by others or here, and visits the gates that waited for its labels.
-    fn advance<H: Gatehouse, R: Wait>(
-        &mut self,
-        rt: &R,
-        crew: &mut Crew<'_, P, O, A, H>,
-    ) -> Result<(), Memory>
+    /// Gets a block made, by a helper or here, and visits the gates that waited for its labels.
+    fn advance<R: Wait>(&mut self, rt: &R) -> Result<(), Memory>
         ensures { self.new ≡ self.old }
     {
-        if !self.take_back(rt, crew) {
-            self.make_one(rt, crew)?;
+        if !self.take_back(rt) {
+            self.make_one(rt)?;
         }
-        self.revisit(rt, crew)
+        self.revisit(rt)
     }
 
-    /// Makes a block that nobody took, or the gates that wait, or waits for a block.
-    fn make_one<H: Gatehouse, R: Wait>(
-        &mut self,
-        rt: &R,
-        crew: &mut Crew<'_, P, O, A, H>,
-    ) -> Result<(), Memory>
+    /// Makes a block that no helper took, or the gates that wait, or waits for a block.
+    fn make_one<R: Wait>(&mut self, rt: &R) -> Result<(), Memory>
         ensures { self.new ≡ self.old }
     {
-        if let Some(sealed) = crew.taken_back(rt) {
-            self.land(crew, sealed);
+        if let Some(sealed) = self.helpers.taken_back(rt) {
+            self.land(sealed);
         } else if !self.waiting.is_empty() {
-            let block = self.take_waiting(crew)?;
-            self.make(crew, block);
-        } else if let Some(sealed) = crew.awaited(rt) {
-            self.land(crew, sealed);
+            let block = self.take_waiting()?;
+            self.make(block);
+        } else if let Some(sealed) = self.helpers.awaited(rt) {
+            self.land(sealed);
         }
         Ok(())
     }
 
-    /// Has blocks made until there is room for another gate that is postponed, or no gate waits.
-    fn make_room<H: Gatehouse, R: Wait>(
-        &mut self,
-        rt: &R,
-        crew: &mut Crew<'_, P, O, A, H>,
-    ) -> Result<(), Memory>
+    /// Gets blocks made until there is room for another gate that is postponed, or no gate waits.
+    fn make_room<R: Wait>(&mut self, rt: &R) -> Result<(), Memory>
         ensures { self.new ≡ self.old }
     {
         for _ in rt.forever() {
-            if !self.postponed.is_full() || self.waiting.is_empty() && crew.has_all() {
+            if !self.postponed.is_full() || self.waiting.is_empty() && self.helpers.are_idle() {
                 return Ok(());
             }
-            self.advance(rt, crew)?;
+            self.advance(rt)?;
         }
         unreachable!()
     }
 
     /// Visits the gates whose labels are there now.
-    fn revisit<H: Gatehouse, R: Wait>(
-        &mut self,
-        rt: &R,
-        crew: &mut Crew<'_, P, O, A, H>,
-    ) -> Result<(), Memory>
+    fn revisit<R: Wait>(&mut self, rt: &R) -> Result<(), Memory>
         ensures { self.new ≡ self.old }
     {
         let circuit = self.circuit;
@@ -371,8 +340,8 @@ impl<'c, P: Pending, O: Origin<P>, L: Labelling<P>, A: Allocator + Copy, C: Allo
             let Some(place) = self.postponed.next() else {
                 return Ok(());
             };
-            self.visit(crew, place, circuit.gate(place.gate))?;
-            self.hand_out_block(rt, crew)?;
+            self.visit(place, circuit.gate(place.gate))?;
+            self.hand_out_block(rt)?;
         }
         unreachable!()
     }
@@ -395,7 +364,8 @@ fn input_marks<A: Allocator + Copy, C: Allocator>(
     circuit: &Circuit<C>,
 ) -> Result<Vec<Mark, A>, Memory>
     ensures count { IfOk result (λ v. length v.items ≡ circuit.now.wires) }
-    ensures inputs { IfOk result (λ v. (w : ℕ) → slice_index_or v.items w Absent ≡ There → w < input_wires circuit.now) }
+    ensures inputs { IfOk result (λ v. (w : ℕ) → slice_index_or v.items w Absent ≡ There
+        → w < input_wires circuit.now) }
 {
     let mut marks = Vec::with_capacity(alloc, circuit.wires() as usize)?;
     marks.resize(circuit.input_wires() as usize, Mark::There)?;
@@ -407,7 +377,8 @@ fn input_marks<A: Allocator + Copy, C: Allocator>(
 #[inline]
 fn missing(marks: &[Mark], operation: Operation) -> Option<u32>
     requires { EachRead (λ w. w < length marks.now) operation }
-    ensures none { result ≡ None → EachRead (λ w. slice_index_or marks.now w Absent ≡ There) operation }
+    ensures none { result ≡ None
+        → EachRead (λ w. slice_index_or marks.now w Absent ≡ There) operation }
     ensures some { (w : ℕ) → result ≡ Some w → w < length marks.now }
 {
     match operation {

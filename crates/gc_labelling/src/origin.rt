@@ -2,9 +2,9 @@
 
 use std::marker::Brand;
 
-/// A name for the labelling that the gates of a block are from. No contract follows a block through a queue, but its type has
-/// this name: so a block that comes out of a queue has gates of the labelling that put it in. The call that begins a
-/// labelling picks which gates these are.
+/// A name for the labelling that the gates of a block are from. No contract follows a block through a queue, but its
+/// type has this name: so a block that comes out of a queue has gates of the labelling that put it in. The call that
+/// begins a labelling picks which gates these are.
 pub(crate) trait Origin<P> {
     // A gate of the labelling that waits.
     ghost is_pending: { P → Type 0 };

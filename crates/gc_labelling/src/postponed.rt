@@ -9,8 +9,11 @@ use gc_circuit::{Circuit, Memory};
 use std::alloc::Allocator;
 use std::marker::Model;
 
-/// A gate that is postponed, and the mark that the wire had which it waits for: so the gates that wait for one wire are a
-/// list, which the wire's mark begins.
+/// The most gates that are postponed.
+const MOST_POSTPONED: usize = 512;
+
+/// A gate that is postponed, and the mark that the wire had which it waits for: so the gates that wait for one wire are
+/// a list, which the wire's mark begins.
 #[derive(Clone, Copy)]
 pub(crate) struct Link {
     place: Place,
@@ -26,7 +29,6 @@ pub(crate) struct Postponed<'c, A: Allocator, C: Allocator> {
     spare: Vec<u16, A>,
     // The first slots of lists whose label is there now.
     woken: Vec<u16, A>,
-    most: u16,
 }
 
 impl<'c, A: Allocator, C: Allocator> Model for Postponed<'c, A, C> {
@@ -42,20 +44,15 @@ impl<'c, A: Allocator, C: Allocator> Model for Postponed<'c, A, C> {
 }
 
 impl<'c, A: Allocator + Copy, C: Allocator> Postponed<'c, A, C> {
-    /// No gate, and room for so many.
-    pub(crate) fn open(
-        alloc: A,
-        circuit: &'c Circuit<C>,
-        most: u16,
-    ) -> Result<Postponed<'c, A, C>, Memory>
+    /// No gate of the circuit.
+    pub(crate) fn open(alloc: A, circuit: &'c Circuit<C>) -> Result<Postponed<'c, A, C>, Memory>
         ensures { IfOk result (λ p. p ≡ circuit.now) }
     {
         Ok(Postponed {
             circuit,
-            links: Vec::with_capacity(alloc, most as usize)?,
-            spare: Vec::with_capacity(alloc, most as usize)?,
-            woken: Vec::with_capacity(alloc, most as usize)?,
-            most,
+            links: Vec::with_capacity(alloc, MOST_POSTPONED)?,
+            spare: Vec::with_capacity(alloc, MOST_POSTPONED)?,
+            woken: Vec::with_capacity(alloc, MOST_POSTPONED)?,
         })
     }
 }
@@ -64,7 +61,7 @@ impl<'c, A: Allocator, C: Allocator> Postponed<'c, A, C> {
     /// Whether there is no room for another gate.
     #[inline]
     pub(crate) fn is_full(&self) -> bool {
-        self.spare.is_empty() && self.links.len() >= self.most as usize
+        self.spare.is_empty() && self.links.len() >= MOST_POSTPONED
     }
 
     /// Whether there are gates whose label is there now.
@@ -83,7 +80,7 @@ impl<'c, A: Allocator, C: Allocator> Postponed<'c, A, C> {
             self.fill(slot, link);
             return Ok(Some(slot));
         }
-        if self.links.len() >= self.most as usize {
+        if self.links.len() >= MOST_POSTPONED {
             return Ok(None);
         }
         let slot = self.links.len() as u16;

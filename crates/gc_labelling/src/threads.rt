@@ -3,15 +3,15 @@
 ghost use Rattle.std.specs.Prelude.{◌≡◌, ◌<◌, IfOk};
 ghost use Rattle.gc_labelling.specs.Layer.{AreLabels, IsLabelled, IsOriginOf};
 
-use crate::crew::Crew;
 use crate::exchange::Exchange;
+use crate::helpers::Helpers;
+use crate::labelled::Labelled;
 use crate::labelling::Labelling;
 use crate::layer::Layer;
-use crate::mark::Mark;
 use crate::origin::Origin;
 use crate::pending::Pending;
 use gc_circuit::{Circuit, Memory};
-use gc_gatehouse::Gatehouse;
+use gc_gatehouse::{Gatehouse, MAX_WORKERS};
 use gc_label::Label;
 use std::alloc::Allocator;
 use std::marker::Brand;
@@ -19,20 +19,21 @@ use std::sync::Wait;
 use std::thread;
 use std::thread::Threads;
 
-/// The most threads that make gates beside the calling one.
-const MOST_HELPERS: usize = 63;
+/// The most threads that help the calling one.
+const MOST_HELPERS: usize = MAX_WORKERS as usize - 1;
 
-/// For so many AND gates a thread is worth starting.
-const GATES_FOR_THREAD: usize = 1024;
+/// A thread is worth starting for each this many AND gates.
+pub const GATES_FOR_THREAD: u32 = 1024;
 
-/// The labels that a labelling gives the wires of its circuit, and their marks, from those of the input wires: gate by gate
-/// in file order, but that AND gates wait to be made in blocks, by the calling thread and up to so many less one beside it,
-/// where there are enough AND gates and threads can be started; a gate that reads a label which isn't there yet is
-/// postponed until it is. It takes memory for the marks and for the gates that wait or are postponed: up to 66 blocks of 64
-/// gates, and 512 gates. `house` is told of each gate before it is made; the calling thread is worker 0.
+/// Labels the wires of a circuit on up to `threads` threads, from the labels of its input wires. The calling thread
+/// goes from gate to gate in file order. AND gates wait to be made in blocks, by all threads; a gate that reads a label
+/// which isn't there yet is postponed until it is. A thread is started for each [`GATES_FOR_THREAD`] AND gates, at
+/// most; where none can be started the calling thread makes all. It takes memory for the marks and for the gates that
+/// wait or are postponed: up to 66 blocks of 64 gates, and 512 gates. Each worker reports each gate to the observer
+/// before it makes it; the calling thread is worker 0.
 ///
-/// Where a block was lost there are wires without a mark, and the labels there are zeros or right. That those of the input
-/// wires are there, and that each other is zero or right, is the caller's condition.
+/// Where a block was lost there are wires without a mark, and their labels are zero or right. The labels must be those
+/// of the input wires, and each other one zero or right.
 pub fn label_by_layers<
     P: Pending<Made = M> + Send + Sync,
     M: Copy + Send + Sync,
@@ -48,14 +49,16 @@ pub fn label_by_layers<
     labelling: L,
     labels: Vec<Label, A>,
     threads: u32,
-    house: &H,
-) -> Result<(L, Vec<Label, A>, Vec<Mark, A>), Memory>
+    observer: &H,
+) -> Result<Labelled<L, A>, Memory>
     requires circuit { L.circuit_of labelling ≡ circuit.now }
     requires labels { AreLabels circuit.now (L.label_of labelling) 0 labels.items }
-    ensures { IfOk result (λ r. (r.0 ≡ labelling)
-        × IsLabelled circuit.now (L.label_of labelling) r.1.items r.2.items) }
+    ensures { IfOk result (λ r. (r.labelling ≡ labelling)
+        × IsLabelled circuit.now (L.label_of labelling) r.labels.items r.marks.items) }
 {
-    label_from::<Brand, P, M, L, A, C, H, R>(rt, alloc, circuit, labelling, labels, threads, house)
+    label_from::<Brand, P, M, L, A, C, H, R>(
+        rt, alloc, circuit, labelling, labels, threads, observer,
+    )
 }
 
 /// The same. The gates of this origin are exactly the labelling's that wait.
@@ -75,39 +78,35 @@ fn label_from<
     labelling: L,
     labels: Vec<Label, A>,
     threads: u32,
-    house: &H,
-) -> Result<(L, Vec<Label, A>, Vec<Mark, A>), Memory>
+    observer: &H,
+) -> Result<Labelled<L, A>, Memory>
     requires circuit { L.circuit_of labelling ≡ circuit.now }
     requires labels { AreLabels circuit.now (L.label_of labelling) 0 labels.items }
     requires origin { IsOriginOf O.is_pending (L.is_pending labelling) }
-    ensures { IfOk result (λ r. (r.0 ≡ labelling)
-        × IsLabelled circuit.now (L.label_of labelling) r.1.items r.2.items) }
+    ensures { IfOk result (λ r. (r.labelling ≡ labelling)
+        × IsLabelled circuit.now (L.label_of labelling) r.labels.items r.marks.items) }
 {
-    let ands = circuit.and_count() as usize;
-    let helpers = (threads as usize)
-        .saturating_sub(1)
-        .min(ands / GATES_FOR_THREAD)
-        .min(MOST_HELPERS);
+    let worth_starting = circuit.and_count() / GATES_FOR_THREAD;
+    let helpers = (threads.saturating_sub(1).min(worth_starting) as usize).min(MOST_HELPERS);
     let blocks: Exchange<P, O, A> = Exchange::open(alloc, helpers)?;
     let exchange = &blocks;
     if helpers == 0 {
-        return label_with(rt, alloc, circuit, labelling, labels, exchange, true, house);
+        return label_with(rt, alloc, circuit, labelling, labels, exchange, observer);
     }
     let (_, labelled) = thread::join(
         rt,
         ||
             requires { 0 < helpers }
-        { help_by(rt, exchange, helpers, house) },
-        move || -> Result<(L, Vec<Label, A>, Vec<Mark, A>), Memory>
+        { help_by(rt, exchange, helpers, observer) },
+        move || -> Result<Labelled<L, A>, Memory>
             requires circuit { L.circuit_of labelling ≡ circuit.now }
             requires labels { AreLabels circuit.now (L.label_of labelling) 0 labels.items }
             requires origin { IsOriginOf O.is_pending (L.is_pending labelling) }
-            ensures { IfOk result (λ r. (r.0 ≡ labelling)
-                × IsLabelled circuit.entry.now (L.label_of labelling) r.1.items r.2.items) }
+            ensures { IfOk result (λ r. (r.labelling ≡ labelling)
+                × IsLabelled circuit.entry.now (L.label_of labelling) r.labels.items
+                r.marks.items) }
         {
-            let labelled = label_with(
-                rt, alloc, circuit, labelling, labels, exchange, false, house,
-            );
+            let labelled = label_with(rt, alloc, circuit, labelling, labels, exchange, observer);
             exchange.close(rt);
             labelled
         },
@@ -115,7 +114,7 @@ fn label_from<
     labelled
 }
 
-/// So many threads make what the exchange is offered, until it is closed.
+/// This many helpers make the blocks that are offered, until the exchange is closed.
 fn help_by<
     O: Origin<P> + Send,
     P: Pending<Made = M> + Send,
@@ -123,7 +122,7 @@ fn help_by<
     A: Allocator + Send + Sync,
     H: Gatehouse + Sync,
     R: Threads + Wait + Sync,
->(rt: &R, exchange: &Exchange<P, O, A>, helpers: usize, house: &H)
+>(rt: &R, exchange: &Exchange<P, O, A>, helpers: usize, observer: &H)
     requires { 0 < helpers }
 {
     let mut each = [(); MOST_HELPERS];
@@ -133,8 +132,8 @@ fn help_by<
         each,
         helpers,
         &|i: usize, _one: &mut ()|
-            requires { i < 63 }
-        { exchange.help(rt, house, i as u32 + 1) },
+            requires { i < MOST_HELPERS }
+        { exchange.help(rt, observer, i as u32 + 1) },
     );
 }
 
@@ -154,18 +153,17 @@ fn label_with<
     labelling: L,
     labels: Vec<Label, A>,
     exchange: &Exchange<P, O, A>,
-    is_alone: bool,
-    house: &H,
-) -> Result<(L, Vec<Label, A>, Vec<Mark, A>), Memory>
+    observer: &H,
+) -> Result<Labelled<L, A>, Memory>
     requires circuit { L.circuit_of labelling ≡ circuit.now }
     requires labels { AreLabels circuit.now (L.label_of labelling) 0 labels.items }
     requires origin { IsOriginOf O.is_pending (L.is_pending labelling) }
-    ensures { IfOk result (λ r. (r.0 ≡ labelling)
-        × IsLabelled circuit.now (L.label_of labelling) r.1.items r.2.items) }
+    ensures { IfOk result (λ r. (r.labelling ≡ labelling)
+        × IsLabelled circuit.now (L.label_of labelling) r.labels.items r.marks.items) }
 {
-    let mut crew = Crew::open(alloc, exchange, house, is_alone)?;
-    let mut layer = Layer::open(alloc, circuit, labelling, labels, !is_alone)?;
-    layer.pass(rt, &mut crew)?;
-    layer.finish(rt, &mut crew)?;
-    Ok(layer.into_parts())
+    let helpers = Helpers::open(alloc, exchange, observer)?;
+    let mut layer = Layer::open(alloc, circuit, labelling, labels, helpers)?;
+    layer.pass(rt)?;
+    layer.finish(rt)?;
+    Ok(layer.into_labelled())
 }

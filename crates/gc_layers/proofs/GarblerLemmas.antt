@@ -1,8 +1,8 @@
 -- A garbling that is partly there.
-use Rattle.std.proofs.Common.{◌≡◌, ◌≢◌, ℕ, ◌+◌, ◌<◌, ◌≤◌, ◌⊎◌, inl, inr, true, false, List, length, length-set, map, set, get_or, replicate, slice_index, slice_get, Some, refl, sym, ap, subst, ◌∙◌, arith}
+use Rattle.std.proofs.Common.{◌≡◌, ℕ, ◌+◌, ◌<◌, ◌≤◌, ◌⊎◌, inl, inr, true, false, List, length, length-set, map, set, get_or, slice_index, slice_get, Some, refl, sym, ap, subst, ◌∙◌, arith}
 use Rattle.std.specs.List.{range_with_len}
 use Rattle.std.proofs.lemmas.Bool.{cases_eq}
-use Rattle.std.proofs.lemmas.List.{get_or-set_same, get_or-replicate, get_or_past, length-replicate, ext_get_or}
+use Rattle.std.proofs.lemmas.List.{get_or-set_same, get_or_past, ext_get_or}
 use Rattle.std.proofs.lemmas.List.FromFn.{fill_by_all, length-map-range_with_len}
 use Rattle.std.proofs.lemmas.Option.{get_or_from_slice_get}
 use Rattle.gc_netlist.specs.declared.gate.Operation.{Operation}
@@ -21,11 +21,9 @@ use Rattle.gc_half.specs.Canonical.{input_zero, zero_label_of, row_pairs_of}
 use Rattle.gc_half.proofs.CanonicalLemmas.{input_zero-input, input_zero-other, zero_label_of-input, zero_label_of-gate, zero_label_of-not_set, row_pairs_of-at, length-row_pairs_of, garbling_of-IsGarbled, parts-same}
 use Rattle.gc_half.proofs.AndNumbers.{and_or_other, and_number-below}
 use Rattle.gc_half.proofs.SetWires.{set_or_not, lt_or_le}
-use Rattle.gc_labelling.specs.declared.mark.Mark.{Mark}
-use Rattle.gc_labelling.specs.declared.mark.Mark.TheVariants.{Absent, There}
-use Rattle.gc_labelling.specs.Layer.{AreLabels, AreMarked}
+use Rattle.gc_labelling.specs.Layer.{AreLabels}
 use Rattle.gc_layers.specs.Garbler.{AreRows, IsGate, no_rows, row_of, with_pair}
-use Rattle.gc_labelling.proofs.LayerLemmas.{partly-put, partly-more}
+use Rattle.gc_layers.proofs.PartlyLemmas.{partly-put, partly-more}
 
 module _ (c : Netlist) (seed : List ℕ) where
   -- A row pair may be put where it belongs.
@@ -89,22 +87,6 @@ module _ (c : Netlist) (seed : List ℕ) where
   rows-gate (Eq bit) k offset x y rows right below are = (are, λ h. cc)
   rows-gate (Eqw u) k offset x y rows right below are = (are, λ h. cc)
 
-  -- At the start no row pair is there.
-  pub rows-start : (rows : List RowPair) (n : ℕ) → n ≡ and_count c → rows ≡ replicate n no_rows → AreRows c seed 0 rows
-  rows-start rows n count are = record {
-    count = ap length are ∙ length-replicate n no_rows ∙ count;
-    partly = record {
-      right = λ k present. absurd (present (ap (λ (p : RowPair). p.evaluator) (blank k)));
-      there = λ k below. absurd (omega arith);
-    };
-  }
-    where
-      blank : (k : ℕ) → get_or rows k no_rows ≡ no_rows
-      blank k = ap (λ l. get_or l k no_rows) are ∙ elim (lt_or_le k n) [
-        | inl below ↦ get_or-replicate n k no_rows no_rows below
-        | inr past ↦ get_or_past (replicate n no_rows) k no_rows (omega (arith, past, length-replicate n no_rows))
-      ]
-
   -- At the end the row pairs are whole.
   rows-end : IsLawful c → (rows : List RowPair) → AreRows c seed (and_count c) rows → rows ≡ row_pairs_of c seed
   rows-end lawful rows are =
@@ -125,17 +107,6 @@ module _ (c : Netlist) (seed : List ℕ) where
           | inr present ↦ are.partly.right w present
         ]
       ]
-
-  -- Where all row pairs are there, they are those of all gates.
-  pub rows-whole : (rows : List RowPair) → ((k : ℕ) → k < length rows → (get_or rows k no_rows).evaluator ≢ 0)
-      → AreRows c seed 0 rows → AreRows c seed (and_count c) rows
-  rows-whole rows present are = record {
-    count = are.count;
-    partly = record {
-      right = are.partly.right;
-      there = λ k below. are.partly.right k (present k (omega (arith, below, are.count)));
-    };
-  }
 
   module _ (lawful : IsLawful c) where
     -- and both are the garbling.
@@ -178,22 +149,6 @@ module _ (c : Netlist) (seed : List ℕ) where
           | inr past_all ↦ get_or_past (map (input_zero c seed) (range_with_len 0 c.wires)) w 0
               (omega (arith, past_all, length-map-range_with_len (input_zero c seed) 0 c.wires))
         ]
-
-    -- Where all wires are marked, the labels are those that all gates set.
-    pub labels-whole : (marks : List Mark) (labels : List ℕ) → length marks ≡ c.wires
-        → ((w : ℕ) → w < length marks → get_or marks w Absent ≡ There) → AreMarked (zero_label_of c seed) marks labels
-        → AreLabels c (zero_label_of c seed) 0 labels → AreLabels c (zero_label_of c seed) (length c.gates) labels
-    labels-whole marks labels count marked are_marks are = record {
-      wires = are.wires;
-      partly = record {
-        right = are.partly.right;
-        there = λ w set. are_marks w (marked w (omega (arith, count, below w set)));
-      };
-    }
-      where
-        below : (w : ℕ) → IsSetBefore c (length c.gates) w → w < c.wires
-        below w (inl input) = omega (arith, input, lawful.inputs_fit)
-        below w (inr (j, _, by)) = omega (arith, by.wire, lawful.sets j by.gate by.at)
 
     -- What the first gates set, so what the next one reads, are the labels.
     pub reads-there : (i : ℕ) (g : Gate) → slice_get c.gates i ≡ Some g → (labels : List ℕ) → AreLabels c (zero_label_of c seed) i labels
@@ -239,11 +194,8 @@ module _ (c : Netlist) (seed : List ℕ) where
       -- so that it may wait.
       pub may-wait : is_and g.operation ≡ true → (place : ℕ) → IsGate c seed (record {
         place = place;
-        k = k;
         set = g.set;
-        offset = offset;
-        a = first;
-        b = second;
+        gate = record { k = k; offset = offset; a = first; b = second };
       })
       may-wait and place = record {
         set = lawful.sets i g at;

@@ -1,2 +1,4 @@
 pub mod EvaluatorLemmas
 pub mod GarblerLemmas
+pub mod MadeLemmas
+pub mod PartlyLemmas

@@ -7,15 +7,18 @@ use Rattle.gc_half.specs.Hash.{hash}
 use Rattle.gc_half.specs.HalfGate.{and_active}
 use Rattle.gc_half.specs.Evaluation.{IsEvaluation}
 use Rattle.gc_half.specs.Canonical.{active_label_of}
-use Rattle.gc_layers.specs.declared.evaluated.ToEvaluate.{ToEvaluate}
+use Rattle.gc_layers.specs.declared.to_evaluate.ToEvaluate.{ToEvaluate}
 
 -- What evaluating a gate that waits gives: the active label of the wire that it sets.
 abbrev pub active_by : ToEvaluate → ℕ
-active_by gate = and_active hash gate.k gate.rows.generator gate.rows.evaluator gate.a gate.b
+active_by gate =
+    let step = gate.step in
+    and_active hash step.k step.rows.generator step.rows.evaluator step.a step.b
 
 -- The gate that waits is one of the circuit's AND gates, with its row pair and the active labels of the wires that it
 -- reads.
-pub record IsToEvaluate (c : Netlist) (rows : List RowPair) (inputs : List ℕ) (gate : ToEvaluate) : Type 0 where
+pub record IsToEvaluate (c : Netlist) (rows : List RowPair) (inputs : List ℕ) (gate : ToEvaluate)
+    : Type 0 where
   pub set : gate.set < c.wires
   pub label : active_by gate ≡ active_label_of c rows inputs gate.set
 
@@ -31,7 +34,8 @@ pub record IsEvaluator (of : EvaluatorParts) : Type 0 where
   pub as_many : length of.rows ≡ and_count of.circuit
 
 -- The labels are those of the output wires, in an evaluation of the rows on these labels of the input wires.
-pub record AreOutputLabels (c : Netlist) (rows : List RowPair) (inputs labels : List ℕ) : Type 0 where
+pub record AreOutputLabels (c : Netlist) (rows : List RowPair) (inputs labels : List ℕ)
+    : Type 0 where
   pub active : ℕ → ℕ
   pub evaluation : IsEvaluation hash c rows (slice_index inputs) active
   pub outputs : labels ≡ on_outputs c active

@@ -7,19 +7,19 @@ use Rattle.gc_half.specs.Hash.{hash}
 use Rattle.gc_half.specs.HalfGate.{and_zero}
 use Rattle.gc_half.specs.OneGate.{row_pair}
 use Rattle.gc_half.specs.Canonical.{zero_label_of, row_pairs_of}
-use Rattle.gc_layers.specs.declared.waiting.Waiting.{Waiting}
-use Rattle.gc_layers.specs.declared.waiting.Garbled.{Garbled}
+use Rattle.gc_layers.specs.declared.to_garble.ToGarble.{ToGarble}
+use Rattle.gc_layers.specs.declared.to_garble.Garbled.{Garbled}
 use Rattle.gc_labelling.specs.Layer.{IsPartly}
 
 -- What garbling a gate that waits gives: the zero label of the wire that it sets,
-abbrev pub zero_by : Waiting → ℕ
-zero_by w = and_zero hash w.k w.offset w.a w.b
+abbrev pub zero_by : ToGarble → ℕ
+zero_by w = and_zero hash w.gate.k w.gate.offset w.gate.a w.gate.b
 
 -- and its row pair.
-abbrev pub rows_by : Waiting → RowPair
-rows_by w = row_pair hash w.offset w.k w.a w.b
+abbrev pub rows_by : ToGarble → RowPair
+rows_by w = row_pair hash w.gate.offset w.gate.k w.gate.a w.gate.b
 
-abbrev pub garbled_of : Waiting → Garbled
+abbrev pub garbled_of : ToGarble → Garbled
 garbled_of w = record { zero_label = zero_by w; rows = rows_by w }
 
 -- the row pairs, with that of the k-th AND gate where there is one
@@ -47,19 +47,20 @@ module _ (c : Netlist) (seed : List ℕ) where
     pub partly : IsPartly row_of no_rows (λ pair. pair.evaluator ≡ 0) (λ k. k < n) rows
 
   -- The gate that waits is one of the circuit's AND gates, with the zero labels of the wires that it reads.
-  pub record IsGate (w : Waiting) : Type 0 where
+  pub record IsGate (w : ToGarble) : Type 0 where
     pub set : w.set < c.wires
     pub label : zero_by w ≡ zero_label_of c seed w.set
-    pub number : w.k < and_count c
-    pub row : rows_by w ≡ row_of w.k
+    pub number : w.gate.k < and_count c
+    pub row : rows_by w ≡ row_of w.gate.k
 
 -- The circuit and the seed of a garbling.
 pub record GarblerParts : Type 0 where
   pub circuit : Netlist
   pub seed : List ℕ
 
--- The offset is the seed's, and the row pairs are right as far as they are there. So many of them are.
-pub record IsGarbler (of : GarblerParts) (offset : ℕ) (rows : List RowPair) (present : ℕ) : Type 0 where
+-- The offset is the seed's, and the row pairs are right as far as they are there. This many of them are.
+pub record IsGarbler (of : GarblerParts) (offset : ℕ) (rows : List RowPair) (present : ℕ)
+    : Type 0 where
   pub lawful : IsLawful of.circuit
   pub is_offset : offset ≡ offset_of of.seed
   pub are_rows : AreRows of.circuit of.seed 0 rows

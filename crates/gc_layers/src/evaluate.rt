@@ -14,11 +14,12 @@ use std::alloc::Allocator;
 use std::sync::Wait;
 use std::thread::Threads;
 
-/// The active labels of the output wires, evaluated from row pairs and active labels of the input wires as
-/// [`garble_by_layers`](crate::garble_by_layers) garbles; four AND gates go together. `house` is told of each gate before it
-/// is evaluated; the calling thread is worker 0. There is no answer where a block was lost.
+/// The active labels of the output wires, evaluated from row pairs and active labels of the input wires on up to
+/// `threads` threads, which go about it as those of [`garble_by_layers`](crate::garble_by_layers) do. Each worker
+/// reports each gate to the observer before it evaluates it; the calling thread is worker 0. There is no answer where a
+/// block was lost.
 ///
-/// That there are as many row pairs as AND gates, and as many labels as input wires, is the caller's condition.
+/// There must be as many row pairs as AND gates, and as many labels as input wires.
 pub fn evaluate_by_layers<
     A: Allocator + Copy + Send + Sync,
     C: Allocator + Sync,
@@ -31,18 +32,20 @@ pub fn evaluate_by_layers<
     rows: &[RowPair],
     inputs: &[Label],
     threads: u32,
-    house: &H,
+    observer: &H,
 ) -> Result<Option<Vec<Label, A>>, Memory>
     requires rows { length rows.now ≡ and_count circuit.now }
     requires inputs { length inputs.now ≡ input_wires circuit.now }
-    ensures { IfOk result (λ o. IfSome o (λ labels. AreOutputLabels circuit.now rows.now inputs.now labels.items)) }
+    ensures { IfOk result (λ o. IfSome o (λ labels.
+        AreOutputLabels circuit.now rows.now inputs.now labels.items)) }
 {
     let labels = input_active_labels(alloc, circuit.wires(), inputs)?;
     let evaluator = Evaluator::new(circuit, rows, inputs);
-    let (evaluator, labels, marks) = label_by_layers(
-        rt, alloc, circuit, evaluator, labels, threads, house,
-    )?;
-    let Some(outputs) = evaluator.outputs(&labels, &marks) else {
+    let labelled = label_by_layers(rt, alloc, circuit, evaluator, labels, threads, observer)?;
+    let Some(outputs) = labelled
+        .labelling
+        .outputs(&labelled.labels, &labelled.marks)
+    else {
         return Ok(None);
     };
     let mut own = Vec::with_capacity(alloc, outputs.len())?;

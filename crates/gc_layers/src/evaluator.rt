@@ -6,10 +6,10 @@ ghost use Rattle.gc_labelling.specs.Layer.{IsLabelled};
 ghost use Rattle.gc_half.specs.Canonical.{active_label_of};
 ghost use Rattle.gc_layers.specs.Evaluator.{AreOutputLabels};
 
-use crate::evaluated::ToEvaluate;
 use crate::rest::are_marked;
+use crate::to_evaluate::ToEvaluate;
 use gc_circuit::{Circuit, Gate};
-use gc_half::{RowPair, evaluate_gate};
+use gc_half::{AndStep, RowPair, evaluate_gate};
 use gc_label::Label;
 use gc_labelling::{Labelling, Mark, Place};
 use std::alloc::Allocator;
@@ -28,14 +28,19 @@ impl<'c, C: Allocator> Model for Evaluator<'c, C> {
 
     ghost Value = { EvaluatorParts };
 
-    ghost view = { λ t. record { circuit = t.circuit.now; rows = t.rows.now; inputs = t.inputs.now } };
+    ghost view = { λ t. record {
+      circuit = t.circuit.now;
+      rows = t.rows.now;
+      inputs = t.inputs.now;
+    } };
 
     ghost invariant = { λ t. IsEvaluator
         (record { circuit = t.circuit.now; rows = t.rows.now; inputs = t.inputs.now }) };
 }
 
 impl<'c, C: Allocator> Evaluator<'c, C> {
-    /// The evaluation of these rows on these labels. That there are as many rows as AND gates is the caller's condition.
+    /// The evaluation of these rows on these labels. That there are as many rows as AND gates is the caller's
+    /// condition.
     pub(crate) fn new(
         circuit: &'c Circuit<C>,
         rows: &'c [RowPair],
@@ -44,7 +49,7 @@ impl<'c, C: Allocator> Evaluator<'c, C> {
         requires { length rows.now ≡ and_count circuit.now }
         ensures { result ≡ record { circuit = circuit.now; rows = rows.now; inputs = inputs.now } }
     {
-        let _ = circuit.gates();
+        circuit.law_lawful();
         Evaluator {
             circuit,
             rows,
@@ -56,9 +61,10 @@ impl<'c, C: Allocator> Evaluator<'c, C> {
 impl<'c, C: Allocator> Evaluator<'c, C> {
     /// The labels of the output wires, the last ones, where all of them are marked.
     pub(crate) fn outputs<'l>(&self, labels: &'l [Label], marks: &[Mark]) -> Option<&'l [Label]>
-        requires { IsLabelled self.now.circuit (active_label_of self.now.circuit self.now.rows self.now.inputs)
-            labels.now marks.now }
-        ensures { IfSome result (λ l. AreOutputLabels self.now.circuit self.now.rows self.now.inputs l.now) }
+        requires { IsLabelled self.now.circuit
+            (active_label_of self.now.circuit self.now.rows self.now.inputs) labels.now marks.now }
+        ensures { IfSome result (λ l.
+            AreOutputLabels self.now.circuit self.now.rows self.now.inputs l.now) }
     {
         let first = (self.circuit.wires() - self.circuit.output_wires()) as usize;
         let (_, last_marks) = marks.split_at(first);
@@ -89,11 +95,13 @@ impl<'c, C: Allocator> Labelling<ToEvaluate> for Evaluator<'c, C> {
     fn pending(&self, place: Place, gate: Gate, first: Label, second: Label) -> ToEvaluate {
         ToEvaluate {
             place: place.gate,
-            k: place.k,
             set: gate.set,
-            rows: self.rows[place.k as usize],
-            a: first,
-            b: second,
+            step: AndStep {
+                k: place.k,
+                rows: self.rows[place.k as usize],
+                a: first,
+                b: second,
+            },
         }
     }
 

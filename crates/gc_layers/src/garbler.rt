@@ -4,9 +4,9 @@ ghost use Rattle.std.specs.Prelude.{◌≡◌, ◌≢◌, ℕ, ◌<◌, IfOk, Is
 ghost use Rattle.gc_netlist.specs.Circuit.{IsLawful, and_count};
 ghost use Rattle.gc_layers.specs.Garbler.{AreRows, IsGate, garbled_of, is_present, no_rows, row_of};
 
-use crate::waiting::{Garbled, Waiting};
+use crate::to_garble::{Garbled, ToGarble};
 use gc_circuit::{Circuit, Gate, Memory};
-use gc_half::{RowPair, garble_gate};
+use gc_half::{AndGate, RowPair, garble_gate};
 use gc_label::{Label, Offset, Seed, offset};
 use gc_labelling::{Labelling, Place};
 use gc_table::Table;
@@ -40,7 +40,8 @@ impl<'c, A: Allocator, C: Allocator> Model for Garbler<'c, A, C> {
 
     ghost view = { λ t. record { circuit = t.circuit.now; seed = t.seed.now } };
 
-    ghost invariant = { λ t. IsGarbler (record { circuit = t.circuit.now; seed = t.seed.now }) t.offset t.rows t.present };
+    ghost invariant = { λ t. IsGarbler (record { circuit = t.circuit.now; seed = t.seed.now })
+        t.offset t.rows t.present };
 }
 
 impl<'c, A: Allocator, C: Allocator> Garbler<'c, A, C> {
@@ -53,7 +54,7 @@ impl<'c, A: Allocator, C: Allocator> Garbler<'c, A, C> {
         ensures { IfOk result (λ t. t ≡ record { circuit = circuit.now; seed = seed.now }) }
     {
         let ands = circuit.and_count();
-        let _ = circuit.gates();
+        circuit.law_lawful();
         Ok(Garbler {
             circuit,
             seed,
@@ -99,7 +100,7 @@ impl<'c, A: Allocator, C: Allocator> Garbler<'c, A, C> {
     }
 }
 
-impl<'c, A: Allocator, C: Allocator> Labelling<Waiting> for Garbler<'c, A, C> {
+impl<'c, A: Allocator, C: Allocator> Labelling<ToGarble> for Garbler<'c, A, C> {
     ghost use Rattle.gc_half.specs.Canonical.{zero_label_of};
     ghost use Rattle.gc_layers.specs.Garbler.{IsGate};
 
@@ -116,20 +117,22 @@ impl<'c, A: Allocator, C: Allocator> Labelling<Waiting> for Garbler<'c, A, C> {
     }
 
     #[inline]
-    fn pending(&self, place: Place, gate: Gate, first: Label, second: Label) -> Waiting {
-        Waiting {
+    fn pending(&self, place: Place, gate: Gate, first: Label, second: Label) -> ToGarble {
+        ToGarble {
             place: place.gate,
-            k: place.k,
             set: gate.set,
-            offset: self.offset,
-            a: first,
-            b: second,
+            gate: AndGate {
+                k: place.k,
+                offset: self.offset,
+                a: first,
+                b: second,
+            },
         }
     }
 
     #[inline]
-    fn keep(&mut self, gate: &Waiting, made: &Garbled) -> (u32, Label) {
-        self.put(gate.k, made.rows);
+    fn keep(&mut self, gate: &ToGarble, made: &Garbled) -> (u32, Label) {
+        self.put(gate.gate.k, made.rows);
         (gate.set, made.zero_label)
     }
 }

@@ -1,16 +1,17 @@
-//! Garbling and evaluating by layers: all AND gates whose labels are there go together, eight hashes at a time, and by several
-//! threads where there are enough (`gc_labelling`).
+//! Garbling and evaluating on several threads, by layers: AND gates whose labels are there are made together, eight
+//! hashes at a time, by all threads (`gc_labelling`).
 //!
-//! [`garble_by_layers`] gives the garbling that [`garble_one_thread`](gc_half::garble_one_thread) gives.
+//! [`garble_by_layers`] gives the garbling that [`garble_one_thread`](gc_half::garble_one_thread) gives, and [`way_of`]
+//! says which way takes several threads the least time.
 #![tactic(auto)]
 
 mod evaluate;
-mod evaluated;
 mod evaluator;
 mod garble;
 mod garbler;
 mod rest;
-mod waiting;
+mod to_evaluate;
+mod to_garble;
 mod way;
 
 pub use evaluate::evaluate_by_layers;

@@ -17,10 +17,10 @@ use gc_label::{Label, Offset, Seed, offset};
 use gc_labelling::Mark;
 use std::alloc::Allocator;
 
-/// Garbles each gate whose label or row pair isn't there, of which the house is told as worker 0's. Whether all row pairs
-/// are there the caller knows.
+/// Garbles each gate whose label or row pair isn't there, as worker 0, which reports it to the observer first. The
+/// caller knows whether all row pairs are there.
 pub(crate) fn garble_rest<C: Allocator, H: Gatehouse>(
-    house: &H,
+    observer: &H,
     circuit: &Circuit<C>,
     seed: &Seed,
     marks: &[Mark],
@@ -34,18 +34,20 @@ pub(crate) fn garble_rest<C: Allocator, H: Gatehouse>(
     requires rows { AreRows circuit.now seed.now 0 rows.old }
     requires whole { IsTrue has_all_rows → (k : ℕ) → k < length rows.old
         → (slice_index_or rows.old k no_rows).evaluator ≢ 0 }
-    ensures labels { AreLabels circuit.now (zero_label_of circuit.now seed.now) (length circuit.now.gates) labels.new }
+    ensures labels { AreLabels circuit.now (zero_label_of circuit.now seed.now)
+        (length circuit.now.gates) labels.new }
     ensures rows { AreRows circuit.now seed.now (and_count circuit.now) rows.new }
 {
-    let _ = circuit.gates();
+    circuit.law_lawful();
     if !has_all_rows || !are_marked(marks) {
-        garble_missing(house, circuit, seed, marks, labels, rows);
+        garble_missing(observer, circuit, seed, marks, labels, rows);
     }
 }
 
 /// Whether all marks say that a label is there.
 pub(crate) fn are_marked(marks: &[Mark]) -> bool
-    ensures { IsTrue result → (w : ℕ) → w < length marks.now → slice_index_or marks.now w Absent ≡ There }
+    ensures { IsTrue result
+        → (w : ℕ) → w < length marks.now → slice_index_or marks.now w Absent ≡ There }
 {
     for i in 0..marks.len() {
         if !marks[i].is_there() {
@@ -57,7 +59,7 @@ pub(crate) fn are_marked(marks: &[Mark]) -> bool
 
 /// The same, from gate to gate in file order.
 fn garble_missing<C: Allocator, H: Gatehouse>(
-    house: &H,
+    observer: &H,
     circuit: &Circuit<C>,
     seed: &Seed,
     marks: &[Mark],
@@ -68,7 +70,8 @@ fn garble_missing<C: Allocator, H: Gatehouse>(
     requires marks { AreMarked (zero_label_of circuit.now seed.now) marks.now labels.old }
     requires labels { AreLabels circuit.now (zero_label_of circuit.now seed.now) 0 labels.old }
     requires rows { AreRows circuit.now seed.now 0 rows.old }
-    ensures labels { AreLabels circuit.now (zero_label_of circuit.now seed.now) (length circuit.now.gates) labels.new }
+    ensures labels { AreLabels circuit.now (zero_label_of circuit.now seed.now)
+        (length circuit.now.gates) labels.new }
     ensures rows { AreRows circuit.now seed.now (and_count circuit.now) rows.new }
 {
     let offset = offset(seed);
@@ -76,7 +79,7 @@ fn garble_missing<C: Allocator, H: Gatehouse>(
     for i in 0..circuit.gates() {
         let gate = circuit.gate(i);
         if !is_there(marks, rows, k, gate) {
-            house.before(0, i);
+            observer.before(0, i);
             garble_at(labels, rows, k, offset, gate);
         }
         if gate.operation.is_and() {
@@ -106,7 +109,8 @@ fn garble_at(labels: &mut [Label], rows: &mut [RowPair], k: u32, offset: Offset,
     ensures labels { labels.new ≡ slice_set labels.old gate.set
         (zero_of hash offset (slice_index labels.old) k gate.operation) }
     ensures rows { rows.new ≡ with_pair rows.old k (gate_rows hash offset k gate.operation
-        (first_read (slice_index labels.old) gate.operation) (second_read (slice_index labels.old) gate.operation)) }
+        (first_read (slice_index labels.old) gate.operation)
+        (second_read (slice_index labels.old) gate.operation)) }
 {
     let (first, second) = labels_read(labels, gate.operation);
     let (label, pair) = garble_gate(k, offset, gate.operation, first, second);

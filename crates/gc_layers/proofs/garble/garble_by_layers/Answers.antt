@@ -13,16 +13,16 @@ label_by_layers-requires-clause-labels g c κs within =
     let labels = c.in_ok-labels.labels.items in
     subst (λ (t : GarblerParts). AreLabels c.args.circuit.now (zero_label_of t.circuit t.seed) 0 labels)
     (sym c.in_ok-garbler.ensures)
-    (labels-start c.args.circuit.now c.args.seed.now c.gates.ensures.lawful labels c.in_ok-labels.ensures)
+    (labels-start c.args.circuit.now c.args.seed.now c.law_lawful.ensures labels c.in_ok-labels.ensures)
 
 pub returns : goal.returns
 returns g c =
-    let old_labels = c.in_ok-garbler-2.labels in
+    let old_labels = c.in_ok-garbler-2.field-0.labels in
     let old_rows = c.into_rows-rows.result.0 in
     let parts = c.from_parts.ensures in
     let labels_count : old_labels.len ≡ length old_labels.items = search rules in
     let rows_count : old_rows.len ≡ length old_rows.items = search rules in
-    garbled-end c.args.circuit.now c.args.seed.now c.gates.ensures.lawful c.from_parts.result
+    garbled-end c.args.circuit.now c.args.seed.now c.law_lawful.ensures c.from_parts.result
     c.garble_rest.new.labels c.garble_rest.new.rows c.output_wires.result
     (parts-same c.from_parts.result c.garble_rest.new.labels c.garble_rest.new.rows c.output_wires.result
     (ap (λ (t : GarblingParts). t.zero_labels) parts

@@ -6,7 +6,7 @@ use Rattle.gc_half.specs.Canonical.{zero_label_of}
 use Rattle.gc_half.proofs.OneGateLemmas.{first_read-local, second_read-local}
 use Rattle.gc_labelling.specs.Layer.{AreLabels, AreMarked}
 use Rattle.gc_layers.specs.Garbler.{AreRows, no_rows, row_of}
-use Rattle.gc_labelling.proofs.LayerLemmas.{labels-put, marked-label}
+use Rattle.gc_layers.proofs.PartlyLemmas.{labels-put, marked-label}
 use Rattle.gc_layers.proofs.GarblerLemmas.{labels-next, rows-gate, rows-next, reads-there, gate-label, gate-row}
 use Rattle.gc_layers.proofs.rest.garble_missing.Goals as goal
 use Rattle.gc_layers.proofs.rest.garble_missing.Goals.{then-not-is_there, else-not-is_there, then-is_and, else-is_and}

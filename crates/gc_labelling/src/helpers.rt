@@ -1,4 +1,4 @@
-//! The threads that make blocks, as the one sees them that goes from gate to gate.
+//! The threads that make blocks, as the calling thread sees them, which goes from gate to gate.
 
 ghost use Rattle.std.specs.Prelude.{◌≡◌, IfOk, IfSome, []};
 
@@ -11,47 +11,45 @@ use gc_gatehouse::Gatehouse;
 use std::alloc::Allocator;
 use std::sync::Wait;
 
-/// Others may soon want for blocks where they have fewer than so many,
+/// With fewer blocks than this helpers may soon run out of work,
 const FEW: usize = 8;
 
-/// and they have enough for a while where they have so many.
+/// and with this many they have enough for a while.
 const MANY: usize = 24;
 
-/// Blocks that others make, or that are made here, by worker 0.
+/// The helpers' blocks, as the calling thread, worker 0, counts them: it offers blocks, takes them back, and makes
+/// those that no helper takes.
 #[derive(Drop)]
-pub(crate) struct Crew<'e, P: Pending, O: Origin<P>, A: Allocator, H: Gatehouse> {
+pub(crate) struct Helpers<'e, P: Pending, O: Origin<P>, A: Allocator, H: Gatehouse> {
     alloc: A,
     exchange: &'e Exchange<P, O, A>,
-    house: &'e H,
-    is_alone: bool,
+    observer: &'e H,
     // How many blocks were offered and aren't back.
     out: usize,
     // Blocks that are to be filled anew.
     free: Vec<Block<P, O, A>, A>,
 }
 
-impl<'e, P: Pending, O: Origin<P>, A: Allocator + Copy, H: Gatehouse> Crew<'e, P, O, A, H> {
-    /// A crew of the calling thread and those that take blocks of the exchange, if there are any.
+impl<'e, P: Pending, O: Origin<P>, A: Allocator + Copy, H: Gatehouse> Helpers<'e, P, O, A, H> {
+    /// The helpers that take blocks of the exchange, if there are any. They have none yet.
     pub(crate) fn open(
         alloc: A,
         exchange: &'e Exchange<P, O, A>,
-        house: &'e H,
-        is_alone: bool,
-    ) -> Result<Crew<'e, P, O, A, H>, Memory> {
-        Ok(Crew {
+        observer: &'e H,
+    ) -> Result<Helpers<'e, P, O, A, H>, Memory> {
+        Ok(Helpers {
             alloc,
             exchange,
-            house,
-            is_alone,
+            observer,
             out: 0,
             free: Vec::with_capacity(alloc, 1)?,
         })
     }
 
-    /// How many gates that wait are a block: the fewer, the sooner the others may want for one.
+    /// How many waiting gates make a block: fewer while the helpers may run out of work.
     #[inline]
     pub(crate) fn gates_of_block(&self) -> usize {
-        if self.is_alone || self.out >= MANY {
+        if self.out >= MANY {
             BLOCK
         } else if self.out >= FEW {
             BLOCK / 2
@@ -60,15 +58,15 @@ impl<'e, P: Pending, O: Origin<P>, A: Allocator + Copy, H: Gatehouse> Crew<'e, P
         }
     }
 
-    /// Whether no block is with others.
-    pub(crate) fn has_all(&self) -> bool {
+    /// Whether all blocks are back.
+    pub(crate) fn are_idle(&self) -> bool {
         self.out == 0
     }
 
-    /// Tells the house of a gate that is made as it comes.
+    /// Reports a gate to the observer, before the calling thread makes it.
     #[inline]
-    pub(crate) fn tell(&self, gate: u32) {
-        self.house.before(0, gate);
+    pub(crate) fn report(&self, gate: u32) {
+        self.observer.before(0, gate);
     }
 
     /// A block without gates.
@@ -82,11 +80,11 @@ impl<'e, P: Pending, O: Origin<P>, A: Allocator + Copy, H: Gatehouse> Crew<'e, P
         Ok(block)
     }
 
-    /// Offers a block to the others. It comes back at once where there are none, or where all have enough to do.
+    /// Offers a block. It comes back at once where the helpers have enough to do.
     pub(crate) fn offer<R: Wait>(&mut self, rt: &R, block: Block<P, O, A>) -> Option<Block<P, O, A>>
         ensures { IfSome result (λ b. b ≡ block) }
     {
-        if self.is_alone || self.out >= MOST_OUT {
+        if self.out >= MOST_OUT {
             return Some(block);
         }
         let refused = self.exchange.offer(rt, block);
@@ -96,29 +94,29 @@ impl<'e, P: Pending, O: Origin<P>, A: Allocator + Copy, H: Gatehouse> Crew<'e, P
         refused
     }
 
-    /// A block, made here.
+    /// A block, made by the calling thread.
     pub(crate) fn seal(&self, block: Block<P, O, A>) -> Sealed<P, O, A>
         ensures { result ≡ block }
     {
-        block.seal(self.house, 0)
+        block.seal(self.observer, 0)
     }
 
-    /// A block that came back, if one did.
+    /// A block that a helper made, if one is back.
     pub(crate) fn returned<R: Wait>(&mut self, rt: &R) -> Option<Sealed<P, O, A>> {
         let sealed = self.exchange.returned(rt)?;
         self.out = self.out.saturating_sub(1);
         Some(sealed)
     }
 
-    /// A block that was offered and that nobody took, made here.
+    /// A block that was offered and that no helper took, made by the calling thread.
     pub(crate) fn taken_back<R: Wait>(&mut self, rt: &R) -> Option<Sealed<P, O, A>> {
         let block = self.exchange.taken(rt)?;
         self.out = self.out.saturating_sub(1);
         Some(self.seal(block))
     }
 
-    /// The next block that comes back, which is waited for; or else one that was offered, made here. There is none
-    /// where no block is with others.
+    /// Waits for the next block that a helper made, or makes one that no helper took. None says that all blocks are
+    /// back, or that one was lost.
     pub(crate) fn awaited<R: Wait>(&mut self, rt: &R) -> Option<Sealed<P, O, A>> {
         if self.out == 0 {
             return None;
@@ -134,7 +132,7 @@ impl<'e, P: Pending, O: Origin<P>, A: Allocator + Copy, H: Gatehouse> Crew<'e, P
         }
     }
 
-    /// Takes a block back when what was made isn't needed any more.
+    /// Keeps a block to be filled anew, when what was made isn't needed any more.
     pub(crate) fn release(&mut self, sealed: Sealed<P, O, A>) {
         let _ = self.free.push(sealed.into_block());
     }

@@ -1,0 +1,37 @@
+use Rattle.std.proofs.Common.{◌≡◌, ◌*◌, inl, inr, set, length-set, ap, ◌∙◌, arith, rules}
+use Rattle.std.proofs.lemmas.Bool.{cases_eq}
+use Rattle.std.proofs.lemmas.Option.{slice_get_within}
+use Rattle.gc_layers.specs.Garbler.{garbled_of}
+use Rattle.gc_layers.proofs.MadeLemmas.{made-put}
+use Rattle.gc_layers.proofs.to_garble.garble_pair.Goals as goal
+
+pub returns : goal.returns
+returns c j below gate d at =
+    let gates = c.args.gates.now in
+    let made = c.args.made.now in
+    let first = 2 * c.args.i in
+    let second = c.min-second.result in
+    let one = c.named.result in
+    let other = c.named-2.result in
+    let is_first : one ≡ garbled_of c.index-gates-first.result = search rules in
+    let is_second : other ≡ garbled_of c.index-gates-second.result = search rules in
+    let put_first = made-put garbled_of gates made first c.index-gates-first.result one
+    (is_first ∙ ap garbled_of c.index-gates-first.is)
+    (omega (arith, c.requires.place, c.requires.room)) j in
+    let put_second = made-put garbled_of gates (set made first one) second c.index-gates-second.result other
+    (is_second ∙ ap garbled_of c.index-gates-second.is)
+    (omega (arith, c.requires.place, c.requires.room, c.min-second.ensures, length-set made first one)) j in
+    put_second (elim (cases_eq j second) [
+      | inl e ↦ inl e
+      | inr not_second ↦ inr (put_first (elim (cases_eq j first) [
+        | inl e ↦ inl e
+        | inr not_first ↦ inr (c.requires.before j (omega (
+          arith,
+          below,
+          slice_get_within gates j gate at,
+          not_first,
+          not_second,
+          c.min-second.ensures,
+        )))
+      ]))
+    ]) gate d at
