@@ -5,7 +5,7 @@ use Rattle.gc_store.specs.declared.task.Task.{Task}
 use Rattle.gc_work.specs.declared.account.PoolAccount.{PoolAccount}
 use Rattle.gc_work.specs.PoolRule.{account, all_parts}
 
--- An owner's account, the slots of its deque and the index of its next push, beside the capacity and the number of
+-- An owner's account, the slots of its deque and the index of its next push, with the capacity and the number of
 -- thieves that the pool was opened with.
 pub record IsOwning (v : PoolAccount) (slots next capacity thieves : ℕ) : Type 0 where
   pub nothing_stolen : v.stolen ≡ []

@@ -3,18 +3,18 @@ use Rattle.std.specs.Prelude.{◌≡◌, ℕ, List, Some, slice_get, All}
 use Rattle.std.specs.declared.vec.Vec.{Vec}
 use Rattle.atomic_blocks.specs.Lent.{RowsId}
 use Rattle.gc_work.specs.Pool.{ThiefParts, AllOf}
-use Rattle.gc_work.specs.declared.raid.Raid.{Raid}
+use Rattle.gc_work.specs.declared.steal.PlacedThief.{PlacedThief}
 
 module _ {A : Type 0} where
   -- the thief is at the pool of its place
-  abbrev pub IsAt : List (RowsId × A) → Raid A → Type 0
+  abbrev pub IsAt : List (RowsId × A) → PlacedThief A → Type 0
   IsAt pools r = slice_get pools r.target ≡ Some r.thief.pool
 
-  abbrev pub ArePlaced : List (RowsId × A) → List (Raid A) → Type 0
+  abbrev pub ArePlaced : List (RowsId × A) → List (PlacedThief A) → Type 0
   ArePlaced pools rs = All (λ r. IsAt pools r) rs
 
   -- each worker's thieves are at the pools of their places
-  abbrev pub AreRows : List (RowsId × A) → List (Vec (Raid A) A) → Type 0
+  abbrev pub AreRows : List (RowsId × A) → List (Vec (PlacedThief A) A) → Type 0
   AreRows pools rows = All (λ row. ArePlaced pools row.items) rows
 
   -- each deck has thieves of the pool of its place

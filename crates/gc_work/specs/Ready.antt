@@ -7,4 +7,4 @@ use Rattle.gc_work.specs.Places.{ArePlaced}
 module _ {L A : Type 0} where
   pub record IsReady (pools : List (RowsId × A)) (m : Member L A) : Type 0 where
     pub own : slice_get pools m.place ≡ Some m.owner.pool
-    pub others : ArePlaced pools m.raids.items
+    pub others : ArePlaced pools m.thieves.items

@@ -1,7 +1,7 @@
 -- Owners at their pools.
 use Rattle.std.specs.Prelude.{◌≡◌, List, Some, slice_get, All}
 use Rattle.atomic_blocks.specs.Lent.{RowsId}
-use Rattle.gc_work.specs.declared.muster.Seat.{Seat}
+use Rattle.gc_work.specs.declared.workers.Seat.{Seat}
 
 module _ {A : Type 0} where
   -- the owner is of the pool of its place, where there is one

@@ -13,7 +13,7 @@ abbrev pub name_of : WorkFault → List ℕ
 name_of BadWorkers = codes "BadWorkers"
 name_of Memory = codes "Memory"
 
--- With so many workers there is this fault: their number is wrong, or it isn't and memory ran out.
+-- With this number of workers there is this fault: their number is wrong, or it isn't and memory ran out.
 abbrev pub HasWorkFault : ℕ → WorkFault → Type 0
 HasWorkFault workers BadWorkers = (workers ≡ 0) ⊎ (MAX_WORKERS < workers)
 HasWorkFault workers Memory = AreFew workers

@@ -8,10 +8,10 @@ ghost use Rattle.gc_work.specs.WorkFault.{JudgesWorkers};
 
 use crate::fault::WorkFault;
 use crate::gather::gather;
-use crate::muster::muster;
 use crate::pool::TaskPool;
 use crate::sweep::sweep;
 use crate::worker::{Member, work};
+use crate::workers::{Workers, open_workers};
 use gc_circuit::{Circuit, Memory};
 use gc_gatehouse::{Gatehouse, MAX_WORKERS, tell_all};
 use gc_half::{Garbling, garble_one_thread};
@@ -146,7 +146,7 @@ fn work_together<
     capacity: u32,
     house: &H,
 ) -> Result<(Store<L, A>, Option<Tally<L>>), Memory> {
-    let (pools, mut members) = muster(alloc, &mut store, workers, capacity)?;
+    let Workers { pools, mut members } = open_workers(alloc, &mut store, workers, capacity)?;
     let shared = SharedStore::new(store);
     run_all(rt, &shared, pools.as_slice(), members.as_mut_slice(), house);
     let tally = gather(alloc, pools, members)?;

@@ -12,11 +12,11 @@ mod account;
 mod fault;
 mod garbling;
 mod gather;
-mod muster;
 mod pool;
-mod raid;
+mod steal;
 mod sweep;
 mod worker;
+mod workers;
 
 pub use account::{PoolAccount, PoolRule};
 pub use fault::WorkFault;

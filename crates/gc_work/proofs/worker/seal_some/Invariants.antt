@@ -5,5 +5,5 @@ abbrev pub invariant-loop-i : goal.invariant-loop-i
 invariant-loop-i g l = record {
   place : l.member.place ≡ l.initial.member.place;
   pool : l.member.owner.pool ≡ l.initial.member.owner.pool;
-  raids : l.member.raids ≡ l.initial.member.raids;
+  thieves : l.member.thieves ≡ l.initial.member.thieves;
 }

@@ -2,7 +2,7 @@ use Rattle.std.proofs.Common.{All, length}
 use Rattle.gc_work.specs.Places.{AreRows}
 use Rattle.gc_work.specs.Ready.{IsReady}
 use Rattle.gc_work.specs.Seats.{AreHeld}
-use Rattle.gc_work.proofs.muster.seated.Given as goal
+use Rattle.gc_work.proofs.workers.seated.Given as goal
 
 abbrev pub invariant-loop-seat : goal.invariant-loop-seat
 invariant-loop-seat g l = record {

@@ -2,7 +2,7 @@ use Rattle.std.proofs.Common.{◌≡◌, ◌∷◌, [], ◌++◌, ◌∙◌, len
 use Rattle.gc_work.specs.Places.{AreRows}
 use Rattle.gc_gatehouse.proofs.Whole.{whole_back}
 use Rattle.gc_work.proofs.PlaceLemmas.{AreHeld-grow}
-use Rattle.gc_work.proofs.muster.open_pools.Goals as goal
+use Rattle.gc_work.proofs.workers.open_pools.Goals as goal
 
 pub loop-i-preserved : goal.loop-i-preserved
 loop-i-preserved g c =

@@ -1,6 +1,6 @@
 use Rattle.std.proofs.Common.{[]}
 use Rattle.gc_work.specs.Places.{AreRows}
-use Rattle.gc_work.proofs.muster.empty_rows.Given as goal
+use Rattle.gc_work.proofs.workers.empty_rows.Given as goal
 
 abbrev pub invariant-loop-i : goal.invariant-loop-i
 invariant-loop-i g l = AreRows [] l.rows.items

@@ -7,7 +7,7 @@ ghost use Rattle.gc_work.specs.Ready.{IsReady};
 ghost use Rattle.gc_work.specs.Seats.{AreHeld};
 
 use crate::pool::{Owner, TaskPool, Thief};
-use crate::raid::Raid;
+use crate::steal::PlacedThief;
 use crate::worker::{MAX_SEALED, Member};
 use gc_circuit::Memory;
 use gc_store::Store;
@@ -22,15 +22,23 @@ pub(crate) struct Seat<A: Allocator> {
 }
 
 /// The pools, their owners, and for each worker its thieves at the others' pools.
-type Opened<A> = (
-    Vec<TaskPool<A>, A>,
-    Vec<Seat<A>, A>,
-    Vec<Vec<Raid<A>, A>, A>,
-);
+#[derive(Drop)]
+struct Opened<A: Allocator> {
+    pools: Vec<TaskPool<A>, A>,
+    seats: Vec<Seat<A>, A>,
+    rows: Vec<Vec<PlacedThief<A>, A>, A>,
+}
+
+/// The pools, and the workers, from the last to worker 0.
+#[derive(Drop)]
+pub(crate) struct Workers<L: Ledger, A: Allocator> {
+    pub pools: Vec<TaskPool<A>, A>,
+    pub members: Vec<Member<L, A>, A>,
+}
 
 /// Deals the thieves of the pool that comes after `pools`, to all workers but its own.
 fn spread<A: Allocator>(
-    rows: &mut [Vec<Raid<A>, A>],
+    rows: &mut [Vec<PlacedThief<A>, A>],
     thieves: Vec<Thief<A>, A>,
     pool: &TaskPool<A>,
     pools: &[TaskPool<A>],
@@ -46,7 +54,7 @@ fn spread<A: Allocator>(
             place += 1;
         }
         if place < rows.len() {
-            rows[place].push(Raid { target, thief })?;
+            rows[place].push(PlacedThief { target, thief })?;
             place += 1;
         }
     }
@@ -57,7 +65,7 @@ fn spread<A: Allocator>(
 fn empty_rows<A: Allocator + Copy>(
     alloc: A,
     workers: u32,
-) -> Result<Vec<Vec<Raid<A>, A>, A>, Memory>
+) -> Result<Vec<Vec<PlacedThief<A>, A>, A>, Memory>
     ensures { IfOk result (λ rows. AreRows [] rows.items) }
 {
     let mut rows = Vec::with_capacity(alloc, workers as usize)?;
@@ -73,8 +81,8 @@ fn open_pools<A: Allocator + Copy>(
     workers: u32,
     capacity: u32,
 ) -> Result<Opened<A>, Memory>
-    ensures seats { IfOk result (λ r. AreHeld r.0.items r.1.items) }
-    ensures rows { IfOk result (λ r. AreRows r.0.items r.2.items) }
+    ensures seats { IfOk result (λ o. AreHeld o.pools.items o.seats.items) }
+    ensures rows { IfOk result (λ o. AreRows o.pools.items o.rows.items) }
 {
     let mut pools = Vec::with_capacity(alloc, workers as usize)?;
     let mut seats = Vec::with_capacity(alloc, workers as usize)?;
@@ -86,7 +94,7 @@ fn open_pools<A: Allocator + Copy>(
         pools.push(pool)?;
         seats.push(Seat { place, owner })?;
     }
-    Ok((pools, seats, rows))
+    Ok(Opened { pools, seats, rows })
 }
 
 /// The workers at these seats, from the last to worker 0. They are fewer where the store has no more tallies.
@@ -95,7 +103,7 @@ fn seated<L: Ledger, A: Allocator + Copy>(
     store: &mut Store<L, A>,
     pools: &[TaskPool<A>],
     mut seats: Vec<Seat<A>, A>,
-    mut rows: Vec<Vec<Raid<A>, A>, A>,
+    mut rows: Vec<Vec<PlacedThief<A>, A>, A>,
 ) -> Result<Vec<Member<L, A>, A>, Memory>
     requires seats { AreHeld pools.now seats.items }
     requires rows { AreRows pools.now rows.items }
@@ -105,7 +113,7 @@ fn seated<L: Ledger, A: Allocator + Copy>(
     while let Some(seat) = seats.pop() {
         let Seat { place, owner } = seat;
         let number = u32::try_from(seats.len()).unwrap_or(0);
-        let Some(raids) = rows.pop() else {
+        let Some(thieves) = rows.pop() else {
             break;
         };
         let Some(tally) = store.tally() else {
@@ -117,7 +125,7 @@ fn seated<L: Ledger, A: Allocator + Copy>(
             number,
             tally,
             owner,
-            raids,
+            thieves,
             sealed,
         })?;
     }
@@ -126,15 +134,15 @@ fn seated<L: Ledger, A: Allocator + Copy>(
 
 /// A pool of this capacity for each worker, and the workers, from the last to worker 0. They are fewer where the store
 /// has no more tallies.
-pub(crate) fn muster<L: Ledger, A: Allocator + Copy>(
+pub(crate) fn open_workers<L: Ledger, A: Allocator + Copy>(
     alloc: A,
     store: &mut Store<L, A>,
     workers: u32,
     capacity: u32,
-) -> Result<(Vec<TaskPool<A>, A>, Vec<Member<L, A>, A>), Memory>
-    ensures { IfOk result (λ r. All (λ m. IsReady r.0.items m) r.1.items) }
+) -> Result<Workers<L, A>, Memory>
+    ensures { IfOk result (λ w. All (λ m. IsReady w.pools.items m) w.members.items) }
 {
-    let (pools, seats, rows) = open_pools(alloc, workers, capacity)?;
+    let Opened { pools, seats, rows } = open_pools(alloc, workers, capacity)?;
     let members = seated(alloc, store, pools.as_slice(), seats, rows)?;
-    Ok((pools, members))
+    Ok(Workers { pools, members })
 }

@@ -1,6 +1,6 @@
 use Rattle.gc_work.specs.Places.{AreRows}
 use Rattle.gc_work.specs.Seats.{AreHeld}
-use Rattle.gc_work.proofs.muster.open_pools.Given as goal
+use Rattle.gc_work.proofs.workers.open_pools.Given as goal
 
 abbrev pub invariant-loop-i : goal.invariant-loop-i
 invariant-loop-i g l = record {

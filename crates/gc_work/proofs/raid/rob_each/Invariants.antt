@@ -1,5 +1,0 @@
-use Rattle.gc_work.specs.Places.{ArePlaced}
-use Rattle.gc_work.proofs.raid.rob_each.Given as goal
-
-abbrev pub invariant-loop-k : goal.invariant-loop-k
-invariant-loop-k g l = ArePlaced l.pools l.raids
