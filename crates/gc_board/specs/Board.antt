@@ -1,9 +1,10 @@
--- The words of a board, three for each gate: its state (0 free, 1 in hand, 2 done), and the low and the high half of
--- what is found out of it. One more word stands at the end, which no gate has.
+-- The words of a board, three for each gate: its state (FREE, IN_HAND or DONE), and the low and the high half of what is found
+-- out of it. One more word stands at the end, which no gate has.
 use Rattle.std.specs.Prelude.{◌≡◌, ℕ, ◌+◌, ◌*◌, ◌<◌, List, [], length, slice_index, Some, None}
 use mathlib.Core.Option.{some}
 use lib.ListN.{get_elem?}
 use Rattle.gc_board.specs.Counts.{total, only, times}
+use Rattle.gc_board.specs.declared.rule.TheConstants.{DONE, IN_HAND}
 use Rattle.gc_board.specs.declared.rule.View.{View}
 use Rattle.gc_board.specs.declared.rule.Hand.{Hand}
 use Rattle.gc_board.specs.declared.rule.Hand.TheVariants.{Empty, Has}
@@ -34,17 +35,17 @@ module _ {J : Type 0} (gates : J → ℕ) (right : J → ℕ → ℕ → ℕ →
   IsHandRight job words (Has g phase) =
       (0 < phase → right job g 0 (low_of words g)) × (1 < phase → right job g 1 (high_of words g))
 
-  -- The words of gate g: the state is one of the three, and where it is 2, both halves are right.
+  -- The words of gate g: the state is one of the three, and where it is DONE, both halves are right.
   pub record Cell (job : J) (words : List ℕ) (g : ℕ) : Type 0 where
     pub state : state_of words g < 3
-    pub low : state_of words g ≡ 2 → right job g 0 (low_of words g)
-    pub high : state_of words g ≡ 2 → right job g 1 (high_of words g)
+    pub low : state_of words g ≡ DONE → right job g 0 (low_of words g)
+    pub high : state_of words g ≡ DONE → right job g 1 (high_of words g)
 
   -- What a view says of the words is so: what is stored of the gate in hand is right, each gate that it knows is done,
   -- and a view that stands for no seat has nothing in hand and made nothing.
   pub record Fits (job : J) (words : List ℕ) (v : View J) : Type 0 where
     pub holding : IsHandRight job words v.hand
-    pub knows : (g : ℕ) → 0 < times g v.known → state_of words g ≡ 2
+    pub knows : (g : ℕ) → 0 < times g v.known → state_of words g ≡ DONE
     pub spent : v.seats ≡ 0 → (v.hand ≡ Empty) × (v.made ≡ [])
 
   -- The rule, between any two atomic steps.
@@ -53,10 +54,10 @@ module _ {J : Type 0} (gates : J → ℕ) (right : J → ℕ → ℕ → ℕ →
     pub long : length words ≡ 3 * gates job + 1
     -- The words of each gate are right.
     pub cells : (g : ℕ) → Cell job words g
-    -- A gate is at state 1 where exactly one seat has it in hand, and else none has.
-    pub hands : (g : ℕ) → total (λ v. in_hand g v.hand) views ≡ only 1 (state_of words g)
-    -- A gate is at state 2 where it stands once in all made lists together, and else it stands in none.
-    pub mades : (g : ℕ) → total (λ v. times g v.made) views ≡ only 2 (state_of words g)
+    -- A gate is IN_HAND where exactly one seat has it in hand, and else none has.
+    pub hands : (g : ℕ) → total (λ v. in_hand g v.hand) views ≡ only IN_HAND (state_of words g)
+    -- A gate is DONE where it stands once in all made lists together, and else it stands in none.
+    pub mades : (g : ℕ) → total (λ v. times g v.made) views ≡ only DONE (state_of words g)
     -- The views stand for all seats of the board.
     pub dealt : total (λ v. v.seats) views ≡ seats
     -- What each view says is so.
@@ -77,4 +78,4 @@ pub record Settled {J : Type 0} (gates : J → ℕ) (right : J → ℕ → ℕ �
   -- The words of each gate are right.
   pub cells : (g : ℕ) → Cell gates right job words g
   -- Each gate that is done was made once, and no other was made.
-  pub mades : (g : ℕ) → times g made ≡ only 2 (state_of words g)
+  pub mades : (g : ℕ) → times g made ≡ only DONE (state_of words g)

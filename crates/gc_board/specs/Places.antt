@@ -11,7 +11,7 @@ pub record IsTable {J : Type 0} (gates : J → ℕ) (table : TableId) (key : Key
   pub slots : table.slots ≡ 0
 
 module _ {J : Type 0} {S : Type 0} where
-  -- The seat is one of this table, and its view is of this work and of a board of so many seats.
+  -- The seat is one of this table, and its view is of this work and of a board of this many seats.
   pub record IsPlaceOf (gates : J → ℕ) (table : TableId) (key : Key J) (seat : Seat S (View J)) : Type 0 where
     pub fits : IsTable gates table key
     pub table_id : seat.table_id ≡ table

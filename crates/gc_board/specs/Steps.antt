@@ -3,13 +3,14 @@ use Rattle.std.specs.Prelude.{◌≡◌, ℕ, ◌+◌, ◌-◌, ◌*◌, ◌<◌
 use Rattle.atomic_table.specs.Table.{Me, Step}
 use Rattle.gc_board.specs.Counts.{only, times}
 use Rattle.gc_board.specs.Board.{in_hand}
+use Rattle.gc_board.specs.declared.rule.TheConstants.{DONE, FREE, IN_HAND}
 use Rattle.gc_board.specs.declared.rule.View.{View}
 use Rattle.gc_board.specs.declared.rule.Hand.{Hand}
 use Rattle.gc_board.specs.declared.rule.Hand.TheVariants.{Empty, Has}
 
--- a gate that is found at state 2 is known
+-- a gate that is found DONE is known
 abbrev pub learnt : List ℕ → ℕ → ℕ → List ℕ
-learnt known g found = if found == 2 then g ∷ known else known
+learnt known g found = if found == DONE then g ∷ known else known
 
 module _ {J : Type 0} where
   -- The view with this hand, made list and known gates, and one step more in its record: the word, and the number
@@ -25,7 +26,7 @@ module _ {J : Type 0} where
     steps = v.steps ++ (word, found) ∷ [];
   }
 
-  -- after a load of the state of gate g: known, where it was found at 2
+  -- after a load of the state of gate g: known, where it was found DONE
   abbrev pub after_state : View J → ℕ → ℕ → View J
   after_state v g found = changed v v.hand v.made (learnt v.known g found) (3 * g) found
 
@@ -33,26 +34,26 @@ module _ {J : Type 0} where
   abbrev pub after_half : View J → ℕ → ℕ → View J
   after_half v word found = changed v v.hand v.made v.known word found
 
-  -- after an exchange of the state of gate g from 0 to 1: found at 0 it is in hand, at 2 it is known
+  -- after an exchange of the state of gate g from FREE to IN_HAND: found FREE it is in hand, found DONE it is known
   abbrev pub after_claim : View J → ℕ → ℕ → View J
   after_claim v g found =
-      changed v (if found == 0 then Has g 0 else v.hand) v.made (learnt v.known g found) (3 * g) found
+      changed v (if found == FREE then Has g 0 else v.hand) v.made (learnt v.known g found) (3 * g) found
 
   -- after a half of gate g, the one in hand, is stored: one half more is
   abbrev pub after_stored : View J → ℕ → ℕ → ℕ → ℕ → View J
   after_stored v g phase word half = changed v (Has g (phase + 1)) v.made v.known word half
 
-  -- after state 2 is stored for gate g, the one in hand: the hand is empty, and the gate made and known
+  -- after DONE is stored for gate g, the one in hand: the hand is empty, and the gate made and known
   abbrev pub after_done : View J → ℕ → View J
-  after_done v g = changed v Empty (v.made ++ g ∷ []) (g ∷ v.known) (3 * g) 2
+  after_done v g = changed v Empty (v.made ++ g ∷ []) (g ∷ v.known) (3 * g) DONE
 
-  -- What the number found at the state of a gate tells: a known gate is found at 2; and a view that stands for all
-  -- seats of its board has the gate in hand where 1 is found, and made it where 2 is.
+  -- What the number found at the state of a gate tells: a known gate is found DONE; and a view that stands for
+  -- all seats of its board has the gate in hand where it is found IN_HAND, and made it where it is found DONE.
   abbrev pub Tells : View J → ℕ → ℕ → Type 0
   Tells v word found =
       (g : ℕ) → word ≡ 3 * g →
-      (0 < times g v.known → found ≡ 2)
-      × (v.seats ≡ v.all → (in_hand g v.hand ≡ only 1 found) × (times g v.made ≡ only 2 found))
+      (0 < times g v.known → found ≡ DONE)
+      × (v.seats ≡ v.all → (in_hand g v.hand ≡ only IN_HAND found) × (times g v.made ≡ only DONE found))
 
   -- Each kind of step, of the seat before, the number found or stored, and the seat after. None takes or gives a slot.
   module _ {S : Type 0} where
@@ -76,7 +77,7 @@ module _ {J : Type 0} where
         × ((g : ℕ) → st.word ≡ 3 * g + 2 → 0 < times g m.0.known
         → (job : J) → m.0.job ≡ Some job → right job g 1 found)
 
-    -- an exchange of a state from 0 to 1
+    -- an exchange of a state from FREE to IN_HAND
     abbrev pub claimed : Step S → Me S (View J) → ℕ → Me S (View J) → Type 0
     claimed st m found m' =
         (m'.1 ≡ m.1) × (found < 3) × Tells m.0 st.word found
@@ -87,7 +88,7 @@ module _ {J : Type 0} where
     half_stored st m half m' =
         (m'.1 ≡ m.1) × ((g phase : ℕ) → m.0.hand ≡ Has g phase → m'.0 ≡ after_stored m.0 g phase st.word half)
 
-    -- a store of state 2 for the gate in hand
+    -- a store of DONE for the gate in hand
     abbrev pub done_stored : Step S → Me S (View J) → ℕ → Me S (View J) → Type 0
     done_stored st m new m' =
         (m'.1 ≡ m.1) × ((g phase : ℕ) → m.0.hand ≡ Has g phase → m'.0 ≡ after_done m.0 g)

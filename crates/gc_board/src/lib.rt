@@ -1,8 +1,8 @@
 //! The words of a board on which many seats work at the same gates, and the six kinds of atomic step on them.
 //!
-//! A board has three words for each gate: its state (0 free, 1 in hand, 2 done) and two halves of what is found out of
-//! it. [`Rule`] is what holds of these words, and of what the seats know of them, between any two atomic steps. Nothing
-//! here knows of circuits: [`Work`] tells what the words are about.
+//! A board has three words for each gate: its state ([`FREE`], [`IN_HAND`] or [`DONE`]) and two halves of what is
+//! found out of it. [`Rule`] is what holds of these words, and of what the seats know of them, between any two atomic
+//! steps. Nothing here knows of circuits: [`Work`] tells what the words are about.
 #![tactic(auto)]
 
 mod fault;
@@ -12,7 +12,7 @@ mod seats;
 mod steps;
 
 pub use fault::OpenFault;
-pub use rule::{Hand, Key, Rule, View, Work};
+pub use rule::{DONE, FREE, Hand, IN_HAND, Key, MAX_SEATS, Rule, View, Work};
 pub use seats::{
     WordTable, close_table, deal_place, free_words, join_place, open_table, tell_place,
 };

@@ -5,6 +5,18 @@ ghost use Rattle.std.specs.Prelude.{ℕ};
 use atomic_table::TableRule;
 use std::collections::LinkedList;
 
+/// The most seats of a board.
+pub const MAX_SEATS: u32 = 64;
+
+/// The state of a gate that no seat has.
+pub const FREE: u64 = 0;
+
+/// The state of a gate that a seat has in hand.
+pub const IN_HAND: u64 = 1;
+
+/// The state of a gate that is made.
+pub const DONE: u64 = 2;
+
 /// What the words of a board are about: how many gates there are, and which numbers are right as the low half
 /// (half 0) and the high half (half 1) of each gate.
 pub trait Work {

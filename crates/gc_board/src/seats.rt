@@ -18,15 +18,15 @@ use std::alloc::{AllocError, Allocator};
 /// The words with their memory.
 pub type WordTable<J, A> = Table<u8, View<J>, Key<J>, Rule, A>;
 
-/// The words of a board of so many gates, all of which are free.
+/// The words of a board of this many gates, all of which are free.
 pub fn free_words<A: Allocator>(alloc: A, gates: u32) -> Result<Vec<u64, A>, AllocError>
     ensures { IfOk result (λ words. words.items ≡ replicate (3 * gates + 1) 0) }
 {
     Vec::from_elem(alloc, 0u64, 3 * gates as usize + 1)
 }
 
-/// A table of these words, in which all gates are free, and a place that stands for all seats. It takes memory for a copy
-/// of the words, 49 where there is none, and gives theirs back.
+/// A table of these words, in which all gates are free, and a place that stands for all seats. It takes memory for a
+/// copy of the words, 49 where there is none, and gives theirs back.
 pub fn open_table<J: Work, A: Allocator>(
     alloc: A,
     key: &Key<J>,
@@ -50,7 +50,8 @@ pub fn deal_place<J: Work>(words: &Words<J>, place: &mut Place<J>) -> Place<J>
     requires place { IsPlaceOf J.gates words.now.table_id words.now.key place.old }
     requires several { 1 < place.old.me.0.seats }
     ensures kept { IsSamePlace place.old place.new × (place.new.me.0 ≡ one_less place.old.me.0) }
-    ensures given { (result.table_id ≡ place.old.table_id) × (result.me ≡ (newcomer place.old.me.0, [])) }
+    ensures given { (result.table_id ≡ place.old.table_id) × (result.me
+        ≡ (newcomer place.old.me.0, [])) }
 {
     words.split_seat::<Deal>(place)
 }
@@ -60,7 +61,8 @@ pub fn tell_place<J: Work>(words: &Words<J>, from: &mut Place<J>, to: &mut Place
     requires from { IsPlaceOf J.gates words.now.table_id words.now.key from.old }
     requires to { IsPlaceOf J.gates words.now.table_id words.now.key to.old }
     ensures from { IsSamePlace from.old from.new × (from.new.me.0 ≡ from.old.me.0) }
-    ensures to { IsSamePlace to.old to.new × (to.new.me.0 ≡ merged to.old.me.0 (note_of from.old.me.0)) }
+    ensures to { IsSamePlace to.old to.new × (to.new.me.0
+        ≡ merged to.old.me.0 (note_of from.old.me.0)) }
 {
     let note = words.split_seat::<Note>(from);
     words.join_seat::<Merge>(to, note);
@@ -71,7 +73,8 @@ pub fn join_place<J: Work>(words: &Words<J>, place: &mut Place<J>, other: Place<
     requires place { IsPlaceOf J.gates words.now.table_id words.now.key place.old }
     requires other { IsPlaceOf J.gates words.now.table_id words.now.key other }
     requires empty { (other.me.0.hand ≡ Empty) × (other.me.1 ≡ []) }
-    ensures { IsSamePlace place.old place.new × (place.new.me.0 ≡ merged place.old.me.0 other.me.0) }
+    ensures { IsSamePlace place.old place.new × (place.new.me.0
+        ≡ merged place.old.me.0 other.me.0) }
 {
     words.join_seat::<Merge>(place, other);
 }
@@ -83,7 +86,8 @@ pub fn close_table<J: Work, A: Allocator>(table: WordTable<J, A>, place: Place<J
     ensures words { (slots_len result.words ≡ table.shared.table_id.words)
         × (slots_len result.slots ≡ table.shared.table_id.slots)
         × IsFull result.words }
-    ensures right { Settled J.gates J.right table.shared.key.work (slots_items result.words) place.me.0.made }
+    ensures right { Settled J.gates J.right table.shared.key.work
+        (slots_items result.words) place.me.0.made }
 {
     table.close_with(place)
 }

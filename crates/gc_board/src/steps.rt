@@ -7,7 +7,7 @@ ghost use Rattle.gc_board.specs.Steps.{Tells, after_state, after_half, after_cla
 ghost use Rattle.gc_board.specs.Places.{IsPlaceAt, IsSamePlace};
 
 use crate::kinds::{Claim, LoadHigh, LoadLow, LoadState, StoreDone, StoreHalf};
-use crate::rule::{Key, Rule, View, Work};
+use crate::rule::{DONE, FREE, IN_HAND, Key, Rule, View, Work};
 use atomic_table::{Seat, Shared};
 
 /// The words of a board, as many threads share them.
@@ -16,7 +16,7 @@ pub type Words<J> = Shared<u8, View<J>, Key<J>, Rule>;
 /// A seat at the words, with its view. It has no bytes.
 pub type Place<J> = Seat<u8, View<J>>;
 
-/// Loads the state of a gate: 0, 1 or 2.
+/// Loads the state of a gate.
 #[inline]
 pub fn load_state<J: Work>(words: &Words<J>, place: &mut Place<J>, gate: u32) -> u64
     requires { IsPlaceAt J.gates words.now.table_id words.now.key place.old gate }
@@ -52,7 +52,8 @@ pub fn load_high<J: Work>(words: &Words<J>, place: &mut Place<J>, gate: u32) -> 
     words.load::<LoadHigh>(place, 3 * gate as usize + 2)
 }
 
-/// Exchanges the state of a gate from 0 to 1, and answers the state that it found. Where that is 0, the gate is in hand.
+/// Exchanges the state of a gate from `FREE` to `IN_HAND`, and answers the state that it found. Where that is `FREE`,
+/// the seat has the gate in hand.
 #[inline]
 pub fn claim<J: Work>(words: &Words<J>, place: &mut Place<J>, gate: u32) -> u64
     requires place { IsPlaceAt J.gates words.now.table_id words.now.key place.old gate }
@@ -63,7 +64,7 @@ pub fn claim<J: Work>(words: &Words<J>, place: &mut Place<J>, gate: u32) -> u64
     ensures found { result < 3 }
     ensures tells { Tells place.old.me.0 (3 * gate) result }
 {
-    words.compare_exchange::<Claim>(place, 3 * gate as usize, 0, 1)
+    words.compare_exchange::<Claim>(place, 3 * gate as usize, FREE, IN_HAND)
 }
 
 /// Stores the low half of the gate in hand.
@@ -90,7 +91,7 @@ pub fn store_high<J: Work>(words: &Words<J>, place: &mut Place<J>, gate: u32, hi
     words.store::<StoreHalf>(place, 3 * gate as usize + 2, high);
 }
 
-/// Stores state 2 for the gate in hand, after both halves: the gate is made.
+/// Stores `DONE` for the gate in hand, after both halves: the gate is made.
 #[inline]
 pub fn store_done<J: Work>(words: &Words<J>, place: &mut Place<J>, gate: u32)
     requires place { IsPlaceAt J.gates words.now.table_id words.now.key place.old gate }
@@ -98,5 +99,5 @@ pub fn store_done<J: Work>(words: &Words<J>, place: &mut Place<J>, gate: u32)
     ensures same { IsSamePlace place.old place.new }
     ensures view { place.new.me.0 ≡ after_done place.old.me.0 gate }
 {
-    words.store::<StoreDone>(place, 3 * gate as usize, 2);
+    words.store::<StoreDone>(place, 3 * gate as usize, DONE);
 }

@@ -32,20 +32,6 @@ pair_is r g p some_times = dite (ℕ_discrete r p.0)
     ))
     (λ ne. absurd (omega (arith, pair_other r g p (λ e _. ne e))))
 
-pub pair_le : (r g : ℕ) (p : ℕ × ℕ) → is_pair r g p ≤ 1
-pair_le r g p = dite (ℕ_discrete r p.0)
-    (λ e. dite (ℕ_discrete g p.1) (λ d. omega (
-      arith,
-      ap (λ x. only x p.0 * only g p.1) e,
-      ap
-          (λ x. only p.0 p.0 * only x p.1) d,
-      pair_same p.0 p.1,
-    )) (λ ne. omega (
-      arith,
-      pair_other r g p (λ _ d. ne d),
-    )))
-    (λ ne. omega (arith, pair_other r g p (λ e _. ne e)))
-
 pub look_is : (r g n : ℕ) (t : ℕ × ℕ × ℕ) → 0 < is_look r g n t → (r ≡ t.0) × (g ≡ t.1) × (n ≡ t.2)
 look_is r g n t some_times = dite (ℕ_discrete n t.2)
     (λ e. let one : 0 < only r t.0 * only g t.1 * 1 = subst (λ x. 0 < only r t.0 * only g t.1 * x)
@@ -53,9 +39,6 @@ look_is r g n t some_times = dite (ℕ_discrete n t.2)
     let q = pair_is r g (t.0, t.1) h in (q.0, q.1, e))
     (λ ne. let h : 0 < only r t.0 * only g t.1 * 0 = subst (λ x. 0 < only r t.0 * only g t.1 * x)
     (only_other n t.2 ne) some_times in absurd (omega arith))
-
-pub look_same : (r g n : ℕ) → is_look r g n (r, g, n) ≡ 1
-look_same r g n = λ i. pair_same r g i * only_same n n refl i
 
 pub someone : {A : Type 0} (f : A → ℕ) (l : List A) → 0 < total f l → (j : ℕ) × (u : A)
     × (get_elem? l j ≡ some u) × (0 < f u)

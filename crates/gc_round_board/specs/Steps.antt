@@ -1,6 +1,8 @@
 -- What each kind of step does to the view of the seat that steps, and what it tells the seat.
 use Rattle.std.specs.Prelude.{◌≡◌, ℕ, ◌+◌, ◌%◌, ◌<◌, ◌≤◌, ◌⊎◌, List, [], ◌∷◌, ◌++◌, ◌==◌, if◌then◌else◌, Some}
 use Rattle.atomic_table.specs.Table.{Me, Step}
+use Rattle.gc_board.specs.declared.rule.TheConstants.{DONE, FREE, IN_HAND}
+use Rattle.gc_rounds.specs.declared.words.TheConstants.{ROUND}
 use Rattle.gc_board.specs.Counts.{only}
 use Rattle.gc_rounds.specs.Words.{round_of}
 use Rattle.gc_rounds.specs.declared.view.View.{View}
@@ -13,9 +15,9 @@ use Rattle.gc_round_board.specs.declared.view.BoardView.{BoardView}
 use Rattle.gc_round_board.specs.declared.view.Hand.{Hand}
 use Rattle.gc_round_board.specs.declared.view.Hand.TheVariants.{Empty, Has}
 
--- a gate that is found at state 2 of round r is known in it
+-- a gate that is found DONE in round r is known in it
 abbrev pub learnt : List (ℕ × ℕ) → ℕ → ℕ → ℕ → List (ℕ × ℕ)
-learnt known r g found = if found == stamp r 2 then (r, g) ∷ known else known
+learnt known r g found = if found == stamp r DONE then (r, g) ∷ known else known
 
 module _ {J : Type 0} where
   -- two views in one, with what the first has in hand
@@ -40,7 +42,7 @@ module _ {J : Type 0} where
     inner = record { job = v.inner.job; hand = hand; made = made; known = known; looks = looks };
   }
 
-  -- after a load of the state word of gate g in round r: known, where it was found at 2 of the round
+  -- after a load of the state word of gate g in round r: known, where it was found DONE in the round
   abbrev pub after_state : View (BoardView J) → ℕ → ℕ → ℕ → View (BoardView J)
   after_state v r g found =
       changed v v.inner.hand v.inner.made (learnt v.inner.known r g found)
@@ -51,33 +53,33 @@ module _ {J : Type 0} where
   after_half v word found =
       changed v v.inner.hand v.inner.made v.inner.known v.inner.looks (Load word found)
 
-  -- after an exchange of the state word of gate g from `old` to 1 of round r: found at `old` the gate is in hand, at 2
-  -- of the round it is known
+  -- after an exchange of the state word of gate g from `old` to IN_HAND in round r: found at `old` the gate is in
+  -- hand, found DONE in the round it is known
   abbrev pub after_claim : View (BoardView J) → ℕ → ℕ → ℕ → ℕ → View (BoardView J)
   after_claim v r g old found =
       changed v (if found == old then Has r g 0 else v.inner.hand) v.inner.made
       (learnt v.inner.known r g found) v.inner.looks (Claim (at r g) found)
 
-  -- after a half of gate g, the one in hand in round r, is stored, with which so many are
+  -- after a half of gate g, the one in hand in round r, is stored, with which this many are
   abbrev pub after_stored : View (BoardView J) → ℕ → ℕ → ℕ → ℕ → ℕ → View (BoardView J)
   after_stored v r g phase word half =
       changed v (Has r g phase) v.inner.made v.inner.known v.inner.looks (Store word half)
 
-  -- after state 2 of round r is stored for gate g, the one in hand: the hand is empty, and the gate made and known
+  -- after DONE in round r is stored for gate g, the one in hand: the hand is empty, and the gate made and known
   abbrev pub after_done : View (BoardView J) → ℕ → ℕ → View (BoardView J)
   after_done v r g =
       changed v Empty (v.inner.made ++ (r, g) ∷ []) ((r, g) ∷ v.inner.known) v.inner.looks
-      (Store (at r g) (stamp r 2))
+      (Store (at r g) (stamp r DONE))
 
   -- What the word found at the state of gate g tells a seat inside round r: it is one of the three states, of the round
-  -- or of an earlier one; a known gate is found at 2 of the round; and a view that stands for all seats has the gate in
-  -- hand where 1 of the round is found, and made it where 2 of it is.
+  -- or of an earlier one; a known gate is found DONE in the round; and a view that stands for all seats has the gate
+  -- in hand where it is found IN_HAND in the round, and made it where it is found DONE in it.
   pub record Tells (v : View (BoardView J)) (r g found : ℕ) : Type 0 where
-    pub state : found % 4294967296 < 3
+    pub state : found % ROUND < 3
     pub round : round_of found ≤ r
-    pub known : 0 < pairs r g v.inner.known → found ≡ stamp r 2
+    pub known : 0 < pairs r g v.inner.known → found ≡ stamp r DONE
     pub alone : v.seats ≡ v.all
-        → (in_hand r g v.inner.hand ≡ only (stamp r 1) found) × (pairs r g v.inner.made ≡ only (stamp r 2) found)
+        → (in_hand r g v.inner.hand ≡ only (stamp r IN_HAND) found) × (pairs r g v.inner.made ≡ only (stamp r DONE) found)
 
   -- Each kind of step, of the seat before, the word found or stored, and the seat after. None takes or gives a slot.
   module _ {S : Type 0} where
@@ -108,7 +110,7 @@ module _ {J : Type 0} where
     claimed st m found m' =
         (m'.1 ≡ m.1)
         × ((r g : ℕ) → m.0.stand ≡ Inside r → st.word ≡ at r g
-        → Tells m.0 r g found × ((found ≡ st.first) ⊎ (stamp r 0 < found))
+        → Tells m.0 r g found × ((found ≡ st.first) ⊎ (stamp r FREE < found))
         × (m'.0 ≡ after_claim m.0 r g st.first found))
 
     -- a store of a half of the gate in hand
@@ -117,7 +119,7 @@ module _ {J : Type 0} where
         (m'.1 ≡ m.1) × ((r g phase : ℕ) → m.0.inner.hand ≡ Has r g phase
         → m'.0 ≡ after_stored m.0 r g (phase + 1) st.word half)
 
-    -- a store of state 2 of the round for the gate in hand
+    -- a store of DONE in the round for the gate in hand
     abbrev pub done_stored : Step S → Me S (View (BoardView J)) → ℕ → Me S (View (BoardView J)) → Type 0
     done_stored st m new m' =
         (m'.1 ≡ m.1) × ((r g phase : ℕ) → m.0.inner.hand ≡ Has r g phase → m'.0 ≡ after_done m.0 r g)

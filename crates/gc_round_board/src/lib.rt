@@ -1,7 +1,7 @@
 //! The words of a board in each of two banks, used again round after round, and the six kinds of atomic step on them.
 //!
 //! In each bank a gate has three words: its state and two halves of what is found out of it. A state word holds the
-//! state (bits 0 and 1: 0 free, 1 in hand, 2 done) and the round that it is of (bits 32 to 63). One of an earlier round
+//! state (bits 0 and 1: free, in hand or done) and the round that it is of (bits 32 to 63). One of an earlier round
 //! counts as free, so a bank that goes to its next round has nothing to clear. What holds of these words is the inner
 //! rule of a table of banks (`gc_rounds`): `Sound` in `specs/Board.antt`. Nothing here knows of circuits: [`Work`]
 //! tells what the words are about.
@@ -15,6 +15,7 @@ mod view;
 
 pub use seats::{BoardTable, WordTable, open_board, settle};
 pub use steps::{
-    Place, Words, claim, load_high, load_low, load_state, store_done, store_high, store_low,
+    Place, Words, claim, load_high, load_low, load_state, state_word, store_done, store_high,
+    store_low,
 };
 pub use view::{BoardView, Hand, Work};

@@ -9,7 +9,7 @@ ghost use Rattle.gc_round_board.specs.Places.{IsBoardPlace};
 use crate::kinds::Settle;
 use crate::steps::{Place, Words};
 use crate::view::{BoardView, Work};
-use gc_board::OpenFault;
+use gc_board::{MAX_SEATS, OpenFault};
 use gc_rounds::{Key, open_table};
 use std::alloc::{Allocator, Global};
 
@@ -22,7 +22,7 @@ pub struct BoardTable<J: Work, A: Allocator = Global> {
     pub table: WordTable<J, A>,
 }
 
-/// A table with the words of so many gates in each bank, none of them made, and a place that stands for all seats. It
+/// A table with the words of this many gates in each bank, none of them made, and a place that stands for all seats. It
 /// takes memory for the words twice over, and gives half of it back: 46 or 49 where it gets none.
 pub fn open_board<J: Work, A: Allocator + Copy>(
     alloc: A,
@@ -30,7 +30,7 @@ pub fn open_board<J: Work, A: Allocator + Copy>(
     gates: u32,
 ) -> Result<(WordTable<J, A>, Place<J>), OpenFault>
     requires gates { gates ≡ J.gates key.now.about }
-    requires seats { (0 < key.now.seats) × (key.now.seats ≤ 64) }
+    requires seats { (0 < key.now.seats) × (key.now.seats ≤ MAX_SEATS) }
     ensures { IfOk result (λ t. (t.0.shared.key ≡ key.now)
         × IsBoardPlace J.gates t.0.shared.table_id key.now t.1
         × (t.1.me ≡ (starting key.now.jobs key.now.seats (first_view key.now.about), []))) }

@@ -11,6 +11,8 @@ ghost use Rattle.gc_round_board.specs.Places.{IsPlaceAt};
 
 use crate::kinds::{Claim, LoadHigh, LoadLow, LoadState, StoreDone, StoreHalf};
 use crate::view::{BoardView, Work};
+use gc_board::{DONE, FREE, IN_HAND};
+use gc_rounds::ROUND;
 
 /// The words of the banks, as many threads share them.
 pub type Words<J> = gc_rounds::Words<J, BoardView<J>>;
@@ -28,11 +30,11 @@ fn index(round: u32, gate: u32) -> usize
 
 /// The state word of this state in a round.
 #[inline]
-fn word(round: u32, state: u64) -> u64
-    requires { state < 4294967296 }
+pub fn state_word(round: u32, state: u64) -> u64
+    requires { state < ROUND }
     ensures { result ≡ stamp round state }
 {
-    0x1_0000_0000 * round as u64 + state
+    ROUND * round as u64 + state
 }
 
 /// Loads the state word of a gate.
@@ -70,8 +72,8 @@ pub fn load_high<J: Work>(words: &Words<J>, place: &mut Place<J>, round: u32, ga
     words.load::<LoadHigh>(place, index(round, gate) + 2)
 }
 
-/// Exchanges the state word of a gate from the free word that a load found to state 1 of the round, and answers the word
-/// that it found. Where that is the free word, the gate is in hand.
+/// Exchanges the state word of a gate from the free word that a load found to `IN_HAND` in the round, and answers the
+/// word that it found. Where that is the free word, the gate is in hand.
 #[inline]
 pub fn claim<J: Work>(
     words: &Words<J>,
@@ -84,13 +86,13 @@ pub fn claim<J: Work>(
     requires empty { place.old.me.0.inner.hand ≡ Empty }
     requires seated { 0 < place.old.me.0.seats }
     requires looked { 0 < looked round gate old place.old.me.0.inner.looks }
-    requires free { old ≤ stamp round 0 }
+    requires free { old ≤ stamp round FREE }
     ensures same { IsSamePlace place.old place.new }
     ensures view { place.new.me.0 ≡ after_claim place.old.me.0 round gate old result }
     ensures tells { Tells place.old.me.0 round gate result }
-    ensures found { (result ≡ old) ⊎ (stamp round 0 < result) }
+    ensures found { (result ≡ old) ⊎ (stamp round FREE < result) }
 {
-    words.compare_exchange::<Claim>(place, index(round, gate), old, word(round, 1))
+    words.compare_exchange::<Claim>(place, index(round, gate), old, state_word(round, IN_HAND))
 }
 
 /// Stores the low half of the gate in hand.
@@ -100,7 +102,8 @@ pub fn store_low<J: Work>(words: &Words<J>, place: &mut Place<J>, round: u32, ga
     requires has { place.old.me.0.inner.hand ≡ Has round gate 0 }
     requires right { J.right words.now.key.about round gate 0 low }
     ensures same { IsSamePlace place.old place.new }
-    ensures view { place.new.me.0 ≡ after_stored place.old.me.0 round gate 1 (at round gate + 1) low }
+    ensures view { place.new.me.0
+        ≡ after_stored place.old.me.0 round gate 1 (at round gate + 1) low }
 {
     words.store::<StoreHalf>(place, index(round, gate) + 1, low);
 }
@@ -112,12 +115,13 @@ pub fn store_high<J: Work>(words: &Words<J>, place: &mut Place<J>, round: u32, g
     requires has { place.old.me.0.inner.hand ≡ Has round gate 1 }
     requires right { J.right words.now.key.about round gate 1 high }
     ensures same { IsSamePlace place.old place.new }
-    ensures view { place.new.me.0 ≡ after_stored place.old.me.0 round gate 2 (at round gate + 2) high }
+    ensures view { place.new.me.0
+        ≡ after_stored place.old.me.0 round gate 2 (at round gate + 2) high }
 {
     words.store::<StoreHalf>(place, index(round, gate) + 2, high);
 }
 
-/// Stores state 2 of the round for the gate in hand, after both halves: the gate is made.
+/// Stores `DONE` in the round for the gate in hand, after both halves: the gate is made.
 #[inline]
 pub fn store_done<J: Work>(words: &Words<J>, place: &mut Place<J>, round: u32, gate: u32)
     requires place { IsPlaceAt J.gates words.now.table_id words.now.key place.old round gate }
@@ -125,5 +129,5 @@ pub fn store_done<J: Work>(words: &Words<J>, place: &mut Place<J>, round: u32, g
     ensures same { IsSamePlace place.old place.new }
     ensures view { place.new.me.0 ≡ after_done place.old.me.0 round gate }
 {
-    words.store::<StoreDone>(place, index(round, gate), word(round, 2));
+    words.store::<StoreDone>(place, index(round, gate), state_word(round, DONE));
 }

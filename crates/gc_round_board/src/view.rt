@@ -4,8 +4,8 @@ ghost use Rattle.std.specs.Prelude.{ℕ};
 
 use std::collections::LinkedList;
 
-/// What the words are about: how many gates there are, and which numbers are right, in a round, as the low half (half 0)
-/// and the high half (half 1) of each gate.
+/// What the words are about: how many gates there are, and which numbers are right, in a round, as the low half (half
+/// 0) and the high half (half 1) of each gate.
 pub trait Work {
     ghost gates: { Self → ℕ };
 

@@ -39,11 +39,6 @@ counted_else b c (Inside r) one ne = only_other c (bank_of r) (λ e. ne (e
     ∙ sym (only_is b (bank_of r) (omega arith))))
 counted_else b c (Passing d) one ne = only_other c d (λ e. ne (e ∙ sym (only_is b d (omega arith))))
 
-pub counted_le : (b : ℕ) (s : Stand) → counted b s ≤ 1
-counted_le b Outside = omega arith
-counted_le b (Inside r) = only_le b (bank_of r)
-counted_le b (Passing c) = only_le b c
-
 one_bank : (b : ℕ) → only 0 b + only 1 b ≤ 1
 one_bank b = dite (ℕ_discrete 0 b) (λ e. omega (
   arith,

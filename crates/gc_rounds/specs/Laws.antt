@@ -10,7 +10,7 @@ use Rattle.gc_rounds.specs.declared.view.Stand.TheVariants.{Outside}
 use Rattle.gc_rounds.specs.declared.view.Step.{Step}
 use Rattle.gc_rounds.specs.declared.view.View.{View}
 
--- The words at the opening: both banks in their first round, and so many words more, all 0.
+-- The words at the opening: both banks in their first round, and this many words more, all 0.
 pub record IsFresh (size : ℕ) (words : List ℕ) : Type 0 where
   pub long : length words ≡ 2 + size
   pub first : round_of (slice_index words 0) ≡ 0

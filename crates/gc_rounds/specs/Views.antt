@@ -2,6 +2,7 @@
 use Rattle.std.specs.Prelude.{ℕ, ◌+◌, ◌*◌, ◌-◌, ◌%◌, List, if◌then◌else◌}
 use Rattle.gc_board.specs.Counts.{total, only}
 use Rattle.gc_rounds.specs.Words.{round_of, bank_of}
+use Rattle.gc_rounds.specs.declared.words.TheConstants.{MARK, ROUND}
 use Rattle.gc_rounds.specs.declared.view.Stand.{Stand}
 use Rattle.gc_rounds.specs.declared.view.Stand.TheVariants.{Outside, Inside, Passing}
 use Rattle.gc_rounds.specs.declared.view.Step.{Step}
@@ -31,7 +32,7 @@ unfair (Claim word found) = 0
 unfair (Enter word found) = 0
 unfair (Leave word found) = 0
 unfair (Seal word found) = 0
-unfair (Reopen word found won) = if won then 1 - only 65536 (found % 4294967296) else 0
+unfair (Reopen word found won) = if won then 1 - only MARK (found % ROUND) else 0
 
 -- how many steps of a record gave bank b to its next round
 abbrev pub given : ℕ → List Step → ℕ

@@ -7,6 +7,7 @@ ghost use Rattle.gc_rounds.specs.Places.{IsPlaceOf, IsSamePlace};
 
 use crate::inner::KeptInner;
 use crate::steps::{Place, Words, count_in, count_out, give_on, mark_sealed};
+use crate::words::{MARK, MAX_JOBS, ROUND};
 use std::marker::Brand;
 
 /// What an entry found.
@@ -41,12 +42,13 @@ pub fn enter<T, I: KeptInner<T>>(words: &Words<T, I>, place: &mut Place<I>, roun
         × I.idle place.old.me.0.inner }
     ensures same { IsSamePlace place.old place.new }
     ensures found { Enters round place.old.me.0 place.new.me.0 result }
-    ensures alone { place.old.me.0.seats ≡ place.old.me.0.all → EntersAlone round place.old.me.0 result }
+    ensures alone { place.old.me.0.seats ≡ place.old.me.0.all
+        → EntersAlone round place.old.me.0 result }
 {
     let found = count_in::<T, I, Brand>(words, place, round);
-    let other = (found >> 32) as u32;
+    let other = (found / ROUND) as u32;
     if other == round {
-        if (found >> 16) % 65536 == 0 {
+        if found / MARK % MARK == 0 {
             return Entry::Inside;
         }
         count_out(words, place, round);
@@ -84,19 +86,19 @@ pub fn reopen<T, I: KeptInner<T>>(
 ) -> Reopening
     requires place { IsPlaceOf words.now.table_id words.now.key place.old }
     requires outside { place.old.me.0.stand ≡ Outside }
-    requires next { round + 2 < 65536 }
+    requires next { round + 2 < MAX_JOBS }
     ensures same { IsSamePlace place.old place.new }
     ensures found { Reopens round place.old.me.0 place.new.me.0 result }
 {
     let found = give_on(words, place, round);
-    let other = (found >> 32) as u32;
+    let other = (found / ROUND) as u32;
     if other != round {
         return Reopening::OtherRound(other);
     }
-    if (found >> 16) % 65536 == 0 {
+    if found / MARK % MARK == 0 {
         return Reopening::NotSealed;
     }
-    if found % 65536 == 0 {
+    if found % MARK == 0 {
         Reopening::Given
     } else {
         Reopening::Busy

@@ -16,6 +16,7 @@ mod rule;
 mod seats;
 mod steps;
 mod view;
+mod words;
 
 pub use calls::{Entry, Reopening, enter, leave, reopen, seal};
 pub use inner::{Inner, KeptInner};
@@ -23,3 +24,4 @@ pub use rule::Rule;
 pub use seats::{WordTable, deal_place, join_place, open_table};
 pub use steps::{Place, Words};
 pub use view::{Key, Stand, Step, View};
+pub use words::{MARK, MAX_JOBS, ROUND};

@@ -11,7 +11,8 @@ impl<T, I: Inner<T>> TableRule<u8, View<I>, Key<T>> for Rule {
     ghost use Rattle.gc_rounds.specs.Banks.{BanksSound};
     ghost use Rattle.gc_rounds.specs.Steps.{starting};
 
-    ghost holds = { λ key s. BanksSound key.jobs key.seats s.words s.views × I.holds key.about s.words s.views };
+    ghost holds = { λ key s. BanksSound key.jobs key.seats s.words s.views
+        × I.holds key.about s.words s.views };
 
     ghost first = { λ key. starting key.jobs key.seats (I.first key.about) };
 }

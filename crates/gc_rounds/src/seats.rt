@@ -11,8 +11,9 @@ use crate::kinds::{Deal, Merge};
 use crate::rule::Rule;
 use crate::steps::{Place, Words};
 use crate::view::{Key, View};
+use crate::words::{MARK, ROUND};
 use atomic_table::Table;
-use gc_board::OpenFault;
+use gc_board::{MAX_SEATS, OpenFault};
 use std::alloc::Allocator;
 
 /// The words with their memory.
@@ -23,14 +24,10 @@ fn second_word(jobs: u32) -> u64
     ensures { (round_of result ≡ 1) × (count_of result ≡ 0) × (mark_of result < 2)
         × (1 < jobs → mark_of result ≡ 0) }
 {
-    if jobs < 2 {
-        0x1_0001_0000
-    } else {
-        0x1_0000_0000
-    }
+    if jobs < 2 { ROUND + MARK } else { ROUND }
 }
 
-/// A table with bank 0 open in round 0, bank 1 in round 1, or sealed where there is one job, and so many words more,
+/// A table with bank 0 open in round 0, bank 1 in round 1, or sealed where there is one job, and this many words more,
 /// all 0; and a place that stands for all seats. It takes memory for the words twice over, and gives half of it back:
 /// 46 or 49 where it gets none.
 pub fn open_table<T, I: KeptInner<T>, A: Allocator + Copy>(
@@ -39,7 +36,7 @@ pub fn open_table<T, I: KeptInner<T>, A: Allocator + Copy>(
     size: usize,
 ) -> Result<(WordTable<T, I, A>, Place<I>), OpenFault>
     requires size { (size ≡ I.size key.now.about) × (size < 2 ^ 63) }
-    requires seats { (0 < key.now.seats) × (key.now.seats ≤ 64) }
+    requires seats { (0 < key.now.seats) × (key.now.seats ≤ MAX_SEATS) }
     ensures { IfOk result (λ t. (t.0.shared.key ≡ key.now) × (t.0.shared.table_id.words ≡ 2 + size)
         × IsPlaceOf t.0.shared.table_id key.now t.1
         × (t.1.me ≡ (starting key.now.jobs key.now.seats (I.first key.now.about), []))) }

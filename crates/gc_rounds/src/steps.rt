@@ -12,6 +12,7 @@ use crate::inner::KeptInner;
 use crate::kinds::{Asked, CountIn, CountOut, GiveOn, MarkSealed};
 use crate::rule::Rule;
 use crate::view::{Key, View};
+use crate::words::{MARK, MAX_JOBS, ROUND};
 use atomic_table::{Seat, Shared};
 
 /// The words of the banks, as many threads share them.
@@ -19,10 +20,6 @@ pub type Words<T, I> = Shared<u8, View<I>, Key<T>, Rule>;
 
 /// A seat at the words, with its view. It has no bytes.
 pub type Place<I> = Seat<u8, View<I>>;
-
-const MARK: u64 = 0x1_0000;
-
-const ROUND: u64 = 0x1_0000_0000;
 
 /// Counts the seat in at the bank of the round, and answers the word that it found there.
 pub(crate) fn count_in<T, I: KeptInner<T>, Q: Asked>(
@@ -50,7 +47,8 @@ pub(crate) fn count_out<T, I: KeptInner<T>>(
     round: u32,
 ) -> u64
     requires place { IsPlaceOf words.now.table_id words.now.key place.old }
-    requires counted { (counted (bank_of round) place.old.me.0.stand ≡ 1) × I.idle place.old.me.0.inner }
+    requires counted { (counted (bank_of round) place.old.me.0.stand ≡ 1)
+        × I.idle place.old.me.0.inner }
     ensures same { IsSamePlace place.old place.new }
     ensures view { place.new.me.0 ≡ recorded place.old.me.0 Outside (Leave (bank_of round) result) }
 {
@@ -66,7 +64,8 @@ pub(crate) fn mark_sealed<T, I: KeptInner<T>>(
     requires place { IsPlaceOf words.now.table_id words.now.key place.old }
     requires inside { place.old.me.0.stand ≡ Inside round }
     ensures same { IsSamePlace place.old place.new }
-    ensures view { place.new.me.0 ≡ recorded place.old.me.0 (Inside round) (Seal (bank_of round) result) }
+    ensures view { place.new.me.0
+        ≡ recorded place.old.me.0 (Inside round) (Seal (bank_of round) result) }
 {
     words.fetch_or::<MarkSealed>(place, (round % 2) as usize, MARK)
 }
@@ -80,11 +79,12 @@ pub(crate) fn give_on<T, I: KeptInner<T>>(
 ) -> u64
     requires place { IsPlaceOf words.now.table_id words.now.key place.old }
     requires outside { place.old.me.0.stand ≡ Outside }
-    requires next { round + 2 < 65536 }
+    requires next { round + 2 < MAX_JOBS }
     ensures same { IsSamePlace place.old place.new }
     ensures shape { mark_of result < 2 }
     ensures view { place.new.me.0
-        ≡ recorded place.old.me.0 Outside (Reopen (bank_of round) result (result == shut_word round)) }
+        ≡ recorded place.old.me.0 Outside
+        (Reopen (bank_of round) result (result == shut_word round)) }
 {
     let sealed = ROUND * round as u64 + MARK;
     let open = ROUND * (round + 2) as u64;

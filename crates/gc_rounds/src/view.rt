@@ -44,7 +44,8 @@ pub struct View<I> {
     pub inner: I,
 }
 
-/// What a table of banks is told when it is made: how many jobs and seats there are, and what the other words are about.
+/// What a table of banks is told when it is made: how many jobs and seats there are, and what the other words are
+/// about.
 #[derive(Drop)]
 pub struct Key<T> {
     pub jobs: u32,

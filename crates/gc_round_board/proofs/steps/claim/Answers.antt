@@ -7,7 +7,7 @@ pub compare_exchange-requires : goal.compare_exchange-requires
 compare_exchange-requires g c = let p = c.requires.place in (
   p.place.seated.table_id,
   omega (arith, p.place.board.words, p.exists, bank_small c.args.round, c.index.ensures),
-  rw (c.index.ensures, c.word.ensures)
+  rw (c.index.ensures, c.state_word.ensures)
       (claims g.J.Work.gates g.J.Work.right _ _ _ _ _ c.args.place.now.me p.place.about p.place.seated.whole c.args.round p.inside c.args.gate c.args.old c.requires.empty c.requires.seated p.exists c.requires.looked c.requires.free),
 )
 
