@@ -7,4 +7,3 @@ pub mod JoinLemmas
 pub mod OutputLemmas
 pub mod TakeLemmas
 pub mod WiringLemmas
-pub mod TableLemmas

@@ -1,17 +1,11 @@
 -- The gate that sets a wire, in a table.
-use Rattle.std.proofs.Common.{◌≡◌, ◌≢◌, ℕ, zero, suc, ◌+◌, ◌<◌, ◌≤◌, inl, inr, List, set, length, length-set, replicate, get_or, get_or-set_same, get_or-set_other, slice_get, Some, refl, sym, ap, ◌∙◌, subst, arith}
-use Rattle.std.proofs.lemmas.List.{length-replicate}
+use Rattle.std.proofs.Common.{◌≡◌, ◌≢◌, ℕ, ◌+◌, ◌<◌, ◌≤◌, inl, inr, List, set, length, length-set, get_or, get_or-set_same, get_or-set_other, slice_get, Some, sym, ap, ◌∙◌, subst, arith}
 use Rattle.std.proofs.lemmas.Option.{slice_get_within}
 use mathlib.Core.Logic.{dite}
 use native.Mathlib.Decide.{ℕ_discrete, dec_le}
 use Rattle.gc_netlist.specs.declared.gate.Gate.{Gate}
 use Rattle.gc_netlist.specs.Circuit.{Netlist, IsSetBy, IsSetBefore, IsLawful, input_wires}
 use Rattle.gc_job.specs.Wiring.{AreSetters}
-
-zeros : (n i : ℕ) → get_or {A = ℕ} (replicate n 0) i 0 ≡ 0
-zeros zero i = refl
-zeros (suc n) zero = refl
-zeros (suc n) (suc i) = zeros n i
 
 same_gate : (c : Netlist) (g : ℕ) (x y : Gate) → slice_get c.gates g ≡ Some x
     → slice_get c.gates g ≡ Some y → x ≡ y
@@ -54,13 +48,6 @@ input_not_set c w g lawful input set =
 pub past_inputs : (c : Netlist) (i : ℕ) (g : Gate) → IsLawful c → slice_get c.gates i ≡ Some g → input_wires c ≤ g.set
 past_inputs c i g lawful at =
     dite (dec_le (input_wires c) g.set) (λ le. le) (λ gt. absurd (lawful.sets_once i g at (inl (omega (arith, gt)))))
-
-pub no_setters : (c : Netlist) (n : ℕ) → input_wires c + n ≡ c.wires → AreSetters c 0 (replicate n 0)
-no_setters c n count = record {
-  count = ap (λ l. input_wires c + l) (length-replicate n 0) ∙ count;
-  set = λ i g below by. absurd (omega arith);
-  setter = λ i g is. absurd (omega (arith, zeros n i));
-}
 
 -- one gate more
 pub more_setters : (c : Netlist) (n i : ℕ) (g : Gate) (setters : List ℕ) → IsLawful c

@@ -66,8 +66,8 @@ IsDecodingOf job labels (Err (UnknownOutputLabel output)) =
 IsDecodingOf job labels (Err Memory) = Unit {0}
 IsDecodingOf job labels (Err BadWorkers) = ⊥
 
--- A job is evaluated: the active labels on the output wires are decoded, in an evaluation of the job's rows on its input
--- labels.
+-- A job is evaluated: the active labels on the output wires are decoded, in an evaluation of the job's rows on its
+-- input labels.
 pub record IsEvaluated (job : JobParts) (result : Result (List Bool) EvalFault) : Type 0 where
   pub active : ℕ → ℕ
   pub evaluation : IsEvaluation hash job.circuit job.rows (labels_of job.inputs) active

@@ -15,8 +15,8 @@ use Rattle.gc_job.specs.Job.{JobParts}
 use Rattle.gc_job.specs.Evaluate.{IsEvaluated}
 use Rattle.gc_job.specs.Binding.{HasFile, FirstBindFault, IsBound}
 
--- The job's rows, decode bits and entries are those of the circuit's garbling under the seed, and its input labels stand
--- for these bits of the input wires.
+-- The job's rows, decode bits and entries are those of the circuit's garbling under the seed, and its input labels
+-- stand for these bits of the input wires.
 pub record IsHonest (job : JobParts) (seed : List ℕ) (bits : List Bool) : Type 0 where
   pub garbling : GarblingParts
   pub garbled : IsGarbled job.circuit seed garbling
@@ -51,8 +51,8 @@ pub record AreHonestFiles (c : Netlist) (seed : List ℕ) (values : List (List B
   pub once : (i k : ℕ) (file other : LabelFileParts) → slice_get files i ≡ Some file → slice_get files k ≡ Some other
       → file.index ≡ other.index → i ≡ k
 
--- Such files have no fault; the job that they are bound to is honest, and its input labels stand for the values; and its
--- evaluation answers the circuit's outputs, unless memory is missing.
+-- Such files have no fault; the job that they are bound to is honest, and its input labels stand for the values; and
+-- its evaluation answers the circuit's outputs, unless memory is missing.
 pub record HonestFilesLaw (c : Netlist) (seed : List ℕ) (values : List (List Bool)) (g : GarbledParts)
     (files : List LabelFileParts) : Type 0 where
   pub no_fault : (fault : BindFault) → FirstBindFault c g files fault → ⊥

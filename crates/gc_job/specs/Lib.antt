@@ -6,4 +6,4 @@ pub mod Evaluate
 pub mod Honest
 pub mod Wiring
 pub mod ActiveLabels
-pub mod Pending
+pub mod ActiveTable

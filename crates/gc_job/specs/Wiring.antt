@@ -1,8 +1,6 @@
 -- Tables of a circuit: which gate sets each wire, and the AND number of each gate.
-use Rattle.std.specs.Prelude.{◌≡◌, ℕ, ◌+◌, ◌<◌, List, Option, Some, None, length, slice_index, map}
+use Rattle.std.specs.Prelude.{◌≡◌, ℕ, ◌+◌, ◌<◌, List, length, slice_index, map}
 use Rattle.std.specs.List.{range_with_len}
-use Rattle.gc_netlist.specs.declared.gate.Operation.{Operation}
-use Rattle.gc_netlist.specs.declared.gate.Operation.TheVariants.{Xor, And, Inv, Eq, Eqw}
 use Rattle.gc_netlist.specs.Circuit.{Netlist, IsSetBy, IsLawful, and_number, input_wires}
 
 -- By wire after the input wires, the first of n gates that sets it, plus 1, and 0 where none does.
@@ -16,18 +14,3 @@ pub record IsWired (c : Netlist) (setter_table number_table : List ℕ) : Type 0
   pub lawful : IsLawful c
   pub setters : AreSetters c (length c.gates) setter_table
   pub numbers : number_table ≡ map (and_number c) (range_with_len 0 (length c.gates))
-
--- the wire that an operation reads first, and the one that it reads second
-abbrev pub first_of : Operation → Option ℕ
-first_of (Xor a b) = Some a
-first_of (And a b) = Some a
-first_of (Inv a) = Some a
-first_of (Eq bit) = None
-first_of (Eqw a) = Some a
-
-abbrev pub second_of : Operation → Option ℕ
-second_of (Xor a b) = Some b
-second_of (And a b) = Some b
-second_of (Inv a) = None
-second_of (Eq bit) = None
-second_of (Eqw a) = None

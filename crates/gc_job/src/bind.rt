@@ -84,8 +84,8 @@ fn value_of<B: Allocator>(
     ensures bound { IfOk result (λ value. value < length widths.now) }
     ensures ok { OnOk result ((before : List LabelFileParts) → ArePlaces before places.now
         → IsInOrder widths.now before file.now) }
-    ensures err { IfErr result (λ fault. (before : List LabelFileParts) → ArePlaces before places.now
-        → LabelsFault widths.now before file.now fault) }
+    ensures err { IfErr result (λ fault. (before : List LabelFileParts)
+        → ArePlaces before places.now → LabelsFault widths.now before file.now fault) }
 {
     let value = file.index() as usize;
     let Some(width) = widths.get(value) else {
@@ -101,7 +101,7 @@ fn value_of<B: Allocator>(
 }
 
 /// The labels of the files at these places, one after another. That there are such files is the caller's condition. It
-/// takes memory once, where there are as many labels as told.
+/// takes memory once, where there are as many labels as given.
 fn joined_labels<A: Allocator + Copy, B: Allocator>(
     alloc: A,
     count: u32,

@@ -26,10 +26,11 @@ pub(crate) fn decoded<A: Allocator + Copy>(
     Ok(bits)
 }
 
-/// The first output whose label the entries don't recognise. The number of AND gates is part of the tweaks.
+/// The first output whose label the entries do not recognise. The number of AND gates is part of the tweaks.
 pub(crate) fn first_unknown(and_gates: u32, entries: &[EntryPair], labels: &[Label]) -> Option<u32>
     requires { length labels.now < 2 ^ 32 }
-    ensures none { IfNone result (AreRecognised and_gates entries.now labels.now (length labels.now)) }
+    ensures none { IfNone result
+        (AreRecognised and_gates entries.now labels.now (length labels.now)) }
     ensures some { IfSome result (IsFirstUnknown and_gates entries.now labels.now) }
 {
     for (i, label) in labels.iter().enumerate() {

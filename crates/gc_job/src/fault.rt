@@ -18,7 +18,7 @@ pub enum BindFault {
     /// The garbled file has not a row pair for each AND gate and a decode bit for each output wire.
     #[error("OtherCounts")]
     OtherCounts,
-    /// A label file is for an input value that the circuit doesn't have.
+    /// A label file is for an input value that the circuit does not have.
     #[error("NoSuchValue")]
     NoSuchValue,
     /// A label file has not a label for each wire of its input value.
@@ -92,10 +92,11 @@ impl<T: Drop> From<AllocFailed<T>> for BindFault {
 /// Why a job has no output bits. `Memory` stands in place of the answer only where a growth was refused.
 #[derive(Clone, Copy, Debug, PartialEq, Eq, Error)]
 pub enum EvalFault {
-    /// The number of workers is 0 or above [`MAX_WORKERS`](gc_gatehouse::MAX_WORKERS). Evaluation on one thread never gives it.
+    /// The number of workers is 0 or above [`MAX_WORKERS`](gc_gatehouse::MAX_WORKERS). Evaluation on one thread never
+    /// gives it.
     #[error("BadWorkers")]
     BadWorkers,
-    /// The garbled file doesn't recognise the active label of this output wire, counted from 0 among the output wires:
+    /// The garbled file does not recognise the active label of this output wire, counted from 0 among the output wires:
     /// the first such wire.
     #[error("UnknownOutputLabel")]
     UnknownOutputLabel {

@@ -41,11 +41,11 @@ impl<'c, A: Allocator + Copy, C: Allocator> Job<'c, A, C> {
     ghost use Rattle.gc_netlist.specs.Canon.{canonical_text};
     ghost use Rattle.gc_job.specs.Binding.{IsBound, FirstBindFault};
 
-    /// The job of a circuit, a garbled file and a label file for each input value, in any order. The files are judged in
-    /// this order, and the first fault is the answer: 40 where the garbled file is another circuit's, 41 where it has
-    /// other counts; then for each label file in turn 42 where the circuit has no such input value, 43 where that has
-    /// another width, 44 where a file before it is for the same value; and 45 where an input value has no file. It takes
-    /// memory once, for the input labels.
+    /// The job of a circuit, a garbled file and a label file for each input value, in any order. The files are judged
+    /// in this order, and the first fault is the answer: 40 where the garbled file is another circuit's, 41 where it
+    /// has other counts; then for each label file in turn 42 where the circuit has no such input value, 43 where that
+    /// has another width, 44 where a file before it is for the same value; and 45 where an input value has no file.
+    /// It takes memory once, for the input labels.
     pub fn bind<B: Allocator>(
         alloc: A,
         circuit: &'c Circuit<C>,
@@ -59,7 +59,7 @@ impl<'c, A: Allocator + Copy, C: Allocator> Job<'c, A, C> {
         Job::bind_by_digest(alloc, circuit, &circuit.digest(), garbled, files)
     }
 
-    /// The job as [`Job::bind`] answers it, for a caller that has the digest of the circuit's canonical text: it isn't
+    /// The job as [`Job::bind`] answers it, for a caller that has the digest of the circuit's canonical text: it is not
     /// taken again. That it is that digest is the caller's condition.
     pub fn bind_by_digest<B: Allocator>(
         alloc: A,
@@ -79,8 +79,7 @@ impl<'c, A: Allocator + Copy, C: Allocator> Job<'c, A, C> {
         if !has_counts(circuit, &garbled) {
             return Err(BindFault::OtherCounts);
         }
-        // A circuit is lawful, which its number of wires is told with.
-        let _ = circuit.wires();
+        circuit.law_lawful();
         let inputs = bound_labels(alloc, circuit, files)?;
         Ok(Job {
             circuit,
@@ -93,6 +92,14 @@ impl<'c, A: Allocator + Copy, C: Allocator> Job<'c, A, C> {
 impl<'c, A: Allocator, C: Allocator> Job<'c, A, C> {
     ghost use Rattle.gc_job.specs.Job.{IsWhole};
     ghost use Rattle.gc_job.specs.Evaluate.{IsDecodingOf};
+
+    /// The law of the type: the job is whole. A call of it does nothing.
+    #[inline(always)]
+    pub(crate) fn law_whole(&self)
+        ensures { IsWhole self.now }
+    {
+        let _ = &self.circuit;
+    }
 
     /// The circuit.
     pub fn circuit(&self) -> &'c Circuit<C>
@@ -128,7 +135,7 @@ impl<'c, A: Allocator, C: Allocator> Job<'c, A, C> {
     }
 
     /// The output bits that these active labels of the output wires decode to ("Two Halves Make a Whole", the procedure
-    /// De). In version 2 it is 48 at the first label whose hash isn't the entry of its colour; in version 1 any label
+    /// De). In version 2 it is 48 at the first label whose hash is not the entry of its colour; in version 1 any label
     /// decodes. That there is a label for each output wire is the caller's condition.
     pub fn decode<B: Allocator + Copy>(
         &self,

@@ -20,6 +20,5 @@ pub use fault::{BindFault, EvalFault};
 pub use job::Job;
 pub use laws::law_honest_files;
 pub use one_thread::{evaluate, evaluate_labels};
-pub use readers::{ReadGate, first_wire, second_wire};
-pub use table::reads;
+pub use readers::ReadGate;
 pub use wiring::Wiring;

@@ -74,10 +74,10 @@ pub fn evaluate_labels<A: Allocator + Copy, C: Allocator>(
     decoded(alloc, decode_bits, output_labels(circuit, &active))
 }
 
-/// Evaluates a job on one thread: the output bits, in wire order. Nothing of the job is trusted: the answer is what an
-/// evaluation of its rows on its input labels decodes to ("Two Halves Make a Whole", the procedures Ev and De). In version
-/// 2 it is 48 at the first output whose active label the garbled file doesn't recognise. An honest job gives the
-/// circuit's outputs, and never 48.
+/// Evaluates a job on one thread: the output bits, in wire order. Nothing of the job is trusted: the answer is what
+/// an evaluation of its rows on its input labels decodes to ("Two Halves Make a Whole", the procedures Ev and De). In
+/// version 2 it is 48 at the first output whose active label the garbled file does not recognise. An honest job gives
+/// the circuit's outputs, and never 48.
 pub fn evaluate<A: Allocator, B: Allocator + Copy, C: Allocator>(
     alloc: B,
     job: &Job<'_, A, C>,

@@ -3,8 +3,7 @@
 ghost use Rattle.std.specs.Prelude.{◌≡◌, ℕ, ◌<◌, All, IfSome, IfNone, map, slice_index};
 ghost use Rattle.gc_netlist.specs.Circuit.{IsSetBy, and_number, input_wires};
 ghost use Rattle.gc_job.specs.ActiveLabels.{gates_of, active_from};
-ghost use Rattle.gc_job.specs.Pending.{label_of_step};
-ghost use Rattle.gc_job.specs.Wiring.{first_of, second_of};
+ghost use Rattle.gc_job.specs.ActiveTable.{label_of_step};
 
 use crate::job::Job;
 use crate::wiring::Wiring;
@@ -13,33 +12,7 @@ use gc_half::{AndStep, eval_four_ands, eval_two_ands, evaluate_gate};
 use gc_label::Label;
 use std::alloc::Allocator;
 
-/// The wire that an operation reads first, if it reads one.
-#[inline]
-pub fn first_wire(operation: Operation) -> Option<u32>
-    ensures { result ≡ first_of operation }
-{
-    match operation {
-        Operation::Xor(a, _) => Some(a),
-        Operation::And(a, _) => Some(a),
-        Operation::Inv(a) => Some(a),
-        Operation::Eqw(a) => Some(a),
-        Operation::Eq(_) => None,
-    }
-}
-
-/// The wire that it reads second, if it reads two.
-#[inline]
-pub fn second_wire(operation: Operation) -> Option<u32>
-    ensures { result ≡ second_of operation }
-{
-    match operation {
-        Operation::Xor(_, b) => Some(b),
-        Operation::And(_, b) => Some(b),
-        _ => None,
-    }
-}
-
-/// A gate, and the labels of the wires that it reads first and second; one that it doesn't read is ignored.
+/// A gate, and the labels of the wires that it reads first and second; one that it does not read is ignored.
 #[derive(Clone, Copy, PartialEq, Eq, Debug)]
 pub struct ReadGate {
     /// The gate's place in the file, counted from 0.
@@ -57,12 +30,12 @@ impl<'c, A: Allocator, C: Allocator> Job<'c, A, C> {
         requires { wire < input_wires self.now.circuit }
         ensures { result ≡ slice_index self.now.inputs wire }
     {
-        let _ = self.circuit();
+        self.law_whole();
         self.inputs()[wire as usize]
     }
 
-    /// The gate that sets a wire, if one does. It takes no memory and goes through the gates; [`Wiring::setter`] reads a
-    /// table. That there is such a wire is the caller's condition.
+    /// The gate that sets a wire, if one does. It takes no memory and goes through the gates; [`Wiring::setter`]
+    /// reads a table. That there is such a wire is the caller's condition.
     pub fn setter(&self, wire: u32) -> Option<u32>
         requires { wire < self.now.circuit.wires }
         ensures some { IfSome result (IsSetBy self.now.circuit wire) }
@@ -77,9 +50,10 @@ impl<'c, A: Allocator, C: Allocator> Job<'c, A, C> {
         None
     }
 
-    /// The active label of the wire that a gate sets, from those of the wires that it reads first and second; one that it
-    /// doesn't read is ignored ("Two Halves Make a Whole", the procedure Ev). It takes no memory and counts the AND gates
-    /// before the gate; [`Job::active_by`] reads a table. That there is such a gate is the caller's condition.
+    /// The active label of the wire that a gate sets, from those of the wires that it reads first and second; one
+    /// that it does not read is ignored ("Two Halves Make a Whole", the procedure Ev). It takes no memory and counts
+    /// the AND gates before the gate; [`Job::active_by`] reads a table. That there is such a gate is the caller's
+    /// condition.
     pub fn active(&self, gate: u32, first: Label, second: Label) -> Label
         requires { gate < gates_of self.now }
         ensures { result ≡ active_from self.now gate first second }
@@ -115,9 +89,9 @@ impl<'c, A: Allocator, C: Allocator> Job<'c, A, C> {
         evaluate_gate(number, self.rows(), operation, first, second)
     }
 
-    /// The active labels of the wires that two gates set, each as [`Job::active_by`] gives it from the labels of the wires
-    /// that the gate reads first and second. Two AND gates are evaluated at once. That there are such gates, and that the
-    /// wiring is the circuit's, are the caller's conditions.
+    /// The active labels of the wires that two gates set, each as [`Job::active_by`] gives it from the labels of the
+    /// wires that the gate reads first and second. Two AND gates are evaluated at once. That there are such gates,
+    /// and that the wiring is the circuit's, are the caller's conditions.
     #[inline]
     pub fn active_two<B: Allocator>(
         &self,
@@ -143,8 +117,8 @@ impl<'c, A: Allocator, C: Allocator> Job<'c, A, C> {
         }
     }
 
-    /// The active labels of the wires that four gates set, in the same way. Four AND gates are evaluated at once. That there
-    /// are such gates, and that the wiring is the circuit's, are the caller's conditions.
+    /// The active labels of the wires that four gates set, in the same way. Four AND gates are evaluated at once.
+    /// That there are such gates, and that the wiring is the circuit's, are the caller's conditions.
     #[inline]
     pub fn active_four<B: Allocator>(
         &self,
@@ -153,7 +127,8 @@ impl<'c, A: Allocator, C: Allocator> Job<'c, A, C> {
     ) -> [Label; 4]
         requires gates { All (λ read. read.gate < gates_of self.now) gates }
         requires wiring { wiring.now ≡ self.now.circuit }
-        ensures { result ≡ map (λ read. active_from self.now read.gate read.first read.second) gates }
+        ensures { result
+            ≡ map (λ read. active_from self.now read.gate read.first read.second) gates }
     {
         let [a, b, c, d] = gates;
         let steps = (

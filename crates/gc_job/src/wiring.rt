@@ -9,8 +9,8 @@ use gc_half::and_numbers;
 use std::alloc::{AllocError, Allocator, Global};
 use std::marker::Model;
 
-/// Tables of a circuit, made once for a board: which gate sets each wire, and the AND number of each gate. Contracts see
-/// the circuit.
+/// Tables of a circuit, made once for a board: which gate sets each wire, and the AND number of each gate. Contracts
+/// see the circuit.
 #[derive(Drop)]
 pub struct Wiring<'c, A: Allocator = Global, C: Allocator = Global> {
     circuit: &'c Circuit<C>,
@@ -37,7 +37,7 @@ impl<'c, A: Allocator + Copy, C: Allocator> Wiring<'c, A, C> {
     pub fn of(alloc: A, circuit: &'c Circuit<C>) -> Result<Wiring<'c, A, C>, AllocError>
         ensures { IfOk result (λ wiring. wiring ≡ circuit.now) }
     {
-        let _ = circuit.gates();
+        circuit.law_lawful();
         Ok(Wiring {
             circuit,
             setters: setters(alloc, circuit)?,

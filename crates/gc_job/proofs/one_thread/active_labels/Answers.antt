@@ -1,5 +1,5 @@
 use Rattle.std.specs.List.{range_with_len}
-use Rattle.std.proofs.Common.{◌≡◌, ◌<◌, ◌+◌, suc, Some, None, inl, inr, length, map, slice_index, sym, ◌∙◌, ap, arith, refl}
+use Rattle.std.proofs.Common.{◌≡◌, ◌<◌, ◌+◌, suc, inr, length, map, slice_index, sym, ◌∙◌, ap, arith, refl}
 use Rattle.gc_netlist.proofs.SolutionLemmas.{EachRead-map, IsSetBefore-more, solution_solves}
 use Rattle.gc_netlist.proofs.Tables.{table_step, length-table, EachRead-below, after-zero}
 use Rattle.gc_netlist.specs.Solution.{solution, values_after}
@@ -19,7 +19,7 @@ loop-i-init g c = record {
         after-zero (active_rule hash c.args.circuit.now c.args.rows.now) c.args.circuit.now
             (labels_of c.args.inputs.now),
       ) refl;
-  pending = λ w some. let none : Some w ≡ None = sym some ∙ c.new-active.ensures.pending in cc;
+  waiting = λ w unset. rw c.new-active.ensures.waiting tt;
   numbered = refl;
 }
 
@@ -46,6 +46,11 @@ step-requires-clause-place g c =
       c.wires.ensures.lawful.sets c.loop-i.i c.gate-gate.result c.gate-gate.ensures,
     )
 
+pub step-requires-clause-once : goal.step-requires-clause-once
+step-requires-clause-once g c =
+    c.loop-i.invariant.waiting c.gate-gate.result.set
+    (c.wires.ensures.lawful.sets_once c.loop-i.i c.gate-gate.result c.gate-gate.ensures)
+
 pub loop-i-preserved : goal.loop-i-preserved
 loop-i-preserved g c =
     let netlist = c.args.circuit.now in
@@ -59,11 +64,10 @@ loop-i-preserved g c =
           c.loop-i.invariant.labels c.gate-gate.ensures
           (ap (λ k. active_of hash (slice_index c.loop-i.active.labels) k (row_at c.args.rows.now k)
           gate.operation) c.loop-i.invariant.numbered);
-      pending = λ w waits. elim (c.step.ensures.pending w waits) [
-        | inl before ↦ IsSetBefore-more netlist i (i + 1) w (omega arith)
-            (c.loop-i.invariant.pending w before)
-        | inr now ↦ inr (i, omega arith, record { gate = gate; at = c.gate-gate.ensures; wire = sym now })
-      ];
+      waiting = λ w unset.
+          c.step.ensures.waiting w
+          (λ same. unset (inr (i, omega arith, record { gate = gate; at = c.gate-gate.ensures; wire = sym same })))
+          (c.loop-i.invariant.waiting w (λ before. unset (IsSetBefore-more netlist i (i + 1) w (omega arith) before)));
       numbered = rw one (elim c.if-is_and.branch [
         | then-is_and w ↦ w.and_number-is ∙ ap (λ n. n + 1) c.loop-i.invariant.numbered
             ∙ sym (and_number-and netlist i gate c.gate-gate.ensures

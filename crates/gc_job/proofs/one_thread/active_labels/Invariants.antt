@@ -1,9 +1,10 @@
-use Rattle.std.proofs.Common.{◌≡◌, ℕ, Some, map}
+use Rattle.std.proofs.Common.{◌≡◌, ℕ, map}
 use Rattle.std.specs.List.{range_with_len}
 use Rattle.gc_netlist.specs.Circuit.{and_number, IsSetBefore}
 use Rattle.gc_netlist.specs.Solution.{values_after}
 use Rattle.gc_half.specs.Hash.{hash}
 use Rattle.gc_half.specs.Evaluation.{active_rule}
+use Rattle.gc_half.specs.Waiting.{NoneSets}
 use Rattle.gc_job.specs.Evaluate.{labels_of}
 use Rattle.gc_job.proofs.one_thread.active_labels.Given as goal
 
@@ -11,6 +12,6 @@ abbrev pub invariant-loop-i : goal.invariant-loop-i
 invariant-loop-i g l = record {
   labels : l.active.labels ≡ map (values_after (active_rule hash l.circuit l.rows) l.circuit
       (labels_of l.inputs) l.i) (range_with_len 0 l.circuit.wires);
-  pending : (w : ℕ) → l.active.pending ≡ Some w → IsSetBefore l.circuit l.i w;
+  waiting : (w : ℕ) → ¬ IsSetBefore l.circuit l.i w → NoneSets w l.active.waiting;
   numbered : l.and_number ≡ and_number l.circuit l.i;
 }

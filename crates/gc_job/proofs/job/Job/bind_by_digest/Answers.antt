@@ -27,7 +27,7 @@ returns-in_err-inputs-clause-err g c =
 pub invariant_of-result : goal.invariant_of-result
 invariant_of-result g c =
     let counts : HasCounts c.args.circuit.now c.args.garbled = c.has_counts.ensures.0 c.if-not-has_counts.false in record {
-      lawful = c.wires.ensures.lawful;
+      lawful = c.law_lawful.ensures;
       rows = counts.rows;
       decode_bits = counts.decode_bits;
       inputs = c.in_ok-inputs.ensures.ok.count;
