@@ -4,7 +4,7 @@ use mathlib.Core.Logic.{dite}
 use native.Mathlib.Decide.{dec_le, ℕ_discrete}
 use Rattle.atomic_table.specs.Seated.{TableId}
 use Rattle.atomic_table.specs.declared.shared.Seat.{Seat}
-use Rattle.gc_netlist.specs.Circuit.{Netlist, IsSetBy, IsLawful, input_wires}
+use Rattle.gc_netlist.specs.Circuit.{Netlist, IsSetBy, IsLawful, input_wires, first_wire, second_wire}
 use Rattle.gc_netlist.specs.declared.gate.Gate.{Gate}
 use Rattle.gc_board.specs.Counts.{total, only}
 use Rattle.gc_board.proofs.Sums.{total-append, only_same, only_other}
@@ -22,7 +22,6 @@ use Rattle.gc_round_board.specs.declared.view.Hand.TheVariants.{Empty}
 use Rattle.gc_round_board.specs.Places.{IsBoardPlace}
 use Rattle.gc_job.specs.Job.{JobParts}
 use Rattle.gc_job.specs.Evaluate.{labels_of}
-use Rattle.gc_job.specs.Wiring.{first_of, second_of}
 use Rattle.gc_eval.specs.Views.{IsMadeNow}
 use Rattle.gc_eval.specs.declared.seat.Answer.{Answer}
 use Rattle.gc_eval.specs.declared.seat.Answer.TheVariants.{Made, Done, Taken, NotYet}
@@ -368,33 +367,33 @@ same_gate c g x y p q = let e : Some x ≡ Some y = sym p ∙ q in cc
 
 pub first_err : (job : JobParts) (r g : ℕ) (x : Gate) (w : ℕ) (a : Seen)
     → slice_get job.circuit.gates g ≡ Some x
-    → first_of x.operation ≡ Some w → SetsMade job r w a 0 → FirstLacking job r g a w
+    → first_wire x.operation ≡ Some w → SetsMade job r w a 0 → FirstLacking job r g a w
 first_err job r g x w a there is none_yet gate there' =
-    subst (λ (y : Gate). ((first_of y.operation ≡ Some w) × SetsMade job r w a 0)
-    ⊎ ((second_of y.operation ≡ Some w) × SetsMade job r w a 0
-    × ((u : ℕ) → first_of y.operation ≡ Some u → SetsMade job r u a 1)))
+    subst (λ (y : Gate). ((first_wire y.operation ≡ Some w) × SetsMade job r w a 0)
+    ⊎ ((second_wire y.operation ≡ Some w) × SetsMade job r w a 0
+    × ((u : ℕ) → first_wire y.operation ≡ Some u → SetsMade job r u a 1)))
     (same_gate job.circuit g x gate there there') (inl (is, none_yet))
 
 pub both_err : (job : JobParts) (r g m : ℕ) (x : Gate) (w : ℕ) (a b : Seen)
-    → slice_get job.circuit.gates g ≡ Some x → Ran a b a.inner.made m → second_of x.operation ≡ Some w
-    → SetsMade job r w b 0 → ((u : ℕ) → first_of x.operation ≡ Some u → SetsMade job r u a 1)
+    → slice_get job.circuit.gates g ≡ Some x → Ran a b a.inner.made m → second_wire x.operation ≡ Some w
+    → SetsMade job r w b 0 → ((u : ℕ) → first_wire x.operation ≡ Some u → SetsMade job r u a 1)
     → FirstLacking job r g a w
 both_err job r g m x w a b there p is none_yet firsts gate there' =
-    subst (λ (y : Gate). ((first_of y.operation ≡ Some w) × SetsMade job r w a 0)
-    ⊎ ((second_of y.operation ≡ Some w) × SetsMade job r w a 0
-    × ((u : ℕ) → first_of y.operation ≡ Some u → SetsMade job r u a 1)))
+    subst (λ (y : Gate). ((first_wire y.operation ≡ Some w) × SetsMade job r w a 0)
+    ⊎ ((second_wire y.operation ≡ Some w) × SetsMade job r w a 0
+    × ((u : ℕ) → first_wire y.operation ≡ Some u → SetsMade job r u a 1)))
     (same_gate job.circuit g x gate there there') (inr (is, sets_back job r w 0 m a b p none_yet, firsts))
 
 pub both_ok : (job : JobParts) (r g m : ℕ) (x : Gate) (a b : Seen) → slice_get job.circuit.gates g ≡ Some x
-    → Ran a b a.inner.made m → ((u : ℕ) → first_of x.operation ≡ Some u → SetsMade job r u a 1)
-    → ((u : ℕ) → second_of x.operation ≡ Some u → SetsMade job r u b 1) → ReadsMade job r g a
+    → Ran a b a.inner.made m → ((u : ℕ) → first_wire x.operation ≡ Some u → SetsMade job r u a 1)
+    → ((u : ℕ) → second_wire x.operation ≡ Some u → SetsMade job r u b 1) → ReadsMade job r g a
 both_ok job r g m x a b there p firsts seconds gate w there' reads =
     let same = same_gate job.circuit g gate x there' there in
     ⊎_elim
-    (λ (e : first_of gate.operation ≡ Some w). firsts w (ap (λ (y : Gate). first_of y.operation)
+    (λ (e : first_wire gate.operation ≡ Some w). firsts w (ap (λ (y : Gate). first_wire y.operation)
     (sym same) ∙ e))
-    (λ (e : second_of gate.operation ≡ Some w). sets_back job r w 1 m a b p
-    (seconds w (ap (λ (y : Gate). second_of y.operation) (sym same) ∙ e))) reads
+    (λ (e : second_wire gate.operation ≡ Some w). sets_back job r w 1 m a b p
+    (seconds w (ap (λ (y : Gate). second_wire y.operation) (sym same) ∙ e))) reads
 
 pub lacking_back : (job : JobParts) (r g m w : ℕ) (a b : Seen) → Ran a b a.inner.made m
     → FirstLacking job r g b w

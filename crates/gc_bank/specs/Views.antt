@@ -2,7 +2,7 @@
 -- speak of gates, these speak of rounds with gates.
 use Rattle.std.specs.Prelude.{◌≡◌, ◌≢◌, ℕ, ◌*◌, ◌<◌, ◌≤◌, ◌⊎◌, List, [], ◌∷◌, ◌++◌, length, slice_get, Some}
 use Rattle.gc_netlist.specs.declared.gate.Gate.{Gate}
-use Rattle.gc_netlist.specs.Circuit.{IsSetBy, input_wires}
+use Rattle.gc_netlist.specs.Circuit.{IsSetBy, input_wires, first_wire, second_wire}
 use Rattle.gc_board.specs.Counts.{total, only}
 use Rattle.gc_rounds.specs.declared.view.View.{View}
 use Rattle.gc_rounds.specs.declared.view.Step.{Step}
@@ -12,7 +12,6 @@ use Rattle.gc_round_board.specs.Board.{at, stamp}
 use Rattle.gc_round_board.specs.declared.view.BoardView.{BoardView}
 use Rattle.gc_job.specs.Job.{JobParts}
 use Rattle.gc_job.specs.ActiveLabels.{active, active_from, set_of}
-use Rattle.gc_job.specs.Wiring.{first_of, second_of}
 use Rattle.gc_eval.specs.Views.{Reads}
 use Rattle.gc_eval.specs.declared.seat.Answer.{Answer}
 use Rattle.gc_eval.specs.declared.seat.Answer.TheVariants.{Made, Done, Taken, NotYet}
@@ -36,7 +35,7 @@ sighting word found (Reopen w n won) = 0
 abbrev pub sightings : ℕ → ℕ → List Step → ℕ
 sightings word found steps = total (sighting word found) steps
 
--- A call made the view `new` out of `old`: at most so many steps were added to the record, the made list is now this
+-- A call made the view `new` out of `old`: at most this many steps were added to the record, the made list is now this
 -- list, what was known is known, and the stand and the hand are as before.
 pub record Ran (old new : Seen) (list : List (ℕ × ℕ)) (most : ℕ) : Type 0 where
   pub jobs : new.jobs ≡ old.jobs
@@ -101,12 +100,12 @@ made_after r g made (Done label) = made
 made_after r g made Taken = made
 made_after r g made (NotYet w) = made
 
--- It was answered after at most so many steps, which changed the made list by this answer alone.
+-- It was answered after at most this many steps, which changed the made list by this answer alone.
 abbrev pub Answers : JobParts → ℕ → ℕ → ℕ → Seen → Seen → Answer → Type 0
 Answers job r g most old new answer =
     Says job r g old new answer × Ran old new (made_after r g old.inner.made answer) most
 
--- Two gates were answered at once, after at most so many steps, which changed the made list by these answers alone,
+-- Two gates were answered at once, after at most this many steps, which changed the made list by these answers alone,
 -- in this order.
 abbrev pub AnswersTwo : JobParts → ℕ → ℕ → ℕ → ℕ → Seen → Seen → Answer × Answer → Type 0
 AnswersTwo job r g h most old new answers =
@@ -131,7 +130,7 @@ made_now (NotYet w) = 0
 abbrev pub IsAlone : Seen → Type 0
 IsAlone v = v.seats ≡ v.all
 
--- A gate that sets wire w was made so many times by the seat in round r.
+-- A gate that sets wire w was made this many times by the seat in round r.
 abbrev pub SetsMade : JobParts → ℕ → ℕ → Seen → ℕ → Type 0
 SetsMade job r w v n = (h : ℕ) → IsSetBy job.circuit w h → pairs r h v.inner.made ≡ n
 
@@ -139,15 +138,15 @@ SetsMade job r w v n = (h : ℕ) → IsSetBy job.circuit w h → pairs r h v.inn
 abbrev pub ReadsMade : JobParts → ℕ → ℕ → Seen → Type 0
 ReadsMade job r g old =
     (gate : Gate) (w : ℕ) → slice_get job.circuit.gates g ≡ Some gate
-    → (first_of gate.operation ≡ Some w) ⊎ (second_of gate.operation ≡ Some w) → SetsMade job r w old 1
+    → (first_wire gate.operation ≡ Some w) ⊎ (second_wire gate.operation ≡ Some w) → SetsMade job r w old 1
 
 -- Wire w is the first that gate g reads whose gate is not made in round r.
 abbrev pub FirstLacking : JobParts → ℕ → ℕ → Seen → ℕ → Type 0
 FirstLacking job r g old w =
     (gate : Gate) → slice_get job.circuit.gates g ≡ Some gate
-    → ((first_of gate.operation ≡ Some w) × SetsMade job r w old 0)
-    ⊎ ((second_of gate.operation ≡ Some w) × SetsMade job r w old 0
-    × ((u : ℕ) → first_of gate.operation ≡ Some u → SetsMade job r u old 1))
+    → ((first_wire gate.operation ≡ Some w) × SetsMade job r w old 0)
+    ⊎ ((second_wire gate.operation ≡ Some w) × SetsMade job r w old 0
+    × ((u : ℕ) → first_wire gate.operation ≡ Some u → SetsMade job r u old 1))
 
 -- What the only seat of banks is answered for gate g in round r: Done where it made the gate, else NotYet with the
 -- first wire whose gate it hasn't made, else Made; and never Taken.

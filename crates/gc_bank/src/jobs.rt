@@ -16,7 +16,7 @@ use std::thread::Threads;
 /// The most jobs of a list.
 pub const MAX_JOBS: usize = 65_536;
 
-/// The output bits of each job, in order, by so many workers: what [`evaluate`] answers for it, honest job or not.
+/// The output bits of each job, in order, by this many workers: what [`evaluate`] answers for it, honest job or not.
 /// One worker evaluates one job after another. Of more, the calling thread is worker 0; a thread is started for each
 /// other worker, and where one can't be started the calling thread does its work too. They have
 /// [`Banks`](crate::Banks), and `house` is told of each gate ahead of each step. A job whose bits no worker has when

@@ -14,7 +14,7 @@ ghost use Rattle.gc_bank.specs.Seats.{InRound, round_of};
 
 use crate::seat::Banks;
 use crate::series::Series;
-use gc_eval::{Answer, Job, first_wire, second_wire};
+use gc_eval::{Answer, Job};
 use gc_label::Label;
 use gc_round_board::{
     Place, Words, claim, load_high, load_low, load_state, store_done, store_high, store_low,
@@ -165,11 +165,11 @@ impl<'j, 'c, B: Allocator, A: Allocator, C: Allocator> Banks<'j, 'c, B, A, C> {
             (λ w. FirstLacking job.now round gate place.old.me.0 w) }
     {
         let operation = job.circuit().gate(gate).operation;
-        let a = match self.read_some(place, job, round, first_wire(operation)) {
+        let a = match self.read_some(place, job, round, operation.first_wire()) {
             Ok(label) => label,
             Err(wire) => return Err(wire),
         };
-        let b = match self.read_some(place, job, round, second_wire(operation)) {
+        let b = match self.read_some(place, job, round, operation.second_wire()) {
             Ok(label) => label,
             Err(wire) => return Err(wire),
         };

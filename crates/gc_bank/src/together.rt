@@ -73,7 +73,7 @@ fn work_together<
     );
 }
 
-/// A place for the output bits of each of so many jobs, with none yet.
+/// A place for the output bits of each of this many jobs, with none yet.
 fn none_known<B: Allocator + Copy>(
     alloc: B,
     count: usize,

@@ -6,7 +6,7 @@ ghost use Rattle.gc_job.specs.ActiveLabels.{gates_of};
 ghost use Rattle.gc_bank.specs.Seats.{IsSeatOf, IsInside, InRound, view, jobs_on};
 
 use crate::seat::{BankSeat, Banks};
-use gc_eval::{Answer, NumberSet, reads};
+use gc_eval::{Answer, NumberSet};
 use gc_gatehouse::Gatehouse;
 use std::alloc::{AllocError, Allocator};
 
@@ -28,7 +28,7 @@ pub(crate) struct Walk<B: Allocator> {
 }
 
 impl<B: Allocator + Copy> Walk<B> {
-    /// The walk of the worker of this number through so many gates, of which each worker gets so large a share.
+    /// The walk of the worker of this number through this many gates, of which each worker gets so large a share.
     pub(crate) fn new(
         alloc: B,
         number: u32,
@@ -150,7 +150,7 @@ pub(crate) fn pass<'j, 'c, B: Allocator, A: Allocator, C: Allocator, H: Gatehous
         }
         let operation = circuit.gate(gate).operation;
         if let Some(first) = waiting {
-            if reads(operation, circuit.gate(first).set) {
+            if operation.reads(circuit.gate(first).set) {
                 step_one(banks, house, seat, walk, first);
                 waiting = None;
             }

@@ -5,7 +5,7 @@ use lib.ListN.{get_elem?}
 use Rattle.gc_netlist.specs.declared.gate.Operation.{Operation}
 use Rattle.gc_netlist.specs.declared.gate.Operation.TheVariants.{Xor, And, Inv, Eq, Eqw}
 use Rattle.gc_netlist.specs.declared.gate.Gate.{Gate}
-use Rattle.gc_netlist.specs.Circuit.{Netlist, input_wires, IsSetBy, IsLawful, and_number}
+use Rattle.gc_netlist.specs.Circuit.{Netlist, input_wires, IsSetBy, IsLawful, and_number, first_wire, second_wire}
 use Rattle.gc_label.specs.Label.{◌⊕◌, low_half, high_half, label_of_halves}
 use Rattle.gc_label.proofs.HalvesLemmas.{label_of_halves-halves}
 use Rattle.gc_half.specs.Hash.{hash}
@@ -20,7 +20,6 @@ use Rattle.gc_board.specs.declared.rule.View.{View}
 use Rattle.gc_job.specs.Job.{JobParts}
 use Rattle.gc_job.specs.Evaluate.{labels_of}
 use Rattle.gc_job.specs.ActiveLabels.{active, gates_of, set_by, set_of, label_by, active_from, IsRightHalf}
-use Rattle.gc_job.specs.Wiring.{first_of, second_of}
 use Rattle.gc_eval.specs.Views.{Got, Lacks, SawUndone}
 use Rattle.gc_job.proofs.WiringLemmas.{set_once, input_not_set}
 
@@ -33,8 +32,8 @@ pub set_of_is : (job : JobParts) (w g : ℕ) → IsSetBy job.circuit w g → set
 set_of_is job w g set = ap set_by set.at ∙ set.wire
 
 module _ (job : JobParts) (k a b : ℕ) (row : RowPair) where
-  by_operation : (op : Operation) → ((w : ℕ) → first_of op ≡ Some w → a ≡ active job w)
-      → ((w : ℕ) → second_of op ≡ Some w → b ≡ active job w)
+  by_operation : (op : Operation) → ((w : ℕ) → first_wire op ≡ Some w → a ≡ active job w)
+      → ((w : ℕ) → second_wire op ≡ Some w → b ≡ active job w)
       → gate_active hash k row op a b ≡ active_of hash (active job) k row op
   by_operation (Xor x y) p q = let pa = p x refl in let pb = q y refl in λ j. pa j ⊕ pb j
   by_operation (And x y) p q =
@@ -46,9 +45,9 @@ module _ (job : JobParts) (k a b : ℕ) (row : RowPair) where
 
 -- What a gate gives from the active labels of the wires that it reads is the active label of the wire that it sets.
 pub active_step : (job : JobParts) (g a b : ℕ) (gate : Gate) → IsLawful job.circuit
-    → slice_get job.circuit.gates g ≡ Some gate → ((w : ℕ) → first_of gate.operation ≡ Some w
+    → slice_get job.circuit.gates g ≡ Some gate → ((w : ℕ) → first_wire gate.operation ≡ Some w
     → a ≡ active job w)
-    → ((w : ℕ) → second_of gate.operation ≡ Some w → b ≡ active job w)
+    → ((w : ℕ) → second_wire gate.operation ≡ Some w → b ≡ active job w)
     → active_from job g a b ≡ active job (set_of job g)
 active_step job g a b gate lawful at p q =
     let k = and_number job.circuit g in
@@ -69,14 +68,6 @@ pub got_input : (job : JobParts) (w label : ℕ) (v : View JobParts) → IsLawfu
 got_input job w label v lawful input is = record {
   right = is ∙ sym ((active_solves job lawful).inputs w input);
   known = λ h set. absurd (input_not_set job.circuit w h lawful input set);
-}
-
-pub got_done : (job : JobParts) (w g label : ℕ) (v : View JobParts) → IsLawful job.circuit
-    → IsSetBy job.circuit w g
-    → label ≡ active job (set_of job g) → 0 < times g v.known → Got job w v label
-got_done job w g label v lawful by is known = record {
-  right = is ∙ ap (active job) (set_of_is job w g by);
-  known = λ h set. subst (λ x. 0 < times x v.known) (set_once job.circuit w g h lawful by set) known;
 }
 
 pub lacks_unset : (job : JobParts) (w : ℕ) (v u : View JobParts) → input_wires job.circuit ≤ w

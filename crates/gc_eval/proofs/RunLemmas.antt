@@ -12,10 +12,9 @@ use Rattle.gc_board.proofs.Sums.{total-append, only_same, only_other}
 use Rattle.gc_job.specs.Job.{JobParts}
 use Rattle.gc_eval.specs.declared.seat.Answer.{Answer}
 use Rattle.gc_eval.specs.declared.seat.Answer.TheVariants.{Made, Done, Taken, NotYet}
-use Rattle.gc_netlist.specs.Circuit.{Netlist}
+use Rattle.gc_netlist.specs.Circuit.{Netlist, first_wire, second_wire}
 use Rattle.gc_netlist.specs.declared.gate.Gate.{Gate}
-use Rattle.gc_job.specs.Wiring.{first_of, second_of}
-use Rattle.gc_eval.specs.Views.{IsAlone, IsMadeNow, SetsMade, ReadsMade, FirstLacking, AnswersAlone, AnswersTwo, AnswersFour, sightings, made_after, made_now, Ran, Saw, SawUndone, Lacks, Says, Answers}
+use Rattle.gc_eval.specs.Views.{IsAlone, IsMadeNow, SetsMade, ReadsMade, FirstLacking, AnswersAlone, AnswersTwo, AnswersFour, sightings, made_after, Ran, Saw, SawUndone, Lacks, Says, Answers}
 
 module _ {J : Type 0} where
   pub ran_then : (a b c : View J) (before list : List ℕ) (m n : ℕ) → Ran a b before m → Ran b c list n
@@ -221,7 +220,8 @@ two_longer f g h m n a b both le q =
 
 -- four answers of one call: two, and then two,
 pub four_made : (f : JobParts) (a b c d m n : ℕ) (u v w : View JobParts) (x y : Answer × Answer)
-    → AnswersTwo f a b m u v x → AnswersTwo f c d n v w y → AnswersFour f (a, b) (c, d) (m + n) u w (x, y)
+    → AnswersTwo f a b m u v x → AnswersTwo f c d n v w y
+    → AnswersFour f a b c d (m + n) u w (x.0, x.1, y.0, y.1)
 four_made f a b c d m n u v w x y p q =
     let first = made_after b x.1 (made_after a x.0 u.made) in
     let second = made_after d y.1 (made_after c y.0 v.made) in (
@@ -234,37 +234,30 @@ four_made f a b c d m n u v w x y p q =
     )
 
 -- after steps that made nothing,
-pub four_later : (f : JobParts) (gates others : ℕ × ℕ) (m n : ℕ) (a b c : View JobParts)
-    (all : (Answer × Answer) × (Answer × Answer)) → Ran a b a.made m → AnswersFour f gates others n b c all
-    → AnswersFour f gates others (m + n) a c all
-four_later f gates others m n a b c all p q =
-    let made : List ℕ → List ℕ = λ l. made_after others.1 all.1.1 (made_after others.0 all.1.0
-    (made_after gates.1 all.0.1 (made_after gates.0 all.0.0 l))) in (
-      says_later f gates.0 m a.made a b c all.0.0 p q.0,
-      says_later f gates.1 m a.made a b c all.0.1 p q.1,
-      says_later f others.0 m a.made a b c all.1.0 p q.2,
-      says_later f others.1 m a.made a b c all.1.1 p q.3,
-      subst (λ l. Ran a c (made l) (m + n)) p.made (ran_then a b c a.made (made b.made) m n p q.4),
+pub four_later : (f : JobParts) (a b c d m n : ℕ) (u v w : View JobParts)
+    (all : Answer × Answer × Answer × Answer) → Ran u v u.made m → AnswersFour f a b c d n v w all
+    → AnswersFour f a b c d (m + n) u w all
+four_later f a b c d m n u v w all p q =
+    let made : List ℕ → List ℕ = λ l. made_after d all.3 (made_after c all.2
+    (made_after b all.1 (made_after a all.0 l))) in (
+      says_later f a m u.made u v w all.0 p q.0,
+      says_later f b m u.made u v w all.1 p q.1,
+      says_later f c m u.made u v w all.2 p q.2,
+      says_later f d m u.made u v w all.3 p q.3,
+      subst (λ l. Ran u w (made l) (m + n)) p.made (ran_then u v w u.made (made v.made) m n p q.4),
     )
 
-pub four_longer : (f : JobParts) (gates others : ℕ × ℕ) (m n : ℕ) (a b : View JobParts)
-    (all : (Answer × Answer) × (Answer × Answer)) → m ≤ n → AnswersFour f gates others m a b all
-    → AnswersFour f gates others n a b all
-four_longer f gates others m n a b all le q = (
+pub four_longer : (f : JobParts) (a b c d m n : ℕ) (u v : View JobParts)
+    (all : Answer × Answer × Answer × Answer) → m ≤ n → AnswersFour f a b c d m u v all
+    → AnswersFour f a b c d n u v all
+four_longer f a b c d m n u v all le q = (
   q.0,
   q.1,
   q.2,
   q.3,
-  longer a b (made_after others.1 all.1.1 (made_after others.0 all.1.0
-      (made_after gates.1 all.0.1 (made_after gates.0 all.0.0 a.made)))) m n le q.4,
+  longer u v (made_after d all.3 (made_after c all.2 (made_after b all.1 (made_after a all.0 u.made)))) m n le
+      q.4,
 )
-
-pub made_length : (g : ℕ) (answer : Answer) (list : List ℕ)
-    → length (made_after g answer list) ≡ length list + made_now answer
-made_length g (Made label) list = length-append list (g ∷ [])
-made_length g (Done label) list = omega arith
-made_length g Taken list = omega arith
-made_length g (NotYet w) list = omega arith
 
 -- what another gate's answer leaves in the made list
 pub made_other : (g h : ℕ) (answer : Answer) (list : List ℕ) → g ≢ h → times h list ≡ 0
@@ -292,21 +285,21 @@ same_gate : (c : Netlist) (g : ℕ) (x y : Gate) → slice_get c.gates g ≡ Som
 same_gate c g x y p q = let e : Some x ≡ Some y = sym p ∙ q in cc
 
 pub both_err : (f : JobParts) (g m : ℕ) (x : Gate) (w : ℕ) (a b : View JobParts)
-    → slice_get f.circuit.gates g ≡ Some x → Ran a b a.made m → second_of x.operation ≡ Some w
-    → SetsMade f w b 0 → ((u : ℕ) → first_of x.operation ≡ Some u → SetsMade f u a 1) → FirstLacking f g a w
+    → slice_get f.circuit.gates g ≡ Some x → Ran a b a.made m → second_wire x.operation ≡ Some w
+    → SetsMade f w b 0 → ((u : ℕ) → first_wire x.operation ≡ Some u → SetsMade f u a 1) → FirstLacking f g a w
 both_err f g m x w a b at p is none_yet firsts gate at' =
-    subst (λ (y : Gate). ((first_of y.operation ≡ Some w) × SetsMade f w a 0) ⊎
-    ((second_of y.operation ≡ Some w) × SetsMade f w a 0 × ((u : ℕ) → first_of y.operation ≡ Some u
+    subst (λ (y : Gate). ((first_wire y.operation ≡ Some w) × SetsMade f w a 0) ⊎
+    ((second_wire y.operation ≡ Some w) × SetsMade f w a 0 × ((u : ℕ) → first_wire y.operation ≡ Some u
     → SetsMade f u a 1))) (same_gate f.circuit g x gate at at')
     (inr (is, sets_back f w 0 m a b p none_yet, firsts))
 
 pub both_ok : (f : JobParts) (g m : ℕ) (x : Gate) (a b : View JobParts)
-    → slice_get f.circuit.gates g ≡ Some x → Ran a b a.made m → ((u : ℕ) → first_of x.operation ≡ Some u
-    → SetsMade f u a 1) → ((u : ℕ) → second_of x.operation ≡ Some u → SetsMade f u b 1) → ReadsMade f g a
+    → slice_get f.circuit.gates g ≡ Some x → Ran a b a.made m → ((u : ℕ) → first_wire x.operation ≡ Some u
+    → SetsMade f u a 1) → ((u : ℕ) → second_wire x.operation ≡ Some u → SetsMade f u b 1) → ReadsMade f g a
 both_ok f g m x a b at p firsts seconds gate w at' reads = let same = same_gate f.circuit g gate x at' at in
-    ⊎_elim (λ (e : first_of gate.operation ≡ Some w). firsts w (ap (λ (y : Gate). first_of y.operation)
-    (sym same) ∙ e)) (λ (e : second_of gate.operation ≡ Some w). sets_back f w 1 m a b p
-    (seconds w (ap (λ (y : Gate). second_of y.operation) (sym same) ∙ e))) reads
+    ⊎_elim (λ (e : first_wire gate.operation ≡ Some w). firsts w (ap (λ (y : Gate). first_wire y.operation)
+    (sym same) ∙ e)) (λ (e : second_wire gate.operation ≡ Some w). sets_back f w 1 m a b p
+    (seconds w (ap (λ (y : Gate). second_wire y.operation) (sym same) ∙ e))) reads
 
 pub lacking_back : (f : JobParts) (g m w : ℕ) (a b : View JobParts) → Ran a b a.made m
     → FirstLacking f g b w → FirstLacking f g a w

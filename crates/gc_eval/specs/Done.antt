@@ -1,8 +1,9 @@
--- What a closed board tells.
+-- What a closed board says.
 use Rattle.std.specs.Prelude.{◌≡◌, ℕ, ◌+◌, ◌<◌, ◌≤◌, ◌⊎◌}
 use Rattle.std.specs.Slots.{slots_items}
 use Rattle.std.specs.List.{range_with_len}
 use Rattle.gc_netlist.specs.Circuit.{IsSetBy, input_wires, output_wires}
+use Rattle.gc_board.specs.declared.rule.TheConstants.{DONE}
 use Rattle.gc_board.specs.Board.{state_of}
 use Rattle.gc_board.specs.Counts.{total, only}
 use Rattle.gc_job.specs.Job.{JobParts}
@@ -10,11 +11,11 @@ use Rattle.gc_eval.specs.declared.active.Active.{Active}
 
 -- Gate g is done.
 abbrev pub IsDone : {A B C : Type 0} → Active B A C → ℕ → Type 0
-IsDone active g = state_of (slots_items active.closed.words) g ≡ 2
+IsDone active g = state_of (slots_items active.closed.words) g ≡ DONE
 
 -- how many of the first n gates are done
 abbrev pub done_of : {A B C : Type 0} → Active B A C → ℕ → ℕ
-done_of active n = total (λ g. only 2 (state_of (slots_items active.closed.words) g)) (range_with_len 0 n)
+done_of active n = total (λ g. only DONE (state_of (slots_items active.closed.words) g)) (range_with_len 0 n)
 
 -- A wire has a label: it is an input wire, or a gate that is done sets it.
 abbrev pub HasLabel : {A B C : Type 0} → Active B A C → ℕ → Type 0

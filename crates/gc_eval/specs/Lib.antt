@@ -2,4 +2,5 @@ pub mod Many
 pub mod Views
 pub mod Seats
 pub mod Done
+pub mod Walks
 pub mod Workers

@@ -1,8 +1,9 @@
 -- The seats of a board.
-use Rattle.std.specs.Prelude.{◌≡◌, []}
+use Rattle.std.specs.Prelude.{◌≡◌, ℕ, []}
+use Rattle.atomic_table.specs.declared.shared.Seat.{Seat}
 use Rattle.gc_board.specs.declared.rule.Hand.TheVariants.{Empty}
 use Rattle.gc_board.specs.declared.rule.View.{View}
-use Rattle.gc_board.specs.Places.{IsPlaceOf, IsSamePlace}
+use Rattle.gc_board.specs.Places.{IsPlaceOf, IsPlaceAt, IsSamePlace}
 use Rattle.gc_job.specs.Job.{JobParts}
 use Rattle.gc_job.specs.ActiveLabels.{gates_of}
 use Rattle.gc_eval.specs.declared.seat.EvalSeat.{EvalSeat}
@@ -16,9 +17,18 @@ view seat = seat.place.me.0
 abbrev pub job_on : {A B C : Type 0} → EvalBoard B A C → JobParts
 job_on board = board.table.shared.key.work
 
+module _ {A B C S : Type 0} (board : EvalBoard B A C) where
+  -- The place is one of the board's table,
+  abbrev pub IsPlaceOn : Seat S (View JobParts) → Type 0
+  IsPlaceOn place = IsPlaceOf gates_of board.table.shared.table_id board.table.shared.key place
+
+  -- and the board has this gate.
+  abbrev pub IsPlaceFor : Seat S (View JobParts) → ℕ → Type 0
+  IsPlaceFor place gate = IsPlaceAt gates_of board.table.shared.table_id board.table.shared.key place gate
+
 -- The seat belongs to the board.
 abbrev pub IsSeatOf : {A B C : Type 0} → EvalBoard B A C → EvalSeat A C → Type 0
-IsSeatOf board seat = IsPlaceOf gates_of board.table.shared.table_id board.table.shared.key seat.place
+IsSeatOf board seat = IsPlaceOn board seat.place
 
 -- It is the same seat.
 abbrev pub IsSameSeat : {A C : Type 0} → EvalSeat A C → EvalSeat A C → Type 0

@@ -1,18 +1,13 @@
 -- The workers of an evaluation on many threads.
-use Rattle.std.specs.Prelude.{ℕ, ◌<◌, List, All, IfSome}
+use Rattle.std.specs.Prelude.{◌≡◌, List, All}
+use Rattle.gc_job.specs.ActiveLabels.{gates_of}
 use Rattle.gc_eval.specs.declared.seat.EvalBoard.{EvalBoard}
 use Rattle.gc_eval.specs.declared.worker.Worker.{Worker}
-use Rattle.gc_eval.specs.declared.kept.Kept.{Kept}
-use Rattle.gc_eval.specs.Seats.{IsSeatOf}
+use Rattle.gc_eval.specs.Seats.{IsSeatOf, job_on}
 
--- The worker has a seat of this board.
+-- The worker has a seat of this board, and walks over its gates.
 abbrev pub IsWorkerOf : {A B C : Type 0} → EvalBoard B A C → Worker B A C → Type 0
-IsWorkerOf board worker = IsSeatOf board worker.seat
+IsWorkerOf board worker = IsSeatOf board worker.seat × (worker.walk.gates ≡ gates_of (job_on board))
 
 abbrev pub AreWorkersOf : {A B C : Type 0} → EvalBoard B A C → List (Worker B A C) → Type 0
 AreWorkersOf board workers = All (IsWorkerOf board) workers
-
--- The gates that a pass keeps are among so many.
-abbrev pub AreKept : ℕ → Kept → Type 0
-AreKept gates kept = IfSome kept.pair (λ pair. (pair.0 < gates) × (pair.1 < gates))
-    × IfSome kept.gate (λ gate. gate < gates)

@@ -15,7 +15,8 @@ pub struct Active<'j, 'c, B: Allocator = Global, A: Allocator = Global, C: Alloc
     pub(crate) wiring: Wiring<'c, B, C>,
     pub(crate) closed: Closed<u8, B>,
     ghost wired: { wiring ≡ job.now.circuit },
-    ghost long: { (slots_len closed.words ≡ 3 * gates_of job.now + 1) × (slots_len closed.slots ≡ 0) × IsFull closed.words },
+    ghost long: { (slots_len closed.words ≡ 3 * gates_of job.now + 1) × (slots_len closed.slots ≡ 0)
+        × IsFull closed.words },
     ghost right: { (g : ℕ) → Cell gates_of IsRightHalf job.now (slots_items closed.words) g },
 }
 

@@ -1,4 +1,4 @@
-//! What a board that is closed tells: labels, how many gates are done, and the output bits.
+//! What a closed board says: labels, how many gates are done, and the output bits.
 
 ghost use Rattle.std.specs.Prelude.{◌≡◌, ◌≢◌, ◌<◌, IfSome, IfNone, IfOk, IfErr, MatchOption, Ok, Err};
 ghost use Rattle.gc_netlist.specs.Solution.{on_outputs};
@@ -7,17 +7,19 @@ ghost use Rattle.gc_job.specs.Evaluate.{IsEvaluated};
 ghost use Rattle.gc_eval.specs.Done.{HasLabel, HasOutputs, LacksOutput, done_of};
 
 use crate::active::Active;
+use gc_board::DONE;
 use gc_circuit::Memory;
 use gc_job::EvalFault;
 use gc_label::Label;
 use std::alloc::Allocator;
 
 impl<'j, 'c, B: Allocator, A: Allocator, C: Allocator> Active<'j, 'c, B, A, C> {
-    /// The active label of a wire, exactly where it is an input wire or the gate that sets it is done. That there is such
-    /// a wire is the caller's condition.
+    /// The active label of a wire, exactly where it is an input wire or the gate that sets it is done. That there is
+    /// such a wire is the caller's condition.
     pub fn label(&self, wire: u32) -> Option<Label>
         requires { wire < self.now.job.now.circuit.wires }
-        ensures some { IfSome result (λ label. (label ≡ active self.now.job.now wire) × HasLabel self.now wire) }
+        ensures some { IfSome result (λ label. (label ≡ active self.now.job.now wire)
+            × HasLabel self.now wire) }
         ensures none { IfNone result (HasLabel self.now wire → ⊥) }
     {
         let job = self.job;
@@ -28,7 +30,7 @@ impl<'j, 'c, B: Allocator, A: Allocator, C: Allocator> Active<'j, 'c, B, A, C> {
             return None;
         };
         let first = 3 * gate as usize;
-        if self.closed.word(first) == 2 {
+        if self.closed.word(first) == DONE {
             let low = self.closed.word(first + 1);
             let high = self.closed.word(first + 2);
             Some(Label::from_halves(low, high))
@@ -43,7 +45,7 @@ impl<'j, 'c, B: Allocator, A: Allocator, C: Allocator> Active<'j, 'c, B, A, C> {
     {
         let mut done = 0;
         for gate in 0..self.job.circuit().gates() {
-            if self.closed.word(3 * gate as usize) == 2 {
+            if self.closed.word(3 * gate as usize) == DONE {
                 done += 1;
             }
         }
@@ -53,7 +55,8 @@ impl<'j, 'c, B: Allocator, A: Allocator, C: Allocator> Active<'j, 'c, B, A, C> {
     /// The labels of the output wires, in order, where each has one.
     fn output_labels<D: Allocator + Copy>(&self, alloc: D) -> Result<Option<Vec<Label, D>>, Memory>
         ensures { IfOk result (λ o. MatchOption o (LacksOutput self.now)
-            (λ v. (v.items ≡ on_outputs self.now.job.now.circuit (active self.now.job.now)) × HasOutputs self.now)) }
+            (λ v. (v.items ≡ on_outputs self.now.job.now.circuit (active self.now.job.now))
+            × HasOutputs self.now)) }
     {
         let circuit = self.job.circuit();
         let count = circuit.output_wires();
@@ -68,17 +71,18 @@ impl<'j, 'c, B: Allocator, A: Allocator, C: Allocator> Active<'j, 'c, B, A, C> {
         Ok(Some(labels))
     }
 
-    /// The output bits, in wire order: what the active labels of the output wires decode to, as `evaluate` answers it.
-    /// None exactly where an output wire has no label; in version 2 it is 48 at the first output whose label the garbled
-    /// file doesn't recognise.
+    /// The output bits, in wire order: what the active labels of the output wires decode to, as `evaluate` answers
+    /// it. None exactly where an output wire has no label; in version 2 it is 48 at the first output whose label the
+    /// garbled file doesn't recognise.
     pub fn decode<D: Allocator + Copy>(&self, alloc: D) -> Result<Option<Vec<bool, D>>, EvalFault>
         ensures ok { IfOk result (λ o. MatchOption o (LacksOutput self.now)
             (λ v. IsEvaluated self.now.job.now (Ok v.items) × HasOutputs self.now)) }
         ensures err { IfErr result (λ fault. IsEvaluated self.now.job.now (Err fault)) }
         // Where an output wire has no label the answer is None, and never 48.
-        ensures recognised { IfErr result (λ fault. fault ≢ EvalFault.Memory → HasOutputs self.now) }
+        ensures recognised { IfErr result (λ fault. fault ≢ EvalFault.Memory
+            → HasOutputs self.now) }
     {
-        // A job is whole, which its circuit is told with.
+        // `circuit` also says that the job is whole.
         let _ = self.job.circuit();
         let Some(labels) = self.output_labels(alloc)? else {
             return Ok(None);

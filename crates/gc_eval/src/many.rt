@@ -10,7 +10,7 @@ ghost use Rattle.gc_eval.specs.Many.{IsEvaluatedBy};
 ghost use Rattle.gc_eval.specs.Workers.{IsWorkerOf, AreWorkersOf};
 
 use crate::seat::EvalBoard;
-use crate::worker::{Worker, muster, seats_of};
+use crate::worker::{Worker, seats_of, workers_of};
 use gc_circuit::Memory;
 use gc_gatehouse::{Gatehouse, MAX_WORKERS, tell_all};
 use gc_job::{EvalFault, Job, evaluate};
@@ -20,13 +20,13 @@ use std::sync::Wait;
 use std::thread;
 use std::thread::Threads;
 
-/// Evaluates a job by this many workers: the answer is what [`evaluate`] answers, honest job or not. The calling thread is
-/// worker 0; a thread is started for each other worker that has something to do, and where one can't be started the calling
-/// thread does its work too. Where many AND gates near each other can be evaluated at once, worker 0 goes from gate to gate
-/// and all evaluate the AND gates that it passed ([`evaluate_by_layers`]). Where half of the gates are AND and the workers'
-/// shares of the file need nothing of each other, each has a seat at a board. Else worker 0 evaluates alone, as it does where
-/// the workers can't have their memory. `house.before` is called for each gate before it is evaluated, and ahead of each step
-/// at a board.
+/// Evaluates a job by this many workers: the answer is what [`evaluate`] answers, honest job or not. The calling
+/// thread is worker 0; a thread is started for each other worker that has something to do, and where one can't be
+/// started the calling thread does its work too. Where many AND gates near each other can be evaluated at once,
+/// worker 0 goes from gate to gate and all evaluate the AND gates that it passed ([`evaluate_by_layers`]). Where half
+/// of the gates are AND and the workers' shares of the file need nothing of each other, each has a seat at a board.
+/// Else worker 0 evaluates alone, as it does where the workers can't have their memory. `observer.before` is called
+/// for each gate before it is evaluated, and ahead of each step at a board.
 ///
 /// It refuses 0 workers and more than [`MAX_WORKERS`]: 22.
 pub fn evaluate_many<
@@ -35,22 +35,29 @@ pub fn evaluate_many<
     C: Allocator + Send + Sync,
     H: Gatehouse + Sync,
     R: Threads + Wait + Sync,
->(rt: &R, alloc: B, job: &Job<'_, A, C>, workers: u32, house: &H) -> Result<Vec<bool, B>, EvalFault>
+>(
+    rt: &R,
+    alloc: B,
+    job: &Job<'_, A, C>,
+    workers: u32,
+    observer: &H,
+) -> Result<Vec<bool, B>, EvalFault>
     ensures evaluated { IsEvaluatedBy workers job.now
         (result_map_both (λ bits. bits.items) (λ fault. fault) result) }
-    ensures honest { (seed : List ℕ) (bits : List Bool) → IsHonest job.now seed bits → AreFew workers →
+    ensures honest { (seed : List ℕ) (bits : List Bool) → IsHonest job.now seed bits
+        → AreFew workers →
         MatchResult result (λ outputs. AreOutputs job.now.circuit bits outputs.items)
         (λ fault. fault ≡ EvalFault.Memory) }
 {
     if workers == 0 || workers > MAX_WORKERS {
         return Err(EvalFault::BadWorkers);
     }
-    // A job is whole, which its circuit is told with.
+    // `circuit` also says that the job is whole.
     let _ = job.circuit();
-    match evaluate_by_many(rt, alloc, job, workers, house)? {
+    match evaluate_by_many(rt, alloc, job, workers, observer)? {
         Some(bits) => Ok(bits),
         None => {
-            tell_all(house, job.circuit().gates());
+            tell_all(observer, job.circuit().gates());
             evaluate(alloc, job)
         }
     }
@@ -69,15 +76,15 @@ fn evaluate_by_many<
     alloc: B,
     job: &Job<'_, A, C>,
     workers: u32,
-    house: &H,
+    observer: &H,
 ) -> Result<Option<Vec<bool, B>>, EvalFault>
     requires { AreFew workers }
     ensures ok { IfOk result (λ o. IfSome o (λ v. IsEvaluated job.now (Ok v.items))) }
     ensures err { IfErr result (λ fault. IsEvaluated job.now (Err fault)) }
 {
     match way_of(alloc, job.circuit(), workers) {
-        Ok(Way::Layers) => evaluate_layers(rt, alloc, job, workers, house),
-        Ok(Way::Together) => evaluate_together(rt, alloc, job, workers, house),
+        Ok(Way::Layers) => evaluate_layers(rt, alloc, job, workers, observer),
+        Ok(Way::Together) => evaluate_together(rt, alloc, job, workers, observer),
         Ok(Way::Alone) | Err(Memory) => Ok(None),
     }
 }
@@ -94,14 +101,22 @@ fn evaluate_layers<
     alloc: B,
     job: &Job<'_, A, C>,
     workers: u32,
-    house: &H,
+    observer: &H,
 ) -> Result<Option<Vec<bool, B>>, EvalFault>
     ensures ok { IfOk result (λ o. IfSome o (λ v. IsEvaluated job.now (Ok v.items))) }
     ensures err { IfErr result (λ fault. IsEvaluated job.now (Err fault)) }
 {
-    // A job is whole, which its circuit is told with.
+    // `circuit` also says that the job is whole.
     let circuit = job.circuit();
-    let found = evaluate_by_layers(rt, alloc, circuit, job.rows(), job.inputs(), workers, house);
+    let found = evaluate_by_layers(
+        rt,
+        alloc,
+        circuit,
+        job.rows(),
+        job.inputs(),
+        workers,
+        observer,
+    );
     let Ok(Some(labels)) = found else {
         return Ok(None);
     };
@@ -121,7 +136,7 @@ fn evaluate_together<
     alloc: B,
     job: &Job<'_, A, C>,
     workers: u32,
-    house: &H,
+    observer: &H,
 ) -> Result<Option<Vec<bool, B>>, EvalFault>
     requires { AreFew workers }
     ensures ok { IfOk result (λ o. IfSome o (λ v. IsEvaluated job.now (Ok v.items))) }
@@ -130,10 +145,10 @@ fn evaluate_together<
     let Ok((board, seats)) = EvalBoard::open_by_two(rt, alloc, job, workers) else {
         return Ok(None);
     };
-    let Ok(mut workers) = muster(alloc, &board, seats) else {
+    let Ok(mut workers) = workers_of(alloc, &board, seats) else {
         return Ok(None);
     };
-    work_together(rt, &board, workers.as_mut_slice(), house);
+    work_together(rt, &board, workers.as_mut_slice(), observer);
     let Ok(seats) = seats_of(alloc, &board, workers) else {
         return Ok(None);
     };
@@ -153,17 +168,18 @@ fn work_together<
     C: Allocator + Send + Sync,
     H: Gatehouse + Sync,
     R: Threads + Sync,
->(rt: &R, board: &EvalBoard<'j, 'c, B, A, C>, workers: &mut [Worker<B, A, C>], house: &H)
+>(rt: &R, board: &EvalBoard<'j, 'c, B, A, C>, workers: &mut [Worker<B, A, C>], observer: &H)
     requires { AreWorkersOf board.now workers.old }
     ensures { AreWorkersOf board.now workers.new }
 {
-    run_all(rt, board, workers, house);
+    run_all(rt, board, workers, observer);
     if let Some((last, others)) = workers.split_last_mut() {
-        last.finish(board, house, others);
+        last.finish(board, observer, others);
     }
 }
 
-/// Runs all workers, the last one on the calling thread and each other in a thread of its own, where one can be started.
+/// Runs all workers, the last one on the calling thread and each other in a thread of its own, where one can be
+/// started.
 fn run_all<
     'j,
     'c,
@@ -172,7 +188,7 @@ fn run_all<
     C: Allocator + Send + Sync,
     H: Gatehouse + Sync,
     R: Threads + Sync,
->(rt: &R, board: &EvalBoard<'j, 'c, B, A, C>, workers: &mut [Worker<B, A, C>], house: &H)
+>(rt: &R, board: &EvalBoard<'j, 'c, B, A, C>, workers: &mut [Worker<B, A, C>], observer: &H)
     requires { AreWorkersOf board.now workers.old }
     ensures { AreWorkersOf board.now workers.new }
 {
@@ -184,6 +200,6 @@ fn run_all<
         &|_i: usize, worker: &mut Worker<B, A, C>|
             requires { IsWorkerOf board.now worker.now }
             ensures { IsWorkerOf board.entry.now worker.exit.now }
-        { worker.work(board, house) },
+        { worker.work(board, observer) },
     );
 }

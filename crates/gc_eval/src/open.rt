@@ -11,15 +11,13 @@ ghost use Rattle.gc_eval.specs.Seats.{IsSeatOf, IsNew, view, job_on};
 use crate::active::Active;
 use crate::seat::{EvalBoard, EvalSeat};
 use gc_board::{
-    Key, OpenFault, Place, Words, close_table, deal_place, free_words, join_place, open_table,
+    DONE, Key, MAX_SEATS, OpenFault, Place, Words, close_table, deal_place, free_words, join_place,
+    open_table,
 };
 use gc_job::{Facts, Job, Wiring};
 use std::alloc::{AllocError, Allocator, Global};
 use std::thread;
 use std::thread::Threads;
-
-/// The most seats of a board.
-pub const MAX_SEATS: u32 = 64;
 
 /// A seat was missing, so the board was not closed. It comes back with all seats that were passed.
 #[derive(Drop)]
@@ -50,7 +48,7 @@ impl<'j, 'c, B: Allocator, A: Allocator, C: Allocator> CloseRefused<'j, 'c, B, A
     }
 }
 
-/// So many new seats, out of a place that stands for them all.
+/// This number of new seats, out of a place that stands for them all.
 fn deal_all<A: Allocator, B: Allocator, C: Allocator>(
     words: &Words<Facts<A, C>>,
     first: Place<Facts<A, C>>,
@@ -62,7 +60,8 @@ fn deal_all<A: Allocator, B: Allocator, C: Allocator>(
     requires some { 0 < count }
     requires none { seats.items ≡ [] }
     ensures { IfOk result (λ v. (length v.items ≡ count)
-        × All (λ s. IsPlaceOf gates_of words.now.table_id words.now.key s.place × IsNew s.place.me.0) v.items) }
+        × All (λ s. IsPlaceOf gates_of words.now.table_id words.now.key s.place
+        × IsNew s.place.me.0) v.items) }
 {
     let mut first = first;
     let mut left = count;
@@ -79,9 +78,9 @@ fn deal_all<A: Allocator, B: Allocator, C: Allocator>(
 }
 
 impl<'j, 'c, B: Allocator + Copy, A: Allocator, C: Allocator> EvalBoard<'j, 'c, B, A, C> {
-    /// A board for a job, and its seats, which have done nothing. It takes all the memory that the board needs: 46 where
-    /// there is none for the seats and the tables of the circuit, 49 where there is none for the table of the shared
-    /// words. That there are 1 to 64 seats is the caller's condition.
+    /// A board for a job, and its seats, which have done nothing. It takes all the memory that the board needs: 46
+    /// where there is none for the seats and the tables of the circuit, 49 where there is none for the table of the
+    /// shared words. That there are 1 to [`MAX_SEATS`] seats is the caller's condition.
     pub fn open(
         alloc: B,
         job: &'j Job<'c, A, C>,
@@ -164,9 +163,9 @@ impl<'j, 'c, B: Allocator + Copy + Send + Sync, A: Allocator, C: Allocator + Syn
 }
 
 impl<'j, 'c, B: Allocator, A: Allocator, C: Allocator> EvalBoard<'j, 'c, B, A, C> {
-    /// Ends the board, exactly where all its seats are there: else 47, with all that was passed. The made lists of the
-    /// seats, taken together, are the gates that are done, each once. It takes no memory. That the seats are this board's
-    /// is the caller's condition.
+    /// Ends the board, exactly where all its seats are there: else 47, with all that was passed. The made lists of
+    /// the seats, taken together, are the gates that are done, each once. It takes no memory. That the seats are this
+    /// board's is the caller's condition.
     pub fn close(
         self,
         seats: Vec<EvalSeat<A, C>, B>,
@@ -175,7 +174,7 @@ impl<'j, 'c, B: Allocator, A: Allocator, C: Allocator> EvalBoard<'j, 'c, B, A, C
         ensures exact { IsOk result ↔ (length seats.items ≡ self.entry.seats) }
         ensures job { IfOk result (λ a. a.job.now ≡ job_on self.entry) }
         ensures made { IfOk result (λ a. (g : ℕ) → total (λ s. times g (view s).made) seats.items
-            ≡ only 2 (state_of (slots_items a.closed.words) g)) }
+            ≡ only DONE (state_of (slots_items a.closed.words) g)) }
         ensures err { IfErr result (λ r. (r.board ≡ self.entry) × (r.seats ≡ seats)) }
     {
         if seats.len() != self.seats as usize {
@@ -202,11 +201,13 @@ fn gather<A: Allocator, B: Allocator, C: Allocator>(
     words: &Words<Facts<A, C>>,
     mut seats: Vec<EvalSeat<A, C>, B>,
 ) -> Place<Facts<A, C>>
-    requires own { All (λ s. IsPlaceOf gates_of words.now.table_id words.now.key s.place) seats.items }
+    requires own { All
+        (λ s. IsPlaceOf gates_of words.now.table_id words.now.key s.place) seats.items }
     requires some { 0 < length seats.items }
     ensures at { IsPlaceOf gates_of words.now.table_id words.now.key result }
     ensures seats { result.me.0.seats ≡ length seats.items }
-    ensures made { (g : ℕ) → times g result.me.0.made ≡ total (λ s. times g (view s).made) seats.items }
+    ensures made { (g : ℕ) → times g result.me.0.made ≡ total
+        (λ s. times g (view s).made) seats.items }
 {
     let Some(
         EvalSeat {

@@ -10,8 +10,8 @@ use gc_job::{Facts, Job, Wiring};
 use gc_label::Label;
 use std::alloc::{Allocator, Global};
 
-/// One evaluator's part of a board. Contracts see what it made and knows, and its steps; between two calls it has no gate
-/// in hand.
+/// One evaluator's part of a board. Contracts see what it made and knows, and its steps; between two calls it has no
+/// gate in hand.
 #[derive(Drop)]
 pub struct EvalSeat<A: Allocator = Global, C: Allocator = Global> {
     pub(crate) place: Place<Facts<A, C>>,

@@ -4,18 +4,18 @@ ghost use Rattle.std.specs.Prelude.{◌≡◌, ◌≢◌, ℕ, ◌+◌, ◌*◌,
 ghost use Rattle.gc_board.specs.declared.rule.Hand.TheVariants.{Empty, Has};
 ghost use Rattle.gc_board.specs.Counts.{times};
 ghost use Rattle.gc_board.specs.Steps.{after_claim, after_stored, after_done};
-ghost use Rattle.gc_board.specs.Places.{IsPlaceOf, IsPlaceAt, IsSamePlace};
+ghost use Rattle.gc_board.specs.Places.{IsPlaceAt, IsSamePlace};
 ghost use Rattle.gc_label.specs.Label.{low_half, high_half};
-ghost use Rattle.gc_job.specs.ActiveLabels.{gates_of, active, set_of, active_from};
-ghost use Rattle.gc_eval.specs.Views.{Ran, Got, Lacks, Says, Answers, AnswersTwo, IsAlone, IsMadeNow, made_now, SetsMade, ReadsMade, FirstLacking, AnswersAlone, AnswersTwoAlone, Knows, Reads};
-ghost use Rattle.gc_eval.specs.Seats.{IsSeatOf, IsSameSeat, view, job_on};
+ghost use Rattle.gc_job.specs.ActiveLabels.{gates_of, active, set_of};
+ghost use Rattle.gc_eval.specs.Views.{Ran, Got, Lacks, Says, Answers, AnswersTwo, IsAlone, IsMadeNow, made_now, SetsMade, ReadsMade, FirstLacking, AnswersAlone, AnswersTwoAlone, AreReadBy, IsIdle, Knows, Reads};
+ghost use Rattle.gc_eval.specs.Seats.{IsPlaceOn, IsPlaceFor, IsSeatOf, IsSameSeat, view, job_on};
 
 use crate::seat::{Answer, EvalBoard, EvalSeat};
 use gc_board::{
-    Place, Words, claim, load_high, load_low, load_state, store_done, store_high, store_low,
-    tell_place,
+    DONE, IN_HAND, Place, Words, claim, load_high, load_low, load_state, store_done, store_high,
+    store_low, tell_place,
 };
-use gc_job::{Facts, first_wire, second_wire};
+use gc_job::Facts;
 use gc_label::Label;
 use std::alloc::Allocator;
 
@@ -59,7 +59,7 @@ impl<A: Allocator, C: Allocator> EvalSeat<A, C> {
 impl<'j, 'c, B: Allocator, A: Allocator, C: Allocator> EvalBoard<'j, 'c, B, A, C> {
     /// The label of a wire, where it is an input wire or the gate that sets it is found done.
     fn read(&self, place: &mut Place<Facts<A, C>>, wire: u32) -> Option<Label>
-        requires place { IsPlaceOf gates_of self.now.table.shared.table_id self.now.table.shared.key place.old }
+        requires place { IsPlaceOn self.now place.old }
         requires wire { wire < (job_on self.now).circuit.wires }
         ensures same { IsSamePlace place.old place.new }
         ensures ran { Ran place.old.me.0 place.new.me.0 place.old.me.0.made 3 }
@@ -77,7 +77,7 @@ impl<'j, 'c, B: Allocator, A: Allocator, C: Allocator> EvalBoard<'j, 'c, B, A, C
             return None;
         };
         let words = &self.table.shared;
-        if load_state(words, place, gate) == 2 {
+        if load_state(words, place, gate) == DONE {
             Some(load_label(words, place, gate))
         } else {
             None
@@ -86,7 +86,7 @@ impl<'j, 'c, B: Allocator, A: Allocator, C: Allocator> EvalBoard<'j, 'c, B, A, C
 
     /// The label of a wire that a gate may read. The fault is the wire, where it has none.
     fn read_some(&self, place: &mut Place<Facts<A, C>>, wire: Option<u32>) -> Result<Label, u32>
-        requires place { IsPlaceOf gates_of self.now.table.shared.table_id self.now.table.shared.key place.old }
+        requires place { IsPlaceOn self.now place.old }
         requires wire { IfSome wire (λ w. w < (job_on self.now).circuit.wires) }
         ensures same { IsSamePlace place.old place.new }
         ensures ran { Ran place.old.me.0 place.new.me.0 place.old.me.0.made 3 }
@@ -94,7 +94,8 @@ impl<'j, 'c, B: Allocator, A: Allocator, C: Allocator> EvalBoard<'j, 'c, B, A, C
         ensures err { IfErr result (λ w. (wire ≡ Some w)
             × Lacks (job_on self.now) w place.old.me.0 place.new.me.0) }
         ensures alone { IsAlone place.old.me.0
-            → MatchResult result (λ _. (w : ℕ) → wire ≡ Some w → SetsMade (job_on self.now) w place.old.me.0 1)
+            → MatchResult result (λ _. (w : ℕ) → wire ≡ Some w
+            → SetsMade (job_on self.now) w place.old.me.0 1)
             (λ w. SetsMade (job_on self.now) w place.old.me.0 0) }
     {
         let Some(wire) = wire else {
@@ -108,11 +109,10 @@ impl<'j, 'c, B: Allocator, A: Allocator, C: Allocator> EvalBoard<'j, 'c, B, A, C
 
     /// The labels that a gate reads. The fault is the first wire that has none.
     fn read_both(&self, place: &mut Place<Facts<A, C>>, gate: u32) -> Result<(Label, Label), u32>
-        requires place { IsPlaceAt gates_of self.now.table.shared.table_id self.now.table.shared.key place.old gate }
+        requires place { IsPlaceFor self.now place.old gate }
         ensures same { IsSamePlace place.old place.new }
         ensures ran { Ran place.old.me.0 place.new.me.0 place.old.me.0.made 6 }
-        ensures ok { IfOk result (λ l. active_from (job_on self.now) gate l.0 l.1
-            ≡ active (job_on self.now) (set_of (job_on self.now) gate)) }
+        ensures ok { IfOk result (λ l. AreReadBy (job_on self.now) gate l) }
         ensures err { IfErr result (λ w. Reads (job_on self.now).circuit gate w
             × Lacks (job_on self.now) w place.old.me.0 place.new.me.0) }
         ensures alone { IsAlone place.old.me.0
@@ -120,11 +120,11 @@ impl<'j, 'c, B: Allocator, A: Allocator, C: Allocator> EvalBoard<'j, 'c, B, A, C
             (λ w. FirstLacking (job_on self.now) gate place.old.me.0 w) }
     {
         let operation = self.job.circuit().gate(gate).operation;
-        let a = match self.read_some(place, first_wire(operation)) {
+        let a = match self.read_some(place, operation.first_wire()) {
             Ok(label) => label,
             Err(wire) => return Err(wire),
         };
-        let b = match self.read_some(place, second_wire(operation)) {
+        let b = match self.read_some(place, operation.second_wire()) {
             Ok(label) => label,
             Err(wire) => return Err(wire),
         };
@@ -137,13 +137,13 @@ impl<'j, 'c, B: Allocator, A: Allocator, C: Allocator> EvalBoard<'j, 'c, B, A, C
         place: &mut Place<Facts<A, C>>,
         gate: u32,
     ) -> Result<(Label, Label), Answer>
-        requires place { IsPlaceAt gates_of self.now.table.shared.table_id self.now.table.shared.key place.old gate }
+        requires place { IsPlaceFor self.now place.old gate }
         requires empty { place.old.me.0.hand ≡ Empty }
         ensures same { IsSamePlace place.old place.new }
         ensures ran { Ran place.old.me.0 place.new.me.0 place.old.me.0.made 7 }
-        ensures ok { IfOk result (λ l. active_from (job_on self.now) gate l.0 l.1
-            ≡ active (job_on self.now) (set_of (job_on self.now) gate)) }
-        ensures err { IfErr result (λ answer. Says (job_on self.now) gate place.old.me.0 place.new.me.0 answer
+        ensures ok { IfOk result (λ l. AreReadBy (job_on self.now) gate l) }
+        ensures err { IfErr result
+            (λ answer. Says (job_on self.now) gate place.old.me.0 place.new.me.0 answer
             × (IsMadeNow answer → ⊥)) }
         ensures alone { IsAlone place.old.me.0
             → MatchResult result (λ _. (times gate place.old.me.0.made ≡ 0)
@@ -152,10 +152,10 @@ impl<'j, 'c, B: Allocator, A: Allocator, C: Allocator> EvalBoard<'j, 'c, B, A, C
     {
         let words = &self.table.shared;
         let found = load_state(words, place, gate);
-        if found == 2 {
+        if found == DONE {
             return Err(Answer::Done(load_label(words, place, gate)));
         }
-        if found == 1 {
+        if found == IN_HAND {
             return Err(Answer::Taken);
         }
         match self.read_both(place, gate) {
@@ -166,20 +166,22 @@ impl<'j, 'c, B: Allocator, A: Allocator, C: Allocator> EvalBoard<'j, 'c, B, A, C
 
     /// Takes a gate in hand, where no seat has it; else the answer.
     pub(crate) fn take(&self, place: &mut Place<Facts<A, C>>, gate: u32) -> Option<Answer>
-        requires place { IsPlaceAt gates_of self.now.table.shared.table_id self.now.table.shared.key place.old gate }
-        requires empty { (place.old.me.0.hand ≡ Empty) × (0 < place.old.me.0.seats) }
+        requires place { IsPlaceFor self.now place.old gate }
+        requires empty { IsIdle place.old.me.0 }
         ensures same { IsSamePlace place.old place.new }
-        ensures some { IfSome result (Answers (job_on self.now) gate 3 place.old.me.0 place.new.me.0) }
+        ensures some { IfSome result (Answers (job_on self.now) gate 3
+            place.old.me.0 place.new.me.0) }
         ensures none { IfNone result ((place.new.me.0 ≡ after_claim place.old.me.0 gate 0)
             × (times gate place.old.me.0.known ≡ 0)) }
-        ensures alone { IsAlone place.old.me.0 → times gate place.old.me.0.made ≡ 0 → IfSome result (λ _. ⊥) }
+        ensures alone { IsAlone place.old.me.0 → times gate place.old.me.0.made ≡ 0 → IfSome result
+            (λ _. ⊥) }
     {
         let words = &self.table.shared;
         let found = claim(words, place, gate);
-        if found == 2 {
+        if found == DONE {
             return Some(Answer::Done(load_label(words, place, gate)));
         }
-        if found == 1 {
+        if found == IN_HAND {
             return Some(Answer::Taken);
         }
         None
@@ -187,7 +189,7 @@ impl<'j, 'c, B: Allocator, A: Allocator, C: Allocator> EvalBoard<'j, 'c, B, A, C
 
     /// Publishes the label of the gate in hand, which is done from then on.
     pub(crate) fn put(&self, place: &mut Place<Facts<A, C>>, gate: u32, label: Label)
-        requires place { IsPlaceAt gates_of self.now.table.shared.table_id self.now.table.shared.key place.old gate }
+        requires place { IsPlaceFor self.now place.old gate }
         requires has { place.old.me.0.hand ≡ Has gate 0 }
         requires right { label ≡ active (job_on self.now) (set_of (job_on self.now) gate) }
         ensures same { IsSamePlace place.old place.new }
@@ -203,13 +205,13 @@ impl<'j, 'c, B: Allocator, A: Allocator, C: Allocator> EvalBoard<'j, 'c, B, A, C
 
     /// Makes a gate whose labels were read, where no seat has it.
     fn make(&self, place: &mut Place<Facts<A, C>>, gate: u32, a: Label, b: Label) -> Answer
-        requires place { IsPlaceAt gates_of self.now.table.shared.table_id self.now.table.shared.key place.old gate }
-        requires empty { (place.old.me.0.hand ≡ Empty) × (0 < place.old.me.0.seats) }
-        requires labels { active_from (job_on self.now) gate a b
-            ≡ active (job_on self.now) (set_of (job_on self.now) gate) }
+        requires place { IsPlaceFor self.now place.old gate }
+        requires empty { IsIdle place.old.me.0 }
+        requires labels { AreReadBy (job_on self.now) gate (a, b) }
         ensures same { IsSamePlace place.old place.new }
         ensures answer { Answers (job_on self.now) gate 4 place.old.me.0 place.new.me.0 result }
-        ensures alone { IsAlone place.old.me.0 → times gate place.old.me.0.made ≡ 0 → IsMadeNow result }
+        ensures alone { IsAlone place.old.me.0 → times gate place.old.me.0.made ≡ 0
+            → IsMadeNow result }
     {
         if let Some(answer) = self.take(place, gate) {
             return answer;
@@ -221,12 +223,13 @@ impl<'j, 'c, B: Allocator, A: Allocator, C: Allocator> EvalBoard<'j, 'c, B, A, C
 
     /// Makes a gate whose label is computed, where no seat has it.
     pub(crate) fn publish(&self, place: &mut Place<Facts<A, C>>, gate: u32, label: Label) -> Answer
-        requires place { IsPlaceAt gates_of self.now.table.shared.table_id self.now.table.shared.key place.old gate }
-        requires empty { (place.old.me.0.hand ≡ Empty) × (0 < place.old.me.0.seats) }
+        requires place { IsPlaceFor self.now place.old gate }
+        requires empty { IsIdle place.old.me.0 }
         requires right { label ≡ active (job_on self.now) (set_of (job_on self.now) gate) }
         ensures same { IsSamePlace place.old place.new }
         ensures answer { Answers (job_on self.now) gate 4 place.old.me.0 place.new.me.0 result }
-        ensures alone { IsAlone place.old.me.0 → times gate place.old.me.0.made ≡ 0 → IsMadeNow result }
+        ensures alone { IsAlone place.old.me.0 → times gate place.old.me.0.made ≡ 0
+            → IsMadeNow result }
     {
         if let Some(answer) = self.take(place, gate) {
             return answer;
@@ -244,17 +247,17 @@ impl<'j, 'c, B: Allocator, A: Allocator, C: Allocator> EvalBoard<'j, 'c, B, A, C
         other: u32,
         other_read: (Label, Label),
     ) -> (Answer, Option<Label>)
-        requires place { IsPlaceAt gates_of self.now.table.shared.table_id self.now.table.shared.key place.old gate }
+        requires place { IsPlaceFor self.now place.old gate }
         requires other { other < gates_of (job_on self.now) }
-        requires empty { (place.old.me.0.hand ≡ Empty) × (0 < place.old.me.0.seats) }
-        requires labels { active_from (job_on self.now) gate read.0 read.1
-            ≡ active (job_on self.now) (set_of (job_on self.now) gate) }
-        requires other_labels { active_from (job_on self.now) other other_read.0 other_read.1
-            ≡ active (job_on self.now) (set_of (job_on self.now) other) }
+        requires empty { IsIdle place.old.me.0 }
+        requires labels { AreReadBy (job_on self.now) gate read }
+        requires other_labels { AreReadBy (job_on self.now) other other_read }
         ensures same { IsSamePlace place.old place.new }
         ensures answer { Answers (job_on self.now) gate 4 place.old.me.0 place.new.me.0 result.0 }
-        ensures other { IfSome result.1 (λ label. label ≡ active (job_on self.now) (set_of (job_on self.now) other)) }
-        ensures alone { IsAlone place.old.me.0 → times gate place.old.me.0.made ≡ 0 → IsMadeNow result.0 }
+        ensures other { IfSome result.1 (λ label. label
+            ≡ active (job_on self.now) (set_of (job_on self.now) other)) }
+        ensures alone { IsAlone place.old.me.0 → times gate place.old.me.0.made ≡ 0
+            → IsMadeNow result.0 }
     {
         if let Some(answer) = self.take(place, gate) {
             return (answer, None);
@@ -275,17 +278,18 @@ impl<'j, 'c, B: Allocator, A: Allocator, C: Allocator> EvalBoard<'j, 'c, B, A, C
         other: u32,
         other_read: (Label, Label),
     ) -> (Answer, Answer)
-        requires place { IsPlaceAt gates_of self.now.table.shared.table_id self.now.table.shared.key place.old one }
+        requires place { IsPlaceFor self.now place.old one }
         requires other { other < gates_of (job_on self.now) }
-        requires empty { (place.old.me.0.hand ≡ Empty) × (0 < place.old.me.0.seats) }
-        requires labels { active_from (job_on self.now) one one_read.0 one_read.1
-            ≡ active (job_on self.now) (set_of (job_on self.now) one) }
-        requires other_labels { active_from (job_on self.now) other other_read.0 other_read.1
-            ≡ active (job_on self.now) (set_of (job_on self.now) other) }
+        requires empty { IsIdle place.old.me.0 }
+        requires labels { AreReadBy (job_on self.now) one one_read }
+        requires other_labels { AreReadBy (job_on self.now) other other_read }
         ensures same { IsSamePlace place.old place.new }
-        ensures answer { AnswersTwo (job_on self.now) one other 8 place.old.me.0 place.new.me.0 result }
-        ensures alone { IsAlone place.old.me.0 → times one place.old.me.0.made ≡ 0 → IsMadeNow result.0 }
-        ensures alone_other { IsAlone place.old.me.0 → one ≢ other → times other place.old.me.0.made ≡ 0
+        ensures answer { AnswersTwo (job_on self.now) one other 8
+            place.old.me.0 place.new.me.0 result }
+        ensures alone { IsAlone place.old.me.0 → times one place.old.me.0.made ≡ 0
+            → IsMadeNow result.0 }
+        ensures alone_other { IsAlone place.old.me.0 → one ≢ other → times other place.old.me.0.made
+            ≡ 0
             → IsMadeNow result.1 }
     {
         let (a, b) = other_read;
@@ -298,11 +302,12 @@ impl<'j, 'c, B: Allocator, A: Allocator, C: Allocator> EvalBoard<'j, 'c, B, A, C
 
     /// A step, at the place of a seat.
     pub(crate) fn step_at(&self, place: &mut Place<Facts<A, C>>, gate: u32) -> Answer
-        requires place { IsPlaceAt gates_of self.now.table.shared.table_id self.now.table.shared.key place.old gate }
-        requires empty { (place.old.me.0.hand ≡ Empty) × (0 < place.old.me.0.seats) }
+        requires place { IsPlaceFor self.now place.old gate }
+        requires empty { IsIdle place.old.me.0 }
         ensures same { IsSamePlace place.old place.new }
         ensures answer { Answers (job_on self.now) gate 11 place.old.me.0 place.new.me.0 result }
-        ensures alone { IsAlone place.old.me.0 → AnswersAlone (job_on self.now) gate place.old.me.0 result }
+        ensures alone { IsAlone place.old.me.0
+            → AnswersAlone (job_on self.now) gate place.old.me.0 result }
     {
         match self.ready(place, gate) {
             Ok((a, b)) => self.make(place, gate, a, b),
@@ -317,11 +322,12 @@ impl<'j, 'c, B: Allocator, A: Allocator, C: Allocator> EvalBoard<'j, 'c, B, A, C
         one: u32,
         other: u32,
     ) -> (Answer, Answer)
-        requires place { IsPlaceAt gates_of self.now.table.shared.table_id self.now.table.shared.key place.old one }
+        requires place { IsPlaceFor self.now place.old one }
         requires other { other < gates_of (job_on self.now) }
-        requires empty { (place.old.me.0.hand ≡ Empty) × (0 < place.old.me.0.seats) }
+        requires empty { IsIdle place.old.me.0 }
         ensures same { IsSamePlace place.old place.new }
-        ensures answer { AnswersTwo (job_on self.now) one other 22 place.old.me.0 place.new.me.0 result }
+        ensures answer { AnswersTwo (job_on self.now) one other 22
+            place.old.me.0 place.new.me.0 result }
         ensures alone { IsAlone place.old.me.0
             → AnswersTwoAlone (job_on self.now) one other place.old.me.0 result }
     {
@@ -335,16 +341,18 @@ impl<'j, 'c, B: Allocator, A: Allocator, C: Allocator> EvalBoard<'j, 'c, B, A, C
         }
     }
 
-    /// Makes a gate, or says why not, in at most 11 atomic steps. A label that is answered is the gate's active label, and
-    /// the seat knows the gate from then on. A gate that the seat knows is answered by Done. It waits for nobody and takes
-    /// no memory. That the seat is this board's, and that there is such a gate, is the caller's condition.
+    /// Makes a gate, or says why not, in at most 11 atomic steps. A label that is answered is the gate's active
+    /// label, and the seat knows the gate from then on. A gate that the seat knows is answered by Done. It waits for
+    /// nobody and takes no memory. That the seat is this board's, and that there is such a gate, is the caller's
+    /// condition.
     pub fn step(&self, seat: &mut EvalSeat<A, C>, gate: u32) -> Answer
         requires own { IsSeatOf self.now seat.old }
         requires gate { gate < gates_of (job_on self.now) }
         ensures own { IsSeatOf self.now seat.new }
         ensures same { IsSameSeat seat.old seat.new }
         ensures answer { Answers (job_on self.now) gate 11 (view seat.old) (view seat.new) result }
-        ensures alone { self.now.seats ≡ 1 → AnswersAlone (job_on self.now) gate (view seat.old) result }
+        ensures alone { self.now.seats ≡ 1
+            → AnswersAlone (job_on self.now) gate (view seat.old) result }
     {
         let answer = self.step_at(&mut seat.place, gate);
         let made = made_now(&answer);
@@ -353,15 +361,17 @@ impl<'j, 'c, B: Allocator, A: Allocator, C: Allocator> EvalBoard<'j, 'c, B, A, C
     }
 
     /// Steps two gates, as [`EvalBoard::step`] steps one, in at most 22 atomic steps. The labels of two AND gates are
-    /// computed at once, before the second is claimed: that of the second in vain where another seat claims it meanwhile.
-    /// That the seat is this board's, and that there are such gates, is the caller's condition.
+    /// computed at once, before the second is claimed: that of the second for nothing where another seat claims it
+    /// meanwhile. That the seat is this board's, and that there are such gates, is the caller's condition.
     pub fn step_two(&self, seat: &mut EvalSeat<A, C>, one: u32, other: u32) -> (Answer, Answer)
         requires own { IsSeatOf self.now seat.old }
         requires gates { (one < gates_of (job_on self.now)) × (other < gates_of (job_on self.now)) }
         ensures own { IsSeatOf self.now seat.new }
         ensures same { IsSameSeat seat.old seat.new }
-        ensures answer { AnswersTwo (job_on self.now) one other 22 (view seat.old) (view seat.new) result }
-        ensures alone { self.now.seats ≡ 1 → AnswersTwoAlone (job_on self.now) one other (view seat.old) result }
+        ensures answer { AnswersTwo (job_on self.now) one other 22
+            (view seat.old) (view seat.new) result }
+        ensures alone { self.now.seats ≡ 1
+            → AnswersTwoAlone (job_on self.now) one other (view seat.old) result }
     {
         let answers = self.step_two_at(&mut seat.place, one, other);
         let made = made_now(&answers.0) + made_now(&answers.1);
@@ -369,9 +379,9 @@ impl<'j, 'c, B: Allocator, A: Allocator, C: Allocator> EvalBoard<'j, 'c, B, A, C
         answers
     }
 
-    /// The active label of a wire, if it is an input wire or the gate that sets it is done; the seat knows that gate from
-    /// then on, and a gate that it knew gives its label. It waits for nobody and takes no memory. That the seat is this
-    /// board's, and that there is such a wire, is the caller's condition.
+    /// The active label of a wire, if it is an input wire or the gate that sets it is done; the seat knows that gate
+    /// from then on, and a gate that it knew gives its label. It waits for nobody and takes no memory. That the seat
+    /// is this board's, and that there is such a wire, is the caller's condition.
     pub fn label(&self, seat: &mut EvalSeat<A, C>, wire: u32) -> Option<Label>
         requires own { IsSeatOf self.now seat.old }
         requires wire { wire < (job_on self.now).circuit.wires }
@@ -379,7 +389,8 @@ impl<'j, 'c, B: Allocator, A: Allocator, C: Allocator> EvalBoard<'j, 'c, B, A, C
         ensures same { IsSameSeat seat.old seat.new }
         ensures ran { Ran (view seat.old) (view seat.new) (view seat.old).made 3 }
         ensures some { IfSome result (Got (job_on self.now) wire (view seat.new)) }
-        ensures none { IfNone result (Lacks (job_on self.now) wire (view seat.old) (view seat.new)) }
+        ensures none { IfNone result (Lacks (job_on self.now) wire
+            (view seat.old) (view seat.new)) }
     {
         self.read(&mut seat.place, wire)
     }

@@ -15,5 +15,5 @@ loop-worker-preserved g c =
       finite = tt;
       workers = All-tail (IsWorkerOf board) c.in-Some.worker _ workers;
       seats = rw c.in_ok-push.ensures.items (All-push (IsSeatOf board) c.loop-worker.seats.items _
-          c.loop-worker.invariant.seats (All-head (IsWorkerOf board) c.in-Some.worker _ workers));
+          c.loop-worker.invariant.seats (All-head (IsWorkerOf board) c.in-Some.worker _ workers).0);
     }

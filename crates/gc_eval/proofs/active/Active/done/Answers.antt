@@ -6,7 +6,7 @@ use Rattle.gc_board.proofs.Sums.{only_same, only_other}
 use Rattle.gc_eval.proofs.BoardLabels.{word_is}
 use Rattle.gc_eval.proofs.ClosedLemmas.{total-range}
 use Rattle.gc_eval.proofs.active.Active.done.Goals as goal
-use Rattle.gc_eval.proofs.active.Active.done.Goals.{then-word-eq2, else-word-eq2}
+use Rattle.gc_eval.proofs.active.Active.done.Goals.{then-word-eq-DONE, else-word-eq-DONE}
 
 pub loop-gate-preserved : goal.loop-gate-preserved
 loop-gate-preserved g c =
@@ -16,8 +16,8 @@ loop-gate-preserved g c =
     (3 * gate) c.word.result c.word.ensures in
     let more = total-range (λ k. only 2 (state_of words k)) gate in
     let i = c.loop-gate.invariant in
-    elim c.if-word-eq2.branch [
-      | then-word-eq2 w ↦ (
+    elim c.if-word-eq-DONE.branch [
+      | then-word-eq-DONE w ↦ (
         omega (
           arith,
           more,
@@ -25,11 +25,11 @@ loop-gate-preserved g c =
           w.done-is,
           ap (only 2) found,
           only_same 2 c.word.result
-              (sym w.if-word-eq2.true),
+              (sym w.if-word-eq-DONE.true),
         ),
         omega (arith, i.1, w.done-is),
       )
-      | else-word-eq2 w ↦ (
+      | else-word-eq-DONE w ↦ (
         omega (
           arith,
           more,
@@ -37,7 +37,7 @@ loop-gate-preserved g c =
           w.done-is,
           ap (only 2) found,
           only_other 2 c.word.result
-              (λ e. w.if-word-eq2.false (sym e)),
+              (λ e. w.if-word-eq-DONE.false (sym e)),
         ),
         omega (arith, i.1, w.done-is),
       )

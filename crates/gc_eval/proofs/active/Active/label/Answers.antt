@@ -47,20 +47,20 @@ word-high-requires g c =
     let within = set_within c.args.self.now.job.now.circuit c.args.wire c.in-Some.gate by in
     (omega (arith, within, c.args.self.now.long.0), c.args.self.now.long.2)
 
-pub returns-then-word-eq2-clause-some : goal.returns-then-word-eq2-clause-some
-returns-then-word-eq2-clause-some g c =
+pub returns-then-word-eq-DONE-clause-some : goal.returns-then-word-eq-DONE-clause-some
+returns-then-word-eq-DONE-clause-some g c =
     let words = slots_items c.args.self.now.closed.words in
     let gate = c.in-Some.gate in
     let by = subst
     (λ (x : Netlist). IsSetBy x c.args.wire gate) c.args.self.now.wired c.in-Some.ensures.some in (
       c.from_halves.ensures
           ∙ label_in c.args.self.now.job.now words c.args.wire gate c.word.result c.word-low.result c.word-high.result by
-          c.args.self.now.right c.word.ensures c.if-word-eq2.true c.word-low.ensures c.word-high.ensures,
-      inr (gate, by, word_is words (3 * gate) c.word.result c.word.ensures ∙ c.if-word-eq2.true),
+          c.args.self.now.right c.word.ensures c.if-word-eq-DONE.true c.word-low.ensures c.word-high.ensures,
+      inr (gate, by, word_is words (3 * gate) c.word.result c.word.ensures ∙ c.if-word-eq-DONE.true),
     )
 
-pub returns-else-word-eq2-clause-none : goal.returns-else-word-eq2-clause-none
-returns-else-word-eq2-clause-none g c = λ has.
+pub returns-else-word-eq-DONE-clause-none : goal.returns-else-word-eq-DONE-clause-none
+returns-else-word-eq-DONE-clause-none g c = λ has.
     let job = c.args.self.now.job.now in
     let inputs : c.input_wires.result ≡ input_wires job.circuit = c.input_wires.ensures
     ∙ ap input_wires c.circuit.ensures.circuit in
@@ -69,4 +69,4 @@ returns-else-word-eq2-clause-none g c = λ has.
     ⊎_elim (λ input. absurd (omega (arith, inputs)))
     (λ done. not_done job.circuit
     (slots_items c.args.self.now.closed.words) c.args.wire c.in-Some.gate done.0 c.word.result
-    c.circuit.ensures.whole.lawful by done.1 c.word.ensures c.if-word-eq2.false done.2) has
+    c.circuit.ensures.whole.lawful by done.1 c.word.ensures c.if-word-eq-DONE.false done.2) has

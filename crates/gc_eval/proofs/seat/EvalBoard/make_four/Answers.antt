@@ -6,35 +6,35 @@ use Rattle.gc_eval.proofs.seat.EvalBoard.make_four.Goals as goal
 pub returns-in_default-clause-answer : goal.returns-in_default-clause-answer
 returns-in_default-clause-answer g c =
     let job = job_on c.args.self.now in
-    let gates = c.args.gates in
+    let a = c.args.a.gate in
+    let b = c.args.b.gate in
     let old = c.args.place.now.me.0 in
-    let one = c.make_beside_three-answer.new.place.me.0 in
+    let one = c.make_with_three-answer.new.place.me.0 in
     let two = c.step_at-b_answer.new.place.me.0 in
-    let a = c.make_beside_three-answer.result.0 in
-    let b = c.step_at-b_answer.result in
-    four_made job gates.0 gates.1 c.args.others.0 c.args.others.1 15 22 old two c.step_two_at.new.place.me.0
-    (a, b) c.step_two_at.result
-    (two_made job gates.0 gates.1 4 11 old one two a b c.make_beside_three-answer.ensures.answer
-    c.step_at-b_answer.ensures.answer)
-    c.step_two_at.ensures.answer
+    let x = c.make_with_three-answer.result.0 in
+    let y = c.step_at-b_answer.result in
+    four_made job a b c.args.c.gate c.args.d.gate 15 22 old two c.step_two_at-c_answer.new.place.me.0 (x, y) c.step_two_at-c_answer.result
+    (two_made job a b 4 11 old one two x y c.make_with_three-answer.ensures.answer c.step_at-b_answer.ensures.answer)
+    c.step_two_at-c_answer.ensures.answer
 
 pub returns-clause-answer : goal.returns-clause-answer
 returns-clause-answer g c =
     let job = job_on c.args.self.now in
-    let gates = c.args.gates in
-    let others = c.args.others in
+    let a = c.args.a.gate in
+    let b = c.args.b.gate in
+    let third = c.args.c.gate in
+    let fourth = c.args.d.gate in
     let old = c.args.place.now.me.0 in
-    let one = c.make_beside_three-answer.new.place.me.0 in
+    let one = c.make_with_three-answer.new.place.me.0 in
     let two = c.publish-b_answer.new.place.me.0 in
     let three = c.publish-c_answer.new.place.me.0 in
     let new = c.publish-d_answer.new.place.me.0 in
-    let a = c.make_beside_three-answer.result.0 in
-    let b = c.publish-b_answer.result in
-    let x = c.publish-c_answer.result in
-    let y = c.publish-d_answer.result in
-    four_longer job gates others 16 37 old new ((a, b), (x, y)) (omega arith)
-    (four_made job gates.0 gates.1 others.0 others.1 8 8 old two new (a, b) (x, y)
-    (two_made job gates.0 gates.1 4 4 old one two a b c.make_beside_three-answer.ensures.answer
-    c.publish-b_answer.ensures.answer)
-    (two_made job others.0 others.1 4 4 two three new x y c.publish-c_answer.ensures.answer
+    let x = c.make_with_three-answer.result.0 in
+    let y = c.publish-b_answer.result in
+    let z = c.publish-c_answer.result in
+    let w = c.publish-d_answer.result in
+    four_longer job a b third fourth 16 37 old new (x, y, z, w) (omega arith)
+    (four_made job a b third fourth 8 8 old two new (x, y) (z, w)
+    (two_made job a b 4 4 old one two x y c.make_with_three-answer.ensures.answer c.publish-b_answer.ensures.answer)
+    (two_made job third fourth 4 4 two three new z w c.publish-c_answer.ensures.answer
     c.publish-d_answer.ensures.answer))

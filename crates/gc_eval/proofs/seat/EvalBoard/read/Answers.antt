@@ -64,8 +64,8 @@ load_label-requires-clause-place g c =
           (subst (λ (x : Netlist). IsSetBy x c.args.wire c.in-Some.gate) wired c.in-Some.ensures.some);
     }
 
-pub returns-else-load_state-eq2-clause-none : goal.returns-else-load_state-eq2-clause-none
-returns-else-load_state-eq2-clause-none g c =
+pub returns-else-load_state-eq-DONE-clause-none : goal.returns-else-load_state-eq-DONE-clause-none
+returns-else-load_state-eq-DONE-clause-none g c =
     let job = job_on c.args.self.now in
     let same : c.args.self.now.job.now ≡ job = sym c.args.self.now.about in
     let inputs : c.input_wires.result ≡ input_wires job.circuit =
@@ -81,13 +81,13 @@ returns-else-load_state-eq2-clause-none g c =
     (omega (arith, inputs))
     (subst (λ (x : Netlist). IsSetBy x c.args.wire gate) wired c.in-Some.ensures.some)
     (unknown (times gate old.known) c.load_state.result
-    (c.load_state.ensures.tells gate refl).0 c.if-load_state-eq2.false)
+    (c.load_state.ensures.tells gate refl).0 c.if-load_state-eq-DONE.false)
     (saw_undone old new gate c.load_state.result
     (ap (λ (v : View JobParts). v.steps) c.load_state.ensures.view)
-    c.load_state.ensures.found c.if-load_state-eq2.false)
+    c.load_state.ensures.found c.if-load_state-eq-DONE.false)
 
-pub returns-else-load_state-eq2-clause-alone : goal.returns-else-load_state-eq2-clause-alone
-returns-else-load_state-eq2-clause-alone g c = λ alone h set.
+pub returns-else-load_state-eq-DONE-clause-alone : goal.returns-else-load_state-eq-DONE-clause-alone
+returns-else-load_state-eq-DONE-clause-alone g c = λ alone h set.
     let job = job_on c.args.self.now in
     let same : c.args.self.now.job.now ≡ job = sym c.args.self.now.about in
     let wired : c.args.self.now.wiring ≡ job.circuit =
@@ -98,4 +98,4 @@ returns-else-load_state-eq2-clause-alone g c = λ alone h set.
     subst (λ x. times x c.args.place.now.me.0.made ≡ 0)
     (set_once job.circuit c.args.wire gate h lawful by set)
     (((c.load_state.ensures.tells gate refl).1 alone).1
-    ∙ only_other 2 c.load_state.result (λ e. c.if-load_state-eq2.false (sym e)))
+    ∙ only_other 2 c.load_state.result (λ e. c.if-load_state-eq-DONE.false (sym e)))

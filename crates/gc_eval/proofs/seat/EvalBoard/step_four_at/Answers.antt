@@ -7,30 +7,31 @@ use Rattle.gc_eval.proofs.seat.EvalBoard.step_four_at.Goals as goal
 pub returns-in_default-clause-answer : goal.returns-in_default-clause-answer
 returns-in_default-clause-answer g c =
     let job = job_on c.args.self.now in
-    let gates = c.args.gates in
-    let others = c.args.others in
     let old = c.args.place.now.me.0 in
-    let two = c.ready-2.new.place.me.0 in
-    let four = c.ready-4.new.place.me.0 in
-    let new = c.step_two_at.new.place.me.0 in
+    let two = c.ready-b_found.new.place.me.0 in
+    let four = c.ready-d_found.new.place.me.0 in
+    let new = c.step_two_at-c_answer.new.place.me.0 in
+    let x = c.step_two_at-a_answer.result in
+    let y = c.step_two_at-c_answer.result in
     let read : Ran old four old.made 28 = read_then old two four 14 14
-    (read_then old c.ready.new.place.me.0 two 7 7 c.ready.ensures.ran c.ready-2.ensures.ran)
-    (read_then two c.ready-3.new.place.me.0 four 7 7 c.ready-3.ensures.ran c.ready-4.ensures.ran) in
-    four_later job gates others 28 44 old four new (c.step_two_at-answers.result, c.step_two_at.result) read
-    (four_made job gates.0 gates.1 others.0 others.1 22 22 four c.step_two_at-answers.new.place.me.0 new
-    c.step_two_at-answers.result c.step_two_at.result c.step_two_at-answers.ensures.answer c.step_two_at.ensures.answer)
+    (read_then old c.ready-a_found.new.place.me.0 two 7 7 c.ready-a_found.ensures.ran c.ready-b_found.ensures.ran)
+    (read_then two c.ready-c_found.new.place.me.0 four 7 7 c.ready-c_found.ensures.ran c.ready-d_found.ensures.ran) in
+    four_later job c.args.a c.args.b c.args.c c.args.d 28 44 old four new (x.0, x.1, y.0, y.1) read
+    (four_made job c.args.a c.args.b c.args.c c.args.d 22 22 four c.step_two_at-a_answer.new.place.me.0 new x y
+    c.step_two_at-a_answer.ensures.answer c.step_two_at-c_answer.ensures.answer)
 
 pub returns-clause-answer : goal.returns-clause-answer
 returns-clause-answer g c =
     let job = job_on c.args.self.now in
-    let gates = c.args.gates in
-    let others = c.args.others in
     let old = c.args.place.now.me.0 in
-    let two = c.ready-2.new.place.me.0 in
-    let four = c.ready-4.new.place.me.0 in
+    let two = c.ready-b_found.new.place.me.0 in
+    let four = c.ready-d_found.new.place.me.0 in
     let new = c.make_four.new.place.me.0 in
     let read : Ran old four old.made 28 = read_then old two four 14 14
-    (read_then old c.ready.new.place.me.0 two 7 7 c.ready.ensures.ran c.ready-2.ensures.ran)
-    (read_then two c.ready-3.new.place.me.0 four 7 7 c.ready-3.ensures.ran c.ready-4.ensures.ran) in
-    four_longer job gates others 65 72 old new c.make_four.result (omega arith)
-    (four_later job gates others 28 37 old four new c.make_four.result read c.make_four.ensures.answer)
+    (read_then old c.ready-a_found.new.place.me.0 two 7 7 c.ready-a_found.ensures.ran c.ready-b_found.ensures.ran)
+    (read_then two c.ready-c_found.new.place.me.0 four 7 7 c.ready-c_found.ensures.ran c.ready-d_found.ensures.ran) in
+    let made = rw (c.read_gate.ensures, c.read_gate-2.ensures, c.read_gate-3.ensures, c.read_gate-4.ensures)
+    at c.make_four.ensures.answer in
+    four_longer job c.args.a c.args.b c.args.c c.args.d 65 72 old new c.make_four.result (omega arith)
+    (four_later job c.args.a c.args.b c.args.c c.args.d 28 37 old four new c.make_four.result read
+    made)

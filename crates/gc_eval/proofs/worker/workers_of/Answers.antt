@@ -1,8 +1,10 @@
+use Rattle.std.proofs.Common.{length, ap, ◌∙◌}
 use Rattle.std.proofs.lemmas.List.Elements.{All-push}
+use Rattle.gc_netlist.specs.Circuit.{Netlist}
 use Rattle.gc_eval.specs.Seats.{IsSeatOf}
 use Rattle.gc_eval.specs.Workers.{IsWorkerOf}
 use Rattle.gc_eval.proofs.GatherLemmas.{all_but_last, all_last}
-use Rattle.gc_eval.proofs.worker.muster.Goals as goal
+use Rattle.gc_eval.proofs.worker.workers_of.Goals as goal
 
 pub loop-seat-preserved : goal.loop-seat-preserved
 loop-seat-preserved g c =
@@ -12,6 +14,8 @@ loop-seat-preserved g c =
     let is = c.in-Some.ensures.items in
     let was = c.loop-seat.invariant in record {
       seats = all_but_last old new c.in-Some.seat is (IsSeatOf board) was.seats;
-      workers = rw c.in_ok-push.ensures.items (All-push (IsWorkerOf board) c.loop-seat.workers.items _ was.workers
-          (all_last old new c.in-Some.seat is (IsSeatOf board) was.seats));
+      workers = rw c.in_ok-push.ensures.items (All-push (IsWorkerOf board) c.loop-seat.workers.items _ was.workers (
+        all_last old new c.in-Some.seat is (IsSeatOf board) was.seats,
+        c.in_ok-new.ensures ∙ c.gates-gates.ensures.count ∙ ap (λ (n : Netlist). length n.gates) c.circuit.ensures,
+      ));
     }

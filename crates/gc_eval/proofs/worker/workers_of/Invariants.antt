@@ -1,7 +1,7 @@
 use Rattle.std.proofs.Common.{length, All}
 use Rattle.gc_eval.specs.Seats.{IsSeatOf}
 use Rattle.gc_eval.specs.Workers.{AreWorkersOf}
-use Rattle.gc_eval.proofs.worker.muster.Given as goal
+use Rattle.gc_eval.proofs.worker.workers_of.Given as goal
 
 abbrev pub invariant-loop-seat : goal.invariant-loop-seat
 invariant-loop-seat g l = record {
