@@ -3,16 +3,11 @@ use Rattle.std.specs.Prelude.{◌≡◌, ◌≢◌, ℕ, ◌+◌, ◌⊎◌, Lis
 use Rattle.clap.specs.Words.{IsAmong, fault_of, kind_of}
 use Rattle.clap.specs.declared.error.Error.{Error}
 use Rattle.clap.specs.declared.error.kind.ErrorKind.TheVariants.{DisplayHelp, DisplayVersion, OutOfMemory}
-use Rattle.gc_order.specs.Order.{OrderText, program, told}
-
--- The words, and how often there was no memory to read them.
-pub record Line : Type 0 where
-  pub words : List (List ℕ)
-  pub shortages : ℕ
+use Rattle.gc_order.specs.Order.{OrderText, order_in, program}
 
 -- The words are an order.
 abbrev pub IsOrder : List (List ℕ) → OrderText → Type 0
-IsOrder words order = (fault_of program words ≡ []) × (told words ≡ Some order)
+IsOrder words order = (fault_of program words ≡ []) × (order_in words ≡ Some order)
 
 -- The words ask for a text that goes to standard output.
 abbrev pub AsksForText : List (List ℕ) → Type 0
@@ -24,7 +19,7 @@ abbrev pub IsMistaken : List (List ℕ) → Type 0
 IsMistaken words = (fault_of program words ≢ []) × ¬ AsksForText words
 
 -- The words are refused for one of their faults, or because memory ran out, which is counted.
-abbrev pub IsRefusal : Line → Line → Error → Type 0
-IsRefusal old new error =
-    (IsAmong (kind_of error) (fault_of program old.words) × (new ≡ old))
-    ⊎ ((kind_of error ≡ OutOfMemory) × (new.shortages ≡ old.shortages + 1))
+abbrev pub IsRefusal : List (List ℕ) → ℕ → ℕ → Error → Type 0
+IsRefusal words old new error =
+    (IsAmong (kind_of error) (fault_of program words) × (new ≡ old))
+    ⊎ ((kind_of error ≡ OutOfMemory) × (new ≡ old + 1))

@@ -3,5 +3,4 @@ pub mod Jobs
 pub mod CarryOut
 pub mod CommandLine
 pub mod Output
-pub mod Ending
 pub mod Serve

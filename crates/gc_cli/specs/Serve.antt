@@ -15,22 +15,27 @@ use Rattle.gc_cli.specs.Output.{Printed}
 -- The run has something to print: what answers its order, of which this holds, or a text that its words ask for.
 abbrev pub HasAnswer : FileBytes → FileBytes → List (List ℕ) → (List ℕ → Type 0) → Type 0
 HasAnswer old new words Holds =
-    ((order : OrderText) × IsOrder words order × ((out : List ℕ) × Answers old new order out × Holds out))
+    ((order : OrderText) × IsOrder words order
+    × ((out : List ℕ) × Answers old new order out × Holds out))
     ⊎ AsksForText words
 
 -- A run that is done has printed that, and no call to print failed. `before` and `after` are of standard output.
 abbrev pub IsDone : FileBytes → FileBytes → List (List ℕ) → Printed → Printed → Type 0
 IsDone old new words before after =
-    HasAnswer old new words (Appends before.contents after.contents) × (after.failures ≡ before.failures)
+    HasAnswer old new words (Appends before.contents after.contents)
+    × (after.failures ≡ before.failures)
 
 -- A fault that ends a run is one that its order has, with its cause, and nothing was printed; or it is that a call to
 -- print failed.
-abbrev pub IsFaulty : FileBytes → FileBytes → Type 0 → List (List ℕ) → Printed → Printed → Fault → Type 0
+abbrev pub IsFaulty : FileBytes → FileBytes → Type 0 → List (List ℕ) → Printed → Printed → Fault
+    → Type 0
 IsFaulty old new IsCaused words before after fault =
-    ((order : OrderText) × IsOrder words order × HasFault old order fault × IsCaused × (after ≡ before))
-    ⊎ (HasAnswer old new words (λ _. Unit {0}) × (fault ≡ CannotWrite) × (after.failures ≡ before.failures + 1))
+    ((order : OrderText) × IsOrder words order × HasFault old order fault × IsCaused
+    × (after ≡ before))
+    ⊎ (HasAnswer old new words (λ _. Unit {0}) × (fault ≡ CannotWrite)
+    × (after.failures ≡ before.failures + 1))
 
--- the line on standard error that tells a fault
+-- the line of a fault on standard error
 abbrev pub fault_line : Fault → List ℕ
 fault_line fault = codes "halfgates: " ++ text_of fault ++ 10 ∷ []
 
@@ -40,18 +45,27 @@ reason_of InvalidData = codes "a word is not UTF-8"
 reason_of OutOfMemory = codes "out of memory"
 reason_of _ = codes "its words can't be had"
 
--- the line on standard error that tells it
+-- the line on standard error that says it
 abbrev pub refusal_line : ErrorKind → List ℕ
 refusal_line kind = codes "error: the command line can't be read: " ++ reason_of kind ++ 10 ∷ []
 
 -- Standard error, as it was before and after, has this line, unless a call to print it failed.
-abbrev pub Tells : Printed → Printed → List ℕ → Type 0
-Tells before after line = after.failures ≡ before.failures → Appends before.contents after.contents line
+abbrev pub PrintsLine : Printed → Printed → List ℕ → Type 0
+PrintsLine before after line =
+    after.failures ≡ before.failures → Appends before.contents after.contents line
 
 -- It has the line of the fault.
-abbrev pub TellsFault : Printed → Printed → Fault → Type 0
-TellsFault before after fault = Tells before after (fault_line fault)
+abbrev pub PrintsFault : Printed → Printed → Fault → Type 0
+PrintsFault before after fault = PrintsLine before after (fault_line fault)
+
+-- A fault ended the run, and standard error has its line, unless a call to print it failed.
+abbrev pub EndsByFault : FileBytes → FileBytes → (Fault → Type 0) → List (List ℕ) → Printed
+    → Printed → Printed → Printed → Type 0
+EndsByFault old new IsCaused words out out_after err err_after =
+    (fault : Fault)
+    × (IsFaulty old new (IsCaused fault) words out out_after fault
+    × PrintsFault err err_after fault)
 
 -- It has the line that says why the words of a command line can't be had.
-abbrev pub TellsRefusal : Printed → Printed → ErrorKind → Type 0
-TellsRefusal before after kind = Tells before after (refusal_line kind)
+abbrev pub PrintsRefusal : Printed → Printed → ErrorKind → Type 0
+PrintsRefusal before after kind = PrintsLine before after (refusal_line kind)

@@ -2,7 +2,6 @@
 #![tactic(auto)]
 
 mod command_line;
-mod ending;
 mod job_list;
 mod jobs;
 mod listed_job;
@@ -10,10 +9,9 @@ mod output;
 mod program;
 mod work;
 
-pub use command_line::CommandLine;
-pub use ending::Ending;
+pub use command_line::Heap;
 pub use gc_command::{Fault, FileError, FileFailures, Files, HostFiles, HostSink, read_all};
 pub use gc_order::{Order, order_of};
 pub use output::Output;
-pub use program::{refuse_line, serve};
+pub use program::{DONE, FAULT, USAGE, refuse_line, serve};
 pub use work::carry_out;

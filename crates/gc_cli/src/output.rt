@@ -4,7 +4,7 @@ ghost use Rattle.std.specs.Prelude.{◌≡◌, IfSome, OnOk};
 ghost use Rattle.std.specs.Io.KnownBytes.{Appends};
 ghost use Rattle.gc_format.specs.Counted.{CountsFailure};
 
-use gc_file::FailureCount;
+use gc_format::FailureCount;
 use std::fmt::Display;
 use std::io::{self, Write};
 use std::marker::Model;

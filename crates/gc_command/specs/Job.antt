@@ -17,7 +17,7 @@ pub record DecodeTo (c : Netlist) (g : GarbledParts) (files : List LabelFilePart
   pub bound : IsBound c g files job
   pub evaluated : IsEvaluated job (Ok bits)
 
--- The faults of the files, memory aside: that of binding them, or that of their job's evaluation by so many workers.
+-- The faults of the files, memory aside: that of binding them, or that of their job's evaluation by this many workers.
 abbrev pub HasJobFault : Netlist → GarbledParts → List LabelFileParts → ℕ → Fault → Type 0
 HasJobFault c g files workers (Binding fault) = fault ≢ bind.Memory → FirstBindFault c g files fault
 HasJobFault c g files workers (Evaluation fault) =

@@ -36,7 +36,7 @@ IsWantOfMemory (Evaluation fault) = fault ≡ eval.Memory
 IsWantOfMemory Memory = Unit {0}
 IsWantOfMemory _ = ⊥
 
--- The faults of garbling by so many workers, and of the garbled file made of it.
+-- The faults of garbling by this many workers, and of the garbled file made of it.
 abbrev pub IsOwnFault : ℕ → Fault → Type 0
 IsOwnFault workers (Garbling fault) = HasWorkFault workers fault
 IsOwnFault workers fault = IsWantOfMemory fault

@@ -14,7 +14,7 @@ use std::alloc::Allocator;
 use std::sync::Wait;
 use std::thread::Threads;
 
-/// Evaluates the circuit of a file from the garbled file and the label files of these names, by so many workers, and
+/// Evaluates the circuit of a file from the garbled file and the label files of these names, by this many workers, and
 /// answers the lines of the output values that they decode to. Nothing of these files is trusted.
 pub fn eval<R: Threads + Wait + Sync, A: Allocator + Copy + Send + Sync, F: Files>(
     rt: &R,

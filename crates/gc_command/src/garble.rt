@@ -25,7 +25,7 @@ use std::alloc::Allocator;
 use std::sync::Wait;
 use std::thread::Threads;
 
-/// Garbles the circuit of a file under a seed by so many workers, writes the garbled file, and answers the line that
+/// Garbles the circuit of a file under a seed by this many workers, writes the garbled file, and answers the line that
 /// tells its bytes.
 pub fn garble<R: Threads + Wait + Sync, A: Allocator + Copy + Send + Sync, F: Files>(
     rt: &R,

@@ -16,7 +16,7 @@ use std::sync::Wait;
 use std::thread;
 use std::thread::Threads;
 
-/// The digest of the circuit's canonical text and the garbling of the circuit under a seed by so many workers. A
+/// The digest of the circuit's canonical text and the garbling of the circuit under a seed by this many workers. A
 /// thread beside these takes the digest, where one can be started.
 pub(crate) fn digest_and_garbling<R: Threads + Wait + Sync, A: Allocator + Copy + Send + Sync>(
     rt: &R,

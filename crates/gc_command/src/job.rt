@@ -15,7 +15,7 @@ use std::alloc::Allocator;
 use std::sync::Wait;
 use std::thread::Threads;
 
-/// The output bits that a garbled file and label files of a circuit decode to, by so many workers. That this is the
+/// The output bits that a garbled file and label files of a circuit decode to, by this many workers. That this is the
 /// digest of the circuit's canonical text is the caller's condition.
 pub fn evaluate_files<R: Threads + Wait + Sync, A: Allocator + Copy + Send + Sync>(
     rt: &R,

@@ -20,7 +20,7 @@ use std::alloc::Allocator;
 use std::sync::Wait;
 use std::thread::Threads;
 
-/// The garbled file of the circuit's garbling under a seed, by so many workers, in version 2.
+/// The garbled file of the circuit's garbling under a seed, by this many workers, in version 2.
 pub fn own_garbled<R: Threads + Wait + Sync, A: Allocator + Copy + Send + Sync>(
     rt: &R,
     alloc: A,

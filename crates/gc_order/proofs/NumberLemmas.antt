@@ -6,7 +6,7 @@ use Rattle.std.specs.Str.Parse.{ParsesUnsigned, digits_value, without_leading_pl
 use Rattle.clap.specs.ValueTests.{accepts}
 use Rattle.clap.specs.declared.builder.value_parser.ValueParser.TheVariants.{Unsigned}
 use Rattle.clap.proofs.ValueTestLemmas.{accepts-Accepts, Accepts-accepts}
-use Rattle.gc_order.specs.Order.{number_told}
+use Rattle.gc_order.specs.Order.{number_in}
 
 refused : (b : Bool) (n : ℕ) → (b ≡ true → ⊥) → 0 ≡ (if b then n else 0)
 refused true n other = absurd (other refl)
@@ -16,7 +16,7 @@ accepted : (b : Bool) (m n : ℕ) → b ≡ true → m ≡ n → m ≡ (if b the
 accepted true m n taken same = same
 accepted false m n taken same = absurd (cc)
 
-pub number-parsed : {E : Type 0} (text : List ℕ) (r : Result ℕ E) → ParsesUnsigned 32 10 text r → result_unwrap_or r 0 ≡ number_told text
+pub number-parsed : {E : Type 0} (text : List ℕ) (r : Result ℕ E) → ParsesUnsigned 32 10 text r → result_unwrap_or r 0 ≡ number_in text
 number-parsed text (Ok n) (fits, same) =
     let number = digits_value 10 (without_leading_plus text) in
     let small : number < 2 ^ 32 = fits.1 in

@@ -36,9 +36,9 @@ unwrap_or-now (Some word) other found e = ap (λ f. unwrap_or f other.now) e
 pub subcommand-pair : {Z : Type 0} (s : Option (Box SubCommand Z)) (name : List ℕ) (rows : List Row)
     → Some name ≡ option_map (λ b. (out-SubCommand (box_value b)).name.now) s
     → Some rows ≡ option_map (λ p. p.1) (subcommand_rows s) → subcommand_rows s ≡ Some (name, rows)
-subcommand-pair None name rows named told = absurd (cc)
-subcommand-pair (Some b) name rows named told =
+subcommand-pair None name rows named found = absurd (cc)
+subcommand-pair (Some b) name rows named found =
     let text = (out-SubCommand (box_value b)).name.now in
     let e : name ≡ text = cc in
-    let f = ap (λ o. unwrap_or o []) told in
+    let f = ap (λ o. unwrap_or o []) found in
     ap₂ (λ n r. Some (n, r)) (sym e) (sym f)

@@ -24,12 +24,18 @@ more_words id = record (new_rule id) { value_names = 1; action = Some Append }
 
 -- a positional word that has to be there, and is a number from `low` to `high`
 abbrev pub number_word : List ℕ → ℕ → ℕ → Rule
-number_word id low high = record (new_rule id) { value_names = 1; parser = Some (Unsigned low high); required = true }
+number_word id low high =
+    record (new_rule id) { value_names = 1; parser = Some (Unsigned low high); required = true }
 
 -- an option that is a number from `low` to `high`, and is `default` where it isn't given
 abbrev pub number_option : List ℕ → ℕ → ℕ → List ℕ → Rule
 number_option id low high default =
-    record (new_rule id) { long = Some id; value_names = 1; parser = Some (Unsigned low high); defaults = default ∷ [] }
+    record (new_rule id) {
+      long = Some id;
+      value_names = 1;
+      parser = Some (Unsigned low high);
+      defaults = default ∷ [];
+    }
 
 -- the option `--workers WORKERS`
 abbrev pub workers_option : Rule
@@ -67,14 +73,16 @@ garble_command =
 -- `deal CIRCUIT SEED INDEX VALUE OUT`
 abbrev pub deal_command : App
 deal_command =
-    let with_index = with_rule (command_with_seed (codes "deal")) (number_word (codes "index") 0 4294967295) in
+    let index = number_word (codes "index") 0 4294967295 in
+    let with_index = with_rule (command_with_seed (codes "deal")) index in
     let with_value = with_rule with_index (required_word (codes "value")) in
     with_rule with_value (required_word (codes "out"))
 
 -- `eval CIRCUIT GARBLED [--workers WORKERS] [LABELS]...`
 abbrev pub eval_command : App
 eval_command =
-    let with_garbled = with_rule (command_on_circuit (codes "eval")) (required_word (codes "garbled")) in
+    let garbled = required_word (codes "garbled") in
+    let with_garbled = with_rule (command_on_circuit (codes "eval")) garbled in
     let with_workers = with_rule with_garbled workers_option in
     with_rule with_workers (more_words (codes "labels"))
 
@@ -154,69 +162,74 @@ abbrev pub words_of : List ℕ → List Row → List (List ℕ)
 words_of id rows = unwrap_or (all_of id rows) []
 
 -- The number that a text tells in decimal digits, perhaps after a plus; 0 where it tells none below 2 ^ 32.
-abbrev pub number_told : List ℕ → ℕ
-number_told text =
-    if accepts false (Unsigned 0 4294967295) text then digits_value 10 (without_leading_plus text) else 0
+abbrev pub number_in : List ℕ → ℕ
+number_in text =
+    if accepts false (Unsigned 0 4294967295) text
+    then digits_value 10 (without_leading_plus text) else 0
 
 -- The version of garbled files that a number names.
-abbrev pub version_told : ℕ → Version
-version_told number = if number == 1 then One else Two
+abbrev pub version_numbered : ℕ → Version
+version_numbered number = if number == 1 then One else Two
 
 -- The order of `run` in what clap found.
-abbrev pub run_told : List Row → OrderText
-run_told rows = run
+abbrev pub run_in : List Row → OrderText
+run_in rows = run
     (word_of (codes "circuit") rows)
     (word_of (codes "seed") rows)
-    (number_told (word_of (codes "workers") rows))
+    (number_in (word_of (codes "workers") rows))
     (words_of (codes "values") rows)
 
 -- The order of `plain` in what clap found.
-abbrev pub plain_told : List Row → OrderText
-plain_told rows = plain (word_of (codes "circuit") rows) (words_of (codes "values") rows)
+abbrev pub plain_in : List Row → OrderText
+plain_in rows = plain (word_of (codes "circuit") rows) (words_of (codes "values") rows)
 
 -- The order of `check` in what clap found.
-abbrev pub check_told : List Row → OrderText
-check_told rows = check (word_of (codes "circuit") rows)
+abbrev pub check_in : List Row → OrderText
+check_in rows = check (word_of (codes "circuit") rows)
 
 -- The order of `garble` in what clap found.
-abbrev pub garble_told : List Row → OrderText
-garble_told rows =
-    garble (word_of (codes "circuit") rows) (word_of (codes "seed") rows) (word_of (codes "out") rows)
-    (version_told (number_told (word_of (codes "format") rows))) (number_told (word_of (codes "workers") rows))
+abbrev pub garble_in : List Row → OrderText
+garble_in rows =
+    garble (word_of (codes "circuit") rows) (word_of (codes "seed") rows)
+    (word_of (codes "out") rows)
+    (version_numbered (number_in (word_of (codes "format") rows)))
+    (number_in (word_of (codes "workers") rows))
 
 -- The order of `deal` in what clap found.
-abbrev pub deal_told : List Row → OrderText
-deal_told rows =
-    deal (word_of (codes "circuit") rows) (word_of (codes "seed") rows) (number_told (word_of (codes "index") rows))
+abbrev pub deal_in : List Row → OrderText
+deal_in rows =
+    deal (word_of (codes "circuit") rows) (word_of (codes "seed") rows)
+    (number_in (word_of (codes "index") rows))
     (word_of (codes "value") rows) (word_of (codes "out") rows)
 
 -- The order of `eval` in what clap found.
-abbrev pub eval_told : List Row → OrderText
-eval_told rows = eval
+abbrev pub eval_in : List Row → OrderText
+eval_in rows = eval
     (word_of (codes "circuit") rows)
     (word_of (codes "garbled") rows)
-    (number_told (word_of (codes "workers") rows))
+    (number_in (word_of (codes "workers") rows))
     (words_of (codes "labels") rows)
 
 -- The order of `jobs` in what clap found.
-abbrev pub jobs_told : List Row → OrderText
-jobs_told rows = jobs
+abbrev pub jobs_in : List Row → OrderText
+jobs_in rows = jobs
     (word_of (codes "circuit") rows)
     (word_of (codes "list") rows)
-    (number_told (word_of (codes "workers") rows))
+    (number_in (word_of (codes "workers") rows))
 
 -- The order of the command of a name, where the program has one.
-abbrev pub command_told : List ℕ → List Row → Option OrderText
-command_told name rows =
-    if bytes_eq name (codes "run") then Some (run_told rows)
-    else if bytes_eq name (codes "plain") then Some (plain_told rows)
-    else if bytes_eq name (codes "check") then Some (check_told rows)
-    else if bytes_eq name (codes "garble") then Some (garble_told rows)
-    else if bytes_eq name (codes "deal") then Some (deal_told rows)
-    else if bytes_eq name (codes "eval") then Some (eval_told rows)
-    else if bytes_eq name (codes "jobs") then Some (jobs_told rows)
+abbrev pub command_in : List ℕ → List Row → Option OrderText
+command_in name rows =
+    if bytes_eq name (codes "run") then Some (run_in rows)
+    else if bytes_eq name (codes "plain") then Some (plain_in rows)
+    else if bytes_eq name (codes "check") then Some (check_in rows)
+    else if bytes_eq name (codes "garble") then Some (garble_in rows)
+    else if bytes_eq name (codes "deal") then Some (deal_in rows)
+    else if bytes_eq name (codes "eval") then Some (eval_in rows)
+    else if bytes_eq name (codes "jobs") then Some (jobs_in rows)
     else None
 
--- The order that a command line tells: that of the command that clap finds in it.
-abbrev pub told : List (List ℕ) → Option OrderText
-told words = option_and_then (λ command. command_told command.0 command.1) (subcommand_of program words)
+-- The order in a command line: that of the command that clap finds in it.
+abbrev pub order_in : List (List ℕ) → Option OrderText
+order_in words =
+    option_and_then (λ command. command_in command.0 command.1) (subcommand_of program words)

@@ -15,49 +15,55 @@ use std::alloc::{AllocError, Global};
 const VERSION: &str = "0.1.0";
 
 const RUN_HELP: &str = "\
-Prints the output values, one a line: a character 0 or 1 for each wire, in wire order.
+Prints the output values, one per line: a character 0 or 1 for each wire, in wire order.
 
 Example, with a full adder in adder.txt that reads three bits:
   halfgates run adder.txt 0000000000000000000000000000000000000000000000000000000000000000 1 0 1";
 
 const CHECK_HELP: &str = "\
-Prints six lines: `gates`, `wires` and `and` with the number of gates, wires and AND gates, `inputs` and `outputs` with \
-the number of values and the number of wires of each, and `digest` with the SHA-256 of the circuit's canonical text \
-in hexadecimal digits. Two files of one circuit have one digest.
+Prints six lines: `gates`, `wires` and `and` with the number of gates, wires and AND gates, \
+`inputs` and `outputs` with the number of values and the number of wires of each, and `digest` \
+with the SHA-256 of the circuit's canonical text in hexadecimal digits. Two files of the same \
+circuit have the same digest.
 
 Example:
   halfgates check adder.txt";
 
 const PLAIN_HELP: &str = "\
-Prints the output values, one a line: a character 0 or 1 for each wire, in wire order.
+Prints the output values, one per line: a character 0 or 1 for each wire, in wire order.
 
 Example, with a full adder in adder.txt that reads three bits:
   halfgates plain adder.txt 1 0 1";
 
 const GARBLE_HELP: &str = "\
-Writes the garbled file OUT, and prints `wrote` with the number of its bytes. Whoever has it, the circuit and a label \
-file for each input value can evaluate the circuit, without the seed or the values.
+Writes the garbled file OUT, and prints `wrote` with the number of its bytes. Whoever has it, the \
+circuit and a label file for each input value can evaluate the circuit, without the seed or the \
+values.
 
 Example:
-  halfgates garble adder.txt 0000000000000000000000000000000000000000000000000000000000000000 adder.garbled";
+  halfgates garble adder.txt 0000000000000000000000000000000000000000000000000000000000000000 \
+adder.garbled";
 
 const DEAL_HELP: &str = "\
-Writes the label file OUT, with a label for each wire of the input value, and prints `wrote` with the number of its \
-bytes. The seed has to be that of the garbled file.
+Writes the label file OUT, with a label for each wire of the input value, and prints `wrote` with \
+the number of its bytes. The seed must be that of the garbled file.
 
 Example, with a full adder in adder.txt that reads three bits, of which the first is 1:
-  halfgates deal adder.txt 0000000000000000000000000000000000000000000000000000000000000000 0 1 first.labels";
+  halfgates deal adder.txt 0000000000000000000000000000000000000000000000000000000000000000 0 1 \
+first.labels";
 
 const EVAL_HELP: &str = "\
-Prints the output values, one a line: a character 0 or 1 for each wire, in wire order. There has to be a label file for \
-each input value of the circuit, in any order. Neither the seed nor the values are needed.
+Prints the output values, one per line: a character 0 or 1 for each wire, in wire order. There \
+must be a label file for each input value of the circuit, in any order. Neither the seed nor the \
+values are needed.
 
 Example, with a full adder in adder.txt that reads three bits:
   halfgates eval adder.txt adder.garbled first.labels second.labels third.labels";
 
 const JOBS_HELP: &str = "\
-Each line of LIST that is not blank is a job: the name of its garbled file and then those of its label files, as `eval` \
-takes them, with spaces or tabs between them. Prints for each job its output values, one a line, and then an empty line.
+Each line of LIST that is not blank is a job: the name of its garbled file and then the names of \
+its label files, as `eval` takes them, with spaces or tabs between them. Prints the output values \
+of each job, one per line, and then an empty line.
 
 Example, with a full adder in adder.txt that reads three bits, and the line \
 `adder.garbled first.labels second.labels third.labels` in list.txt:
@@ -68,12 +74,12 @@ const LABELS_HELP: &str = "A label file for each input value of the circuit, in 
 const SEED_HELP: &str = "The seed of the garbling: 64 hexadecimal digits";
 
 const VALUE_HELP: &str = "\
-The input value: a character 0 or 1 for each wire, in wire order, or x and two hexadecimal digits for each 8 wires, \
-of which the first wire is the lowest bit";
+The input value: a character 0 or 1 for each wire, in wire order, or x and two hexadecimal digits \
+for each 8 wires, of which the first wire is the lowest bit";
 
 const VALUES_HELP: &str = "\
-A value for each input value of the circuit: a character 0 or 1 for each wire, in wire order, or x and \
-two hexadecimal digits for each 8 wires, of which the first wire is the lowest bit";
+A value for each input value of the circuit: a character 0 or 1 for each wire, in wire order, or x \
+and two hexadecimal digits for each 8 wires, of which the first wire is the lowest bit";
 
 /// The program, with its commands.
 pub(crate) fn halfgates<'a>(alloc: Global) -> Result<Command<'a>, AllocError>
@@ -101,7 +107,8 @@ fn with_command<'a>(
     program: Command<'a>,
     command: Result<Command<'a>, AllocError>,
 ) -> Result<Command<'a>, AllocError>
-    ensures { IfOk result (λ made. (app sub : App) → HasShape app program.entry → IfOk command.entry (HasShape sub)
+    ensures { IfOk result
+        (λ made. (app sub : App) → HasShape app program.entry → IfOk command.entry (HasShape sub)
         → HasShape (with_subcommand app sub.top) made) }
 {
     match command {
@@ -115,7 +122,7 @@ fn named_program<'a>(alloc: Global) -> Command<'a>
     ensures { HasShape named_program result }
 {
     Command::new(alloc, "halfgates")
-        .about("Garbles Boolean circuits, and evaluates them garbled")
+        .about("Garbles Boolean circuits and evaluates garbled circuits")
         .version(VERSION)
         .subcommand_required(true)
         .arg_required_else_help(true)
@@ -126,7 +133,7 @@ fn named_program<'a>(alloc: Global) -> Command<'a>
 fn run<'a>(alloc: Global) -> Result<Command<'a>, AllocError>
     ensures { IfOk result (HasShape run_command) }
 {
-    let about = "Garbles a circuit, and evaluates it garbled on the given values";
+    let about = "Garbles a circuit and evaluates the garbled circuit on the given values";
     let command = command_with_seed(alloc, "run", about, RUN_HELP);
     let command = with_arg(command, workers_arg(alloc));
     with_arg(command, values_arg(alloc))
@@ -145,7 +152,7 @@ fn plain<'a>(alloc: Global) -> Result<Command<'a>, AllocError>
 fn check<'a>(alloc: Global) -> Result<Command<'a>, AllocError>
     ensures { IfOk result (HasShape check_command) }
 {
-    let about = "Tells a circuit's numbers and its digest";
+    let about = "Prints the size and the digest of a circuit";
     command_on_circuit(alloc, "check", about, CHECK_HELP)
 }
 
@@ -155,10 +162,7 @@ fn garble<'a>(alloc: Global) -> Result<Command<'a>, AllocError>
 {
     let about = "Garbles a circuit into a file";
     let command = command_with_seed(alloc, "garble", about, GARBLE_HELP);
-    let command = with_arg(
-        command,
-        out_arg(alloc, "The garbled file, which is written"),
-    );
+    let command = with_arg(command, out_arg(alloc, "The garbled file to write"));
     let command = with_arg(command, format_arg(alloc));
     with_arg(command, workers_arg(alloc))
 }
@@ -171,14 +175,14 @@ fn deal<'a>(alloc: Global) -> Result<Command<'a>, AllocError>
     let command = command_with_seed(alloc, "deal", about, DEAL_HELP);
     let command = with_arg(command, index_arg(alloc));
     let command = with_arg(command, value_arg(alloc));
-    with_arg(command, out_arg(alloc, "The label file, which is written"))
+    with_arg(command, out_arg(alloc, "The label file to write"))
 }
 
 /// The command `eval`.
 fn eval<'a>(alloc: Global) -> Result<Command<'a>, AllocError>
     ensures { IfOk result (HasShape eval_command) }
 {
-    let about = "Evaluates a circuit garbled, from a garbled file and label files";
+    let about = "Evaluates a garbled circuit, from a garbled file and label files";
     let command = command_on_circuit(alloc, "eval", about, EVAL_HELP);
     let command = with_arg(command, garbled_arg(alloc));
     let command = with_arg(command, workers_arg(alloc));
@@ -267,7 +271,7 @@ fn garbled_arg<'a>(alloc: Global) -> Arg<'a>
 fn list_arg<'a>(alloc: Global) -> Arg<'a>
     ensures { HasRule (required_word (codes "list")) result }
 {
-    word_arg(alloc, "list", "LIST", "The file of the list")
+    word_arg(alloc, "list", "LIST", "The file with the list of jobs")
 }
 
 /// A word that has to be there.
@@ -289,7 +293,7 @@ fn index_arg<'a>(alloc: Global) -> Arg<'a>
 fn format_arg<'a>(alloc: Global) -> Arg<'a>
     ensures { HasRule (number_option (codes "format") 1 2 (codes "2")) result }
 {
-    let help = "The version of the garbled file: 1, or 2, by which output labels are recognised";
+    let help = "The version of the garbled file, 1 or 2: version 2 recognises output labels";
     number_arg(alloc, "format", "FORMAT", help, 1, 2, "2")
 }
 
@@ -297,7 +301,7 @@ fn format_arg<'a>(alloc: Global) -> Arg<'a>
 fn workers_arg<'a>(alloc: Global) -> Arg<'a>
     ensures { HasRule workers_option result }
 {
-    let help = "How many threads work, from 1 to 64; what they make is the same";
+    let help = "How many threads may work, from 1 to 64; the result is the same";
     number_arg(alloc, "workers", "WORKERS", help, 0, 4_294_967_295, "1")
 }
 

@@ -2,8 +2,8 @@
 
 ghost use Rattle.std.specs.Prelude.{◌≡◌, map, IfOk, Some, string_bytes};
 ghost use Rattle.clap.specs.Words.{FailsBy, fault_of, found_of, rows_of};
-ghost use Rattle.gc_order.specs.Order.{IsCommandName, check_told, command_told, deal_told, eval_told, garble_told, jobs_told};
-ghost use Rattle.gc_order.specs.Order.{plain_told, program, run_told, text_of, told};
+ghost use Rattle.gc_order.specs.Order.{IsCommandName, check_in, command_in, deal_in, eval_in, garble_in, jobs_in};
+ghost use Rattle.gc_order.specs.Order.{plain_in, program, order_in, run_in, text_of};
 
 use crate::commands::halfgates;
 use crate::words::{number_of, version_of, word_of, words_of};
@@ -25,7 +25,7 @@ pub enum Order {
         /// The text of each input value, in order.
         values: Vec<String>,
     },
-    /// Tell a circuit's numbers and digest.
+    /// Print the size and the digest of a circuit.
     Check {
         /// The name of the circuit's file.
         circuit: String,
@@ -88,7 +88,8 @@ pub enum Order {
 /// The order in the words of a command line, of which the first is the program's name. The words of a line that
 /// clap refuses, or that asks for help or the version, are answered with clap's error, which has the text to show.
 pub fn order_of(alloc: Global, words: &[String]) -> Result<Order, Error>
-    ensures told { IfOk result (λ order. told (map string_bytes words.now) ≡ Some (text_of order)) }
+    ensures order { IfOk result
+        (λ order. order_in (map string_bytes words.now) ≡ Some (text_of order)) }
     ensures kinds { FailsBy (fault_of program (map string_bytes words.now)) result }
 {
     let matches = halfgates(alloc)?.try_get_matches_from(words)?;
@@ -102,7 +103,7 @@ pub fn order_of(alloc: Global, words: &[String]) -> Result<Order, Error>
 /// caller's condition.
 fn named_order(alloc: Global, name: &str, found: &ArgMatches<'_>) -> Result<Order, AllocError>
     requires { IsCommandName name.now }
-    ensures { IfOk result (λ order. command_told name.now (rows_of (found_of found.now))
+    ensures { IfOk result (λ order. command_in name.now (rows_of (found_of found.now))
         ≡ Some (text_of order)) }
 {
     match name {
@@ -119,7 +120,7 @@ fn named_order(alloc: Global, name: &str, found: &ArgMatches<'_>) -> Result<Orde
 
 /// The order of `run`, from what clap found of its words.
 fn run_order(alloc: Global, found: &ArgMatches<'_>) -> Result<Order, AllocError>
-    ensures { IfOk result (λ order. text_of order ≡ run_told (rows_of (found_of found.now))) }
+    ensures { IfOk result (λ order. text_of order ≡ run_in (rows_of (found_of found.now))) }
 {
     Ok(Order::Run {
         circuit: word_of(alloc, found, "circuit")?,
@@ -131,7 +132,7 @@ fn run_order(alloc: Global, found: &ArgMatches<'_>) -> Result<Order, AllocError>
 
 /// The order of `plain`, from what clap found of its words.
 fn plain_order(alloc: Global, found: &ArgMatches<'_>) -> Result<Order, AllocError>
-    ensures { IfOk result (λ order. text_of order ≡ plain_told (rows_of (found_of found.now))) }
+    ensures { IfOk result (λ order. text_of order ≡ plain_in (rows_of (found_of found.now))) }
 {
     Ok(Order::Plain {
         circuit: word_of(alloc, found, "circuit")?,
@@ -141,7 +142,7 @@ fn plain_order(alloc: Global, found: &ArgMatches<'_>) -> Result<Order, AllocErro
 
 /// The order of `check`, from what clap found of its words.
 fn check_order(alloc: Global, found: &ArgMatches<'_>) -> Result<Order, AllocError>
-    ensures { IfOk result (λ order. text_of order ≡ check_told (rows_of (found_of found.now))) }
+    ensures { IfOk result (λ order. text_of order ≡ check_in (rows_of (found_of found.now))) }
 {
     Ok(Order::Check {
         circuit: word_of(alloc, found, "circuit")?,
@@ -150,7 +151,7 @@ fn check_order(alloc: Global, found: &ArgMatches<'_>) -> Result<Order, AllocErro
 
 /// The order of `garble`, from what clap found of its words.
 fn garble_order(alloc: Global, found: &ArgMatches<'_>) -> Result<Order, AllocError>
-    ensures { IfOk result (λ order. text_of order ≡ garble_told (rows_of (found_of found.now))) }
+    ensures { IfOk result (λ order. text_of order ≡ garble_in (rows_of (found_of found.now))) }
 {
     Ok(Order::Garble {
         circuit: word_of(alloc, found, "circuit")?,
@@ -163,7 +164,7 @@ fn garble_order(alloc: Global, found: &ArgMatches<'_>) -> Result<Order, AllocErr
 
 /// The order of `deal`, from what clap found of its words.
 fn deal_order(alloc: Global, found: &ArgMatches<'_>) -> Result<Order, AllocError>
-    ensures { IfOk result (λ order. text_of order ≡ deal_told (rows_of (found_of found.now))) }
+    ensures { IfOk result (λ order. text_of order ≡ deal_in (rows_of (found_of found.now))) }
 {
     Ok(Order::Deal {
         circuit: word_of(alloc, found, "circuit")?,
@@ -176,7 +177,7 @@ fn deal_order(alloc: Global, found: &ArgMatches<'_>) -> Result<Order, AllocError
 
 /// The order of `eval`, from what clap found of its words.
 fn eval_order(alloc: Global, found: &ArgMatches<'_>) -> Result<Order, AllocError>
-    ensures { IfOk result (λ order. text_of order ≡ eval_told (rows_of (found_of found.now))) }
+    ensures { IfOk result (λ order. text_of order ≡ eval_in (rows_of (found_of found.now))) }
 {
     Ok(Order::Eval {
         circuit: word_of(alloc, found, "circuit")?,
@@ -188,7 +189,7 @@ fn eval_order(alloc: Global, found: &ArgMatches<'_>) -> Result<Order, AllocError
 
 /// The order of `jobs`, from what clap found of its words.
 fn jobs_order(alloc: Global, found: &ArgMatches<'_>) -> Result<Order, AllocError>
-    ensures { IfOk result (λ order. text_of order ≡ jobs_told (rows_of (found_of found.now))) }
+    ensures { IfOk result (λ order. text_of order ≡ jobs_in (rows_of (found_of found.now))) }
 {
     Ok(Order::Jobs {
         circuit: word_of(alloc, found, "circuit")?,

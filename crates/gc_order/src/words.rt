@@ -2,7 +2,7 @@
 
 ghost use Rattle.std.specs.Prelude.{◌≡◌, map, IfOk, string_bytes};
 ghost use Rattle.clap.specs.Words.{found_of, rows_of};
-ghost use Rattle.gc_order.specs.Order.{number_told, version_told, word_of, words_of};
+ghost use Rattle.gc_order.specs.Order.{number_in, version_numbered, word_of, words_of};
 
 use clap::ArgMatches;
 use gc_format::Version;
@@ -10,7 +10,7 @@ use std::alloc::{AllocError, Global};
 
 /// The version of garbled files that a number names.
 pub(crate) fn version_of(number: u32) -> Version
-    ensures { result ≡ version_told number }
+    ensures { result ≡ version_numbered number }
 {
     if number == 1 {
         Version::One
@@ -21,21 +21,22 @@ pub(crate) fn version_of(number: u32) -> Version
 
 /// The number that clap found for an id. clap refuses a line whose word is no number in its range.
 pub(crate) fn number_of(found: &ArgMatches<'_>, id: &str) -> u32
-    ensures { result ≡ number_told (word_of id.now (rows_of (found_of found.now))) }
+    ensures { result ≡ number_in (word_of id.now (rows_of (found_of found.now))) }
 {
-    number_told(found.get_str(id).unwrap_or(""))
+    number_in(found.get_str(id).unwrap_or(""))
 }
 
 /// The number that a text tells, 0 where it tells none below 2^32.
-fn number_told(text: &str) -> u32
-    ensures { result ≡ number_told text.now }
+fn number_in(text: &str) -> u32
+    ensures { result ≡ number_in text.now }
 {
     text.parse::<u32>().unwrap_or(0)
 }
 
 /// The word that clap found for an id. clap refuses a line that lacks a required one.
 pub(crate) fn word_of(alloc: Global, found: &ArgMatches<'_>, id: &str) -> Result<String, AllocError>
-    ensures { IfOk result (λ word. string_bytes word ≡ word_of id.now (rows_of (found_of found.now))) }
+    ensures { IfOk result
+        (λ word. string_bytes word ≡ word_of id.now (rows_of (found_of found.now))) }
 {
     String::from_str(alloc, found.get_str(id).unwrap_or(""))
 }
@@ -56,7 +57,8 @@ pub(crate) fn words_of(
 }
 
 fn copies_of(alloc: Global, words: &[&str]) -> Result<Vec<String>, AllocError>
-    ensures { IfOk result (λ copies. map string_bytes copies.items ≡ map (λ word. word.now) words.now) }
+    ensures { IfOk result
+        (λ copies. map string_bytes copies.items ≡ map (λ word. word.now) words.now) }
 {
     let mut copies = Vec::with_capacity(alloc, words.len())?;
     for word in words {

@@ -1,13 +1,26 @@
-use Rattle.std.proofs.Common.{⊎_elim, inl, inr, arith}
+use Rattle.std.proofs.Common.{rules, map, string_bytes, ⊎_elim, inl, inr, arith}
 use Rattle.clap.specs.Words.{kind_of}
+use Rattle.gc_command.specs.declared.fault.Fault.TheVariants.{CannotWrite}
 use Rattle.gc_cli.proofs.MistakeLemmas.{IsMistaken-other_kind}
 use Rattle.gc_cli.proofs.program.serve.Goals as goal
+
+pub returns-in-Ok-carry_out-clause-fault : goal.returns-in-Ok-carry_out-clause-fault
+returns-in-Ok-carry_out-clause-fault g c = λ _. (CannotWrite, (search rules, c.report.ensures.printed))
+
+pub returns-in-Ok-clause-fault : goal.returns-in-Ok-clause-fault
+returns-in-Ok-clause-fault g c = λ _.
+    (c.in-Err-carry_out.fault, (search rules, c.report-in-Err-carry_out.ensures.printed))
 
 -- The words have a fault that asks for no text, or memory ran out.
 pub returns-clause-usage : goal.returns-clause-usage
 returns-clause-usage g c = λ _.
     let other = c.use_stderr.ensures.0 c.if-not-use_stderr.false in
     ⊎_elim
-    (λ listed. inl (IsMistaken-other_kind c.args.line.now.words (kind_of c.in-Err.help) listed.0 other.0 other.1))
+    (λ listed.
+    inl (IsMistaken-other_kind (map string_bytes c.args.words.now) (kind_of c.in-Err.help) listed.0
+    other.0 other.1))
     (λ short. inr (omega (arith, short.1)))
     c.in-Err.ensures.err
+
+pub returns-in-Err-clause-fault : goal.returns-in-Err-clause-fault
+returns-in-Err-clause-fault g c = λ _. (CannotWrite, (search rules, c.report-in-Err-write.ensures.printed))

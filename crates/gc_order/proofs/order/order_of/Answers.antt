@@ -4,7 +4,7 @@ use Rattle.std.proofs.lemmas.Result.{err_from_is_err_and}
 use Rattle.clap.specs.Words.{App, HasKind, Row, app_of, fault_of, found_of, is_simple, rows_of, subcommand_of}
 use Rattle.clap.specs.Faults.{is_simple_and_free}
 use Rattle.clap.proofs.OnLiterals.{clap_on_literals}
-use Rattle.gc_order.specs.Order.{command_told, program}
+use Rattle.gc_order.specs.Order.{command_in, program}
 use Rattle.gc_order.proofs.OrderLemmas.{subcommand-pair}
 use Rattle.gc_order.proofs.order.order_of.Goals as goal
 
@@ -32,12 +32,12 @@ returns-in_err-matches-clause-kinds c =
     let p = err_from_is_err_and c.from_residual-in_err-matches.result c.from_residual-in_err-matches.ensures.1 in
     rw (p.1, p.2) fails
 
-pub returns-clause-told : goal.returns-clause-told
-returns-clause-told c =
+pub returns-clause-order : goal.returns-clause-order
+returns-clause-order c =
     let shape = c.in_ok-halfgates.ensures.shape in
     let simple : is_simple (app_of c.in_ok-halfgates.field-0) ≡ true = ap is_simple shape ∙ is_simple-alone in
     let found = c.in_ok-matches.ensures.matches simple in
-    let command = λ (o : Option (List ℕ × List Row)). option_and_then (λ p. command_told p.0 p.1) o in
+    let command = λ (o : Option (List ℕ × List Row)). option_and_then (λ p. command_in p.0 p.1) o in
     ap (λ (a : App). command (subcommand_of a (map string_bytes c.args.words.now))) (sym shape)
     ∙ ap command (sym found.1
     ∙ subcommand-pair _ c.in-Some.name.now (rows_of (found_of c.in-Some.found.now)) c.in-Some.ensures.name c.in-Some.ensures.rows)

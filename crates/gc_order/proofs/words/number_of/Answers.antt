@@ -1,7 +1,7 @@
 use Rattle.std.proofs.Common.{[], ap, ◌∙◌, unwrap_or}
 use Rattle.clap.specs.Words.{found_of}
 use Rattle.clap.proofs.WalkLemmas.{first_value-rows}
-use Rattle.gc_order.specs.Order.{number_told}
+use Rattle.gc_order.specs.Order.{number_in}
 use Rattle.gc_order.proofs.OrderLemmas.{unwrap_or-now}
 use Rattle.gc_order.proofs.words.number_of.Goals as goal
 
@@ -9,4 +9,4 @@ pub returns : goal.returns
 returns c =
     let found = unwrap_or-now c.get_str.result _ _ c.get_str.ensures in
     let rows = ap (λ o. unwrap_or o []) (first_value-rows (found_of c.args.found.now) c.args.id.now) in
-    c.number_told.ensures ∙ ap number_told (ap (λ w. w.now) c.unwrap_or.ensures ∙ found ∙ rows)
+    c.number_in.ensures ∙ ap number_in (ap (λ w. w.now) c.unwrap_or.ensures ∙ found ∙ rows)
