@@ -1,7 +1,7 @@
 //! Tests of a command line that can't be read, and of the numbers of faults.
 
 use gc_circuit::{ReadFault, ValueFault};
-use gc_cli::{Ending, Fault, Output, refuse_line};
+use gc_cli::{Fault, Output, USAGE, refuse_line};
 use gc_eval::{BindFault, EvalFault};
 use gc_file::FileFault;
 use gc_work::WorkFault;
@@ -40,12 +40,9 @@ fn refuses_words_that_cannot_be_had(rt: HostRuntime) {
     ];
     for (kind, errors) in rows {
         let mut err = Output::new(Vec::new(rt.alloc()));
-        assert_eq!(rt; refuse_line(&kind.into(), &mut err), Ending::Usage);
+        assert_eq!(rt; refuse_line(&kind.into(), &mut err), USAGE);
         assert_eq!(rt; err.into_inner().as_slice(), errors.as_bytes());
-        assert_eq!(rt;
-            refuse_line(&kind.into(), &mut Output::new(Closed)),
-            Ending::Usage
-        );
+        assert_eq!(rt; refuse_line(&kind.into(), &mut Output::new(Closed)), USAGE);
     }
 }
 

@@ -27,8 +27,8 @@ const ONE_VALUE: Part = (13, 1);
 
 const PLAIN_EVALUATION: Part = (13, 2);
 
-/// The marks by which the way is chosen, the zero labels, and the rows.
-const GARBLING: Part = (23, 3);
+/// The zero labels, and the rows.
+const GARBLING: Part = (23, 2);
 
 /// The bytes before the trailer, and the trailer.
 const GARBLED_FILE: Part = (52, 2);
