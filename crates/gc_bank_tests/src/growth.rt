@@ -57,7 +57,7 @@ fn same(one: &[Vec<bool, &Refusing<Global>>], other: &[Vec<bool>]) -> bool {
             .all(|(a, b)| a.as_slice() == b.as_slice())
 }
 
-/// With growth 1, 2, 3, .. refused, so many workers give the answer of one thread, or the fault for memory. The
+/// With growth 1, 2, 3, .. refused, this many workers give the answer of one thread, or the fault for memory. The
 /// answer is how many runs met a refusal.
 fn refused_runs<R: Threads + Wait + Sync>(
     rt: &R,

@@ -31,7 +31,7 @@ pub(crate) fn job_of<'c>(
     Ok(Job::bind(alloc, circuit, garbled, &labels)?)
 }
 
-/// What so many workers answer, where the jobs may be evaluated together.
+/// What this many workers answer, where the jobs may be evaluated together.
 pub(crate) fn evaluated<
     B: Allocator + Copy + Send + Sync,
     H: Gatehouse + Sync,

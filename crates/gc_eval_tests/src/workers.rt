@@ -47,8 +47,8 @@ fn two_evaluators_meet_at_a_board(rt: HostRuntime) -> Result<(), Fail> {
     Ok(())
 }
 
-/// With growth 1, 2, 3, .. refused, so many workers give the answer of one thread, or the fault for memory. The answer is
-/// how many runs met a refusal.
+/// With growth 1, 2, 3, .. refused, this many workers give the answer of one thread, or the fault for memory. The answer
+/// is how many runs met a refusal.
 fn refused_runs<R: Threads + Wait + Sync>(
     rt: &R,
     alloc: Global,
@@ -70,15 +70,15 @@ fn refused_runs<R: Threads + Wait + Sync>(
     Err(Fail::new("each run met a refusal"))
 }
 
-/// Which way to go takes memory once, and twice where there are several threads; the board six times, the workers once each
-/// and once together, the seats that are back once, and the output labels and bits once each. On one thread there are the
-/// labels of all wires, and the bits.
+/// Which way to go takes memory twice where there are several threads; the board six times, the workers once each and once
+/// together, the seats that are back once, and the output labels and bits once each. On one thread there are the labels of
+/// all wires, and the bits.
 #[test]
 fn each_growth_refused(rt: HostRuntime) -> Result<(), Fail> {
     let circuit = Circuit::read(rt.alloc(), FULL_ADDER.as_bytes())?;
     let job = job_on_zeros(rt.alloc(), &circuit, FULL_ADDER)?;
-    assert_eq!(rt; refused_runs(&rt, rt.alloc(), &job, 1)?, 3);
-    let text = and_chains(rt.alloc(), 64, 4)?;
+    assert_eq!(rt; refused_runs(&rt, rt.alloc(), &job, 1)?, 2);
+    let text = and_chains(rt.alloc(), 64, 16)?;
     let circuit = Circuit::read(rt.alloc(), text.as_bytes())?;
     let job = job_on_zeros(rt.alloc(), &circuit, text.as_str())?;
     assert_eq!(rt; refused_runs(&rt, rt.alloc(), &job, 2)?, 14);

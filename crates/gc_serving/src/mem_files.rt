@@ -12,11 +12,11 @@ use std::marker::Model;
 /// How much goes well before files fail.
 #[derive(Clone, Copy, Debug)]
 pub struct Limits {
-    /// So many calls of the files.
+    /// This many calls of the files.
     pub calls: u32,
-    /// So many bytes of each source, if a number is given.
+    /// This many bytes of each source, if a number is given.
     pub given: Option<usize>,
-    /// So many bytes of each sink, if a number is given.
+    /// This many bytes of each sink, if a number is given.
     pub taken: Option<usize>,
 }
 

@@ -137,7 +137,7 @@ fn a_reader_after_a_refusal(rt: HostRuntime) -> Result<(), Fail> {
 
 static ROW_PAIR: [u8; 32] = [0; 32];
 
-/// Whether a garbled reader takes the header and then so many row pairs.
+/// Whether a garbled reader takes the header and then a given number of row pairs.
 fn takes_rows<A: Allocator + Copy>(heap: A, header: &[u8], pairs: u32) -> bool {
     let mut reader = GarbledReader::new(heap);
     let mut takes = reader.feed(header).is_ok();
@@ -147,8 +147,8 @@ fn takes_rows<A: Allocator + Copy>(heap: A, header: &[u8], pairs: u32) -> bool {
     takes
 }
 
-/// How many growths a garbled reader asks for until so many row pairs have come, one at a time, after a header that
-/// tells of far more.
+/// How many growths a garbled reader asks for until a given number of row pairs have come, one at a time, after a
+/// header that claims far more.
 fn growths_of_rows(alloc: Global, header: &[u8], pairs: u32) -> Option<u64> {
     let heap = Refusing::never(alloc);
     if takes_rows(&heap, header, pairs) {
@@ -158,7 +158,7 @@ fn growths_of_rows(alloc: Global, header: &[u8], pairs: u32) -> Option<u64> {
     }
 }
 
-/// Room for row pairs is made as they come, for twice as many each time, whatever number the header tells.
+/// Room for row pairs is made as they come, for twice as many each time, whatever number the header claims.
 #[test]
 fn room_for_rows_doubles(rt: HostRuntime) -> Result<(), Fail> {
     let header = hex::decode(rt.alloc(), FORGED_HEADER)?;
@@ -169,7 +169,7 @@ fn room_for_rows_doubles(rt: HostRuntime) -> Result<(), Fail> {
     Ok(())
 }
 
-/// The faults of a header, and all of a label file, are told without memory.
+/// The faults of a header, and all faults of a label file, are reported without memory.
 #[test]
 fn faults_before_the_rows_take_no_memory(rt: HostRuntime) -> Result<(), Fail> {
     let alloc = rt.alloc();
@@ -197,7 +197,7 @@ fn faults_before_the_rows_take_no_memory(rt: HostRuntime) -> Result<(), Fail> {
 }
 
 /// Writes a garbled file to a sink in memory. The answer is plain where the sink holds the file, and the fault for
-/// memory where it holds a beginning of it, of as many bytes as the writer tells.
+/// memory where it holds a beginning of it, of as many bytes as the writer reports.
 fn written_to_memory<A: Allocator>(
     heap: A,
     circuit: &Circuit,
@@ -233,7 +233,7 @@ fn writing_to_memory(rt: HostRuntime) -> Result<(), Fail> {
     Ok(())
 }
 
-const HALF: &[u8] = b"a half";
+pub(crate) const HALF: &[u8] = b"a half";
 
 const FOLLOWING: &[u8] = b", which another follows";
 

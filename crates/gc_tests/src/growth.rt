@@ -8,8 +8,9 @@ use gc_circuit::{
 use gc_half::{garble_one_thread, input_active_labels, input_zero_labels};
 use gc_label::Label;
 use gc_refusing::Refusing;
-use gc_worked::circuits::{ADDER_DIGEST, FULL_ADDER, one_zero_one};
+use gc_worked::circuits::{ADDER_DIGEST, FULL_ADDER, many_ands, one_zero_one};
 use gc_worked::growths::{Answer, plain_if, runs_refused};
+use linked_list_allocator::LocalHeap;
 use std::alloc::{Allocator, Global};
 use std::test::Fail;
 
@@ -160,8 +161,29 @@ fn each_growth_refused(rt: HostRuntime) -> Result<(), Fail> {
     Ok(())
 }
 
-/// Whether the full adder tells all that it has.
-fn tells_all<A: Allocator>(circuit: &Circuit<A>) -> bool {
+/// Room for all gates, and room for all rows, is taken at once.
+#[test]
+fn growths_of_many_gates(rt: HostRuntime) -> Result<(), Fail> {
+    let text = many_ands(rt.alloc(), 1100)?;
+    let heap = Refusing::never(rt.alloc());
+    let circuit = Circuit::read(&heap, text.as_bytes())?;
+    assert!(rt; heap.growths() == 4);
+    let garbling = garble_one_thread(&heap, &circuit, &zero_seed())?;
+    assert!(rt; heap.growths() == 6 && garbling.rows().len() == 1100);
+    Ok(())
+}
+
+/// A number of gates in a header takes no room by itself: 1,024 bytes suffice.
+#[test]
+fn a_claimed_number_of_gates(rt: HostRuntime) -> Result<(), Fail> {
+    let heap = LocalHeap::new(rt.alloc(), 1024)?;
+    let read = Circuit::read(&heap, b"16777216 1\n0\n0\n1 1 0 0 EQ\n");
+    assert!(rt; read.err() == Some(ReadFault::Truncated));
+    Ok(())
+}
+
+/// Whether the readers of the full adder answer all that it has.
+fn has_all<A: Allocator>(circuit: &Circuit<A>) -> bool {
     if circuit.gates() != 5 {
         return false;
     }
@@ -179,7 +201,7 @@ fn tells_all<A: Allocator>(circuit: &Circuit<A>) -> bool {
         && circuit.equals(circuit)
 }
 
-/// A circuit over memory of which each further growth is refused still tells all that it has.
+/// The readers of a circuit answer over memory that refuses each further growth.
 #[test]
 fn a_circuit_that_is_read_grows_nothing(rt: HostRuntime) -> Result<(), Fail> {
     let digest = hex::decode(rt.alloc(), ADDER_DIGEST)?;
@@ -190,7 +212,7 @@ fn a_circuit_that_is_read_grows_nothing(rt: HostRuntime) -> Result<(), Fail> {
     let circuit = Circuit::read(&heap, FULL_ADDER.as_bytes())?;
     assert!(rt; circuit.digest().as_slice() == digest.as_slice());
     assert!(rt; fits(&circuit, &values));
-    assert!(rt; tells_all(&circuit));
+    assert!(rt; has_all(&circuit));
     assert!(rt; heap.refused() == 0);
     Ok(())
 }

@@ -4,8 +4,11 @@ use gc_label::{BadSeed, Label, Seed, fill_input_labels, input_label, offset};
 use gc_worked::circuits::SEED;
 use std::test::Fail;
 
+/// The first row of 16 bytes of the keystream of the zero key (RFC 8439, appendix A.1, test vector 1).
+const FIRST_ROW: u128 = 0x76b8e0ada0f13d90405d6ae55386bd28;
+
 /// The offset of the seed of 32 zero bytes: the first row of its keystream, with the colour set to 1.
-pub(crate) const R: u128 = 0x77b8e0ada0f13d90405d6ae55386bd28;
+pub(crate) const R: u128 = FIRST_ROW | 1 << 120;
 
 /// The zero label of input wire 0 under that seed, and of input wire 1.
 pub(crate) const A: u128 = 0xbdd219b8a08ded1aa836efcc8b770dc7;
@@ -43,15 +46,28 @@ pub(crate) fn zero_seed() -> Seed {
     Seed::from_bytes([0; 32])
 }
 
+/// The one labels of input wires 0 and 1, by `vectors/reference.py`.
+const ONE_LABELS: [u128; 2] = [
+    0xca6af915007cd08ae86b8529d8f1b0ef,
+    0xadf9b9d1f1a6751d37798adaeb5ef71f,
+];
+
 /// The first row of block 2^30, by `openssl enc -chacha20`.
 const LAST: u128 = 0x2d7f21b01b50505974f4e879dcf8c377;
 
 #[test]
 fn labels_are_rows_of_the_keystream(rt: HostRuntime) {
     let seed = zero_seed();
-    assert!(rt; offset(&seed).label() == label(R));
+    let offset = offset(&seed).label();
+    assert!(rt; offset == label(0x77b8e0ada0f13d90405d6ae55386bd28) && offset == label(R));
     for (wire, row) in (0..).zip(&INPUT_ROWS) {
         assert!(rt; input_label(&seed, wire) == label(*row), "wire {wire}");
+    }
+    for (wire, one) in (0..).zip(&ONE_LABELS) {
+        assert!(rt;
+            input_label(&seed, wire).xor(offset) == label(*one),
+            "wire {wire}"
+        );
     }
     assert!(rt; input_label(&seed, u32::MAX) == label(LAST));
 }
@@ -88,8 +104,8 @@ fn labels_as_bytes(rt: HostRuntime) -> Result<(), Fail> {
     Ok(())
 }
 
-/// The bytes of the seed that a text tells.
-fn bytes_told(text: &str) -> Option<[u8; 32]> {
+/// The bytes of the seed that a text spells.
+fn seed_bytes(text: &str) -> Option<[u8; 32]> {
     match Seed::from_hex(text) {
         Ok(seed) => Some(seed.to_bytes()),
         Err(BadSeed) => None,
@@ -106,7 +122,7 @@ fn seeds_from_hex(rt: HostRuntime) {
         "001a0000000000000000000000000000000000000000000000000000000000ff",
         "001A0000000000000000000000000000000000000000000000000000000000Ff",
     ] {
-        assert!(rt; bytes_told(text) == Some(bytes), "of {text}");
+        assert!(rt; seed_bytes(text) == Some(bytes), "of {text}");
     }
 }
 
@@ -127,7 +143,7 @@ static NO_SEEDS: [&str; 10] = [
 #[test]
 fn texts_that_are_no_seed(rt: HostRuntime) {
     for text in NO_SEEDS {
-        assert!(rt; bytes_told(text).is_none(), "of {text}");
+        assert!(rt; seed_bytes(text).is_none(), "of {text}");
     }
     assert!(rt; BadSeed.code() == 18 && BadSeed.name() == "BadSeed");
 }

@@ -2,15 +2,17 @@
 
 ghost use Rattle.std.specs.Prelude.{◌≤◌, length};
 
+use crate::file_growth::HALF;
 use crate::hostile::flipped;
 use gc_file::{
-    FileFault, Garbled, GarbledReader, InSource, MemSource, TakeFault, Version, WriteFault,
-    read_garbled, read_garbled_from,
+    FileFault, Garbled, GarbledReader, InSource, MemSource, OutSink, Sink, Source, TakeFault,
+    Version, WriteFault, read_garbled, read_garbled_from,
 };
 use gc_refusing::Refusing;
 use gc_worked::circuits::AND;
 use gc_worked::files::{Written, and_file, write};
 use std::alloc::{Allocator, Global};
+use std::io::{self, ErrorKind, Read, Write};
 use std::test::Fail;
 
 /// Whether both hold the same.
@@ -108,7 +110,7 @@ fn of_a_forged_header(rt: HostRuntime) -> Result<(), Fail> {
     Ok(())
 }
 
-/// Whether so many bytes of the file are written, and the answer is the fault if that is not all of it.
+/// Whether the first `limit` bytes of the file are written, and the answer is the fault if these are not all.
 fn is_cut(written: &Written, file: &[u8], limit: usize) -> bool {
     let wanted = if limit < file.len() {
         Err(WriteFault { sent: limit as u64 })
@@ -152,4 +154,60 @@ fn from_a_source(rt: HostRuntime) -> Result<(), Fail> {
         assert!(rt; same(&taken, &whole));
     }
     Ok(())
+}
+
+/// A reader or a writer whose first call fails for this reason, and whose other calls are those of `inner`.
+#[derive(Drop)]
+struct FailsFirst<T: Drop> {
+    inner: T,
+    reason: Option<ErrorKind>,
+}
+
+impl<T: Drop> FailsFirst<T> {
+    fn new(inner: T, reason: ErrorKind) -> FailsFirst<T> {
+        FailsFirst {
+            inner,
+            reason: Some(reason),
+        }
+    }
+
+    fn call(&mut self) -> io::Result<()> {
+        match self.reason.take() {
+            Some(reason) => Err(reason.into()),
+            None => Ok(()),
+        }
+    }
+}
+
+impl<R: Read + Drop> Read for FailsFirst<R> {
+    fn read(&mut self, buf: &mut [u8]) -> io::Result<usize> {
+        self.call()?;
+        self.inner.read(buf)
+    }
+}
+
+impl<W: Write + Drop> Write for FailsFirst<W> {
+    fn write(&mut self, buf: &[u8]) -> io::Result<usize> {
+        self.call()?;
+        self.inner.write(buf)
+    }
+
+    fn flush(&mut self) -> io::Result<()> {
+        self.inner.flush()
+    }
+}
+
+/// A call that is interrupted is tried again; one that fails for another reason is not.
+#[test]
+fn interruptions(rt: HostRuntime) {
+    let mut room = [0; 6];
+    for (reason, wanted) in [
+        (ErrorKind::Interrupted, Some(6)),
+        (ErrorKind::BrokenPipe, None),
+    ] {
+        let mut sink = OutSink::new(FailsFirst::new(Vec::new(rt.alloc()), reason));
+        assert!(rt; sink.put(HALF).ok() == wanted);
+        let mut source = InSource::new(FailsFirst::new(HALF, reason));
+        assert!(rt; source.get(&mut room).ok() == wanted);
+    }
 }

@@ -63,7 +63,7 @@ pub(crate) fn claim_gate<L: Ledger>(store: &mut Store<L>) -> Option<u32> {
     Some(store.claim()?.gate)
 }
 
-/// Finishes the gates that may go next, this many at the most. The answer is how many were finished.
+/// Finishes ready gates, this many at the most. The answer is how many were finished.
 pub(crate) fn finish_gates<L: Ledger, A: Allocator>(
     store: &mut Store<L, A>,
     tally: &mut Tally<L>,

@@ -1,9 +1,7 @@
 //! Each growth of opening a store and of opening a pool refused in turn, and the work on an opened store, shared or not,
 //! which takes no memory.
 
-ghost use Rattle.std.specs.Prelude.{◌≡◌};
 ghost use Rattle.gc_store.specs.Account.{IsForStore};
-ghost use Rattle.gc_store.specs.declared.tally.TheConstants.{MAX_TALLIES};
 
 use crate::fixtures::{finish_gates, ledger, open, open_with_tally, read, seed_of};
 use gc_circuit::{Circuit, Memory};
@@ -64,9 +62,7 @@ fn list_of<L: Ledger>(alloc: Global, tally: Tally<L>) -> Option<Vec<Tally<L>>> {
 fn claims_and_settles<L: Ledger, A: Allocator>(
     store: &mut Store<L, A>,
     tallies: &mut Vec<Tally<L>>,
-) -> bool
-    requires { L.parts ≡ MAX_TALLIES }
-{
+) -> bool {
     let mut batch = Batch::new();
     let claimed = store.claim_some(&mut batch) == 2 && batch.len() == 2;
     let reopened = store.reopen() == 2 && batch.pop().is_some();
@@ -101,20 +97,20 @@ fn an_opened_store_grows_nothing(rt: HostRuntime) {
     assert!(rt; done.is_some());
 }
 
-/// Hands in gates 0 and 1, one by itself and one among several, and a gate that then may go next where the lock is free,
-/// and stops. None where they weren't there to take.
+/// Hands in gates 0 and 1, one by itself and one in a list, and a gate that is ready then, and stops. None where they
+/// weren't there to take.
 fn hands_in_three<L: Ledger, A: Allocator, R: Abort + Wait>(
     rt: &R,
     shared: &SharedStore<L, A>,
     tally: &mut Tally<L>,
 ) -> Option<()> {
-    let mut batches = [Batch::new()];
+    let mut batch = Batch::new();
     let zero = Sealed::make(shared.take(rt)?);
     let one = Sealed::make(shared.take(rt)?);
-    assert!(rt; shared.hand_in(rt, zero, tally, &mut batches[0]) == Ok(false));
-    assert!(rt; shared.hand_in_all(rt, &[one], tally, &mut batches) == Ok(false));
-    let next = Sealed::make(batches[0].pop()?);
-    assert!(rt; shared.try_hand_in_all(&[next], tally, &mut batches) == Some(Ok(false)));
+    assert!(rt; shared.hand_in(rt, zero, tally, &mut batch) == Ok(false));
+    assert!(rt; shared.hand_in_all(rt, &[one], tally, &mut batch) == Ok(false));
+    let next = Sealed::make(batch.pop()?);
+    assert!(rt; shared.hand_in_all(rt, &[next], tally, &mut batch) == Ok(false));
     shared.stop(rt);
     assert!(rt; shared.take(rt).is_none());
     Some(())

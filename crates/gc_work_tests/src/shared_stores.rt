@@ -1,14 +1,13 @@
 //! Tests of stores that threads share: strangers, leavers, and what tallies add up to.
 
-ghost use Rattle.std.specs.Prelude.{◌≡◌};
 ghost use Rattle.gc_store.specs.Account.{IsForStore};
-ghost use Rattle.gc_store.specs.declared.tally.TheConstants.{MAX_TALLIES};
 
 use crate::fixtures::{
     claim_gate, finish_gates, foreign_task, ledger, open, open_with_tally, seed_of,
 };
 use gc_store::{Batch, Refused, Sealed, SharedStore, Store, Tally, TallyMissing, Task};
 use std::alloc::Global;
+use std::hint::spin_loop;
 use std::marker::Brand;
 use std::process::Abort;
 use std::sync::Wait;
@@ -18,9 +17,11 @@ use std::thread::Threads;
 
 /// Two gates are finished with one tally and one with another. Without the second tally nothing is added up, and with it
 /// three gates are.
-fn settles_with_both<L: Ledger>(rt: &impl Abort, alloc: Global, store: &mut Store<L>) -> Option<()>
-    requires { L.parts ≡ MAX_TALLIES }
-{
+fn settles_with_both<L: Ledger>(
+    rt: &impl Abort,
+    alloc: Global,
+    store: &mut Store<L>,
+) -> Option<()> {
     let (mut first, mut second) = (store.tally()?, store.tally()?);
     assert!(rt; finish_gates(store, &mut first, 2) == 2);
     assert!(rt; finish_gates(store, &mut second, 1) == 1);
@@ -136,11 +137,10 @@ fn refused_among_several<L: Ledger, R: Abort + Wait>(
     tally: &mut Tally<L>,
     own: Sealed,
 ) {
-    let mut batches = [Batch::new()];
+    let mut batch = Batch::new();
     let refused = Err(Refused::NotClaimed(own));
-    assert!(rt; shared.hand_in_all(rt, &[own, own], tally, &mut batches) == refused);
-    assert!(rt; shared.try_hand_in_all(&[own], tally, &mut batches) == Some(refused));
-    assert!(rt; tally.count() == 1 && batches[0].is_empty());
+    assert!(rt; shared.hand_in_all(rt, &[own, own], tally, &mut batch) == refused);
+    assert!(rt; tally.count() == 1 && batch.is_empty());
 }
 
 /// What the store refuses a shared store refuses, one by one and several at once.
@@ -163,9 +163,76 @@ fn strangers_are_refused<L: Ledger, R: Abort + Wait>(
 #[test]
 fn a_shared_store_refuses(rt: HostRuntime) {
     let foreign = foreign_task::<Brand>(rt.alloc(), ledger());
-    let foreign = foreign.expect(&rt, "a gate may go next");
+    let foreign = foreign.expect(&rt, "a gate is ready");
     let refused = strangers_are_refused::<Brand, HostRuntime>(&rt, rt.alloc(), ledger(), foreign);
     assert!(rt; refused.is_some());
+}
+
+/// After a stop what is sealed is still taken back, and nothing is claimed.
+fn hands_in_after_a_stop<L: Ledger, R: Abort + Wait>(
+    rt: &R,
+    alloc: Global,
+    ledger: Blank,
+) -> Option<()>
+    requires { IsForStore L.name L.parts ledger }
+{
+    let (store, mut tally) = open_with_tally::<L, Global>(alloc, ledger)?;
+    let shared = SharedStore::new(store);
+    let mut batch = Batch::new();
+    let own = Sealed::make(shared.take(rt)?);
+    shared.stop(rt);
+    assert!(rt; shared.hand_in(rt, own, &mut tally, &mut batch) == Ok(false));
+    assert!(rt; batch.is_empty() && tally.count() == 1);
+    let mut store = shared.into_store();
+    assert!(rt; store.finished() == 1 && store.reopen() == 0);
+    Some(())
+}
+
+#[test]
+fn a_stopped_store_takes_back_and_gives_nothing(rt: HostRuntime) {
+    let done = hands_in_after_a_stop::<Brand, HostRuntime>(&rt, rt.alloc(), ledger());
+    assert!(rt; done.is_some());
+}
+
+/// Leaves other threads the time to fall asleep.
+fn pause() {
+    for _i in 0..1_000_000 {
+        spin_loop();
+    }
+}
+
+/// One thread stops a store whose ready gates are all claimed, while three others wait for a gate there: all four end.
+fn sleepers_end<L: Ledger + Send + Sync, R: Abort + Threads + Wait + Sync>(
+    rt: &R,
+    alloc: Global,
+    ledger: Blank,
+) -> Option<()>
+    requires { IsForStore L.name L.parts ledger }
+{
+    let (store, _tally) = open_with_tally::<L, Global>(alloc, ledger)?;
+    let shared = SharedStore::new(store);
+    let _claimed = (shared.take(rt)?, shared.take(rt)?);
+    let mut found = [false, true, true, true];
+    thread::for_each_mut(
+        rt,
+        &mut found,
+        4,
+        &|i: usize, found: &mut bool| {
+            if i == 0 {
+                pause();
+                shared.stop(rt);
+            } else {
+                *found = shared.take(rt).is_some();
+            }
+        },
+    );
+    assert!(rt; found == [false; 4]);
+    Some(())
+}
+
+#[test]
+fn all_sleepers_end_with_a_stop(rt: HostRuntime) {
+    assert!(rt; sleepers_end::<Brand, HostRuntime>(&rt, rt.alloc(), ledger()).is_some());
 }
 
 /// Hands in each gate of the full adder. The last one completes the store, and then nothing is left to take.

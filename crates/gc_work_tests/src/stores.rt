@@ -13,9 +13,9 @@ use std::sync::ledger::{Blank, Ledger};
 /// A step of the work on a circuit.
 #[derive(Clone, Copy)]
 enum Step {
-    /// These gates may go next, and no others: they are claimed, in whatever order.
+    /// These gates are ready, and no others: they are claimed, in whatever order.
     Ready(&'static [u32]),
-    /// All claimed gates go again; they are so many.
+    /// All claimed gates go again; this is their number.
     Reopens(u32),
     /// The store's claim answers this gate, the first in the file of those that go again.
     Claims(u32),
@@ -82,7 +82,7 @@ fn task_of(claimed: &[Task], gate: u32) -> Option<Task> {
     None
 }
 
-/// Whether these gates may go next, and no others. It claims them, and puts their tasks to those that were claimed
+/// Whether these gates are ready, and no others. It claims them, and puts their tasks to those that were claimed
 /// before.
 fn are_ready<L: Ledger>(store: &mut Store<L>, claimed: &mut Vec<Task>, gates: &[u32]) -> bool {
     for _ in 0..gates.len() {
@@ -151,7 +151,7 @@ fn gates_go_in_order(rt: HostRuntime) {
     }
 }
 
-/// Whether so many gates are finished, all with this tally.
+/// Whether this many gates are finished, all with this tally.
 fn are_counted<L: Ledger>(store: &Store<L>, tally: &Tally<L>, gates: u32) -> bool {
     store.finished() == gates && tally.count() == u64::from(gates)
 }

@@ -5,14 +5,14 @@ use gc_layers::{Way, way_of};
 use gc_worked::circuits::{FULL_ADDER, and_chains, many_ands};
 use std::test::Fail;
 
-/// By layers where they are wide, together where the shares are free, and else alone.
+/// Several threads go by layers where they are wide, together where the shares are free, and else alone.
 #[test]
 fn of_circuits(rt: HostRuntime) -> Result<(), Fail> {
     let wide = many_ands(rt.alloc(), 2000)?;
     let chains = and_chains(rt.alloc(), 40, 50)?;
     let chain = and_chains(rt.alloc(), 1, 3000)?;
     for (text, threads, way) in [
-        (wide.as_str(), 1, Way::Layers),
+        (wide.as_str(), 1, Way::Alone),
         (wide.as_str(), 4, Way::Layers),
         (chains.as_str(), 1, Way::Alone),
         (chains.as_str(), 4, Way::Together),

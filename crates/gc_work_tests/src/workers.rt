@@ -100,13 +100,13 @@ fn each_growth_of_few_workers_refused(rt: HostRuntime) -> Result<(), Fail> {
     let by_layers = many_ands(rt.alloc(), 2000)?;
     assert!(rt; are_refused(&rt, rt.alloc(), by_layers.as_str(), 2, 8) == Some(true));
     let by_one = many_ands(rt.alloc(), 16)?;
-    assert!(rt; are_refused(&rt, rt.alloc(), by_one.as_str(), 1, 8) == Some(true));
+    assert!(rt; are_refused(&rt, rt.alloc(), by_one.as_str(), 1, 1) == Some(true));
     Ok(())
 }
 
 #[test]
 fn each_growth_of_64_workers_refused(rt: HostRuntime) -> Result<(), Fail> {
-    let text = and_chains(rt.alloc(), 64, 4)?;
+    let text = and_chains(rt.alloc(), 64, 16)?;
     assert!(rt; are_refused(&rt, rt.alloc(), text.as_str(), 64, 128) == Some(true));
     Ok(())
 }

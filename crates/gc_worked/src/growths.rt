@@ -30,9 +30,9 @@ pub enum Stray {
     Endless,
 }
 
-/// Makes the call with growth 1, 2, 3, .. refused, until a run meets no refusal. Each run that meets one answers its Memory
-/// fault, and each other one, also over memory that refused a growth before, the plain answer. The answer is how many
-/// runs met a refusal.
+/// Makes the call with growth 1, 2, 3, .. refused, until a run meets no refusal. Each run that meets one answers its
+/// Memory fault, and each other one, also over memory that refused a growth before, the plain answer. The answer is how
+/// many runs met a refusal.
 pub fn runs_refused<F: Fn(&Refusing<Global>) -> Answer>(
     alloc: Global,
     call: F,

@@ -1,4 +1,4 @@
-//! A gatehouse that shows that several threads are really at work.
+//! A gatehouse that shows that several threads are at work.
 
 use gc_gatehouse::Gatehouse;
 use std::sync::atomic::{AtomicU64, Ordering};
@@ -14,7 +14,7 @@ pub struct Meeting {
 }
 
 impl Meeting {
-    /// Nobody has come.
+    /// No worker has come yet.
     pub fn new() -> Meeting {
         Meeting {
             calls: AtomicU64::new(0),
@@ -23,7 +23,7 @@ impl Meeting {
         }
     }
 
-    /// Whether a worker came beside the first one.
+    /// Whether a worker other than the first one came.
     pub fn has_met(&self) -> bool {
         self.met.load(Ordering::SeqCst) == 1
     }
