@@ -1,5 +1,6 @@
 #!/usr/bin/env bash
-# Times the program and its parts on circuits of about a million gates.
+# Times the program and its parts on circuits of about a million gates, and garbling and evaluating
+# on circuits of a thousand to sixteen million. `plot.py` draws charts of what it prints.
 #
 #   bench/run.sh [CIRCUIT]
 #
@@ -29,4 +30,5 @@ fi
 tune_memory
 "$top/bench/parts.py" "$bench" "$circuit" ${baseline:+"$baseline"}
 "$top/bench/workers.py" "$bench"
+"$top/bench/sizes.py" "$bench"
 "$top/bench/program.py" "$top/halfgates" "$bench" "$circuit"

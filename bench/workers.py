@@ -12,7 +12,7 @@ import tempfile
 from concurrent.futures import ThreadPoolExecutor
 from statistics import mean
 
-from measure import make, times
+from measure import PARTS, make, print_row, print_times, times
 
 # Circuits of about a million gates, and what makes them. A circuit has 256 input values at most, so
 # there are no more than 128 products.
@@ -27,7 +27,6 @@ CIRCUITS = {
     "independent, all XOR": "bench/make_circuit.py 1000000 0 FILE independent",
     "within a thousand, half AND": "bench/make_circuit.py 1000000 0.5 FILE",
 }
-PARTS = ["garble", "garble1", "garble2", "garble4", "job", "job1", "job2", "job4"]
 
 # How many times as fast as one part another is to be, at the least.
 TARGETS = [
@@ -56,13 +55,8 @@ def print_table(bench, file):
     for name, command in CIRCUITS.items():
         make(command, file)
         took[name] = times(bench, file, 5, *PARTS)
-        counts = [f"{took[name][count]:,}" for count in ("gates", "and")]
-        print_row(name, *counts, *[f"{took[name][part] / 1e6:.1f}" for part in PARTS])
+        print_times(name, took[name])
     return took
-
-
-def print_row(name, *cells):
-    print(f"{name:28}", *[f"{cell:>9}" for cell in cells], flush=True)
 
 
 def print_targets(took):
