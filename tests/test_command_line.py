@@ -1,10 +1,11 @@
 """The words of the command line: help, orders, and words that are no order."""
+import re
 import unittest
 
-from program import FULL_ADDER, SEED, XOR, ProgramTest
+from program import FULL_ADDER, SEED, TOP, XOR, ProgramTest
 
 RUN_HELP = """\
-Garbles a circuit, and evaluates it garbled on the given values
+Garbles a circuit and evaluates the garbled circuit on the given values
 
 Usage: halfgates run [OPTIONS] <CIRCUIT> <SEED> [VALUES]...
 
@@ -16,28 +17,28 @@ wire order, or x and two hexadecimal digits for each 8 wires, of which the first
 lowest bit
 
 Options:
-      --workers <WORKERS>  How many threads work, from 1 to 64; what they make is the same \
+      --workers <WORKERS>  How many threads may work, from 1 to 64; the result is the same \
 [default: 1]
   -h, --help               Print help
 
-Prints the output values, one a line: a character 0 or 1 for each wire, in wire order.
+Prints the output values, one per line: a character 0 or 1 for each wire, in wire order.
 
 Example, with a full adder in adder.txt that reads three bits:
   halfgates run adder.txt 0000000000000000000000000000000000000000000000000000000000000000 1 0 1
 """
 
 HELP = """\
-Garbles Boolean circuits, and evaluates them garbled
+Garbles Boolean circuits and evaluates garbled circuits
 
 Usage: halfgates <COMMAND>
 
 Commands:
-  run     Garbles a circuit, and evaluates it garbled on the given values
+  run     Garbles a circuit and evaluates the garbled circuit on the given values
   plain   Evaluates a circuit on the given values, without garbling
-  check   Tells a circuit's numbers and its digest
+  check   Prints the size and the digest of a circuit
   garble  Garbles a circuit into a file
   deal    Writes the labels of an input value into a file
-  eval    Evaluates a circuit garbled, from a garbled file and label files
+  eval    Evaluates a garbled circuit, from a garbled file and label files
   jobs    Evaluates a list of garbled files of one circuit
 
 Options:
@@ -77,6 +78,31 @@ NO_ORDERS = [
     ),
 ]
 
+
+def documented_commands():
+    """The words of each command in the table of docs/COMMANDS.md: the names of its arguments, in
+    order, and its options."""
+    rows = re.findall(r"^\| `(\w+) ([^`]*)` \|", (TOP / "docs/COMMANDS.md").read_text(), re.M)
+    return {name: (re.sub(r"\[.*?\] ?|\.\.", "", words).split(), re.findall(r"--\w+", words))
+            for name, words in rows}
+
+
+def help_terms(text):
+    """The arguments and options that a command's help explains, in order."""
+    return re.findall(r"^ +((?:<|\[|-)\S+(?: \S+)*)(?: {2,}|$)", text, re.M)
+
+
+def help_words(text):
+    """The words of a command by its help: the names of its arguments, and its options."""
+    usage = re.search(r"^Usage: halfgates \w+ (.*)$", text, re.M)[1].split()
+    arguments = [term for term in help_terms(text) if not term.startswith("-")]
+    options = [term.split()[0] for term in help_terms(text) if term.startswith("--")]
+    # The line of usage and the explanations name the same words.
+    assert [word for word in usage if word != "[OPTIONS]"] == arguments, text
+    assert ("[OPTIONS]" in usage) == bool(options), text
+    return [term.strip("<>[].") for term in arguments], options
+
+
 NO_NUMBERS = "", "x", "-1", "1.5", "4294967296"
 
 
@@ -94,6 +120,25 @@ class CommandLine(ProgramTest):
             (["-V"], "halfgates 0.1.0\n"),
         ]:
             self.assert_prints(text, *words)
+
+    def test_help_names_the_words_as_the_documents_do(self):
+        commands = documented_commands()
+        _, program_help, _ = self.run_program("--help")
+        self.assertEqual(sorted(commands), sorted(re.findall(r"^  (\w+) {2,}", program_help, re.M)))
+        for name, words in commands.items():
+            _, text, _ = self.run_program(name, "--help")
+            self.assertEqual(help_words(text), words, name)
+
+    def test_the_manual_names_the_words_as_help_does(self):
+        page = (TOP / "dist/halfgates.1").read_text()
+        sections = re.findall(r"^\.SS halfgates (\w+) (.*\n(?:(?!\.S[SH]).*\n)*)", page, re.M)
+        self.assertEqual({name for name, _ in sections}, set(documented_commands()))
+        for name, section in sections:
+            usage, *lines = section.replace("\\-", "-").splitlines()
+            terms = [line.removeprefix(".B ") for line in lines if line.startswith(".B ")]
+            _, text, _ = self.run_program(name, "--help")
+            self.assertIn(f"Usage: halfgates {name} {usage}\n", text)
+            self.assertEqual(terms, [term for term in help_terms(text) if "--help" not in term])
 
     def test_words_that_are_no_order(self):
         for words, errors in NO_ORDERS:

@@ -1,4 +1,6 @@
-"""The documents name no file and no crate that is missing, and the picture is of crates.txt."""
+"""The documents name no file, crate, test, edit or definition that is missing, and the picture is
+of crates.txt.
+"""
 import glob
 import re
 import subprocess
@@ -9,6 +11,10 @@ from program import TOP
 
 DOCUMENTS = [TOP / f"{name}.md" for name in ("README", "CONTRIBUTING", "SECURITY", "CHANGELOG")]
 DOCUMENTS += [*sorted(TOP.glob("docs/*.md")), TOP / "vectors/README.md"]
+
+# A short page for each crate.
+PAGES = sorted(TOP.glob("crates/*/README.md"))
+DOCUMENTS += PAGES
 
 CRATES = set(re.findall(r"^(\w+)[^:\n]*:", (TOP / "crates.txt").read_text(), re.M))
 
@@ -96,6 +102,29 @@ def is_test(name):
     return any(f"fn {test}" in text for text in texts)
 
 
+def edits_of(document):
+    """The names in italics, which are those of wrong bodies."""
+    return set(re.findall(r"(?<!\*)\*(\w+)\*(?!\*)", document.read_text()))
+
+
+# What stands in the place of a clause's name: other parts of a contract, and traits.
+NO_CLAUSES = {"ensures", "type", "signature", "output", "Wait", "Allocator"}
+
+
+def promises():
+    """The rows of the tables of promises, each with the number of its line."""
+    for number, line in numbered_lines(TOP / "docs/PROMISES.md"):
+        cells = line.split("|")[1:-1]
+        if len(cells) == 5:
+            yield number, cells
+
+
+def unknown_names(text, known):
+    """The names in backticks that are not known."""
+    names = re.findall(r"`([A-Za-z_]\w*(?:::\w+)?)`", text)
+    return [it for it in names if it.rpartition("::")[2] not in known]
+
+
 def place(document, number):
     return f"{document.relative_to(TOP)}:{number}"
 
@@ -106,6 +135,9 @@ class Documents(unittest.TestCase):
         printed = subprocess.run(script, capture_output=True, text=True, check=True).stdout
         is_same = (TOP / "docs/crates.svg").read_text() == printed
         self.assertTrue(is_same, "scripts/picture.py >docs/crates.svg draws the picture anew")
+
+    def test_readme_is_short(self):
+        self.assertLessEqual(len((TOP / "README.md").read_text().split()), 1200)
 
     def test_links(self):
         missing = []
@@ -132,6 +164,45 @@ class Documents(unittest.TestCase):
             for name in re.findall(r"`((?:tests|cli|bank)::[\w:]+|\w+::\w+)`", line):
                 if not name.endswith("::name") and is_test(name) is False:
                     missing.append(f"{number} {name}")
+        self.assertEqual(missing, [])
+
+    def test_edits(self):
+        """Each wrong body of the crates is named in the promises, and no other. So is each of a
+        crate on its page.
+        """
+        edits = {it.stem for it in TOP.glob("crates/*/must-fail/*.edit")}
+        self.assertEqual(edits_of(TOP / "docs/PROMISES.md"), edits)
+        for page in PAGES:
+            named = edits_of(page)
+            self.assertLessEqual(named, edits, page)
+            missing = {it.stem for it in page.parent.glob("must-fail/*.edit")} - named
+            self.assertEqual(missing, set(), page)
+
+    def test_each_crate_has_a_page(self):
+        self.assertEqual({it.parent.name for it in PAGES}, CRATES)
+        for page in PAGES:
+            self.assertLessEqual(len(page.read_text().splitlines()), 30, page)
+
+    def test_definitions(self):
+        """What definitions, promises and the crates' pages name stands in specs or in sources."""
+        files = [*TOP.glob("crates/*/specs/**/*.antt"), *TOP.glob("crates/*/src/*.rt")]
+        known = CRATES.union(*[re.findall(r"\w+", it.read_text()) for it in files])
+        missing = []
+        for document in (TOP / "docs/DEFINITIONS.md", *PAGES):
+            for number, line in numbered_lines(document):
+                missing += [f"{place(document, number)} {it}" for it in unknown_names(line, known)]
+        for number, (call, _, _, definition, _) in promises():
+            for cell in (call, definition):
+                missing += [f"PROMISES.md:{number} {it}" for it in unknown_names(cell, known)]
+        self.assertEqual(missing, [])
+
+    def test_clauses(self):
+        """Each clause that a promise names stands in a contract."""
+        sources = "".join(it.read_text() for it in TOP.glob("crates/*/src/*.rt"))
+        known = NO_CLAUSES.union(re.findall(r"\b(?:ensures|fn) (\w+)", sources))
+        missing = []
+        for number, (_, _, clause, _, _) in promises():
+            missing += [f"PROMISES.md:{number} {it}" for it in unknown_names(clause, known)]
         self.assertEqual(missing, [])
 
     def test_faults(self):

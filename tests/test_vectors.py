@@ -4,6 +4,7 @@ What is random here is drawn from the environment variable DRAWS, and is the sam
 
     HALFGATES=dist/halfgates python3 tests/test_vectors.py
 """
+import itertools
 import json
 import os
 import unittest
@@ -17,6 +18,7 @@ import reference
 
 VECTORS = TOP / "vectors"
 DRAWS = os.environ.get("DRAWS", "0")
+WORKERS = 1, 2, 64
 
 
 def load(name):
@@ -139,9 +141,10 @@ class WorkedCircuits(VectorTest):
 
     def hold_garble(self, vector):
         circuit, seed = self.put_circuit(vector), vector["seed"]
-        for version in "12":
+        for version, workers in itertools.product("12", WORKERS):
             data = bytes.fromhex("".join(vector[f"garbled_file_{version}"]))
-            self.assert_writes(data, "out", "garble", circuit, seed, "out", "--format", version)
+            options = "--format", version, "--workers", workers
+            self.assert_writes(data, "out", "garble", circuit, seed, "out", *options)
 
     def hold_deal(self, vector):
         circuit, seed = self.put_circuit(vector), vector["seed"]
