@@ -1,6 +1,7 @@
 -- The fault that reading a circuit meets is its first fault.
-use Rattle.std.proofs.Common.{◌≡◌, ℕ, zero, suc, ◌+◌, ◌-◌, ◌<◌, ◌≤◌, ◌&&◌, ◌++◌, List, [], ◌∷◌, length, length-append, sum, append_assoc, append-nil, Bool, true, false, Ok, Err, refl, sym, ap, subst, ◌∙◌, arith}
+use Rattle.std.proofs.Common.{◌≡◌, ℕ, zero, suc, ◌+◌, ◌-◌, ◌<◌, ◌≤◌, ◌&&◌, ◌++◌, inl, inr, List, [], ◌∷◌, length, length-append, sum, append_assoc, append-nil, Bool, true, false, Some, None, Ok, Err, refl, sym, ap, subst, ◌∙◌, arith}
 use Rattle.std.specs.List.{flat_map, list_all, range_with_len}
+use Rattle.std.proofs.lemmas.Bool.{cases_eq}
 use Rattle.gc_netlist.specs.declared.fault.ReadFault.{ReadFault}
 use Rattle.gc_netlist.specs.declared.fault.ReadFault.TheVariants.{OutputUnset, TrailingTokens}
 use Rattle.gc_netlist.specs.declared.limits.TheConstants.{MAX_GATES, MAX_WIRES, MAX_VALUES}
@@ -9,14 +10,15 @@ use Rattle.gc_netlist.specs.Circuit.{Netlist, netlist_of, input_wires, output_wi
 use Rattle.gc_netlist.specs.Spelling.{Word, Number, SpellWords, words_of_gate, words_of_widths, words_of_circuit}
 use Rattle.gc_netlist.specs.Reading.{limited_at, widths_at, gate_at, is_set, check_gate, gates_at, check_outputs, check_end, circuit_of}
 use Rattle.gc_netlist.specs.FirstFault.{without_outputs, IsBegun, words_so_far, input_side, output_side, next_gate, number_of_gates, number_of_wires, FirstFault, output_unset, trailing}
-use Rattle.gc_netlist.proofs.StepLemmas.{bind_fails, chosen, accepted}
+use Rattle.gc_netlist.specs.Met.{limited_left, widths_left, gate_left, wire_at_fault, IsMet}
+use Rattle.gc_netlist.proofs.StepLemmas.{bind_fails, chosen, fault_is, accepted}
 use Rattle.gc_netlist.proofs.SolutionLemmas.{EachRead-map}
-use Rattle.gc_netlist.proofs.SpellingLemmas.{Spell-append, Spell-number, limited_takes, widths_takes, gate_takes, gates_takes, parts_spelled}
-use Rattle.gc_netlist.proofs.LawfulLemmas.{AreChecked, none_checked, checked_push, gates_checked, checked_reads, checked_sets, checked_once, outputs_are_set, before_set}
-use Rattle.gc_netlist.proofs.ReadingBack.{set_without, set_with, is_set-whole, lawful_checked, after_gates}
-use Rattle.gc_netlist.proofs.FaultLemmas.{fault, limited_fault, widths_fault}
+use Rattle.gc_netlist.proofs.SpellingLemmas.{Spell-append, Spell-number, limited_takes, TakesWidths, widths_takes, gate_takes, gates_takes}
+use Rattle.gc_netlist.proofs.LawfulLemmas.{AreChecked, none_checked, checked_push, gates_checked, checked_reads, checked_sets, checked_once, outputs_are_set}
+use Rattle.gc_netlist.proofs.ReadingBack.{set_without, set_with, lawful_checked, after_gates}
+use Rattle.gc_netlist.proofs.FaultLemmas.{Spell-length, Met, fault, limited_fault, widths_fault}
 use Rattle.gc_netlist.proofs.GateFaults.{gate_fault}
-use Rattle.gc_netlist.proofs.CheckFaults.{check_fault}
+use Rattle.gc_netlist.proofs.CheckFaults.{tested_set, tested_unset, check_fault}
 
 -- A header in order, with gates that pass their checks, begins a circuit.
 checked_begun : (n : ℕ) (c : Netlist) → n ≤ MAX_GATES → length c.gates ≤ n → c.wires ≤ MAX_WIRES →
@@ -76,30 +78,57 @@ module _ (ts : List (List ℕ)) where
   gates_fault n (suc k) c us e b len s h =
       let below : length c.gates < n = omega arith in
       bind_fails (gate_at us) _ e h
-      (λ bad. gate_fault ts c (words_so_far n c) (next_gate n b below) us s e bad)
+      (λ bad. (gate_fault ts c (words_so_far n c) (next_gate n b below) us s e bad).first)
       (λ g hg h1.
       let spelled : SpellWords ts (words_so_far n c ++ words_of_gate g.0) g.1 =
       Spell-append ts us g.1 (words_so_far n c) (words_of_gate g.0) s (gate_takes us g hg) in
       bind_fails (check_gate c.wires (is_set (input_wires c) c.gates) g.0) _ e h1
-      (λ bad. check_fault ts c (words_so_far n c) g.0 g.1 e b.lawful (next_gate n b below) spelled bad)
+      (λ bad. (check_fault ts c (words_so_far n c) g.0 g.1 b.lawful (next_gate n b below) spelled
+      e bad).first)
       (λ u hu h2.
       let P : List Word → Type 0 = λ ws. SpellWords ts ws g.1 in
       let more : length (c.gates ++ g.0 ∷ []) + k ≡ n = omega (arith, length-append c.gates (g.0 ∷ [])) in
       gates_fault n k (with_gate c g.0) g.1 e (begun_push n c g.0 u b below hu) more
       (subst P (sym (words-push n c g.0)) spelled) h2))
 
+  -- the first number of a range that fails a test
   not_in_range : (p : ℕ → Bool) (a n : ℕ) → list_all p (range_with_len a n) ≡ false →
-      (w : ℕ) × (a ≤ w) × (w < a + n) × (p w ≡ false)
+      (w : ℕ) × (a ≤ w) × (w < a + n) × (p w ≡ false) × ((v : ℕ) → a ≤ v → v < w → p v ≡ true)
   not_in_range p a zero h = absurd (let z : ⊥ = cc in z)
   not_in_range p a (suc n) h = go (p a) refl h (not_in_range p (a + 1) n)
     where
       Found : ℕ → ℕ → Type 0
       Found from m = (w : ℕ) × (from ≤ w) × (w < from + m) × (p w ≡ false)
+          × ((v : ℕ) → from ≤ v → v < w → p v ≡ true)
 
       go : (b : Bool) → p a ≡ b → (b && list_all p (range_with_len (a + 1) n)) ≡ false →
           (list_all p (range_with_len (a + 1) n) ≡ false → Found (a + 1) n) → Found a (suc n)
-      go false here t rest = (a, omega arith, omega arith, here)
-      go true here t rest = let (w, from, below, no_w) = rest t in (w, omega arith, omega arith, no_w)
+      go false here t rest = (a, omega arith, omega arith, here, λ v low high. absurd (omega arith))
+      go true here t rest =
+          let (w, from, below, no_w, lower) = rest t in (
+            w,
+            omega arith,
+            omega arith,
+            no_w,
+            λ v low high. elim (cases_eq v a) [
+              | inl e ↦ ap p e ∙ here
+              | inr ne ↦ lower v (omega arith) high
+            ],
+          )
+
+  -- Of a circuit whose gates are in order the first of the output wires that isn't set is this.
+  pub outputs_met : (c : Netlist) (us : List (List ℕ)) (w : ℕ) → IsBegun (length c.gates) c →
+      SpellWords ts (words_of_circuit c) us → c.wires ≤ w + output_wires c → w < c.wires →
+      is_set (input_wires c) c.gates w ≡ false →
+      ((v : ℕ) → c.wires ≤ v + output_wires c → v < w → is_set (input_wires c) c.gates v ≡ true) →
+      IsMet ts OutputUnset us 0 None (Some w)
+  outputs_met c us w b s last wire free lower = record {
+    first = output_unset c w us b s last wire (tested_unset c b.lawful w free);
+    lowest = λ v high below. tested_set c b.lawful v (lower v high below);
+    in_gate = refl;
+    at_wire = refl;
+    spot = sym (Spell-length ts us (words_of_circuit c) s);
+  }
 
   outputs_fault : (c : Netlist) (us : List (List ℕ)) (e : ReadFault) → IsBegun (length c.gates) c →
       SpellWords ts (words_of_circuit c) us → check_outputs c ≡ Err e → FirstFault ts e
@@ -111,13 +140,11 @@ module _ (ts : List (List ℕ)) where
       (Err OutputUnset) (Err e) h
       (λ all d. accepted tt e d)
       (λ some d.
-      let (w, from, below, differ) = not_in_range test (c.wires - output_wires c) (output_wires c) some in
+      let (w, from, below, free, lower) = not_in_range test (c.wires - output_wires c) (output_wires c) some in
       let last : c.wires ≤ w + output_wires c = omega arith in
       let wire : w < c.wires = omega arith in
-      fault ts OutputUnset e d
-      (output_unset c w us b s last wire
-      (λ set. (let is = sym (is_set-whole c w) ∙ before_set c (length c.gates) w set in
-      let z : ⊥ = cc in z))))
+      subst (FirstFault ts) (fault_is OutputUnset e d)
+      (outputs_met c us w b s last wire free (λ v high low. lower v (omega arith) low)).first)
 
   -- a whole circuit whose outputs are set
   begun_lawful : (c : Netlist) (u : Unit {0}) → IsBegun (length c.gates) c →
@@ -137,9 +164,15 @@ module _ (ts : List (List ℕ)) where
   }
 
   end_fault : (c : Netlist) (us : List (List ℕ)) (e : ReadFault) → IsLawful c →
-      SpellWords ts (words_of_circuit c) us → check_end us ≡ Err e → FirstFault ts e
+      SpellWords ts (words_of_circuit c) us → check_end us ≡ Err e → Met ts us None e
   end_fault c [] e lawful s h = accepted tt e h
-  end_fault c (t ∷ us) e lawful s h = fault ts TrailingTokens e h (trailing c t us lawful s)
+  end_fault c (t ∷ us) e lawful s h = fault ts (t ∷ us) None TrailingTokens e h (record {
+    first = trailing c t us lawful s;
+    lowest = tt;
+    in_gate = refl;
+    at_wire = refl;
+    spot = omega (arith, Spell-length ts (t ∷ us) (words_of_circuit c) s);
+  })
 
   after_gates_fault : (c : Netlist) (us : List (List ℕ)) (e : ReadFault) →
       IsBegun (length c.gates) c → SpellWords ts (words_of_circuit c) us →
@@ -149,58 +182,161 @@ module _ (ts : List (List ℕ)) where
       (λ bad. outputs_fault c us e b s bad)
       (λ u hu h1.
       bind_fails (check_end us) _ e h1
-      (λ bad. end_fault c us e (begun_lawful c u b hu) s bad)
+      (λ bad. (end_fault c us e (begun_lawful c u b hu) s bad).first)
       (λ v hv h2. accepted c e h2))
+
+  -- Reading a header, step by step: each step's fault is the first.
+  pub count_met : (e : ReadFault) → limited_at MAX_GATES ts ≡ Err e → Met ts (limited_left ts) None e
+  count_met e bad = limited_fault ts [] MAX_GATES ts e number_of_gates refl bad
+
+  module _ (count : ℕ × List (List ℕ)) (h_count : limited_at MAX_GATES ts ≡ Ok count) where
+    abbrev few : count.0 ≤ MAX_GATES
+    few = (limited_takes MAX_GATES ts count h_count).1
+
+    s1 : SpellWords ts (Number count.0 ∷ []) count.1
+    s1 = Spell-number ts count.1 [] count (limited_takes MAX_GATES ts count h_count).0 refl
+
+    pub wires_met : (e : ReadFault) → limited_at MAX_WIRES count.1 ≡ Err e →
+        Met ts (limited_left count.1) None e
+    wires_met e bad = limited_fault ts (Number count.0 ∷ []) MAX_WIRES count.1 e
+        (number_of_wires count.0 few) s1 bad
+
+    module _ (wires : ℕ × List (List ℕ)) (h_wires : limited_at MAX_WIRES count.1 ≡ Ok wires) where
+      abbrev small : wires.0 ≤ MAX_WIRES
+      small = (limited_takes MAX_WIRES count.1 wires h_wires).1
+
+      abbrev sizes : List Word
+      sizes = Number count.0 ∷ Number wires.0 ∷ []
+
+      s2 : SpellWords ts sizes wires.1
+      s2 = Spell-append ts count.1 wires.1 (Number count.0 ∷ []) (Number wires.0 ∷ []) s1
+          (Spell-number count.1 wires.1 [] wires (limited_takes MAX_WIRES count.1 wires h_wires).0 refl)
+
+      pub inputs_met : (e : ReadFault) → widths_at wires.0 wires.1 ≡ Err e →
+          Met ts (widths_left wires.1) None e
+      inputs_met e bad =
+          widths_fault ts wires.0 sizes (input_side count.0 few small) wires.1 e s2 bad
+
+      module _ (inputs : List ℕ × List (List ℕ)) (h_inputs : widths_at wires.0 wires.1 ≡ Ok inputs) where
+        i : TakesWidths wires.0 wires.1 inputs
+        i = widths_takes wires.0 wires.1 inputs h_inputs
+
+        pub outputs_due_met : (e : ReadFault) → widths_at wires.0 inputs.1 ≡ Err e →
+            Met ts (widths_left inputs.1) None e
+        outputs_due_met e bad =
+            widths_fault ts wires.0 (Number count.0 ∷ Number wires.0 ∷ words_of_widths inputs.0)
+            (output_side count.0 inputs.0 few small i.few i.fit) inputs.1 e
+            (Spell-append ts wires.1 inputs.1 sizes (words_of_widths inputs.0) s2 i.spelled) bad
+
+        module _ (outputs : List ℕ × List (List ℕ))
+            (h_outputs : widths_at wires.0 inputs.1 ≡ Ok outputs) where
+          o : TakesWidths wires.0 inputs.1 outputs
+          o = widths_takes wires.0 inputs.1 outputs h_outputs
+
+          -- the circuit with these gates
+          abbrev with_gates : List Gate → Netlist
+          with_gates gates = netlist_of wires.0 inputs.0 outputs.0 gates
+
+          -- Gates that are read so far begin a circuit, and their words are spelled.
+          gates_begun : (n : ℕ) (gates : List Gate × List (List ℕ)) →
+              gates_at wires.0 (sum inputs.0) n [] outputs.1 ≡ Ok gates → n ≤ count.0 →
+              IsBegun count.0 (with_gates gates.0) × (length gates.0 ≡ n)
+          gates_begun n gates h within =
+              let g = gates_takes wires.0 (sum inputs.0) n [] outputs.1 gates h in
+              let len : length gates.0 ≡ n = ap length g.all ∙ g.count in
+              let so_far : length gates.0 ≤ count.0 = omega arith in (
+                checked_begun count.0 (with_gates gates.0) few so_far small i.few i.fit o.few o.fit
+                    (gates_checked wires.0 (sum inputs.0) n [] outputs.1 gates
+                    (none_checked wires.0 (sum inputs.0)) h),
+                len,
+              )
+
+          gates_spelled : (n : ℕ) (gates : List Gate × List (List ℕ)) →
+              gates_at wires.0 (sum inputs.0) n [] outputs.1 ≡ Ok gates →
+              SpellWords ts (words_so_far count.0 (with_gates gates.0)) gates.1
+          gates_spelled n gates h =
+              let g = gates_takes wires.0 (sum inputs.0) n [] outputs.1 gates h in
+              let sides : List Word = words_of_widths inputs.0 ++ words_of_widths outputs.0 in
+              let P : List Gate → Type 0 = λ gs. SpellWords outputs.1 (flat_map words_of_gate gs) gates.1 in
+              let last : P gates.0 = subst P (sym g.all) g.spelled in
+              Spell-append ts wires.1 gates.1 sizes (sides ++ flat_map words_of_gate gates.0) s2
+              (Spell-append wires.1 outputs.1 gates.1 sides (flat_map words_of_gate gates.0)
+              (Spell-append wires.1 inputs.1 outputs.1 (words_of_widths inputs.0)
+              (words_of_widths outputs.0) i.spelled o.spelled) last)
+
+          -- The fault of the next gate, which isn't read,
+          pub gate_met : (gates : List Gate × List (List ℕ)) (e : ReadFault) →
+              gates_at wires.0 (sum inputs.0) (length gates.0) [] outputs.1 ≡ Ok gates →
+              length gates.0 < count.0 → gate_at gates.1 ≡ Err e →
+              Met ts (gate_left gates.1) (Some (length gates.0)) e
+          gate_met gates e h below bad =
+              let b = gates_begun (length gates.0) gates h (omega arith) in
+              gate_fault ts (with_gates gates.0) (words_so_far count.0 (with_gates gates.0))
+              (next_gate count.0 b.0 below) gates.1 (gates_spelled (length gates.0) gates h) e bad
+
+          -- or is refused.
+          pub wire_met : (gates : List Gate × List (List ℕ)) (g : Gate × List (List ℕ)) (e : ReadFault) →
+              gates_at wires.0 (sum inputs.0) (length gates.0) [] outputs.1 ≡ Ok gates →
+              length gates.0 < count.0 → gate_at gates.1 ≡ Ok g →
+              check_gate wires.0 (is_set (sum inputs.0) gates.0) g.0 ≡ Err e →
+              (let at = wire_at_fault wires.0 (is_set (sum inputs.0) gates.0) g.0.set g.0.operation in
+              IsMet ts e g.1 at.1 (Some (length gates.0)) (Some at.0))
+          wire_met gates g e h below hg bad =
+              let c : Netlist = with_gates gates.0 in
+              let words : List Word = words_so_far count.0 c in
+              let b = gates_begun (length gates.0) gates h (omega arith) in
+              check_fault ts c words g.0 g.1 b.0.lawful (next_gate count.0 b.0 below)
+              (Spell-append ts gates.1 g.1 words (words_of_gate g.0)
+              (gates_spelled (length gates.0) gates h) (gate_takes gates.1 g hg)) e bad
+
+          module _ (gates : List Gate × List (List ℕ))
+              (h_gates : gates_at wires.0 (sum inputs.0) count.0 [] outputs.1 ≡ Ok gates) where
+            abbrev made : Netlist
+            made = with_gates gates.0
+
+            whole : IsBegun (length gates.0) made × SpellWords ts (words_of_circuit made) gates.1
+            whole =
+                let b = gates_begun count.0 gates h_gates (omega arith) in
+                let P : ℕ → Type 0 = λ n. IsBegun n made in
+                let Q : ℕ → Type 0 = λ n. SpellWords ts (words_so_far n made) gates.1 in
+                (subst P (sym b.1) b.0, subst Q (sym b.1) (gates_spelled count.0 gates h_gates))
+
+            -- The fault of the first output wire that isn't set,
+            pub unset_met : (w : ℕ) → wires.0 ≤ w + sum outputs.0 → w < wires.0 →
+                is_set (sum inputs.0) gates.0 w ≡ false →
+                ((v : ℕ) → wires.0 ≤ v + sum outputs.0 → v < w → is_set (sum inputs.0) gates.0 v ≡ true) →
+                IsMet ts OutputUnset gates.1 0 None (Some w)
+            unset_met w = outputs_met made gates.1 w whole.0 whole.1
+
+            -- or of a token after the last gate.
+            pub end_met : (u : Unit {0}) (e : ReadFault) → check_outputs made ≡ Ok u →
+                check_end gates.1 ≡ Err e → Met ts gates.1 None e
+            end_met u e set bad = end_fault made gates.1 e (begun_lawful made u whole.0 set) whole.1 bad
+
+          gates_first : (e : ReadFault) → gates_at wires.0 (sum inputs.0) count.0 [] outputs.1 ≡ Err e →
+              FirstFault ts e
+          unfolding gates_at
+          gates_first e bad =
+              let none : List Gate × List (List ℕ) = ([], outputs.1) in
+              let b = gates_begun 0 none refl (omega arith) in
+              gates_fault count.0 count.0 (with_gates []) outputs.1 e b.0 (omega arith)
+              (gates_spelled 0 none refl) bad
 
   -- The fault that reading a circuit meets is its first fault.
   pub circuit_of-fault : (e : ReadFault) → circuit_of ts ≡ Err e → FirstFault ts e
   unfolding circuit_of
   circuit_of-fault e h =
       bind_fails (limited_at MAX_GATES ts) _ e h
-      (λ bad. limited_fault ts [] MAX_GATES ts e number_of_gates refl bad)
-      (λ count h_count h1.
-      let l1 = limited_takes MAX_GATES ts count h_count in
-      let s1 : SpellWords ts (Number count.0 ∷ []) count.1 = Spell-number ts count.1 [] count l1.0 refl in
-      bind_fails (limited_at MAX_WIRES count.1) _ e h1
-      (λ bad. limited_fault ts (Number count.0 ∷ []) MAX_WIRES count.1 e
-      (number_of_wires count.0 l1.1) s1 bad)
-      (λ wires h_wires h2.
-      let l2 = limited_takes MAX_WIRES count.1 wires h_wires in
-      let sizes : List Word = Number count.0 ∷ Number wires.0 ∷ [] in
-      let s2 : SpellWords ts sizes wires.1 =
-      Spell-append ts count.1 wires.1 (Number count.0 ∷ []) (Number wires.0 ∷ []) s1
-      (Spell-number count.1 wires.1 [] wires l2.0 refl) in
-      bind_fails (widths_at wires.0 wires.1) _ e h2
-      (λ bad. widths_fault ts wires.0 sizes (input_side count.0 l1.1 l2.1) wires.1 e s2 bad)
-      (λ inputs h_inputs h3.
-      let i = widths_takes wires.0 wires.1 inputs h_inputs in
-      let s3 = Spell-append ts wires.1 inputs.1 sizes (words_of_widths inputs.0) s2 i.spelled in
-      bind_fails (widths_at wires.0 inputs.1) _ e h3
-      (λ bad. widths_fault ts wires.0 (Number count.0 ∷ Number wires.0 ∷ words_of_widths inputs.0)
-      (output_side count.0 inputs.0 l1.1 l2.1 i.few i.fit) inputs.1 e s3 bad)
+      (λ bad. (count_met e bad).first)
+      (λ count h_count h1. bind_fails (limited_at MAX_WIRES count.1) _ e h1
+      (λ bad. (wires_met count h_count e bad).first)
+      (λ wires h_wires h2. bind_fails (widths_at wires.0 wires.1) _ e h2
+      (λ bad. (inputs_met count h_count wires h_wires e bad).first)
+      (λ inputs h_inputs h3. bind_fails (widths_at wires.0 inputs.1) _ e h3
+      (λ bad. (outputs_due_met count h_count wires h_wires inputs h_inputs e bad).first)
       (λ outputs h_outputs h4.
-      let o = widths_takes wires.0 inputs.1 outputs h_outputs in
-      let sides : List Word = words_of_widths inputs.0 ++ words_of_widths outputs.0 in
-      let s4 = Spell-append wires.1 inputs.1 outputs.1 (words_of_widths inputs.0)
-      (words_of_widths outputs.0) i.spelled o.spelled in
-      let start : Netlist = netlist_of wires.0 inputs.0 outputs.0 [] in
-      let begun : IsBegun count.0 start =
-      checked_begun count.0 start l1.1 (omega arith) l2.1 i.few i.fit o.few o.fit
-      (none_checked wires.0 (sum inputs.0)) in
-      let s5 : SpellWords ts (words_so_far count.0 start) outputs.1 =
-      Spell-append ts wires.1 outputs.1 sizes (sides ++ []) s2
-      (Spell-append wires.1 outputs.1 outputs.1 sides [] s4 refl) in
       bind_fails (gates_at wires.0 (sum inputs.0) count.0 [] outputs.1) _ e h4
-      (λ bad. gates_fault count.0 count.0 start outputs.1 e begun (omega arith) s5 bad)
+      (λ bad. gates_first count h_count wires h_wires inputs h_inputs outputs h_outputs e bad)
       (λ gates h_gates h5.
-      let g = gates_takes wires.0 (sum inputs.0) count.0 [] outputs.1 gates h_gates in
-      let made : Netlist = netlist_of wires.0 inputs.0 outputs.0 gates.0 in
-      let len : length gates.0 ≡ count.0 = ap length g.all ∙ g.count in
-      let few : length gates.0 ≤ MAX_GATES =
-      (let P : ℕ → Type 0 = λ n. n ≤ MAX_GATES in subst P (sym len) l1.1) in
-      let whole : IsBegun (length gates.0) made =
-      checked_begun (length gates.0) made few (omega arith) l2.1 i.few i.fit o.few o.fit
-      (gates_checked wires.0 (sum inputs.0) count.0 [] outputs.1 gates
-      (none_checked wires.0 (sum inputs.0)) h_gates) in
-      after_gates_fault made gates.1 e whole
-      (parts_spelled ts count wires inputs outputs gates l1.0 l2.0 i o g) h5)))))
+      let w = whole count h_count wires h_wires inputs h_inputs outputs h_outputs gates h_gates in
+      after_gates_fault (netlist_of wires.0 inputs.0 outputs.0 gates.0) gates.1 e w.0 w.1 h5)))))

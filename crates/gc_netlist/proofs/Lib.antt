@@ -8,6 +8,7 @@ pub mod FaultLemmas
 pub mod GateFaults
 pub mod CheckFaults
 pub mod CircuitFaults
+pub mod PlaceLemmas
 pub mod GateFaultsBack
 pub mod CircuitFaultsBack
 pub mod ReadingLaws

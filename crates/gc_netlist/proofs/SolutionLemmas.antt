@@ -69,6 +69,21 @@ module _ {A : Type 0} (rule : (ℕ → A) → ℕ → Gate → A) (local : IsLoc
             (IsSetBefore-more c m n w h set) ∙ after-keeps m n w h set
       ]
 
+  put_gate-passes : (n w : ℕ) (v : ℕ → A) (o : Option Gate) → slice_get c.gates n ≡ o
+      → (IsSetBefore c (suc n) w → ⊥) → put_gate rule v n o w ≡ v w
+  put_gate-passes n w v None at unset = refl
+  put_gate-passes n w v (Some g) at unset =
+      put_other v g.set (rule v n g) w
+      (λ same. unset (inr (n, omega arith, record { gate = g; at = at; wire = sym same })))
+
+  -- a wire that is not set keeps what is given
+  pub after-unset : (n w : ℕ) → (IsSetBefore c n w → ⊥) → values_after rule c given n w ≡ given w
+  unfolding values_after
+  after-unset zero w unset = refl
+  after-unset (suc n) w unset =
+      put_gate-passes n w (values_after rule c given n) (slice_get c.gates n) refl unset
+      ∙ after-unset n w (λ set. unset (IsSetBefore-more c n (suc n) w (omega arith) set))
+
   after_at : (i : ℕ) (g : Gate) → slice_get c.gates i ≡ Some g
       → values_after rule c given (suc i) g.set ≡ rule (values_after rule c given i) i g
   unfolding values_after

@@ -5,4 +5,6 @@ pub mod Text
 pub mod Spelling
 pub mod Reading
 pub mod FirstFault
+pub mod Place
+pub mod Met
 pub mod Canon

@@ -1,0 +1,131 @@
+-- Which kind of place a fault has.
+use Rattle.std.proofs.Common.{◌≡◌, ◌≢◌, ℕ, ◌+◌, ◌-◌, ◌<◌, ◌≤◌, ◌++◌, inl, inr, List, [], ◌∷◌, length, length-append, codes, refl, subst, arith}
+use Rattle.std.proofs.lemmas.List.{length-map}
+use Rattle.gc_netlist.specs.declared.fault.ReadFault.{ReadFault}
+use Rattle.gc_netlist.specs.declared.fault.ReadFault.TheVariants.{Truncated, OutputUnset}
+use Rattle.gc_netlist.specs.declared.gate.Operation.{Operation}
+use Rattle.gc_netlist.specs.declared.gate.Operation.TheVariants.{Xor, And, Inv, Eq, Eqw}
+use Rattle.gc_netlist.specs.declared.gate.Gate.{Gate}
+use Rattle.gc_netlist.specs.Circuit.{Netlist}
+use Rattle.gc_netlist.specs.Spelling.{Word, Number, Name, SpellWords, words_of_operation, words_of_gate, words_of_widths, words_of_circuit}
+use Rattle.gc_netlist.specs.FirstFault.{wires_read, IsFirstUnset, FirstFault, no_number, no_name, bad_number, too_large, widths_exceed, bad_counts, unknown, other_counts, bad_constant, no_wire_to_read, unset, no_wire_to_set, set_twice, output_unset, trailing}
+use Rattle.gc_netlist.specs.Place.{Spot, Token, Behind, End, before_unset, place_of}
+use Rattle.gc_netlist.proofs.FaultLemmas.{Spell-length}
+use Rattle.gc_netlist.proofs.CheckFaults.{has_two_words}
+
+-- The end of the text, the end of a token, or a token of the text.
+abbrev IsKind : ReadFault → Spot → ℕ → Type 0
+IsKind Truncated spot all = spot ≡ End
+IsKind OutputUnset spot all = (k : ℕ) × (spot ≡ Behind k) × (0 < k)
+IsKind _ spot all = (k : ℕ) × (spot ≡ Token k) × (k < all)
+
+-- words at the beginning of the tokens, and those after them
+spelled : (ts rest : List (List ℕ)) (words more : List Word) → SpellWords ts (words ++ more) rest →
+    length ts ≡ length words + length more + length rest
+spelled ts rest words more s =
+    omega (arith, Spell-length ts rest (words ++ more) s, length-append words more)
+
+few_before : (c : Netlist) (wires : List ℕ) (w : ℕ) (first : IsFirstUnset c wires w) →
+    before_unset c wires w first < length wires
+few_before c [] w h = absurd h
+few_before c (a ∷ more) w (inl here) = omega arith
+few_before c (a ∷ more) w (inr later) =
+    let h = few_before c more w later.1 in omega (arith, h)
+
+has_reads : (sets : ℕ) (op : Operation) →
+    length (wires_read op) + 4 ≤ length (words_of_operation sets op)
+has_reads sets (Xor a b) = omega arith
+has_reads sets (And a b) = omega arith
+has_reads sets (Inv a) = omega arith
+has_reads sets (Eq v) = omega arith
+has_reads sets (Eqw a) = omega arith
+
+read_token : (ts rest : List (List ℕ)) (c : Netlist) (words : List Word) (g : Gate) (w : ℕ)
+    (first : IsFirstUnset c (wires_read g.operation) w) →
+    SpellWords ts (words ++ words_of_gate g) rest →
+    length words + 2 + before_unset c (wires_read g.operation) w first < length ts
+read_token ts rest c words g w first s =
+    let few = few_before c (wires_read g.operation) w first in
+    let reads = has_reads g.set g.operation in
+    let all = spelled ts rest words (words_of_gate g) s in
+    omega (arith, few, reads, all)
+
+set_within : (ts rest : List (List ℕ)) (words : List Word) (g : Gate) →
+    SpellWords ts (words ++ words_of_gate g) rest →
+    length words + (length (words_of_gate g) - 2) < length ts
+set_within ts rest words g s =
+    let two = has_two_words g.set g.operation in
+    let all = spelled ts rest words (words_of_gate g) s in
+    omega (arith, two, all)
+
+kind_of : (ts : List (List ℕ)) (e : ReadFault) (first : FirstFault ts e) →
+    IsKind e (place_of first).spot (length ts)
+kind_of ts e (no_number words due s) = refl
+kind_of ts e (no_name r words due s) = refl
+kind_of ts e (bad_number words t rest due s none) =
+    (length words, refl, omega (arith, Spell-length ts (t ∷ rest) words s))
+kind_of ts e (too_large words limit n rest due s above) =
+    (length words, refl, omega (arith, spelled ts rest words (Number n ∷ []) s))
+kind_of ts e (widths_exceed wires words widths rest side few s above) = (
+  length words + length widths,
+  refl,
+  omega (arith, spelled ts rest words (words_of_widths widths) s, length-map widths Number),
+)
+kind_of ts e (bad_counts c words r k rest due s neither) =
+    (length words, refl, omega (arith, spelled ts rest words (Number r ∷ Number k ∷ []) s))
+kind_of ts e (unknown r words name rest due s none) =
+    (length words, refl, omega (arith, spelled ts rest words (Name name ∷ []) s))
+kind_of ts e (other_counts r k words name rest due s named other) =
+    (length words, refl, omega (arith, spelled ts rest words (Name name ∷ []) s))
+kind_of ts e (bad_constant c words v w rest due s above) = (
+  length words + 2,
+  refl,
+  omega (
+    arith,
+    spelled ts rest words
+        (Number 1 ∷ Number 1 ∷ Number v ∷ Number w ∷ Name (codes "EQ") ∷ []) s,
+  ),
+)
+kind_of ts e (no_wire_to_read c words g w rest due s first above) = (
+  length words + 2 + before_unset c (wires_read g.operation) w first,
+  refl,
+  read_token ts rest c words g w first s,
+)
+kind_of ts e (unset c words g w rest due s first below) = (
+  length words + 2 + before_unset c (wires_read g.operation) w first,
+  refl,
+  read_token ts rest c words g w first s,
+)
+kind_of ts e (no_wire_to_set c words g rest due s reads above) =
+    (length words + (length (words_of_gate g) - 2), refl, set_within ts rest words g s)
+kind_of ts e (set_twice c words g rest due s reads set) =
+    (length words + (length (words_of_gate g) - 2), refl, set_within ts rest words g s)
+kind_of ts e (output_unset c w rest whole s last below free) =
+    (length (words_of_circuit c), refl, omega arith)
+kind_of ts e (trailing c t rest lawful s) =
+    (length (words_of_circuit c), refl, omega (arith, Spell-length ts (t ∷ rest) (words_of_circuit c) s))
+
+-- The text ends there,
+pub spot_end : (ts : List (List ℕ)) (e : ReadFault) (first : FirstFault ts e) → e ≡ Truncated →
+    (place_of first).spot ≡ End
+spot_end ts e first is =
+    let P : ReadFault → Type 0 = λ d. IsKind d (place_of first).spot (length ts) in
+    subst P is (kind_of ts e first)
+
+-- a token ends there,
+pub spot_behind : (ts : List (List ℕ)) (e : ReadFault) (first : FirstFault ts e) → e ≡ OutputUnset →
+    (k : ℕ) × ((place_of first).spot ≡ Behind k) × (0 < k)
+spot_behind ts e first is =
+    let P : ReadFault → Type 0 = λ d. IsKind d (place_of first).spot (length ts) in
+    subst P is (kind_of ts e first)
+
+-- or one begins there.
+pub spot_token : (ts : List (List ℕ)) (e : ReadFault) (first : FirstFault ts e) → e ≢ Truncated →
+    e ≢ OutputUnset → (k : ℕ) × ((place_of first).spot ≡ Token k) × (k < length ts)
+spot_token ts e first more whole = go e (place_of first).spot (kind_of ts e first) more whole
+  where
+    go : (d : ReadFault) (spot : Spot) → IsKind d spot (length ts) → d ≢ Truncated →
+        d ≢ OutputUnset → (k : ℕ) × (spot ≡ Token k) × (k < length ts)
+    go Truncated spot h p q = absurd (p refl)
+    go OutputUnset spot h p q = absurd (q refl)
+    go _ spot h p q = h
