@@ -1,17 +1,18 @@
 -- Bits on the wires.
-use Rattle.std.proofs.Common.{◌≡◌, ℕ, zero, suc, ◌+◌, ◌-◌, ◌<◌, ◌≤◌, ◌&&◌, sum, List, [], ◌∷◌, length, map, set, take, get_or, slice_get, Some, not, refl, sym, ap, ◌∙◌, arith, Bool, false, replicate, ◌++◌}
+use Rattle.std.proofs.Common.{◌≡◌, ℕ, zero, suc, ◌+◌, ◌-◌, ◌<◌, ◌≤◌, ◌&&◌, sum, List, [], ◌∷◌, length, map, set, take, get_or, slice_get, Some, not, inl, refl, sym, ap, ◌∙◌, arith, Bool, false, replicate, ◌++◌}
 use Rattle.std.specs.List.{range_with_len}
 use Rattle.gc_netlist.specs.declared.gate.Operation.{Operation}
 use Rattle.gc_netlist.specs.declared.gate.Operation.TheVariants.{Xor, And, Inv, Eqw, Eq}
 use Rattle.gc_netlist.specs.declared.gate.Gate.{Gate}
-use Rattle.gc_netlist.specs.Circuit.{Netlist, EachRead, IsLawful}
+use Rattle.gc_netlist.specs.Circuit.{Netlist, EachRead, IsLawful, input_wires}
 use Rattle.gc_netlist.specs.Solution.{IsLocal, values_after}
-use Rattle.gc_circuit.specs.Meaning.{bit_of, bit_rule, bits_of, xor}
+use Rattle.gc_circuit.specs.Meaning.{bit_of, bit_rule, bits_of, xor, AreWireBits}
+use Rattle.gc_netlist.proofs.SolutionLemmas.{after-unset, solution_solves}
 use Rattle.gc_netlist.proofs.Tables.{table_step, table_padded, after-zero}
 use Rattle.std.specs.List.{flat_map}
 use Rattle.std.proofs.lemmas.List.Concat.{length-flat_map}
 use Rattle.std.proofs.lemmas.List.Sums.{sum-map}
-use Rattle.std.proofs.lemmas.List.{take_more}
+use Rattle.std.proofs.lemmas.List.{take_more, get_or_past}
 
 pub bit_of_local : (u v : ℕ → Bool) (op : Operation) → EachRead (λ w. u w ≡ v w) op →
     bit_of u op ≡ bit_of v op
@@ -39,6 +40,18 @@ pub bits_start : (c : Netlist) (x bits : List Bool) → length x ≤ c.wires →
 bits_start c x bits fits is =
     is ∙ table_padded x c.wires false fits
     ∙ ap (λ f. map f (range_with_len 0 c.wires)) (sym (after-zero bit_rule c (bits_of x)))
+
+-- the end of the evaluation
+pub bits_end : (c : Netlist) (x all : List Bool) → IsLawful c → length x ≡ input_wires c →
+    all ≡ map (values_after bit_rule c (bits_of x) (length c.gates)) (range_with_len 0 c.wires) →
+    AreWireBits c x all
+bits_end c x all lawful fits is = record {
+  bits = values_after bit_rule c (bits_of x) (length c.gates);
+  assignment = solution_solves bit_rule bit_local c lawful (bits_of x);
+  unset = λ w free. after-unset bit_rule bit_local c lawful (bits_of x) (length c.gates) w free
+      ∙ get_or_past x w false (let high : w < input_wires c → ⊥ = (λ low. free (inl low)) in omega arith);
+  in_order = is;
+}
 
 -- how long the values are together, where they have these widths
 pub length-joined : {X : Type 0} (f : X → List Bool) (xs : List X) (widths : List ℕ) →

@@ -1,5 +1,5 @@
 -- Checking gates against a table of marks.
-use Rattle.std.proofs.Common.{inl, inr, ◌≡◌, ℕ, zero, suc, ◌+◌, ◌-◌, ◌<◌, ◌≤◌, ◌||◌, ◌==◌, ◌++◌, List, [], ◌∷◌, Bool, true, false, cond, length, map, set, take, get_or, slice_index_or, replicate, count_by, nat_lt, Result, Ok, Err, refl, sym, ap, ◌∙◌, arith}
+use Rattle.std.proofs.Common.{inl, inr, ◌≡◌, ℕ, zero, suc, ◌+◌, ◌-◌, ◌<◌, ◌≤◌, ◌||◌, ◌==◌, ◌++◌, List, [], ◌∷◌, Bool, true, false, cond, length, map, set, take, get_or, slice_index_or, replicate, count_by, nat_lt, Option, Some, Result, Ok, Err, refl, sym, ap, ◌∙◌, arith}
 use Rattle.std.specs.Int.{from_bool}
 use Rattle.std.specs.List.{range_with_len}
 use Rattle.std.proofs.lemmas.Bool.{cases_eq}
@@ -15,6 +15,9 @@ use Rattle.gc_netlist.specs.declared.gate.Gate.{Gate}
 use Rattle.gc_netlist.specs.declared.gate.Operation.{Operation}
 use Rattle.gc_netlist.specs.declared.gate.Operation.TheVariants.{Xor, And, Inv, Eq, Eqw}
 use Rattle.gc_netlist.specs.Circuit.{is_and}
+use Rattle.gc_netlist.specs.Met.{wire_at_fault}
+use Rattle.gc_circuit.specs.Stop.{GateStops, GatesStop}
+use Rattle.gc_netlist.proofs.StepLemmas.{bind_then, ok_is}
 use Rattle.gc_netlist.specs.Reading.{◌>>=◌, gate_at, is_set, check_read, check_set, check_reads, check_gate, gates_at}
 
 module _ (n : ℕ) (s t : ℕ → Bool) (same : (w : ℕ) → w < n → s w ≡ t w) where
@@ -54,6 +57,13 @@ module _ (n : ℕ) (s t : ℕ → Bool) (same : (w : ℕ) → w < n → s w ≡ 
   unfolding check_gate
   check_same g = rw (reads_same g.operation, set_same g.set) refl
 
+  pub wire_same : (c : ℕ) (op : Operation) → wire_at_fault n s c op ≡ wire_at_fault n t c op
+  wire_same c (Xor a b) = rw (read_same a, read_same b) refl
+  wire_same c (And a b) = rw (read_same a, read_same b) refl
+  wire_same c (Inv a) = rw (read_same a) refl
+  wire_same c (Eq v) = refl
+  wire_same c (Eqw a) = rw (read_same a) refl
+
 -- the marks of a table
 pub marks_read : (inputs n : ℕ) (before : List Gate) (marks : List Bool) →
     marks ≡ map (is_set inputs before) (range_with_len 0 n) →
@@ -65,6 +75,18 @@ marks_read inputs n before marks is g =
     ∙ check_same n (λ w. slice_index_or marks w false) (is_set inputs before)
     (λ w below. ap (λ m. get_or m w false) is
     ∙ get_or-map-range_with_len (is_set inputs before) 0 n w w false below (omega arith)) g
+
+-- the wire at fault by a table
+pub wire_read : (inputs n : ℕ) (before : List Gate) (marks : List Bool) →
+    marks ≡ map (is_set inputs before) (range_with_len 0 n) → (c : ℕ) (op : Operation) →
+    wire_at_fault (length marks) (λ w. slice_index_or marks w false) c op
+    ≡ wire_at_fault n (is_set inputs before) c op
+wire_read inputs n before marks is c op =
+    let len : length marks ≡ n = ap length is ∙ length-map-range_with_len (is_set inputs before) 0 n in
+    ap (λ k. wire_at_fault k (λ w. slice_index_or marks w false) c op) len
+    ∙ wire_same n (λ w. slice_index_or marks w false) (is_set inputs before)
+    (λ w below. ap (λ m. get_or m w false) is
+    ∙ get_or-map-range_with_len (is_set inputs before) 0 n w w false below (omega arith)) c op
 
 -- a gate more
 set_more : (inputs : ℕ) (before : List Gate) (g : Gate) (w : ℕ) →
@@ -249,3 +271,68 @@ ands_more before g n k so_far t is one =
 
 pub ands_few : (n i k : ℕ) (t : Bool) → n ≤ i → k ≡ from_bool t → n + k ≤ i + 1
 ands_few n i k t few one = omega (arith, few, one, small_byte t)
+
+-- The gate at which reading stops, by a table, and by the gates before it.
+pub stops_found : (inputs n : ℕ) (before : List Gate) (table marks : List Bool)
+    (old new : List (List ℕ)) (e : ReadFault) (back : ℕ) (wire : Option ℕ) → table ≡ marks →
+    marks ≡ map (is_set inputs before) (range_with_len 0 n) →
+    GateStops (length table) (λ w. slice_index_or table w false) old new e back wire →
+    GateStops n (is_set inputs before) old new e back wire
+stops_found inputs n before table marks old new e back wire same is (inl h) = inl h
+stops_found inputs n before table marks old new e back wire same is (inr (g, read, bad, at)) =
+    let found_at = wire_read inputs n before table (same ∙ is) g.set g.operation in
+    inr (
+      g,
+      read,
+      found inputs n before table marks g (Err e) same is (sym bad),
+      (
+        at.0 ∙ ap (λ (x : ℕ × ℕ). x.1) found_at,
+        at.1 ∙ ap (λ (x : ℕ × ℕ). Some x.0) found_at,
+      ),
+    )
+
+-- One gate more is read.
+pub gates_push : (wires inputs n : ℕ) (before gs : List Gate) (g : Gate) (ts at rest : List (List ℕ)) →
+    gates_at wires inputs n before ts ≡ Ok (gs, at) → gate_at at ≡ Ok (g, rest) →
+    check_gate wires (is_set inputs gs) g ≡ Ok tt →
+    gates_at wires inputs (n + 1) before ts ≡ Ok (gs ++ g ∷ [], rest)
+unfolding gates_at
+gates_push wires inputs n before gs g ts at rest so_far read good =
+    ap (λ k. gates_at wires inputs k before ts) (let e : n + 1 ≡ suc n = omega arith in e)
+    ∙ go n before ts so_far
+  where
+    go : (k : ℕ) (front : List Gate) (us : List (List ℕ)) →
+        gates_at wires inputs k front us ≡ Ok (gs, at) →
+        gates_at wires inputs (suc k) front us ≡ Ok (gs ++ g ∷ [], rest)
+    go zero front us h =
+        let now : List Gate × List (List ℕ) = (front, us) in
+        let same : now ≡ (gs, at) = ok_is now (gs, at) h in
+        let front_is : front ≡ gs = ap (λ (p : List Gate × List (List ℕ)). p.0) same in
+        let us_is : us ≡ at = ap (λ (p : List Gate × List (List ℕ)). p.1) same in
+        rw (us_is, front_is, read, good) refl
+    go (suc k) front us h =
+        bind_then (gate_at us) _ (gs, at) h (λ x hx h1.
+        bind_then (check_gate wires (is_set inputs front) x.0) _ (gs, at) h1 (λ u hu h2.
+        rw (hx, hu) (go k (front ++ x.0 ∷ []) x.1 h2)))
+
+module _ (wires inputs count i : ℕ) (before : List Gate) (ts new : List (List ℕ)) (e : ReadFault)
+    (back : ℕ) (wire : Option ℕ) (below : i < count)
+    (stops : GateStops wires (is_set inputs before) ts new e back wire) where
+  pub turn_stops : (whole : Result (List Gate × List (List ℕ)) ReadFault) →
+      gates_at wires inputs (count - i) before ts ≡ whole → whole ≡ Err e
+  turn_stops whole so_far = elim stops [
+    | inl h ↦ turn_no_gate wires inputs count i before ts whole e below h.0 so_far
+    | inr h ↦ turn_refused wires inputs count i before ts whole h.0 new e below h.1 h.2 so_far
+  ]
+
+  pub gates_stop : (old : List (List ℕ)) (gate : Option ℕ) → length before ≡ i → gate ≡ Some i →
+      gates_at wires inputs i [] old ≡ Ok (before, ts) →
+      GatesStop wires inputs count old new e back gate wire
+  gates_stop old gate len is so_far = record {
+    gates = before;
+    at = ts;
+    so_far = ap (λ n. gates_at wires inputs n [] old) len ∙ so_far;
+    more = omega arith;
+    in_gate = is ∙ ap Some (sym len);
+    stops = stops;
+  }

@@ -10,6 +10,7 @@ use Rattle.gc_netlist.specs.declared.fault.ReadFault.{ReadFault}
 use Rattle.gc_netlist.specs.declared.fault.ReadFault.TheVariants.{BadNumber, Truncated}
 use Rattle.gc_netlist.specs.Text.{tokens, is_blank, is_digit, value_of, number_of}
 use Rattle.gc_netlist.specs.Reading.{number_at, numbered, numbers_at}
+use Rattle.gc_netlist.specs.Met.{numbers_left}
 use Rattle.gc_circuit.proofs.TokenLemmas.{NoBlank, tokens_begin, tokens_take, tokens-nil}
 
 pub value-nil : value_of [] ≡ 0
@@ -143,3 +144,27 @@ module _ (count i : ℕ) (before : List ℕ) (ts : List (List ℕ))
   pub numbers_done : count ≤ i → whole ≡ Ok (before, ts)
   numbers_done past = let none : count - i ≡ 0 =
       omega arith in sym so_far ∙ ap (λ n. numbers_at n before ts) none ∙ numbers_end before ts
+
+left_next : (n : ℕ) (ts : List (List ℕ)) (x : ℕ) (rest : List (List ℕ)) →
+    number_at ts ≡ Ok (x, rest) → numbers_left (suc n) ts ≡ numbers_left n rest
+unfolding numbers_left
+left_next n ts x rest h = rw h refl
+
+left_refused : (n : ℕ) (ts : List (List ℕ)) (e : ReadFault) → number_at ts ≡ Err e →
+    numbers_left (suc n) ts ≡ ts
+unfolding numbers_left
+left_refused n ts e h = rw h refl
+
+-- what the turns leave
+module _ (count i : ℕ) (ts whole : List (List ℕ)) (so_far : numbers_left (count - i) ts ≡ whole)
+    (below : i < count) where
+  one_less : numbers_left (suc (count - (i + 1))) ts ≡ whole
+  one_less = ap (λ n. numbers_left n ts)
+      (let e : suc (count - (i + 1)) ≡ count - i = omega arith in e) ∙ so_far
+
+  pub left_goes_on : (x : ℕ) (rest : List (List ℕ)) → number_at ts ≡ Ok (x, rest) →
+      numbers_left (count - (i + 1)) rest ≡ whole
+  left_goes_on x rest read = sym (left_next (count - (i + 1)) ts x rest read) ∙ one_less
+
+  pub left_stops : (e : ReadFault) → number_at ts ≡ Err e → ts ≡ whole
+  left_stops e read = sym (left_refused (count - (i + 1)) ts e read) ∙ one_less

@@ -6,6 +6,7 @@ use Rattle.std.proofs.lemmas.Grind.{common_steps}
 use Rattle.std.proofs.lemmas.List.Elements.{All-push}
 use Rattle.gc_netlist.specs.Text.{tokens, is_blank, is_digit, value_of}
 use Rattle.gc_netlist.specs.Reading.{gate_at, two_at}
+use Rattle.gc_netlist.specs.Met.{two_left, gate_left}
 use Rattle.gc_circuit.proofs.TokenLemmas.{NoBlank, tokens-blank, tokens_first}
 use Rattle.gc_circuit.proofs.NumberLemmas.{digits_no_blank}
 
@@ -50,6 +51,11 @@ two_taken text front =
 pub gate_of_two : (ts : List (List ℕ)) → gate_at ((50 ∷ []) ∷ (49 ∷ []) ∷ ts) ≡ two_at ts
 unfolding gate_at value_of
 gate_of_two ts = refl
+
+-- and where a fault of it leaves a reader
+pub left_of_two : (ts : List (List ℕ)) → gate_left ((50 ∷ []) ∷ (49 ∷ []) ∷ ts) ≡ two_left ts
+unfolding gate_left value_of
+left_of_two ts = refl
 
 no_blanks : (a b c : ℕ) → is_blank a ≡ false → is_blank b ≡ false → is_blank c ≡ false →
     NoBlank (a ∷ b ∷ c ∷ [])

@@ -1,5 +1,6 @@
 -- What a circuit computes (the Bristol Fashion page).
 use Rattle.std.specs.Prelude.{◌≡◌, ℕ, Bool, false, not, ◌&&◌, List, length, map, slice_index_or, if◌then◌else◌}
+use Rattle.std.specs.List.{range_with_len}
 use Rattle.gc_netlist.specs.declared.gate.Operation.{Operation}
 use Rattle.gc_netlist.specs.declared.gate.Operation.TheVariants.{Xor, And, Inv, Eq, Eqw}
 use Rattle.gc_netlist.specs.declared.gate.Gate.{Gate}
@@ -37,6 +38,13 @@ pub record AreOutputs (c : Netlist) (x outputs : List Bool) : Type 0 where
   pub bits : ℕ → Bool
   pub assignment : IsAssignment c (bits_of x) bits
   pub last : outputs ≡ on_outputs c bits
+
+-- The bits on all wires for the input bits x: those of an assignment, and false on a wire that is not set.
+pub record AreWireBits (c : Netlist) (x all : List Bool) : Type 0 where
+  pub bits : ℕ → Bool
+  pub assignment : IsAssignment c (bits_of x) bits
+  pub unset : (w : ℕ) → (IsSet c w → ⊥) → bits w ≡ false
+  pub in_order : all ≡ map bits (range_with_len 0 c.wires)
 
 -- For any input bits there is an assignment, and any two agree on the wires that are set:
 -- so each wire that is set has one bit.

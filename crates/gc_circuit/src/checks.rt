@@ -1,5 +1,6 @@
 ghost use Rattle.std.specs.Prelude.{◌≡◌, length, slice_index_or, false};
 ghost use Rattle.gc_netlist.specs.Reading.{check_read, check_set, check_reads, check_gate};
+ghost use Rattle.gc_netlist.specs.Met.{wire_of_one, wire_of_two, wire_at_fault};
 
 use gc_netlist::{Gate, Operation, ReadFault};
 
@@ -52,4 +53,56 @@ pub(crate) fn check_gate(is_set: &[bool], gate: Gate) -> Result<(), ReadFault>
 {
     check_reads(is_set, gate.operation)?;
     check_set(is_set, gate.set)
+}
+
+/// A wire of a gate, and how many tokens before the end of the gate it stands.
+#[derive(Clone, Copy)]
+pub(crate) struct WireBack {
+    pub(crate) wire: u32,
+    pub(crate) back: usize,
+}
+
+/// The wire at fault of a gate that reads this wire last.
+fn wire_of_one(is_set: &[bool], read: u32, set: u32) -> WireBack
+    ensures { (result.wire, result.back)
+        ≡ wire_of_one (length is_set.now) (λ w. slice_index_or is_set.now w false) read set }
+{
+    match check_read(is_set, read) {
+        Ok(()) => WireBack { wire: set, back: 2 },
+        Err(_) => WireBack {
+            wire: read,
+            back: 3,
+        },
+    }
+}
+
+/// The wire at fault of a gate that reads two wires.
+fn wire_of_two(is_set: &[bool], first: u32, second: u32, set: u32) -> WireBack
+    ensures { (result.wire, result.back) ≡ wire_of_two (length is_set.now)
+        (λ w. slice_index_or is_set.now w false) first second set }
+{
+    match check_read(is_set, first) {
+        Ok(()) => wire_of_one(is_set, second, set),
+        Err(_) => WireBack {
+            wire: first,
+            back: 4,
+        },
+    }
+}
+
+/// The wire at fault of a gate that the check refuses: the first that it reads and that is at fault, or else the wire
+/// that it sets.
+#[cold]
+pub(crate) fn wire_at_fault(is_set: &[bool], gate: Gate) -> WireBack
+    ensures { (result.wire, result.back) ≡ wire_at_fault (length is_set.now)
+        (λ w. slice_index_or is_set.now w false) gate.set gate.operation }
+{
+    match gate.operation {
+        Operation::Xor(a, b) | Operation::And(a, b) => wire_of_two(is_set, a, b, gate.set),
+        Operation::Inv(a) | Operation::Eqw(a) => wire_of_one(is_set, a, gate.set),
+        Operation::Eq(_) => WireBack {
+            wire: gate.set,
+            back: 2,
+        },
+    }
 }

@@ -1,8 +1,6 @@
 ghost use Rattle.std.specs.Prelude.{◌≡◌, ◌↔◌, ◌<◌, ◌≤◌, ℕ, Bool, length, map, flat_map, IsTrue, IfOk};
-ghost use Rattle.std.specs.List.{range_with_len};
 ghost use Rattle.gc_netlist.specs.Circuit.{Netlist, EachRead, IsLawful, input_wires};
-ghost use Rattle.gc_netlist.specs.Solution.{solution};
-ghost use Rattle.gc_circuit.specs.Meaning.{bit_of, bits_of, bit_rule, Fits, AreOutputs, AssignmentLaw};
+ghost use Rattle.gc_circuit.specs.Meaning.{bit_of, bits_of, Fits, AreWireBits, AreOutputs, AssignmentLaw};
 
 use crate::circuit::Circuit;
 use crate::memory::Memory;
@@ -67,16 +65,16 @@ fn input_bits<A: Allocator + Copy, C: Allocator, V: Allocator>(
     Ok(bits)
 }
 
-/// The bits on all wires: false on a wire that is not set.
-fn wire_bits<A: Allocator + Copy, C: Allocator, V: Allocator>(
+/// The bits on all wires, in order, for these input values; false on a wire that is not set. It grows once. That the
+/// values fit the circuit is the caller's condition (`fits`).
+pub fn wire_bits<A: Allocator + Copy, C: Allocator, V: Allocator>(
     alloc: A,
     circuit: &Circuit<C>,
     values: &[Vec<bool, V>],
 ) -> Result<Vec<bool, A>, Memory>
     requires { Fits circuit.now (map (λ v. v.items) values.now) }
-    ensures { IfOk result (λ v. v.items
-        ≡ map (solution bit_rule circuit.now (bits_of (flat_map (λ x. x.items) values.now)))
-        (range_with_len 0 circuit.now.wires)) }
+    ensures { IfOk result (λ v.
+        AreWireBits circuit.now (flat_map (λ x. x.items) values.now) v.items) }
 {
     let mut bits = input_bits(alloc, circuit, values)?;
     bits.resize(circuit.wires() as usize, false)?;

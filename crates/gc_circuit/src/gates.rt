@@ -1,5 +1,6 @@
-ghost use Rattle.std.specs.Prelude.{◌≡◌, MatchResult, Ok, Err};
+ghost use Rattle.std.specs.Prelude.{◌≡◌, IfErr, MatchResult, Ok, Err};
 ghost use Rattle.gc_netlist.specs.Reading.{constant_of, operation_of_two, operation_of_one, two_at, one_at, gate_at};
+ghost use Rattle.gc_netlist.specs.Met.{two_left, one_left, gate_left};
 
 use crate::tokens::Tokens;
 use gc_netlist::{Gate, Operation, ReadFault};
@@ -44,11 +45,13 @@ fn operation_of_one(name: &[u8], a: u32) -> Result<Operation, ReadFault>
 }
 
 /// A gate after its counts 2 and 1.
-#[tactic(auto, unfolding(gc_netlist::specs::Reading::two_at))]
+#[tactic(auto, unfolding(gc_netlist::specs::Reading::two_at, gc_netlist::specs::Met::two_left))]
 #[inline(always)]
 fn read_two(tokens: &mut Tokens<'_>) -> Result<Gate, ReadFault>
-    ensures { MatchResult result (λ g. two_at tokens.old ≡ Ok (g, tokens.new))
-        (λ e. two_at tokens.old ≡ Err e) }
+    ensures read { MatchResult result (λ g. two_at tokens.old.left ≡ Ok (g, tokens.new.left))
+        (λ e. two_at tokens.old.left ≡ Err e) }
+    ensures left { IfErr result (λ _. tokens.new.left ≡ two_left tokens.old.left) }
+    ensures kept { tokens.new.text ≡ tokens.old.text }
 {
     let a = tokens.number()?;
     let b = tokens.number()?;
@@ -59,10 +62,12 @@ fn read_two(tokens: &mut Tokens<'_>) -> Result<Gate, ReadFault>
 }
 
 /// A gate after its counts 1 and 1.
-#[tactic(auto, unfolding(gc_netlist::specs::Reading::one_at))]
+#[tactic(auto, unfolding(gc_netlist::specs::Reading::one_at, gc_netlist::specs::Met::one_left))]
 fn read_one(tokens: &mut Tokens<'_>) -> Result<Gate, ReadFault>
-    ensures { MatchResult result (λ g. one_at tokens.old ≡ Ok (g, tokens.new))
-        (λ e. one_at tokens.old ≡ Err e) }
+    ensures read { MatchResult result (λ g. one_at tokens.old.left ≡ Ok (g, tokens.new.left))
+        (λ e. one_at tokens.old.left ≡ Err e) }
+    ensures left { IfErr result (λ _. tokens.new.left ≡ one_left tokens.old.left) }
+    ensures kept { tokens.new.text ≡ tokens.old.text }
 {
     let a = tokens.number()?;
     let set = tokens.number()?;
@@ -71,22 +76,27 @@ fn read_one(tokens: &mut Tokens<'_>) -> Result<Gate, ReadFault>
     Ok(Gate { operation, set })
 }
 
-/// A gate: how many wires it reads and sets, and then the rest.
-#[tactic(auto, unfolding(gc_netlist::specs::Reading::gate_at))]
+/// A gate: how many wires it reads and sets, and then the rest. Where these counts are at fault, the first is the last
+/// token taken.
+#[tactic(auto, unfolding(gc_netlist::specs::Reading::gate_at, gc_netlist::specs::Met::gate_left))]
 pub(crate) fn read_gate(tokens: &mut Tokens<'_>) -> Result<Gate, ReadFault>
-    ensures { MatchResult result (λ g. gate_at tokens.old ≡ Ok (g, tokens.new))
-        (λ e. gate_at tokens.old ≡ Err e) }
+    ensures read { MatchResult result (λ g. gate_at tokens.old.left ≡ Ok (g, tokens.new.left))
+        (λ e. gate_at tokens.old.left ≡ Err e) }
+    ensures left { IfErr result (λ _. tokens.new.left ≡ gate_left tokens.old.left) }
+    ensures kept { tokens.new.text ≡ tokens.old.text }
 {
     if tokens.two_and_one() {
         return read_two(tokens);
     }
     let reads = tokens.number()?;
+    let first = tokens.mark();
     let sets = tokens.number()?;
     if reads == 2 && sets == 1 {
         read_two(tokens)
     } else if reads == 1 && sets == 1 {
         read_one(tokens)
     } else {
+        tokens.reset(first);
         Err(ReadFault::BadShape)
     }
 }

@@ -4,21 +4,25 @@
 //! these names from here.
 #![tactic(auto)]
 
+mod back;
 mod canon;
 mod checks;
 mod circuit;
 mod eval;
 mod gates;
+mod locate;
 mod memory;
 mod number;
 mod read;
+mod stop;
 mod tokens;
 mod value;
 
 pub use circuit::Circuit;
-pub use eval::{fits, law_assignments, plain_eval};
+pub use eval::{fits, law_assignments, plain_eval, wire_bits};
 pub use gc_netlist::{
     Gate, MAX_GATES, MAX_VALUES, MAX_WIRES, Operation, ReadFault, law_canonical_text, law_reading,
 };
+pub use locate::Located;
 pub use memory::Memory;
 pub use value::{ValueFault, law_value_texts, read_value, show_value};

@@ -1,4 +1,4 @@
-ghost use Rattle.std.specs.Prelude.{◌≡◌, ◌<◌, ◌≤◌, length, drop, false, slice_index, IfSome, MatchResult, Ok, Err};
+ghost use Rattle.std.specs.Prelude.{◌≡◌, ◌<◌, ◌≤◌, length, drop, true, false, slice_index, IfSome, MatchResult, Ok, Err};
 ghost use Rattle.gc_netlist.specs.Text.{tokens, is_blank};
 ghost use Rattle.gc_netlist.specs.Reading.{number_at};
 
@@ -22,7 +22,8 @@ const SHORT: usize = 9;
 pub(crate) fn short_number(text: &[u8]) -> Option<(u32, usize)>
     requires { 0 < length text.now → is_blank (slice_index text.now 0) ≡ false }
     ensures { IfSome result (λ r. (r.1 ≤ length text.now)
-        × (number_at (tokens text.now) ≡ Ok (r.0, tokens (drop r.1 text.now)))) }
+        × (number_at (tokens text.now) ≡ Ok (r.0, tokens (drop r.1 text.now)))
+        × (r.1 < length text.now → is_blank (slice_index text.now r.1) ≡ true)) }
 {
     if text.len() < SHORT {
         return None;
@@ -48,7 +49,8 @@ pub(crate) fn short_number(text: &[u8]) -> Option<(u32, usize)>
 pub(crate) fn leading_number(text: &[u8]) -> Result<(u32, usize), ReadFault>
     requires { 0 < length text.now → is_blank (slice_index text.now 0) ≡ false }
     ensures { MatchResult result (λ r. (r.1 ≤ length text.now)
-        × (number_at (tokens text.now) ≡ Ok (r.0, tokens (drop r.1 text.now))))
+        × (number_at (tokens text.now) ≡ Ok (r.0, tokens (drop r.1 text.now)))
+        × (r.1 < length text.now → is_blank (slice_index text.now r.1) ≡ true))
         (λ e. number_at (tokens text.now) ≡ Err e) }
 {
     let mut value = 0u64;

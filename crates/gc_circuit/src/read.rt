@@ -1,14 +1,17 @@
-ghost use Rattle.std.specs.Prelude.{◌≡◌, ◌≢◌, ◌≤◌, ◌-◌, [], length, map, sum, drop, count_by, if◌then◌else◌, IfOk, IfErr, MatchResult, Ok, Err, vec_len};
+ghost use Rattle.std.specs.Prelude.{◌≡◌, ◌≢◌, ℕ, ◌<◌, ◌≤◌, ◌-◌, ◌^◌, [], length, map, sum, drop, count_by, slice_index_or, false, true, if◌then◌else◌, IfOk, IfErr, IsFalse, MatchResult, Some, None, Ok, Err, vec_len};
 ghost use Rattle.std.specs.List.{range_with_len, list_all};
 ghost use Rattle.gc_netlist.specs.Circuit.{Netlist, IsLawful, is_and};
 ghost use Rattle.gc_netlist.specs.Text.{tokens};
-ghost use Rattle.gc_netlist.specs.Spelling.{Spells};
+ghost use Rattle.gc_netlist.specs.Spelling.{SpellWords, Spells, words_of_circuit};
 ghost use Rattle.gc_netlist.specs.FirstFault.{FirstFault};
-ghost use Rattle.gc_netlist.specs.Reading.{numbers_at, widths_at, gates_at, circuit_of, is_set};
+ghost use Rattle.gc_netlist.specs.Reading.{numbers_at, widths_at, gate_at, check_gate, gates_at, circuit_of, is_set};
+ghost use Rattle.gc_netlist.specs.Met.{numbers_left, widths_left, IsMet};
+ghost use Rattle.gc_circuit.specs.Stop.{GateStops, GatesStop, IsUnset};
 
-use crate::checks::check_gate;
+use crate::checks::{check_gate, wire_at_fault};
 use crate::circuit::Circuit;
 use crate::gates::read_gate;
+use crate::stop::{Stop, back_of};
 use crate::tokens::Tokens;
 use gc_netlist::{Gate, MAX_GATES, MAX_VALUES, MAX_WIRES, ReadFault};
 use std::alloc::Allocator;
@@ -38,9 +41,12 @@ fn read_numbers<A: Allocator>(
     count: u32,
 ) -> Result<Vec<u32, A>, ReadFault>
     ensures all { MatchResult result
-        (λ v. numbers_at count [] tokens.old ≡ Ok (v.items, tokens.new))
-        (λ e. e ≢ ReadFault.Memory → numbers_at count [] tokens.old ≡ Err e) }
+        (λ v. numbers_at count [] tokens.old.left ≡ Ok (v.items, tokens.new.left))
+        (λ e. e ≢ ReadFault.Memory → numbers_at count [] tokens.old.left ≡ Err e) }
     ensures len { IfOk result (λ v. vec_len v ≡ count) }
+    ensures left { IfErr result (λ e.
+        e ≢ ReadFault.Memory → tokens.new.left ≡ numbers_left count tokens.old.left) }
+    ensures kept { tokens.new.text ≡ tokens.old.text }
 {
     let mut numbers = Vec::with_capacity(alloc, count as usize)?;
     for _i in 0..count {
@@ -59,15 +65,18 @@ fn sum_of(widths: &[u32]) -> u64
 }
 
 /// The widths of the values of one side: how many, each, and then their sum against the wires.
-#[tactic(auto, unfolding(gc_netlist::specs::Reading::widths_at))]
+#[tactic(auto, unfolding(gc_netlist::specs::Reading::widths_at, gc_netlist::specs::Met::widths_left))]
 fn read_widths<A: Allocator>(
     alloc: A,
     tokens: &mut Tokens<'_>,
     wires: u32,
 ) -> Result<Widths<A>, ReadFault>
     ensures read { MatchResult result
-        (λ w. widths_at wires tokens.old ≡ Ok (w.widths.items, tokens.new))
-        (λ e. e ≢ ReadFault.Memory → widths_at wires tokens.old ≡ Err e) }
+        (λ w. widths_at wires tokens.old.left ≡ Ok (w.widths.items, tokens.new.left))
+        (λ e. e ≢ ReadFault.Memory → widths_at wires tokens.old.left ≡ Err e) }
+    ensures left { IfErr result (λ e.
+        e ≢ ReadFault.Memory → tokens.new.left ≡ widths_left tokens.old.left) }
+    ensures kept { tokens.new.text ≡ tokens.old.text }
     ensures sums { IfOk result (λ w. w.sum ≡ sum w.widths.items) }
     ensures fits { IfOk result (λ w. w.sum ≤ wires) }
 {
@@ -96,6 +105,43 @@ fn inputs_set<A: Allocator>(alloc: A, wires: u32, inputs: u32) -> Result<Vec<boo
     Ok(is_set)
 }
 
+/// The next gate, checked against those before it, of which there are `number`.
+#[inline(always)]
+fn next_gate(tokens: &mut Tokens<'_>, is_set: &[bool], number: u32) -> Result<Gate, Stop>
+    ensures read { IfOk result (λ g. gate_at tokens.old.left ≡ Ok (g, tokens.new.left)) }
+    ensures checked { IfOk result (λ g.
+        check_gate (length is_set.now) (λ w. slice_index_or is_set.now w false) g ≡ Ok tt) }
+    ensures stops { IfErr result (λ s. GateStops (length is_set.now)
+        (λ w. slice_index_or is_set.now w false) tokens.old.left tokens.new.left
+        s.fault s.back s.wire) }
+    ensures in_gate { IfErr result (λ s. s.gate ≡ Some number) }
+    ensures kept { tokens.new.text ≡ tokens.old.text }
+{
+    let gate = match read_gate(tokens) {
+        Ok(gate) => gate,
+        Err(fault) => {
+            return Err(Stop {
+                fault,
+                back: back_of(fault),
+                gate: Some(number),
+                wire: None,
+            });
+        }
+    };
+    match check_gate(is_set, gate) {
+        Ok(()) => Ok(gate),
+        Err(fault) => {
+            let at = wire_at_fault(is_set, gate);
+            Err(Stop {
+                fault,
+                back: at.back,
+                gate: Some(number),
+                wire: Some(at.wire),
+            })
+        }
+    }
+}
+
 /// The next gates, a given number of them, each checked against those before it. Room for some is taken at once.
 fn read_gates<A: Allocator + Copy>(
     alloc: A,
@@ -104,22 +150,25 @@ fn read_gates<A: Allocator + Copy>(
     inputs: u32,
     count: u32,
     room: usize,
-) -> Result<Gates<A>, ReadFault>
+) -> Result<Gates<A>, Stop>
     requires { inputs ≤ wires }
     ensures read { MatchResult result
-        (λ g. gates_at wires inputs count [] tokens.old ≡ Ok (g.gates.items, tokens.new))
-        (λ e. e ≢ ReadFault.Memory → gates_at wires inputs count [] tokens.old ≡ Err e) }
+        (λ g. gates_at wires inputs count [] tokens.old.left ≡ Ok (g.gates.items, tokens.new.left))
+        (λ s. s.fault ≢ ReadFault.Memory
+        → gates_at wires inputs count [] tokens.old.left ≡ Err s.fault) }
     ensures table { IfOk result (λ g. g.is_set.items
         ≡ map (is_set inputs g.gates.items) (range_with_len 0 wires)) }
     ensures ands { IfOk result (λ g.
         g.and_count ≡ count_by (λ x. is_and x.operation) g.gates.items) }
+    ensures stops { IfErr result (λ s. s.fault ≢ ReadFault.Memory → GatesStop wires inputs count
+        tokens.old.left tokens.new.left s.fault s.back s.gate s.wire) }
+    ensures kept { tokens.new.text ≡ tokens.old.text }
 {
     let mut is_set = inputs_set(alloc, wires, inputs)?;
     let mut gates = Vec::with_capacity(alloc, room)?;
     let mut and_count = 0;
-    for _i in 0..count {
-        let gate = read_gate(tokens)?;
-        check_gate(&is_set, gate)?;
+    for i in 0..count {
+        let gate = next_gate(tokens, &is_set, i)?;
         is_set[gate.set as usize] = true;
         and_count += u32::from(gate.operation.is_and());
         gates.push(gate)?;
@@ -138,18 +187,43 @@ fn all_set(is_set: &[bool]) -> bool
     is_set.iter().all(|set| *set)
 }
 
-/// Each output wire is set. They are the last wires.
-fn check_outputs(is_set: &[bool], outputs: u32) -> Result<(), ReadFault>
-    requires { outputs ≤ length is_set.now }
-    ensures { result ≡ (if list_all (λ b. b) (drop (length is_set.now - outputs) is_set.now)
-        then Ok tt else Err ReadFault.OutputUnset) }
+/// The first of these wires that is not set. That there is one is the caller's condition.
+#[cold]
+fn first_unset(is_set: &[bool]) -> usize
+    requires { list_all (λ b. b) is_set.now ≡ false }
+    ensures within { result < length is_set.now }
+    ensures free { slice_index_or is_set.now result false ≡ false }
+    ensures lower { (v : ℕ) → v < result → slice_index_or is_set.now v false ≡ true }
 {
-    let (_, last) = is_set.split_at(is_set.len() - outputs as usize);
-    if all_set(last) {
-        Ok(())
-    } else {
-        Err(ReadFault::OutputUnset)
+    for (i, set) in is_set.iter().enumerate() {
+        if !*set {
+            return i;
+        }
     }
+    unreachable!()
+}
+
+/// Each output wire is set. They are the last wires.
+fn check_outputs(is_set: &[bool], outputs: u32) -> Result<(), Stop>
+    requires fits { outputs ≤ length is_set.now }
+    requires small { length is_set.now < 2 ^ 32 }
+    ensures read { MatchResult result
+        (λ _. list_all (λ b. b) (drop (length is_set.now - outputs) is_set.now) ≡ true)
+        (λ _. list_all (λ b. b) (drop (length is_set.now - outputs) is_set.now) ≡ false) }
+    ensures unset { IfErr result (λ s. IsUnset is_set.now outputs s.fault s.back s.gate s.wire) }
+{
+    let first = is_set.len() - outputs as usize;
+    let (_, last) = is_set.split_at(first);
+    if all_set(last) {
+        return Ok(());
+    }
+    let wire = first + first_unset(last);
+    Err(Stop {
+        fault: ReadFault::OutputUnset,
+        back: 0,
+        gate: None,
+        wire: Some(wire as u32),
+    })
 }
 
 impl<A: Allocator + Copy> Circuit<A> {
@@ -168,24 +242,30 @@ impl<A: Allocator + Copy> Circuit<A> {
         ensures reading { MatchResult result (λ c. circuit_of (tokens text.now) ≡ Ok c)
             (λ e. e ≢ ReadFault.Memory → circuit_of (tokens text.now) ≡ Err e) }
     {
-        Circuit::read_in_order(alloc, text)
+        let mut tokens = Tokens::new(text);
+        match Circuit::read_in_order(alloc, &mut tokens) {
+            Ok(circuit) => Ok(circuit),
+            Err(stop) => Err(stop.fault),
+        }
     }
 
-    /// Reads the header, the gates and the end, in the order of the text.
+    /// Reads the header, the gates and the end, in the order of the text. The cursor stays where reading stops.
     #[tactic(auto, unfolding(gc_netlist::specs::Reading::circuit_of))]
-    fn read_in_order(alloc: A, text: &[u8]) -> Result<Circuit<A>, ReadFault>
-        ensures reading { MatchResult result (λ c. circuit_of (tokens text.now) ≡ Ok c)
-            (λ e. e ≢ ReadFault.Memory → circuit_of (tokens text.now) ≡ Err e) }
+    pub(crate) fn read_in_order(alloc: A, tokens: &mut Tokens<'_>) -> Result<Circuit<A>, Stop>
+        ensures reading { MatchResult result (λ c. circuit_of tokens.old.left ≡ Ok c)
+            (λ s. s.fault ≢ ReadFault.Memory → circuit_of tokens.old.left ≡ Err s.fault) }
         ensures lawful { IfOk result IsLawful }
-        ensures spelled { IfOk result (Spells text.now) }
+        ensures spelled { IfOk result (λ c. SpellWords tokens.old.left (words_of_circuit c) []) }
+        ensures met { IfErr result (λ s. s.fault ≢ ReadFault.Memory
+            → IsMet tokens.old.left s.fault tokens.new.left s.back s.gate s.wire) }
+        ensures kept { tokens.new.text ≡ tokens.old.text }
     {
-        let mut tokens = Tokens::new(text);
         let count = tokens.number_up_to(MAX_GATES)?;
         let wires = tokens.number_up_to(MAX_WIRES)?;
-        let inputs = read_widths(alloc, &mut tokens, wires)?;
-        let outputs = read_widths(alloc, &mut tokens, wires)?;
-        let room = (text.len() / SHORTEST_GATE + 1).min(count as usize);
-        let body = read_gates(alloc, &mut tokens, wires, inputs.sum, count, room)?;
+        let inputs = read_widths(alloc, tokens, wires)?;
+        let outputs = read_widths(alloc, tokens, wires)?;
+        let room = (tokens.text_len() / SHORTEST_GATE + 1).min(count as usize);
+        let body = read_gates(alloc, tokens, wires, inputs.sum, count, room)?;
         check_outputs(&body.is_set, outputs.sum)?;
         tokens.end()?;
         Ok(Circuit::new(wires, inputs, outputs, body.gates, body.and_count))

@@ -1,30 +1,39 @@
-ghost use Rattle.std.specs.Prelude.{◌≡◌, ◌<◌, ◌≤◌, ◌∷◌, length, take, true, false, slice_index, codes, All, IfOk, IsTrue, IsFalse, MatchOption, MatchResult, Ok, Err};
+ghost use Rattle.std.specs.Prelude.{◌≡◌, ℕ, ◌<◌, ◌≤◌, ◌+◌, ◌-◌, ◌∷◌, ◌++◌, length, take, drop, true, false, slice_index, codes, All, IfOk, IfErr, IsTrue, IsFalse, MatchOption, MatchResult, Ok, Err};
 ghost use Rattle.gc_netlist.specs.Text.{tokens, is_blank};
 ghost use Rattle.gc_netlist.specs.Reading.{token_at, number_at, limited_at, check_end};
+ghost use Rattle.gc_netlist.specs.Met.{limited_left};
+ghost use Rattle.gc_netlist.specs.Place.{Token, Behind, IsSpot};
+ghost use Rattle.gc_circuit.specs.Cursor.{IsCut};
 
+use crate::back::{last_end, start_back};
 use crate::number::{is_blank, leading_number, short_number};
 use gc_netlist::ReadFault;
 use std::marker::Model;
 
-/// What is left of a text, seen as its tokens. The calls that read gates are inlined, so that it stays in registers.
+/// A cursor in a text, seen as the text and the tokens that are left. The calls that read gates are inlined, so that
+/// what is left stays in registers.
 #[derive(Drop)]
 pub(crate) struct Tokens<'a> {
+    text: &'a [u8],
     rest: &'a [u8],
 }
 
 impl<'a> Model for Tokens<'a> {
-    ghost use Rattle.std.specs.Prelude.{ℕ, List};
     ghost use Rattle.gc_netlist.specs.Text.{tokens};
+    ghost use Rattle.gc_circuit.specs.Cursor.{Cursor, IsCut};
 
-    ghost Value = { List (List ℕ) };
+    ghost Value = { Cursor };
 
-    ghost view = { λ t. tokens t.rest.now };
+    ghost view = { λ t. record { text = t.text.now; left = tokens t.rest.now } };
+
+    ghost invariant = { λ t. IsCut t.text.now t.rest.now };
 }
 
 /// The text from its first byte that is no blank.
 #[inline(always)]
 fn skip_blanks(text: &[u8]) -> &[u8]
     ensures same { tokens result.now ≡ tokens text.now }
+    ensures suffix { (k : ℕ) × (k ≤ length text.now) × (result.now ≡ drop k text.now) }
     ensures begins { 0 < length result.now → is_blank (slice_index result.now 0) ≡ false }
 {
     for (i, byte) in text.iter().enumerate() {
@@ -72,16 +81,79 @@ fn begins_with_name_of_three(text: &[u8]) -> bool
 impl<'a> Tokens<'a> {
     /// The tokens of a text.
     pub fn new(text: &'a [u8]) -> Tokens<'a>
-        ensures { result ≡ tokens text.now }
+        ensures whole { result.text ≡ text.now }
+        ensures all { result.left ≡ tokens text.now }
     {
-        Tokens { rest: text }
+        Tokens { text, rest: text }
+    }
+
+    /// The place of the cursor, to which `reset` comes back.
+    #[inline(always)]
+    pub fn mark(&self) -> &'a [u8]
+        ensures left { tokens result.now ≡ self.now.left }
+        ensures cut { IsCut self.now.text result.now }
+    {
+        self.rest
+    }
+
+    /// Goes back to a place.
+    pub fn reset(&mut self, mark: &'a [u8])
+        requires { IsCut self.old.text mark.now }
+        ensures left { self.new.left ≡ tokens mark.now }
+        ensures kept { self.new.text ≡ self.old.text }
+    {
+        self.rest = mark;
+    }
+
+    /// The bytes before the cursor.
+    fn before(&self) -> &'a [u8]
+        ensures front { result.now ≡ take (length result.now) self.now.text }
+        ensures within { length result.now ≤ length self.now.text }
+        ensures parted { tokens self.now.text ≡ tokens result.now ++ self.now.left }
+    {
+        let (before, _) = self.text.split_at(self.text.len() - self.rest.len());
+        before
+    }
+
+    /// Where the token begins that stands `back` tokens before those that are left. That there is one is the caller's
+    /// condition.
+    pub fn start(&mut self, back: usize) -> usize
+        requires before { back + length self.old.left ≤ length (tokens self.old.text) }
+        requires next { back ≡ 0 → 0 < length self.old.left }
+        ensures { IsSpot self.old.text
+            (Token (length (tokens self.old.text) - length self.old.left - back)) result }
+    {
+        if back > 0 {
+            return start_back(self.before(), back);
+        }
+        match self.token() {
+            Ok(_) => start_back(self.before(), 1),
+            Err(_) => unreachable!(),
+        }
+    }
+
+    /// The end of the last token before those that are left. That there is one is the caller's condition.
+    pub fn end_before(&self) -> usize
+        requires { length self.now.left < length (tokens self.now.text) }
+        ensures { IsSpot self.now.text
+            (Behind (length (tokens self.now.text) - length self.now.left)) result }
+    {
+        last_end(self.before())
+    }
+
+    /// The number of bytes of the text.
+    pub fn text_len(&self) -> usize
+        ensures { result ≡ length self.now.text }
+    {
+        self.text.len()
     }
 
     /// Takes the numbers 2 and 1 where they come next, each with a space after it. Returns whether they do.
     #[inline(always)]
     pub fn two_and_one(&mut self) -> bool
-        ensures taken { IsTrue result → self.old ≡ codes "2" ∷ codes "1" ∷ self.new }
-        ensures left { IsFalse result → self.new ≡ self.old }
+        ensures taken { IsTrue result → self.old.left ≡ codes "2" ∷ codes "1" ∷ self.new.left }
+        ensures left { IsFalse result → self.new.left ≡ self.old.left }
+        ensures kept { self.new.text ≡ self.old.text }
     {
         let taken = begins_with_two_and_one(self.rest);
         if taken {
@@ -93,8 +165,10 @@ impl<'a> Tokens<'a> {
     /// Takes a token that is due.
     #[inline(always)]
     pub fn token(&mut self) -> Result<&'a [u8], ReadFault>
-        ensures { MatchResult result (λ t. token_at self.old ≡ Ok (t.now, self.new))
-            (λ e. token_at self.old ≡ Err e) }
+        ensures read { MatchResult result (λ t. token_at self.old.left ≡ Ok (t.now, self.new.left))
+            (λ e. token_at self.old.left ≡ Err e) }
+        ensures left { IfErr result (λ _. self.new.left ≡ self.old.left) }
+        ensures kept { self.new.text ≡ self.old.text }
     {
         if let Some(name) = self.name_of_three() {
             return Ok(name);
@@ -111,8 +185,9 @@ impl<'a> Tokens<'a> {
     /// Takes a token of three bytes and the line feed after it, where one space comes before it.
     #[inline(always)]
     fn name_of_three(&mut self) -> Option<&'a [u8]>
-        ensures { MatchOption result (self.new ≡ self.old)
-            (λ t. token_at self.old ≡ Ok (t.now, self.new)) }
+        ensures read { MatchOption result (self.new.left ≡ self.old.left)
+            (λ t. token_at self.old.left ≡ Ok (t.now, self.new.left)) }
+        ensures kept { self.new.text ≡ self.old.text }
     {
         if !begins_with_name_of_three(self.rest) {
             return None;
@@ -125,8 +200,10 @@ impl<'a> Tokens<'a> {
     /// Takes a number that is due.
     #[inline(always)]
     pub fn number(&mut self) -> Result<u32, ReadFault>
-        ensures { MatchResult result (λ n. number_at self.old ≡ Ok (n, self.new))
-            (λ e. number_at self.old ≡ Err e) }
+        ensures read { MatchResult result (λ n. number_at self.old.left ≡ Ok (n, self.new.left))
+            (λ e. number_at self.old.left ≡ Err e) }
+        ensures left { IfErr result (λ _. self.new.left ≡ self.old.left) }
+        ensures kept { self.new.text ≡ self.old.text }
     {
         let text = skip_blanks(self.rest);
         let (value, len) = match short_number(text) {
@@ -138,11 +215,14 @@ impl<'a> Tokens<'a> {
     }
 
     /// Takes a number that is due and may not be above the limit.
-    #[tactic(auto, unfolding(gc_netlist::specs::Reading::limited_at))]
+    #[tactic(auto, unfolding(gc_netlist::specs::Reading::limited_at, gc_netlist::specs::Met::limited_left))]
     pub fn number_up_to(&mut self, limit: u32) -> Result<u32, ReadFault>
-        ensures number { MatchResult result (λ n. limited_at limit self.old ≡ Ok (n, self.new))
-            (λ e. limited_at limit self.old ≡ Err e) }
+        ensures number { MatchResult result
+            (λ n. limited_at limit self.old.left ≡ Ok (n, self.new.left))
+            (λ e. limited_at limit self.old.left ≡ Err e) }
         ensures within { IfOk result (λ n. n ≤ limit) }
+        ensures left { IfErr result (λ _. self.new.left ≡ limited_left self.old.left) }
+        ensures kept { self.new.text ≡ self.old.text }
     {
         let value = self.number()?;
         if value <= limit {
@@ -154,7 +234,7 @@ impl<'a> Tokens<'a> {
 
     /// Checks that no token is left.
     pub fn end(&self) -> Result<(), ReadFault>
-        ensures { result ≡ check_end self.now }
+        ensures { result ≡ check_end self.now.left }
     {
         if skip_blanks(self.rest).is_empty() {
             Ok(())

@@ -1,9 +1,9 @@
-use Rattle.std.proofs.Common.{◌≤◌, ◌<◌, length, flat_map, ◌∙◌, ap, arith}
+use Rattle.std.proofs.Common.{◌≡◌, ◌≤◌, ◌<◌, length, flat_map, ◌∙◌, ap, arith}
 use Rattle.std.proofs.lemmas.Grind.{common_steps}
 use Rattle.std.proofs.lemmas.List.FromFn.{length-map-range_with_len}
 use Rattle.gc_netlist.proofs.SolutionLemmas.{EachRead-map}
 use Rattle.gc_netlist.proofs.Tables.{EachRead-below}
-use Rattle.gc_circuit.proofs.BitLemmas.{bits_more, bits_start, length-joined}
+use Rattle.gc_circuit.proofs.BitLemmas.{bits_more, bits_start, bits_end, length-joined}
 use Rattle.gc_circuit.proofs.eval.wire_bits.Goals as goal
 
 pub loop-i-init : goal.loop-i-init
@@ -31,3 +31,10 @@ loop-i-preserved g c =
     c.operation_bit.result c.wires.ensures.lawful
     c.loop-i.invariant c.gate-gate.ensures (let e = c.operation_bit.ensures in
     let f = c.deref.ensures.value in rw f at e)
+
+pub returns : goal.returns
+returns g c =
+    let e = length-joined (λ v. v.items) c.args.values.now c.args.circuit.now.input_widths c.requires in
+    let whole : c.loop-i.i ≡ length c.args.circuit.now.gates = omega arith in
+    bits_end c.args.circuit.now (flat_map (λ v. v.items) c.args.values.now) c.loop-i.bits.items
+    c.wires.ensures.lawful e (rw (← whole) c.loop-i.invariant)

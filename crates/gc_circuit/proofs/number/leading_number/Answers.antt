@@ -27,6 +27,7 @@ returns-then-is_blank c =
           (blank_later c.args.text.now c.loop-i.i c.loop-i-test.true c.requires blank) (omega arith)
           c.loop-i.invariant.digits
           c.loop-i.invariant.value c.loop-i.invariant.small (λ _. blank),
+      λ _. blank,
     )
 
 pub returns-else-is_blank : goal.returns-else-is_blank
@@ -63,4 +64,5 @@ returns c = (
   number_whole c.args.text.now c.loop-i.i c.loop-i.value (omega arith)
       (some_bytes c.args.text.now c.is_empty.result c.is_empty.ensures c.if-is_empty.false)
       c.loop-i.invariant.digits c.loop-i.invariant.value c.loop-i.invariant.small,
+  λ below. absurd (omega arith),
 )

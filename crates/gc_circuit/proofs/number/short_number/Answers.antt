@@ -17,6 +17,7 @@ returns-then-is_blank c =
           (blank_later c.args.text.now c.loop-i.i within c.requires blank) (omega arith)
           c.loop-i.invariant.digits
           c.loop-i.invariant.value (omega (arith, small)) (λ _. blank),
+      λ _. blank,
     )
 
 pub overflow_mul-value : goal.overflow_mul-value

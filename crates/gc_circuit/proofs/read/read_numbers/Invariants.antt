@@ -1,10 +1,14 @@
 use Rattle.std.proofs.Common.{◌≡◌, ◌-◌, []}
 use Rattle.std.specs.Vec.{vec_len}
 use Rattle.gc_netlist.specs.Reading.{numbers_at}
+use Rattle.gc_netlist.specs.Met.{numbers_left}
 use Rattle.gc_circuit.proofs.read.read_numbers.Given as goal
 
 abbrev pub invariant-loop-i : goal.invariant-loop-i
 invariant-loop-i g l = record {
-  so_far : numbers_at (l.count - l._i) l.numbers.items l.tokens ≡ numbers_at l.count [] l.fn.tokens;
+  so_far : numbers_at (l.count - l._i) l.numbers.items l.tokens.left
+      ≡ numbers_at l.count [] l.fn.tokens.left;
+  left : numbers_left (l.count - l._i) l.tokens.left ≡ numbers_left l.count l.fn.tokens.left;
   len : vec_len l.numbers ≡ l._i;
+  kept : l.tokens.text ≡ l.fn.tokens.text;
 }

@@ -1,0 +1,70 @@
+ghost use Rattle.std.specs.Prelude.{◌≡◌};
+ghost use Rattle.gc_netlist.specs.Met.{back_of};
+
+use gc_netlist::ReadFault;
+use std::alloc::{AllocError, AllocFailed};
+
+/// Why reading stops, and where: how many tokens the place stands before those that are left, the gate that is read
+/// there, and the wire that the fault is about.
+#[derive(Clone, Copy, Debug)]
+pub(crate) struct Stop {
+    pub(crate) fault: ReadFault,
+    pub(crate) back: usize,
+    pub(crate) gate: Option<u32>,
+    pub(crate) wire: Option<u32>,
+}
+
+/// How many tokens before those that are left a fault stands that is about no wire.
+pub(crate) fn back_of(fault: ReadFault) -> usize
+    ensures { result ≡ back_of fault }
+{
+    match fault {
+        ReadFault::TooLarge
+        | ReadFault::BadShape
+        | ReadFault::UnknownOperation
+        | ReadFault::WidthsExceedWires => 1,
+        ReadFault::BadConstant => 3,
+        _ => 0,
+    }
+}
+
+/// A fault that is found in no gate.
+impl From<ReadFault> for Stop {
+    ghost use Rattle.std.specs.Prelude.{◌≡◌, None};
+    ghost use Rattle.gc_netlist.specs.Met.{back_of};
+
+    ghost from_gives = { λ e s.
+        (s.fault ≡ e) × (s.back ≡ back_of e) × (s.gate ≡ None) × (s.wire ≡ None) };
+
+    #[cold]
+    fn from(fault: ReadFault) -> Stop {
+        Stop {
+            fault,
+            back: back_of(fault),
+            gate: None,
+            wire: None,
+        }
+    }
+}
+
+impl From<AllocError> for Stop {
+    ghost use Rattle.std.specs.Prelude.{◌≡◌};
+    ghost use Rattle.gc_netlist.specs.declared.fault.ReadFault.TheVariants as faults;
+
+    ghost from_gives = { λ _ s. s.fault ≡ faults.Memory };
+
+    fn from(_e: AllocError) -> Stop {
+        Stop::from(ReadFault::Memory)
+    }
+}
+
+impl<T: Drop> From<AllocFailed<T>> for Stop {
+    ghost use Rattle.std.specs.Prelude.{◌≡◌};
+    ghost use Rattle.gc_netlist.specs.declared.fault.ReadFault.TheVariants as faults;
+
+    ghost from_gives = { λ _ s. s.fault ≡ faults.Memory };
+
+    fn from(_e: AllocFailed<T>) -> Stop {
+        Stop::from(ReadFault::Memory)
+    }
+}
