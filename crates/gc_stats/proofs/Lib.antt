@@ -1,0 +1,4 @@
+pub mod CountLemmas
+pub mod DepthLemmas
+pub mod ReadLemmas
+pub mod SizeLemmas
