@@ -194,8 +194,7 @@ module _ (c : Netlist) (seed : List ℕ) where
       -- so that it may wait.
       pub may-wait : is_and g.operation ≡ true → (place : ℕ) → IsGate c seed (record {
         place = place;
-        set = g.set;
-        gate = record { k = k; offset = offset; a = first; b = second };
+        waits = record { gate = record { k = k; offset = offset; a = first; b = second }; set = g.set };
       })
       may-wait and place = record {
         set = lawful.sets i g at;

@@ -3,24 +3,25 @@ use Rattle.std.specs.Prelude.{◌≡◌, ℕ, ◌<◌, List, length, slice_index
 use Rattle.gc_netlist.specs.Circuit.{Netlist, IsLawful, and_count}
 use Rattle.gc_netlist.specs.Solution.{on_outputs}
 use Rattle.gc_half.specs.declared.garbling.RowPair.{RowPair}
+use Rattle.gc_half.specs.declared.half_gate.AndStep.{AndStep}
 use Rattle.gc_half.specs.Hash.{hash}
 use Rattle.gc_half.specs.HalfGate.{and_active}
 use Rattle.gc_half.specs.Evaluation.{IsEvaluation}
 use Rattle.gc_half.specs.Canonical.{active_label_of}
-use Rattle.gc_layers.specs.declared.to_evaluate.ToEvaluate.{ToEvaluate}
+use Rattle.gc_layers.specs.declared.placed.PlacedGate.{PlacedGate}
 
 -- What evaluating a gate that waits gives: the active label of the wire that it sets.
-abbrev pub active_by : ToEvaluate → ℕ
+abbrev pub active_by : PlacedGate AndStep → ℕ
 active_by gate =
-    let step = gate.step in
+    let step = gate.waits.gate in
     and_active hash step.k step.rows.generator step.rows.evaluator step.a step.b
 
 -- The gate that waits is one of the circuit's AND gates, with its row pair and the active labels of the wires that it
 -- reads.
-pub record IsToEvaluate (c : Netlist) (rows : List RowPair) (inputs : List ℕ) (gate : ToEvaluate)
-    : Type 0 where
-  pub set : gate.set < c.wires
-  pub label : active_by gate ≡ active_label_of c rows inputs gate.set
+pub record IsToEvaluate (c : Netlist) (rows : List RowPair) (inputs : List ℕ)
+    (gate : PlacedGate AndStep) : Type 0 where
+  pub set : gate.waits.set < c.wires
+  pub label : active_by gate ≡ active_label_of c rows inputs gate.waits.set
 
 -- What an evaluation is given.
 pub record EvaluatorParts : Type 0 where

@@ -3,23 +3,24 @@ use Rattle.std.specs.Prelude.{◌≡◌, ℕ, ◌<◌, Bool, List, Option, None,
 use Rattle.gc_netlist.specs.Circuit.{Netlist, IsLawful, and_count}
 use Rattle.gc_label.specs.Seed.{offset_of}
 use Rattle.gc_half.specs.declared.garbling.RowPair.{RowPair}
+use Rattle.gc_half.specs.declared.half_gate.AndGate.{AndGate}
 use Rattle.gc_half.specs.Hash.{hash}
 use Rattle.gc_half.specs.HalfGate.{and_zero}
 use Rattle.gc_half.specs.OneGate.{row_pair}
 use Rattle.gc_half.specs.Canonical.{zero_label_of, row_pairs_of}
-use Rattle.gc_layers.specs.declared.to_garble.ToGarble.{ToGarble}
+use Rattle.gc_layers.specs.declared.placed.PlacedGate.{PlacedGate}
 use Rattle.gc_layers.specs.declared.to_garble.Garbled.{Garbled}
 use Rattle.gc_labelling.specs.Layer.{IsPartly}
 
 -- What garbling a gate that waits gives: the zero label of the wire that it sets,
-abbrev pub zero_by : ToGarble → ℕ
-zero_by w = and_zero hash w.gate.k w.gate.offset w.gate.a w.gate.b
+abbrev pub zero_by : PlacedGate AndGate → ℕ
+zero_by w = and_zero hash w.waits.gate.k w.waits.gate.offset w.waits.gate.a w.waits.gate.b
 
 -- and its row pair.
-abbrev pub rows_by : ToGarble → RowPair
-rows_by w = row_pair hash w.gate.offset w.gate.k w.gate.a w.gate.b
+abbrev pub rows_by : PlacedGate AndGate → RowPair
+rows_by w = row_pair hash w.waits.gate.offset w.waits.gate.k w.waits.gate.a w.waits.gate.b
 
-abbrev pub garbled_of : ToGarble → Garbled
+abbrev pub garbled_of : PlacedGate AndGate → Garbled
 garbled_of w = record { zero_label = zero_by w; rows = rows_by w }
 
 -- the row pairs, with that of the k-th AND gate where there is one
@@ -47,11 +48,11 @@ module _ (c : Netlist) (seed : List ℕ) where
     pub partly : IsPartly row_of no_rows (λ pair. pair.evaluator ≡ 0) (λ k. k < n) rows
 
   -- The gate that waits is one of the circuit's AND gates, with the zero labels of the wires that it reads.
-  pub record IsGate (w : ToGarble) : Type 0 where
-    pub set : w.set < c.wires
-    pub label : zero_by w ≡ zero_label_of c seed w.set
-    pub number : w.gate.k < and_count c
-    pub row : rows_by w ≡ row_of w.gate.k
+  pub record IsGate (w : PlacedGate AndGate) : Type 0 where
+    pub set : w.waits.set < c.wires
+    pub label : zero_by w ≡ zero_label_of c seed w.waits.set
+    pub number : w.waits.gate.k < and_count c
+    pub row : rows_by w ≡ row_of w.waits.gate.k
 
 -- The circuit and the seed of a garbling.
 pub record GarblerParts : Type 0 where

@@ -6,10 +6,10 @@ ghost use Rattle.gc_labelling.specs.Layer.{IsLabelled};
 ghost use Rattle.gc_half.specs.Canonical.{active_label_of};
 ghost use Rattle.gc_layers.specs.Evaluator.{AreOutputLabels};
 
+use crate::placed::PlacedGate;
 use crate::rest::are_marked;
-use crate::to_evaluate::ToEvaluate;
 use gc_circuit::{Circuit, Gate};
-use gc_half::{AndStep, RowPair, evaluate_gate};
+use gc_half::{AndStep, RowPair, WaitingGate, evaluate_gate};
 use gc_label::Label;
 use gc_labelling::{Labelling, Mark, Place};
 use std::alloc::Allocator;
@@ -76,7 +76,7 @@ impl<'c, C: Allocator> Evaluator<'c, C> {
     }
 }
 
-impl<'c, C: Allocator> Labelling<ToEvaluate> for Evaluator<'c, C> {
+impl<'c, C: Allocator> Labelling<PlacedGate<AndStep>> for Evaluator<'c, C> {
     ghost use Rattle.gc_half.specs.Canonical.{active_label_of};
     ghost use Rattle.gc_layers.specs.Evaluator.{IsToEvaluate};
 
@@ -92,21 +92,29 @@ impl<'c, C: Allocator> Labelling<ToEvaluate> for Evaluator<'c, C> {
     }
 
     #[inline]
-    fn pending(&self, place: Place, gate: Gate, first: Label, second: Label) -> ToEvaluate {
-        ToEvaluate {
+    fn pending(
+        &self,
+        place: Place,
+        gate: Gate,
+        first: Label,
+        second: Label,
+    ) -> PlacedGate<AndStep> {
+        PlacedGate {
             place: place.gate,
-            set: gate.set,
-            step: AndStep {
-                k: place.k,
-                rows: self.rows[place.k as usize],
-                a: first,
-                b: second,
+            waits: WaitingGate {
+                gate: AndStep {
+                    k: place.k,
+                    rows: self.rows[place.k as usize],
+                    a: first,
+                    b: second,
+                },
+                set: gate.set,
             },
         }
     }
 
     #[inline]
-    fn keep(&mut self, gate: &ToEvaluate, made: &Label) -> (u32, Label) {
-        (gate.set, *made)
+    fn keep(&mut self, gate: &PlacedGate<AndStep>, made: &Label) -> (u32, Label) {
+        (gate.waits.set, *made)
     }
 }

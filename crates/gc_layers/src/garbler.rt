@@ -4,9 +4,10 @@ ghost use Rattle.std.specs.Prelude.{◌≡◌, ◌≢◌, ℕ, ◌<◌, IfOk, Is
 ghost use Rattle.gc_netlist.specs.Circuit.{IsLawful, and_count};
 ghost use Rattle.gc_layers.specs.Garbler.{AreRows, IsGate, garbled_of, is_present, no_rows, row_of};
 
-use crate::to_garble::{Garbled, ToGarble};
+use crate::placed::PlacedGate;
+use crate::to_garble::Garbled;
 use gc_circuit::{Circuit, Gate, Memory};
-use gc_half::{AndGate, RowPair, garble_gate};
+use gc_half::{AndGate, RowPair, WaitingGate, garble_gate};
 use gc_label::{Label, Offset, Seed, offset};
 use gc_labelling::{Labelling, Place};
 use gc_table::Table;
@@ -100,7 +101,7 @@ impl<'c, A: Allocator, C: Allocator> Garbler<'c, A, C> {
     }
 }
 
-impl<'c, A: Allocator, C: Allocator> Labelling<ToGarble> for Garbler<'c, A, C> {
+impl<'c, A: Allocator, C: Allocator> Labelling<PlacedGate<AndGate>> for Garbler<'c, A, C> {
     ghost use Rattle.gc_half.specs.Canonical.{zero_label_of};
     ghost use Rattle.gc_layers.specs.Garbler.{IsGate};
 
@@ -117,22 +118,30 @@ impl<'c, A: Allocator, C: Allocator> Labelling<ToGarble> for Garbler<'c, A, C> {
     }
 
     #[inline]
-    fn pending(&self, place: Place, gate: Gate, first: Label, second: Label) -> ToGarble {
-        ToGarble {
+    fn pending(
+        &self,
+        place: Place,
+        gate: Gate,
+        first: Label,
+        second: Label,
+    ) -> PlacedGate<AndGate> {
+        PlacedGate {
             place: place.gate,
-            set: gate.set,
-            gate: AndGate {
-                k: place.k,
-                offset: self.offset,
-                a: first,
-                b: second,
+            waits: WaitingGate {
+                gate: AndGate {
+                    k: place.k,
+                    offset: self.offset,
+                    a: first,
+                    b: second,
+                },
+                set: gate.set,
             },
         }
     }
 
     #[inline]
-    fn keep(&mut self, gate: &ToGarble, made: &Garbled) -> (u32, Label) {
-        self.put(gate.gate.k, made.rows);
-        (gate.set, made.zero_label)
+    fn keep(&mut self, gate: &PlacedGate<AndGate>, made: &Garbled) -> (u32, Label) {
+        self.put(gate.waits.gate.k, made.rows);
+        (gate.waits.set, made.zero_label)
     }
 }

@@ -9,6 +9,7 @@ mod evaluate;
 mod evaluator;
 mod garble;
 mod garbler;
+mod placed;
 mod rest;
 mod to_evaluate;
 mod to_garble;

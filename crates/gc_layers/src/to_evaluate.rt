@@ -5,20 +5,13 @@ ghost use Rattle.gc_labelling.specs.Layer.{AreMade};
 ghost use Rattle.gc_layers.specs.Evaluator.{active_by};
 ghost use Rattle.gc_layers.specs.Made.{IsMadeAt};
 
+use crate::placed::PlacedGate;
 use gc_half::{AndStep, eval_four_ands};
 use gc_label::Label;
 use gc_labelling::Pending;
 
-/// An AND gate that waits to be evaluated, its place in the file, and the wire that it sets.
-#[derive(Clone, Copy)]
-pub(crate) struct ToEvaluate {
-    pub place: u32,
-    pub set: u32,
-    pub step: AndStep,
-}
-
 /// Evaluates the gates at the four places from 4 * i on, at once. The last gate stands in for those that aren't there.
-fn evaluate_four(gates: &[ToEvaluate], made: &mut [Label], i: usize)
+fn evaluate_four(gates: &[PlacedGate<AndStep>], made: &mut [Label], i: usize)
     requires place { 4 * i < length gates.now }
     requires room { length gates.now ≤ length made.old }
     requires before { (j : ℕ) → j < 4 * i → IsMadeAt active_by gates.now made.old j }
@@ -30,10 +23,10 @@ fn evaluate_four(gates: &[ToEvaluate], made: &mut [Label], i: usize)
     let third = (first + 2).min(last);
     let fourth = (first + 3).min(last);
     let [a, b, c, d] = eval_four_ands([
-        gates[first].step,
-        gates[second].step,
-        gates[third].step,
-        gates[fourth].step,
+        gates[first].waits.gate,
+        gates[second].waits.gate,
+        gates[third].waits.gate,
+        gates[fourth].waits.gate,
     ]);
     made[first] = a;
     made[second] = b;
@@ -42,7 +35,7 @@ fn evaluate_four(gates: &[ToEvaluate], made: &mut [Label], i: usize)
 }
 
 /// Evaluates all gates that wait, by fours.
-fn evaluate_fours(gates: &[ToEvaluate], made: &mut [Label])
+fn evaluate_fours(gates: &[PlacedGate<AndStep>], made: &mut [Label])
     requires { length gates.now ≤ length made.old }
     ensures { AreMade active_by gates.now made.new }
 {
@@ -51,7 +44,7 @@ fn evaluate_fours(gates: &[ToEvaluate], made: &mut [Label])
     }
 }
 
-impl Pending for ToEvaluate {
+impl Pending for PlacedGate<AndStep> {
     ghost use Rattle.gc_layers.specs.Evaluator.{active_by};
 
     type Made = Label;
@@ -66,7 +59,7 @@ impl Pending for ToEvaluate {
         self.place
     }
 
-    fn make_all(gates: &[ToEvaluate], made: &mut [Label]) {
+    fn make_all(gates: &[PlacedGate<AndStep>], made: &mut [Label]) {
         evaluate_fours(gates, made);
     }
 }

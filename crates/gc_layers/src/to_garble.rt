@@ -5,17 +5,10 @@ ghost use Rattle.gc_labelling.specs.Layer.{AreMade};
 ghost use Rattle.gc_layers.specs.Garbler.{garbled_of};
 ghost use Rattle.gc_layers.specs.Made.{IsMadeAt};
 
+use crate::placed::PlacedGate;
 use gc_half::{AndGate, RowPair, garble_two_ands};
 use gc_label::{Label, Offset};
 use gc_labelling::Pending;
-
-/// An AND gate that waits to be garbled, its place in the file, and the wire that it sets.
-#[derive(Clone, Copy)]
-pub(crate) struct ToGarble {
-    pub place: u32,
-    pub set: u32,
-    pub gate: AndGate,
-}
 
 /// What garbling an AND gate gives: the zero label of the wire that it sets, and its row pair.
 #[derive(Clone, Copy)]
@@ -54,7 +47,7 @@ fn named(garbled: (Label, Label, Label)) -> Garbled
 }
 
 /// Garbles the gates at the places 2 * i and 2 * i + 1 at once. The last gate stands in for one that isn't there.
-fn garble_pair(gates: &[ToGarble], made: &mut [Garbled], i: usize)
+fn garble_pair(gates: &[PlacedGate<AndGate>], made: &mut [Garbled], i: usize)
     requires place { 2 * i < length gates.now }
     requires room { length gates.now ≤ length made.old }
     requires before { (j : ℕ) → j < 2 * i → IsMadeAt garbled_of gates.now made.old j }
@@ -62,13 +55,13 @@ fn garble_pair(gates: &[ToGarble], made: &mut [Garbled], i: usize)
 {
     let first = 2 * i;
     let second = (first + 1).min(gates.len() - 1);
-    let (one, other) = garble_two_ands(gates[first].gate, gates[second].gate);
+    let (one, other) = garble_two_ands(gates[first].waits.gate, gates[second].waits.gate);
     made[first] = named(one);
     made[second] = named(other);
 }
 
 /// Garbles all gates that wait, by pairs.
-fn garble_pairs(gates: &[ToGarble], made: &mut [Garbled])
+fn garble_pairs(gates: &[PlacedGate<AndGate>], made: &mut [Garbled])
     requires { length gates.now ≤ length made.old }
     ensures { AreMade garbled_of gates.now made.new }
 {
@@ -77,7 +70,7 @@ fn garble_pairs(gates: &[ToGarble], made: &mut [Garbled])
     }
 }
 
-impl Pending for ToGarble {
+impl Pending for PlacedGate<AndGate> {
     ghost use Rattle.gc_layers.specs.Garbler.{garbled_of};
 
     type Made = Garbled;
@@ -92,7 +85,7 @@ impl Pending for ToGarble {
         self.place
     }
 
-    fn make_all(gates: &[ToGarble], made: &mut [Garbled]) {
+    fn make_all(gates: &[PlacedGate<AndGate>], made: &mut [Garbled]) {
         garble_pairs(gates, made);
     }
 }

@@ -5,7 +5,7 @@ use Rattle.gc_half.specs.OneGate.{gate_active}
 use Rattle.gc_half.specs.Evaluation.{row_at}
 use Rattle.gc_layers.specs.Evaluator.{EvaluatorParts}
 use Rattle.gc_layers.proofs.EvaluatorLemmas.{active-gate}
-use Rattle.gc_layers.proofs.evaluator.EvaluatorLabellingToEvaluate.free.Goals as goal
+use Rattle.gc_layers.proofs.evaluator.EvaluatorLabellingPlacedGateAndStep.free.Goals as goal
 
 pub returns : goal.returns
 returns g c =

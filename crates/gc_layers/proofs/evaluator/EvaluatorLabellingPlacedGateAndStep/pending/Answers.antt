@@ -9,7 +9,7 @@ use Rattle.gc_half.proofs.AndNumbers.{and_number-below}
 use Rattle.gc_layers.specs.Garbler.{no_rows}
 use Rattle.gc_layers.specs.Evaluator.{EvaluatorParts}
 use Rattle.gc_layers.proofs.EvaluatorLemmas.{active-gate, of-and}
-use Rattle.gc_layers.proofs.evaluator.EvaluatorLabellingToEvaluate.pending.Goals as goal
+use Rattle.gc_layers.proofs.evaluator.EvaluatorLabellingPlacedGateAndStep.pending.Goals as goal
 
 pub bounds-self-inside-place : goal.bounds-self-inside-place
 bounds-self-inside-place g c =

@@ -3,7 +3,7 @@ use Rattle.gc_netlist.specs.Circuit.{IsLawful}
 use Rattle.gc_label.specs.Seed.{offset_of}
 use Rattle.gc_layers.specs.Garbler.{GarblerParts}
 use Rattle.gc_layers.proofs.GarblerLemmas.{gate-label}
-use Rattle.gc_layers.proofs.garbler.GarblerLabellingToGarble.free.Goals as goal
+use Rattle.gc_layers.proofs.garbler.GarblerLabellingPlacedGateAndGate.free.Goals as goal
 
 pub returns : goal.returns
 returns g c =
