@@ -10,7 +10,7 @@ use Rattle.gc_work.specs.declared.account.PoolAccount.{PoolAccount}
 use Rattle.atomic_blocks.specs.Lent.{RowsId}
 use Rattle.gc_work.specs.Pool.{ThiefParts, AllOf, stolen_by, weigh}
 use Rattle.gc_work.specs.Kept.{IsOwning}
-use Rattle.gc_work.specs.PoolRule.{account, all_parts, total, gone, IsIdle, IdleIsEmpty, IsBalanced, Knows}
+use Rattle.gc_work.specs.PoolRule.{account, all_parts, total, gone, IsIdle, IdleIsEmpty, IsBalanced, Knows, KnowsSome}
 
 -- the total after a change of one view
 total_set : (f : PoolAccount → ℕ) (views : List PoolAccount) (port : ℕ) (v w : PoolAccount)
@@ -29,7 +29,7 @@ within f (x ∷ xs) zero v at = omega (arith, sum_by-cons f x xs, ap f (some-inj
 within f (x ∷ xs) (suc port) v at = omega (arith, sum_by-cons f x xs, within f xs port v at)
 
 -- where no view has a part, nothing was done
-none_done : (f : PoolAccount → ℕ) → f (account 0 [] [] [] []) ≡ 0 → (views : List PoolAccount)
+none_done : (f : PoolAccount → ℕ) → f (account 0 [] [] []) ≡ 0 → (views : List PoolAccount)
     → total (λ v. v.parts) views ≡ 0 → IdleIsEmpty views → total f views ≡ 0
 none_done f none [] nil idle = refl
 none_done f none (x ∷ xs) nil idle =
@@ -43,7 +43,7 @@ none_done f none (x ∷ xs) nil idle =
     )
 
 -- the view that has every part did all that was done
-all_done : (f : PoolAccount → ℕ) → f (account 0 [] [] [] []) ≡ 0
+all_done : (f : PoolAccount → ℕ) → f (account 0 [] [] []) ≡ 0
     → (views : List PoolAccount) (port : ℕ) (v : PoolAccount) → get_elem? views port ≡ some v
     → total (λ v. v.parts) views ≡ v.parts → IdleIsEmpty views → total f views ≡ f v
 all_done f none [] port v at whole idle = absurd (some-ne-none v (sym at))
@@ -76,9 +76,9 @@ idle_set views port w mine old j u e =
     (λ (x : (j ≢ port) × (get_elem? views j ≡ some u)). old j u x.1)
     (at_set views port j w u e)
 
-pub begins : IsBalanced [] (account all_parts [] [] [] [] ∷ [])
+pub begins : IsBalanced [] (account all_parts [] [] [] ∷ [])
 begins =
-    let first : PoolAccount = account all_parts [] [] [] [] in (
+    let first : PoolAccount = account all_parts [] [] [] in (
       refl,
       (λ h. refl),
       λ port v e. ⊎_elim
@@ -104,9 +104,9 @@ moves items items' views port v w part same step b at = (
 )
 
 pub pushes : (port : ℕ) (v : PoolAccount) (xs : List Task) → 0 < v.parts
-    → Pushes IsBalanced port v xs (λ w. w ≡ account v.parts (v.pushed ++ xs) v.popped v.stolen v.handed)
+    → Pushes IsBalanced port v xs (λ w. w ≡ account v.parts (v.pushed ++ xs) v.popped v.stolen)
 pushes port v xs part items views b at =
-    let w = account v.parts (v.pushed ++ xs) v.popped v.stolen v.handed in (
+    let w = account v.parts (v.pushed ++ xs) v.popped v.stolen in (
       w,
       moves items (items ++ xs) views port v w part refl (λ h. omega (
         arith,
@@ -117,9 +117,9 @@ pushes port v xs part items views b at =
     )
 
 pub pops : (port : ℕ) (v : PoolAccount) → 0 < v.parts
-    → Pops IsBalanced port v (λ xs w. w ≡ account v.parts v.pushed (v.popped ++ xs) v.stolen v.handed)
+    → Pops IsBalanced port v (λ xs w. w ≡ account v.parts v.pushed (v.popped ++ xs) v.stolen)
 pops port v part x items views b at =
-    let w = account v.parts v.pushed (v.popped ++ x ∷ []) v.stolen v.handed in (
+    let w = account v.parts v.pushed (v.popped ++ x ∷ []) v.stolen in (
       w,
       moves (items ++ x ∷ []) items views port v w part refl (λ h. omega (
         arith,
@@ -130,9 +130,9 @@ pops port v part x items views b at =
     )
 
 pub pops_first : (port : ℕ) (v : PoolAccount) (most : ℕ) → 0 < v.parts
-    → Takes IsBalanced port v most (λ xs w. w ≡ account v.parts v.pushed (v.popped ++ xs) v.stolen v.handed)
+    → Takes IsBalanced port v most (λ xs w. w ≡ account v.parts v.pushed (v.popped ++ xs) v.stolen)
 pops_first port v most part xs items views _ _ b at =
-    let w = account v.parts v.pushed (v.popped ++ xs) v.stolen v.handed in (
+    let w = account v.parts v.pushed (v.popped ++ xs) v.stolen in (
       w,
       moves (xs ++ items) items views port v w part refl (λ h. omega (
         arith,
@@ -143,9 +143,9 @@ pops_first port v most part xs items views _ _ b at =
     )
 
 pub steals : (port : ℕ) (v : PoolAccount) (most : ℕ) → 0 < v.parts
-    → Takes IsBalanced port v most (λ xs w. w ≡ account v.parts v.pushed v.popped (v.stolen ++ xs) v.handed)
+    → Takes IsBalanced port v most (λ xs w. w ≡ account v.parts v.pushed v.popped (v.stolen ++ xs))
 steals port v most part xs items views _ _ b at =
-    let w = account v.parts v.pushed v.popped (v.stolen ++ xs) v.handed in (
+    let w = account v.parts v.pushed v.popped (v.stolen ++ xs) in (
       w,
       moves (xs ++ items) items views port v w part refl (λ h. omega (
         arith,
@@ -155,38 +155,12 @@ steals port v most part xs items views _ _ b at =
       refl,
     )
 
-pub hands : (port : ℕ) (v : PoolAccount) → 0 < v.parts
-    → Pops IsBalanced port v (λ xs w. w ≡ account v.parts v.pushed v.popped v.stolen (v.handed ++ xs))
-hands port v part x items views b at =
-    let w = account v.parts v.pushed v.popped v.stolen (v.handed ++ x ∷ []) in (
-      w,
-      moves (items ++ x ∷ []) items views port v w part refl (λ h. omega (
-        arith,
-        sum_by-append h v.handed (x ∷ []),
-        sum_by-append h items (x ∷ []),
-      )) b at,
-      refl,
-    )
-
-pub hands_first : (port : ℕ) (v : PoolAccount) (most : ℕ) → 0 < v.parts
-    → Takes IsBalanced port v most (λ xs w. w ≡ account v.parts v.pushed v.popped v.stolen (v.handed ++ xs))
-hands_first port v most part xs items views _ _ b at =
-    let w = account v.parts v.pushed v.popped v.stolen (v.handed ++ xs) in (
-      w,
-      moves (xs ++ items) items views port v w part refl (λ h. omega (
-        arith,
-        sum_by-append h v.handed xs,
-        sum_by-append h xs items,
-      )) b at,
-      refl,
-    )
-
 pub forks : (port : ℕ) (v : PoolAccount) → 1 < v.parts
-    → Forks IsBalanced port v (account (v.parts - 1) v.pushed v.popped v.stolen v.handed)
-    (account 1 [] [] [] [])
+    → Forks IsBalanced port v (account (v.parts - 1) v.pushed v.popped v.stolen)
+    (account 1 [] [] [])
 forks port v two items views b at =
-    let l = account (v.parts - 1) v.pushed v.popped v.stolen v.handed in
-    let r = account 1 [] [] [] [] in
+    let l = account (v.parts - 1) v.pushed v.popped v.stolen in
+    let r = account 1 [] [] [] in
     let vs = set views port l in (
       (let s = total_set (λ (u : PoolAccount). u.parts) views port v l at in let p = b.0 in
           omega (arith, sum_by_push (λ (u : PoolAccount). u.parts) vs r)),
@@ -202,12 +176,12 @@ forks port v two items views b at =
     )
 
 pub merges : (port : ℕ) (v : PoolAccount) (other : ℕ) (u : PoolAccount) → 0 < v.parts
-    → u ≡ account 1 [] [] u.stolen []
+    → u ≡ account 1 [] [] u.stolen
     → Merges IsBalanced port v other u
-    (account (v.parts + u.parts) v.pushed v.popped (v.stolen ++ u.stolen) v.handed) (account 0 [] [] [] [])
+    (account (v.parts + u.parts) v.pushed v.popped (v.stolen ++ u.stolen)) (account 0 [] [] [])
 merges port v other u part is items views b at apart at' =
-    let both = account (v.parts + u.parts) v.pushed v.popped (v.stolen ++ u.stolen) v.handed in
-    let spent = account 0 [] [] [] [] in
+    let both = account (v.parts + u.parts) v.pushed v.popped (v.stolen ++ u.stolen) in
+    let spent = account 0 [] [] [] in
     let vs = set views port both in (
       (let s = total_set (λ (u : PoolAccount). u.parts) views port v both at in
           let t = total_set (λ (u : PoolAccount). u.parts) vs other u spent at' in let p = b.0 in omega arith),
@@ -218,7 +192,7 @@ merges port v other u part is items views b at apart at' =
           let t' = total_set (gone h) vs other u spent at' in
           let p = b.1 h in
           let e : weigh h u.pushed ≡ 0 = ap (λ (w : PoolAccount). weigh h w.pushed) is in
-          let e' : gone h u ≡ 0 + weigh h u.stolen + 0 = ap (gone h) is in
+          let e' : gone h u ≡ 0 + weigh h u.stolen = ap (gone h) is in
           omega (arith, sum_by-append h v.stolen u.stolen)),
       idle_set vs other spent (λ _. refl) (idle_set views port both (λ none. absurd (omega arith)) b.2),
     )
@@ -234,6 +208,30 @@ learns port v items views b at = record {
 
 pub finds : (port : ℕ) (v : PoolAccount) → Finds IsBalanced port v (Knows v [])
 finds port v views b at = learns port v [] views b at
+
+-- the view that was put in its place
+put_at : (views : List PoolAccount) (port : ℕ) (v w : PoolAccount) → get_elem? views port ≡ some v
+    → get_elem? (set views port w) port ≡ some w
+put_at [] port v w at = absurd (some-ne-none v (sym at))
+put_at (x ∷ xs) zero v w at = refl
+put_at (x ∷ xs) (suc port) v w at = put_at xs port v w at
+
+-- after a step that keeps the rule, the account knows the tasks in the pool
+known : (items : List Task) (views : List PoolAccount) (port : ℕ) (v w : PoolAccount)
+    → IsBalanced items (set views port w) → get_elem? views port ≡ some v → KnowsSome w
+known items views port v w b at = (items, learns port w items (set views port w) b (put_at views port v w at))
+
+pub hands : (port : ℕ) (v : PoolAccount) → 0 < v.parts
+    → Pops IsBalanced port v (λ xs w. (w ≡ account v.parts v.pushed (v.popped ++ xs) v.stolen) × KnowsSome w)
+hands port v part x items views b at =
+    let step = pops port v part x items views b at in
+    (step.0, step.1, (step.2, known items views port v step.0 step.1 at))
+
+pub hands_first : (port : ℕ) (v : PoolAccount) (most : ℕ) → 0 < v.parts
+    → Takes IsBalanced port v most (λ xs w. (w ≡ account v.parts v.pushed (v.popped ++ xs) v.stolen) × KnowsSome w)
+hands_first port v most part xs items views least few b at =
+    let step = pops_first port v most part xs items views least few b at in
+    (step.0, step.1, (step.2, known items views port v step.0 step.1 at))
 
 pub same_pool : {A : Type 0} (p q : RowsId × A) → p.0 ≡ q.0 → p.1 ≡ q.1 → p ≡ q
 same_pool p q a b = λ i. (a i, b i)
@@ -268,11 +266,10 @@ module _ {A : Type 0} where
 
 -- an owner that gave one part to a thief
 pub one_less : (v w : PoolAccount) (room room' next next' capacity thieves : ℕ)
-    → IsOwning v room next capacity thieves → w ≡ account (v.parts - 1) v.pushed v.popped v.stolen v.handed
+    → IsOwning v room next capacity thieves → w ≡ account (v.parts - 1) v.pushed v.popped v.stolen
     → room ≤ room' → next' ≡ next → thieves + 1 < 2 ^ 32 → IsOwning w room' next' capacity (thieves + 1)
 one_less v w room room' next next' capacity thieves o is more same few = record {
   nothing_stolen = ap (λ (u : PoolAccount). u.stolen) is ∙ o.nothing_stolen;
-  nothing_handed = ap (λ (u : PoolAccount). u.handed) is ∙ o.nothing_handed;
   parts = (let p : w.parts ≡ v.parts - 1 = ap (λ (u : PoolAccount). u.parts) is in let q = o.parts in
       let f = o.few in omega arith);
   few = few;

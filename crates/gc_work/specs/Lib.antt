@@ -1,5 +1,6 @@
 pub mod Pool
 pub mod PoolRule
+pub mod Left
 pub mod Kept
 pub mod Places
 pub mod Ready

@@ -17,12 +17,12 @@ pub record ThiefParts (A : Type 0) : Type 0 where
   pub pool : RowsId × A
   pub stolen : List Task
 
--- A gathered pool: all the tasks that were pushed, popped and stolen, and those handed out since.
+-- A gathered pool: all the tasks that were pushed, popped and stolen, and those left. One that it hands out is popped.
 pub record GatheredParts : Type 0 where
   pub pushed : List Task
   pub popped : List Task
   pub stolen : List Task
-  pub handed : List Task
+  pub left : List Task
 
 module _ {A : Type 0} where
   -- the tasks that these thieves stole
@@ -44,3 +44,9 @@ weigh h tasks = sum_by h tasks
 abbrev pub IsConserved : List Task → List Task → List Task → List Task → Type 0
 IsConserved pushed popped stolen left =
     (h : Task → ℕ) → weigh h pushed ≡ weigh h popped + weigh h stolen + weigh h left
+
+-- The task is one of those before, and the rest stays, in its order.
+abbrev pub IsTaken : Task → List Task → List Task → Type 0
+IsTaken task before after =
+    (front : List Task) × (back : List Task)
+    × (before ≡ front ++ task ∷ back) × (after ≡ front ++ back)

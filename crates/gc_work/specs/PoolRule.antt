@@ -10,13 +10,12 @@ use Rattle.gc_work.specs.Pool.{weigh}
 abbrev pub all_parts : ℕ
 all_parts = 2 ^ 33
 
-abbrev pub account : ℕ → List Task → List Task → List Task → List Task → PoolAccount
-account parts pushed popped stolen handed = record {
+abbrev pub account : ℕ → List Task → List Task → List Task → PoolAccount
+account parts pushed popped stolen = record {
   parts = parts;
   pushed = pushed;
   popped = popped;
   stolen = stolen;
-  handed = handed;
 }
 
 -- a number for each account, added up
@@ -25,11 +24,11 @@ total f accounts = sum_by f accounts
 
 -- what an account's holder took, weighed
 abbrev pub gone : (Task → ℕ) → PoolAccount → ℕ
-gone h v = weigh h v.popped + weigh h v.stolen + weigh h v.handed
+gone h v = weigh h v.popped + weigh h v.stolen
 
 -- A holder with no part has done nothing.
 abbrev pub IsIdle : PoolAccount → Type 0
-IsIdle v = v.parts ≡ 0 → v ≡ account 0 [] [] [] []
+IsIdle v = v.parts ≡ 0 → v ≡ account 0 [] [] []
 
 abbrev pub IdleIsEmpty : List PoolAccount → Type 0
 IdleIsEmpty accounts = (port : ℕ) (v : PoolAccount) → get_elem? accounts port ≡ some v → IsIdle v
@@ -45,3 +44,7 @@ IsBalanced tasks accounts =
 pub record Knows (v : PoolAccount) (tasks : List Task) : Type 0 where
   pub bound : v.parts ≤ all_parts
   pub whole : v.parts ≡ all_parts → (h : Task → ℕ) → weigh h v.pushed ≡ gone h v + weigh h tasks
+
+-- What an account tells where the tasks in the pool are not named.
+abbrev pub KnowsSome : PoolAccount → Type 0
+KnowsSome v = (tasks : List Task) × Knows v tasks

@@ -4,8 +4,8 @@ use crossbeam_deque::protocol::{Join, Lesson, Outcome, Protocol, Split};
 use gc_store::Task;
 use std::collections::LinkedList;
 
-/// What the owner or a thief of a pool has done with it: the tasks that it pushed, popped and stole, and those
-/// handed out after the pool was gathered. Its parts are of the right to know the whole.
+/// What the owner or a thief of a pool has done with it: the tasks that it pushed, popped and stole. Its parts are of
+/// the right to know the whole.
 ///
 /// Contracts alone see it; no value of it is made.
 pub struct PoolAccount {
@@ -13,7 +13,6 @@ pub struct PoolAccount {
     pub pushed: LinkedList<Task>,
     pub popped: LinkedList<Task>,
     pub stolen: LinkedList<Task>,
-    pub handed: LinkedList<Task>,
 }
 
 /// The rule of a pool: what was pushed is what was taken and what is left, as counts.
@@ -25,9 +24,9 @@ impl Protocol<Task, PoolAccount> for PoolRule {
 
     ghost holds = { IsBalanced };
 
-    ghost first = { account all_parts [] [] [] [] };
+    ghost first = { account all_parts [] [] [] };
 
-    ghost guest = { account 0 [] [] [] [] };
+    ghost guest = { account 0 [] [] [] };
 }
 
 /// One part of an owner's goes to a thief, and comes back with what the thief stole.
@@ -37,18 +36,18 @@ impl Split<PoolAccount> for OnePart {
     ghost use Rattle.std.specs.Prelude.{[], ◌-◌};
     ghost use Rattle.gc_work.specs.PoolRule.{account};
 
-    ghost left = { λ v. account (v.parts - 1) v.pushed v.popped v.stolen v.handed };
+    ghost left = { λ v. account (v.parts - 1) v.pushed v.popped v.stolen };
 
-    ghost right = { λ _. account 1 [] [] [] [] };
+    ghost right = { λ _. account 1 [] [] [] };
 }
 
 impl Join<PoolAccount> for OnePart {
     ghost use Rattle.std.specs.Prelude.{[], ◌+◌, ◌++◌};
     ghost use Rattle.gc_work.specs.PoolRule.{account};
 
-    ghost both = { λ v w. account (v.parts + w.parts) v.pushed v.popped (v.stolen ++ w.stolen) v.handed };
+    ghost both = { λ v w. account (v.parts + w.parts) v.pushed v.popped (v.stolen ++ w.stolen) };
 
-    ghost spent = { account 0 [] [] [] [] };
+    ghost spent = { account 0 [] [] [] };
 }
 
 pub(crate) struct Pushes;
@@ -57,7 +56,7 @@ impl Outcome<Task, PoolAccount> for Pushes {
     ghost use Rattle.std.specs.Prelude.{◌≡◌, ◌++◌};
     ghost use Rattle.gc_work.specs.PoolRule.{account};
 
-    ghost then = { λ v tasks w. w ≡ account v.parts (v.pushed ++ tasks) v.popped v.stolen v.handed };
+    ghost then = { λ v tasks w. w ≡ account v.parts (v.pushed ++ tasks) v.popped v.stolen };
 }
 
 pub(crate) struct Pops;
@@ -66,7 +65,7 @@ impl Outcome<Task, PoolAccount> for Pops {
     ghost use Rattle.std.specs.Prelude.{◌≡◌, ◌++◌, []};
     ghost use Rattle.gc_work.specs.PoolRule.{account, Knows};
 
-    ghost then = { λ v tasks w. w ≡ account v.parts v.pushed (v.popped ++ tasks) v.stolen v.handed };
+    ghost then = { λ v tasks w. w ≡ account v.parts v.pushed (v.popped ++ tasks) v.stolen };
 
     ghost empty = { λ v. Knows v [] };
 }
@@ -77,17 +76,18 @@ impl Outcome<Task, PoolAccount> for Steals {
     ghost use Rattle.std.specs.Prelude.{◌≡◌, ◌++◌};
     ghost use Rattle.gc_work.specs.PoolRule.{account};
 
-    ghost then = { λ v tasks w. w ≡ account v.parts v.pushed v.popped (v.stolen ++ tasks) v.handed };
+    ghost then = { λ v tasks w. w ≡ account v.parts v.pushed v.popped (v.stolen ++ tasks) };
 }
 
-/// What is left of a gathered pool is handed out, and known.
+/// What is left of a gathered pool is popped, and is known at each step.
 pub(crate) struct Hands;
 
 impl Outcome<Task, PoolAccount> for Hands {
     ghost use Rattle.std.specs.Prelude.{◌≡◌, ◌++◌, []};
-    ghost use Rattle.gc_work.specs.PoolRule.{account, Knows};
+    ghost use Rattle.gc_work.specs.PoolRule.{account, Knows, KnowsSome};
 
-    ghost then = { λ v tasks w. w ≡ account v.parts v.pushed v.popped v.stolen (v.handed ++ tasks) };
+    ghost then = { λ v tasks w. (w ≡ account v.parts v.pushed (v.popped ++ tasks) v.stolen)
+        × KnowsSome w };
 
     ghost empty = { λ v. Knows v [] };
 }

@@ -28,12 +28,15 @@ use std::thread::Threads;
 /// The room of a worker's pool, in tasks.
 const POOL_CAPACITY: u32 = 1024;
 
-/// The garbling of a circuit under a seed, made by this many workers. The calling thread is worker 0; a thread is started
-/// for each other worker that has something to do, and where one can't be started the calling thread does its work too. Where
-/// many AND gates near each other can be garbled at once, worker 0 goes from gate to gate and all garble the AND gates that it
-/// passed ([`garble_by_layers`]). Where half of the gates are AND and the workers' shares of the file need nothing of each
-/// other, they share a store, where each takes any gate that is ready. Else worker 0 garbles alone. `house.before` is called
-/// for each gate before it is sealed.
+// There is a tally for each worker.
+const _: () = prove!(MAX_WORKERS <= MAX_TALLIES);
+
+/// The garbling of a circuit under a seed, by this number of workers. The calling thread is worker 0.
+///
+/// [`way_of`] says how it is made. [`Way::Alone`]: worker 0 garbles, and no thread is started. [`Way::Layers`]: worker 0
+/// goes from gate to gate, and all garble the AND gates that it passed ([`garble_by_layers`]). [`Way::Together`]: they
+/// share a store, from which each takes any gate that is ready. Where a thread can't be started, the calling thread does
+/// its work too. Each gate is reported to the observer before it is sealed.
 ///
 /// It refuses 0 workers and more than [`MAX_WORKERS`]. Memory is the other fault.
 pub fn garble<
@@ -47,7 +50,7 @@ pub fn garble<
     circuit: &Circuit<C>,
     seed: &Seed,
     workers: u32,
-    house: &H,
+    observer: &H,
 ) -> Result<Garbling<A>, WorkFault>
     ensures garbled { IfOk result (IsGarbled circuit.now seed.now) }
     ensures workers { JudgesWorkers workers result }
@@ -56,12 +59,12 @@ pub fn garble<
         return Err(WorkFault::BadWorkers);
     }
     match way_of(alloc, circuit, workers)? {
-        Way::Alone => Ok(garble_alone(alloc, circuit, seed, house)?),
-        Way::Layers => Ok(garble_by_layers(rt, alloc, circuit, seed, workers, house)?),
+        Way::Alone => Ok(garble_alone(alloc, circuit, seed, observer)?),
+        Way::Layers => Ok(garble_by_layers(rt, alloc, circuit, seed, workers, observer)?),
         Way::Together => {
             let ledger = Blank::new(u64::from(MAX_TALLIES));
             let garbling = garble_by::<Brand, A, C, H, R>(
-                rt, alloc, ledger, circuit, seed, workers, house,
+                rt, alloc, ledger, circuit, seed, workers, observer,
             )?;
             Ok(garbling)
         }
@@ -82,17 +85,17 @@ fn garble_by<
     circuit: &Circuit<C>,
     seed: &Seed,
     workers: u32,
-    house: &H,
+    observer: &H,
 ) -> Result<Garbling<A>, Memory>
     requires { IsForStore L.name L.parts ledger }
     ensures { IfOk result (IsGarbled circuit.now seed.now) }
 {
     let store = Store::<L, A>::open_by(rt, alloc, ledger, circuit, *seed, workers)?;
     let capacity = circuit.gates().min(POOL_CAPACITY);
-    let (store, tally) = work_together(rt, alloc, store, workers, capacity, house)?;
-    match swept(store, tally, circuit, seed, house) {
+    let (store, tally) = work_together(rt, alloc, store, workers, capacity, observer)?;
+    match swept(store, tally, circuit, seed, observer) {
         Some(garbling) => Ok(garbling),
-        None => garble_alone(alloc, circuit, seed, house),
+        None => garble_alone(alloc, circuit, seed, observer),
     }
 }
 
@@ -103,12 +106,12 @@ fn swept<L: Ledger, A: Allocator, C: Allocator, H: Gatehouse>(
     tally: Option<Tally<L>>,
     circuit: &Circuit<C>,
     seed: &Seed,
-    house: &H,
+    observer: &H,
 ) -> Option<Garbling<A>>
     ensures { IfSome result (IsGarbled circuit.now seed.now) }
 {
     if let Some(mut tally) = tally {
-        sweep(&mut store, &mut tally, house);
+        sweep(&mut store, &mut tally, observer);
     }
     if store.is_for(circuit, seed) {
         if let Ok(garbling) = store.into_garbling() {
@@ -123,11 +126,11 @@ fn garble_alone<A: Allocator + Copy, C: Allocator, H: Gatehouse>(
     alloc: A,
     circuit: &Circuit<C>,
     seed: &Seed,
-    house: &H,
+    observer: &H,
 ) -> Result<Garbling<A>, Memory>
     ensures { IfOk result (IsGarbled circuit.now seed.now) }
 {
-    tell_all(house, circuit.gates());
+    tell_all(observer, circuit.gates());
     garble_one_thread(alloc, circuit, seed)
 }
 
@@ -144,11 +147,17 @@ fn work_together<
     mut store: Store<L, A>,
     workers: u32,
     capacity: u32,
-    house: &H,
+    observer: &H,
 ) -> Result<(Store<L, A>, Option<Tally<L>>), Memory> {
     let Workers { pools, mut members } = open_workers(alloc, &mut store, workers, capacity)?;
     let shared = SharedStore::new(store);
-    run_all(rt, &shared, pools.as_slice(), members.as_mut_slice(), house);
+    run_all(
+        rt,
+        &shared,
+        pools.as_slice(),
+        members.as_mut_slice(),
+        observer,
+    );
     let tally = gather(alloc, pools, members)?;
     Ok((shared.into_store(), tally))
 }
@@ -165,7 +174,7 @@ fn run_all<
     shared: &SharedStore<L, A>,
     pools: &[TaskPool<A>],
     members: &mut [Member<L, A>],
-    house: &H,
+    observer: &H,
 )
     requires { All (λ m. IsReady pools.now m) members.old }
     ensures { All (λ m. IsReady pools.now m) members.new }
@@ -178,6 +187,6 @@ fn run_all<
         &|_i: usize, member: &mut Member<L, A>|
             requires { IsReady pools.now member.now }
             ensures { IsReady pools.entry.now member.exit.now }
-        { work(rt, shared, pools, member, house) },
+        { work(rt, shared, pools, member, observer) },
     );
 }

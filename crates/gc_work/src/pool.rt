@@ -1,8 +1,7 @@
 //! Pools of tasks: one owner fills a pool and takes from its back, and thieves take from its front.
 
-ghost use Rattle.std.specs.Prelude.{◌≡◌, ◌+◌, ◌<◌, ◌≤◌, [], ◌∷◌, ◌++◌, codes, length, List, IfOk, IfErr, MatchResult, MatchOption, IfNone};
-ghost use Rattle.gc_store.specs.declared.task.Task.{Task};
-ghost use Rattle.gc_work.specs.Pool.{stolen_by, AllOf, IsConserved};
+ghost use Rattle.std.specs.Prelude.{◌≡◌, ◌+◌, ◌<◌, ◌≤◌, [], ◌∷◌, ◌++◌, codes, length, IfOk, IfErr, MatchResult, MatchOption, IfNone};
+ghost use Rattle.gc_work.specs.Pool.{stolen_by, AllOf, IsConserved, IsTaken};
 
 use crate::account::{Hands, OnePart, PoolAccount, PoolRule, Pops, Pushes, Steals};
 use crossbeam_deque::{Pass, Steal, Stealer, Worker};
@@ -34,8 +33,8 @@ pub struct Thief<A: Allocator = Global> {
     pass: Pass<Task, PoolAccount, A>,
 }
 
-/// A pool whose owner and thieves are all back. A contract sees all the tasks that were pushed, popped and
-/// stolen, and those handed out since.
+/// A pool whose owner and thieves are all back. A contract sees all the tasks that were pushed, popped and stolen,
+/// and those left. One that it hands out is popped.
 #[derive(Drop)]
 pub struct Gathered<A: Allocator = Global> {
     worker: Worker<Task, A, PoolAccount, PoolRule>,
@@ -81,9 +80,9 @@ impl<A: Allocator> Model for Thief<A> {
 }
 
 impl<A: Allocator> Model for Gathered<A> {
-    ghost use Rattle.std.specs.Prelude.{◌≡◌};
     ghost use Rattle.crossbeam_deque.specs.Handles.{worker_view};
-    ghost use Rattle.gc_work.specs.PoolRule.{all_parts};
+    ghost use Rattle.gc_work.specs.Kept.{IsGathered};
+    ghost use Rattle.gc_work.specs.Left.{left_of};
     ghost use Rattle.gc_work.specs.Pool.{GatheredParts};
 
     ghost Value = { GatheredParts };
@@ -92,10 +91,10 @@ impl<A: Allocator> Model for Gathered<A> {
       pushed = (worker_view g.worker).pushed;
       popped = (worker_view g.worker).popped;
       stolen = (worker_view g.worker).stolen;
-      handed = (worker_view g.worker).handed;
+      left = left_of (worker_view g.worker);
     } };
 
-    ghost invariant = { λ g. (worker_view g.worker).parts ≡ all_parts };
+    ghost invariant = { λ g. IsGathered (worker_view g.worker) };
 }
 
 /// A pool had no room for a task, and could not grow.
@@ -225,9 +224,9 @@ impl<A: Allocator> TaskPool<A> {
           pushed = owner.pushed;
           popped = owner.popped;
           stolen = stolen_by thieves.items;
-          handed = [];
+          left = g.left;
         }) }
-        ensures conserved { IfOk result (λ g. (left : List Task) × IsConserved g.pushed g.popped g.stolen left) }
+        ensures conserved { IfOk result (λ g. IsConserved g.pushed g.popped g.stolen g.left) }
     {
         if thieves.len() < owner.thieves as usize {
             return Err((self, owner, thieves));
@@ -247,12 +246,19 @@ impl<A: Allocator> TaskPool<A> {
 }
 
 impl<A: Allocator> Gathered<A> {
-    /// Hands out one of the tasks that are left. None says that none is: then the tasks pushed are, as counts,
-    /// those popped, those stolen and those handed out.
+    /// Hands out one of the tasks that are left: it is popped, and the rest stays. None comes only where none is left,
+    /// and changes nothing. It takes no memory.
+    ///
+    /// The tasks pushed are, as counts, those popped, those stolen and those left, also now.
     pub fn next(&mut self) -> Option<Task>
-        ensures { MatchOption result
-            ((self.new ≡ self.old) × IsConserved self.old.pushed self.old.popped self.old.stolen self.old.handed)
-            (λ t. self.new ≡ record self.old { handed = self.old.handed ++ t ∷ [] }) }
+        ensures left { MatchOption result (self.old.left ≡ [])
+            (λ t. IsTaken t self.old.left self.new.left) }
+        ensures popped { MatchOption result (self.new ≡ self.old) (λ t. self.new ≡ record self.old {
+          popped = self.old.popped ++ t ∷ [];
+          left = self.new.left;
+        }) }
+        ensures conserved { IsConserved self.new.pushed self.new.popped self.new.stolen
+            self.new.left }
     {
         self.worker.pop_as::<Hands>()
     }

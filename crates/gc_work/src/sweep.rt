@@ -9,11 +9,11 @@ use std::sync::ledger::Ledger;
 pub(crate) fn sweep<L: Ledger, A: Allocator, H: Gatehouse>(
     store: &mut Store<L, A>,
     tally: &mut Tally<L>,
-    house: &H,
+    observer: &H,
 ) {
     store.reopen();
     while let Some(task) = store.claim() {
-        house.before(0, task.gate);
+        observer.before(0, task.gate);
         match store.finish(Sealed::make(task), tally) {
             Ok(_) => {}
             Err(_) => return,

@@ -114,7 +114,7 @@ fn seal_some<L: Ledger, A: Allocator, H: Gatehouse>(
     pool: &TaskPool<A>,
     member: &mut Member<L, A>,
     batch: &mut Batch,
-    house: &H,
+    observer: &H,
     task: Task,
 ) -> bool
     requires { member.old.owner.pool ≡ pool.now }
@@ -128,7 +128,7 @@ fn seal_some<L: Ledger, A: Allocator, H: Gatehouse>(
         let Some(task) = next else {
             break;
         };
-        house.before(member.number, task.gate);
+        observer.before(member.number, task.gate);
         if !seal(&mut member.sealed, &mut kept, task) {
             return false;
         }
@@ -151,7 +151,7 @@ pub(crate) fn work<L: Ledger, A: Allocator, H: Gatehouse, R: Wait>(
     shared: &SharedStore<L, A>,
     pools: &[TaskPool<A>],
     member: &mut Member<L, A>,
-    house: &H,
+    observer: &H,
 )
     requires { IsReady pools.now member.old }
     ensures { IsReady pools.now member.new }
@@ -169,7 +169,7 @@ pub(crate) fn work<L: Ledger, A: Allocator, H: Gatehouse, R: Wait>(
             return;
         };
         member.sealed.clear();
-        if !seal_some(pool, member, &mut batch, house, task) {
+        if !seal_some(pool, member, &mut batch, observer, task) {
             shared.stop(rt);
             return;
         }

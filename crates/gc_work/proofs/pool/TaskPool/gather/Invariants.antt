@@ -1,4 +1,4 @@
-use Rattle.std.proofs.Common.{◌≡◌, ◌+◌, ◌<◌, [], ◌++◌, length}
+use Rattle.std.proofs.Common.{◌≡◌, ◌+◌, ◌<◌, ◌++◌, length}
 use Rattle.std.specs.Vec.Iter.{into_iter_items}
 use Rattle.crossbeam_deque.specs.Handles.{worker_deque, worker_view}
 use Rattle.gc_work.specs.Pool.{stolen_by, AllOf}
@@ -12,7 +12,6 @@ invariant-loop-thief g l = record {
   deque : worker_deque l.worker ≡ worker_deque l.initial.worker;
   pushed : (worker_view l.worker).pushed ≡ (worker_view l.initial.worker).pushed;
   popped : (worker_view l.worker).popped ≡ (worker_view l.initial.worker).popped;
-  handed : (worker_view l.worker).handed ≡ [];
   stolen : (worker_view l.worker).stolen ++ stolen_by (into_iter_items l.thief-iterator) ≡ stolen_by l.fn.thieves.items;
   parts : (worker_view l.worker).parts + length (into_iter_items l.thief-iterator) ≡ (worker_view l.initial.worker).parts + length l.fn.thieves.items;
   all : AllOf (worker_deque l.worker) (into_iter_items l.thief-iterator);

@@ -1,0 +1,162 @@
+-- What is left of a gathered pool, and one task that is taken from it.
+use Rattle.std.proofs.Common.{◌≡◌, ℕ, ◌+◌, ◌<◌, Bool, true, false, cond, List, [], ◌∷◌, ◌++◌, length, Option, Some, None, MatchOption, sym, refl, ap, ◌∙◌, subst, append_assoc, rules, arith}
+use Rattle.std.specs.Bool.{Decides}
+use Rattle.std.proofs.lemmas.Bool.Decides.{Decides-and, Decides-like, Decides-eqb}
+use Rattle.std.specs.Set.{remove_key}
+use Rattle.std.proofs.lemmas.List.Sums.{sum_by-cons, sum_by-append}
+use Rattle.gc_store.specs.declared.task.Task.{Task}
+use Rattle.gc_work.specs.declared.account.PoolAccount.{PoolAccount}
+use Rattle.gc_work.specs.Pool.{IsTaken, weigh}
+use Rattle.gc_work.specs.PoolRule.{account, all_parts, Knows, KnowsSome}
+use Rattle.gc_work.specs.Kept.{IsGathered}
+use Rattle.gc_work.specs.Left.{same_task, without, left_of}
+
+-- `==` of two tasks holds exactly where they are the same
+decides : (a b : Task) → Decides (same_task a b) (a ≡ b)
+decides a b = Decides-like (same_task a b)
+    (λ f i. record {
+      gate = f.0 i;
+      operation = f.1.0 i;
+      and_number = f.1.1.0 i;
+      offset = f.1.1.1.0 i;
+      first = f.1.1.1.1.0 i;
+      second = f.1.1.1.1.1 i;
+    })
+    (λ e. (
+      ap (λ (t : Task). t.gate) e,
+      (
+        ap (λ (t : Task). t.operation) e,
+        (
+          ap (λ (t : Task). t.and_number) e,
+          (
+            ap (λ (t : Task). t.offset) e,
+            (ap (λ (t : Task). t.first) e, ap (λ (t : Task). t.second) e),
+          ),
+        ),
+      ),
+    ))
+    (Decides-and _ _ (Decides-eqb a.gate b.gate)
+    (Decides-and _ _ (search rules)
+    (Decides-and _ _ (Decides-eqb a.and_number b.and_number)
+    (Decides-and _ _ (Decides-eqb a.offset b.offset)
+    (Decides-and _ _ (Decides-eqb a.first b.first) (Decides-eqb a.second b.second))))))
+
+-- 1 at this task, and 0 at any other
+abbrev is : Task → Task → ℕ
+is task t = cond (same_task task t) 1 0
+
+is_itself : (task : Task) → is task task ≡ 1
+is_itself task = ap (λ b. cond b 1 0) ((decides task task).1 refl)
+
+-- a task that stands in the list is taken from it
+taken : (task : Task) (tasks : List Task) → 0 < weigh (is task) tasks
+    → IsTaken task tasks (remove_key (same_task task) tasks)
+taken task [] some = absurd (omega arith)
+taken task (t ∷ ts) some = by (same_task task t) refl (taken task ts)
+  where
+    by : (b : Bool) → same_task task t ≡ b
+        → (0 < weigh (is task) ts → IsTaken task ts (remove_key (same_task task) ts))
+        → IsTaken task (t ∷ ts) (cond b ts (t ∷ remove_key (same_task task) ts))
+    by true same later = ([], ts, ap (λ x. x ∷ ts) (sym ((decides task t).0 same)), refl)
+    by false other later =
+        let none : is task t ≡ 0 = ap (λ b. cond b 1 0) other in
+        let rest = later (omega (arith, sum_by-cons (is task) t ts)) in
+        (t ∷ rest.0, rest.1, ap (λ xs. t ∷ xs) rest.2, ap (λ xs. t ∷ xs) rest.3)
+
+taken-weigh : (h : Task → ℕ) (task : Task) (before after : List Task) → IsTaken task before after
+    → weigh h before ≡ h task + weigh h after
+taken-weigh h task before after t =
+    let a = ap (weigh h) t.2 in
+    let b = ap (weigh h) t.3 in
+    omega (
+      arith,
+      sum_by-append h t.0 (task ∷ t.1),
+      sum_by-cons h task t.1,
+      sum_by-append h t.0 t.1,
+    )
+
+-- where these tasks are, as counts, some that are gone and some that are left, they weigh without the former what the
+-- latter weigh
+without-weigh : (tasks gone left : List Task) → ((h : Task → ℕ) → weigh h tasks ≡ weigh h gone + weigh h left)
+    → (h : Task → ℕ) → weigh h (without tasks gone) ≡ weigh h left
+without-weigh tasks [] left same h = omega (arith, same h)
+without-weigh tasks (t ∷ ts) left same h =
+    let there = taken t tasks (omega (arith, same (is t), sum_by-cons (is t) t ts, is_itself t)) in
+    without-weigh (remove_key (same_task t) tasks) ts left (λ k. omega (
+      arith,
+      same k,
+      sum_by-cons k t ts,
+      taken-weigh k t tasks (remove_key (same_task t) tasks) there,
+    )) h
+
+without-push : (tasks gone : List Task) (task : Task)
+    → without tasks (gone ++ task ∷ []) ≡ remove_key (same_task task) (without tasks gone)
+without-push tasks [] task = refl
+without-push tasks (t ∷ ts) task = without-push (remove_key (same_task t) tasks) ts task
+
+-- an account with all parts, which knows the tasks in the pool, is a gathered pool's
+gathered : (v : PoolAccount) → v.parts ≡ all_parts → KnowsSome v → IsGathered v
+gathered v all some = record {
+  parts = all;
+  conserved = λ h.
+      let whole : (k : Task → ℕ) → weigh k v.pushed ≡ weigh k (v.stolen ++ v.popped) + weigh k some.0 =
+      λ k. omega (arith, some.1.whole all k, sum_by-append k v.stolen v.popped) in
+      omega (
+        arith,
+        some.1.whole all h,
+        without-weigh v.pushed (v.stolen ++ v.popped) some.0 whole h,
+      );
+}
+
+-- a task that was popped is taken from what was left
+hands_one : (v w : PoolAccount) (task : Task) → IsGathered v
+    → w ≡ account v.parts v.pushed (v.popped ++ task ∷ []) v.stolen → KnowsSome w
+    → IsTaken task (left_of v) (left_of w)
+hands_one v w task g is_w some =
+    let left : left_of w ≡ remove_key (same_task task) (left_of v) =
+    ap left_of is_w
+    ∙ ap (without v.pushed) (sym (append_assoc v.stolen v.popped (task ∷ [])))
+    ∙ without-push v.pushed (v.stolen ++ v.popped) task in
+    let all : w.parts ≡ all_parts = ap (λ (u : PoolAccount). u.parts) is_w ∙ g.parts in
+    let pushed = ap (λ (u : PoolAccount). weigh (is task) u.pushed) is_w in
+    let popped = ap (λ (u : PoolAccount). weigh (is task) u.popped) is_w in
+    let stolen = ap (λ (u : PoolAccount). weigh (is task) u.stolen) is_w in
+    subst (IsTaken task (left_of v)) (sym left) (taken task (left_of v) (omega (
+      arith,
+      g.conserved (is task),
+      some.1.whole all (is task),
+      pushed,
+      popped,
+      stolen,
+      sum_by-append (is task) v.popped (task ∷ []),
+      sum_by-cons (is task) task [],
+      is_itself task,
+    )))
+
+nothing : (tasks : List Task) → weigh (λ _. 1) tasks ≡ 0 → tasks ≡ []
+nothing [] none = refl
+nothing (t ∷ ts) none = absurd (omega (arith, sum_by-cons (λ (_ : Task). 1) t ts))
+
+-- where the deque is empty, nothing is left
+hands_none : (v : PoolAccount) → IsGathered v → Knows v [] → left_of v ≡ []
+hands_none v g k = nothing (left_of v) (omega (arith, g.conserved (λ _. 1), k.whole g.parts (λ _. 1)))
+
+-- what counting the tasks in the pool tells of an account with all parts
+pub counted : (v w : PoolAccount) (count : ℕ) → w ≡ v → w.parts ≡ all_parts
+    → (tasks : List Task) × (length tasks ≡ count) × Knows v tasks → IsGathered w
+counted v w count same all told = gathered w all (told.0, subst (λ (u : PoolAccount). Knows u told.0) (sym same) told.2)
+
+-- what `next` tells of the account before and after
+abbrev pub Tells : PoolAccount → PoolAccount → Option Task → Type 0
+Tells v w r = MatchOption r ((w ≡ v) × Knows v [])
+    (λ t. (w ≡ account v.parts v.pushed (v.popped ++ t ∷ []) v.stolen) × KnowsSome w)
+
+pub still_gathered : (v w : PoolAccount) (r : Option Task) → IsGathered v → Tells v w r → IsGathered w
+still_gathered v w None g told = subst IsGathered (sym told.0) g
+still_gathered v w (Some task) g told =
+    gathered w (ap (λ (u : PoolAccount). u.parts) told.0 ∙ g.parts) told.1
+
+pub takes_one : (v w : PoolAccount) (r : Option Task) → IsGathered v → Tells v w r
+    → MatchOption r (left_of v ≡ []) (λ t. IsTaken t (left_of v) (left_of w))
+takes_one v w None g told = hands_none v g told.1
+takes_one v w (Some task) g told = hands_one v w task g told.0 told.1
