@@ -7,7 +7,7 @@ use Rattle.gc_board.specs.declared.rule.View.{View}
 use Rattle.gc_netlist.specs.declared.gate.Gate.{Gate}
 use Rattle.gc_netlist.specs.Circuit.{Netlist, IsSetBy, input_wires, first_wire, second_wire}
 use Rattle.gc_job.specs.Job.{JobParts}
-use Rattle.gc_job.specs.ActiveLabels.{gates_of, active, active_from, set_of}
+use Rattle.gc_job.specs.ActiveLabels.{active, active_from, set_of}
 use Rattle.gc_eval.specs.declared.seat.Answer.{Answer}
 use Rattle.gc_eval.specs.declared.seat.Answer.TheVariants.{Made, Done, Taken, NotYet}
 

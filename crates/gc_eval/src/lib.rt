@@ -2,7 +2,7 @@
 //! wire alone.
 //!
 //! [`evaluate_many`] answers the output bits of a [`Job`], as [`evaluate`] does on one thread. Who has threads of their
-//! own opens an [`EvalBoard`] for them.
+//! own opens an [`EvalBoard`] for them. A [`Walk`] gives them the gates in an order that serves.
 #![tactic(auto)]
 
 mod active;
@@ -21,7 +21,7 @@ pub use gc_board::{MAX_SEATS, OpenFault};
 pub use gc_job::{
     BindFault, EvalFault, Facts, Job, Wiring, evaluate, evaluate_labels, law_honest_files,
 };
-pub use known::NumberSet;
 pub use many::evaluate_many;
 pub use open::CloseRefused;
 pub use seat::{Answer, EvalBoard, EvalSeat};
+pub use walk::{Batch, Walk};

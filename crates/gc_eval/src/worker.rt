@@ -3,7 +3,7 @@
 ghost use Rattle.std.specs.Prelude.{◌≡◌, All, IfOk};
 ghost use Rattle.gc_job.specs.ActiveLabels.{gates_of};
 ghost use Rattle.gc_eval.specs.Seats.{IsSeatOf, job_on};
-ghost use Rattle.gc_eval.specs.Walks.{IsWithin};
+ghost use Rattle.gc_eval.specs.Walks.{IsWithin, batches_left};
 ghost use Rattle.gc_eval.specs.Workers.{AreWorkersOf, IsWorkerOf};
 
 use crate::seat::{EvalBoard, EvalSeat};
@@ -33,7 +33,7 @@ impl<B: Allocator, A: Allocator, C: Allocator> Worker<B, A, C> {
         requires worker { IsWorkerOf board.now self.old }
         requires batch { IsWithin (gates_of (job_on board.now)) batch }
         ensures worker { IsWorkerOf board.now self.new }
-        ensures walk { self.new.walk ≡ self.old.walk }
+        ensures left { batches_left self.new.walk ≡ batches_left self.old.walk }
     {
         batch.report_to(observer, self.number);
         match batch {

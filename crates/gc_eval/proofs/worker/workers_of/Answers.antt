@@ -16,6 +16,6 @@ loop-seat-preserved g c =
       seats = all_but_last old new c.in-Some.seat is (IsSeatOf board) was.seats;
       workers = rw c.in_ok-push.ensures.items (All-push (IsWorkerOf board) c.loop-seat.workers.items _ was.workers (
         all_last old new c.in-Some.seat is (IsSeatOf board) was.seats,
-        c.in_ok-new.ensures ∙ c.gates-gates.ensures.count ∙ ap (λ (n : Netlist). length n.gates) c.circuit.ensures,
+        c.in_ok-new.ensures.gates ∙ c.gates-gates.ensures.count ∙ ap (λ (n : Netlist). length n.gates) c.circuit.ensures,
       ));
     }
