@@ -40,7 +40,7 @@ EvaluateTo jobs (Err (UnknownOutputLabel output)) = IsFirstUnknownJob jobs outpu
 EvaluateTo jobs (Err Memory) = Unit {0}
 EvaluateTo jobs (Err BadWorkers) = ⊥
 
--- They are evaluated by this many workers: their number is at fault exactly where it is 0 or above the limit.
+-- They are evaluated by this number of workers: their number is at fault exactly where it is 0 or above the limit.
 abbrev pub AreEvaluatedBy : ℕ → List JobParts → Result (List (List Bool)) EvalFault → Type 0
 AreEvaluatedBy workers jobs (Err BadWorkers) = (workers ≡ 0) ⊎ (MAX_WORKERS < workers)
 AreEvaluatedBy workers jobs result = AreFew workers × EvaluateTo jobs result

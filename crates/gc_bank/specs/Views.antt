@@ -10,9 +10,10 @@ use Rattle.gc_rounds.specs.declared.view.Step.TheVariants.{Load, Store, Claim, E
 use Rattle.gc_round_board.specs.Pairs.{pairs, looked}
 use Rattle.gc_round_board.specs.Board.{at, stamp}
 use Rattle.gc_round_board.specs.declared.view.BoardView.{BoardView}
+use Rattle.gc_round_board.specs.declared.view.Hand.TheVariants.{Empty}
 use Rattle.gc_job.specs.Job.{JobParts}
-use Rattle.gc_job.specs.ActiveLabels.{active, active_from, set_of}
-use Rattle.gc_eval.specs.Views.{Reads}
+use Rattle.gc_job.specs.ActiveLabels.{active, set_of}
+use Rattle.gc_eval.specs.Views.{AreReadBy, Reads}
 use Rattle.gc_eval.specs.declared.seat.Answer.{Answer}
 use Rattle.gc_eval.specs.declared.seat.Answer.TheVariants.{Made, Done, Taken, NotYet}
 use Rattle.gc_bank.specs.declared.step.Ready.{Ready}
@@ -35,7 +36,7 @@ sighting word found (Reopen w n won) = 0
 abbrev pub sightings : ℕ → ℕ → List Step → ℕ
 sightings word found steps = total (sighting word found) steps
 
--- A call made the view `new` out of `old`: at most this many steps were added to the record, the made list is now this
+-- A call made the view `new` out of `old`: at most this number of steps were added to the record, the made list is now this
 -- list, what was known is known, and the stand and the hand are as before.
 pub record Ran (old new : Seen) (list : List (ℕ × ℕ)) (most : ℕ) : Type 0 where
   pub jobs : new.jobs ≡ old.jobs
@@ -100,22 +101,26 @@ made_after r g made (Done label) = made
 made_after r g made Taken = made
 made_after r g made (NotYet w) = made
 
--- It was answered after at most this many steps, which changed the made list by this answer alone.
+-- It was answered after at most this number of steps, which changed the made list by this answer alone.
 abbrev pub Answers : JobParts → ℕ → ℕ → ℕ → Seen → Seen → Answer → Type 0
 Answers job r g most old new answer =
     Says job r g old new answer × Ran old new (made_after r g old.inner.made answer) most
 
--- Two gates were answered at once, after at most this many steps, which changed the made list by these answers alone,
+-- Two gates were answered at once, after at most this number of steps, which changed the made list by these answers alone,
 -- in this order.
 abbrev pub AnswersTwo : JobParts → ℕ → ℕ → ℕ → ℕ → Seen → Seen → Answer × Answer → Type 0
 AnswersTwo job r g h most old new answers =
     Says job r g old new answers.0 × Says job r h old new answers.1
     × Ran old new (made_after r h (made_after r g old.inner.made answers.0) answers.1) most
 
+-- The seat has nothing in hand, and is a seat of the banks still.
+abbrev pub IsIdle : Seen → Type 0
+IsIdle v = (v.inner.hand ≡ Empty) × (0 < v.seats)
+
 -- What was found of gate g makes it in round r: its active label follows from the labels, and a load found its state
 -- word free.
 pub record IsReady (job : JobParts) (r g : ℕ) (v : Seen) (ready : Ready) : Type 0 where
-  pub labels : active_from job g ready.labels.0 ready.labels.1 ≡ active job (set_of job g)
+  pub labels : AreReadBy job g ready.labels
   pub found : 0 < looked r g ready.free v.inner.looks
   pub free : ready.free ≤ stamp r 0
 
@@ -130,7 +135,7 @@ made_now (NotYet w) = 0
 abbrev pub IsAlone : Seen → Type 0
 IsAlone v = v.seats ≡ v.all
 
--- A gate that sets wire w was made this many times by the seat in round r.
+-- A gate that sets wire w was made this number of times by the seat in round r.
 abbrev pub SetsMade : JobParts → ℕ → ℕ → Seen → ℕ → Type 0
 SetsMade job r w v n = (h : ℕ) → IsSetBy job.circuit w h → pairs r h v.inner.made ≡ n
 

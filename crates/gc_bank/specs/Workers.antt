@@ -1,12 +1,21 @@
 -- The workers of an evaluation of a list of jobs.
 use Rattle.std.specs.Prelude.{◌≡◌, ℕ, ◌<◌, Bool, List, All, Option, Some, Vec, IfSome, Ok, length, slice_get, slice_index_or}
+use Rattle.gc_rounds.specs.declared.view.Stand.{Stand}
 use Rattle.gc_rounds.specs.declared.view.Stand.TheVariants.{Outside}
+use Rattle.gc_netlist.specs.Solution.{on_outputs}
 use Rattle.gc_job.specs.Job.{JobParts}
+use Rattle.gc_job.specs.ActiveLabels.{active}
 use Rattle.gc_job.specs.Evaluate.{IsEvaluated}
+use Rattle.gc_bank.specs.Rounds.{gates_of}
 use Rattle.gc_bank.specs.Seats.{IsSeatOf, view, jobs_on}
 use Rattle.gc_bank.specs.declared.seat.Banks.{Banks}
 use Rattle.gc_bank.specs.declared.worker.Outputs.{Outputs}
 use Rattle.gc_bank.specs.declared.worker.Worker.{Worker}
+
+-- The labels are the active ones of the output wires of the job at this place.
+abbrev pub AreLabelsOf : List JobParts → ℕ → List ℕ → Type 0
+AreLabelsOf jobs k labels =
+    (job : JobParts) → slice_get jobs k ≡ Some job → labels ≡ on_outputs job.circuit (active job)
 
 -- The bits are those of the job at this place.
 abbrev pub AreBitsOf : List JobParts → ℕ → List Bool → Type 0
@@ -17,11 +26,17 @@ abbrev pub IsKept : {B : Type 0} → List JobParts → Outputs B → Type 0
 IsKept jobs kept = AreBitsOf jobs kept.round kept.bits.items
 
 module _ {A B C : Type 0} where
-  -- The worker has a seat of these banks, which is outside, and what it kept is right.
-  pub record IsWorkerOf (banks : Banks B A C) (worker : Worker B A C) : Type 0 where
+  -- The worker has a seat of these banks, which is here, it walks over the gates of their circuit, and what it kept is
+  -- right.
+  pub record IsWorkerAt (banks : Banks B A C) (here : Stand) (worker : Worker B A C) : Type 0 where
     pub seat_of : IsSeatOf banks worker.seat
-    pub outside : (view worker.seat).stand ≡ Outside
+    pub stands : (view worker.seat).stand ≡ here
+    pub gates : worker.walk.gates ≡ gates_of (jobs_on banks)
     pub kept : All (IsKept (jobs_on banks)) worker.kept.items
+
+  -- Between two rounds its seat is outside.
+  abbrev pub IsWorkerOf : Banks B A C → Worker B A C → Type 0
+  IsWorkerOf banks worker = IsWorkerAt banks Outside worker
 
   abbrev pub AreWorkersOf : Banks B A C → List (Worker B A C) → Type 0
   AreWorkersOf banks workers = All (IsWorkerOf banks) workers

@@ -131,7 +131,7 @@ impl<'j, 'c, B: Allocator, A: Allocator, C: Allocator> Banks<'j, 'c, B, A, C> {
         let Some(round) = seat.inside else {
             unreachable!()
         };
-        self.read_in(&mut seat.place, round, wire)
+        self.read(&mut seat.place, self.job(round), round, wire)
     }
 
     /// Leaves the seat's round. That the seat is these banks' and inside a round is the caller's condition.

@@ -16,11 +16,11 @@ use std::thread::Threads;
 /// The most jobs of a list.
 pub const MAX_JOBS: usize = 65_536;
 
-/// The output bits of each job, in order, by this many workers: what [`evaluate`] answers for it, honest job or not.
-/// One worker evaluates one job after another. Of more, the calling thread is worker 0; a thread is started for each
-/// other worker, and where one can't be started the calling thread does its work too. They have
-/// [`Banks`](crate::Banks), and `house` is told of each gate ahead of each step. A job whose bits no worker has when
-/// all have ended is evaluated on one thread, as are all where there is no memory for the banks.
+/// The output bits of each job, in order, by this number of workers: what [`evaluate`] answers for it, honest job or
+/// not. One worker evaluates one job after another. Of more, the calling thread is worker 0; a thread is started for
+/// each other worker, and where one can't be started the calling thread does its work too. They have
+/// [`Banks`](crate::Banks), and `observer.before` is called for each gate ahead of each step. A job whose bits no worker
+/// has when all have ended is evaluated on one thread, as are all where there is no memory for the banks.
 ///
 /// It refuses 0 workers and more than [`MAX_WORKERS`]: 22. Else it is 48 for the first job of which the garbled file
 /// doesn't recognise an output label, at the first such output. Memory is the other fault. That there are 1 to
@@ -36,7 +36,7 @@ pub fn evaluate_jobs<
     alloc: B,
     jobs: &[Job<'_, A, C>],
     workers: u32,
-    house: &H,
+    observer: &H,
 ) -> Result<Vec<Vec<bool, B>, B>, EvalFault>
     requires count { (0 < length jobs.now) × (length jobs.now ≤ MAX_JOBS) }
     requires one { AreOnOneCircuit jobs.now }
@@ -49,7 +49,7 @@ pub fn evaluate_jobs<
     if workers == 1 {
         return evaluate_rest(alloc, jobs, Vec::new(alloc));
     }
-    match evaluate_together(rt, alloc, jobs, workers, house) {
+    match evaluate_together(rt, alloc, jobs, workers, observer) {
         Some(known) => evaluate_rest(alloc, jobs, known),
         None => evaluate_rest(alloc, jobs, Vec::new(alloc)),
     }

@@ -12,7 +12,6 @@ mod seat;
 mod series;
 mod step;
 mod together;
-mod walk;
 mod worker;
 
 pub use gc_board::OpenFault;

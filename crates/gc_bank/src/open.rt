@@ -47,7 +47,7 @@ impl<'j, 'c, B: Allocator, A: Allocator, C: Allocator> CloseRefused<'j, 'c, B, A
     }
 }
 
-/// This many new seats, out of a place that stands for them all.
+/// This number of new seats, out of a place that stands for them all.
 fn deal_all<B: Allocator, A: Allocator, C: Allocator>(
     words: &Words<Series<B, A, C>>,
     first: Place<Series<B, A, C>>,

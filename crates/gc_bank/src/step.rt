@@ -2,15 +2,14 @@
 
 ghost use Rattle.std.specs.Prelude.{◌≡◌, ◌≢◌, ℕ, ◌+◌, ◌*◌, ◌<◌, ◌≤◌, ◌++◌, ◌∷◌, [], length, slice_get, IfSome, IfNone, IfOk, IfErr, MatchOption, MatchResult, Some, None};
 ghost use Rattle.gc_rounds.specs.Places.{IsSamePlace};
-ghost use Rattle.gc_round_board.specs.declared.view.Hand.TheVariants.{Empty};
 ghost use Rattle.gc_round_board.specs.Pairs.{pairs, looked};
 ghost use Rattle.gc_round_board.specs.Board.{stamp};
-ghost use Rattle.gc_round_board.specs.Places.{IsPlaceInside, IsPlaceAt};
-ghost use Rattle.gc_job.specs.ActiveLabels.{gates_of as gates_in, active, set_of, active_from};
-ghost use Rattle.gc_eval.specs.Views.{Reads, IsMadeNow};
+ghost use Rattle.gc_round_board.specs.Places.{IsPlaceAt};
+ghost use Rattle.gc_job.specs.ActiveLabels.{gates_of as gates_in, active, set_of};
+ghost use Rattle.gc_eval.specs.Views.{AreReadBy, Reads, IsMadeNow};
 ghost use Rattle.gc_bank.specs.Rounds.{gates_of, IsRound};
-ghost use Rattle.gc_bank.specs.Views.{Stays, made_now, Ran, Got, Lacks, Says, Answers, AnswersTwo, IsReady, Knows, IsAlone, SetsMade, ReadsMade, FirstLacking, AnswersAlone, AnswersTwoAlone};
-ghost use Rattle.gc_bank.specs.Seats.{InRound, round_of};
+ghost use Rattle.gc_bank.specs.Views.{Stays, made_now, Ran, IsIdle, Got, Lacks, Says, Answers, AnswersTwo, IsReady, Knows, IsAlone, SetsMade, ReadsMade, FirstLacking, AnswersAlone, AnswersTwoAlone};
+ghost use Rattle.gc_bank.specs.Seats.{InRound, IsJobOf, IsPlaceFor, IsPlaceIn, round_of};
 
 use crate::seat::Banks;
 use crate::series::Series;
@@ -84,10 +83,8 @@ impl<'j, 'c, B: Allocator, A: Allocator, C: Allocator> Banks<'j, 'c, B, A, C> {
         round: u32,
         wire: u32,
     ) -> Option<Label>
-        requires place { IsPlaceInside gates_of self.now.board.table.shared.table_id
-            self.now.board.table.shared.key place.old round }
-        requires job { IsRound self.now.board.table.shared.key.about round job.now
-            × (job.now.circuit ≡ self.now.wiring) }
+        requires place { IsPlaceIn self.now place.old round }
+        requires job { IsJobOf self.now job.now round }
         requires wire { wire < job.now.circuit.wires }
         ensures same { IsSamePlace place.old place.new }
         ensures ran { Ran place.old.me.0 place.new.me.0 place.old.me.0.inner.made 3 }
@@ -119,10 +116,8 @@ impl<'j, 'c, B: Allocator, A: Allocator, C: Allocator> Banks<'j, 'c, B, A, C> {
         round: u32,
         wire: Option<u32>,
     ) -> Result<Label, u32>
-        requires place { IsPlaceInside gates_of self.now.board.table.shared.table_id
-            self.now.board.table.shared.key place.old round }
-        requires job { IsRound self.now.board.table.shared.key.about round job.now
-            × (job.now.circuit ≡ self.now.wiring) }
+        requires place { IsPlaceIn self.now place.old round }
+        requires job { IsJobOf self.now job.now round }
         requires wire { IfSome wire (λ w. w < job.now.circuit.wires) }
         ensures same { IsSamePlace place.old place.new }
         ensures ran { Ran place.old.me.0 place.new.me.0 place.old.me.0.inner.made 3 }
@@ -150,14 +145,11 @@ impl<'j, 'c, B: Allocator, A: Allocator, C: Allocator> Banks<'j, 'c, B, A, C> {
         round: u32,
         gate: u32,
     ) -> Result<(Label, Label), u32>
-        requires place { IsPlaceAt gates_of self.now.board.table.shared.table_id
-            self.now.board.table.shared.key place.old round gate }
-        requires job { IsRound self.now.board.table.shared.key.about round job.now
-            × (job.now.circuit ≡ self.now.wiring) }
+        requires place { IsPlaceFor self.now place.old round gate }
+        requires job { IsJobOf self.now job.now round }
         ensures same { IsSamePlace place.old place.new }
         ensures ran { Ran place.old.me.0 place.new.me.0 place.old.me.0.inner.made 6 }
-        ensures ok { IfOk result (λ l. active_from job.now gate l.0 l.1
-            ≡ active job.now (set_of job.now gate)) }
+        ensures ok { IfOk result (AreReadBy job.now gate) }
         ensures err { IfErr result (λ w. Reads job.now.circuit gate w
             × Lacks job.now round w place.old.me.0 place.new.me.0) }
         ensures alone { IsAlone place.old.me.0
@@ -185,11 +177,9 @@ impl<'j, 'c, B: Allocator, A: Allocator, C: Allocator> Banks<'j, 'c, B, A, C> {
         round: u32,
         gate: u32,
     ) -> Result<Ready, Answer>
-        requires place { IsPlaceAt gates_of self.now.board.table.shared.table_id
-            self.now.board.table.shared.key place.old round gate }
-        requires job { IsRound self.now.board.table.shared.key.about round job.now
-            × (job.now.circuit ≡ self.now.wiring) }
-        requires empty { (place.old.me.0.inner.hand ≡ Empty) × (0 < place.old.me.0.seats) }
+        requires place { IsPlaceFor self.now place.old round gate }
+        requires job { IsJobOf self.now job.now round }
+        requires empty { IsIdle place.old.me.0 }
         ensures same { IsSamePlace place.old place.new }
         ensures ran { Ran place.old.me.0 place.new.me.0 place.old.me.0.inner.made 7 }
         ensures ok { IfOk result (IsReady job.now round gate place.new.me.0) }
@@ -225,11 +215,9 @@ impl<'j, 'c, B: Allocator, A: Allocator, C: Allocator> Banks<'j, 'c, B, A, C> {
         free: u64,
         label: Label,
     ) -> Answer
-        requires place { IsPlaceAt gates_of self.now.board.table.shared.table_id
-            self.now.board.table.shared.key place.old round gate }
-        requires job { IsRound self.now.board.table.shared.key.about round job.now
-            × (job.now.circuit ≡ self.now.wiring) }
-        requires empty { (place.old.me.0.inner.hand ≡ Empty) × (0 < place.old.me.0.seats) }
+        requires place { IsPlaceFor self.now place.old round gate }
+        requires job { IsJobOf self.now job.now round }
+        requires empty { IsIdle place.old.me.0 }
         requires free { (0 < looked round gate free place.old.me.0.inner.looks) × (free ≤ stamp round 0) }
         requires label { label ≡ active job.now (set_of job.now gate) }
         ensures same { IsSamePlace place.old place.new }
@@ -261,11 +249,9 @@ impl<'j, 'c, B: Allocator, A: Allocator, C: Allocator> Banks<'j, 'c, B, A, C> {
         gate: u32,
         ready: Ready,
     ) -> Answer
-        requires place { IsPlaceAt gates_of self.now.board.table.shared.table_id
-            self.now.board.table.shared.key place.old round gate }
-        requires job { IsRound self.now.board.table.shared.key.about round job.now
-            × (job.now.circuit ≡ self.now.wiring) }
-        requires empty { (place.old.me.0.inner.hand ≡ Empty) × (0 < place.old.me.0.seats) }
+        requires place { IsPlaceFor self.now place.old round gate }
+        requires job { IsJobOf self.now job.now round }
+        requires empty { IsIdle place.old.me.0 }
         requires ready { IsReady job.now round gate place.old.me.0 ready }
         ensures same { IsSamePlace place.old place.new }
         ensures answer { Answers job.now round gate 4 place.old.me.0 place.new.me.0 result }
@@ -287,13 +273,10 @@ impl<'j, 'c, B: Allocator, A: Allocator, C: Allocator> Banks<'j, 'c, B, A, C> {
         first: (u32, Ready),
         second: (u32, Ready),
     ) -> (Answer, Answer)
-        requires first { IsPlaceAt gates_of self.now.board.table.shared.table_id
-            self.now.board.table.shared.key place.old round first.0 }
-        requires second { IsPlaceAt gates_of self.now.board.table.shared.table_id
-            self.now.board.table.shared.key place.old round second.0 }
-        requires job { IsRound self.now.board.table.shared.key.about round job.now
-            × (job.now.circuit ≡ self.now.wiring) }
-        requires empty { (place.old.me.0.inner.hand ≡ Empty) × (0 < place.old.me.0.seats) }
+        requires first { IsPlaceFor self.now place.old round first.0 }
+        requires second { IsPlaceFor self.now place.old round second.0 }
+        requires job { IsJobOf self.now job.now round }
+        requires empty { IsIdle place.old.me.0 }
         requires ready { IsReady job.now round first.0 place.old.me.0 first.1
             × IsReady job.now round second.0 place.old.me.0 second.1 }
         ensures same { IsSamePlace place.old place.new }
@@ -324,11 +307,9 @@ impl<'j, 'c, B: Allocator, A: Allocator, C: Allocator> Banks<'j, 'c, B, A, C> {
         round: u32,
         gate: u32,
     ) -> Answer
-        requires place { IsPlaceAt gates_of self.now.board.table.shared.table_id
-            self.now.board.table.shared.key place.old round gate }
-        requires job { IsRound self.now.board.table.shared.key.about round job.now
-            × (job.now.circuit ≡ self.now.wiring) }
-        requires empty { (place.old.me.0.inner.hand ≡ Empty) × (0 < place.old.me.0.seats) }
+        requires place { IsPlaceFor self.now place.old round gate }
+        requires job { IsJobOf self.now job.now round }
+        requires empty { IsIdle place.old.me.0 }
         ensures same { IsSamePlace place.old place.new }
         ensures answer { Answers job.now round gate 11 place.old.me.0 place.new.me.0 result }
         ensures alone { IsAlone place.old.me.0 → AnswersAlone job.now round gate place.old.me.0 result }
@@ -348,13 +329,10 @@ impl<'j, 'c, B: Allocator, A: Allocator, C: Allocator> Banks<'j, 'c, B, A, C> {
         first: u32,
         second: u32,
     ) -> (Answer, Answer)
-        requires first { IsPlaceAt gates_of self.now.board.table.shared.table_id
-            self.now.board.table.shared.key place.old round first }
-        requires second { IsPlaceAt gates_of self.now.board.table.shared.table_id
-            self.now.board.table.shared.key place.old round second }
-        requires job { IsRound self.now.board.table.shared.key.about round job.now
-            × (job.now.circuit ≡ self.now.wiring) }
-        requires empty { (place.old.me.0.inner.hand ≡ Empty) × (0 < place.old.me.0.seats) }
+        requires first { IsPlaceFor self.now place.old round first }
+        requires second { IsPlaceFor self.now place.old round second }
+        requires job { IsJobOf self.now job.now round }
+        requires empty { IsIdle place.old.me.0 }
         ensures same { IsSamePlace place.old place.new }
         ensures answers { AnswersTwo job.now round first second 22 place.old.me.0 place.new.me.0 result }
         ensures alone { IsAlone place.old.me.0
@@ -377,11 +355,10 @@ impl<'j, 'c, B: Allocator, A: Allocator, C: Allocator> Banks<'j, 'c, B, A, C> {
         round: u32,
         gate: u32,
     ) -> Answer
-        requires place { IsPlaceInside gates_of self.now.board.table.shared.table_id
-            self.now.board.table.shared.key place.old round }
+        requires place { IsPlaceIn self.now place.old round }
         requires round { round < length self.now.jobs.now }
         requires gate { InRound self.now.jobs.now place.old.me.0 (λ job. gate < gates_in job) }
-        requires empty { (place.old.me.0.inner.hand ≡ Empty) × (0 < place.old.me.0.seats) }
+        requires empty { IsIdle place.old.me.0 }
         ensures same { IsSamePlace place.old place.new }
         ensures answer { InRound self.now.jobs.now place.old.me.0
             (λ job. Answers job (round_of place.old.me.0) gate 11 place.old.me.0 place.new.me.0 result) }
@@ -402,12 +379,11 @@ impl<'j, 'c, B: Allocator, A: Allocator, C: Allocator> Banks<'j, 'c, B, A, C> {
         first: u32,
         second: u32,
     ) -> (Answer, Answer)
-        requires place { IsPlaceInside gates_of self.now.board.table.shared.table_id
-            self.now.board.table.shared.key place.old round }
+        requires place { IsPlaceIn self.now place.old round }
         requires round { round < length self.now.jobs.now }
         requires first { InRound self.now.jobs.now place.old.me.0 (λ job. first < gates_in job) }
         requires second { InRound self.now.jobs.now place.old.me.0 (λ job. second < gates_in job) }
-        requires empty { (place.old.me.0.inner.hand ≡ Empty) × (0 < place.old.me.0.seats) }
+        requires empty { IsIdle place.old.me.0 }
         ensures same { IsSamePlace place.old place.new }
         ensures answers { InRound self.now.jobs.now place.old.me.0
             (λ job. AnswersTwo job (round_of place.old.me.0) first second 22 place.old.me.0 place.new.me.0 result) }
@@ -418,26 +394,5 @@ impl<'j, 'c, B: Allocator, A: Allocator, C: Allocator> Banks<'j, 'c, B, A, C> {
             ≡ length place.old.me.0.inner.made + (made_now result.0 + made_now result.1) }
     {
         self.step_two_at(place, self.job(round), round, first, second)
-    }
-
-    /// The label of a wire in the round that the seat at this place is inside.
-    pub(crate) fn read_in(
-        &self,
-        place: &mut Place<Series<B, A, C>>,
-        round: u32,
-        wire: u32,
-    ) -> Option<Label>
-        requires place { IsPlaceInside gates_of self.now.board.table.shared.table_id
-            self.now.board.table.shared.key place.old round }
-        requires round { round < length self.now.jobs.now }
-        requires wire { InRound self.now.jobs.now place.old.me.0 (λ job. wire < job.circuit.wires) }
-        ensures same { IsSamePlace place.old place.new }
-        ensures ran { Ran place.old.me.0 place.new.me.0 place.old.me.0.inner.made 3 }
-        ensures some { IfSome result (λ label. InRound self.now.jobs.now place.old.me.0
-            (λ job. Got job (round_of place.old.me.0) wire place.new.me.0 label)) }
-        ensures none { IfNone result (InRound self.now.jobs.now place.old.me.0
-            (λ job. Lacks job (round_of place.old.me.0) wire place.old.me.0 place.new.me.0)) }
-    {
-        self.read(place, self.job(round), round, wire)
     }
 }

@@ -7,7 +7,7 @@ ghost use Rattle.gc_bank.specs.Seats.{jobs_on};
 ghost use Rattle.gc_bank.specs.Workers.{AreBitsOf, AreKnown, IsWorkerOf, AreWorkersOf};
 
 use crate::seat::Banks;
-use crate::worker::{Outputs, Worker, muster};
+use crate::worker::{Outputs, Worker, workers_of};
 use gc_eval::Job;
 use gc_gatehouse::Gatehouse;
 use std::alloc::{AllocError, Allocator};
@@ -27,7 +27,7 @@ pub(crate) fn evaluate_together<
     alloc: B,
     jobs: &[Job<'_, A, C>],
     workers: u32,
-    house: &H,
+    observer: &H,
 ) -> Option<Vec<Option<Vec<bool, B>>, B>>
     requires count { (0 < length jobs.now) × (length jobs.now ≤ 65536) }
     requires one { AreOnOneCircuit jobs.now }
@@ -40,10 +40,10 @@ pub(crate) fn evaluate_together<
     let Ok((banks, seats)) = Banks::open(alloc, jobs, workers) else {
         return None;
     };
-    let Ok(mut workers) = muster(alloc, &banks, seats) else {
+    let Ok(mut workers) = workers_of(alloc, &banks, seats) else {
         return None;
     };
-    work_together(rt, alloc, &banks, workers.as_mut_slice(), house);
+    work_together(rt, alloc, &banks, workers.as_mut_slice(), observer);
     Some(all_kept(&banks, slots, workers))
 }
 
@@ -57,7 +57,7 @@ fn work_together<
     C: Allocator + Send + Sync,
     H: Gatehouse + Sync,
     R: Threads + Sync,
->(rt: &R, alloc: B, banks: &Banks<'j, 'c, B, A, C>, workers: &mut [Worker<B, A, C>], house: &H)
+>(rt: &R, alloc: B, banks: &Banks<'j, 'c, B, A, C>, workers: &mut [Worker<B, A, C>], observer: &H)
     requires { AreWorkersOf banks.now workers.old }
     ensures { AreWorkersOf banks.now workers.new }
 {
@@ -69,11 +69,11 @@ fn work_together<
         &|_i: usize, worker: &mut Worker<B, A, C>|
             requires { IsWorkerOf banks.now worker.now }
             ensures { IsWorkerOf banks.entry.now worker.exit.now }
-        { worker.work(alloc, banks, house) },
+        { worker.work(alloc, banks, observer) },
     );
 }
 
-/// A place for the output bits of each of this many jobs, with none yet.
+/// A place for the output bits of each job, for this number of jobs, with none yet.
 fn none_known<B: Allocator + Copy>(
     alloc: B,
     count: usize,

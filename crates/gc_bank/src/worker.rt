@@ -1,25 +1,23 @@
-//! One worker of an evaluation of a list of jobs: the rounds that it goes through, and the output bits that it keeps.
+//! One worker of an evaluation of a list of jobs: the rounds that it goes through, its passes over the gates of a
+//! round, and the output bits that it keeps.
 
-ghost use Rattle.std.specs.Prelude.{◌≡◌, ℕ, ◌+◌, ◌<◌, length, All, IfSome, IfOk, Some, Ok, slice_get};
+ghost use Rattle.std.specs.Prelude.{◌≡◌, ◌+◌, ◌<◌, length, All, IfSome, IfOk};
 ghost use Rattle.gc_rounds.specs.declared.view.Stand.TheVariants.{Outside, Inside};
-ghost use Rattle.gc_netlist.specs.Solution.{on_outputs};
-ghost use Rattle.gc_job.specs.Job.{JobParts};
-ghost use Rattle.gc_job.specs.ActiveLabels.{active};
-ghost use Rattle.gc_job.specs.Evaluate.{IsEvaluated};
+ghost use Rattle.gc_eval.specs.Walks.{IsWithin, batches_left};
+ghost use Rattle.gc_bank.specs.Rounds.{gates_of};
 ghost use Rattle.gc_bank.specs.Seats.{IsSeatOf, IsNew, view, jobs_on};
-ghost use Rattle.gc_bank.specs.Workers.{AreBitsOf, IsWorkerOf};
+ghost use Rattle.gc_bank.specs.Workers.{AreBitsOf, AreLabelsOf, IsWorkerAt, IsWorkerOf, AreWorkersOf};
 
 use crate::seat::{BankSeat, Banks};
-use crate::walk::{Walk, pass};
-use gc_eval::Job;
+use gc_eval::{Batch, Walk};
 use gc_gatehouse::Gatehouse;
 use gc_label::Label;
 use gc_rounds::{Entry, Reopening};
 use std::alloc::{AllocError, Allocator};
 use std::thread;
 
-/// How often a worker asks for a bank that others have not left yet, before it ends. What it leaves undone is
-/// evaluated in the end.
+/// How often a worker asks for a bank that others have not left yet, before it ends. One thread evaluates the jobs that
+/// no worker evaluated.
 const TRIES: u32 = 1 << 20;
 
 /// The output bits of the job of a round.
@@ -29,12 +27,14 @@ pub(crate) struct Outputs<B: Allocator> {
     pub(crate) bits: Vec<bool, B>,
 }
 
-/// What a worker has of its own: its walk through the gates of the round that it is inside, its seat at the banks,
-/// and the output bits that it keeps.
+/// What a worker has of its own: its number, its seat at the banks, the first gate of its share, with which each of its
+/// passes begins, its walk over the gates of a round, and the output bits that it keeps.
 #[derive(Drop)]
 pub(crate) struct Worker<B: Allocator, A: Allocator, C: Allocator> {
+    number: u32,
+    seat: BankSeat<B, A, C>,
+    first: u32,
     walk: Walk<B>,
-    pub(crate) seat: BankSeat<B, A, C>,
     pub(crate) kept: Vec<Outputs<B>, B>,
 }
 
@@ -50,9 +50,7 @@ fn output_labels<'j, 'c, B: Allocator + Copy, A: Allocator, C: Allocator>(
     requires round { round < length (jobs_on banks.now) }
     ensures own { IsSeatOf banks.now seat.new }
     ensures inside { (view seat.new).stand ≡ Inside round }
-    ensures labels { IfOk result (λ o. IfSome o (λ v. (job : JobParts)
-        → slice_get (jobs_on banks.now) round ≡ Some job
-        → v.items ≡ on_outputs job.circuit (active job))) }
+    ensures labels { IfOk result (λ o. IfSome o (λ v. AreLabelsOf (jobs_on banks.now) round v.items)) }
 {
     let circuit = banks.job(round).circuit();
     let count = circuit.output_wires();
@@ -67,45 +65,6 @@ fn output_labels<'j, 'c, B: Allocator + Copy, A: Allocator, C: Allocator>(
     Ok(Some(labels))
 }
 
-/// The same, and none where there is no memory for them.
-fn seen_labels<'j, 'c, B: Allocator + Copy, A: Allocator, C: Allocator>(
-    alloc: B,
-    banks: &Banks<'j, 'c, B, A, C>,
-    seat: &mut BankSeat<B, A, C>,
-    round: u32,
-) -> Option<Vec<Label, B>>
-    requires own { IsSeatOf banks.now seat.old }
-    requires inside { (view seat.old).stand ≡ Inside round }
-    requires round { round < length (jobs_on banks.now) }
-    ensures own { IsSeatOf banks.now seat.new }
-    ensures inside { (view seat.new).stand ≡ Inside round }
-    ensures labels { IfSome result (λ v. (job : JobParts)
-        → slice_get (jobs_on banks.now) round ≡ Some job
-        → v.items ≡ on_outputs job.circuit (active job)) }
-{
-    match output_labels(alloc, banks, seat, round) {
-        Ok(found) => found,
-        Err(_) => None,
-    }
-}
-
-/// The output bits that these active labels of the output wires decode to, where they are recognised.
-fn decoded<B: Allocator + Copy, A: Allocator, C: Allocator>(
-    alloc: B,
-    job: &Job<'_, A, C>,
-    labels: &[Label],
-) -> Option<Vec<bool, B>>
-    requires { labels.now ≡ on_outputs job.now.circuit (active job.now) }
-    ensures { IfSome result (λ v. IsEvaluated job.now (Ok v.items)) }
-{
-    // A job is whole, which its circuit is told with.
-    let _ = job.circuit();
-    match job.decode(alloc, labels) {
-        Ok(bits) => Some(bits),
-        Err(_) => None,
-    }
-}
-
 /// The output bits that these active labels of the output wires of a round decode to, where they are recognised.
 fn bits_of_round<'j, 'c, B: Allocator + Copy, A: Allocator, C: Allocator>(
     alloc: B,
@@ -114,45 +73,16 @@ fn bits_of_round<'j, 'c, B: Allocator + Copy, A: Allocator, C: Allocator>(
     labels: &[Label],
 ) -> Option<Vec<bool, B>>
     requires round { round < length (jobs_on banks.now) }
-    requires labels { (job : JobParts) → slice_get (jobs_on banks.now) round ≡ Some job
-        → labels.now ≡ on_outputs job.circuit (active job) }
+    requires labels { AreLabelsOf (jobs_on banks.now) round labels.now }
     ensures { IfSome result (λ v. AreBitsOf (jobs_on banks.now) round v.items) }
 {
-    decoded(alloc, banks.job(round), labels)
-}
-
-/// Works inside the round, at its share first and then at all gates, as long as a pass made a gate or learnt of one,
-/// until each output wire has a label. These labels are the answer.
-fn labels_of_round<'j, 'c, B: Allocator + Copy, A: Allocator, C: Allocator, H: Gatehouse>(
-    alloc: B,
-    banks: &Banks<'j, 'c, B, A, C>,
-    house: &H,
-    seat: &mut BankSeat<B, A, C>,
-    walk: &mut Walk<B>,
-    round: u32,
-) -> Option<Vec<Label, B>>
-    requires own { IsSeatOf banks.now seat.old }
-    requires inside { (view seat.old).stand ≡ Inside round }
-    requires round { round < length (jobs_on banks.now) }
-    ensures own { IsSeatOf banks.now seat.new }
-    ensures inside { (view seat.new).stand ≡ Inside round }
-    ensures labels { IfSome result (λ v. (job : JobParts)
-        → slice_get (jobs_on banks.now) round ≡ Some job
-        → v.items ≡ on_outputs job.circuit (active job)) }
-{
-    let gates = banks.job(round).circuit().gates();
-    for turn in 0..=gates {
-        let (first, end) = (walk.first, if turn == 0 { walk.end } else { gates });
-        let late = pass(banks, house, seat, walk, round, first, end);
-        let early = turn > 0 && pass(banks, house, seat, walk, round, 0, first);
-        if let Some(labels) = seen_labels(alloc, banks, seat, round) {
-            return Some(labels);
-        }
-        if turn > 0 && !late && !early {
-            return None;
-        }
+    let job = banks.job(round);
+    // `circuit` also says that the job is whole.
+    let _ = job.circuit();
+    match job.decode(alloc, labels) {
+        Ok(bits) => Some(bits),
+        Err(_) => None,
     }
-    None
 }
 
 /// Gives the bank of a round on, once all have left the round. The answer is whether it was given on.
@@ -176,14 +106,125 @@ fn await_bank<'j, 'c, B: Allocator, A: Allocator, C: Allocator>(
     false
 }
 
+impl<B: Allocator, A: Allocator, C: Allocator> Worker<B, A, C> {
+    /// Steps a gate of the round, and notes the answer.
+    fn step_one<'j, 'c>(&mut self, banks: &Banks<'j, 'c, B, A, C>, round: u32, gate: u32)
+        requires worker { IsWorkerAt banks.now (Inside round) self.old }
+        requires round { round < length (jobs_on banks.now) }
+        requires gate { gate < gates_of (jobs_on banks.now) }
+        ensures worker { IsWorkerAt banks.now (Inside round) self.new }
+        ensures left { batches_left self.new.walk ≡ batches_left self.old.walk }
+    {
+        // `job` also says that the round has the gates of all rounds.
+        let _ = banks.job(round);
+        let answer = banks.step(&mut self.seat, gate);
+        self.walk.note(gate, answer);
+    }
+
+    /// Steps two gates of the round at once, and notes the answers.
+    fn step_two<'j, 'c>(
+        &mut self,
+        banks: &Banks<'j, 'c, B, A, C>,
+        round: u32,
+        first: u32,
+        second: u32,
+    )
+        requires worker { IsWorkerAt banks.now (Inside round) self.old }
+        requires round { round < length (jobs_on banks.now) }
+        requires first { first < gates_of (jobs_on banks.now) }
+        requires second { second < gates_of (jobs_on banks.now) }
+        ensures worker { IsWorkerAt banks.now (Inside round) self.new }
+        ensures left { batches_left self.new.walk ≡ batches_left self.old.walk }
+    {
+        // `job` also says that the round has the gates of all rounds.
+        let _ = banks.job(round);
+        let answers = banks.step_two(&mut self.seat, first, second);
+        self.walk.note(first, answers.0);
+        self.walk.note(second, answers.1);
+    }
+
+    /// Steps the gates of a batch in the round: four as two pairs.
+    fn step<'j, 'c, H: Gatehouse>(
+        &mut self,
+        banks: &Banks<'j, 'c, B, A, C>,
+        observer: &H,
+        round: u32,
+        batch: Batch,
+    )
+        requires worker { IsWorkerAt banks.now (Inside round) self.old }
+        requires round { round < length (jobs_on banks.now) }
+        requires batch { IsWithin (gates_of (jobs_on banks.now)) batch }
+        ensures worker { IsWorkerAt banks.now (Inside round) self.new }
+        ensures left { batches_left self.new.walk ≡ batches_left self.old.walk }
+    {
+        batch.report_to(observer, self.number);
+        match batch {
+            Batch::One(a) => self.step_one(banks, round, a),
+            Batch::Two(a, b) => self.step_two(banks, round, a, b),
+            Batch::Four(a, b, c, d) => {
+                self.step_two(banks, round, a, b);
+                self.step_two(banks, round, c, d);
+            }
+        }
+    }
+
+    /// One pass over all gates that the worker doesn't know to be done in the round, from its share on and then round
+    /// from the first. The answer is whether it made a gate, or learnt of one.
+    fn pass<'j, 'c, H: Gatehouse>(
+        &mut self,
+        banks: &Banks<'j, 'c, B, A, C>,
+        observer: &H,
+        round: u32,
+    ) -> bool
+        requires worker { IsWorkerAt banks.now (Inside round) self.old }
+        requires round { round < length (jobs_on banks.now) }
+        ensures { IsWorkerAt banks.now (Inside round) self.new }
+    {
+        let circuit = banks.job(round).circuit();
+        self.walk.begin(self.first, circuit.gates());
+        while let Some(batch) = self.walk.next(circuit) {
+            self.step(banks, observer, round, batch);
+        }
+        self.walk.has_learnt()
+    }
+}
+
 impl<B: Allocator + Copy, A: Allocator, C: Allocator> Worker<B, A, C> {
+    /// Passes over the gates of the round, of which the worker knows none, again as long as a pass made a gate or
+    /// learnt of one, until each output wire has a label. These labels are the answer.
+    fn labels_of_round<'j, 'c, H: Gatehouse>(
+        &mut self,
+        alloc: B,
+        banks: &Banks<'j, 'c, B, A, C>,
+        observer: &H,
+        round: u32,
+    ) -> Option<Vec<Label, B>>
+        requires worker { IsWorkerAt banks.now (Inside round) self.old }
+        requires round { round < length (jobs_on banks.now) }
+        ensures worker { IsWorkerAt banks.now (Inside round) self.new }
+        ensures labels { IfSome result (λ v. AreLabelsOf (jobs_on banks.now) round v.items) }
+    {
+        self.walk.forget();
+        for _pass in 0..=banks.job(round).circuit().gates() {
+            let learnt = self.pass(banks, observer, round);
+            let found = output_labels(alloc, banks, &mut self.seat, round);
+            if let Ok(Some(labels)) = found {
+                return Some(labels);
+            }
+            if !learnt {
+                return None;
+            }
+        }
+        None
+    }
+
     /// Goes through one round: it enters, works, and leaves. Where it saw the labels of all output wires, it seals
     /// the round and keeps the output bits.
     fn serve<'j, 'c, H: Gatehouse>(
         &mut self,
         alloc: B,
         banks: &Banks<'j, 'c, B, A, C>,
-        house: &H,
+        observer: &H,
         round: u32,
     )
         requires worker { IsWorkerOf banks.now self.old }
@@ -191,8 +232,7 @@ impl<B: Allocator + Copy, A: Allocator, C: Allocator> Worker<B, A, C> {
         ensures { IsWorkerOf banks.now self.new }
     {
         if let Entry::Inside = banks.enter(&mut self.seat, round) {
-            self.walk.known.clear();
-            let seen = labels_of_round(alloc, banks, house, &mut self.seat, &mut self.walk, round);
+            let seen = self.labels_of_round(alloc, banks, observer, round);
             banks.leave(&mut self.seat);
             if let Some(labels) = seen {
                 self.keep(alloc, banks, round, &labels);
@@ -211,15 +251,14 @@ impl<B: Allocator + Copy, A: Allocator, C: Allocator> Worker<B, A, C> {
     )
         requires worker { IsWorkerOf banks.now self.old }
         requires round { round < length (jobs_on banks.now) }
-        requires labels { (job : JobParts) → slice_get (jobs_on banks.now) round ≡ Some job
-            → labels.now ≡ on_outputs job.circuit (active job) }
+        requires labels { AreLabelsOf (jobs_on banks.now) round labels.now }
         ensures { IsWorkerOf banks.now self.new }
     {
         if let Entry::Inside = banks.enter(&mut self.seat, round) {
             banks.seal(&mut self.seat);
             banks.leave(&mut self.seat);
             if let Some(bits) = bits_of_round(alloc, banks, round, labels) {
-                // A job whose bits can't be kept is evaluated in the end.
+                // One thread evaluates a job whose bits can't be kept.
                 let _ = self.kept.push(Outputs { round, bits });
             }
         }
@@ -230,7 +269,7 @@ impl<B: Allocator + Copy, A: Allocator, C: Allocator> Worker<B, A, C> {
         &mut self,
         alloc: B,
         banks: &Banks<'j, 'c, B, A, C>,
-        house: &H,
+        observer: &H,
     )
         requires { IsWorkerOf banks.now self.old }
         ensures { IsWorkerOf banks.now self.new }
@@ -239,46 +278,46 @@ impl<B: Allocator + Copy, A: Allocator, C: Allocator> Worker<B, A, C> {
             if round >= 2 && !await_bank(banks, &mut self.seat, round - 2) {
                 return;
             }
-            self.serve(alloc, banks, house, round);
+            self.serve(alloc, banks, observer, round);
         }
     }
 }
 
-/// A worker with a new seat, which keeps nothing yet.
-fn recruit<'j, 'c, B: Allocator, A: Allocator, C: Allocator>(
+/// The worker of a new seat, which keeps nothing yet.
+fn worker_of<'j, 'c, B: Allocator + Copy, A: Allocator, C: Allocator>(
     alloc: B,
-    _banks: &Banks<'j, 'c, B, A, C>,
+    banks: &Banks<'j, 'c, B, A, C>,
     seat: BankSeat<B, A, C>,
-    walk: Walk<B>,
-) -> Worker<B, A, C>
-    requires { IsSeatOf _banks.now seat × IsNew (view seat) }
-    ensures { IsWorkerOf _banks.now result }
+    number: u32,
+) -> Result<Worker<B, A, C>, AllocError>
+    requires { IsSeatOf banks.now seat × IsNew (view seat) }
+    ensures { IfOk result (IsWorkerOf banks.now) }
 {
-    Worker {
-        walk,
+    let gates = banks.job(0).circuit().gates();
+    let share = gates / banks.seats;
+    Ok(Worker {
+        number,
         seat,
+        first: share.saturating_mul(number),
+        walk: Walk::new(alloc, gates)?,
         kept: Vec::new(alloc),
-    }
+    })
 }
 
 /// A worker for each seat, from the last to worker 0. That the seats are these banks' and new is the caller's
 /// condition.
-pub(crate) fn muster<'j, 'c, B: Allocator + Copy, A: Allocator, C: Allocator>(
+pub(crate) fn workers_of<'j, 'c, B: Allocator + Copy, A: Allocator, C: Allocator>(
     alloc: B,
     banks: &Banks<'j, 'c, B, A, C>,
     mut seats: Vec<BankSeat<B, A, C>, B>,
 ) -> Result<Vec<Worker<B, A, C>, B>, AllocError>
     requires { All (λ s. IsSeatOf banks.now s × IsNew (view s)) seats.items }
-    ensures { IfOk result (λ v. All (IsWorkerOf banks.now) v.items) }
+    ensures { IfOk result (λ v. AreWorkersOf banks.now v.items) }
 {
-    let gates = banks.jobs[0].circuit().gates();
-    let share = gates / banks.seats;
     let mut workers = Vec::with_capacity(alloc, seats.len())?;
     while let Some(seat) = seats.pop() {
         let number = u32::try_from(seats.len()).unwrap_or(0);
-        let walk = Walk::new(alloc, number, gates, share)?;
-        let worker = recruit(alloc, banks, seat, walk);
-        workers.push(worker)?;
+        workers.push(worker_of(alloc, banks, seat, number)?)?;
     }
     Ok(workers)
 }

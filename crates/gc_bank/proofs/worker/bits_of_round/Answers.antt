@@ -1,16 +1,21 @@
-use Rattle.std.proofs.Common.{Ok, Vec, Bool}
-use Rattle.gc_job.specs.Evaluate.{IsEvaluated}
+use Rattle.std.proofs.Common.{Ok}
+use Rattle.gc_job.specs.ActiveLabels.{active}
+use Rattle.gc_job.proofs.OutputLemmas.{length-outputs}
+use Rattle.gc_eval.proofs.ClosedLemmas.{evaluated_outputs}
 use Rattle.gc_bank.specs.Seats.{jobs_on}
-use Rattle.gc_bank.specs.Workers.{AreBitsOf}
-use Rattle.gc_bank.proofs.JobLemmas.{if_some, bits_at}
+use Rattle.gc_bank.proofs.JobLemmas.{bits_at}
 use Rattle.gc_bank.proofs.worker.bits_of_round.Goals as goal
 
-pub decoded-requires : goal.decoded-requires
-decoded-requires g c = c.requires.labels c.job.result.now c.job.ensures.at
+pub decode-requires : goal.decode-requires
+decode-requires g c =
+    let job = c.job-job.result.now in
+    length-outputs job.circuit c.circuit.ensures.whole.lawful (active job) c.args.labels.now
+    (c.requires.labels job c.job-job.ensures.at)
 
-pub returns : goal.returns
-returns g c =
-    let jobs = jobs_on c.args.banks.now in
-    let job = c.job.result.now in
-    if_some (λ (v : Vec Bool _). IsEvaluated job (Ok v.items)) (λ v. AreBitsOf jobs c.args.round v.items)
-    c.decoded.result (λ v is. bits_at jobs c.args.round job v.items c.job.ensures.at is) c.decoded.ensures
+pub returns-in-Ok : goal.returns-in-Ok
+returns-in-Ok g c =
+    let job = c.job-job.result.now in
+    let bits = c.in-Ok.bits.items in
+    bits_at (jobs_on c.args.banks.now) c.args.round job bits c.job-job.ensures.at
+    (evaluated_outputs job c.args.labels.now (Ok bits) c.circuit.ensures.whole
+    (c.requires.labels job c.job-job.ensures.at) c.in-Ok.ensures)

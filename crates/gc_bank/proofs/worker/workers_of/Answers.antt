@@ -3,7 +3,7 @@ use Rattle.gc_eval.proofs.GatherLemmas.{all_but_last, all_last}
 use Rattle.gc_bank.specs.Seats.{IsSeatOf, IsNew, view}
 use Rattle.gc_bank.specs.Workers.{IsWorkerOf}
 use Rattle.gc_bank.specs.declared.seat.BankSeat.{BankSeat}
-use Rattle.gc_bank.proofs.worker.muster.Goals as goal
+use Rattle.gc_bank.proofs.worker.workers_of.Goals as goal
 
 pub loop-seat-preserved : goal.loop-seat-preserved
 loop-seat-preserved g c =
@@ -13,11 +13,11 @@ loop-seat-preserved g c =
           (λ (s : BankSeat _ _ _). IsSeatOf banks s × IsNew (view s)) was.seats;
       workers = rw c.in_ok-push.ensures.items (All-push
           (IsWorkerOf banks) c.loop-seat.workers.items _ was.workers
-          c.recruit-worker.ensures);
+          c.in_ok-worker_of.ensures);
     }
 
-pub recruit-worker-requires : goal.recruit-worker-requires
-recruit-worker-requires g c =
+pub worker_of-requires : goal.worker_of-requires
+worker_of-requires g c =
     let banks = c.args.banks.now in
     all_last c.loop-seat.seats.items c.pop.new.self.items c.in-Some.seat c.in-Some.ensures.items
     (λ (s : BankSeat _ _ _). IsSeatOf banks s × IsNew (view s)) c.loop-seat.invariant.seats

@@ -2,7 +2,7 @@ use Rattle.std.proofs.Common.{length, All}
 use Rattle.gc_bank.specs.Seats.{IsSeatOf, IsNew, view}
 use Rattle.gc_bank.specs.Workers.{AreWorkersOf}
 use Rattle.gc_bank.specs.declared.seat.BankSeat.{BankSeat}
-use Rattle.gc_bank.proofs.worker.muster.Given as goal
+use Rattle.gc_bank.proofs.worker.workers_of.Given as goal
 
 abbrev pub invariant-loop-seat : goal.invariant-loop-seat
 invariant-loop-seat g l = record {

@@ -1,0 +1,10 @@
+use Rattle.gc_rounds.specs.declared.view.Stand.TheVariants.{Inside}
+use Rattle.gc_eval.specs.Walks.{batches_left}
+use Rattle.gc_bank.specs.Workers.{IsWorkerAt}
+use Rattle.gc_bank.proofs.worker.Worker.pass.Given as goal
+
+abbrev pub invariant-loop-batch : goal.invariant-loop-batch
+invariant-loop-batch g l = IsWorkerAt l.banks (Inside l.round) l.self
+
+abbrev pub decreases-loop-batch : goal.decreases-loop-batch
+decreases-loop-batch g l = batches_left l.self.walk
