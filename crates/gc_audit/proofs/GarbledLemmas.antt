@@ -1,0 +1,123 @@
+-- What an audit of a garbled file finds, from what it finds of each part.
+use Rattle.std.proofs.Common.{◌≡◌, ◌≢◌, ◌↔◌, ℕ, ◌<◌, Bool, true, false, List, length, take, slice_get, Option, Some, None, MatchOption, refl, sym, ap, subst, ◌∙◌, arith}
+use Rattle.std.proofs.lemmas.Option.{get_or_from_slice_get, slice_get-get_or}
+use Rattle.sha2.specs.Sha256.{sha256}
+use Rattle.gc_netlist.specs.Circuit.{Netlist, IsLawful}
+use Rattle.gc_netlist.specs.Canon.{canonical_text}
+use Rattle.gc_label.specs.Seed.{offset_of}
+use Rattle.gc_half.specs.declared.garbling.RowPair.{RowPair}
+use Rattle.gc_half.specs.Garbling.{GarblingParts, FitsCircuit, decode_bits_of}
+use Rattle.gc_format.specs.declared.parts.EntryPair.{EntryPair}
+use Rattle.gc_format.specs.declared.parts.Version.{Version}
+use Rattle.gc_format.specs.declared.parts.Version.TheVariants.{One, Two}
+use Rattle.gc_format.specs.GarbledFile.{GarbledParts, entry_count}
+use Rattle.gc_write.specs.Written.{entry_pair_of, entry_pairs_of}
+use Rattle.gc_write.proofs.ByteLemmas.{length-decode_bits, length-entry_pairs, entry_pairs-at}
+use Rattle.gc_file.specs.Honest.{version_entries, honest_parts}
+use Rattle.gc_audit.specs.declared.garbled.GarbledAudit.{GarbledAudit}
+use Rattle.gc_audit.specs.declared.garbled.PartsAudit.{PartsAudit}
+use Rattle.gc_audit.specs.Entries.{pair_at, DifferFirstIn, IsEntryDifference}
+use Rattle.gc_audit.specs.Garbled.{AreCountsRight, IsPartsAudit, IsGarbledAudit, honest_audit}
+use Rattle.gc_audit.proofs.DifferenceLemmas.{differ_first, none_found}
+
+-- The entry pair of an output stands at its place.
+pub pair_at_output : (offset : ℕ) (g : GarblingParts) (i : ℕ) → i < g.outputs →
+    slice_get (entry_pairs_of offset g) i ≡ Some (entry_pair_of offset g i)
+pair_at_output offset g i below =
+    let pair = entry_pair_of offset g i in
+    slice_get-get_or (entry_pairs_of offset g) i pair (omega (arith, length-entry_pairs offset g))
+    ∙ ap Some (entry_pairs-at offset g i pair below)
+
+-- Pairs of which one colour's entries differ are different.
+DifferFirstIn-differ : (p q : EntryPair) (s : Bool) → DifferFirstIn p q s → p ≢ q
+DifferFirstIn-differ p q false differ = λ same. differ (ap (λ (e : EntryPair). e.entry_zero) same)
+DifferFirstIn-differ p q true differ = λ same. differ.1 (ap (λ (e : EntryPair). e.entry_one) same)
+
+-- The first entry that differs, from the pairs of its output.
+pub entry_difference : (entries pairs : List EntryPair) (i : ℕ) (p q : EntryPair) (s : Bool)
+    → take i entries ≡ take i pairs → slice_get entries i ≡ Some p → slice_get pairs i ≡ Some q
+    → DifferFirstIn p q s → IsEntryDifference entries pairs (record { output = i; colour = s })
+entry_difference entries pairs i p q s before at_p at_q differ = record {
+  first = differ_first entries pairs i p q before at_p at_q (DifferFirstIn-differ p q s differ);
+  colour =
+      let none : EntryPair = record { entry_zero = 0; entry_one = 0 } in
+      subst (λ r. DifferFirstIn r (pair_at pairs i) s) (sym (get_or_from_slice_get entries i p none at_p))
+      (subst (λ r. DifferFirstIn p r s) (sym (get_or_from_slice_get pairs i q none at_q)) differ);
+}
+
+module _ (c : Netlist) (g : GarblingParts) (seed : List ℕ) (file : GarbledParts) where
+  abbrev IsHonest : Type 0
+  IsHonest = file ≡ honest_parts file.version c g seed
+
+  -- A file is honest where each part is.
+  honest-parts : file.digest ≡ sha256 (canonical_text c) → file.rows ≡ g.rows
+      → file.decode_bits ≡ decode_bits_of g
+      → file.entries ≡ version_entries file.version (offset_of seed) g → IsHonest
+  honest-parts digest rows bits entries =
+      let parts : List ℕ → List RowPair → List Bool → List EntryPair → GarbledParts =
+      λ d r b e. record {
+        version = file.version;
+        digest = d;
+        rows = r;
+        decode_bits = b;
+        entries = e;
+      } in
+      ap (λ d. parts d file.rows file.decode_bits file.entries) digest
+      ∙ ap (λ r. parts (sha256 (canonical_text c)) r file.decode_bits file.entries) rows
+      ∙ ap (λ b. parts (sha256 (canonical_text c)) g.rows b file.entries) bits
+      ∙ ap (parts (sha256 (canonical_text c)) g.rows (decode_bits_of g)) entries
+
+  -- An honest file has the counts of the circuit.
+  honest-counts : IsLawful c → FitsCircuit c g → IsHonest → AreCountsRight c file
+  honest-counts lawful fits is =
+      let bits : length (decode_bits_of g) ≡ g.outputs =
+      length-decode_bits g (omega (arith, lawful.outputs_fit, fits.wires, fits.outputs)) in
+      let rows_same : length file.rows ≡ length g.rows = ap (λ (p : GarbledParts). length p.rows) is in
+      let bits_same : length file.decode_bits ≡ length (decode_bits_of g) =
+      ap (λ (p : GarbledParts). length p.decode_bits) is in
+      record {
+        rows = rows_same ∙ fits.and_gates;
+        decode_bits = bits_same ∙ bits ∙ fits.outputs;
+        entries = ap (λ (p : GarbledParts). length p.entries) is
+            ∙ counted file.version ∙ ap (entry_count file.version) (sym (bits_same ∙ bits));
+      }
+    where
+      counted : (v : Version) → length (version_entries v (offset_of seed) g) ≡ entry_count v g.outputs
+      counted One = refl
+      counted Two = length-entry_pairs (offset_of seed) g
+
+  module _ (lawful : IsLawful c) (fits : FitsCircuit c g) (is : IsHonest) where
+    -- In the parts of an honest file no difference is found,
+    none-in_parts : (parts : Option PartsAudit)
+        → MatchOption parts (¬ AreCountsRight c file) (IsPartsAudit c g seed file)
+        → parts ≡ Some (record { rows = None; bits = None; entries = None })
+    none-in_parts None wrong = absurd (wrong (honest-counts lawful fits is))
+    none-in_parts (Some p) found =
+        let rows : p.rows ≡ None =
+        none_found p.rows file.rows g.rows (λ d. d.number) _ (λ d h. h.first) found.rows
+        (ap (λ (f : GarbledParts). f.rows) is) in
+        let bits : p.bits ≡ None =
+        none_found p.bits file.decode_bits (decode_bits_of g) (λ d. d) _ (λ d h. h) found.bits
+        (ap (λ (f : GarbledParts). f.decode_bits) is) in
+        let entries : p.entries ≡ None =
+        none_found p.entries file.entries (version_entries file.version (offset_of seed) g)
+        (λ d. d.output) _ (λ d h. h.first) found.entries
+        (ap (λ (f : GarbledParts). f.entries) is) in
+        rw (rows, bits, entries)
+
+    none-in_file : (audit : GarbledAudit) → IsGarbledAudit c g seed file audit → audit ≡ honest_audit
+    none-in_file audit found =
+        let digest : audit.digest ≡ true = found.digest.1 (ap (λ (f : GarbledParts). f.digest) is) in
+        let parts = none-in_parts audit.parts found.parts in
+        let of : Bool → Option PartsAudit → GarbledAudit = λ d p. record { digest = d; parts = p } in
+        ap (λ d. of d audit.parts) digest ∙ ap (of true) parts
+
+  -- and where none is found the file is honest.
+  pub finds_none-honest : IsLawful c → FitsCircuit c g → (audit : GarbledAudit)
+      → IsGarbledAudit c g seed file audit → (audit ≡ honest_audit) ↔ IsHonest
+  finds_none-honest lawful fits audit found = (
+    λ none.
+        let at = subst (IsGarbledAudit c g seed file) none found in
+        honest-parts (at.digest.0 refl) at.parts.rows at.parts.bits at.parts.entries,
+    λ is. none-in_file lawful fits is audit found,
+  )

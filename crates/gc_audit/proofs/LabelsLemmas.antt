@@ -1,0 +1,164 @@
+-- What an audit of a label file finds, from what it finds of the labels.
+use Rattle.std.proofs.Common.{◌≡◌, ◌↔◌, ℕ, zero, suc, ◌+◌, ◌<◌, Bool, true, false, List, [], ◌∷◌, ◌++◌, length, length-append, take, slice_get, get_or, ltb, Some, refl, sym, ap, subst, ◌∙◌, arith}
+use Rattle.std.proofs.lemmas.List.{take_more}
+use Rattle.std.proofs.lemmas.Option.{slice_get_within, slice_get_read, get_or_from_slice_get}
+use borrow.Author.Tests.{ltb-true}
+use Rattle.gc_netlist.specs.Circuit.{Netlist, input_wires}
+use Rattle.gc_circuit.specs.Meaning.{xor}
+use Rattle.gc_label.specs.Label.{colour}
+use Rattle.gc_label.specs.Seed.{offset_of, input_label_of}
+use Rattle.gc_label.proofs.SeedLemmas.{colour-offset_of}
+use Rattle.gc_half.specs.Evaluation.{encode}
+use Rattle.gc_half.specs.Garbling.{GarblingParts, IsGarbled}
+use Rattle.gc_half.proofs.HalfGateLaw.{colour-encode}
+use Rattle.gc_format.specs.LabelFile.{LabelFileParts, encoded_from}
+use Rattle.gc_write.proofs.DealLemmas.{encoded_from-append, length-encoded_from}
+use Rattle.gc_audit.specs.declared.labels.LabelsVerdict.{LabelsVerdict}
+use Rattle.gc_audit.specs.declared.labels.LabelsVerdict.TheVariants.{Bits, WrongLabel, WrongWidth, NoValue}
+use Rattle.gc_audit.specs.Labels.{first_wire_of, IsDealt, IsFirstWrong, IsLabelsVerdict, AreCompared, HasBits}
+
+-- A label stands for one bit: the two labels of a wire have different colours.
+encode-same : (offset label : ℕ) (x y : Bool) → colour offset ≡ true
+    → encode offset label x ≡ encode offset label y → x ≡ y
+encode-same offset label x y odd same =
+    cases (colour label) x y
+    (sym (colour-encode offset label x odd) ∙ ap colour same ∙ colour-encode offset label y odd)
+  where
+    cases : (c x y : Bool) → xor x c ≡ xor y c → x ≡ y
+    cases c true true e = refl
+    cases c false false e = refl
+    cases true true false e = absurd (cc)
+    cases false true false e = absurd (cc)
+    cases true false true e = absurd (cc)
+    cases false false true e = absurd (cc)
+
+module _ (seed : List ℕ) where
+  -- So labels stand for one list of bits.
+  encoded_from-same : (first : ℕ) (xs ys : List Bool) → length xs ≡ length ys
+      → encoded_from first seed xs ≡ encoded_from first seed ys → xs ≡ ys
+  encoded_from-same first [] [] len same = refl
+  encoded_from-same first [] (y ∷ ys) len same = absurd (omega arith)
+  encoded_from-same first (x ∷ xs) [] len same = absurd (omega arith)
+  encoded_from-same first (x ∷ xs) (y ∷ ys) len same =
+      let head : encode (offset_of seed) (input_label_of seed first) x
+      ≡ encode (offset_of seed) (input_label_of seed first) y = cc in
+      let tail : encoded_from (first + 1) seed xs ≡ encoded_from (first + 1) seed ys = cc in
+      let one = encode-same (offset_of seed) (input_label_of seed first) x y (colour-offset_of seed) head in
+      let rest = encoded_from-same (first + 1) xs ys (omega arith) tail in
+      ap (λ b. b ∷ xs) one ∙ ap (λ l. y ∷ l) rest
+
+  -- The label at a place stands for the bit there.
+  encoded_from-at : (first : ℕ) (bits : List Bool) (i : ℕ) → i < length bits →
+      slice_get (encoded_from first seed bits) i
+      ≡ Some (encode (offset_of seed) (input_label_of seed (first + i)) (get_or bits i false))
+  encoded_from-at first [] i within = absurd (omega arith)
+  encoded_from-at first (bit ∷ bits) zero within =
+      ap (λ w. Some (encode (offset_of seed) (input_label_of seed w) bit)) (omega arith)
+  encoded_from-at first (bit ∷ bits) (suc i) within =
+      encoded_from-at (first + 1) bits i (omega arith)
+      ∙ ap (λ w. Some (encode (offset_of seed) (input_label_of seed w) (get_or bits i false))) (omega arith)
+
+  encoded_from-push : (first : ℕ) (labels : List ℕ) (bits : List Bool) (i label : ℕ) (bit : Bool)
+      → take i labels ≡ encoded_from first seed bits → length bits ≡ i → slice_get labels i ≡ Some label
+      → label ≡ encode (offset_of seed) (input_label_of seed (first + i)) bit
+      → take (i + 1) labels ≡ encoded_from first seed (bits ++ bit ∷ [])
+  encoded_from-push first labels bits i label bit read count at is =
+      let one : ℕ → List ℕ = λ n. encode (offset_of seed) (input_label_of seed (first + n)) bit ∷ [] in
+      take_more labels i label (slice_get_within labels i label at)
+      ∙ ap (λ l. l ++ get_or labels i label ∷ []) read
+      ∙ ap (λ l. encoded_from first seed bits ++ l ∷ []) (get_or_from_slice_get labels i label label at ∙ is)
+      ∙ ap (λ n. encoded_from first seed bits ++ one n) (sym count)
+      ∙ sym (encoded_from-append seed first bits (bit ∷ []))
+
+  -- One label more.
+  pub encoded_from-more : (first : ℕ) (labels : List ℕ) (bits more : List Bool) (i label : ℕ) (bit : Bool)
+      → take i labels ≡ encoded_from first seed bits → length bits ≡ i → slice_get labels i ≡ Some label
+      → label ≡ encode (offset_of seed) (input_label_of seed (first + i)) bit → more ≡ bits ++ bit ∷ []
+      → (take (i + 1) labels ≡ encoded_from first seed more) × (length more ≡ i + 1)
+  encoded_from-more first labels bits more i label bit read count at is pushed = (
+    encoded_from-push first labels bits i label bit read count at is
+        ∙ ap (encoded_from first seed) (sym pushed),
+    ap length pushed ∙ omega (arith, length-append bits (bit ∷ []), count),
+  )
+
+-- What `get` found at an index.
+pub found_at : (xs ys : List ℕ) (i j x y : ℕ) → true ≡ ltb i (length xs) → x ≡ get_or xs i x → xs ≡ ys
+    → i ≡ j → y ≡ x → slice_get ys j ≡ Some y
+found_at xs ys i j x y below at same place e =
+    rw (← same, ← place, e) (slice_get_read xs (length xs) i x refl (ltb-true i (length xs) (sym below)) at)
+
+-- What a label stands for by a garbling's zero label of an input wire, it stands for by the seed.
+pub by_seed : (c : Netlist) (seed : List ℕ) (g : GarblingParts) → IsGarbled c seed g
+    → (wire zero_label offset label : ℕ) (bit : Bool) → wire < input_wires c
+    → slice_get g.zero_labels wire ≡ Some zero_label → offset ≡ offset_of seed
+    → label ≡ encode offset zero_label bit → label ≡ encode (offset_of seed) (input_label_of seed wire) bit
+by_seed c seed g garbled wire zero_label offset label bit input at offset_is is =
+    let zero : zero_label ≡ input_label_of seed wire =
+    sym (get_or_from_slice_get g.zero_labels wire zero_label 0 at) ∙ garbled.garbling.labels.inputs wire input in
+    is ∙ ap (λ o. encode o zero_label bit) offset_is ∙ ap (λ z. encode (offset_of seed) z bit) zero
+
+module _ (c : Netlist) (seed : List ℕ) (file : LabelFileParts) where
+  -- A dealer's file has as many labels as bits.
+  length-dealt : (bits : List Bool) → IsDealt c seed file bits → length file.labels ≡ length bits
+  length-dealt bits dealt =
+      ap (λ (f : LabelFileParts). length f.labels) dealt.parts
+      ∙ length-encoded_from (first_wire_of c file.index) seed bits
+
+  -- It has no wrong label.
+  dealt-right : (bits : List Bool) (wire : ℕ) → IsDealt c seed file bits
+      → IsFirstWrong seed (first_wire_of c file.index) file.labels wire → ⊥
+  dealt-right bits wire dealt wrong =
+      let first = first_wire_of c file.index in let i = wrong.place in
+      let within = slice_get_within file.labels i wrong.label wrong.at in
+      let read : Some wrong.label
+      ≡ Some (encode (offset_of seed) (input_label_of seed (first + i)) (get_or bits i false)) =
+      sym wrong.at ∙ ap (λ (f : LabelFileParts). slice_get f.labels i) dealt.parts
+      ∙ encoded_from-at seed first bits i (omega (arith, length-dealt bits dealt)) in
+      let same : wrong.label ≡ encode (offset_of seed) (input_label_of seed (first + i)) (get_or bits i false) = cc in
+      wrong.wrong (get_or bits i false)
+      (same ∙ ap (λ w. encode (offset_of seed) (input_label_of seed w) (get_or bits i false)) (sym wrong.wire_at))
+
+  -- The verdict is bits exactly where the file is the dealer's for them.
+  pub verdict-dealt : {A : Type 0} (verdict : LabelsVerdict A) → IsLabelsVerdict c seed file verdict
+      → (bits : List Bool) → HasBits verdict bits ↔ IsDealt c seed file bits
+  verdict-dealt NoValue is bits = (
+    λ h. absurd h,
+    λ dealt. absurd (omega (arith, slice_get_within c.input_widths file.index (length bits) dealt.width)),
+  )
+  verdict-dealt WrongWidth is bits = (
+    λ h. absurd h,
+    λ dealt.
+        let both : Some is.0 ≡ Some (length bits) = sym is.1 ∙ dealt.width in
+        let width : is.0 ≡ length bits = cc in
+        is.2 (length-dealt bits dealt ∙ sym width),
+  )
+  verdict-dealt (WrongLabel wire) is bits = (λ h. absurd h, λ dealt. dealt-right bits wire dealt is.1)
+  verdict-dealt (Bits found) is bits = (
+    λ same. subst (IsDealt c seed file) same is,
+    λ dealt.
+        encoded_from-same seed (first_wire_of c file.index) found.items bits
+        (sym (length-dealt found.items is) ∙ length-dealt bits dealt)
+        (ap (λ (f : LabelFileParts). f.labels) (sym is.parts ∙ dealt.parts)),
+  )
+
+  -- The verdict on a file, from that on its labels.
+  pub compared-verdict : {A : Type 0} (verdict : LabelsVerdict A) (first index : ℕ)
+      → slice_get c.input_widths file.index ≡ Some (length file.labels)
+      → first ≡ first_wire_of c index → index ≡ file.index
+      → AreCompared seed first file.labels verdict → IsLabelsVerdict c seed file verdict
+  compared-verdict NoValue first index width place same is = absurd is
+  compared-verdict WrongWidth first index width place same is = absurd is
+  compared-verdict (WrongLabel wire) first index width place same is =
+      let at : first ≡ first_wire_of c file.index = place ∙ ap (first_wire_of c) same in
+      (width, subst (λ n. IsFirstWrong seed n file.labels wire) at is)
+  compared-verdict (Bits bits) first index width place same is =
+      let at : first ≡ first_wire_of c file.index = place ∙ ap (first_wire_of c) same in
+      let labels : file.labels ≡ encoded_from (first_wire_of c file.index) seed bits.items =
+      is ∙ ap (λ n. encoded_from n seed bits.items) at in
+      record {
+        width = width ∙ ap Some (ap length labels
+            ∙ length-encoded_from (first_wire_of c file.index) seed bits.items);
+        parts =
+            let parts : List ℕ → LabelFileParts = λ l. record { index = file.index; labels = l } in
+            ap parts labels;
+      }

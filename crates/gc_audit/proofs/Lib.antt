@@ -1,0 +1,4 @@
+pub mod DifferenceLemmas
+pub mod GarbledLemmas
+pub mod LabelsLemmas
+pub mod AuditedFileLemmas

@@ -1,0 +1,29 @@
+use Rattle.std.proofs.Common.{length, refl, ◌∙◌, arith}
+use Rattle.std.proofs.lemmas.Option.{slice_get_read}
+use Rattle.gc_write.specs.Written.{entry_pair_of, entry_pairs_of}
+use Rattle.gc_write.proofs.ByteLemmas.{length-entry_pairs}
+use Rattle.gc_audit.proofs.DifferenceLemmas.{same_more, same_all}
+use Rattle.gc_audit.proofs.GarbledLemmas.{entry_difference, pair_at_output}
+use Rattle.gc_audit.proofs.entries.audit_pairs.Goals as goal
+
+pub returns-in-Some : goal.returns-in-Some
+returns-in-Some g c =
+    let a = c.args in let i = c.loop-output.output in let pair = c.index-entries-output.result in
+    entry_difference a.entries.now (entry_pairs_of a.offset a.garbling.now) i pair
+    (entry_pair_of a.offset a.garbling.now i) c.in-Some.colour c.loop-output.invariant
+    (slice_get_read a.entries.now (length a.entries.now) i pair refl (omega arith) c.index-entries-output.is)
+    (pair_at_output a.offset a.garbling.now i (omega arith)) c.in-Some.ensures
+
+pub loop-output-preserved : goal.loop-output-preserved
+loop-output-preserved g c =
+    let a = c.args in let i = c.loop-output.output in let pair = c.index-entries-output.result in
+    same_more a.entries.now (entry_pairs_of a.offset a.garbling.now) i pair
+    (entry_pair_of a.offset a.garbling.now i) c.loop-output.invariant
+    (slice_get_read a.entries.now (length a.entries.now) i pair refl (omega arith) c.index-entries-output.is)
+    (pair_at_output a.offset a.garbling.now i (omega arith)) c.in_default.ensures
+
+pub returns : goal.returns
+returns g c =
+    let a = c.args in
+    same_all a.entries.now (entry_pairs_of a.offset a.garbling.now) c.loop-output.output (omega arith)
+    (length-entry_pairs a.offset a.garbling.now ∙ omega arith) c.loop-output.invariant

@@ -1,0 +1,12 @@
+use Rattle.std.proofs.Common.{◌≡◌, ◌↔◌, IsTrue, rules}
+use Rattle.sha2.specs.Sha256.{sha256}
+use Rattle.gc_netlist.specs.Canon.{canonical_text}
+use Rattle.gc_audit.proofs.GarbledLemmas.{finds_none-honest}
+use Rattle.gc_audit.proofs.garbled.audit_garbled.Goals as goal
+
+pub returns-clause-honest : goal.returns-clause-honest
+returns-clause-honest g c =
+    let a = c.args in
+    let right : IsTrue c.eq.result ↔ (a.file.now.digest ≡ sha256 (canonical_text a.circuit.now)) = search rules in
+    finds_none-honest a.circuit.now a.garbling.now a.seed.now a.file.now c.law_lawful.ensures c.requires.fits _
+    (record { digest = right; parts = c.audit_parts.ensures })

@@ -1,0 +1,9 @@
+use Rattle.std.proofs.Common.{◌≡◌, length, take}
+use Rattle.gc_format.specs.LabelFile.{encoded_from}
+use Rattle.gc_audit.proofs.labels.compare.Given as goal
+
+abbrev pub invariant-loop-i : goal.invariant-loop-i
+invariant-loop-i g l = record {
+  read : take l.i l.labels ≡ encoded_from l.first l.seed l.bits.items;
+  count : length l.bits.items ≡ l.i;
+}

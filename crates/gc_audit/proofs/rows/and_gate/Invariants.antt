@@ -1,0 +1,9 @@
+use Rattle.std.proofs.Common.{◌≡◌, ◌≤◌}
+use Rattle.gc_netlist.specs.Circuit.{and_number}
+use Rattle.gc_audit.proofs.rows.and_gate.Given as goal
+
+abbrev pub invariant-loop-i : goal.invariant-loop-i
+invariant-loop-i g l = record {
+  counted : l.ands ≡ and_number l.circuit l.i;
+  few : l.ands ≤ l.number;
+}

@@ -1,0 +1,46 @@
+-- What an audit finds of a garbled file.
+use Rattle.std.specs.Prelude.{◌≡◌, ◌↔◌, ℕ, true, IsTrue, List, length, MatchOption, Some, None}
+use Rattle.sha2.specs.Sha256.{sha256}
+use Rattle.gc_netlist.specs.Circuit.{Netlist, output_wires, and_count}
+use Rattle.gc_netlist.specs.Canon.{canonical_text}
+use Rattle.gc_label.specs.Seed.{offset_of}
+use Rattle.gc_half.specs.Garbling.{GarblingParts, decode_bits_of}
+use Rattle.gc_format.specs.GarbledFile.{GarbledParts, entry_count}
+use Rattle.gc_file.specs.Honest.{version_entries}
+use Rattle.gc_audit.specs.declared.garbled.GarbledAudit.{GarbledAudit}
+use Rattle.gc_audit.specs.declared.garbled.PartsAudit.{PartsAudit}
+use Rattle.gc_audit.specs.Difference.{DifferFirstAt}
+use Rattle.gc_audit.specs.Rows.{IsRowDifference}
+use Rattle.gc_audit.specs.Entries.{IsEntryDifference}
+
+-- The counts are right: the file has a row pair for each AND gate and a decode bit for each output wire. It has the
+-- entry pairs of its version, as each file that was read has.
+pub record AreCountsRight (c : Netlist) (file : GarbledParts) : Type 0 where
+  pub rows : length file.rows ≡ and_count c
+  pub decode_bits : length file.decode_bits ≡ output_wires c
+  pub entries : length file.entries ≡ entry_count file.version (length file.decode_bits)
+
+-- What is found of the parts of a file whose counts are right, by the garbling of the circuit under the seed: of each
+-- the first difference, or that there is none. Version 1 has no entries, and so no difference in them.
+pub record IsPartsAudit (c : Netlist) (g : GarblingParts) (seed : List ℕ) (file : GarbledParts)
+    (audit : PartsAudit) : Type 0 where
+  pub counts : AreCountsRight c file
+  pub rows : MatchOption audit.rows (file.rows ≡ g.rows) (IsRowDifference c file.rows g.rows)
+  pub bits : MatchOption audit.bits (file.decode_bits ≡ decode_bits_of g)
+      (DifferFirstAt file.decode_bits (decode_bits_of g))
+  pub entries : let entries = version_entries file.version (offset_of seed) g in
+      MatchOption audit.entries (file.entries ≡ entries) (IsEntryDifference file.entries entries)
+
+-- What is found of a garbled file: whether its digest is the circuit's, the SHA-256 (FIPS 180-4) of its canonical text;
+-- and what is found of the other parts, exactly where their counts are right.
+pub record IsGarbledAudit (c : Netlist) (g : GarblingParts) (seed : List ℕ) (file : GarbledParts)
+    (audit : GarbledAudit) : Type 0 where
+  pub digest : IsTrue audit.digest ↔ (file.digest ≡ sha256 (canonical_text c))
+  pub parts : MatchOption audit.parts (¬ AreCountsRight c file) (IsPartsAudit c g seed file)
+
+-- Nothing differs.
+abbrev pub honest_audit : GarbledAudit
+honest_audit = record {
+  digest = true;
+  parts = Some (record { rows = None; bits = None; entries = None });
+}

@@ -1,0 +1,116 @@
+//! Comparing label files with the labels of a circuit's input wires.
+
+ghost use Rattle.std.specs.Prelude.{◌≡◌, ◌≢◌, ◌<◌, ◌≤◌, ◌+◌, ◌^◌, ◌↔◌, Bool, List, MatchOption, IfOk, length, sum};
+ghost use Rattle.gc_netlist.specs.Circuit.{input_wires};
+ghost use Rattle.gc_half.specs.Evaluation.{encode};
+ghost use Rattle.gc_half.specs.Garbling.{IsGarbled};
+ghost use Rattle.gc_audit.specs.Labels.{IsLabelsVerdict, IsDealt, HasBits, AreCompared, first_wire_of};
+
+use gc_circuit::{Circuit, Memory};
+use gc_file::LabelFile;
+use gc_half::Garbling;
+use gc_label::{Label, Offset, Seed, offset};
+use std::alloc::{Allocator, Global};
+
+/// What an audit finds of a label file.
+#[derive(Drop)]
+pub enum LabelsVerdict<A: Allocator = Global> {
+    /// The circuit has no input value of the file's index.
+    NoValue,
+    /// The file has not a label for each wire of its input value.
+    WrongWidth,
+    /// The label of this wire is neither its zero label nor its one label: the first such wire of the value, by the
+    /// circuit's wire numbers.
+    WrongLabel(u32),
+    /// The bits that the labels stand for, in wire order.
+    Bits(Vec<bool, A>),
+}
+
+/// Compares a label file with the labels of a circuit's input wires, and answers the first in the order of
+/// [`LabelsVerdict`] that holds. The answer is bits exactly where the file is the label file that a dealer writes of
+/// the circuit, the seed and these bits.
+///
+/// The garbling is that of the circuit and the seed: this is the caller's condition. It takes memory once, for the
+/// bits; `Memory` stands in place of the answer only where this was refused.
+pub fn audit_labels<A: Allocator, B: Allocator, C: Allocator, D: Allocator>(
+    alloc: A,
+    circuit: &Circuit<B>,
+    garbling: &Garbling<C>,
+    seed: &Seed,
+    file: &LabelFile<D>,
+) -> Result<LabelsVerdict<A>, Memory>
+    requires { IsGarbled circuit.now seed.now garbling.now }
+    ensures verdict { IfOk result (IsLabelsVerdict circuit.now seed.now file.now) }
+    ensures dealt { IfOk result (λ verdict. (bits : List Bool) → HasBits verdict bits
+        ↔ IsDealt circuit.now seed.now file.now bits) }
+{
+    let index = file.index() as usize;
+    let labels = file.labels();
+    let Some(width) = circuit.input_widths().get(index) else {
+        return Ok(LabelsVerdict::NoValue);
+    };
+    if labels.len() != *width as usize {
+        return Ok(LabelsVerdict::WrongWidth);
+    }
+    let first = first_wire(circuit, index);
+    compare(alloc, circuit, garbling, seed, first, labels)
+}
+
+/// The first wire of the input value with this index. That there is one is the caller's condition.
+fn first_wire<A: Allocator>(circuit: &Circuit<A>, index: usize) -> u32
+    requires { index < length circuit.now.input_widths }
+    ensures { result ≡ first_wire_of circuit.now index }
+{
+    circuit.law_lawful();
+    sum_of(&circuit.input_widths()[..index])
+}
+
+/// The sum of these widths.
+fn sum_of(widths: &[u32]) -> u32
+    requires { sum widths.now < 2 ^ 32 }
+    ensures { result ≡ sum widths.now }
+{
+    widths.iter().sum()
+}
+
+/// The bits that these labels stand for on the input wires from the first one on, or the first wire whose label stands
+/// for none. That the garbling is that of the circuit and the seed, and that these are input wires, are the caller's
+/// conditions.
+fn compare<A: Allocator, B: Allocator, C: Allocator>(
+    alloc: A,
+    circuit: &Circuit<B>,
+    garbling: &Garbling<C>,
+    seed: &Seed,
+    first: u32,
+    labels: &[Label],
+) -> Result<LabelsVerdict<A>, Memory>
+    requires garbled { IsGarbled circuit.now seed.now garbling.now }
+    requires wires { first + length labels.now ≤ input_wires circuit.now }
+    ensures { IfOk result (AreCompared seed.now first labels.now) }
+{
+    circuit.law_lawful();
+    let offset = offset(seed);
+    let mut bits = Vec::with_capacity(alloc, labels.len())?;
+    for (i, label) in labels.iter().enumerate() {
+        let wire = first + i as u32;
+        let Some(bit) = bit_of(offset, garbling.zero_label(wire), *label) else {
+            return Ok(LabelsVerdict::WrongLabel(wire));
+        };
+        bits.push(bit)?;
+    }
+    Ok(LabelsVerdict::Bits(bits))
+}
+
+/// The bit that a label stands for on a wire with this zero label, if it is one of the wire's two labels.
+fn bit_of(offset: Offset, zero_label: Label, label: Label) -> Option<bool>
+    ensures { MatchOption result ((bit : Bool) → label ≢ encode offset zero_label bit)
+        (λ bit. label ≡ encode offset zero_label bit) }
+{
+    if label == zero_label {
+        Some(false)
+    } else if label == zero_label.xor(offset.label()) {
+        Some(true)
+    } else {
+        None
+    }
+}

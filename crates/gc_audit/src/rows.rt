@@ -1,0 +1,109 @@
+//! Comparing row pairs.
+
+ghost use Rattle.std.specs.Prelude.{◌≡◌, ◌<◌, MatchOption, length, slice_get, Some};
+ghost use Rattle.gc_netlist.specs.declared.gate.Gate.{Gate};
+ghost use Rattle.gc_netlist.specs.Circuit.{and_count};
+ghost use Rattle.gc_audit.specs.Rows.{IsAndGate, DifferIn, IsRowDifference};
+
+use gc_circuit::Circuit;
+use gc_half::RowPair;
+use std::alloc::Allocator;
+
+/// Which rows of two row pairs differ.
+#[derive(Clone, Copy, PartialEq, Eq, Debug)]
+pub enum DifferingRows {
+    /// The generator's row alone.
+    Generator,
+    /// The evaluator's row alone.
+    Evaluator,
+    /// Both rows.
+    Both,
+}
+
+/// The first AND gate whose row pair differs.
+#[derive(Clone, Copy, PartialEq, Eq, Debug)]
+pub struct RowDifference {
+    /// The gate's number among the AND gates, in file order, from 0.
+    pub number: u32,
+    /// The gate's place in the file, among all gates, from 0.
+    pub gate: u32,
+    /// The wire that the gate sets.
+    pub wire: u32,
+    /// Which of its rows differ.
+    pub rows: DifferingRows,
+}
+
+/// The first AND gate whose row pair in a file is not the garbling's. That there is a pair for each AND gate, in both,
+/// is the caller's condition.
+pub(crate) fn audit_rows<A: Allocator>(
+    circuit: &Circuit<A>,
+    garbled: &[RowPair],
+    filed: &[RowPair],
+) -> Option<RowDifference>
+    requires garbled { length garbled.now ≡ and_count circuit.now }
+    requires filed { length filed.now ≡ and_count circuit.now }
+    ensures { MatchOption result (filed.now ≡ garbled.now)
+        (IsRowDifference circuit.now filed.now garbled.now) }
+{
+    for number in 0..circuit.and_count() {
+        let place = number as usize;
+        if let Some(rows) = differing_rows(filed[place], garbled[place]) {
+            return Some(difference_at(circuit, number, rows));
+        }
+    }
+    None
+}
+
+/// Which rows of two pairs differ.
+fn differing_rows(filed: RowPair, garbled: RowPair) -> Option<DifferingRows>
+    ensures { MatchOption result (filed ≡ garbled) (DifferIn filed garbled) }
+{
+    let same_generator = filed.generator == garbled.generator;
+    let same_evaluator = filed.evaluator == garbled.evaluator;
+    match (same_generator, same_evaluator) {
+        (true, true) => None,
+        (false, true) => Some(DifferingRows::Generator),
+        (true, false) => Some(DifferingRows::Evaluator),
+        (false, false) => Some(DifferingRows::Both),
+    }
+}
+
+/// The difference at the AND gate with this number. That there is one is the caller's condition.
+fn difference_at<A: Allocator>(
+    circuit: &Circuit<A>,
+    number: u32,
+    rows: DifferingRows,
+) -> RowDifference
+    requires { number < and_count circuit.now }
+    ensures number { result.number ≡ number }
+    ensures gate { IsAndGate circuit.now number result.gate result.wire }
+    ensures rows { result.rows ≡ rows }
+{
+    let gate = and_gate(circuit, number);
+    RowDifference {
+        number,
+        gate,
+        wire: circuit.gate(gate).set,
+        rows,
+    }
+}
+
+/// The place in the file of the AND gate with this number. That there is one is the caller's condition. It goes through
+/// the gates once.
+fn and_gate<A: Allocator>(circuit: &Circuit<A>, number: u32) -> u32
+    requires { number < and_count circuit.now }
+    ensures bound { result < length circuit.now.gates }
+    ensures gate { (gate : Gate) → slice_get circuit.now.gates result ≡ Some gate
+        → IsAndGate circuit.now number result gate.set }
+{
+    let mut ands = 0u32;
+    for i in 0..circuit.gates() {
+        if circuit.gate(i).operation.is_and() {
+            if ands == number {
+                return i;
+            }
+            ands += 1;
+        }
+    }
+    unreachable!()
+}
