@@ -12,7 +12,7 @@ use Rattle.clap.specs.declared.builder.command.Command.TheViews.{out-Command}
 use Rattle.gc_format.specs.declared.parts.Version.{Version}
 use Rattle.gc_format.specs.declared.parts.Version.TheVariants.{One, Two}
 use Rattle.gc_order.specs.declared.order.Order.{Order}
-use Rattle.gc_order.specs.declared.order.Order.TheVariants.{Run, Plain, Check, Garble, Deal, Eval, Jobs}
+use Rattle.gc_order.specs.declared.order.Order.TheVariants.{Run, Plain, Check, Locate, Stats, Garble, Deal, Eval, Jobs, Labels, Audit}
 
 -- a positional word that has to be there
 abbrev pub required_word : List ℕ → Rule
@@ -41,6 +41,14 @@ number_option id low high default =
 abbrev pub workers_option : Rule
 workers_option = number_option (codes "workers") 0 4294967295 (codes "1")
 
+-- the option `--from FROM`
+abbrev pub from_option : Rule
+from_option = number_option (codes "from") 0 4294967295 (codes "0")
+
+-- the option `--count COUNT`: no circuit has as many wires as its default
+abbrev pub count_option : Rule
+count_option = number_option (codes "count") 0 4294967295 (codes "4294967295")
+
 -- a command whose first word is a circuit's file
 abbrev pub command_on_circuit : List ℕ → App
 command_on_circuit name = with_rule (new_app name) (required_word (codes "circuit"))
@@ -62,6 +70,14 @@ plain_command = with_rule (command_on_circuit (codes "plain")) (more_words (code
 -- `check CIRCUIT`
 abbrev pub check_command : App
 check_command = command_on_circuit (codes "check")
+
+-- `locate CIRCUIT`
+abbrev pub locate_command : App
+locate_command = command_on_circuit (codes "locate")
+
+-- `stats CIRCUIT`
+abbrev pub stats_command : App
+stats_command = command_on_circuit (codes "stats")
 
 -- `garble CIRCUIT SEED OUT [--format FORMAT] [--workers WORKERS]`
 abbrev pub garble_command : App
@@ -92,6 +108,21 @@ jobs_command =
     let with_list = with_rule (command_on_circuit (codes "jobs")) (required_word (codes "list")) in
     with_rule with_list workers_option
 
+-- `labels CIRCUIT SEED [--from FROM] [--count COUNT] [VALUES]...`
+abbrev pub labels_command : App
+labels_command =
+    let with_from = with_rule (command_with_seed (codes "labels")) from_option in
+    let with_count = with_rule with_from count_option in
+    with_rule with_count (more_words (codes "values"))
+
+-- `audit CIRCUIT SEED GARBLED [--workers WORKERS] [LABELS]...`
+abbrev pub audit_command : App
+audit_command =
+    let garbled = required_word (codes "garbled") in
+    let with_garbled = with_rule (command_with_seed (codes "audit")) garbled in
+    let with_workers = with_rule with_garbled workers_option in
+    with_rule with_workers (more_words (codes "labels"))
+
 -- The program, which needs a command, before it has any.
 abbrev pub named_program : App
 named_program =
@@ -105,16 +136,28 @@ named_program =
       };
     }
 
--- The program with its commands.
-abbrev pub program : App
-program =
+-- The program with the commands up to `stats`,
+abbrev pub circuit_program : App
+circuit_program =
     let with_run = with_subcommand named_program run_command.top in
     let with_plain = with_subcommand with_run plain_command.top in
     let with_check = with_subcommand with_plain check_command.top in
-    let with_garble = with_subcommand with_check garble_command.top in
+    let with_locate = with_subcommand with_check locate_command.top in
+    with_subcommand with_locate stats_command.top
+
+-- with those up to `jobs`,
+abbrev pub file_program : App
+file_program =
+    let with_garble = with_subcommand circuit_program garble_command.top in
     let with_deal = with_subcommand with_garble deal_command.top in
     let with_eval = with_subcommand with_deal eval_command.top in
     with_subcommand with_eval jobs_command.top
+
+-- and with all its commands.
+abbrev pub program : App
+program =
+    let with_labels = with_subcommand file_program labels_command.top in
+    with_subcommand with_labels audit_command.top
 
 -- The program has a command of this name.
 abbrev pub IsCommandName : List ℕ → Type 0
@@ -135,16 +178,22 @@ pub data OrderText : Type 0 where
   run : List ℕ → List ℕ → ℕ → List (List ℕ) → OrderText
   plain : List ℕ → List (List ℕ) → OrderText
   check : List ℕ → OrderText
+  locate : List ℕ → OrderText
+  stats : List ℕ → OrderText
   garble : List ℕ → List ℕ → List ℕ → Version → ℕ → OrderText
   deal : List ℕ → List ℕ → ℕ → List ℕ → List ℕ → OrderText
   eval : List ℕ → List ℕ → ℕ → List (List ℕ) → OrderText
   jobs : List ℕ → List ℕ → ℕ → OrderText
+  list_labels : List ℕ → List ℕ → ℕ → ℕ → List (List ℕ) → OrderText
+  audit : List ℕ → List ℕ → List ℕ → ℕ → List (List ℕ) → OrderText
 
 abbrev pub text_of : Order → OrderText
 text_of (Run circuit seed workers values) =
     run (string_bytes circuit) (string_bytes seed) workers (map string_bytes values.items)
 text_of (Plain circuit values) = plain (string_bytes circuit) (map string_bytes values.items)
 text_of (Check circuit) = check (string_bytes circuit)
+text_of (Locate circuit) = locate (string_bytes circuit)
+text_of (Stats circuit) = stats (string_bytes circuit)
 text_of (Garble circuit seed out version workers) =
     garble (string_bytes circuit) (string_bytes seed) (string_bytes out) version workers
 text_of (Deal circuit seed index value out) =
@@ -152,6 +201,11 @@ text_of (Deal circuit seed index value out) =
 text_of (Eval circuit garbled workers labels) =
     eval (string_bytes circuit) (string_bytes garbled) workers (map string_bytes labels.items)
 text_of (Jobs circuit list workers) = jobs (string_bytes circuit) (string_bytes list) workers
+text_of (Labels circuit seed from count values) =
+    list_labels (string_bytes circuit) (string_bytes seed) from count (map string_bytes values.items)
+text_of (Audit circuit seed garbled workers labels) =
+    audit (string_bytes circuit) (string_bytes seed) (string_bytes garbled) workers
+    (map string_bytes labels.items)
 
 -- The word that clap found for an id that has one word,
 abbrev pub word_of : List ℕ → List Row → List ℕ
@@ -187,6 +241,14 @@ plain_in rows = plain (word_of (codes "circuit") rows) (words_of (codes "values"
 abbrev pub check_in : List Row → OrderText
 check_in rows = check (word_of (codes "circuit") rows)
 
+-- The order of `locate` in what clap found.
+abbrev pub locate_in : List Row → OrderText
+locate_in rows = locate (word_of (codes "circuit") rows)
+
+-- The order of `stats` in what clap found.
+abbrev pub stats_in : List Row → OrderText
+stats_in rows = stats (word_of (codes "circuit") rows)
+
 -- The order of `garble` in what clap found.
 abbrev pub garble_in : List Row → OrderText
 garble_in rows =
@@ -217,16 +279,38 @@ jobs_in rows = jobs
     (word_of (codes "list") rows)
     (number_in (word_of (codes "workers") rows))
 
+-- The order of `labels` in what clap found.
+abbrev pub labels_in : List Row → OrderText
+labels_in rows = list_labels
+    (word_of (codes "circuit") rows)
+    (word_of (codes "seed") rows)
+    (number_in (word_of (codes "from") rows))
+    (number_in (word_of (codes "count") rows))
+    (words_of (codes "values") rows)
+
+-- The order of `audit` in what clap found.
+abbrev pub audit_in : List Row → OrderText
+audit_in rows = audit
+    (word_of (codes "circuit") rows)
+    (word_of (codes "seed") rows)
+    (word_of (codes "garbled") rows)
+    (number_in (word_of (codes "workers") rows))
+    (words_of (codes "labels") rows)
+
 -- The order of the command of a name, where the program has one.
 abbrev pub command_in : List ℕ → List Row → Option OrderText
 command_in name rows =
     if bytes_eq name (codes "run") then Some (run_in rows)
     else if bytes_eq name (codes "plain") then Some (plain_in rows)
     else if bytes_eq name (codes "check") then Some (check_in rows)
+    else if bytes_eq name (codes "locate") then Some (locate_in rows)
+    else if bytes_eq name (codes "stats") then Some (stats_in rows)
     else if bytes_eq name (codes "garble") then Some (garble_in rows)
     else if bytes_eq name (codes "deal") then Some (deal_in rows)
     else if bytes_eq name (codes "eval") then Some (eval_in rows)
     else if bytes_eq name (codes "jobs") then Some (jobs_in rows)
+    else if bytes_eq name (codes "labels") then Some (labels_in rows)
+    else if bytes_eq name (codes "audit") then Some (audit_in rows)
     else None
 
 -- The order in a command line: that of the command that clap finds in it.

@@ -2,17 +2,20 @@
 
 ghost use Rattle.std.specs.Prelude.{IfOk, codes};
 ghost use Rattle.clap.specs.Words.{App, Rule, new_rule, with_rule, with_subcommand};
-ghost use Rattle.gc_order.specs.Order.{HasRule, HasShape, check_command, command_on_circuit, command_with_seed, deal_command};
-ghost use Rattle.gc_order.specs.Order.{eval_command, garble_command, jobs_command, more_words, named_program, number_option};
-ghost use Rattle.gc_order.specs.Order.{number_word, plain_command, program, required_word, run_command};
-ghost use Rattle.gc_order.specs.Order.{workers_option};
+ghost use Rattle.gc_order.specs.Order.{HasRule, HasShape, audit_command, check_command};
+ghost use Rattle.gc_order.specs.Order.{circuit_program, command_on_circuit, command_with_seed};
+ghost use Rattle.gc_order.specs.Order.{count_option, deal_command, eval_command, file_program};
+ghost use Rattle.gc_order.specs.Order.{from_option, garble_command, jobs_command, labels_command};
+ghost use Rattle.gc_order.specs.Order.{locate_command, more_words, named_program, number_option};
+ghost use Rattle.gc_order.specs.Order.{number_word, plain_command, program, required_word};
+ghost use Rattle.gc_order.specs.Order.{run_command, stats_command, workers_option};
 
 use clap::builder::ValueParser;
 use clap::{Arg, ArgAction, Command};
 use std::alloc::{AllocError, Global};
 
 /// The version of the program.
-const VERSION: &str = "0.1.0";
+const VERSION: &str = "0.2.0";
 
 const RUN_HELP: &str = "\
 Prints the output values, one per line: a character 0 or 1 for each wire, in wire order.
@@ -28,6 +31,24 @@ circuit have the same digest.
 
 Example:
   halfgates check adder.txt";
+
+const LOCATE_HELP: &str = "\
+Prints `no fault` where the text spells a circuit. Elsewhere it prints `fault` with the code and \
+the name of the first fault, `line` and `column` with its place, `gate` with the gate that it is \
+in, if it is in one, and `wire` with the wire that it is about, if it is about one. Lines and \
+columns are counted from 1, and gates from 0. A column is a byte.
+
+Example:
+  halfgates locate adder.txt";
+
+const STATS_HELP: &str = "\
+Prints ten lines: `xor`, `and`, `inv`, `eq` and `eqw` with the number of gates of each operation, \
+`depth` and `and_depth` with the greatest depth of a wire in gates and in AND gates, `unread` with \
+the number of gates that set a wire that no gate and no output value reads, and `garbled1` and \
+`garbled2` with the number of bytes of the garbled file of version 1 and of version 2.
+
+Example:
+  halfgates stats adder.txt";
 
 const PLAIN_HELP: &str = "\
 Prints the output values, one per line: a character 0 or 1 for each wire, in wire order.
@@ -69,7 +90,30 @@ Example, with a full adder in adder.txt that reads three bits, and the line \
 `adder.garbled first.labels second.labels third.labels` in list.txt:
   halfgates jobs adder.txt list.txt --workers 4";
 
-const LABELS_HELP: &str = "A label file for each input value of the circuit, in any order";
+const LABELS_HELP: &str = "\
+Prints a line for each wire that is set, in wire order: the wire, its zero label, its active label \
+for these values, and its bit. A label has 32 hexadecimal digits. These lines tell the values and \
+the labels: keep them as secret as the seed.
+
+Example, with a full adder in adder.txt that reads three bits, for the two wires from wire 6 on:
+  halfgates labels adder.txt 0000000000000000000000000000000000000000000000000000000000000000 \
+--from 6 --count 2 1 0 1";
+
+const AUDIT_HELP: &str = "\
+Garbles the circuit, and compares the files with what that makes. Prints a line for each part of \
+the garbled file, with `right`, or with `wrong` and where the part first differs: `digest`, \
+`counts`, `rows`, `bits`, which are the decode bits, and `entries`, which a file of version 1 \
+doesn't have. Where the counts are wrong, the parts after them are left out. Then it prints a line \
+`labels` for each label file, with the index of its input value and the bits that its labels stand \
+for, or what is wrong with it, and at last `honest` if all is right, or else `dishonest`.
+
+Example, with a full adder in adder.txt and the label file of its first input value:
+  halfgates audit adder.txt 0000000000000000000000000000000000000000000000000000000000000000 \
+adder.garbled first.labels";
+
+const LABEL_FILES_HELP: &str = "A label file for each input value of the circuit, in any order";
+
+const AUDITED_HELP: &str = "Label files of the circuit, any number of them, in any order";
 
 const SEED_HELP: &str = "The seed of the garbling: 64 hexadecimal digits";
 
@@ -85,6 +129,15 @@ and two hexadecimal digits for each 8 wires, of which the first wire is the lowe
 pub(crate) fn halfgates<'a>(alloc: Global) -> Result<Command<'a>, AllocError>
     ensures { IfOk result (HasShape program) }
 {
+    let program = file_program(alloc)?;
+    let program = with_command(program, labels(alloc))?;
+    with_command(program, audit(alloc))
+}
+
+/// The program, with the commands up to `jobs`.
+fn file_program<'a>(alloc: Global) -> Result<Command<'a>, AllocError>
+    ensures { IfOk result (HasShape file_program) }
+{
     let program = circuit_program(alloc)?;
     let program = with_command(program, garble(alloc))?;
     let program = with_command(program, deal(alloc))?;
@@ -92,14 +145,15 @@ pub(crate) fn halfgates<'a>(alloc: Global) -> Result<Command<'a>, AllocError>
     with_command(program, jobs(alloc))
 }
 
-/// The program, with the commands that read no file but the circuit's.
+/// The program, with the commands up to `stats`.
 fn circuit_program<'a>(alloc: Global) -> Result<Command<'a>, AllocError>
-    ensures { IfOk result (HasShape (with_subcommand (with_subcommand (with_subcommand named_program
-        run_command.top) plain_command.top) check_command.top)) }
+    ensures { IfOk result (HasShape circuit_program) }
 {
     let program = with_command(named_program(alloc), run(alloc))?;
     let program = with_command(program, plain(alloc))?;
-    with_command(program, check(alloc))
+    let program = with_command(program, check(alloc))?;
+    let program = with_command(program, locate(alloc))?;
+    with_command(program, stats(alloc))
 }
 
 /// The program with one command more.
@@ -156,6 +210,22 @@ fn check<'a>(alloc: Global) -> Result<Command<'a>, AllocError>
     command_on_circuit(alloc, "check", about, CHECK_HELP)
 }
 
+/// The command `locate`.
+fn locate<'a>(alloc: Global) -> Result<Command<'a>, AllocError>
+    ensures { IfOk result (HasShape locate_command) }
+{
+    let about = "Prints where the first fault of a circuit's text is";
+    command_on_circuit(alloc, "locate", about, LOCATE_HELP)
+}
+
+/// The command `stats`.
+fn stats<'a>(alloc: Global) -> Result<Command<'a>, AllocError>
+    ensures { IfOk result (HasShape stats_command) }
+{
+    let about = "Prints the gates, the depths and the file sizes of a circuit";
+    command_on_circuit(alloc, "stats", about, STATS_HELP)
+}
+
 /// The command `garble`.
 fn garble<'a>(alloc: Global) -> Result<Command<'a>, AllocError>
     ensures { IfOk result (HasShape garble_command) }
@@ -186,7 +256,7 @@ fn eval<'a>(alloc: Global) -> Result<Command<'a>, AllocError>
     let command = command_on_circuit(alloc, "eval", about, EVAL_HELP);
     let command = with_arg(command, garbled_arg(alloc));
     let command = with_arg(command, workers_arg(alloc));
-    with_arg(command, labels_arg(alloc))
+    with_arg(command, labels_arg(alloc, LABEL_FILES_HELP))
 }
 
 /// The command `jobs`.
@@ -197,6 +267,28 @@ fn jobs<'a>(alloc: Global) -> Result<Command<'a>, AllocError>
     let command = command_on_circuit(alloc, "jobs", about, JOBS_HELP);
     let command = with_arg(command, list_arg(alloc));
     with_arg(command, workers_arg(alloc))
+}
+
+/// The command `labels`.
+fn labels<'a>(alloc: Global) -> Result<Command<'a>, AllocError>
+    ensures { IfOk result (HasShape labels_command) }
+{
+    let about = "Prints the labels and the bits of a circuit's wires for the given values";
+    let command = command_with_seed(alloc, "labels", about, LABELS_HELP);
+    let command = with_arg(command, from_arg(alloc));
+    let command = with_arg(command, count_arg(alloc));
+    with_arg(command, values_arg(alloc))
+}
+
+/// The command `audit`.
+fn audit<'a>(alloc: Global) -> Result<Command<'a>, AllocError>
+    ensures { IfOk result (HasShape audit_command) }
+{
+    let about = "Says whether a garbled file and label files are those of a circuit and a seed";
+    let command = command_with_seed(alloc, "audit", about, AUDIT_HELP);
+    let command = with_arg(command, garbled_arg(alloc));
+    let command = with_arg(command, workers_arg(alloc));
+    with_arg(command, labels_arg(alloc, AUDITED_HELP))
 }
 
 /// A command that reads a circuit, the file of which is its first word.
@@ -305,6 +397,30 @@ fn workers_arg<'a>(alloc: Global) -> Arg<'a>
     number_arg(alloc, "workers", "WORKERS", help, 0, 4_294_967_295, "1")
 }
 
+/// The option for the first wire to print.
+fn from_arg<'a>(alloc: Global) -> Arg<'a>
+    ensures { HasRule from_option result }
+{
+    let help = "The first wire to print, counted from 0";
+    number_arg(alloc, "from", "FROM", help, 0, 4_294_967_295, "0")
+}
+
+/// The option for the greatest number of lines. No circuit has as many wires as the default.
+fn count_arg<'a>(alloc: Global) -> Arg<'a>
+    ensures { HasRule count_option result }
+{
+    let help = "How many lines to print at most, by default all";
+    number_arg(
+        alloc,
+        "count",
+        "COUNT",
+        help,
+        0,
+        4_294_967_295,
+        "4294967295",
+    )
+}
+
 /// An option that is a number from `low` to `high`, and is `default` where it isn't given.
 fn number_arg<'a>(
     alloc: Global,
@@ -338,11 +454,11 @@ fn values_arg<'a>(alloc: Global) -> Arg<'a>
     more_arg(alloc, "values", "VALUES", VALUES_HELP)
 }
 
-/// The words for the label files.
-fn labels_arg<'a>(alloc: Global) -> Arg<'a>
+/// The words for label files.
+fn labels_arg<'a>(alloc: Global, help: &'a str) -> Arg<'a>
     ensures { HasRule (more_words (codes "labels")) result }
 {
-    more_arg(alloc, "labels", "LABELS", LABELS_HELP)
+    more_arg(alloc, "labels", "LABELS", help)
 }
 
 /// Any number of words.

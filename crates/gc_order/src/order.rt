@@ -2,8 +2,9 @@
 
 ghost use Rattle.std.specs.Prelude.{◌≡◌, map, IfOk, Some, string_bytes};
 ghost use Rattle.clap.specs.Words.{FailsBy, fault_of, found_of, rows_of};
-ghost use Rattle.gc_order.specs.Order.{IsCommandName, check_in, command_in, deal_in, eval_in, garble_in, jobs_in};
-ghost use Rattle.gc_order.specs.Order.{plain_in, program, order_in, run_in, text_of};
+ghost use Rattle.gc_order.specs.Order.{IsCommandName, audit_in, check_in, command_in, deal_in};
+ghost use Rattle.gc_order.specs.Order.{eval_in, garble_in, jobs_in, labels_in, locate_in, order_in};
+ghost use Rattle.gc_order.specs.Order.{plain_in, program, run_in, stats_in, text_of};
 
 use crate::commands::halfgates;
 use crate::words::{number_of, version_of, word_of, words_of};
@@ -27,6 +28,16 @@ pub enum Order {
     },
     /// Print the size and the digest of a circuit.
     Check {
+        /// The name of the circuit's file.
+        circuit: String,
+    },
+    /// Print where the first fault of a circuit's text is.
+    Locate {
+        /// The name of the circuit's file.
+        circuit: String,
+    },
+    /// Print the gates, the depths and the file sizes of a circuit.
+    Stats {
         /// The name of the circuit's file.
         circuit: String,
     },
@@ -83,6 +94,32 @@ pub enum Order {
         /// How many workers evaluate.
         workers: u32,
     },
+    /// Print the labels and the bits of a circuit's wires for these values.
+    Labels {
+        /// The name of the circuit's file.
+        circuit: String,
+        /// The text of the seed.
+        seed: String,
+        /// The first wire to print.
+        from: u32,
+        /// The most lines to print.
+        count: u32,
+        /// The text of each input value, in order.
+        values: Vec<String>,
+    },
+    /// Print whether a garbled file and label files are those of a circuit and a seed.
+    Audit {
+        /// The name of the circuit's file.
+        circuit: String,
+        /// The text of the seed.
+        seed: String,
+        /// The name of the garbled file.
+        garbled: String,
+        /// How many workers garble.
+        workers: u32,
+        /// The name of each label file, in the order of the words.
+        labels: Vec<String>,
+    },
 }
 
 /// The order in the words of a command line, of which the first is the program's name. The words of a line that
@@ -110,10 +147,14 @@ fn named_order(alloc: Global, name: &str, found: &ArgMatches<'_>) -> Result<Orde
         "run" => run_order(alloc, found),
         "plain" => plain_order(alloc, found),
         "check" => check_order(alloc, found),
+        "locate" => locate_order(alloc, found),
+        "stats" => stats_order(alloc, found),
         "garble" => garble_order(alloc, found),
         "deal" => deal_order(alloc, found),
         "eval" => eval_order(alloc, found),
         "jobs" => jobs_order(alloc, found),
+        "labels" => labels_order(alloc, found),
+        "audit" => audit_order(alloc, found),
         _ => unreachable!(),
     }
 }
@@ -145,6 +186,24 @@ fn check_order(alloc: Global, found: &ArgMatches<'_>) -> Result<Order, AllocErro
     ensures { IfOk result (λ order. text_of order ≡ check_in (rows_of (found_of found.now))) }
 {
     Ok(Order::Check {
+        circuit: word_of(alloc, found, "circuit")?,
+    })
+}
+
+/// The order of `locate`, from what clap found of its words.
+fn locate_order(alloc: Global, found: &ArgMatches<'_>) -> Result<Order, AllocError>
+    ensures { IfOk result (λ order. text_of order ≡ locate_in (rows_of (found_of found.now))) }
+{
+    Ok(Order::Locate {
+        circuit: word_of(alloc, found, "circuit")?,
+    })
+}
+
+/// The order of `stats`, from what clap found of its words.
+fn stats_order(alloc: Global, found: &ArgMatches<'_>) -> Result<Order, AllocError>
+    ensures { IfOk result (λ order. text_of order ≡ stats_in (rows_of (found_of found.now))) }
+{
+    Ok(Order::Stats {
         circuit: word_of(alloc, found, "circuit")?,
     })
 }
@@ -195,5 +254,31 @@ fn jobs_order(alloc: Global, found: &ArgMatches<'_>) -> Result<Order, AllocError
         circuit: word_of(alloc, found, "circuit")?,
         list: word_of(alloc, found, "list")?,
         workers: number_of(found, "workers"),
+    })
+}
+
+/// The order of `labels`, from what clap found of its words.
+fn labels_order(alloc: Global, found: &ArgMatches<'_>) -> Result<Order, AllocError>
+    ensures { IfOk result (λ order. text_of order ≡ labels_in (rows_of (found_of found.now))) }
+{
+    Ok(Order::Labels {
+        circuit: word_of(alloc, found, "circuit")?,
+        seed: word_of(alloc, found, "seed")?,
+        from: number_of(found, "from"),
+        count: number_of(found, "count"),
+        values: words_of(alloc, found, "values")?,
+    })
+}
+
+/// The order of `audit`, from what clap found of its words.
+fn audit_order(alloc: Global, found: &ArgMatches<'_>) -> Result<Order, AllocError>
+    ensures { IfOk result (λ order. text_of order ≡ audit_in (rows_of (found_of found.now))) }
+{
+    Ok(Order::Audit {
+        circuit: word_of(alloc, found, "circuit")?,
+        seed: word_of(alloc, found, "seed")?,
+        garbled: word_of(alloc, found, "garbled")?,
+        workers: number_of(found, "workers"),
+        labels: words_of(alloc, found, "labels")?,
     })
 }

@@ -1,10 +1,14 @@
-use Rattle.std.proofs.Common.{rules, ◌≡◌, ap, ◌∙◌, sym, subst, refl, true, ℕ, List, Option, map, string_bytes}
+use Rattle.std.proofs.Common.{◌≡◌, ap, ◌∙◌, sym, subst, refl, true, ℕ, List, Option, Some, map, option_map, string_bytes}
 use Rattle.std.specs.Prelude.{option_and_then}
 use Rattle.std.proofs.lemmas.Result.{err_from_is_err_and}
-use Rattle.clap.specs.Words.{App, HasKind, Row, app_of, fault_of, found_of, is_simple, rows_of, subcommand_of}
+use Rattle.clap.specs.Matches.{subcommand_name_of}
+use Rattle.clap.specs.Words.{App, HasKind, HasMatchesOf, Row, app_of, fault_of, found_of, is_simple, rows_of, subcommand_of, subcommand_rows_of}
 use Rattle.clap.specs.Faults.{is_simple_and_free}
+use Rattle.clap.specs.declared.builder.command.Command.{Command}
+use Rattle.clap.specs.declared.parser.matches.ArgMatches.{ArgMatches}
 use Rattle.clap.proofs.OnLiterals.{clap_on_literals}
-use Rattle.gc_order.specs.Order.{command_in, program}
+use Rattle.gc_order.specs.Order.{HasShape, command_in, program}
+use Rattle.gc_order.proofs.EnteredLemmas.{entered-one_of}
 use Rattle.gc_order.proofs.OrderLemmas.{subcommand-pair}
 use Rattle.gc_order.proofs.order.order_of.Goals as goal
 
@@ -19,10 +23,6 @@ returns-clause-kinds c =
     ap (λ a. fault_of a (map string_bytes c.args.words.now)) (sym shape)
     ∙ c.in_ok-matches.ensures.kinds (ap is_simple_and_free shape ∙ is_simple-program)
 
-is_simple-alone : is_simple program ≡ true
-unfolding clap_on_literals
-is_simple-alone = refl
-
 pub returns-in_err-matches-clause-kinds : goal.returns-in_err-matches-clause-kinds
 returns-in_err-matches-clause-kinds c =
     let shape = c.in_ok-halfgates.ensures.shape in
@@ -32,16 +32,30 @@ returns-in_err-matches-clause-kinds c =
     let p = err_from_is_err_and c.from_residual-in_err-matches.result c.from_residual-in_err-matches.ensures.1 in
     rw (p.1, p.2) fails
 
+is_simple-alone : is_simple program ≡ true
+unfolding clap_on_literals
+is_simple-alone = refl
+
+-- the subcommand that clap's rules find, from what its calls answer
+found-subcommand : (c : Command) (m : ArgMatches) (words : List (List ℕ)) (name : List ℕ) (rows : List Row) → HasShape program c
+    → HasMatchesOf (app_of c) words m → Some name ≡ subcommand_name_of m
+    → Some rows ≡ option_map (λ p. p.1) (subcommand_rows_of m) → subcommand_of program words ≡ Some (name, rows)
+found-subcommand c m words name rows is matches named found =
+    let simple : is_simple (app_of c) ≡ true = ap is_simple is.shape ∙ is_simple-alone in
+    ap (λ (a : App). subcommand_of a words) (sym is.shape) ∙ sym (matches simple).1
+    ∙ subcommand-pair _ name rows named found
+
 pub returns-clause-order : goal.returns-clause-order
 returns-clause-order c =
-    let shape = c.in_ok-halfgates.ensures.shape in
-    let simple : is_simple (app_of c.in_ok-halfgates.field-0) ≡ true = ap is_simple shape ∙ is_simple-alone in
-    let found = c.in_ok-matches.ensures.matches simple in
-    let command = λ (o : Option (List ℕ × List Row)). option_and_then (λ p. command_in p.0 p.1) o in
-    ap (λ (a : App). command (subcommand_of a (map string_bytes c.args.words.now))) (sym shape)
-    ∙ ap command (sym found.1
-    ∙ subcommand-pair _ c.in-Some.name.now (rows_of (found_of c.in-Some.found.now)) c.in-Some.ensures.name c.in-Some.ensures.rows)
+    let found = found-subcommand c.in_ok-halfgates.field-0 c.in_ok-matches.matches (map string_bytes c.args.words.now)
+    c.in-Some.name.now (rows_of (found_of c.in-Some.found.now)) c.in_ok-halfgates.ensures c.in_ok-matches.ensures.matches
+    c.in-Some.ensures.name c.in-Some.ensures.rows in
+    ap (λ (o : Option (List ℕ × List Row)). option_and_then (λ p. command_in p.0 p.1) o) found
     ∙ c.in_ok-named_order-in-Some.ensures
 
 pub named_order-requires : goal.named_order-requires
-named_order-requires c = search rules
+named_order-requires c =
+    let found = found-subcommand c.in_ok-halfgates.field-0 c.in_ok-matches.matches (map string_bytes c.args.words.now)
+    c.in-Some.name.now (rows_of (found_of c.in-Some.found.now)) c.in_ok-halfgates.ensures c.in_ok-matches.ensures.matches
+    c.in-Some.ensures.name c.in-Some.ensures.rows in
+    entered-one_of (map string_bytes c.args.words.now) c.in-Some.name.now (rows_of (found_of c.in-Some.found.now)) found
