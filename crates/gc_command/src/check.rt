@@ -1,8 +1,8 @@
 //! The command `check`: the numbers of a circuit, and its digest.
 
-ghost use Rattle.std.specs.Prelude.{◌≡◌, ◌++◌, ◌∷◌, [], ℕ, List, codes, decimal, IfOk, IfErr, IfSome, OnOk};
+ghost use Rattle.std.specs.Prelude.{◌≡◌, ◌++◌, ◌∷◌, [], ℕ, List, codes, IfOk, IfErr, IfSome, OnOk};
 ghost use Rattle.hex.specs.Hex.{encode_lower};
-ghost use Rattle.gc_netlist.specs.Spelling.{Number, Name, words_of_widths};
+ghost use Rattle.gc_netlist.specs.Spelling.{Name, words_of_widths};
 ghost use Rattle.gc_netlist.specs.Canon.{line};
 ghost use Rattle.gc_command.specs.Check.{AnswersCheck, HasCheckFault, check_lines};
 ghost use Rattle.gc_command.specs.Fault.{HasCause};
@@ -10,8 +10,8 @@ ghost use Rattle.gc_command.specs.Fault.{HasCause};
 use crate::circuit_file::read_circuit;
 use crate::fault::Fault;
 use crate::files::Files;
+use crate::lines::{push_count, push_number};
 use gc_circuit::Circuit;
-use itoa::Buffer;
 use std::alloc::{AllocError, Allocator};
 
 /// Reads the circuit of a file, and answers the lines of its numbers and its digest.
@@ -39,27 +39,13 @@ fn check_lines<A: Allocator + Copy>(
     ensures { IfOk result (λ lines. lines.items ≡ check_lines circuit.now) }
 {
     let mut lines = Vec::new(alloc);
-    push_count(&mut lines, "gates", circuit.gates())?;
-    push_count(&mut lines, "wires", circuit.wires())?;
-    push_count(&mut lines, "and", circuit.and_count())?;
+    push_count(&mut lines, "gates", u64::from(circuit.gates()))?;
+    push_count(&mut lines, "wires", u64::from(circuit.wires()))?;
+    push_count(&mut lines, "and", u64::from(circuit.and_count()))?;
     push_widths(&mut lines, "inputs", circuit.input_widths())?;
     push_widths(&mut lines, "outputs", circuit.output_widths())?;
     push_digest(&mut lines, &circuit.digest())?;
     Ok(lines)
-}
-
-/// Adds the line of a number.
-fn push_count<A: Allocator>(
-    lines: &mut Vec<u8, A>,
-    name: &str,
-    count: u32,
-) -> Result<(), AllocError>
-    ensures { OnOk result (lines.new.items ≡ lines.old.items ++ line (Name name.now ∷ Number count ∷ [])) }
-{
-    lines.extend_from_slice(name.as_bytes())?;
-    push_number(lines, u64::from(count))?;
-    lines.push(b'\n')?;
-    Ok(())
 }
 
 /// Adds the line of a side's widths: how many there are, and each.
@@ -78,15 +64,6 @@ fn push_widths<A: Allocator>(
     }
     lines.push(b'\n')?;
     Ok(())
-}
-
-/// Adds a space and the digits of a number.
-fn push_number<A: Allocator>(lines: &mut Vec<u8, A>, number: u64) -> Result<(), AllocError>
-    ensures { OnOk result (lines.new.items ≡ lines.old.items ++ 32 ∷ decimal number) }
-{
-    let mut buffer = Buffer::new();
-    lines.push(b' ')?;
-    lines.extend_from_slice(buffer.format(number).as_bytes())
 }
 
 /// Adds the line of a digest.

@@ -26,5 +26,7 @@ pub use evaluated_files::{read_garbled_file, read_label_files};
 pub use fault::Fault;
 pub use file_failures::FileFailures;
 pub use files::{FileError, Files};
+pub use garbling::digest_and_garbling;
 pub use host_files::{HostFiles, HostSink, read_all};
-pub use lines::jobs_lines;
+pub use lines::{jobs_lines, push_count, push_digits, push_number};
+pub use values::read_values;

@@ -1,10 +1,37 @@
 //! What commands print.
 
-ghost use Rattle.std.specs.Prelude.{◌≡◌, ◌++◌, length, map, sum, All, IfOk, OnOk};
+ghost use Rattle.std.specs.Prelude.{◌≡◌, ◌++◌, ◌∷◌, [], decimal, length, map, sum, All, IfOk, OnOk};
+ghost use Rattle.gc_netlist.specs.Spelling.{Number, Name};
+ghost use Rattle.gc_netlist.specs.Canon.{line};
 ghost use Rattle.gc_circuit.specs.Value.{binary_digit};
 ghost use Rattle.gc_command.specs.Lines.{jobs_lines, output_lines};
 
+use itoa::Buffer;
 use std::alloc::{AllocError, Allocator};
+
+/// Adds the line of a name and a number.
+pub fn push_count<A: Allocator>(
+    lines: &mut Vec<u8, A>,
+    name: &str,
+    count: u64,
+) -> Result<(), AllocError>
+    ensures { OnOk result (lines.new.items
+        ≡ lines.old.items ++ line (Name name.now ∷ Number count ∷ [])) }
+{
+    lines.extend_from_slice(name.as_bytes())?;
+    push_number(lines, count)?;
+    lines.push(b'\n')?;
+    Ok(())
+}
+
+/// Adds a space and the digits of a number.
+pub fn push_number<A: Allocator>(lines: &mut Vec<u8, A>, number: u64) -> Result<(), AllocError>
+    ensures { OnOk result (lines.new.items ≡ lines.old.items ++ 32 ∷ decimal number) }
+{
+    let mut buffer = Buffer::new();
+    lines.push(b' ')?;
+    lines.extend_from_slice(buffer.format(number).as_bytes())
+}
 
 /// The output values, one a line, as characters `0` and `1` in wire order. That the widths are together as many as
 /// the bits is the caller's condition.
@@ -60,7 +87,8 @@ fn push_output_lines<A: Allocator>(
     Ok(())
 }
 
-fn push_digits<A: Allocator>(line: &mut Vec<u8, A>, bits: &[bool]) -> Result<(), AllocError>
+/// Adds a character `0` or `1` for each bit.
+pub fn push_digits<A: Allocator>(line: &mut Vec<u8, A>, bits: &[bool]) -> Result<(), AllocError>
     ensures { OnOk result (line.new.items ≡ line.old.items ++ map binary_digit bits.now) }
 {
     for bit in bits {
