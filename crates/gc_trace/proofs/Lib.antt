@@ -1,0 +1,5 @@
+pub mod WireLemmas
+pub mod LabelsLemmas
+pub mod AuditLemmas
+pub mod AuditFaults
+pub mod LocateLemmas

@@ -1,0 +1,93 @@
+-- The command `labels`: what it answers, and which fault it has.
+use Rattle.std.specs.Prelude.{◌≡◌, ℕ, ◌-◌, Bool, false, List, [], ◌∷◌, take, filter, slice_index, slice_index_or}
+use Rattle.std.specs.List.{flat_map, range_with_len}
+use Rattle.hex.specs.Hex.{encode_lower}
+use Rattle.gc_netlist.specs.Circuit.{Netlist, input_wires}
+use Rattle.gc_netlist.specs.Reading.{is_set}
+use Rattle.gc_netlist.specs.Spelling.{Number, Name}
+use Rattle.gc_netlist.specs.Canon.{line}
+use Rattle.gc_circuit.specs.Meaning.{AreWireBits}
+use Rattle.gc_circuit.specs.Value.{binary_digit}
+use Rattle.gc_label.specs.Label.{◌⊕◌, times, bytes_of_label}
+use Rattle.gc_label.specs.Seed.{IsSeedText, offset_of}
+use Rattle.gc_half.specs.Garbling.{GarblingParts, IsGarbled}
+use Rattle.gc_netlist.specs.declared.fault.ReadFault.TheVariants as read
+use Rattle.gc_work.specs.declared.fault.WorkFault.TheVariants as work
+use Rattle.gc_command.specs.declared.fault.Fault.{Fault}
+use Rattle.gc_command.specs.declared.fault.Fault.TheVariants.{Circuit, WrongCount, Value, BadSeed, Garbling, CannotRead, Memory}
+use Rattle.gc_command.specs.CircuitFile.{IsCircuit, HasCircuitFault}
+use Rattle.gc_command.specs.SeedText.{IsSeed}
+use Rattle.gc_command.specs.Values.{TellValues, HasValueFault}
+
+-- The wires that are left to go through, and how many wires there are in all.
+pub record WiresLeft : Type 0 where
+  pub wires : ℕ
+  pub left : List ℕ
+
+-- a label as 32 lower case hexadecimal digits
+abbrev pub label_digits : ℕ → List ℕ
+label_digits label = encode_lower (bytes_of_label label)
+
+-- The line of a wire: its number, its zero label, its active label, and its bit. The active label is the zero label plus
+-- the bit times the offset r.
+abbrev pub wire_line : ℕ → ℕ → ℕ → Bool → List ℕ
+wire_line r w zero_label bit =
+    line (Number w ∷ Name (label_digits zero_label)
+    ∷ Name (label_digits (zero_label ⊕ times bit r)) ∷ Name (binary_digit bit ∷ []) ∷ [])
+
+-- The line of wire w, by the zero labels and the bits of all wires.
+abbrev pub line_of_wire : ℕ → List ℕ → List Bool → ℕ → List ℕ
+line_of_wire r zero_labels bits w =
+    wire_line r w (slice_index zero_labels w) (slice_index_or bits w false)
+
+-- The wires of a circuit that are set, from one on, by ascending number, as many as asked for at the most.
+abbrev pub set_from : Netlist → ℕ → ℕ → List ℕ
+set_from c from count =
+    take count (filter (is_set (input_wires c) c.gates) (range_with_len from (c.wires - from)))
+
+-- The bytes are a circuit's, the seed's text is a seed, and the texts tell values of the circuit's input widths.
+pub record TellLabelled (bytes seed_text : List ℕ) (texts : List (List ℕ)) (c : Netlist) (seed : List ℕ)
+    (values : List (List Bool)) : Type 0 where
+  pub circuit : IsCircuit bytes c
+  pub seed_told : IsSeed seed_text seed
+  pub input_values : TellValues c.input_widths texts values
+
+-- The lines are those of the circuit's set wires from one on, for these values, in its garbling under the seed.
+pub record AreLabelLines (c : Netlist) (seed : List ℕ) (values : List (List Bool)) (from count : ℕ)
+    (lines : List ℕ) : Type 0 where
+  pub garbling : GarblingParts
+  pub garbled : IsGarbled c seed garbling
+  pub bits : List Bool
+  pub are_bits : AreWireBits c (flat_map (λ value. value) values) bits
+  pub printed : lines ≡ flat_map (line_of_wire (offset_of seed) garbling.zero_labels bits)
+      (set_from c from count)
+
+-- What `labels` answers: these lines, for the values that the texts tell.
+pub record AnswersLabels (bytes seed_text : List ℕ) (from count : ℕ) (texts : List (List ℕ))
+    (lines : List ℕ) : Type 0 where
+  pub circuit : Netlist
+  pub seed : List ℕ
+  pub values : List (List Bool)
+  pub told : TellLabelled bytes seed_text texts circuit seed values
+  pub printed : AreLabelLines circuit seed values from count lines
+
+-- The faults of a command that lacks memory while it garbles, evaluates or makes its lines.
+abbrev pub IsWantOfMemory : Fault → Type 0
+IsWantOfMemory (Circuit fault) = fault ≡ read.Memory
+IsWantOfMemory (Garbling fault) = fault ≡ work.Memory
+IsWantOfMemory Memory = Unit {0}
+IsWantOfMemory _ = ⊥
+
+-- When `labels` has which fault: it is the first in the order of the work, but that memory may run out at each step.
+-- Where it runs out in the evaluation, that is a fault of the circuit, and in the garbling a fault of garbling.
+abbrev pub HasLabelsFault : List ℕ → List ℕ → List (List ℕ) → Fault → Type 0
+HasLabelsFault bytes seed texts CannotRead = HasCircuitFault bytes CannotRead
+HasLabelsFault bytes seed texts (Circuit fault) = HasCircuitFault bytes (Circuit fault)
+HasLabelsFault bytes seed texts BadSeed = ((c : Netlist) × IsCircuit bytes c) × ¬ IsSeedText seed
+HasLabelsFault bytes seed texts WrongCount = (c : Netlist) × IsCircuit bytes c × IsSeedText seed
+    × HasValueFault c.input_widths texts WrongCount
+HasLabelsFault bytes seed texts (Value fault) = (c : Netlist) × IsCircuit bytes c × IsSeedText seed
+    × HasValueFault c.input_widths texts (Value fault)
+HasLabelsFault bytes seed texts (Garbling fault) = fault ≡ work.Memory
+HasLabelsFault bytes seed texts Memory = Unit {0}
+HasLabelsFault bytes seed texts _ = ⊥

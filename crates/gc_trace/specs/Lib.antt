@@ -1,0 +1,4 @@
+pub mod Labels
+pub mod Stats
+pub mod Audit
+pub mod Locate

@@ -1,0 +1,39 @@
+-- The command `stats`: what it answers, and which fault it has.
+use Rattle.std.specs.Prelude.{◌≡◌, ℕ, List, [], ◌∷◌, ◌++◌, codes}
+use Rattle.gc_netlist.specs.Circuit.{Netlist}
+use Rattle.gc_netlist.specs.Spelling.{Number, Name}
+use Rattle.gc_netlist.specs.Canon.{line}
+use Rattle.gc_stats.specs.declared.figures.Stats.{Stats}
+use Rattle.gc_stats.specs.Stats.{IsStats}
+use Rattle.gc_command.specs.declared.fault.Fault.{Fault}
+use Rattle.gc_command.specs.CircuitFile.{IsCircuit, HasCircuitFault}
+
+-- the line of a name and a number
+abbrev pub count_line : List ℕ → ℕ → List ℕ
+count_line name n = line (Name name ∷ Number n ∷ [])
+
+-- The lines of a circuit's statistics.
+abbrev pub stats_lines : Stats → List ℕ
+stats_lines stats =
+    count_line (codes "xor") stats.xor
+    ++ count_line (codes "and") stats.and
+    ++ count_line (codes "inv") stats.inv
+    ++ count_line (codes "eq") stats.eq
+    ++ count_line (codes "eqw") stats.eqw
+    ++ count_line (codes "depth") stats.depth
+    ++ count_line (codes "and_depth") stats.and_depth
+    ++ count_line (codes "unread") stats.unread
+    ++ count_line (codes "garbled1") stats.garbled1
+    ++ count_line (codes "garbled2") stats.garbled2
+
+-- What `stats` answers: the lines of the statistics of the circuit that the bytes are.
+pub record AnswersStats (bytes lines : List ℕ) : Type 0 where
+  pub circuit : Netlist
+  pub read : IsCircuit bytes circuit
+  pub stats : Stats
+  pub are_stats : IsStats circuit stats
+  pub printed : lines ≡ stats_lines stats
+
+-- When `stats` has which fault: those of the circuit's file alone, but that memory may run out.
+abbrev pub HasStatsFault : List ℕ → Fault → Type 0
+HasStatsFault bytes fault = HasCircuitFault bytes fault

@@ -1,0 +1,312 @@
+//! The command `audit`: whether files are those of a circuit and a seed, and where they first differ.
+
+ghost use Rattle.std.specs.Prelude.{◌≡◌, ◌++◌, ◌∷◌, ℕ, List, map, codes, decimal, IfOk, IfErr, OnOk, Some, string_bytes};
+ghost use Rattle.sha2.specs.Sha256.{sha256};
+ghost use Rattle.gc_netlist.specs.Canon.{canonical_text};
+ghost use Rattle.gc_half.specs.Garbling.{IsGarbled};
+ghost use Rattle.gc_command.specs.Fault.{HasCause};
+ghost use Rattle.gc_trace.specs.Audit.{AnswersAudit, AreAuditLines, AreLabelsFound, HasAuditFault};
+ghost use Rattle.gc_format.specs.declared.parts.Version.TheVariants.{Two};
+ghost use Rattle.gc_trace.specs.Audit.{bits_line, digest_line, end_line, entries_line, garbled_lines};
+ghost use Rattle.gc_trace.specs.Audit.{is_dealt, parts_lines, rows_line, rows_name, value_word, verdict_line};
+
+use crate::lines::{push_field, push_word};
+use gc_audit::{
+    DifferingRows, EntryDifference, GarbledAudit, LabelsVerdict, PartsAudit, RowDifference,
+    audit_garbled, audit_labels,
+};
+use gc_circuit::{Circuit, Memory};
+use gc_command::{
+    Fault, Files, digest_and_garbling, push_digits, push_number, read_circuit, read_garbled_file,
+    read_label_files,
+};
+use gc_file::{Garbled, LabelFile, Version};
+use gc_half::Garbling;
+use gc_label::Seed;
+use std::alloc::{AllocError, Allocator};
+use std::sync::Wait;
+use std::thread::Threads;
+
+/// Compares the garbled file and the label files of these names with what garbling the circuit of a file under a seed
+/// gives, by this number of workers, and answers the lines of what it finds. Nothing of these files is trusted.
+pub fn audit<R: Threads + Wait + Sync, A: Allocator + Copy + Send + Sync, F: Files>(
+    rt: &R,
+    alloc: A,
+    circuit: &str,
+    seed: &str,
+    garbled: &str,
+    workers: u32,
+    labels: &[String],
+    files: &mut F,
+) -> Result<Vec<u8, A>, Fault>
+    ensures answers { IfOk result (λ lines. AnswersAudit (F.bytes files.old) circuit.now seed.now
+        garbled.now workers (map string_bytes labels.now) lines.items) }
+    ensures fault { IfErr result (HasAuditFault (F.bytes files.old) circuit.now seed.now garbled.now
+        workers (map string_bytes labels.now)) }
+    ensures cause { IfErr result
+        (λ fault. HasCause fault (F.failures files.old) (F.failures files.new)) }
+    ensures same { (name : List ℕ) → F.bytes files.new name ≡ F.bytes files.old name }
+{
+    let circuit = read_circuit(alloc, circuit, files)?;
+    let seed = Seed::from_hex(seed)?;
+    let garbled = read_garbled_file(alloc, garbled, files)?;
+    let labels = read_label_files(alloc, labels, files)?;
+    let (digest, garbling) = digest_and_garbling(rt, alloc, &circuit, &seed, workers)?;
+    match audit_lines(
+        alloc, &circuit, &digest, &garbling, &seed, &garbled, &labels,
+    ) {
+        Ok(lines) => Ok(lines),
+        Err(_) => Err(Fault::Memory),
+    }
+}
+
+/// The lines of what is found of a garbled file and label files by the garbling of the circuit under the seed.
+fn audit_lines<A: Allocator + Copy>(
+    alloc: A,
+    circuit: &Circuit<A>,
+    digest: &[u8; 32],
+    garbling: &Garbling<A>,
+    seed: &Seed,
+    garbled: &Garbled<A>,
+    labels: &[LabelFile<A>],
+) -> Result<Vec<u8, A>, Memory>
+    requires digest { digest.now ≡ sha256 (canonical_text circuit.now) }
+    requires garbled { IsGarbled circuit.now seed.now garbling.now }
+    ensures { IfOk result (λ lines.
+        AreAuditLines circuit.now seed.now garbled.now labels.now lines.items) }
+{
+    let found = audit_garbled(circuit, digest, garbling, seed, garbled);
+    let mut lines = Vec::new(alloc);
+    push_garbled(&mut lines, garbled.version(), &found)?;
+    let all_dealt = push_label_files(&mut lines, alloc, circuit, garbling, seed, labels)?;
+    push_end(&mut lines, found.is_honest() && all_dealt)?;
+    Ok(lines)
+}
+
+/// Adds the lines of what is found of a garbled file of a version.
+fn push_garbled<A: Allocator>(
+    lines: &mut Vec<u8, A>,
+    version: Version,
+    found: &GarbledAudit,
+) -> Result<(), AllocError>
+    ensures { OnOk result (lines.new.items ≡ lines.old.items ++ garbled_lines version found.now) }
+{
+    push_digest(lines, found.digest)?;
+    push_parts(lines, version, found.parts)
+}
+
+/// Adds the line of the digest.
+fn push_digest<A: Allocator>(lines: &mut Vec<u8, A>, right: bool) -> Result<(), AllocError>
+    ensures { OnOk result (lines.new.items ≡ lines.old.items ++ digest_line right) }
+{
+    if right {
+        lines.extend_from_slice(b"digest right\n")
+    } else {
+        lines.extend_from_slice(b"digest wrong\n")
+    }
+}
+
+/// Adds the lines of the parts that are counted.
+fn push_parts<A: Allocator>(
+    lines: &mut Vec<u8, A>,
+    version: Version,
+    parts: Option<PartsAudit>,
+) -> Result<(), AllocError>
+    ensures { OnOk result (lines.new.items ≡ lines.old.items ++ parts_lines version parts) }
+{
+    match parts {
+        None => lines.extend_from_slice(b"counts wrong\n"),
+        Some(parts) => push_counted(lines, version, parts),
+    }
+}
+
+/// Adds the lines of the parts whose counts are right.
+fn push_counted<A: Allocator>(
+    lines: &mut Vec<u8, A>,
+    version: Version,
+    parts: PartsAudit,
+) -> Result<(), AllocError>
+    ensures { OnOk result (lines.new.items ≡ lines.old.items ++ parts_lines version (Some parts)) }
+{
+    lines.extend_from_slice(b"counts right\n")?;
+    push_rows(lines, parts.rows)?;
+    push_bits(lines, parts.bits)?;
+    push_entries(lines, version, parts.entries)?;
+    Ok(())
+}
+
+/// Adds the line of the row pairs.
+fn push_rows<A: Allocator>(
+    lines: &mut Vec<u8, A>,
+    found: Option<RowDifference>,
+) -> Result<(), AllocError>
+    ensures { OnOk result (lines.new.items ≡ lines.old.items ++ rows_line found) }
+{
+    match found {
+        None => lines.extend_from_slice(b"rows right\n"),
+        Some(difference) => push_row_difference(lines, difference),
+    }
+}
+
+/// Adds the line that says which row pair differs first.
+fn push_row_difference<A: Allocator>(
+    lines: &mut Vec<u8, A>,
+    difference: RowDifference,
+) -> Result<(), AllocError>
+    ensures { OnOk result (lines.new.items ≡ lines.old.items ++ rows_line (Some difference)) }
+{
+    lines.extend_from_slice(b"rows wrong")?;
+    push_number(lines, u64::from(difference.number))?;
+    push_field(lines, "gate", difference.gate)?;
+    push_field(lines, "wire", difference.wire)?;
+    push_word(lines, rows_name(difference.rows))?;
+    lines.push(b'\n')?;
+    Ok(())
+}
+
+/// Which rows differ: the generator's, TG, the evaluator's, TE, or both.
+fn rows_name(rows: DifferingRows) -> &'static str
+    ensures { result.now ≡ rows_name rows }
+{
+    match rows {
+        DifferingRows::Generator => "TG",
+        DifferingRows::Evaluator => "TE",
+        DifferingRows::Both => "TG TE",
+    }
+}
+
+/// Adds the line of the decode bits.
+fn push_bits<A: Allocator>(lines: &mut Vec<u8, A>, found: Option<u32>) -> Result<(), AllocError>
+    ensures { OnOk result (lines.new.items ≡ lines.old.items ++ bits_line found) }
+{
+    let Some(output) = found else {
+        return lines.extend_from_slice(b"bits right\n");
+    };
+    lines.extend_from_slice(b"bits wrong")?;
+    push_number(lines, u64::from(output))?;
+    lines.push(b'\n')?;
+    Ok(())
+}
+
+/// Adds the line of the entries, which version 2 alone has.
+fn push_entries<A: Allocator>(
+    lines: &mut Vec<u8, A>,
+    version: Version,
+    found: Option<EntryDifference>,
+) -> Result<(), AllocError>
+    ensures { OnOk result (lines.new.items ≡ lines.old.items ++ entries_line version found) }
+{
+    match version {
+        Version::One => Ok(()),
+        Version::Two => push_second_entries(lines, found),
+    }
+}
+
+/// Adds the line of the entries of version 2.
+fn push_second_entries<A: Allocator>(
+    lines: &mut Vec<u8, A>,
+    found: Option<EntryDifference>,
+) -> Result<(), AllocError>
+    ensures { OnOk result (lines.new.items ≡ lines.old.items ++ entries_line Two found) }
+{
+    match found {
+        None => lines.extend_from_slice(b"entries right\n"),
+        Some(difference) => push_entry_difference(lines, difference),
+    }
+}
+
+/// Adds the line that says which entry differs first.
+fn push_entry_difference<A: Allocator>(
+    lines: &mut Vec<u8, A>,
+    difference: EntryDifference,
+) -> Result<(), AllocError>
+    ensures { OnOk result
+        (lines.new.items ≡ lines.old.items ++ entries_line Two (Some difference)) }
+{
+    lines.extend_from_slice(b"entries wrong")?;
+    push_number(lines, u64::from(difference.output))?;
+    push_number(lines, u64::from(difference.colour))?;
+    lines.push(b'\n')?;
+    Ok(())
+}
+
+/// Adds the line of each label file. The answer is whether all are the dealer's.
+fn push_label_files<A: Allocator + Copy>(
+    lines: &mut Vec<u8, A>,
+    alloc: A,
+    circuit: &Circuit<A>,
+    garbling: &Garbling<A>,
+    seed: &Seed,
+    files: &[LabelFile<A>],
+) -> Result<bool, Memory>
+    requires { IsGarbled circuit.now seed.now garbling.now }
+    ensures { IfOk result (λ all_dealt. (added : List ℕ)
+        × AreLabelsFound circuit.now seed.now files.now all_dealt added
+        × (lines.new.items ≡ lines.old.items ++ added)) }
+{
+    let mut all_dealt = true;
+    for file in files {
+        let verdict = audit_labels(alloc, circuit, garbling, seed, file)?;
+        push_verdict(lines, file.index(), &verdict)?;
+        all_dealt &= is_dealt(&verdict);
+    }
+    Ok(all_dealt)
+}
+
+/// Adds the line of what is found of a label file with this index.
+fn push_verdict<A: Allocator>(
+    lines: &mut Vec<u8, A>,
+    index: u32,
+    verdict: &LabelsVerdict<A>,
+) -> Result<(), AllocError>
+    ensures { OnOk result (lines.new.items ≡ lines.old.items ++ verdict_line index verdict.now) }
+{
+    lines.extend_from_slice(b"labels")?;
+    push_number(lines, u64::from(index))?;
+    match verdict {
+        LabelsVerdict::NoValue => push_word(lines, "no value")?,
+        LabelsVerdict::WrongWidth => push_word(lines, "width")?,
+        LabelsVerdict::WrongLabel(wire) => push_wrong(lines, *wire)?,
+        LabelsVerdict::Bits(bits) => push_value(lines, bits)?,
+    }
+    lines.push(b'\n')?;
+    Ok(())
+}
+
+/// Adds the words that say at which wire a label is wrong.
+fn push_wrong<A: Allocator>(lines: &mut Vec<u8, A>, wire: u32) -> Result<(), AllocError>
+    ensures { OnOk result
+        (lines.new.items ≡ lines.old.items ++ 32 ∷ codes "wrong" ++ 32 ∷ decimal wire) }
+{
+    push_word(lines, "wrong")?;
+    push_number(lines, u64::from(wire))
+}
+
+/// Adds a space and the bits of a value; nothing for no bits.
+fn push_value<A: Allocator>(lines: &mut Vec<u8, A>, bits: &[bool]) -> Result<(), AllocError>
+    ensures { OnOk result (lines.new.items ≡ lines.old.items ++ value_word bits.now) }
+{
+    if bits.is_empty() {
+        return Ok(());
+    }
+    lines.push(b' ')?;
+    push_digits(lines, bits)
+}
+
+/// Whether a label file is the dealer's.
+fn is_dealt<A: Allocator>(verdict: &LabelsVerdict<A>) -> bool
+    ensures { result ≡ is_dealt verdict.now }
+{
+    matches!(verdict, LabelsVerdict::Bits(_))
+}
+
+/// Adds the last line.
+fn push_end<A: Allocator>(lines: &mut Vec<u8, A>, honest: bool) -> Result<(), AllocError>
+    ensures { OnOk result (lines.new.items ≡ lines.old.items ++ end_line honest) }
+{
+    if honest {
+        lines.extend_from_slice(b"honest\n")
+    } else {
+        lines.extend_from_slice(b"dishonest\n")
+    }
+}
