@@ -1,3 +1,4 @@
 pub mod JobListLemmas
 pub mod JobsLemmas
 pub mod MistakeLemmas
+pub mod ServeLemmas

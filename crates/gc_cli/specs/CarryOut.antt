@@ -1,7 +1,7 @@
 -- What a command answers and writes, and which fault it has, where the files' bytes are known.
 use Rattle.std.specs.Prelude.{◌≡◌, ℕ, List, IfSome}
 use Rattle.gc_command.specs.declared.fault.Fault.{Fault}
-use Rattle.gc_order.specs.Order.{OrderText, run, plain, check, garble, deal, eval, jobs}
+use Rattle.gc_order.specs.Order.{OrderText, run, plain, check, locate, stats, garble, deal, eval, jobs, list_labels, audit}
 use Rattle.gc_command.specs.Files.{FileBytes}
 use Rattle.gc_command.specs.Run.{AnswersRun, HasRunFault}
 use Rattle.gc_command.specs.Plain.{AnswersPlain, HasPlainFault}
@@ -9,6 +9,10 @@ use Rattle.gc_command.specs.Check.{AnswersCheck, HasCheckFault}
 use Rattle.gc_command.specs.Garble.{AnswersGarble, HasGarbleFault}
 use Rattle.gc_command.specs.Deal.{AnswersDeal, HasDealFault}
 use Rattle.gc_command.specs.Eval.{AnswersEval, HasEvalFault}
+use Rattle.gc_trace.specs.Locate.{AnswersLocate, HasLocateFault}
+use Rattle.gc_trace.specs.Stats.{AnswersStats, HasStatsFault}
+use Rattle.gc_trace.specs.Labels.{AnswersLabels, HasLabelsFault}
+use Rattle.gc_trace.specs.Audit.{AnswersAudit, HasAuditFault}
 use Rattle.gc_cli.specs.Jobs.{AnswersJobs, HasJobsFault}
 
 -- The order is done: the bytes for standard output are its answer, and where it writes a file, that is written. `old` and
@@ -24,6 +28,12 @@ Answers old new (deal circuit seed index value name) out =
     IfSome (old circuit) (λ file. AnswersDeal file seed index value (new name) out)
 Answers old new (eval circuit garbled workers labels) out = AnswersEval old circuit garbled workers labels out
 Answers old new (jobs circuit list workers) out = AnswersJobs old circuit list workers out
+Answers old new (locate circuit) out = IfSome (old circuit) (λ file. AnswersLocate file out)
+Answers old new (stats circuit) out = IfSome (old circuit) (λ file. AnswersStats file out)
+Answers old new (list_labels circuit seed from count values) out =
+    IfSome (old circuit) (λ file. AnswersLabels file seed from count values out)
+Answers old new (audit circuit seed garbled workers labels) out =
+    AnswersAudit old circuit seed garbled workers labels out
 
 -- The order has this fault.
 abbrev pub HasFault : FileBytes → OrderText → Fault → Type 0
@@ -37,6 +47,12 @@ HasFault bytes (deal circuit seed index value name) fault =
     IfSome (bytes circuit) (λ file. HasDealFault file seed index value fault)
 HasFault bytes (eval circuit garbled workers labels) fault = HasEvalFault bytes circuit garbled workers labels fault
 HasFault bytes (jobs circuit list workers) fault = HasJobsFault bytes circuit list workers fault
+HasFault bytes (locate circuit) fault = IfSome (bytes circuit) (λ file. HasLocateFault file fault)
+HasFault bytes (stats circuit) fault = IfSome (bytes circuit) (λ file. HasStatsFault file fault)
+HasFault bytes (list_labels circuit seed from count values) fault =
+    IfSome (bytes circuit) (λ file. HasLabelsFault file seed values fault)
+HasFault bytes (audit circuit seed garbled workers labels) fault =
+    HasAuditFault bytes circuit seed garbled workers labels fault
 
 -- The order writes the file of this name.
 abbrev pub Writes : OrderText → List ℕ → Type 0

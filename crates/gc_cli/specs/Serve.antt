@@ -19,7 +19,21 @@ HasAnswer old new words Holds =
     × ((out : List ℕ) × Answers old new order out × Holds out))
     ⊎ AsksForText words
 
--- A run that is done has printed that, and no call to print failed. `before` and `after` are of standard output.
+-- What answers an order is printed, and no call to print failed. `before` and `after` are of standard output.
+abbrev pub PrintsAnswer : FileBytes → FileBytes → OrderText → Printed → Printed → Type 0
+PrintsAnswer old new order before after =
+    ((out : List ℕ) × Answers old new order out × Appends before.contents after.contents out)
+    × (after.failures ≡ before.failures)
+
+-- A fault that an order has, with its cause, ends it, and nothing is printed; or a call to print its answer failed.
+abbrev pub FailsToAnswer : FileBytes → FileBytes → Type 0 → OrderText → Printed → Printed → Fault
+    → Type 0
+FailsToAnswer old new IsCaused order before after fault =
+    (HasFault old order fault × IsCaused × (after ≡ before))
+    ⊎ (((out : List ℕ) × Answers old new order out) × (fault ≡ CannotWrite)
+    × (after.failures ≡ before.failures + 1))
+
+-- A run that is done has printed its answer, and no call to print failed.
 abbrev pub IsDone : FileBytes → FileBytes → List (List ℕ) → Printed → Printed → Type 0
 IsDone old new words before after =
     HasAnswer old new words (Appends before.contents after.contents)

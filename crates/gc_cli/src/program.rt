@@ -1,17 +1,22 @@
 //! A whole run of the program, from the words of its command line to its status.
 
-ghost use Rattle.std.specs.Prelude.{◌≡◌, ◌<◌, ◌≤◌, ◌⊎◌, map, string_bytes, OnOk};
+ghost use Rattle.std.specs.Prelude.{◌≡◌, ◌+◌, ◌<◌, ◌≤◌, ◌⊎◌, map, string_bytes, IfErr, OnOk};
 ghost use Rattle.std.specs.Io.KnownBytes.{Appends};
 ghost use Rattle.std.specs.IoError.{error_kind};
 ghost use Rattle.gc_format.specs.Counted.{CountsFailure};
+ghost use Rattle.gc_order.specs.Order.{text_of};
 ghost use Rattle.gc_command.specs.Fault.{HasCause};
 ghost use Rattle.gc_cli.specs.CommandLine.{IsMistaken};
-ghost use Rattle.gc_cli.specs.Serve.{EndsByFault, IsDone, PrintsFault, PrintsRefusal, fault_line, reason_of, refusal_line};
+ghost use Rattle.gc_cli.specs.Serve.{EndsByFault, FailsToAnswer, IsDone, PrintsAnswer, PrintsFault, PrintsRefusal};
+ghost use Rattle.gc_cli.specs.Serve.{fault_line, reason_of, refusal_line};
 
 use crate::command_line::Heap;
 use crate::output::Output;
 use crate::work::carry_out;
 use gc_command::{Fault, Files};
+use gc_order::Order;
+use gc_trace::labels::{LabelLines, labels};
+use std::alloc::{Allocator, Global};
 use std::io::{self, ErrorKind, Write};
 use std::sync::Wait;
 use std::thread::Threads;
@@ -58,11 +63,8 @@ pub fn serve<R: Threads + Wait + Sync, F: Files, O: Write, E: Write>(
     ensures no_output { result ≡ USAGE → out.new ≡ out.old }
 {
     match heap.order(words) {
-        Ok(order) => match carry_out(rt, heap.alloc(), &order, files) {
-            Ok(lines) => match out.write_all(&lines) {
-                Ok(()) => DONE,
-                Err(_) => report(Fault::CannotWrite, err),
-            },
+        Ok(order) => match print_answer(rt, heap.alloc(), &order, files, out) {
+            Ok(()) => DONE,
             Err(fault) => report(fault, err),
         },
         Err(help) if !help.use_stderr() => match write!(out, "{help}") {
@@ -73,6 +75,68 @@ pub fn serve<R: Threads + Wait + Sync, F: Files, O: Write, E: Write>(
             let _ = write!(err, "{error}");
             USAGE
         }
+    }
+}
+
+/// Carries out an order, and prints its answer. The lines of `labels` are printed as they are made, so that they need not
+/// all be in memory: each fault but that of `out` comes before the first of them.
+fn print_answer<R: Threads + Wait + Sync, F: Files, O: Write>(
+    rt: &R,
+    alloc: Global,
+    order: &Order,
+    files: &mut F,
+    out: &mut Output<O>,
+) -> Result<(), Fault>
+    ensures done { OnOk result (PrintsAnswer (F.bytes files.old) (F.bytes files.new)
+        (text_of order.now) out.old out.new) }
+    ensures fault { IfErr result (λ fault. FailsToAnswer (F.bytes files.old) (F.bytes files.new)
+        (HasCause fault (F.failures files.old) (F.failures files.new))
+        (text_of order.now) out.old out.new fault) }
+{
+    if let Order::Labels {
+        circuit,
+        seed,
+        from,
+        count,
+        values,
+    } = order
+    {
+        let lines = labels(
+            alloc,
+            circuit.as_str(),
+            seed.as_str(),
+            *from,
+            *count,
+            values,
+            files,
+        )?;
+        return print_lines(lines, out);
+    }
+    let lines = carry_out(rt, alloc, order, files)?;
+    match out.write_all(&lines) {
+        Ok(()) => Ok(()),
+        Err(_) => Err(Fault::CannotWrite),
+    }
+}
+
+/// Prints the lines that are left, as they are made.
+fn print_lines<A: Allocator, O: Write>(
+    mut left: LabelLines<A>,
+    out: &mut Output<O>,
+) -> Result<(), Fault>
+    ensures done { OnOk result ((Appends out.old.contents out.new.contents left)
+        × (out.new.failures ≡ out.old.failures)) }
+    ensures fault { IfErr result (λ fault. (fault ≡ Fault.CannotWrite)
+        × (out.new.failures ≡ out.old.failures + 1)) }
+{
+    loop {
+        let piece = left.next_lines();
+        if piece.is_empty() {
+            return Ok(());
+        }
+        let Ok(()) = out.write_all(&piece) else {
+            return Err(Fault::CannotWrite);
+        };
     }
 }
 

@@ -14,7 +14,11 @@ use gc_command::plain::plain;
 use gc_command::run::run;
 use gc_command::{Fault, Files};
 use gc_order::Order;
-use std::alloc::Allocator;
+use gc_trace::audit::audit;
+use gc_trace::labels::{LabelLines, labels};
+use gc_trace::locate::locate;
+use gc_trace::stats::stats;
+use std::alloc::{AllocError, Allocator};
 use std::sync::Wait;
 use std::thread::Threads;
 
@@ -105,5 +109,55 @@ pub fn carry_out<R: Threads + Wait + Sync, A: Allocator + Copy + Send + Sync, F:
             list,
             workers,
         } => jobs(rt, alloc, circuit.as_str(), list.as_str(), *workers, files),
+        Order::Locate { circuit } => locate(alloc, circuit.as_str(), files),
+        Order::Stats { circuit } => stats(alloc, circuit.as_str(), files),
+        Order::Labels {
+            circuit,
+            seed,
+            from,
+            count,
+            values,
+        } => {
+            let lines = labels(
+                alloc,
+                circuit.as_str(),
+                seed.as_str(),
+                *from,
+                *count,
+                values,
+                files,
+            )?;
+            Ok(all_lines(alloc, lines)?)
+        }
+        Order::Audit {
+            circuit,
+            seed,
+            garbled,
+            workers,
+            labels,
+        } => audit(
+            rt,
+            alloc,
+            circuit.as_str(),
+            seed.as_str(),
+            garbled.as_str(),
+            *workers,
+            labels,
+            files,
+        ),
+    }
+}
+
+/// The lines that are left, all at once.
+fn all_lines<A: Allocator>(alloc: A, mut left: LabelLines<A>) -> Result<Vec<u8, A>, AllocError>
+    ensures { IfOk result (λ lines. lines.items ≡ left) }
+{
+    let mut lines = Vec::new(alloc);
+    loop {
+        let piece = left.next_lines();
+        if piece.is_empty() {
+            return Ok(lines);
+        }
+        lines.extend_from_slice(&piece)?;
     }
 }

@@ -2,14 +2,17 @@ use Rattle.std.proofs.Common.{rules, map, string_bytes, ⊎_elim, inl, inr, arit
 use Rattle.clap.specs.Words.{kind_of}
 use Rattle.gc_command.specs.declared.fault.Fault.TheVariants.{CannotWrite}
 use Rattle.gc_cli.proofs.MistakeLemmas.{IsMistaken-other_kind}
+use Rattle.gc_cli.proofs.ServeLemmas.{faulty}
 use Rattle.gc_cli.proofs.program.serve.Goals as goal
 
-pub returns-in-Ok-carry_out-clause-fault : goal.returns-in-Ok-carry_out-clause-fault
-returns-in-Ok-carry_out-clause-fault g c = λ _. (CannotWrite, (search rules, c.report.ensures.printed))
-
 pub returns-in-Ok-clause-fault : goal.returns-in-Ok-clause-fault
-returns-in-Ok-clause-fault g c = λ _.
-    (c.in-Err-carry_out.fault, (search rules, c.report-in-Err-carry_out.ensures.printed))
+returns-in-Ok-clause-fault g c = λ _. (
+  c.in-Err-print_answer.fault,
+  (
+    faulty _ _ _ _ _ _ (map string_bytes c.args.words.now) _ c.in-Ok.ensures.ok c.in-Err-print_answer.ensures.fault,
+    c.report.ensures.printed,
+  ),
+)
 
 -- The words have a fault that asks for no text, or memory ran out.
 pub returns-clause-usage : goal.returns-clause-usage
