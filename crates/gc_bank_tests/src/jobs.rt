@@ -41,12 +41,12 @@ pub(crate) fn evaluated<
     alloc: B,
     jobs: &[Job],
     workers: u32,
-    house: &H,
+    observer: &H,
 ) -> Result<Result<Vec<Vec<bool, B>, B>, EvalFault>, Fail> {
     if jobs.is_empty() || jobs.len() > 65_536 || !one_circuit(jobs) {
         return Err(Fail::new("the jobs are on one circuit"));
     }
-    Ok(evaluate_jobs(rt, alloc, jobs, workers, house))
+    Ok(evaluate_jobs(rt, alloc, jobs, workers, observer))
 }
 
 /// What one thread answers for each job, one after another.
@@ -102,9 +102,9 @@ fn two_job_workers_meet(rt: HostRuntime) -> Result<(), Fail> {
         let values = [zeros.as_str(), zeros.as_str()];
         jobs.push(job_of(alloc, &circuit, text.as_str(), version, &values)?)?;
     }
-    let house = Meeting::new();
-    let found = evaluated(&rt, alloc, &jobs, 2, &house)?;
-    assert!(rt; house.has_met());
+    let observer = Meeting::new();
+    let found = evaluated(&rt, alloc, &jobs, 2, &observer)?;
+    assert!(rt; observer.has_met());
     assert_eq!(rt; found, one_after_another(alloc, &jobs));
     Ok(())
 }

@@ -16,8 +16,9 @@ const WRITE: Fault = Fault::CannotWrite;
 
 /// Orders, what they print where nothing fails, and the fault where each of their calls fails. Those of `garble` and
 /// `deal` are to read the circuit, to create the file and to keep it; those of `eval` to read the circuit, to open
-/// the garbled file and to read each label file; those of `jobs` to read the list after the circuit.
-static ORDERS: [(&[&str], &str, &[Fault]); 7] = [
+/// the garbled file and to read each label file; those of `jobs` to read the list after the circuit; and those of
+/// `audit` are those of `eval`.
+static ORDERS: [(&[&str], &str, &[Fault]); 11] = [
     (&["run", "c.txt", SEED, "1", "1"], "0\n", &[READ]),
     (&["plain", "c.txt", "1", "1"], "0\n", &[READ]),
     (
@@ -41,7 +42,41 @@ static ORDERS: [(&[&str], &str, &[Fault]); 7] = [
         &[READ, READ, READ, READ, READ],
     ),
     (&["check", "no file"], "", &[READ, READ]),
+    (&["locate", "c.txt"], "no fault\n", &[READ]),
+    (&["stats", "c.txt"], STATS_LINES, &[READ]),
+    (&["labels", "c.txt", SEED, "0", "1"], "", &[READ]),
+    (
+        &["audit", "c.txt", SEED, "g", "0", "1"],
+        AUDIT_LINES,
+        &[READ, READ, READ, READ],
+    ),
 ];
+
+/// The statistics of one XOR gate of two input values.
+const STATS_LINES: &str = "\
+xor 1
+and 0
+inv 0
+eq 0
+eqw 0
+depth 1
+and_depth 0
+unread 0
+garbled1 81
+garbled2 113
+";
+
+/// What an audit finds of honest files.
+const AUDIT_LINES: &str = "\
+digest right
+counts right
+rows right
+bits right
+entries right
+labels 0 0
+labels 1 1
+honest
+";
 
 /// Carries out an order over files with these limits, which fails, and writes a file only if a sink fails.
 fn assert_fails<R: Threads + Wait + Sync + Abort>(
@@ -103,9 +138,15 @@ fn each_call_in_turn(rt: HostRuntime) -> Result<(), Fail> {
 
 /// Orders with a source or a sink, how many of its bytes have to go well, the fault where fewer do, and what is
 /// printed where that many do. Of a garbled file of 113 bytes a source is asked for one more, which it lacks.
-static STREAMS: [(&[&str], usize, Fault, &str); 4] = [
+static STREAMS: [(&[&str], usize, Fault, &str); 5] = [
     (&["eval", "c.txt", "g", "0", "1"], 114, READ, "1\n"),
     (&["jobs", "c.txt", "list"], 114, READ, "1\n\n"),
+    (
+        &["audit", "c.txt", SEED, "g", "0", "1"],
+        114,
+        READ,
+        AUDIT_LINES,
+    ),
     (&["garble", "c.txt", SEED, "out"], 113, WRITE, "wrote 113\n"),
     (
         &["deal", "c.txt", SEED, "1", "0", "out"],

@@ -55,11 +55,29 @@ const LIST_OF_JOBS: Part = (52, 1);
 
 const WORDS: Part = (52, 1);
 
+/// 9 bytes, in room taken at once.
+const NO_FAULT: Part = (52, 1);
+
+/// A depth and a mark for each wire.
+const STATS: Part = (13, 2);
+
+/// 84 bytes, in room for 8, 16, 32, 64 and 128.
+const STATS_LINES: Part = (52, 5);
+
+/// The bits of all wires.
+const WIRE_BITS: Part = (13, 1);
+
+/// A flag for each wire, and the lines, in room taken at once.
+const LABEL_LINES: Part = (52, 2);
+
+/// 93 bytes, in room for 16, 32, 64 and 128, and the bit of each of three label files.
+const AUDIT_LINES: Part = (52, 7);
+
 /// The input labels in binding, the bits of all jobs, the labels of all wires, and the output bits.
 const JOBS_EVALUATION: Part = (46, 4);
 
 /// Orders over the full adder, what each prints, and the parts of its work. What a sink takes is the files' own memory.
-static ORDERS: [(&[&str], &str, &[Part]); 7] = [
+static ORDERS: [(&[&str], &str, &[Part]); 11] = [
     (
         &["run", "c.txt", SEED, "1", "0", "1"],
         "01\n",
@@ -150,7 +168,78 @@ static ORDERS: [(&[&str], &str, &[Part]); 7] = [
             OUTPUT_LINE,
         ],
     ),
+    (
+        &["locate", "c.txt"],
+        "no fault\n",
+        &[FILE, CIRCUIT, NO_FAULT],
+    ),
+    (
+        &["stats", "c.txt"],
+        ADDER_STATS,
+        &[FILE, CIRCUIT, STATS, STATS_LINES],
+    ),
+    (
+        &["labels", "c.txt", SEED, "--from", "7", "1", "0", "1"],
+        SUM_LINE,
+        &[
+            FILE,
+            CIRCUIT,
+            LIST_OF_VALUES,
+            THREE_VALUES,
+            GARBLING,
+            WIRE_BITS,
+            LABEL_LINES,
+        ],
+    ),
+    (
+        &["audit", "c.txt", SEED, "g", "0", "1", "2"],
+        ADDER_AUDIT,
+        &[
+            FILE,
+            CIRCUIT,
+            GARBLED,
+            LIST_OF_LABELS,
+            FILE,
+            LABELS,
+            FILE,
+            LABELS,
+            FILE,
+            LABELS,
+            GARBLING,
+            AUDIT_LINES,
+        ],
+    ),
 ];
+
+/// The statistics of the full adder.
+const ADDER_STATS: &str = "\
+xor 4
+and 1
+inv 0
+eq 0
+eqw 0
+depth 3
+and_depth 1
+unread 0
+garbled1 113
+garbled2 177
+";
+
+/// The line of the full adder's last wire.
+const SUM_LINE: &str = "7 0e9678301e606e503ee2240174330fb2 792e989dbe9153c07ebf4ee427b5b29a 1\n";
+
+/// What an audit finds of honest files of the full adder.
+const ADDER_AUDIT: &str = "\
+digest right
+counts right
+rows right
+bits right
+entries right
+labels 0 1
+labels 1 0
+labels 2 1
+honest
+";
 
 /// Carries out the order with the growth of this number refused. The code of its fault is reported: 0 where it had the
 /// answer without that growth, and None where no growth was refused.

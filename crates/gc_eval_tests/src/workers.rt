@@ -5,7 +5,8 @@ use gc_eval::{EvalFault, Job, evaluate, evaluate_many};
 use gc_file::{Version, read_garbled, read_labels};
 use gc_gatehouse::Open;
 use gc_refusing::Refusing;
-use gc_worked::circuits::{FULL_ADDER, and_chains, many_ands};
+use gc_worked::circuits::{FULL_ADDER, and_chains, many_ands, mixed_blocks};
+use gc_worked::counting::Counting;
 use gc_worked::files::{label_file, write};
 use gc_worked::meeting::Meeting;
 use std::alloc::Global;
@@ -28,9 +29,9 @@ fn job_on_zeros<'c>(alloc: Global, circuit: &'c Circuit, text: &str) -> Result<J
 fn meet<R: Threads + Wait + Sync>(rt: &R, alloc: Global, text: &str) -> Result<bool, Fail> {
     let circuit = Circuit::read(alloc, text.as_bytes())?;
     let job = job_on_zeros(alloc, &circuit, text)?;
-    let house = Meeting::new();
-    let found = evaluate_many(rt, alloc, &job, 2, &house);
-    Ok(house.has_met() && found == evaluate(alloc, &job))
+    let observer = Meeting::new();
+    let found = evaluate_many(rt, alloc, &job, 2, &observer);
+    Ok(observer.has_met() && found == evaluate(alloc, &job))
 }
 
 /// Two workers evaluate 2,000 independent AND gates.
@@ -44,6 +45,34 @@ fn two_evaluators_meet(rt: HostRuntime) -> Result<(), Fail> {
 #[test]
 fn two_evaluators_meet_at_a_board(rt: HostRuntime) -> Result<(), Fail> {
     assert!(rt; meet(&rt, rt.alloc(), and_chains(rt.alloc(), 40, 50)?.as_str())?);
+    Ok(())
+}
+
+/// Whether this number of workers report each gate of a circuit, none more often than this, each by its own number.
+fn is_reported<R: Threads + Wait + Sync>(
+    rt: &R,
+    alloc: Global,
+    text: &str,
+    workers: u32,
+    most: u64,
+) -> Result<bool, Fail> {
+    let circuit = Circuit::read(alloc, text.as_bytes())?;
+    let job = job_on_zeros(alloc, &circuit, text)?;
+    let observer = Counting::new(alloc, circuit.gates())?;
+    evaluate_many(rt, alloc, &job, workers, &observer)?;
+    Ok(observer.is_each_reported(most) && observer.are_below(workers))
+}
+
+/// Once on one thread, and by layers with gates of each operation; at a board at least once.
+#[test]
+fn each_gate_is_reported(rt: HostRuntime) -> Result<(), Fail> {
+    let by_layers = mixed_blocks(rt.alloc(), 1100)?;
+    let at_board = and_chains(rt.alloc(), 64, 32)?;
+    for workers in [1, 2, 64] {
+        assert!(rt; is_reported(&rt, rt.alloc(), FULL_ADDER, workers, 1)?);
+        assert!(rt; is_reported(&rt, rt.alloc(), by_layers.as_str(), workers, 1)?);
+        assert!(rt; is_reported(&rt, rt.alloc(), at_board.as_str(), workers, u64::MAX)?);
+    }
     Ok(())
 }
 

@@ -5,7 +5,8 @@ use gc_circuit::Circuit;
 use gc_half::{Garbling, garble_one_thread};
 use gc_refusing::Refusing;
 use gc_work::{Open, WorkFault, garble};
-use gc_worked::circuits::{and_chains, many_ands};
+use gc_worked::circuits::{FULL_ADDER, and_chains, many_ands, mixed_blocks};
+use gc_worked::counting::Counting;
 use gc_worked::meeting::Meeting;
 use std::alloc::{Allocator, Global};
 use std::sync::Wait;
@@ -33,10 +34,14 @@ fn are_same<A: Allocator, B: Allocator>(
 fn meet<R: Threads + Wait + Sync>(rt: &R, alloc: Global, text: &str) -> Option<bool> {
     let circuit = read(alloc, text)?;
     let seed = seed_of(0);
-    let house = Meeting::new();
-    let garbling = garble(rt, alloc, &circuit, &seed, 2, &house).ok()?;
+    let observer = Meeting::new();
+    let garbling = garble(rt, alloc, &circuit, &seed, 2, &observer).ok()?;
     let one_thread = garble_one_thread(alloc, &circuit, &seed).ok()?;
-    Some(house.has_met() && house.calls() == 2000 && are_same(&circuit, &garbling, &one_thread))
+    Some(
+        observer.has_met()
+            && observer.calls() == 2000
+            && are_same(&circuit, &garbling, &one_thread),
+    )
 }
 
 /// 2,000 independent AND gates go by layers.
@@ -52,6 +57,33 @@ fn two_workers_meet(rt: HostRuntime) -> Result<(), Fail> {
 fn two_workers_meet_at_a_store(rt: HostRuntime) -> Result<(), Fail> {
     let text = and_chains(rt.alloc(), 40, 50)?;
     assert!(rt; meet(&rt, rt.alloc(), text.as_str()) == Some(true));
+    Ok(())
+}
+
+/// Whether this number of workers report each gate of a circuit once, each by its own number.
+fn is_reported_once<R: Threads + Wait + Sync>(
+    rt: &R,
+    alloc: Global,
+    text: &str,
+    workers: u32,
+) -> Option<bool> {
+    let circuit = read(alloc, text)?;
+    let observer = Counting::new(alloc, circuit.gates()).ok()?;
+    garble(rt, alloc, &circuit, &seed_of(0), workers, &observer).ok()?;
+    Some(observer.is_each_reported(1) && observer.are_below(workers))
+}
+
+/// On one thread, by layers with gates of each operation, and through a store.
+#[test]
+fn each_gate_is_reported_once(rt: HostRuntime) -> Result<(), Fail> {
+    let alone = String::from_str(rt.alloc(), FULL_ADDER)?;
+    let by_layers = mixed_blocks(rt.alloc(), 1100)?;
+    let by_store = and_chains(rt.alloc(), 64, 32)?;
+    for text in [&alone, &by_layers, &by_store] {
+        for workers in [1, 2, 64] {
+            assert!(rt; is_reported_once(&rt, rt.alloc(), text.as_str(), workers) == Some(true));
+        }
+    }
     Ok(())
 }
 

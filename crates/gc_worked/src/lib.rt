@@ -1,8 +1,9 @@
 //! What the tests of several crates share: worked circuits and files, the files of circuits under one seed, calls whose
-//! growths are refused in turn, and workers that meet.
+//! growths are refused in turn, workers that meet, and an observer that counts.
 #![tactic(auto)]
 
 pub mod circuits;
+pub mod counting;
 pub mod files;
 pub mod growths;
 pub mod meeting;

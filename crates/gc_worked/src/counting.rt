@@ -1,0 +1,54 @@
+//! A gatehouse that counts.
+
+use gc_gatehouse::Gatehouse;
+use std::alloc::{AllocError, Global};
+use std::sync::atomic::{AtomicU64, Ordering};
+
+/// Counts how often each gate is reported, and which workers report any.
+#[derive(Drop)]
+pub struct Counting {
+    reports: Vec<AtomicU64>,
+    // Bit w is worker w's.
+    workers: AtomicU64,
+}
+
+impl Counting {
+    /// An observer of this number of gates. None is reported yet.
+    pub fn new(alloc: Global, gates: u32) -> Result<Counting, AllocError> {
+        let mut reports = Vec::with_capacity(alloc, gates as usize)?;
+        for _gate in 0..gates {
+            reports.push(AtomicU64::new(0))?;
+        }
+        Ok(Counting {
+            reports,
+            workers: AtomicU64::new(0),
+        })
+    }
+
+    /// Whether each gate is reported, and none more often than this.
+    pub fn is_each_reported(&self, most: u64) -> bool {
+        for reports in &self.reports {
+            let reports = reports.load(Ordering::SeqCst);
+            if reports == 0 || reports > most {
+                return false;
+            }
+        }
+        true
+    }
+
+    /// Whether each worker that reported a gate has a number below this one.
+    pub fn are_below(&self, workers: u32) -> bool {
+        workers >= 64 || self.workers.load(Ordering::SeqCst) >> workers == 0
+    }
+}
+
+impl Gatehouse for Counting {
+    fn before(&self, worker: u32, gate: u32) {
+        if worker < 64 {
+            self.workers.fetch_or(1 << worker, Ordering::SeqCst);
+        }
+        if let Some(reports) = self.reports.get(gate as usize) {
+            reports.fetch_add(1, Ordering::SeqCst);
+        }
+    }
+}
