@@ -1,7 +1,7 @@
 """Circuits in Bristol Fashion, and values as texts: reading, spelling and plain evaluation.
 
 It follows the page "Bristol Fashion MPC Circuits" and the project's docs/. Each function that reads
-raises the first fault of its input, as a Fault.
+raises the first fault of its input, as a Fault. Of a circuit a fault says where it is.
 """
 import re
 from collections import namedtuple
@@ -11,17 +11,22 @@ MAX_GATES, MAX_WIRES, MAX_VALUES = 2**24, 2**25, 2**8
 
 
 class Fault(Exception):
-    """The first fault of an input: its number and its name."""
+    """The first fault of an input: its number and its name.
 
-    def __init__(self, number, name):
+    In a circuit's text it is after `at` bytes. It may be a fault of a wire, and one found while a
+    gate is read.
+    """
+
+    def __init__(self, number, name, at=None, wire=None):
         super().__init__(f"fault {number} {name}")
-        self.number, self.name = number, name
+        self.number, self.name, self.at, self.wire = number, name, at, wire
+        self.gate = None
 
 
-def demand(condition, number, name):
+def demand(condition, number, name, at=None, wire=None):
     """Raises this fault unless the condition holds."""
     if not condition:
-        raise Fault(number, name)
+        raise Fault(number, name, at, wire)
 
 
 # Circuits in Bristol Fashion.
@@ -34,25 +39,34 @@ FIRST_COUNTS = {"XOR": 2, "AND": 2, "INV": 1, "EQ": 1, "EQW": 1}
 
 
 class Tokens:
-    """The tokens of a text: the longest runs of bytes other than tab, line feed, CR and space."""
+    """The tokens of a text: the longest runs of bytes other than tab, line feed, CR and space.
+
+    The token taken last begins after `start` bytes, and ends after `end` bytes.
+    """
 
     def __init__(self, text):
-        self.left = iter(re.findall(rb"[^\t\n\r ]+", text))
+        self.left, self.size = re.finditer(rb"[^\t\n\r ]+", text), len(text)
 
     def word(self):
         """The next token."""
         token = next(self.left, None)
-        demand(token is not None, 1, "Truncated")
-        return token
+        demand(token, 1, "Truncated", self.size)
+        self.start, self.end = token.span()
+        return token[0]
 
     def number(self, limit=2**32 - 1):
         """The next token as a number; leading zeros are allowed."""
         digits = self.word()
-        demand(re.fullmatch(rb"[0-9]+", digits), 2, "BadNumber")
+        demand(re.fullmatch(rb"[0-9]+", digits), 2, "BadNumber", self.start)
         value = int(digits.lstrip(b"0")[:11] or b"0")  # 11 digits are above each limit.
-        demand(value < 2**32, 2, "BadNumber")
-        demand(value <= limit, 3, "TooLarge")
+        demand(value < 2**32, 2, "BadNumber", self.start)
+        demand(value <= limit, 3, "TooLarge", self.start)
         return value
+
+    def numbers(self, count):
+        """The next tokens as numbers, and where they begin."""
+        pairs = [(self.number(), self.start) for _ in range(count)]
+        return tuple(number for number, _ in pairs), [start for _, start in pairs]
 
 
 def read_circuit(text):
@@ -68,34 +82,51 @@ def read_circuit(text):
         gate = read_gate(tokens, circuit, targets)
         circuit.gates.append(gate)
         targets.add(gate.target)
-    demand(all(is_set(circuit, targets, wire) for wire in output_wires(circuit)), 10, "OutputUnset")
-    demand(next(tokens.left, None) is None, 11, "TrailingTokens")
+    for wire in output_wires(circuit):
+        demand(is_set(circuit, targets, wire), 10, "OutputUnset", tokens.end, wire)
+    trailing = next(tokens.left, None)
+    demand(trailing is None, 11, "TrailingTokens", trailing and trailing.start())
     return circuit
 
 
 def read_widths(tokens, wires):
     """The widths of the input values, or of the output values. Together they exceed no wires."""
     widths = [tokens.number() for _ in range(tokens.number(MAX_VALUES))]
-    demand(sum(widths) <= wires, 12, "WidthsExceedWires")
+    demand(sum(widths) <= wires, 12, "WidthsExceedWires", tokens.start)
     return widths
 
 
 def read_gate(tokens, circuit, targets):
     """One gate. Its tokens come first, and then what they mean."""
-    counts = tokens.number(), tokens.number()
-    demand(counts in ((1, 1), (2, 1)), 4, "BadShape")
-    *numbers, target = [tokens.number() for _ in range(sum(counts))]
-    operation = tokens.word().decode("latin-1")
-    demand(operation in FIRST_COUNTS, 5, "UnknownOperation")
-    demand(FIRST_COUNTS[operation] == counts[0], 4, "BadShape")
-    gate = Gate(operation, numbers, target)
-    demand(operation != "EQ" or numbers[0] in (0, 1), 6, "BadConstant")
-    for wire in wires_read(gate):
-        demand(wire < circuit.wires, 7, "NoSuchWire")
-        demand(is_set(circuit, targets, wire), 8, "Unset")
-    demand(target < circuit.wires, 7, "NoSuchWire")
-    demand(not is_set(circuit, targets, target), 9, "SetTwice")
-    return gate
+    try:
+        counts, starts = tokens.numbers(2)
+        demand(counts in ((1, 1), (2, 1)), 4, "BadShape", starts[0])
+        (*numbers, target), starts = tokens.numbers(sum(counts))
+        operation = tokens.word().decode("latin-1")
+        demand(operation in FIRST_COUNTS, 5, "UnknownOperation", tokens.start)
+        demand(FIRST_COUNTS[operation] == counts[0], 4, "BadShape", tokens.start)
+        gate = Gate(operation, numbers, target)
+        demand(operation != "EQ" or numbers[0] in (0, 1), 6, "BadConstant", starts[0])
+        for wire, start in zip(wires_read(gate), starts):
+            demand(wire < circuit.wires, 7, "NoSuchWire", start, wire)
+            demand(is_set(circuit, targets, wire), 8, "Unset", start, wire)
+        demand(target < circuit.wires, 7, "NoSuchWire", starts[-1], target)
+        demand(not is_set(circuit, targets, target), 9, "SetTwice", starts[-1], target)
+        return gate
+    except Fault as fault:
+        fault.gate = len(circuit.gates)
+        raise
+
+
+def place_of(text, fault):
+    """Where the first fault of a text is: its line and column, and its gate and wire if it has any.
+
+    Lines and columns are counted from 1. A line feed ends a line, and each byte is a column.
+    """
+    before = text[:fault.at]
+    place = {"line": 1 + before.count(b"\n"), "column": len(before) - before.rfind(b"\n")}
+    place.update(gate=fault.gate, wire=fault.wire)
+    return {name: number for name, number in place.items() if number is not None}
 
 
 def wires_read(gate):
@@ -151,15 +182,51 @@ def walk(circuit, inputs, rule):
     return on_wires
 
 
-def plain_eval(circuit, values):
-    """The bits on the output wires for the bits of each input value, computed without garbling."""
+def plain_bits(circuit, values):
+    """The bit of each set wire for the bits of each input value, computed without garbling."""
 
     def bit_of(gate, a=0, b=0):
         bits = {"XOR": a ^ b, "AND": a & b, "INV": 1 - a, "EQ": gate.numbers[0], "EQW": a}
         return bits[gate.operation]
 
-    on_wires = walk(circuit, [bit for bits in values for bit in bits], bit_of)
+    return walk(circuit, [bit for bits in values for bit in bits], bit_of)
+
+
+def plain_eval(circuit, values):
+    """The bits on the output wires for the bits of each input value, computed without garbling."""
+    on_wires = plain_bits(circuit, values)
     return [on_wires[wire] for wire in output_wires(circuit)]
+
+
+def depth(circuit, counts):
+    """The greatest depth of a set wire, of which input wires have 0.
+
+    A gate that counts sets a wire that is one deeper than the deepest wire that it reads, and any
+    other gate sets one as deep as that.
+    """
+    depths = walk(circuit, [0 for _ in input_wires(circuit)],
+                  lambda gate, *read: counts(gate) + max(read, default=0))
+    return max(depths.values(), default=0)
+
+
+def statistics(circuit):
+    """The gates by operation, the depths, and the sizes of the garbled files of either version.
+
+    A gate is unread where no gate reads the wire that it sets, and the wire is no output.
+    """
+    numbers = {name.lower(): sum(gate.operation == name for gate in circuit.gates)
+               for name in FIRST_COUNTS}
+    outputs = output_wires(circuit)
+    used = {wire for gate in circuit.gates for wire in wires_read(gate)}.union(outputs)
+    size = 8 + 32 + 4 + 4 + 32 * numbers["and"] + (len(outputs) + 7) // 8 + 32
+    return {
+        **numbers,
+        "depth": depth(circuit, lambda gate: True),
+        "and_depth": depth(circuit, lambda gate: gate.operation == "AND"),
+        "unread": sum(gate.target not in used for gate in circuit.gates),
+        "garbled1": size,
+        "garbled2": size + 32 * len(outputs),
+    }
 
 
 # Bits, values and seeds as texts.

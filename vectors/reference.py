@@ -16,7 +16,8 @@ from pathlib import Path
 import cases
 from bristol import (
     MAX_GATES, MAX_WIRES, Fault, and_count, demand, digest, input_wires, output_wires, pack,
-    plain_eval, read_circuit, read_seed, read_values, show_values, unpack, walk)
+    place_of, plain_eval, read_circuit, read_seed, read_values, show_values, statistics, unpack,
+    walk)
 
 ZERO = bytes(16)
 
@@ -61,10 +62,10 @@ def input_zero_labels(seed, count):
 
 def xor(*labels):
     """The bit by bit exclusive or of labels."""
-    total = ZERO
+    total = 0
     for label in labels:
-        total = bytes(a ^ b for a, b in zip(total, label))
-    return total
+        total ^= int.from_bytes(label, "little")
+    return total.to_bytes(16, "little")
 
 
 def times(bit, label):
@@ -268,11 +269,12 @@ def evaluate(circuit, garbled, inputs):
 
 
 def fault_of(read, *inputs):
-    """The first fault that the reading of these inputs raises."""
+    """The first fault that the reading of these inputs raises, and its place if it has one."""
     try:
         read(*inputs)
     except Fault as fault:
-        return {"fault": fault.number, "name": fault.name}
+        place = {} if fault.at is None else place_of(*inputs, fault)
+        return {"fault": fault.number, "name": fault.name, **place}
     raise ValueError(f"no fault: {inputs}")
 
 
@@ -320,6 +322,7 @@ def vector(case):
         "and_gates": and_count(circuit),
         "input_widths": circuit.input_widths,
         "output_widths": circuit.output_widths,
+        "statistics": statistics(circuit),
         "seed": case.seed,
         "offset": garbling.offset.hex(),
         "zero_labels": {str(wire): garbling.zero[wire].hex() for wire in sorted(garbling.zero)},
