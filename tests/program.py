@@ -7,13 +7,16 @@ import os
 import subprocess
 import sys
 import tempfile
+from hashlib import sha256
 from pathlib import Path
 from unittest import TestCase
 
 TOP = Path(__file__).resolve().parent.parent
 PROGRAM = Path(os.environ.get("HALFGATES", TOP / "crates/halfgates/out/halfgates")).resolve()
 
-sys.path += [str(TOP / folder) for folder in ("vectors", "examples")]
+EXAMPLES = TOP / "examples"
+
+sys.path += [str(TOP / "vectors"), str(EXAMPLES)]
 import bristol  # noqa: E402
 import reference  # noqa: E402
 
@@ -49,6 +52,11 @@ def label_file(index, *labels):
     return head + b"".join(labels)
 
 
+def sealed(body):
+    """A garbled file with a trailer to match."""
+    return body + sha256(body).digest()
+
+
 def text_of_lines(lines):
     """The text of these lines."""
     return "".join(f"{line}\n" for line in lines)
@@ -82,6 +90,12 @@ def ending_of_eval(circuit, garbled, labels):
     return ending_of(work)
 
 
+def script(*words, folder=EXAMPLES, **how):
+    """Runs the script that makes circuits, as it lies in a folder."""
+    words = [str(word) for word in (sys.executable, folder / "make_circuits.py", *words)]
+    return subprocess.run(words, capture_output=True, check=False, **how).returncode
+
+
 class ProgramTest(TestCase):
     """A test that runs the program in a folder of its own, over files there."""
 
@@ -99,6 +113,10 @@ class ProgramTest(TestCase):
     def put_all(self, name, contents):
         """Writes numbered files, and returns their names."""
         return [self.put(f"{name}{i}", content) for i, content in enumerate(contents)]
+
+    def make(self, name, *words):
+        """Writes a circuit by the script."""
+        self.assertEqual(script(name, *words, self.folder / name), 0)
 
     def bytes_of(self, name):
         return (self.folder / name).read_bytes()
@@ -128,6 +146,12 @@ class ProgramTest(TestCase):
     def assert_fault(self, fault, *words):
         """The program ends with this fault, and prints no output."""
         self.assert_ends(fails(fault), *words)
+
+    def assert_usage(self, *words):
+        """The program takes these words for no order, and has status 2."""
+        status, printed, errors = self.run_program(*words)
+        self.assertEqual((status, printed), (2, ""), words)
+        self.assertTrue(errors.startswith("error: "), errors)
 
     def assert_writes(self, data, name, *words):
         """The program writes these bytes to the file of this name, and prints how many they are."""

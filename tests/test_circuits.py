@@ -4,16 +4,12 @@ import itertools
 import json
 import random
 import shutil
-import subprocess
-import sys
 import unittest
 
-from program import SEED, TOP, ProgramTest, text_of_lines
+from program import EXAMPLES, SEED, ProgramTest, script, text_of_lines
 
 from circuits import aes
 from circuits.builder import Builder
-
-EXAMPLES = TOP / "examples"
 
 # By circuit, input values and the output values: published ones, and those of numbers at the edges.
 ANSWERS = json.loads((EXAMPLES / "answers.json").read_text())
@@ -41,12 +37,6 @@ BAD_WORDS = [
 ]
 
 
-def script(*words, folder=EXAMPLES, **how):
-    """Runs the script as it lies in a folder."""
-    words = [str(word) for word in (sys.executable, folder / "make_circuits.py", *words)]
-    return subprocess.run(words, capture_output=True, check=False, **how).returncode
-
-
 def bits(value):
     """A value as the program prints it, a character for each wire."""
     if not value.startswith("x"):
@@ -60,10 +50,6 @@ def typed(numbers):
 
 
 class CircuitTest(ProgramTest):
-    def make(self, name, *words):
-        """Writes a circuit by the script."""
-        self.assertEqual(script(name, *words, self.folder / name), 0)
-
     def put_circuit(self, name, circuit, times):
         """Writes a circuit by its builder."""
         with (self.folder / name).open("w") as file:

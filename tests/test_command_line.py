@@ -36,10 +36,14 @@ Commands:
   run     Garbles a circuit and evaluates the garbled circuit on the given values
   plain   Evaluates a circuit on the given values, without garbling
   check   Prints the size and the digest of a circuit
+  locate  Prints where the first fault of a circuit's text is
+  stats   Prints the gates, the depths and the file sizes of a circuit
   garble  Garbles a circuit into a file
   deal    Writes the labels of an input value into a file
   eval    Evaluates a garbled circuit, from a garbled file and label files
   jobs    Evaluates a list of garbled files of one circuit
+  labels  Prints the labels and the bits of a circuit's wires for the given values
+  audit   Says whether a garbled file and label files are those of a circuit and a seed
 
 Options:
   -h, --help     Print help
@@ -57,6 +61,11 @@ def missing(word, usage):
     )
 
 
+def one_more(usage):
+    """What is printed where a word `1` follows the last one."""
+    return f"error: unexpected argument '1' found\n\nUsage: halfgates {usage}\n{TRY_HELP}"
+
+
 # Words that are no order, and what standard error says.
 NO_ORDERS = [
     ([], HELP),
@@ -72,9 +81,15 @@ NO_ORDERS = [
         "  tip: to pass '--walk' as a value, use '-- --walk'\n\n"
         "Usage: halfgates run <CIRCUIT> <SEED> [VALUES]...\n" + TRY_HELP,
     ),
+    (["check", "c.txt", "1"], one_more("check <CIRCUIT>")),
+    (["locate", "c.txt", "1"], one_more("locate <CIRCUIT>")),
+    (["stats", "c.txt", "1"], one_more("stats <CIRCUIT>")),
+    (["locate"], missing("CIRCUIT", "locate <CIRCUIT>")),
+    (["stats"], missing("CIRCUIT", "stats <CIRCUIT>")),
+    (["labels", "c.txt"], missing("SEED", "labels <CIRCUIT> <SEED> [VALUES]...")),
     (
-        ["check", "c.txt", "1"],
-        "error: unexpected argument '1' found\n\nUsage: halfgates check <CIRCUIT>\n" + TRY_HELP,
+        ["audit", "c.txt", SEED],
+        missing("GARBLED", "audit <CIRCUIT> <SEED> <GARBLED> [LABELS]..."),
     ),
 ]
 
@@ -82,7 +97,7 @@ NO_ORDERS = [
 def documented_commands():
     """The words of each command in the table of docs/COMMANDS.md: the names of its arguments, in
     order, and its options."""
-    rows = re.findall(r"^\| `(\w+) ([^`]*)` \|", (TOP / "docs/COMMANDS.md").read_text(), re.M)
+    rows = re.findall(r"^\| `(\w+) (CIRCUIT[^`]*)` \|", (TOP / "docs/COMMANDS.md").read_text(), re.M)
     return {name: (re.sub(r"\[.*?\] ?|\.\.", "", words).split(), re.findall(r"--\w+", words))
             for name, words in rows}
 
@@ -103,7 +118,18 @@ def help_words(text):
     return [term.strip("<>[].") for term in arguments], options
 
 
-NO_NUMBERS = "", "x", "-1", "1.5", "4294967296"
+def example_of(text):
+    """The words of the example in a command's help, without the program's name."""
+    lines = text.split("\nExample", 1)[1].splitlines()
+    [line] = [line for line in lines[1:] if line]
+    assert line.startswith("  halfgates "), line
+    return line.split()[1:]
+
+
+# The commands whose examples write what those of the others read.
+WRITERS = "garble", "deal"
+
+NO_NUMBERS = "", "x", "-1", "1.5", "0x1", "1 ", "4294967296", "18446744073709551616", 40 * "9"
 
 
 class CommandLine(ProgramTest):
@@ -116,8 +142,8 @@ class CommandLine(ProgramTest):
             (["--help"], HELP),
             (["-h"], HELP),
             (["run", "--help"], RUN_HELP),
-            (["--version"], "halfgates 0.1.0\n"),
-            (["-V"], "halfgates 0.1.0\n"),
+            (["--version"], "halfgates 0.2.0\n"),
+            (["-V"], "halfgates 0.2.0\n"),
         ]:
             self.assert_prints(text, *words)
 
@@ -128,6 +154,21 @@ class CommandLine(ProgramTest):
         for name, words in commands.items():
             _, text, _ = self.run_program(name, "--help")
             self.assertEqual(help_words(text), words, name)
+
+    def test_help_has_an_example_of_its_words(self):
+        """Each example succeeds, over what those of `garble` and `deal` write."""
+        self.put("adder.txt", FULL_ADDER)
+        self.put("list.txt", "adder.garbled first.labels second.labels third.labels")
+        names = sorted(documented_commands(), key=lambda name: name not in WRITERS)
+        for name in names:
+            _, text, _ = self.run_program(name, "--help")
+            words = example_of(text)
+            self.assertEqual(words[0], name)
+            status, _, errors = self.run_program(*words)
+            self.assertEqual((status, errors), (0, ""), words)
+            if name == "deal":
+                for index, value, file in (1, 0, "second.labels"), (2, 1, "third.labels"):
+                    self.run_program(*words[:3], index, value, file)
 
     def test_the_manual_names_the_words_as_help_does(self):
         page = (TOP / "dist/halfgates.1").read_text()
@@ -153,17 +194,15 @@ class CommandLine(ProgramTest):
                 ("jobs", "c.txt", "list", f"--workers={number}"),
                 ("garble", "c.txt", SEED, "g", f"--format={number}"),
                 ("deal", "c.txt", SEED, "--", number, "1", "l"),
+                ("audit", "c.txt", SEED, "g", f"--workers={number}"),
+                ("labels", "c.txt", SEED, f"--from={number}", "1", "1"),
+                ("labels", "c.txt", SEED, f"--count={number}", "1", "1"),
             ]:
                 self.assert_usage(*words)
 
     def test_formats_that_are_none(self):
         for version in "0", "3", "12":
             self.assert_usage("garble", "c.txt", SEED, "g", "--format", version)
-
-    def assert_usage(self, *words):
-        status, printed, errors = self.run_program(*words)
-        self.assertEqual((status, printed), (2, ""), words)
-        self.assertTrue(errors.startswith("error: "), errors)
 
     def test_a_word_that_is_not_utf_8(self):
         errors = "error: the command line can't be read: a word is not UTF-8\n"
@@ -174,6 +213,7 @@ class CommandLine(ProgramTest):
         self.assert_prints("01\n", "run", "--", "-c", SEED, "1", "x00", "1")
         self.assert_prints("0\n", "plain", "c.txt", "1", "--", "1")
         self.assert_fault("16 WrongLength", "plain", "c.txt", "1", "--", "--")
+        self.assert_prints("no fault\n", "locate", "--", "-c")
 
     def test_options_between_words(self):
         self.assert_prints("wrote 113\n", "garble", "--format", "2", "c.txt", SEED, "g")

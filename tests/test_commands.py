@@ -5,7 +5,7 @@ from pathlib import Path
 
 from program import (
     AND, CONSTANT_AND, EMPTY, FAR_COPY, FULL_ADDER, INV, MANY_WIRES, NO_GATES, ONE, SEED, SQUARE,
-    WIDE, XOR, ZERO, ProgramTest, label_file,
+    WIDE, XOR, ZERO, ProgramTest, label_file, sealed,
 )
 
 FORMATS = "1", "2"
@@ -178,17 +178,23 @@ class Circuits(ProgramTest):
             self.assert_fault(fault, "deal", "c.txt", "0", "9", "2", "l")
             self.assert_fault(fault, "eval", "c.txt", "no file")
             self.assert_fault(fault, "jobs", "c.txt", "no file")
+            self.assert_fault(fault, "stats", "c.txt")
+            self.assert_fault(fault, "labels", "c.txt", "0", "2")
+            self.assert_fault(fault, "audit", "c.txt", "0", "no file")
 
     def test_the_first_fault_of_values(self):
         self.put("c.txt", FULL_ADDER)
         for values, fault in VALUE_FAULTS:
             self.assert_fault(fault, "run", "c.txt", SEED, *values)
             self.assert_fault(fault, "plain", "c.txt", *values)
+            self.assert_fault(fault, "labels", "c.txt", SEED, *values)
 
     def test_a_seed_is_judged_before_values(self):
         self.put("c.txt", FULL_ADDER)
         for seed in "", "0", 63 * "0" + "g", 66 * "0":
             self.assert_fault("18 BadSeed", "run", "c.txt", seed, "2")
+            self.assert_fault("18 BadSeed", "labels", "c.txt", seed, "2")
+            self.assert_fault("18 BadSeed", "audit", "c.txt", seed, "no file")
 
     def test_a_chain_of_more_than_a_million_gates(self):
         self.put("c.txt", chain())
@@ -284,6 +290,33 @@ LABEL_FILES = [
 
 NOBODYS_LABEL = bytes(16)
 
+# A circuit with a value of nine wires, and one of none.
+TWO_VALUES = "1 10\n2 9 0\n1 1\n2 1 0 8 9 AND"
+
+# Seeds, indices and values for it, and the first fault of dealing: 18, then 42, then 16, 15 and 17.
+DEALING_FAULTS = [
+    ("0", "0", "2", "18 BadSeed"),
+    ("0", "2", "2", "18 BadSeed"),
+    (63 * "0" + "g", "4294967295", "", "18 BadSeed"),
+    (SEED, "2", "000000000", "42 NoSuchValue"),
+    (SEED, "2", "2", "42 NoSuchValue"),
+    (SEED, "2", "00000000x", "42 NoSuchValue"),
+    (SEED, "2", "x0002", "42 NoSuchValue"),
+    (SEED, "256", "", "42 NoSuchValue"),
+    (SEED, "4294967295", "", "42 NoSuchValue"),
+    (SEED, "0", "", "16 WrongLength"),
+    (SEED, "0", "2", "16 WrongLength"),
+    (SEED, "0", "0000000000", "16 WrongLength"),
+    (SEED, "0", "x02", "16 WrongLength"),
+    (SEED, "0", "x000000", "16 WrongLength"),
+    (SEED, "0", "000000002", "15 BadDigit"),
+    (SEED, "0", "x02g2", "15 BadDigit"),
+    (SEED, "0", "x0002", "17 SpareBits"),
+    (SEED, "0", "x0080", "17 SpareBits"),
+    (SEED, "1", "0", "16 WrongLength"),
+    (SEED, "1", "x00", "16 WrongLength"),
+]
+
 
 class TwoParties(ProgramTest):
     """`garble`, `deal` and `eval`, over the files that go between two parties."""
@@ -333,21 +366,31 @@ class TwoParties(ProgramTest):
         for values, output in ("00", "1\n"), ("01", "1\n"), ("10", "0\n"), ("11", "1\n"):
             self.assert_prints(output, "eval", "c.txt", "g", *self.deal(values))
 
-    def test_faults_of_garbling_and_dealing(self):
+    def test_faults_of_garbling(self):
         self.put("c.txt", XOR)
         self.assert_fault("18 BadSeed", "garble", "c.txt", "0", "g", "--workers", "0")
         self.assert_fault("22 BadWorkers", "garble", "c.txt", SEED, "g", "--workers", "65")
-        self.assert_fault("18 BadSeed", "deal", "c.txt", "0", "2", "2", "l")
-        self.assert_fault("42 NoSuchValue", "deal", "c.txt", SEED, "2", "2", "l")
-        self.assert_fault("15 BadDigit", "deal", "c.txt", SEED, "1", "2", "l")
-        self.assert_fault("16 WrongLength", "deal", "c.txt", SEED, "1", "11", "l")
-        self.assert_fault("17 SpareBits", "deal", "c.txt", SEED, "1", "x02", "l")
         self.assertEqual([file.name for file in self.folder.iterdir()], ["c.txt"])
 
+    def test_faults_of_dealing(self):
+        """Whether the circuit was garbled or not, and what OUT held stays there."""
+        self.put("c.txt", TWO_VALUES)
+        for is_garbled in False, True:
+            if is_garbled:
+                self.garble()
+            for out in "l", "no folder/l":
+                for seed, index, value, fault in DEALING_FAULTS:
+                    self.assert_fault(fault, "deal", "c.txt", seed, index, value, out)
+            self.assertFalse((self.folder / "l").exists())
+        self.put("l", "kept")
+        for seed, index, value, fault in DEALING_FAULTS:
+            self.assert_fault(fault, "deal", "c.txt", seed, index, value, "l")
+        self.assertEqual(self.bytes_of("l"), b"kept")
 
-def sealed(body):
-    """A garbled file with a trailer to match."""
-    return body + sha256(body).digest()
+    def test_no_value_to_deal(self):
+        self.put("c.txt", ONE)
+        for index in "0", "1", "4294967295":
+            self.assert_fault("42 NoSuchValue", "deal", "c.txt", SEED, index, "2", "l")
 
 
 # The AND gate's file with the colour of a row flipped, and with a row pair too many.
@@ -618,6 +661,10 @@ class Disk(ProgramTest):
             ("eval", "c.txt", "no folder/g"),
             ("jobs", "c.txt", "no file"),
             ("jobs", "c.txt", "list"),
+            ("locate", "no file"),
+            ("stats", "."),
+            ("labels", "no file", SEED, "1", "0"),
+            ("audit", "c.txt", SEED, "no folder/g"),
         ]:
             self.assert_fault("50 CannotRead", *words)
 
@@ -630,7 +677,16 @@ class Disk(ProgramTest):
     @unittest.skipUnless(FULL.is_char_device(), "there is no /dev/full")
     def test_an_output_that_takes_nothing(self):
         self.put("c.txt", XOR)
-        for words in ("run", "c.txt", SEED, "1", "1"), ("check", "c.txt"), ("--help",):
+        self.put("g", XOR_FILE)
+        for words in [
+            ("run", "c.txt", SEED, "1", "1"),
+            ("check", "c.txt"),
+            ("locate", "c.txt"),
+            ("stats", "c.txt"),
+            ("labels", "c.txt", SEED, "1", "1"),
+            ("audit", "c.txt", SEED, "g"),
+            ("--help",),
+        ]:
             with FULL.open("wb") as full:
                 status, _, errors = self.run_program(*words, stdout=full)
             self.assertEqual((status, errors), (1, "halfgates: fault 51 CannotWrite\n"), words)

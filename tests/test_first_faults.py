@@ -3,7 +3,7 @@ import unittest
 from itertools import combinations
 from typing import NamedTuple
 
-from program import AND, SEED, XOR, ProgramTest, fails, label_file
+from program import AND, SEED, XOR, ProgramTest, fails, label_file, sealed
 
 # Words that clap refuses, before any file is read.
 USAGE = None
@@ -27,6 +27,22 @@ WORDS = {
     "deal": {"CIRCUIT": "c.txt", "SEED": SEED, "INDEX": "1", "VALUE": "1", "OUT": "l"},
     "eval": {"CIRCUIT": "c.txt", "GARBLED": "garbled", "LABELS": "a b", "--workers": "2"},
     "jobs": {"CIRCUIT": "c.txt", "LIST": "list", "--workers": "2"},
+    "locate": {"CIRCUIT": "c.txt"},
+    "stats": {"CIRCUIT": "c.txt"},
+    "labels": {
+        "CIRCUIT": "c.txt",
+        "SEED": SEED,
+        "VALUES": "1 0",
+        "--from": "1",
+        "--count": "1",
+    },
+    "audit": {
+        "CIRCUIT": "c.txt",
+        "SEED": SEED,
+        "GARBLED": "garbled",
+        "LABELS": "a b",
+        "--workers": "2",
+    },
 }
 
 CIRCUIT_FAULTS = [
@@ -50,6 +66,17 @@ WORKERS_FAULTS = [
 ]
 NO_WORKERS = Bad("--workers", "x", USAGE)
 OUT_FAULTS = [Bad("OUT", "no_folder/out", "51 CannotWrite")]
+FILE_FAULTS = [
+    Bad("GARBLED", "no_file", "50 CannotRead"),
+    Bad("GARBLED", "c.txt", "30 BadMagic"),
+    Bad("GARBLED", "empty", "31 Truncated"),
+    Bad("GARBLED", "longer", "32 Trailing"),
+    Bad("GARBLED", "bad_trailer", "35 BadTrailer"),
+    Bad("LABELS", "a no_file", "50 CannotRead"),
+    Bad("LABELS", "c.txt b", "30 BadMagic"),
+    Bad("LABELS", "empty b", "31 Truncated"),
+    Bad("LABELS", "a longer_labels", "32 Trailing"),
+]
 
 # The faults of each command, in the order of its work.
 FAULTS = {
@@ -77,12 +104,10 @@ FAULTS = {
     "eval": [
         NO_WORKERS,
         *CIRCUIT_FAULTS,
-        Bad("GARBLED", "no_file", "50 CannotRead"),
-        Bad("GARBLED", "c.txt", "30 BadMagic"),
-        Bad("LABELS", "a no_file", "50 CannotRead"),
-        Bad("LABELS", "empty b", "31 Truncated"),
+        *FILE_FAULTS,
         # What binding finds. The first of these is of another circuit.
         Bad("GARBLED", "other_garbled", "40 OtherCircuit"),
+        Bad("GARBLED", "other_counts", "41 OtherCounts"),
         Bad("LABELS", "a no_such_value", "42 NoSuchValue"),
         Bad("LABELS", "wide b", "43 WrongWidth"),
         Bad("LABELS", "a a", "44 DoubleValue"),
@@ -103,6 +128,18 @@ FAULTS = {
         *WORKERS_FAULTS,
         Bad("LIST", "list_of_nobodys", "48 UnknownOutputLabel"),
     ],
+    # What is wrong with a circuit is what it prints.
+    "locate": [Bad("CIRCUIT", "no_file", "50 CannotRead")],
+    "stats": CIRCUIT_FAULTS,
+    "labels": [
+        Bad("--from", "x", USAGE),
+        Bad("--count", "1.5", USAGE),
+        *CIRCUIT_FAULTS,
+        *SEED_FAULTS,
+        *VALUES_FAULTS,
+    ],
+    # It binds nothing: the faults of binding never come.
+    "audit": [NO_WORKERS, *CIRCUIT_FAULTS, *SEED_FAULTS, *FILE_FAULTS, *WORKERS_FAULTS],
 }
 
 NOBODYS_LABEL = bytes(16)
@@ -113,6 +150,7 @@ FILES = {
     "empty": "",
     "no_such_value": label_file(2, NOBODYS_LABEL),
     "wide": label_file(0, NOBODYS_LABEL, NOBODYS_LABEL),
+    "longer_labels": label_file(1, NOBODYS_LABEL) + b"\0",
     "nobodys": label_file(1, NOBODYS_LABEL),
     "list": "garbled a b",
     "no_text": b"garbled a b\n\xff",
@@ -145,6 +183,10 @@ class FirstFaults(ProgramTest):
             ("deal", "c.txt", SEED, "1", "0", "b"),
         ]:
             self.assertEqual(self.run_program(*words)[0], 0, words)
+        garbled = self.bytes_of("garbled")
+        self.put("longer", garbled + b"\0")
+        self.put("bad_trailer", garbled[:-1] + bytes([garbled[-1] ^ 1]))
+        self.put("other_counts", sealed(garbled[:44] + bytes(4)))
         self.before = self.contents()
 
     def contents(self):

@@ -1,35 +1,20 @@
 """Holds the program against vectors/: its JSON files, and the reference that made them.
 
-What is random here is drawn from the environment variable DRAWS, and is the same each time.
-
     HALFGATES=dist/halfgates python3 tests/test_vectors.py
 """
 import itertools
-import json
-import os
 import unittest
 from hashlib import sha256
 
-from program import TOP, ProgramTest, ending_of, ending_of_eval, text_of_lines
+from inputs import (
+    VECTORS, by_about, damaged_text, draws, draw_values, load, respelled, worked_circuits)
+from program import ProgramTest, ending_of, ending_of_eval, sealed, text_of_lines
 
 import bristol
 import cases
 import reference
 
-VECTORS = TOP / "vectors"
-DRAWS = os.environ.get("DRAWS", "0")
 WORKERS = 1, 2, 64
-
-
-def load(name):
-    """What a JSON file of vectors/ holds."""
-    return json.loads((VECTORS / f"{name}.json").read_text())
-
-
-def worked_circuits():
-    """The names of the JSON files of worked circuits, and what they hold."""
-    names = sorted(path.stem for path in VECTORS.glob("*.json"))
-    return [(name, load(name)) for name in names if not name.startswith("bad_")]
 
 
 class CheckedInFiles(unittest.TestCase):
@@ -204,51 +189,6 @@ class Faults(VectorTest):
         self.assert_bad(bad, "eval", "circuit.txt", garbled, *labels)
 
 
-def by_about(items):
-    """Items of a JSON file, each with what it is about."""
-    return [(item["about"], item) for item in items]
-
-
-def draws(count, what):
-    """This many draws, each with a name that decides it."""
-    names = [f"{DRAWS} {what} {i}" for i in range(count)]
-    return [(name, cases.Draws(name)) for name in names]
-
-
-def respelled(draw, text):
-    """The text with other blanks and more leading zeros."""
-    blanks = " ", "  ", "\n", "\t", "\r\n", " \r\t\n "
-    tokens = ["0" * draw.choice((0, 0, 0, 1, 12)) + token if token.isdigit() else token
-              for token in text.split()]
-    spelled = tokens[0] + "".join(draw.choice(blanks) + token for token in tokens[1:])
-    return draw.choice(("", *blanks)) + spelled + draw.choice(("", *blanks))
-
-
-def damaged_text(draw, text):
-    """The text after one random edit or two."""
-    words = ("0 1 2 3 4 5 6 7 8 9 00 257 16777217 33554433 4294967296 x "
-             "XOR AND INV EQ EQW MAND and").split()
-    for _ in range(1 + draw.below(2)):
-        at, kind = draw.below(len(text) + 1), draw.below(6)
-        if kind == 0:
-            text = text[:at]
-        elif kind == 1:
-            text = text[:at] + text[at + 1 + draw.below(3):]
-        elif kind == 2:
-            text = text[:at] + bytes([draw.choice(b"0123456789 \nADX\v\xff")]) + text[at:]
-        elif kind == 3:
-            text = text[:at] + bytes([draw.below(256)]) + text[at + 1:]
-        elif kind == 4:
-            tokens = text.split(b" ")
-            tokens[draw.below(len(tokens))] = draw.choice(words).encode()
-            text = b" ".join(tokens)
-        else:
-            lines = text.split(b"\n")
-            lines[draw.below(len(lines))] = draw.choice(lines)
-            text = b"\n".join(lines)
-    return text
-
-
 def damaged_bytes(draw, data):
     """The bytes after one random edit."""
     at, kind = draw.below(len(data) + 1), draw.below(6)
@@ -271,7 +211,7 @@ def damaged_garbled(draw, data):
         body = damaged_bytes(draw, data[:-32])
     else:
         body = data[:40] + one_more(data[40:44]) + data[44:48] + bytes(32) + data[48:-32]
-    return body + sha256(body).digest()
+    return sealed(body)
 
 
 def damaged_labels(draw, files):
@@ -315,7 +255,7 @@ class Agreement(VectorTest):
         name, circuit = self.put_and_read(text.encode())
         seed = sha256(draw.name.encode()).digest()
         garbling = reference.garble(circuit, seed)
-        values, texts = self.draw_values(draw, circuit)
+        values, texts = draw_values(draw, circuit)
         labels = reference.deal(circuit, garbling, values)
         outputs = bristol.show_values(bristol.plain_eval(circuit, values), circuit.output_widths)
 
@@ -342,7 +282,7 @@ class Agreement(VectorTest):
         text = cases.random_circuit(draw, 1 + draw.below(12), draw.below(21), draw.below(2))
         _, circuit = self.put_and_read(text.encode())
         garbling = reference.garble(circuit, sha256(draw.name.encode()).digest())
-        labels = reference.deal(circuit, garbling, self.draw_values(draw, circuit)[0])
+        labels = reference.deal(circuit, garbling, draw_values(draw, circuit)[0])
         for version in 1, 2:
             garbled = reference.garbled_file(circuit, garbling, version)
             for _ in range(6):
@@ -352,13 +292,6 @@ class Agreement(VectorTest):
     def put_and_read(self, text):
         """The name of a circuit's file, and the circuit."""
         return self.put("circuit.txt", text), bristol.read_circuit(text)
-
-    def draw_values(self, draw, circuit):
-        """The bits of each input value, and texts for them, binary or hexadecimal."""
-        values = [[draw.below(2) for _ in range(width)] for width in circuit.input_widths]
-        texts = ["x" + bristol.pack(bits).hex() if draw.below(2) else "".join(map(str, bits))
-                 for bits in values]
-        return values, texts
 
     def assert_same_eval(self, circuit, garbled, labels):
         """Both evaluate these files to the same outputs, or tell the same fault."""

@@ -1,26 +1,14 @@
 """Each number of workers makes the garbled file and the outputs that the reference of vectors/ makes."""
 import random
 import unittest
-from hashlib import sha256
 
-from program import SEED, ProgramTest, ending_of_eval, prints, text_of_lines
+from inputs import many_ands, text_of
+from program import SEED, ProgramTest, ending_of_eval, prints, sealed, text_of_lines
 
 import bristol
 import reference
 
 WORKERS = 1, 2, 3, 4, 7, 64
-
-
-def text_of(inputs, outputs, gates):
-    """A circuit in Bristol Fashion: the widths of its values, and its gates after the input wires."""
-    sides = [" ".join(map(str, [len(widths), *widths])) for widths in (inputs, outputs)]
-    return "\n".join([f"{len(gates)} {sum(inputs) + len(gates)}", *sides, "", *gates, ""])
-
-
-def many_ands(count):
-    """AND gates of which none reads what another sets."""
-    gates = [f"2 1 {i} {count + i} {2 * count + i} AND" for i in range(count)]
-    return text_of([count, count], [count], gates)
 
 
 def and_chains(chains, length):
@@ -97,7 +85,7 @@ def circuits(draw):
 def forged_file(draw, data, rows):
     """A garbled file with random rows, and a trailer to match."""
     body = data[:48] + draw.randbytes(32 * rows) + data[48 + 32 * rows : -32]
-    return body + sha256(body).digest()
+    return sealed(body)
 
 
 class Job:
