@@ -1,6 +1,6 @@
 use Rattle.std.proofs.Common.{refl}
-use Rattle.gc_circuit.proofs.ValueLemmas.{pair_ok, pair_err}
-use Rattle.gc_circuit.proofs.value.byte_of.Goals as goal
+use Rattle.gc_value.proofs.ValueLemmas.{pair_ok, pair_err}
+use Rattle.gc_value.proofs.value.byte_of.Goals as goal
 
 pub returns-in-Ok-clause-ok : goal.returns-in-Ok-clause-ok
 returns-in-Ok-clause-ok c = pair_ok c.args.high c.args.low c.in-Ok.bytes c.in-Ok.ensures

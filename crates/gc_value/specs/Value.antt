@@ -3,8 +3,8 @@ use Rattle.std.specs.Prelude.{◌≡◌, ℕ, ◌+◌, ◌-◌, ◌*◌, ◌/◌
 use Rattle.std.specs.List.{starts_with, range_with_len, list_all, list_any}
 use Rattle.std.specs.Int.{bit_at}
 use Rattle.hex.specs.Hex.{hex_digit_value, is_hex_digit}
-use Rattle.gc_circuit.specs.declared.value.ValueFault.{ValueFault}
-use Rattle.gc_circuit.specs.declared.value.ValueFault.TheVariants.{Memory, BadDigit, WrongLength, SpareBits}
+use Rattle.gc_value.specs.declared.value.ValueFault.{ValueFault}
+use Rattle.gc_value.specs.declared.value.ValueFault.TheVariants.{Memory, BadDigit, WrongLength, SpareBits}
 
 -- the number of a fault
 abbrev pub code_of : ValueFault → ℕ

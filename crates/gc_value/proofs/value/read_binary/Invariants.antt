@@ -1,7 +1,7 @@
 use Rattle.std.proofs.Common.{◌≡◌, true, map, take}
 use Rattle.std.specs.List.{range_with_len, list_all}
-use Rattle.gc_circuit.specs.Value.{Binary, is_binary_digit, wire_bit}
-use Rattle.gc_circuit.proofs.value.read_binary.Given as goal
+use Rattle.gc_value.specs.Value.{Binary, is_binary_digit, wire_bit}
+use Rattle.gc_value.proofs.value.read_binary.Given as goal
 
 abbrev pub invariant-loop-digit : goal.invariant-loop-digit
 invariant-loop-digit g l = record {

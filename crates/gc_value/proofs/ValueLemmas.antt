@@ -12,9 +12,9 @@ use Rattle.std.proofs.lemmas.Nat.Bits.{bit_at-zero, bit_at_above, bit_at-trailin
 use Rattle.std.proofs.Math.Nat.{div-div-eq-div-mul, div-le_self, lt-div-mul-add}
 use Rattle.hex.specs.Hex.{decode_pairs, decode_sized, digit_or_error, hex_digit_value, is_hex_digit, ◌>>=◌}
 use Rattle.hex.specs.declared.error.FromHexError.{FromHexError}
-use Rattle.gc_circuit.specs.declared.value.ValueFault.{ValueFault}
-use Rattle.gc_circuit.specs.declared.value.ValueFault.TheVariants.{Memory, WrongLength, BadDigit, SpareBits}
-use Rattle.gc_circuit.specs.Value.{ValueText, Binary, Hexadecimal, has_length, has_digits, has_spare_bit, is_binary_digit, digit_value, byte_at, byte_count, low_bits, wire_bit, form_of, value_of_form, value_of_text, binary_digit, IsValue, IsFirstFault, ValueTextLaw}
+use Rattle.gc_value.specs.declared.value.ValueFault.{ValueFault}
+use Rattle.gc_value.specs.declared.value.ValueFault.TheVariants.{Memory, WrongLength, BadDigit, SpareBits}
+use Rattle.gc_value.specs.Value.{ValueText, Binary, Hexadecimal, has_length, has_digits, has_spare_bit, is_binary_digit, digit_value, byte_at, byte_count, low_bits, wire_bit, form_of, value_of_form, value_of_text, binary_digit, IsValue, IsFirstFault, ValueTextLaw}
 
 -- ---- a test over a range of places
 

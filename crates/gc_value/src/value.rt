@@ -2,7 +2,7 @@
 
 ghost use Rattle.std.specs.Prelude.{◌≡◌, ◌+◌, ◌*◌, ◌^◌, ◌⊎◌, ◌<◌, ◌≤◌, ◌&&◌, ◌++◌, ℕ, Bool, List, length, map, IfOk, IfErr, OnOk, IsTrue, IsFalse};
 ghost use Rattle.hex.specs.Hex.{is_hex_digit};
-ghost use Rattle.gc_circuit.specs.Value.{Binary, Hexadecimal, form_of, has_length, value_of_form, value_of_text, digit_value, low_bits, binary_digit, code_of, name_of, ValueTextLaw};
+ghost use Rattle.gc_value.specs.Value.{Binary, Hexadecimal, form_of, has_length, value_of_form, value_of_text, digit_value, low_bits, binary_digit, code_of, name_of, ValueTextLaw};
 
 use crate::memory::Memory;
 use hex::FromHex;
@@ -64,7 +64,7 @@ impl Error for ValueFault {}
 
 impl From<AllocError> for ValueFault {
     ghost use Rattle.std.specs.Prelude.{◌≡◌};
-    ghost use Rattle.gc_circuit.specs.declared.value.ValueFault.TheVariants as faults;
+    ghost use Rattle.gc_value.specs.declared.value.ValueFault.TheVariants as faults;
 
     ghost from_gives = { λ _ fault. fault ≡ faults.Memory };
 
@@ -75,7 +75,7 @@ impl From<AllocError> for ValueFault {
 
 impl<T: Drop> From<AllocFailed<T>> for ValueFault {
     ghost use Rattle.std.specs.Prelude.{◌≡◌};
-    ghost use Rattle.gc_circuit.specs.declared.value.ValueFault.TheVariants as faults;
+    ghost use Rattle.gc_value.specs.declared.value.ValueFault.TheVariants as faults;
 
     ghost from_gives = { λ _ fault. fault ≡ faults.Memory };
 

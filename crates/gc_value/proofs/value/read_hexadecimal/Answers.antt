@@ -2,9 +2,9 @@ use Rattle.std.proofs.Common.{◌≡◌, ◌+◌, ◌*◌, ◌<◌, length, sym,
 use Rattle.std.specs.List.{list_all, range_with_len}
 use Rattle.std.proofs.lemmas.List.{take_all}
 use Rattle.hex.specs.Hex.{is_hex_digit}
-use Rattle.gc_circuit.specs.Value.{Hexadecimal, byte_count, wire_bit}
-use Rattle.gc_circuit.proofs.ValueLemmas.{bits_of_byte_more, digits_more, hexadecimal_ok, hexadecimal_spare, rest_zero_more, spare_in_byte}
-use Rattle.gc_circuit.proofs.value.read_hexadecimal.Goals as goal
+use Rattle.gc_value.specs.Value.{Hexadecimal, byte_count, wire_bit}
+use Rattle.gc_value.proofs.ValueLemmas.{bits_of_byte_more, digits_more, hexadecimal_ok, hexadecimal_spare, rest_zero_more, spare_in_byte}
+use Rattle.gc_value.proofs.value.read_hexadecimal.Goals as goal
 
 pub returns-then-from-used-ne0-clause-err : goal.returns-then-from-used-ne0-clause-err
 returns-then-from-used-ne0-clause-err g c =

@@ -1,8 +1,8 @@
 use Rattle.std.proofs.Common.{◌==◌, ap}
 use Rattle.std.specs.Int.{bit_at}
 use Rattle.std.proofs.lemmas.Nat.Bits.{shr_and_one}
-use Rattle.gc_circuit.proofs.ValueLemmas.{map_pushed}
-use Rattle.gc_circuit.proofs.value.push_bits.Goals as goal
+use Rattle.gc_value.proofs.ValueLemmas.{map_pushed}
+use Rattle.gc_value.proofs.value.push_bits.Goals as goal
 
 pub loop-i-preserved : goal.loop-i-preserved
 loop-i-preserved g c =

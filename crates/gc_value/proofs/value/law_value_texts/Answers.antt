@@ -1,5 +1,5 @@
-use Rattle.gc_circuit.proofs.ValueLemmas.{value_text_law, shown_is_read}
-use Rattle.gc_circuit.proofs.value.law_value_texts.Goals as goal
+use Rattle.gc_value.proofs.ValueLemmas.{value_text_law, shown_is_read}
+use Rattle.gc_value.proofs.value.law_value_texts.Goals as goal
 
 pub returns-clause-meaning : goal.returns-clause-meaning
 returns-clause-meaning c = value_text_law

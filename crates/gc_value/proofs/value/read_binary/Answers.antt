@@ -1,10 +1,10 @@
 use Rattle.std.proofs.Common.{◌≡◌, ◌==◌, length, slice_index, sym, ap, ◌∙◌, true, arith}
 use Rattle.std.specs.List.{list_all}
 use Rattle.std.proofs.lemmas.List.{take_all}
-use Rattle.gc_circuit.specs.Value.{Binary, is_binary_digit, wire_bit}
-use Rattle.gc_circuit.proofs.ValueLemmas.{binary_more, binary_ok}
-use Rattle.gc_circuit.proofs.value.read_binary.Goals as goal
-use Rattle.gc_circuit.proofs.value.read_binary.Goals.{in-48, in-49}
+use Rattle.gc_value.specs.Value.{Binary, is_binary_digit, wire_bit}
+use Rattle.gc_value.proofs.ValueLemmas.{binary_more, binary_ok}
+use Rattle.gc_value.proofs.value.read_binary.Goals as goal
+use Rattle.gc_value.proofs.value.read_binary.Goals.{in-48, in-49}
 
 pub loop-digit-preserved : goal.loop-digit-preserved
 loop-digit-preserved g c =

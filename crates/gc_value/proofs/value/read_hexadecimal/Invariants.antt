@@ -1,8 +1,8 @@
 use Rattle.std.proofs.Common.{◌≡◌, ◌*◌, ◌≤◌, ◌<◌, ℕ, true, false, map, take, min}
 use Rattle.std.specs.List.{range_with_len, list_all}
 use Rattle.hex.specs.Hex.{is_hex_digit}
-use Rattle.gc_circuit.specs.Value.{Hexadecimal, wire_bit}
-use Rattle.gc_circuit.proofs.value.read_hexadecimal.Given as goal
+use Rattle.gc_value.specs.Value.{Hexadecimal, wire_bit}
+use Rattle.gc_value.proofs.value.read_hexadecimal.Given as goal
 
 abbrev pub invariant-loop-k : goal.invariant-loop-k
 invariant-loop-k g l = record {

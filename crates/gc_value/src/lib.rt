@@ -1,0 +1,10 @@
+//! Texts of input and output values: reading the bits of a value, and writing them. The form is this project's own.
+//!
+//! `Memory`, the error of a refused growth, stands here, in the lowest crate that answers it.
+#![tactic(auto)]
+
+mod memory;
+mod value;
+
+pub use memory::Memory;
+pub use value::{ValueFault, law_value_texts, read_value, show_value};
