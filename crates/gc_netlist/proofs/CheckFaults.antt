@@ -69,45 +69,41 @@ module _ (c : Netlist) (lawful : IsLawful (without_outputs c)) where
     pub place : 2 + before_unset c (wires_read op) wire first + back
         ≡ length (words_of_operation sets op)
 
+  -- Of a gate that reads two wires: XOR has the same faults as AND.
+  two_faults : (a b sets : ℕ) (e : ReadFault) → check_reads c.wires set (And a b) ≡ Err e →
+      ReadsFault (And a b) sets e
+  unfolding check_reads
+  two_faults a b sets e h =
+      bind_fails (check_read c.wires set a) _ e h
+      (λ bad. let r = read_fault a e bad in record {
+        wire = a;
+        first = inl (refl, r.0);
+        kind = r.1;
+        back = 4;
+        found = rw bad refl;
+        place = refl;
+      })
+      (λ u hu h1. let r = read_fault b e h1 in record {
+        wire = b;
+        first = inr (tested_set a (read_passes c.wires set a u hu), inl (refl, r.0));
+        kind = r.1;
+        back = 3;
+        found = rw (hu, h1) refl;
+        place = refl;
+      })
+
   reads_fault : (op : Operation) (sets : ℕ) (e : ReadFault) →
       check_reads c.wires set op ≡ Err e → ReadsFault op sets e
   unfolding check_reads
-  reads_fault (Xor a b) sets e h =
-      bind_fails (check_read c.wires set a) _ e h
-      (λ bad. let r = read_fault a e bad in record {
-        wire = a;
-        first = inl (refl, r.0);
-        kind = r.1;
-        back = 4;
-        found = rw bad refl;
-        place = refl;
-      })
-      (λ u hu h1. let r = read_fault b e h1 in record {
-        wire = b;
-        first = inr (tested_set a (read_passes c.wires set a u hu), inl (refl, r.0));
-        kind = r.1;
-        back = 3;
-        found = rw (hu, h1) refl;
-        place = refl;
-      })
-  reads_fault (And a b) sets e h =
-      bind_fails (check_read c.wires set a) _ e h
-      (λ bad. let r = read_fault a e bad in record {
-        wire = a;
-        first = inl (refl, r.0);
-        kind = r.1;
-        back = 4;
-        found = rw bad refl;
-        place = refl;
-      })
-      (λ u hu h1. let r = read_fault b e h1 in record {
-        wire = b;
-        first = inr (tested_set a (read_passes c.wires set a u hu), inl (refl, r.0));
-        kind = r.1;
-        back = 3;
-        found = rw (hu, h1) refl;
-        place = refl;
-      })
+  reads_fault (Xor a b) sets e h = let f = two_faults a b sets e h in record {
+    wire = f.wire;
+    first = f.first;
+    kind = f.kind;
+    back = f.back;
+    found = f.found;
+    place = f.place;
+  }
+  reads_fault (And a b) sets e h = two_faults a b sets e h
   reads_fault (Inv a) sets e h = let r = read_fault a e h in record {
     wire = a;
     first = inl (refl, r.0);

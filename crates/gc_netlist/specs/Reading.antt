@@ -151,7 +151,7 @@ abbrev pub check_end : List (List ℕ) → Result (Unit {0}) ReadFault
 check_end [] = Ok tt
 check_end (t ∷ ts) = Err TrailingTokens
 
--- The circuit that the tokens tell, or their first fault.
+-- The circuit that the tokens spell, or their first fault.
 unfoldable pub circuit_of : List (List ℕ) → Result Netlist ReadFault
 circuit_of ts = do
   count ← limited_at MAX_GATES ts
