@@ -1,12 +1,12 @@
 -- Going back in a text.
-use Rattle.std.proofs.Common.{◌≡◌, ℕ, zero, suc, ◌+◌, ◌-◌, ◌<◌, ◌≤◌, ◌==◌, ◌++◌, List, [], ◌∷◌, length, length-append, take, drop, drop-cons, filter, fold, get_or, slice_index, Bool, true, false, inl, inr, refl, sym, ap, subst, ◌∙◌, arith, All, append_assoc, append-nil, take-append-drop, if◌then◌else◌}
+use Rattle.std.proofs.Common.{◌≡◌, ℕ, zero, suc, ◌+◌, ◌-◌, ◌<◌, ◌≤◌, ◌==◌, ◌++◌, List, [], ◌∷◌, length, length-append, take, drop, filter, fold, get_or, slice_index, Bool, true, false, inl, inr, refl, sym, ap, ◌∙◌, arith, All, append_assoc, append-nil, take-append-drop, if◌then◌else◌}
 use Rattle.std.proofs.lemmas.Bool.Decides.{nat_tests}
 use Rattle.std.proofs.lemmas.Grind.{common_steps}
 use Rattle.std.proofs.lemmas.List.{take_more}
 use Rattle.std.proofs.lemmas.List.Sums.{fold-append}
 use Rattle.std.specs.List.{slice_split, onto_first}
 use Rattle.std.proofs.lemmas.List.Splits.{slice_split-cons_yes, slice_split-cons_no, length-slice_split}
-use Rattle.std.proofs.lemmas.List.Elements.{filter-append, All-cons}
+use Rattle.std.proofs.lemmas.List.Elements.{filter-append}
 use Rattle.gc_netlist.specs.Text.{is_blank, is_some_run, tokens}
 use Rattle.gc_netlist.specs.Place.{Behind, IsSpot, column_after}
 use Rattle.gc_circuit.specs.Cursor.{IsBreak, IsCut}
@@ -86,17 +86,6 @@ blank_less text i some fits blank so_far =
     let one : i - 1 + 1 ≡ i = omega arith in
     sym (tokens_shorter (take (i - 1) text) (slice_index text (i - 1)) blank)
     ∙ ap tokens (sym (take_more text (i - 1) 0 below) ∙ ap (λ n. take n text) one) ∙ so_far
-
--- One more byte in front of a run.
-pub run_longer : (P : ℕ → Type 0) (text : List ℕ) (i : ℕ) → 0 < i → i ≤ length text →
-    P (slice_index text (i - 1)) → All P (drop i text) → All P (drop (i - 1) text)
-run_longer P text i some fits here rest =
-    let below : i - 1 < length text = omega arith in
-    let one : suc (i - 1) ≡ i = omega arith in
-    let Q : List ℕ → Type 0 = λ l. All P l in
-    let e : slice_index text (i - 1) ∷ drop i text ≡ drop (i - 1) text =
-    sym (drop-cons text (i - 1) 0 below ∙ ap (λ k. slice_index text (i - 1) ∷ drop k text) one) in
-    subst Q e (All-cons P (slice_index text (i - 1)) (drop i text) here rest)
 
 blank_or_not : {C : Type 0} (b : Bool) → b ≡ true → b ≡ false → C
 blank_or_not b h k = absurd (let z : ⊥ = cc in z)

@@ -1,11 +1,8 @@
 -- Cuts of a text between two tokens.
-use Rattle.std.proofs.Common.{◌≡◌, ℕ, ◌-◌, ◌<◌, ◌≤◌, ◌++◌, inl, inr, List, [], ◌∷◌, length, take, drop, slice_index, true, codes, refl, sym, ap, ◌∙◌, arith, append_assoc, take-append-drop}
+use Rattle.std.proofs.Common.{◌≡◌, ℕ, ◌-◌, ◌<◌, ◌≤◌, ◌++◌, inl, inr, List, [], ◌∷◌, length, take, drop, slice_index, true, codes, sym, ap, ◌∙◌, arith, append_assoc, take-append-drop}
 use Rattle.std.proofs.lemmas.Grind.{common_steps}
 use Rattle.gc_netlist.specs.Text.{is_blank}
 use Rattle.gc_circuit.specs.Cursor.{IsCut}
-
-pub cut_start : (text : List ℕ) → IsCut text text
-cut_start text = record { before = []; whole = refl; between = inr (λ some. absurd (omega (arith, some))) }
 
 -- A cut further on, where a blank comes next or nothing,
 pub cut_before : (all rest text : List ℕ) (k n : ℕ) → IsCut all rest → k ≤ length rest →

@@ -14,7 +14,7 @@ GateStops wires set old new e back wire =
     ⊎ ((g : Gate) × (gate_at old ≡ Ok (g, new)) × (check_gate wires set g ≡ Err e)
     × (let at = wire_at_fault wires set g.set g.operation in (back ≡ at.1) × (wire ≡ Some at.0)))
 
--- Of so many gates some are read and accepted, and the next stops.
+-- The first gates are read and accepted, and the next one is not. It is one of this number of gates.
 pub record GatesStop (wires inputs count : ℕ) (old new : List (List ℕ)) (e : ReadFault) (back : ℕ)
     (gate wire : Option ℕ) : Type 0 where
   pub gates : List Gate

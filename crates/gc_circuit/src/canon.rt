@@ -1,14 +1,14 @@
 //! The canonical text of a circuit, and its digest.
 
-ghost use Rattle.std.specs.Prelude.{◌≡◌, ◌+◌, ◌≤◌, ◌++◌, ℕ, List, [], ◌∷◌, length, map, flat_map, take, drop, decimal, OnOk, IfOk};
+ghost use Rattle.std.specs.Prelude.{◌≡◌, ◌+◌, ◌≤◌, ◌++◌, ℕ, List, [], ◌∷◌, length, map, flat_map, take, drop, decimal, OnOk, IfOk, IsTrue, MatchOption};
 ghost use Rattle.sha2.specs.Hashers.{Holds256};
 ghost use Rattle.sha2.specs.Sha256.{sha256};
 ghost use Rattle.gc_netlist.specs.Spelling.{Number, Name, words_of_gate, words_of_widths};
 ghost use Rattle.gc_netlist.specs.Canon.{line, canonical_text};
 
 use crate::circuit::Circuit;
-use crate::memory::Memory;
 use gc_netlist::{Gate, MAX_VALUES, Operation};
+use gc_value::Memory;
 use itoa::write_digits;
 use sha2::{Digest, Sha256};
 use std::alloc::{AllocError, Allocator};
@@ -18,19 +18,19 @@ use std::convert::Infallible;
 trait TextSink {
     type Fault;
 
-    // The text that was taken.
-    ghost holds: { Self → List ℕ → Type 0 };
+    // The text that was taken, where the sink was made for a text.
+    ghost holds: { Self → (whole text : List ℕ) → Type 0 };
 
     /// Takes the piece after the text so far.
     fn put(&mut self, piece: &[u8]) -> Result<(), Self::Fault>
-        ensures { OnOk result
-            ((text : List ℕ) → holds self.old text → holds self.new (text ++ piece.now)) };
+        ensures { OnOk result ((whole text : List ℕ)
+            → holds self.old whole text → holds self.new whole (text ++ piece.now)) };
 }
 
 impl<B: Allocator> TextSink for Vec<u8, B> {
     type Fault = AllocError;
 
-    ghost holds = { λ v text. v.items ≡ text };
+    ghost holds = { λ v whole text. v.items ≡ text };
 
     fn put(&mut self, piece: &[u8]) -> Result<(), AllocError> {
         self.extend_from_slice(piece)
@@ -40,10 +40,34 @@ impl<B: Allocator> TextSink for Vec<u8, B> {
 impl TextSink for Sha256 {
     type Fault = Infallible;
 
-    ghost holds = { λ s text. Holds256 s text };
+    ghost holds = { λ s whole text. Holds256 s text };
 
     fn put(&mut self, piece: &[u8]) -> Result<(), Infallible> {
         self.update(piece);
+        Ok(())
+    }
+}
+
+/// What is left of a text that pieces are compared with.
+#[derive(Drop)]
+struct Comparison<'t> {
+    left: &'t [u8],
+}
+
+/// A piece differs from the text.
+#[derive(Drop)]
+struct Differs;
+
+impl<'t> TextSink for Comparison<'t> {
+    type Fault = Differs;
+
+    ghost holds = { λ c whole text. whole ≡ text ++ c.left.now };
+
+    fn put(&mut self, piece: &[u8]) -> Result<(), Differs> {
+        let Some(left) = self.left.strip_prefix(piece) else {
+            return Err(Differs);
+        };
+        self.left = left;
         Ok(())
     }
 }
@@ -185,8 +209,8 @@ fn spaced_digits(room: &mut Room, number: u32) -> &[u8]
 /// Gives the line of a side's widths to the sink.
 fn write_widths<S: TextSink>(sink: &mut S, widths: &[u32]) -> Result<(), S::Fault>
     requires { length widths.now ≤ MAX_VALUES }
-    ensures { OnOk result ((text : List ℕ) → S.holds sink.old text
-        → S.holds sink.new (text ++ line (words_of_widths widths.now))) }
+    ensures { OnOk result ((whole text : List ℕ) → S.holds sink.old whole text
+        → S.holds sink.new whole (text ++ line (words_of_widths widths.now))) }
 {
     let mut room = [0; ROOM];
     sink.put(digits(&mut room, widths.len() as u32))?;
@@ -212,8 +236,8 @@ impl<A: Allocator> Circuit<A> {
 
     /// Gives the canonical text to the sink.
     fn write_canonical_text<S: TextSink>(&self, sink: &mut S) -> Result<(), S::Fault>
-        ensures { OnOk result ((text : List ℕ) → S.holds sink.old text
-            → S.holds sink.new (text ++ canonical_text self.now)) }
+        ensures { OnOk result ((whole text : List ℕ) → S.holds sink.old whole text
+            → S.holds sink.new whole (text ++ canonical_text self.now)) }
     {
         let mut room = [0; ROOM];
         sink.put(sizes_line(&mut room, self.gates(), self.wires()))?;
@@ -249,6 +273,30 @@ impl<A: Allocator> Circuit<A> {
         match self.write_canonical_text(&mut hasher) {
             Ok(()) => hasher.finalize(),
             Err(never) => match never {},
+        }
+    }
+
+    /// The digest of the circuit, or None where this text is its canonical text: the digest is then SHA-256 of the
+    /// text, which can be taken while the text is read. It takes no memory.
+    pub fn digest_unless_canonical(&self, text: &[u8]) -> Option<[u8; 32]>
+        ensures { MatchOption result (text.now ≡ canonical_text self.now)
+            (λ digest. digest ≡ sha256 (canonical_text self.now)) }
+    {
+        if self.is_canonical(text) {
+            None
+        } else {
+            Some(self.digest())
+        }
+    }
+
+    /// Whether a text is found to be the canonical text.
+    fn is_canonical(&self, text: &[u8]) -> bool
+        ensures { IsTrue result → text.now ≡ canonical_text self.now }
+    {
+        let mut comparison = Comparison { left: text };
+        match self.write_canonical_text(&mut comparison) {
+            Ok(()) => comparison.left.is_empty(),
+            Err(Differs) => false,
         }
     }
 }

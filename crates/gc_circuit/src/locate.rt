@@ -7,10 +7,10 @@ ghost use Rattle.gc_netlist.specs.Met.{IsMet};
 
 use crate::back::{column_after, line_after};
 use crate::circuit::Circuit;
-use crate::memory::Memory;
 use crate::stop::Stop;
 use crate::tokens::Tokens;
 use gc_netlist::ReadFault;
+use gc_value::Memory;
 use std::alloc::Allocator;
 
 /// Where the first fault of a text is.
@@ -45,8 +45,8 @@ fn offset_of(cursor: &mut Tokens<'_>, stop: Stop) -> usize
 
 impl<A: Allocator + Copy> Circuit<A> {
     /// Where the first fault of a text is, or `None` exactly where `read` accepts the text. It reads as `read` does.
-    /// The place is the token at fault; of counts the first; of a constant or a wire its number; of widths the last; of a
-    /// text that is cut short its end; of an output wire the end of the last gate.
+    /// The place is the token at fault; of counts the first; of a constant or a wire its number; of widths the last; of
+    /// a text that is cut short its end; of an output wire the end of the last gate.
     pub fn locate(alloc: A, text: &[u8]) -> Result<Option<Located>, Memory>
         ensures { IfOk result (λ o. MatchOption o
             ((c : Netlist) × IsLawful c × Spells text.now c)

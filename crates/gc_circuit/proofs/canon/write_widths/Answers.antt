@@ -5,10 +5,10 @@ use Rattle.gc_circuit.proofs.canon.write_widths.Goals as goal
 
 pub returns : goal.returns
 returns g c =
-    on_ok_weaker c.put-2.result (λ step text held.
+    on_ok_weaker c.put-2.result (λ step whole text held.
     let widths : List ℕ = c.args.widths.now in
     let before : List ℕ =
     text ++ decimal (length widths) ++ numbers_after (take c.loop-width.width-index widths) in
-    subst (g.S.TextSink.holds c.put-2.new.self)
+    subst (g.S.TextSink.holds c.put-2.new.self whole)
     (widths_done text widths c.loop-width.width-index (omega arith))
-    (step before (c.loop-width.invariant text held))) c.put-2.ensures
+    (step whole before (c.loop-width.invariant whole text held))) c.put-2.ensures

@@ -4,6 +4,6 @@ use Rattle.gc_circuit.proofs.canon.write_widths.Given as goal
 
 abbrev pub invariant-loop-width : goal.invariant-loop-width
 invariant-loop-width g l =
-    (text : List ℕ) → g.S.TextSink.holds l.fn.sink text
-    → g.S.TextSink.holds l.sink (text ++ decimal (length l.widths)
+    (whole text : List ℕ) → g.S.TextSink.holds l.fn.sink whole text
+    → g.S.TextSink.holds l.sink whole (text ++ decimal (length l.widths)
     ++ numbers_after (take l.width-index l.widths))

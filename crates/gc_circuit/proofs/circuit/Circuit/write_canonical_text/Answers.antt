@@ -13,12 +13,12 @@ loop-done-init g c =
     ∙ ap (λ n. line (Number (length s.gates) ∷ Number n ∷ [])) c.wires.ensures.count) in
     record {
       bound = omega arith;
-      written = λ text held.
-          subst (g.S.TextSink.holds c.put-2.new.self)
+      written = λ whole text held.
+          subst (g.S.TextSink.holds c.put-2.new.self whole)
           (text_before-first text c.sizes_line.result.now c.input_widths.result.now
           c.output_widths.result.now s sizes c.input_widths.ensures c.output_widths.ensures)
-          (c.in_ok-put-2.ensures _ (c.in_ok-write_widths-2.ensures _
-          (c.in_ok-write_widths.ensures _ (c.in_ok-put.ensures text held))));
+          (c.in_ok-put-2.ensures whole _ (c.in_ok-write_widths-2.ensures whole _
+          (c.in_ok-write_widths.ensures whole _ (c.in_ok-put.ensures whole text held))));
     }
 
 pub loop-done-preserved : goal.loop-done-preserved
@@ -27,16 +27,16 @@ loop-done-preserved g c =
     let on : c.loop-done.done ≤ c.min-next.result = grind arith in
     record {
       bound = grind arith;
-      written = λ text held.
-          subst (g.S.TextSink.holds c.put-in-loop-done.new.self)
+      written = λ whole text held.
+          subst (g.S.TextSink.holds c.put-in-loop-done.new.self whole)
           (text_before-next text c.gate_lines.result.now s c.loop-done.done c.min-next.result on
           c.gate_lines.ensures)
-          (c.in_ok-put-3.ensures (text ++ text_before s c.loop-done.done)
-          (c.loop-done.invariant.written text held));
+          (c.in_ok-put-3.ensures whole (text ++ text_before s c.loop-done.done)
+          (c.loop-done.invariant.written whole text held));
     }
 
 pub returns : goal.returns
-returns g c = λ text held.
-    subst (λ (t : List ℕ). g.S.TextSink.holds c.loop-done.sink (text ++ t))
+returns g c = λ whole text held.
+    subst (λ (t : List ℕ). g.S.TextSink.holds c.loop-done.sink whole (text ++ t))
     (text_before-end c.args.self.now c.loop-done.done (omega arith))
-    (c.loop-done.invariant.written text held)
+    (c.loop-done.invariant.written whole text held)
