@@ -80,8 +80,8 @@ module _ (c : Netlist) (seed : List ℕ) where
   abbrev pub labels_after : ℕ → ℕ → ℕ
   labels_after n = values_after (zero_rule hash (offset_of seed) c) c (input_zero c seed) n
 
-  -- The labels of the wires that the first n gates leave set, in a table that may end after the last of them. Behind it,
-  -- and where no wire is set, there is 0.
+  -- The labels of the wires that the first n gates leave set, in a table that may end after the last of them. Behind
+  -- it, and where no wire is set, there is 0.
   pub record AreLabels (n : ℕ) (labels : List ℕ) : Type 0 where
     pub few : length labels ≤ c.wires
     pub there : (w : ℕ) → IsSetBefore c n w → w < length labels

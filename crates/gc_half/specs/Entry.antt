@@ -1,6 +1,6 @@
 -- The entries of the outputs: for each output wire the hashes of its two labels, by which an output label is
 -- recognised.
-use Rattle.std.specs.Prelude.{ℕ, ◌+◌, ◌-◌, ◌*◌, Bool, length, slice_index}
+use Rattle.std.specs.Prelude.{ℕ, ◌+◌, ◌-◌, ◌*◌, Bool, true, false, length, slice_index}
 use Rattle.gc_circuit.specs.Meaning.{xor}
 use Rattle.gc_label.specs.Label.{colour}
 use Rattle.gc_half.specs.Hash.{hash}
@@ -20,3 +20,7 @@ abbrev pub entry_of : ℕ → GarblingParts → ℕ → Bool → ℕ
 entry_of offset g i s =
     hash (label_of_colour offset (slice_index g.zero_labels (length g.zero_labels - g.outputs + i)) s)
     (output_tweak (length g.rows) i)
+
+-- Entries 0 and 1 of output i.
+abbrev pub entries_of : ℕ → GarblingParts → ℕ → ℕ × ℕ
+entries_of offset g i = (entry_of offset g i false, entry_of offset g i true)

@@ -6,4 +6,5 @@ pub mod Evaluation
 pub mod Entry
 pub mod Canonical
 pub mod Law
+pub mod Comparing
 pub mod Waiting

@@ -7,6 +7,7 @@ use Rattle.gc_half.specs.declared.garbling.RowPair.{RowPair}
 use Rattle.gc_half.specs.Hash.{hash}
 use Rattle.gc_half.specs.HalfGate.{and_zero}
 use Rattle.gc_half.specs.OneGate.{row_pair}
+use Rattle.gc_half.specs.Comparing.{RowTableParts}
 
 abbrev pub list_of : {A : Type 0} → Option A → Option A → Option A → List A
 list_of None second third = []
@@ -41,8 +42,9 @@ abbrev pub row_pair_of_gate : AndGate → RowPair
 row_pair_of_gate g = row_pair hash g.offset g.k g.a g.b
 
 -- A circuit that is garbled gate after gate: the labels of its wires and the row pairs so far, as if no gate waited,
--- and the gates that wait.
+-- the row pairs that are made and compared, and the gates that wait.
 pub record TableParts : Type 0 where
   pub labels : List ℕ
   pub rows : List RowPair
+  pub compared : RowTableParts
   pub waiting : List (WaitingGate AndGate)

@@ -17,6 +17,15 @@ pub struct RowPair {
     pub evaluator: Label,
 }
 
+/// A given row pair that is not the one that was made.
+#[derive(Clone, Copy, PartialEq, Eq, Debug)]
+pub struct Mismatch {
+    /// Its place among the row pairs, from 0.
+    pub place: usize,
+    /// The row pair that was given.
+    pub given: RowPair,
+}
+
 /// The zero label of each wire of a circuit, the row pair of each AND gate in file order, and the number of
 /// output wires, which are the last ones. A wire that no gate sets and that is no input wire has the label
 /// of 16 zero bytes.
@@ -77,6 +86,18 @@ impl<A: Allocator> Garbling<A> {
         ensures { result.now ≡ self.now.rows }
     {
         &self.rows
+    }
+
+    /// The zero label of each wire. The row pairs are let go.
+    pub fn into_zero_labels(self) -> Vec<Label, A>
+        ensures { result.items ≡ self.zero_labels }
+    {
+        let Garbling {
+            zero_labels,
+            rows: _,
+            outputs: _,
+        } = self;
+        zero_labels
     }
 
     /// How many output wires there are.

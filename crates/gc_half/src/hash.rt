@@ -1,6 +1,6 @@
 //! The hash that garbling and evaluation share.
 
-ghost use Rattle.std.specs.Prelude.{◌≡◌, map};
+ghost use Rattle.std.specs.Prelude.{◌≡◌, ◌+◌, ◌^◌, ◌<◌, ◌≤◌, ℕ, map, slice_index};
 ghost use Rattle.gc_half.specs.Hash as hashes;
 
 use gc_label::Label;
@@ -74,6 +74,28 @@ pub(crate) fn tweak_hash_eight(
             Label::from_number(h),
         ],
     )
+}
+
+/// The hashes of eight labels, as [`tweak_hash`] gives each, under tweaks that follow one another from `first` on. They
+/// are computed at once.
+pub fn tweak_hash_series(labels: [Label; 8], first: u64) -> [Label; 8]
+    requires { first + 8 ≤ 2 ^ 64 }
+    ensures { (j : ℕ) → j < 8
+        → slice_index result j ≡ hashes.hash (slice_index labels j) (first + j) }
+{
+    let [a, b, c, d, e, f, g, h] = labels;
+    let (four, others) = tweak_hash_eight(
+        [(a, first), (b, first + 1), (c, first + 2), (d, first + 3)],
+        [
+            (e, first + 4),
+            (f, first + 5),
+            (g, first + 6),
+            (h, first + 7),
+        ],
+    );
+    let [a, b, c, d] = four;
+    let [e, f, g, h] = others;
+    [a, b, c, d, e, f, g, h]
 }
 
 /// A tweak as 8 bytes, the lowest first.

@@ -19,18 +19,19 @@ mod hash;
 mod laws;
 mod numbers;
 mod one_gate;
+mod row_table;
 mod table;
 mod waiting;
 mod zero_labels;
 
-pub use entry::output_entry;
+pub use entry::{four_output_entries, output_entry};
 pub use evaluate::input_active_labels;
-pub use garble::garble_one_thread;
-pub use garbling::{Garbling, RowPair};
+pub use garble::{garble_and_compare, garble_one_thread};
+pub use garbling::{Garbling, Mismatch, RowPair};
 pub use half_gate::{
     AndGate, AndStep, eval_and, eval_four_ands, eval_two_ands, garble_and, garble_two_ands,
 };
-pub use hash::tweak_hash;
+pub use hash::{tweak_hash, tweak_hash_series};
 pub use laws::{law_garblings, law_half_gates};
 pub use numbers::and_numbers;
 pub use one_gate::{evaluate_gate, garble_gate, labels_read};

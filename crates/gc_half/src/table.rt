@@ -9,11 +9,13 @@ ghost use Rattle.gc_half.specs.HalfGate.{and_zero};
 ghost use Rattle.gc_half.specs.OneGate.{first_read, second_read, row_pair, gate_rows};
 ghost use Rattle.gc_half.specs.Garbling.{zero_of};
 ghost use Rattle.gc_half.specs.Canonical.{with_row_pair};
+ghost use Rattle.gc_half.specs.Comparing.{KeepsCompared};
 ghost use Rattle.gc_half.specs.Waiting.{NoneSets};
 
 use crate::garbling::RowPair;
 use crate::half_gate::{AndGate, garble_and, garble_two_ands};
 use crate::one_gate::{garble_gate, labels_read};
+use crate::row_table::RowTable;
 use crate::waiting::WaitingGate;
 use crate::zero_labels::lengthen;
 use gc_circuit::{Gate, Memory, Operation};
@@ -27,7 +29,7 @@ use std::marker::Model;
 #[derive(Drop)]
 pub(crate) struct GarblingTable<A: Allocator = Global> {
     labels: Vec<Label, A>,
-    rows: Vec<RowPair, A>,
+    rows: RowTable<A>,
     waiting: Option<WaitingGate<AndGate>>,
 }
 
@@ -40,7 +42,8 @@ impl<A: Allocator> Model for GarblingTable<A> {
 
     ghost view = { λ t. record {
       labels = settled zero_label_of_gate t.labels.items (option_to_list t.waiting);
-      rows = t.rows.items ++ map (λ waits. row_pair_of_gate waits.gate) (option_to_list t.waiting);
+      rows = t.rows.made ++ map (λ waits. row_pair_of_gate waits.gate) (option_to_list t.waiting);
+      compared = t.rows;
       waiting = option_to_list t.waiting;
     } };
 
@@ -49,8 +52,13 @@ impl<A: Allocator> Model for GarblingTable<A> {
 
 impl<A: Allocator> GarblingTable<A> {
     /// A table of these labels and row pairs, where no gate waits.
-    pub(crate) fn new(labels: Vec<Label, A>, rows: Vec<RowPair, A>) -> GarblingTable<A>
-        ensures { result ≡ record { labels = labels.items; rows = rows.items; waiting = [] } }
+    pub(crate) fn new(labels: Vec<Label, A>, rows: RowTable<A>) -> GarblingTable<A>
+        ensures { result ≡ record {
+          labels = labels.items;
+          rows = rows.made;
+          compared = rows;
+          waiting = [];
+        } }
     {
         GarblingTable {
             labels,
@@ -78,6 +86,7 @@ impl<A: Allocator> GarblingTable<A> {
             (gate_rows hash offset (length self.old.rows) gate.operation
             (first_read (slice_index self.old.labels) gate.operation)
             (second_read (slice_index self.old.labels) gate.operation))) }
+        ensures compared { OnOk result (KeepsCompared self.old.compared self.new.compared) }
         ensures waiting { OnOk result ((w : ℕ) → w ≢ gate.set → NoneSets w self.old.waiting
             → NoneSets w self.new.waiting) }
     {
@@ -98,6 +107,7 @@ impl<A: Allocator> GarblingTable<A> {
         requires { EachRead (λ w. w < length self.old.labels) operation }
         ensures labels { OnOk result (self.new.labels ≡ self.old.labels) }
         ensures rows { OnOk result (self.new.rows ≡ self.old.rows) }
+        ensures compared { OnOk result (KeepsCompared self.old.compared self.new.compared) }
         ensures waiting { OnOk result ((w : ℕ)
             → NoneSets w self.old.waiting → NoneSets w self.new.waiting) }
         ensures first { IfOk result (λ read.
@@ -114,6 +124,7 @@ impl<A: Allocator> GarblingTable<A> {
     fn settle_read(&mut self, operation: Operation) -> Result<(), Memory>
         ensures labels { OnOk result (self.new.labels ≡ self.old.labels) }
         ensures rows { OnOk result (self.new.rows ≡ self.old.rows) }
+        ensures compared { OnOk result (KeepsCompared self.old.compared self.new.compared) }
         ensures waiting { OnOk result ((w : ℕ)
             → NoneSets w self.old.waiting → NoneSets w self.new.waiting) }
         ensures unread { OnOk result
@@ -138,6 +149,7 @@ impl<A: Allocator> GarblingTable<A> {
         ensures kept { OnOk result (length self.old.labels ≤ length self.new.labels) }
         ensures few { OnOk result (length self.new.labels ≤ wires) }
         ensures rows { OnOk result (self.new.rows ≡ self.old.rows) }
+        ensures compared { OnOk result (KeepsCompared self.old.compared self.new.compared) }
         ensures waiting { OnOk result (self.new.waiting ≡ self.old.waiting) }
     {
         if wire as usize >= self.labels.len() {
@@ -155,9 +167,10 @@ impl<A: Allocator> GarblingTable<A> {
             (and_zero hash (length self.old.rows) offset a b)) }
         ensures rows { OnOk result (self.new.rows
             ≡ self.old.rows ++ row_pair hash offset (length self.old.rows) a b ∷ []) }
+        ensures compared { OnOk result (KeepsCompared self.old.compared self.new.compared) }
         ensures waiting { OnOk result ((w : ℕ) → w ≢ set → NoneSets w self.new.waiting) }
     {
-        let k = self.rows.len() as u32;
+        let k = self.rows.made() as u32;
         let Some(waits) = self.waiting else {
             let gate = AndGate { k, offset, a, b };
             self.waiting = Some(WaitingGate { gate, set });
@@ -173,8 +186,8 @@ impl<A: Allocator> GarblingTable<A> {
         let (one, other) = garble_two_ands(waits.gate, gate);
         self.labels[waits.set as usize] = one.0;
         self.labels[set as usize] = other.0;
-        self.rows.push(named(one))?;
-        self.rows.push(named(other))?;
+        self.rows.put(named(one))?;
+        self.rows.put(named(other))?;
         Ok(())
     }
 
@@ -185,6 +198,7 @@ impl<A: Allocator> GarblingTable<A> {
         requires once { NoneSets wire self.old.waiting }
         ensures labels { self.new.labels ≡ slice_set self.old.labels wire label }
         ensures rows { self.new.rows ≡ self.old.rows }
+        ensures compared { self.new.compared ≡ self.old.compared }
         ensures waiting { self.new.waiting ≡ self.old.waiting }
     {
         self.labels[wire as usize] = label;
@@ -195,6 +209,7 @@ impl<A: Allocator> GarblingTable<A> {
     fn settle(&mut self) -> Result<(), Memory>
         ensures labels { OnOk result (self.new.labels ≡ self.old.labels) }
         ensures rows { OnOk result (self.new.rows ≡ self.old.rows) }
+        ensures compared { OnOk result (KeepsCompared self.old.compared self.new.compared) }
         ensures waiting { OnOk result (self.new.waiting ≡ []) }
     {
         let Some(waits) = self.waiting else {
@@ -204,14 +219,15 @@ impl<A: Allocator> GarblingTable<A> {
         let AndGate { k, offset, a, b } = waits.gate;
         let garbled = garble_and(k, offset, a, b);
         self.labels[waits.set as usize] = garbled.0;
-        self.rows.push(named(garbled))?;
+        self.rows.put(named(garbled))?;
         Ok(())
     }
 
     /// All labels and row pairs.
-    pub(crate) fn finish(mut self) -> Result<(Vec<Label, A>, Vec<RowPair, A>), Memory>
-        ensures { IfOk result (λ parts.
-            (parts.0.items ≡ self.labels) × (parts.1.items ≡ self.rows)) }
+    pub(crate) fn finish(mut self) -> Result<(Vec<Label, A>, RowTable<A>), Memory>
+        ensures all { IfOk result (λ parts.
+            (parts.0.items ≡ self.labels) × (parts.1.made ≡ self.rows)) }
+        ensures compared { IfOk result (λ parts. KeepsCompared self.compared parts.1) }
     {
         self.settle()?;
         let GarblingTable {

@@ -21,6 +21,12 @@ set-put labels values s x y within same is w = elim (cases_eq w s) [
 pub returns-in-And-clause-waiting : goal.returns-in-And-clause-waiting
 returns-in-And-clause-waiting g c = on_ok_weaker c.pair.result (λ h w other before. h w other) c.pair.ensures.waiting
 
+pub returns-in-And-clause-compared : goal.returns-in-And-clause-compared
+returns-in-And-clause-compared g c = on_ok_weaker c.pair.result
+    (λ h given before. h given
+    (c.in_ok-make_room.ensures.compared given (c.in_ok-first.ensures.compared given before)))
+    c.pair.ensures.compared
+
 pub put-requires : goal.put-requires
 put-requires g c = record {
   place = c.in_ok-make_room.ensures.there;
@@ -52,5 +58,7 @@ returns g c =
       rows = c.put.ensures.rows ∙ room.rows ∙ read.rows
           ∙ free_rows hash c.args.offset (length old.rows) old.rows op (first_read (slice_index old.labels) op)
           (second_read (slice_index old.labels) op) c.in_default.not-And;
+      compared = λ given before.
+          rw c.put.ensures.compared (room.compared given (read.compared given before));
       waiting = λ w other before. rw (c.put.ensures.waiting, room.waiting) (read.waiting w before);
     }

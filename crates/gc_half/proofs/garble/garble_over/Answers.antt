@@ -1,14 +1,16 @@
-use Rattle.std.proofs.Common.{◌≡◌, ◌≤◌, ◌+◌, length, refl, sym, ap, ◌∙◌, inr, arith, slice_index}
+use Rattle.std.proofs.Common.{◌≡◌, ◌≤◌, ◌+◌, length, refl, sym, ap, subst, ◌∙◌, inr, arith, slice_index}
 use Rattle.gc_netlist.proofs.SolutionLemmas.{IsSetBefore-more}
 use Rattle.gc_label.specs.Seed.{offset_of}
 use Rattle.gc_half.specs.Hash.{hash}
 use Rattle.gc_half.specs.OneGate.{first_read, second_read, gate_rows}
-use Rattle.gc_half.specs.Garbling.{zero_of}
+use Rattle.gc_half.specs.Garbling.{GarblingParts, zero_of}
 use Rattle.gc_half.specs.Canonical.{zero_label_of}
+use Rattle.gc_half.specs.Comparing.{AreCompared, RowTableParts}
 use Rattle.gc_half.specs.Waiting.{TableParts}
+use Rattle.gc_half.proofs.ComparingLemmas.{compared-start, compared-end}
 use Rattle.gc_half.proofs.RowLemmas.{rows_after-start}
 use Rattle.gc_half.proofs.GarbleLemmas.{AreLabels, labels-start, labels-read, labels-next, labels-end, rows-few, rows-next, garbled-end}
-use Rattle.gc_half.proofs.garble.garble_one_thread.Goals as goal
+use Rattle.gc_half.proofs.garble.garble_over.Goals as goal
 
 pub loop-i-init : goal.loop-i-init
 loop-i-init g c = record {
@@ -16,9 +18,14 @@ loop-i-init g c = record {
       labels-start c.args.circuit.now c.args.seed.now c.gates-i-end.ensures.lawful _
       (ap (λ (t : TableParts). t.labels) c.new-table.ensures ∙ c.in_ok-labels.ensures);
   rows =
-      ap (λ (t : TableParts). t.rows) c.new-table.ensures ∙ c.in_ok-rows.ensures.items
+      ap (λ (t : TableParts). t.rows) c.new-table.ensures
+      ∙ ap (λ (t : RowTableParts). t.made) c.new.ensures
       ∙ sym (rows_after-start hash (offset_of c.args.seed.now) c.args.circuit.now
       (zero_label_of c.args.circuit.now c.args.seed.now));
+  compared =
+      let P : RowTableParts → Type 0 = AreCompared c.args.given.items in
+      subst P (sym (ap (λ (t : TableParts). t.compared) c.new-table.ensures ∙ c.new.ensures))
+      (compared-start c.args.given.items);
   waiting = λ w unset. rw (ap (λ (t : TableParts). t.waiting) c.new-table.ensures) tt;
 }
 
@@ -65,6 +72,7 @@ loop-i-preserved g c =
           (first_read (slice_index old.labels) gate.operation)
           (second_read (slice_index old.labels) gate.operation))
           (rw offset at step.rows) refl;
+      compared = step.compared c.args.given.items c.loop-i.invariant.compared;
       waiting = λ w unset.
           step.waiting w
           (λ same. unset (inr (i, omega arith, record { gate = gate; at = c.gate.ensures; wire = sym same })))
@@ -78,11 +86,21 @@ returns g c =
     let lawful = c.gates-i-end.ensures.lawful in
     let made = c.in_ok-zero_labels in
     let are : AreLabels netlist c.args.seed.now c.loop-i.i made.zero_labels.items =
-    rw made.ensures.0 c.loop-i.invariant.labels in
-    garbled-end netlist c.args.seed.now lawful c.loop-i.i all
-    c.from_parts.result c.resize.new.self.items made.rows.items
-    c.output_wires.result c.from_parts.ensures
-    (labels-end netlist c.args.seed.now lawful c.loop-i.i made.zero_labels.items c.resize.new.self.items
-    _ c.wires-2.result are made.zero_labels.ok.0 c.wires-2.ensures.count c.in_ok-resize.ensures.items)
-    (made.ensures.1 ∙ c.loop-i.invariant.rows)
-    c.output_wires.ensures
+    rw made.ensures.all.0 c.loop-i.invariant.labels in
+    let rows_are = c.finish-rows.ensures.made ∙ made.ensures.all.1 in
+    let same_rows : c.from_parts-garbling.result.rows ≡ made.rows.made =
+    ap (λ (p : GarblingParts). p.rows) c.from_parts-garbling.ensures ∙ c.finish-rows.ensures.made in
+    record {
+      garbled =
+          garbled-end netlist c.args.seed.now lawful c.loop-i.i all
+          c.from_parts-garbling.result c.resize.new.self.items c.finish-rows.result.0.items
+          c.output_wires.result c.from_parts-garbling.ensures
+          (labels-end netlist c.args.seed.now lawful c.loop-i.i made.zero_labels.items c.resize.new.self.items
+          _ c.wires-2.result are made.zero_labels.ok.0 c.wires-2.ensures.count c.in_ok-resize.ensures.items)
+          (rows_are ∙ c.loop-i.invariant.rows)
+          c.output_wires.ensures;
+      compared = λ many.
+          rw (same_rows, c.finish-rows.ensures.first)
+          (compared-end c.args.given.items made.rows.made made.rows.left made.rows.first
+          (made.ensures.compared c.args.given.items c.loop-i.invariant.compared) (many ∙ ap length same_rows));
+    }

@@ -2,7 +2,7 @@ use Rattle.std.proofs.Common.{◌≡◌, ◌+◌, ◌-◌, ◌*◌, length, ap, 
 use Rattle.gc_half.specs.Hash.{hash}
 use Rattle.gc_half.specs.Entry.{output_tweak}
 use Rattle.gc_half.proofs.EntryLemmas.{entry_of-hash}
-use Rattle.gc_half.proofs.entry.output_entry.Goals as goal
+use Rattle.gc_half.proofs.entry.hashed.Goals as goal
 
 pub returns : goal.returns
 returns g c =
@@ -11,5 +11,5 @@ returns g c =
     let place : c.wires.result - c.output_wires.result + a.i ≡ length a.garbling.now.zero_labels -
     a.garbling.now.outputs + a.i = omega arith in
     let tweak : t ≡ output_tweak (length a.garbling.now.rows) a.i = omega arith in
-    c.tweak_hash.ensures ∙ ap (λ l. hash l t) c.label_of_colour.ensures.label
+    ap (λ l. hash l t) c.label_of_colour.ensures.label
     ∙ entry_of-hash a.offset a.garbling.now a.i a.s _ _ t place c.zero_label-zero_label.ensures tweak

@@ -1,0 +1,132 @@
+-- Row pairs that are compared with given ones as they are made.
+use Rattle.std.proofs.Common.{◌≡◌, ℕ, ◌+◌, ◌<◌, ◌++◌, List, [], ◌∷◌, length, length-append, take, drop, get_or, set, slice_get, Option, Some, None, MatchOption, refl, sym, ap, subst, ◌∙◌, inl, inr, arith}
+use Rattle.std.proofs.lemmas.List.{take_all, take_at, take_more, take_more_set, take-append-le, drop_all, drop_more, drop-drop, drop-set-lt, get_or-drop, get_or_append_left, length-take-le}
+use Rattle.std.proofs.Math.Seq.{get_or-append_seam}
+use Rattle.std.proofs.lemmas.Option.{slice_get_within, slice_get-get_or, get_or_from_slice_get}
+use Rattle.gc_half.specs.declared.garbling.RowPair.{RowPair}
+use Rattle.gc_half.specs.declared.garbling.Mismatch.{Mismatch}
+use Rattle.gc_half.specs.Comparing.{IsFirstMismatch, RowTableParts, AreCompared, IsNextMismatch}
+use Rattle.gc_half.proofs.SetWires.{lt_or_le}
+
+-- the row pairs that are made, the given ones that are left, and the first mismatch
+abbrev parts : List RowPair → List RowPair → Option Mismatch → RowTableParts
+parts made left first = record { made = made; left = left; first = first }
+
+-- The elements of a list with one more behind it.
+longer : (xs : List RowPair) (x y : RowPair) (k : ℕ) → slice_get xs k ≡ Some x
+    → slice_get (xs ++ y ∷ []) k ≡ Some x
+longer xs x y k at =
+    let within = slice_get_within xs k x at in
+    slice_get-get_or (xs ++ y ∷ []) k x (omega (arith, length-append xs (y ∷ [])))
+    ∙ ap Some (get_or_append_left xs (y ∷ []) x k within ∙ get_or_from_slice_get xs k x x at)
+
+last : (xs : List RowPair) (y : RowPair) → slice_get (xs ++ y ∷ []) (length xs) ≡ Some y
+last xs y =
+    slice_get-get_or (xs ++ y ∷ []) (length xs) y (omega (arith, length-append xs (y ∷ [])))
+    ∙ ap Some (get_or-append_seam xs y [] y)
+
+module _ (given : List RowPair) where
+  -- At the start nothing is made.
+  pub compared-start : AreCompared given (parts [] given None)
+  compared-start = record { left = refl; first = λ few. refl }
+
+  -- A mismatch stays the first one.
+  stays : (made : List RowPair) (pair : RowPair) (m : Mismatch) → IsFirstMismatch given made m
+      → IsFirstMismatch given (made ++ pair ∷ []) m
+  stays made pair m is = record {
+    before = is.before ∙ sym (take-append-le m.place made (pair ∷ [])
+        (let within = slice_get_within made m.place is.pair is.made_there in omega arith));
+    given_there = is.given_there;
+    pair = is.pair;
+    made_there = longer made is.pair pair m.place is.made_there;
+    differ = is.differ;
+  }
+
+  module _ (made rest : List RowPair) (old pair : RowPair) (left : old ∷ rest ≡ drop (length made) given) where
+    -- The next given pair is left,
+    within : length made < length given
+    within = elim (lt_or_le (length made) (length given)) [
+      | inl below ↦ below
+      | inr past ↦ absurd (let none : old ∷ rest ≡ [] = left ∙ drop_all (length made) given past in cc)
+    ]
+
+    here : get_or given (length made) old ≡ old
+    here = ap (λ k. get_or given k old) (omega arith) ∙ sym (get_or-drop (length made) given 0 old)
+        ∙ ap (λ l. get_or l 0 old) (sym left)
+
+    there : slice_get given (length made) ≡ Some old
+    there = slice_get-get_or given (length made) old within ∙ ap Some here
+
+    -- and the pair that is made is compared with it.
+    next_first : (first next : Option Mismatch) → IsNextMismatch first (length made) old pair next
+        → MatchOption first (take (length made) given ≡ made) (IsFirstMismatch given made)
+        → MatchOption next (take (length made + 1) given ≡ made ++ pair ∷ [])
+        (IsFirstMismatch given (made ++ pair ∷ []))
+    next_first (Some m) next is before =
+        subst (λ n. MatchOption n (take (length made + 1) given ≡ made ++ pair ∷ [])
+        (IsFirstMismatch given (made ++ pair ∷ []))) (sym is) (stays made pair m before)
+    next_first None None is before =
+        take_more given (length made) old within
+        ∙ ap (λ l. l ++ get_or given (length made) old ∷ []) before
+        ∙ ap (λ p. made ++ p ∷ []) (here ∙ is)
+    next_first None (Some m) is before =
+        subst (IsFirstMismatch given (made ++ pair ∷ [])) (sym is.0) (record {
+          before = before ∙ sym (take_at made (pair ∷ []) (length made) refl);
+          given_there = there;
+          pair = pair;
+          made_there = last made pair;
+          differ = is.1;
+        })
+
+    pub compared-next : (first next : Option Mismatch) → IsNextMismatch first (length made) old pair next
+        → MatchOption first (take (length made) given ≡ made) (IsFirstMismatch given made)
+        → AreCompared given (parts (made ++ pair ∷ []) rest next)
+    compared-next first next is before =
+        let long : length (made ++ pair ∷ []) ≡ length made + 1 = length-append made (pair ∷ []) in
+        record {
+          left = ap (drop 1) left ∙ drop-drop 1 (length made) given ∙ ap (λ k. drop k given) (sym long);
+          first = λ few. subst (λ k. MatchOption next (take k given ≡ made ++ pair ∷ [])
+              (IsFirstMismatch given (made ++ pair ∷ []))) (sym long) (next_first first next is before);
+        }
+
+  -- A pair takes the place of the next given one,
+  pub compared-replace : (rows : List RowPair) (n : ℕ) (old pair : RowPair) (first next : Option Mismatch)
+      → n < length rows → slice_get rows n ≡ Some old → IsNextMismatch first n old pair next
+      → AreCompared given (parts (take n rows) (drop n rows) first)
+      → AreCompared given (parts (take (n + 1) (set rows n pair)) (drop (n + 1) (set rows n pair)) next)
+  compared-replace rows n old pair first next below at is before =
+      let made = take n rows in
+      let rest = drop (n + 1) rows in
+      let long : length made ≡ n = length-take-le n rows (omega arith) in
+      let left : old ∷ rest ≡ drop (length made) given =
+      ap (λ x. x ∷ rest) (sym (get_or_from_slice_get rows n old old at)) ∙ sym (drop_more rows n old below)
+      ∙ before.left in
+      let fits : length made < length given = within made rest old pair left in
+      let P : List RowPair → List RowPair → Type 0 = λ m l. AreCompared given (parts m l next) in
+      subst (λ m. P m (drop (n + 1) (set rows n pair))) (sym (take_more_set rows n pair below))
+      (subst (P (made ++ pair ∷ [])) (sym (drop-set-lt (n + 1) rows n pair (omega arith)))
+      (compared-next made rest old pair left first next
+      (subst (λ k. IsNextMismatch first k old pair next) (sym long) is) (before.first (omega arith))))
+
+  -- or stands behind them all.
+  pub compared-push : (made : List RowPair) (pair : RowPair) (first : Option Mismatch)
+      → AreCompared given (parts made [] first) → AreCompared given (parts (made ++ pair ∷ []) [] first)
+  compared-push made pair first before =
+      let long : length (made ++ pair ∷ []) ≡ length made + 1 = length-append made (pair ∷ []) in
+      elim (lt_or_le (length made) (length given)) [
+        | inl below ↦ absurd (
+            let none : [] ≡ get_or given (length made) pair ∷ drop (length made + 1) given =
+            before.left ∙ drop_more given (length made) pair below in cc)
+        | inr past ↦ record {
+          left = sym (drop_all (length (made ++ pair ∷ [])) given (omega arith));
+          first = λ few. absurd (omega arith);
+        }
+      ]
+
+  -- Where as many were given as are made, all were compared.
+  pub compared-end : (made left : List RowPair) (first : Option Mismatch)
+      → AreCompared given (parts made left first) → length given ≡ length made
+      → MatchOption first (given ≡ made) (IsFirstMismatch given made)
+  compared-end made left None are many =
+      sym (take_all (length made) given (omega arith)) ∙ are.first (omega arith)
+  compared-end made left (Some m) are many = are.first (omega arith)
