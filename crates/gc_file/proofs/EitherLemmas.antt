@@ -112,7 +112,7 @@ module _ {P : Type 0} (make : ℕ → ℕ → P) where
       labels-pairs_from IsPair are_labels n (drop 32 bytes) (omega (arith, length-drop 32 bytes))
       (small-drop 32 bytes are) k d (omega arith)
 
--- What the bytes of the parts tell.
+-- What the bytes of the parts determine.
 abbrev pub parts_from : List ℕ → List ℕ → List ℕ → List ℕ → GarbledParts
 parts_from h r d e = record {
   version = version_of h;

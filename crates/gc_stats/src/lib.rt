@@ -9,4 +9,5 @@ mod sizes;
 mod survey;
 
 pub use figures::Stats;
+pub use sizes::garbled_size;
 pub use survey::stats;

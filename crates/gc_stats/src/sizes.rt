@@ -17,8 +17,8 @@ const PAIR: u64 = 32;
 /// The bytes of a garbled file's trailer, a digest.
 const TRAILER: u64 = 32;
 
-/// How many bytes the garbled file of a version has.
-pub(crate) fn garbled_size<A: Allocator>(circuit: &Circuit<A>, version: Version) -> u64
+/// How many bytes the garbled file of a version has, for the circuit's garbling under any seed.
+pub fn garbled_size<A: Allocator>(circuit: &Circuit<A>, version: Version) -> u64
     ensures { IsFileSize version circuit.now result }
 {
     circuit.law_lawful();

@@ -1,5 +1,5 @@
 -- Bits on their way into bytes.
-use Rattle.std.proofs.Common.{◌≡◌, ℕ, zero, suc, ◌+◌, ◌-◌, ◌*◌, ◌^◌, ◌<◌, ◌≤◌, min, nat_cmp, Bool, true, false, List, [], ◌∷◌, length, length-take, length-drop, take, drop, get_or, slice_get, Some, ap, ◌∙◌, arith}
+use Rattle.std.proofs.Common.{◌≡◌, ℕ, zero, suc, ◌+◌, ◌-◌, ◌*◌, ◌^◌, ◌<◌, ◌≤◌, min, nat_cmp, Bool, true, false, List, [], ◌∷◌, ◌++◌, length, length-take, length-drop, take, drop, flat_map, get_or, slice_get, Some, ap, ◌∙◌, arith}
 use mir.Val.{bool_byte}
 use Rattle.std.specs.List.{range_with_len}
 use Rattle.std.specs.Ordering.{ord_min}
@@ -12,7 +12,9 @@ use Rattle.std.proofs.lemmas.Option.{slice_get_within, get_or_from_slice_get}
 use Rattle.gc_half.specs.Garbling.{GarblingParts, decode_bits_of}
 use Rattle.gc_format.specs.declared.parts.EntryPair.{EntryPair}
 use Rattle.gc_format.specs.DecodeBits.{bits_number, bytes_for, packed}
-use Rattle.gc_write.specs.Written.{entry_pair_of, entry_pairs_of}
+use Rattle.gc_format.specs.GarbledFile.{entry_bytes}
+use Rattle.gc_write.specs.Written.{entry_pair_of, entry_pairs_from, entry_pairs_of}
+use Rattle.gc_write.proofs.ListLemmas.{flat_map-ranges}
 
 -- The lesser of two numbers, as code takes it.
 pub ord_min-nat : (a b : ℕ) → ord_min nat_cmp a b ≡ min a b
@@ -88,3 +90,9 @@ pub entry_pairs-at : (offset : ℕ) (g : GarblingParts) (i : ℕ) (d : EntryPair
     get_or (entry_pairs_of offset g) i d ≡ entry_pair_of offset g i
 entry_pairs-at offset g i d within = get_or-map-range_with_len (entry_pair_of offset g) 0 g.outputs i i d
     within (omega arith)
+
+-- The bytes of entry pairs, and those of the pairs after them.
+pub entries-more : (offset : ℕ) (g : GarblingParts) (first m n j k : ℕ) → j ≡ first + m → k ≡ m + n →
+    flat_map entry_bytes (entry_pairs_from offset g first m) ++ flat_map entry_bytes (entry_pairs_from offset g j n)
+    ≡ flat_map entry_bytes (entry_pairs_from offset g first k)
+entries-more offset g = flat_map-ranges entry_bytes (entry_pair_of offset g)

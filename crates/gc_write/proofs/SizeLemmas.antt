@@ -1,5 +1,5 @@
 -- How many bytes the files have.
-use Rattle.std.proofs.Common.{◌≡◌, ℕ, ◌*◌, ◌^◌, ◌<◌, ◌≤◌, List, [], ◌∷◌, ◌++◌, length, length-append, append_assoc, append-nil, flat_map, refl, sym, ap, ◌∙◌, arith}
+use Rattle.std.proofs.Common.{◌≡◌, ℕ, ◌+◌, ◌*◌, ◌^◌, ◌<◌, ◌≤◌, List, [], ◌∷◌, ◌++◌, length, length-append, append_assoc, append-nil, flat_map, refl, sym, ap, ◌∙◌, arith}
 use Rattle.sha2.specs.Sha256.{sha256}
 use Rattle.sha2.proofs.Facts256.{length-sha256}
 use Rattle.gc_netlist.specs.Circuit.{Netlist}
@@ -8,7 +8,7 @@ use Rattle.gc_label.specs.Seed.{offset_of}
 use Rattle.gc_half.specs.Garbling.{GarblingParts}
 use Rattle.gc_format.specs.declared.parts.Version.{Version}
 use Rattle.gc_format.specs.declared.parts.Version.TheVariants.{One, Two}
-use Rattle.gc_format.specs.DecodeBits.{packed}
+use Rattle.gc_format.specs.DecodeBits.{bytes_for, packed}
 use Rattle.gc_format.specs.Number.{number_bytes}
 use Rattle.gc_format.specs.GarbledFile.{GarbledParts, magic, header, body, row_bytes, entry_bytes, garbled_file, parts_of}
 use Rattle.gc_write.proofs.ByteLemmas.{length-decode_bits, length-entry_pairs}
@@ -38,12 +38,12 @@ header-is version c g digest rows outputs digest_is rows_is outputs_is fits =
     ∙ ap (λ n. magic version ++ sha256 (canonical_text c) ++ number_bytes (length g.rows) ++ number_bytes n)
     (outputs_is ∙ sym (length-decode_bits g fits))
 
--- A garbled file has fewer than 2 ^ 64 bytes.
-pub garbled_file-size : (p : GarbledParts) → length p.digest ≡ 32 → length p.rows < 2 ^ 32
-    → length p.decode_bits < 2 ^ 32 →
-    length p.entries < 2 ^ 32 → length (garbled_file p) < 2 ^ 64
+-- The bytes of a garbled file: the header, the row pairs, the decode bits, the entry pairs and the trailer.
+pub length-garbled_file : (p : GarbledParts) → length p.digest ≡ 32 →
+    length (garbled_file p)
+    ≡ 48 + 32 * length p.rows + bytes_for (length p.decode_bits) + 32 * length p.entries + 32
 unfolding garbled_file
-garbled_file-size p digest rows bits entries =
+length-garbled_file p digest =
     let h = header p in let r = flat_map row_bytes p.rows in let b = packed p.decode_bits in let e =
     flat_map entry_bytes p.entries in
     let m = magic p.version ++ p.digest in let counts = m ++ number_bytes (length p.rows) in
@@ -69,6 +69,12 @@ garbled_file-size p digest rows bits entries =
     length-magic : (version : Version) → length (magic version) ≡ 8
     length-magic One = refl
     length-magic Two = refl
+
+-- It has fewer than 2 ^ 64 bytes.
+pub garbled_file-size : (p : GarbledParts) → length p.digest ≡ 32 → length p.rows < 2 ^ 32
+    → length p.decode_bits < 2 ^ 32 →
+    length p.entries < 2 ^ 32 → length (garbled_file p) < 2 ^ 64
+garbled_file-size p digest rows bits entries = omega (arith, length-garbled_file p digest)
 
 -- A garbled file is what stands before its entries, its entries and its trailer.
 pub garbled_file-front : (p : GarbledParts) → front p ++ (flat_map entry_bytes p.entries ++ sha256 (body p))

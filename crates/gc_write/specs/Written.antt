@@ -32,9 +32,13 @@ entry_pair_of offset g i = record {
   entry_one = entry_of offset g i true;
 }
 
--- and of each of them, in order.
+-- of n of them in order, from this one on,
+abbrev pub entry_pairs_from : ℕ → GarblingParts → ℕ → ℕ → List EntryPair
+entry_pairs_from offset g first n = map (entry_pair_of offset g) (range_with_len first n)
+
+-- and of all of them.
 abbrev pub entry_pairs_of : ℕ → GarblingParts → List EntryPair
-entry_pairs_of offset g = map (entry_pair_of offset g) (range_with_len 0 g.outputs)
+entry_pairs_of offset g = entry_pairs_from offset g 0 g.outputs
 
 -- What the garbled file of a garbling holds, in version 1,
 abbrev pub parts_one : Netlist → GarblingParts → GarbledParts

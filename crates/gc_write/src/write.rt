@@ -1,6 +1,6 @@
 //! Writing garbled files.
 
-ghost use Rattle.std.specs.Prelude.{◌≡◌, flat_map, []};
+ghost use Rattle.std.specs.Prelude.{◌≡◌, ◌≤◌, ◌+◌, ◌-◌, ◌*◌, flat_map, []};
 ghost use Rattle.sha2.specs.Hashers.{Holds256};
 ghost use Rattle.sha2.specs.Sha256.{sha256};
 ghost use Rattle.gc_netlist.specs.Canon.{canonical_text};
@@ -9,14 +9,14 @@ ghost use Rattle.gc_format.specs.Counted.{CountsFailure};
 ghost use Rattle.gc_format.specs.DecodeBits.{packed};
 ghost use Rattle.gc_format.specs.GarbledFile.{row_bytes, entry_bytes, garbled_file, parts_of};
 ghost use Rattle.gc_write.specs.Writing.{Proceeds};
-ghost use Rattle.gc_write.specs.Written.{IsWritten, entry_pairs_of, front, IsSmall, parts_one, parts_two};
+ghost use Rattle.gc_write.specs.Written.{IsWritten, entry_pairs_from, entry_pairs_of, front, IsSmall, parts_one, parts_two};
 
 use crate::spell::{decode_byte, header, pair_bytes};
 use crate::writer::{FileWriter, WriteFault};
 use gc_circuit::Circuit;
-use gc_format::{Sink, Version};
-use gc_half::{Garbling, RowPair, output_entry};
-use gc_label::{Offset, Seed, offset};
+use gc_format::{EntryPair, Sink, Version};
+use gc_half::{Garbling, RowPair, four_output_entries, output_entry};
+use gc_label::{Label, Offset, Seed, offset};
 use sha2::{Digest, Sha256};
 use std::alloc::Allocator;
 
@@ -72,7 +72,7 @@ impl FileWriter<Sha256> {
         Ok(())
     }
 
-    /// Writes the entry pair of each output wire.
+    /// Writes the entry pair of each output wire: those of four wires at once, and the last ones by themselves.
     fn write_entries<S: Sink, A: Allocator, B: Allocator>(
         &mut self,
         sink: &mut S,
@@ -86,12 +86,97 @@ impl FileWriter<Sha256> {
             (flat_map entry_bytes (entry_pairs_of offset garbling.now)) }
         ensures counted { CountsFailure result (S.failures sink.old) (S.failures sink.new) }
     {
-        for i in 0..garbling.outputs() {
+        let fours = garbling.outputs() / 4;
+        self.write_fours(sink, circuit, garbling, offset, fours)?;
+        self.write_last_entries(sink, circuit, garbling, offset, 4 * fours)
+    }
+
+    /// Writes the entry pairs of the first output wires, of as many fours of them as given.
+    fn write_fours<S: Sink, A: Allocator, B: Allocator>(
+        &mut self,
+        sink: &mut S,
+        circuit: &Circuit<A>,
+        garbling: &Garbling<B>,
+        offset: Offset,
+        fours: u32,
+    ) -> Result<(), WriteFault>
+        requires fits { FitsCircuit circuit.now garbling.now }
+        requires fours { 4 * fours ≤ garbling.now.outputs }
+        ensures bytes { Proceeds Holds256 self.old self.new
+            (S.taken sink.old) (S.taken sink.new) result
+            (flat_map entry_bytes (entry_pairs_from offset garbling.now 0 (4 * fours))) }
+        ensures counted { CountsFailure result (S.failures sink.old) (S.failures sink.new) }
+    {
+        circuit.law_lawful();
+        for k in 0..fours {
+            let pairs = four_entry_pairs(circuit, garbling, offset, 4 * k);
+            self.write_pairs(sink, &pairs)?;
+        }
+        Ok(())
+    }
+
+    /// Writes the entry pairs of the output wires from this one on.
+    fn write_last_entries<S: Sink, A: Allocator, B: Allocator>(
+        &mut self,
+        sink: &mut S,
+        circuit: &Circuit<A>,
+        garbling: &Garbling<B>,
+        offset: Offset,
+        first: u32,
+    ) -> Result<(), WriteFault>
+        requires fits { FitsCircuit circuit.now garbling.now }
+        requires first { first ≤ garbling.now.outputs }
+        ensures bytes { Proceeds Holds256 self.old self.new
+            (S.taken sink.old) (S.taken sink.new) result
+            (flat_map entry_bytes (entry_pairs_from offset garbling.now first
+            (garbling.now.outputs - first))) }
+        ensures counted { CountsFailure result (S.failures sink.old) (S.failures sink.new) }
+    {
+        for i in first..garbling.outputs() {
             let entry_zero = output_entry(circuit, garbling, offset, i, false);
             let entry_one = output_entry(circuit, garbling, offset, i, true);
             self.write(sink, &pair_bytes(entry_zero, entry_one))?;
         }
         Ok(())
+    }
+
+    /// Writes these entry pairs.
+    fn write_pairs<S: Sink>(&mut self, sink: &mut S, pairs: &[EntryPair]) -> Result<(), WriteFault>
+        ensures bytes { Proceeds Holds256 self.old self.new
+            (S.taken sink.old) (S.taken sink.new) result (flat_map entry_bytes pairs.now) }
+        ensures counted { CountsFailure result (S.failures sink.old) (S.failures sink.new) }
+    {
+        for pair in pairs {
+            self.write(sink, &pair_bytes(pair.entry_zero, pair.entry_one))?;
+        }
+        Ok(())
+    }
+}
+
+/// The entry pairs of four output wires, from this one on.
+fn four_entry_pairs<A: Allocator, B: Allocator>(
+    circuit: &Circuit<A>,
+    garbling: &Garbling<B>,
+    offset: Offset,
+    first: u32,
+) -> [EntryPair; 4]
+    requires fits { FitsCircuit circuit.now garbling.now }
+    requires outputs { first + 4 ≤ garbling.now.outputs }
+    ensures { result ≡ entry_pairs_from offset garbling.now first 4 }
+{
+    let [a, b, c, d] = four_output_entries(circuit, garbling, offset, first);
+    [named(a), named(b), named(c), named(d)]
+}
+
+/// Entry 0 and entry 1, by names.
+#[inline]
+fn named(entries: (Label, Label)) -> EntryPair
+    ensures { result ≡ record { entry_zero = entries.0; entry_one = entries.1 } }
+{
+    let (entry_zero, entry_one) = entries;
+    EntryPair {
+        entry_zero,
+        entry_one,
     }
 }
 
