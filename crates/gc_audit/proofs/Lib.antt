@@ -1,4 +1,5 @@
 pub mod DifferenceLemmas
+pub mod RowLemmas
 pub mod GarbledLemmas
 pub mod LabelsLemmas
 pub mod AuditedFileLemmas

@@ -9,7 +9,7 @@ ghost use Rattle.gc_file.specs.Honest.{version_entries};
 ghost use Rattle.gc_audit.specs.Entries.{DifferFirstIn, IsEntryDifference};
 
 use gc_circuit::Circuit;
-use gc_file::{EntryPair, Garbled, Version};
+use gc_file::{EntryPair, Version};
 use gc_half::{Garbling, output_entry};
 use gc_label::Offset;
 use std::alloc::Allocator;
@@ -23,24 +23,23 @@ pub struct EntryDifference {
     pub colour: bool,
 }
 
-/// The first entry in a file that is not the garbling's. A file of version 1 has none. That the garbling fits the
-/// circuit, and that the file has as many entry pairs as its version asks for, are the caller's conditions.
-pub(crate) fn audit_entries<A: Allocator, B: Allocator, C: Allocator>(
+/// The first of a file's entries that is not the garbling's. A file of version 1 has none. That the garbling fits the
+/// circuit, and that there are as many entry pairs as the version asks for, are the caller's conditions.
+pub(crate) fn audit_entries<A: Allocator, B: Allocator>(
     circuit: &Circuit<A>,
     garbling: &Garbling<B>,
     offset: Offset,
-    file: &Garbled<C>,
+    version: Version,
+    filed: &[EntryPair],
 ) -> Option<EntryDifference>
     requires fits { FitsCircuit circuit.now garbling.now }
-    requires entries { length file.now.entries
-        ≡ entry_count file.now.version garbling.now.outputs }
-    ensures { let entries = version_entries file.now.version offset garbling.now in
-        MatchOption result (file.now.entries ≡ entries)
-        (IsEntryDifference file.now.entries entries) }
+    requires entries { length filed.now ≡ entry_count version garbling.now.outputs }
+    ensures { let entries = version_entries version offset garbling.now in
+        MatchOption result (filed.now ≡ entries) (IsEntryDifference filed.now entries) }
 {
-    match file.version() {
+    match version {
         Version::One => None,
-        Version::Two => audit_pairs(circuit, garbling, offset, file.entries()),
+        Version::Two => audit_pairs(circuit, garbling, offset, filed),
     }
 }
 

@@ -13,7 +13,7 @@ mod laws;
 mod rows;
 
 pub use entries::EntryDifference;
-pub use garbled::{GarbledAudit, PartsAudit, audit_garbled};
+pub use garbled::{GarbledAudit, PartsAudit, audit_garbled, garble_and_audit};
 pub use labels::{LabelsVerdict, audit_labels};
 pub use laws::law_audited_files;
 pub use rows::{DifferingRows, RowDifference};

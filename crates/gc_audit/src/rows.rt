@@ -1,12 +1,14 @@
 //! Comparing row pairs.
 
-ghost use Rattle.std.specs.Prelude.{◌≡◌, ◌<◌, MatchOption, length, slice_get, Some};
+ghost use Rattle.std.specs.Prelude.{◌≡◌, ◌<◌, List, IfSome, MatchOption, length, slice_get, Some};
 ghost use Rattle.gc_netlist.specs.declared.gate.Gate.{Gate};
 ghost use Rattle.gc_netlist.specs.Circuit.{and_count};
+ghost use Rattle.gc_half.specs.declared.garbling.RowPair.{RowPair};
+ghost use Rattle.gc_half.specs.Comparing.{IsFirstMismatch};
 ghost use Rattle.gc_audit.specs.Rows.{IsAndGate, DifferIn, IsRowDifference};
 
 use gc_circuit::Circuit;
-use gc_half::RowPair;
+use gc_half::{Mismatch, RowPair};
 use std::alloc::Allocator;
 
 /// Which rows of two row pairs differ.
@@ -33,25 +35,38 @@ pub struct RowDifference {
     pub rows: DifferingRows,
 }
 
-/// The first AND gate whose row pair in a file is not the garbling's. That there is a pair for each AND gate, in both,
-/// is the caller's condition.
-pub(crate) fn audit_rows<A: Allocator>(
-    circuit: &Circuit<A>,
-    garbled: &[RowPair],
-    filed: &[RowPair],
-) -> Option<RowDifference>
-    requires garbled { length garbled.now ≡ and_count circuit.now }
-    requires filed { length filed.now ≡ and_count circuit.now }
+/// The first row pair of a file that is not the garbling's. That there are as many is the caller's condition.
+pub(crate) fn first_mismatch(garbled: &[RowPair], filed: &[RowPair]) -> Option<Mismatch>
+    requires { length filed.now ≡ length garbled.now }
     ensures { MatchOption result (filed.now ≡ garbled.now)
-        (IsRowDifference circuit.now filed.now garbled.now) }
+        (IsFirstMismatch filed.now garbled.now) }
 {
-    for number in 0..circuit.and_count() {
-        let place = number as usize;
-        if let Some(rows) = differing_rows(filed[place], garbled[place]) {
-            return Some(difference_at(circuit, number, rows));
+    for place in 0..garbled.len() {
+        let given = filed[place];
+        if given != garbled[place] {
+            return Some(Mismatch { place, given });
         }
     }
     None
+}
+
+/// The AND gate of the first row pair that is not the garbling's. That the garbling has a pair for each AND gate, and
+/// one at that place, is the caller's condition.
+pub(crate) fn row_difference<A: Allocator>(
+    circuit: &Circuit<A>,
+    garbled: &[RowPair],
+    first: Option<Mismatch>,
+) -> Option<RowDifference>
+    requires garbled { length garbled.now ≡ and_count circuit.now }
+    requires place { IfSome first (λ m. m.place < length garbled.now) }
+    ensures { (filed : List RowPair)
+        → MatchOption first (filed ≡ garbled.now) (IsFirstMismatch filed garbled.now)
+        → MatchOption result (filed ≡ garbled.now) (IsRowDifference circuit.now filed garbled.now) }
+{
+    circuit.law_lawful();
+    let mismatch = first?;
+    let rows = differing_rows(mismatch.given, garbled[mismatch.place])?;
+    Some(difference_at(circuit, mismatch.place as u32, rows))
 }
 
 /// Which rows of two pairs differ.

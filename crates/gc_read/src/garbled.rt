@@ -66,4 +66,13 @@ impl<A: Allocator> Garbled<A> {
     {
         &self.entries
     }
+
+    /// The row pairs, the decode bits and the entry pairs, which are moved out.
+    pub fn into_parts(self) -> (Vec<RowPair, A>, Vec<bool, A>, Vec<EntryPair, A>)
+        ensures rows { result.0.items ≡ self.rows }
+        ensures decode_bits { result.1.items ≡ self.decode_bits }
+        ensures entries { result.2.items ≡ self.entries }
+    {
+        (self.rows, self.decode_bits, self.entries)
+    }
 }

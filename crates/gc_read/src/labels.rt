@@ -71,7 +71,7 @@ fn labels_from_bytes<A: Allocator>(alloc: A, bytes: &[u8]) -> Result<Vec<Label, 
     Ok(labels)
 }
 
-/// The number of labels that the bytes of a label file tell, all of which are there, or the first fault.
+/// The number of labels that the bytes of a label file state, all of which are there, or the first fault.
 fn check_labels(bytes: &[u8]) -> Result<(), FileFault>
     ensures { IsLabelsChecked bytes.now result }
 {
