@@ -75,17 +75,6 @@ module _ (widths : List ℕ) (files : List LabelFileParts) (i : ℕ) (file : Lab
     | inr differs ↦ before k other (omega arith) at_k
   ]
 
-  -- Whether a file is for a value, with one more file.
-  file_kept : (value : ℕ) → HasFile (take i files) value → HasFile (take (i + 1) files) value
-  file_kept value h =
-      let old = slice_get_taken i h.place files h.file h.at in
-      record {
-        place = h.place;
-        file = h.file;
-        at = slice_get-take (i + 1) h.place files (omega (arith, old.0)) ∙ old.1;
-        index = h.index;
-      }
-
   file_before : (value : ℕ) → value ≢ file.index → HasFile (take (i + 1) files) value → HasFile (take i files) value
   file_before value other h =
       let new = slice_get_taken (i + 1) h.place files h.file h.at in

@@ -1,6 +1,7 @@
 -- An honest job evaluates to the outputs of its circuit.
 use Rattle.std.proofs.Common.{◌≡◌, ℕ, ◌+◌, ◌-◌, ◌<◌, Bool, true, false, List, length, map, get_or, slice_get, Some, Result, Ok, Err, MatchResult, refl, sym, ap, subst, ◌∙◌, arith}
 use Rattle.std.specs.List.{range_with_len, zip}
+use Rattle.std.specs.Result.{result_map_both}
 use Rattle.std.proofs.lemmas.List.{get_or-map}
 use Rattle.std.proofs.lemmas.List.FromFn.{length-range_with_len, get_or-range_with_len, length-map-range_with_len, get_or-map-range_with_len}
 use Rattle.std.proofs.lemmas.Option.{slice_get_read}
@@ -170,3 +171,13 @@ module _ (job : JobParts) (whole : IsWhole job) (seed : List ℕ) (bits : List B
   honest-evaluates (Err (UnknownOutputLabel output)) is =
       let unknown = is.decoding.1 in
       absurd (unknown.unknown (honest-known is.active is.evaluation is.decoding.0 output unknown.label unknown.at))
+
+-- The same of the bits in memory.
+pub honest-result : {V : Type 0} (view : V → List Bool) (job : JobParts) (result : Result V EvalFault) → IsWhole job
+    → IsEvaluated job (result_map_both view (λ (fault : EvalFault). fault) result) → (seed : List ℕ) (bits : List Bool)
+    → IsHonest job seed bits →
+    MatchResult result (λ outputs. AreOutputs job.circuit bits (view outputs)) (λ fault. fault ≡ Memory)
+honest-result view job (Ok outputs) whole is seed bits honest =
+    honest-evaluates job whole seed bits honest (Ok (view outputs)) is
+honest-result view job (Err fault) whole is seed bits honest =
+    honest-evaluates job whole seed bits honest (Err fault) is

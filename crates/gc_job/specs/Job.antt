@@ -33,3 +33,8 @@ job_of c g inputs = record {
   entries = g.entries;
   inputs = inputs;
 }
+
+-- A job without its circuit.
+pub record DetachedParts : Type 0 where
+  pub garbled : GarbledParts
+  pub inputs : List ℕ

@@ -5,11 +5,12 @@ ghost use Rattle.std.specs.Result.{result_map_both};
 ghost use Rattle.gc_netlist.specs.Circuit.{output_wires};
 
 use crate::bind::{bound_labels, has_counts};
-use crate::decode::{decoded, first_unknown};
+use crate::decode::decoding;
+use crate::detached::DetachedJob;
 use crate::facts::Facts;
 use crate::fault::{BindFault, EvalFault};
 use gc_circuit::Circuit;
-use gc_file::{Garbled, LabelFile, Version};
+use gc_file::{Garbled, LabelFile};
 use gc_half::RowPair;
 use gc_label::Label;
 use std::alloc::{Allocator, Global};
@@ -90,7 +91,7 @@ impl<'c, A: Allocator + Copy, C: Allocator> Job<'c, A, C> {
 }
 
 impl<'c, A: Allocator, C: Allocator> Job<'c, A, C> {
-    ghost use Rattle.gc_job.specs.Job.{IsWhole};
+    ghost use Rattle.gc_job.specs.Job.{IsWhole, job_of};
     ghost use Rattle.gc_job.specs.Evaluate.{IsDecodingOf};
 
     /// The law of the type: the job is whole. A call of it does nothing.
@@ -123,6 +124,15 @@ impl<'c, A: Allocator, C: Allocator> Job<'c, A, C> {
         &self.inputs
     }
 
+    /// The job without its circuit.
+    pub fn detach(self) -> DetachedJob<A>
+        ensures same { job_of self.entry.circuit result.garbled result.inputs ≡ self.entry }
+        ensures whole { IsWhole self.entry }
+    {
+        self.law_whole();
+        DetachedJob::new(self.garbled, self.inputs)
+    }
+
     /// The job as contracts see it. It has no bytes.
     pub fn facts(&self) -> Facts<A, C>
         ensures { result ≡ self.now }
@@ -146,12 +156,7 @@ impl<'c, A: Allocator, C: Allocator> Job<'c, A, C> {
         ensures { IsDecodingOf self.now labels.now
             (result_map_both (λ bits. bits.items) (λ fault. fault) result) }
     {
-        if self.garbled.version() == Version::Two {
-            let and_gates = self.circuit.and_count();
-            if let Some(output) = first_unknown(and_gates, self.garbled.entries(), labels) {
-                return Err(EvalFault::UnknownOutputLabel { output });
-            }
-        }
-        Ok(decoded(alloc, self.garbled.decode_bits(), labels)?)
+        self.law_whole();
+        decoding(alloc, self.circuit, &self.garbled, labels)
     }
 }

@@ -6,6 +6,7 @@
 
 mod bind;
 mod decode;
+mod detached;
 mod facts;
 mod fault;
 mod job;
@@ -15,10 +16,11 @@ mod readers;
 mod table;
 mod wiring;
 
+pub use detached::DetachedJob;
 pub use facts::Facts;
 pub use fault::{BindFault, EvalFault};
 pub use job::Job;
 pub use laws::law_honest_files;
-pub use one_thread::{evaluate, evaluate_labels};
+pub use one_thread::{evaluate, evaluate_detached, evaluate_labels};
 pub use readers::ReadGate;
 pub use wiring::Wiring;

@@ -4,10 +4,12 @@ ghost use Rattle.std.specs.List.{range_with_len};
 ghost use Rattle.gc_netlist.specs.Circuit.{and_count, input_wires, output_wires};
 ghost use Rattle.gc_netlist.specs.Solution.{on_outputs};
 ghost use Rattle.gc_circuit.specs.Meaning.{AreOutputs};
+ghost use Rattle.gc_job.specs.Job.{IsWhole, job_of};
 ghost use Rattle.gc_job.specs.Evaluate.{AreActive, IsDecoded, IsEvaluated};
 ghost use Rattle.gc_job.specs.Honest.{IsHonest};
 
-use crate::decode::decoded;
+use crate::decode::{decoded, decoding};
+use crate::detached::DetachedJob;
 use crate::fault::EvalFault;
 use crate::job::Job;
 use crate::table::LabelTable;
@@ -91,4 +93,28 @@ pub fn evaluate<A: Allocator, B: Allocator + Copy, C: Allocator>(
     let circuit = job.circuit();
     let active = active_labels(alloc, circuit, job.rows(), job.inputs())?;
     job.decode(alloc, output_labels(circuit, &active))
+}
+
+/// Evaluates a job without its circuit on one thread, as [`evaluate`] does. That it is a job of this circuit is the
+/// caller's condition.
+pub fn evaluate_detached<A: Allocator, B: Allocator + Copy, C: Allocator>(
+    alloc: B,
+    circuit: &Circuit<C>,
+    job: &DetachedJob<A>,
+) -> Result<Vec<bool, B>, EvalFault>
+    requires { IsWhole (job_of circuit.now job.now.garbled job.now.inputs) }
+    ensures evaluated { IsEvaluated (job_of circuit.now job.now.garbled job.now.inputs)
+        (result_map_both (λ bits. bits.items) (λ fault. fault) result) }
+    ensures honest { (seed : List ℕ) (bits : List Bool)
+        → IsHonest (job_of circuit.now job.now.garbled job.now.inputs) seed bits →
+        MatchResult result (λ outputs. AreOutputs circuit.now bits outputs.items)
+        (λ fault. fault ≡ EvalFault.Memory) }
+{
+    let active = active_labels(alloc, circuit, job.garbled().rows(), job.inputs())?;
+    decoding(
+        alloc,
+        circuit,
+        job.garbled(),
+        output_labels(circuit, &active),
+    )
 }

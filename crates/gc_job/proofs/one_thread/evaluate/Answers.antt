@@ -1,25 +1,8 @@
-use Rattle.std.proofs.Common.{◌≡◌, ◌∙◌, ℕ, List, Bool, Result, Ok, Err, MatchResult, length, ap}
-use Rattle.std.specs.Result.{result_map_both}
+use Rattle.std.proofs.Common.{◌∙◌, length, ap}
 use Rattle.std.proofs.lemmas.Result.{err_from_is_err_and}
-use Rattle.gc_circuit.specs.Meaning.{AreOutputs}
-use Rattle.gc_job.specs.declared.fault.EvalFault.{EvalFault}
-use Rattle.gc_job.specs.declared.fault.EvalFault.TheVariants.{Memory}
-use Rattle.gc_job.specs.Job.{JobParts, IsWhole}
-use Rattle.gc_job.specs.Evaluate.{IsEvaluated}
-use Rattle.gc_job.specs.Honest.{IsHonest}
 use Rattle.gc_job.proofs.OutputLemmas.{length-active, decoded-job, no_memory}
-use Rattle.gc_job.proofs.HonestLemmas.{honest-evaluates}
+use Rattle.gc_job.proofs.HonestLemmas.{honest-result}
 use Rattle.gc_job.proofs.one_thread.evaluate.Goals as goal
-
--- The same of the bits in memory.
-honest-result : {V : Type 0} (view : V → List Bool) (job : JobParts) (result : Result V EvalFault) → IsWhole job
-    → IsEvaluated job (result_map_both view (λ (fault : EvalFault). fault) result) → (seed : List ℕ) (bits : List Bool)
-    → IsHonest job seed bits →
-    MatchResult result (λ outputs. AreOutputs job.circuit bits (view outputs)) (λ fault. fault ≡ Memory)
-honest-result view job (Ok outputs) whole is seed bits honest =
-    honest-evaluates job whole seed bits honest (Ok (view outputs)) is
-honest-result view job (Err fault) whole is seed bits honest =
-    honest-evaluates job whole seed bits honest (Err fault) is
 
 pub returns-in_err-active-clause-evaluated : goal.returns-in_err-active-clause-evaluated
 returns-in_err-active-clause-evaluated g c =

@@ -1,0 +1,4 @@
+use Rattle.gc_job.proofs.job.Job.decode.Goals as goal
+
+pub returns : goal.returns
+returns g c = rw (← c.self.view_is) (c.decoding.ensures c.self.inside.inputs.items)
