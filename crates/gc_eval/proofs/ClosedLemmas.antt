@@ -1,4 +1,4 @@
--- What a closed board tells of its gates and its output wires.
+-- What is known of the gates and the output wires of a closed board.
 use Rattle.std.proofs.Common.{◌≡◌, ℕ, zero, suc, ◌+◌, List, Bool, Result, subst, ap, arith}
 use Rattle.std.specs.List.{range_with_len}
 use Rattle.gc_netlist.specs.Solution.{on_outputs}

@@ -10,8 +10,8 @@ use Rattle.gc_board.specs.declared.rule.View.{View}
 use Rattle.gc_board.specs.declared.rule.Key.{Key}
 use Rattle.gc_board.proofs.Sums.{total-append, only_same, only_other}
 use Rattle.gc_job.specs.Job.{JobParts}
-use Rattle.gc_eval.specs.declared.seat.Answer.{Answer}
-use Rattle.gc_eval.specs.declared.seat.Answer.TheVariants.{Made, Done, Taken, NotYet}
+use Rattle.gc_walk.specs.declared.answer.Answer.{Answer}
+use Rattle.gc_walk.specs.declared.answer.Answer.TheVariants.{Made, Done, Taken, NotYet}
 use Rattle.gc_netlist.specs.Circuit.{Netlist, first_wire, second_wire}
 use Rattle.gc_netlist.specs.declared.gate.Gate.{Gate}
 use Rattle.gc_eval.specs.Views.{IsAlone, IsMadeNow, SetsMade, ReadsMade, FirstLacking, AnswersAlone, AnswersTwo, AnswersFour, sightings, made_after, Ran, Saw, SawUndone, Lacks, Says, Answers}
@@ -86,17 +86,6 @@ module _ {J : Type 0} where
   saw_undone old new g (suc zero) e lt ne = inr (saw_step old new (3 * g) 1 e)
   saw_undone old new g (suc (suc zero)) e lt ne = absurd (ne refl)
   saw_undone old new g (suc (suc (suc n))) e lt ne = absurd (omega arith)
-
-  pub still_at : {S : Type 0} (gates : J → ℕ) (table : TableId) (key : Key J) (old new : Seat S (View J))
-      (m : ℕ) → IsPlaceOf gates table key old → IsSamePlace old new → Ran old.me.0 new.me.0 old.me.0.made m
-      → IsPlaceOf gates table key new
-  still_at gates table key old new m p same ran = record {
-    fits = p.fits;
-    table_id = same.table_id
-        ∙ p.table_id;
-    about = ran.job ∙ p.about;
-    whole = ran.all ∙ p.whole;
-  }
 
 -- what is not found done was not known
 pub unknown : (n found : ℕ) → (0 < n → found ≡ 2) → found ≢ 2 → n ≡ 0

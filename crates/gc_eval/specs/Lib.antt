@@ -2,5 +2,4 @@ pub mod Many
 pub mod Views
 pub mod Seats
 pub mod Done
-pub mod Walks
 pub mod Workers

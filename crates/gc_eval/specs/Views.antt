@@ -8,16 +8,16 @@ use Rattle.gc_netlist.specs.declared.gate.Gate.{Gate}
 use Rattle.gc_netlist.specs.Circuit.{Netlist, IsSetBy, input_wires, first_wire, second_wire}
 use Rattle.gc_job.specs.Job.{JobParts}
 use Rattle.gc_job.specs.ActiveLabels.{active, active_from, set_of}
-use Rattle.gc_eval.specs.declared.seat.Answer.{Answer}
-use Rattle.gc_eval.specs.declared.seat.Answer.TheVariants.{Made, Done, Taken, NotYet}
+use Rattle.gc_walk.specs.declared.answer.Answer.{Answer}
+use Rattle.gc_walk.specs.declared.answer.Answer.TheVariants.{Made, Done, Taken, NotYet}
 
 -- how many of the steps found this number at this word
 abbrev pub sightings : ℕ → ℕ → List (ℕ × ℕ) → ℕ
 sightings word found steps = total (λ s. only word s.0 * only found s.1) steps
 
 module _ {J : Type 0} where
-  -- A call made the view `new` out of `old`: at most this number of steps were added to the record, the made list is now this
-  -- list, what was known is known, and the hand is as before.
+  -- A call made the view `new` out of `old`: at most this number of steps were added to the record, the made list is
+  -- now this list, what was known is known, and the hand is as before.
   pub record Ran (old new : View J) (list : List ℕ) (most : ℕ) : Type 0 where
     pub job : new.job ≡ old.job
     pub all : new.all ≡ old.all
@@ -77,8 +77,8 @@ made_after g (NotYet w) made = made
 abbrev pub Answers : JobParts → ℕ → ℕ → View JobParts → View JobParts → Answer → Type 0
 Answers job g most old new answer = Says job g old new answer × Ran old new (made_after g answer old.made) most
 
--- What the answers for gates g and h of one call say, after at most this number of steps, and that they alone changed the made
--- list, in this order.
+-- What the answers for gates g and h of one call say, after at most this number of steps, and that they alone changed
+-- the made list, in this order.
 abbrev pub AnswersTwo : JobParts → ℕ → ℕ → ℕ → View JobParts → View JobParts → Answer × Answer → Type 0
 AnswersTwo job g h most old new answers =
     Says job g old new answers.0 × Says job h old new answers.1

@@ -6,11 +6,12 @@ ghost use Rattle.gc_job.specs.ActiveLabels.{gates_of, active, set_of};
 ghost use Rattle.gc_eval.specs.Views.{Answers, AnswersFour, AreReadBy, IsIdle};
 ghost use Rattle.gc_eval.specs.Seats.{IsPlaceOn, IsPlaceFor, IsSeatOf, IsSameSeat, view, job_on};
 
-use crate::seat::{Answer, EvalBoard, EvalSeat};
+use crate::seat::{EvalBoard, EvalSeat};
 use crate::step::made_now;
 use gc_board::Place;
 use gc_job::{Facts, ReadGate};
 use gc_label::Label;
+use gc_walk::Answer;
 use std::alloc::Allocator;
 
 /// The labels of four gates.
@@ -39,8 +40,10 @@ impl<'j, 'c, B: Allocator, A: Allocator, C: Allocator> EvalBoard<'j, 'c, B, A, C
     /// The labels of four gates, from the labels that they read.
     #[inline]
     fn labels_of_four(&self, a: ReadGate, b: ReadGate, c: ReadGate, d: ReadGate) -> FourLabels
-        requires first { (a.gate < gates_of (job_on self.now)) × (b.gate < gates_of (job_on self.now)) }
-        requires last { (c.gate < gates_of (job_on self.now)) × (d.gate < gates_of (job_on self.now)) }
+        requires first { (a.gate < gates_of (job_on self.now))
+            × (b.gate < gates_of (job_on self.now)) }
+        requires last { (c.gate < gates_of (job_on self.now))
+            × (d.gate < gates_of (job_on self.now)) }
         requires a { AreReadBy (job_on self.now) a.gate (a.first, a.second) }
         requires b { AreReadBy (job_on self.now) b.gate (b.first, b.second) }
         requires c { AreReadBy (job_on self.now) c.gate (c.first, c.second) }

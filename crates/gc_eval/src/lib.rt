@@ -8,12 +8,10 @@
 mod active;
 mod closed;
 mod four;
-mod known;
 mod many;
 mod open;
 mod seat;
 mod step;
-mod walk;
 mod worker;
 
 pub use active::Active;
@@ -21,7 +19,7 @@ pub use gc_board::{MAX_SEATS, OpenFault};
 pub use gc_job::{
     BindFault, EvalFault, Facts, Job, Wiring, evaluate, evaluate_labels, law_honest_files,
 };
+pub use gc_walk::{Answer, Batch, Walk};
 pub use many::evaluate_many;
 pub use open::CloseRefused;
-pub use seat::{Answer, EvalBoard, EvalSeat};
-pub use walk::{Batch, Walk};
+pub use seat::{EvalBoard, EvalSeat};

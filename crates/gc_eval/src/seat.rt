@@ -1,4 +1,4 @@
-//! Boards, their seats, and the answers of a step.
+//! Boards and their seats.
 
 ghost use Rattle.std.specs.Prelude.{◌≡◌, ◌<◌, ◌-◌, ◌^◌, [], length, min};
 ghost use Rattle.gc_board.specs.declared.rule.Hand.TheVariants.{Empty};
@@ -7,7 +7,6 @@ ghost use Rattle.gc_job.specs.ActiveLabels.{gates_of};
 
 use gc_board::{Place, WordTable};
 use gc_job::{Facts, Job, Wiring};
-use gc_label::Label;
 use std::alloc::{Allocator, Global};
 
 /// One evaluator's part of a board. Contracts see what it made and knows, and its steps; between two calls it has no
@@ -32,17 +31,4 @@ pub struct EvalBoard<'j, 'c, B: Allocator = Global, A: Allocator = Global, C: Al
     ghost about: { table.shared.key.work ≡ job.now },
     ghost wired: { wiring ≡ job.now.circuit },
     ghost count: { (seats ≡ table.shared.key.seats) × (0 < seats) },
-}
-
-/// What a step found of a gate.
-#[derive(Clone, Copy, Debug, PartialEq, Eq)]
-pub enum Answer {
-    /// The seat made the gate: the active label of the wire that it sets.
-    Made(Label),
-    /// The gate is done: that label.
-    Done(Label),
-    /// Another seat has the gate in hand.
-    Taken,
-    /// The gate reads this wire, which has no label yet.
-    NotYet(u32),
 }

@@ -1,4 +1,4 @@
-//! What a seat does on a board: it steps a gate, asks for a label, and tells another seat.
+//! What a seat does on a board: it steps a gate, asks for a label, and shares what it knows with another seat.
 
 ghost use Rattle.std.specs.Prelude.{◌≡◌, ◌≢◌, ℕ, ◌+◌, ◌*◌, ◌-◌, ◌^◌, ◌<◌, [], length, min, IfSome, IfNone, IfOk, IfErr, MatchOption, MatchResult, Some, None};
 ghost use Rattle.gc_board.specs.declared.rule.Hand.TheVariants.{Empty, Has};
@@ -10,13 +10,14 @@ ghost use Rattle.gc_job.specs.ActiveLabels.{gates_of, active, set_of};
 ghost use Rattle.gc_eval.specs.Views.{Ran, Got, Lacks, Says, Answers, AnswersTwo, IsAlone, IsMadeNow, made_now, SetsMade, ReadsMade, FirstLacking, AnswersAlone, AnswersTwoAlone, AreReadBy, IsIdle, Knows, Reads};
 ghost use Rattle.gc_eval.specs.Seats.{IsPlaceOn, IsPlaceFor, IsSeatOf, IsSameSeat, view, job_on};
 
-use crate::seat::{Answer, EvalBoard, EvalSeat};
+use crate::seat::{EvalBoard, EvalSeat};
 use gc_board::{
     DONE, IN_HAND, Place, Words, claim, load_high, load_low, load_state, store_done, store_high,
     store_low, tell_place,
 };
 use gc_job::Facts;
 use gc_label::Label;
+use gc_walk::Answer;
 use std::alloc::Allocator;
 
 /// The label of a known gate, in two loads.
@@ -238,7 +239,7 @@ impl<'j, 'c, B: Allocator, A: Allocator, C: Allocator> EvalBoard<'j, 'c, B, A, C
         Answer::Made(label)
     }
 
-    /// Makes a gate whose labels were read, where no seat has it, and computes the label of another one beside it.
+    /// Makes a gate whose labels were read, where no seat has it, and computes the label of another one with it.
     fn make_beside(
         &self,
         place: &mut Place<Facts<A, C>>,

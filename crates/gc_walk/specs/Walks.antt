@@ -1,9 +1,9 @@
 -- The order in which a worker steps the gates of a circuit.
 use Rattle.std.specs.Prelude.{ℕ, ◌+◌, ◌*◌, ◌<◌, Bool, true, false}
-use Rattle.gc_eval.specs.declared.seat.Answer.{Answer}
-use Rattle.gc_eval.specs.declared.seat.Answer.TheVariants.{Made, Done, Taken, NotYet}
-use Rattle.gc_eval.specs.declared.walk.Batch.{Batch}
-use Rattle.gc_eval.specs.declared.walk.Batch.TheVariants.{One, Two, Four}
+use Rattle.gc_walk.specs.declared.answer.Answer.{Answer}
+use Rattle.gc_walk.specs.declared.answer.Answer.TheVariants.{Made, Done, Taken, NotYet}
+use Rattle.gc_walk.specs.declared.walk.Batch.{Batch}
+use Rattle.gc_walk.specs.declared.walk.Batch.TheVariants.{One, Two, Four}
 
 -- How many gates a circuit has, how many of them a pass has yet to come to, how many AND gates wait, and whether the
 -- worker learnt of a gate in the pass.

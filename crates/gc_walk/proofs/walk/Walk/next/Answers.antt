@@ -1,8 +1,8 @@
 use Rattle.std.proofs.Common.{◌≡◌, Bool, true, List, [], ◌∷◌, length, Option, Some, None, IfNone, sym, ap, ◌∙◌, arith}
 use Rattle.std.specs.List.{list_any}
 use Rattle.gc_half.specs.Waiting.{gates_in}
-use Rattle.gc_eval.specs.Walks.{Progress}
-use Rattle.gc_eval.proofs.walk.Walk.next.Goals as goal
+use Rattle.gc_walk.specs.Walks.{Progress}
+use Rattle.gc_walk.proofs.walk.Walk.next.Goals as goal
 
 -- A gate waits, where a wire of one is read.
 some_waits : {T : Type 0} (reads : T → Bool) (waiting : List T) → list_any reads waiting ≡ true

@@ -1,10 +1,10 @@
 //! The order in which a worker steps the gates of a circuit.
 
 ghost use Rattle.std.specs.Prelude.{◌≡◌, ◌+◌, ◌<◌, ◌≤◌, ◌||◌, false, min, IfNone, IfOk, IfSome, length};
-ghost use Rattle.gc_eval.specs.Walks.{IsWithin, batches_left, is_learnt};
+ghost use Rattle.gc_walk.specs.Walks.{IsWithin, batches_left, is_learnt};
 
+use crate::answer::Answer;
 use crate::known::NumberSet;
-use crate::seat::Answer;
 use gc_circuit::{Circuit, Gate};
 use gc_gatehouse::Gatehouse;
 use gc_half::WaitingGates;
@@ -58,7 +58,7 @@ pub struct Walk<B: Allocator = Global> {
 impl<B: Allocator> Model for Walk<B> {
     ghost use Rattle.std.specs.Prelude.{ℕ, ◌<◌, All, length};
     ghost use Rattle.gc_half.specs.Waiting.{gates_in};
-    ghost use Rattle.gc_eval.specs.Walks.{Progress};
+    ghost use Rattle.gc_walk.specs.Walks.{Progress};
 
     ghost Value = { Progress };
 
@@ -205,7 +205,7 @@ impl<B: Allocator> Walk<B> {
     }
 
     /// The worker knows from now on what another one knows.
-    pub(crate) fn learn_from(&mut self, other: &Walk<B>)
+    pub fn learn_from(&mut self, other: &Walk<B>)
         ensures { self.new ≡ self.old }
     {
         self.known.add_all(&other.known);

@@ -1,6 +1,6 @@
 use Rattle.std.proofs.Common.{◌≡◌, ◌≤◌}
-use Rattle.gc_eval.specs.Walks.{batches_left}
-use Rattle.gc_eval.proofs.walk.Walk.next.Given as goal
+use Rattle.gc_walk.specs.Walks.{batches_left}
+use Rattle.gc_walk.proofs.walk.Walk.next.Given as goal
 
 abbrev pub invariant-loop-self : goal.invariant-loop-self
 invariant-loop-self g l = record {

@@ -1,0 +1,14 @@
+use gc_label::Label;
+
+/// What a step found of a gate.
+#[derive(Clone, Copy, Debug, PartialEq, Eq)]
+pub enum Answer {
+    /// The seat made the gate: the active label of the wire that it sets.
+    Made(Label),
+    /// The gate is done: that label.
+    Done(Label),
+    /// Another seat has the gate in hand.
+    Taken,
+    /// The gate reads this wire, which has no label yet.
+    NotYet(u32),
+}
