@@ -23,8 +23,8 @@ use Rattle.gc_round_board.specs.Places.{IsBoardPlace}
 use Rattle.gc_job.specs.Job.{JobParts}
 use Rattle.gc_job.specs.Evaluate.{labels_of}
 use Rattle.gc_eval.specs.Views.{IsMadeNow}
-use Rattle.gc_eval.specs.declared.seat.Answer.{Answer}
-use Rattle.gc_eval.specs.declared.seat.Answer.TheVariants.{Made, Done, Taken, NotYet}
+use Rattle.gc_walk.specs.declared.answer.Answer.{Answer}
+use Rattle.gc_walk.specs.declared.answer.Answer.TheVariants.{Made, Done, Taken, NotYet}
 use Rattle.gc_eval.proofs.BoardLabels.{active_solves}
 use Rattle.gc_job.proofs.WiringLemmas.{set_once, input_not_set, set_within}
 use Rattle.gc_bank.specs.Rounds.{gates_of, IsRound}
@@ -364,15 +364,6 @@ sets_back job r w n m a b p s h set = ap (pairs r h) (sym p.made) ∙ s h set
 same_gate : (c : Netlist) (g : ℕ) (x y : Gate) → slice_get c.gates g ≡ Some x → slice_get c.gates g ≡ Some y
     → x ≡ y
 same_gate c g x y p q = let e : Some x ≡ Some y = sym p ∙ q in cc
-
-pub first_err : (job : JobParts) (r g : ℕ) (x : Gate) (w : ℕ) (a : Seen)
-    → slice_get job.circuit.gates g ≡ Some x
-    → first_wire x.operation ≡ Some w → SetsMade job r w a 0 → FirstLacking job r g a w
-first_err job r g x w a there is none_yet gate there' =
-    subst (λ (y : Gate). ((first_wire y.operation ≡ Some w) × SetsMade job r w a 0)
-    ⊎ ((second_wire y.operation ≡ Some w) × SetsMade job r w a 0
-    × ((u : ℕ) → first_wire y.operation ≡ Some u → SetsMade job r u a 1)))
-    (same_gate job.circuit g x gate there there') (inl (is, none_yet))
 
 pub both_err : (job : JobParts) (r g m : ℕ) (x : Gate) (w : ℕ) (a b : Seen)
     → slice_get job.circuit.gates g ≡ Some x → Ran a b a.inner.made m → second_wire x.operation ≡ Some w

@@ -14,8 +14,8 @@ use Rattle.gc_round_board.specs.declared.view.Hand.TheVariants.{Empty}
 use Rattle.gc_job.specs.Job.{JobParts}
 use Rattle.gc_job.specs.ActiveLabels.{active, set_of}
 use Rattle.gc_eval.specs.Views.{AreReadBy, Reads}
-use Rattle.gc_eval.specs.declared.seat.Answer.{Answer}
-use Rattle.gc_eval.specs.declared.seat.Answer.TheVariants.{Made, Done, Taken, NotYet}
+use Rattle.gc_walk.specs.declared.answer.Answer.{Answer}
+use Rattle.gc_walk.specs.declared.answer.Answer.TheVariants.{Made, Done, Taken, NotYet}
 use Rattle.gc_bank.specs.declared.step.Ready.{Ready}
 
 -- what a seat of banks knows and has done
@@ -36,8 +36,8 @@ sighting word found (Reopen w n won) = 0
 abbrev pub sightings : ℕ → ℕ → List Step → ℕ
 sightings word found steps = total (sighting word found) steps
 
--- A call made the view `new` out of `old`: at most this number of steps were added to the record, the made list is now this
--- list, what was known is known, and the stand and the hand are as before.
+-- A call made the view `new` out of `old`: at most this number of steps were added to the record, the made list is now
+-- this list, what was known is known, and the stand and the hand are as before.
 pub record Ran (old new : Seen) (list : List (ℕ × ℕ)) (most : ℕ) : Type 0 where
   pub jobs : new.jobs ≡ old.jobs
   pub all : new.all ≡ old.all
@@ -106,8 +106,8 @@ abbrev pub Answers : JobParts → ℕ → ℕ → ℕ → Seen → Seen → Answ
 Answers job r g most old new answer =
     Says job r g old new answer × Ran old new (made_after r g old.inner.made answer) most
 
--- Two gates were answered at once, after at most this number of steps, which changed the made list by these answers alone,
--- in this order.
+-- Two gates were answered at once, after at most this number of steps, which changed the made list by these answers
+-- alone, in this order.
 abbrev pub AnswersTwo : JobParts → ℕ → ℕ → ℕ → ℕ → Seen → Seen → Answer × Answer → Type 0
 AnswersTwo job r g h most old new answers =
     Says job r g old new answers.0 × Says job r h old new answers.1

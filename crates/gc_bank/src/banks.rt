@@ -17,7 +17,8 @@ use std::alloc::Allocator;
 impl<B: Allocator, A: Allocator, C: Allocator> BankSeat<B, A, C> {
     /// The round that the seat is inside, if it is inside one.
     pub fn inside(&self) -> Option<u32>
-        ensures { MatchOption result ((view self.now).stand ≡ Outside) (λ r. (view self.now).stand ≡ Inside r) }
+        ensures { MatchOption result ((view self.now).stand ≡ Outside)
+            (λ r. (view self.now).stand ≡ Inside r) }
     {
         self.inside
     }
@@ -64,7 +65,8 @@ impl<'j, 'c, B: Allocator, A: Allocator, C: Allocator> Banks<'j, 'c, B, A, C> {
         ensures same { IsSameSeat seat.old seat.new }
         ensures stays { Stays (view seat.old) (view seat.new) }
         ensures answer { InRound (jobs_on self.now) (view seat.old)
-            (λ job. Answers job (round_of (view seat.old)) gate 11 (view seat.old) (view seat.new) result) }
+            (λ job. Answers job (round_of (view seat.old)) gate 11 (view seat.old)
+            (view seat.new) result) }
         ensures alone { self.now.seats ≡ 1 → InRound (jobs_on self.now) (view seat.old)
             (λ job. AnswersAlone job (round_of (view seat.old)) gate (view seat.old) result) }
     {
@@ -91,14 +93,17 @@ impl<'j, 'c, B: Allocator, A: Allocator, C: Allocator> Banks<'j, 'c, B, A, C> {
         requires own { IsSeatOf self.now seat.old }
         requires inside { IsInside (view seat.old) }
         requires first { InRound (jobs_on self.now) (view seat.old) (λ job. first < gates_of job) }
-        requires second { InRound (jobs_on self.now) (view seat.old) (λ job. second < gates_of job) }
+        requires second { InRound (jobs_on self.now) (view seat.old)
+            (λ job. second < gates_of job) }
         ensures own { IsSeatOf self.now seat.new }
         ensures same { IsSameSeat seat.old seat.new }
         ensures stays { Stays (view seat.old) (view seat.new) }
         ensures answers { InRound (jobs_on self.now) (view seat.old)
-            (λ job. AnswersTwo job (round_of (view seat.old)) first second 22 (view seat.old) (view seat.new) result) }
+            (λ job. AnswersTwo job (round_of (view seat.old)) first second 22 (view seat.old)
+            (view seat.new) result) }
         ensures alone { self.now.seats ≡ 1 → InRound (jobs_on self.now) (view seat.old)
-            (λ job. AnswersTwoAlone job (round_of (view seat.old)) first second (view seat.old) result) }
+            (λ job. AnswersTwoAlone job (round_of (view seat.old)) first second
+            (view seat.old) result) }
     {
         let Some(round) = seat.inside else {
             unreachable!()
@@ -119,7 +124,8 @@ impl<'j, 'c, B: Allocator, A: Allocator, C: Allocator> Banks<'j, 'c, B, A, C> {
     pub fn label(&self, seat: &mut BankSeat<B, A, C>, wire: u32) -> Option<Label>
         requires own { IsSeatOf self.now seat.old }
         requires inside { IsInside (view seat.old) }
-        requires wire { InRound (jobs_on self.now) (view seat.old) (λ job. wire < job.circuit.wires) }
+        requires wire { InRound (jobs_on self.now) (view seat.old)
+            (λ job. wire < job.circuit.wires) }
         ensures own { IsSeatOf self.now seat.new }
         ensures same { IsSameSeat seat.old seat.new }
         ensures ran { Ran (view seat.old) (view seat.new) (view seat.old).inner.made 3 }

@@ -7,20 +7,26 @@ ghost use Rattle.gc_job.specs.Job.{JobParts};
 ghost use Rattle.gc_bank.specs.Jobs.{AreOnOneCircuit, AreEvaluatedBy, EvaluateTo};
 ghost use Rattle.gc_bank.specs.Workers.{AreBitsOf, AreKnown};
 
+use crate::apart::evaluate_apart;
 use crate::together::evaluate_together;
 use gc_eval::{EvalFault, Job, evaluate};
 use gc_gatehouse::{Gatehouse, MAX_WORKERS};
+use gc_layers::{Way, way_of};
 use std::alloc::Allocator;
 use std::thread::Threads;
 
 /// The most jobs of a list.
 pub const MAX_JOBS: usize = 65_536;
 
+// Each has a round.
+const _: () = prove!(MAX_JOBS == gc_rounds::MAX_JOBS);
+
 /// The output bits of each job, in order, by this number of workers: what [`evaluate`] answers for it, honest job or
-/// not. One worker evaluates one job after another. Of more, the calling thread is worker 0; a thread is started for
-/// each other worker, and where one can't be started the calling thread does its work too. They have
-/// [`Banks`](crate::Banks), and `observer.before` is called for each gate ahead of each step. A job whose bits no worker
-/// has when all have ended is evaluated on one thread, as are all where there is no memory for the banks.
+/// not. One worker evaluates one job after another. Where there are no fewer jobs than workers, or a job's gates would
+/// gain nothing by several threads, each worker evaluates jobs of its own. Otherwise the workers share each job: they
+/// have [`Banks`](crate::Banks), and `observer.before` is called for each gate ahead of each step. A thread is started
+/// for each worker but one, and where one can't be started the calling thread does its work too. A job whose bits no
+/// worker has when all have ended is evaluated on one thread, as are all where there is no memory for the banks.
 ///
 /// It refuses 0 workers and more than [`MAX_WORKERS`]: 22. Else it is 48 for the first job of which the garbled file
 /// doesn't recognise an output label, at the first such output. Memory is the other fault. That there are 1 to
@@ -49,10 +55,30 @@ pub fn evaluate_jobs<
     if workers == 1 {
         return evaluate_rest(alloc, jobs, Vec::new(alloc));
     }
-    match evaluate_together(rt, alloc, jobs, workers, observer) {
+    let known = if is_shared(alloc, jobs, workers) {
+        evaluate_together(rt, alloc, jobs, workers, observer)
+    } else {
+        evaluate_apart(rt, alloc, jobs, workers)
+    };
+    match known {
         Some(known) => evaluate_rest(alloc, jobs, known),
         None => evaluate_rest(alloc, jobs, Vec::new(alloc)),
     }
+}
+
+/// Whether several workers share each job, in place of evaluating jobs of their own.
+fn is_shared<A: Allocator, B: Allocator + Copy, C: Allocator>(
+    alloc: B,
+    jobs: &[Job<'_, A, C>],
+    workers: u32,
+) -> bool
+    requires { 0 < length jobs.now }
+{
+    jobs.len() < workers as usize
+        && matches!(
+            way_of(alloc, jobs[0].circuit(), workers),
+            Ok(Way::Layers | Way::Together)
+        )
 }
 
 /// The output bits of each job, in order: those that are known, and the others evaluated on one thread.

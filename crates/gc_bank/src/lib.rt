@@ -4,6 +4,7 @@
 //! two sets of board words, used again job after job, at which many seats evaluate such a list.
 #![tactic(auto)]
 
+mod apart;
 mod banks;
 mod jobs;
 mod open;

@@ -59,7 +59,8 @@ fn deal_all<B: Allocator, A: Allocator, C: Allocator>(
     requires some { 0 < count }
     requires none { seats.items ≡ [] }
     ensures { IfOk result (λ v. (length v.items ≡ count)
-        × All (λ s. IsBoardPlace gates_of words.now.table_id words.now.key s.place × IsNew s.place.me.0) v.items) }
+        × All (λ s. IsBoardPlace gates_of words.now.table_id words.now.key s.place
+        × IsNew s.place.me.0) v.items) }
 {
     let mut first = first;
     let mut left = count;
@@ -133,7 +134,7 @@ impl<'j, 'c, B: Allocator + Copy, A: Allocator, C: Allocator> Banks<'j, 'c, B, A
 }
 
 impl<'j, 'c, B: Allocator, A: Allocator, C: Allocator> Banks<'j, 'c, B, A, C> {
-    /// Joins all seats in one, which tells that they made each gate at most once in each round.
+    /// Joins all seats in one, which shows that they made each gate at most once in each round.
     fn settle_all(&self, seats: Vec<BankSeat<B, A, C>, B>)
         requires own { All (IsSeatOf self.now) seats.items }
         requires outside { All (λ s. (view s).stand ≡ Outside) seats.items }
@@ -155,7 +156,8 @@ impl<'j, 'c, B: Allocator, A: Allocator, C: Allocator> Banks<'j, 'c, B, A, C> {
     ) -> Result<u64, CloseRefused<'j, 'c, B, A, C>>
         requires { All (IsSeatOf self) seats.items }
         ensures exact { IsOk result
-            ↔ ((length seats.items ≡ self.entry.seats) × All (λ s. (view s).stand ≡ Outside) seats.items) }
+            ↔ ((length seats.items ≡ self.entry.seats)
+            × All (λ s. (view s).stand ≡ Outside) seats.items) }
         ensures count { IfOk result
             (λ n. n ≡ min (total (λ s. length (view s).inner.made) seats.items) (2 ^ 64 - 1)) }
         ensures once { IfOk result
@@ -199,7 +201,8 @@ fn gather<B: Allocator, A: Allocator, C: Allocator>(
     words: &Words<Series<B, A, C>>,
     mut seats: Vec<BankSeat<B, A, C>, B>,
 ) -> Place<Series<B, A, C>>
-    requires own { All (λ s. IsBoardPlace gates_of words.now.table_id words.now.key s.place) seats.items }
+    requires own { All
+        (λ s. IsBoardPlace gates_of words.now.table_id words.now.key s.place) seats.items }
     requires outside { All (λ s. (view s).stand ≡ Outside) seats.items }
     requires some { 0 < length seats.items }
     ensures at { IsBoardPlace gates_of words.now.table_id words.now.key result }

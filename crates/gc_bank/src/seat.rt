@@ -21,7 +21,8 @@ pub struct BankSeat<B: Allocator = Global, A: Allocator = Global, C: Allocator =
     pub(crate) count: u64,
     ghost at_rest: { (place.me.0.inner.hand ≡ Empty) × (place.me.1 ≡ []) × (place.me.0.seats ≡ 1) },
     ghost outside: { inside ≡ None → place.me.0.stand ≡ Outside },
-    ghost within: { (r : ℕ) → inside ≡ Some r → (place.me.0.stand ≡ Inside r) × (r < place.me.0.jobs) },
+    ghost within: { (r : ℕ) → inside ≡ Some r → (place.me.0.stand ≡ Inside r)
+        × (r < place.me.0.jobs) },
     ghost counted: { count ≡ min (length place.me.0.inner.made) (2 ^ 64 - 1) },
 }
 
@@ -36,7 +37,8 @@ pub struct Banks<'j, 'c, B: Allocator = Global, A: Allocator = Global, C: Alloca
     pub(crate) seats: u32,
     ghost words: { IsBoard gates_of board.table.shared.table_id board.table.shared.key },
     ghost about: { board.table.shared.key.about ≡ jobs.now },
-    ghost circuit: { (r : ℕ) (job : JobParts) → slice_get jobs.now r ≡ Some job → job.circuit ≡ wiring },
+    ghost circuit: { (r : ℕ) (job : JobParts) → slice_get jobs.now r ≡ Some job
+        → job.circuit ≡ wiring },
     ghost count: { (seats ≡ board.table.shared.key.seats) × (0 < seats) },
     ghost few: { (board.table.shared.key.jobs ≡ length jobs.now)
         × (0 < length jobs.now) × (length jobs.now ≤ 65536) },

@@ -125,7 +125,8 @@ impl<'j, 'c, B: Allocator, A: Allocator, C: Allocator> Banks<'j, 'c, B, A, C> {
         ensures err { IfErr result (λ w. (wire ≡ Some w)
             × Lacks job.now round w place.old.me.0 place.new.me.0) }
         ensures alone { IsAlone place.old.me.0
-            → MatchResult result (λ _. (w : ℕ) → wire ≡ Some w → SetsMade job.now round w place.old.me.0 1)
+            → MatchResult result (λ _. (w : ℕ) → wire ≡ Some w
+            → SetsMade job.now round w place.old.me.0 1)
             (λ w. SetsMade job.now round w place.old.me.0 0) }
     {
         let Some(wire) = wire else {
@@ -218,7 +219,8 @@ impl<'j, 'c, B: Allocator, A: Allocator, C: Allocator> Banks<'j, 'c, B, A, C> {
         requires place { IsPlaceFor self.now place.old round gate }
         requires job { IsJobOf self.now job.now round }
         requires empty { IsIdle place.old.me.0 }
-        requires free { (0 < looked round gate free place.old.me.0.inner.looks) × (free ≤ stamp round 0) }
+        requires free { (0 < looked round gate free place.old.me.0.inner.looks)
+            × (free ≤ stamp round 0) }
         requires label { label ≡ active job.now (set_of job.now gate) }
         ensures same { IsSamePlace place.old place.new }
         ensures answer { Answers job.now round gate 4 place.old.me.0 place.new.me.0 result }
@@ -280,10 +282,12 @@ impl<'j, 'c, B: Allocator, A: Allocator, C: Allocator> Banks<'j, 'c, B, A, C> {
         requires ready { IsReady job.now round first.0 place.old.me.0 first.1
             × IsReady job.now round second.0 place.old.me.0 second.1 }
         ensures same { IsSamePlace place.old place.new }
-        ensures answers { AnswersTwo job.now round first.0 second.0 8 place.old.me.0 place.new.me.0 result }
+        ensures answers { AnswersTwo job.now round first.0 second.0 8 place.old.me.0
+            place.new.me.0 result }
         ensures alone { IsAlone place.old.me.0
             → (pairs round first.0 place.old.me.0.inner.made ≡ 0 → IsMadeNow result.0)
-            × (second.0 ≢ first.0 → pairs round second.0 place.old.me.0.inner.made ≡ 0 → IsMadeNow result.1) }
+            × (second.0 ≢ first.0 → pairs round second.0 place.old.me.0.inner.made ≡ 0
+            → IsMadeNow result.1) }
     {
         let (gate, ready) = first;
         let (next_gate, next_ready) = second;
@@ -312,7 +316,8 @@ impl<'j, 'c, B: Allocator, A: Allocator, C: Allocator> Banks<'j, 'c, B, A, C> {
         requires empty { IsIdle place.old.me.0 }
         ensures same { IsSamePlace place.old place.new }
         ensures answer { Answers job.now round gate 11 place.old.me.0 place.new.me.0 result }
-        ensures alone { IsAlone place.old.me.0 → AnswersAlone job.now round gate place.old.me.0 result }
+        ensures alone { IsAlone place.old.me.0
+            → AnswersAlone job.now round gate place.old.me.0 result }
     {
         match self.ready(place, job, round, gate) {
             Ok(ready) => self.make(place, job, round, gate, ready),
@@ -334,7 +339,8 @@ impl<'j, 'c, B: Allocator, A: Allocator, C: Allocator> Banks<'j, 'c, B, A, C> {
         requires job { IsJobOf self.now job.now round }
         requires empty { IsIdle place.old.me.0 }
         ensures same { IsSamePlace place.old place.new }
-        ensures answers { AnswersTwo job.now round first second 22 place.old.me.0 place.new.me.0 result }
+        ensures answers { AnswersTwo job.now round first second 22 place.old.me.0
+            place.new.me.0 result }
         ensures alone { IsAlone place.old.me.0
             → AnswersTwoAlone job.now round first second place.old.me.0 result }
     {
@@ -361,7 +367,8 @@ impl<'j, 'c, B: Allocator, A: Allocator, C: Allocator> Banks<'j, 'c, B, A, C> {
         requires empty { IsIdle place.old.me.0 }
         ensures same { IsSamePlace place.old place.new }
         ensures answer { InRound self.now.jobs.now place.old.me.0
-            (λ job. Answers job (round_of place.old.me.0) gate 11 place.old.me.0 place.new.me.0 result) }
+            (λ job. Answers job (round_of place.old.me.0) gate 11 place.old.me.0
+            place.new.me.0 result) }
         ensures alone { IsAlone place.old.me.0 → InRound self.now.jobs.now place.old.me.0
             (λ job. AnswersAlone job (round_of place.old.me.0) gate place.old.me.0 result) }
         ensures stays { Stays place.old.me.0 place.new.me.0 }
@@ -386,9 +393,11 @@ impl<'j, 'c, B: Allocator, A: Allocator, C: Allocator> Banks<'j, 'c, B, A, C> {
         requires empty { IsIdle place.old.me.0 }
         ensures same { IsSamePlace place.old place.new }
         ensures answers { InRound self.now.jobs.now place.old.me.0
-            (λ job. AnswersTwo job (round_of place.old.me.0) first second 22 place.old.me.0 place.new.me.0 result) }
+            (λ job. AnswersTwo job (round_of place.old.me.0) first second 22 place.old.me.0
+            place.new.me.0 result) }
         ensures alone { IsAlone place.old.me.0 → InRound self.now.jobs.now place.old.me.0
-            (λ job. AnswersTwoAlone job (round_of place.old.me.0) first second place.old.me.0 result) }
+            (λ job. AnswersTwoAlone job (round_of place.old.me.0) first second
+            place.old.me.0 result) }
         ensures stays { Stays place.old.me.0 place.new.me.0 }
         ensures made { length place.new.me.0.inner.made
             ≡ length place.old.me.0.inner.made + (made_now result.0 + made_now result.1) }

@@ -74,11 +74,12 @@ fn work_together<
 }
 
 /// A place for the output bits of each job, for this number of jobs, with none yet.
-fn none_known<B: Allocator + Copy>(
+pub(crate) fn none_known<B: Allocator + Copy>(
     alloc: B,
     count: usize,
 ) -> Result<Vec<Option<Vec<bool, B>>, B>, AllocError>
-    ensures { IfOk result (λ v. (jobs : List JobParts) → AreKnown jobs v.items) }
+    ensures { IfOk result (λ v. (length v.items ≡ count)
+        × ((jobs : List JobParts) → AreKnown jobs v.items)) }
 {
     let mut slots = Vec::with_capacity(alloc, count)?;
     for _i in 0..count {

@@ -3,7 +3,7 @@
 
 ghost use Rattle.std.specs.Prelude.{◌≡◌, ◌+◌, ◌<◌, length, All, IfSome, IfOk};
 ghost use Rattle.gc_rounds.specs.declared.view.Stand.TheVariants.{Outside, Inside};
-ghost use Rattle.gc_eval.specs.Walks.{IsWithin, batches_left};
+ghost use Rattle.gc_walk.specs.Walks.{IsWithin, batches_left};
 ghost use Rattle.gc_bank.specs.Rounds.{gates_of};
 ghost use Rattle.gc_bank.specs.Seats.{IsSeatOf, IsNew, view, jobs_on};
 ghost use Rattle.gc_bank.specs.Workers.{AreBitsOf, AreLabelsOf, IsWorkerAt, IsWorkerOf, AreWorkersOf};
@@ -50,7 +50,8 @@ fn output_labels<'j, 'c, B: Allocator + Copy, A: Allocator, C: Allocator>(
     requires round { round < length (jobs_on banks.now) }
     ensures own { IsSeatOf banks.now seat.new }
     ensures inside { (view seat.new).stand ≡ Inside round }
-    ensures labels { IfOk result (λ o. IfSome o (λ v. AreLabelsOf (jobs_on banks.now) round v.items)) }
+    ensures labels { IfOk result
+        (λ o. IfSome o (λ v. AreLabelsOf (jobs_on banks.now) round v.items)) }
 {
     let circuit = banks.job(round).circuit();
     let count = circuit.output_wires();

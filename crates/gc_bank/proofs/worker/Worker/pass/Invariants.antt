@@ -1,5 +1,5 @@
 use Rattle.gc_rounds.specs.declared.view.Stand.TheVariants.{Inside}
-use Rattle.gc_eval.specs.Walks.{batches_left}
+use Rattle.gc_walk.specs.Walks.{batches_left}
 use Rattle.gc_bank.specs.Workers.{IsWorkerAt}
 use Rattle.gc_bank.proofs.worker.Worker.pass.Given as goal
 
