@@ -1,5 +1,5 @@
--- The words of a board, three for each gate: its state (FREE, IN_HAND or DONE), and the low and the high half of what is found
--- out of it. One more word stands at the end, which no gate has.
+-- The words of a board, three for each gate: its state (FREE, IN_HAND or DONE), and the low and the high half of what
+-- is found out of it. One more word stands at the end, which no gate has.
 use Rattle.std.specs.Prelude.{◌≡◌, ℕ, ◌+◌, ◌*◌, ◌<◌, List, [], length, slice_index, Some, None}
 use mathlib.Core.Option.{some}
 use lib.ListN.{get_elem?}
@@ -26,7 +26,7 @@ abbrev pub in_hand : ℕ → Hand → ℕ
 in_hand g Empty = 0
 in_hand g (Has h phase) = only g h
 
--- Of each work it is told how many gates there are, and which numbers are right as half k of a gate: the low half is
+-- Each work says how many gates there are, and which numbers are right as half k of a gate: the low half is
 -- half 0, the high half is half 1.
 module _ {J : Type 0} (gates : J → ℕ) (right : J → ℕ → ℕ → ℕ → Type 0) where
   -- The halves of the gate in hand that are stored are right: the low half from phase 1 on, the high half at phase 2.

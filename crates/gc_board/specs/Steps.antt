@@ -1,4 +1,4 @@
--- What each kind of step does to the view of the seat that steps, and what it tells the seat.
+-- What each kind of step does to the view of the seat that steps, and what the seat learns.
 use Rattle.std.specs.Prelude.{◌≡◌, ℕ, ◌+◌, ◌-◌, ◌*◌, ◌<◌, List, [], ◌∷◌, ◌++◌, ◌==◌, if◌then◌else◌, Some}
 use Rattle.atomic_table.specs.Table.{Me, Step}
 use Rattle.gc_board.specs.Counts.{only, times}
@@ -47,7 +47,7 @@ module _ {J : Type 0} where
   abbrev pub after_done : View J → ℕ → View J
   after_done v g = changed v Empty (v.made ++ g ∷ []) (g ∷ v.known) (3 * g) DONE
 
-  -- What the number found at the state of a gate tells: a known gate is found DONE; and a view that stands for
+  -- What the number found at the state of a gate means: a known gate is found DONE; and a view that stands for
   -- all seats of its board has the gate in hand where it is found IN_HAND, and made it where it is found DONE.
   abbrev pub Tells : View J → ℕ → ℕ → Type 0
   Tells v word found =

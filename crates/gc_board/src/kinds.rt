@@ -1,4 +1,4 @@
-//! What each kind of step tells the seat that steps, and how views are cut and joined.
+//! What the seat that steps learns from each kind of step, and how views are cut and joined.
 
 use crate::rule::{View, Work};
 use atomic_table::{Join, Play, Split};

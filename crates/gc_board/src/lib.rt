@@ -2,7 +2,7 @@
 //!
 //! A board has three words for each gate: its state ([`FREE`], [`IN_HAND`] or [`DONE`]) and two halves of what is
 //! found out of it. [`Rule`] is what holds of these words, and of what the seats know of them, between any two atomic
-//! steps. Nothing here knows of circuits: [`Work`] tells what the words are about.
+//! steps. Nothing here knows of circuits: [`Work`] says what the words are about.
 #![tactic(auto)]
 
 mod fault;

@@ -25,7 +25,7 @@ pub trait Work {
     ghost right: { Self → ℕ → ℕ → ℕ → Type 0 };
 }
 
-/// What a table of words is told when it is made: the work, and how many seats there are.
+/// What a table of words is given when it is made: the work, and how many seats there are.
 #[derive(Drop)]
 pub struct Key<J> {
     pub work: J,

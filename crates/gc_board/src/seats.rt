@@ -1,7 +1,7 @@
-//! The table of a board's words: how it is opened and closed, and how its seats are dealt, told of one another and
+//! The table of a board's words: how it is opened and closed, and how its seats are dealt, share what they know and
 //! joined.
 
-ghost use Rattle.std.specs.Prelude.{◌≡◌, ℕ, ◌+◌, ◌*◌, ◌<◌, [], IfOk, replicate};
+ghost use Rattle.std.specs.Prelude.{◌≡◌, ℕ, ◌+◌, ◌*◌, ◌<◌, [], IfOk, IfErr, replicate};
 ghost use Rattle.std.specs.Slots.{slots_items, slots_len, IsFull};
 ghost use Rattle.gc_board.specs.declared.rule.Hand.TheVariants.{Empty};
 ghost use Rattle.gc_board.specs.Board.{starting, Settled};
@@ -34,10 +34,11 @@ pub fn open_table<J: Work, A: Allocator>(
 ) -> Result<(WordTable<J, A>, Place<J>), OpenFault>
     requires words { words.items ≡ replicate (3 * J.gates key.now.work + 1) 0 }
     requires seats { 0 < key.now.seats }
-    ensures { IfOk result (λ t. (t.0.shared.key ≡ key.now)
+    ensures opened { IfOk result (λ t. (t.0.shared.key ≡ key.now)
         × IsTable J.gates t.0.shared.table_id key.now
         × (t.1.table_id ≡ t.0.shared.table_id)
         × (t.1.me ≡ (starting key.now.work key.now.seats, []))) }
+    ensures refused { IfErr result (λ fault. fault ≡ OpenFault.NoTable) }
 {
     match Table::of_words(alloc, &words, key) {
         Ok(opened) => Ok(opened),

@@ -1,5 +1,5 @@
--- The words of two banks' boards, used again round after round. In bank b gate g has word 2 + 6 g + 3 b, its state word,
--- and the two words that follow: the low and the high half of what is found out of it. A state word is a state
+-- The words of two banks' boards, used again round after round. In bank b gate g has word 2 + 6 g + 3 b, its state
+-- word, and the two words that follow: the low and the high half of what is found out of it. A state word is a state
 -- (FREE, IN_HAND or DONE) in a round, and one of an earlier round than its bank's counts as free.
 use Rattle.std.specs.Prelude.{◌≡◌, ℕ, ◌+◌, ◌*◌, ◌%◌, ◌<◌, ◌≤◌, ◌⊎◌, List, [], length, slice_index, Some, None}
 use mathlib.Core.Option.{some}
@@ -44,7 +44,7 @@ abbrev pub in_hand : ℕ → ℕ → Hand → ℕ
 in_hand r g Empty = 0
 in_hand r g (Has k h phase) = is_pair r g (k, h)
 
--- Of each work it is told how many gates there are, and which numbers are right, in a round, as half k of a gate: the
+-- Each work says how many gates there are, and which numbers are right, in a round, as half k of a gate: the
 -- low half is half 0, the high half is half 1.
 module _ {J : Type 0} (gates : J → ℕ) (right : J → ℕ → ℕ → ℕ → ℕ → Type 0) where
   -- The halves of the gate in hand that are stored are right: the low half from phase 1 on, the high half at phase 2.

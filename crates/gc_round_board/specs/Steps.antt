@@ -1,4 +1,4 @@
--- What each kind of step does to the view of the seat that steps, and what it tells the seat.
+-- What each kind of step does to the view of the seat that steps, and what the seat learns.
 use Rattle.std.specs.Prelude.{◌≡◌, ℕ, ◌+◌, ◌%◌, ◌<◌, ◌≤◌, ◌⊎◌, List, [], ◌∷◌, ◌++◌, ◌==◌, if◌then◌else◌, Some}
 use Rattle.atomic_table.specs.Table.{Me, Step}
 use Rattle.gc_board.specs.declared.rule.TheConstants.{DONE, FREE, IN_HAND}
@@ -71,9 +71,9 @@ module _ {J : Type 0} where
       changed v Empty (v.inner.made ++ (r, g) ∷ []) ((r, g) ∷ v.inner.known) v.inner.looks
       (Store (at r g) (stamp r DONE))
 
-  -- What the word found at the state of gate g tells a seat inside round r: it is one of the three states, of the round
-  -- or of an earlier one; a known gate is found DONE in the round; and a view that stands for all seats has the gate
-  -- in hand where it is found IN_HAND in the round, and made it where it is found DONE in it.
+  -- What the word found at the state of gate g means to a seat inside round r: it is one of the three states, of the
+  -- round or of an earlier one; a known gate is found DONE in the round; and a view that stands for all seats has the
+  -- gate in hand where it is found IN_HAND in the round, and made it where it is found DONE in it.
   pub record Tells (v : View (BoardView J)) (r g found : ℕ) : Type 0 where
     pub state : found % ROUND < 3
     pub round : round_of found ≤ r
@@ -124,7 +124,7 @@ module _ {J : Type 0} where
     done_stored st m new m' =
         (m'.1 ≡ m.1) × ((r g phase : ℕ) → m.0.inner.hand ≡ Has r g phase → m'.0 ≡ after_done m.0 r g)
 
-    -- a load of a bank's word that tells a view that stands for all seats that each pair was made once at most
+    -- a load of a bank's word from which a view that stands for all seats learns that each pair was made once at most
     abbrev pub settled : Step S → Me S (View (BoardView J)) → ℕ → Me S (View (BoardView J)) → Type 0
     settled st m found m' =
         (m'.1 ≡ m.1) × (m'.0 ≡ after_half m.0 st.word found)

@@ -1,4 +1,4 @@
-//! What each kind of step on the words of a gate tells the seat that steps.
+//! What the seat that steps learns from each kind of step on the words of a gate.
 
 use crate::view::{BoardView, Work};
 use atomic_table::Play;
@@ -52,7 +52,7 @@ impl<J: Work> Play<u8, View<BoardView<J>>> for StoreDone {
     ghost then = { done_stored };
 }
 
-/// A load that tells a view that stands for all seats what they made.
+/// A load from which a view that stands for all seats learns what they made.
 pub struct Settle;
 
 impl<J: Work> Play<u8, View<BoardView<J>>> for Settle {

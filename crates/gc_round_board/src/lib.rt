@@ -4,7 +4,7 @@
 //! state (bits 0 and 1: free, in hand or done) and the round that it is of (bits 32 to 63). One of an earlier round
 //! counts as free, so a bank that goes to its next round has nothing to clear. What holds of these words is the inner
 //! rule of a table of banks (`gc_rounds`): `Sound` in `specs/Board.antt`. Nothing here knows of circuits: [`Work`]
-//! tells what the words are about.
+//! says what the words are about.
 #![tactic(auto)]
 
 mod inner;

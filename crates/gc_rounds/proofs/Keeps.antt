@@ -12,7 +12,7 @@ use Rattle.gc_board.specs.Counts.{total, only}
 use Rattle.gc_rounds.specs.Words.{count_of, mark_of, round_of, bank_of, open_word, shut_word}
 use Rattle.gc_rounds.specs.Views.{counted, gives, given, unfair, seals_in, sealed_in}
 use Rattle.gc_rounds.specs.Banks.{StandFits, BankSound, BanksSound}
-use Rattle.gc_rounds.specs.Steps.{recorded, stand_after, entered, left, sealed, one_less, newcomer, merged, nobody, starting, IsOwn}
+use Rattle.gc_rounds.specs.Steps.{recorded, stand_after, entered, left, sealed, IsOwn}
 use Rattle.gc_rounds.specs.Steps as bank_steps
 use Rattle.gc_rounds.specs.Laws.{Moves}
 use Rattle.gc_rounds.specs.declared.view.Stand.{Stand}

@@ -1,5 +1,5 @@
--- What an inner rule owes: that it holds at the opening, and that the steps on the banks' words keep it, and the dealing
--- and joining of seats too.
+-- What an inner rule owes: that it holds at the opening, and that the steps on the banks' words keep it, and the
+-- dealing and joining of seats too.
 use Rattle.std.specs.Prelude.{◌≡◌, ℕ, ◌+◌, ◌<◌, ◌≤◌, ◌⊎◌, List, [], ◌∷◌, ◌++◌, length, slice_index, slice_set}
 use mathlib.Core.Option.{some}
 use lib.ListN.{get_elem?}

@@ -1,10 +1,10 @@
-//! What a table of banks keeps beside the banks' words.
+//! What a table of banks keeps besides the banks' words.
 
 ghost use Rattle.std.specs.Prelude.{ℕ, List};
 ghost use Rattle.gc_rounds.specs.declared.view.View.{View};
 ghost use Rattle.gc_rounds.specs.Laws.{Opens, Moves, Deals, Joins};
 
-/// What a seat knows beside where it is, and a rule about that and about the words behind the banks' two.
+/// What a seat knows besides where it is, and a rule about that and about the words behind the banks' two.
 pub trait Inner<T> {
     /// How many of these words there are.
     ghost size: { T → ℕ };

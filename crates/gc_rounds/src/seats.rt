@@ -21,8 +21,9 @@ pub type WordTable<T, I, A> = Table<u8, View<I>, Key<T>, Rule, A>;
 
 /// The word of bank 1 at the opening: open in round 1, or sealed where there is no such job.
 fn second_word(jobs: u32) -> u64
-    ensures { (round_of result ≡ 1) × (count_of result ≡ 0) × (mark_of result < 2)
+    ensures word { (round_of result ≡ 1) × (count_of result ≡ 0) × (mark_of result < 2)
         × (1 < jobs → mark_of result ≡ 0) }
+    ensures sealed { jobs < 2 → mark_of result ≡ 1 }
 {
     if jobs < 2 { ROUND + MARK } else { ROUND }
 }

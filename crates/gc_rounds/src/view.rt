@@ -1,4 +1,4 @@
-//! The view that a seat has of the banks, and what a table of banks is told when it is made.
+//! The view that a seat has of the banks, and what a table of banks is given when it is made.
 
 use std::collections::LinkedList;
 
@@ -40,11 +40,11 @@ pub struct View<I> {
     pub stand: Stand,
     /// Its steps, in order.
     pub steps: LinkedList<Step>,
-    /// What it knows beside.
+    /// What else it knows.
     pub inner: I,
 }
 
-/// What a table of banks is told when it is made: how many jobs and seats there are, and what the other words are
+/// What a table of banks is given when it is made: how many jobs and seats there are, and what the other words are
 /// about.
 #[derive(Drop)]
 pub struct Key<T> {

@@ -1,4 +1,4 @@
-use Rattle.std.proofs.Common.{◌≡◌, ℕ, ◌+◌, ◌*◌, List, [], ◌∷◌, arith, sym, ◌∙◌, subst}
+use Rattle.std.proofs.Common.{ℕ, ◌+◌, ◌*◌, List, [], ◌∷◌, arith, sym, ◌∙◌, subst}
 use Rattle.gc_board.specs.Board.{Sound, starting}
 use Rattle.gc_board.proofs.Seating.{opens}
 use Rattle.gc_board.proofs.seats.open_table.Goals as goal

@@ -13,7 +13,7 @@ of_words-requires g c =
     (λ y h. h)) in
     let v : View g.row.I.Denot = starting c.args.key.now.jobs c.args.key.now.seats
     (g.I.Inner.first c.args.key.now.about) in
-    let w = c.second_word.ensures in
+    let w = c.second_word.ensures.word in
     subst (λ (ws : List ℕ). BanksSound c.args.key.now.jobs c.args.key.now.seats ws (v ∷ [])
     × g.I.Inner.holds c.args.key.now.about ws (v ∷ [])) (sym e) (
       opens c.args.key.now.jobs c.args.key.now.seats c.args.size second
