@@ -141,12 +141,12 @@ nothing (t ∷ ts) none = absurd (omega (arith, sum_by-cons (λ (_ : Task). 1) t
 hands_none : (v : PoolAccount) → IsGathered v → Knows v [] → left_of v ≡ []
 hands_none v g k = nothing (left_of v) (omega (arith, g.conserved (λ _. 1), k.whole g.parts (λ _. 1)))
 
--- what counting the tasks in the pool tells of an account with all parts
+-- what an account with all parts says of the tasks in the pool
 pub counted : (v w : PoolAccount) (count : ℕ) → w ≡ v → w.parts ≡ all_parts
     → (tasks : List Task) × (length tasks ≡ count) × Knows v tasks → IsGathered w
 counted v w count same all told = gathered w all (told.0, subst (λ (u : PoolAccount). Knows u told.0) (sym same) told.2)
 
--- what `next` tells of the account before and after
+-- how `next` changes the account
 abbrev pub Tells : PoolAccount → PoolAccount → Option Task → Type 0
 Tells v w r = MatchOption r ((w ≡ v) × Knows v [])
     (λ t. (w ≡ account v.parts v.pushed (v.popped ++ t ∷ []) v.stolen) × KnowsSome w)

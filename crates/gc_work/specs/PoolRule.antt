@@ -40,11 +40,11 @@ IsBalanced tasks accounts =
     × ((h : Task → ℕ) → total (λ v. weigh h v.pushed) accounts ≡ total (gone h) accounts + weigh h tasks)
     × IdleIsEmpty accounts
 
--- What an account tells of the tasks in the pool: with all parts, they are those pushed and not taken.
+-- What an account says of the tasks in the pool: with all parts, they are those pushed and not taken.
 pub record Knows (v : PoolAccount) (tasks : List Task) : Type 0 where
   pub bound : v.parts ≤ all_parts
   pub whole : v.parts ≡ all_parts → (h : Task → ℕ) → weigh h v.pushed ≡ gone h v + weigh h tasks
 
--- What an account tells where the tasks in the pool are not named.
+-- What an account says where the tasks in the pool are not named.
 abbrev pub KnowsSome : PoolAccount → Type 0
 KnowsSome v = (tasks : List Task) × Knows v tasks

@@ -33,10 +33,10 @@ const _: () = prove!(MAX_WORKERS <= MAX_TALLIES);
 
 /// The garbling of a circuit under a seed, by this number of workers. The calling thread is worker 0.
 ///
-/// [`way_of`] says how it is made. [`Way::Alone`]: worker 0 garbles, and no thread is started. [`Way::Layers`]: worker 0
-/// goes from gate to gate, and all garble the AND gates that it passed ([`garble_by_layers`]). [`Way::Together`]: they
-/// share a store, from which each takes any gate that is ready. Where a thread can't be started, the calling thread does
-/// its work too. Each gate is reported to the observer before it is sealed.
+/// [`way_of`] says how it is made. [`Way::Alone`]: worker 0 garbles, and no thread is started. [`Way::Layers`]: worker
+/// 0 goes from gate to gate, and all garble the AND gates that it passed ([`garble_by_layers`]). [`Way::Together`]:
+/// they share a store, from which each takes any gate that is ready. Where a thread can't be started, the calling
+/// thread does its work too. Each gate is reported to the observer before it is sealed.
 ///
 /// It refuses 0 workers and more than [`MAX_WORKERS`]. Memory is the other fault.
 pub fn garble<

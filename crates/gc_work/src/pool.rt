@@ -64,7 +64,8 @@ impl<A: Allocator> Model for Owner<A> {
       popped = (worker_view o.worker).popped;
     } };
 
-    ghost invariant = { λ o. IsOwning (worker_view o.worker) (worker_capacity o.worker) (worker_index o.worker)
+    ghost invariant = { λ o. IsOwning (worker_view o.worker) (worker_capacity o.worker)
+        (worker_index o.worker)
         o.capacity o.thieves };
 }
 
@@ -190,7 +191,8 @@ impl<A: Allocator> TaskPool<A> {
         requires { owner.old.pool ≡ self.now }
         ensures popped { MatchOption result (owner.new ≡ owner.old)
             (λ t. owner.new ≡ record owner.old { popped = owner.old.popped ++ t ∷ [] }) }
-        ensures alone { owner.old.thieves ≡ 0 → IfNone result (IsConserved owner.old.pushed owner.old.popped [] []) }
+        ensures alone { owner.old.thieves ≡ 0 → IfNone result (IsConserved owner.old.pushed
+            owner.old.popped [] []) }
     {
         owner.worker.pop_as::<Pops>()
     }
@@ -218,7 +220,8 @@ impl<A: Allocator> TaskPool<A> {
     ) -> Result<Gathered<A>, (TaskPool<A>, Owner<A>, Vec<Thief<A>, A>)>
         requires own { owner.pool ≡ self }
         requires all { AllOf self thieves.items }
-        ensures missing { IfErr result (λ r. (r ≡ (self, owner, thieves)) × (length thieves.items < owner.thieves)) }
+        ensures missing { IfErr result
+            (λ r. (r ≡ (self, owner, thieves)) × (length thieves.items < owner.thieves)) }
         ensures here { IfOk result (λ _. owner.thieves ≤ length thieves.items) }
         ensures whole { IfOk result (λ g. g ≡ record {
           pushed = owner.pushed;
