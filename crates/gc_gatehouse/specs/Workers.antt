@@ -1,5 +1,5 @@
 -- How many workers there may be.
-use Rattle.std.specs.Prelude.{ℕ, ◌*◌, ◌<◌, ◌≤◌}
+use Rattle.std.specs.Prelude.{ℕ, ◌<◌, ◌≤◌}
 use Rattle.gc_gatehouse.specs.declared.TheConstants.{MAX_WORKERS}
 
 -- There is a worker, and there are not too many.

@@ -57,7 +57,8 @@ impl<'c, P: Pending, O: Origin<P>, L: Labelling<P>, A: Allocator, C: Allocator, 
     ghost view = { λ t. t.labelling };
 
     ghost invariant = { λ t. IsLayer (L.circuit_of t.labelling) (L.label_of t.labelling)
-        O.is_pending (L.is_pending t.labelling) t.circuit.now t.labels.items t.marks.items t.postponed };
+        O.is_pending (L.is_pending t.labelling) t.circuit.now t.labels.items t.marks.items
+        t.postponed };
 }
 
 impl<

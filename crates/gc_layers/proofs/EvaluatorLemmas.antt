@@ -1,7 +1,7 @@
 -- An evaluation that is partly there.
-use Rattle.std.proofs.Common.{◌≡◌, ℕ, ◌+◌, ◌-◌, ◌<◌, ◌≤◌, inl, inr, true, List, length, length-set, map, drop, set, get_or, slice_index, slice_get, Some, refl, sym, ap, ◌∙◌, arith}
+use Rattle.std.proofs.Common.{◌≡◌, ℕ, ◌+◌, ◌-◌, ◌<◌, ◌≤◌, inl, inr, true, List, length, map, drop, set, get_or, slice_index, slice_get, Some, refl, sym, ap, ◌∙◌, arith}
 use Rattle.std.specs.List.{range_with_len}
-use Rattle.std.proofs.lemmas.List.{ext_get_or, get_or-drop, get_or-set_same, get_or-set_other, length-drop, get_or_past}
+use Rattle.std.proofs.lemmas.List.{ext_get_or, get_or-drop, length-drop, get_or_past}
 use Rattle.std.proofs.lemmas.List.FromFn.{length-map-range_with_len, get_or-map-range_with_len}
 use Rattle.gc_netlist.specs.declared.gate.Operation.{Operation}
 use Rattle.gc_netlist.specs.declared.gate.Operation.TheVariants.{Xor, And, Inv, Eq, Eqw}
@@ -123,17 +123,3 @@ module _ {A : Type 0} (made : List A) (n : ℕ) (w x y z : A) where
 
   abbrev three : List A
   three = set two (n + 2) y
-
-  pub four-put : (d : A) → n + 4 ≤ length made → let all = set three (n + 3) z in
-      (get_or all n d ≡ w) × (get_or all (n + 1) d ≡ x) × (get_or all (n + 2) d ≡ y) × (get_or all (n + 3) d ≡ z)
-  four-put d room =
-      let l = length-set made n w in
-      let m = length-set one (n + 1) x in
-      let k = length-set two (n + 2) y in (
-        get_or-set_other three (n + 3) n z d (omega arith) ∙ get_or-set_other two (n + 2) n y d (omega arith)
-            ∙ get_or-set_other one (n + 1) n x d (omega arith) ∙ get_or-set_same made n w d (omega arith),
-        get_or-set_other three (n + 3) (n + 1) z d (omega arith)
-            ∙ get_or-set_other two (n + 2) (n + 1) y d (omega arith) ∙ get_or-set_same one (n + 1) x d (omega arith),
-        get_or-set_other three (n + 3) (n + 2) z d (omega arith) ∙ get_or-set_same two (n + 2) y d (omega arith),
-        get_or-set_same three (n + 3) z d (omega arith),
-      )

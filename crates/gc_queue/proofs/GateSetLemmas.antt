@@ -1,5 +1,5 @@
 -- What putting a gate into a set of gates and taking one out keep of the bits in its words.
-use Rattle.std.proofs.Common.{◌≡◌, ◌≢◌, ℕ, zero, suc, ◌+◌, ◌*◌, ◌/◌, ◌%◌, ◌^◌, ◌<◌, ◌≤◌, ◌↔◌, ◌⊎◌, inl, inr, List, [], ◌∷◌, length, length-set, set, get_or, Some, bit_and, bit_or, w64, refl, sym, ap, ◌∙◌, subst, arith}
+use Rattle.std.proofs.Common.{◌≡◌, ◌≢◌, ℕ, zero, suc, ◌+◌, ◌*◌, ◌/◌, ◌%◌, ◌^◌, ◌<◌, ◌≤◌, ◌↔◌, ◌⊎◌, inl, inr, List, [], ◌∷◌, length, length-set, set, get_or, Some, bit_and, bit_or, w64, sym, ap, ◌∙◌, subst, arith}
 use Rattle.std.specs.Int.{bit_at, bit_not}
 use Rattle.std.proofs.lemmas.Bool.{cases_eq}
 use Rattle.std.proofs.lemmas.Nat.Bits.{bit_at-zero, bit_at_set_same, bit_at_set_other, bit_at_clear_same, bit_at_clear_other}
@@ -157,13 +157,6 @@ module _ (words filled : List ℕ) (start : ℕ) (s : IsGateSet words filled sta
       (s.filled_at (k * 64 + b)).0
       (ap (λ n. bit_at (get_or filled n 0) ((k * 64 + b) % 64)) word
       ∙ ap (bit_at (get_or filled k 0)) place ∙ ap (λ n. bit_at n b) (sym read) ∙ has)
-
-  pub all_passed : ((j : ℕ) → get_or filled j 0 ≡ 0) → (k : ℕ) → get_or words k 0 ≡ 0
-  all_passed none k = by_word (get_or words k 0) refl
-    where
-      by_word : (n : ℕ) → get_or words k 0 ≡ n → get_or words k 0 ≡ 0
-      by_word zero is = is
-      by_word (suc n) is = absurd (none_past filled k (none (k / 64)) ((s.filled_at k).1 (omega (arith, is))))
 
   -- ---- the first gate of a word
 

@@ -1,5 +1,5 @@
 -- What taking, finishing, counting down and putting back a gate keep of a queue.
-use Rattle.std.proofs.Common.{◌≡◌, ◌≢◌, ℕ, zero, suc, ◌+◌, ◌-◌, ◌*◌, ◌^◌, ◌<◌, ◌≤◌, ◌↔◌, inl, inr, List, [], ◌∷◌, length, length-set, set, get_or, slice_get, Some, true, cond, count_by, replicate, refl, sym, ap, ◌∙◌, subst, arith}
+use Rattle.std.proofs.Common.{◌≡◌, ◌≢◌, ℕ, zero, suc, ◌+◌, ◌-◌, ◌*◌, ◌^◌, ◌<◌, ◌≤◌, ◌↔◌, inl, inr, List, [], ◌∷◌, length, length-set, set, get_or, slice_get, Some, replicate, refl, sym, ap, ◌∙◌, subst, arith}
 use Rattle.std.proofs.lemmas.Bool.{cases_eq}
 use Rattle.std.proofs.lemmas.Option.{slice_get_within, slice_get-get_or, get_or_from_slice_get}
 use Rattle.std.proofs.lemmas.List.Sums.{count_by-le-length}
@@ -8,7 +8,7 @@ use Rattle.gc_queue.specs.declared.mark.Mark.{Mark}
 use Rattle.gc_queue.specs.declared.mark.Mark.TheVariants as mark
 use Rattle.gc_queue.specs.GateSet.{Has, Adds, Removes}
 use Rattle.gc_queue.specs.Queue.{Standing, IsReady, with_mark, is_busy, IsQueue}
-use Rattle.gc_queue.proofs.ListLemmas.{slice_get-set_other, slice_get-set_same, slice_get-replicate, count_by-set, count_by-set_more, count_by-set_less, count_by-all, count_by-replicate, count_by-some}
+use Rattle.gc_queue.proofs.ListLemmas.{slice_get-set_other, slice_get-set_same, slice_get-replicate, count_by-set, count_by-set_more, count_by-set_less, count_by-replicate, count_by-some}
 
 -- a number of a list that is not 0 is there
 pub positive_at : (xs : List ℕ) (i : ℕ) → 0 < get_or xs i 0 → slice_get xs i ≡ Some (get_or xs i 0)

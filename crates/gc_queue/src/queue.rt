@@ -33,17 +33,20 @@ impl<A: Allocator> Model for Queue<A> {
     ghost view = { λ q. record { marks = q.marks.items; countdowns = q.countdowns.items } };
 
     ghost invariant = { λ q.
-        IsQueue (record { marks = q.marks.items; countdowns = q.countdowns.items }) q.queued q.busy };
+        IsQueue (record { marks = q.marks.items; countdowns = q.countdowns.items })
+        q.queued q.busy };
 }
 
 impl<A: Allocator + Copy> Queue<A> {
     /// A queue where every gate is free, with these countdowns less one: the opening itself counts each gate down.
     pub fn open(alloc: A, countdowns: Vec<u8, A>) -> Result<Queue<A>, Memory>
         requires few { length countdowns.items < 2 ^ 32 }
-        requires positive { (i : ℕ) → i < length countdowns.items → 0 < slice_index_or countdowns.items i 0 }
+        requires positive { (i : ℕ) → i < length countdowns.items
+            → 0 < slice_index_or countdowns.items i 0 }
         ensures marks { IfOk result (λ q. q.marks ≡ replicate (length countdowns.items) mark.Free) }
         ensures count { IfOk result (λ q. length q.countdowns ≡ length countdowns.items) }
-        ensures countdowns { IfOk result (λ q. (i n : ℕ) → slice_get countdowns.items i ≡ Some (n + 1)
+        ensures countdowns { IfOk result
+            (λ q. (i n : ℕ) → slice_get countdowns.items i ≡ Some (n + 1)
             → slice_get q.countdowns i ≡ Some n) }
     {
         let gates = countdowns.len() as u32;

@@ -1,4 +1,4 @@
--- What the calls of a store tell of its content, from its tables.
+-- What the calls of a store say of its content, from its tables.
 use Rattle.std.proofs.Common.{◌≡◌, ℕ, ◌+◌, ◌<◌, ◌≤◌, ◌↔◌, ◌==◌, IsTrue, List, length, set, get_or, slice_get, slice_index, Option, Some, None, is_some, Bool, true, false, if◌then◌else◌, count_by, refl, sym, ap, ◌∙◌, subst, arith}
 use Rattle.std.proofs.lemmas.Bool.Decides.{nat_tests}
 use Rattle.std.proofs.lemmas.List.{get_or_read, get_or_default}
@@ -29,7 +29,7 @@ use Rattle.gc_store.proofs.CircuitLemmas.{and_number-lt}
 use Rattle.gc_store.proofs.StepLemmas.{known-claim, all_finished, all_finished_back}
 use Rattle.gc_store.proofs.TableLemmas.{state_is, known_label, finished_queue, finished_tables, is_some-gate_rows, claim_keeps, content-claim, finish_keeps, content-finish, counts_set}
 
--- ---- what the store's calls tell
+-- ---- what the store's calls say
 
 eqb_is : (m n : ℕ) → IsTrue (m == n) ↔ (m ≡ n)
 eqb_is m n = (λ h. grind (arith, nat_tests), λ h. grind (arith, nat_tests))

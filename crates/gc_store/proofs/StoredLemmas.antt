@@ -1,8 +1,7 @@
 -- What follows for the content from what the tables keep.
-use Rattle.std.proofs.Common.{◌≡◌, ℕ, ◌+◌, ◌↔◌, Bool, true, false, IsTrue, if◌then◌else◌, List, Some, get_or, slice_get, refl, sym, ap, ◌∙◌, arith}
+use Rattle.std.proofs.Common.{◌≡◌, ℕ, ◌↔◌, Bool, true, false, IsTrue, if◌then◌else◌, List, Some, refl, sym, ap, ◌∙◌, arith}
 use Rattle.gc_netlist.specs.declared.gate.Operation.{Operation}
 use Rattle.gc_netlist.specs.declared.gate.Operation.TheVariants.{Xor, And, Inv, Eq, Eqw}
-use Rattle.gc_netlist.specs.declared.gate.Gate.{Gate}
 use Rattle.gc_netlist.specs.Circuit.{Netlist, EachRead}
 use Rattle.gc_netlist.proofs.SolutionLemmas.{EachRead-map}
 use Rattle.gc_queue.specs.Readers.{unknown, unknown_reads}

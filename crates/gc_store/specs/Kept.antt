@@ -94,8 +94,8 @@ pub record IsKept (c : Netlist) (seed : List ℕ) (offset : ℕ) (t : Tables) : 
   pub rows : length t.rows ≡ and_count c
   pub finished : t.finished ≡ count_by is_finished (content_of c seed t).states
 
--- What the tables keep, and what follows for the content: the gates of the queue are exactly the ready ones, and a gate's
--- countdown is the number of its reads whose wire an unfinished gate sets.
+-- What the tables keep, and what follows for the content: the gates of the queue are exactly the ready ones, and a
+-- gate's countdown is the number of its reads whose wire an unfinished gate sets.
 pub record IsStored (c : Netlist) (seed : List ℕ) (offset : ℕ) (t : Tables) : Type 0 where
   pub kept : IsKept c seed offset t
   pub ready : (i : ℕ) → queue.IsReady (queue_of t) i ↔ IsReady (content_of c seed t) i

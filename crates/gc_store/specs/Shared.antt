@@ -44,16 +44,16 @@ HasClaimed s = (i : ℕ) × IsClaimed s i
 abbrev pub NoneReady : Content → Type 0
 NoneReady s = (i : ℕ) → ¬ IsReady s i
 
--- Looking for a task in a store that was stopped or not: a task that is claimed; later, where no gate is ready but one is
--- claimed; or nothing, where the store was stopped or no gate is ready and none is claimed.
+-- Looking for a task in a store that was stopped or not: a task that is claimed; later, where no gate is ready but one
+-- is claimed; or nothing, where the store was stopped or no gate is ready and none is claimed.
 abbrev pub Looks : Bool → Content → Finding → Content → Type 0
 Looks stopped old (finding.Task task) new = (stopped ≡ false) × Claims old (Some task) new
 Looks stopped old finding.Later new = (stopped ≡ false) × (new ≡ old) × NoneReady old × HasClaimed old
 Looks stopped old finding.Nothing new =
     (new ≡ old) × ((stopped ≡ true) ⊎ (NoneReady old × (¬ HasClaimed old)))
 
--- Claiming into a batch in a store that was stopped or not: gates are claimed one after another, and their tasks are put
--- at the end of the batch in this order. After a stop nothing is claimed.
+-- Claiming into a batch in a store that was stopped or not: gates are claimed one after another, and their tasks are
+-- put at the end of the batch in this order. After a stop nothing is claimed.
 abbrev pub ClaimsUnless : Bool → Content → List Task → Content → List Task → Type 0
 ClaimsUnless true old before new after = (new ≡ old) × (after ≡ before)
 ClaimsUnless false old before new after = (n : ℕ) × ClaimsSome old before n new after

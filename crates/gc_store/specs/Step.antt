@@ -50,9 +50,9 @@ with_sealed s task = record s {
   rows = s.rows + (if is_and task.operation then 2 else 0);
 }
 
--- Handing in a sealed task. Where its gate is not claimed it is refused as NotClaimed; else, where it is not the store's
--- task for that gate, as OtherInputs. A refusal gives the sealed task back and changes nothing. Else the gate is
--- finished, and the answer is whether every gate now is.
+-- Handing in a sealed task. Where its gate is not claimed it is refused as NotClaimed; else, where it is not the
+-- store's task for that gate, as OtherInputs. A refusal gives the sealed task back and changes nothing. Else the gate
+-- is finished, and the answer is whether every gate now is.
 abbrev pub Finishes : Content → Task → Result Bool Refused → Content → Type 0
 Finishes old task (Ok complete) new =
     IsClaimed old task.gate × IsOwnTask old task × (new ≡ with_sealed old task) × (IsTrue complete ↔ AllFinished new)

@@ -58,7 +58,8 @@ impl Batch {
     /// Takes out the task that was put in last, if there is one.
     #[inline]
     pub fn pop(&mut self) -> Option<Task>
-        ensures { MatchOption result ((self.old ≡ []) × (self.new ≡ [])) (λ task. self.old ≡ self.new ++ task ∷ []) }
+        ensures { MatchOption result ((self.old ≡ []) × (self.new ≡ []))
+            (λ task. self.old ≡ self.new ++ task ∷ []) }
     {
         self.tasks.pop()?
     }

@@ -52,7 +52,8 @@ impl<A: Allocator + Copy> LabelTables<A> {
         circuit: &Circuit<C>,
         seed: &Seed,
     ) -> Result<LabelTables<A>, Memory>
-        ensures { IfOk result (λ t. Tabulates circuit.now seed.now t.and_numbers.items t.zero_labels.items t.rows) }
+        ensures { IfOk result
+            (λ t. Tabulates circuit.now seed.now t.and_numbers.items t.zero_labels.items t.rows) }
     {
         let no_rows = RowPair {
             generator: Label::ZERO,
@@ -112,7 +113,8 @@ impl<A: Allocator + Copy + Send + Sync> Beginning<A> {
             { opening_queue(alloc, circuit) },
             || -> Result<LabelTables<A>, Memory>
                 ensures { IfOk result (λ t.
-                    Tabulates circuit.entry.now seed.entry.now t.and_numbers.items t.zero_labels.items t.rows) }
+                    Tabulates circuit.entry.now seed.entry.now t.and_numbers.items
+                    t.zero_labels.items t.rows) }
             { LabelTables::of(alloc, circuit, seed) },
         );
         Ok(Beginning {

@@ -179,8 +179,8 @@ impl<A: Allocator> Progress<A> {
         self.circuit.equals(circuit) && self.seed == *seed
     }
 
-    /// Claims a ready gate and answers its task; or None, exactly where no gate is ready. It looks for one from the gate
-    /// `from` on, and then from the first on.
+    /// Claims a ready gate and answers its task; or None, exactly where no gate is ready. It looks for one from the
+    /// gate `from` on, and then from the first on.
     // A task is so large that returning it takes long where the call is not inlined.
     #[inline(always)]
     pub(crate) fn claim(&mut self, from: u32) -> Option<Task>
@@ -245,7 +245,8 @@ impl<A: Allocator> Progress<A> {
 
     /// The garbling, or the same progress where a gate isn't finished.
     pub(crate) fn into_garbling(self) -> Result<Garbling<A>, Progress<A>>
-        ensures complete { IfOk result (λ garbling. AllFinished self × IsGarbled self.circuit self.seed garbling) }
+        ensures complete { IfOk result
+            (λ garbling. AllFinished self × IsGarbled self.circuit self.seed garbling) }
         ensures incomplete { IfErr result (λ back. (¬ AllFinished self) × (back ≡ self)) }
     {
         if !self.is_complete() {

@@ -63,7 +63,8 @@ enum Call {
 impl<L: Ledger, A: Allocator> Desk<L, A> {
     /// Looks for a task.
     fn look(&mut self) -> Finding
-        ensures looks { Looks self.old.stopped self.old.store.content result self.new.store.content }
+        ensures looks { Looks self.old.stopped self.old.store.content result
+            self.new.store.content }
         ensures stopped { self.new.stopped ≡ self.old.stopped }
         ensures sleeping { self.new.sleeping ≡ self.old.sleeping }
     {
@@ -77,10 +78,11 @@ impl<L: Ledger, A: Allocator> Desk<L, A> {
         }
     }
 
-    /// Claims into the batch from the gate `from` on, unless the store was stopped. The answer is whether ready gates may
-    /// be left.
+    /// Claims into the batch from the gate `from` on, unless the store was stopped. The answer is whether ready gates
+    /// may be left.
     fn claim_from(&mut self, from: u32, batch: &mut Batch) -> bool
-        ensures claims { ClaimsUnless self.old.stopped self.old.store.content batch.old self.new.store.content batch.new }
+        ensures claims { ClaimsUnless self.old.stopped self.old.store.content batch.old
+            self.new.store.content batch.new }
         ensures none { IsFalse result → NoneReady self.new.store.content }
         ensures stopped { self.new.stopped ≡ self.old.stopped }
         ensures sleeping { self.new.sleeping ≡ self.old.sleeping }
@@ -95,7 +97,8 @@ impl<L: Ledger, A: Allocator> Desk<L, A> {
     /// Finishes sealed tasks one after another, until one is refused.
     fn finish_all(&mut self, sealed: &[Sealed], tally: &mut Tally<L>) -> Result<(), Refused>
         ensures tally { FinishesAll sealed.now tally.old result tally.new }
-        ensures content { FinishesUpTo self.old.store.content sealed.now result self.new.store.content }
+        ensures content { FinishesUpTo self.old.store.content sealed.now result
+            self.new.store.content }
         ensures stopped { self.new.stopped ≡ self.old.stopped }
         ensures sleeping { self.new.sleeping ≡ self.old.sleeping }
     {
@@ -116,7 +119,8 @@ impl<L: Ledger, A: Allocator> Desk<L, A> {
         batch: &mut Batch,
     ) -> (Result<bool, Refused>, Call)
         ensures lent { HandsInAll sealed.now tally.old batch.old result.0 tally.new batch.new }
-        ensures content { HandsOver self.old.stopped self.old.store.content sealed.now batch.old result.0
+        ensures content { HandsOver self.old.stopped self.old.store.content sealed.now
+            batch.old result.0
             self.new.store.content batch.new }
         ensures wakes { Wakes self.new.store.content self.old.sleeping result.1 self.new.sleeping }
         ensures stopped { self.new.stopped ≡ self.old.stopped }
@@ -185,8 +189,8 @@ impl<L: Ledger, A: Allocator> SharedStore<L, A> {
         }
     }
 
-    /// Claims a ready gate, and answers its task. It waits while no gate is ready and some gate is claimed. None says that
-    /// nothing is left to do, or that the store was stopped.
+    /// Claims a ready gate, and answers its task. It waits while no gate is ready and some gate is claimed. None says
+    /// that nothing is left to do, or that the store was stopped.
     pub fn take<R: Wait>(&self, rt: &R) -> Option<Task> {
         let mut desk = self.enter(rt);
         for _ in rt.forever() {

@@ -47,7 +47,8 @@ impl<L: Ledger, A: Allocator> Model for Store<L, A> {
     ghost view = { λ s. record { content = s.progress; tallies = s.tallies } };
 
     ghost invariant = { λ s. (s.book.total ≡ count_by is_finished s.progress.states)
-        × (s.rest.parts + s.tallies ≡ MAX_TALLIES) × (s.rest.amount ≡ 0) × (L.parts ≡ MAX_TALLIES) };
+        × (s.rest.parts + s.tallies ≡ MAX_TALLIES) × (s.rest.amount ≡ 0)
+        × (L.parts ≡ MAX_TALLIES) };
 }
 
 impl<L: Ledger, A: Allocator> Store<L, A> {
@@ -121,7 +122,8 @@ impl<L: Ledger, A: Allocator> Store<L, A> {
 
     /// Whether this is the store of this circuit and this seed.
     pub fn is_for<C: Allocator>(&self, circuit: &Circuit<C>, seed: &Seed) -> bool
-        ensures { IsTrue result ↔ (self.now.content.circuit ≡ circuit.now) × (self.now.content.seed ≡ seed.now) }
+        ensures { IsTrue result ↔ (self.now.content.circuit ≡ circuit.now)
+            × (self.now.content.seed ≡ seed.now) }
     {
         self.progress.is_for(circuit, seed)
     }

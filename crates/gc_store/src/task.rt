@@ -64,9 +64,11 @@ impl Model for Sealed {
 
     ghost view = { λ s. s.task };
 
-    ghost invariant = { λ s. (s.zero_label ≡ sealed_zero_label s.task) × (s.rows ≡ sealed_rows s.task) };
+    ghost invariant = { λ s. (s.zero_label ≡ sealed_zero_label s.task)
+        × (s.rows ≡ sealed_rows s.task) };
 
-    ghost inverse = { λ t. record { task = t; zero_label = sealed_zero_label t; rows = sealed_rows t } };
+    ghost inverse = { λ t.
+        record { task = t; zero_label = sealed_zero_label t; rows = sealed_rows t } };
 }
 
 impl Sealed {
@@ -112,7 +114,8 @@ impl Sealed {
     #[inline]
     fn of_and(task: Task, garbled: (Label, Label, Label)) -> Sealed
         requires and { IsTrue (is_and task.operation) }
-        requires garbled { garbled ≡ and_garbled hash task.and_number task.offset task.first task.second }
+        requires garbled { garbled ≡ and_garbled hash task.and_number task.offset
+            task.first task.second }
         ensures { result ≡ task }
     {
         let (zero_label, generator, evaluator) = garbled;

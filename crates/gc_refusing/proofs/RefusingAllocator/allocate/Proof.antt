@@ -1,4 +1,5 @@
--- A refusal owns nothing. Else the inner allocator is asked under the same lifetimes, and its answer is handed on. Assumes `Logic`.
+-- A refusal owns nothing. Else the inner allocator is asked under the same lifetimes, and its answer is handed on.
+-- Assumes `Logic`.
 use Rattle.std.proofs.Common.{Bool, List, [], ◌∷◌, Err, false, refl, ap, w64}
 use mir.Syntax.{a_type, dnil, dcons}
 use mir.Val.{Val, vptr}

@@ -1,4 +1,4 @@
-use Rattle.std.proofs.Common.{◌≡◌, ℕ, ◌+◌, ◌*◌, ◌<◌, List, get_or, subst, ◌∙◌, arith}
+use Rattle.std.proofs.Common.{ℕ, ◌+◌, ◌*◌, ◌<◌, List, get_or, subst, ◌∙◌, arith}
 use Rattle.gc_queue.proofs.GateSetLemmas.{found_word, found_fits}
 use Rattle.gc_queue.proofs.gate_set.GateSet.first_word.Goals as goal
 
