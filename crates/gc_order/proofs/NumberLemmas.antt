@@ -1,4 +1,4 @@
--- The number that a word of a command line tells is what `parse` reads.
+-- The number that a word of a command line spells is what `parse` reads.
 use Rattle.std.proofs.Common.{◌≡◌, ℕ, ◌<◌, ◌^◌, Bool, true, false, List, Result, Ok, Err, refl, arith}
 use Rattle.std.specs.Prelude.{if◌then◌else◌}
 use Rattle.std.specs.Result.{result_unwrap_or}

@@ -215,7 +215,7 @@ word_of id rows = unwrap_or (first_of id rows) []
 abbrev pub words_of : List ℕ → List Row → List (List ℕ)
 words_of id rows = unwrap_or (all_of id rows) []
 
--- The number that a text tells in decimal digits, perhaps after a plus; 0 where it tells none below 2 ^ 32.
+-- The number that a text spells in decimal digits, perhaps after a plus; 0 where it spells none below 2 ^ 32.
 abbrev pub number_in : List ℕ → ℕ
 number_in text =
     if accepts false (Unsigned 0 4294967295) text

@@ -26,7 +26,7 @@ pub(crate) fn number_of(found: &ArgMatches<'_>, id: &str) -> u32
     number_in(found.get_str(id).unwrap_or(""))
 }
 
-/// The number that a text tells, 0 where it tells none below 2^32.
+/// The number that a text spells, or 0 where it spells none below 2^32.
 fn number_in(text: &str) -> u32
     ensures { result ≡ number_in text.now }
 {
