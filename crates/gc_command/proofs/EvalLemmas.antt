@@ -1,4 +1,4 @@
--- What the steps of `eval` tell, joined.
+-- From what each step of `eval` answers to what it answers as a whole.
 use Rattle.std.proofs.Common.{◌≡◌, ℕ, List, [], ◌∷◌, IfSome, inl, inr, subst, ◌∙◌}
 use Rattle.gc_netlist.specs.Circuit.{Netlist}
 use Rattle.gc_read.specs.declared.fault.FileFault.{FileFault}
@@ -46,7 +46,7 @@ module _ (old new : FileBytes) (same : (n : List ℕ) → new n ≡ old n) where
   labels-fault-before names (faults.Evaluation fault) has = absurd has
   labels-fault-before names faults.CannotWrite has = absurd has
 
--- The files that the steps read, each told where it was read, are told of the files before.
+-- The files that the steps read are among the files as they were before.
 pub eval-told : (old between new : FileBytes) → ((n : List ℕ) → between n ≡ old n) → ((n : List ℕ) → new n ≡ between n)
     → (circuit garbled : List ℕ) (labels : List (List ℕ)) (c : Netlist) (g : GarbledParts) (files : List LabelFileParts)
     → IfSome (old circuit) (λ held. IsCircuit held c) → IfSome (between garbled) (λ held. IsGarbledFile held g)

@@ -1,4 +1,4 @@
--- What the steps of `plain` tell, joined.
+-- From what each step of `plain` answers to what it answers as a whole.
 use Rattle.std.proofs.Common.{◌≡◌, ℕ, Bool, List, map, sym, subst}
 use Rattle.std.specs.List.{flat_map}
 use Rattle.std.proofs.lemmas.List.Folds.{flat_map-map}

@@ -1,4 +1,4 @@
--- What a run's steps tell, joined.
+-- From what each step of a run answers to what it answers as a whole.
 use Rattle.std.proofs.Common.{ℕ, List, Bool, Ok, Err, ⊎_elim, flat_map, refl, arith}
 use Rattle.gc_netlist.specs.Circuit.{Netlist, IsLawful}
 use Rattle.gc_circuit.specs.Meaning.{AreOutputs}
@@ -12,7 +12,7 @@ use Rattle.gc_command.specs.declared.fault.Fault.{Fault}
 use Rattle.gc_command.specs.declared.fault.Fault.TheVariants as faults
 use Rattle.gc_command.specs.Job.{DecodeTo, HasJobFault}
 use Rattle.gc_gatehouse.specs.Workers.{AreFew}
-use Rattle.gc_command.specs.Run.{IsTold, IsOwnFault, IsWantOfMemory, HasRunFault}
+use Rattle.gc_command.specs.Run.{IsTold, IsWantOfMemory, HasRunFault}
 use Rattle.gc_command.proofs.FaultLemmas.{bind-memory}
 
 module _ (c : Netlist) (lawful : IsLawful c) (seed : List ℕ) (values : List (List Bool)) (g : GarbledParts)
@@ -60,20 +60,3 @@ want-of-memory bytes seed workers texts told few faults.BadList want = absurd wa
 want-of-memory bytes seed workers texts told few faults.NoSuchValue want = absurd want
 want-of-memory bytes seed workers texts told few faults.CannotRead want = absurd want
 want-of-memory bytes seed workers texts told few faults.CannotWrite want = absurd want
-
--- Where garbling has a fault, a run has it.
-pub own-fault : (bytes seed : List ℕ) (workers : ℕ) (texts : List (List ℕ)) → IsTold bytes seed texts
-    → (fault : Fault) → IsOwnFault workers fault → HasRunFault bytes seed workers texts fault
-own-fault bytes seed workers texts told (faults.Garbling fault) own = (told, own)
-own-fault bytes seed workers texts told (faults.File fault) own = (own, told)
-own-fault bytes seed workers texts told (faults.Binding fault) own = (own, told)
-own-fault bytes seed workers texts told (faults.Evaluation fault) own = (own, told)
-own-fault bytes seed workers texts told faults.Memory own = tt
-own-fault bytes seed workers texts told (faults.Circuit fault) own = absurd own
-own-fault bytes seed workers texts told faults.WrongCount own = absurd own
-own-fault bytes seed workers texts told (faults.Value fault) own = absurd own
-own-fault bytes seed workers texts told faults.BadSeed own = absurd own
-own-fault bytes seed workers texts told faults.BadList own = absurd own
-own-fault bytes seed workers texts told faults.NoSuchValue own = absurd own
-own-fault bytes seed workers texts told faults.CannotRead own = absurd own
-own-fault bytes seed workers texts told faults.CannotWrite own = absurd own

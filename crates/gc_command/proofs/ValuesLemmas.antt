@@ -1,7 +1,7 @@
--- Values that texts tell have their widths.
+-- Values that texts spell have their widths.
 use Rattle.std.proofs.Common.{◌≡◌, ℕ, Bool, List, [], ◌∷◌, length, map, refl, ap, ap₂, ◌∙◌}
 use Rattle.std.proofs.lemmas.List.FromFn.{length-map-range_with_len}
-use Rattle.gc_circuit.proofs.ValueLemmas.{value_text_law}
+use Rattle.gc_value.proofs.ValueLemmas.{value_text_law}
 use Rattle.gc_command.specs.Values.{TellValues}
 
 pub TellValues-widths : (widths : List ℕ) (texts : List (List ℕ)) (values : List (List Bool))

@@ -1,10 +1,10 @@
--- What a command tells where its file is written, and where it can't be.
+-- What a command answers where its file is written, and where it can't be.
 use Rattle.std.proofs.Common.{◌≡◌, ℕ, Bool, List, Option, Some, None, length, ap, ◌∙◌}
 use Rattle.std.specs.Prelude.{IfSome}
 use Rattle.std.specs.List.{slice_get}
 use Rattle.std.proofs.lemmas.List.FromFn.{length-map-range_with_len}
 use Rattle.gc_netlist.specs.Circuit.{Netlist}
-use Rattle.gc_circuit.proofs.ValueLemmas.{value_text_law}
+use Rattle.gc_value.proofs.ValueLemmas.{value_text_law}
 use Rattle.gc_half.specs.Garbling.{GarblingParts, IsGarbled, FitsCircuit}
 use Rattle.gc_command.specs.declared.fault.Fault.{Fault}
 use Rattle.gc_command.specs.declared.fault.Fault.TheVariants as faults
@@ -19,7 +19,7 @@ pub IfSome-both : {T : Type 0} (o : Option T) (P Q R : T → Type 0) → ((x : T
 IfSome-both None P Q R f p q = p
 IfSome-both (Some x) P Q R f p q = f x p q
 
--- the bits that a text tells have the width of their value
+-- the bits that a text spells have the width of their value
 pub input_value-width : (widths : List ℕ) (index : ℕ) (text : List ℕ) (bits : List Bool) → IsInputValue widths index text bits
     → slice_get widths index ≡ Some (length bits)
 input_value-width widths index text bits is =

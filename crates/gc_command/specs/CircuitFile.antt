@@ -1,6 +1,8 @@
 -- The circuit of a file, and the faults that the file may have.
-use Rattle.std.specs.Prelude.{◌≡◌, ◌≢◌, ℕ, List, Ok, Err}
+use Rattle.std.specs.Prelude.{◌≡◌, ◌≢◌, ℕ, List, Option, None, Some, Ok, Err}
+use Rattle.sha2.specs.Sha256.{sha256}
 use Rattle.gc_netlist.specs.declared.fault.ReadFault.TheVariants as read
+use Rattle.gc_netlist.specs.Canon.{canonical_text}
 use Rattle.gc_netlist.specs.Circuit.{Netlist, IsLawful}
 use Rattle.gc_netlist.specs.Text.{tokens}
 use Rattle.gc_netlist.specs.Spelling.{Spells}
@@ -8,11 +10,16 @@ use Rattle.gc_netlist.specs.Reading.{circuit_of}
 use Rattle.gc_command.specs.declared.fault.Fault.{Fault}
 use Rattle.gc_command.specs.declared.fault.Fault.TheVariants.{Circuit, CannotRead, Memory}
 
--- The bytes are the circuit's: reading tells it, they spell it, and it is lawful.
+-- The bytes are the circuit's: reading answers it, they spell it, and it is lawful.
 pub record IsCircuit (bytes : List ℕ) (c : Netlist) : Type 0 where
   pub read : circuit_of (tokens bytes) ≡ Ok c
   pub spelled : Spells bytes c
   pub lawful : IsLawful c
+
+-- The digest of the circuit, or None where the bytes are its canonical text, whose SHA-256 is the digest.
+abbrev pub IsDigestUnless : List ℕ → Netlist → Option (List ℕ) → Type 0
+IsDigestUnless bytes c None = bytes ≡ canonical_text c
+IsDigestUnless bytes c (Some digest) = digest ≡ sha256 (canonical_text c)
 
 -- The fault is one that a circuit's file may have.
 abbrev pub IsCircuitFault : Fault → Type 0

@@ -10,14 +10,14 @@ use Rattle.gc_command.specs.SeedText.{IsSeed}
 use Rattle.gc_command.specs.Values.{IsInputValue, HasInputValueFault}
 use Rattle.gc_command.specs.Wrote.{HasWritten}
 
--- The bytes are a circuit's, the seed's text is a seed, and the text tells the bits of the input value of this index.
+-- The bytes are a circuit's, the seed's text is a seed, and the text spells the bits of the input value of this index.
 pub record TellDeal (bytes seed_text : List ℕ) (index : ℕ) (text : List ℕ) (c : Netlist) (seed : List ℕ)
     (bits : List Bool) : Type 0 where
   pub circuit : IsCircuit bytes c
   pub seed_told : IsSeed seed_text seed
   pub value : IsInputValue c.input_widths index text bits
 
--- What `deal` does: it writes the value's label file under the seed, and tells its number of bytes.
+-- What `deal` does: it writes the value's label file under the seed, and states its number of bytes.
 pub record AnswersDeal (bytes seed_text : List ℕ) (index : ℕ) (text : List ℕ) (held : Option (List ℕ))
     (lines : List ℕ) : Type 0 where
   pub circuit : Netlist

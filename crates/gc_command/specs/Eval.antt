@@ -1,4 +1,5 @@
--- The command `eval`: what it answers, and which fault it has. What is said of a file is said where its bytes are known.
+-- The command `eval`: what it answers, and which fault it has. What is said of a file is said where its bytes are
+-- known.
 use Rattle.std.specs.Prelude.{◌≡◌, ◌≢◌, ℕ, ◌⊎◌, Bool, List, [], ◌∷◌, IfSome}
 use Rattle.gc_netlist.specs.Circuit.{Netlist}
 use Rattle.gc_read.specs.declared.fault.FileFault.{FileFault}

@@ -2,7 +2,7 @@
 use Rattle.std.specs.Prelude.{◌≡◌, ℕ, ◌<◌, List, ◌∷◌, ◌++◌, codes}
 use Rattle.std.specs.Fmt.{decimal}
 use Rattle.gc_netlist.specs.Fault as read
-use Rattle.gc_circuit.specs.Value as value
+use Rattle.gc_value.specs.Value as value
 use Rattle.gc_read.specs.Fault as held
 use Rattle.gc_read.specs.declared.take.TakeFault.{TakeFault}
 use Rattle.gc_read.specs.declared.take.TakeFault.TheVariants as take

@@ -1,8 +1,8 @@
--- How many failures of files a history tells of.
+-- How many failures of files a history has.
 use Rattle.std.specs.Prelude.{ℕ, ◌+◌}
 use Rattle.gc_command.specs.declared.file_failures.FileHistory.{FileHistory, Start, Failed', Kept', Shut'}
 
--- `of_sink` and `of_source` tell those of a sink and of a source.
+-- `of_sink` and `of_source` are those of a sink and of a source.
 abbrev pub number_of_failures : {K S : Type 0} → (K → ℕ) → (S → ℕ) → FileHistory K S → ℕ
 number_of_failures of_sink of_source Start = 0
 number_of_failures of_sink of_source (Failed' shape before) = number_of_failures of_sink of_source before + 1

@@ -19,8 +19,8 @@ pub record TellGarble (bytes seed_text : List ℕ) (c : Netlist) (seed : List �
   pub circuit : IsCircuit bytes c
   pub seed_told : IsSeed seed_text seed
 
--- What `garble` does, whatever the number of workers: it writes the garbled file of the version, of the circuit's garbling
--- under the seed, and tells its number of bytes.
+-- What `garble` does, whatever the number of workers: it writes the garbled file of the version, of the circuit's
+-- garbling under the seed, and states its number of bytes.
 pub record AnswersGarble (bytes seed_text : List ℕ) (version : Version) (workers : ℕ) (held : Option (List ℕ))
     (lines : List ℕ) : Type 0 where
   pub circuit : Netlist

@@ -1,6 +1,6 @@
 -- What is printed of output values.
 use Rattle.std.specs.Prelude.{ℕ, Bool, List, [], ◌∷◌, ◌++◌, map, flat_map, take, drop}
-use Rattle.gc_circuit.specs.Value.{binary_digit}
+use Rattle.gc_value.specs.Value.{binary_digit}
 
 -- The bits of values of these widths, one value a line: a character for each bit, and a line feed.
 abbrev pub output_lines : List ℕ → List Bool → List ℕ

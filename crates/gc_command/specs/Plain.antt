@@ -9,7 +9,7 @@ use Rattle.gc_command.specs.CircuitFile.{IsCircuit, HasCircuitFault}
 use Rattle.gc_command.specs.Values.{TellValues, HasValueFault}
 use Rattle.gc_command.specs.Lines.{output_lines}
 
--- What `plain` answers: the lines of the circuit's outputs on the values that the texts tell.
+-- What `plain` answers: the lines of the circuit's outputs on the values that the texts spell.
 pub record AnswersPlain (bytes : List ℕ) (texts : List (List ℕ)) (lines : List ℕ) : Type 0 where
   pub circuit : Netlist
   pub read : IsCircuit bytes circuit

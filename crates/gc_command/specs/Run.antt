@@ -16,7 +16,7 @@ use Rattle.gc_command.specs.CircuitFile.{IsCircuit, HasCircuitFault}
 use Rattle.gc_command.specs.Values.{TellValues, HasValueFault}
 use Rattle.gc_command.specs.Lines.{output_lines}
 
--- The bytes are a circuit's, the seed's text is a seed, and the texts tell values of the circuit's input widths.
+-- The bytes are a circuit's, the seed's text is a seed, and the texts spell values of the circuit's input widths.
 pub record TellRun (bytes seed : List ℕ) (texts : List (List ℕ)) (c : Netlist)
     (values : List (List Bool)) : Type 0 where
   pub circuit : IsCircuit bytes c

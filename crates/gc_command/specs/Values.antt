@@ -1,12 +1,12 @@
--- The values that texts tell, and the faults that the texts may have.
+-- The values that texts spell, and the faults that the texts may have.
 use Rattle.std.specs.Prelude.{◌≡◌, ◌≢◌, ℕ, ◌≤◌, ◌⊎◌, Bool, List, [], ◌∷◌, length, slice_get, Some, Ok, Err}
-use Rattle.gc_circuit.specs.declared.value.ValueFault.{ValueFault}
-use Rattle.gc_circuit.specs.declared.value.ValueFault.TheVariants as value
-use Rattle.gc_circuit.specs.Value.{value_of_text}
+use Rattle.gc_value.specs.declared.value.ValueFault.{ValueFault}
+use Rattle.gc_value.specs.declared.value.ValueFault.TheVariants as value
+use Rattle.gc_value.specs.Value.{value_of_text}
 use Rattle.gc_command.specs.declared.fault.Fault.{Fault}
 use Rattle.gc_command.specs.declared.fault.Fault.TheVariants.{WrongCount, NoSuchValue, Value, Memory}
 
--- The texts tell values of these widths: as many, and each the bits of its own.
+-- The texts spell values of these widths: as many, and each the bits of its own.
 abbrev pub TellValues : List ℕ → List (List ℕ) → List (List Bool) → Type 0
 TellValues [] [] [] = Unit {0}
 TellValues (width ∷ widths) (text ∷ texts) (bits ∷ values) =
@@ -29,7 +29,7 @@ HasValueFault widths texts (Value fault) =
 HasValueFault widths texts Memory = Unit {0}
 HasValueFault widths texts _ = ⊥
 
--- The text tells the bits of the input value of this index, among values of these widths.
+-- The text spells the bits of the input value of this index, among values of these widths.
 pub record IsInputValue (widths : List ℕ) (index : ℕ) (text : List ℕ) (bits : List Bool) : Type 0 where
   pub width : ℕ
   pub at : slice_get widths index ≡ Some width

@@ -4,11 +4,11 @@ use Rattle.std.specs.Fmt.{decimal}
 use Rattle.gc_command.specs.declared.fault.Fault.{Fault}
 use Rattle.gc_command.specs.declared.fault.Fault.TheVariants.{CannotWrite, Memory}
 
--- The line that tells a number of bytes.
+-- The line that states a number of bytes.
 abbrev pub wrote_line : ℕ → List ℕ
 wrote_line count = codes "wrote " ++ decimal count ++ 10 ∷ []
 
--- The file was written: it is what is held, and its number of bytes is told.
+-- The file was written: it is what is held, and the line states its number of bytes.
 pub record HasWritten (file : List ℕ) (held : Option (List ℕ)) (lines : List ℕ) : Type 0 where
   pub holds : held ≡ Some file
   pub printed : lines ≡ wrote_line (length file)

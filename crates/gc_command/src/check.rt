@@ -3,39 +3,48 @@
 ghost use Rattle.std.specs.Prelude.{◌≡◌, ◌++◌, ◌∷◌, [], ℕ, List, codes, IfOk, IfErr, IfSome, OnOk};
 ghost use Rattle.hex.specs.Hex.{encode_lower};
 ghost use Rattle.gc_netlist.specs.Spelling.{Name, words_of_widths};
-ghost use Rattle.gc_netlist.specs.Canon.{line};
+ghost use Rattle.sha2.specs.Sha256.{sha256};
+ghost use Rattle.gc_netlist.specs.Canon.{canonical_text, line};
 ghost use Rattle.gc_command.specs.Check.{AnswersCheck, HasCheckFault, check_lines};
 ghost use Rattle.gc_command.specs.Fault.{HasCause};
 
-use crate::circuit_file::read_circuit;
+use crate::circuit_file::read_circuit_and_digest;
 use crate::fault::Fault;
 use crate::files::Files;
 use crate::lines::{push_count, push_number};
+use crate::progress::{Progress, Work};
 use gc_circuit::Circuit;
 use std::alloc::{AllocError, Allocator};
+use std::thread::Threads;
 
 /// Reads the circuit of a file, and answers the lines of its numbers and its digest.
-pub fn check<A: Allocator + Copy, F: Files>(
+pub fn check<R: Threads, A: Allocator + Copy + Send + Sync, F: Files, P: Progress>(
+    rt: &R,
     alloc: A,
     circuit: &str,
     files: &mut F,
+    progress: &P,
 ) -> Result<Vec<u8, A>, Fault>
     ensures answers { IfOk result (λ lines. IfSome (F.bytes files.old circuit.now)
         (λ bytes. AnswersCheck bytes lines.items)) }
     ensures fault { IfErr result (λ fault. IfSome (F.bytes files.old circuit.now)
         (λ bytes. HasCheckFault bytes fault)) }
-    ensures cause { IfErr result (λ fault. HasCause fault (F.failures files.old) (F.failures files.new)) }
+    ensures cause { IfErr result
+        (λ fault. HasCause fault (F.failures files.old) (F.failures files.new)) }
     ensures same { (name : List ℕ) → F.bytes files.new name ≡ F.bytes files.old name }
 {
-    let circuit = read_circuit(alloc, circuit, files)?;
-    Ok(check_lines(alloc, &circuit)?)
+    progress.begin(1, 1, Work::ReadingCircuit);
+    let (circuit, digest) = read_circuit_and_digest(rt, alloc, circuit, files)?;
+    Ok(check_lines(alloc, &circuit, &digest)?)
 }
 
-/// The lines of a circuit's numbers and its digest.
+/// The lines of a circuit's numbers and its digest. That the digest is the circuit's is the caller's condition.
 fn check_lines<A: Allocator + Copy>(
     alloc: A,
     circuit: &Circuit<A>,
+    digest: &[u8; 32],
 ) -> Result<Vec<u8, A>, AllocError>
+    requires { digest.now ≡ sha256 (canonical_text circuit.now) }
     ensures { IfOk result (λ lines. lines.items ≡ check_lines circuit.now) }
 {
     let mut lines = Vec::new(alloc);
@@ -44,7 +53,7 @@ fn check_lines<A: Allocator + Copy>(
     push_count(&mut lines, "and", u64::from(circuit.and_count()))?;
     push_widths(&mut lines, "inputs", circuit.input_widths())?;
     push_widths(&mut lines, "outputs", circuit.output_widths())?;
-    push_digest(&mut lines, &circuit.digest())?;
+    push_digest(&mut lines, digest)?;
     Ok(lines)
 }
 

@@ -17,7 +17,7 @@ use gc_label::Seed;
 use std::alloc::Allocator;
 
 /// Writes the label file of the input value of this index, by the circuit of a file and a seed, and answers the line
-/// that tells its bytes.
+/// that states its bytes.
 pub fn deal<A: Allocator + Copy, F: Files>(
     alloc: A,
     circuit: &str,
@@ -28,10 +28,12 @@ pub fn deal<A: Allocator + Copy, F: Files>(
     files: &mut F,
 ) -> Result<Vec<u8, A>, Fault>
     ensures answers { IfOk result (λ lines. IfSome (F.bytes files.old circuit.now)
-        (λ bytes. AnswersDeal bytes seed.now index value.now (F.bytes files.new out.now) lines.items)) }
+        (λ bytes. AnswersDeal bytes seed.now index value.now (F.bytes files.new out.now)
+        lines.items)) }
     ensures fault { IfErr result (λ fault. IfSome (F.bytes files.old circuit.now)
         (λ bytes. HasDealFault bytes seed.now index value.now fault)) }
-    ensures cause { IfErr result (λ fault. HasCause fault (F.failures files.old) (F.failures files.new)) }
+    ensures cause { IfErr result
+        (λ fault. HasCause fault (F.failures files.old) (F.failures files.new)) }
     ensures others { (n : List ℕ) → n ≢ out.now → F.bytes files.new n ≡ F.bytes files.old n }
     ensures unwritten { IfErr result (λ fault. fault ≢ Fault.CannotWrite
         → (n : List ℕ) → F.bytes files.new n ≡ F.bytes files.old n) }
@@ -58,7 +60,8 @@ fn write_value<A: Allocator + Copy, F: Files>(
         (λ _. HasWritten (label_file (label_parts_of circuit.now seed.now index bits.now))
         (F.bytes files.new out.now) lines.items)) }
     ensures fault { IfErr result IsUnwritten }
-    ensures cause { IfErr result (λ fault. HasCause fault (F.failures files.old) (F.failures files.new)) }
+    ensures cause { IfErr result
+        (λ fault. HasCause fault (F.failures files.old) (F.failures files.new)) }
     ensures others { (n : List ℕ) → n ≢ out.now → F.bytes files.new n ≡ F.bytes files.old n }
     ensures unwritten { IfErr result (λ fault. fault ≢ Fault.CannotWrite
         → (n : List ℕ) → F.bytes files.new n ≡ F.bytes files.old n) }

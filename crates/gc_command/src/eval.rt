@@ -4,19 +4,20 @@ ghost use Rattle.std.specs.Prelude.{◌≡◌, ℕ, List, map, IfOk, IfErr, stri
 ghost use Rattle.gc_command.specs.Eval.{AnswersEval, HasEvalFault};
 ghost use Rattle.gc_command.specs.Fault.{HasCause};
 
-use crate::circuit_file::read_circuit;
-use crate::evaluated_files::{digest_and_garbled_file, read_label_files};
+use crate::circuit_file::read_circuit_and_digest;
+use crate::evaluated_files::{read_garbled_file, read_label_files};
 use crate::fault::Fault;
 use crate::files::Files;
 use crate::job::evaluate_files;
 use crate::lines::output_lines;
+use crate::progress::{Progress, Work};
 use std::alloc::Allocator;
 use std::sync::Wait;
 use std::thread::Threads;
 
 /// Evaluates the circuit of a file from the garbled file and the label files of these names, by this many workers, and
 /// answers the lines of the output values that they decode to. Nothing of these files is trusted.
-pub fn eval<R: Threads + Wait + Sync, A: Allocator + Copy + Send + Sync, F: Files>(
+pub fn eval<R: Threads + Wait + Sync, A: Allocator + Copy + Send + Sync, F: Files, P: Progress>(
     rt: &R,
     alloc: A,
     circuit: &str,
@@ -24,17 +25,24 @@ pub fn eval<R: Threads + Wait + Sync, A: Allocator + Copy + Send + Sync, F: File
     workers: u32,
     labels: &[String],
     files: &mut F,
+    progress: &P,
 ) -> Result<Vec<u8, A>, Fault>
-    ensures answers { IfOk result (λ lines. AnswersEval (F.bytes files.old) circuit.now garbled.now workers
+    ensures answers { IfOk result
+        (λ lines. AnswersEval (F.bytes files.old) circuit.now garbled.now workers
         (map string_bytes labels.now) lines.items) }
     ensures fault { IfErr result (HasEvalFault (F.bytes files.old) circuit.now garbled.now workers
         (map string_bytes labels.now)) }
-    ensures cause { IfErr result (λ fault. HasCause fault (F.failures files.old) (F.failures files.new)) }
+    ensures cause { IfErr result
+        (λ fault. HasCause fault (F.failures files.old) (F.failures files.new)) }
     ensures same { (name : List ℕ) → F.bytes files.new name ≡ F.bytes files.old name }
 {
-    let circuit = read_circuit(alloc, circuit, files)?;
-    let (digest, garbled) = digest_and_garbled_file(rt, alloc, &circuit, garbled, files)?;
+    progress.begin(1, 3, Work::ReadingCircuit);
+    let (circuit, digest) = read_circuit_and_digest(rt, alloc, circuit, files)?;
+    progress.begin(2, 3, Work::ReadingFiles);
+    let garbled = read_garbled_file(alloc, garbled, files)?;
     let labels = read_label_files(alloc, labels, files)?;
+    let gates = circuit.gates();
+    progress.begin(3, 3, Work::Evaluating { gates });
     let outputs = evaluate_files(rt, alloc, &circuit, &digest, garbled, &labels, workers)?;
     Ok(output_lines(alloc, circuit.output_widths(), &outputs)?)
 }

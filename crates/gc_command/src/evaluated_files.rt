@@ -1,8 +1,6 @@
 //! The garbled file and the label files of an evaluation.
 
 ghost use Rattle.std.specs.Prelude.{◌≡◌, ℕ, List, map, IfOk, IfErr, IfSome, OnOk};
-ghost use Rattle.sha2.specs.Sha256.{sha256};
-ghost use Rattle.gc_netlist.specs.Canon.{canonical_text};
 ghost use Rattle.gc_format.specs.GarbledFile.{IsGarbledFile};
 ghost use Rattle.gc_format.specs.LabelFile.{IsLabelFile};
 ghost use Rattle.gc_command.specs.Eval.{HasGarbledFault, HasLabelFault, HasLabelsFault, TellLabels};
@@ -10,11 +8,9 @@ ghost use Rattle.gc_command.specs.Fault.{HasCause};
 
 use crate::fault::Fault;
 use crate::files::Files;
-use gc_circuit::Circuit;
 use gc_file::{Garbled, LabelFile, read_garbled_from, read_labels};
 use std::alloc::Allocator;
 use std::convert::AsStr;
-use std::thread::{Threads, join_mut};
 
 /// The garbled file of this name, read in pieces.
 pub fn read_garbled_file<A: Allocator + Copy, F: Files>(
@@ -22,9 +18,11 @@ pub fn read_garbled_file<A: Allocator + Copy, F: Files>(
     name: &str,
     files: &mut F,
 ) -> Result<Garbled<A>, Fault>
-    ensures told { IfOk result (λ g. IfSome (F.bytes files.old name.now) (λ held. IsGarbledFile held g)) }
+    ensures told { IfOk result
+        (λ g. IfSome (F.bytes files.old name.now) (λ held. IsGarbledFile held g)) }
     ensures fault { IfErr result (HasGarbledFault (F.bytes files.old) name.now) }
-    ensures cause { IfErr result (λ fault. HasCause fault (F.failures files.old) (F.failures files.new)) }
+    ensures cause { IfErr result
+        (λ fault. HasCause fault (F.failures files.old) (F.failures files.new)) }
     ensures counted { OnOk result (F.failures files.new ≡ F.failures files.old) }
     ensures same { (n : List ℕ) → F.bytes files.new n ≡ F.bytes files.old n }
 {
@@ -32,32 +30,6 @@ pub fn read_garbled_file<A: Allocator + Copy, F: Files>(
     let taken = read_garbled_from(alloc, &mut source);
     files.shut(source);
     Ok(taken?)
-}
-
-/// The digest of the circuit's canonical text, and the garbled file of this name. A thread of its own takes the digest
-/// while the file is read, where one can be started.
-pub(crate) fn digest_and_garbled_file<R: Threads, A: Allocator + Copy + Sync, F: Files>(
-    rt: &R,
-    alloc: A,
-    circuit: &Circuit<A>,
-    name: &str,
-    files: &mut F,
-) -> Result<([u8; 32], Garbled<A>), Fault>
-    ensures digest { IfOk result (λ made. made.0 ≡ sha256 (canonical_text circuit.now)) }
-    ensures told { IfOk result (λ made. IfSome (F.bytes files.old name.now) (λ held. IsGarbledFile held made.1)) }
-    ensures fault { IfErr result (HasGarbledFault (F.bytes files.old) name.now) }
-    ensures cause { IfErr result (λ fault. HasCause fault (F.failures files.old) (F.failures files.new)) }
-    ensures counted { OnOk result (F.failures files.new ≡ F.failures files.old) }
-    ensures same { (n : List ℕ) → F.bytes files.new n ≡ F.bytes files.old n }
-{
-    let (digest, garbled) = join_mut(
-        rt,
-        &mut || -> [u8; 32]
-            ensures { result ≡ sha256 (canonical_text circuit.entry.now) }
-        { circuit.digest() },
-        &mut || read_garbled_file(alloc, name, files),
-    );
-    Ok((digest, garbled?))
 }
 
 /// The label files of these names. Each is read and judged before the next is opened.
@@ -69,7 +41,8 @@ pub fn read_label_files<N: AsStr, A: Allocator + Copy, F: Files>(
     ensures told { IfOk result (λ labels.
         TellLabels (F.bytes files.old) (map N.text names.now) labels.items) }
     ensures fault { IfErr result (HasLabelsFault (F.bytes files.old) (map N.text names.now)) }
-    ensures cause { IfErr result (λ fault. HasCause fault (F.failures files.old) (F.failures files.new)) }
+    ensures cause { IfErr result
+        (λ fault. HasCause fault (F.failures files.old) (F.failures files.new)) }
     ensures counted { OnOk result (F.failures files.new ≡ F.failures files.old) }
     ensures same { (n : List ℕ) → F.bytes files.new n ≡ F.bytes files.old n }
 {
@@ -86,9 +59,11 @@ fn read_label_file<A: Allocator + Copy, F: Files>(
     name: &str,
     files: &mut F,
 ) -> Result<LabelFile<A>, Fault>
-    ensures told { IfOk result (λ parts. IfSome (F.bytes files.old name.now) (λ held. IsLabelFile held parts)) }
+    ensures told { IfOk result
+        (λ parts. IfSome (F.bytes files.old name.now) (λ held. IsLabelFile held parts)) }
     ensures fault { IfErr result (HasLabelFault (F.bytes files.old) name.now) }
-    ensures cause { IfErr result (λ fault. HasCause fault (F.failures files.old) (F.failures files.new)) }
+    ensures cause { IfErr result
+        (λ fault. HasCause fault (F.failures files.old) (F.failures files.new)) }
     ensures counted { OnOk result (F.failures files.new ≡ F.failures files.old) }
     ensures same { (n : List ℕ) → F.bytes files.new n ≡ F.bytes files.old n }
 {

@@ -49,7 +49,7 @@ pub trait Files {
         ensures same { (n : List ℕ) → bytes self.new n ≡ bytes self.old n };
 
     /// A sink for the file of this name, whose old content is gone. Nothing is known of the file until the sink is
-    /// kept. Where memory is refused, which is no failure, the old content stays. Files that tell any bytes tell
+    /// kept. Where memory is refused, which is no failure, the old content stays. Files that have any known bytes have
     /// what their sinks take.
     fn create(&mut self, name: &str) -> Result<Self::Sink, FileError>
         ensures empty { IfOk result (λ sink. (n : List ℕ) → IfSome (bytes self.old n)
@@ -60,11 +60,13 @@ pub trait Files {
         ensures memory { IfErr result (λ e. e ≡ FileError.Memory
             → (n : List ℕ) → bytes self.new n ≡ bytes self.old n) };
 
-    /// The file of this name holds what the sink took, which was created for it, wherever the sink tells that. The
+    /// The file of this name holds what the sink took, which was created for it, wherever the sink knows that. The
     /// sink's failures count.
     fn keep(&mut self, name: &str, sink: Self::Sink) -> Result<(), FileError>
-        ensures held { OnOk result (IfSome (Self.Sink.taken sink) (λ taken. bytes self.new name.now ≡ Some taken)) }
-        ensures counted { CountsWrite result (failures self.old + Self.Sink.failures sink) (failures self.new) }
+        ensures held { OnOk result (IfSome (Self.Sink.taken sink)
+            (λ taken. bytes self.new name.now ≡ Some taken)) }
+        ensures counted { CountsWrite result (failures self.old + Self.Sink.failures sink)
+            (failures self.new) }
         ensures no_memory { IfErr result (λ e. e ≢ FileError.Memory) }
         ensures others { (n : List ℕ) → n ≢ name.now → bytes self.new n ≡ bytes self.old n };
 

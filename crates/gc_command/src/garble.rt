@@ -16,6 +16,7 @@ use crate::circuit_file::read_circuit;
 use crate::fault::Fault;
 use crate::files::Files;
 use crate::garbling::digest_and_garbling;
+use crate::progress::{Progress, Work};
 use crate::wrote::{ROOM, create_file, keep_written};
 use gc_circuit::Circuit;
 use gc_file::{Sink, Version, WriteFault, write_garbled_by_digest, write_garbled2_by_digest};
@@ -26,8 +27,8 @@ use std::sync::Wait;
 use std::thread::Threads;
 
 /// Garbles the circuit of a file under a seed by this many workers, writes the garbled file, and answers the line that
-/// tells its bytes.
-pub fn garble<R: Threads + Wait + Sync, A: Allocator + Copy + Send + Sync, F: Files>(
+/// states its bytes.
+pub fn garble<R: Threads + Wait + Sync, A: Allocator + Copy + Send + Sync, F: Files, P: Progress>(
     rt: &R,
     alloc: A,
     circuit: &str,
@@ -36,19 +37,26 @@ pub fn garble<R: Threads + Wait + Sync, A: Allocator + Copy + Send + Sync, F: Fi
     version: Version,
     workers: u32,
     files: &mut F,
+    progress: &P,
 ) -> Result<Vec<u8, A>, Fault>
     ensures answers { IfOk result (λ lines. IfSome (F.bytes files.old circuit.now)
-        (λ bytes. AnswersGarble bytes seed.now version workers (F.bytes files.new out.now) lines.items)) }
+        (λ bytes. AnswersGarble bytes seed.now version workers (F.bytes files.new out.now)
+        lines.items)) }
     ensures fault { IfErr result (λ fault. IfSome (F.bytes files.old circuit.now)
         (λ bytes. HasGarbleFault bytes seed.now workers fault)) }
-    ensures cause { IfErr result (λ fault. HasCause fault (F.failures files.old) (F.failures files.new)) }
+    ensures cause { IfErr result
+        (λ fault. HasCause fault (F.failures files.old) (F.failures files.new)) }
     ensures others { (n : List ℕ) → n ≢ out.now → F.bytes files.new n ≡ F.bytes files.old n }
     ensures unwritten { IfErr result (λ fault. fault ≢ Fault.CannotWrite
         → (n : List ℕ) → F.bytes files.new n ≡ F.bytes files.old n) }
 {
+    progress.begin(1, 3, Work::ReadingCircuit);
     let circuit = read_circuit(alloc, circuit, files)?;
     let seed = Seed::from_hex(seed)?;
+    let gates = circuit.gates();
+    progress.begin(2, 3, Work::Garbling { gates });
     let (digest, garbling) = digest_and_garbling(rt, alloc, &circuit, &seed, workers)?;
+    progress.begin(3, 3, Work::Writing);
     write_garbling(
         alloc, version, &circuit, &digest, &garbling, &seed, out, files,
     )
@@ -72,7 +80,8 @@ fn write_garbling<A: Allocator + Copy, F: Files>(
         (λ _. HasWritten (garbled_file (honest_parts version circuit.now garbling.now seed.now))
         (F.bytes files.new out.now) lines.items)) }
     ensures fault { IfErr result IsUnwritten }
-    ensures cause { IfErr result (λ fault. HasCause fault (F.failures files.old) (F.failures files.new)) }
+    ensures cause { IfErr result
+        (λ fault. HasCause fault (F.failures files.old) (F.failures files.new)) }
     ensures others { (n : List ℕ) → n ≢ out.now → F.bytes files.new n ≡ F.bytes files.old n }
     ensures unwritten { IfErr result (λ fault. fault ≢ Fault.CannotWrite
         → (n : List ℕ) → F.bytes files.new n ≡ F.bytes files.old n) }
@@ -94,7 +103,8 @@ fn write_version<S: Sink, A: Allocator>(
 ) -> Result<u64, WriteFault>
     requires digest { digest.now ≡ sha256 (canonical_text circuit.now) }
     requires fits { FitsCircuit circuit.now garbling.now }
-    ensures file { IsWritten (garbled_file (honest_parts version circuit.now garbling.now seed.now)) result
+    ensures file { IsWritten
+        (garbled_file (honest_parts version circuit.now garbling.now seed.now)) result
         (S.taken sink.old) (S.taken sink.new) }
     ensures counted { CountsFailure result (S.failures sink.old) (S.failures sink.new) }
 {

@@ -3,7 +3,7 @@
 ghost use Rattle.std.specs.Prelude.{◌≡◌, ◌++◌, ◌∷◌, [], decimal, length, map, sum, All, IfOk, OnOk};
 ghost use Rattle.gc_netlist.specs.Spelling.{Number, Name};
 ghost use Rattle.gc_netlist.specs.Canon.{line};
-ghost use Rattle.gc_circuit.specs.Value.{binary_digit};
+ghost use Rattle.gc_value.specs.Value.{binary_digit};
 ghost use Rattle.gc_command.specs.Lines.{jobs_lines, output_lines};
 
 use itoa::Buffer;
@@ -56,7 +56,8 @@ pub fn jobs_lines<A: Allocator + Copy>(
     outputs: &[Vec<bool, A>],
 ) -> Result<Vec<u8, A>, AllocError>
     requires { All (λ bits. sum widths.now ≡ length bits.items) outputs.now }
-    ensures { IfOk result (λ lines. lines.items ≡ jobs_lines widths.now (map (λ bits. bits.items) outputs.now)) }
+    ensures { IfOk result
+        (λ lines. lines.items ≡ jobs_lines widths.now (map (λ bits. bits.items) outputs.now)) }
 {
     let longest = outputs.first().map_or(0, |bits| bits.len());
     let each = longest.saturating_add(widths.len()).saturating_add(1);

@@ -77,8 +77,8 @@ pub fn own_labels<A: Allocator + Copy>(
     Ok(labels)
 }
 
-/// The label file of the input value of this index. That there is one, and that the bits have its width, are the caller's
-/// conditions.
+/// The label file of the input value of this index. That there is one, and that the bits have its width, are the
+/// caller's conditions.
 fn own_label_file<A: Allocator + Copy>(
     alloc: A,
     circuit: &Circuit<A>,
@@ -88,7 +88,8 @@ fn own_label_file<A: Allocator + Copy>(
 ) -> Result<LabelFile<A>, Fault>
     requires lawful { IsLawful circuit.now }
     requires value { slice_get circuit.now.input_widths index ≡ Some (length bits.now) }
-    ensures parts { IfOk result (λ file. file ≡ label_parts_of circuit.now seed.now index bits.now) }
+    ensures parts { IfOk result
+        (λ file. file ≡ label_parts_of circuit.now seed.now index bits.now) }
     ensures fault { IfErr result IsWantOfMemory }
 {
     let bytes = label_bytes(alloc, circuit, seed, index, bits)?;

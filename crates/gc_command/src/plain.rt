@@ -23,7 +23,8 @@ pub fn plain<A: Allocator + Copy, F: Files>(
         (λ bytes. AnswersPlain bytes (map string_bytes values.now) lines.items)) }
     ensures fault { IfErr result (λ fault. IfSome (F.bytes files.old circuit.now)
         (λ bytes. HasPlainFault bytes (map string_bytes values.now) fault)) }
-    ensures cause { IfErr result (λ fault. HasCause fault (F.failures files.old) (F.failures files.new)) }
+    ensures cause { IfErr result
+        (λ fault. HasCause fault (F.failures files.old) (F.failures files.new)) }
     ensures same { (name : List ℕ) → F.bytes files.new name ≡ F.bytes files.old name }
 {
     let circuit = read_circuit(alloc, circuit, files)?;

@@ -20,7 +20,8 @@ pub fn create_file<F: Files>(files: &mut F, name: &str) -> Result<F::Sink, Fault
         (λ _. F.Sink.taken sink ≡ Some [])) }
     ensures counted { OnOk result (F.failures files.new ≡ F.failures files.old) }
     ensures fault { IfErr result IsUnwritten }
-    ensures cause { IfErr result (λ fault. HasCause fault (F.failures files.old) (F.failures files.new)) }
+    ensures cause { IfErr result
+        (λ fault. HasCause fault (F.failures files.old) (F.failures files.new)) }
     ensures others { (n : List ℕ) → n ≢ name.now → F.bytes files.new n ≡ F.bytes files.old n }
     ensures unwritten { IfErr result (λ fault. fault ≢ Fault.CannotWrite
         → (n : List ℕ) → F.bytes files.new n ≡ F.bytes files.old n) }
@@ -32,7 +33,7 @@ pub fn create_file<F: Files>(files: &mut F, name: &str) -> Result<F::Sink, Fault
     }
 }
 
-/// Keeps the sink that a file was written to, and answers the line that tells the file's bytes. The line's room was
+/// Keeps the sink that a file was written to, and answers the line that states the file's bytes. The line's room was
 /// taken before, so no memory is taken.
 pub fn keep_written<A: Allocator, F: Files>(
     files: &mut F,
@@ -56,7 +57,7 @@ pub fn keep_written<A: Allocator, F: Files>(
     Ok(wrote_line(room, count))
 }
 
-/// The line that tells a number of bytes, in its room.
+/// The line that states a number of bytes, in its room.
 fn wrote_line<A: Allocator>(room: Vec<u8, A>, count: u64) -> Vec<u8, A>
     requires empty { room.items ≡ [] }
     requires room { ROOM ≤ vec_capacity room }

@@ -19,14 +19,14 @@ returns-in_err-labels-clause-fault g c =
     let p = err_from_is_err_and c.from_residual-in_err-labels.result c.from_residual-in_err-labels.ensures.1 in
     let bytes = g.F.Files.bytes c.args.files.now in
     let names = map string_bytes c.args.labels.now in
-    let parts = c.in_ok-digest.garbled in
-    let told = told-before bytes (g.F.Files.bytes c.read_circuit.new.files) c.read_circuit.ensures.same
-    (λ held. IsGarbledFile held parts) c.args.garbled.now c.in_ok-digest.ensures.told in
+    let parts = c.in_ok-garbled.garbled in
+    let told = told-before bytes (g.F.Files.bytes c.read_circuit_and_digest.new.files) c.read_circuit_and_digest.ensures.same
+    (λ held. IsGarbledFile held parts) c.args.garbled.now c.in_ok-garbled.ensures.told in
     rw (p.1, p.2)
     (labels-fault bytes c.args.circuit.now c.args.garbled.now c.args.workers names c.in_ok-circuit.circuit c.in_ok-circuit.ensures.circuit
     parts told c.in_err-labels.field-0.0
-    (labels-fault-before bytes (g.F.Files.bytes c.digest_and_garbled_file.new.files)
-    (λ n. c.digest_and_garbled_file.ensures.same n ∙ c.read_circuit.ensures.same n) names c.in_err-labels.field-0.0
+    (labels-fault-before bytes (g.F.Files.bytes c.read_garbled_file.new.files)
+    (λ n. c.read_garbled_file.ensures.same n ∙ c.read_circuit_and_digest.ensures.same n) names c.in_err-labels.field-0.0
     c.in_err-labels.ensures.fault))
 
 pub returns-in_err-outputs-clause-fault : goal.returns-in_err-outputs-clause-fault
@@ -34,39 +34,39 @@ returns-in_err-outputs-clause-fault g c =
     let p = err_from_is_err_and c.from_residual-in_err-outputs.result c.from_residual-in_err-outputs.ensures.1 in
     let bytes = g.F.Files.bytes c.args.files.now in
     let names = map string_bytes c.args.labels.now in
-    let parts = c.in_ok-digest.garbled in
+    let parts = c.in_ok-garbled.garbled in
     rw (p.1, p.2)
     (job-fault bytes c.args.circuit.now c.args.garbled.now c.args.workers names c.in_ok-circuit.circuit parts c.in_ok-labels.labels.items
-    (eval-told bytes (g.F.Files.bytes c.read_circuit.new.files) (g.F.Files.bytes c.digest_and_garbled_file.new.files)
-    c.read_circuit.ensures.same c.digest_and_garbled_file.ensures.same c.args.circuit.now c.args.garbled.now names
+    (eval-told bytes (g.F.Files.bytes c.read_circuit_and_digest.new.files) (g.F.Files.bytes c.read_garbled_file.new.files)
+    c.read_circuit_and_digest.ensures.same c.read_garbled_file.ensures.same c.args.circuit.now c.args.garbled.now names
     c.in_ok-circuit.circuit parts c.in_ok-labels.labels.items c.in_ok-circuit.ensures.circuit
-    c.in_ok-digest.ensures.told c.in_ok-labels.ensures.told)
+    c.in_ok-garbled.ensures.told c.in_ok-labels.ensures.told)
     c.in_err-outputs.field-0.0 (rw c.deref.ensures.value at c.in_err-outputs.ensures.fault))
 
 pub output_lines-requires : goal.output_lines-requires
 output_lines-requires g c =
     rw (c.output_widths.ensures, c.deref-2.ensures.value)
-    (length-decoded c.in_ok-circuit.circuit c.in_ok-circuit.ensures.lawful c.in_ok-digest.garbled c.deref.result.now
+    (length-decoded c.in_ok-circuit.circuit c.in_ok-circuit.ensures.lawful c.in_ok-garbled.garbled c.deref.result.now
     c.in_ok-outputs.outputs.items c.in_ok-outputs.ensures.decoded)
 
 pub returns-in_err-output_lines-clause-same : goal.returns-in_err-output_lines-clause-same
 returns-in_err-output_lines-clause-same g c = λ n.
-    c.read_label_files.ensures.same n ∙ c.digest_and_garbled_file.ensures.same n ∙ c.read_circuit.ensures.same n
+    c.read_label_files.ensures.same n ∙ c.read_garbled_file.ensures.same n ∙ c.read_circuit_and_digest.ensures.same n
 
 pub returns-clause-answers : goal.returns-clause-answers
 returns-clause-answers g c =
     let bytes = g.F.Files.bytes c.args.files.now in
     let names = map string_bytes c.args.labels.now in
-    let parts = c.in_ok-digest.garbled in
+    let parts = c.in_ok-garbled.garbled in
     record {
       c = c.in_ok-circuit.circuit;
       g = parts;
       files = c.in_ok-labels.labels.items;
       told =
-          eval-told bytes (g.F.Files.bytes c.read_circuit.new.files) (g.F.Files.bytes c.digest_and_garbled_file.new.files)
-          c.read_circuit.ensures.same c.digest_and_garbled_file.ensures.same c.args.circuit.now c.args.garbled.now names
+          eval-told bytes (g.F.Files.bytes c.read_circuit_and_digest.new.files) (g.F.Files.bytes c.read_garbled_file.new.files)
+          c.read_circuit_and_digest.ensures.same c.read_garbled_file.ensures.same c.args.circuit.now c.args.garbled.now names
           c.in_ok-circuit.circuit parts c.in_ok-labels.labels.items c.in_ok-circuit.ensures.circuit
-          c.in_ok-digest.ensures.told c.in_ok-labels.ensures.told;
+          c.in_ok-garbled.ensures.told c.in_ok-labels.ensures.told;
       few = c.in_ok-outputs.ensures.workers;
       outputs = c.in_ok-outputs.outputs.items;
       decoded = rw c.deref.ensures.value at c.in_ok-outputs.ensures.decoded;
@@ -75,4 +75,4 @@ returns-clause-answers g c =
 
 pub returns-clause-same : goal.returns-clause-same
 returns-clause-same g c = λ n.
-    c.read_label_files.ensures.same n ∙ c.digest_and_garbled_file.ensures.same n ∙ c.read_circuit.ensures.same n
+    c.read_label_files.ensures.same n ∙ c.read_garbled_file.ensures.same n ∙ c.read_circuit_and_digest.ensures.same n

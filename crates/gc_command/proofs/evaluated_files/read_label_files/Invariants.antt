@@ -4,7 +4,7 @@ use Rattle.gc_format.specs.LabelFile.{LabelFileParts}
 use Rattle.gc_command.specs.Eval.{TellLabels, FirstBadLabels}
 use Rattle.gc_command.proofs.evaluated_files.read_label_files.Given as goal
 
--- What the files that are left tell, all of them tell.
+-- What holds of the files that are left holds of all.
 abbrev pub invariant-loop-name : goal.invariant-loop-name
 invariant-loop-name g l = record {
   told : (left : List LabelFileParts)

@@ -1,9 +1,9 @@
 use Rattle.std.proofs.Common.{◌++◌, List, Bool, drop, map, string_bytes}
-use Rattle.gc_circuit.specs.declared.value.ValueFault.{ValueFault}
+use Rattle.gc_value.specs.declared.value.ValueFault.{ValueFault}
 use Rattle.gc_command.specs.Values.{TellValues, FirstBadValue}
 use Rattle.gc_command.proofs.values.read_values.Given as goal
 
--- What is told by the texts that are left is told by all.
+-- What the texts that are left spell is part of what all spell.
 abbrev pub invariant-loop-i : goal.invariant-loop-i
 invariant-loop-i g l = record {
   values : (left : List (List Bool))

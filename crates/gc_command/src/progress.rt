@@ -1,0 +1,55 @@
+//! What a command is at, for those who wait for it.
+
+use std::fmt::{self, Display, Formatter};
+
+/// What a command does in one of its steps.
+#[derive(Clone, Copy, Debug, PartialEq, Eq)]
+pub enum Work {
+    /// Reading the circuit's file.
+    ReadingCircuit,
+    /// Reading the garbled file and the label files.
+    ReadingFiles,
+    /// Reading the files of one of this many jobs, the first of which is job 1.
+    ReadingJob { job: usize, jobs: usize },
+    /// Garbling this number of gates.
+    Garbling { gates: u32 },
+    /// Writing the garbled file.
+    Writing,
+    /// Evaluating this number of gates.
+    Evaluating { gates: u32 },
+    /// Evaluating this many jobs.
+    EvaluatingJobs { jobs: usize },
+}
+
+impl Display for Work {
+    fn fmt<W: fmt::Write>(&self, f: &mut Formatter<W>) -> fmt::Result {
+        match self {
+            Work::ReadingCircuit => f.write_str("reading the circuit"),
+            Work::ReadingFiles => f.write_str("reading the files"),
+            Work::ReadingJob { job, jobs } => write!(f, "reading job {job} of {jobs}"),
+            Work::Garbling { gates } => write!(f, "garbling {gates} gates"),
+            Work::Writing => f.write_str("writing the garbled file"),
+            Work::Evaluating { gates } => write!(f, "evaluating {gates} gates"),
+            Work::EvaluatingJobs { jobs } => write!(f, "evaluating {jobs} jobs"),
+        }
+    }
+}
+
+/// An observer of a command that may take long.
+pub trait Progress {
+    /// The command goes about this work, its step `step` of `steps`, the first of which is step 1.
+    fn begin(&self, step: u32, steps: u32, work: Work);
+
+    /// The command is done, or a fault ended it: what it answers is about to be printed.
+    fn end(&self);
+}
+
+/// An observer that does nothing.
+#[derive(Clone, Copy, Debug)]
+pub struct Silent;
+
+impl Progress for Silent {
+    fn begin(&self, _step: u32, _steps: u32, _work: Work) {}
+
+    fn end(&self) {}
+}
