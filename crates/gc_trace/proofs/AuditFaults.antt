@@ -1,5 +1,5 @@
 -- The faults of the steps of `audit`, joined.
-use Rattle.std.proofs.Common.{◌≡◌, ℕ, List, IfSome, inl, inr}
+use Rattle.std.proofs.Common.{ℕ, List, IfSome, inl, inr}
 use Rattle.gc_netlist.specs.Circuit.{Netlist}
 use Rattle.gc_label.specs.Seed.{IsSeedText}
 use Rattle.gc_format.specs.GarbledFile.{GarbledParts, IsGarbledFile}

@@ -1,14 +1,20 @@
 -- Lines of `audit`, as they are written.
-use Rattle.std.proofs.Common.{◌≡◌, ℕ, ◌+◌, ◌<◌, ◌++◌, ◌&&◌, Bool, true, false, List, [], ◌∷◌, length, take, slice_index_or, append_assoc, refl, sym, ap, subst, ◌∙◌}
+use Rattle.std.proofs.Common.{◌≡◌, ◌↔◌, ℕ, ◌+◌, ◌<◌, ◌++◌, ◌&&◌, Bool, true, false, IsTrue, List, [], ◌∷◌, length, take, slice_index_or, append_assoc, refl, sym, ap, subst, ◌∙◌}
 use Rattle.std.specs.Int.{from_bool}
 use Rattle.std.proofs.lemmas.List.{take_more}
-use Rattle.gc_netlist.specs.Circuit.{Netlist}
+use Rattle.gc_netlist.specs.Circuit.{Netlist, IsLawful}
 use Rattle.gc_netlist.specs.Spelling.{bit_number}
+use Rattle.gc_half.specs.Garbling.{GarblingParts, IsGarbled, FitsCircuit}
+use Rattle.gc_format.specs.declared.parts.Version.{Version}
+use Rattle.gc_format.specs.GarbledFile.{GarbledParts}
 use Rattle.gc_format.specs.LabelFile.{LabelFileParts}
+use Rattle.gc_audit.specs.declared.garbled.GarbledAudit.{GarbledAudit}
+use Rattle.gc_audit.specs.Garbled.{IsGarbledAudit, honest_audit}
+use Rattle.gc_audit.proofs.GarbledLemmas.{finds_none-honest}
 use Rattle.gc_audit.specs.declared.labels.LabelsVerdict.{LabelsVerdict}
 use Rattle.gc_audit.specs.declared.labels.LabelsVerdict.TheVariants.{NoValue, WrongWidth, WrongLabel, Bits}
 use Rattle.gc_audit.specs.Labels.{IsLabelsVerdict}
-use Rattle.gc_trace.specs.Audit.{IsLabelsFound, AreLabelsFound, no_value, wrong_width, wrong_label, dealt, more, is_dealt, verdict_line}
+use Rattle.gc_trace.specs.Audit.{IsLabelsFound, AreLabelsFound, no_value, wrong_width, wrong_label, dealt, more, is_dealt, verdict_line, garbled_lines, end_line, AreAuditLines}
 
 -- what comes behind a word and a space
 behind : (x y z e : List ℕ) → y ++ e ≡ z → (x ++ 32 ∷ y) ++ e ≡ x ++ 32 ∷ z
@@ -66,3 +72,42 @@ module _ (c : Netlist) (seed : List ℕ) where
       subst P (ap (λ f. take i files ++ f ∷ []) at ∙ sym (take_more files i file below))
       (more (take i files) file all_dealt (is_dealt verdict) lines (verdict_line file.index verdict) before
       (found_of file verdict is))
+
+-- Both of two bits are set exactly where their conjunction is.
+both : (a b : Bool) → IsTrue (a && b) → IsTrue a × IsTrue b
+both true b set = (refl, set)
+both false b set = absurd cc
+
+joined : (a b : Bool) → IsTrue a → IsTrue b → IsTrue (a && b)
+joined a b first second = rw (first, second) refl
+
+-- The lines of an audit, from what it finds of the garbled file and of the label files.
+pub audit-lines : (c : Netlist) → IsLawful c → (seed : List ℕ) (garbling : GarblingParts) → IsGarbled c seed garbling
+    → (file : GarbledParts) (version : Version) → file.version ≡ version
+    → (found : GarbledAudit) → IsGarbledAudit c garbling seed file found
+    → (labels : List LabelFileParts) (all_dealt : Bool) (added : List ℕ) → AreLabelsFound c seed labels all_dealt added
+    → (none_differs honest : Bool) → (IsTrue none_differs ↔ (found ≡ honest_audit)) → honest ≡ none_differs && all_dealt
+    → (lines : List ℕ) → lines ≡ garbled_lines version found ++ added ++ end_line honest
+    → AreAuditLines c seed file labels lines
+audit-lines c lawful seed garbling garbled file version of_version found is_found labels all_dealt added are none_differs
+    honest none_is honest_is lines printed =
+    let fits : FitsCircuit c garbling =
+    record { wires = garbled.wires; and_gates = garbled.garbling.row_count; outputs = garbled.outputs } in
+    let parts = finds_none-honest c garbling seed file lawful fits found is_found in
+    record {
+      garbling = garbling;
+      garbled = garbled;
+      found = found;
+      is_found = is_found;
+      all_dealt = all_dealt;
+      labels_lines = added;
+      labels_found = are;
+      honest = honest;
+      is_honest = (
+        λ set.
+            let p : IsTrue none_differs × IsTrue all_dealt = both none_differs all_dealt (sym honest_is ∙ set) in
+            (parts.0 (none_is.0 p.0), p.1),
+        λ p. honest_is ∙ joined none_differs all_dealt (none_is.1 (parts.1 p.0)) p.1,
+      );
+      printed = printed ∙ ap (λ v. garbled_lines v found ++ added ++ end_line honest) (sym of_version);
+    }

@@ -1,9 +1,10 @@
--- The command `audit`: what it answers, and which fault it has. What is said of a file is said where its bytes are known.
+-- The command `audit`: what it answers, and which fault it has. What is said of a file is said where its bytes are
+-- known.
 use Rattle.std.specs.Prelude.{◌≡◌, ◌≢◌, ℕ, ◌≤◌, ◌↔◌, ◌&&◌, Bool, true, false, IsTrue, List, [], ◌∷◌, ◌++◌, length, map, slice_get, Option, Some, None, IfSome, codes}
 use Rattle.gc_netlist.specs.Circuit.{Netlist}
 use Rattle.gc_netlist.specs.Spelling.{Word, Number, Name, bit_number}
 use Rattle.gc_netlist.specs.Canon.{line}
-use Rattle.gc_circuit.specs.Value.{binary_digit}
+use Rattle.gc_value.specs.Value.{binary_digit}
 use Rattle.gc_label.specs.Seed.{IsSeedText}
 use Rattle.gc_half.specs.Garbling.{GarblingParts, IsGarbled}
 use Rattle.gc_format.specs.declared.parts.Version.{Version}
@@ -137,8 +138,8 @@ end_line true = line (Name (codes "honest") ∷ [])
 end_line false = line (Name (codes "dishonest") ∷ [])
 
 -- What is found of a garbled file and label files by the circuit and the seed, in lines. The last one says `honest`
--- exactly where the garbled file is, byte for byte, that of the circuit's garbling under the seed, and each label file is
--- the dealer's.
+-- exactly where the garbled file is, byte for byte, that of the circuit's garbling under the seed, and each label file
+-- is the dealer's.
 pub record AreAuditLines (c : Netlist) (seed : List ℕ) (g : GarbledParts) (files : List LabelFileParts)
     (lines : List ℕ) : Type 0 where
   pub garbling : GarblingParts
@@ -165,8 +166,8 @@ pub record AnswersAudit (bytes : FileBytes) (circuit seed_text garbled : List �
   pub few : AreFew workers
   pub printed : AreAuditLines c seed g files lines
 
--- When `audit` has which fault: it is the first in the order of the work (the circuit, the seed, the garbled file, the label
--- files in turn, the number of workers, garbling), but that memory may run out at each step.
+-- When `audit` has which fault: it is the first in the order of the work (the circuit, the seed, the garbled file, the
+-- label files in turn, the number of workers, garbling), but that memory may run out at each step.
 abbrev pub HasAuditFault : FileBytes → List ℕ → List ℕ → List ℕ → ℕ → List (List ℕ) → Fault → Type 0
 HasAuditFault bytes circuit seed garbled workers labels CannotRead = Unit {0}
 HasAuditFault bytes circuit seed garbled workers labels (Circuit fault) =

@@ -7,7 +7,7 @@ use Rattle.gc_netlist.specs.Reading.{is_set}
 use Rattle.gc_netlist.specs.Spelling.{Number, Name}
 use Rattle.gc_netlist.specs.Canon.{line}
 use Rattle.gc_circuit.specs.Meaning.{AreWireBits}
-use Rattle.gc_circuit.specs.Value.{binary_digit}
+use Rattle.gc_value.specs.Value.{binary_digit}
 use Rattle.gc_label.specs.Label.{◌⊕◌, times, bytes_of_label}
 use Rattle.gc_label.specs.Seed.{IsSeedText, offset_of}
 use Rattle.gc_half.specs.Garbling.{GarblingParts, IsGarbled}
@@ -28,8 +28,8 @@ pub record WiresLeft : Type 0 where
 abbrev pub label_digits : ℕ → List ℕ
 label_digits label = encode_lower (bytes_of_label label)
 
--- The line of a wire: its number, its zero label, its active label, and its bit. The active label is the zero label plus
--- the bit times the offset r.
+-- The line of a wire: its number, its zero label, its active label, and its bit. The active label is the zero label
+-- plus the bit times the offset r.
 abbrev pub wire_line : ℕ → ℕ → ℕ → Bool → List ℕ
 wire_line r w zero_label bit =
     line (Number w ∷ Name (label_digits zero_label)
@@ -45,7 +45,7 @@ abbrev pub set_from : Netlist → ℕ → ℕ → List ℕ
 set_from c from count =
     take count (filter (is_set (input_wires c) c.gates) (range_with_len from (c.wires - from)))
 
--- The bytes are a circuit's, the seed's text is a seed, and the texts tell values of the circuit's input widths.
+-- The bytes are a circuit's, the seed's text is a seed, and the texts spell values of the circuit's input widths.
 pub record TellLabelled (bytes seed_text : List ℕ) (texts : List (List ℕ)) (c : Netlist) (seed : List ℕ)
     (values : List (List Bool)) : Type 0 where
   pub circuit : IsCircuit bytes c
@@ -62,7 +62,7 @@ pub record AreLabelLines (c : Netlist) (seed : List ℕ) (values : List (List Bo
   pub printed : lines ≡ flat_map (line_of_wire (offset_of seed) garbling.zero_labels bits)
       (set_from c from count)
 
--- What `labels` answers: these lines, for the values that the texts tell.
+-- What `labels` answers: these lines, for the values that the texts spell.
 pub record AnswersLabels (bytes seed_text : List ℕ) (from count : ℕ) (texts : List (List ℕ))
     (lines : List ℕ) : Type 0 where
   pub circuit : Netlist

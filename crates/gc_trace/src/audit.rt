@@ -1,9 +1,12 @@
 //! The command `audit`: whether files are those of a circuit and a seed, and where they first differ.
 
-ghost use Rattle.std.specs.Prelude.{◌≡◌, ◌++◌, ◌∷◌, ℕ, List, map, codes, decimal, IfOk, IfErr, OnOk, Some, string_bytes};
+ghost use Rattle.std.specs.Prelude.{◌≡◌, ◌++◌, ◌∷◌, ℕ, List, map, codes, decimal, IfOk, IfErr, OnOk, MatchOption, Some, string_bytes};
 ghost use Rattle.sha2.specs.Sha256.{sha256};
 ghost use Rattle.gc_netlist.specs.Canon.{canonical_text};
 ghost use Rattle.gc_half.specs.Garbling.{IsGarbled};
+ghost use Rattle.gc_format.specs.GarbledFile.{GarbledParts};
+ghost use Rattle.gc_work.specs.WorkFault.{JudgesWorkers};
+ghost use Rattle.gc_audit.specs.Garbled.{AreCountsRight, IsGarbledAudit, IsPartsAudit};
 ghost use Rattle.gc_command.specs.Fault.{HasCause};
 ghost use Rattle.gc_trace.specs.Audit.{AnswersAudit, AreAuditLines, AreLabelsFound, HasAuditFault};
 ghost use Rattle.gc_format.specs.declared.parts.Version.TheVariants.{Two};
@@ -13,7 +16,7 @@ ghost use Rattle.gc_trace.specs.Audit.{is_dealt, parts_lines, rows_line, rows_na
 use crate::lines::{push_field, push_word};
 use gc_audit::{
     DifferingRows, EntryDifference, GarbledAudit, LabelsVerdict, PartsAudit, RowDifference,
-    audit_garbled, audit_labels,
+    audit_garbled, audit_labels, garble_and_audit,
 };
 use gc_circuit::{Circuit, Memory};
 use gc_command::{
@@ -23,8 +26,10 @@ use gc_command::{
 use gc_file::{Garbled, LabelFile, Version};
 use gc_half::Garbling;
 use gc_label::Seed;
+use gc_work::WorkFault;
 use std::alloc::{AllocError, Allocator};
 use std::sync::Wait;
+use std::thread;
 use std::thread::Threads;
 
 /// Compares the garbled file and the label files of these names with what garbling the circuit of a file under a seed
@@ -50,34 +55,88 @@ pub fn audit<R: Threads + Wait + Sync, A: Allocator + Copy + Send + Sync, F: Fil
     let circuit = read_circuit(alloc, circuit, files)?;
     let seed = Seed::from_hex(seed)?;
     let garbled = read_garbled_file(alloc, garbled, files)?;
+    let version = garbled.version();
     let labels = read_label_files(alloc, labels, files)?;
-    let (digest, garbling) = digest_and_garbling(rt, alloc, &circuit, &seed, workers)?;
-    match audit_lines(
-        alloc, &circuit, &digest, &garbling, &seed, &garbled, &labels,
-    ) {
+    let (garbling, found) = garbling_and_audit(rt, alloc, &circuit, &seed, garbled, workers)?;
+    match audit_lines(alloc, &circuit, version, &found, &garbling, &seed, &labels) {
         Ok(lines) => Ok(lines),
         Err(_) => Err(Fault::Memory),
     }
 }
 
-/// The lines of what is found of a garbled file and label files by the garbling of the circuit under the seed.
+/// The garbling of the circuit under the seed by this many workers, and what it finds of a garbled file. One worker
+/// compares each row pair as it is made, and needs no memory for rows beside the file's.
+fn garbling_and_audit<R: Threads + Wait + Sync, A: Allocator + Copy + Send + Sync>(
+    rt: &R,
+    alloc: A,
+    circuit: &Circuit<A>,
+    seed: &Seed,
+    file: Garbled<A>,
+    workers: u32,
+) -> Result<(Garbling<A>, GarbledAudit), WorkFault>
+    ensures garbled { IfOk result (λ made. IsGarbled circuit.now seed.now made.0) }
+    ensures audit { IfOk result
+        (λ made. IsGarbledAudit circuit.now made.0 seed.now file made.1) }
+    ensures workers { JudgesWorkers workers result }
+{
+    if workers == 1 {
+        return Ok(audit_alone(rt, alloc, circuit, seed, file)?);
+    }
+    let (digest, garbling) = digest_and_garbling(rt, alloc, circuit, seed, workers)?;
+    let found = audit_garbled(circuit, &digest, &garbling, seed, &file);
+    Ok((garbling, found))
+}
+
+/// The same by one worker. A thread beside it takes the circuit's digest, where one can be started.
+fn audit_alone<R: Threads, A: Allocator + Copy + Send + Sync>(
+    rt: &R,
+    alloc: A,
+    circuit: &Circuit<A>,
+    seed: &Seed,
+    file: Garbled<A>,
+) -> Result<(Garbling<A>, GarbledAudit), Memory>
+    ensures garbled { IfOk result (λ made. IsGarbled circuit.now seed.now made.0) }
+    ensures audit { IfOk result
+        (λ made. IsGarbledAudit circuit.now made.0 seed.now file made.1) }
+{
+    let filed = file.digest();
+    let (digest, made) = thread::join(
+        rt,
+        || -> [u8; 32]
+            ensures { result ≡ sha256 (canonical_text circuit.entry.now) }
+        { circuit.digest() },
+        move || -> Result<(Garbling<A>, Option<PartsAudit>), Memory>
+            ensures garbled { IfOk result
+                (λ made. IsGarbled circuit.entry.now seed.entry.now made.0) }
+            ensures parts { IfOk result (λ made.
+                MatchOption made.1 (¬ AreCountsRight circuit.entry.now file)
+                (IsPartsAudit circuit.entry.now made.0 seed.entry.now file)) }
+        { garble_and_audit(alloc, circuit, seed, file) },
+    );
+    let (garbling, parts) = made?;
+    let digest = filed == digest;
+    Ok((garbling, GarbledAudit { digest, parts }))
+}
+
+/// The lines of what is found of a garbled file of a version and of label files, by the garbling of the circuit under
+/// the seed.
 fn audit_lines<A: Allocator + Copy>(
     alloc: A,
     circuit: &Circuit<A>,
-    digest: &[u8; 32],
+    version: Version,
+    found: &GarbledAudit,
     garbling: &Garbling<A>,
     seed: &Seed,
-    garbled: &Garbled<A>,
     labels: &[LabelFile<A>],
 ) -> Result<Vec<u8, A>, Memory>
-    requires digest { digest.now ≡ sha256 (canonical_text circuit.now) }
-    requires garbled { IsGarbled circuit.now seed.now garbling.now }
-    ensures { IfOk result (λ lines.
-        AreAuditLines circuit.now seed.now garbled.now labels.now lines.items) }
+    requires { IsGarbled circuit.now seed.now garbling.now }
+    ensures { IfOk result (λ lines. (file : GarbledParts) → file.version ≡ version
+        → IsGarbledAudit circuit.now garbling.now seed.now file found.now
+        → AreAuditLines circuit.now seed.now file labels.now lines.items) }
 {
-    let found = audit_garbled(circuit, digest, garbling, seed, garbled);
+    circuit.law_lawful();
     let mut lines = Vec::new(alloc);
-    push_garbled(&mut lines, garbled.version(), &found)?;
+    push_garbled(&mut lines, version, found)?;
     let all_dealt = push_label_files(&mut lines, alloc, circuit, garbling, seed, labels)?;
     push_end(&mut lines, found.is_honest() && all_dealt)?;
     Ok(lines)

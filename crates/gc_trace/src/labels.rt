@@ -10,7 +10,7 @@ use crate::set_wires::SetWires;
 use arrayvec::ArrayVec;
 use gc_circuit::{Circuit, ReadFault, wire_bits};
 use gc_command::{Fault, Files, read_circuit, read_values};
-use gc_half::{Garbling, garble_one_thread};
+use gc_half::garble_one_thread;
 use gc_label::{Label, Offset, Seed, offset};
 use gc_work::WorkFault;
 use itoa::Buffer;
@@ -30,7 +30,7 @@ const PIECE: usize = 3792;
 #[derive(Drop)]
 pub struct LabelLines<A: Allocator = Global> {
     wires: SetWires<A>,
-    garbling: Garbling<A>,
+    zero_labels: Vec<Label, A>,
     offset: Offset,
     bits: Vec<bool, A>,
 }
@@ -43,15 +43,15 @@ impl<A: Allocator> Model for LabelLines<A> {
     ghost Value = { List ℕ };
 
     ghost view = { λ l.
-        flat_map (line_of_wire l.offset l.garbling.zero_labels l.bits.items) l.wires.left };
+        flat_map (line_of_wire l.offset l.zero_labels.items l.bits.items) l.wires.left };
 
-    ghost invariant = { λ l. (length l.garbling.zero_labels ≡ l.wires.wires)
+    ghost invariant = { λ l. (length l.zero_labels.items ≡ l.wires.wires)
         × (length l.bits.items ≡ l.wires.wires) };
 }
 
-/// Reads the circuit of a file, the seed and the values, garbles the circuit on one thread, and answers the lines of its
-/// set wires from `from` on, `count` at the most: each wire's number, its zero label, its active label for the values,
-/// and its bit.
+/// Reads the circuit of a file, the seed and the values, garbles the circuit on one thread, and answers the lines of
+/// its set wires from `from` on, `count` at the most: each wire's number, its zero label, its active label for the
+/// values, and its bit.
 pub fn labels<A: Allocator + Copy, F: Files>(
     alloc: A,
     circuit: &str,
@@ -75,8 +75,8 @@ pub fn labels<A: Allocator + Copy, F: Files>(
     lines_of(alloc, &circuit, &seed, &values, from, count)
 }
 
-/// The lines of the circuit's wires under a seed for these values. That the values fit the circuit is the caller's
-/// condition.
+/// The lines of the circuit's wires under a seed for these values. The row pairs are let go before the bits are made.
+/// That the values fit the circuit is the caller's condition.
 fn lines_of<A: Allocator + Copy>(
     alloc: A,
     circuit: &Circuit<A>,
@@ -93,6 +93,7 @@ fn lines_of<A: Allocator + Copy>(
     let Ok(garbling) = garble_one_thread(alloc, circuit, seed) else {
         return Err(Fault::Garbling(WorkFault::Memory));
     };
+    let zero_labels = garbling.into_zero_labels();
     let Ok(bits) = wire_bits(alloc, circuit, values) else {
         return Err(Fault::Circuit(ReadFault::Memory));
     };
@@ -101,7 +102,7 @@ fn lines_of<A: Allocator + Copy>(
     };
     Ok(LabelLines {
         wires,
-        garbling,
+        zero_labels,
         offset: offset(seed),
         bits,
     })
@@ -129,7 +130,7 @@ impl<A: Allocator> LabelLines<A> {
             (λ line. (self.old ≡ line.items ++ self.new) × (0 < length line.items)) }
     {
         let wire = self.wires.next()?;
-        let zero_label = self.garbling.zero_label(wire);
+        let zero_label = self.zero_labels[wire as usize];
         let bit = self.bits[wire as usize];
         Some(wire_line(self.offset, wire, zero_label, bit))
     }

@@ -1,8 +1,8 @@
-use Rattle.std.proofs.Common.{map, string_bytes, refl, ◌∙◌}
+use Rattle.std.proofs.Common.{map, string_bytes, refl, sym, ◌∙◌}
 use Rattle.std.proofs.lemmas.Result.{err_from_is_err_and}
 use Rattle.gc_format.specs.GarbledFile.{IsGarbledFile}
 use Rattle.gc_command.proofs.EvalLemmas.{told-before, eval-told, labels-fault-before}
-use Rattle.gc_trace.proofs.AuditFaults.{circuit-fault, garbled-fault, labels-fault}
+use Rattle.gc_trace.proofs.AuditFaults.{circuit-fault, labels-fault}
 use Rattle.gc_trace.proofs.audit.audit.Goals as goal
 
 pub returns-in_err-circuit-clause-fault : goal.returns-in_err-circuit-clause-fault
@@ -29,9 +29,9 @@ returns-in_err-labels-clause-fault g c =
     (λ n. c.read_garbled_file.ensures.same n ∙ c.read_circuit.ensures.same n) names c.in_err-labels.field-0.0
     c.in_err-labels.ensures.fault))
 
-pub returns-in_err-digest-clause-fault : goal.returns-in_err-digest-clause-fault
-returns-in_err-digest-clause-fault g c =
-    let p = err_from_is_err_and c.from_residual-in_err-digest.result c.from_residual-in_err-digest.ensures.1 in
+pub returns-in_err-garbling-clause-fault : goal.returns-in_err-garbling-clause-fault
+returns-in_err-garbling-clause-fault g c =
+    let p = err_from_is_err_and c.from_residual-in_err-garbling.result c.from_residual-in_err-garbling.ensures.1 in
     let bytes = g.F.Files.bytes c.args.files.now in
     rw (p.1, p.2) (
       c.in_ok-circuit.circuit,
@@ -47,14 +47,14 @@ returns-in_err-digest-clause-fault g c =
                 c.in_ok-labels.labels.items c.in_ok-circuit.ensures.circuit c.in_ok-garbled.ensures.told
                 c.in_ok-labels.ensures.told,
             c.in_ok-seed.ensures.accepts.0 refl,
-            c.in_err-digest.ensures.workers,
+            c.in_err-garbling.ensures.workers,
           ),
         ),
       ),
     )
 
-pub returns-in_err-digest-clause-same : goal.returns-in_err-digest-clause-same
-returns-in_err-digest-clause-same g c = λ n.
+pub returns-in_err-garbling-clause-same : goal.returns-in_err-garbling-clause-same
+returns-in_err-garbling-clause-same g c = λ n.
     c.read_label_files.ensures.same n ∙ c.read_garbled_file.ensures.same n ∙ c.read_circuit.ensures.same n
 
 pub returns-in-Ok-clause-answers : goal.returns-in-Ok-clause-answers
@@ -72,8 +72,9 @@ returns-in-Ok-clause-answers g c =
           c.in_ok-labels.ensures.told;
       seed = c.in_ok-seed.seed;
       seed_told = record { accepted = c.in_ok-seed.ensures.accepts.0 refl; spelled = c.in_ok-seed.ensures.bytes };
-      few = c.in_ok-digest.ensures.workers;
-      printed = rw c.deref.ensures.value at c.in-Ok.ensures;
+      few = c.in_ok-garbling.ensures.workers;
+      printed = rw c.deref.ensures.value at (c.in-Ok.ensures c.in_ok-garbled.garbled (sym c.version-version.ensures)
+          c.in_ok-garbling.ensures.audit);
     }
 
 pub returns-in-Ok-clause-same : goal.returns-in-Ok-clause-same

@@ -1,6 +1,6 @@
-use Rattle.std.proofs.Common.{[], ◌++◌, ◌∙◌, append-nil, append_assoc, sym, ap, take, length, ◌≡◌, ◌≤◌}
+use Rattle.std.proofs.Common.{[], ◌++◌, ◌∙◌, append-nil, append_assoc, sym, ap}
 use Rattle.std.proofs.lemmas.List.{take_all}
-use Rattle.gc_trace.specs.Audit.{AreLabelsFound, none, verdict_line}
+use Rattle.gc_trace.specs.Audit.{none, verdict_line}
 use Rattle.gc_trace.proofs.AuditLemmas.{found_more}
 use Rattle.gc_trace.proofs.audit.push_label_files.Goals as goal
 

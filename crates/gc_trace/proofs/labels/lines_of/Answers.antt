@@ -1,4 +1,4 @@
-use Rattle.std.proofs.Common.{◌≡◌, ◌∙◌, List, Bool, sym, ap, subst}
+use Rattle.std.proofs.Common.{◌≡◌, ◌∙◌, List, Bool, length, sym, ap, subst}
 use Rattle.std.specs.List.{flat_map}
 use Rattle.std.proofs.lemmas.List.Folds.{flat_map-map}
 use Rattle.gc_netlist.proofs.Tables.{length-table}
@@ -11,7 +11,7 @@ pub invariant_of-result : goal.invariant_of-result
 invariant_of-result g c =
     let as_many : c.in-Ok-new.wires.wires ≡ c.args.circuit.now.wires =
     ap (λ (w : WiresLeft). w.wires) c.in-Ok-new.ensures in (
-      c.in-Ok.ensures.wires ∙ sym as_many,
+      ap length c.into_zero_labels-zero_labels.ensures ∙ c.in-Ok.ensures.wires ∙ sym as_many,
       length-table _ c.args.circuit.now.wires _ c.in-Ok-wire_bits.ensures.in_order ∙ sym as_many,
     )
 
@@ -25,7 +25,9 @@ returns-clause-lines g c =
       bits = bits;
       are_bits = subst (λ (x : List Bool). AreWireBits c.args.circuit.now x bits)
           (sym (flat_map-map (λ value. value) (λ v. v.items) c.args.values.now)) c.in-Ok-wire_bits.ensures;
-      printed = ap (λ r. flat_map (line_of_wire r labels bits) c.in-Ok-new.wires.left) c.offset.ensures
+      printed = ap (λ l. flat_map (line_of_wire c.offset.result l bits) c.in-Ok-new.wires.left)
+          c.into_zero_labels-zero_labels.ensures
+          ∙ ap (λ r. flat_map (line_of_wire r labels bits) c.in-Ok-new.wires.left) c.offset.ensures
           ∙ ap (λ (w : WiresLeft). flat_map (line_of_wire (offset_of c.args.seed.now) labels bits) w.left)
           c.in-Ok-new.ensures;
     }

@@ -1,4 +1,4 @@
-use Rattle.std.proofs.Common.{◌≡◌, ◌∙◌, [], length, map, take, ap, arith}
+use Rattle.std.proofs.Common.{◌∙◌, [], map, ap, arith}
 use Rattle.std.specs.List.{range_with_len}
 use Rattle.std.proofs.lemmas.List.{take_all}
 use Rattle.gc_netlist.specs.Circuit.{input_wires}
