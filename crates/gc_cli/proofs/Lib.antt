@@ -1,4 +1,2 @@
-pub mod JobListLemmas
-pub mod JobsLemmas
 pub mod MistakeLemmas
 pub mod ServeLemmas

@@ -13,10 +13,10 @@ use Rattle.gc_trace.specs.Locate.{AnswersLocate, HasLocateFault}
 use Rattle.gc_trace.specs.Stats.{AnswersStats, HasStatsFault}
 use Rattle.gc_trace.specs.Labels.{AnswersLabels, HasLabelsFault}
 use Rattle.gc_trace.specs.Audit.{AnswersAudit, HasAuditFault}
-use Rattle.gc_cli.specs.Jobs.{AnswersJobs, HasJobsFault}
+use Rattle.gc_jobs.specs.Jobs.{AnswersJobs, HasJobsFault}
 
--- The order is done: the bytes for standard output are its answer, and where it writes a file, that is written. `old` and
--- `new` are the bytes of the files before and after it.
+-- The order is done: the bytes for standard output are its answer, and where it writes a file, that is written. `old`
+-- and `new` are the bytes of the files before and after it.
 abbrev pub Answers : FileBytes → FileBytes → OrderText → List ℕ → Type 0
 Answers old new (run circuit seed workers values) out =
     IfSome (old circuit) (λ file. AnswersRun file seed workers values out)

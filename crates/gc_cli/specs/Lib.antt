@@ -1,5 +1,3 @@
-pub mod JobList
-pub mod Jobs
 pub mod CarryOut
 pub mod CommandLine
 pub mod Output

@@ -13,7 +13,7 @@ ghost use Rattle.gc_cli.specs.Serve.{fault_line, reason_of, refusal_line};
 use crate::command_line::Heap;
 use crate::output::Output;
 use crate::work::carry_out;
-use gc_command::{Fault, Files};
+use gc_command::{Fault, Files, Progress};
 use gc_order::Order;
 use gc_trace::labels::{LabelLines, labels};
 use std::alloc::{Allocator, Global};
@@ -31,19 +31,20 @@ pub const FAULT: u8 = 1;
 pub const USAGE: u8 = 2;
 
 /// Does what the words of a command line say, of which the first is the program's name, and answers the status of the
-/// run.
+/// run. `progress` hears what a command goes about, and, before anything is printed, that it is done.
 ///
 /// - [`DONE`]: the lines of the order, or the help or the version that was asked for, are on `out`.
 /// - [`FAULT`]: the line `halfgates: fault CODE NAME` is on `err`, and nothing is on `out`. An `out` that can't be
 ///   written is a fault.
 /// - [`USAGE`]: what clap says of words that are no order is on `err`. So is what it says where memory ran out.
-pub fn serve<R: Threads + Wait + Sync, F: Files, O: Write, E: Write>(
+pub fn serve<R: Threads + Wait + Sync, F: Files, O: Write, E: Write, P: Progress>(
     rt: &R,
     heap: &mut Heap,
     words: &[String],
     files: &mut F,
     out: &mut Output<O>,
     err: &mut Output<E>,
+    progress: &P,
 ) -> u8
     ensures status { result ≤ USAGE }
 
@@ -63,7 +64,7 @@ pub fn serve<R: Threads + Wait + Sync, F: Files, O: Write, E: Write>(
     ensures no_output { result ≡ USAGE → out.new ≡ out.old }
 {
     match heap.order(words) {
-        Ok(order) => match print_answer(rt, heap.alloc(), &order, files, out) {
+        Ok(order) => match print_answer(rt, heap.alloc(), &order, files, out, progress) {
             Ok(()) => DONE,
             Err(fault) => report(fault, err),
         },
@@ -78,14 +79,15 @@ pub fn serve<R: Threads + Wait + Sync, F: Files, O: Write, E: Write>(
     }
 }
 
-/// Carries out an order, and prints its answer. The lines of `labels` are printed as they are made, so that they need not
-/// all be in memory: each fault but that of `out` comes before the first of them.
-fn print_answer<R: Threads + Wait + Sync, F: Files, O: Write>(
+/// Carries out an order, and prints its answer. The lines of `labels` are printed as they are made, so that they need
+/// not all be in memory: each fault but that of `out` comes before the first of them.
+fn print_answer<R: Threads + Wait + Sync, F: Files, O: Write, P: Progress>(
     rt: &R,
     alloc: Global,
     order: &Order,
     files: &mut F,
     out: &mut Output<O>,
+    progress: &P,
 ) -> Result<(), Fault>
     ensures done { OnOk result (PrintsAnswer (F.bytes files.old) (F.bytes files.new)
         (text_of order.now) out.old out.new) }
@@ -109,11 +111,13 @@ fn print_answer<R: Threads + Wait + Sync, F: Files, O: Write>(
             *count,
             values,
             files,
-        )?;
-        return print_lines(lines, out);
+        );
+        progress.end();
+        return print_lines(lines?, out);
     }
-    let lines = carry_out(rt, alloc, order, files)?;
-    match out.write_all(&lines) {
+    let lines = carry_out(rt, alloc, order, files, progress);
+    progress.end();
+    match out.write_all(&lines?) {
         Ok(()) => Ok(()),
         Err(_) => Err(Fault::CannotWrite),
     }

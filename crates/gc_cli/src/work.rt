@@ -5,14 +5,14 @@ ghost use Rattle.gc_order.specs.Order.{text_of};
 ghost use Rattle.gc_command.specs.Fault.{HasCause};
 ghost use Rattle.gc_cli.specs.CarryOut.{Answers, HasFault, Writes};
 
-use crate::jobs::jobs;
 use gc_command::check::check;
 use gc_command::deal::deal;
 use gc_command::eval::eval;
 use gc_command::garble::garble;
 use gc_command::plain::plain;
 use gc_command::run::run;
-use gc_command::{Fault, Files};
+use gc_command::{Fault, Files, Progress};
+use gc_jobs::jobs::jobs;
 use gc_order::Order;
 use gc_trace::audit::audit;
 use gc_trace::labels::{LabelLines, labels};
@@ -23,18 +23,19 @@ use std::sync::Wait;
 use std::thread::Threads;
 
 /// Carries out an order, and answers the bytes for standard output, or the first fault of its work.
-pub fn carry_out<R: Threads + Wait + Sync, A: Allocator + Copy + Send + Sync, F: Files>(
-    rt: &R,
-    alloc: A,
-    order: &Order,
-    files: &mut F,
-) -> Result<Vec<u8, A>, Fault>
+pub fn carry_out<
+    R: Threads + Wait + Sync,
+    A: Allocator + Copy + Send + Sync,
+    F: Files,
+    P: Progress,
+>(rt: &R, alloc: A, order: &Order, files: &mut F, progress: &P) -> Result<Vec<u8, A>, Fault>
     ensures answers { IfOk result (λ out.
         Answers (F.bytes files.old) (F.bytes files.new) (text_of order.now) out.items) }
     ensures fault { IfErr result (HasFault (F.bytes files.old) (text_of order.now)) }
 
     // Where a file's bytes are not known, a fault of a file has its cause all the same.
-    ensures cause { IfErr result (λ fault. HasCause fault (F.failures files.old) (F.failures files.new)) }
+    ensures cause { IfErr result
+        (λ fault. HasCause fault (F.failures files.old) (F.failures files.new)) }
 
     // A file changes only where the order writes it, and is as it was after any fault but that it can't be written.
     ensures others { (name : List ℕ) → ¬ Writes (text_of order.now) name
@@ -56,8 +57,9 @@ pub fn carry_out<R: Threads + Wait + Sync, A: Allocator + Copy + Send + Sync, F:
             *workers,
             values,
             files,
+            progress,
         ),
-        Order::Check { circuit } => check(alloc, circuit.as_str(), files),
+        Order::Check { circuit } => check(rt, alloc, circuit.as_str(), files, progress),
         Order::Plain { circuit, values } => plain(alloc, circuit.as_str(), values, files),
         Order::Garble {
             circuit,
@@ -74,6 +76,7 @@ pub fn carry_out<R: Threads + Wait + Sync, A: Allocator + Copy + Send + Sync, F:
             *version,
             *workers,
             files,
+            progress,
         ),
         Order::Deal {
             circuit,
@@ -103,12 +106,21 @@ pub fn carry_out<R: Threads + Wait + Sync, A: Allocator + Copy + Send + Sync, F:
             *workers,
             labels,
             files,
+            progress,
         ),
         Order::Jobs {
             circuit,
             list,
             workers,
-        } => jobs(rt, alloc, circuit.as_str(), list.as_str(), *workers, files),
+        } => jobs(
+            rt,
+            alloc,
+            circuit.as_str(),
+            list.as_str(),
+            *workers,
+            files,
+            progress,
+        ),
         Order::Locate { circuit } => locate(alloc, circuit.as_str(), files),
         Order::Stats { circuit } => stats(alloc, circuit.as_str(), files),
         Order::Labels {

@@ -1,0 +1,263 @@
+-- From what each step of `jobs` answers to what it answers as a whole.
+use Rattle.std.proofs.Common.{◌≡◌, ℕ, ◌+◌, ◌<◌, map, drop, drop-cons, get_or, Bool, List, [], ◌∷◌, IfSome, sum, inl, inr, length, slice_get, Some, sym, ap, ◌∙◌, zero, suc, refl, subst, arith}
+use Rattle.std.proofs.lemmas.Option.{slice_get_within}
+use Rattle.gc_netlist.specs.Circuit.{Netlist, IsLawful}
+use Rattle.gc_read.specs.declared.fault.FileFault.{FileFault}
+use Rattle.gc_format.specs.GarbledFile.{GarbledParts, IsGarbledFile}
+use Rattle.gc_format.specs.LabelFile.{LabelFileParts}
+use Rattle.gc_read.specs.FileFault.{FirstFault}
+use Rattle.gc_job.specs.Job.{JobParts}
+use Rattle.gc_bank.specs.Jobs.{AreEvaluated, AreOnOneCircuit}
+use Rattle.gc_command.specs.declared.fault.Fault.{Fault}
+use Rattle.gc_command.specs.declared.fault.Fault.TheVariants as faults
+use Rattle.gc_command.specs.Files.{FileBytes, GivesFile}
+use Rattle.gc_command.specs.CircuitFile.{IsCircuit, IsCircuitFault, HasCircuitFault}
+use Rattle.gc_command.specs.Eval.{TellLabels, HasLabelsFault}
+use Rattle.gc_jobs.specs.JobList.{IsJobList, listed}
+use Rattle.gc_jobs.specs.Jobs.{NameFiles, NameJob, FirstBadNamed, HasNamedFault, NameJobs, FirstBadJob, HasLinesFault, HasListFault, HasBadJob, AreListed, HasJobsFault}
+use Rattle.gc_command.proofs.AnswerLemmas.{length-decoded}
+use Rattle.gc_command.proofs.EvalLemmas.{told-before, labels-before, bad-before}
+
+-- What files name they named before, where no file has changed.
+module _ (old new : FileBytes) (same : (n : List ℕ) → new n ≡ old n) where
+  files-before : (words : List (List ℕ)) (g : GarbledParts) (files : List LabelFileParts) → NameFiles new words g files
+      → NameFiles old words g files
+  files-before words g files told = record {
+    garbled = told.garbled;
+    labels = told.labels;
+    names = told.names;
+    garbled_told = told-before old new same (λ held. IsGarbledFile held g) told.garbled told.garbled_told;
+    labels_told = labels-before old new same told.labels files told.labels_told;
+  }
+
+  -- The files that the steps read are those that the words named before.
+  pub name-files : (words : List (List ℕ)) (garbled : List ℕ) (labels : List (List ℕ)) (g : GarbledParts)
+      (files : List LabelFileParts) → words ≡ garbled ∷ labels → IfSome (old garbled) (λ held. IsGarbledFile held g)
+      → TellLabels new labels files → NameFiles old words g files
+  name-files words garbled labels g files names garbled_told labels_told = record {
+    garbled = garbled;
+    labels = labels;
+    names = names;
+    garbled_told = garbled_told;
+    labels_told = labels-before old new same labels files labels_told;
+  }
+
+  pub job-before : (c : Netlist) (words : List (List ℕ)) (job : JobParts) → NameJob new c words job
+      → NameJob old c words job
+  job-before c words job is = record {
+    g = is.g;
+    files = is.files;
+    told = files-before words is.g is.files is.told;
+    bound = is.bound;
+  }
+
+  first-before : (words : List (List ℕ)) (fault : FileFault) → FirstBadNamed new words fault → FirstBadNamed old words fault
+  first-before [] fault bad = bad
+  first-before (garbled ∷ labels) fault (inl here) =
+      inl (told-before old new same (λ held. FirstFault held fault) garbled here)
+  first-before (garbled ∷ labels) fault (inr later) =
+      inr (
+        later.0,
+        told-before old new same (λ held. IsGarbledFile held later.0) garbled later.1,
+        bad-before old new same labels fault later.2,
+      )
+
+  pub named-before : (c : Netlist) (words : List (List ℕ)) (fault : Fault) → HasNamedFault new c words fault
+      → HasNamedFault old c words fault
+  named-before c words (faults.File fault) has = λ other. first-before words fault (has other)
+  named-before c words (faults.Binding fault) has =
+      (has.0, (has.1.0, (files-before words has.0 has.1.0 has.1.1.0, has.1.1.1)))
+  named-before c words faults.CannotRead has = tt
+  named-before c words faults.Memory has = tt
+  named-before c words (faults.Circuit fault) has = absurd has
+  named-before c words faults.WrongCount has = absurd has
+  named-before c words (faults.Value fault) has = absurd has
+  named-before c words faults.BadSeed has = absurd has
+  named-before c words faults.BadList has = absurd has
+  named-before c words faults.NoSuchValue has = absurd has
+  named-before c words (faults.Garbling fault) has = absurd has
+  named-before c words (faults.Evaluation fault) has = absurd has
+  named-before c words faults.CannotWrite has = absurd has
+
+  pub jobs-before : (c : Netlist) (lines : List (List (List ℕ))) (jobs : List JobParts) → NameJobs new c lines jobs
+      → NameJobs old c lines jobs
+  jobs-before c [] [] named = tt
+  jobs-before c [] (job ∷ jobs) named = absurd named
+  jobs-before c (words ∷ lines) [] named = absurd named
+  jobs-before c (words ∷ lines) (job ∷ jobs) named =
+      (job-before c words job named.0, jobs-before c lines jobs named.1)
+
+  first-job-before : (c : Netlist) (lines : List (List (List ℕ))) (fault : Fault) → FirstBadJob new c lines fault
+      → FirstBadJob old c lines fault
+  first-job-before c [] fault bad = bad
+  first-job-before c (words ∷ lines) fault (inl here) = inl (named-before c words fault here)
+  first-job-before c (words ∷ lines) fault (inr later) =
+      inr (later.0, job-before c words later.0 later.1, first-job-before c lines fault later.2)
+
+  -- The fault of the lines of a list is the list's.
+  pub list-fault : (list text : List ℕ) (c : Netlist) → GivesFile (old list) text → IsJobList text → (fault : Fault)
+      → HasLinesFault new c (listed text) fault → HasListFault old list c fault
+  list-fault list text c told is (faults.File fault) has =
+      record { text = text; text_told = told; is_list = is; first = first-job-before c (listed text) (faults.File fault) has }
+  list-fault list text c told is (faults.Binding fault) has =
+      record { text = text; text_told = told; is_list = is; first = first-job-before c (listed text) (faults.Binding fault) has }
+  list-fault list text c told is faults.CannotRead has = tt
+  list-fault list text c told is faults.Memory has = tt
+  list-fault list text c told is (faults.Circuit fault) has = absurd has
+  list-fault list text c told is faults.WrongCount has = absurd has
+  list-fault list text c told is (faults.Value fault) has = absurd has
+  list-fault list text c told is faults.BadSeed has = absurd has
+  list-fault list text c told is faults.BadList has = absurd has
+  list-fault list text c told is faults.NoSuchValue has = absurd has
+  list-fault list text c told is (faults.Garbling fault) has = absurd has
+  list-fault list text c told is (faults.Evaluation fault) has = absurd has
+  list-fault list text c told is faults.CannotWrite has = absurd has
+
+  pub listed-before : (list : List ℕ) (c : Netlist) (jobs : List JobParts) → AreListed new list c jobs
+      → AreListed old list c jobs
+  listed-before list c jobs are = record {
+    text = are.text;
+    text_told = subst (λ held. GivesFile held are.text) (same list) are.text_told;
+    is_list = are.is_list;
+    named = jobs-before c (listed are.text) jobs are.named;
+  }
+
+  bad-job-before : (list : List ℕ) (c : Netlist) (fault : Fault) → HasBadJob new list c fault → HasBadJob old list c fault
+  bad-job-before list c fault has = record {
+    text = has.text;
+    text_told = subst (λ held. GivesFile held has.text) (same list) has.text_told;
+    is_list = has.is_list;
+    first = first-job-before c (listed has.text) fault has.first;
+  }
+
+  -- The fault of a list and its jobs is that of the command.
+  pub jobs-list-fault : (circuit list : List ℕ) (workers : ℕ) (c : Netlist)
+      → IfSome (old circuit) (λ held. IsCircuit held c) → (fault : Fault) → HasListFault new list c fault
+      → HasJobsFault old circuit list workers fault
+  jobs-list-fault circuit list workers c told (faults.File fault) has =
+      (c, told, bad-job-before list c (faults.File fault) has)
+  jobs-list-fault circuit list workers c told (faults.Binding fault) has =
+      (c, told, bad-job-before list c (faults.Binding fault) has)
+  jobs-list-fault circuit list workers c told faults.BadList has =
+      (c, told, told-before old new same (λ text. IsJobList text → ⊥) list has)
+  jobs-list-fault circuit list workers c told faults.CannotRead has = tt
+  jobs-list-fault circuit list workers c told faults.Memory has = tt
+  jobs-list-fault circuit list workers c told (faults.Circuit fault) has = absurd has
+  jobs-list-fault circuit list workers c told faults.WrongCount has = absurd has
+  jobs-list-fault circuit list workers c told (faults.Value fault) has = absurd has
+  jobs-list-fault circuit list workers c told faults.BadSeed has = absurd has
+  jobs-list-fault circuit list workers c told faults.NoSuchValue has = absurd has
+  jobs-list-fault circuit list workers c told (faults.Garbling fault) has = absurd has
+  jobs-list-fault circuit list workers c told (faults.Evaluation fault) has = absurd has
+  jobs-list-fault circuit list workers c told faults.CannotWrite has = absurd has
+
+-- The fault of the circuit's file is that of the command.
+pub jobs-circuit-fault : (bytes : FileBytes) (circuit list : List ℕ) (workers : ℕ) (fault : Fault) → IsCircuitFault fault
+    → IfSome (bytes circuit) (λ held. HasCircuitFault held fault) → HasJobsFault bytes circuit list workers fault
+jobs-circuit-fault bytes circuit list workers faults.CannotRead kind has = tt
+jobs-circuit-fault bytes circuit list workers (faults.Circuit fault) kind has = has
+jobs-circuit-fault bytes circuit list workers faults.Memory kind has = tt
+jobs-circuit-fault bytes circuit list workers faults.WrongCount kind has = absurd kind
+jobs-circuit-fault bytes circuit list workers (faults.Value fault) kind has = absurd kind
+jobs-circuit-fault bytes circuit list workers faults.BadSeed kind has = absurd kind
+jobs-circuit-fault bytes circuit list workers faults.BadList kind has = absurd kind
+jobs-circuit-fault bytes circuit list workers faults.NoSuchValue kind has = absurd kind
+jobs-circuit-fault bytes circuit list workers (faults.Garbling fault) kind has = absurd kind
+jobs-circuit-fault bytes circuit list workers (faults.File fault) kind has = absurd kind
+jobs-circuit-fault bytes circuit list workers (faults.Binding fault) kind has = absurd kind
+jobs-circuit-fault bytes circuit list workers (faults.Evaluation fault) kind has = absurd kind
+jobs-circuit-fault bytes circuit list workers faults.CannotWrite kind has = absurd kind
+
+-- The fault of the label files is that of the words that name them,
+pub labels-named : (bytes : FileBytes) (c : Netlist) (words : List (List ℕ)) (garbled : List ℕ) (labels : List (List ℕ))
+    (g : GarbledParts) → words ≡ garbled ∷ labels → IfSome (bytes garbled) (λ held. IsGarbledFile held g) → (fault : Fault)
+    → HasLabelsFault bytes labels fault → HasNamedFault bytes c words fault
+labels-named bytes c words garbled labels g names told (faults.File fault) has =
+    λ other. subst (λ w. FirstBadNamed bytes w fault) (sym names) (inr (g, told, has other))
+labels-named bytes c words garbled labels g names told faults.CannotRead has = tt
+labels-named bytes c words garbled labels g names told faults.Memory has = tt
+labels-named bytes c words garbled labels g names told (faults.Circuit fault) has = absurd has
+labels-named bytes c words garbled labels g names told faults.WrongCount has = absurd has
+labels-named bytes c words garbled labels g names told (faults.Value fault) has = absurd has
+labels-named bytes c words garbled labels g names told faults.BadSeed has = absurd has
+labels-named bytes c words garbled labels g names told faults.BadList has = absurd has
+labels-named bytes c words garbled labels g names told faults.NoSuchValue has = absurd has
+labels-named bytes c words garbled labels g names told (faults.Garbling fault) has = absurd has
+labels-named bytes c words garbled labels g names told (faults.Binding fault) has = absurd has
+labels-named bytes c words garbled labels g names told (faults.Evaluation fault) has = absurd has
+labels-named bytes c words garbled labels g names told faults.CannotWrite has = absurd has
+
+-- What the lines from one on name, it and those after it name.
+pub line-next : {X : Type 0} (v : X → List (List ℕ)) (lines : List X) (i : ℕ) (d : X) → i < length lines
+    → map v (drop i lines) ≡ v (get_or lines i d) ∷ map v (drop (i + 1) lines)
+line-next v lines i d within =
+    let n : suc i ≡ i + 1 = omega arith in
+    ap (map v) (drop-cons lines i d within) ∙ ap (λ k. v (get_or lines i d) ∷ map v (drop k lines)) n
+
+-- The fault of a line that names no job is that of the lines.
+pub lines-fault : (bytes : FileBytes) (c : Netlist) (words : List (List ℕ)) (lines all : List (List (List ℕ)))
+    (fault : Fault) → (FirstBadJob bytes c (words ∷ lines) fault → FirstBadJob bytes c all fault)
+    → HasNamedFault bytes c words fault → HasLinesFault bytes c all fault
+lines-fault bytes c words lines all (faults.File fault) up has = up (inl has)
+lines-fault bytes c words lines all (faults.Binding fault) up has = up (inl has)
+lines-fault bytes c words lines all faults.CannotRead up has = tt
+lines-fault bytes c words lines all faults.Memory up has = tt
+lines-fault bytes c words lines all (faults.Circuit fault) up has = absurd has
+lines-fault bytes c words lines all faults.WrongCount up has = absurd has
+lines-fault bytes c words lines all (faults.Value fault) up has = absurd has
+lines-fault bytes c words lines all faults.BadSeed up has = absurd has
+lines-fault bytes c words lines all faults.BadList up has = absurd has
+lines-fault bytes c words lines all faults.NoSuchValue up has = absurd has
+lines-fault bytes c words lines all (faults.Garbling fault) up has = absurd has
+lines-fault bytes c words lines all (faults.Evaluation fault) up has = absurd has
+lines-fault bytes c words lines all faults.CannotWrite up has = absurd has
+
+-- Jobs that lines name are all on the circuit, and as many.
+named_on : (bytes : FileBytes) (c : Netlist) (lines : List (List (List ℕ))) (jobs : List JobParts)
+    → NameJobs bytes c lines jobs → (k : ℕ) (job : JobParts) → slice_get jobs k ≡ Some job → job.circuit ≡ c
+named_on bytes c [] [] named k job at = absurd (cc)
+named_on bytes c [] (other ∷ jobs) named k job at = absurd named
+named_on bytes c (words ∷ lines) [] named k job at = absurd named
+named_on bytes c (words ∷ lines) (other ∷ jobs) named zero job at =
+    let same : other ≡ job = cc in
+    ap (λ (j : JobParts). j.circuit) (sym same) ∙ ap (λ (j : JobParts). j.circuit) named.0.bound.parts
+named_on bytes c (words ∷ lines) (other ∷ jobs) named (suc k) job at = named_on bytes c lines jobs named.1 k job at
+
+pub named_on_one : (bytes : FileBytes) (c : Netlist) (lines : List (List (List ℕ))) (jobs : List JobParts)
+    → NameJobs bytes c lines jobs → AreOnOneCircuit jobs
+named_on_one bytes c lines jobs named i k a b a_at b_at =
+    named_on bytes c lines jobs named i a a_at ∙ sym (named_on bytes c lines jobs named k b b_at)
+
+pub named_count : (bytes : FileBytes) (c : Netlist) (lines : List (List (List ℕ))) (jobs : List JobParts)
+    → NameJobs bytes c lines jobs → length jobs ≡ length lines
+named_count bytes c [] [] named = refl
+named_count bytes c [] (job ∷ jobs) named = absurd named
+named_count bytes c (words ∷ lines) [] named = absurd named
+named_count bytes c (words ∷ lines) (job ∷ jobs) named = ap suc (named_count bytes c lines jobs named.1)
+
+some_at : {X : Type 0} (xs : List X) (k : ℕ) → k < length xs → (x : X) × (slice_get xs k ≡ Some x)
+some_at [] k within = absurd (omega (arith, within))
+some_at (x ∷ xs) zero within = (x, refl)
+some_at (x ∷ xs) (suc k) within = some_at xs k (omega (arith, within))
+
+named_at : (bytes : FileBytes) (c : Netlist) (lines : List (List (List ℕ))) (jobs : List JobParts)
+    → NameJobs bytes c lines jobs → (k : ℕ) (job : JobParts) → slice_get jobs k ≡ Some job
+    → (words : List (List ℕ)) × NameJob bytes c words job
+named_at bytes c [] [] named k job at = absurd (cc)
+named_at bytes c [] (other ∷ jobs) named k job at = absurd named
+named_at bytes c (words ∷ lines) [] named k job at = absurd named
+named_at bytes c (words ∷ lines) (other ∷ jobs) named zero job at =
+    let same : other ≡ job = cc in
+    (words, subst (λ j. NameJob bytes c words j) same named.0)
+named_at bytes c (words ∷ lines) (other ∷ jobs) named (suc k) job at = named_at bytes c lines jobs named.1 k job at
+
+-- The bits of each job have the output widths.
+pub length-listed : (bytes : FileBytes) (c : Netlist) → IsLawful c → (lines : List (List (List ℕ))) (jobs : List JobParts)
+    (outputs : List (List Bool)) → NameJobs bytes c lines jobs → AreEvaluated jobs outputs → (k : ℕ) (bits : List Bool)
+    → slice_get outputs k ≡ Some bits → sum c.output_widths ≡ length bits
+length-listed bytes c lawful lines jobs outputs named are k bits at =
+    let within : k < length outputs = slice_get_within outputs k bits at in
+    let found = some_at jobs k (omega (arith, within, are.count)) in
+    let is = named_at bytes c lines jobs named k found.0 found.1 in
+    length-decoded c lawful is.1.g is.1.files bits
+    (record { job = found.0; bound = is.1.bound; evaluated = are.each k found.0 bits found.1 at })

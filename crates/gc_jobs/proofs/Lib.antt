@@ -1,0 +1,2 @@
+pub mod JobListLemmas
+pub mod JobsLemmas

@@ -1,0 +1,7 @@
+use Rattle.std.proofs.Common.{◌≡◌, drop}
+use Rattle.gc_netlist.specs.Text.{tokens}
+use Rattle.gc_jobs.proofs.job_list.has_words.Given as goal
+
+-- No blank is in a token.
+abbrev pub invariant-loop-byte : goal.invariant-loop-byte
+invariant-loop-byte l = tokens (drop l.byte-index l.byte-items) ≡ tokens l.byte-items

@@ -1,0 +1,14 @@
+use Rattle.std.proofs.Common.{rules, tests}
+use Rattle.std.proofs.lemmas.Iterator.Consumers.{YieldsList-at, YieldsList-from_filter, map_from_collect}
+use Rattle.std.proofs.lemmas.Iterator.Splits.{YieldsList-from_slice_split}
+use Rattle.gc_netlist.specs.Text.{is_blank, is_some_run, tokens}
+use Rattle.gc_jobs.proofs.JobListLemmas.{is_run}
+use Rattle.gc_jobs.proofs.job_list.tokens_of.Goals as goal
+
+pub returns : goal.returns
+unfolding tokens
+returns g c =
+    map_from_collect _ c.collect.ensures.ran (YieldsList-from_filter _ is_some_run
+    (YieldsList-at c.filter.ensures.source (YieldsList-from_slice_split _ is_blank c.args.line.now c.split.ensures.rest
+    c.split.ensures.done c.split.ensures.closure (λ x r q k. search (rules, tests))))
+    c.filter.ensures.closure (λ x r q k. search (rules, tests, is_run)))

@@ -1,0 +1,2 @@
+pub mod JobList
+pub mod Jobs

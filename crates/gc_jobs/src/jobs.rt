@@ -1,0 +1,65 @@
+//! The command `jobs`: evaluating a list of garbled files of one circuit.
+
+ghost use Rattle.std.specs.Prelude.{◌≡◌, ◌<◌, ◌≤◌, ℕ, List, length, map, IfOk, IfErr, Err};
+ghost use Rattle.gc_gatehouse.specs.Workers.{AreFew};
+ghost use Rattle.gc_bank.specs.Jobs.{AreEvaluated, AreEvaluatedBy, AreOnOneCircuit};
+ghost use Rattle.gc_bank.specs.declared.jobs.TheConstants.{MAX_JOBS};
+ghost use Rattle.gc_jobs.specs.Jobs.{AnswersJobs, HasJobsFault};
+ghost use Rattle.gc_command.specs.Fault.{HasCause};
+
+use crate::listed_job::read_listed_jobs;
+use gc_bank::evaluate_jobs;
+use gc_command::{Fault, Files, Progress, Work, jobs_lines, read_circuit_and_digest};
+use gc_eval::{EvalFault, Job};
+use gc_gatehouse::Open;
+use std::alloc::Allocator;
+use std::thread::Threads;
+
+/// Evaluates the circuit of a file by this many workers from each garbled file that the list of this name has, with the
+/// label files beside it, and answers the lines of the output values that they decode to. Nothing of these files is
+/// trusted.
+pub fn jobs<R: Threads + Sync, A: Allocator + Copy + Send + Sync, F: Files, P: Progress>(
+    rt: &R,
+    alloc: A,
+    circuit: &str,
+    list: &str,
+    workers: u32,
+    files: &mut F,
+    progress: &P,
+) -> Result<Vec<u8, A>, Fault>
+    ensures answers { IfOk result
+        (λ lines. AnswersJobs (F.bytes files.old) circuit.now list.now workers lines.items) }
+    ensures fault { IfErr result (HasJobsFault (F.bytes files.old) circuit.now list.now workers) }
+    ensures cause { IfErr result
+        (λ fault. HasCause fault (F.failures files.old) (F.failures files.new)) }
+    ensures same { (name : List ℕ) → F.bytes files.new name ≡ F.bytes files.old name }
+{
+    progress.begin(1, 3, Work::ReadingCircuit);
+    let (circuit, digest) = read_circuit_and_digest(rt, alloc, circuit, files)?;
+    let jobs = read_listed_jobs(alloc, &circuit, &digest, list, files, progress)?;
+    progress.begin(3, 3, Work::EvaluatingJobs { jobs: jobs.len() });
+    let outputs = evaluate_listed(rt, alloc, &jobs, workers)?;
+    Ok(jobs_lines(alloc, circuit.output_widths(), &outputs)?)
+}
+
+/// The output bits of each job of a list, which may have none. That all are on one circuit, and that they are not too
+/// many, is the caller's condition.
+fn evaluate_listed<R: Threads + Sync, A: Allocator + Copy + Send + Sync>(
+    rt: &R,
+    alloc: A,
+    jobs: &[Job<'_, A, A>],
+    workers: u32,
+) -> Result<Vec<Vec<bool, A>, A>, EvalFault>
+    requires count { length jobs.now ≤ MAX_JOBS }
+    requires one { AreOnOneCircuit jobs.now }
+    ensures evaluated { IfOk result
+        (λ all. AreEvaluated jobs.now (map (λ bits. bits.items) all.items)) }
+    ensures few { IfOk result (λ _. 0 < length jobs.now → AreFew workers) }
+    ensures fault { IfErr result
+        (λ fault. (0 < length jobs.now) × AreEvaluatedBy workers jobs.now (Err fault)) }
+{
+    if jobs.is_empty() {
+        return Ok(Vec::new(alloc));
+    }
+    evaluate_jobs(rt, alloc, jobs, workers, &Open)
+}
