@@ -1,13 +1,13 @@
 //! Each growth refused in turn of the opening of banks and of the evaluation of a list of jobs.
 
 use crate::banks::three_jobs;
-use crate::jobs::{evaluated, one_after_another};
+use crate::jobs::{evaluated, one_after_another, one_of_each_version};
 use gc_bank::{Banks, OpenFault, one_circuit};
 use gc_circuit::Circuit;
 use gc_eval::{EvalFault, Job};
 use gc_gatehouse::Open;
 use gc_refusing::Refusing;
-use gc_worked::circuits::FULL_ADDER;
+use gc_worked::circuits::{FULL_ADDER, many_ands};
 use std::alloc::Global;
 use std::sync::Wait;
 use std::test::Fail;
@@ -80,15 +80,31 @@ fn refused_runs<R: Threads + Wait + Sync>(
     Err(Fail::new("each run met a refusal"))
 }
 
-/// The banks take memory seven times, the workers once each and once together, and the answers twice together
-/// and at least twice for each job.
+/// Fewer jobs than workers, on a wide circuit, are shared at the banks. These take memory seven times, the workers
+/// once each and once together, and the answers twice together and at least twice for each job.
 #[test]
-fn each_growth_of_a_list_refused(rt: HostRuntime) -> Result<(), Fail> {
+fn each_growth_of_shared_jobs_refused(rt: HostRuntime) -> Result<(), Fail> {
+    let alloc = rt.alloc();
+    let text = many_ands(alloc, 1100)?;
+    let circuit = Circuit::read(alloc, text.as_bytes())?;
+    let ones = "1".repeat(alloc, 1100)?;
+    let values = [ones.as_str(), ones.as_str()];
+    let jobs = one_of_each_version(alloc, &circuit, text.as_str(), &values)?;
+    let few = refused_runs(&rt, alloc, &jobs, 3)?;
+    let many = refused_runs(&rt, alloc, &jobs, 16)?;
+    assert!(rt; few >= 16 && many >= 29, "{few} and {many} growths");
+    Ok(())
+}
+
+/// Otherwise each worker evaluates jobs of its own: the list takes memory twice, and each job at least twice.
+#[test]
+fn each_growth_of_jobs_apart_refused(rt: HostRuntime) -> Result<(), Fail> {
     let alloc = rt.alloc();
     let circuit = Circuit::read(alloc, FULL_ADDER.as_bytes())?;
     let jobs = three_jobs(alloc, &circuit)?;
-    let few = refused_runs(&rt, alloc, &jobs, 2)?;
-    let many = refused_runs(&rt, alloc, &jobs, 64)?;
-    assert!(rt; few >= 18 && many >= 80, "{few} and {many} growths");
+    for workers in [1, 2, 64] {
+        let runs = refused_runs(&rt, alloc, &jobs, workers)?;
+        assert!(rt; runs >= 7, "{runs} growths by {workers} workers");
+    }
     Ok(())
 }

@@ -90,20 +90,31 @@ fn circuits_are_compared(rt: HostRuntime) -> Result<(), Fail> {
     Ok(())
 }
 
-/// Two workers step the gates of two jobs on 2,000 independent AND gates.
+/// A job of each version on the same values.
+pub(crate) fn one_of_each_version<'c>(
+    alloc: Global,
+    circuit: &'c Circuit,
+    text: &str,
+    values: &[&str],
+) -> Result<Vec<Job<'c>>, Fail> {
+    let mut jobs = Vec::new(alloc);
+    for version in [Version::One, Version::Two] {
+        jobs.push(job_of(alloc, circuit, text, version, values)?)?;
+    }
+    Ok(jobs)
+}
+
+/// Two of three workers step the gates of two jobs on 2,000 independent AND gates.
 #[test]
 fn two_job_workers_meet(rt: HostRuntime) -> Result<(), Fail> {
     let alloc = rt.alloc();
     let text = many_ands(alloc, 2000)?;
     let circuit = Circuit::read(alloc, text.as_bytes())?;
     let zeros = "0".repeat(alloc, 2000)?;
-    let mut jobs = Vec::new(alloc);
-    for version in [Version::One, Version::Two] {
-        let values = [zeros.as_str(), zeros.as_str()];
-        jobs.push(job_of(alloc, &circuit, text.as_str(), version, &values)?)?;
-    }
+    let values = [zeros.as_str(), zeros.as_str()];
+    let jobs = one_of_each_version(alloc, &circuit, text.as_str(), &values)?;
     let observer = Meeting::new();
-    let found = evaluated(&rt, alloc, &jobs, 2, &observer)?;
+    let found = evaluated(&rt, alloc, &jobs, 3, &observer)?;
     assert!(rt; observer.has_met());
     assert_eq!(rt; found, one_after_another(alloc, &jobs));
     Ok(())

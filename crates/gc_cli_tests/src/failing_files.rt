@@ -1,7 +1,7 @@
 //! Tests of files that fail: each call of them in turn, and sources and sinks in mid-stream.
 
 use crate::jobs::{held, job_files, order};
-use gc_cli::{Fault, Order, carry_out};
+use gc_cli::{Fault, Order, Silent, carry_out};
 use gc_serving::{Limits, MemFiles};
 use gc_worked::circuits::{SEED, XOR};
 use std::alloc::Global;
@@ -88,7 +88,7 @@ fn assert_fails<R: Threads + Wait + Sync + Abort>(
     fault: Fault,
 ) {
     let mut files = MemFiles::limited(alloc, files, limits);
-    let answer = carry_out(rt, alloc, order, &mut files);
+    let answer = carry_out(rt, alloc, order, &mut files, &Silent);
     assert_eq!(rt; answer.err(), Some(fault));
     assert!(rt; limits.taken.is_some() || files.into_written().is_none());
 }
@@ -103,7 +103,7 @@ fn assert_prints<R: Threads + Wait + Sync + Abort>(
     printed: &str,
 ) -> Result<(), Fail> {
     let mut files = MemFiles::limited(alloc, files, limits);
-    let lines = carry_out(rt, alloc, order, &mut files)?;
+    let lines = carry_out(rt, alloc, order, &mut files, &Silent)?;
     assert_eq!(rt; lines.as_slice(), printed.as_bytes());
     Ok(())
 }

@@ -1,7 +1,7 @@
-//! Each growth of a command refused in turn: the fault's code tells the part of the work that lacked memory.
+//! Each growth of a command refused in turn: the fault's code says which part of the work lacked memory.
 
 use crate::jobs::{held, job_files, order};
-use gc_cli::{Order, carry_out};
+use gc_cli::{Order, Silent, carry_out};
 use gc_refusing::Refusing;
 use gc_serving::MemFiles;
 use gc_worked::circuits::{ADDER_LINES, FULL_ADDER, SEED};
@@ -30,6 +30,9 @@ const PLAIN_EVALUATION: Part = (13, 2);
 /// The zero labels, and the rows.
 const GARBLING: Part = (23, 2);
 
+/// The zero labels: the rows take the places of the file's.
+const GARBLING_IN_PLACE: Part = (23, 1);
+
 /// The bytes before the trailer, and the trailer.
 const GARBLED_FILE: Part = (52, 2);
 
@@ -39,6 +42,8 @@ const GARBLED: Part = (36, 4);
 const LIST_OF_LABELS: Part = (52, 1);
 
 const LABELS: Part = (36, 1);
+
+const THREE_LABEL_FILES: [Part; 7] = [LIST_OF_LABELS, FILE, LABELS, FILE, LABELS, FILE, LABELS];
 
 /// The input labels, the labels of all wires, and the output bits.
 const EVALUATION: Part = (46, 3);
@@ -77,111 +82,92 @@ const AUDIT_LINES: Part = (52, 7);
 const JOBS_EVALUATION: Part = (46, 4);
 
 /// Orders over the full adder, what each prints, and the parts of its work. What a sink takes is the files' own memory.
-static ORDERS: [(&[&str], &str, &[Part]); 11] = [
+static ORDERS: [(&[&str], &str, &[&[Part]]); 11] = [
     (
         &["run", "c.txt", SEED, "1", "0", "1"],
         "01\n",
         &[
-            FILE,
-            CIRCUIT,
-            LIST_OF_VALUES,
-            THREE_VALUES,
-            GARBLING,
-            GARBLED_FILE,
-            GARBLED,
-            LIST_OF_LABELS,
-            FILE,
-            LABELS,
-            FILE,
-            LABELS,
-            FILE,
-            LABELS,
-            EVALUATION,
-            OUTPUT_LINE,
+            &[
+                FILE,
+                CIRCUIT,
+                LIST_OF_VALUES,
+                THREE_VALUES,
+                GARBLING,
+                GARBLED_FILE,
+                GARBLED,
+            ],
+            &THREE_LABEL_FILES,
+            &[EVALUATION, OUTPUT_LINE],
         ],
     ),
     (
         &["plain", "c.txt", "1", "0", "1"],
         "01\n",
-        &[
+        &[&[
             FILE,
             CIRCUIT,
             LIST_OF_VALUES,
             THREE_VALUES,
             PLAIN_EVALUATION,
             OUTPUT_LINE,
-        ],
+        ]],
     ),
     (
         &["check", "c.txt"],
         ADDER_LINES,
-        &[FILE, CIRCUIT, CHECK_LINES],
+        &[&[FILE, CIRCUIT, CHECK_LINES]],
     ),
     (
         &["garble", "c.txt", SEED, "out"],
         "wrote 177\n",
-        &[FILE, CIRCUIT, GARBLING, OUTPUT_LINE],
+        &[&[FILE, CIRCUIT, GARBLING, OUTPUT_LINE]],
     ),
     (
         &["deal", "c.txt", SEED, "2", "1", "out"],
         "wrote 32\n",
-        &[FILE, CIRCUIT, ONE_VALUE, OUTPUT_LINE],
+        &[&[FILE, CIRCUIT, ONE_VALUE, OUTPUT_LINE]],
     ),
     (
         &["eval", "c.txt", "g", "0", "1", "2"],
         "01\n",
         &[
-            FILE,
-            CIRCUIT,
-            GARBLED,
-            LIST_OF_LABELS,
-            FILE,
-            LABELS,
-            FILE,
-            LABELS,
-            FILE,
-            LABELS,
-            EVALUATION,
-            OUTPUT_LINE,
+            &[FILE, CIRCUIT, GARBLED],
+            &THREE_LABEL_FILES,
+            &[EVALUATION, OUTPUT_LINE],
         ],
     ),
     (
         &["jobs", "c.txt", "list"],
         "01\n\n",
         &[
-            FILE,
-            CIRCUIT,
-            FILE,
-            PARTS,
-            LIST_OF_JOBS,
-            PARTS,
-            WORDS,
-            GARBLED,
-            LIST_OF_LABELS,
-            FILE,
-            LABELS,
-            FILE,
-            LABELS,
-            FILE,
-            LABELS,
-            JOBS_EVALUATION,
-            OUTPUT_LINE,
+            &[
+                FILE,
+                CIRCUIT,
+                FILE,
+                PARTS,
+                LIST_OF_JOBS,
+                PARTS,
+                WORDS,
+                GARBLED,
+            ],
+            &THREE_LABEL_FILES,
+            &[JOBS_EVALUATION, OUTPUT_LINE],
         ],
     ),
     (
         &["locate", "c.txt"],
         "no fault\n",
-        &[FILE, CIRCUIT, NO_FAULT],
+        &[&[FILE, CIRCUIT, NO_FAULT]],
     ),
     (
         &["stats", "c.txt"],
         ADDER_STATS,
-        &[FILE, CIRCUIT, STATS, STATS_LINES],
+        &[&[FILE, CIRCUIT, STATS, STATS_LINES]],
     ),
     (
         &["labels", "c.txt", SEED, "--from", "7", "1", "0", "1"],
         SUM_LINE,
-        &[
+        &[&[
             FILE,
             CIRCUIT,
             LIST_OF_VALUES,
@@ -189,24 +175,15 @@ static ORDERS: [(&[&str], &str, &[Part]); 11] = [
             GARBLING,
             WIRE_BITS,
             LABEL_LINES,
-        ],
+        ]],
     ),
     (
         &["audit", "c.txt", SEED, "g", "0", "1", "2"],
         ADDER_AUDIT,
         &[
-            FILE,
-            CIRCUIT,
-            GARBLED,
-            LIST_OF_LABELS,
-            FILE,
-            LABELS,
-            FILE,
-            LABELS,
-            FILE,
-            LABELS,
-            GARBLING,
-            AUDIT_LINES,
+            &[FILE, CIRCUIT, GARBLED],
+            &THREE_LABEL_FILES,
+            &[GARBLING_IN_PLACE, AUDIT_LINES],
         ],
     ),
 ];
@@ -252,7 +229,7 @@ fn code_of_refusal<R: Threads + Wait + Sync + Abort>(
     growth: u64,
 ) -> Option<u32> {
     let heap = Refusing::nth(alloc, growth);
-    match carry_out(rt, &heap, order, &mut MemFiles::new(alloc, files)) {
+    match carry_out(rt, &heap, order, &mut MemFiles::new(alloc, files), &Silent) {
         Ok(lines) => {
             assert_eq!(rt; lines.as_slice(), printed.as_bytes());
             (heap.refused() > 0).then_some(0)
@@ -283,13 +260,21 @@ fn codes_of_refusals<R: Threads + Wait + Sync + Abort>(
     Err(Fail::new("each run met a refusal"))
 }
 
-/// The code of each growth of the parts.
-fn codes_of(alloc: Global, parts: &[Part]) -> Result<Vec<u32>, AllocError> {
+/// The code of each growth of the parts in these lists.
+fn codes_of(alloc: Global, lists: &[&[Part]]) -> Result<Vec<u32>, AllocError> {
     let mut codes = Vec::new(alloc);
+    for parts in lists {
+        push_codes(&mut codes, parts)?;
+    }
+    Ok(codes)
+}
+
+/// Adds the code of each growth of these parts.
+fn push_codes(codes: &mut Vec<u32>, parts: &[Part]) -> Result<(), AllocError> {
     for (code, growths) in parts {
         codes.resize(codes.len().saturating_add(*growths), *code)?;
     }
-    Ok(codes)
+    Ok(())
 }
 
 /// The memory of each part of the work has its own fault.

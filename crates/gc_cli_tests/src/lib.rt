@@ -12,3 +12,5 @@ mod growth;
 mod host_files;
 #[cfg(test)]
 mod jobs;
+#[cfg(test)]
+mod refusals;

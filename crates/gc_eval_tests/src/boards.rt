@@ -99,8 +99,8 @@ fn two_gates_in_a_step(rt: HostRuntime) -> Result<(), Fail> {
     take_two(&rt, rt.alloc(), &job)
 }
 
-/// Each growth of `open` is refused in turn: the words, the two tables of the circuit, the seats, and the table's own two
-/// blocks.
+/// Each growth of `open` is refused in turn: the words, the two tables of the circuit, the seats, and the table's own
+/// two blocks.
 #[test]
 fn opening(rt: HostRuntime) -> Result<(), Fail> {
     let circuit = Circuit::read(rt.alloc(), FULL_ADDER.as_bytes())?;
@@ -231,8 +231,8 @@ fn made_alone<'j, 'c>(alloc: Global, job: &'j Job<'c>) -> Result<(u64, Active<'j
     Ok((made, closed(board, seats)?))
 }
 
-/// What one seat makes decodes to what the evaluation on one thread answers. Decoding takes memory for the output labels and
-/// for their bits.
+/// What one seat makes decodes to what the evaluation on one thread answers. Decoding takes memory for the output
+/// labels and for their bits.
 #[test]
 fn one_seat_makes_all(rt: HostRuntime) -> Result<(), Fail> {
     let alloc = rt.alloc();
@@ -245,8 +245,8 @@ fn one_seat_makes_all(rt: HostRuntime) -> Result<(), Fail> {
     Ok(())
 }
 
-/// Opens a board over this memory, has one seat make all gates and tell the other one, and closes it. The answer is the
-/// label of a wire, and how many gates are done, where no memory was asked for after the opening.
+/// Opens a board over this memory, has one seat make all gates and share them with the other one, and closes it. The
+/// answer is the label of a wire, and how many gates are done, where no memory was asked for after the opening.
 fn works_without_memory(
     heap: &Refusing<Global>,
     job: &Job,
@@ -309,7 +309,8 @@ fn step_together<'j, 'c, R: Threads + Sync>(
     );
 }
 
-/// What this many seats make, at first each in a thread of its own, and then one after another, decodes to the output bits.
+/// What this many seats make, at first each in a thread of its own, and then one after another, decodes to the output
+/// bits.
 fn made_by<R: Threads + Sync>(
     rt: &R,
     alloc: Global,

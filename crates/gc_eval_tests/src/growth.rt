@@ -36,7 +36,8 @@ fn evaluation(rt: HostRuntime) -> Result<(), Fail> {
     Ok(())
 }
 
-/// The growths of reading the garbled file come first, and then the one of binding; evaluating has two.
+/// The growths of reading the garbled file come first, and then the one of binding; evaluating has two, and decoding
+/// the second of these alone.
 #[test]
 fn binding_and_evaluating(rt: HostRuntime) -> Result<(), Fail> {
     let alloc = rt.alloc();
@@ -61,10 +62,23 @@ fn binding_and_evaluating(rt: HostRuntime) -> Result<(), Fail> {
         Err(_) => Answer::Other,
     });
     assert_eq!(rt; refused, Ok(2));
+    assert!(rt; job.circuit().gates() == 1 && job.circuit().input_wires() == 2);
+    let label = job.active(0, job.input(0), job.input(1));
+    let refused = runs_refused(alloc, |heap| {
+        if job.circuit().output_wires() != 1 {
+            return Answer::Other;
+        }
+        match job.decode(heap, &[label]) {
+            Ok(bits) => plain_if(bits.as_slice() == [true].as_slice()),
+            Err(EvalFault::Memory) => Answer::Memory,
+            Err(_) => Answer::Other,
+        }
+    });
+    assert_eq!(rt; refused, Ok(1));
     Ok(())
 }
 
-/// A job that is bound tells all that it has without memory.
+/// A bound job answers every query without memory.
 #[test]
 fn a_bound_job_grows_nothing(rt: HostRuntime) -> Result<(), Fail> {
     let alloc = rt.alloc();

@@ -76,8 +76,8 @@ fn each_gate_is_reported(rt: HostRuntime) -> Result<(), Fail> {
     Ok(())
 }
 
-/// With growth 1, 2, 3, .. refused, this many workers give the answer of one thread, or the fault for memory. The answer
-/// is how many runs met a refusal.
+/// With growth 1, 2, 3, .. refused, this many workers give the answer of one thread, or the fault for memory. The
+/// answer is how many runs met a refusal.
 fn refused_runs<R: Threads + Wait + Sync>(
     rt: &R,
     alloc: Global,
@@ -99,9 +99,9 @@ fn refused_runs<R: Threads + Wait + Sync>(
     Err(Fail::new("each run met a refusal"))
 }
 
-/// Which way to go takes memory twice where there are several threads; the board six times, the workers once each and once
-/// together, the seats that are back once, and the output labels and bits once each. On one thread there are the labels of
-/// all wires, and the bits.
+/// Which way to go takes memory twice where there are several threads; the board six times, the workers once each and
+/// once together, the seats that are back once, and the output labels and bits once each. On one thread there are the
+/// labels of all wires, and the bits.
 #[test]
 fn each_growth_refused(rt: HostRuntime) -> Result<(), Fail> {
     let circuit = Circuit::read(rt.alloc(), FULL_ADDER.as_bytes())?;

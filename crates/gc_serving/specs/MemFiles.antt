@@ -12,8 +12,8 @@ abbrev pub written_or : Option (List ℕ × List ℕ) → List ℕ → Option (L
 written_or None name held = held
 written_or (Some file) name held = if bytes_eq file.0 name then Some file.1 else held
 
--- files in memory: the files, each with its name and its bytes; the one that was written, if one was; how much goes well;
--- and how often they have failed so far
+-- files in memory: the files, each with its name and its bytes; the one that was written, if one was; how much goes
+-- well; and how often they have failed so far
 pub record HeldFiles : Type 0 where
   pub files : List (Bor (List ℕ) × Bor (List ℕ))
   pub written : Option (List ℕ × List ℕ)

@@ -29,17 +29,18 @@ impl Limits {
     };
 }
 
-/// Files in memory, by name, each with its bytes. One file can be written, which can't be read here.
+/// Files in memory, by name, each with its bytes. One file can be written, which can't be read here; it takes its memory
+/// from the allocator.
 #[derive(Drop)]
-pub struct MemFiles<'a> {
-    alloc: Global,
+pub struct MemFiles<'a, B: Allocator = Global> {
+    alloc: B,
     files: &'a [(&'a str, &'a [u8])],
-    written: Option<(String, Vec<u8>)>,
+    written: Option<(String<B>, Vec<u8, B>)>,
     limits: Limits,
-    failures: FileFailures<MemSink, MemSource<'a>>,
+    failures: FileFailures<MemSink<B>, MemSource<'a>>,
 }
 
-impl<'a> Model for MemFiles<'a> {
+impl<'a, B: Allocator> Model for MemFiles<'a, B> {
     ghost use Rattle.std.specs.Prelude.{option_map, string_bytes};
     ghost use Rattle.gc_serving.specs.MemFiles.{HeldFiles};
 
@@ -53,17 +54,19 @@ impl<'a> Model for MemFiles<'a> {
     } };
 }
 
-impl<'a> MemFiles<'a> {
+impl<'a, B: Allocator> MemFiles<'a, B> {
     /// Files that never fail.
-    pub fn new(alloc: Global, files: &'a [(&'a str, &'a [u8])]) -> MemFiles<'a>
-        ensures { result ≡ record { files = files.now; written = None; limits = Limits.NONE; failures = 0 } }
+    pub fn new(alloc: B, files: &'a [(&'a str, &'a [u8])]) -> MemFiles<'a, B>
+        ensures { result
+            ≡ record { files = files.now; written = None; limits = Limits.NONE; failures = 0 } }
     {
         MemFiles::limited(alloc, files, Limits::NONE)
     }
 
     /// Files that fail beyond these limits.
-    pub fn limited(alloc: Global, files: &'a [(&'a str, &'a [u8])], limits: Limits) -> MemFiles<'a>
-        ensures { result ≡ record { files = files.now; written = None; limits = limits; failures = 0 } }
+    pub fn limited(alloc: B, files: &'a [(&'a str, &'a [u8])], limits: Limits) -> MemFiles<'a, B>
+        ensures { result
+            ≡ record { files = files.now; written = None; limits = limits; failures = 0 } }
     {
         MemFiles {
             alloc,
@@ -75,8 +78,9 @@ impl<'a> MemFiles<'a> {
     }
 
     /// The file that was written, moved out.
-    pub fn into_written(self) -> Option<(String, Vec<u8>)>
-        ensures { option_map (λ file. (string_bytes file.0, file.1.items)) result ≡ self.entry.written }
+    pub fn into_written(self) -> Option<(String<B>, Vec<u8, B>)>
+        ensures { option_map (λ file. (string_bytes file.0, file.1.items)) result
+            ≡ self.entry.written }
     {
         self.written
     }
@@ -132,8 +136,8 @@ fn held_at<'a>(files: &[(&'a str, &'a [u8])], name: &str) -> Option<&'a [u8]>
     None
 }
 
-impl<'a> Files for MemFiles<'a> {
-    type Sink = MemSink;
+impl<'a, B: Allocator + Copy> Files for MemFiles<'a, B> {
+    type Sink = MemSink<B>;
 
     type Source = MemSource<'a>;
 
@@ -146,7 +150,7 @@ impl<'a> Files for MemFiles<'a> {
         Ok(Vec::from_slice(alloc, bytes)?)
     }
 
-    fn create(&mut self, _name: &str) -> Result<MemSink, FileError> {
+    fn create(&mut self, _name: &str) -> Result<MemSink<B>, FileError> {
         if self.goes_well() {
             return Ok(MemSink::new(self.alloc, self.limits.taken));
         }
@@ -154,7 +158,7 @@ impl<'a> Files for MemFiles<'a> {
         Err(FileError::CannotWrite)
     }
 
-    fn keep(&mut self, name: &str, sink: MemSink) -> Result<(), FileError> {
+    fn keep(&mut self, name: &str, sink: MemSink<B>) -> Result<(), FileError> {
         self.failures.add_sink(&sink);
         if self.goes_well() && self.written.is_none() {
             if let Ok(name) = String::from_str(self.alloc, name) {

@@ -196,19 +196,36 @@ fn faults_before_the_rows_take_no_memory(rt: HostRuntime) -> Result<(), Fail> {
     Ok(())
 }
 
-/// Writes a garbled file to a sink in memory. The answer is plain where the sink holds the file, and the fault for
-/// memory where it holds a beginning of it, of as many bytes as the writer reports.
+/// A file that is written.
+#[derive(Clone, Copy, Debug)]
+enum Kept {
+    Garbled(Version),
+    Labels,
+}
+
+static ONES: [bool; 1100] = [true; 1100];
+
+/// Writes a file of 1,100 AND gates to a sink in memory. The answer is plain where the sink holds the file, and the
+/// fault for memory where it holds a beginning of it, of as many bytes as the writer reports.
 fn written_to_memory<A: Allocator>(
     heap: A,
+    kept: Kept,
     circuit: &Circuit,
     garbling: &Garbling,
     file: &[u8],
 ) -> Answer {
     let mut sink = MemSink::new(heap, None);
-    if !garbling.fits(circuit) {
+    let widths = circuit.input_widths();
+    if !garbling.fits(circuit) || widths.len() < 2 || widths[1] as usize != ONES.len() {
         return Answer::Other;
     }
-    let answer = write_garbled(&mut sink, circuit, garbling);
+    let answer = match kept {
+        Kept::Garbled(Version::One) => write_garbled(&mut sink, circuit, garbling),
+        Kept::Garbled(Version::Two) => {
+            write_garbled2(&mut sink, circuit, garbling, &zero_seed())
+        }
+        Kept::Labels => write_labels(&mut sink, circuit, &zero_seed(), 1, &ONES),
+    };
     let held = sink.bytes();
     match answer {
         Ok(sent) => plain_if(held == file && sent == held.len() as u64),
@@ -217,19 +234,28 @@ fn written_to_memory<A: Allocator>(
     }
 }
 
-/// A file of 35,418 bytes goes to a sink in three pieces and its trailer, and the sink grows for each piece.
+/// A file goes to a sink in pieces of up to 16,384 bytes. A sink that is full makes room for twice as many.
 #[test]
 fn writing_to_memory(rt: HostRuntime) -> Result<(), Fail> {
     let alloc = rt.alloc();
     let text = many_ands(alloc, 1100)?;
-    let file = write(alloc, text.as_str(), Version::One, None)?.bytes;
     let circuit = Circuit::read(alloc, text.as_bytes())?;
     let garbling = garble_one_thread(alloc, &circuit, &zero_seed())?;
-    let refused = runs_refused(
-        alloc,
-        |heap| written_to_memory(heap, &circuit, &garbling, &file),
-    );
-    assert_eq!(rt; (file.len(), refused), (35418, Ok(3)));
+    for (kept, length, growths) in [
+        (Kept::Garbled(Version::One), 35_418, 3),
+        (Kept::Garbled(Version::Two), 70_618, 4),
+        (Kept::Labels, 17_616, 2),
+    ] {
+        let file = match kept {
+            Kept::Garbled(version) => write(alloc, text.as_str(), version, None)?.bytes,
+            Kept::Labels => label_file(alloc, &circuit, 1, &ONES)?,
+        };
+        let refused = runs_refused(
+            alloc,
+            |heap| written_to_memory(heap, kept, &circuit, &garbling, &file),
+        );
+        assert_eq!(rt; (file.len(), refused), (length, Ok(growths)), "{kept:?}");
+    }
     Ok(())
 }
 

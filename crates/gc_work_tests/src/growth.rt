@@ -1,5 +1,5 @@
-//! Each growth of opening a store and of opening a pool refused in turn, and the work on an opened store, shared or not,
-//! which takes no memory.
+//! Each growth of opening a store and of opening a pool refused in turn, and the work on an opened store, shared or
+//! not, which takes no memory.
 
 ghost use Rattle.gc_store.specs.Account.{IsForStore};
 
@@ -69,7 +69,8 @@ fn claims_and_settles<L: Ledger, A: Allocator>(
     claimed && reopened && matches!(store.settle(tallies), Ok(0))
 }
 
-/// Deals a tally, claims, puts back, settles and then garbles the full adder over an opened store, which asks for no memory.
+/// Deals a tally, claims, puts back, settles and then garbles the full adder over an opened store, which asks for no
+/// memory.
 fn grows_nothing<L: Ledger>(
     rt: &impl Abort,
     heap: &Refusing<Global>,

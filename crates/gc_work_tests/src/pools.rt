@@ -92,8 +92,8 @@ fn fills(heap: &Refusing<Global>, capacity: u32, most: u32) -> Option<u32> {
     }
 }
 
-/// Without thieves what was pushed is popped, the last one first. A full pool grows where memory is there, and refuses a
-/// task where none is. It takes none for the first pushes.
+/// Without thieves what was pushed is popped, the last one first. A full pool grows where memory is there, and refuses
+/// a task where none is. It takes none for the first pushes.
 #[test]
 fn a_full_pool_refuses(rt: HostRuntime) {
     let heap = Refusing::never(rt.alloc());

@@ -15,8 +15,8 @@ use std::sync::ledger::{Blank, Ledger};
 use std::thread;
 use std::thread::Threads;
 
-/// Two gates are finished with one tally and one with another. Without the second tally nothing is added up, and with it
-/// three gates are.
+/// Two gates are finished with one tally and one with another. Without the second tally nothing is added up, and with
+/// it three gates are.
 fn settles_with_both<L: Ledger>(
     rt: &impl Abort,
     alloc: Global,

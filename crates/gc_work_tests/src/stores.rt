@@ -25,8 +25,8 @@ enum Step {
     Completes(u32),
 }
 
-/// Orders of work on the full adder. Its gates 0 and 1 read input wires alone, gates 2 and 3 read what gate 0 sets, gate
-/// 2 also what gate 1 sets, and gate 4 reads what gate 2 sets.
+/// Orders of work on the full adder. Its gates 0 and 1 read input wires alone, gates 2 and 3 read what gate 0 sets,
+/// gate 2 also what gate 1 sets, and gate 4 reads what gate 2 sets.
 static ORDERS: [&[Step]; 4] = [
     // After gate 0 gate 3 is ready; where it is claimed on the way, gate 4 alone is ready after gate 2.
     &[
@@ -161,8 +161,8 @@ fn is_named(refused: &Refused, code: u32, name: &str) -> bool {
     refused.code() == code && refused.name() == name
 }
 
-/// A task that was made of other inputs is refused, while its gate is claimed. So is a task whose gate is finished, free,
-/// or not there, which is not asked for its inputs. A refusal counts nothing.
+/// A task that was made of other inputs is refused, while its gate is claimed. So is a task whose gate is finished,
+/// free, or not there, which is not asked for its inputs. A refusal counts nothing.
 fn refuses<L: Ledger>(rt: &impl Abort, alloc: Global, ledger: Blank, foreign: Task) -> Option<()>
     requires { IsForStore L.name L.parts ledger }
 {

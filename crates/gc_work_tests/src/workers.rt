@@ -5,7 +5,7 @@ use gc_circuit::Circuit;
 use gc_half::{Garbling, garble_one_thread};
 use gc_refusing::Refusing;
 use gc_work::{Open, WorkFault, garble};
-use gc_worked::circuits::{FULL_ADDER, and_chains, many_ands, mixed_blocks};
+use gc_worked::circuits::{FULL_ADDER, NO_GATES, and_chains, many_ands, mixed_blocks};
 use gc_worked::counting::Counting;
 use gc_worked::meeting::Meeting;
 use std::alloc::{Allocator, Global};
@@ -87,8 +87,9 @@ fn each_gate_is_reported_once(rt: HostRuntime) -> Result<(), Fail> {
     Ok(())
 }
 
-/// With growth 1, 2, 3, .. refused, this many workers answer the garbling of one thread or the fault for memory, whichever
-/// threads get it. The answer is how many runs met a refusal; None where one answered something else, or each met one.
+/// With growth 1, 2, 3, .. refused, this many workers answer the garbling of one thread or the fault for memory,
+/// whichever threads get it. The answer is how many runs met a refusal; None where one answered something else, or each
+/// met one.
 fn refused_runs<R: Threads + Wait + Sync>(
     rt: &R,
     alloc: Global,
@@ -128,17 +129,25 @@ fn are_refused<R: Threads + Wait + Sync>(
 #[test]
 fn each_growth_of_few_workers_refused(rt: HostRuntime) -> Result<(), Fail> {
     let by_store = and_chains(rt.alloc(), 40, 50)?;
-    assert!(rt; are_refused(&rt, rt.alloc(), by_store.as_str(), 2, 16) == Some(true));
     let by_layers = many_ands(rt.alloc(), 2000)?;
-    assert!(rt; are_refused(&rt, rt.alloc(), by_layers.as_str(), 2, 8) == Some(true));
     let by_one = many_ands(rt.alloc(), 16)?;
-    assert!(rt; are_refused(&rt, rt.alloc(), by_one.as_str(), 1, 1) == Some(true));
+    for (text, workers, fewest) in [
+        (by_store.as_str(), 2, 16),
+        (by_layers.as_str(), 2, 8),
+        (by_one.as_str(), 1, 1),
+        (NO_GATES, 2, 0),
+    ] {
+        assert!(rt; are_refused(&rt, rt.alloc(), text, workers, fewest) == Some(true));
+    }
     Ok(())
 }
 
 #[test]
 fn each_growth_of_64_workers_refused(rt: HostRuntime) -> Result<(), Fail> {
-    let text = and_chains(rt.alloc(), 64, 16)?;
-    assert!(rt; are_refused(&rt, rt.alloc(), text.as_str(), 64, 128) == Some(true));
+    let by_store = and_chains(rt.alloc(), 64, 16)?;
+    assert!(rt; are_refused(&rt, rt.alloc(), by_store.as_str(), 64, 128) == Some(true));
+    // Four threads help.
+    let by_layers = many_ands(rt.alloc(), 4100)?;
+    assert!(rt; are_refused(&rt, rt.alloc(), by_layers.as_str(), 64, 8) == Some(true));
     Ok(())
 }

@@ -1,4 +1,4 @@
-use Rattle.std.proofs.Common.{◌≡◌, ◌∷◌, [], ◌++◌, subst}
+use Rattle.std.proofs.Common.{◌∷◌, [], ◌++◌, subst}
 use Rattle.gc_work.specs.Pool.{AllOf}
 use Rattle.gc_work.proofs.PoolMoves.{AllOf-front, AllOf-last}
 use Rattle.gc_work_tests.proofs.pools.take_one.Goals as goal
