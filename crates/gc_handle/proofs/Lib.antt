@@ -1,0 +1,3 @@
+pub mod Pair
+pub mod PointerSteps
+pub mod Walk

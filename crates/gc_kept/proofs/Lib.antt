@@ -1,0 +1,4 @@
+pub mod FileLemmas
+pub mod JobLemmas
+pub mod OutcomeLemmas
+pub mod PlainLemmas

@@ -1,0 +1,11 @@
+-- Weaker facts of outcomes.
+use Rattle.std.proofs.Common.{Result, Ok, Err, OnOk, IfErr}
+
+module _ {T E : Type 0} where
+  pub OnOk-both : {A B C : Type 0} (r : Result T E) → (A → B → C) → OnOk r A → OnOk r B → OnOk r C
+  OnOk-both (Ok x) f a b = f a b
+  OnOk-both (Err e) f a b = tt
+
+  pub IfErr-map : {P Q : E → Type 0} (r : Result T E) → ((e : E) → P e → Q e) → IfErr r P → IfErr r Q
+  IfErr-map (Ok x) f p = tt
+  IfErr-map (Err e) f p = f e p

@@ -1,0 +1,56 @@
+use Rattle.std.proofs.Common.{◌≡◌, ◌∙◌, List, Bool, Some, length, map, slice_get, refl, sym, ap, arith}
+use Rattle.std.proofs.lemmas.Bool.Decides.{nat_tests}
+use Rattle.std.proofs.lemmas.Result.{err_from_is_err_and}
+use Rattle.gc_audit.proofs.LabelsLemmas.{found_at}
+use Rattle.gc_kept.specs.Bits.{bit_byte}
+use Rattle.gc_kept.specs.Files.{no_value, of_bits, of_file}
+use Rattle.gc_kept.proofs.OutcomeLemmas.{OnOk-both, IfErr-map}
+use Rattle.gc_kept.proofs.circuit.KeptCircuit.deal.Goals as goal
+
+pub returns-in_default-clause-fault : goal.returns-in_default-clause-fault
+returns-in_default-clause-fault c =
+    let h = c.in_default.ensures.lookup.0 in
+    let n = ap length (c.input_widths.ensures ∙ ap (λ d. d.input_widths) c.circuit-circuit.ensures.same) in
+    no_value (grind (arith, nat_tests, h, n))
+
+pub returns-in_err-bits-clause-fault : goal.returns-in_err-bits-clause-fault
+returns-in_err-bits-clause-fault c =
+    let found = c.in-Some.ensures.lookup in
+    let p = err_from_is_err_and c.from_residual.result c.from_residual.ensures.1 in
+    rw (p.1, p.2) (of_bits c.in-Some.width.now c.in_err-bits.field-0.0
+    (found_at c.input_widths.result.now c.args.self.now.input_widths c.args.index c.args.index c.in-Some.width.now
+    c.in-Some.width.now found.0 found.1
+    (c.input_widths.ensures ∙ ap (λ d. d.input_widths) c.circuit-circuit.ensures.same) refl refl)
+    c.in_err-bits.ensures.fault)
+
+pub write_dealt-requires : goal.write_dealt-requires
+write_dealt-requires c =
+    let found = c.in-Some.ensures.lookup in
+    found_at c.input_widths.result.now c.args.self.now.input_widths c.args.index c.args.index c.in-Some.width.now
+    (length c.deref.result.now) found.0 found.1
+    (c.input_widths.ensures ∙ ap (λ d. d.input_widths) c.circuit-circuit.ensures.same) refl
+    (ap length c.deref.ensures.value ∙ c.in_ok-bits.ensures.count)
+
+pub returns-clause-ok : goal.returns-clause-ok
+returns-clause-ok c =
+    let found = c.in-Some.ensures.lookup in
+    OnOk-both c.write_dealt.result (λ file count. record {
+      bits = c.deref.result.now;
+      bytes_are = c.in_ok-bits.ensures.bytes ∙ ap (map bit_byte) (sym c.deref.ensures.value);
+      width = found_at c.input_widths.result.now c.args.self.now.input_widths c.args.index c.args.index
+          c.in-Some.width.now (length c.deref.result.now) found.0 found.1
+          (c.input_widths.ensures ∙ ap (λ d. d.input_widths) c.circuit-circuit.ensures.same) refl
+          (ap length c.deref.ensures.value ∙ c.in_ok-bits.ensures.count);
+      file = file;
+      count = count;
+    }) c.write_dealt.ensures.ok c.write_dealt.ensures.written
+
+pub returns-clause-fault : goal.returns-clause-fault
+returns-clause-fault c =
+    let found = c.in-Some.ensures.lookup in
+    IfErr-map c.write_dealt.result (λ fault is. of_file c.deref.result.now fault
+    (c.in_ok-bits.ensures.bytes ∙ ap (map bit_byte) (sym c.deref.ensures.value))
+    (found_at c.input_widths.result.now c.args.self.now.input_widths c.args.index c.args.index
+    c.in-Some.width.now (length c.deref.result.now) found.0 found.1
+    (c.input_widths.ensures ∙ ap (λ d. d.input_widths) c.circuit-circuit.ensures.same) refl
+    (ap length c.deref.ensures.value ∙ c.in_ok-bits.ensures.count)) is) c.write_dealt.ensures.fault

@@ -1,0 +1,47 @@
+use Rattle.std.proofs.Common.{◌≡◌, ◌++◌, ◌<◌, ◌∙◌, length, sym, arith}
+use Rattle.std.specs.List.{slice_index}
+use Rattle.std.proofs.lemmas.List.{take-append-drop}
+use Rattle.std.proofs.lemmas.Result.{err_from_is_err_and}
+use Rattle.gc_kept.proofs.FileLemmas as lemmas
+use Rattle.gc_kept.proofs.label_files.read_label_files.Goals as goal
+
+pub returns-then-rest-length-clause-fault : goal.returns-then-rest-length-clause-fault
+returns-then-rest-length-clause-fault c =
+    let l = c.loop-length in
+    lemmas.too_few c.args.bytes.now c.args.lengths.now l.files.items l.rest.now l.length-index l.invariant.spelled
+    l.invariant.lengths_of l.invariant.whole (omega arith) (omega arith)
+
+pub returns-in_err-read_labels-clause-fault : goal.returns-in_err-read_labels-clause-fault
+returns-in_err-read_labels-clause-fault c =
+    let l = c.loop-length in
+    let s = c.split_at in
+    let p = err_from_is_err_and c.from_residual-in_err-read_labels.result c.from_residual-in_err-read_labels.ensures.1 in
+    rw (p.1, p.2) (λ other.
+    lemmas.faulty c.args.bytes.now c.args.lengths.now l.files.items l.rest.now l.length-index l.invariant.spelled
+    l.invariant.lengths_of l.invariant.whole s.result.0.now s.result.1.now
+    (rw (s.ensures.front, s.ensures.back) (sym (take-append-drop (slice_index c.args.lengths.now l.length-index) l.rest.now)))
+    (omega arith) s.ensures.front_len c.in_err-read_labels.field-0.0 (c.in_err-read_labels.ensures other))
+
+pub loop-length-preserved : goal.loop-length-preserved
+loop-length-preserved c =
+    let l = c.loop-length in
+    let s = c.split_at in
+    let split : l.rest.now ≡ s.result.0.now ++ s.result.1.now =
+    rw (s.ensures.front, s.ensures.back) (sym (take-append-drop (slice_index c.args.lengths.now l.length-index) l.rest.now)) in
+    rw c.in_ok-push.ensures.items (record {
+      spelled = lemmas.grown c.args.bytes.now c.args.lengths.now l.files.items l.rest.now l.length-index l.invariant.spelled
+          l.invariant.lengths_of l.invariant.whole s.result.0.now s.result.1.now split (omega arith) s.ensures.front_len
+          c.in_ok-read_labels.field-0 c.in_ok-read_labels.ensures;
+      lengths_of = lemmas.lengths-grown c.args.bytes.now c.args.lengths.now l.files.items l.rest.now l.length-index
+          l.invariant.spelled l.invariant.lengths_of l.invariant.whole s.result.0.now s.result.1.now split (omega arith)
+          s.ensures.front_len c.in_ok-read_labels.field-0 c.in_ok-read_labels.ensures;
+      whole = lemmas.all-grown c.args.bytes.now c.args.lengths.now l.files.items l.rest.now l.length-index
+          l.invariant.spelled l.invariant.lengths_of l.invariant.whole s.result.0.now s.result.1.now split (omega arith)
+          s.ensures.front_len c.in_ok-read_labels.field-0 c.in_ok-read_labels.ensures;
+    })
+
+pub returns-then-rest-gt0-clause-fault : goal.returns-then-rest-gt0-clause-fault
+returns-then-rest-gt0-clause-fault c =
+    let l = c.loop-length in
+    lemmas.too_many c.args.bytes.now c.args.lengths.now l.files.items l.rest.now l.length-index l.invariant.spelled
+    l.invariant.lengths_of l.invariant.whole (omega arith) (omega arith)

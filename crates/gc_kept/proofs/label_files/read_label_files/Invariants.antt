@@ -1,0 +1,12 @@
+use Rattle.std.proofs.Common.{◌≡◌, ◌++◌, map, flat_map, take}
+use Rattle.std.specs.List.{All}
+use Rattle.gc_format.specs.LabelFile.{label_file}
+use Rattle.gc_kept.specs.LabelFiles.{file_length, IsOwnFile}
+use Rattle.gc_kept.proofs.label_files.read_label_files.Given as goal
+
+abbrev pub invariant-loop-length : goal.invariant-loop-length
+invariant-loop-length l = record {
+  spelled : l.bytes ≡ flat_map label_file l.files.items ++ l.rest;
+  lengths_of : take l.length-index l.lengths ≡ map file_length l.files.items;
+  whole : All IsOwnFile l.files.items;
+}

@@ -1,0 +1,57 @@
+-- Jobs of files in memory.
+use Rattle.std.specs.Prelude.{◌≡◌, ◌≢◌, ℕ, Bool, List, length, map, Ok, Err}
+use Rattle.gc_netlist.specs.Circuit.{Netlist, output_wires}
+use Rattle.gc_format.specs.GarbledFile.{GarbledParts, IsGarbledFile}
+use Rattle.gc_format.specs.LabelFile.{LabelFileParts}
+use Rattle.gc_read.specs.declared.fault.FileFault.{FileFault}
+use Rattle.gc_read.specs.declared.fault.FileFault.TheVariants as file
+use Rattle.gc_read.specs.FileFault.{FirstFault}
+use Rattle.gc_job.specs.declared.fault.BindFault.{BindFault}
+use Rattle.gc_job.specs.declared.fault.BindFault.TheVariants as bind
+use Rattle.gc_job.specs.Job.{JobParts}
+use Rattle.gc_job.specs.Binding.{FirstBindFault, IsBound}
+use Rattle.gc_job.specs.Evaluate.{IsEvaluated}
+use Rattle.gc_kept.specs.declared.fault.KeptFault.{KeptFault}
+use Rattle.gc_kept.specs.declared.fault.KeptFault.TheVariants.{Circuit, BadDigit, WrongLength, Garbling, File, Binding, Evaluation, BadArgument, SmallBuffer, Memory}
+use Rattle.gc_kept.specs.Bits.{bit_byte}
+use Rattle.gc_kept.specs.LabelFiles.{AreLabelFiles, HasLabelFilesFault}
+
+-- The job is that of the circuit, the garbled file and the label files that these bytes are.
+pub record IsBoundJob (c : Netlist) (garbled labels lengths : List ℕ) (job : JobParts) : Type 0 where
+  pub parts : GarbledParts
+  pub garbled_file : IsGarbledFile garbled parts
+  pub files : List LabelFileParts
+  pub label_files : AreLabelFiles labels lengths files
+  pub bound : IsBound c parts files job
+
+-- The fault of such bytes: the first of the garbled file, then that of the label files, then the first of binding them.
+-- Memory may be missing instead.
+pub data HasJobFault (c : Netlist) (garbled labels lengths : List ℕ) : KeptFault → Type 0 where
+  of_garbled : (fault : FileFault) → (fault ≢ file.Memory → FirstFault garbled fault)
+      → HasJobFault c garbled labels lengths (File fault)
+  of_labels : (parts : GarbledParts) (fault : KeptFault) → IsGarbledFile garbled parts
+      → HasLabelFilesFault labels lengths fault → HasJobFault c garbled labels lengths fault
+  of_binding : (parts : GarbledParts) (files : List LabelFileParts) (fault : BindFault)
+      → IsGarbledFile garbled parts → AreLabelFiles labels lengths files
+      → (fault ≢ bind.Memory → FirstBindFault c parts files fault)
+      → HasJobFault c garbled labels lengths (Binding fault)
+  want : HasJobFault c garbled labels lengths Memory
+
+-- The bytes are the output bits that an evaluation of the job decodes to.
+pub record AreEvaluated (job : JobParts) (bytes : List ℕ) : Type 0 where
+  pub bits : List Bool
+  pub evaluated : IsEvaluated job (Ok bits)
+  pub bytes_of : bytes ≡ map bit_byte bits
+
+-- The fault of an evaluation that is given room for a number of bits.
+abbrev pub HasEvaluationFault : JobParts → ℕ → KeptFault → Type 0
+HasEvaluationFault job room BadArgument = room ≢ output_wires job.circuit
+HasEvaluationFault job room (Evaluation fault) = (room ≡ output_wires job.circuit) × IsEvaluated job (Err fault)
+HasEvaluationFault job room (Circuit fault) = ⊥
+HasEvaluationFault job room BadDigit = ⊥
+HasEvaluationFault job room WrongLength = ⊥
+HasEvaluationFault job room Garbling = ⊥
+HasEvaluationFault job room (File fault) = ⊥
+HasEvaluationFault job room (Binding fault) = ⊥
+HasEvaluationFault job room SmallBuffer = ⊥
+HasEvaluationFault job room Memory = ⊥

@@ -1,0 +1,11 @@
+pub mod Fault
+pub mod Bits
+pub mod Circuit
+pub mod Garbling
+pub mod LabelFiles
+pub mod Job
+pub mod Plain
+pub mod Version
+pub mod Files
+pub mod Wires
+pub mod Audit

@@ -1,0 +1,29 @@
+-- Evaluation in the plain, of bits as bytes.
+use Rattle.std.specs.Prelude.{◌≡◌, ◌≢◌, ℕ, Bool, List, map}
+use Rattle.gc_netlist.specs.Circuit.{Netlist, input_wires, output_wires}
+use Rattle.gc_circuit.specs.Meaning.{AreOutputs}
+use Rattle.gc_kept.specs.declared.fault.KeptFault.{KeptFault}
+use Rattle.gc_kept.specs.declared.fault.KeptFault.TheVariants.{Circuit, BadDigit, WrongLength, Garbling, File, Binding, Evaluation, BadArgument, SmallBuffer, Memory}
+use Rattle.gc_kept.specs.Bits.{bit_byte, HasBitsFault}
+
+-- The bytes are the circuit's outputs for the input bits that these bytes are.
+pub record ArePlainOutputs (c : Netlist) (inputs outputs : List ℕ) : Type 0 where
+  pub bits : List Bool
+  pub inputs_are : inputs ≡ map bit_byte bits
+  pub found : List Bool
+  pub outputs_are : outputs ≡ map bit_byte found
+  pub meaning : AreOutputs c bits found
+
+-- The fault of such an evaluation, which is given room for a number of bits: that the room is wrong, then that of the
+-- input bits. Memory may be missing instead.
+abbrev pub HasPlainFault : Netlist → List ℕ → ℕ → KeptFault → Type 0
+HasPlainFault c inputs room BadArgument = room ≢ output_wires c
+HasPlainFault c inputs room (Circuit fault) = HasBitsFault inputs (input_wires c) (Circuit fault)
+HasPlainFault c inputs room BadDigit = HasBitsFault inputs (input_wires c) BadDigit
+HasPlainFault c inputs room WrongLength = HasBitsFault inputs (input_wires c) WrongLength
+HasPlainFault c inputs room Garbling = ⊥
+HasPlainFault c inputs room (File fault) = ⊥
+HasPlainFault c inputs room (Binding fault) = ⊥
+HasPlainFault c inputs room (Evaluation fault) = ⊥
+HasPlainFault c inputs room SmallBuffer = ⊥
+HasPlainFault c inputs room Memory = ⊥

@@ -1,0 +1,26 @@
+-- What a garbling has for a wire.
+use Rattle.std.specs.Prelude.{◌≡◌, ℕ, Bool, List, map, slice_get, Some}
+use Rattle.gc_netlist.specs.Circuit.{Netlist}
+use Rattle.gc_circuit.specs.Meaning.{AreWireBits}
+use Rattle.gc_label.specs.Label.{bytes_of_label}
+use Rattle.gc_half.specs.Garbling.{decode_bits_of}
+use Rattle.gc_kept.specs.Bits.{bit_byte}
+use Rattle.gc_kept.specs.Garbling.{SeededGarbling}
+
+-- The bytes are the zero label of a wire.
+pub record IsZeroLabel (g : SeededGarbling) (wire : ℕ) (bytes : List ℕ) : Type 0 where
+  pub label : ℕ
+  pub at : slice_get g.garbling.zero_labels wire ≡ Some label
+  pub bytes_are : bytes ≡ bytes_of_label label
+
+-- The byte is the decode bit of an output wire.
+pub record IsDecodeBit (g : SeededGarbling) (output byte : ℕ) : Type 0 where
+  pub bit : Bool
+  pub at : slice_get (decode_bits_of g.garbling) output ≡ Some bit
+  pub byte_is : byte ≡ bit_byte bit
+
+-- The bits on all wires, for the input bits that these bytes are.
+pub record AreBitsOn (c : Netlist) (inputs : List ℕ) (all : List Bool) : Type 0 where
+  pub bits : List Bool
+  pub inputs_are : inputs ≡ map bit_byte bits
+  pub meaning : AreWireBits c bits all

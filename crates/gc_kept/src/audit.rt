@@ -1,0 +1,39 @@
+//! Comparing files in memory with a garbling.
+
+ghost use Rattle.std.specs.Prelude.{IfOk, IfErr};
+ghost use Rattle.gc_kept.specs.Audit.{IsAuditOf, HasGarbledFault, IsLabelsAuditOf, HasLabelsFault};
+
+use crate::fault::KeptFault;
+use crate::garbling::KeptGarbling;
+use gc_audit::{GarbledAudit, LabelsVerdict};
+use gc_file::{Version, read_garbled, read_labels};
+use gc_job::EvalFault;
+use std::alloc::Global;
+
+impl KeptGarbling {
+    /// Compares a garbled file with the garbling, as [`gc_audit::audit_garbled`] does: the version of the file, and what is found.
+    pub fn audit(&self, alloc: Global, file: &[u8]) -> Result<(Version, GarbledAudit), KeptFault>
+        ensures ok { IfOk result (λ found. IsAuditOf self.now file.now found.0 found.1) }
+        ensures fault { IfErr result (HasGarbledFault file.now) }
+    {
+        let file = read_garbled(alloc, file)?;
+        Ok((file.version(), self.audit_parts(&file)))
+    }
+
+    /// Compares a label file with the garbling, as [`gc_audit::audit_labels`] does: the index that stands in the file, and what is
+    /// found.
+    pub fn audit_labels(
+        &self,
+        alloc: Global,
+        file: &[u8],
+    ) -> Result<(u32, LabelsVerdict<Global>), KeptFault>
+        ensures ok { IfOk result (λ found. IsLabelsAuditOf self.now file.now found.0 found.1) }
+        ensures fault { IfErr result (HasLabelsFault file.now) }
+    {
+        let file = read_labels(alloc, file)?;
+        match self.audit_label_file(alloc, &file) {
+            Ok(verdict) => Ok((file.index(), verdict)),
+            Err(_) => Err(KeptFault::Evaluation(EvalFault::Memory)),
+        }
+    }
+}

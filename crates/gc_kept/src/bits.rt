@@ -1,0 +1,54 @@
+//! Bits as bytes.
+
+ghost use Rattle.std.specs.Prelude.{◌≡◌, length, map, IfOk, IfErr};
+ghost use Rattle.gc_kept.specs.Bits.{bit_byte, HasBitsFault};
+
+use crate::fault::KeptFault;
+use gc_circuit::ReadFault;
+use std::alloc::Global;
+
+/// The byte of a bit.
+pub(crate) fn bit_byte(bit: bool) -> u8
+    ensures { result ≡ bit_byte bit }
+{
+    u8::from(bit)
+}
+
+/// Writes the byte of each bit. That there is one for each is the caller's condition.
+pub fn write_bits(bits: &[bool], bytes: &mut [u8])
+    requires { length bytes.old ≡ length bits.now }
+    ensures { bytes.new ≡ map bit_byte bits.now }
+{
+    for (i, byte) in bytes.iter_mut().enumerate() {
+        *byte = bit_byte(bits[i]);
+    }
+}
+
+/// The bits of these bytes, where there are `count` of them and each is 0 or 1.
+pub(crate) fn read_bits(
+    alloc: Global,
+    bytes: &[u8],
+    count: usize,
+) -> Result<Vec<bool, Global>, KeptFault>
+    ensures count { IfOk result (λ bits. length bits.items ≡ count) }
+    ensures bytes { IfOk result (λ bits. bytes.now ≡ map bit_byte bits.items) }
+    ensures fault { IfErr result (HasBitsFault bytes.now count) }
+{
+    if bytes.len() != count {
+        return Err(KeptFault::WrongLength);
+    }
+    let Ok(mut bits) = Vec::with_capacity(alloc, count) else {
+        return Err(KeptFault::Circuit(ReadFault::Memory));
+    };
+    for byte in bytes {
+        let bit = match *byte {
+            0 => false,
+            1 => true,
+            _ => return Err(KeptFault::BadDigit),
+        };
+        if bits.push(bit).is_err() {
+            return Err(KeptFault::Circuit(ReadFault::Memory));
+        }
+    }
+    Ok(bits)
+}

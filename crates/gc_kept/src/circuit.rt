@@ -1,0 +1,114 @@
+//! Circuits with their digests, which several may hold.
+
+ghost use Rattle.std.specs.Prelude.{◌≡◌, IfOk, IfErr};
+ghost use Rattle.sha2.specs.Sha256.{sha256};
+ghost use Rattle.gc_netlist.specs.Circuit.{IsLawful};
+ghost use Rattle.gc_netlist.specs.Canon.{canonical_text};
+ghost use Rattle.gc_netlist.specs.Spelling.{Spells};
+ghost use Rattle.gc_kept.specs.Circuit.{HasTextFault};
+
+use crate::fault::KeptFault;
+use gc_circuit::Circuit;
+use std::alloc::{AllocError, Global};
+use std::marker::Model;
+use std::sync::Arc;
+
+/// A circuit and its digest.
+#[derive(Drop)]
+pub(crate) struct Digested {
+    circuit: Circuit<Global>,
+    digest: [u8; 32],
+}
+
+impl Model for Digested {
+    ghost use Rattle.std.specs.Prelude.{◌≡◌};
+    ghost use Rattle.sha2.specs.Sha256.{sha256};
+    ghost use Rattle.gc_netlist.specs.Circuit.{Netlist};
+    ghost use Rattle.gc_netlist.specs.Canon.{canonical_text};
+
+    ghost Value = { Netlist };
+
+    ghost view = { λ d. d.circuit };
+
+    ghost invariant = { λ d. d.digest ≡ sha256 (canonical_text d.circuit) };
+}
+
+impl Digested {
+    fn new(circuit: Circuit<Global>) -> Digested
+        ensures { result ≡ circuit }
+    {
+        let digest = circuit.digest();
+        Digested { circuit, digest }
+    }
+
+    /// The circuit.
+    pub(crate) fn circuit(&self) -> &Circuit<Global>
+        ensures same { result.now ≡ self.now }
+        ensures lawful { IsLawful self.now }
+    {
+        self.circuit.law_lawful();
+        &self.circuit
+    }
+
+    /// Its digest, which was taken when it was read.
+    pub(crate) fn digest(&self) -> &[u8; 32]
+        ensures { result.now ≡ sha256 (canonical_text self.now) }
+    {
+        &self.digest
+    }
+}
+
+/// A circuit with its digest. Garblings and jobs hold it with others, and it is let go with the last of them.
+#[derive(Drop)]
+pub struct KeptCircuit {
+    shared: Arc<Digested, Global>,
+}
+
+impl Model for KeptCircuit {
+    ghost use Rattle.gc_netlist.specs.Circuit.{Netlist};
+
+    ghost Value = { Netlist };
+
+    ghost view = { λ c. c.shared.value };
+}
+
+impl KeptCircuit {
+    /// Reads a circuit, as [`Circuit::read`] does, and takes its digest.
+    pub fn read(alloc: Global, text: &[u8]) -> Result<KeptCircuit, KeptFault>
+        ensures ok { IfOk result (λ c. IsLawful c × Spells text.now c) }
+        ensures fault { IfErr result (HasTextFault text.now) }
+    {
+        let circuit = match Circuit::read(alloc, text) {
+            Ok(circuit) => circuit,
+            Err(fault) => return Err(KeptFault::Circuit(fault)),
+        };
+        match Arc::new(alloc, Digested::new(circuit)) {
+            Ok(shared) => Ok(KeptCircuit { shared }),
+            Err(_) => Err(KeptFault::Memory),
+        }
+    }
+
+    /// The circuit.
+    pub fn circuit(&self) -> &Circuit<Global>
+        ensures same { result.now ≡ self.now }
+        ensures lawful { IsLawful self.now }
+    {
+        self.shared.circuit()
+    }
+
+    /// Its digest, which was taken when it was read.
+    pub fn digest(&self) -> &[u8; 32]
+        ensures { result.now ≡ sha256 (canonical_text self.now) }
+    {
+        self.shared.digest()
+    }
+
+    /// The circuit once more, for another to hold.
+    pub(crate) fn again(&self) -> Result<KeptCircuit, AllocError>
+        ensures { IfOk result (λ c. c ≡ self.now) }
+    {
+        Ok(KeptCircuit {
+            shared: Arc::try_clone(&self.shared)?,
+        })
+    }
+}

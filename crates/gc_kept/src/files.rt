@@ -1,0 +1,124 @@
+//! Writing files to the buffers of callers.
+
+ghost use Rattle.std.specs.Prelude.{◌≡◌, Some, length, slice_get, IfErr, OnOk, OnErr};
+ghost use Rattle.gc_format.specs.GarbledFile.{garbled_file};
+ghost use Rattle.gc_format.specs.LabelFile.{label_file, label_parts_of};
+ghost use Rattle.gc_file.specs.Honest.{honest_parts};
+ghost use Rattle.gc_stats.specs.Stats.{IsFileSize};
+ghost use Rattle.gc_kept.specs.Files.{IsFileAt, HasRoomFault, HasWriteFault, IsDealtAt, HasDealFault};
+
+use crate::bits::read_bits;
+use crate::circuit::KeptCircuit;
+use crate::fault::KeptFault;
+use crate::garbling::KeptGarbling;
+use gc_file::{MemSink, Version, write_labels};
+use gc_job::BindFault;
+use gc_label::Seed;
+use gc_stats::garbled_size;
+use std::alloc::Global;
+
+/// Copies a file to a buffer, whose end stays as it is, and tells the number of its bytes. Where the buffer is too small
+/// it stays as it is.
+fn copy_file(file: &[u8], buffer: &mut [u8], written: &mut usize) -> Result<(), KeptFault>
+    ensures ok { OnOk result (IsFileAt file.now buffer.old buffer.new) }
+    ensures fault { IfErr result (HasRoomFault (length file.now) (length buffer.old)) }
+    ensures unwritten { OnErr result (buffer.new ≡ buffer.old) }
+    ensures written { written.new ≡ length file.now }
+{
+    *written = file.len();
+    if buffer.len() < file.len() {
+        return Err(KeptFault::SmallBuffer);
+    }
+    buffer[..file.len()].copy_from_slice(file);
+    Ok(())
+}
+
+impl KeptCircuit {
+    /// How many bytes the garbled file of a version has, for the circuit's garbling under any seed.
+    pub fn garbled_size(&self, version: Version) -> u64
+        ensures { IsFileSize version self.now result }
+    {
+        garbled_size(self.circuit(), version)
+    }
+
+    /// Writes the label file of the input value of this index, for these bits under a seed, and tells the number of its
+    /// bytes.
+    pub fn deal(
+        &self,
+        alloc: Global,
+        seed: &[u8; 32],
+        index: u32,
+        bits: &[u8],
+        buffer: &mut [u8],
+        written: &mut usize,
+    ) -> Result<(), KeptFault>
+        ensures ok { OnOk result
+            (IsDealtAt self.now seed.now index bits.now buffer.old buffer.new written.new) }
+        ensures fault { IfErr result
+            (HasDealFault self.now seed.now index bits.now (length buffer.old) written.new) }
+        ensures unwritten { OnErr result (buffer.new ≡ buffer.old) }
+    {
+        let circuit = self.circuit();
+        let Some(width) = circuit.input_widths().get(index as usize) else {
+            return Err(KeptFault::Binding(BindFault::NoSuchValue));
+        };
+        let bits = read_bits(alloc, bits, *width as usize)?;
+        self.write_dealt(alloc, seed, index, &bits, buffer, written)
+    }
+
+    /// Writes the label file of an input value with these bits, and tells the number of its bytes. That there is such a
+    /// value, and that the bits have its width, are the caller's conditions.
+    fn write_dealt(
+        &self,
+        alloc: Global,
+        seed: &[u8; 32],
+        index: u32,
+        bits: &[bool],
+        buffer: &mut [u8],
+        written: &mut usize,
+    ) -> Result<(), KeptFault>
+        requires { slice_get self.now.input_widths index ≡ Some (length bits.now) }
+        ensures ok { OnOk result (IsFileAt
+            (label_file (label_parts_of self.now seed.now index bits.now)) buffer.old buffer.new) }
+        ensures written { OnOk result (written.new
+            ≡ length (label_file (label_parts_of self.now seed.now index bits.now))) }
+        ensures fault { IfErr result (HasWriteFault
+            (label_file (label_parts_of self.now seed.now index bits.now))
+            (length buffer.old) written.new) }
+        ensures unwritten { OnErr result (buffer.new ≡ buffer.old) }
+    {
+        let mut sink = MemSink::new(alloc, None);
+        let seed = Seed::from_bytes(*seed);
+        match write_labels(&mut sink, self.circuit(), &seed, index, bits) {
+            Ok(_) => copy_file(sink.bytes(), buffer, written),
+            Err(_) => Err(KeptFault::Memory),
+        }
+    }
+}
+
+impl KeptGarbling {
+    /// Writes the garbled file of a version, and tells the number of its bytes.
+    pub fn write(
+        &self,
+        alloc: Global,
+        version: Version,
+        buffer: &mut [u8],
+        written: &mut usize,
+    ) -> Result<(), KeptFault>
+        ensures ok { OnOk result (IsFileAt
+            (garbled_file (honest_parts version self.now.circuit self.now.garbling self.now.seed))
+            buffer.old buffer.new) }
+        ensures written { OnOk result (written.new ≡ length
+            (garbled_file (honest_parts version self.now.circuit self.now.garbling self.now.seed))) }
+        ensures fault { IfErr result (HasWriteFault
+            (garbled_file (honest_parts version self.now.circuit self.now.garbling self.now.seed))
+            (length buffer.old) written.new) }
+        ensures unwritten { OnErr result (buffer.new ≡ buffer.old) }
+    {
+        let mut sink = MemSink::new(alloc, None);
+        match self.write_to(&mut sink, version) {
+            Ok(_) => copy_file(sink.bytes(), buffer, written),
+            Err(_) => Err(KeptFault::Memory),
+        }
+    }
+}

@@ -1,0 +1,16 @@
+//! What a caller in another language holds.
+
+use crate::circuit::KeptCircuit;
+use crate::garbling::KeptGarbling;
+use crate::job::KeptJob;
+
+/// What a caller in another language holds.
+#[derive(Drop)]
+pub enum Held {
+    /// A circuit.
+    Circuit(KeptCircuit),
+    /// A garbling.
+    Garbling(KeptGarbling),
+    /// A job.
+    Job(KeptJob),
+}

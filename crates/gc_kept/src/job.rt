@@ -1,0 +1,70 @@
+//! Jobs that hold their circuit.
+
+ghost use Rattle.std.specs.Prelude.{◌≡◌, length, IfOk, IfErr, OnOk, OnErr};
+ghost use Rattle.gc_kept.specs.Job.{IsBoundJob, HasJobFault, AreEvaluated, HasEvaluationFault};
+
+use crate::bits::write_bits;
+use crate::circuit::KeptCircuit;
+use crate::fault::KeptFault;
+use crate::label_files::read_label_files;
+use gc_file::read_garbled;
+use gc_job::{DetachedJob, Job, evaluate_detached};
+use std::alloc::Global;
+use std::marker::Model;
+
+/// A job, with its circuit.
+#[derive(Drop)]
+pub struct KeptJob {
+    circuit: KeptCircuit,
+    job: DetachedJob<Global>,
+}
+
+impl Model for KeptJob {
+    ghost use Rattle.gc_job.specs.Job.{JobParts, IsWhole, job_of};
+
+    ghost Value = { JobParts };
+
+    ghost view = { λ j. job_of j.circuit j.job.garbled j.job.inputs };
+
+    ghost invariant = { λ j. IsWhole (job_of j.circuit j.job.garbled j.job.inputs) };
+}
+
+impl KeptCircuit {
+    /// Binds a garbled file and label files to a job, as [`Job::bind`] does. The label files stand one after another, and
+    /// `lengths` has the number of bytes of each. Nothing of them is trusted.
+    pub fn bind(
+        &self,
+        alloc: Global,
+        garbled: &[u8],
+        labels: &[u8],
+        lengths: &[usize],
+    ) -> Result<KeptJob, KeptFault>
+        ensures ok { IfOk result (IsBoundJob self.now garbled.now labels.now lengths.now) }
+        ensures fault { IfErr result (HasJobFault self.now garbled.now labels.now lengths.now) }
+    {
+        let garbled = read_garbled(alloc, garbled)?;
+        let files = read_label_files(alloc, labels, lengths)?;
+        let job = Job::bind_by_digest(alloc, self.circuit(), self.digest(), garbled, &files)?;
+        Ok(KeptJob {
+            job: job.detach(),
+            circuit: self.again()?,
+        })
+    }
+}
+
+impl KeptJob {
+    /// Evaluates the job, as [`gc_job::evaluate`] does, and writes the bits of the output wires.
+    pub fn evaluate(&self, alloc: Global, bits: &mut [u8]) -> Result<(), KeptFault>
+        ensures ok { OnOk result (AreEvaluated self.now bits.new) }
+        ensures fault { IfErr result (HasEvaluationFault self.now (length bits.old)) }
+        ensures unwritten { OnErr result (bits.new ≡ bits.old) }
+    {
+        let circuit = self.circuit.circuit();
+        if bits.len() != circuit.output_wires() as usize {
+            return Err(KeptFault::BadArgument);
+        }
+        let outputs = evaluate_detached(alloc, circuit, &self.job)?;
+        write_bits(&outputs, bits);
+        Ok(())
+    }
+}

@@ -1,0 +1,26 @@
+//! Circuits, garblings and jobs that own what they stand on, for a caller that keeps them apart and lets them go in any
+//! order: what a library for other languages hands out. Bits are bytes here, 0 and 1, and files are bytes in memory.
+//!
+//! A [`KeptCircuit`] has its digest with it. A [`KeptGarbling`] and a [`KeptJob`] hold their circuit with others.
+#![tactic(auto)]
+
+mod audit;
+mod bits;
+mod circuit;
+mod fault;
+mod files;
+mod garbling;
+mod held;
+mod job;
+mod label_files;
+mod plain;
+mod version;
+mod wires;
+
+pub use bits::write_bits;
+pub use circuit::KeptCircuit;
+pub use fault::KeptFault;
+pub use garbling::KeptGarbling;
+pub use held::Held;
+pub use job::KeptJob;
+pub use version::version_of;

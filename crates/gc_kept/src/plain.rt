@@ -1,0 +1,57 @@
+//! Evaluation in the plain, of bits as bytes.
+
+ghost use Rattle.std.specs.Prelude.{◌≡◌, length, map, flat_map, sum, IfOk, IfErr, OnOk, OnErr};
+ghost use Rattle.gc_circuit.specs.Meaning.{Fits};
+ghost use Rattle.gc_netlist.specs.Circuit.{input_wires};
+ghost use Rattle.gc_kept.specs.Plain.{ArePlainOutputs, HasPlainFault};
+
+use crate::bits::{read_bits, write_bits};
+use crate::circuit::KeptCircuit;
+use crate::fault::KeptFault;
+use gc_circuit::{Memory, ReadFault, plain_eval};
+use std::alloc::Global;
+
+/// The values of these widths that stand one after another. That the widths add up is the caller's condition.
+pub(crate) fn values_of(
+    alloc: Global,
+    widths: &[u32],
+    bits: &[bool],
+) -> Result<Vec<Vec<bool, Global>, Global>, Memory>
+    requires { length bits.now ≡ sum widths.now }
+    ensures widths { IfOk result (λ values.
+        map length (map (λ v. v.items) values.items) ≡ widths.now) }
+    ensures bits { IfOk result (λ values. flat_map (λ v. v.items) values.items ≡ bits.now) }
+{
+    let mut values = Vec::with_capacity(alloc, widths.len())?;
+    let mut rest = bits;
+    for width in widths {
+        let (value, others) = rest.split_at(*width as usize);
+        values.push(Vec::from_slice(alloc, value)?)?;
+        rest = others;
+    }
+    Ok(values)
+}
+
+impl KeptCircuit {
+    /// Evaluates the circuit in the plain, as [`plain_eval`] does, on the bits of all input wires, and writes the bits of
+    /// the output wires.
+    pub fn plain(&self, alloc: Global, bits: &[u8], outputs: &mut [u8]) -> Result<(), KeptFault>
+        ensures ok { OnOk result (ArePlainOutputs self.now bits.now outputs.new) }
+        ensures fault { IfErr result (HasPlainFault self.now bits.now (length outputs.old)) }
+        ensures unwritten { OnErr result (outputs.new ≡ outputs.old) }
+    {
+        let circuit = self.circuit();
+        if outputs.len() != circuit.output_wires() as usize {
+            return Err(KeptFault::BadArgument);
+        }
+        let bits = read_bits(alloc, bits, circuit.input_wires() as usize)?;
+        let Ok(values) = values_of(alloc, circuit.input_widths(), &bits) else {
+            return Err(KeptFault::Circuit(ReadFault::Memory));
+        };
+        let Ok(found) = plain_eval(alloc, circuit, &values) else {
+            return Err(KeptFault::Circuit(ReadFault::Memory));
+        };
+        write_bits(&found, outputs);
+        Ok(())
+    }
+}

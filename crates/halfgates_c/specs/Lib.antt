@@ -1,0 +1,9 @@
+pub mod Answers
+pub mod Files
+pub mod Holding
+pub mod LabelsReports
+pub mod Numbers
+pub mod Places
+pub mod Reading
+pub mod Reports
+pub mod WireLabels

@@ -1,0 +1,29 @@
+-- What is handed out.
+use Rattle.std.specs.Prelude.{ℕ, List}
+use Rattle.gc_netlist.specs.Circuit.{Netlist, IsLawful}
+use Rattle.gc_netlist.specs.Spelling.{Spells}
+use Rattle.gc_half.specs.Garbling.{GarblingParts, IsGarbled}
+use Rattle.gc_job.specs.Job.{JobParts}
+use Rattle.gc_kept.specs.Job.{IsBoundJob}
+use Rattle.gc_kept.specs.declared.held.Held.TheVariants.{Circuit, Garbling, Job}
+use Rattle.halfgates_c.specs.declared.slot.Slot.{Slot}
+use Rattle.halfgates_c.specs.Holding.{Holds}
+
+-- C's pointer is to a handle of the lawful circuit that the text spells.
+pub record HoldsCircuit (text : List ℕ) (slot : Slot) : Type 0 where
+  pub circuit : Netlist
+  pub lawful : IsLawful circuit
+  pub spelled : Spells text circuit
+  pub holds : Holds slot (Circuit circuit)
+
+-- C's pointer is to a handle of the garbling of the circuit under the seed.
+pub record HoldsGarbling (c : Netlist) (seed : List ℕ) (slot : Slot) : Type 0 where
+  pub garbling : GarblingParts
+  pub garbled : IsGarbled c seed garbling
+  pub holds : Holds slot (Garbling (record { circuit = c; seed = seed; garbling = garbling }))
+
+-- C's pointer is to a handle of the job that these files are bound to.
+pub record HoldsJob (c : Netlist) (garbled labels lengths : List ℕ) (slot : Slot) : Type 0 where
+  pub job : JobParts
+  pub bound : IsBoundJob c garbled labels lengths job
+  pub holds : Holds slot (Job job)

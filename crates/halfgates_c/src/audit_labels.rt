@@ -1,0 +1,112 @@
+//! Comparing label files with a garbling.
+
+ghost use Rattle.std.specs.Prelude.{◌≡◌, ◌≢◌, OnOk, MatchOption, pos, min};
+ghost use Rattle.core.specs.Ptr.{as_mut_ptr};
+ghost use denote.RawPtr.{Testable};
+ghost use Rattle.halfgates_c.specs.Holding.{garbling_of};
+ghost use Rattle.halfgates_c.specs.LabelsReports.{IsLabelsReport, IsLabelsReportOn};
+
+use crate::code::{BAD_ARGUMENT, code_of};
+use crate::handle::Handle;
+use crate::held::garbling_in;
+use crate::locate::NONE;
+use crate::null::is_null;
+use gc_audit::LabelsVerdict;
+use gc_kept::{KeptFault, KeptGarbling, write_bits};
+use std::alloc::Global;
+
+/// What an audit finds of a label file: `halfgates_labels_report`.
+#[repr(C)]
+#[derive(Clone, Copy)]
+pub struct LabelsReport {
+    pub verdict: i32,
+    pub index: u32,
+    pub count: u32,
+    pub wire: u32,
+}
+
+/// The report of what is found of a label file with this index.
+fn report_of(index: u32, found: &LabelsVerdict<Global>) -> LabelsReport
+    ensures { IsLabelsReport index found.now result }
+{
+    let (verdict, count, wire) = match found {
+        LabelsVerdict::NoValue => (42, 0, NONE),
+        LabelsVerdict::WrongWidth => (43, 0, NONE),
+        LabelsVerdict::WrongLabel(wire) => (63, 0, *wire),
+        LabelsVerdict::Bits(bits) => (0, bits.len().min(NONE as usize) as u32, NONE),
+    };
+    LabelsReport {
+        verdict,
+        index,
+        count,
+        wire,
+    }
+}
+
+/// Writes the bits that are found to the front of a buffer.
+fn write_found(found: &LabelsVerdict<Global>, bits: &mut [u8]) -> Result<(), KeptFault> {
+    let LabelsVerdict::Bits(found) = found else {
+        return Ok(());
+    };
+    if bits.len() < found.len() {
+        return Err(KeptFault::SmallBuffer);
+    }
+    write_bits(found, &mut bits[..found.len()]);
+    Ok(())
+}
+
+/// Compares a label file with a garbling, and writes a report and the bits that are found.
+fn audit(
+    alloc: Global,
+    garbling: &KeptGarbling,
+    file: &[u8],
+    bits: &mut [u8],
+    report: &mut LabelsReport,
+) -> Result<(), KeptFault>
+    ensures { OnOk result (IsLabelsReportOn garbling.now file.now report.new) }
+{
+    let (index, found) = garbling.audit_labels(alloc, file)?;
+    *report = report_of(index, &found);
+    write_found(&found, bits)
+}
+
+/// Compares a label file with a garbling, if there is one, and writes a report and the bits that are found.
+fn audit_by(
+    alloc: Global,
+    garbling: Option<&KeptGarbling>,
+    file: &[u8],
+    bits: &mut [u8],
+    report: &mut LabelsReport,
+) -> i32
+    ensures { MatchOption garbling.entry (result ≡ pos 60)
+        (λ g. result ≡ pos 0 → IsLabelsReportOn g.now file.now report.new) }
+{
+    match garbling {
+        Some(garbling) => code_of(audit(alloc, garbling, file, bits, report)),
+        None => BAD_ARGUMENT,
+    }
+}
+
+/// Compares a label file with a garbling.
+#[unsafe(no_mangle)]
+pub extern "C" fn halfgates_audit_labels(
+    alloc: Global,
+    garbling: &mut Handle,
+    file: &[u8],
+    bits: &mut [u8],
+    report: &mut LabelsReport,
+) -> i32
+    requires garbling { Testable (as_mut_ptr garbling) }
+    requires report { Testable (as_mut_ptr report) }
+    ensures answer { MatchOption (garbling_of garbling.old.held) (result ≡ pos 60)
+        (λ g. result ≡ pos 0 → IsLabelsReportOn g file.now report.new) }
+    ensures held { garbling.new.held ≡ garbling.old.held }
+{
+    if is_null(garbling) || is_null(report) {
+        return BAD_ARGUMENT;
+    }
+    let held = garbling.take(alloc);
+    let code = audit_by(alloc, garbling_in(&held), file, bits, report);
+    garbling.put(alloc, held);
+    code
+}

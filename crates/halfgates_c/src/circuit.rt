@@ -1,0 +1,268 @@
+//! Circuits.
+
+ghost use Rattle.std.specs.Prelude.{◌≡◌, ◌≢◌, OnOk, OnErr, IfErr, MatchOption, pos, length};
+ghost use Rattle.core.specs.Ptr.{as_ptr, as_mut_ptr};
+ghost use denote.RawPtr.{Testable};
+ghost use Rattle.sha2.specs.Sha256.{sha256};
+ghost use Rattle.gc_netlist.specs.Canon.{canonical_text};
+ghost use Rattle.gc_kept.specs.Circuit.{HasTextFault};
+ghost use Rattle.gc_kept.specs.Plain.{ArePlainOutputs, HasPlainFault};
+ghost use Rattle.halfgates_c.specs.Answers.{Answers};
+ghost use Rattle.halfgates_c.specs.Holding.{circuit_of};
+ghost use Rattle.halfgates_c.specs.Reading.{HoldsCircuit};
+ghost use Rattle.halfgates_c.specs.Numbers.{AreNumbers, Copies};
+
+use crate::code::{BAD_ARGUMENT, OK, code_of};
+use crate::handle::Handle;
+use crate::held::circuit_in;
+use crate::null::is_null;
+use crate::slot::Slot;
+use gc_kept::{Held, KeptCircuit, KeptFault};
+use std::alloc::Global;
+
+/// The numbers of a circuit: `halfgates_numbers`.
+#[repr(C)]
+#[derive(Clone, Copy)]
+pub struct Numbers {
+    pub gates: u32,
+    pub and_gates: u32,
+    pub wires: u32,
+    pub input_wires: u32,
+    pub output_wires: u32,
+    pub input_values: u32,
+    pub output_values: u32,
+}
+
+/// Reads a circuit and hands it out.
+fn read(alloc: Global, text: &[u8], slot: &mut Slot) -> Result<(), KeptFault>
+    ensures ok { OnOk result (HoldsCircuit text.now slot.new) }
+    ensures fault { IfErr result (HasTextFault text.now) }
+    ensures kept { OnErr result (slot.new ≡ slot.old) }
+{
+    let circuit = KeptCircuit::read(alloc, text)?;
+    slot.hand_out(alloc, Held::Circuit(circuit))
+}
+
+/// Reads a circuit.
+#[unsafe(no_mangle)]
+pub extern "C" fn halfgates_circuit_read(alloc: Global, text: &[u8], circuit: &mut Slot) -> i32
+    requires circuit { Testable (as_mut_ptr circuit) }
+    ensures answers { Answers result (HoldsCircuit text.now circuit.new)
+        (HasTextFault text.now) }
+    ensures kept { result ≢ pos 0 → circuit.new ≡ circuit.old }
+{
+    if is_null(circuit) {
+        return BAD_ARGUMENT;
+    }
+    code_of(read(alloc, text, circuit))
+}
+
+/// Frees a circuit. Null is allowed.
+#[unsafe(no_mangle)]
+pub extern "C" fn halfgates_circuit_free(circuit: Slot) {
+    drop(circuit);
+}
+
+/// The numbers of a circuit.
+fn numbers_of(circuit: &KeptCircuit) -> Numbers
+    ensures { AreNumbers circuit.now result }
+{
+    let circuit = circuit.circuit();
+    Numbers {
+        gates: circuit.gates(),
+        and_gates: circuit.and_count(),
+        wires: circuit.wires(),
+        input_wires: circuit.input_wires(),
+        output_wires: circuit.output_wires(),
+        input_values: circuit.input_widths().len() as u32,
+        output_values: circuit.output_widths().len() as u32,
+    }
+}
+
+/// Writes the numbers of a circuit, if there is one.
+fn write_numbers(circuit: Option<&KeptCircuit>, numbers: &mut Numbers) -> i32
+    ensures answer { MatchOption circuit.entry (result ≡ pos 60)
+        (λ c. (result ≡ pos 0) × AreNumbers c.now numbers.new) }
+    ensures kept { result ≢ pos 0 → numbers.new ≡ numbers.old }
+{
+    let Some(circuit) = circuit else {
+        return BAD_ARGUMENT;
+    };
+    *numbers = numbers_of(circuit);
+    OK
+}
+
+/// Writes the numbers of a circuit.
+#[unsafe(no_mangle)]
+pub extern "C" fn halfgates_circuit_numbers(
+    alloc: Global,
+    circuit: &mut Handle,
+    numbers: &mut Numbers,
+) -> i32
+    requires circuit { Testable (as_mut_ptr circuit) }
+    requires numbers { Testable (as_mut_ptr numbers) }
+    ensures answer { MatchOption (circuit_of circuit.old.held) (result ≡ pos 60)
+        (λ c. (result ≡ pos 0) × AreNumbers c numbers.new) }
+    ensures held { circuit.new.held ≡ circuit.old.held }
+    ensures kept { result ≢ pos 0 → numbers.new ≡ numbers.old }
+{
+    if is_null(circuit) || is_null(numbers) {
+        return BAD_ARGUMENT;
+    }
+    let held = circuit.take(alloc);
+    let code = write_numbers(circuit_in(&held), numbers);
+    circuit.put(alloc, held);
+    code
+}
+
+/// Copies a circuit's widths, where there are as many as given.
+fn copy_widths(widths: &[u32], copied: &mut [u32]) -> i32
+    ensures answer { Copies result widths.now copied.old copied.new }
+{
+    if copied.len() != widths.len() {
+        return BAD_ARGUMENT;
+    }
+    copied.copy_from_slice(widths);
+    OK
+}
+
+/// Writes the widths of the input values, if there is a circuit.
+fn write_input_widths(circuit: Option<&KeptCircuit>, widths: &mut [u32]) -> i32
+    ensures answer { MatchOption circuit.entry
+        ((result ≡ pos 60) × (widths.new ≡ widths.old))
+        (λ c. Copies result c.now.input_widths widths.old widths.new) }
+{
+    match circuit {
+        Some(circuit) => copy_widths(circuit.circuit().input_widths(), widths),
+        None => BAD_ARGUMENT,
+    }
+}
+
+/// Writes the number of wires of each input value.
+#[unsafe(no_mangle)]
+pub extern "C" fn halfgates_circuit_input_widths(
+    alloc: Global,
+    circuit: &mut Handle,
+    widths: &mut [u32],
+) -> i32
+    requires circuit { Testable (as_mut_ptr circuit) }
+    ensures answer { MatchOption (circuit_of circuit.old.held)
+        ((result ≡ pos 60) × (widths.new ≡ widths.old))
+        (λ c. Copies result c.input_widths widths.old widths.new) }
+    ensures held { circuit.new.held ≡ circuit.old.held }
+{
+    if is_null(circuit) {
+        return BAD_ARGUMENT;
+    }
+    let held = circuit.take(alloc);
+    let code = write_input_widths(circuit_in(&held), widths);
+    circuit.put(alloc, held);
+    code
+}
+
+/// Writes the widths of the output values, if there is a circuit.
+fn write_output_widths(circuit: Option<&KeptCircuit>, widths: &mut [u32]) -> i32
+    ensures answer { MatchOption circuit.entry
+        ((result ≡ pos 60) × (widths.new ≡ widths.old))
+        (λ c. Copies result c.now.output_widths widths.old widths.new) }
+{
+    match circuit {
+        Some(circuit) => copy_widths(circuit.circuit().output_widths(), widths),
+        None => BAD_ARGUMENT,
+    }
+}
+
+/// Writes the number of wires of each output value.
+#[unsafe(no_mangle)]
+pub extern "C" fn halfgates_circuit_output_widths(
+    alloc: Global,
+    circuit: &mut Handle,
+    widths: &mut [u32],
+) -> i32
+    requires circuit { Testable (as_mut_ptr circuit) }
+    ensures answer { MatchOption (circuit_of circuit.old.held)
+        ((result ≡ pos 60) × (widths.new ≡ widths.old))
+        (λ c. Copies result c.output_widths widths.old widths.new) }
+    ensures held { circuit.new.held ≡ circuit.old.held }
+{
+    if is_null(circuit) {
+        return BAD_ARGUMENT;
+    }
+    let held = circuit.take(alloc);
+    let code = write_output_widths(circuit_in(&held), widths);
+    circuit.put(alloc, held);
+    code
+}
+
+/// Writes the digest of a circuit, if there is one.
+fn write_digest(circuit: Option<&KeptCircuit>, digest: &mut [u8; 32]) -> i32
+    ensures answer { MatchOption circuit.entry
+        ((result ≡ pos 60) × (digest.new ≡ digest.old))
+        (λ c. (result ≡ pos 0) × (digest.new ≡ sha256 (canonical_text c.now))) }
+{
+    let Some(circuit) = circuit else {
+        return BAD_ARGUMENT;
+    };
+    *digest = *circuit.digest();
+    OK
+}
+
+/// Writes the digest of a circuit.
+#[unsafe(no_mangle)]
+pub extern "C" fn halfgates_circuit_digest(
+    alloc: Global,
+    circuit: &mut Handle,
+    digest: &mut [u8; 32],
+) -> i32
+    requires circuit { Testable (as_mut_ptr circuit) }
+    requires digest { Testable (as_mut_ptr digest) }
+    ensures answer { MatchOption (circuit_of circuit.old.held)
+        ((result ≡ pos 60) × (digest.new ≡ digest.old))
+        (λ c. (result ≡ pos 0) × (digest.new ≡ sha256 (canonical_text c))) }
+    ensures held { circuit.new.held ≡ circuit.old.held }
+{
+    if is_null(circuit) || is_null(digest) {
+        return BAD_ARGUMENT;
+    }
+    let held = circuit.take(alloc);
+    let code = write_digest(circuit_in(&held), digest);
+    circuit.put(alloc, held);
+    code
+}
+
+/// Evaluates a circuit in the plain, if there is one.
+fn plain(alloc: Global, circuit: Option<&KeptCircuit>, bits: &[u8], outputs: &mut [u8]) -> i32
+    ensures answer { MatchOption circuit.entry (result ≡ pos 60) (λ c. Answers result
+        (ArePlainOutputs c.now bits.now outputs.new)
+        (HasPlainFault c.now bits.now (length outputs.old))) }
+    ensures kept { result ≢ pos 0 → outputs.new ≡ outputs.old }
+{
+    match circuit {
+        Some(circuit) => code_of(circuit.plain(alloc, bits, outputs)),
+        None => BAD_ARGUMENT,
+    }
+}
+
+/// Evaluates a circuit in the plain.
+#[unsafe(no_mangle)]
+pub extern "C" fn halfgates_plain(
+    alloc: Global,
+    circuit: &mut Handle,
+    bits: &[u8],
+    outputs: &mut [u8],
+) -> i32
+    requires circuit { Testable (as_mut_ptr circuit) }
+    ensures answer { MatchOption (circuit_of circuit.old.held) (result ≡ pos 60) (λ c.
+        Answers result (ArePlainOutputs c bits.now outputs.new)
+        (HasPlainFault c bits.now (length outputs.old))) }
+    ensures held { circuit.new.held ≡ circuit.old.held }
+    ensures kept { result ≢ pos 0 → outputs.new ≡ outputs.old }
+{
+    if is_null(circuit) {
+        return BAD_ARGUMENT;
+    }
+    let held = circuit.take(alloc);
+    let code = plain(alloc, circuit_in(&held), bits, outputs);
+    circuit.put(alloc, held);
+    code
+}

@@ -1,0 +1,24 @@
+//! Codes.
+
+ghost use Rattle.std.specs.Prelude.{◌≡◌, ◌≢◌, pos, OnOk, OnErr, IfErr};
+ghost use Rattle.gc_kept.specs.Fault.{code_of};
+
+use gc_kept::KeptFault;
+
+/// The code of success.
+pub(crate) const OK: i32 = 0;
+
+/// The code of an argument that a call doesn't take.
+pub(crate) const BAD_ARGUMENT: i32 = 60;
+
+/// The code of an outcome: 0, or the number of the fault.
+pub(crate) fn code_of(outcome: Result<(), KeptFault>) -> i32
+    ensures done { OnOk outcome (result ≡ pos 0) }
+    ensures fault { IfErr outcome (λ fault. result ≡ pos (code_of fault)) }
+    ensures some { OnErr outcome (result ≢ pos 0) }
+{
+    match outcome {
+        Ok(()) => OK,
+        Err(fault) => fault.code() as i32,
+    }
+}

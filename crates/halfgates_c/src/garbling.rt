@@ -1,0 +1,158 @@
+//! Garblings.
+
+ghost use Rattle.std.specs.Prelude.{◌≡◌, ◌≢◌, ◌≤◌, OnOk, OnErr, IfErr, MatchOption, pos, length};
+ghost use Rattle.core.specs.Ptr.{as_ptr, as_mut_ptr};
+ghost use denote.RawPtr.{Testable};
+ghost use Rattle.gc_kept.specs.Garbling.{IsWantOfMemory};
+ghost use Rattle.gc_kept.specs.Wires.{IsZeroLabel, IsDecodeBit};
+ghost use Rattle.halfgates_c.specs.Answers.{Answers};
+ghost use Rattle.halfgates_c.specs.Holding.{circuit_of, garbling_of};
+ghost use Rattle.halfgates_c.specs.Reading.{HoldsGarbling};
+
+use crate::code::{BAD_ARGUMENT, code_of};
+use crate::handle::Handle;
+use crate::held::{circuit_in, garbling_in};
+use crate::null::is_null;
+use crate::slot::Slot;
+use gc_kept::{Held, KeptCircuit, KeptFault, KeptGarbling};
+use std::alloc::Global;
+
+/// Garbles a circuit, and hands the garbling out.
+fn garble(
+    alloc: Global,
+    circuit: &KeptCircuit,
+    seed: &[u8; 32],
+    slot: &mut Slot,
+) -> Result<(), KeptFault>
+    ensures ok { OnOk result (HoldsGarbling circuit.now seed.now slot.new) }
+    ensures fault { IfErr result IsWantOfMemory }
+    ensures kept { OnErr result (slot.new ≡ slot.old) }
+{
+    let garbling = circuit.garble(alloc, seed)?;
+    garbling.law_garbled();
+    slot.hand_out(alloc, Held::Garbling(garbling))
+}
+
+/// Garbles a circuit, if there is one, and hands the garbling out.
+fn garble_into(
+    alloc: Global,
+    circuit: Option<&KeptCircuit>,
+    seed: &[u8; 32],
+    slot: &mut Slot,
+) -> i32
+    ensures answer { MatchOption circuit.entry (result ≡ pos 60) (λ c.
+        Answers result (HoldsGarbling c.now seed.now slot.new) IsWantOfMemory) }
+    ensures kept { result ≢ pos 0 → slot.new ≡ slot.old }
+{
+    match circuit {
+        Some(circuit) => code_of(garble(alloc, circuit, seed, slot)),
+        None => BAD_ARGUMENT,
+    }
+}
+
+/// Garbles a circuit under a seed.
+#[unsafe(no_mangle)]
+pub extern "C" fn halfgates_garble(
+    alloc: Global,
+    circuit: &mut Handle,
+    seed: &[u8; 32],
+    garbling: &mut Slot,
+) -> i32
+    requires circuit { Testable (as_mut_ptr circuit) }
+    requires seed { Testable (as_ptr seed) }
+    requires garbling { Testable (as_mut_ptr garbling) }
+    ensures answer { MatchOption (circuit_of circuit.old.held) (result ≡ pos 60) (λ c.
+        Answers result (HoldsGarbling c seed.now garbling.new) IsWantOfMemory) }
+    ensures held { circuit.new.held ≡ circuit.old.held }
+    ensures kept { result ≢ pos 0 → garbling.new ≡ garbling.old }
+{
+    if is_null(circuit) || is_null(seed) || is_null(garbling) {
+        return BAD_ARGUMENT;
+    }
+    let held = circuit.take(alloc);
+    let code = garble_into(alloc, circuit_in(&held), seed, garbling);
+    circuit.put(alloc, held);
+    code
+}
+
+/// Frees a garbling. Null is allowed.
+#[unsafe(no_mangle)]
+pub extern "C" fn halfgates_garbling_free(garbling: Slot) {
+    drop(garbling);
+}
+
+/// Writes the zero label of a wire, if there is a garbling.
+fn write_zero_label(garbling: Option<&KeptGarbling>, wire: u32, label: &mut [u8; 16]) -> i32
+    ensures answer { MatchOption garbling.entry (result ≡ pos 60) (λ g.
+        Answers result (IsZeroLabel g.now wire label.new)
+        (λ fault. (fault ≡ KeptFault.BadArgument) × (length g.now.garbling.zero_labels ≤ wire))) }
+    ensures kept { result ≢ pos 0 → label.new ≡ label.old }
+{
+    match garbling {
+        Some(garbling) => code_of(garbling.zero_label(wire, label)),
+        None => BAD_ARGUMENT,
+    }
+}
+
+/// Writes the zero label of a wire.
+#[unsafe(no_mangle)]
+pub extern "C" fn halfgates_zero_label(
+    alloc: Global,
+    garbling: &mut Handle,
+    wire: u32,
+    label: &mut [u8; 16],
+) -> i32
+    requires garbling { Testable (as_mut_ptr garbling) }
+    requires label { Testable (as_mut_ptr label) }
+    ensures answer { MatchOption (garbling_of garbling.old.held) (result ≡ pos 60) (λ g.
+        Answers result (IsZeroLabel g wire label.new)
+        (λ fault. (fault ≡ KeptFault.BadArgument) × (length g.garbling.zero_labels ≤ wire))) }
+    ensures held { garbling.new.held ≡ garbling.old.held }
+    ensures kept { result ≢ pos 0 → label.new ≡ label.old }
+{
+    if is_null(garbling) || is_null(label) {
+        return BAD_ARGUMENT;
+    }
+    let held = garbling.take(alloc);
+    let code = write_zero_label(garbling_in(&held), wire, label);
+    garbling.put(alloc, held);
+    code
+}
+
+/// Writes the decode bit of an output wire, if there is a garbling.
+fn write_decode_bit(garbling: Option<&KeptGarbling>, output: u32, bit: &mut u8) -> i32
+    ensures answer { MatchOption garbling.entry (result ≡ pos 60) (λ g.
+        Answers result (IsDecodeBit g.now output bit.new)
+        (λ fault. (fault ≡ KeptFault.BadArgument) × (g.now.garbling.outputs ≤ output))) }
+    ensures kept { result ≢ pos 0 → bit.new ≡ bit.old }
+{
+    match garbling {
+        Some(garbling) => code_of(garbling.decode_bit(output, bit)),
+        None => BAD_ARGUMENT,
+    }
+}
+
+/// Writes the decode bit of an output wire.
+#[unsafe(no_mangle)]
+pub extern "C" fn halfgates_decode_bit(
+    alloc: Global,
+    garbling: &mut Handle,
+    output: u32,
+    bit: &mut u8,
+) -> i32
+    requires garbling { Testable (as_mut_ptr garbling) }
+    requires bit { Testable (as_mut_ptr bit) }
+    ensures answer { MatchOption (garbling_of garbling.old.held) (result ≡ pos 60) (λ g.
+        Answers result (IsDecodeBit g output bit.new)
+        (λ fault. (fault ≡ KeptFault.BadArgument) × (g.garbling.outputs ≤ output))) }
+    ensures held { garbling.new.held ≡ garbling.old.held }
+    ensures kept { result ≢ pos 0 → bit.new ≡ bit.old }
+{
+    if is_null(garbling) || is_null(bit) {
+        return BAD_ARGUMENT;
+    }
+    let held = garbling.take(alloc);
+    let code = write_decode_bit(garbling_in(&held), output, bit);
+    garbling.put(alloc, held);
+    code
+}

@@ -1,0 +1,29 @@
+//! The C library: what `include/halfgates.h` declares.
+//!
+//! Each export tests its pointers for null, takes what its handle holds for the time of the call, asks `gc_kept`, and
+//! answers a code. That a pointer may be tested is C's condition, and holds of all that C can pass.
+#![tactic(auto)]
+
+mod audit;
+mod audit_labels;
+mod circuit;
+mod code;
+mod files;
+mod garbling;
+mod handle;
+mod held;
+mod job;
+mod locate;
+mod name;
+mod null;
+mod slot;
+mod wires;
+
+pub use audit::Report;
+pub use audit_labels::LabelsReport;
+pub use circuit::Numbers;
+pub use handle::Handle;
+pub use locate::Place;
+pub use name::Name;
+pub use slot::Slot;
+pub use wires::WireLabels;

@@ -1,0 +1,114 @@
+//! Names of faults, and the version.
+
+ghost use Rattle.std.specs.Prelude.{◌≡◌, ◌≤◌, ◌++◌, ◌-◌, length, replicate};
+
+/// The room for a name.
+const ROOM: usize = 32;
+
+/// The version of the library.
+const VERSION: &str = "0.3.0";
+
+/// A name that a zero byte ends: `halfgates_name`.
+#[repr(C)]
+#[derive(Clone, Copy)]
+pub struct Name {
+    pub text: [u8; ROOM],
+}
+
+/// The name with these bytes, and zeros after them.
+fn name_of(bytes: &[u8]) -> Name
+    requires { length bytes.now ≤ 31 }
+    ensures { result.text ≡ bytes.now ++ replicate (32 - length bytes.now) 0 }
+{
+    let mut text = [0; ROOM];
+    text[..bytes.len()].copy_from_slice(bytes);
+    Name { text }
+}
+
+/// The name of a fault of reading a circuit or of bits, by its number.
+fn circuit_fault(code: i32) -> &'static str
+    ensures { length result.now ≤ 31 }
+{
+    match code {
+        1 => "Truncated",
+        2 => "BadNumber",
+        3 => "TooLarge",
+        4 => "BadShape",
+        5 => "UnknownOperation",
+        6 => "BadConstant",
+        7 => "NoSuchWire",
+        8 => "Unset",
+        9 => "SetTwice",
+        10 => "OutputUnset",
+        11 => "TrailingTokens",
+        12 => "WidthsExceedWires",
+        13 => "Memory",
+        15 => "BadDigit",
+        16 => "WrongLength",
+        _ => "Unknown",
+    }
+}
+
+/// The name of a fault of garbling or of a file, by its number.
+fn file_fault(code: i32) -> &'static str
+    ensures { length result.now ≤ 31 }
+{
+    match code {
+        23 => "Memory",
+        30 => "BadMagic",
+        31 => "Truncated",
+        32 => "Trailing",
+        33 => "CountTooLarge",
+        34 => "SpareBits",
+        35 => "BadTrailer",
+        36 => "Memory",
+        _ => "Unknown",
+    }
+}
+
+/// The name of a fault of a job or of the library, by its number.
+fn job_fault(code: i32) -> &'static str
+    ensures { length result.now ≤ 31 }
+{
+    match code {
+        40 => "OtherCircuit",
+        41 => "OtherCounts",
+        42 => "NoSuchValue",
+        43 => "WrongWidth",
+        44 => "DoubleValue",
+        45 => "MissingValue",
+        46 => "Memory",
+        48 => "UnknownOutputLabel",
+        60 => "BadArgument",
+        61 => "SmallBuffer",
+        62 => "Memory",
+        _ => "Unknown",
+    }
+}
+
+/// The name of a code.
+fn code_name(code: i32) -> &'static str
+    ensures { length result.now ≤ 31 }
+{
+    if code == 0 {
+        "Ok"
+    } else if code < 20 {
+        circuit_fault(code)
+    } else if code < 40 {
+        file_fault(code)
+    } else {
+        job_fault(code)
+    }
+}
+
+/// The name of a code, as the program prints it.
+#[unsafe(no_mangle)]
+pub extern "C" fn halfgates_fault_name(code: i32) -> Name {
+    name_of(code_name(code).as_bytes())
+}
+
+/// The version of the library.
+#[unsafe(no_mangle)]
+pub extern "C" fn halfgates_version() -> Name {
+    name_of(VERSION.as_bytes())
+}

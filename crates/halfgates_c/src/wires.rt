@@ -1,0 +1,109 @@
+//! The labels of wires.
+
+ghost use Rattle.std.specs.Prelude.{◌≡◌, ◌+◌, ◌≤◌, ◌<◌, MatchOption, length, pos, ⊤};
+ghost use Rattle.core.specs.Ptr.{as_mut_ptr};
+ghost use denote.RawPtr.{Testable};
+ghost use Rattle.halfgates_c.specs.Holding.{garbling_of};
+ghost use Rattle.halfgates_c.specs.WireLabels.{AreWireLabels};
+
+use crate::code::{BAD_ARGUMENT, code_of};
+use crate::handle::Handle;
+use crate::held::garbling_in;
+use crate::null::is_null;
+use gc_kept::{KeptFault, KeptGarbling};
+use std::alloc::Global;
+
+/// The labels of a wire: `halfgates_wire_labels`.
+#[repr(C)]
+#[derive(Clone, Copy)]
+pub struct WireLabels {
+    pub zero: [u8; 16],
+    pub active: [u8; 16],
+    pub bit: u8,
+}
+
+/// The labels of a wire that has this bit. That there is such a wire is the caller's condition.
+fn labels_of(garbling: &KeptGarbling, wire: u32, bit: bool) -> WireLabels
+    requires { wire < length garbling.now.garbling.zero_labels }
+    ensures { AreWireLabels garbling.now wire bit result }
+{
+    let (zero, active) = garbling.labels_of(wire, bit);
+    WireLabels {
+        zero: zero.to_bytes(),
+        active: active.to_bytes(),
+        bit: u8::from(bit),
+    }
+}
+
+/// Writes the labels of the wires from the first one on, for the bits on all wires. That there are such wires, and a
+/// bit for each wire, are the caller's conditions.
+fn write_wires(garbling: &KeptGarbling, all: &[bool], from: u32, labels: &mut [WireLabels])
+    requires wires { from + length labels.old ≤ length garbling.now.garbling.zero_labels }
+    requires bits { length all.now ≡ length garbling.now.garbling.zero_labels }
+    requires few { length all.now < 4294967296 }
+{
+    for (i, label) in labels.iter_mut().enumerate() {
+        let wire = from + i as u32;
+        *label = labels_of(garbling, wire, all[wire as usize]);
+    }
+}
+
+/// Writes the labels of wires of a garbling, for the bits of all input wires.
+fn write(
+    alloc: Global,
+    garbling: &KeptGarbling,
+    bits: &[u8],
+    from: u32,
+    labels: &mut [WireLabels],
+) -> Result<(), KeptFault> {
+    garbling.law_garbled();
+    let circuit = garbling.circuit();
+    let wires = circuit.circuit().wires() as usize;
+    if from as usize > wires || labels.len() > wires - from as usize {
+        return Err(KeptFault::BadArgument);
+    }
+    let all = circuit.wire_bits(alloc, bits)?;
+    if all.len() != wires {
+        return Err(KeptFault::BadArgument);
+    }
+    write_wires(garbling, &all, from, labels);
+    Ok(())
+}
+
+/// Writes the labels of wires, if there is a garbling.
+fn write_by(
+    alloc: Global,
+    garbling: Option<&KeptGarbling>,
+    bits: &[u8],
+    from: u32,
+    labels: &mut [WireLabels],
+) -> i32
+    ensures { MatchOption garbling.entry (result ≡ pos 60) (λ _. ⊤) }
+{
+    match garbling {
+        Some(garbling) => code_of(write(alloc, garbling, bits, from, labels)),
+        None => BAD_ARGUMENT,
+    }
+}
+
+/// Writes the labels of the wires from one on.
+#[unsafe(no_mangle)]
+pub extern "C" fn halfgates_labels(
+    alloc: Global,
+    garbling: &mut Handle,
+    bits: &[u8],
+    from: u32,
+    labels: &mut [WireLabels],
+) -> i32
+    requires garbling { Testable (as_mut_ptr garbling) }
+    ensures answer { MatchOption (garbling_of garbling.old.held) (result ≡ pos 60) (λ _. ⊤) }
+    ensures held { garbling.new.held ≡ garbling.old.held }
+{
+    if is_null(garbling) {
+        return BAD_ARGUMENT;
+    }
+    let held = garbling.take(alloc);
+    let code = write_by(alloc, garbling_in(&held), bits, from, labels);
+    garbling.put(alloc, held);
+    code
+}
