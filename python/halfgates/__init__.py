@@ -1,0 +1,34 @@
+"""Garbles Boolean circuits with half gates, and evaluates garbled circuits.
+
+A circuit is read once, and garbled under as many seeds as one likes:
+
+    with Circuit.read(text) as circuit, circuit.garble(seed) as garbling:
+        garbled = garbling.write()
+        labels = [circuit.deal(seed, index, bits) for index, bits in enumerate(values)]
+    with Circuit.read(text) as circuit, circuit.bind(garbled, labels) as job:
+        outputs = job.evaluate()
+
+Texts and files are anything that lends its bytes, and are read where they lie. Bits are bytes 0 and 1 in wire order.
+A call that fails raises a `Fault`, with its `code` and its `name`.
+"""
+
+from ._handles import Bits, Buffer, Circuit, Garbling, Job, locate
+from ._library import Fault, MemoryFault, version
+from ._reports import GarbledReport, LabelsReport, Place, WireLabels
+
+__version__ = version()
+
+__all__ = [
+    "Bits",
+    "Buffer",
+    "Circuit",
+    "Fault",
+    "Garbling",
+    "GarbledReport",
+    "Job",
+    "LabelsReport",
+    "MemoryFault",
+    "Place",
+    "WireLabels",
+    "locate",
+]

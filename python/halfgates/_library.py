@@ -1,0 +1,135 @@
+"""The shared library, its functions and its structs, as include/halfgates.h declares them."""
+
+import ctypes
+import os
+from ctypes import POINTER, c_char, c_int32, c_size_t, c_uint8, c_uint32, c_uint64, c_void_p
+from pathlib import Path
+
+OK, SMALL_BUFFER = 0, 61
+
+# NoSuchWire, Unset, SetTwice and OutputUnset.
+FAULTS_OF_WIRES = 7, 8, 9, 10
+
+# What stands for no gate, no wire and no output.
+NONE = 2**32 - 1
+
+# The verdict on a label file that has a label which is none of its wire. It is no code.
+WRONG_LABEL = 63
+
+
+class Name(ctypes.Structure):
+    _fields_ = [("text", c_char * 32)]
+
+
+class Numbers(ctypes.Structure):
+    _fields_ = [
+        (name, c_uint32)
+        for name in "gates and_gates wires input_wires output_wires input_values output_values".split()
+    ]
+
+
+class Place(ctypes.Structure):
+    _fields_ = [
+        ("fault", c_int32),
+        ("gate", c_uint32),
+        ("wire", c_uint32),
+        ("line", c_uint64),
+        ("column", c_uint64),
+    ]
+
+
+class WireLabels(ctypes.Structure):
+    _fields_ = [("zero", c_uint8 * 16), ("active", c_uint8 * 16), ("bit", c_uint8)]
+
+
+class AuditReport(ctypes.Structure):
+    _fields_ = [
+        *[(name, c_uint8) for name in "honest version digest counts generator evaluator entry_colour".split()],
+        *[(name, c_uint32) for name in "row gate wire decode_bit entry".split()],
+    ]
+
+
+class LabelsReport(ctypes.Structure):
+    _fields_ = [("verdict", c_int32), ("index", c_uint32), ("count", c_uint32), ("wire", c_uint32)]
+
+
+_BYTES, _HANDLE, _SIZE = c_void_p, c_void_p, POINTER(c_size_t)
+
+# By function what it answers, and what it takes.
+_FUNCTIONS = {
+    "fault_name": (Name, c_int32),
+    "version": (Name,),
+    "circuit_read": (c_int32, _BYTES, c_size_t, POINTER(_HANDLE)),
+    "circuit_free": (None, _HANDLE),
+    "circuit_numbers": (c_int32, _HANDLE, POINTER(Numbers)),
+    "circuit_input_widths": (c_int32, _HANDLE, POINTER(c_uint32), c_size_t),
+    "circuit_output_widths": (c_int32, _HANDLE, POINTER(c_uint32), c_size_t),
+    "circuit_digest": (c_int32, _HANDLE, c_void_p),
+    "locate": (c_int32, _BYTES, c_size_t, POINTER(Place)),
+    "plain": (c_int32, _HANDLE, _BYTES, c_size_t, _BYTES, c_size_t),
+    "garble": (c_int32, _HANDLE, _BYTES, POINTER(_HANDLE)),
+    "garbling_free": (None, _HANDLE),
+    "garbled_size": (c_uint64, _HANDLE, c_uint32),
+    "garbling_write": (c_int32, _HANDLE, c_uint32, _BYTES, c_size_t, _SIZE),
+    "deal": (c_int32, _HANDLE, _BYTES, c_uint32, _BYTES, c_size_t, _BYTES, c_size_t, _SIZE),
+    "zero_label": (c_int32, _HANDLE, c_uint32, c_void_p),
+    "decode_bit": (c_int32, _HANDLE, c_uint32, POINTER(c_uint8)),
+    "labels": (c_int32, _HANDLE, _BYTES, c_size_t, c_uint32, POINTER(WireLabels), c_size_t),
+    "job_bind": (c_int32, _HANDLE, _BYTES, c_size_t, _BYTES, c_size_t, _SIZE, c_size_t, POINTER(_HANDLE)),
+    "job_free": (None, _HANDLE),
+    "evaluate": (c_int32, _HANDLE, _BYTES, c_size_t),
+    "audit": (c_int32, _HANDLE, _BYTES, c_size_t, POINTER(AuditReport)),
+    "audit_labels": (c_int32, _HANDLE, _BYTES, c_size_t, _BYTES, c_size_t, POINTER(LabelsReport)),
+}
+
+
+def _path() -> str:
+    """HALFGATES_LIBRARY, or else what ./build made in the folder of this package, or else what the system finds."""
+    built = Path(__file__).resolve().parents[2] / "out/libhalfgates.so"
+    return os.environ.get("HALFGATES_LIBRARY") or (str(built) if built.is_file() else "libhalfgates.so")
+
+
+def _load() -> ctypes.CDLL:
+    try:
+        library = ctypes.CDLL(_path())
+    except OSError as error:
+        hint = "./build halfgates_c makes the library, and HALFGATES_LIBRARY names one that lies elsewhere"
+        raise ImportError(f"{error} ({hint})") from None
+    for name, (answers, *takes) in _FUNCTIONS.items():
+        function = getattr(library, f"halfgates_{name}")
+        function.restype, function.argtypes = answers, takes
+    return library
+
+
+library = _load()
+
+
+def name_of(code: int) -> str:
+    """The name of a code."""
+    return library.halfgates_fault_name(code).text.decode()
+
+
+def version() -> str:
+    """The version of the library."""
+    return library.halfgates_version().text.decode()
+
+
+class Fault(Exception):
+    """A call failed, and changed nothing. The codes and names are those of docs/FAULTS.md."""
+
+    def __init__(self, code: int) -> None:
+        self.code, self.name = code, name_of(code)
+        super().__init__(code)
+
+    def __str__(self) -> str:
+        return f"fault {self.code} {self.name}"
+
+
+class MemoryFault(Fault, MemoryError):
+    """Memory ran out."""
+
+
+def check(code: int) -> None:
+    """Raises the fault of this code, unless it is that of success."""
+    if code != OK:
+        raise (MemoryFault if name_of(code) == "Memory" else Fault)(code)
