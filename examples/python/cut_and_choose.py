@@ -1,0 +1,97 @@
+#!/usr/bin/env python3
+"""Cut and choose: a garbler that may cheat garbles one circuit under a hundred seeds, and the evaluator has half of
+them opened and audited. It evaluates the others, and takes what most of them answer.
+
+  cut_and_choose.py CIRCUIT NUMBER.. [--forge N]
+
+CIRCUIT is a file in Bristol Fashion with one output value. NUMBERs are its input values, the lowest bit on the first
+wire. With --forge the garbler forges this many garbled files.
+"""
+
+import secrets
+import sys
+from argparse import ArgumentParser
+from collections import Counter
+from hashlib import sha256
+from pathlib import Path
+
+from halfgates import Circuit, Fault
+
+COPIES = 100
+
+
+def bits_of(number, width):
+    return [number >> i & 1 for i in range(width)]
+
+
+class Garbler:
+    """Has the seeds, and the numbers that it deals labels for."""
+
+    def __init__(self, circuit, numbers, forged):
+        self.circuit = circuit
+        self.values = [bits_of(*it) for it in zip(numbers, circuit.input_widths)]
+        self.seeds = [secrets.token_bytes(32) for _ in range(COPIES)]
+        self.forged = set(secrets.SystemRandom().sample(range(COPIES), forged))
+
+    def garbled_files(self):
+        return [self.garbled_file(it) for it in range(COPIES)]
+
+    def garbled_file(self, copy):
+        with self.circuit.garble(self.seeds[copy]) as garbling:
+            file = garbling.write()
+        if copy in self.forged:
+            file[48] ^= 1
+            file[-32:] = sha256(memoryview(file)[:-32]).digest()
+        return file
+
+    def deal(self, copy):
+        """The label files of a copy that isn't opened. Of the evaluator's own values the labels come by oblivious
+        transfer; this example hands them over."""
+        return [self.circuit.deal(self.seeds[copy], *it) for it in enumerate(self.values)]
+
+
+class Evaluator:
+    """Has the garbled files, and chooses which are opened."""
+
+    def __init__(self, circuit, files):
+        self.circuit, self.files = circuit, files
+        self.opened = set(secrets.SystemRandom().sample(range(COPIES), COPIES // 2))
+
+    def audit(self, copy, seed):
+        """Whether a copy is the garbling of the circuit under the seed that the garbler says."""
+        with self.circuit.garble(seed) as garbling:
+            return garbling.audit(self.files[copy]).honest
+
+    def evaluate(self, copy, labels):
+        """The output bits of a copy, or the name of what is wrong with it."""
+        try:
+            with self.circuit.bind(self.files[copy], labels) as job:
+                return bytes(job.evaluate())
+        except Fault as fault:
+            return fault.name
+
+
+def main():
+    parser = ArgumentParser(description=__doc__.partition("\n\n")[0])
+    parser.add_argument("circuit", type=Path, metavar="CIRCUIT")
+    parser.add_argument("numbers", type=int, nargs="*", metavar="NUMBER")
+    parser.add_argument("--forge", type=int, default=0, metavar="N")
+    words = parser.parse_args()
+    with Circuit.read(words.circuit.read_bytes()) as circuit:
+        if len(words.numbers) != len(circuit.input_widths):
+            parser.error(f"the circuit has {len(circuit.input_widths)} input values")
+        garbler = Garbler(circuit, words.numbers, words.forge)
+        evaluator = Evaluator(circuit, garbler.garbled_files())
+
+        wrong = [it for it in evaluator.opened if not evaluator.audit(it, garbler.seeds[it])]
+        print(f"opened {len(evaluator.opened)}, forged {len(wrong)}")
+        if wrong:
+            sys.exit("the garbler cheats")
+        answers = Counter(evaluator.evaluate(it, garbler.deal(it)) for it in {*range(COPIES)} - evaluator.opened)
+        [(bits, count)] = answers.most_common(1)
+        print(f"evaluated {COPIES - len(evaluator.opened)}, alike {count}")
+        print(sum(bit << i for i, bit in enumerate(bits)))
+
+
+if __name__ == "__main__":
+    main()
