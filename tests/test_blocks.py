@@ -12,12 +12,13 @@ import unittest
 from collections import namedtuple
 from pathlib import Path
 
+from library import LIBRARY
 from program import PROGRAM, TOP
 
 DOCUMENTS = [*sorted(TOP.glob("*.md")), *sorted(TOP.glob("docs/*.md")), TOP / "vectors/README.md"]
 
-# What the blocks find in the folder that they are run in, beside the program.
-FOLDERS = "bench", "examples", "vectors"
+# What the blocks find in the folder that they are run in, beside the program and the library.
+FOLDERS = "bench", "examples", "include", "python", "vectors"
 
 # What is printed after each block, to tell the outputs of blocks from one another.
 END = "\0"
@@ -81,6 +82,7 @@ class Blocks(unittest.TestCase):
             ignored = shutil.ignore_patterns("__pycache__")
             shutil.copytree(TOP / name, folder / name, ignore=ignored)
         (folder / "halfgates").symlink_to(PROGRAM)
+        (folder / "out").symlink_to(LIBRARY.parent)
 
     def test_each_block_names_its_language(self):
         nameless = []

@@ -1,0 +1,200 @@
+/* Each call with each bad argument: it is refused by its code, and writes nothing. null.c has NULLs with a size. */
+#include "check.h"
+
+enum { BAD = HALFGATES_BAD_ARGUMENT };
+
+static const uint8_t SEED[32];
+static const uint8_t BITS[3] = {1, 0, 1};
+static uint8_t garbled[177], labels[3 * 32], room[512];
+static const size_t SIZES[3] = {32, 32, 32};
+static size_t written;
+
+/* Nothing was written since the last look. */
+static void check_untouched(void) {
+    for (size_t i = 0; i < sizeof room; i++)
+        CHECK(room[i] == 0xA5);
+    CHECK(written == 7);
+}
+
+static void circuits(halfgates_circuit *circuit) {
+    const uint8_t *text = (const uint8_t *)FULL_ADDER;
+    const size_t length = strlen(FULL_ADDER);
+    halfgates_circuit *made = NULL;
+    halfgates_numbers numbers;
+    halfgates_place place;
+    uint32_t widths[4];
+    CHECK_CODE(BAD, halfgates_circuit_read(text, length, NULL));
+    CHECK_CODE(HALFGATES_CIRCUIT_TRUNCATED, halfgates_circuit_read(NULL, 0, &made));
+    CHECK_CODE(HALFGATES_CIRCUIT_TRUNCATED, halfgates_circuit_read(text, 0, &made));
+    CHECK_CODE(HALFGATES_BAD_NUMBER, halfgates_circuit_read((const uint8_t *)"1\0002", 3, &made));
+    CHECK(made == NULL);
+    CHECK_CODE(BAD, halfgates_locate(text, length, NULL));
+    CHECK_CODE(HALFGATES_OK, halfgates_locate(NULL, 0, &place));
+    CHECK(place.fault == HALFGATES_CIRCUIT_TRUNCATED && place.line == 1 && place.column == 1);
+    CHECK(place.gate == HALFGATES_NONE && place.wire == HALFGATES_NONE);
+
+    CHECK_CODE(BAD, halfgates_circuit_numbers(NULL, &numbers));
+    CHECK_CODE(BAD, halfgates_circuit_numbers(circuit, NULL));
+    CHECK_CODE(BAD, halfgates_circuit_digest(NULL, room));
+    CHECK_CODE(BAD, halfgates_circuit_digest(circuit, NULL));
+    CHECK_CODE(BAD, halfgates_circuit_input_widths(NULL, widths, 3));
+    CHECK_CODE(BAD, halfgates_circuit_input_widths(circuit, widths, 2));
+    CHECK_CODE(BAD, halfgates_circuit_input_widths(circuit, widths, 4));
+    CHECK_CODE(BAD, halfgates_circuit_input_widths(circuit, NULL, 0));
+    CHECK_CODE(BAD, halfgates_circuit_output_widths(NULL, widths, 1));
+    CHECK_CODE(BAD, halfgates_circuit_output_widths(circuit, widths, 0));
+    CHECK_CODE(BAD, halfgates_circuit_output_widths(circuit, widths, 2));
+    CHECK(halfgates_garbled_size(NULL, 2) == 0);
+    CHECK(halfgates_garbled_size(circuit, 0) == 0);
+    CHECK(halfgates_garbled_size(circuit, 3) == 0);
+    CHECK(halfgates_garbled_size(circuit, UINT32_MAX) == 0);
+    check_untouched();
+}
+
+static void plain(halfgates_circuit *circuit) {
+    const uint8_t digits[3] = {1, 2, 1};
+    CHECK_CODE(BAD, halfgates_plain(NULL, BITS, 3, room, 2));
+    CHECK_CODE(BAD, halfgates_plain(circuit, BITS, 3, room, 1));
+    CHECK_CODE(BAD, halfgates_plain(circuit, BITS, 3, room, 3));
+    CHECK_CODE(BAD, halfgates_plain(circuit, BITS, 3, NULL, 0));
+    CHECK_CODE(HALFGATES_WRONG_LENGTH, halfgates_plain(circuit, BITS, 2, room, 2));
+    CHECK_CODE(HALFGATES_WRONG_LENGTH, halfgates_plain(circuit, NULL, 0, room, 2));
+    CHECK_CODE(HALFGATES_BAD_DIGIT, halfgates_plain(circuit, digits, 3, room, 2));
+    check_untouched();
+}
+
+static void garble(halfgates_circuit *circuit, halfgates_garbling *garbling) {
+    halfgates_garbling *made = NULL;
+    CHECK_CODE(BAD, halfgates_garble(NULL, SEED, &made));
+    CHECK_CODE(BAD, halfgates_garble(circuit, NULL, &made));
+    CHECK_CODE(BAD, halfgates_garble(circuit, SEED, NULL));
+    CHECK(made == NULL);
+    CHECK_CODE(BAD, halfgates_garbling_write(NULL, 2, room, sizeof room, &written));
+    CHECK_CODE(BAD, halfgates_garbling_write(garbling, 0, room, sizeof room, &written));
+    CHECK_CODE(BAD, halfgates_garbling_write(garbling, 3, room, sizeof room, &written));
+    CHECK_CODE(BAD, halfgates_garbling_write(garbling, 2, room, sizeof room, NULL));
+    check_untouched();
+    CHECK_CODE(HALFGATES_SMALL_BUFFER, halfgates_garbling_write(garbling, 2, NULL, 0, &written));
+    CHECK(written == 177);
+    written = 7;
+
+    CHECK_CODE(BAD, halfgates_zero_label(NULL, 0, room));
+    CHECK_CODE(BAD, halfgates_zero_label(garbling, 8, room));
+    CHECK_CODE(BAD, halfgates_zero_label(garbling, UINT32_MAX, room));
+    CHECK_CODE(BAD, halfgates_zero_label(garbling, 0, NULL));
+    CHECK_CODE(BAD, halfgates_decode_bit(NULL, 0, room));
+    CHECK_CODE(BAD, halfgates_decode_bit(garbling, 2, room));
+    CHECK_CODE(BAD, halfgates_decode_bit(garbling, UINT32_MAX, room));
+    CHECK_CODE(BAD, halfgates_decode_bit(garbling, 0, NULL));
+    check_untouched();
+}
+
+static void deal(halfgates_circuit *circuit) {
+    const uint8_t digit = 2;
+    CHECK_CODE(BAD, halfgates_deal(NULL, SEED, 0, BITS, 1, room, sizeof room, &written));
+    CHECK_CODE(BAD, halfgates_deal(circuit, NULL, 0, BITS, 1, room, sizeof room, &written));
+    CHECK_CODE(BAD, halfgates_deal(circuit, SEED, 0, BITS, 1, room, sizeof room, NULL));
+    CHECK_CODE(HALFGATES_NO_SUCH_VALUE, halfgates_deal(circuit, SEED, 3, BITS, 1, room, sizeof room, &written));
+    CHECK_CODE(HALFGATES_NO_SUCH_VALUE,
+               halfgates_deal(circuit, SEED, UINT32_MAX, BITS, 1, room, sizeof room, &written));
+    CHECK_CODE(HALFGATES_WRONG_LENGTH, halfgates_deal(circuit, SEED, 0, BITS, 2, room, sizeof room, &written));
+    CHECK_CODE(HALFGATES_WRONG_LENGTH, halfgates_deal(circuit, SEED, 0, NULL, 0, room, sizeof room, &written));
+    CHECK_CODE(HALFGATES_BAD_DIGIT, halfgates_deal(circuit, SEED, 0, &digit, 1, room, sizeof room, &written));
+    check_untouched();
+    CHECK_CODE(HALFGATES_SMALL_BUFFER, halfgates_deal(circuit, SEED, 0, BITS, 1, NULL, 0, &written));
+    CHECK(written == 32);
+    written = 7;
+}
+
+static void wire_labels(halfgates_garbling *garbling) {
+    const uint8_t digits[3] = {1, 1, 255};
+    halfgates_wire_labels found[9];
+    memset(found, 0xA5, sizeof found);
+    CHECK_CODE(BAD, halfgates_labels(NULL, BITS, 3, 0, found, 8));
+    CHECK_CODE(BAD, halfgates_labels(garbling, BITS, 3, 0, found, 9));
+    CHECK_CODE(BAD, halfgates_labels(garbling, BITS, 3, 8, found, 1));
+    CHECK_CODE(BAD, halfgates_labels(garbling, BITS, 3, UINT32_MAX, found, 1));
+    CHECK_CODE(BAD, halfgates_labels(garbling, BITS, 3, 9, NULL, 0));
+    CHECK_CODE(HALFGATES_WRONG_LENGTH, halfgates_labels(garbling, BITS, 2, 0, found, 8));
+    CHECK_CODE(HALFGATES_WRONG_LENGTH, halfgates_labels(garbling, NULL, 0, 0, found, 8));
+    CHECK_CODE(HALFGATES_BAD_DIGIT, halfgates_labels(garbling, digits, 3, 0, found, 8));
+    CHECK(found[0].bit == 0xA5 && found[7].bit == 0xA5);
+    CHECK_CODE(HALFGATES_OK, halfgates_labels(garbling, BITS, 3, 8, NULL, 0));
+}
+
+static void jobs(halfgates_circuit *circuit, halfgates_job *job) {
+    const size_t more[3] = {32, 32, 33}, wrapping[3] = {32, SIZE_MAX, 65};
+    halfgates_job *made = NULL;
+    CHECK_CODE(BAD, halfgates_job_bind(NULL, garbled, 177, labels, 96, SIZES, 3, &made));
+    CHECK_CODE(BAD, halfgates_job_bind(circuit, garbled, 177, labels, 96, SIZES, 3, NULL));
+    CHECK_CODE(BAD, halfgates_job_bind(circuit, garbled, 177, labels, 96, more, 3, &made));
+    CHECK_CODE(BAD, halfgates_job_bind(circuit, garbled, 177, labels, 96, wrapping, 3, &made));
+    CHECK_CODE(BAD, halfgates_job_bind(circuit, garbled, 177, labels, 96, SIZES, 2, &made));
+    CHECK_CODE(BAD, halfgates_job_bind(circuit, garbled, 177, labels, 96, NULL, 0, &made));
+    CHECK_CODE(HALFGATES_FILE_TRUNCATED, halfgates_job_bind(circuit, NULL, 0, labels, 96, SIZES, 3, &made));
+    CHECK_CODE(HALFGATES_FILE_TRUNCATED, halfgates_job_bind(circuit, garbled, 176, labels, 96, SIZES, 3, &made));
+    CHECK_CODE(HALFGATES_MISSING_VALUE, halfgates_job_bind(circuit, garbled, 177, labels, 64, SIZES, 2, &made));
+    CHECK_CODE(HALFGATES_MISSING_VALUE, halfgates_job_bind(circuit, garbled, 177, NULL, 0, NULL, 0, &made));
+    CHECK(made == NULL);
+    CHECK_CODE(BAD, halfgates_evaluate(NULL, room, 2));
+    CHECK_CODE(BAD, halfgates_evaluate(job, room, 1));
+    CHECK_CODE(BAD, halfgates_evaluate(job, room, 3));
+    CHECK_CODE(BAD, halfgates_evaluate(job, NULL, 0));
+    check_untouched();
+}
+
+static void audits(halfgates_garbling *garbling) {
+    halfgates_audit_report report;
+    halfgates_labels_report told;
+    CHECK_CODE(BAD, halfgates_audit(NULL, garbled, 177, &report));
+    CHECK_CODE(BAD, halfgates_audit(garbling, garbled, 177, NULL));
+    CHECK_CODE(HALFGATES_FILE_TRUNCATED, halfgates_audit(garbling, NULL, 0, &report));
+    CHECK_CODE(BAD, halfgates_audit_labels(NULL, labels, 32, room, 1, &told));
+    CHECK_CODE(BAD, halfgates_audit_labels(garbling, labels, 32, room, 1, NULL));
+    CHECK_CODE(HALFGATES_FILE_TRUNCATED, halfgates_audit_labels(garbling, NULL, 0, room, 1, &told));
+    CHECK_CODE(HALFGATES_SMALL_BUFFER, halfgates_audit_labels(garbling, labels, 32, NULL, 0, &told));
+    CHECK(told.count == 1);
+    check_untouched();
+}
+
+static void names(void) {
+    CHECK(strcmp(halfgates_fault_name(HALFGATES_OK).text, "Ok") == 0);
+    CHECK(strcmp(halfgates_fault_name(HALFGATES_BAD_ARGUMENT).text, "BadArgument") == 0);
+    CHECK(strcmp(halfgates_fault_name(HALFGATES_SMALL_BUFFER).text, "SmallBuffer") == 0);
+    CHECK(strcmp(halfgates_fault_name(-1).text, "Unknown") == 0);
+    CHECK(strcmp(halfgates_fault_name(INT32_MIN).text, "Unknown") == 0);
+    CHECK(strcmp(halfgates_fault_name(INT32_MAX).text, "Unknown") == 0);
+}
+
+int main(void) {
+    halfgates_circuit *circuit = read_text(FULL_ADDER);
+    halfgates_garbling *garbling = NULL;
+    halfgates_job *job = NULL;
+    halfgates_circuit_free(NULL);
+    halfgates_garbling_free(NULL);
+    halfgates_job_free(NULL);
+    CHECK_CODE(HALFGATES_OK, halfgates_garble(circuit, SEED, &garbling));
+    CHECK_CODE(HALFGATES_OK, halfgates_garbling_write(garbling, 2, garbled, sizeof garbled, &written));
+    for (uint32_t i = 0; i < 3; i++)
+        CHECK_CODE(HALFGATES_OK, halfgates_deal(circuit, SEED, i, BITS + i, 1, labels + 32 * i, 32, &written));
+    CHECK_CODE(HALFGATES_OK, halfgates_job_bind(circuit, garbled, 177, labels, 96, SIZES, 3, &job));
+    memset(room, 0xA5, sizeof room);
+    written = 7;
+
+    circuits(circuit);
+    plain(circuit);
+    garble(circuit, garbling);
+    deal(circuit);
+    wire_labels(garbling);
+    jobs(circuit, job);
+    audits(garbling);
+    names();
+
+    /* After all of these, the handles still work. */
+    CHECK_CODE(HALFGATES_OK, halfgates_evaluate(job, room, 2));
+    CHECK(room[0] == 0 && room[1] == 1);
+    halfgates_circuit_free(circuit);
+    halfgates_garbling_free(garbling);
+    halfgates_job_free(job);
+    return 0;
+}

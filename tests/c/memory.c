@@ -1,0 +1,104 @@
+/*
+ * Memory is refused at the first growth, the second, and so on, until a whole round needs no more. Each refusal is a
+ * Memory code, after which the same call succeeds, and at the end nothing is left.
+ *
+ * It is linked with --wrap for malloc, realloc and free.
+ */
+#include "check.h"
+
+void *__real_malloc(size_t size);
+void *__real_realloc(void *at, size_t size);
+void __real_free(void *at);
+
+static long until_refusal, refusals, live;
+
+/* Whether this growth is the one to refuse. */
+static int is_refused(void) {
+    if (until_refusal == 0 || --until_refusal > 0)
+        return 0;
+    refusals++;
+    return 1;
+}
+
+void *__wrap_malloc(size_t size) {
+    void *at = is_refused() ? NULL : __real_malloc(size);
+    live += at != NULL;
+    return at;
+}
+
+void *__wrap_realloc(void *at, size_t size) {
+    void *moved = is_refused() ? NULL : __real_realloc(at, size);
+    live += at == NULL && moved != NULL;
+    return moved;
+}
+
+void __wrap_free(void *at) {
+    live -= at != NULL;
+    __real_free(at);
+}
+
+/* Makes a call that may be refused memory. Where it is, the code is a Memory code, nothing is left, and it succeeds when
+ * it is made again. */
+#define CALL(call) \
+    do { \
+        const long before = live, refused = refusals; \
+        int32_t code = (call); \
+        CHECK((code != HALFGATES_OK) == (refusals > refused)); \
+        if (code != HALFGATES_OK) { \
+            CHECK(strcmp(halfgates_fault_name(code).text, "Memory") == 0); \
+            CHECK(live == before); \
+            CHECK_CODE(HALFGATES_OK, call); \
+        } \
+    } while (0)
+
+/* All calls that take memory. */
+static void work(void) {
+    const uint8_t *text = (const uint8_t *)FULL_ADDER, seed[32] = {5}, bits[3] = {1, 0, 1};
+    uint8_t garbled[177], labels[96], outputs[2], told[1];
+    const size_t sizes[3] = {32, 32, 32};
+    size_t written;
+    halfgates_circuit *circuit = NULL;
+    halfgates_garbling *garbling = NULL;
+    halfgates_job *job = NULL;
+    halfgates_place place;
+    halfgates_wire_labels found[8];
+    halfgates_audit_report report;
+    halfgates_labels_report labels_report;
+
+    CALL(halfgates_locate(text, strlen(FULL_ADDER), &place));
+    CALL(halfgates_circuit_read(text, strlen(FULL_ADDER), &circuit));
+    CALL(halfgates_plain(circuit, bits, 3, outputs, 2));
+    CHECK(outputs[0] == 0 && outputs[1] == 1);
+    CALL(halfgates_garble(circuit, seed, &garbling));
+    CALL(halfgates_garbling_write(garbling, 1, garbled, sizeof garbled, &written));
+    CALL(halfgates_garbling_write(garbling, 2, garbled, sizeof garbled, &written));
+    for (uint32_t i = 0; i < 3; i++)
+        CALL(halfgates_deal(circuit, seed, i, bits + i, 1, labels + 32 * i, 32, &written));
+    CALL(halfgates_labels(garbling, bits, 3, 0, found, 8));
+    CALL(halfgates_audit(garbling, garbled, sizeof garbled, &report));
+    CHECK(report.honest);
+    CALL(halfgates_audit_labels(garbling, labels, 32, told, 1, &labels_report));
+    CHECK(labels_report.verdict == HALFGATES_OK && told[0] == 1);
+    CALL(halfgates_job_bind(circuit, garbled, sizeof garbled, labels, sizeof labels, sizes, 3, &job));
+    halfgates_circuit_free(circuit);
+    outputs[0] = outputs[1] = 2;
+    CALL(halfgates_evaluate(job, outputs, 2));
+    CHECK(outputs[0] == 0 && outputs[1] == 1);
+    halfgates_garbling_free(garbling);
+    halfgates_job_free(job);
+}
+
+int main(void) {
+    long round = 0, before;
+    do {
+        before = refusals;
+        until_refusal = ++round;
+        work();
+        until_refusal = 0;
+        CHECK(live == 0);
+    } while (refusals > before);
+    /* Reading, garbling and binding take memory at the least. */
+    CHECK(refusals > 5);
+    printf("%ld growths refused\n", refusals);
+    return 0;
+}

@@ -1,0 +1,76 @@
+/* Eight threads, with a circuit each, beside a garbling and a job that a thread hands to another. */
+#include "check.h"
+#include <pthread.h>
+
+enum { THREADS = 8, ROUNDS = 50 };
+
+struct task {
+    uint8_t number;
+    uint8_t garbled[177];
+};
+
+static void garble_once(halfgates_circuit *circuit, uint8_t number, uint8_t garbled[177]) {
+    uint8_t seed[32];
+    size_t written;
+    halfgates_garbling *garbling = NULL;
+    memset(seed, number, sizeof seed);
+    CHECK_CODE(HALFGATES_OK, halfgates_garble(circuit, seed, &garbling));
+    CHECK_CODE(HALFGATES_OK, halfgates_garbling_write(garbling, 2, garbled, 177, &written));
+    halfgates_garbling_free(garbling);
+}
+
+static void *work(void *at) {
+    struct task *task = at;
+    uint8_t bits[3], seed[32], labels[96], outputs[2], first[177];
+    const size_t sizes[3] = {32, 32, 32};
+    size_t written;
+    halfgates_circuit *circuit = read_text(FULL_ADDER);
+    memset(seed, task->number, sizeof seed);
+    for (int round = 0; round < ROUNDS; round++) {
+        halfgates_job *job = NULL;
+        garble_once(circuit, task->number, task->garbled);
+        if (round == 0)
+            memcpy(first, task->garbled, sizeof first);
+        CHECK(memcmp(first, task->garbled, sizeof first) == 0);
+        for (uint32_t i = 0; i < 3; i++) {
+            bits[i] = (round + task->number) >> i & 1;
+            CHECK_CODE(HALFGATES_OK, halfgates_deal(circuit, seed, i, bits + i, 1, labels + 32 * i, 32, &written));
+        }
+        CHECK_CODE(HALFGATES_OK, halfgates_job_bind(circuit, task->garbled, 177, labels, 96, sizes, 3, &job));
+        CHECK_CODE(HALFGATES_OK, halfgates_evaluate(job, outputs, 2));
+        CHECK(outputs[0] + 2 * outputs[1] == bits[0] + bits[1] + bits[2]);
+        halfgates_job_free(job);
+    }
+    halfgates_circuit_free(circuit);
+    return NULL;
+}
+
+/* Frees what another thread made. */
+static void *free_garbling(void *garbling) {
+    halfgates_garbling_free(garbling);
+    return NULL;
+}
+
+int main(void) {
+    pthread_t threads[THREADS], other;
+    struct task tasks[THREADS];
+    const uint8_t seed[32] = {0};
+    halfgates_circuit *circuit = read_text(FULL_ADDER);
+    halfgates_garbling *garbling = NULL;
+    for (uint8_t i = 0; i < THREADS; i++) {
+        tasks[i].number = i;
+        CHECK(pthread_create(&threads[i], NULL, work, &tasks[i]) == 0);
+    }
+    for (int i = 0; i < THREADS; i++)
+        CHECK(pthread_join(threads[i], NULL) == 0);
+    for (uint8_t i = 0; i < THREADS; i++) {
+        uint8_t garbled[177];
+        garble_once(circuit, i, garbled);
+        CHECK(memcmp(garbled, tasks[i].garbled, sizeof garbled) == 0);
+    }
+    CHECK_CODE(HALFGATES_OK, halfgates_garble(circuit, seed, &garbling));
+    CHECK(pthread_create(&other, NULL, free_garbling, garbling) == 0);
+    CHECK(pthread_join(other, NULL) == 0);
+    halfgates_circuit_free(circuit);
+    return 0;
+}

@@ -1,0 +1,465 @@
+"""The package `halfgates` for Python: the same files and answers as the vectors and the program have,
+and each of its exceptions."""
+import array
+import mmap
+import re
+import subprocess
+import sys
+import tempfile
+import threading
+import typing
+import unittest
+
+from inputs import by_about, damaged_text, draws, load, worked_circuits
+from library import environment_of_python, import_package
+from program import EXAMPLES, FULL_ADDER, SEED, TOP, ProgramTest, label_file, sealed
+
+import bristol
+
+halfgates = import_package()
+Circuit, Fault = halfgates.Circuit, halfgates.Fault
+
+ZEROS = bytes(32)
+
+
+def bits_of(text):
+    """The bits of a text of digits 0 and 1, such as an input value or all outputs."""
+    return bytes(map(int, text))
+
+
+def text_of(vector):
+    return "\n".join(vector["circuit"]).encode()
+
+
+def deal_all(circuit, seed, values):
+    return [circuit.deal(seed, *it) for it in enumerate(values)]
+
+
+class LibraryTest(unittest.TestCase):
+    def assert_fault(self, fault, call, *words):
+        """The call raises a Fault of this code and this name."""
+        with self.assertRaises(Fault) as caught:
+            call(*words)
+        self.assertEqual(str(caught.exception), f"fault {fault}")
+        self.assertEqual(f"{caught.exception.code} {caught.exception.name}", fault)
+
+
+class Vectors(LibraryTest):
+    def test_circuits(self):
+        for name, vector in worked_circuits():
+            with self.subTest(name), Circuit.read(text_of(vector)) as circuit:
+                self.assertEqual(circuit.digest.hex(), vector["digest"])
+                for number in ("gates", "and_gates", "wires"):
+                    self.assertEqual(getattr(circuit, number), vector[number])
+                for widths in ("input_widths", "output_widths"):
+                    self.assertEqual(getattr(circuit, widths), tuple(vector[widths]))
+                for version in (1, 2):
+                    size = vector["statistics"][f"garbled{version}"]
+                    self.assertEqual(circuit.garbled_size(version), size)
+
+    def test_garblings(self):
+        for name, vector in worked_circuits():
+            seed = bytes.fromhex(vector["seed"])
+            with self.subTest(name), Circuit.read(text_of(vector)) as circuit:
+                with circuit.garble(seed) as garbling:
+                    self.check_garbling(vector, garbling)
+
+    def check_garbling(self, vector, garbling):
+        for version in (1, 2):
+            file = bytes.fromhex("".join(vector[f"garbled_file_{version}"]))
+            self.assertEqual(garbling.write(version), file)
+            self.assertTrue(garbling.audit(file).honest)
+        self.assertEqual(garbling.write(), file)
+        for wire, label in vector["zero_labels"].items():
+            self.assertEqual(garbling.zero_label(int(wire)).hex(), label)
+        decode_bits = [garbling.decode_bit(it) for it in range(len(vector["decode_bits"]))]
+        self.assertEqual(bytes(decode_bits), bits_of(vector["decode_bits"]))
+
+    def test_evaluations(self):
+        for name, vector in worked_circuits():
+            seed = bytes.fromhex(vector["seed"])
+            with self.subTest(name), Circuit.read(text_of(vector)) as circuit:
+                with circuit.garble(seed) as garbling:
+                    for evaluation in vector["evaluations"]:
+                        self.check_evaluation(circuit, garbling, seed, evaluation)
+
+    def check_evaluation(self, circuit, garbling, seed, evaluation):
+        values = [bits_of(text) for text in evaluation["values"]]
+        files = [bytes.fromhex(file) for file in evaluation["label_files"]]
+        outputs = bits_of("".join(evaluation["outputs"]))
+        self.assertEqual(deal_all(circuit, seed, values), files)
+        self.assertEqual(circuit.plain(b"".join(values)), outputs)
+        for version in (1, 2):
+            with circuit.bind(garbling.write(version), files[::-1]) as job:
+                self.assertEqual(job.evaluate(), outputs)
+                self.assertEqual(job.evaluate(), outputs)
+        for index, (file, bits) in enumerate(zip(files, values)):
+            report = garbling.audit_labels(file)
+            self.assertEqual((report.verdict, report.index, report.bits), ("Ok", index, bits))
+            self.assertTrue(report.honest)
+        active = [it.active.hex() for it in garbling.labels(b"".join(values))]
+        first = circuit.wires - len(outputs)
+        self.assertEqual(active[first:], evaluation["active_output_labels"])
+
+    def test_faults_of_circuits(self):
+        for about, bad in by_about(load("bad_circuits")):
+            with self.subTest(about):
+                text, fault = bad["text"].encode(), f"{bad['fault']} {bad['name']}"
+                self.assert_fault(fault, Circuit.read, text)
+                told = halfgates.locate(text)._asdict()
+                told["fault"] = told.pop("code")
+                place = {key: bad.get(key) for key in ("fault", "name", "line", "column", "gate", "wire")}
+                self.assertEqual(told, place)
+
+    def test_faults_of_files(self):
+        vectors = load("bad_files")
+        with Circuit.read(text_of(vectors)) as circuit:
+            for about, bad in by_about(vectors["files"]):
+                with self.subTest(about):
+                    files = [bytes.fromhex(file) for file in bad["labels"]]
+                    garbled, fault = bytes.fromhex(bad["garbled"]), f"{bad['fault']} {bad['name']}"
+                    if bad["fault"] != 48:
+                        self.assert_fault(fault, circuit.bind, garbled, files)
+                        continue
+                    with circuit.bind(garbled, files) as job:
+                        self.assert_fault(fault, job.evaluate)
+                        self.assert_fault(fault, job.evaluate)
+
+    def test_locate_damaged_texts(self):
+        texts = [text_of(vector) for _, vector in worked_circuits()]
+        for name, draw in draws(200, "library"):
+            text = damaged_text(draw, draw.choice(texts))
+            with self.subTest(name):
+                told = halfgates.locate(text)
+                try:
+                    bristol.read_circuit(text)
+                    self.assertIsNone(told)
+                except bristol.Fault as fault:
+                    place = {"code": fault.number, "gate": None, "wire": None}
+                    place = {**place, "name": fault.name, **bristol.place_of(text, fault)}
+                    self.assertEqual(told._asdict(), place)
+
+
+# The circuits of the examples, and texts of values for them.
+ON_PROGRAM = [
+    ("full_adder", ["1", "0", "1"]),
+    ("adder64", ["10" * 32, "0110" * 16]),
+    ("less8", ["11100000", "10010000"]),
+    ("aes128", ["01" * 64, "0011" * 32]),
+]
+
+
+class BesideTheProgram(ProgramTest):
+    """The files that the program writes, and what it prints."""
+
+    def test_files(self):
+        for name, values in ON_PROGRAM:
+            with self.subTest(name):
+                text = self.text_of(name)
+                self.put("c", text)
+                with Circuit.read(text) as circuit:
+                    self.check_files(circuit, values)
+
+    def text_of(self, name):
+        if name == "aes128":
+            self.make("aes128")
+            return self.bytes_of("aes128")
+        return (EXAMPLES / f"{name}.txt").read_bytes()
+
+    def make(self, name):
+        script = [sys.executable, EXAMPLES / "make_circuits.py", name, self.folder / name]
+        subprocess.run(script, check=True)
+
+    def check_files(self, circuit, values):
+        seed = bytes(range(32))
+        with circuit.garble(seed) as garbling:
+            for version in (2, 1):
+                words = "garble", "c", seed.hex(), "g", "--format", version
+                self.assert_writes(garbling.write(version), "g", *words)
+        bits, files = [bits_of(text) for text in values], []
+        for index, value in enumerate(bits):
+            file, name = circuit.deal(seed, index, value), f"l{index}"
+            self.assert_writes(file, name, "deal", "c", seed.hex(), index, values[index], name)
+            files.append(file)
+        with circuit.bind(self.bytes_of("g"), files) as job:
+            outputs = job.evaluate()
+        self.assertEqual(circuit.plain(b"".join(bits)), outputs)
+        printed = self.lines("eval", "c", "g", *[f"l{i}" for i in range(len(values))])
+        self.assertEqual(outputs, bits_of("".join(printed)))
+
+    def lines(self, *words):
+        status, printed, _ = self.run_program(*words)
+        self.assertEqual(status, 0)
+        return printed.split("\n")[:-1]
+
+    def test_labels(self):
+        for name, values in ON_PROGRAM[:3]:
+            text, bits = self.text_of(name), bits_of("".join(values))
+            self.put("c", text)
+            with self.subTest(name), Circuit.read(text) as circuit, circuit.garble(ZEROS) as garbling:
+                printed = self.lines("labels", "c", SEED, *values)
+                found = garbling.labels(bits)
+                told = [f"{i} {it.zero.hex()} {it.active.hex()} {it.bit}" for i, it in enumerate(found)]
+                self.assertEqual(told, printed)
+                self.assertEqual(garbling.labels(bits, 3), found[3:])
+                self.assertEqual(garbling.labels(bits, 2, 3), found[2:5])
+                self.assertEqual(garbling.labels(bits, circuit.wires), [])
+
+    def test_audits(self):
+        """Of files with a bit flipped in each part: the digest, a row, a decode bit, an entry."""
+        text = FULL_ADDER.encode()
+        self.put("c", text)
+        with Circuit.read(text) as circuit, circuit.garble(ZEROS) as garbling:
+            for version in (1, 2):
+                file = garbling.write(version)
+                for place in range(8, len(file) - 32):
+                    body = bytearray(file[:-32])
+                    body[place] ^= 1
+                    spoiled = sealed(bytes(body))
+                    self.put("g", spoiled)
+                    status, printed, fault = self.run_program("audit", "c", SEED, "g")
+                    if status:
+                        with self.assertRaises(Fault) as caught:
+                            garbling.audit(spoiled)
+                        self.assertEqual(f"halfgates: {caught.exception}\n", fault)
+                    else:
+                        self.assertEqual(self.lines_of(garbling.audit(spoiled)), printed)
+
+    def lines_of(self, it):
+        """What the program prints of an audit of this report."""
+        verdict = lambda wrong, more="": f"wrong {more}" if wrong else "right"
+        halves = ["TG"] * it.generator + ["TE"] * it.evaluator
+        row = f"{it.row} gate {it.gate} wire {it.wire} {' '.join(halves)}"
+        lines = [f"digest {verdict(not it.digest).strip()}", f"counts {verdict(not it.counts).strip()}"]
+        if it.counts:
+            lines.append(f"rows {verdict(it.row is not None, row)}")
+            lines.append(f"bits {verdict(it.decode_bit is not None, it.decode_bit)}")
+            if it.version == 2:
+                entry = f"{it.entry} {it.entry_colour}"
+                lines.append(f"entries {verdict(it.entry is not None, entry)}")
+        return "\n".join([*lines, "honest" if it.honest else "dishonest", ""])
+
+
+class Refusals(LibraryTest):
+    def setUp(self):
+        self.circuit = Circuit.read(FULL_ADDER.encode())
+        self.garbling = self.circuit.garble(ZEROS)
+        self.files = deal_all(self.circuit, ZEROS, [[1], [0], [1]])
+        for handle in (self.circuit, self.garbling):
+            self.addCleanup(handle.close)
+
+    def test_bits(self):
+        for bits, fault in (
+            ([], "16 WrongLength"), ([1, 0], "16 WrongLength"), ([1, 0, 1, 1], "16 WrongLength"),
+            ([2, 0, 1], "15 BadDigit"), (b"101", "15 BadDigit"), (b"\0\1\xff", "15 BadDigit"),
+        ):
+            self.assert_fault(fault, self.circuit.plain, bits)
+            self.assert_fault(fault, self.garbling.labels, bits)
+        for bits, fault in (([], "16 WrongLength"), ([1, 1], "16 WrongLength"), ([2], "15 BadDigit")):
+            self.assert_fault(fault, self.circuit.deal, ZEROS, 2, bits)
+
+    def test_numbers(self):
+        garbling = self.garbling
+        self.assert_fault("42 NoSuchValue", self.circuit.deal, ZEROS, 3, [1])
+        for call in (garbling.zero_label, garbling.write):
+            self.assert_fault("60 BadArgument", call, 8)
+            self.assert_fault("60 BadArgument", call, 2**32 - 1)
+        self.assert_fault("60 BadArgument", garbling.write, 0)
+        self.assert_fault("60 BadArgument", garbling.decode_bit, 2)
+        self.assert_fault("60 BadArgument", garbling.labels, [1, 0, 1], 9)
+        self.assert_fault("60 BadArgument", garbling.labels, [1, 0, 1], 7, 2)
+        self.assertEqual(self.circuit.garbled_size(3), 0)
+
+    def test_numbers_of_more_bits(self):
+        calls = [self.garbling.zero_label, self.garbling.decode_bit, self.garbling.write]
+        calls += [self.circuit.garbled_size, lambda it: self.circuit.deal(ZEROS, it, [1])]
+        calls += [lambda it: self.garbling.labels([1, 0, 1], it, 1)]
+        for call in calls:
+            for number in (-1, 2**32, 2**64):
+                self.assertRaises(OverflowError, call, number)
+            self.assertRaises(TypeError, call, "1")
+
+    def test_seeds(self):
+        for size in (0, 31, 33):
+            self.assertRaises(ValueError, self.circuit.garble, bytes(size))
+            self.assertRaises(ValueError, self.circuit.deal, bytes(size), 0, [1])
+        self.assertRaises(TypeError, self.circuit.garble, SEED)
+
+    def test_files(self):
+        garbled, files = self.garbling.write(), self.files
+        bind = self.circuit.bind
+        self.assert_fault("30 BadMagic", bind, b"X", files)
+        self.assert_fault("31 Truncated", bind, garbled[:-1], files)
+        self.assert_fault("31 Truncated", bind, b"", files)
+        self.assert_fault("32 Trailing", bind, garbled + b"\0", files)
+        self.assert_fault("31 Truncated", bind, garbled, [*files[:2], files[2][:-1]])
+        self.assert_fault("31 Truncated", bind, garbled, [*files, b""])
+        self.assert_fault("30 BadMagic", bind, garbled, [files[0], garbled])
+        self.assert_fault("45 MissingValue", bind, garbled, [])
+        self.assert_fault("44 DoubleValue", bind, garbled, [*files, files[0]])
+        self.assert_fault("43 WrongWidth", bind, garbled, [label_file(0)])
+        self.assert_fault("42 NoSuchValue", bind, garbled, [label_file(3)])
+        with Circuit.read(b"0 1\n0\n0") as other:
+            self.assert_fault("40 OtherCircuit", other.bind, garbled, files)
+
+    def test_reports_on_label_files(self):
+        audit = self.garbling.audit_labels
+        wrong = label_file(1, bytes(16))
+        for file, told in (
+            (wrong, ("WrongLabel", 1, None, 1)),
+            (label_file(0), ("WrongWidth", 0, None, None)),
+            (label_file(3, bytes(16)), ("NoSuchValue", 3, None, None)),
+        ):
+            self.assertEqual(audit(file), told)
+            self.assertFalse(audit(file).honest)
+        self.assert_fault("31 Truncated", audit, wrong[:-1])
+        self.assert_fault("32 Trailing", audit, wrong + b"\0")
+
+    def test_closed_handles(self):
+        job = self.circuit.bind(self.garbling.write(), self.files)
+        calls = [(job, job.evaluate), (self.garbling, self.garbling.write)]
+        calls += [(self.circuit, lambda: self.circuit.garble(ZEROS))]
+        for handle, call in calls:
+            with handle:
+                call()
+            with self.assertRaisesRegex(ValueError, "is closed$"):
+                call()
+            handle.close()
+        self.assertEqual(self.circuit.gates, 5)
+
+    def test_what_memory_faults_are(self):
+        for code in (13, 23, 36, 46, 62):
+            self.assertEqual(halfgates._library.name_of(code), "Memory")
+            with self.assertRaises(MemoryError) as caught:
+                halfgates._library.check(code)
+            self.assertEqual((caught.exception.code, caught.exception.name), (code, "Memory"))
+            self.assertIsInstance(caught.exception, Fault)
+
+
+class Buffers(LibraryTest):
+    """Bytes are read and written where they lie, whatever object has them."""
+
+    def kinds(self, data):
+        """Objects that have these bytes."""
+        with tempfile.TemporaryFile() as file:
+            file.write(data)
+            file.flush()
+            mapped = mmap.mmap(file.fileno(), 0, access=mmap.ACCESS_READ)
+        self.addCleanup(mapped.close)
+        wide = memoryview(b"xx" + data + b"x")[2:-1]
+        return [data, bytearray(data), memoryview(data), wide, array.array("B", data), mapped]
+
+    def test_inputs(self):
+        with Circuit.read(FULL_ADDER.encode()) as circuit, circuit.garble(ZEROS) as garbling:
+            garbled, file = bytes(garbling.write()), bytes(circuit.deal(ZEROS, 0, [1]))
+            rest = deal_all(circuit, ZEROS, [[1], [0], [1]])[1:]
+            for text in self.kinds(FULL_ADDER.encode()):
+                with Circuit.read(text) as it:
+                    self.assertEqual(it.digest, circuit.digest)
+            for seed in self.kinds(ZEROS):
+                with circuit.garble(seed) as it:
+                    self.assertEqual(it.write(), garbled)
+            for kind, labels in zip(self.kinds(garbled), self.kinds(file)):
+                self.assertTrue(garbling.audit(kind).honest)
+                with circuit.bind(kind, [labels, *rest]) as job:
+                    self.assertEqual(job.evaluate(), b"\0\1")
+            for bits in (*self.kinds(b"\1\0\1"), [1, 0, 1], (True, False, True)):
+                self.assertEqual(circuit.plain(bits), b"\0\1")
+
+    def test_written_buffers(self):
+        with Circuit.read(FULL_ADDER.encode()) as circuit, circuit.garble(ZEROS) as garbling:
+            file = garbling.write()
+            for room in (bytearray(len(file)), bytearray(len(file) + 3), mmap.mmap(-1, 4096)):
+                self.assertEqual(garbling.write_into(room), len(file))
+                self.assertEqual(room[: len(file)], file)
+                self.assertEqual(set(room[len(file) :]) - {0}, set())
+            self.assertEqual(garbling.write_into(memoryview(room)[100:], 1), len(garbling.write(1)))
+            self.assertEqual(room[100 : 100 + 113], garbling.write(1))
+            short = bytearray(len(file) - 1)
+            self.assert_fault("61 SmallBuffer", garbling.write_into, short)
+            self.assertEqual(short, bytes(len(file) - 1))
+            self.assertRaises(BufferError, garbling.write_into, bytes(len(file)))
+
+    def test_what_has_no_bytes_in_a_row(self):
+        for call in (Circuit.read, halfgates.locate):
+            self.assertRaises(TypeError, call, "1")
+            self.assertRaises(TypeError, call, 1)
+            self.assertRaises(BufferError, call, memoryview(b"1234")[::2])
+
+    def test_nothing_stays_lent(self):
+        text = bytearray(FULL_ADDER.encode())
+        with Circuit.read(text) as circuit:
+            text.clear()  # A BufferError where somebody has the bytes.
+            self.assertEqual(circuit.plain([1, 1, 1]), b"\1\1")
+
+
+class Handles(LibraryTest):
+    def test_garblings_and_jobs_outlive_their_circuit(self):
+        with Circuit.read(FULL_ADDER.encode()) as circuit:
+            garbling = circuit.garble(ZEROS)
+            job = circuit.bind(garbling.write(), deal_all(circuit, ZEROS, [[1], [1], [0]]))
+        with garbling, job:
+            self.assertEqual(job.evaluate(), b"\0\1")
+            self.assertTrue(garbling.audit(garbling.write()).honest)
+
+    def test_one_circuit_on_several_threads(self):
+        found = []
+        with Circuit.read(FULL_ADDER.encode()) as circuit:
+
+            def work(first):
+                for number in range(first, 40, 8):
+                    with circuit.garble(bytes([number]) * 32) as garbling:
+                        found.append((number, bytes(garbling.write())))
+
+            threads = [threading.Thread(target=work, args=[it]) for it in range(8)]
+            for thread in threads:
+                thread.start()
+            for thread in threads:
+                thread.join()
+            for number, file in found:
+                with circuit.garble(bytes([number]) * 32) as garbling:
+                    self.assertEqual(garbling.write(), file)
+        self.assertEqual(sorted(number for number, _ in found), [*range(40)])
+
+    def test_an_object_that_was_never_a_handle(self):
+        self.assertRaises(TypeError, Circuit)
+
+
+class Package(unittest.TestCase):
+    def test_version(self):
+        said = re.search(r'^version = "(.*)"$', (TOP / "python/pyproject.toml").read_text(), re.M)
+        self.assertEqual(halfgates.__version__, said[1])
+
+    def test_each_name_has_a_docstring_and_types(self):
+        for name in halfgates.__all__:
+            it = getattr(halfgates, name)
+            if isinstance(it, type):
+                self.assertTrue(it.__doc__, name)
+                for method, call in vars(it).items():
+                    if callable(call) and not method.startswith("_"):
+                        self.assertTrue(call.__doc__, f"{name}.{method}")
+                        self.assertIn("return", typing.get_type_hints(call), f"{name}.{method}")
+
+    def test_a_library_that_is_not_there(self):
+        environment = {**environment_of_python(), "HALFGATES_LIBRARY": "/nowhere.so"}
+        words = [sys.executable, "-c", "import halfgates"]
+        done = subprocess.run(words, env=environment, capture_output=True, text=True, check=False)
+        self.assertIn("./build halfgates_c makes the library", done.stderr.splitlines()[-1])
+
+    def test_cut_and_choose(self):
+        script = [sys.executable, EXAMPLES / "python/cut_and_choose.py", EXAMPLES / "less8.txt", "7", "9"]
+
+        def run(*words):
+            how = {"env": environment_of_python(), "capture_output": True, "text": True, "check": False}
+            done = subprocess.run([*script, *words], **how)
+            return done.returncode, done.stdout, done.stderr
+
+        said = "opened 50, forged 0\nevaluated 50, alike 50\n1\n"
+        self.assertEqual(run(), (0, said, ""))
+        status, printed, error = run("--forge", "60")
+        self.assertRegex(printed, r"^opened 50, forged [1-5]\d\n$")
+        self.assertEqual((status, error), (1, "the garbler cheats\n"))
+
+
+if __name__ == "__main__":
+    unittest.main()
