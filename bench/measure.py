@@ -6,6 +6,20 @@ from pathlib import Path
 
 TOP = Path(__file__).resolve().parents[1]
 
+# Circuits of about a million gates, and what makes them. A circuit has 256 input values at most, so
+# there are no more than 128 products.
+CIRCUITS = {
+    "SHA-256's compression, 8 times": "examples/make_circuits.py sha256 FILE --times 8",
+    "AES-128, 33 times": "examples/make_circuits.py aes128 FILE --times 33",
+    "32-bit products, 128 times": "examples/make_circuits.py mul32 FILE --times 128",
+    "64 chains of AND gates": "examples/make_circuits.py chains 64 15625 FILE",
+    "independent gates, all AND": "bench/make_circuit.py 1000000 1 FILE independent",
+    "independent gates, half AND": "bench/make_circuit.py 1000000 0.5 FILE independent",
+    "independent gates, a quarter AND": "bench/make_circuit.py 1000000 0.25 FILE independent",
+    "independent gates, all XOR": "bench/make_circuit.py 1000000 0 FILE independent",
+    "gates that read within a thousand, half AND": "bench/make_circuit.py 1000000 0.5 FILE",
+}
+
 # Garbling and evaluating, on one thread and by one, two and four workers.
 PARTS = ["garble", "garble1", "garble2", "garble4", "job", "job1", "job2", "job4"]
 
@@ -27,7 +41,7 @@ def times(bench, circuit, repeats, *parts):
 
 
 def print_row(name, *cells):
-    print(f"{name:28}", *[f"{cell:>9}" for cell in cells], flush=True)
+    print(f"{name:43}", *[f"{cell:>9}" for cell in cells], flush=True)
 
 
 def print_times(name, took):

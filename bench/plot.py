@@ -1,21 +1,50 @@
 #!/usr/bin/env python3
-"""Draws what the benchmark printed, as two charts.
+"""Keeps the figures of docs/SPEED.md, and draws its charts.
 
-  plot.py PRINTED FOLDER
+  plot.py [PRINTED]
 
-PRINTED is a file with what bench/run.sh printed. In FOLDER it writes workers.svg, the time by
-workers for each circuit, and sizes.svg, the time of a gate by the number of gates.
+PRINTED is a file with what bench/run.sh printed. Its figures go into the tables and the lists of
+docs/SPEED.md, with today's date, and into the table of README.md. Then the charts are drawn from
+the tables of docs/SPEED.md: docs/workers.svg, the time by workers for each circuit, and, where the
+page has the table by gates, docs/sizes.svg, the time of a gate by the number of gates.
 """
 
 import math
 import re
 import sys
+import textwrap
+from datetime import date
 from pathlib import Path
 from xml.sax.saxutils import escape
 
-# The name of a circuit; gates, AND gates, and the milliseconds of garbling and of evaluating, each
-# on one thread and by one, two and four workers.
-ROW = re.compile(r"(.{28})((?: +[\d,]+){2})((?: +\d+\.\d+){8})")
+TOP = Path(__file__).resolve().parents[1]
+
+# A row of the benchmark: a name; gates, AND gates, and the milliseconds of garbling and of
+# evaluating, each on one thread and by one, two and four workers.
+PRINTED_ROW = re.compile(r"(.+?)((?: +[\d,]+){2})((?: +\d+\.\d+){8})")
+
+# The heads of the tables of docs/SPEED.md.
+COLUMNS = "AND | Garbling: one thread | 1 | 2 | 4 | Evaluating: one thread | 1 | 2 | 4 |"
+BY_WORKERS = f"\n| Circuit | Gates | {COLUMNS}\n"
+BY_GATES = f"\n| Gates | {COLUMNS}\n"
+
+# The heads of tables that bench/commands.py prints as they are in docs/SPEED.md.
+OF_COMMANDS = (
+    "\n| Circuit | `check` | `locate` | `stats` | `garble` by 1 | by 4 | `audit` by 1 | by 4 |\n"
+)
+OF_JOBS = "\n| `jobs` | by 1 worker | by 2 | by 4 |\n"
+
+# The part of docs/SPEED.md on circuits of a thousand to sixteen million gates, and what follows it.
+GATES_PART = f"""\
+## By the number of gates
+
+In nanoseconds a gate, by the same calls. Gates read within a thousand, and half of them are AND.
+
+![The time of a gate by the number of gates](sizes.svg)
+{BY_GATES}|---|---|---|---|---|---|---|---|---|---|
+
+"""
+NEXT_PART = "## Parts\n"
 
 WAYS = ["one thread", "1 worker", "2 workers", "4 workers"]
 COLOURS = ["#9aa0a6", "#7fb3e6", "#2f78c4", "#123f73"]
@@ -30,15 +59,77 @@ font-family="sans-serif" font-size="12">
 """
 
 
-def read_rows(text):
-    """The gates and the times of each circuit, by its name."""
+def printed_rows(text):
+    """The gates, the AND gates and the milliseconds of each circuit that was timed, by its name."""
     found = {}
     for line in text.splitlines():
-        if row := ROW.fullmatch(line):
-            gates = int(row[2].split()[0].replace(",", ""))
-            times = [float(it) for it in row[3].split()]
-            found[row[1].strip()] = gates, [times[:4], times[4:]]
+        if row := PRINTED_ROW.fullmatch(line):
+            counts = [int(it.replace(",", "")) for it in row[2].split()]
+            found[row[1].strip()] = *counts, [float(it) for it in row[3].split()]
     return found
+
+
+def cells_of(line):
+    return [it.strip() for it in line.strip("|\n").split("|")]
+
+
+def table_of(page, head):
+    """The rows of the table with this head, as lists of cells."""
+    rows = page.partition(head)[2].splitlines()[1:]
+    ends = (i for i, row in enumerate(rows) if not row.startswith("|"))
+    return [cells_of(row) for row in rows[: next(ends, len(rows))]]
+
+
+def with_table(page, head, rows):
+    """The page with these rows in the table with this head."""
+    before, head, rest = page.partition(head)
+    line, *rest = rest.splitlines(keepends=True)
+    while rest and rest[0].startswith("|"):
+        del rest[0]
+    made = [f"| {' | '.join(row)} |\n" for row in rows]
+    return "".join([before, head, line, *made, *rest])
+
+
+def numbers(cells):
+    return [float(it.replace(",", "")) for it in cells]
+
+
+def with_figures(page, circuits, sizes):
+    """docs/SPEED.md with the times of these circuits, and of circuits of these sizes."""
+    if BY_GATES not in page:
+        page = page.replace(NEXT_PART, GATES_PART + NEXT_PART)
+    rows = [
+        [name, f"{gates:,}", f"{ands:,}", *[f"{it:.0f}" for it in times]]
+        for name, (gates, ands, times) in circuits.items()
+    ]
+    page = with_table(page, BY_WORKERS, rows)
+    rows = [
+        [f"{gates:,}", f"{ands:,}", *[f"{it * 1e6 / gates:.0f}" for it in times]]
+        for gates, ands, times in sizes.values()
+    ]
+    return with_table(page, BY_GATES, rows)
+
+
+def with_lists(page, printed):
+    """The page with the lines of its lists as they were printed, each by its first words."""
+    for line in printed.splitlines():
+        name, colon, told = line.partition(": ")
+        item = re.compile(rf"^- (`?){re.escape(name)}\1: .*(\n  .*)*", re.M)
+        if colon and (found := item.search(page)):
+            said = f"- {found[1]}{name}{found[1]}: {told}"
+            page = page.replace(found[0], textwrap.fill(said, 120, subsequent_indent="  "))
+    today = f"{date.today():%d %B %Y}".lstrip("0")
+    return re.sub("(those of one run on )[0-9]+ [A-Z][a-z]+ [0-9]+", rf"\g<1>{today}", page)
+
+
+def with_readme_figures(readme, page):
+    """README.md with the figures of docs/SPEED.md: on one thread and by four workers."""
+    for cells in table_of(page, BY_WORKERS):
+        name, gates, ands, garbling, _, _, garbling_4, evaluating, _, _, evaluating_4 = cells
+        row = [name, gates, ands, garbling, garbling_4, evaluating, evaluating_4]
+        old = rf"^\| {re.escape(name)} \|.*$"
+        readme = re.sub(old, f"| {' | '.join(row)} |", readme, flags=re.M)
+    return readme
 
 
 def text(x, y, said, anchor="start", more=""):
@@ -56,37 +147,33 @@ def legend(x, y):
         yield text(x + 105 * place + 18, y, way)
 
 
-def shown(milliseconds):
-    return f"{milliseconds:.0f}" if milliseconds >= 10 else f"{milliseconds:.2g}"
-
-
 def bars(rows):
     """A group of bars for each circuit, garbling beside evaluating."""
-    left, panel, bar, group = 220, 330, 11, 56
+    left, panel, bar, group = 290, 330, 11, 56
     wide, high = left + len(WORK) * panel, 70 + group * len(rows)
-    most = max(max(map(max, times)) for _, times in rows.values())
+    most = max(max(numbers(row[3:])) for row in rows)
     shapes = [text(10, 22, "Milliseconds, by workers", more=' font-weight="bold"')]
     shapes += legend(left, 22)
     shapes += [text(left + panel * i, 46, it) for i, it in enumerate(WORK)]
-    for place, (name, (gates, times)) in enumerate(rows.items()):
+    for place, (name, gates, _, *times) in enumerate(rows):
         y = 56 + group * place
         shapes.append(text(10, y + 20, name))
-        shapes.append(text(10, y + 35, f"{gates:,} gates", more=' fill="#666666"'))
-        for i, (x, way) in enumerate((x, way) for x in range(len(WORK)) for way in range(4)):
-            took, start, top = times[x][way], left + panel * x, y + bar * way
-            length = (panel - 60) * took / most
+        shapes.append(text(10, y + 35, f"{gates} gates", more=' fill="#666666"'))
+        for i, took in enumerate(times):
+            work, way = divmod(i, len(WAYS))
+            start, top = left + panel * work, y + bar * way
+            length = (panel - 60) * numbers([took])[0] / most
             shapes.append(rect(start, top, length, bar - 1, COLOURS[way]))
-            more = ' font-size="10"'
-            shapes.append(text(start + length + 4, top + bar - 2, shown(took), more=more))
+            shapes.append(text(start + length + 4, top + bar - 2, took, more=' font-size="10"'))
     return SVG.format(wide=wide, high=high, shapes="\n".join(shapes))
 
 
 def lines(rows):
     """The time of a gate over the number of gates, garbling beside evaluating."""
     left, panel, plot, top, tall = 50, 420, 360, 60, 300
-    gates = [it for it, _ in rows.values()]
-    paths = [[[it[i][way] * 1e6 / n for n, it in rows.values()] for way in range(4)] for i in (0, 1)]
-    most = max(max(map(max, some)) for some in paths)
+    rows = [numbers(row) for row in rows]
+    gates = [row[0] for row in rows]
+    most = max(max(row[2:]) for row in rows)
     step = 10 ** math.floor(math.log10(most))
     step /= 1 if most / step > 4 else 4
     low, high = math.log10(min(gates)), math.log10(max(gates))
@@ -104,22 +191,36 @@ def lines(rows):
         for n in gates:
             number = f"{n / 1e6:g}M" if n >= 1e6 else f"{n / 1e3:g}k"
             shapes.append(text(x + across(n), top + tall + 18, number, "middle"))
-        for colour, path in zip(COLOURS, paths[i]):
-            points = "L".join(f"{x + across(n):.1f} {up(took):.1f}" for n, took in zip(gates, path))
+        for way, colour in enumerate(COLOURS, 2 + len(WAYS) * i):
+            points = "L".join(f"{x + across(row[0]):.1f} {up(row[way]):.1f}" for row in rows)
             style = f'fill="none" stroke="{colour}" stroke-width="2"'
             shapes.append(f'<path d="M{points}" {style}/>')
     return SVG.format(wide=left + panel * len(WORK), high=top + tall + 36, shapes="\n".join(shapes))
 
 
-def main():
-    printed, folder = map(Path, sys.argv[1:])
-    rows = read_rows(printed.read_text())
+def keep_figures(page, readme, printed):
+    """Puts what the benchmark printed into both documents."""
+    told = Path(printed).read_text()
+    rows = printed_rows(told)
     sizes = {name: it for name, it in rows.items() if name.startswith("size ")}
     circuits = {name: it for name, it in rows.items() if name not in sizes}
-    for name, draw, some in (("workers", bars, circuits), ("sizes", lines, sizes)):
-        if not some:
-            sys.exit(f"plot.py: no rows for {name}.svg in {printed}")
-        (folder / f"{name}.svg").write_text(draw(some))
+    tables = [(head, table_of(told, head)) for head in (OF_COMMANDS, OF_JOBS)]
+    if not circuits or not sizes or not all(rows for _, rows in tables):
+        sys.exit(f"plot.py: not all tables of bench/run.sh are in {printed}")
+    figures = with_figures(page.read_text(), circuits, sizes)
+    for head, rows in tables:
+        figures = with_table(figures, head, rows)
+    page.write_text(with_lists(figures, told))
+    readme.write_text(with_readme_figures(readme.read_text(), page.read_text()))
+
+
+def main():
+    page, readme = TOP / "docs/SPEED.md", TOP / "README.md"
+    for printed in sys.argv[1:]:
+        keep_figures(page, readme, printed)
+    for name, draw, head in (("workers", bars, BY_WORKERS), ("sizes", lines, BY_GATES)):
+        if rows := table_of(page.read_text(), head):
+            (TOP / f"docs/{name}.svg").write_text(draw(rows))
 
 
 if __name__ == "__main__":

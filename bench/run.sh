@@ -1,6 +1,7 @@
 #!/usr/bin/env bash
-# Times the program and its parts on circuits of about a million gates, and garbling and evaluating
-# on circuits of a thousand to sixteen million. `plot.py` draws charts of what it prints.
+# Times the program, its parts and the library on circuits of about a million gates, and garbling and
+# evaluating on circuits of a thousand to sixteen million. `plot.py` puts what it prints into
+# docs/SPEED.md, and draws the charts.
 #
 #   bench/run.sh [CIRCUIT]
 #
@@ -13,11 +14,14 @@ top=$(cd "$(dirname "$0")/.." && pwd)
 tmp=$(mktemp -d)
 trap 'rm -rf "$tmp"' EXIT
 
-# The program and the benchmark, built for this processor: what the test command builds won't do.
+# The program, the benchmark and the library, built for this processor: what the test command builds of the program
+# won't do.
 for program in halfgates gc_bench; do
     is_built_from "$(sum_of_sources "$program")" "$top/out/$program" || "$top/build" "$program"
 done
 bench=$top/out/gc_bench
+library=$top/out/libhalfgates.so
+is_built_from "$(sum_of_sources halfgates_c)" "$library" || "$top/build" halfgates_c
 
 circuit=${1:-$tmp/half.txt}
 [ -n "${1:-}" ] || python3 "$top/bench/make_circuit.py" 1000000 0.5 "$circuit"
@@ -32,3 +36,5 @@ tune_memory
 "$top/bench/workers.py" "$bench"
 "$top/bench/sizes.py" "$bench"
 "$top/bench/program.py" "$top/halfgates" "$bench" "$circuit"
+"$top/bench/commands.py" "$top/halfgates"
+"$top/bench/library.py" "$top/halfgates" "$bench" "$library"

@@ -12,29 +12,15 @@ import tempfile
 from concurrent.futures import ThreadPoolExecutor
 from statistics import mean
 
-from measure import PARTS, make, print_row, print_times, times
-
-# Circuits of about a million gates, and what makes them. A circuit has 256 input values at most, so
-# there are no more than 128 products.
-CIRCUITS = {
-    "sha256, 8 times": "examples/make_circuits.py sha256 FILE --times 8",
-    "aes128, 33 times": "examples/make_circuits.py aes128 FILE --times 33",
-    "mul32, 128 times": "examples/make_circuits.py mul32 FILE --times 128",
-    "64 chains of AND gates": "examples/make_circuits.py chains 64 15625 FILE",
-    "independent, all AND": "bench/make_circuit.py 1000000 1 FILE independent",
-    "independent, half AND": "bench/make_circuit.py 1000000 0.5 FILE independent",
-    "independent, a quarter AND": "bench/make_circuit.py 1000000 0.25 FILE independent",
-    "independent, all XOR": "bench/make_circuit.py 1000000 0 FILE independent",
-    "within a thousand, half AND": "bench/make_circuit.py 1000000 0.5 FILE",
-}
+from measure import CIRCUITS, PARTS, make, print_row, print_times, times
 
 # How many times as fast as one part another is to be, at the least.
 TARGETS = [
-    ("independent, all AND", "garble", "garble4", 3.4),
-    ("independent, all AND", "garble1", "garble4", 3.2),
-    ("independent, a quarter AND", "garble", "garble4", 2.3),
-    ("independent, all AND", "job", "job4", 3.0),
-    ("within a thousand, half AND", "job", "job4", 1.8),
+    ("independent gates, all AND", "garble", "garble4", 3.4),
+    ("independent gates, all AND", "garble1", "garble4", 3.2),
+    ("independent gates, a quarter AND", "garble", "garble4", 2.3),
+    ("independent gates, all AND", "job", "job4", 3.0),
+    ("gates that read within a thousand, half AND", "job", "job4", 1.8),
 ]
 
 
@@ -43,7 +29,7 @@ def main():
     with tempfile.TemporaryDirectory() as folder:
         file = f"{folder}/circuit"
         print_targets(print_table(bench, file))
-        make(CIRCUITS["independent, all AND"], file)
+        make(CIRCUITS["independent gates, all AND"], file)
         print_beside_programs(bench, file)
 
 
@@ -81,7 +67,7 @@ def print_beside_programs(bench, circuit):
             four.append(garbling("garble4"))
             apart += programs.map(garbling, 4 * ["garble1"])
     print(
-        "independent, all AND, by the mean of eight turns: four workers"
+        "independent gates, all AND, by the mean of eight turns: four workers"
         f" {mean(one) / mean(four):.2f} times as fast as one, four programs of one worker each, at"
         f" once, {4 * mean(one) / mean(apart):.2f} times"
     )
