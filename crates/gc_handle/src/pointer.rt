@@ -41,7 +41,8 @@ impl<T> Pointer<T> {
 
     /// The parts of the box, and `None` at null.
     fn into_parted(self) -> Option<Parted<T, Global>>
-        ensures { MatchOption result (self.value ≡ None) (λ parted. self.value ≡ Some parted.value) }
+        ensures { MatchOption result (self.value ≡ None)
+            (λ parted. self.value ≡ Some parted.value) }
     {
         let Pointer { at, alloc } = self;
         if at.is_null() {

@@ -17,12 +17,14 @@ use Rattle.gc_kept.specs.declared.fault.KeptFault.TheVariants.{File, Evaluation}
 use Rattle.gc_kept.specs.Garbling.{SeededGarbling}
 
 -- The bytes are a garbled file of this version, of which this is found; nothing differs exactly where it is honest.
-pub record IsAuditOf (g : SeededGarbling) (bytes : List ℕ) (version : Version) (audit : GarbledAudit) : Type 0 where
+pub record IsAuditOf (g : SeededGarbling) (bytes : List ℕ) (version : Version)
+    (audit : GarbledAudit) : Type 0 where
   pub parts : GarbledParts
   pub file : IsGarbledFile bytes parts
   pub version_is : version ≡ parts.version
   pub found : IsGarbledAudit g.circuit g.garbling g.seed parts audit
-  pub honest : (audit ≡ honest_audit) ↔ (parts ≡ honest_parts parts.version g.circuit g.garbling g.seed)
+  pub honest : (audit ≡ honest_audit)
+      ↔ (parts ≡ honest_parts parts.version g.circuit g.garbling g.seed)
 
 -- The fault of bytes that are no garbled file: the first, or memory is missing.
 pub record HasGarbledFault (bytes : List ℕ) (fault : KeptFault) : Type 0 where
@@ -31,8 +33,8 @@ pub record HasGarbledFault (bytes : List ℕ) (fault : KeptFault) : Type 0 where
   pub first : of_file ≢ file.Memory → FirstFault bytes of_file
 
 -- The bytes are a label file of this index, of which this is found.
-pub record IsLabelsAuditOf {A : Type 0} (g : SeededGarbling) (bytes : List ℕ) (index : ℕ) (verdict : LabelsVerdict A)
-    : Type 0 where
+pub record IsLabelsAuditOf {A : Type 0} (g : SeededGarbling) (bytes : List ℕ) (index : ℕ)
+    (verdict : LabelsVerdict A) : Type 0 where
   pub parts : LabelFileParts
   pub file : IsLabelFile bytes parts
   pub index_is : index ≡ parts.index
@@ -40,5 +42,6 @@ pub record IsLabelsAuditOf {A : Type 0} (g : SeededGarbling) (bytes : List ℕ) 
 
 -- The fault of bytes that are no label file: the first. Memory may be missing instead.
 pub data HasLabelsFault (bytes : List ℕ) : KeptFault → Type 0 where
-  of_file : (fault : FileFault) → (fault ≢ file.Memory → FirstLabelFault bytes fault) → HasLabelsFault bytes (File fault)
+  of_file : (fault : FileFault) → (fault ≢ file.Memory → FirstLabelFault bytes fault)
+      → HasLabelsFault bytes (File fault)
   want : HasLabelsFault bytes (Evaluation eval.Memory)

@@ -29,7 +29,8 @@ HasWriteFault file room written (Evaluation fault) = ⊥
 HasWriteFault file room written BadArgument = ⊥
 
 -- The buffer begins with the label file of the bits that these bytes are, and this is its length.
-pub record IsDealtAt (c : Netlist) (seed : List ℕ) (index : ℕ) (bytes old new : List ℕ) (written : ℕ) : Type 0 where
+pub record IsDealtAt (c : Netlist) (seed : List ℕ) (index : ℕ) (bytes old new : List ℕ)
+    (written : ℕ) : Type 0 where
   pub bits : List Bool
   pub bytes_are : bytes ≡ map bit_byte bits
   pub width : slice_get c.input_widths index ≡ Some (length bits)

@@ -17,7 +17,8 @@ use Rattle.gc_kept.specs.Bits.{bit_byte}
 use Rattle.gc_kept.specs.LabelFiles.{AreLabelFiles, HasLabelFilesFault}
 
 -- The job is that of the circuit, the garbled file and the label files that these bytes are.
-pub record IsBoundJob (c : Netlist) (garbled labels lengths : List ℕ) (job : JobParts) : Type 0 where
+pub record IsBoundJob (c : Netlist) (garbled labels lengths : List ℕ) (job : JobParts)
+    : Type 0 where
   pub parts : GarbledParts
   pub garbled_file : IsGarbledFile garbled parts
   pub files : List LabelFileParts
@@ -46,7 +47,8 @@ pub record AreEvaluated (job : JobParts) (bytes : List ℕ) : Type 0 where
 -- The fault of an evaluation that is given room for a number of bits.
 abbrev pub HasEvaluationFault : JobParts → ℕ → KeptFault → Type 0
 HasEvaluationFault job room BadArgument = room ≢ output_wires job.circuit
-HasEvaluationFault job room (Evaluation fault) = (room ≡ output_wires job.circuit) × IsEvaluated job (Err fault)
+HasEvaluationFault job room (Evaluation fault) =
+    (room ≡ output_wires job.circuit) × IsEvaluated job (Err fault)
 HasEvaluationFault job room (Circuit fault) = ⊥
 HasEvaluationFault job room BadDigit = ⊥
 HasEvaluationFault job room WrongLength = ⊥

@@ -33,7 +33,8 @@ pub record HasFaultyFile (bytes lengths : List ℕ) (fault : FileFault) : Type 0
 -- instead.
 abbrev pub HasLabelFilesFault : List ℕ → List ℕ → KeptFault → Type 0
 HasLabelFilesFault bytes lengths BadArgument = length bytes ≢ sum lengths
-HasLabelFilesFault bytes lengths (File fault) = fault ≢ file.Memory → HasFaultyFile bytes lengths fault
+HasLabelFilesFault bytes lengths (File fault) =
+    fault ≢ file.Memory → HasFaultyFile bytes lengths fault
 HasLabelFilesFault bytes lengths Memory = Unit {0}
 HasLabelFilesFault bytes lengths (Circuit fault) = ⊥
 HasLabelFilesFault bytes lengths BadDigit = ⊥

@@ -11,7 +11,8 @@ use gc_job::EvalFault;
 use std::alloc::Global;
 
 impl KeptGarbling {
-    /// Compares a garbled file with the garbling, as [`gc_audit::audit_garbled`] does: the version of the file, and what is found.
+    /// Compares a garbled file with the garbling, as [`gc_audit::audit_garbled`] does: the version of the file, and
+    /// what is found.
     pub fn audit(&self, alloc: Global, file: &[u8]) -> Result<(Version, GarbledAudit), KeptFault>
         ensures ok { IfOk result (λ found. IsAuditOf self.now file.now found.0 found.1) }
         ensures fault { IfErr result (HasGarbledFault file.now) }
@@ -20,8 +21,8 @@ impl KeptGarbling {
         Ok((file.version(), self.audit_parts(&file)))
     }
 
-    /// Compares a label file with the garbling, as [`gc_audit::audit_labels`] does: the index that stands in the file, and what is
-    /// found.
+    /// Compares a label file with the garbling, as [`gc_audit::audit_labels`] does: the index that stands in the file,
+    /// and what is found.
     pub fn audit_labels(
         &self,
         alloc: Global,

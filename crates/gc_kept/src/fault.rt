@@ -34,7 +34,8 @@ pub enum KeptFault {
 }
 
 impl KeptFault {
-    /// The number of the fault: that of the layer below, and from 60 on those that only callers in other languages meet.
+    /// The number of the fault: that of the layer below, and from 60 on those that only callers in other languages
+    /// meet.
     pub fn code(self) -> u32
         ensures code { result ≡ code_of self }
         ensures some { 0 < result }

@@ -17,8 +17,8 @@ use gc_label::Seed;
 use gc_stats::garbled_size;
 use std::alloc::Global;
 
-/// Copies a file to a buffer, whose end stays as it is, and tells the number of its bytes. Where the buffer is too small
-/// it stays as it is.
+/// Copies a file to a buffer, whose end stays as it is, and tells the number of its bytes. Where the buffer is too
+/// small it stays as it is.
 fn copy_file(file: &[u8], buffer: &mut [u8], written: &mut usize) -> Result<(), KeptFault>
     ensures ok { OnOk result (IsFileAt file.now buffer.old buffer.new) }
     ensures fault { IfErr result (HasRoomFault (length file.now) (length buffer.old)) }
@@ -108,8 +108,9 @@ impl KeptGarbling {
         ensures ok { OnOk result (IsFileAt
             (garbled_file (honest_parts version self.now.circuit self.now.garbling self.now.seed))
             buffer.old buffer.new) }
-        ensures written { OnOk result (written.new ≡ length
-            (garbled_file (honest_parts version self.now.circuit self.now.garbling self.now.seed))) }
+        ensures written { OnOk result (written.new
+            ≡ length (garbled_file
+            (honest_parts version self.now.circuit self.now.garbling self.now.seed))) }
         ensures fault { IfErr result (HasWriteFault
             (garbled_file (honest_parts version self.now.circuit self.now.garbling self.now.seed))
             (length buffer.old) written.new) }

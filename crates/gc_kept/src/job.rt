@@ -30,8 +30,8 @@ impl Model for KeptJob {
 }
 
 impl KeptCircuit {
-    /// Binds a garbled file and label files to a job, as [`Job::bind`] does. The label files stand one after another, and
-    /// `lengths` has the number of bytes of each. Nothing of them is trusted.
+    /// Binds a garbled file and label files to a job, as [`Job::bind`] does. The label files stand one after another,
+    /// and `lengths` has the number of bytes of each. Nothing of them is trusted.
     pub fn bind(
         &self,
         alloc: Global,

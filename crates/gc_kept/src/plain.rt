@@ -33,8 +33,8 @@ pub(crate) fn values_of(
 }
 
 impl KeptCircuit {
-    /// Evaluates the circuit in the plain, as [`plain_eval`] does, on the bits of all input wires, and writes the bits of
-    /// the output wires.
+    /// Evaluates the circuit in the plain, as [`plain_eval`] does, on the bits of all input wires, and writes the bits
+    /// of the output wires.
     pub fn plain(&self, alloc: Global, bits: &[u8], outputs: &mut [u8]) -> Result<(), KeptFault>
         ensures ok { OnOk result (ArePlainOutputs self.now bits.now outputs.new) }
         ensures fault { IfErr result (HasPlainFault self.now bits.now (length outputs.old)) }

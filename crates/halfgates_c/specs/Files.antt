@@ -13,7 +13,8 @@ file_of g version = garbled_file (honest_parts version g.circuit g.garbling g.se
 
 -- The buffer begins with it, and this is its length.
 abbrev pub IsGarbledAt : SeededGarbling → Version → List ℕ → List ℕ → ℕ → Type 0
-IsGarbledAt g version old new written = IsFileAt (file_of g version) old new × (written ≡ length (file_of g version))
+IsGarbledAt g version old new written =
+    IsFileAt (file_of g version) old new × (written ≡ length (file_of g version))
 
 -- The fault of writing it.
 abbrev pub HasNoRoom : SeededGarbling → Version → ℕ → ℕ → KeptFault → Type 0

@@ -1,25 +1,62 @@
 -- Reports on label files.
-use Rattle.std.specs.Prelude.{◌≡◌, ℕ, List, length, min, pos}
+use Rattle.std.specs.Prelude.{◌≡◌, ◌<◌, ◌≤◌, ◌++◌, ℕ, List, length, map, drop, min, pos}
 use Rattle.std.specs.declared.alloc.Global.{Global}
 use Rattle.gc_audit.specs.declared.labels.LabelsVerdict.{LabelsVerdict}
 use Rattle.gc_audit.specs.declared.labels.LabelsVerdict.TheVariants.{Bits, WrongLabel, WrongWidth, NoValue}
+use Rattle.gc_kept.specs.declared.fault.KeptFault.{KeptFault}
+use Rattle.gc_kept.specs.declared.fault.KeptFault.TheVariants.{SmallBuffer}
+use Rattle.gc_kept.specs.Bits.{bit_byte}
 use Rattle.gc_kept.specs.Garbling.{SeededGarbling}
-use Rattle.gc_kept.specs.Audit.{IsLabelsAuditOf}
+use Rattle.gc_kept.specs.Audit.{IsLabelsAuditOf, HasLabelsFault}
 use Rattle.halfgates_c.specs.declared.locate.TheConstants.{NONE}
 use Rattle.halfgates_c.specs.declared.audit_labels.LabelsReport.{LabelsReport}
 
--- The report says what is found of a label file with this index.
-abbrev pub IsLabelsReport : {A : Type 0} → ℕ → LabelsVerdict A → LabelsReport → Type 0
-IsLabelsReport index NoValue r = (r.index ≡ index) × (r.verdict ≡ pos 42) × (r.count ≡ 0) × (r.wire ≡ NONE)
-IsLabelsReport index WrongWidth r = (r.index ≡ index) × (r.verdict ≡ pos 43) × (r.count ≡ 0) × (r.wire ≡ NONE)
-IsLabelsReport index (WrongLabel wire) r =
-    (r.index ≡ index) × (r.verdict ≡ pos 63) × (r.count ≡ 0) × (r.wire ≡ wire)
-IsLabelsReport index (Bits bits) r =
-    (r.index ≡ index) × (r.verdict ≡ pos 0) × (r.count ≡ min (length bits.items) NONE) × (r.wire ≡ NONE)
+-- The report has this verdict, number of bits and wire.
+pub record Reports (r : LabelsReport) (verdict count wire : ℕ) : Type 0 where
+  pub verdict_is : r.verdict ≡ pos verdict
+  pub count_is : r.count ≡ count
+  pub wire_is : r.wire ≡ wire
+
+-- The report says what is found of a label file.
+abbrev pub SaysVerdict : {A : Type 0} → LabelsVerdict A → LabelsReport → Type 0
+SaysVerdict NoValue r = Reports r 42 0 NONE
+SaysVerdict WrongWidth r = Reports r 43 0 NONE
+SaysVerdict (WrongLabel wire) r = Reports r 63 0 wire
+SaysVerdict (Bits bits) r = Reports r 0 (min (length bits.items) NONE) NONE
+
+-- The bits that are found stand at the front of a buffer, as bytes, and the rest of it stays.
+abbrev pub AreFoundAt : {A : Type 0} → LabelsVerdict A → (old new : List ℕ) → Type 0
+AreFoundAt (Bits bits) old new = (length bits.items ≤ length old)
+    × (new ≡ map bit_byte bits.items ++ drop (length bits.items) old)
+AreFoundAt verdict old new = new ≡ old
+
+-- There is no room for the bits that are found.
+abbrev pub HasNoRoomFor : {A : Type 0} → LabelsVerdict A → (room : ℕ) → Type 0
+HasNoRoomFor (Bits bits) room = room < length bits.items
+HasNoRoomFor verdict room = ⊥
 
 -- The report says what is found of the label file that the bytes are.
-pub record IsLabelsReportOn (g : SeededGarbling) (bytes : List ℕ) (r : LabelsReport) : Type 0 where
-  pub index : ℕ
+pub record IsReportOf (g : SeededGarbling) (bytes : List ℕ) (verdict : LabelsVerdict Global)
+    (r : LabelsReport) : Type 0 where
+  pub found : IsLabelsAuditOf g bytes r.index verdict
+  pub says : SaysVerdict verdict r
+
+-- It does so, and the bits that are found stand in the buffer.
+pub record IsLabelsReportOn (g : SeededGarbling) (bytes old new : List ℕ) (r : LabelsReport)
+    : Type 0 where
   pub verdict : LabelsVerdict Global
-  pub found : IsLabelsAuditOf g bytes index verdict
-  pub report : IsLabelsReport index verdict r
+  pub report : IsReportOf g bytes verdict r
+  pub bits : AreFoundAt verdict old new
+
+-- It does so, and the buffer has no room for the bits.
+pub record LacksRoom (g : SeededGarbling) (bytes : List ℕ) (room : ℕ) (r : LabelsReport)
+    : Type 0 where
+  pub verdict : LabelsVerdict Global
+  pub report : IsReportOf g bytes verdict r
+  pub small : HasNoRoomFor verdict room
+
+-- The fault of bytes that are no label file, after which the report is as it was, or of a buffer without room.
+abbrev pub HasReportFault : SeededGarbling → (bytes : List ℕ) → (room : ℕ)
+    → (old new : LabelsReport) → KeptFault → Type 0
+HasReportFault g bytes room old new SmallBuffer = LacksRoom g bytes room new
+HasReportFault g bytes room old new fault = HasLabelsFault bytes fault × (new ≡ old)

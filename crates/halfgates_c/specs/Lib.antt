@@ -7,3 +7,4 @@ pub mod Places
 pub mod Reading
 pub mod Reports
 pub mod WireLabels
+pub mod Names

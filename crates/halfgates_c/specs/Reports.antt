@@ -44,7 +44,8 @@ abbrev pub AreRowFields : Option RowDifference → RowFields → Type 0
 AreRowFields None f =
     (f.row ≡ NONE) × (f.gate ≡ NONE) × (f.wire ≡ NONE) × (f.generator ≡ 0) × (f.evaluator ≡ 0)
 AreRowFields (Some d) f =
-    (f.row ≡ d.number) × (f.gate ≡ d.gate) × (f.wire ≡ d.wire) × AreRowFlags d.rows f.generator f.evaluator
+    (f.row ≡ d.number) × (f.gate ≡ d.gate) × (f.wire ≡ d.wire)
+    × AreRowFlags d.rows f.generator f.evaluator
 
 abbrev pub AreEntryFields : Option EntryDifference → EntryFields → Type 0
 AreEntryFields None f = (f.entry ≡ NONE) × (f.colour ≡ 0)
@@ -64,7 +65,8 @@ pub record IsReport (version : Version) (audit : GarbledAudit) (r : Report) : Ty
     evaluator = r.evaluator;
   })
   pub bits : r.decode_bit ≡ unwrap_or (bits_found audit.parts) NONE
-  pub entries : AreEntryFields (entries_found audit.parts) (record { entry = r.entry; colour = r.entry_colour })
+  pub entries : AreEntryFields (entries_found audit.parts)
+      (record { entry = r.entry; colour = r.entry_colour })
 
 -- The report says what is found of the garbled file that the bytes are.
 pub record IsReportOn (g : SeededGarbling) (bytes : List ℕ) (r : Report) : Type 0 where

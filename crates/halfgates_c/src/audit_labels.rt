@@ -1,10 +1,11 @@
 //! Comparing label files with a garbling.
 
-ghost use Rattle.std.specs.Prelude.{◌≡◌, ◌≢◌, OnOk, MatchOption, pos, min};
+ghost use Rattle.std.specs.Prelude.{◌≡◌, ◌≢◌, IfErr, MatchOption, OnErr, OnOk, length, pos};
 ghost use Rattle.core.specs.Ptr.{as_mut_ptr};
 ghost use denote.RawPtr.{Testable};
 ghost use Rattle.halfgates_c.specs.Holding.{garbling_of};
-ghost use Rattle.halfgates_c.specs.LabelsReports.{IsLabelsReport, IsLabelsReportOn};
+ghost use Rattle.halfgates_c.specs.Answers.{Answers};
+ghost use Rattle.halfgates_c.specs.LabelsReports.{AreFoundAt, HasNoRoomFor, HasReportFault, IsLabelsReportOn, SaysVerdict};
 
 use crate::code::{BAD_ARGUMENT, code_of};
 use crate::handle::Handle;
@@ -27,7 +28,8 @@ pub struct LabelsReport {
 
 /// The report of what is found of a label file with this index.
 fn report_of(index: u32, found: &LabelsVerdict<Global>) -> LabelsReport
-    ensures { IsLabelsReport index found.now result }
+    ensures index { result.index ≡ index }
+    ensures says { SaysVerdict found.now result }
 {
     let (verdict, count, wire) = match found {
         LabelsVerdict::NoValue => (42, 0, NONE),
@@ -44,7 +46,12 @@ fn report_of(index: u32, found: &LabelsVerdict<Global>) -> LabelsReport
 }
 
 /// Writes the bits that are found to the front of a buffer.
-fn write_found(found: &LabelsVerdict<Global>, bits: &mut [u8]) -> Result<(), KeptFault> {
+fn write_found(found: &LabelsVerdict<Global>, bits: &mut [u8]) -> Result<(), KeptFault>
+    ensures ok { OnOk result (AreFoundAt found.now bits.old bits.new) }
+    ensures fault { IfErr result (λ fault.
+        (fault ≡ KeptFault.SmallBuffer) × HasNoRoomFor found.now (length bits.old)) }
+    ensures unwritten { OnErr result (bits.new ≡ bits.old) }
+{
     let LabelsVerdict::Bits(found) = found else {
         return Ok(());
     };
@@ -63,7 +70,11 @@ fn audit(
     bits: &mut [u8],
     report: &mut LabelsReport,
 ) -> Result<(), KeptFault>
-    ensures { OnOk result (IsLabelsReportOn garbling.now file.now report.new) }
+    ensures ok { OnOk result
+        (IsLabelsReportOn garbling.now file.now bits.old bits.new report.new) }
+    ensures fault { IfErr result
+        (HasReportFault garbling.now file.now (length bits.old) report.old report.new) }
+    ensures unwritten { OnErr result (bits.new ≡ bits.old) }
 {
     let (index, found) = garbling.audit_labels(alloc, file)?;
     *report = report_of(index, &found);
@@ -78,8 +89,10 @@ fn audit_by(
     bits: &mut [u8],
     report: &mut LabelsReport,
 ) -> i32
-    ensures { MatchOption garbling.entry (result ≡ pos 60)
-        (λ g. result ≡ pos 0 → IsLabelsReportOn g.now file.now report.new) }
+    ensures answer { MatchOption garbling.entry (result ≡ pos 60) (λ g.
+        Answers result (IsLabelsReportOn g.now file.now bits.old bits.new report.new)
+        (HasReportFault g.now file.now (length bits.old) report.old report.new)) }
+    ensures kept { result ≢ pos 0 → bits.new ≡ bits.old }
 {
     match garbling {
         Some(garbling) => code_of(audit(alloc, garbling, file, bits, report)),
@@ -99,7 +112,9 @@ pub extern "C" fn halfgates_audit_labels(
     requires garbling { Testable (as_mut_ptr garbling) }
     requires report { Testable (as_mut_ptr report) }
     ensures answer { MatchOption (garbling_of garbling.old.held) (result ≡ pos 60)
-        (λ g. result ≡ pos 0 → IsLabelsReportOn g file.now report.new) }
+        (λ g. Answers result (IsLabelsReportOn g file.now bits.old bits.new report.new)
+        (HasReportFault g file.now (length bits.old) report.old report.new)) }
+    ensures kept { result ≢ pos 0 → bits.new ≡ bits.old }
     ensures held { garbling.new.held ≡ garbling.old.held }
 {
     if is_null(garbling) || is_null(report) {

@@ -1,6 +1,7 @@
 //! Names of faults, and the version.
 
-ghost use Rattle.std.specs.Prelude.{◌≡◌, ◌≤◌, ◌++◌, ◌-◌, length, replicate};
+ghost use Rattle.std.specs.Prelude.{◌≡◌, ◌≤◌, codes, length};
+ghost use Rattle.halfgates_c.specs.Names.{name_of_code, padded};
 
 /// The room for a name.
 const ROOM: usize = 32;
@@ -18,18 +19,20 @@ pub struct Name {
 /// The name with these bytes, and zeros after them.
 fn name_of(bytes: &[u8]) -> Name
     requires { length bytes.now ≤ 31 }
-    ensures { result.text ≡ bytes.now ++ replicate (32 - length bytes.now) 0 }
+    ensures { result.text ≡ padded bytes.now }
 {
     let mut text = [0; ROOM];
     text[..bytes.len()].copy_from_slice(bytes);
     Name { text }
 }
 
-/// The name of a fault of reading a circuit or of bits, by its number.
-fn circuit_fault(code: i32) -> &'static str
-    ensures { length result.now ≤ 31 }
+/// The name of a code.
+fn code_name(code: i32) -> &'static str
+    ensures name { result.now ≡ name_of_code code }
+    ensures room { length result.now ≤ 31 }
 {
     match code {
+        0 => "Ok",
         1 => "Truncated",
         2 => "BadNumber",
         3 => "TooLarge",
@@ -45,15 +48,6 @@ fn circuit_fault(code: i32) -> &'static str
         13 => "Memory",
         15 => "BadDigit",
         16 => "WrongLength",
-        _ => "Unknown",
-    }
-}
-
-/// The name of a fault of garbling or of a file, by its number.
-fn file_fault(code: i32) -> &'static str
-    ensures { length result.now ≤ 31 }
-{
-    match code {
         23 => "Memory",
         30 => "BadMagic",
         31 => "Truncated",
@@ -62,15 +56,6 @@ fn file_fault(code: i32) -> &'static str
         34 => "SpareBits",
         35 => "BadTrailer",
         36 => "Memory",
-        _ => "Unknown",
-    }
-}
-
-/// The name of a fault of a job or of the library, by its number.
-fn job_fault(code: i32) -> &'static str
-    ensures { length result.now ≤ 31 }
-{
-    match code {
         40 => "OtherCircuit",
         41 => "OtherCounts",
         42 => "NoSuchValue",
@@ -86,29 +71,18 @@ fn job_fault(code: i32) -> &'static str
     }
 }
 
-/// The name of a code.
-fn code_name(code: i32) -> &'static str
-    ensures { length result.now ≤ 31 }
-{
-    if code == 0 {
-        "Ok"
-    } else if code < 20 {
-        circuit_fault(code)
-    } else if code < 40 {
-        file_fault(code)
-    } else {
-        job_fault(code)
-    }
-}
-
 /// The name of a code, as the program prints it.
 #[unsafe(no_mangle)]
-pub extern "C" fn halfgates_fault_name(code: i32) -> Name {
+pub extern "C" fn halfgates_fault_name(code: i32) -> Name
+    ensures { result.text ≡ padded (name_of_code code) }
+{
     name_of(code_name(code).as_bytes())
 }
 
 /// The version of the library.
 #[unsafe(no_mangle)]
-pub extern "C" fn halfgates_version() -> Name {
+pub extern "C" fn halfgates_version() -> Name
+    ensures { result.text ≡ padded (codes "0.3.0") }
+{
     name_of(VERSION.as_bytes())
 }

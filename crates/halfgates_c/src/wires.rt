@@ -1,10 +1,11 @@
 //! The labels of wires.
 
-ghost use Rattle.std.specs.Prelude.{◌≡◌, ◌+◌, ◌≤◌, ◌<◌, MatchOption, length, pos, ⊤};
+ghost use Rattle.std.specs.Prelude.{◌≡◌, ◌≢◌, ◌+◌, ◌≤◌, ◌<◌, IfErr, MatchOption, OnErr, OnOk, length, pos};
 ghost use Rattle.core.specs.Ptr.{as_mut_ptr};
 ghost use denote.RawPtr.{Testable};
 ghost use Rattle.halfgates_c.specs.Holding.{garbling_of};
-ghost use Rattle.halfgates_c.specs.WireLabels.{AreWireLabels};
+ghost use Rattle.halfgates_c.specs.Answers.{Answers};
+ghost use Rattle.halfgates_c.specs.WireLabels.{AreLabelsFrom, AreLabelsOn, AreWireLabels, HasWiresFault};
 
 use crate::code::{BAD_ARGUMENT, code_of};
 use crate::handle::Handle;
@@ -35,16 +36,18 @@ fn labels_of(garbling: &KeptGarbling, wire: u32, bit: bool) -> WireLabels
     }
 }
 
-/// Writes the labels of the wires from the first one on, for the bits on all wires. That there are such wires, and a
-/// bit for each wire, are the caller's conditions.
+/// Writes the labels of the wires from one on, for the bits on all wires. That there are such wires, and a bit for each
+/// wire, are the caller's conditions.
 fn write_wires(garbling: &KeptGarbling, all: &[bool], from: u32, labels: &mut [WireLabels])
     requires wires { from + length labels.old ≤ length garbling.now.garbling.zero_labels }
     requires bits { length all.now ≡ length garbling.now.garbling.zero_labels }
     requires few { length all.now < 4294967296 }
+    ensures count { length labels.new ≡ length labels.old }
+    ensures each { AreLabelsFrom garbling.now all.now from labels.new }
 {
-    for (i, label) in labels.iter_mut().enumerate() {
+    for i in 0..labels.len() {
         let wire = from + i as u32;
-        *label = labels_of(garbling, wire, all[wire as usize]);
+        labels[i] = labels_of(garbling, wire, all[wire as usize]);
     }
 }
 
@@ -55,7 +58,13 @@ fn write(
     bits: &[u8],
     from: u32,
     labels: &mut [WireLabels],
-) -> Result<(), KeptFault> {
+) -> Result<(), KeptFault>
+    ensures ok { OnOk result (AreLabelsOn garbling.now bits.now from labels.new) }
+    ensures count { length labels.new ≡ length labels.old }
+    ensures fault { IfErr result
+        (HasWiresFault garbling.now bits.now from (length labels.old)) }
+    ensures unwritten { OnErr result (labels.new ≡ labels.old) }
+{
     garbling.law_garbled();
     let circuit = garbling.circuit();
     let wires = circuit.circuit().wires() as usize;
@@ -63,9 +72,6 @@ fn write(
         return Err(KeptFault::BadArgument);
     }
     let all = circuit.wire_bits(alloc, bits)?;
-    if all.len() != wires {
-        return Err(KeptFault::BadArgument);
-    }
     write_wires(garbling, &all, from, labels);
     Ok(())
 }
@@ -78,7 +84,11 @@ fn write_by(
     from: u32,
     labels: &mut [WireLabels],
 ) -> i32
-    ensures { MatchOption garbling.entry (result ≡ pos 60) (λ _. ⊤) }
+    ensures answer { MatchOption garbling.entry (result ≡ pos 60) (λ g.
+        Answers result (AreLabelsOn g.now bits.now from labels.new)
+        (HasWiresFault g.now bits.now from (length labels.old))) }
+    ensures count { length labels.new ≡ length labels.old }
+    ensures kept { result ≢ pos 0 → labels.new ≡ labels.old }
 {
     match garbling {
         Some(garbling) => code_of(write(alloc, garbling, bits, from, labels)),
@@ -96,7 +106,11 @@ pub extern "C" fn halfgates_labels(
     labels: &mut [WireLabels],
 ) -> i32
     requires garbling { Testable (as_mut_ptr garbling) }
-    ensures answer { MatchOption (garbling_of garbling.old.held) (result ≡ pos 60) (λ _. ⊤) }
+    ensures answer { MatchOption (garbling_of garbling.old.held) (result ≡ pos 60) (λ g.
+        Answers result (AreLabelsOn g bits.now from labels.new)
+        (HasWiresFault g bits.now from (length labels.old))) }
+    ensures count { length labels.new ≡ length labels.old }
+    ensures kept { result ≢ pos 0 → labels.new ≡ labels.old }
     ensures held { garbling.new.held ≡ garbling.old.held }
 {
     if is_null(garbling) {
