@@ -8,6 +8,7 @@ mod back;
 mod canon;
 mod checks;
 mod circuit;
+mod digest;
 mod eval;
 mod gates;
 mod locate;
@@ -17,6 +18,7 @@ mod stop;
 mod tokens;
 
 pub use circuit::Circuit;
+pub use digest::{BegunDigest, CommonLines};
 pub use eval::{fits, law_assignments, plain_eval, wire_bits};
 pub use gc_netlist::{
     Gate, MAX_GATES, MAX_VALUES, MAX_WIRES, Operation, ReadFault, law_canonical_text, law_reading,

@@ -1,8 +1,6 @@
 -- The circuit of a file, and the faults that the file may have.
-use Rattle.std.specs.Prelude.{◌≡◌, ◌≢◌, ℕ, List, Option, None, Some, Ok, Err}
-use Rattle.sha2.specs.Sha256.{sha256}
+use Rattle.std.specs.Prelude.{◌≡◌, ◌≢◌, ℕ, List, Ok, Err}
 use Rattle.gc_netlist.specs.declared.fault.ReadFault.TheVariants as read
-use Rattle.gc_netlist.specs.Canon.{canonical_text}
 use Rattle.gc_netlist.specs.Circuit.{Netlist, IsLawful}
 use Rattle.gc_netlist.specs.Text.{tokens}
 use Rattle.gc_netlist.specs.Spelling.{Spells}
@@ -15,11 +13,6 @@ pub record IsCircuit (bytes : List ℕ) (c : Netlist) : Type 0 where
   pub read : circuit_of (tokens bytes) ≡ Ok c
   pub spelled : Spells bytes c
   pub lawful : IsLawful c
-
--- The digest of the circuit, or None where the bytes are its canonical text, whose SHA-256 is the digest.
-abbrev pub IsDigestUnless : List ℕ → Netlist → Option (List ℕ) → Type 0
-IsDigestUnless bytes c None = bytes ≡ canonical_text c
-IsDigestUnless bytes c (Some digest) = digest ≡ sha256 (canonical_text c)
 
 -- The fault is one that a circuit's file may have.
 abbrev pub IsCircuitFault : Fault → Type 0

@@ -1,17 +1,19 @@
 //! The circuit of a file.
 
-ghost use Rattle.std.specs.Prelude.{◌≡◌, ◌≢◌, ℕ, List, Err, IfOk, IfErr, IfSome, OnOk};
+ghost use Rattle.std.specs.Prelude.{◌≡◌, ◌≢◌, ◌≤◌, ℕ, List, Err, length, take, IfOk, IfErr, IfSome, OnOk};
+ghost use Rattle.sha2.specs.Hashers.{Holds256};
 ghost use Rattle.sha2.specs.Sha256.{sha256};
 ghost use Rattle.gc_netlist.specs.Canon.{canonical_text};
 ghost use Rattle.gc_netlist.specs.Circuit.{IsLawful};
 ghost use Rattle.gc_netlist.specs.Reading.{circuit_of};
 ghost use Rattle.gc_netlist.specs.Text.{tokens};
-ghost use Rattle.gc_command.specs.CircuitFile.{IsCircuit, IsDigestUnless, IsCircuitFault, HasCircuitFault};
+ghost use Rattle.gc_circuit.specs.Digest.{AreCommonLines, IsBegun};
+ghost use Rattle.gc_command.specs.CircuitFile.{IsCircuit, IsCircuitFault, HasCircuitFault};
 ghost use Rattle.gc_command.specs.Fault.{HasCause};
 
 use crate::fault::Fault;
 use crate::files::Files;
-use gc_circuit::{Circuit, ReadFault};
+use gc_circuit::{BegunDigest, Circuit, CommonLines, ReadFault};
 use sha2::{Digest, Sha256};
 use std::alloc::Allocator;
 use std::thread;
@@ -38,6 +40,27 @@ pub fn read_circuit<A: Allocator + Copy, F: Files>(
     Ok(Circuit::read(alloc, &bytes)?)
 }
 
+/// How much of a circuit's file is hashed while the circuit is read.
+#[derive(Clone, Copy)]
+enum Part {
+    /// The first half. Reading takes half as long as hashing, and what is left can be hashed beside other work.
+    Half,
+    /// The whole file.
+    Whole,
+}
+
+impl Part {
+    /// How many bytes of a text of this length it is.
+    fn bytes(self, len: usize) -> usize
+        ensures { result ≤ len }
+    {
+        match self {
+            Part::Half => len / 2,
+            Part::Whole => len,
+        }
+    }
+}
+
 /// The circuit of a file, and the digest of its canonical text. The file's bytes are let go. A thread of its own takes
 /// SHA-256 of them while the circuit is read, where one can be started: mostly they are the canonical text.
 pub fn read_circuit_and_digest<R: Threads, A: Allocator + Copy + Send + Sync, F: Files>(
@@ -58,35 +81,90 @@ pub fn read_circuit_and_digest<R: Threads, A: Allocator + Copy + Send + Sync, F:
     ensures counted { OnOk result (F.failures files.new ≡ F.failures files.old) }
     ensures same { (n : List ℕ) → F.bytes files.new n ≡ F.bytes files.old n }
 {
-    let text = files.read(alloc, name)?;
-    let bytes = text.as_slice();
-    let (text_digest, read) = thread::join(
-        rt,
-        || -> [u8; 32]
-            ensures { result ≡ sha256 bytes.entry.now }
-        { Sha256::digest(bytes) },
-        || -> Result<(Circuit<A>, Option<[u8; 32]>), ReadFault>
-            ensures circuit { IfOk result (λ read. IsCircuit bytes.entry.now read.0) }
-            ensures digest { IfOk result (λ read. IsDigestUnless bytes.entry.now read.0 read.1) }
-            ensures fault { IfErr result (λ fault. fault ≢ ReadFault.Memory
-                → circuit_of (tokens bytes.entry.now) ≡ Err fault) }
-        { read_and_compare(alloc, bytes) },
-    );
-    let (circuit, digest) = read?;
-    Ok((circuit, digest.unwrap_or(text_digest)))
+    let (circuit, begun) = read_and_hash(rt, alloc, name, files, Part::Whole)?;
+    let digest = circuit.finish_digest(begun);
+    Ok((circuit, digest))
 }
 
-/// The circuit of a text, and its digest where the text isn't its canonical text.
+/// The circuit of a file, and its digest, which a thread of its own begins while the circuit is read, as
+/// [`read_circuit_and_digest`] does. What is left of it can be done beside other work, without the file's bytes.
+pub fn read_circuit_and_begin_digest<R: Threads, A: Allocator + Copy + Send + Sync, F: Files>(
+    rt: &R,
+    alloc: A,
+    name: &str,
+    files: &mut F,
+) -> Result<(Circuit<A>, BegunDigest), Fault>
+    ensures begun { IfOk result (λ made. IsBegun made.0 made.1) }
+    ensures circuit { IfOk result
+        (λ made. IfSome (F.bytes files.old name.now) (λ bytes. IsCircuit bytes made.0)) }
+    ensures lawful { IfOk result (λ made. IsLawful made.0) }
+    ensures fault { IfErr result (λ fault. IfSome (F.bytes files.old name.now)
+        (λ bytes. HasCircuitFault bytes fault)) }
+    ensures kind { IfErr result IsCircuitFault }
+    ensures cause { IfErr result
+        (λ fault. HasCause fault (F.failures files.old) (F.failures files.new)) }
+    ensures counted { OnOk result (F.failures files.new ≡ F.failures files.old) }
+    ensures same { (n : List ℕ) → F.bytes files.new n ≡ F.bytes files.old n }
+{
+    read_and_hash(rt, alloc, name, files, Part::Half)
+}
+
+/// The circuit of a file, and its digest, begun with a part of the file.
+fn read_and_hash<R: Threads, A: Allocator + Copy + Send + Sync, F: Files>(
+    rt: &R,
+    alloc: A,
+    name: &str,
+    files: &mut F,
+    part: Part,
+) -> Result<(Circuit<A>, BegunDigest), Fault>
+    ensures begun { IfOk result (λ made. IsBegun made.0 made.1) }
+    ensures circuit { IfOk result
+        (λ made. IfSome (F.bytes files.old name.now) (λ bytes. IsCircuit bytes made.0)) }
+    ensures lawful { IfOk result (λ made. IsLawful made.0) }
+    ensures fault { IfErr result (λ fault. IfSome (F.bytes files.old name.now)
+        (λ bytes. HasCircuitFault bytes fault)) }
+    ensures kind { IfErr result IsCircuitFault }
+    ensures cause { IfErr result
+        (λ fault. HasCause fault (F.failures files.old) (F.failures files.new)) }
+    ensures counted { OnOk result (F.failures files.new ≡ F.failures files.old) }
+    ensures same { (n : List ℕ) → F.bytes files.new n ≡ F.bytes files.old n }
+{
+    let text = files.read(alloc, name)?;
+    let bytes = text.as_slice();
+    let count = part.bytes(bytes.len());
+    let (hasher, read) = thread::join(
+        rt,
+        || -> Sha256
+            requires { count ≤ length bytes.now }
+            ensures { Holds256 result (take count.entry bytes.entry.now) }
+        { Sha256::new_with_prefix(&bytes[..count]) },
+        || -> Result<(Circuit<A>, Option<CommonLines>), ReadFault>
+            ensures circuit { IfOk result (λ read. IsCircuit bytes.entry.now read.0) }
+            ensures common { IfOk result (λ read.
+                IfSome read.1 (AreCommonLines read.0 bytes.entry.now count.entry)) }
+            ensures fault { IfErr result (λ fault. fault ≢ ReadFault.Memory
+                → circuit_of (tokens bytes.entry.now) ≡ Err fault) }
+        { read_and_compare(alloc, bytes, count) },
+    );
+    let (circuit, common) = read?;
+    let begun = circuit.begin_digest_from(bytes, count, hasher, common);
+    Ok((circuit, begun))
+}
+
+/// The circuit of a text, and the lines with which the text and the canonical text both begin, of at least `count`
+/// bytes.
 fn read_and_compare<A: Allocator + Copy>(
     alloc: A,
     text: &[u8],
-) -> Result<(Circuit<A>, Option<[u8; 32]>), ReadFault>
+    count: usize,
+) -> Result<(Circuit<A>, Option<CommonLines>), ReadFault>
     ensures circuit { IfOk result (λ read. IsCircuit text.now read.0) }
-    ensures digest { IfOk result (λ read. IsDigestUnless text.now read.0 read.1) }
+    ensures common { IfOk result (λ read.
+        IfSome read.1 (AreCommonLines read.0 text.now count)) }
     ensures fault { IfErr result (λ fault. fault ≢ ReadFault.Memory
         → circuit_of (tokens text.now) ≡ Err fault) }
 {
     let circuit = Circuit::read(alloc, text)?;
-    let digest = circuit.digest_unless_canonical(text);
-    Ok((circuit, digest))
+    let common = circuit.common_lines(text, count);
+    Ok((circuit, common))
 }

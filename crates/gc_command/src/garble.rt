@@ -12,7 +12,7 @@ ghost use Rattle.gc_command.specs.Garble.{AnswersGarble, HasGarbleFault};
 ghost use Rattle.gc_command.specs.Wrote.{HasWritten, IsUnwritten};
 ghost use Rattle.gc_command.specs.Fault.{HasCause};
 
-use crate::circuit_file::read_circuit;
+use crate::circuit_file::read_circuit_and_begin_digest;
 use crate::fault::Fault;
 use crate::files::Files;
 use crate::garbling::digest_and_garbling;
@@ -51,11 +51,11 @@ pub fn garble<R: Threads + Wait + Sync, A: Allocator + Copy + Send + Sync, F: Fi
         → (n : List ℕ) → F.bytes files.new n ≡ F.bytes files.old n) }
 {
     progress.begin(1, 3, Work::ReadingCircuit);
-    let circuit = read_circuit(alloc, circuit, files)?;
+    let (circuit, begun) = read_circuit_and_begin_digest(rt, alloc, circuit, files)?;
     let seed = Seed::from_hex(seed)?;
     let gates = circuit.gates();
     progress.begin(2, 3, Work::Garbling { gates });
-    let (digest, garbling) = digest_and_garbling(rt, alloc, &circuit, &seed, workers)?;
+    let (digest, garbling) = digest_and_garbling(rt, alloc, &circuit, begun, &seed, workers)?;
     progress.begin(3, 3, Work::Writing);
     write_garbling(
         alloc, version, &circuit, &digest, &garbling, &seed, out, files,

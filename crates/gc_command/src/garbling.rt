@@ -3,10 +3,11 @@
 ghost use Rattle.std.specs.Prelude.{◌≡◌, IfOk};
 ghost use Rattle.sha2.specs.Sha256.{sha256};
 ghost use Rattle.gc_netlist.specs.Canon.{canonical_text};
+ghost use Rattle.gc_circuit.specs.Digest.{IsBegun};
 ghost use Rattle.gc_half.specs.Garbling.{IsGarbled};
 ghost use Rattle.gc_work.specs.WorkFault.{JudgesWorkers};
 
-use gc_circuit::Circuit;
+use gc_circuit::{BegunDigest, Circuit};
 use gc_gatehouse::Open;
 use gc_half::Garbling;
 use gc_label::Seed;
@@ -17,14 +18,17 @@ use std::thread;
 use std::thread::Threads;
 
 /// The digest of the circuit's canonical text and the garbling of the circuit under a seed by this many workers. A
-/// thread beside these takes the digest, where one can be started.
+/// thread beside these finishes the digest, where one can be started. That the digest begun is the circuit's is the
+/// caller's condition.
 pub fn digest_and_garbling<R: Threads + Wait + Sync, A: Allocator + Copy + Send + Sync>(
     rt: &R,
     alloc: A,
     circuit: &Circuit<A>,
+    begun: BegunDigest,
     seed: &Seed,
     workers: u32,
 ) -> Result<([u8; 32], Garbling<A>), WorkFault>
+    requires { IsBegun circuit.now begun }
     ensures digest { IfOk result (λ made. made.0 ≡ sha256 (canonical_text circuit.now)) }
     ensures garbled { IfOk result (λ made. IsGarbled circuit.now seed.now made.1) }
     ensures workers { JudgesWorkers workers result }
@@ -32,8 +36,9 @@ pub fn digest_and_garbling<R: Threads + Wait + Sync, A: Allocator + Copy + Send 
     let (digest, garbling) = thread::join(
         rt,
         || -> [u8; 32]
+            requires { IsBegun circuit.now begun }
             ensures { result ≡ sha256 (canonical_text circuit.entry.now) }
-        { circuit.digest() },
+        { circuit.finish_digest(begun) },
         || -> Result<Garbling<A>, WorkFault>
             ensures garbled { IfOk result (IsGarbled circuit.entry.now seed.entry.now) }
             ensures workers { JudgesWorkers workers result }

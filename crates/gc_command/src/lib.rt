@@ -22,7 +22,7 @@ pub mod run;
 mod values;
 mod wrote;
 
-pub use circuit_file::{read_circuit, read_circuit_and_digest};
+pub use circuit_file::{read_circuit, read_circuit_and_begin_digest, read_circuit_and_digest};
 pub use evaluated_files::{read_garbled_file, read_label_files};
 pub use fault::Fault;
 pub use file_failures::FileFailures;

@@ -3,6 +3,7 @@
 ghost use Rattle.std.specs.Prelude.{◌≡◌, ◌++◌, ◌∷◌, ℕ, List, map, codes, decimal, IfOk, IfErr, OnOk, MatchOption, Some, string_bytes};
 ghost use Rattle.sha2.specs.Sha256.{sha256};
 ghost use Rattle.gc_netlist.specs.Canon.{canonical_text};
+ghost use Rattle.gc_circuit.specs.Digest.{IsBegun};
 ghost use Rattle.gc_half.specs.Garbling.{IsGarbled};
 ghost use Rattle.gc_format.specs.GarbledFile.{GarbledParts};
 ghost use Rattle.gc_work.specs.WorkFault.{JudgesWorkers};
@@ -18,10 +19,10 @@ use gc_audit::{
     DifferingRows, EntryDifference, GarbledAudit, LabelsVerdict, PartsAudit, RowDifference,
     audit_garbled, audit_labels, garble_and_audit,
 };
-use gc_circuit::{Circuit, Memory};
+use gc_circuit::{BegunDigest, Circuit, Memory};
 use gc_command::{
-    Fault, Files, digest_and_garbling, push_digits, push_number, read_circuit, read_garbled_file,
-    read_label_files,
+    Fault, Files, digest_and_garbling, push_digits, push_number, read_circuit_and_begin_digest,
+    read_garbled_file, read_label_files,
 };
 use gc_file::{Garbled, LabelFile, Version};
 use gc_half::Garbling;
@@ -52,12 +53,14 @@ pub fn audit<R: Threads + Wait + Sync, A: Allocator + Copy + Send + Sync, F: Fil
         (λ fault. HasCause fault (F.failures files.old) (F.failures files.new)) }
     ensures same { (name : List ℕ) → F.bytes files.new name ≡ F.bytes files.old name }
 {
-    let circuit = read_circuit(alloc, circuit, files)?;
+    let (circuit, begun) = read_circuit_and_begin_digest(rt, alloc, circuit, files)?;
     let seed = Seed::from_hex(seed)?;
     let garbled = read_garbled_file(alloc, garbled, files)?;
     let version = garbled.version();
     let labels = read_label_files(alloc, labels, files)?;
-    let (garbling, found) = garbling_and_audit(rt, alloc, &circuit, &seed, garbled, workers)?;
+    let (garbling, found) = garbling_and_audit(
+        rt, alloc, &circuit, begun, &seed, garbled, workers,
+    )?;
     match audit_lines(alloc, &circuit, version, &found, &garbling, &seed, &labels) {
         Ok(lines) => Ok(lines),
         Err(_) => Err(Fault::Memory),
@@ -70,31 +73,35 @@ fn garbling_and_audit<R: Threads + Wait + Sync, A: Allocator + Copy + Send + Syn
     rt: &R,
     alloc: A,
     circuit: &Circuit<A>,
+    begun: BegunDigest,
     seed: &Seed,
     file: Garbled<A>,
     workers: u32,
 ) -> Result<(Garbling<A>, GarbledAudit), WorkFault>
+    requires { IsBegun circuit.now begun }
     ensures garbled { IfOk result (λ made. IsGarbled circuit.now seed.now made.0) }
     ensures audit { IfOk result
         (λ made. IsGarbledAudit circuit.now made.0 seed.now file made.1) }
     ensures workers { JudgesWorkers workers result }
 {
     if workers == 1 {
-        return Ok(audit_alone(rt, alloc, circuit, seed, file)?);
+        return Ok(audit_alone(rt, alloc, circuit, begun, seed, file)?);
     }
-    let (digest, garbling) = digest_and_garbling(rt, alloc, circuit, seed, workers)?;
+    let (digest, garbling) = digest_and_garbling(rt, alloc, circuit, begun, seed, workers)?;
     let found = audit_garbled(circuit, &digest, &garbling, seed, &file);
     Ok((garbling, found))
 }
 
-/// The same by one worker. A thread beside it takes the circuit's digest, where one can be started.
+/// The same by one worker. A thread beside it finishes the circuit's digest, where one can be started.
 fn audit_alone<R: Threads, A: Allocator + Copy + Send + Sync>(
     rt: &R,
     alloc: A,
     circuit: &Circuit<A>,
+    begun: BegunDigest,
     seed: &Seed,
     file: Garbled<A>,
 ) -> Result<(Garbling<A>, GarbledAudit), Memory>
+    requires { IsBegun circuit.now begun }
     ensures garbled { IfOk result (λ made. IsGarbled circuit.now seed.now made.0) }
     ensures audit { IfOk result
         (λ made. IsGarbledAudit circuit.now made.0 seed.now file made.1) }
@@ -103,8 +110,9 @@ fn audit_alone<R: Threads, A: Allocator + Copy + Send + Sync>(
     let (digest, made) = thread::join(
         rt,
         || -> [u8; 32]
+            requires { IsBegun circuit.now begun }
             ensures { result ≡ sha256 (canonical_text circuit.entry.now) }
-        { circuit.digest() },
+        { circuit.finish_digest(begun) },
         move || -> Result<(Garbling<A>, Option<PartsAudit>), Memory>
             ensures garbled { IfOk result
                 (λ made. IsGarbled circuit.entry.now seed.entry.now made.0) }

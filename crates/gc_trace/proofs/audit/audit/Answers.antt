@@ -19,14 +19,14 @@ returns-in_err-labels-clause-fault g c =
     let bytes = g.F.Files.bytes c.args.files.now in
     let names = map string_bytes c.args.labels.now in
     let parts = c.in_ok-garbled.garbled in
-    let told = told-before bytes (g.F.Files.bytes c.read_circuit.new.files) c.read_circuit.ensures.same
+    let told = told-before bytes (g.F.Files.bytes c.read_circuit_and_begin_digest.new.files) c.read_circuit_and_begin_digest.ensures.same
     (λ held. IsGarbledFile held parts) c.args.garbled.now c.in_ok-garbled.ensures.told in
     rw (p.1, p.2)
     (labels-fault bytes c.args.circuit.now c.args.seed.now c.args.garbled.now c.args.workers names
     c.in_ok-circuit.circuit c.in_ok-circuit.ensures.circuit (c.in_ok-seed.ensures.accepts.0 refl)
     parts told c.in_err-labels.field-0.0
     (labels-fault-before bytes (g.F.Files.bytes c.read_garbled_file.new.files)
-    (λ n. c.read_garbled_file.ensures.same n ∙ c.read_circuit.ensures.same n) names c.in_err-labels.field-0.0
+    (λ n. c.read_garbled_file.ensures.same n ∙ c.read_circuit_and_begin_digest.ensures.same n) names c.in_err-labels.field-0.0
     c.in_err-labels.ensures.fault))
 
 pub returns-in_err-garbling-clause-fault : goal.returns-in_err-garbling-clause-fault
@@ -40,8 +40,8 @@ returns-in_err-garbling-clause-fault g c =
         (
           c.in_ok-labels.labels.items,
           (
-            eval-told bytes (g.F.Files.bytes c.read_circuit.new.files)
-                (g.F.Files.bytes c.read_garbled_file.new.files) c.read_circuit.ensures.same
+            eval-told bytes (g.F.Files.bytes c.read_circuit_and_begin_digest.new.files)
+                (g.F.Files.bytes c.read_garbled_file.new.files) c.read_circuit_and_begin_digest.ensures.same
                 c.read_garbled_file.ensures.same c.args.circuit.now c.args.garbled.now
                 (map string_bytes c.args.labels.now) c.in_ok-circuit.circuit c.in_ok-garbled.garbled
                 c.in_ok-labels.labels.items c.in_ok-circuit.ensures.circuit c.in_ok-garbled.ensures.told
@@ -55,7 +55,7 @@ returns-in_err-garbling-clause-fault g c =
 
 pub returns-in_err-garbling-clause-same : goal.returns-in_err-garbling-clause-same
 returns-in_err-garbling-clause-same g c = λ n.
-    c.read_label_files.ensures.same n ∙ c.read_garbled_file.ensures.same n ∙ c.read_circuit.ensures.same n
+    c.read_label_files.ensures.same n ∙ c.read_garbled_file.ensures.same n ∙ c.read_circuit_and_begin_digest.ensures.same n
 
 pub returns-in-Ok-clause-answers : goal.returns-in-Ok-clause-answers
 returns-in-Ok-clause-answers g c =
@@ -64,8 +64,8 @@ returns-in-Ok-clause-answers g c =
       c = c.in_ok-circuit.circuit;
       g = c.in_ok-garbled.garbled;
       files = c.in_ok-labels.labels.items;
-      told = eval-told bytes (g.F.Files.bytes c.read_circuit.new.files)
-          (g.F.Files.bytes c.read_garbled_file.new.files) c.read_circuit.ensures.same
+      told = eval-told bytes (g.F.Files.bytes c.read_circuit_and_begin_digest.new.files)
+          (g.F.Files.bytes c.read_garbled_file.new.files) c.read_circuit_and_begin_digest.ensures.same
           c.read_garbled_file.ensures.same c.args.circuit.now c.args.garbled.now
           (map string_bytes c.args.labels.now) c.in_ok-circuit.circuit c.in_ok-garbled.garbled
           c.in_ok-labels.labels.items c.in_ok-circuit.ensures.circuit c.in_ok-garbled.ensures.told
@@ -79,8 +79,8 @@ returns-in-Ok-clause-answers g c =
 
 pub returns-in-Ok-clause-same : goal.returns-in-Ok-clause-same
 returns-in-Ok-clause-same g c = λ n.
-    c.read_label_files.ensures.same n ∙ c.read_garbled_file.ensures.same n ∙ c.read_circuit.ensures.same n
+    c.read_label_files.ensures.same n ∙ c.read_garbled_file.ensures.same n ∙ c.read_circuit_and_begin_digest.ensures.same n
 
 pub returns-clause-same : goal.returns-clause-same
 returns-clause-same g c = λ n.
-    c.read_label_files.ensures.same n ∙ c.read_garbled_file.ensures.same n ∙ c.read_circuit.ensures.same n
+    c.read_label_files.ensures.same n ∙ c.read_garbled_file.ensures.same n ∙ c.read_circuit_and_begin_digest.ensures.same n

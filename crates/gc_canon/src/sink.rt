@@ -1,0 +1,82 @@
+//! What takes a text piece by piece.
+
+ghost use Rattle.std.specs.Prelude.{◌≡◌, ◌++◌, ℕ, List, length, OnOk};
+ghost use Rattle.sha2.specs.Hashers.{Holds256};
+
+use sha2::{Digest, Sha256};
+use std::alloc::{AllocError, Allocator};
+use std::convert::Infallible;
+
+/// Takes a text piece by piece.
+pub trait TextSink {
+    type Fault;
+
+    // The text that was taken, where the sink was made for a text.
+    ghost holds: { Self → (whole text : List ℕ) → Type 0 };
+
+    /// Takes the piece after the text so far.
+    fn put(&mut self, piece: &[u8]) -> Result<(), Self::Fault>
+        ensures { OnOk result ((whole text : List ℕ)
+            → holds self.old whole text → holds self.new whole (text ++ piece.now)) };
+}
+
+impl<B: Allocator> TextSink for Vec<u8, B> {
+    type Fault = AllocError;
+
+    ghost holds = { λ v whole text. v.items ≡ text };
+
+    fn put(&mut self, piece: &[u8]) -> Result<(), AllocError> {
+        self.extend_from_slice(piece)
+    }
+}
+
+impl TextSink for Sha256 {
+    type Fault = Infallible;
+
+    ghost holds = { λ s whole text. Holds256 s text };
+
+    fn put(&mut self, piece: &[u8]) -> Result<(), Infallible> {
+        self.update(piece);
+        Ok(())
+    }
+}
+
+/// What is left of a text that pieces are compared with.
+#[derive(Drop)]
+pub struct Comparison<'t> {
+    left: &'t [u8],
+}
+
+/// A piece differs from the text.
+#[derive(Drop)]
+pub struct Differs;
+
+impl<'t> Comparison<'t> {
+    /// Nothing is compared yet.
+    pub fn new(text: &'t [u8]) -> Comparison<'t>
+        ensures { result.left.now ≡ text.now }
+    {
+        Comparison { left: text }
+    }
+
+    /// How many bytes of the text are left.
+    pub fn left(&self) -> usize
+        ensures { result ≡ length self.now.left.now }
+    {
+        self.left.len()
+    }
+}
+
+impl<'t> TextSink for Comparison<'t> {
+    type Fault = Differs;
+
+    ghost holds = { λ c whole text. whole ≡ text ++ c.left.now };
+
+    fn put(&mut self, piece: &[u8]) -> Result<(), Differs> {
+        let Some(left) = self.left.strip_prefix(piece) else {
+            return Err(Differs);
+        };
+        self.left = left;
+        Ok(())
+    }
+}
