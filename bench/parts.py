@@ -43,8 +43,8 @@ def print_baseline(program, bench, circuit):
     words = [program, "garble", circuit, SEED, "-", "--repeat", "1"]
     parses, reads = [], []
     for _ in range(7):
-        told = subprocess.run(words, capture_output=True, check=True).stderr
-        parses.append(int(re.search(rb"parse_ns=(\d+)", told)[1]))
+        errors = subprocess.run(words, capture_output=True, check=True).stderr
+        parses.append(int(re.search(rb"parse_ns=(\d+)", errors)[1]))
         reads.append(times(bench, circuit, 1, "read")["read"])
     print(
         f"  the baseline: {min(parses)} ns; reading takes {min(reads) / min(parses):.2f} times as"

@@ -113,10 +113,10 @@ def with_figures(page, circuits, sizes):
 def with_lists(page, printed):
     """The page with the lines of its lists as they were printed, each by its first words."""
     for line in printed.splitlines():
-        name, colon, told = line.partition(": ")
+        name, colon, rest = line.partition(": ")
         item = re.compile(rf"^- (`?){re.escape(name)}\1: .*(\n  .*)*", re.M)
         if colon and (found := item.search(page)):
-            said = f"- {found[1]}{name}{found[1]}: {told}"
+            said = f"- {found[1]}{name}{found[1]}: {rest}"
             page = page.replace(found[0], textwrap.fill(said, 120, subsequent_indent="  "))
     today = f"{date.today():%d %B %Y}".lstrip("0")
     return re.sub("(those of one run on )[0-9]+ [A-Z][a-z]+ [0-9]+", rf"\g<1>{today}", page)
@@ -200,17 +200,17 @@ def lines(rows):
 
 def keep_figures(page, readme, printed):
     """Puts what the benchmark printed into both documents."""
-    told = Path(printed).read_text()
-    rows = printed_rows(told)
+    text = Path(printed).read_text()
+    rows = printed_rows(text)
     sizes = {name: it for name, it in rows.items() if name.startswith("size ")}
     circuits = {name: it for name, it in rows.items() if name not in sizes}
-    tables = [(head, table_of(told, head)) for head in (OF_COMMANDS, OF_JOBS)]
+    tables = [(head, table_of(text, head)) for head in (OF_COMMANDS, OF_JOBS)]
     if not circuits or not sizes or not all(rows for _, rows in tables):
         sys.exit(f"plot.py: not all tables of bench/run.sh are in {printed}")
     figures = with_figures(page.read_text(), circuits, sizes)
     for head, rows in tables:
         figures = with_table(figures, head, rows)
-    page.write_text(with_lists(figures, told))
+    page.write_text(with_lists(figures, text))
     readme.write_text(with_readme_figures(readme.read_text(), page.read_text()))
 
 

@@ -41,7 +41,7 @@ ROWS, BITS, ENTRIES = 48, 176, 178
 RIGHT = {part: "right" for part in ("digest", "counts", "rows", "bits", "entries")}
 
 
-def told(labels=(), **verdicts):
+def report(labels=(), **verdicts):
     """The lines of verdicts, where all others are right. A part that is None has no line. The texts
     of label files follow, each with whether it is right."""
     parts = {**RIGHT, **verdicts}
@@ -214,7 +214,7 @@ OTHER_COUNTS = (0, 0), (3, 9), (5, 9), (4, 8), (4, 10), (0, 9), (4, 0)
 NO_PARTS = {"counts": "wrong", "rows": None, "bits": None, "entries": None}
 
 # Circuits, those whose garbled files are audited instead, and the verdicts. INV swaps the labels of a
-# wire: the decode bit alone tells that.
+# wire: the decode bit alone shows that.
 OTHER_CIRCUITS = [
     (FULL_ADDER, " " + FULL_ADDER.replace("\n", "\t\r\n"), {}),
     (FAR_COPY, INV, {"digest": "wrong", "bits": "wrong 0"}),
@@ -247,18 +247,18 @@ class Reference(unittest.TestCase):
         for version in VERSIONS:
             rest = {"entries": None} if version == 1 else {}
             for places, verdicts in SPOILED:
-                self.assert_lines(told(**verdicts, **rest), spoiled(GARBLED[version], places))
+                self.assert_lines(report(**verdicts, **rest), spoiled(GARBLED[version], places))
         for places, verdicts in SPOILED_2:
-            self.assert_lines(told(**verdicts), spoiled(GARBLED[2], places))
+            self.assert_lines(report(**verdicts), spoiled(GARBLED[2], places))
 
     def test_counts(self):
         for version in VERSIONS:
             for rows, outputs in OTHER_COUNTS:
-                self.assert_lines(told(**NO_PARTS), resized(version, rows, outputs))
+                self.assert_lines(report(**NO_PARTS), resized(version, rows, outputs))
 
     def test_label_files(self):
         for files, verdicts in LABEL_FILES:
-            self.assert_lines(told(verdicts), GARBLED[2], files)
+            self.assert_lines(report(verdicts), GARBLED[2], files)
 
 
 class AuditTest(ProgramTest):
@@ -287,12 +287,12 @@ class Verdicts(AuditTest):
             for places, verdicts in SPOILED:
                 with self.subTest(version=version, places=places):
                     garbled = spoiled(GARBLED[version], places)
-                    self.assert_lines(told(**verdicts, **rest), garbled)
+                    self.assert_lines(report(**verdicts, **rest), garbled)
 
     def test_entries(self):
         for places, verdicts in SPOILED_2:
             with self.subTest(places=places):
-                self.assert_lines(told(**verdicts), spoiled(GARBLED[2], places))
+                self.assert_lines(report(**verdicts), spoiled(GARBLED[2], places))
 
     def test_each_byte_of_the_rows(self):
         for place in range(ROWS, BITS):
@@ -300,7 +300,7 @@ class Verdicts(AuditTest):
             at, wire = ((1, 6), (3, 9), (5, 10), (7, 13))[gate]
             rows = f"wrong {gate} gate {at} wire {wire} {'TG' if half < 16 else 'TE'}"
             name = self.put("g", spoiled(GARBLED[1], [(place, 1 << place % 8)]))
-            self.assert_prints(told(rows=rows, entries=None), "audit", "c.txt", SEED, name)
+            self.assert_prints(report(rows=rows, entries=None), "audit", "c.txt", SEED, name)
 
     def test_counts(self):
         labels = [label_file(1), label_file(3)]
@@ -308,22 +308,22 @@ class Verdicts(AuditTest):
         for version in VERSIONS:
             for rows, outputs in OTHER_COUNTS:
                 garbled = resized(version, rows, outputs)
-                self.assert_lines(told(**NO_PARTS), garbled)
-                self.assert_lines(told(verdicts, **NO_PARTS), garbled, labels)
+                self.assert_lines(report(**NO_PARTS), garbled)
+                self.assert_lines(report(verdicts, **NO_PARTS), garbled, labels)
                 other_circuit = spoiled(garbled, [8])
-                self.assert_lines(told(digest="wrong", **NO_PARTS), other_circuit)
+                self.assert_lines(report(digest="wrong", **NO_PARTS), other_circuit)
 
     def test_label_files(self):
         for files, verdicts in LABEL_FILES:
             with self.subTest(verdicts):
-                self.assert_lines(told(verdicts), GARBLED[2], files)
-                self.assert_lines(told(verdicts, entries=None), GARBLED[1], files)
+                self.assert_lines(report(verdicts), GARBLED[2], files)
+                self.assert_lines(report(verdicts, entries=None), GARBLED[1], files)
 
     def test_a_bad_file_and_bad_labels(self):
         garbled = spoiled(GARBLED[2], [BITS])
         for files, verdicts in LABEL_FILES:
             name, *labels = self.put_files(garbled, files)
-            lines = told(verdicts, bits="wrong 0")
+            lines = report(verdicts, bits="wrong 0")
             self.assert_prints(lines, "audit", "c.txt", SEED, name, *labels)
 
     def test_files_of_other_circuits(self):
@@ -332,7 +332,7 @@ class Verdicts(AuditTest):
             circuit = bristol.read_circuit(garbled_text.encode())
             garbling = reference.garble(circuit, bytes(32))
             with self.subTest(text):
-                self.assert_lines(told(**verdicts), reference.garbled_file(circuit, garbling, 2))
+                self.assert_lines(report(**verdicts), reference.garbled_file(circuit, garbling, 2))
 
     def test_another_seed(self):
         """All labels and rows are others, so only the digest and the numbers are right."""
@@ -340,7 +340,7 @@ class Verdicts(AuditTest):
         garbling = reference.garble(CIRCUIT, bytes.fromhex(seed))
         pairs = zip(*(reference.decode_bits(CIRCUIT, it) for it in (garbling, GARBLING)))
         first_bit = [a == b for a, b in pairs].index(False)
-        lines = told(
+        lines = report(
             [("0 wrong 0", False), ("1", True)],
             rows="wrong 0 gate 1 wire 6 TG TE",
             bits=f"wrong {first_bit}",
@@ -366,9 +366,9 @@ class HonestFiles(AuditTest):
             words = "c.txt", seed, "g", "--format", version
             self.assertEqual(self.run_program("garble", *words)[0], 0)
             rest = {"entries": None} if version == 1 else {}
-            lines = told(labels, **rest)
+            lines = report(labels, **rest)
             self.assert_prints(lines, "audit", "c.txt", seed, "g", *names)
-            lines = told(labels[::-1], **rest)
+            lines = report(labels[::-1], **rest)
             words = "--workers", 64, "g", *names[::-1]
             self.assert_prints(lines, "audit", "c.txt", seed, *words)
 
@@ -402,7 +402,7 @@ class HonestFiles(AuditTest):
                 ([entry], {"entries": f"wrong {at} 0"}),
             ]:
                 with self.subTest(at=at, **verdicts):
-                    self.assert_lines(told(**verdicts), spoiled(self.bytes_of("honest"), places))
+                    self.assert_lines(report(**verdicts), spoiled(self.bytes_of("honest"), places))
 
     def test_a_hundred_thousand_gates(self):
         """The first row is spoiled, and then the last row and the last entry."""
@@ -420,7 +420,7 @@ class HonestFiles(AuditTest):
             self.put("g", spoiled(self.bytes_of("honest"), places))
             for workers in WORKERS:
                 words = "audit", "chains", SEED, "g", "--workers", workers
-                self.assert_prints(told(**verdicts), *words)
+                self.assert_prints(report(**verdicts), *words)
 
 
 class Agreement(AuditTest):

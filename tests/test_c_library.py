@@ -123,13 +123,13 @@ class Files(LibraryTest):
 
     def test_codes(self):
         """Each code has the name that the documents give it."""
-        told = dict(re.findall(r"^\| (\d+) \| (\w+) \|", (TOP / "docs/FAULTS.md").read_text(), re.M))
+        by_code = dict(re.findall(r"^\| (\d+) \| (\w+) \|", (TOP / "docs/FAULTS.md").read_text(), re.M))
         source = self.folder / "codes.c"
         source.write_text(CODES)
         printed = self.run_built(source)
         named = {int(code): name for code, name in map(str.split, printed.splitlines())}
         for name, code in declared_codes().items():
-            self.assertEqual(named.pop(code), told[str(code)] if code else "Ok", name)
+            self.assertEqual(named.pop(code), by_code[str(code)] if code else "Ok", name)
         self.assertEqual(set(named.values()), {"Unknown"})
 
     def test_linking(self):

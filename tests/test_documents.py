@@ -210,12 +210,12 @@ class Documents(unittest.TestCase):
     def test_faults(self):
         """The faults of the vectors stand in the table of faults, under their codes."""
         table = (TOP / "docs/FAULTS.md").read_text()
-        told = dict(re.findall(r"^\| (\d+) \| (\w+) \|", table, re.M))
+        by_code = dict(re.findall(r"^\| (\d+) \| (\w+) \|", table, re.M))
         for file in TOP.glob("vectors/bad_*.json"):
             found = re.findall(r'"fault": (\d+),\s+"name": "(\w+)"', file.read_text())
             self.assertTrue(found, file.name)
             for code, name in found:
-                self.assertEqual(told[code], name)
+                self.assertEqual(by_code[code], name)
 
     def test_crates(self):
         missing = []

@@ -25,8 +25,8 @@ SIZES = 1_000, 250_000, 16_000_000
 def printed(names, sizes):
     """What the benchmark prints of circuits of these names, and of these numbers of gates."""
     took = {part: 50_000 * 7**place for place, part in enumerate(measure.PARTS)}
-    told = io.StringIO()
-    with contextlib.redirect_stdout(told):
+    output = io.StringIO()
+    with contextlib.redirect_stdout(output):
         print("reading: 7 ns a gate\nrun: 8 ns")
         measure.print_row("circuit", "gates", "AND", *2 * ["thread", "1", "2", "4"])
         for name in names:
@@ -35,7 +35,7 @@ def printed(names, sizes):
         for count in sizes:
             measure.print_times(f"size {count}", {"gates": count, "and": count // 2, **took})
     row = "|---|\n| some circuit | 1,234 |\n"
-    return f"{told.getvalue()}{plot.OF_COMMANDS}{row}{plot.OF_JOBS}{row}"
+    return f"{output.getvalue()}{plot.OF_COMMANDS}{row}{plot.OF_JOBS}{row}"
 
 
 class Plot(unittest.TestCase):

@@ -106,10 +106,10 @@ class Vectors(LibraryTest):
             with self.subTest(about):
                 text, fault = bad["text"].encode(), f"{bad['fault']} {bad['name']}"
                 self.assert_fault(fault, Circuit.read, text)
-                told = halfgates.locate(text)._asdict()
-                told["fault"] = told.pop("code")
+                located = halfgates.locate(text)._asdict()
+                located["fault"] = located.pop("code")
                 place = {key: bad.get(key) for key in ("fault", "name", "line", "column", "gate", "wire")}
-                self.assertEqual(told, place)
+                self.assertEqual(located, place)
 
     def test_faults_of_files(self):
         vectors = load("bad_files")
@@ -130,14 +130,14 @@ class Vectors(LibraryTest):
         for name, draw in draws(200, "library"):
             text = damaged_text(draw, draw.choice(texts))
             with self.subTest(name):
-                told = halfgates.locate(text)
+                located = halfgates.locate(text)
                 try:
                     bristol.read_circuit(text)
-                    self.assertIsNone(told)
+                    self.assertIsNone(located)
                 except bristol.Fault as fault:
                     place = {"code": fault.number, "gate": None, "wire": None}
                     place = {**place, "name": fault.name, **bristol.place_of(text, fault)}
-                    self.assertEqual(told._asdict(), place)
+                    self.assertEqual(located._asdict(), place)
 
 
 # The circuits of the examples, and texts of values for them.
@@ -199,8 +199,8 @@ class BesideTheProgram(ProgramTest):
             with self.subTest(name), Circuit.read(text) as circuit, circuit.garble(ZEROS) as garbling:
                 printed = self.lines("labels", "c", SEED, *values)
                 found = garbling.labels(bits)
-                told = [f"{i} {it.zero.hex()} {it.active.hex()} {it.bit}" for i, it in enumerate(found)]
-                self.assertEqual(told, printed)
+                lines = [f"{i} {it.zero.hex()} {it.active.hex()} {it.bit}" for i, it in enumerate(found)]
+                self.assertEqual(lines, printed)
                 self.assertEqual(garbling.labels(bits, 3), found[3:])
                 self.assertEqual(garbling.labels(bits, 2, 3), found[2:5])
                 self.assertEqual(garbling.labels(bits, circuit.wires), [])
@@ -305,12 +305,12 @@ class Refusals(LibraryTest):
     def test_reports_on_label_files(self):
         audit = self.garbling.audit_labels
         wrong = label_file(1, bytes(16))
-        for file, told in (
+        for file, expected in (
             (wrong, ("WrongLabel", 1, None, 1)),
             (label_file(0), ("WrongWidth", 0, None, None)),
             (label_file(3, bytes(16)), ("NoSuchValue", 3, None, None)),
         ):
-            self.assertEqual(audit(file), told)
+            self.assertEqual(audit(file), expected)
             self.assertFalse(audit(file).honest)
         self.assert_fault("31 Truncated", audit, wrong[:-1])
         self.assert_fault("32 Trailing", audit, wrong + b"\0")

@@ -145,15 +145,15 @@ static void jobs(halfgates_circuit *circuit, halfgates_job *job) {
 
 static void audits(halfgates_garbling *garbling) {
     halfgates_audit_report report;
-    halfgates_labels_report told;
+    halfgates_labels_report labels_report;
     CHECK_CODE(BAD, halfgates_audit(NULL, garbled, 177, &report));
     CHECK_CODE(BAD, halfgates_audit(garbling, garbled, 177, NULL));
     CHECK_CODE(HALFGATES_FILE_TRUNCATED, halfgates_audit(garbling, NULL, 0, &report));
-    CHECK_CODE(BAD, halfgates_audit_labels(NULL, labels, 32, room, 1, &told));
+    CHECK_CODE(BAD, halfgates_audit_labels(NULL, labels, 32, room, 1, &labels_report));
     CHECK_CODE(BAD, halfgates_audit_labels(garbling, labels, 32, room, 1, NULL));
-    CHECK_CODE(HALFGATES_FILE_TRUNCATED, halfgates_audit_labels(garbling, NULL, 0, room, 1, &told));
-    CHECK_CODE(HALFGATES_SMALL_BUFFER, halfgates_audit_labels(garbling, labels, 32, NULL, 0, &told));
-    CHECK(told.count == 1);
+    CHECK_CODE(HALFGATES_FILE_TRUNCATED, halfgates_audit_labels(garbling, NULL, 0, room, 1, &labels_report));
+    CHECK_CODE(HALFGATES_SMALL_BUFFER, halfgates_audit_labels(garbling, labels, 32, NULL, 0, &labels_report));
+    CHECK(labels_report.count == 1);
     check_untouched();
 }
 

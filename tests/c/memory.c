@@ -54,7 +54,7 @@ void __wrap_free(void *at) {
 /* All calls that take memory. */
 static void work(void) {
     const uint8_t *text = (const uint8_t *)FULL_ADDER, seed[32] = {5}, bits[3] = {1, 0, 1};
-    uint8_t garbled[177], labels[96], outputs[2], told[1];
+    uint8_t garbled[177], labels[96], outputs[2], found_bits[1];
     const size_t sizes[3] = {32, 32, 32};
     size_t written;
     halfgates_circuit *circuit = NULL;
@@ -77,8 +77,8 @@ static void work(void) {
     CALL(halfgates_labels(garbling, bits, 3, 0, found, 8));
     CALL(halfgates_audit(garbling, garbled, sizeof garbled, &report));
     CHECK(report.honest);
-    CALL(halfgates_audit_labels(garbling, labels, 32, told, 1, &labels_report));
-    CHECK(labels_report.verdict == HALFGATES_OK && told[0] == 1);
+    CALL(halfgates_audit_labels(garbling, labels, 32, found_bits, 1, &labels_report));
+    CHECK(labels_report.verdict == HALFGATES_OK && found_bits[0] == 1);
     CALL(halfgates_job_bind(circuit, garbled, sizeof garbled, labels, sizeof labels, sizes, 3, &job));
     halfgates_circuit_free(circuit);
     outputs[0] = outputs[1] = 2;

@@ -34,7 +34,7 @@ int main(void) {
     halfgates_place place;
     halfgates_wire_labels found[8];
     halfgates_audit_report report;
-    halfgates_labels_report told;
+    halfgates_labels_report labels_report;
     CHECK_CODE(HALFGATES_OK, halfgates_garble(circuit, seed, &garbling));
     CHECK_CODE(HALFGATES_OK, halfgates_garbling_write(garbling, 2, garbled, sizeof garbled, &written));
     for (uint32_t i = 0; i < 3; i++)
@@ -57,8 +57,8 @@ int main(void) {
     CHECK_REFUSED(halfgates_job_bind(circuit, garbled, 177, labels, 96, NULL, 3, &bound));
     CHECK_REFUSED(halfgates_evaluate(job, NULL, 2));
     CHECK_REFUSED(halfgates_audit(garbling, NULL, 177, &report));
-    CHECK_REFUSED(halfgates_audit_labels(garbling, NULL, 32, room, 1, &told));
-    CHECK_REFUSED(halfgates_audit_labels(garbling, labels, 32, NULL, 1, &told));
+    CHECK_REFUSED(halfgates_audit_labels(garbling, NULL, 32, room, 1, &labels_report));
+    CHECK_REFUSED(halfgates_audit_labels(garbling, labels, 32, NULL, 1, &labels_report));
     halfgates_circuit_free(circuit);
     halfgates_garbling_free(garbling);
     halfgates_job_free(job);

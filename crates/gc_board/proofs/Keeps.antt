@@ -11,7 +11,7 @@ use Rattle.atomic_table.specs.Table.{State, Me, step, Act, keeps, Valid, carried
 use Rattle.atomic_table.proofs.Lists.{at_set, exchanged}
 use Rattle.gc_board.specs.Counts.{total, only, times}
 use Rattle.gc_board.specs.Board.{state_of, low_of, high_of, in_hand, IsHandRight, Cell, Fits, Sound}
-use Rattle.gc_board.specs.Steps.{Tells, changed, learnt, after_state, after_half, after_claim, after_done, state_loaded, low_loaded, high_loaded, claimed, half_stored, done_stored}
+use Rattle.gc_board.specs.Steps.{Finds, changed, learnt, after_state, after_half, after_claim, after_done, state_loaded, low_loaded, high_loaded, claimed, half_stored, done_stored}
 use Rattle.gc_board.specs.declared.rule.View.{View}
 use Rattle.gc_board.specs.declared.rule.Hand.{Hand}
 use Rattle.gc_board.specs.declared.rule.Hand.TheVariants.{Empty, Has}
@@ -206,9 +206,9 @@ module _ {J : Type 0} (gates : J → ℕ) (right : J → ℕ → ℕ → ℕ →
     abbrev Holds : State S (View J) → Type 0
     Holds s = Sound gates right job seats s.words s.views
 
-    tells : (s : State S (View J)) (g : ℕ) → Holds s → get_elem? s.views id ≡ some me.0 → Tells me.0
+    finds : (s : State S (View J)) (g : ℕ) → Holds s → get_elem? s.views id ≡ some me.0 → Finds me.0
         (3 * g) (state_of s.words g)
-    tells s g o at h e = let same : g ≡ h = omega arith in (
+    finds s g o at h e = let same : g ≡ h = omega arith in (
       (λ known. (o.fits id me.0 at).knows g (subst (λ x. 0 < times x me.0.known) (sym same) known)),
       λ whole. subst (λ x. (in_hand x me.0.hand ≡ only 1 (state_of s.words g))
           × (times x me.0.made ≡ only 2 (state_of s.words g))) same
@@ -228,7 +228,7 @@ module _ {J : Type 0} (gates : J → ℕ) (right : J → ℕ → ℕ → ℕ →
           (
             refl,
             (o.cells g).state,
-            tells s g o at,
+            finds s g o at,
             λ h e. let same : g ≡ h = omega arith in
                 ap (λ x. after_state v x found) same,
           ),
@@ -351,7 +351,7 @@ module _ {J : Type 0} (gates : J → ℕ) (right : J → ℕ → ℕ → ℕ →
           (
             refl,
             omega arith,
-            tells s g o at,
+            finds s g o at,
             λ h e. let same : g ≡ h = omega arith in
                 subst (λ x. w ≡ after_claim v x found) same
                 (λ i. changed v (cond (sym (eq-eqb found 0 free) i) (Has g 0) v.hand) v.made
@@ -369,7 +369,7 @@ module _ {J : Type 0} (gates : J → ℕ) (right : J → ℕ → ℕ → ℕ →
           (
             refl,
             (o.cells g).state,
-            tells s g o at,
+            finds s g o at,
             λ h e. let same : g ≡ h = omega arith in
                 subst (λ x. w ≡ after_claim v x found) same
                 (λ i. changed v (cond (sym (ne_eqb found 0 ne) i) (Has g 0) v.hand) v.made

@@ -49,8 +49,8 @@ module _ {J : Type 0} where
 
   -- What the number found at the state of a gate means: a known gate is found DONE; and a view that stands for
   -- all seats of its board has the gate in hand where it is found IN_HAND, and made it where it is found DONE.
-  abbrev pub Tells : View J → ℕ → ℕ → Type 0
-  Tells v word found =
+  abbrev pub Finds : View J → ℕ → ℕ → Type 0
+  Finds v word found =
       (g : ℕ) → word ≡ 3 * g →
       (0 < times g v.known → found ≡ DONE)
       × (v.seats ≡ v.all → (in_hand g v.hand ≡ only IN_HAND found) × (times g v.made ≡ only DONE found))
@@ -60,7 +60,7 @@ module _ {J : Type 0} where
     -- a load of a state
     abbrev pub state_loaded : Step S → Me S (View J) → ℕ → Me S (View J) → Type 0
     state_loaded st m found m' =
-        (m'.1 ≡ m.1) × (found < 3) × Tells m.0 st.word found
+        (m'.1 ≡ m.1) × (found < 3) × Finds m.0 st.word found
         × ((g : ℕ) → st.word ≡ 3 * g → m'.0 ≡ after_state m.0 g found)
 
     -- a load of the low half of a gate: that of a known gate is right
@@ -80,7 +80,7 @@ module _ {J : Type 0} where
     -- an exchange of a state from FREE to IN_HAND
     abbrev pub claimed : Step S → Me S (View J) → ℕ → Me S (View J) → Type 0
     claimed st m found m' =
-        (m'.1 ≡ m.1) × (found < 3) × Tells m.0 st.word found
+        (m'.1 ≡ m.1) × (found < 3) × Finds m.0 st.word found
         × ((g : ℕ) → st.word ≡ 3 * g → m'.0 ≡ after_claim m.0 g found)
 
     -- a store of a half of the gate in hand

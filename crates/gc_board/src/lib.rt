@@ -14,7 +14,7 @@ mod steps;
 pub use fault::OpenFault;
 pub use rule::{DONE, FREE, Hand, IN_HAND, Key, MAX_SEATS, Rule, View, Work};
 pub use seats::{
-    WordTable, close_table, deal_place, free_words, join_place, open_table, tell_place,
+    WordTable, close_table, copy_known, deal_place, free_words, join_place, open_table,
 };
 pub use steps::{
     Place, Words, claim, load_high, load_low, load_state, store_done, store_high, store_low,

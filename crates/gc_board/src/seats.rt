@@ -58,7 +58,7 @@ pub fn deal_place<J: Work>(words: &Words<J>, place: &mut Place<J>) -> Place<J>
 }
 
 /// `to` learns what `from` knows.
-pub fn tell_place<J: Work>(words: &Words<J>, from: &mut Place<J>, to: &mut Place<J>)
+pub fn copy_known<J: Work>(words: &Words<J>, from: &mut Place<J>, to: &mut Place<J>)
     requires from { IsPlaceOf J.gates words.now.table_id words.now.key from.old }
     requires to { IsPlaceOf J.gates words.now.table_id words.now.key to.old }
     ensures from { IsSamePlace from.old from.new × (from.new.me.0 ≡ from.old.me.0) }

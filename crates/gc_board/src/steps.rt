@@ -3,7 +3,7 @@
 ghost use Rattle.std.specs.Prelude.{◌≡◌, ℕ, ◌+◌, ◌*◌, ◌<◌};
 ghost use Rattle.gc_board.specs.declared.rule.Hand.TheVariants.{Empty, Has};
 ghost use Rattle.gc_board.specs.Counts.{times};
-ghost use Rattle.gc_board.specs.Steps.{Tells, after_state, after_half, after_claim, after_stored, after_done};
+ghost use Rattle.gc_board.specs.Steps.{Finds, after_state, after_half, after_claim, after_stored, after_done};
 ghost use Rattle.gc_board.specs.Places.{IsPlaceAt, IsSamePlace};
 
 use crate::kinds::{Claim, LoadHigh, LoadLow, LoadState, StoreDone, StoreHalf};
@@ -23,7 +23,7 @@ pub fn load_state<J: Work>(words: &Words<J>, place: &mut Place<J>, gate: u32) ->
     ensures same { IsSamePlace place.old place.new }
     ensures view { place.new.me.0 ≡ after_state place.old.me.0 gate result }
     ensures found { result < 3 }
-    ensures tells { Tells place.old.me.0 (3 * gate) result }
+    ensures finds { Finds place.old.me.0 (3 * gate) result }
 {
     words.load::<LoadState>(place, 3 * gate as usize)
 }
@@ -62,7 +62,7 @@ pub fn claim<J: Work>(words: &Words<J>, place: &mut Place<J>, gate: u32) -> u64
     ensures same { IsSamePlace place.old place.new }
     ensures view { place.new.me.0 ≡ after_claim place.old.me.0 gate result }
     ensures found { result < 3 }
-    ensures tells { Tells place.old.me.0 (3 * gate) result }
+    ensures finds { Finds place.old.me.0 (3 * gate) result }
 {
     words.compare_exchange::<Claim>(place, 3 * gate as usize, FREE, IN_HAND)
 }

@@ -12,7 +12,7 @@ ghost use Rattle.gc_eval.specs.Workers.{IsWorkerOf, AreWorkersOf};
 use crate::seat::EvalBoard;
 use crate::worker::{Worker, seats_of, workers_of};
 use gc_circuit::Memory;
-use gc_gatehouse::{Gatehouse, MAX_WORKERS, tell_all};
+use gc_gatehouse::{Gatehouse, MAX_WORKERS, report_all};
 use gc_job::{EvalFault, Job, evaluate};
 use gc_layers::{Way, evaluate_by_layers, way_of};
 use std::alloc::Allocator;
@@ -57,7 +57,7 @@ pub fn evaluate_many<
     match evaluate_by_many(rt, alloc, job, workers, observer)? {
         Some(bits) => Ok(bits),
         None => {
-            tell_all(observer, job.circuit().gates());
+            report_all(observer, job.circuit().gates());
             evaluate(alloc, job)
         }
     }

@@ -12,8 +12,8 @@ ghost use Rattle.gc_eval.specs.Seats.{IsPlaceOn, IsPlaceFor, IsSeatOf, IsSameSea
 
 use crate::seat::{EvalBoard, EvalSeat};
 use gc_board::{
-    DONE, IN_HAND, Place, Words, claim, load_high, load_low, load_state, store_done, store_high,
-    store_low, tell_place,
+    DONE, IN_HAND, Place, Words, claim, copy_known, load_high, load_low, load_state, store_done,
+    store_high, store_low,
 };
 use gc_job::Facts;
 use gc_label::Label;
@@ -398,7 +398,7 @@ impl<'j, 'c, B: Allocator, A: Allocator, C: Allocator> EvalBoard<'j, 'c, B, A, C
 
     /// `to` learns what `from` knows. It waits for nobody and takes no memory. That both seats are this board's is the
     /// caller's condition.
-    pub fn tell(&self, from: &mut EvalSeat<A, C>, to: &mut EvalSeat<A, C>)
+    pub fn copy_known(&self, from: &mut EvalSeat<A, C>, to: &mut EvalSeat<A, C>)
         requires from { IsSeatOf self.now from.old }
         requires to { IsSeatOf self.now to.old }
         ensures own { IsSeatOf self.now from.new × IsSeatOf self.now to.new }
@@ -406,9 +406,9 @@ impl<'j, 'c, B: Allocator, A: Allocator, C: Allocator> EvalBoard<'j, 'c, B, A, C
         ensures same { IsSameSeat to.old to.new }
         ensures made { (view to.new).made ≡ (view to.old).made }
         ensures steps { (view to.new).steps ≡ (view to.old).steps }
-        ensures told { (g : ℕ) → times g (view to.new).known
+        ensures known { (g : ℕ) → times g (view to.new).known
             ≡ times g (view to.old).known + times g (view from.old).known }
     {
-        tell_place(&self.table.shared, &mut from.place, &mut to.place);
+        copy_known(&self.table.shared, &mut from.place, &mut to.place);
     }
 }

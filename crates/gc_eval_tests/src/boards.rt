@@ -260,17 +260,17 @@ fn works_without_memory(
         return Err(Fail::new("there are two seats"));
     };
     step_all(&board, job, &mut one);
-    board.tell(&mut one, &mut two);
-    let told = board.label(&mut two, wire);
+    board.copy_known(&mut one, &mut two);
+    let label = board.label(&mut two, wire);
     seats.push(one)?;
     seats.push(two)?;
     let Ok(active) = board.close(seats) else {
         return Err(Fail::new("both seats are there"));
     };
-    if active.label(wire) != told || heap.growths() != opened {
+    if active.label(wire) != label || heap.growths() != opened {
         return Err(Fail::new("another label, or a growth was asked for"));
     }
-    Ok((told, active.done()))
+    Ok((label, active.done()))
 }
 
 /// A board that is open asks for no memory, and once it is closed neither do its labels.

@@ -88,8 +88,8 @@ fn a_bound_job_grows_nothing(rt: HostRuntime) -> Result<(), Fail> {
     let garbled = read_garbled(&heap, &and_file(alloc, Version::Two)?)?;
     let job = Job::bind(&heap, &circuit, garbled, &labels)?;
     let growths = heap.growths();
-    let told = job.circuit();
-    assert!(rt; told.gates() == 1 && told.wires() == 3 && told.input_wires() == 2);
+    let bound = job.circuit();
+    assert!(rt; bound.gates() == 1 && bound.wires() == 3 && bound.input_wires() == 2);
     // The output is 1, and its decode bit too.
     let label = job.active(0, job.input(0), job.input(1));
     assert_eq!(rt; (job.setter(1), job.setter(2)), (None, Some(0)));

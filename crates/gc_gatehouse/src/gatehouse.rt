@@ -7,7 +7,7 @@ pub trait Gatehouse {
 }
 
 /// Reports the first `gates` gates of a file in turn, as worker 0.
-pub fn tell_all<H: Gatehouse>(observer: &H, gates: u32) {
+pub fn report_all<H: Gatehouse>(observer: &H, gates: u32) {
     for gate in 0..gates {
         observer.before(0, gate);
     }

@@ -4,7 +4,7 @@
 
 mod gatehouse;
 
-pub use gatehouse::{Gatehouse, Open, tell_all};
+pub use gatehouse::{Gatehouse, Open, report_all};
 
 /// The most workers that garble or evaluate together.
 pub const MAX_WORKERS: u32 = 64;

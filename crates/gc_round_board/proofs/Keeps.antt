@@ -21,7 +21,7 @@ use Rattle.gc_board.proofs.Sums.{total-append, total-set, term_le, terms_le, onl
 use Rattle.gc_rounds.proofs.Keeps.{beside, bank_small, inside_is, sole}
 use Rattle.gc_round_board.specs.Pairs.{is_pair, pairs, is_look, looked}
 use Rattle.gc_round_board.specs.Board.{at, stamp, state_of, low_of, high_of, round_now, in_hand, IsHandRight, Cell, Fits, Sound}
-use Rattle.gc_round_board.specs.Steps.{Tells, changed, learnt, after_state, after_half, after_claim, after_stored, after_done, state_loaded, low_loaded, high_loaded, claimed, half_stored, done_stored, settled}
+use Rattle.gc_round_board.specs.Steps.{Finds, changed, learnt, after_state, after_half, after_claim, after_stored, after_done, state_loaded, low_loaded, high_loaded, claimed, half_stored, done_stored, settled}
 use Rattle.gc_round_board.specs.declared.view.BoardView.{BoardView}
 use Rattle.gc_round_board.specs.declared.view.Hand.{Hand}
 use Rattle.gc_round_board.specs.declared.view.Hand.TheVariants.{Empty, Has}
@@ -319,9 +319,9 @@ module _ {J : Type 0} (gates : J → ℕ) (right : J → ℕ → ℕ → ℕ →
         → round_now s.words r ≡ r
     now_is s o at_id = ((o.0.fits id me.0 at_id).sees r inside).0
 
-    tells : (s : State S (View (BoardView J))) (g : ℕ) → Holds s → get_elem? s.views id ≡ some me.0
-        → Tells me.0 r g (state_of s.words r g)
-    tells s g o at_id = let c = o.1.cells r g in let e = now_is s o at_id in record {
+    finds : (s : State S (View (BoardView J))) (g : ℕ) → Holds s → get_elem? s.views id ≡ some me.0
+        → Finds me.0 r g (state_of s.words r g)
+    finds s g o at_id = let c = o.1.cells r g in let e = now_is s o at_id in record {
       state = c.state;
       round = omega (arith, c.round, e);
       known = λ more. let le = (o.1.fits id me.0 at_id).knows r g more in omega (arith, c.state, c.round, e);
@@ -356,8 +356,8 @@ module _ {J : Type 0} (gates : J → ℕ) (right : J → ℕ → ℕ → ℕ →
           (
             refl,
             λ k h stand e. let p = here g k h 0 (omega arith) stand (omega arith) in
-                subst (λ (x : ℕ × ℕ). Tells v x.0 x.1 found × (w ≡ after_state v x.0 x.1 found)) (λ i.
-                (p.0 i, p.1 i)) (tells s g o at_id, refl),
+                subst (λ (x : ℕ × ℕ). Finds v x.0 x.1 found × (w ≡ after_state v x.0 x.1 found)) (λ i.
+                (p.0 i, p.1 i)) (finds s g o at_id, refl),
           ),
         )
 
@@ -391,7 +391,7 @@ module _ {J : Type 0} (gates : J → ℕ) (right : J → ℕ → ℕ → ℕ →
               p.0 i,
               p.1 i,
               ours i,
-            )) ((o.1.cells r g).low ((tells s g o at_id).known (subst (λ (x : ℕ
+            )) ((o.1.cells r g).low ((finds s g o at_id).known (subst (λ (x : ℕ
             × ℕ). 0 < pairs x.0 x.1 me.0.inner.known) (λ i. (sym p.0 i, sym p.1 i)) known))),
       ),
     )
@@ -412,7 +412,7 @@ module _ {J : Type 0} (gates : J → ℕ) (right : J → ℕ → ℕ → ℕ →
               p.0 i,
               p.1 i,
               ours i,
-            )) ((o.1.cells r g).high ((tells s g o at_id).known (subst (λ (x : ℕ
+            )) ((o.1.cells r g).high ((finds s g o at_id).known (subst (λ (x : ℕ
             × ℕ). 0 < pairs x.0 x.1 me.0.inner.known) (λ i. (sym p.0 i, sym p.1 i)) known))),
       ),
     )
@@ -559,12 +559,12 @@ module _ {J : Type 0} (gates : J → ℕ) (right : J → ℕ → ℕ → ℕ →
           (
             refl,
             λ k h stand e. let p = here g k h 0 (omega arith) stand (omega arith) in
-                subst (λ (x : ℕ × ℕ). Tells v x.0 x.1 found × ((found ≡ old)
+                subst (λ (x : ℕ × ℕ). Finds v x.0 x.1 found × ((found ≡ old)
                 ⊎ (stamp x.0 0 < found)) × (w ≡ after_claim v x.0 x.1 old found)) (λ i. (
                   p.0 i,
                   p.1 i,
                 )) (
-                  tells s g o at_id,
+                  finds s g o at_id,
                   inl hit,
                   λ i. changed v (cond (sym (eq-eqb found old hit) i)
                       (Has r g 0) v.inner.hand) v.inner.made (cond (sym (ne_eqb found (stamp r 2)
@@ -592,12 +592,12 @@ module _ {J : Type 0} (gates : J → ℕ) (right : J → ℕ → ℕ → ℕ →
           (
             refl,
             λ k h stand e. let p = here g k h 0 (omega arith) stand (omega arith) in
-                subst (λ (x : ℕ × ℕ). Tells v x.0 x.1 found × ((found ≡ old)
+                subst (λ (x : ℕ × ℕ). Finds v x.0 x.1 found × ((found ≡ old)
                 ⊎ (stamp x.0 0 < found)) × (w ≡ after_claim v x.0 x.1 old found)) (λ i. (
                   p.0 i,
                   p.1 i,
                 )) (
-                  tells s g o at_id,
+                  finds s g o at_id,
                   inr later,
                   λ i. changed v (cond (sym (ne_eqb found old ne) i)
                       (Has r g 0) v.inner.hand) v.inner.made

@@ -74,7 +74,7 @@ module _ {J : Type 0} where
   -- What the word found at the state of gate g means to a seat inside round r: it is one of the three states, of the
   -- round or of an earlier one; a known gate is found DONE in the round; and a view that stands for all seats has the
   -- gate in hand where it is found IN_HAND in the round, and made it where it is found DONE in it.
-  pub record Tells (v : View (BoardView J)) (r g found : ℕ) : Type 0 where
+  pub record Finds (v : View (BoardView J)) (r g found : ℕ) : Type 0 where
     pub state : found % ROUND < 3
     pub round : round_of found ≤ r
     pub known : 0 < pairs r g v.inner.known → found ≡ stamp r DONE
@@ -87,7 +87,7 @@ module _ {J : Type 0} where
     abbrev pub state_loaded : Step S → Me S (View (BoardView J)) → ℕ → Me S (View (BoardView J)) → Type 0
     state_loaded st m found m' =
         (m'.1 ≡ m.1) × ((r g : ℕ) → m.0.stand ≡ Inside r → st.word ≡ at r g
-        → Tells m.0 r g found × (m'.0 ≡ after_state m.0 r g found))
+        → Finds m.0 r g found × (m'.0 ≡ after_state m.0 r g found))
 
     -- a load of the low half of a gate: that of a known gate is right in the round
     abbrev pub low_loaded : (J → ℕ → ℕ → ℕ → ℕ → Type 0) → Step S → Me S (View (BoardView J)) → ℕ
@@ -110,7 +110,7 @@ module _ {J : Type 0} where
     claimed st m found m' =
         (m'.1 ≡ m.1)
         × ((r g : ℕ) → m.0.stand ≡ Inside r → st.word ≡ at r g
-        → Tells m.0 r g found × ((found ≡ st.first) ⊎ (stamp r FREE < found))
+        → Finds m.0 r g found × ((found ≡ st.first) ⊎ (stamp r FREE < found))
         × (m'.0 ≡ after_claim m.0 r g st.first found))
 
     -- a store of a half of the gate in hand

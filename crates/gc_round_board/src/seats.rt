@@ -38,7 +38,7 @@ pub fn open_board<J: Work, A: Allocator + Copy>(
     open_table(alloc, key, 6 * gates as usize)
 }
 
-/// Tells a place that stands for all seats, by one load, that each gate was made at most once in each round.
+/// A place that stands for all seats learns, by one load, that each gate was made at most once in each round.
 pub fn settle<J: Work>(words: &Words<J>, place: &mut Place<J>)
     requires place { IsBoardPlace J.gates words.now.table_id words.now.key place.old }
     requires all { place.old.me.0.seats ≡ place.old.me.0.all }

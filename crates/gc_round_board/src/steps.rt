@@ -6,7 +6,7 @@ ghost use Rattle.gc_rounds.specs.Places.{IsSamePlace};
 ghost use Rattle.gc_round_board.specs.declared.view.Hand.TheVariants.{Empty, Has};
 ghost use Rattle.gc_round_board.specs.Pairs.{pairs, looked};
 ghost use Rattle.gc_round_board.specs.Board.{at, stamp};
-ghost use Rattle.gc_round_board.specs.Steps.{Tells, after_state, after_half, after_claim, after_stored, after_done};
+ghost use Rattle.gc_round_board.specs.Steps.{Finds, after_state, after_half, after_claim, after_stored, after_done};
 ghost use Rattle.gc_round_board.specs.Places.{IsPlaceAt};
 
 use crate::kinds::{Claim, LoadHigh, LoadLow, LoadState, StoreDone, StoreHalf};
@@ -43,7 +43,7 @@ pub fn load_state<J: Work>(words: &Words<J>, place: &mut Place<J>, round: u32, g
     requires { IsPlaceAt J.gates words.now.table_id words.now.key place.old round gate }
     ensures same { IsSamePlace place.old place.new }
     ensures view { place.new.me.0 ≡ after_state place.old.me.0 round gate result }
-    ensures tells { Tells place.old.me.0 round gate result }
+    ensures finds { Finds place.old.me.0 round gate result }
 {
     words.load::<LoadState>(place, index(round, gate))
 }
@@ -89,7 +89,7 @@ pub fn claim<J: Work>(
     requires free { old ≤ stamp round FREE }
     ensures same { IsSamePlace place.old place.new }
     ensures view { place.new.me.0 ≡ after_claim place.old.me.0 round gate old result }
-    ensures tells { Tells place.old.me.0 round gate result }
+    ensures finds { Finds place.old.me.0 round gate result }
     ensures found { (result ≡ old) ⊎ (stamp round FREE < result) }
 {
     words.compare_exchange::<Claim>(place, index(round, gate), old, state_word(round, IN_HAND))

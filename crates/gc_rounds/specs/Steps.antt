@@ -41,27 +41,27 @@ module _ {I : Type 0} where
 
   -- Each kind of step, of the seat before, the word found, and the seat after. None takes or gives a slot.
   module _ {S : Type 0} where
-    abbrev pub told : Me S (View I) → ℕ → Me S (View I) → View I → Type 0
-    told m found m' w = (m'.1 ≡ m.1) × (mark_of found < 2) × (m'.0 ≡ w)
+    abbrev pub viewed : Me S (View I) → ℕ → Me S (View I) → View I → Type 0
+    viewed m found m' w = (m'.1 ≡ m.1) × (mark_of found < 2) × (m'.0 ≡ w)
 
     -- an entry into round r counts the seat in
     abbrev pub entered : ℕ → table.Step S → Me S (View I) → ℕ → Me S (View I) → Type 0
     entered r st m found m' =
-        told m found m' (recorded m.0 (stand_after r found) (Enter st.word found))
+        viewed m found m' (recorded m.0 (stand_after r found) (Enter st.word found))
         × (m.0.seats ≡ m.0.all → IsOwn m.0 r found)
 
     -- a seat is taken out
     abbrev pub left : table.Step S → Me S (View I) → ℕ → Me S (View I) → Type 0
-    left st m found m' = told m found m' (recorded m.0 Outside (Leave st.word found))
+    left st m found m' = viewed m found m' (recorded m.0 Outside (Leave st.word found))
 
     -- a seat puts the mark on its bank
     abbrev pub sealed : table.Step S → Me S (View I) → ℕ → Me S (View I) → Type 0
-    sealed st m found m' = told m found m' (recorded m.0 m.0.stand (Seal st.word found))
+    sealed st m found m' = viewed m found m' (recorded m.0 m.0.stand (Seal st.word found))
 
     -- a seat tries to give a bank to its next round, and wins where it found the word that it expected
     abbrev pub tried : table.Step S → Me S (View I) → ℕ → Me S (View I) → Type 0
     tried st m found m' =
-        told m found m' (recorded m.0 m.0.stand (Reopen st.word found (found == st.first)))
+        viewed m found m' (recorded m.0 m.0.stand (Reopen st.word found (found == st.first)))
 
   -- the view at the opening, which stands for all seats
   abbrev pub starting : ℕ → ℕ → I → View I

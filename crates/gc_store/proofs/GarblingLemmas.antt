@@ -76,7 +76,7 @@ module _ (c : Netlist) (seed : List ℕ) (r : ℕ) (t : Tables) (kept : IsKept c
 
   no_label : (w : ℕ) → ¬ IsSet c w → (b : Bool) → kept.known w ≡ b
       → (if b then zero_label_of c seed w else 0) ≡ 0
-  no_label w not_set true known = absurd (not_set (set_of ((kept.tells_known w).0 known)))
+  no_label w not_set true known = absurd (not_set (set_of ((kept.marks_known w).0 known)))
     where
       set_of : IsKnown (content_of c seed t) w → IsSet c w
       set_of (inl input) = inl input

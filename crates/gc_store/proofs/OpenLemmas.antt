@@ -75,10 +75,10 @@ known_input n w input = grind (arith, nat_tests)
 not_known : (n w : ℕ) → n ≤ w → is_below n w ≡ false
 not_known n w past = grind (arith, nat_tests)
 
-tells_known : (c : Netlist) (seed : List ℕ) (w : ℕ) → (w < input_wires c) ⊎ (input_wires c ≤ w)
+marks_known : (c : Netlist) (seed : List ℕ) (w : ℕ) → (w < input_wires c) ⊎ (input_wires c ≤ w)
     → IsTrue (is_below (input_wires c) w) ↔ IsKnown (opened c seed) w
-tells_known c seed w (inl input) = (λ is. inl input, λ known. known_input (input_wires c) w input)
-tells_known c seed w (inr past) =
+marks_known c seed w (inl input) = (λ is. inl input, λ known. known_input (input_wires c) w input)
+marks_known c seed w (inr past) =
     (λ is. let e = not_known (input_wires c) w past in let z : ⊥ = cc in absurd z, back)
   where
     back : IsKnown (opened c seed) w → IsTrue (is_below (input_wires c) w)
@@ -144,7 +144,7 @@ module _ (c : Netlist) (lawful : IsLawful c) (seed firsts nexts : List ℕ) (lin
         marks = length-replicate (length c.gates) mark.Free;
         links = links;
         known = is_below (input_wires c);
-        tells_known = λ w. subst (Q w) (sym content) (tells_known c seed w (order w (input_wires c)));
+        marks_known = λ w. subst (Q w) (sym content) (marks_known c seed w (order w (input_wires c)));
         countdowns = are.count;
         counted = counts_unknown c countdowns are;
         zero_labels = fill_by_all (known_label c seed (is_below (input_wires c)))

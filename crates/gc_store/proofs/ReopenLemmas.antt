@@ -125,10 +125,10 @@ module _ (c : Netlist) (seed : List ℕ) (r : ℕ) (t : Tables) (kept : IsKept c
     marks = length-map t.marks freed ∙ kept.marks;
     links = kept.links;
     known = kept.known;
-    tells_known = λ w. (
+    marks_known = λ w. (
       λ is. subst (λ x. IsKnown x w) (sym content-reopen)
-          (known-reopen (content_of c seed t) w ((kept.tells_known w).0 is)),
-      λ known. (kept.tells_known w).1
+          (known-reopen (content_of c seed t) w ((kept.marks_known w).0 is)),
+      λ known. (kept.marks_known w).1
           (known-reopen_back (content_of c seed t) w (subst (λ x. IsKnown x w) content-reopen known)),
     );
     countdowns = kept.countdowns;

@@ -53,7 +53,7 @@ pub known_label_is : (c : Netlist) (seed : List ℕ) (r : ℕ) (t : Tables) → 
 known_label_is c seed r t kept w below known =
     ap (λ l. get_or l w 0) kept.zero_labels
     ∙ get_or-map-range_with_len (known_label c seed kept.known) 0 c.wires w w 0 below (omega arith)
-    ∙ ap (λ b. if b then zero_label_of c seed w else 0) ((kept.tells_known w).1 known)
+    ∙ ap (λ b. if b then zero_label_of c seed w else 0) ((kept.marks_known w).1 known)
 
 EachRead-both : (P Q R : ℕ → Type 0) (op : Operation) → ((w : ℕ) → P w → Q w → R w) → EachRead P op
     → EachRead Q op → EachRead R op
@@ -198,7 +198,7 @@ queued_ready c seed r t kept i ready =
       free = (mark_free c seed r t kept i within mark.Free
           (sym (get_or_from_slice_get t.marks i mark.Free mark.Free ready.0))).0 refl;
       reads = EachRead-map (λ w. IsTrue (kept.known w)) (IsKnown (content_of c seed t)) g.operation
-          (λ w. (kept.tells_known w).0) (each_known kept.known g.operation (omega (arith, none, zero_at)));
+          (λ w. (kept.marks_known w).0) (each_known kept.known g.operation (omega (arith, none, zero_at)));
     }
 
 -- and only there
@@ -212,7 +212,7 @@ ready_queued c seed r t kept i next =
     let free = (mark_free c seed r t kept i within (get_or t.marks i mark.Free) read).1 next.free in
     let none = none_unknown kept.known next.gate.operation
     (EachRead-map (IsKnown (content_of c seed t)) (λ w. IsTrue (kept.known w)) next.gate.operation
-    (λ w. (kept.tells_known w).1) next.reads) in (
+    (λ w. (kept.marks_known w).1) next.reads) in (
       slice_get-get_or t.marks i mark.Free inside ∙ ap Some free,
       slice_get-get_or t.countdowns i 0 counted
           ∙ ap Some (kept.counted i next.gate next.at ∙ none),
@@ -297,12 +297,12 @@ pub keep_sealed : (c : Netlist) (seed : List ℕ) (r : ℕ) (t : Tables) (now : 
     → IsOwnTask now sealed → slice_get c.gates task.gate ≡ Some g
     → IsFinishedQueue c t task.gate g.set q
     → label ≡ sealed_zero_label sealed → pair ≡ sealed_rows sealed → KeepsSealed c seed r t now q task sealed g label pair
-keep_sealed c seed r t now q task sealed g label pair same kept told claimed owned at queue label_is pair_is =
+keep_sealed c seed r t now q task sealed g label pair same kept is_sealed claimed owned at queue label_is pair_is =
     let P : Content → Type 0 = λ x. IsClaimed x sealed.gate in
     let Q : Content → Type 0 = λ x. IsOwnTask x sealed in
     let claimed' = subst P (sym same) claimed in
     let own' = subst Q (sym same) owned in
-    let at' : slice_get c.gates sealed.gate ≡ Some g = ap (λ (x : Task). slice_get c.gates x.gate) (sym told) ∙ at in
+    let at' : slice_get c.gates sealed.gate ≡ Some g = ap (λ (x : Task). slice_get c.gates x.gate) (sym is_sealed) ∙ at in
     let gates : own'.gate ≡ g = (let a = own'.at in cc) in
     let is : sealed ≡ task_of c seed sealed.gate g = own'.same ∙ ap (task_of c seed sealed.gate) gates in
     let i : ℕ = sealed.gate in
@@ -317,27 +317,27 @@ keep_sealed c seed r t now q task sealed g label pair same kept told claimed own
     (sealed_rows sealed) in
     let there : S now = subst S same (subst R (sym is) made) in
     let marks : q.marks ≡ set t.marks i mark.Finished =
-    queue.marks ∙ ap (λ (x : Task). set t.marks x.gate mark.Finished) told in
+    queue.marks ∙ ap (λ (x : Task). set t.marks x.gate mark.Finished) is_sealed in
     let W : List Mark → Type 0 = λ x. KeepsSealed c seed r t now (record { marks = x; countdowns = q.countdowns })
     sealed sealed g (sealed_zero_label sealed) (sealed_rows sealed) in
     let queued : W q.marks = subst W (sym marks) there in
     let T : Task → Type 0 = λ x. KeepsSealed c seed r t now q x sealed g (sealed_zero_label sealed) (sealed_rows sealed) in
     let U : ℕ → Type 0 = λ x. KeepsSealed c seed r t now q task sealed g x (sealed_rows sealed) in
     let V : Option RowPair → Type 0 = λ x. KeepsSealed c seed r t now q task sealed g label x in
-    subst V (sym pair_is) (subst U (sym label_is) (subst T (sym told) queued))
+    subst V (sym pair_is) (subst U (sym label_is) (subst T (sym is_sealed) queued))
 
 -- an AND gate's number is a place of the table of rows
 pub number_within : (c : Netlist) (seed : List ℕ) (r : ℕ) (t : Tables) (now : Content) (task sealed : Task)
     (pair : RowPair) → content_of c seed t ≡ now → IsKept c seed r t
     → task ≡ sealed → IsOwnTask now sealed → Some pair ≡ sealed_rows sealed → task.and_number < length t.rows
-number_within c seed r t now task sealed pair same kept told owned pair_is =
+number_within c seed r t now task sealed pair same kept is_sealed owned pair_is =
     let Q : Content → Type 0 = λ x. IsOwnTask x sealed in
     let own' = subst Q (sym same) owned in
     let alone : true ≡ is_and own'.gate.operation =
     ap is_some pair_is ∙ ap (λ (x : Task). is_some (sealed_rows x)) own'.same
     ∙ is_some-gate_rows _ _ _ _ own'.gate.operation in
     let less = and_number-lt c sealed.gate own'.gate own'.at (sym alone) in
-    let number = ap (λ (x : Task). x.and_number) told ∙ ap (λ (x : Task). x.and_number) own'.same in
+    let number = ap (λ (x : Task). x.and_number) is_sealed ∙ ap (λ (x : Task). x.and_number) own'.same in
     let count = kept.rows in omega (arith, less, number, count)
 
 -- the queue once the gate is marked as finished, and the gates that read its wire are counted down
@@ -354,12 +354,12 @@ finished_queue_is c t i w marked q is marks count counted = record {
 }
 
 module _ (c : Netlist) (seed : List ℕ) (r : ℕ) (t : Tables) (now : Content) (same : content_of c seed t ≡ now)
-    (kept : IsKept c seed r t) (task sealed : Task) (told : task ≡ sealed) (claimed : IsClaimed now sealed.gate) where
+    (kept : IsKept c seed r t) (task sealed : Task) (is_sealed : task ≡ sealed) (claimed : IsClaimed now sealed.gate) where
   -- the task's gate has a claimed mark
   pub claimed_mark : slice_get t.marks task.gate ≡ Some mark.Claimed
   claimed_mark =
       let P : Task → Type 0 = λ x. slice_get t.marks x.gate ≡ Some mark.Claimed in
-      subst P (sym told) ((claimed_is c seed r t now sealed.gate same kept).1 claimed)
+      subst P (sym is_sealed) ((claimed_is c seed r t now sealed.gate same kept).1 claimed)
 
   -- and no countdown is less than its gate's reads of the wire that the task's gate sets
   pub counts_fit : (g : Gate) (marked : Standing) → slice_get c.gates task.gate ≡ Some g

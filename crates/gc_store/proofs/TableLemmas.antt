@@ -188,9 +188,9 @@ module _ (c : Netlist) (seed : List ℕ) (r : ℕ) (t : Tables) (kept : IsKept c
     marks = length-set t.marks i mark.Claimed ∙ kept.marks;
     links = kept.links;
     known = kept.known;
-    tells_known = λ w. (
-      λ is. subst (λ x. IsKnown x w) (sym content-claim) (known-claim s i next w ((kept.tells_known w).0 is)),
-      λ known. (kept.tells_known w).1 (known-claim_back s i next w (subst (λ x. IsKnown x w) content-claim known)),
+    marks_known = λ w. (
+      λ is. subst (λ x. IsKnown x w) (sym content-claim) (known-claim s i next w ((kept.marks_known w).0 is)),
+      λ known. (kept.marks_known w).1 (known-claim_back s i next w (subst (λ x. IsKnown x w) content-claim known)),
     );
     countdowns = kept.countdowns;
     counted = kept.counted;
@@ -296,8 +296,8 @@ module _ (c : Netlist) (seed : List ℕ) (r : ℕ) (t : Tables) (kept : IsKept c
   abbrev known' : ℕ → Bool
   known' = with_known kept.known g.set
 
-  tells_known-finish : (w : ℕ) → IsTrue (known' w) ↔ IsKnown (with_sealed s' own) w
-  tells_known-finish w =
+  marks_known-finish : (w : ℕ) → IsTrue (known' w) ↔ IsKnown (with_sealed s' own) w
+  marks_known-finish w =
       elim (cases_eq w g.set) [
         | inl e ↦ (
           λ _. subst (λ x. IsKnown (with_sealed s' own) x) (sym e) (known-finish_set s' kept.lawful i g at claimed),
@@ -305,9 +305,9 @@ module _ (c : Netlist) (seed : List ℕ) (r : ℕ) (t : Tables) (kept : IsKept c
         )
         | inr other ↦ (
           λ is. known-finish s' kept.lawful i g at claimed w
-              ((kept.tells_known w).0 (sym (with_known-other kept.known w g.set other) ∙ is)),
+              ((kept.marks_known w).0 (sym (with_known-other kept.known w g.set other) ∙ is)),
           λ known. with_known-other kept.known w g.set other
-              ∙ (kept.tells_known w).1 (known-finish_back s' kept.lawful i g at claimed w other known),
+              ∙ (kept.marks_known w).1 (known-finish_back s' kept.lawful i g at claimed w other known),
         )
       ]
 
@@ -324,7 +324,7 @@ module _ (c : Netlist) (seed : List ℕ) (r : ℕ) (t : Tables) (kept : IsKept c
       ]
 
       by_test : (b : Bool) → kept.known g.set ≡ b → kept.known g.set ≡ false
-      by_test true is = absurd (no ((kept.tells_known g.set).0 is))
+      by_test true is = absurd (no ((kept.marks_known g.set).0 is))
       by_test false is = is
 
   zero_labels-finish : set t.zero_labels g.set (sealed_zero_label own) ≡ map
@@ -356,7 +356,7 @@ module _ (c : Netlist) (seed : List ℕ) (r : ℕ) (t : Tables) (kept : IsKept c
     marks = length-set t.marks i mark.Finished ∙ kept.marks;
     links = kept.links;
     known = known';
-    tells_known = λ w. subst (λ x. IsTrue (known' w) ↔ IsKnown x w) (sym content-finish) (tells_known-finish w);
+    marks_known = λ w. subst (λ x. IsTrue (known' w) ↔ IsKnown x w) (sym content-finish) (marks_known-finish w);
     countdowns = count ∙ kept.countdowns;
     counted = λ j h at_j.
         let less = unknown_reads-less kept.known g.set set_unknown h.operation in

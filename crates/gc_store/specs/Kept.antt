@@ -82,7 +82,7 @@ pub record IsKept (c : Netlist) (seed : List ℕ) (offset : ℕ) (t : Tables) : 
   pub links : IsLinked c t.firsts t.nexts
   -- whether each wire is known
   pub known : ℕ → Bool
-  pub tells_known : (w : ℕ) → IsTrue (known w) ↔ IsKnown (content_of c seed t) w
+  pub marks_known : (w : ℕ) → IsTrue (known w) ↔ IsKnown (content_of c seed t) w
   -- A gate's countdown is the number of its reads of wires that are not known.
   pub countdowns : length t.countdowns ≡ length c.gates
   pub counted : (i : ℕ) (g : Gate) → slice_get c.gates i ≡ Some g

@@ -144,19 +144,19 @@ hands_none v g k = nothing (left_of v) (omega (arith, g.conserved (λ _. 1), k.w
 -- what an account with all parts says of the tasks in the pool
 pub counted : (v w : PoolAccount) (count : ℕ) → w ≡ v → w.parts ≡ all_parts
     → (tasks : List Task) × (length tasks ≡ count) × Knows v tasks → IsGathered w
-counted v w count same all told = gathered w all (told.0, subst (λ (u : PoolAccount). Knows u told.0) (sym same) told.2)
+counted v w count same all knows = gathered w all (knows.0, subst (λ (u : PoolAccount). Knows u knows.0) (sym same) knows.2)
 
 -- how `next` changes the account
-abbrev pub Tells : PoolAccount → PoolAccount → Option Task → Type 0
-Tells v w r = MatchOption r ((w ≡ v) × Knows v [])
+abbrev pub HandsOut : PoolAccount → PoolAccount → Option Task → Type 0
+HandsOut v w r = MatchOption r ((w ≡ v) × Knows v [])
     (λ t. (w ≡ account v.parts v.pushed (v.popped ++ t ∷ []) v.stolen) × KnowsSome w)
 
-pub still_gathered : (v w : PoolAccount) (r : Option Task) → IsGathered v → Tells v w r → IsGathered w
-still_gathered v w None g told = subst IsGathered (sym told.0) g
-still_gathered v w (Some task) g told =
-    gathered w (ap (λ (u : PoolAccount). u.parts) told.0 ∙ g.parts) told.1
+pub still_gathered : (v w : PoolAccount) (r : Option Task) → IsGathered v → HandsOut v w r → IsGathered w
+still_gathered v w None g handed = subst IsGathered (sym handed.0) g
+still_gathered v w (Some task) g handed =
+    gathered w (ap (λ (u : PoolAccount). u.parts) handed.0 ∙ g.parts) handed.1
 
-pub takes_one : (v w : PoolAccount) (r : Option Task) → IsGathered v → Tells v w r
+pub takes_one : (v w : PoolAccount) (r : Option Task) → IsGathered v → HandsOut v w r
     → MatchOption r (left_of v ≡ []) (λ t. IsTaken t (left_of v) (left_of w))
-takes_one v w None g told = hands_none v g told.1
-takes_one v w (Some task) g told = hands_one v w task g told.0 told.1
+takes_one v w None g handed = hands_none v g handed.1
+takes_one v w (Some task) g handed = hands_one v w task g handed.0 handed.1

@@ -13,7 +13,7 @@ use crate::sweep::sweep;
 use crate::worker::{Member, work};
 use crate::workers::{Workers, open_workers};
 use gc_circuit::{Circuit, Memory};
-use gc_gatehouse::{Gatehouse, MAX_WORKERS, tell_all};
+use gc_gatehouse::{Gatehouse, MAX_WORKERS, report_all};
 use gc_half::{Garbling, garble_one_thread};
 use gc_label::Seed;
 use gc_layers::{Way, garble_by_layers, way_of};
@@ -130,7 +130,7 @@ fn garble_alone<A: Allocator + Copy, C: Allocator, H: Gatehouse>(
 ) -> Result<Garbling<A>, Memory>
     ensures { IfOk result (IsGarbled circuit.now seed.now) }
 {
-    tell_all(observer, circuit.gates());
+    report_all(observer, circuit.gates());
     garble_one_thread(alloc, circuit, seed)
 }
 

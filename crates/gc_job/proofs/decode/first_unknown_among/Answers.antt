@@ -23,14 +23,14 @@ returns-then-not-is_entry-clause-some c =
       label = c.index-labels-i.result;
       at = slice_get_read c.args.labels.now (length c.args.labels.now) c.loop-i.i c.index-labels-i.result refl
           (omega arith) c.index-labels-i.is;
-      unknown = λ known. let told = c.if-not-is_entry.true in let yes = is.1 known in cc;
+      unknown = λ known. let differs = c.if-not-is_entry.true in let yes = is.1 known in cc;
       before = c.loop-i.invariant before;
     }
 
 pub loop-i-preserved : goal.loop-i-preserved
 loop-i-preserved c =
     let is = compared (goal.at.loop-i-preserved c).After-is_entry in
-    let told = c.if-not-is_entry.false in
+    let agrees = c.if-not-is_entry.false in
     let yes : IsTrue c.is_entry.result = search rules in
     λ before.
     recognised_more c.args.and_gates c.args.entries.now c.args.labels.now c.loop-i.i c.index-labels-i.result

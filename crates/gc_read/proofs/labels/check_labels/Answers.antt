@@ -3,7 +3,7 @@ use Rattle.gc_read.specs.FileFault.{bad_label_magic, too_many_labels, labels_tra
 use Rattle.gc_read.proofs.labels.check_labels.Goals as goal
 
 pub returns-then-not-is_begun : goal.returns-then-not-is_begun
-returns-then-not-is_begun c = bad_label_magic (λ is. let told = c.if-not-is_begun.ensures.1 is in cc)
+returns-then-not-is_begun c = bad_label_magic (λ is. let begun = c.if-not-is_begun.ensures.1 is in cc)
 
 pub returns-then-bytes-lt-HEADER : goal.returns-then-bytes-lt-HEADER
 returns-then-bytes-lt-HEADER c = header_truncated (c.if-not-is_begun.ensures.0 refl) (omega arith)

@@ -59,7 +59,7 @@ deallocate_spec 𝓤 𝓛 𝓜 𝓡 wired B laws g d e bound _ =
     )
     (key.name instance) (inst_fn instance code.function) (code.unfolded 𝓤 𝓛.H 𝓜 𝓡 wired (B, tt) d e)
     (λ κs. (shr_vals, (rawptr_vals, (uint_vals w64, (uint_vals w64, tt)))))
-    (λ κs. ((λ r vs told. told.0), (rawptr_Tells, (uint_Tells w64, (uint_Tells w64, tt)))))
+    (λ κs. ((λ r vs facts. facts.0), (rawptr_Tells, (uint_Tells w64, (uint_Tells w64, tt)))))
     (λ κs qs bounds a τ are.
     let y : (walk_of 𝓛 T stayed c).Ghost = (
       (

@@ -11,8 +11,8 @@ compare_exchange-requires g c = let p = c.requires.place in (
       (claims g.J.Work.gates g.J.Work.right _ _ _ _ _ c.args.place.now.me p.place.about p.place.seated.whole c.args.round p.inside c.args.gate c.args.old c.requires.empty c.requires.seated p.exists c.requires.looked c.requires.free),
 )
 
-pub returns-clause-tells : goal.returns-clause-tells
-returns-clause-tells g c =
+pub returns-clause-finds : goal.returns-clause-finds
+returns-clause-finds g c =
     (c.compare_exchange.ensures.2.1 c.args.round c.args.gate c.requires.place.inside c.index.ensures).0
 
 pub returns-clause-found : goal.returns-clause-found

@@ -10,5 +10,5 @@ load-requires g c = let p = c.requires in (
   rw c.index.ensures (loads_state g.J.Work.gates g.J.Work.right _ _ _ _ _ _ p.place.about p.place.seated.whole c.args.round p.inside c.args.gate),
 )
 
-pub returns-clause-tells : goal.returns-clause-tells
-returns-clause-tells g c = (c.load.ensures.2.1 c.args.round c.args.gate c.requires.inside c.index.ensures).0
+pub returns-clause-finds : goal.returns-clause-finds
+returns-clause-finds g c = (c.load.ensures.2.1 c.args.round c.args.gate c.requires.inside c.index.ensures).0

@@ -14,7 +14,7 @@ returns-then-found-held-clause-answer g c =
     let found = c.claim-found.result in
     let e = c.claim-found.ensures in (
       (
-        unknown (pairs r gate old.inner.known) found (stamp r 2) e.tells.known
+        unknown (pairs r gate old.inner.known) found (stamp r 2) e.finds.known
             (λ two. c.if-found-done.false (omega (arith, two, c.done.ensures))),
         subst (Saw old new (at r gate)) (c.if-found-held.true ∙ c.held.ensures)
             (saw_claim old new (at r gate) found (ap (λ (x : Seen). x.steps) e.view)),
@@ -38,7 +38,7 @@ returns-clause-answer g c =
       (
         c.requires.label,
         known,
-        unknown (pairs r gate old.inner.known) found (stamp r 2) e.tells.known
+        unknown (pairs r gate old.inner.known) found (stamp r 2) e.finds.known
             (λ two. c.if-found-done.false (omega (arith, two, c.done.ensures))),
       ),
       ran,

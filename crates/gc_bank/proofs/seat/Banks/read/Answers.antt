@@ -57,16 +57,16 @@ returns-else-load_state-done-clause-none g c =
     let new = c.load_state.new.place.me.0 in
     let gate = c.in-Some.gate in
     let r = c.args.round in
-    let tells = c.load_state.ensures.tells in
+    let finds = c.load_state.ensures.finds in
     let found = c.load_state.result in
     let ne : found ≡ stamp r 2 → ⊥ =
     λ e. c.if-load_state-done.false (omega (arith, e, c.done.ensures)) in
     lacks_undone c.args.job.now r c.args.wire gate old new c.circuit.ensures.whole.lawful
     (omega (arith, c.input_wires.ensures, ap input_wires c.circuit.ensures.circuit))
     (subst (λ (x : Netlist). IsSetBy x c.args.wire gate) (sym c.requires.job.1) c.in-Some.ensures.some)
-    (unknown (pairs r gate old.inner.known) found (stamp r 2) tells.known ne) (
+    (unknown (pairs r gate old.inner.known) found (stamp r 2) finds.known ne) (
       found,
-      undone r found tells.state ne tells.round,
+      undone r found finds.state ne finds.round,
       saw_load old new (at r gate) found (ap (λ (x : Seen). x.steps) c.load_state.ensures.view),
     )
 
@@ -78,6 +78,6 @@ returns-else-load_state-done-clause-alone g c = λ alone h set.
     (sym c.requires.job.1) c.in-Some.ensures.some in
     subst (λ x. pairs r x c.args.place.now.me.0.inner.made ≡ 0)
     (set_once c.args.job.now.circuit c.args.wire gate h c.circuit.ensures.whole.lawful by set)
-    ((c.load_state.ensures.tells.alone alone).1
+    ((c.load_state.ensures.finds.alone alone).1
     ∙ only_other (stamp r 2) c.load_state.result
     (λ e. c.if-load_state-done.false (omega (arith, e, c.done.ensures))))

@@ -16,7 +16,7 @@ returns-then-free-held-clause-err g c =
     let e = c.load_state-free.ensures in (
       refl,
       (
-        unknown (pairs r gate old.inner.known) found (stamp r 2) e.tells.known
+        unknown (pairs r gate old.inner.known) found (stamp r 2) e.finds.known
             (λ two. c.if-free-done.false (omega (arith, two, c.done.ensures))),
         subst (Saw old new (at r gate)) (c.if-free-held.true ∙ c.held.ensures)
             (saw_load old new (at r gate) found (ap (λ (x : Seen). x.steps) e.view)),
@@ -53,7 +53,7 @@ returns-in-Err-clause-err g c =
     let err = c.in-Err.ensures.err in (
       refl,
       (
-        unknown (pairs r gate old.inner.known) found (stamp r 2) c.load_state-free.ensures.tells.known
+        unknown (pairs r gate old.inner.known) found (stamp r 2) c.load_state-free.ensures.finds.known
             (λ two. c.if-free-done.false (omega (arith, two, c.done.ensures))),
         err.0,
         lacks_then c.args.job.now r c.in-Err.wire 1 old seen read first err.1,
@@ -68,7 +68,7 @@ returns-in-Ok-clause-alone g c = λ alone.
     let seen = c.load_state-free.new.place.me.0 in
     let found = c.load_state-free.result in
     let first : Ran old seen old.inner.made 1 = search rules in (
-      (c.load_state-free.ensures.tells.alone alone).1
+      (c.load_state-free.ensures.finds.alone alone).1
           ∙ only_other (stamp r 2) found (λ e. c.if-free-done.false (omega (arith, e, c.done.ensures))),
       reads_back c.args.job.now r gate 1 old seen first
           (c.in-Ok.ensures.alone (alone_later old seen 1 first alone)),
@@ -82,7 +82,7 @@ returns-in-Err-clause-alone g c = λ alone.
     let seen = c.load_state-free.new.place.me.0 in
     let found = c.load_state-free.result in
     let first : Ran old seen old.inner.made 1 = search rules in (
-      (c.load_state-free.ensures.tells.alone alone).1
+      (c.load_state-free.ensures.finds.alone alone).1
           ∙ only_other (stamp r 2) found (λ e. c.if-free-done.false (omega (arith, e, c.done.ensures))),
       lacking_back c.args.job.now r gate 1 c.in-Err.wire old seen first
           (c.in-Err.ensures.alone (alone_later old seen 1 first alone)),

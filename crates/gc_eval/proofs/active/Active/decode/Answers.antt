@@ -16,41 +16,41 @@ pub decode-requires : goal.decode-requires
 decode-requires g c =
     let self = c.args.self.now in
     let job = self.job.now in
-    let told = subst (λ o. MatchOption o (LacksOutput self)
+    let right = subst (λ o. MatchOption o (LacksOutput self)
     (λ (v : Vec _ _). (v.items ≡ on_outputs job.circuit (active job))
     × HasOutputs self)) c.in-Some.is c.in_ok-labels.ensures in
     length-outputs job.circuit c.circuit.ensures.whole.lawful (active job) c.deref.result.now
-    (c.deref.ensures.value ∙ told.0)
+    (c.deref.ensures.value ∙ right.0)
 
 pub returns-in-Ok-clause-ok : goal.returns-in-Ok-clause-ok
 returns-in-Ok-clause-ok g c =
     let self = c.args.self.now in
     let job = self.job.now in
-    let told = subst (λ o. MatchOption o (LacksOutput self)
+    let right = subst (λ o. MatchOption o (LacksOutput self)
     (λ (v : Vec _ _). (v.items ≡ on_outputs job.circuit (active job))
     × HasOutputs self)) c.in-Some.is c.in_ok-labels.ensures in (
       evaluated_outputs job c.deref.result.now (Ok c.in-Ok.bits.items) c.circuit.ensures.whole
-          (c.deref.ensures.value ∙ told.0)
+          (c.deref.ensures.value ∙ right.0)
           c.in-Ok.ensures,
-      told.1,
+      right.1,
     )
 
 pub returns-clause-err : goal.returns-clause-err
 returns-clause-err g c =
     let self = c.args.self.now in
     let job = self.job.now in
-    let told = subst (λ o. MatchOption o (LacksOutput self)
+    let right = subst (λ o. MatchOption o (LacksOutput self)
     (λ (v : Vec _ _). (v.items ≡ on_outputs job.circuit (active job))
     × HasOutputs self)) c.in-Some.is c.in_ok-labels.ensures in
     evaluated_outputs job c.deref.result.now (Err c.in-Err.fault) c.circuit.ensures.whole
-    (c.deref.ensures.value ∙ told.0)
+    (c.deref.ensures.value ∙ right.0)
     c.in-Err.ensures
 
 pub returns-clause-recognised : goal.returns-clause-recognised
 returns-clause-recognised g c _ =
     let self = c.args.self.now in
     let job = self.job.now in
-    let told = subst (λ o. MatchOption o (LacksOutput self)
+    let right = subst (λ o. MatchOption o (LacksOutput self)
     (λ (v : Vec _ _). (v.items ≡ on_outputs job.circuit (active job))
     × HasOutputs self)) c.in-Some.is c.in_ok-labels.ensures in
-    told.1
+    right.1

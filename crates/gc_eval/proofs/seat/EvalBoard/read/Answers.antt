@@ -81,7 +81,7 @@ returns-else-load_state-eq-DONE-clause-none g c =
     (omega (arith, inputs))
     (subst (λ (x : Netlist). IsSetBy x c.args.wire gate) wired c.in-Some.ensures.some)
     (unknown (times gate old.known) c.load_state.result
-    (c.load_state.ensures.tells gate refl).0 c.if-load_state-eq-DONE.false)
+    (c.load_state.ensures.finds gate refl).0 c.if-load_state-eq-DONE.false)
     (saw_undone old new gate c.load_state.result
     (ap (λ (v : View JobParts). v.steps) c.load_state.ensures.view)
     c.load_state.ensures.found c.if-load_state-eq-DONE.false)
@@ -97,5 +97,5 @@ returns-else-load_state-eq-DONE-clause-alone g c = λ alone h set.
     let lawful = subst (λ (j : JobParts). IsLawful j.circuit) same c.circuit.ensures.whole.lawful in
     subst (λ x. times x c.args.place.now.me.0.made ≡ 0)
     (set_once job.circuit c.args.wire gate h lawful by set)
-    (((c.load_state.ensures.tells gate refl).1 alone).1
+    (((c.load_state.ensures.finds gate refl).1 alone).1
     ∙ only_other 2 c.load_state.result (λ e. c.if-load_state-eq-DONE.false (sym e)))

@@ -13,7 +13,7 @@ returns-then-found-eq-IN_HAND-clause-err g c = let old = c.args.place.now.me.0 i
     c.load_state-found.new.place.me.0 in let e = c.load_state-found.ensures in (
       (
         unknown (times c.args.gate old.known) c.load_state-found.result
-            (e.tells c.args.gate refl).0 c.if-found-eq-DONE.false,
+            (e.finds c.args.gate refl).0 c.if-found-eq-DONE.false,
         subst (Saw old new (3 * c.args.gate)) c.if-found-eq-IN_HAND.true
             (saw_step old new (3 * c.args.gate) c.load_state-found.result
             (ap (λ (v : View JobParts). v.steps) e.view)),
@@ -43,7 +43,7 @@ returns-in-Err-clause-err g c = let old = c.args.place.now.me.0 in let seen =
     let err = c.in-Err.ensures.err in (
       (
         unknown (times c.args.gate old.known) c.load_state-found.result
-            (c.load_state-found.ensures.tells c.args.gate refl).0 c.if-found-eq-DONE.false,
+            (c.load_state-found.ensures.finds c.args.gate refl).0 c.if-found-eq-DONE.false,
         err.0,
         lacks_then f c.in-Err.wire 1 old.made old seen read first err.1,
       ),
@@ -52,7 +52,7 @@ returns-in-Err-clause-err g c = let old = c.args.place.now.me.0 in let seen =
 
 pub returns-then-found-eq-IN_HAND-clause-alone : goal.returns-then-found-eq-IN_HAND-clause-alone
 returns-then-found-eq-IN_HAND-clause-alone g c = λ alone. let g = c.args.gate in
-    let t = (c.load_state-found.ensures.tells g refl).1 alone in
+    let t = (c.load_state-found.ensures.finds g refl).1 alone in
     absurd (omega (
       arith,
       t.0,
@@ -66,7 +66,7 @@ returns-in-Ok-clause-alone g c = λ alone. let f = c.args.self.now.table.shared.
     let g = c.args.gate in let old = c.args.place.now.me.0 in let seen =
     c.load_state-found.new.place.me.0 in
     let first : Ran old seen old.made 1 = search rules in
-    let t = (c.load_state-found.ensures.tells g refl).1 alone in (
+    let t = (c.load_state-found.ensures.finds g refl).1 alone in (
       t.1 ∙ only_other 2 c.load_state-found.result (λ e. c.if-found-eq-DONE.false (sym e)),
       reads_back f g 1 old seen first (c.in-Ok.ensures.alone (alone_later old seen old.made 1 first alone)),
     )
@@ -76,7 +76,7 @@ returns-in-Err-clause-alone g c = λ alone. let f = c.args.self.now.table.shared
     let g = c.args.gate in let old = c.args.place.now.me.0 in let seen =
     c.load_state-found.new.place.me.0 in
     let first : Ran old seen old.made 1 = search rules in
-    let t = (c.load_state-found.ensures.tells g refl).1 alone in (
+    let t = (c.load_state-found.ensures.finds g refl).1 alone in (
       t.1 ∙ only_other 2 c.load_state-found.result (λ e. c.if-found-eq-DONE.false (sym e)),
       lacking_back f g 1 c.in-Err.wire old seen first
           (c.in-Err.ensures.alone (alone_later old seen old.made 1 first alone)),

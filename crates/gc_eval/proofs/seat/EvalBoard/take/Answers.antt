@@ -11,7 +11,7 @@ returns-then-found-eq-IN_HAND-clause-some g c = let old = c.args.place.now.me.0 
     c.claim-found.new.place.me.0 in let e = c.claim-found.ensures in (
       (
         unknown (times c.args.gate old.known) c.claim-found.result
-            (e.tells c.args.gate refl).0 c.if-found-eq-DONE.false,
+            (e.finds c.args.gate refl).0 c.if-found-eq-DONE.false,
         subst (Saw old new (3 * c.args.gate)) c.if-found-eq-IN_HAND.true
             (saw_step old new (3 * c.args.gate) c.claim-found.result
             (ap (λ (v : View JobParts). v.steps) e.view)),

@@ -14,7 +14,7 @@ returns-then-not-has_counts-clause-err g c = λ _. other_counts
     (sym c.digest.ensures ∙ same_digest c.digest.result c.args.digest.now c.ne.result c.ne.ensures c.if-ne.false
     ∙ c.requires)
     (λ counts.
-    let fits = c.has_counts.ensures.1 counts in let told = c.if-not-has_counts.true in cc)
+    let fits = c.has_counts.ensures.1 counts in let lacks = c.if-not-has_counts.true in cc)
 
 pub returns-in_err-inputs-clause-err : goal.returns-in_err-inputs-clause-err
 returns-in_err-inputs-clause-err g c =

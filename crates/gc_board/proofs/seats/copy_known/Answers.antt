@@ -2,7 +2,7 @@ use Rattle.std.proofs.Common.{ℕ, arith, ap, ◌∙◌}
 use Rattle.atomic_table.specs.Table.{Me}
 use Rattle.gc_board.specs.declared.rule.View.{View}
 use Rattle.gc_board.proofs.Seating.{notes, merges}
-use Rattle.gc_board.proofs.seats.tell_place.Goals as goal
+use Rattle.gc_board.proofs.seats.copy_known.Goals as goal
 
 pub split_seat-note-requires : goal.split_seat-note-requires
 split_seat-note-requires g c = let p = c.requires.from in (
