@@ -113,8 +113,8 @@ fn audit_parts<A: Allocator, B: Allocator, C: Allocator>(
 }
 
 /// Garbles a circuit under a seed on one thread, and compares the parts of a garbled file that are counted, as
-/// [`audit_garbled`] does. Where their counts are right, each row pair is compared as it is made, and takes the place of
-/// the file's, so that garbling takes no memory for rows; else the file is let go before.
+/// [`audit_garbled`] does. Where their counts are right, each row pair is compared as it is made, and takes the place
+/// of the file's, so that garbling takes no memory for rows; else the file is let go before.
 pub fn garble_and_audit<A: Allocator + Copy, C: Allocator>(
     alloc: A,
     circuit: &Circuit<C>,

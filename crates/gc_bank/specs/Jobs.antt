@@ -15,13 +15,14 @@ AreOn c jobs n = (k : ℕ) (job : JobParts) → k < n → slice_get jobs k ≡ S
 -- The jobs' circuits are all equal.
 abbrev pub AreOnOneCircuit : List JobParts → Type 0
 AreOnOneCircuit jobs =
-    (i k : ℕ) (a b : JobParts) → slice_get jobs i ≡ Some a → slice_get jobs k ≡ Some b → a.circuit ≡ b.circuit
+    (i k : ℕ) (a b : JobParts) → slice_get jobs i ≡ Some a → slice_get jobs k ≡ Some b
+    → a.circuit ≡ b.circuit
 
 -- There are as many lists of bits as jobs, and each job is evaluated to its own.
 pub record AreEvaluated (jobs : List JobParts) (outputs : List (List Bool)) : Type 0 where
   pub count : length outputs ≡ length jobs
-  pub each : (k : ℕ) (job : JobParts) (bits : List Bool) → slice_get jobs k ≡ Some job → slice_get outputs k ≡ Some bits
-      → IsEvaluated job (Ok bits)
+  pub each : (k : ℕ) (job : JobParts) (bits : List Bool) → slice_get jobs k ≡ Some job
+      → slice_get outputs k ≡ Some bits → IsEvaluated job (Ok bits)
 
 -- This output of a job is the first whose label is unknown, and all jobs before that are evaluated to bits.
 pub record IsFirstUnknownJob (jobs : List JobParts) (output : ℕ) : Type 0 where

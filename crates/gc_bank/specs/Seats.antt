@@ -16,12 +16,14 @@ module _ {A B C S : Type 0} (banks : Banks B A C) where
   -- The place is one of the banks' table, inside this round,
   abbrev pub IsPlaceIn : Seat S Seen → ℕ → Type 0
   IsPlaceIn place round =
-      IsPlaceInside gates_of banks.board.table.shared.table_id banks.board.table.shared.key place round
+      IsPlaceInside gates_of banks.board.table.shared.table_id banks.board.table.shared.key
+      place round
 
   -- and the banks have this gate.
   abbrev pub IsPlaceFor : Seat S Seen → ℕ → ℕ → Type 0
   IsPlaceFor place round gate =
-      IsPlaceAt gates_of banks.board.table.shared.table_id banks.board.table.shared.key place round gate
+      IsPlaceAt gates_of banks.board.table.shared.table_id banks.board.table.shared.key
+      place round gate
 
 -- The job is that of the round, on the circuit of all.
 abbrev pub IsJobOf : {A B C : Type 0} → Banks B A C → JobParts → ℕ → Type 0
@@ -40,7 +42,8 @@ module _ {A B C : Type 0} where
   -- The seat belongs to the banks.
   abbrev pub IsSeatOf : Banks B A C → BankSeat B A C → Type 0
   IsSeatOf banks seat =
-      IsBoardPlace gates_of banks.board.table.shared.table_id banks.board.table.shared.key seat.place
+      IsBoardPlace gates_of banks.board.table.shared.table_id banks.board.table.shared.key
+      seat.place
 
   -- It is the same seat.
   abbrev pub IsSameSeat : BankSeat B A C → BankSeat B A C → Type 0

@@ -81,7 +81,8 @@ pub record Got (job : JobParts) (r w : ℕ) (new : Seen) (label : ℕ) : Type 0 
 -- Wire w has no label: it is no input wire, and a gate that sets it was not known, and was found undone in the round.
 pub record Lacks (job : JobParts) (r w : ℕ) (old new : Seen) : Type 0 where
   pub no_input : w < input_wires job.circuit → ⊥
-  pub unknown : (h : ℕ) → IsSetBy job.circuit w h → (pairs r h old.inner.known ≡ 0) × SawUndone old new r h
+  pub unknown : (h : ℕ) → IsSetBy job.circuit w h
+      → (pairs r h old.inner.known ≡ 0) × SawUndone old new r h
 
 -- What an answer for gate g in round r says. Made: the label is right in the round's job, the gate is known, and it
 -- was not known. Done: the label is right, and the gate known. Taken: it was not known, and its state was found at 1
@@ -143,7 +144,8 @@ SetsMade job r w v n = (h : ℕ) → IsSetBy job.circuit w h → pairs r h v.inn
 abbrev pub ReadsMade : JobParts → ℕ → ℕ → Seen → Type 0
 ReadsMade job r g old =
     (gate : Gate) (w : ℕ) → slice_get job.circuit.gates g ≡ Some gate
-    → (first_wire gate.operation ≡ Some w) ⊎ (second_wire gate.operation ≡ Some w) → SetsMade job r w old 1
+    → (first_wire gate.operation ≡ Some w) ⊎ (second_wire gate.operation ≡ Some w)
+    → SetsMade job r w old 1
 
 -- Wire w is the first that gate g reads whose gate is not made in round r.
 abbrev pub FirstLacking : JobParts → ℕ → ℕ → Seen → ℕ → Type 0

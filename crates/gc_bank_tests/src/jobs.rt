@@ -70,9 +70,12 @@ fn are_on_one(alloc: Global, adder: &Circuit, other: &Circuit, text: &str) -> Re
 /// The full adder with one other gate: its first reads the same wires in the other order, its AND gate is an XOR, or
 /// its last reads another wire.
 static OTHER_ADDERS: [&str; 3] = [
-    "5 8\n3 1 1 1\n1 2\n\n2 1 2 0 3 XOR\n2 1 1 2 4 XOR\n2 1 3 4 5 AND\n2 1 3 1 6 XOR\n2 1 5 2 7 XOR\n",
-    "5 8\n3 1 1 1\n1 2\n\n2 1 0 2 3 XOR\n2 1 1 2 4 XOR\n2 1 3 4 5 XOR\n2 1 3 1 6 XOR\n2 1 5 2 7 XOR\n",
-    "5 8\n3 1 1 1\n1 2\n\n2 1 0 2 3 XOR\n2 1 1 2 4 XOR\n2 1 3 4 5 AND\n2 1 3 1 6 XOR\n2 1 5 1 7 XOR\n",
+    "5 8\n3 1 1 1\n1 2\n\n2 1 2 0 3 XOR\n2 1 1 2 4 XOR\n2 1 3 4 5 AND\n2 1 3 1 6 XOR\n\
+     2 1 5 2 7 XOR\n",
+    "5 8\n3 1 1 1\n1 2\n\n2 1 0 2 3 XOR\n2 1 1 2 4 XOR\n2 1 3 4 5 XOR\n2 1 3 1 6 XOR\n\
+     2 1 5 2 7 XOR\n",
+    "5 8\n3 1 1 1\n1 2\n\n2 1 0 2 3 XOR\n2 1 1 2 4 XOR\n2 1 3 4 5 AND\n2 1 3 1 6 XOR\n\
+     2 1 5 1 7 XOR\n",
 ];
 
 /// Jobs on the same circuit are on one, and so are jobs on equal circuits. One gate makes the difference.

@@ -65,7 +65,15 @@ module _ {J : Type 0} (gates : J → ℕ) (right : J → ℕ → ℕ → ℕ →
 
 -- the view at the opening, which stands for all seats
 abbrev pub starting : {J : Type 0} → J → ℕ → View J
-starting job seats = record { job = Some job; all = seats; seats = seats; hand = Empty; made = []; known = []; steps = [] }
+starting job seats = record {
+  job = Some job;
+  all = seats;
+  seats = seats;
+  hand = Empty;
+  made = [];
+  known = [];
+  steps = [];
+}
 
 -- what is left of a view that was joined to another
 abbrev pub nobody : {J : Type 0} → View J

@@ -12,15 +12,16 @@ pub record IsTable {J : Type 0} (gates : J → ℕ) (table : TableId) (key : Key
 
 module _ {J : Type 0} {S : Type 0} where
   -- The seat is one of this table, and its view is of this work and of a board of this many seats.
-  pub record IsPlaceOf (gates : J → ℕ) (table : TableId) (key : Key J) (seat : Seat S (View J)) : Type 0 where
+  pub record IsPlaceOf (gates : J → ℕ) (table : TableId) (key : Key J) (seat : Seat S (View J))
+      : Type 0 where
     pub fits : IsTable gates table key
     pub table_id : seat.table_id ≡ table
     pub about : seat.me.0.job ≡ Some key.work
     pub whole : seat.me.0.all ≡ key.seats
 
   -- It is, and the gate exists.
-  pub record IsPlaceAt (gates : J → ℕ) (table : TableId) (key : Key J) (seat : Seat S (View J)) (gate : ℕ)
-      : Type 0 where
+  pub record IsPlaceAt (gates : J → ℕ) (table : TableId) (key : Key J) (seat : Seat S (View J))
+      (gate : ℕ) : Type 0 where
     pub place : IsPlaceOf gates table key seat
     pub exists : gate < gates key.work
 

@@ -37,7 +37,8 @@ module _ {J : Type 0} where
   -- after an exchange of the state of gate g from FREE to IN_HAND: found FREE it is in hand, found DONE it is known
   abbrev pub after_claim : View J → ℕ → ℕ → View J
   after_claim v g found =
-      changed v (if found == FREE then Has g 0 else v.hand) v.made (learnt v.known g found) (3 * g) found
+      changed v (if found == FREE then Has g 0 else v.hand) v.made (learnt v.known g found)
+      (3 * g) found
 
   -- after a half of gate g, the one in hand, is stored: one half more is
   abbrev pub after_stored : View J → ℕ → ℕ → ℕ → ℕ → View J
@@ -53,7 +54,8 @@ module _ {J : Type 0} where
   Finds v word found =
       (g : ℕ) → word ≡ 3 * g →
       (0 < times g v.known → found ≡ DONE)
-      × (v.seats ≡ v.all → (in_hand g v.hand ≡ only IN_HAND found) × (times g v.made ≡ only DONE found))
+      × (v.seats ≡ v.all
+      → (in_hand g v.hand ≡ only IN_HAND found) × (times g v.made ≡ only DONE found))
 
   -- Each kind of step, of the seat before, the number found or stored, and the seat after. None takes or gives a slot.
   module _ {S : Type 0} where
@@ -64,14 +66,16 @@ module _ {J : Type 0} where
         × ((g : ℕ) → st.word ≡ 3 * g → m'.0 ≡ after_state m.0 g found)
 
     -- a load of the low half of a gate: that of a known gate is right
-    abbrev pub low_loaded : (J → ℕ → ℕ → ℕ → Type 0) → Step S → Me S (View J) → ℕ → Me S (View J) → Type 0
+    abbrev pub low_loaded : (J → ℕ → ℕ → ℕ → Type 0) → Step S → Me S (View J) → ℕ → Me S (View J)
+        → Type 0
     low_loaded right st m found m' =
         (m'.1 ≡ m.1) × (m'.0 ≡ after_half m.0 st.word found)
         × ((g : ℕ) → st.word ≡ 3 * g + 1 → 0 < times g m.0.known
         → (job : J) → m.0.job ≡ Some job → right job g 0 found)
 
     -- a load of the high half
-    abbrev pub high_loaded : (J → ℕ → ℕ → ℕ → Type 0) → Step S → Me S (View J) → ℕ → Me S (View J) → Type 0
+    abbrev pub high_loaded : (J → ℕ → ℕ → ℕ → Type 0) → Step S → Me S (View J) → ℕ → Me S (View J)
+        → Type 0
     high_loaded right st m found m' =
         (m'.1 ≡ m.1) × (m'.0 ≡ after_half m.0 st.word found)
         × ((g : ℕ) → st.word ≡ 3 * g + 2 → 0 < times g m.0.known
@@ -86,7 +90,8 @@ module _ {J : Type 0} where
     -- a store of a half of the gate in hand
     abbrev pub half_stored : Step S → Me S (View J) → ℕ → Me S (View J) → Type 0
     half_stored st m half m' =
-        (m'.1 ≡ m.1) × ((g phase : ℕ) → m.0.hand ≡ Has g phase → m'.0 ≡ after_stored m.0 g phase st.word half)
+        (m'.1 ≡ m.1) × ((g phase : ℕ) → m.0.hand ≡ Has g phase
+        → m'.0 ≡ after_stored m.0 g phase st.word half)
 
     -- a store of DONE for the gate in hand
     abbrev pub done_stored : Step S → Me S (View J) → ℕ → Me S (View J) → Type 0
@@ -107,11 +112,27 @@ module _ {J : Type 0} where
 
   -- the seat that is dealt out of it,
   abbrev pub newcomer : View J → View J
-  newcomer v = record { job = v.job; all = v.all; seats = 1; hand = Empty; made = []; known = []; steps = [] }
+  newcomer v = record {
+    job = v.job;
+    all = v.all;
+    seats = 1;
+    hand = Empty;
+    made = [];
+    known = [];
+    steps = [];
+  }
 
   -- a note of what a view knows,
   abbrev pub note_of : View J → View J
-  note_of v = record { job = v.job; all = v.all; seats = 0; hand = Empty; made = []; known = v.known; steps = [] }
+  note_of v = record {
+    job = v.job;
+    all = v.all;
+    seats = 0;
+    hand = Empty;
+    made = [];
+    known = v.known;
+    steps = [];
+  }
 
   -- and two views in one, with what the first has in hand.
   abbrev pub merged : View J → View J → View J

@@ -1,5 +1,5 @@
-//! Each growth of a command of two workers refused in turn, over files whose sinks take the same memory. After a refusal
-//! the same order over the same files has its answer.
+//! Each growth of a command of two workers refused in turn, over files whose sinks take the same memory. After a
+//! refusal the same order over the same files has its answer.
 
 use crate::jobs::order;
 use gc_circuit::Circuit;

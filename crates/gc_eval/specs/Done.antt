@@ -15,7 +15,8 @@ IsDone active g = state_of (slots_items active.closed.words) g ≡ DONE
 
 -- how many of the first n gates are done
 abbrev pub done_of : {A B C : Type 0} → Active B A C → ℕ → ℕ
-done_of active n = total (λ g. only DONE (state_of (slots_items active.closed.words) g)) (range_with_len 0 n)
+done_of active n =
+    total (λ g. only DONE (state_of (slots_items active.closed.words) g)) (range_with_len 0 n)
 
 -- A wire has a label: it is an input wire, or a gate that is done sets it.
 abbrev pub HasLabel : {A B C : Type 0} → Active B A C → ℕ → Type 0

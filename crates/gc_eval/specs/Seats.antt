@@ -24,7 +24,8 @@ module _ {A B C S : Type 0} (board : EvalBoard B A C) where
 
   -- and the board has this gate.
   abbrev pub IsPlaceFor : Seat S (View JobParts) → ℕ → Type 0
-  IsPlaceFor place gate = IsPlaceAt gates_of board.table.shared.table_id board.table.shared.key place gate
+  IsPlaceFor place gate =
+      IsPlaceAt gates_of board.table.shared.table_id board.table.shared.key place gate
 
 -- The seat belongs to the board.
 abbrev pub IsSeatOf : {A B C : Type 0} → EvalBoard B A C → EvalSeat A C → Type 0

@@ -61,10 +61,12 @@ pub record Lacks (job : JobParts) (w : ℕ) (old new : View JobParts) : Type 0 w
 -- right, and the gate known. Taken: it was not known, and it was found IN_HAND. NotYet: it was not known, and it
 -- reads the wire, which lacks a label.
 abbrev pub Says : JobParts → ℕ → View JobParts → View JobParts → Answer → Type 0
-Says job g old new (Made label) = (label ≡ active job (set_of job g)) × Knows new g × (times g old.known ≡ 0)
+Says job g old new (Made label) =
+    (label ≡ active job (set_of job g)) × Knows new g × (times g old.known ≡ 0)
 Says job g old new (Done label) = (label ≡ active job (set_of job g)) × Knows new g
 Says job g old new Taken = (times g old.known ≡ 0) × Saw old new (3 * g) IN_HAND
-Says job g old new (NotYet w) = (times g old.known ≡ 0) × Reads job.circuit g w × Lacks job w old new
+Says job g old new (NotYet w) =
+    (times g old.known ≡ 0) × Reads job.circuit g w × Lacks job w old new
 
 -- This made list, after an answer for gate g: Made alone appends the gate.
 abbrev pub made_after : ℕ → Answer → List ℕ → List ℕ
@@ -75,11 +77,13 @@ made_after g (NotYet w) made = made
 
 -- What an answer for gate g says, after at most this number of steps, and that it alone changed the made list.
 abbrev pub Answers : JobParts → ℕ → ℕ → View JobParts → View JobParts → Answer → Type 0
-Answers job g most old new answer = Says job g old new answer × Ran old new (made_after g answer old.made) most
+Answers job g most old new answer =
+    Says job g old new answer × Ran old new (made_after g answer old.made) most
 
 -- What the answers for gates g and h of one call say, after at most this number of steps, and that they alone changed
 -- the made list, in this order.
-abbrev pub AnswersTwo : JobParts → ℕ → ℕ → ℕ → View JobParts → View JobParts → Answer × Answer → Type 0
+abbrev pub AnswersTwo : JobParts → ℕ → ℕ → ℕ → View JobParts → View JobParts → Answer × Answer
+    → Type 0
 AnswersTwo job g h most old new answers =
     Says job g old new answers.0 × Says job h old new answers.1
     × Ran old new (made_after h answers.1 (made_after g answers.0 old.made)) most
@@ -127,7 +131,8 @@ SetsMade job w v n = (h : ℕ) → IsSetBy job.circuit w h → times h v.made �
 abbrev pub ReadsMade : JobParts → ℕ → View JobParts → Type 0
 ReadsMade job g old =
     (gate : Gate) (w : ℕ) → slice_get job.circuit.gates g ≡ Some gate
-    → (first_wire gate.operation ≡ Some w) ⊎ (second_wire gate.operation ≡ Some w) → SetsMade job w old 1
+    → (first_wire gate.operation ≡ Some w) ⊎ (second_wire gate.operation ≡ Some w)
+    → SetsMade job w old 1
 
 -- Wire w is the first that gate g reads whose gate is not made.
 abbrev pub FirstLacking : JobParts → ℕ → View JobParts → ℕ → Type 0

@@ -31,4 +31,5 @@ KeepsCompared old new = (given : List RowPair) → AreCompared given old → Are
 abbrev pub IsNextMismatch : Option Mismatch → ℕ → RowPair → RowPair → Option Mismatch → Type 0
 IsNextMismatch (Some m) place given made next = next ≡ Some m
 IsNextMismatch None place given made next =
-    MatchOption next (given ≡ made) (λ m. (m ≡ record { place = place; given = given }) × (given ≢ made))
+    MatchOption next (given ≡ made)
+    (λ m. (m ≡ record { place = place; given = given }) × (given ≢ made))

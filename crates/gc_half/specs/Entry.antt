@@ -18,7 +18,8 @@ output_tweak and_gates i = 2 * and_gates + i
 -- Entry s of output i: the hash of the label of its wire that has the colour s.
 abbrev pub entry_of : ℕ → GarblingParts → ℕ → Bool → ℕ
 entry_of offset g i s =
-    hash (label_of_colour offset (slice_index g.zero_labels (length g.zero_labels - g.outputs + i)) s)
+    hash
+    (label_of_colour offset (slice_index g.zero_labels (length g.zero_labels - g.outputs + i)) s)
     (output_tweak (length g.rows) i)
 
 -- Entries 0 and 1 of output i.

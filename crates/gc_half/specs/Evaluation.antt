@@ -22,7 +22,8 @@ module _ (hash : ℕ → ℕ → ℕ) where
       gate_active hash k row operation (first_read active operation) (second_read active operation)
 
   abbrev pub active_rule : Netlist → List RowPair → (ℕ → ℕ) → ℕ → Gate → ℕ
-  active_rule c rows active i g = active_of active (and_number c i) (row_at rows (and_number c i)) g.operation
+  active_rule c rows active i g =
+      active_of active (and_number c i) (row_at rows (and_number c i)) g.operation
 
   -- An evaluation of the rows: active labels on the wires, the given ones on the input wires, that meet each gate's
   -- equation.

@@ -16,7 +16,8 @@ module _ (hash : ℕ → ℕ → ℕ) (r : ℕ) where
   -- The zero label of the wire that an operation sets, from the zero labels on the wires. An AND gate is the k-th.
   abbrev pub zero_of : (ℕ → ℕ) → ℕ → Operation → ℕ
   zero_of zero_label k operation =
-      gate_zero hash r k operation (first_read zero_label operation) (second_read zero_label operation)
+      gate_zero hash r k operation (first_read zero_label operation)
+      (second_read zero_label operation)
 
   abbrev pub zero_rule : Netlist → (ℕ → ℕ) → ℕ → Gate → ℕ
   zero_rule c zero_label i g = zero_of zero_label (and_number c i) g.operation
@@ -27,9 +28,11 @@ module _ (hash : ℕ → ℕ → ℕ) (r : ℕ) where
 
   -- A garbling with the offset r: zero labels on the wires, the given ones on the input wires, that meet each gate's
   -- equation; and as many row pairs as there are AND gates, that of each AND gate at its AND number.
-  pub record IsGarbling (c : Netlist) (given zero_label : ℕ → ℕ) (rows : List RowPair) : Type 0 where
+  pub record IsGarbling (c : Netlist) (given zero_label : ℕ → ℕ) (rows : List RowPair)
+      : Type 0 where
     pub labels : Solves (zero_rule c) c given zero_label
-    pub and_gates : (i : ℕ) (g : Gate) (a b : ℕ) → slice_get c.gates i ≡ Some g → g.operation ≡ And a b
+    pub and_gates : (i : ℕ) (g : Gate) (a b : ℕ) → slice_get c.gates i ≡ Some g
+        → g.operation ≡ And a b
         → slice_get rows (and_number c i) ≡ Some (rows_of zero_label (and_number c i) a b)
     pub row_count : length rows ≡ and_count c
 
@@ -46,7 +49,8 @@ decode_bits_of g = map colour (drop (length g.zero_labels - g.outputs) g.zero_la
 
 -- The parts are the garbling of the circuit under the seed. A wire that is not set has 16 zero bytes.
 pub record IsGarbled (c : Netlist) (seed : List ℕ) (g : GarblingParts) : Type 0 where
-  pub garbling : IsGarbling hash (offset_of seed) c (input_label_of seed) (slice_index g.zero_labels) g.rows
+  pub garbling : IsGarbling hash (offset_of seed) c (input_label_of seed)
+      (slice_index g.zero_labels) g.rows
   pub wires : length g.zero_labels ≡ c.wires
   pub not_set : (w : ℕ) → w < c.wires → ¬ IsSet c w → slice_index g.zero_labels w ≡ 0
   pub outputs : g.outputs ≡ output_wires c

@@ -37,4 +37,5 @@ module _ (hash : ℕ → ℕ → ℕ) (k : ℕ) where
   -- Evaluation: the active label of the wire set, from the two rows and the active labels a and b of the wires read.
   abbrev pub and_active : ℕ → ℕ → ℕ → ℕ → ℕ
   and_active generator evaluator a b =
-      hash a (2 * k) ⊕ times (colour a) generator ⊕ (hash b (2 * k + 1) ⊕ times (colour b) (evaluator ⊕ a))
+      hash a (2 * k) ⊕ times (colour a) generator
+      ⊕ (hash b (2 * k + 1) ⊕ times (colour b) (evaluator ⊕ a))

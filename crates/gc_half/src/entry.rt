@@ -71,7 +71,8 @@ fn hashed_of_two<A: Allocator, B: Allocator>(
     requires outputs { i + 2 ≤ output_wires circuit.now }
     ensures { map (λ input. hash input.0 input.1) result
         ≡ entry_of offset garbling.now i false ∷ entry_of offset garbling.now i true
-        ∷ entry_of offset garbling.now (i + 1) false ∷ entry_of offset garbling.now (i + 1) true ∷ [] }
+        ∷ entry_of offset garbling.now (i + 1) false
+        ∷ entry_of offset garbling.now (i + 1) true ∷ [] }
 {
     circuit.law_lawful();
     [

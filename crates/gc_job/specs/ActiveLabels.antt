@@ -44,4 +44,5 @@ half_of (suc k) label = high_half label
 
 -- The number is half k of the active label of the wire that gate g sets, which is a label of 16 bytes.
 abbrev pub IsRightHalf : JobParts → ℕ → ℕ → ℕ → Type 0
-IsRightHalf job g k n = (active job (set_of job g) < 2 ^ 128) × (n ≡ half_of k (active job (set_of job g)))
+IsRightHalf job g k n =
+    (active job (set_of job g) < 2 ^ 128) × (n ≡ half_of k (active job (set_of job g)))

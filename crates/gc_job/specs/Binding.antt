@@ -27,17 +27,20 @@ pub record HasFile (files : List LabelFileParts) (value : ℕ) : Type 0 where
 
 -- A file is in order after others: there is its input value, of as many wires as the file has labels, and none of the
 -- others is for it. The widths are those of the input values.
-pub record IsInOrder (widths : List ℕ) (before : List LabelFileParts) (file : LabelFileParts) : Type 0 where
+pub record IsInOrder (widths : List ℕ) (before : List LabelFileParts) (file : LabelFileParts)
+    : Type 0 where
   pub width : slice_get widths file.index ≡ Some (length file.labels)
   pub first : HasFile before file.index → ⊥
 
 -- The first n files are in order, each after those before it.
 abbrev pub AreInOrder : List ℕ → List LabelFileParts → ℕ → Type 0
 AreInOrder widths files n =
-    (i : ℕ) (file : LabelFileParts) → i < n → slice_get files i ≡ Some file → IsInOrder widths (take i files) file
+    (i : ℕ) (file : LabelFileParts) → i < n → slice_get files i ≡ Some file
+    → IsInOrder widths (take i files) file
 
 -- The fault of a file after others.
-pub data LabelsFault (widths : List ℕ) (before : List LabelFileParts) (file : LabelFileParts) : BindFault → Type 0 where
+pub data LabelsFault (widths : List ℕ) (before : List LabelFileParts) (file : LabelFileParts)
+    : BindFault → Type 0 where
   no_such_value : length widths ≤ file.index → LabelsFault widths before file NoSuchValue
   wrong_width : (width : ℕ) → slice_get widths file.index ≡ Some width → length file.labels ≢ width
       → LabelsFault widths before file WrongWidth
@@ -54,10 +57,12 @@ pub data FirstLabelsFault (widths : List ℕ) (files : List LabelFileParts) : Bi
       → (HasFile files value → ⊥) → FirstLabelsFault widths files MissingValue
 
 -- The first fault of a garbled file and label files that are no job for the circuit.
-pub data FirstBindFault (c : Netlist) (g : GarbledParts) (files : List LabelFileParts) : BindFault → Type 0 where
+pub data FirstBindFault (c : Netlist) (g : GarbledParts) (files : List LabelFileParts)
+    : BindFault → Type 0 where
   other_circuit : (IsOfCircuit c g → ⊥) → FirstBindFault c g files OtherCircuit
   other_counts : IsOfCircuit c g → (HasCounts c g → ⊥) → FirstBindFault c g files OtherCounts
-  of_labels : (fault : BindFault) → IsOfCircuit c g → HasCounts c g → FirstLabelsFault c.input_widths files fault
+  of_labels : (fault : BindFault) → IsOfCircuit c g → HasCounts c g
+      → FirstLabelsFault c.input_widths files fault
       → FirstBindFault c g files fault
 
 -- The input labels are those of the files: where a file is for an input value, the labels from that value's first wire
@@ -75,7 +80,8 @@ pub record AreBound (widths : List ℕ) (files : List LabelFileParts) (labels : 
   pub from_files : AreLabelsOf widths files labels
 
 -- The job is that of the circuit, the garbled file and the label files.
-pub record IsBound (c : Netlist) (g : GarbledParts) (files : List LabelFileParts) (job : JobParts) : Type 0 where
+pub record IsBound (c : Netlist) (g : GarbledParts) (files : List LabelFileParts) (job : JobParts)
+    : Type 0 where
   pub of_circuit : IsOfCircuit c g
   pub counts : HasCounts c g
   pub labels : AreBound c.input_widths files job.inputs

@@ -49,7 +49,8 @@ AreRecognised and_gates entries labels n =
     (i label : ℕ) → i < n → slice_get labels i ≡ Some label → IsRecognised and_gates entries i label
 
 -- This output is the first whose label they don't recognise.
-pub record IsFirstUnknown (and_gates : ℕ) (entries : List EntryPair) (labels : List ℕ) (output : ℕ) : Type 0 where
+pub record IsFirstUnknown (and_gates : ℕ) (entries : List EntryPair) (labels : List ℕ) (output : ℕ)
+    : Type 0 where
   pub label : ℕ
   pub at : slice_get labels output ≡ Some label
   pub unknown : IsRecognised and_gates entries output label → ⊥

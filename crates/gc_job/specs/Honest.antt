@@ -34,29 +34,31 @@ pub record IsHonestGarbled (c : Netlist) (seed : List ℕ) (g : GarbledParts) : 
   pub parts : g ≡ honest_parts version c garbling seed
 
 -- The label file is that of one of these input values under the seed.
-pub record IsHonestLabels (c : Netlist) (seed : List ℕ) (values : List (List Bool)) (file : LabelFileParts)
-    : Type 0 where
+pub record IsHonestLabels (c : Netlist) (seed : List ℕ) (values : List (List Bool))
+    (file : LabelFileParts) : Type 0 where
   pub bits : List Bool
   pub value : slice_get values file.index ≡ Some bits
   pub parts : file ≡ label_parts_of c seed file.index bits
 
 -- The files are an honest garbler's and honest dealers': the garbled file of the circuit and, in any order, one label
 -- file for each of these values, which fit the circuit.
-pub record AreHonestFiles (c : Netlist) (seed : List ℕ) (values : List (List Bool)) (g : GarbledParts)
-    (files : List LabelFileParts) : Type 0 where
+pub record AreHonestFiles (c : Netlist) (seed : List ℕ) (values : List (List Bool))
+    (g : GarbledParts) (files : List LabelFileParts) : Type 0 where
   pub garbled : IsHonestGarbled c seed g
   pub fits : Fits c values
-  pub labels : (i : ℕ) (file : LabelFileParts) → slice_get files i ≡ Some file → IsHonestLabels c seed values file
+  pub labels : (i : ℕ) (file : LabelFileParts) → slice_get files i ≡ Some file
+      → IsHonestLabels c seed values file
   pub each : (value : ℕ) → value < length values → HasFile files value
-  pub once : (i k : ℕ) (file other : LabelFileParts) → slice_get files i ≡ Some file → slice_get files k ≡ Some other
-      → file.index ≡ other.index → i ≡ k
+  pub once : (i k : ℕ) (file other : LabelFileParts) → slice_get files i ≡ Some file
+      → slice_get files k ≡ Some other → file.index ≡ other.index → i ≡ k
 
 -- Such files have no fault; the job that they are bound to is honest, and its input labels stand for the values; and
 -- its evaluation answers the circuit's outputs, unless memory is missing.
-pub record HonestFilesLaw (c : Netlist) (seed : List ℕ) (values : List (List Bool)) (g : GarbledParts)
-    (files : List LabelFileParts) : Type 0 where
+pub record HonestFilesLaw (c : Netlist) (seed : List ℕ) (values : List (List Bool))
+    (g : GarbledParts) (files : List LabelFileParts) : Type 0 where
   pub no_fault : (fault : BindFault) → FirstBindFault c g files fault → ⊥
-  pub honest : (job : JobParts) → IsBound c g files job → IsHonest job seed (flat_map (λ value. value) values)
+  pub honest : (job : JobParts) → IsBound c g files job
+      → IsHonest job seed (flat_map (λ value. value) values)
   pub outputs : (job : JobParts) → IsBound c g files job → (result : Result (List Bool) EvalFault)
       → IsEvaluated job result →
       MatchResult result (AreOutputs c (flat_map (λ value. value) values)) (λ fault. fault ≡ Memory)

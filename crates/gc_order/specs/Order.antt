@@ -202,7 +202,8 @@ text_of (Eval circuit garbled workers labels) =
     eval (string_bytes circuit) (string_bytes garbled) workers (map string_bytes labels.items)
 text_of (Jobs circuit list workers) = jobs (string_bytes circuit) (string_bytes list) workers
 text_of (Labels circuit seed from count values) =
-    list_labels (string_bytes circuit) (string_bytes seed) from count (map string_bytes values.items)
+    list_labels (string_bytes circuit) (string_bytes seed) from count
+    (map string_bytes values.items)
 text_of (Audit circuit seed garbled workers labels) =
     audit (string_bytes circuit) (string_bytes seed) (string_bytes garbled) workers
     (map string_bytes labels.items)

@@ -41,6 +41,7 @@ pub record IsQueue (s : Standing) (queued : List ℕ) (busy : ℕ) : Type 0 wher
   pub room : length s.countdowns ≤ 64 * length queued
   pub ready : (i : ℕ) → Has queued i ↔ IsReady s i
   -- A gate that is claimed or finished reads known wires alone.
-  pub known : (i : ℕ) (m : Mark) → slice_get s.marks i ≡ Some m → m ≢ mark.Free → slice_get s.countdowns i ≡ Some 0
+  pub known : (i : ℕ) (m : Mark) → slice_get s.marks i ≡ Some m → m ≢ mark.Free
+      → slice_get s.countdowns i ≡ Some 0
   -- This number of gates is claimed or finished.
   pub passed : busy ≡ count_by is_busy s.marks

@@ -51,7 +51,8 @@ module _ {J : Type 0} (gates : J → ℕ) (right : J → ℕ → ℕ → ℕ →
   abbrev pub IsHandRight : J → List ℕ → Hand → Type 0
   IsHandRight job words Empty = Unit {0}
   IsHandRight job words (Has r g phase) =
-      (0 < phase → right job r g 0 (low_of words r g)) × (1 < phase → right job r g 1 (high_of words r g))
+      (0 < phase → right job r g 0 (low_of words r g))
+      × (1 < phase → right job r g 1 (high_of words r g))
 
   -- The words of gate g in the bank of round r: the state is one of the three, of no later round than the bank's, and
   -- where the gate is done in round r, both halves are right in it.
@@ -82,7 +83,8 @@ module _ {J : Type 0} (gates : J → ℕ) (right : J → ℕ → ℕ → ℕ →
     -- The words of each gate are right.
     pub cells : (r g : ℕ) → Cell job words r g
     -- A gate is at state 1 of a round where exactly one seat has it in hand in that round, and else none has.
-    pub hands : (r g : ℕ) → total (λ v. in_hand r g v.inner.hand) views ≡ only (stamp r IN_HAND) (state_of words r g)
+    pub hands : (r g : ℕ)
+        → total (λ v. in_hand r g v.inner.hand) views ≡ only (stamp r IN_HAND) (state_of words r g)
     -- A round with a gate stands at most once in all made lists together.
     pub once : (r g : ℕ) → total (λ v. pairs r g v.inner.made) views ≤ 1
     -- As long as the state word of a gate is of no later round, the gate is at state 2 of the round where the pair

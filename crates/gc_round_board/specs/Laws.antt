@@ -67,9 +67,11 @@ module _ {J : Type 0} (gates : J → ℕ) (right : J → ℕ → ℕ → ℕ →
           low = λ e. absurd (omega (arith, free r g));
           high = λ e. absurd (omega (arith, free r g));
         };
-        hands = λ r g. sym (only_other (stamp r 1) (state_of words r g) (λ e. omega (arith, free r g)));
+        hands = λ r g.
+            sym (only_other (stamp r 1) (state_of words r g) (λ e. omega (arith, free r g)));
         once = λ r g. omega arith;
-        mades = λ r g l. sym (only_other (stamp r 2) (state_of words r g) (λ e. omega (arith, free r g)));
+        mades = λ r g l.
+            sym (only_other (stamp r 2) (state_of words r g) (λ e. omega (arith, free r g)));
         fits = one;
       }
     where
@@ -117,7 +119,11 @@ module _ {J : Type 0} (gates : J → ℕ) (right : J → ℕ → ℕ → ℕ →
           o.hands r g,
           ap (only (stamp r 1)) (state_stays r g),
         );
-        once = λ r g. omega (arith, total-set (λ u. pairs r g u.inner.made) views id v w at_id, o.once r g);
+        once = λ r g. omega (
+          arith,
+          total-set (λ u. pairs r g u.inner.made) views id v w at_id,
+          o.once r g,
+        );
         mades = λ r g l. omega (
           arith,
           total-set (λ u. pairs r g u.inner.made) views id v w at_id,
@@ -146,7 +152,9 @@ module _ {J : Type 0} (gates : J → ℕ) (right : J → ℕ → ℕ → ℕ →
 
   pub deals : Deals (Sound gates right) fresh_view
   deals job words views id v o at_id several =
-      let left = one_less v in let other = newcomer v (fresh_view v.inner) in let f = o.fits id v at_id in
+      let left = one_less v in
+      let other = newcomer v (fresh_view v.inner) in
+      let f = o.fits id v at_id in
       let moved : (h : View (BoardView J) → ℕ) → total h
       (set views id left ++ other ∷ []) + h v ≡ total h views + h left + h other = λ h. omega
       (arith, total-set h views id v left at_id, total-append h (set views id left) (other ∷ [])) in
@@ -175,8 +183,13 @@ module _ {J : Type 0} (gates : J → ℕ) (right : J → ℕ → ℕ → ℕ →
   joins job words views id other v w o at_id apart there out idle =
       let both = merged v w (joined v.inner w.inner) in let none_left = nobody no_view in
       let f = o.fits id v at_id in
-      let moved : (h : View (BoardView J) → ℕ) → total h (set
-      (set views id both) other none_left) + h v + h w ≡ total h views + h both + h none_left = λ h. omega (arith, total-set h views id v both at_id, total-set h (set views id both) other w none_left there) in
+      let moved : (h : View (BoardView J) → ℕ)
+      → total h (set (set views id both) other none_left) + h v + h w
+      ≡ total h views + h both + h none_left = λ h. omega (
+        arith,
+        total-set h views id v both at_id,
+        total-set h (set views id both) other w none_left there,
+      ) in
       let theirs : Fits gates right job words w = ⊎_elim (λ (t : (other ≡ id)
       × (both ≡ w)). absurd (apart t.0)) (λ (t : (other ≢ id)
       × (get_elem? views other ≡ some w)). o.fits other w t.1)
@@ -205,7 +218,8 @@ module _ {J : Type 0} (gates : J → ℕ) (right : J → ℕ → ℕ → ℕ →
           total-append (is_pair r g) v.inner.made w.inner.made,
         );
         fits = λ j u e. ⊎_elim
-            (λ t. subst (Fits gates right job words) t.1 (no_job job words none_left refl refl refl refl))
+            (λ t. subst (Fits gates right job words) t.1
+            (no_job job words none_left refl refl refl refl))
             (λ t. ⊎_elim (λ q. subst (Fits gates right job words) q.1 (record {
               holding = f.holding;
               inside = f.inside;

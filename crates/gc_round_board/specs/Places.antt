@@ -14,21 +14,21 @@ pub record IsBoard {J : Type 0} (gates : J → ℕ) (table : TableId) (key : Key
 
 module _ {J : Type 0} {S : Type 0} where
   -- The seat is one of this table, and its view is of this work.
-  pub record IsBoardPlace (gates : J → ℕ) (table : TableId) (key : Key J) (seat : Seat S (View (BoardView J)))
-      : Type 0 where
+  pub record IsBoardPlace (gates : J → ℕ) (table : TableId) (key : Key J)
+      (seat : Seat S (View (BoardView J))) : Type 0 where
     pub seated : IsPlaceOf table key seat
     pub board : IsBoard gates table key
     pub about : seat.me.0.inner.job ≡ Some key.about
 
   -- It is, and it is inside the round.
-  pub record IsPlaceInside (gates : J → ℕ) (table : TableId) (key : Key J) (seat : Seat S (View (BoardView J)))
-      (round : ℕ) : Type 0 where
+  pub record IsPlaceInside (gates : J → ℕ) (table : TableId) (key : Key J)
+      (seat : Seat S (View (BoardView J))) (round : ℕ) : Type 0 where
     pub place : IsBoardPlace gates table key seat
     pub inside : seat.me.0.stand ≡ Inside round
 
   -- It is, and the gate exists.
-  pub record IsPlaceAt (gates : J → ℕ) (table : TableId) (key : Key J) (seat : Seat S (View (BoardView J)))
-      (round gate : ℕ) : Type 0 where
+  pub record IsPlaceAt (gates : J → ℕ) (table : TableId) (key : Key J)
+      (seat : Seat S (View (BoardView J))) (round gate : ℕ) : Type 0 where
     pub place : IsBoardPlace gates table key seat
     pub inside : seat.me.0.stand ≡ Inside round
     pub exists : gate < gates key.about

@@ -79,12 +79,14 @@ module _ {J : Type 0} where
     pub round : round_of found ≤ r
     pub known : 0 < pairs r g v.inner.known → found ≡ stamp r DONE
     pub alone : v.seats ≡ v.all
-        → (in_hand r g v.inner.hand ≡ only (stamp r IN_HAND) found) × (pairs r g v.inner.made ≡ only (stamp r DONE) found)
+        → (in_hand r g v.inner.hand ≡ only (stamp r IN_HAND) found)
+        × (pairs r g v.inner.made ≡ only (stamp r DONE) found)
 
   -- Each kind of step, of the seat before, the word found or stored, and the seat after. None takes or gives a slot.
   module _ {S : Type 0} where
     -- a load of a state word
-    abbrev pub state_loaded : Step S → Me S (View (BoardView J)) → ℕ → Me S (View (BoardView J)) → Type 0
+    abbrev pub state_loaded : Step S → Me S (View (BoardView J)) → ℕ → Me S (View (BoardView J))
+        → Type 0
     state_loaded st m found m' =
         (m'.1 ≡ m.1) × ((r g : ℕ) → m.0.stand ≡ Inside r → st.word ≡ at r g
         → Finds m.0 r g found × (m'.0 ≡ after_state m.0 r g found))
@@ -114,15 +116,18 @@ module _ {J : Type 0} where
         × (m'.0 ≡ after_claim m.0 r g st.first found))
 
     -- a store of a half of the gate in hand
-    abbrev pub half_stored : Step S → Me S (View (BoardView J)) → ℕ → Me S (View (BoardView J)) → Type 0
+    abbrev pub half_stored : Step S → Me S (View (BoardView J)) → ℕ → Me S (View (BoardView J))
+        → Type 0
     half_stored st m half m' =
         (m'.1 ≡ m.1) × ((r g phase : ℕ) → m.0.inner.hand ≡ Has r g phase
         → m'.0 ≡ after_stored m.0 r g (phase + 1) st.word half)
 
     -- a store of DONE in the round for the gate in hand
-    abbrev pub done_stored : Step S → Me S (View (BoardView J)) → ℕ → Me S (View (BoardView J)) → Type 0
+    abbrev pub done_stored : Step S → Me S (View (BoardView J)) → ℕ → Me S (View (BoardView J))
+        → Type 0
     done_stored st m new m' =
-        (m'.1 ≡ m.1) × ((r g phase : ℕ) → m.0.inner.hand ≡ Has r g phase → m'.0 ≡ after_done m.0 r g)
+        (m'.1 ≡ m.1) × ((r g phase : ℕ) → m.0.inner.hand ≡ Has r g phase
+        → m'.0 ≡ after_done m.0 r g)
 
     -- a load of a bank's word from which a view that stands for all seats learns that each pair was made once at most
     abbrev pub settled : Step S → Me S (View (BoardView J)) → ℕ → Me S (View (BoardView J)) → Type 0

@@ -13,7 +13,8 @@ module _ {I : Type 0} where
   -- What a view says of the banks is so.
   pub record StandFits (jobs : ℕ) (words : List ℕ) (v : View I) : Type 0 where
     -- A seat inside a round sees a bank whose round it is, and the round has a job.
-    pub sees : (r : ℕ) → v.stand ≡ Inside r → (round_of (slice_index words (bank_of r)) ≡ r) × (r < jobs)
+    pub sees : (r : ℕ) → v.stand ≡ Inside r
+        → (round_of (slice_index words (bank_of r)) ≡ r) × (r < jobs)
     -- It is counted in at one bank at most, and at none where it stands for no seat.
     pub few : counted 0 v.stand + counted 1 v.stand ≤ v.seats
     -- Each exchange that gave a bank to its next round found it sealed with nobody counted in.
@@ -38,7 +39,8 @@ module _ {I : Type 0} where
     pub sealed : (r : ℕ) → r < jobs → round_of (slice_index words (bank_of r)) ≡ r
         → mark_of (slice_index words (bank_of r)) ≡ min 1 (total (λ v. sealed_in r v.steps) views)
     -- No round is sealed before its bank is in it.
-    pub early : (r : ℕ) → round_of (slice_index words (bank_of r)) < r → total (λ v. sealed_in r v.steps) views ≡ 0
+    pub early : (r : ℕ) → round_of (slice_index words (bank_of r)) < r
+        → total (λ v. sealed_in r v.steps) views ≡ 0
     -- The views stand for all seats, which are 1 to MAX_SEATS.
     pub dealt : total (λ v. v.seats) views ≡ seats
     pub few : (0 < seats) × (seats ≤ MAX_SEATS)

@@ -52,5 +52,6 @@ module _ {I : Type 0} where
   abbrev pub Reopens : ℕ → View I → View I → Reopening → Type 0
   Reopens r old new Given = new ≡ recorded old Outside (Reopen (bank_of r) (shut_word r) true)
   Reopens r old new NotSealed = Lost r old new (λ n. (round_of n ≡ r) × (mark_of n ≡ 0))
-  Reopens r old new Busy = Lost r old new (λ n. (round_of n ≡ r) × (mark_of n ≡ 1) × (0 < count_of n))
+  Reopens r old new Busy =
+      Lost r old new (λ n. (round_of n ≡ r) × (mark_of n ≡ 1) × (0 < count_of n))
   Reopens r old new (OtherRound k) = Lost r old new (λ n. (round_of n ≡ k) × (k ≢ r))

@@ -27,7 +27,8 @@ module _ {T I : Type 0} (holds : T → List ℕ → List (View I) → Type 0) wh
   -- A bank's word changes, its round never back, and a seat that comes or goes is idle.
   abbrev pub Moves : (I → Type 0) → Type 0
   Moves idle =
-      (about : T) (words : List ℕ) (views : List (View I)) (id b n : ℕ) (v : View I) (stand : Stand) (s : Step)
+      (about : T) (words : List ℕ) (views : List (View I)) (id b n : ℕ) (v : View I)
+      (stand : Stand) (s : Step)
       → holds about words views → get_elem? views id ≡ some v → b < 2
       → (stand ≡ v.stand) ⊎ idle v.inner → round_of (slice_index words b) ≤ round_of n
       → holds about (slice_set words b n) (slice_set views id (recorded v stand s))

@@ -12,7 +12,8 @@ pub record IsTable (table : TableId) : Type 0 where
 
 module _ {S I : Type 0} where
   -- The seat is one of this table, and its view is of this many jobs and seats.
-  pub record IsPlaceOf {T : Type 0} (table : TableId) (key : Key T) (seat : Seat S (View I)) : Type 0 where
+  pub record IsPlaceOf {T : Type 0} (table : TableId) (key : Key T) (seat : Seat S (View I))
+      : Type 0 where
     pub fits : IsTable table
     pub table_id : seat.table_id ≡ table
     pub jobs : seat.me.0.jobs ≡ key.jobs

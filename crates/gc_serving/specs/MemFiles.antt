@@ -5,7 +5,8 @@ use Rattle.gc_serving.specs.declared.mem_files.Limits.{Limits}
 
 -- the bytes of the first file of a name
 abbrev pub bytes_at : List (Bor (List ℕ) × Bor (List ℕ)) → List ℕ → Option (List ℕ)
-bytes_at files name = option_map (λ file. file.1.now) (find (λ file. bytes_eq file.0.now name) files)
+bytes_at files name =
+    option_map (λ file. file.1.now) (find (λ file. bytes_eq file.0.now name) files)
 
 -- those of the file that was written, where it has this name, and else these
 abbrev pub written_or : Option (List ℕ × List ℕ) → List ℕ → Option (List ℕ) → Option (List ℕ)

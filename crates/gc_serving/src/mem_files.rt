@@ -29,8 +29,8 @@ impl Limits {
     };
 }
 
-/// Files in memory, by name, each with its bytes. One file can be written, which can't be read here; it takes its memory
-/// from the allocator.
+/// Files in memory, by name, each with its bytes. One file can be written, which can't be read here; it takes its
+/// memory from the allocator.
 #[derive(Drop)]
 pub struct MemFiles<'a, B: Allocator = Global> {
     alloc: B,

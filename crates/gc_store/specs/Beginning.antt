@@ -22,7 +22,8 @@ no_rows = record { generator = 0; evaluator = 0 }
 -- A countdown for each gate, one less than the countdown that the opening begins with.
 pub record AreCounted (c : Netlist) (countdowns : List ℕ) : Type 0 where
   pub count : length countdowns ≡ length c.gates
-  pub counted : (i n : ℕ) → slice_get (map (opening_countdown c) (range_with_len 0 (length c.gates))) i ≡ Some (n + 1)
+  pub counted : (i n : ℕ)
+      → slice_get (map (opening_countdown c) (range_with_len 0 (length c.gates))) i ≡ Some (n + 1)
       → slice_get countdowns i ≡ Some n
 
 -- Every gate is free in a queue of these marks and countdowns,
@@ -32,7 +33,8 @@ pub record Queues (c : Netlist) (gate_marks : List Mark) (gate_counts : List ℕ
   pub countdowns : AreCounted c gate_counts
 
 -- and in tables of these AND numbers, labels and rows the input wires alone have their labels.
-pub record Tabulates (c : Netlist) (seed numbers labels : List ℕ) (row_pairs : List RowPair) : Type 0 where
+pub record Tabulates (c : Netlist) (seed numbers labels : List ℕ) (row_pairs : List RowPair)
+    : Type 0 where
   pub and_numbers : numbers ≡ map (and_number c) (range_with_len 0 (length c.gates))
   pub zero_labels : labels ≡ map (input_zero c seed) (range_with_len 0 c.wires)
   pub rows : row_pairs ≡ replicate (and_count c) no_rows

@@ -70,9 +70,11 @@ pub record IsLawfulContent (s : Content) : Type 0 where
   -- Each gate has a state.
   pub states : length s.states ≡ length s.circuit.gates
   -- A finished gate has the zero label and the rows of the half-gate garbling of that gate under the seed.
-  pub finished : (i : ℕ) (g : Gate) (label : ℕ) (rows : Option RowPair) → slice_get s.circuit.gates i ≡ Some g
+  pub finished : (i : ℕ) (g : Gate) (label : ℕ) (rows : Option RowPair)
+      → slice_get s.circuit.gates i ≡ Some g
       → slice_get s.states i ≡ Some (Finished label rows)
-      → (label ≡ zero_label_of s.circuit s.seed g.set) × (rows ≡ sealed_rows (task_of s.circuit s.seed i g))
+      → (label ≡ zero_label_of s.circuit s.seed g.set)
+      × (rows ≡ sealed_rows (task_of s.circuit s.seed i g))
   -- Each wire that a claimed or finished gate reads is known.
   pub reads : (i : ℕ) (g : Gate) (state : State) → slice_get s.circuit.gates i ≡ Some g
       → slice_get s.states i ≡ Some state → state ≢ Free → EachRead (IsKnown s) g.operation

@@ -36,7 +36,8 @@ module _ (c : Netlist) (zero_labels : List ℕ) (rows : List RowPair) where
   -- the state of gate i, once it is finished
   abbrev pub finished_state : ℕ → Option Gate → State
   finished_state i None = Free
-  finished_state i (Some g) = Finished (slice_index zero_labels g.set) (rows_at rows (and_number c i) g.operation)
+  finished_state i (Some g) =
+      Finished (slice_index zero_labels g.set) (rows_at rows (and_number c i) g.operation)
 
   -- the state of gate i, by its mark
   abbrev pub state_at : ℕ → Mark → State
@@ -46,7 +47,8 @@ module _ (c : Netlist) (zero_labels : List ℕ) (rows : List RowPair) where
 
   -- the state of each gate
   unfoldable pub states_of : List Mark → List State
-  states_of marks = map (λ i. state_at i (slice_index_or marks i mark.Free)) (range_with_len 0 (length c.gates))
+  states_of marks =
+      map (λ i. state_at i (slice_index_or marks i mark.Free)) (range_with_len 0 (length c.gates))
 
 -- the marks and countdowns among the tables, which are the queue's
 abbrev pub queue_of : Tables → Standing

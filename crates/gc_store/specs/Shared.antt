@@ -48,7 +48,8 @@ NoneReady s = (i : ℕ) → ¬ IsReady s i
 -- is claimed; or nothing, where the store was stopped or no gate is ready and none is claimed.
 abbrev pub Looks : Bool → Content → Finding → Content → Type 0
 Looks stopped old (finding.Task task) new = (stopped ≡ false) × Claims old (Some task) new
-Looks stopped old finding.Later new = (stopped ≡ false) × (new ≡ old) × NoneReady old × HasClaimed old
+Looks stopped old finding.Later new =
+    (stopped ≡ false) × (new ≡ old) × NoneReady old × HasClaimed old
 Looks stopped old finding.Nothing new =
     (new ≡ old) × ((stopped ≡ true) ⊎ (NoneReady old × (¬ HasClaimed old)))
 
@@ -62,7 +63,8 @@ ClaimsUnless false old before new after = (n : ℕ) × ClaimsSome old before n n
 abbrev pub FinishesEach : Content → List Task → Content → Type 0
 FinishesEach old [] new = new ≡ old
 FinishesEach old (task ∷ tasks) new =
-    (complete : Bool) × (next : Content) × Finishes old task (Ok complete) next × FinishesEach next tasks new
+    (complete : Bool) × (next : Content) × Finishes old task (Ok complete) next
+    × FinishesEach next tasks new
 
 -- The same up to the first that is refused, if one is: task n.
 abbrev pub FinishesUpTo : {X : Type 0} → Content → List Task → Result X Refused → Content → Type 0
@@ -73,9 +75,11 @@ FinishesUpTo old tasks (Err refused) new =
 
 -- Handing in, in one critical section: sealed tasks are finished, and where none is refused gates are claimed into the
 -- batch. The answer is whether every gate is finished.
-abbrev pub HandsOver : Bool → Content → List Task → List Task → Result Bool Refused → Content → List Task → Type 0
+abbrev pub HandsOver : Bool → Content → List Task → List Task → Result Bool Refused → Content
+    → List Task → Type 0
 HandsOver stopped old tasks before (Ok complete) new after =
-    (middle : Content) × FinishesEach old tasks middle × ClaimsUnless stopped middle before new after
+    (middle : Content) × FinishesEach old tasks middle
+    × ClaimsUnless stopped middle before new after
     × (IsTrue complete ↔ AllFinished new)
 HandsOver stopped old tasks before (Err refused) new after =
     FinishesUpTo {X = Bool} old tasks (Err refused) new × (after ≡ before)

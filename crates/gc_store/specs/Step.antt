@@ -27,16 +27,19 @@ with_state s i state = record s { states = slice_set s.states i state }
 -- and nothing changes.
 abbrev pub Claims : Content → Option Task → Content → Type 0
 Claims old None new = ((i : ℕ) → ¬ IsReady old i) × (new ≡ old)
-Claims old (Some task) new = IsReady old task.gate × IsOwnTask old task × (new ≡ with_state old task.gate Claimed)
+Claims old (Some task) new =
+    IsReady old task.gate × IsOwnTask old task × (new ≡ with_state old task.gate Claimed)
 
 -- Claims one after the other, with these tasks as their answers.
 abbrev pub ClaimsAll : Content → List Task → Content → Type 0
 ClaimsAll old [] new = new ≡ old
-ClaimsAll old (task ∷ tasks) new = (next : Content) × Claims old (Some task) next × ClaimsAll next tasks new
+ClaimsAll old (task ∷ tasks) new =
+    (next : Content) × Claims old (Some task) next × ClaimsAll next tasks new
 
 -- Claiming into a batch: tasks are claimed one after the other and put at the end of the batch, until it is full or no
 -- gate is ready. The answer is how many this call claimed.
-pub record ClaimsSome (old : Content) (before : List Task) (answer : ℕ) (new : Content) (after : List Task) : Type 0 where
+pub record ClaimsSome (old : Content) (before : List Task) (answer : ℕ) (new : Content)
+    (after : List Task) : Type 0 where
   pub tasks : List Task
   pub claims : ClaimsAll old tasks new
   pub answer_is : answer ≡ length tasks
@@ -55,15 +58,18 @@ with_sealed s task = record s {
 -- is finished, and the answer is whether every gate now is.
 abbrev pub Finishes : Content → Task → Result Bool Refused → Content → Type 0
 Finishes old task (Ok complete) new =
-    IsClaimed old task.gate × IsOwnTask old task × (new ≡ with_sealed old task) × (IsTrue complete ↔ AllFinished new)
-Finishes old task (Err (NotClaimed back)) new = (¬ IsClaimed old task.gate) × (back ≡ task) × (new ≡ old)
+    IsClaimed old task.gate × IsOwnTask old task × (new ≡ with_sealed old task)
+    × (IsTrue complete ↔ AllFinished new)
+Finishes old task (Err (NotClaimed back)) new =
+    (¬ IsClaimed old task.gate) × (back ≡ task) × (new ≡ old)
 Finishes old task (Err (OtherInputs back)) new =
     IsClaimed old task.gate × (¬ IsOwnTask old task) × (back ≡ task) × (new ≡ old)
 
 -- Dealing a tally: a new one is 0, and there is none where all were dealt. The content stays.
 abbrev pub Deals : Account → Option ℕ → Account → Type 0
 Deals old None new = (old.tallies ≡ MAX_TALLIES) × (new ≡ old)
-Deals old (Some tally) new = (old.tallies < MAX_TALLIES) × (tally ≡ 0) × (new ≡ record old { tallies = old.tallies + 1 })
+Deals old (Some tally) new =
+    (old.tallies < MAX_TALLIES) × (tally ≡ 0) × (new ≡ record old { tallies = old.tallies + 1 })
 
 -- Settling: with all the tallies that were dealt the answer is their sum, which is the number of finished gates. Where
 -- one is missing it is refused.
@@ -81,4 +87,5 @@ reopened (Finished label rows) = Finished label rows
 -- Reopening: claimed gates are free again, and the answer is how many they were.
 abbrev pub Reopens : Content → ℕ → Content → Type 0
 Reopens old answer new =
-    (answer ≡ count_by is_claimed old.states) × (new ≡ record old { states = map reopened old.states })
+    (answer ≡ count_by is_claimed old.states)
+    × (new ≡ record old { states = map reopened old.states })

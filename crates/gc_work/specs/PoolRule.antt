@@ -37,7 +37,8 @@ IdleIsEmpty accounts = (port : ℕ) (v : PoolAccount) → get_elem? accounts por
 abbrev pub IsBalanced : List Task → List PoolAccount → Type 0
 IsBalanced tasks accounts =
     (total (λ v. v.parts) accounts ≡ all_parts)
-    × ((h : Task → ℕ) → total (λ v. weigh h v.pushed) accounts ≡ total (gone h) accounts + weigh h tasks)
+    × ((h : Task → ℕ)
+    → total (λ v. weigh h v.pushed) accounts ≡ total (gone h) accounts + weigh h tasks)
     × IdleIsEmpty accounts
 
 -- What an account says of the tasks in the pool: with all parts, they are those pushed and not taken.
