@@ -12,7 +12,7 @@ use Rattle.gc_command.specs.declared.fault.Fault.{Fault}
 use Rattle.gc_command.specs.declared.fault.Fault.TheVariants as faults
 use Rattle.gc_command.specs.Job.{DecodeTo, HasJobFault}
 use Rattle.gc_gatehouse.specs.Workers.{AreFew}
-use Rattle.gc_command.specs.Run.{IsTold, IsWantOfMemory, HasRunFault}
+use Rattle.gc_command.specs.Run.{HasRunInput, IsWantOfMemory, HasRunFault}
 use Rattle.gc_command.proofs.FaultLemmas.{bind-memory}
 
 module _ (c : Netlist) (lawful : IsLawful c) (seed : List ℕ) (values : List (List Bool)) (g : GarbledParts)
@@ -45,18 +45,18 @@ module _ (c : Netlist) (lawful : IsLawful c) (seed : List ℕ) (values : List (L
   honest-fault faults.Memory has = absurd has
 
 -- Where memory is missing, a run has that fault.
-pub want-of-memory : (bytes seed : List ℕ) (workers : ℕ) (texts : List (List ℕ)) → IsTold bytes seed texts
+pub want-of-memory : (bytes seed : List ℕ) (workers : ℕ) (texts : List (List ℕ)) → HasRunInput bytes seed texts
     → AreFew workers → (fault : Fault) → IsWantOfMemory fault → HasRunFault bytes seed workers texts fault
-want-of-memory bytes seed workers texts told few (faults.Garbling fault) want = (told, rw want few)
-want-of-memory bytes seed workers texts told few (faults.File fault) want = (want, told)
-want-of-memory bytes seed workers texts told few (faults.Binding fault) want = (want, told)
-want-of-memory bytes seed workers texts told few (faults.Evaluation fault) want = (want, told)
-want-of-memory bytes seed workers texts told few faults.Memory want = tt
-want-of-memory bytes seed workers texts told few (faults.Circuit fault) want = absurd want
-want-of-memory bytes seed workers texts told few faults.WrongCount want = absurd want
-want-of-memory bytes seed workers texts told few (faults.Value fault) want = absurd want
-want-of-memory bytes seed workers texts told few faults.BadSeed want = absurd want
-want-of-memory bytes seed workers texts told few faults.BadList want = absurd want
-want-of-memory bytes seed workers texts told few faults.NoSuchValue want = absurd want
-want-of-memory bytes seed workers texts told few faults.CannotRead want = absurd want
-want-of-memory bytes seed workers texts told few faults.CannotWrite want = absurd want
+want-of-memory bytes seed workers texts input few (faults.Garbling fault) want = (input, rw want few)
+want-of-memory bytes seed workers texts input few (faults.File fault) want = (want, input)
+want-of-memory bytes seed workers texts input few (faults.Binding fault) want = (want, input)
+want-of-memory bytes seed workers texts input few (faults.Evaluation fault) want = (want, input)
+want-of-memory bytes seed workers texts input few faults.Memory want = tt
+want-of-memory bytes seed workers texts input few (faults.Circuit fault) want = absurd want
+want-of-memory bytes seed workers texts input few faults.WrongCount want = absurd want
+want-of-memory bytes seed workers texts input few (faults.Value fault) want = absurd want
+want-of-memory bytes seed workers texts input few faults.BadSeed want = absurd want
+want-of-memory bytes seed workers texts input few faults.BadList want = absurd want
+want-of-memory bytes seed workers texts input few faults.NoSuchValue want = absurd want
+want-of-memory bytes seed workers texts input few faults.CannotRead want = absurd want
+want-of-memory bytes seed workers texts input few faults.CannotWrite want = absurd want

@@ -11,10 +11,10 @@ use Rattle.gc_command.specs.Values.{IsInputValue, HasInputValueFault}
 use Rattle.gc_command.specs.Wrote.{HasWritten}
 
 -- The bytes are a circuit's, the seed's text is a seed, and the text spells the bits of the input value of this index.
-pub record TellDeal (bytes seed_text : List ℕ) (index : ℕ) (text : List ℕ) (c : Netlist) (seed : List ℕ)
+pub record IsDealInput (bytes seed_text : List ℕ) (index : ℕ) (text : List ℕ) (c : Netlist) (seed : List ℕ)
     (bits : List Bool) : Type 0 where
   pub circuit : IsCircuit bytes c
-  pub seed_told : IsSeed seed_text seed
+  pub seed_read : IsSeed seed_text seed
   pub value : IsInputValue c.input_widths index text bits
 
 -- What `deal` does: it writes the value's label file under the seed, and states its number of bytes.
@@ -23,7 +23,7 @@ pub record AnswersDeal (bytes seed_text : List ℕ) (index : ℕ) (text : List �
   pub circuit : Netlist
   pub seed : List ℕ
   pub bits : List Bool
-  pub told : TellDeal bytes seed_text index text circuit seed bits
+  pub input : IsDealInput bytes seed_text index text circuit seed bits
   pub written : HasWritten (label_file (label_parts_of circuit seed index bits)) held lines
 
 -- When `deal` has which fault: it is the first in the order of the work, but that memory may run out at each step.
@@ -36,6 +36,6 @@ HasDealFault bytes seed index text NoSuchValue =
 HasDealFault bytes seed index text (Value fault) =
     (c : Netlist) × IsCircuit bytes c × IsSeedText seed × HasInputValueFault c.input_widths index text (Value fault)
 HasDealFault bytes seed index text CannotWrite =
-    (c : Netlist) × ((key : List ℕ) × ((bits : List Bool) × TellDeal bytes seed index text c key bits))
+    (c : Netlist) × ((key : List ℕ) × ((bits : List Bool) × IsDealInput bytes seed index text c key bits))
 HasDealFault bytes seed index text Memory = Unit {0}
 HasDealFault bytes seed index text _ = ⊥

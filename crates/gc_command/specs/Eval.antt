@@ -16,11 +16,11 @@ use Rattle.gc_command.specs.Lines.{output_lines}
 use Rattle.gc_command.specs.Job.{DecodeTo, HasJobFault}
 
 -- The files of these names are label files with these parts: as many, and each its own.
-abbrev pub TellLabels : FileBytes → List (List ℕ) → List LabelFileParts → Type 0
-TellLabels bytes [] [] = Unit {0}
-TellLabels bytes (name ∷ names) (parts ∷ files) =
-    IfSome (bytes name) (λ held. IsLabelFile held parts) × TellLabels bytes names files
-TellLabels bytes _ _ = ⊥
+abbrev pub AreLabelFiles : FileBytes → List (List ℕ) → List LabelFileParts → Type 0
+AreLabelFiles bytes [] [] = Unit {0}
+AreLabelFiles bytes (name ∷ names) (parts ∷ files) =
+    IfSome (bytes name) (λ held. IsLabelFile held parts) × AreLabelFiles bytes names files
+AreLabelFiles bytes _ _ = ⊥
 
 -- The first file that is no label file has this fault.
 abbrev pub FirstBadLabels : FileBytes → List (List ℕ) → FileFault → Type 0
@@ -58,11 +58,11 @@ HasLabelsFault bytes labels Memory = Unit {0}
 HasLabelsFault bytes labels _ = ⊥
 
 -- The files of these names are a circuit, a garbled file and label files.
-pub record TellEval (bytes : FileBytes) (circuit garbled : List ℕ) (labels : List (List ℕ)) (c : Netlist)
+pub record AreEvalFiles (bytes : FileBytes) (circuit garbled : List ℕ) (labels : List (List ℕ)) (c : Netlist)
     (g : GarbledParts) (files : List LabelFileParts) : Type 0 where
-  pub circuit_told : IfSome (bytes circuit) (λ held. IsCircuit held c)
-  pub garbled_told : IfSome (bytes garbled) (λ held. IsGarbledFile held g)
-  pub labels_told : TellLabels bytes labels files
+  pub circuit_read : IfSome (bytes circuit) (λ held. IsCircuit held c)
+  pub garbled_read : IfSome (bytes garbled) (λ held. IsGarbledFile held g)
+  pub labels_read : AreLabelFiles bytes labels files
 
 -- What `eval` answers: the lines of what the files decode to, whatever the number of workers.
 pub record AnswersEval (bytes : FileBytes) (circuit garbled : List ℕ) (workers : ℕ) (labels : List (List ℕ))
@@ -70,7 +70,7 @@ pub record AnswersEval (bytes : FileBytes) (circuit garbled : List ℕ) (workers
   pub c : Netlist
   pub g : GarbledParts
   pub files : List LabelFileParts
-  pub told : TellEval bytes circuit garbled labels c g files
+  pub input : AreEvalFiles bytes circuit garbled labels c g files
   pub few : AreFew workers
   pub outputs : List Bool
   pub decoded : DecodeTo c g files outputs
@@ -87,9 +87,9 @@ HasEvalFault bytes circuit garbled workers labels (File fault) =
     × (fault ≢ file.Memory → FirstBadFile bytes garbled labels fault)
 HasEvalFault bytes circuit garbled workers labels (Binding fault) =
     (c : Netlist) × ((g : GarbledParts) × ((files : List LabelFileParts)
-    × (TellEval bytes circuit garbled labels c g files × HasJobFault c g files workers (Binding fault))))
+    × (AreEvalFiles bytes circuit garbled labels c g files × HasJobFault c g files workers (Binding fault))))
 HasEvalFault bytes circuit garbled workers labels (Evaluation fault) =
     (c : Netlist) × ((g : GarbledParts) × ((files : List LabelFileParts)
-    × (TellEval bytes circuit garbled labels c g files × HasJobFault c g files workers (Evaluation fault))))
+    × (AreEvalFiles bytes circuit garbled labels c g files × HasJobFault c g files workers (Evaluation fault))))
 HasEvalFault bytes circuit garbled workers labels Memory = Unit {0}
 HasEvalFault bytes circuit garbled workers labels _ = ⊥

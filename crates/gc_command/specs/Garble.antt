@@ -15,9 +15,9 @@ use Rattle.gc_command.specs.SeedText.{IsSeed}
 use Rattle.gc_command.specs.Wrote.{HasWritten}
 
 -- The bytes are a circuit's, and the seed's text is a seed.
-pub record TellGarble (bytes seed_text : List ℕ) (c : Netlist) (seed : List ℕ) : Type 0 where
+pub record IsGarbleInput (bytes seed_text : List ℕ) (c : Netlist) (seed : List ℕ) : Type 0 where
   pub circuit : IsCircuit bytes c
-  pub seed_told : IsSeed seed_text seed
+  pub seed_read : IsSeed seed_text seed
 
 -- What `garble` does, whatever the number of workers: it writes the garbled file of the version, of the circuit's
 -- garbling under the seed, and states its number of bytes.
@@ -25,7 +25,7 @@ pub record AnswersGarble (bytes seed_text : List ℕ) (version : Version) (worke
     (lines : List ℕ) : Type 0 where
   pub circuit : Netlist
   pub seed : List ℕ
-  pub told : TellGarble bytes seed_text circuit seed
+  pub input : IsGarbleInput bytes seed_text circuit seed
   pub few : AreFew workers
   pub garbling : GarblingParts
   pub garbled : IsGarbled circuit seed garbling
@@ -37,8 +37,8 @@ HasGarbleFault bytes seed workers CannotRead = HasCircuitFault bytes CannotRead
 HasGarbleFault bytes seed workers (Circuit fault) = HasCircuitFault bytes (Circuit fault)
 HasGarbleFault bytes seed workers BadSeed = ((c : Netlist) × IsCircuit bytes c) × ¬ IsSeedText seed
 HasGarbleFault bytes seed workers (Garbling fault) =
-    ((c : Netlist) × ((key : List ℕ) × TellGarble bytes seed c key)) × HasWorkFault workers fault
+    ((c : Netlist) × ((key : List ℕ) × IsGarbleInput bytes seed c key)) × HasWorkFault workers fault
 HasGarbleFault bytes seed workers CannotWrite =
-    ((c : Netlist) × ((key : List ℕ) × TellGarble bytes seed c key)) × AreFew workers
+    ((c : Netlist) × ((key : List ℕ) × IsGarbleInput bytes seed c key)) × AreFew workers
 HasGarbleFault bytes seed workers Memory = Unit {0}
 HasGarbleFault bytes seed workers _ = ⊥

@@ -6,7 +6,7 @@ use Rattle.gc_circuit.specs.Meaning.{AreOutputs}
 use Rattle.gc_command.specs.declared.fault.Fault.{Fault}
 use Rattle.gc_command.specs.declared.fault.Fault.TheVariants.{Circuit, WrongCount, Value, CannotRead, Memory}
 use Rattle.gc_command.specs.CircuitFile.{IsCircuit, HasCircuitFault}
-use Rattle.gc_command.specs.Values.{TellValues, HasValueFault}
+use Rattle.gc_command.specs.Values.{SpellValues, HasValueFault}
 use Rattle.gc_command.specs.Lines.{output_lines}
 
 -- What `plain` answers: the lines of the circuit's outputs on the values that the texts spell.
@@ -14,7 +14,7 @@ pub record AnswersPlain (bytes : List ℕ) (texts : List (List ℕ)) (lines : Li
   pub circuit : Netlist
   pub read : IsCircuit bytes circuit
   pub values : List (List Bool)
-  pub told : TellValues circuit.input_widths texts values
+  pub spelled : SpellValues circuit.input_widths texts values
   pub outputs : List Bool
   pub computed : AreOutputs circuit (flat_map (λ value. value) values) outputs
   pub printed : lines ≡ output_lines circuit.output_widths outputs

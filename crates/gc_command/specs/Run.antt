@@ -13,19 +13,19 @@ use Rattle.gc_job.specs.declared.fault.EvalFault.TheVariants as eval
 use Rattle.gc_command.specs.declared.fault.Fault.{Fault}
 use Rattle.gc_command.specs.declared.fault.Fault.TheVariants.{Circuit, WrongCount, Value, BadSeed, Garbling, File, Binding, Evaluation, CannotRead, Memory}
 use Rattle.gc_command.specs.CircuitFile.{IsCircuit, HasCircuitFault}
-use Rattle.gc_command.specs.Values.{TellValues, HasValueFault}
+use Rattle.gc_command.specs.Values.{SpellValues, HasValueFault}
 use Rattle.gc_command.specs.Lines.{output_lines}
 
 -- The bytes are a circuit's, the seed's text is a seed, and the texts spell values of the circuit's input widths.
-pub record TellRun (bytes seed : List ℕ) (texts : List (List ℕ)) (c : Netlist)
+pub record IsRunInput (bytes seed : List ℕ) (texts : List (List ℕ)) (c : Netlist)
     (values : List (List Bool)) : Type 0 where
   pub circuit : IsCircuit bytes c
   pub seed_text : IsSeedText seed
-  pub input_values : TellValues c.input_widths texts values
+  pub input_values : SpellValues c.input_widths texts values
 
 -- There are such a circuit and such values.
-abbrev pub IsTold : List ℕ → List ℕ → List (List ℕ) → Type 0
-IsTold bytes seed texts = (c : Netlist) × ((values : List (List Bool)) × TellRun bytes seed texts c values)
+abbrev pub HasRunInput : List ℕ → List ℕ → List (List ℕ) → Type 0
+HasRunInput bytes seed texts = (c : Netlist) × ((values : List (List Bool)) × IsRunInput bytes seed texts c values)
 
 -- The faults of the files that a run makes for itself: that there is no memory.
 abbrev pub IsWantOfMemory : Fault → Type 0
@@ -45,7 +45,7 @@ IsOwnFault workers fault = IsWantOfMemory fault
 pub record AnswersRun (bytes seed : List ℕ) (workers : ℕ) (texts : List (List ℕ)) (lines : List ℕ) : Type 0 where
   pub circuit : Netlist
   pub values : List (List Bool)
-  pub told : TellRun bytes seed texts circuit values
+  pub input : IsRunInput bytes seed texts circuit values
   pub few : AreFew workers
   pub outputs : List Bool
   pub computed : AreOutputs circuit (flat_map (λ value. value) values) outputs
@@ -61,9 +61,9 @@ HasRunFault bytes seed workers texts WrongCount = (c : Netlist) × IsCircuit byt
 HasRunFault bytes seed workers texts (Value fault) = (c : Netlist) × IsCircuit bytes c × IsSeedText seed
     × HasValueFault c.input_widths texts (Value fault)
 HasRunFault bytes seed workers texts (Garbling fault) =
-    IsTold bytes seed texts × HasWorkFault workers fault
-HasRunFault bytes seed workers texts (File fault) = IsWantOfMemory (File fault) × IsTold bytes seed texts
-HasRunFault bytes seed workers texts (Binding fault) = IsWantOfMemory (Binding fault) × IsTold bytes seed texts
-HasRunFault bytes seed workers texts (Evaluation fault) = IsWantOfMemory (Evaluation fault) × IsTold bytes seed texts
+    HasRunInput bytes seed texts × HasWorkFault workers fault
+HasRunFault bytes seed workers texts (File fault) = IsWantOfMemory (File fault) × HasRunInput bytes seed texts
+HasRunFault bytes seed workers texts (Binding fault) = IsWantOfMemory (Binding fault) × HasRunInput bytes seed texts
+HasRunFault bytes seed workers texts (Evaluation fault) = IsWantOfMemory (Evaluation fault) × HasRunInput bytes seed texts
 HasRunFault bytes seed workers texts Memory = Unit {0}
 HasRunFault bytes seed workers texts _ = ⊥

@@ -7,11 +7,11 @@ use Rattle.gc_command.specs.declared.fault.Fault.{Fault}
 use Rattle.gc_command.specs.declared.fault.Fault.TheVariants.{WrongCount, NoSuchValue, Value, Memory}
 
 -- The texts spell values of these widths: as many, and each the bits of its own.
-abbrev pub TellValues : List ℕ → List (List ℕ) → List (List Bool) → Type 0
-TellValues [] [] [] = Unit {0}
-TellValues (width ∷ widths) (text ∷ texts) (bits ∷ values) =
-    (value_of_text text width ≡ Ok bits) × TellValues widths texts values
-TellValues _ _ _ = ⊥
+abbrev pub SpellValues : List ℕ → List (List ℕ) → List (List Bool) → Type 0
+SpellValues [] [] [] = Unit {0}
+SpellValues (width ∷ widths) (text ∷ texts) (bits ∷ values) =
+    (value_of_text text width ≡ Ok bits) × SpellValues widths texts values
+SpellValues _ _ _ = ⊥
 
 -- The first text that is no value of its width has this fault.
 abbrev pub FirstBadValue : List ℕ → List (List ℕ) → ValueFault → Type 0
@@ -33,7 +33,7 @@ HasValueFault widths texts _ = ⊥
 pub record IsInputValue (widths : List ℕ) (index : ℕ) (text : List ℕ) (bits : List Bool) : Type 0 where
   pub width : ℕ
   pub at : slice_get widths index ≡ Some width
-  pub told : value_of_text text width ≡ Ok bits
+  pub spelled : value_of_text text width ≡ Ok bits
 
 -- The faults of the index of an input value and of its text, memory aside: the index comes first.
 abbrev pub HasInputValueFault : List ℕ → ℕ → List ℕ → Fault → Type 0

@@ -3,7 +3,7 @@
 ghost use Rattle.std.specs.Prelude.{◌≡◌, ℕ, List, map, IfOk, IfErr, IfSome, OnOk};
 ghost use Rattle.gc_format.specs.GarbledFile.{IsGarbledFile};
 ghost use Rattle.gc_format.specs.LabelFile.{IsLabelFile};
-ghost use Rattle.gc_command.specs.Eval.{HasGarbledFault, HasLabelFault, HasLabelsFault, TellLabels};
+ghost use Rattle.gc_command.specs.Eval.{HasGarbledFault, HasLabelFault, HasLabelsFault, AreLabelFiles};
 ghost use Rattle.gc_command.specs.Fault.{HasCause};
 
 use crate::fault::Fault;
@@ -18,7 +18,7 @@ pub fn read_garbled_file<A: Allocator + Copy, F: Files>(
     name: &str,
     files: &mut F,
 ) -> Result<Garbled<A>, Fault>
-    ensures told { IfOk result
+    ensures garbled { IfOk result
         (λ g. IfSome (F.bytes files.old name.now) (λ held. IsGarbledFile held g)) }
     ensures fault { IfErr result (HasGarbledFault (F.bytes files.old) name.now) }
     ensures cause { IfErr result
@@ -38,8 +38,8 @@ pub fn read_label_files<N: AsStr, A: Allocator + Copy, F: Files>(
     names: &[N],
     files: &mut F,
 ) -> Result<Vec<LabelFile<A>, A>, Fault>
-    ensures told { IfOk result (λ labels.
-        TellLabels (F.bytes files.old) (map N.text names.now) labels.items) }
+    ensures labels { IfOk result (λ labels.
+        AreLabelFiles (F.bytes files.old) (map N.text names.now) labels.items) }
     ensures fault { IfErr result (HasLabelsFault (F.bytes files.old) (map N.text names.now)) }
     ensures cause { IfErr result
         (λ fault. HasCause fault (F.failures files.old) (F.failures files.new)) }
@@ -59,7 +59,7 @@ fn read_label_file<A: Allocator + Copy, F: Files>(
     name: &str,
     files: &mut F,
 ) -> Result<LabelFile<A>, Fault>
-    ensures told { IfOk result
+    ensures parts { IfOk result
         (λ parts. IfSome (F.bytes files.old name.now) (λ held. IsLabelFile held parts)) }
     ensures fault { IfErr result (HasLabelFault (F.bytes files.old) name.now) }
     ensures cause { IfErr result

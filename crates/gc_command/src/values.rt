@@ -1,7 +1,7 @@
 //! The values of a command line.
 
 ghost use Rattle.std.specs.Prelude.{map, IfOk, IfErr, string_bytes};
-ghost use Rattle.gc_command.specs.Values.{HasInputValueFault, HasValueFault, IsInputValue, TellValues};
+ghost use Rattle.gc_command.specs.Values.{HasInputValueFault, HasValueFault, IsInputValue, SpellValues};
 
 use crate::fault::Fault;
 use gc_circuit::read_value;
@@ -13,7 +13,7 @@ pub fn read_values<A: Allocator + Copy>(
     widths: &[u32],
     texts: &[String],
 ) -> Result<Vec<Vec<bool, A>, A>, Fault>
-    ensures told { IfOk result (λ values. TellValues widths.now (map string_bytes texts.now)
+    ensures spelled { IfOk result (λ values. SpellValues widths.now (map string_bytes texts.now)
         (map (λ value. value.items) values.items)) }
     ensures fault { IfErr result (HasValueFault widths.now (map string_bytes texts.now)) }
 {
@@ -35,7 +35,7 @@ pub fn read_input_value<A: Allocator + Copy>(
     index: u32,
     text: &str,
 ) -> Result<Vec<bool, A>, Fault>
-    ensures told { IfOk result (λ bits. IsInputValue widths.now index text.now bits.items) }
+    ensures spelled { IfOk result (λ bits. IsInputValue widths.now index text.now bits.items) }
     ensures fault { IfErr result (HasInputValueFault widths.now index text.now) }
 {
     match widths.get(index as usize) {

@@ -12,34 +12,34 @@ use Rattle.gc_command.specs.declared.fault.Fault.{Fault}
 use Rattle.gc_command.specs.declared.fault.Fault.TheVariants as faults
 use Rattle.gc_command.specs.Files.{FileBytes, GivesFile}
 use Rattle.gc_command.specs.CircuitFile.{IsCircuit, IsCircuitFault, HasCircuitFault}
-use Rattle.gc_command.specs.Eval.{TellLabels, HasLabelsFault}
+use Rattle.gc_command.specs.Eval.{AreLabelFiles, HasLabelsFault}
 use Rattle.gc_jobs.specs.JobList.{IsJobList, listed}
 use Rattle.gc_jobs.specs.Jobs.{NameFiles, NameJob, FirstBadNamed, HasNamedFault, NameJobs, FirstBadJob, HasLinesFault, HasListFault, HasBadJob, AreListed, HasJobsFault}
 use Rattle.gc_command.proofs.AnswerLemmas.{length-decoded}
-use Rattle.gc_command.proofs.EvalLemmas.{told-before, labels-before, bad-before}
+use Rattle.gc_command.proofs.EvalLemmas.{held-before, labels-before, bad-before}
 
 -- What files name they named before, where no file has changed.
 module _ (old new : FileBytes) (same : (n : List ℕ) → new n ≡ old n) where
   files-before : (words : List (List ℕ)) (g : GarbledParts) (files : List LabelFileParts) → NameFiles new words g files
       → NameFiles old words g files
-  files-before words g files told = record {
-    garbled = told.garbled;
-    labels = told.labels;
-    names = told.names;
-    garbled_told = told-before old new same (λ held. IsGarbledFile held g) told.garbled told.garbled_told;
-    labels_told = labels-before old new same told.labels files told.labels_told;
+  files-before words g files named = record {
+    garbled = named.garbled;
+    labels = named.labels;
+    names = named.names;
+    garbled_read = held-before old new same (λ held. IsGarbledFile held g) named.garbled named.garbled_read;
+    labels_read = labels-before old new same named.labels files named.labels_read;
   }
 
   -- The files that the steps read are those that the words named before.
   pub name-files : (words : List (List ℕ)) (garbled : List ℕ) (labels : List (List ℕ)) (g : GarbledParts)
       (files : List LabelFileParts) → words ≡ garbled ∷ labels → IfSome (old garbled) (λ held. IsGarbledFile held g)
-      → TellLabels new labels files → NameFiles old words g files
-  name-files words garbled labels g files names garbled_told labels_told = record {
+      → AreLabelFiles new labels files → NameFiles old words g files
+  name-files words garbled labels g files names garbled_read labels_read = record {
     garbled = garbled;
     labels = labels;
     names = names;
-    garbled_told = garbled_told;
-    labels_told = labels-before old new same labels files labels_told;
+    garbled_read = garbled_read;
+    labels_read = labels-before old new same labels files labels_read;
   }
 
   pub job-before : (c : Netlist) (words : List (List ℕ)) (job : JobParts) → NameJob new c words job
@@ -47,18 +47,18 @@ module _ (old new : FileBytes) (same : (n : List ℕ) → new n ≡ old n) where
   job-before c words job is = record {
     g = is.g;
     files = is.files;
-    told = files-before words is.g is.files is.told;
+    named = files-before words is.g is.files is.named;
     bound = is.bound;
   }
 
   first-before : (words : List (List ℕ)) (fault : FileFault) → FirstBadNamed new words fault → FirstBadNamed old words fault
   first-before [] fault bad = bad
   first-before (garbled ∷ labels) fault (inl here) =
-      inl (told-before old new same (λ held. FirstFault held fault) garbled here)
+      inl (held-before old new same (λ held. FirstFault held fault) garbled here)
   first-before (garbled ∷ labels) fault (inr later) =
       inr (
         later.0,
-        told-before old new same (λ held. IsGarbledFile held later.0) garbled later.1,
+        held-before old new same (λ held. IsGarbledFile held later.0) garbled later.1,
         bad-before old new same labels fault later.2,
       )
 
@@ -97,27 +97,27 @@ module _ (old new : FileBytes) (same : (n : List ℕ) → new n ≡ old n) where
   -- The fault of the lines of a list is the list's.
   pub list-fault : (list text : List ℕ) (c : Netlist) → GivesFile (old list) text → IsJobList text → (fault : Fault)
       → HasLinesFault new c (listed text) fault → HasListFault old list c fault
-  list-fault list text c told is (faults.File fault) has =
-      record { text = text; text_told = told; is_list = is; first = first-job-before c (listed text) (faults.File fault) has }
-  list-fault list text c told is (faults.Binding fault) has =
-      record { text = text; text_told = told; is_list = is; first = first-job-before c (listed text) (faults.Binding fault) has }
-  list-fault list text c told is faults.CannotRead has = tt
-  list-fault list text c told is faults.Memory has = tt
-  list-fault list text c told is (faults.Circuit fault) has = absurd has
-  list-fault list text c told is faults.WrongCount has = absurd has
-  list-fault list text c told is (faults.Value fault) has = absurd has
-  list-fault list text c told is faults.BadSeed has = absurd has
-  list-fault list text c told is faults.BadList has = absurd has
-  list-fault list text c told is faults.NoSuchValue has = absurd has
-  list-fault list text c told is (faults.Garbling fault) has = absurd has
-  list-fault list text c told is (faults.Evaluation fault) has = absurd has
-  list-fault list text c told is faults.CannotWrite has = absurd has
+  list-fault list text c read is (faults.File fault) has =
+      record { text = text; text_read = read; is_list = is; first = first-job-before c (listed text) (faults.File fault) has }
+  list-fault list text c read is (faults.Binding fault) has =
+      record { text = text; text_read = read; is_list = is; first = first-job-before c (listed text) (faults.Binding fault) has }
+  list-fault list text c read is faults.CannotRead has = tt
+  list-fault list text c read is faults.Memory has = tt
+  list-fault list text c read is (faults.Circuit fault) has = absurd has
+  list-fault list text c read is faults.WrongCount has = absurd has
+  list-fault list text c read is (faults.Value fault) has = absurd has
+  list-fault list text c read is faults.BadSeed has = absurd has
+  list-fault list text c read is faults.BadList has = absurd has
+  list-fault list text c read is faults.NoSuchValue has = absurd has
+  list-fault list text c read is (faults.Garbling fault) has = absurd has
+  list-fault list text c read is (faults.Evaluation fault) has = absurd has
+  list-fault list text c read is faults.CannotWrite has = absurd has
 
   pub listed-before : (list : List ℕ) (c : Netlist) (jobs : List JobParts) → AreListed new list c jobs
       → AreListed old list c jobs
   listed-before list c jobs are = record {
     text = are.text;
-    text_told = subst (λ held. GivesFile held are.text) (same list) are.text_told;
+    text_read = subst (λ held. GivesFile held are.text) (same list) are.text_read;
     is_list = are.is_list;
     named = jobs-before c (listed are.text) jobs are.named;
   }
@@ -125,7 +125,7 @@ module _ (old new : FileBytes) (same : (n : List ℕ) → new n ≡ old n) where
   bad-job-before : (list : List ℕ) (c : Netlist) (fault : Fault) → HasBadJob new list c fault → HasBadJob old list c fault
   bad-job-before list c fault has = record {
     text = has.text;
-    text_told = subst (λ held. GivesFile held has.text) (same list) has.text_told;
+    text_read = subst (λ held. GivesFile held has.text) (same list) has.text_read;
     is_list = has.is_list;
     first = first-job-before c (listed has.text) fault has.first;
   }
@@ -134,22 +134,22 @@ module _ (old new : FileBytes) (same : (n : List ℕ) → new n ≡ old n) where
   pub jobs-list-fault : (circuit list : List ℕ) (workers : ℕ) (c : Netlist)
       → IfSome (old circuit) (λ held. IsCircuit held c) → (fault : Fault) → HasListFault new list c fault
       → HasJobsFault old circuit list workers fault
-  jobs-list-fault circuit list workers c told (faults.File fault) has =
-      (c, told, bad-job-before list c (faults.File fault) has)
-  jobs-list-fault circuit list workers c told (faults.Binding fault) has =
-      (c, told, bad-job-before list c (faults.Binding fault) has)
-  jobs-list-fault circuit list workers c told faults.BadList has =
-      (c, told, told-before old new same (λ text. IsJobList text → ⊥) list has)
-  jobs-list-fault circuit list workers c told faults.CannotRead has = tt
-  jobs-list-fault circuit list workers c told faults.Memory has = tt
-  jobs-list-fault circuit list workers c told (faults.Circuit fault) has = absurd has
-  jobs-list-fault circuit list workers c told faults.WrongCount has = absurd has
-  jobs-list-fault circuit list workers c told (faults.Value fault) has = absurd has
-  jobs-list-fault circuit list workers c told faults.BadSeed has = absurd has
-  jobs-list-fault circuit list workers c told faults.NoSuchValue has = absurd has
-  jobs-list-fault circuit list workers c told (faults.Garbling fault) has = absurd has
-  jobs-list-fault circuit list workers c told (faults.Evaluation fault) has = absurd has
-  jobs-list-fault circuit list workers c told faults.CannotWrite has = absurd has
+  jobs-list-fault circuit list workers c read (faults.File fault) has =
+      (c, read, bad-job-before list c (faults.File fault) has)
+  jobs-list-fault circuit list workers c read (faults.Binding fault) has =
+      (c, read, bad-job-before list c (faults.Binding fault) has)
+  jobs-list-fault circuit list workers c read faults.BadList has =
+      (c, read, held-before old new same (λ text. IsJobList text → ⊥) list has)
+  jobs-list-fault circuit list workers c read faults.CannotRead has = tt
+  jobs-list-fault circuit list workers c read faults.Memory has = tt
+  jobs-list-fault circuit list workers c read (faults.Circuit fault) has = absurd has
+  jobs-list-fault circuit list workers c read faults.WrongCount has = absurd has
+  jobs-list-fault circuit list workers c read (faults.Value fault) has = absurd has
+  jobs-list-fault circuit list workers c read faults.BadSeed has = absurd has
+  jobs-list-fault circuit list workers c read faults.NoSuchValue has = absurd has
+  jobs-list-fault circuit list workers c read (faults.Garbling fault) has = absurd has
+  jobs-list-fault circuit list workers c read (faults.Evaluation fault) has = absurd has
+  jobs-list-fault circuit list workers c read faults.CannotWrite has = absurd has
 
 -- The fault of the circuit's file is that of the command.
 pub jobs-circuit-fault : (bytes : FileBytes) (circuit list : List ℕ) (workers : ℕ) (fault : Fault) → IsCircuitFault fault
@@ -172,20 +172,20 @@ jobs-circuit-fault bytes circuit list workers faults.CannotWrite kind has = absu
 pub labels-named : (bytes : FileBytes) (c : Netlist) (words : List (List ℕ)) (garbled : List ℕ) (labels : List (List ℕ))
     (g : GarbledParts) → words ≡ garbled ∷ labels → IfSome (bytes garbled) (λ held. IsGarbledFile held g) → (fault : Fault)
     → HasLabelsFault bytes labels fault → HasNamedFault bytes c words fault
-labels-named bytes c words garbled labels g names told (faults.File fault) has =
-    λ other. subst (λ w. FirstBadNamed bytes w fault) (sym names) (inr (g, told, has other))
-labels-named bytes c words garbled labels g names told faults.CannotRead has = tt
-labels-named bytes c words garbled labels g names told faults.Memory has = tt
-labels-named bytes c words garbled labels g names told (faults.Circuit fault) has = absurd has
-labels-named bytes c words garbled labels g names told faults.WrongCount has = absurd has
-labels-named bytes c words garbled labels g names told (faults.Value fault) has = absurd has
-labels-named bytes c words garbled labels g names told faults.BadSeed has = absurd has
-labels-named bytes c words garbled labels g names told faults.BadList has = absurd has
-labels-named bytes c words garbled labels g names told faults.NoSuchValue has = absurd has
-labels-named bytes c words garbled labels g names told (faults.Garbling fault) has = absurd has
-labels-named bytes c words garbled labels g names told (faults.Binding fault) has = absurd has
-labels-named bytes c words garbled labels g names told (faults.Evaluation fault) has = absurd has
-labels-named bytes c words garbled labels g names told faults.CannotWrite has = absurd has
+labels-named bytes c words garbled labels g names read (faults.File fault) has =
+    λ other. subst (λ w. FirstBadNamed bytes w fault) (sym names) (inr (g, read, has other))
+labels-named bytes c words garbled labels g names read faults.CannotRead has = tt
+labels-named bytes c words garbled labels g names read faults.Memory has = tt
+labels-named bytes c words garbled labels g names read (faults.Circuit fault) has = absurd has
+labels-named bytes c words garbled labels g names read faults.WrongCount has = absurd has
+labels-named bytes c words garbled labels g names read (faults.Value fault) has = absurd has
+labels-named bytes c words garbled labels g names read faults.BadSeed has = absurd has
+labels-named bytes c words garbled labels g names read faults.BadList has = absurd has
+labels-named bytes c words garbled labels g names read faults.NoSuchValue has = absurd has
+labels-named bytes c words garbled labels g names read (faults.Garbling fault) has = absurd has
+labels-named bytes c words garbled labels g names read (faults.Binding fault) has = absurd has
+labels-named bytes c words garbled labels g names read (faults.Evaluation fault) has = absurd has
+labels-named bytes c words garbled labels g names read faults.CannotWrite has = absurd has
 
 -- What the lines from one on name, it and those after it name.
 pub line-next : {X : Type 0} (v : X → List (List ℕ)) (lines : List X) (i : ℕ) (d : X) → i < length lines

@@ -16,7 +16,7 @@ use Rattle.gc_command.specs.declared.fault.Fault.TheVariants.{Circuit, File, Bin
 use Rattle.gc_command.specs.Files.{FileBytes, GivesFile}
 use Rattle.gc_command.specs.CircuitFile.{IsCircuit, HasCircuitFault}
 use Rattle.gc_command.specs.Lines.{jobs_lines}
-use Rattle.gc_command.specs.Eval.{TellLabels, FirstBadFile}
+use Rattle.gc_command.specs.Eval.{AreLabelFiles, FirstBadFile}
 use Rattle.gc_jobs.specs.JobList.{IsJobList, listed}
 
 -- The words name a garbled file and then label files, of these parts.
@@ -25,14 +25,14 @@ pub record NameFiles (bytes : FileBytes) (words : List (List ℕ)) (g : GarbledP
   pub garbled : List ℕ
   pub labels : List (List ℕ)
   pub names : words ≡ garbled ∷ labels
-  pub garbled_told : IfSome (bytes garbled) (λ held. IsGarbledFile held g)
-  pub labels_told : TellLabels bytes labels files
+  pub garbled_read : IfSome (bytes garbled) (λ held. IsGarbledFile held g)
+  pub labels_read : AreLabelFiles bytes labels files
 
 -- The words name the files of this job of the circuit.
 pub record NameJob (bytes : FileBytes) (c : Netlist) (words : List (List ℕ)) (job : JobParts) : Type 0 where
   pub g : GarbledParts
   pub files : List LabelFileParts
-  pub told : NameFiles bytes words g files
+  pub named : NameFiles bytes words g files
   pub bound : IsBound c g files job
 
 -- The first of the files that the words name has this fault.
@@ -73,14 +73,14 @@ HasLinesFault bytes c lines _ = ⊥
 -- The file of this name is a list of these jobs.
 pub record AreListed (bytes : FileBytes) (list : List ℕ) (c : Netlist) (jobs : List JobParts) : Type 0 where
   pub text : List ℕ
-  pub text_told : GivesFile (bytes list) text
+  pub text_read : GivesFile (bytes list) text
   pub is_list : IsJobList text
   pub named : NameJobs bytes c (listed text) jobs
 
 -- It is a list, and the first line that names no job has this fault.
 pub record HasBadJob (bytes : FileBytes) (list : List ℕ) (c : Netlist) (fault : Fault) : Type 0 where
   pub text : List ℕ
-  pub text_told : GivesFile (bytes list) text
+  pub text_read : GivesFile (bytes list) text
   pub is_list : IsJobList text
   pub first : FirstBadJob bytes c (listed text) fault
 
@@ -97,9 +97,9 @@ HasListFault bytes list c _ = ⊥
 -- answers nothing.
 pub record AnswersJobs (bytes : FileBytes) (circuit list : List ℕ) (workers : ℕ) (lines : List ℕ) : Type 0 where
   pub c : Netlist
-  pub circuit_told : IfSome (bytes circuit) (λ held. IsCircuit held c)
+  pub circuit_read : IfSome (bytes circuit) (λ held. IsCircuit held c)
   pub jobs : List JobParts
-  pub told : AreListed bytes list c jobs
+  pub are_listed : AreListed bytes list c jobs
   pub few : 0 < length jobs → AreFew workers
   pub outputs : List (List Bool)
   pub evaluated : AreEvaluated jobs outputs

@@ -28,7 +28,7 @@ module _ (bytes : FileBytes) (circuit seed garbled : List ℕ) (workers : ℕ) (
   circuit-fault faults.CannotWrite kind has = absurd kind
   circuit-fault faults.Memory kind has = tt
 
-  module _ (c : Netlist) (circuit_told : IfSome (bytes circuit) (λ held. IsCircuit held c)) (accepted : IsSeedText seed) where
+  module _ (c : Netlist) (circuit_read : IfSome (bytes circuit) (λ held. IsCircuit held c)) (accepted : IsSeedText seed) where
     -- of the garbled file,
     pub garbled-fault : (fault : Fault) → HasGarbledFault bytes garbled fault
         → HasAuditFault bytes circuit seed garbled workers labels fault
@@ -38,7 +38,7 @@ module _ (bytes : FileBytes) (circuit seed garbled : List ℕ) (workers : ℕ) (
     garbled-fault faults.BadSeed has = absurd has
     garbled-fault faults.NoSuchValue has = absurd has
     garbled-fault (faults.Garbling fault) has = absurd has
-    garbled-fault (faults.File fault) has = ((c, circuit_told), accepted, λ other. inl (has other))
+    garbled-fault (faults.File fault) has = ((c, circuit_read), accepted, λ other. inl (has other))
     garbled-fault (faults.Binding fault) has = absurd has
     garbled-fault (faults.Evaluation fault) has = absurd has
     garbled-fault faults.BadList has = absurd has
@@ -49,16 +49,16 @@ module _ (bytes : FileBytes) (circuit seed garbled : List ℕ) (workers : ℕ) (
     -- and of the label files.
     pub labels-fault : (g : GarbledParts) → IfSome (bytes garbled) (λ held. IsGarbledFile held g) → (fault : Fault)
         → HasLabelsFault bytes labels fault → HasAuditFault bytes circuit seed garbled workers labels fault
-    labels-fault g told (faults.Circuit fault) has = absurd has
-    labels-fault g told faults.WrongCount has = absurd has
-    labels-fault g told (faults.Value fault) has = absurd has
-    labels-fault g told faults.BadSeed has = absurd has
-    labels-fault g told faults.NoSuchValue has = absurd has
-    labels-fault g told (faults.Garbling fault) has = absurd has
-    labels-fault g told (faults.File fault) has = ((c, circuit_told), accepted, λ other. inr (g, told, has other))
-    labels-fault g told (faults.Binding fault) has = absurd has
-    labels-fault g told (faults.Evaluation fault) has = absurd has
-    labels-fault g told faults.BadList has = absurd has
-    labels-fault g told faults.CannotRead has = tt
-    labels-fault g told faults.CannotWrite has = absurd has
-    labels-fault g told faults.Memory has = tt
+    labels-fault g read (faults.Circuit fault) has = absurd has
+    labels-fault g read faults.WrongCount has = absurd has
+    labels-fault g read (faults.Value fault) has = absurd has
+    labels-fault g read faults.BadSeed has = absurd has
+    labels-fault g read faults.NoSuchValue has = absurd has
+    labels-fault g read (faults.Garbling fault) has = absurd has
+    labels-fault g read (faults.File fault) has = ((c, circuit_read), accepted, λ other. inr (g, read, has other))
+    labels-fault g read (faults.Binding fault) has = absurd has
+    labels-fault g read (faults.Evaluation fault) has = absurd has
+    labels-fault g read faults.BadList has = absurd has
+    labels-fault g read faults.CannotRead has = tt
+    labels-fault g read faults.CannotWrite has = absurd has
+    labels-fault g read faults.Memory has = tt

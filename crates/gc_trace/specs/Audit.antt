@@ -30,7 +30,7 @@ use Rattle.gc_command.specs.declared.fault.Fault.TheVariants.{Circuit, BadSeed, 
 use Rattle.gc_command.specs.Files.{FileBytes}
 use Rattle.gc_command.specs.CircuitFile.{IsCircuit, HasCircuitFault}
 use Rattle.gc_command.specs.SeedText.{IsSeed}
-use Rattle.gc_command.specs.Eval.{TellEval, FirstBadFile}
+use Rattle.gc_command.specs.Eval.{AreEvalFiles, FirstBadFile}
 
 -- the line that says of a part that it is right
 abbrev pub right_line : List ℕ → List ℕ
@@ -160,9 +160,9 @@ pub record AnswersAudit (bytes : FileBytes) (circuit seed_text garbled : List �
   pub c : Netlist
   pub g : GarbledParts
   pub files : List LabelFileParts
-  pub told : TellEval bytes circuit garbled labels c g files
+  pub input : AreEvalFiles bytes circuit garbled labels c g files
   pub seed : List ℕ
-  pub seed_told : IsSeed seed_text seed
+  pub seed_read : IsSeed seed_text seed
   pub few : AreFew workers
   pub printed : AreAuditLines c seed g files lines
 
@@ -179,6 +179,6 @@ HasAuditFault bytes circuit seed garbled workers labels (File fault) =
     × (fault ≢ file.Memory → FirstBadFile bytes garbled labels fault)
 HasAuditFault bytes circuit seed garbled workers labels (Garbling fault) =
     (c : Netlist) × ((g : GarbledParts) × ((files : List LabelFileParts)
-    × (TellEval bytes circuit garbled labels c g files × IsSeedText seed × HasWorkFault workers fault)))
+    × (AreEvalFiles bytes circuit garbled labels c g files × IsSeedText seed × HasWorkFault workers fault)))
 HasAuditFault bytes circuit seed garbled workers labels Memory = Unit {0}
 HasAuditFault bytes circuit seed garbled workers labels _ = ⊥

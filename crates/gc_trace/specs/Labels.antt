@@ -17,7 +17,7 @@ use Rattle.gc_command.specs.declared.fault.Fault.{Fault}
 use Rattle.gc_command.specs.declared.fault.Fault.TheVariants.{Circuit, WrongCount, Value, BadSeed, Garbling, CannotRead, Memory}
 use Rattle.gc_command.specs.CircuitFile.{IsCircuit, HasCircuitFault}
 use Rattle.gc_command.specs.SeedText.{IsSeed}
-use Rattle.gc_command.specs.Values.{TellValues, HasValueFault}
+use Rattle.gc_command.specs.Values.{SpellValues, HasValueFault}
 
 -- The wires that are left to go through, and how many wires there are in all.
 pub record WiresLeft : Type 0 where
@@ -46,11 +46,11 @@ set_from c from count =
     take count (filter (is_set (input_wires c) c.gates) (range_with_len from (c.wires - from)))
 
 -- The bytes are a circuit's, the seed's text is a seed, and the texts spell values of the circuit's input widths.
-pub record TellLabelled (bytes seed_text : List ℕ) (texts : List (List ℕ)) (c : Netlist) (seed : List ℕ)
+pub record IsLabelsInput (bytes seed_text : List ℕ) (texts : List (List ℕ)) (c : Netlist) (seed : List ℕ)
     (values : List (List Bool)) : Type 0 where
   pub circuit : IsCircuit bytes c
-  pub seed_told : IsSeed seed_text seed
-  pub input_values : TellValues c.input_widths texts values
+  pub seed_read : IsSeed seed_text seed
+  pub input_values : SpellValues c.input_widths texts values
 
 -- The lines are those of the circuit's set wires from one on, for these values, in its garbling under the seed.
 pub record AreLabelLines (c : Netlist) (seed : List ℕ) (values : List (List Bool)) (from count : ℕ)
@@ -68,7 +68,7 @@ pub record AnswersLabels (bytes seed_text : List ℕ) (from count : ℕ) (texts 
   pub circuit : Netlist
   pub seed : List ℕ
   pub values : List (List Bool)
-  pub told : TellLabelled bytes seed_text texts circuit seed values
+  pub input : IsLabelsInput bytes seed_text texts circuit seed values
   pub printed : AreLabelLines circuit seed values from count lines
 
 -- The faults of a command that lacks memory while it garbles, evaluates or makes its lines.

@@ -7,8 +7,8 @@ use Rattle.gc_command.proofs.deal.deal.Goals as goal
 
 pub write_value-requires : goal.write_value-requires
 write_value-requires g c =
-    let told = rw c.input_widths.ensures at c.in_ok-bits.ensures.told in
-    rw c.deref.ensures.value (input_value-width c.in_ok-circuit.circuit.input_widths c.args.index c.args.value.now c.in_ok-bits.bits.items told)
+    let spelled = rw c.input_widths.ensures at c.in_ok-bits.ensures.spelled in
+    rw c.deref.ensures.value (input_value-width c.in_ok-circuit.circuit.input_widths c.args.index c.args.value.now c.in_ok-bits.bits.items spelled)
 
 pub returns-clause-answers : goal.returns-clause-answers
 returns-clause-answers g c = IfOk-weaker c.write_value.result _ _
@@ -17,10 +17,10 @@ returns-clause-answers g c = IfOk-weaker c.write_value.result _ _
       circuit = c.in_ok-circuit.circuit;
       seed = c.in_ok-seed.seed;
       bits = c.in_ok-bits.bits.items;
-      told = record {
+      input = record {
         circuit = circuit;
-        seed_told = record { accepted = c.in_ok-seed.ensures.accepts.0 refl; spelled = c.in_ok-seed.ensures.bytes };
-        value = rw c.input_widths.ensures at c.in_ok-bits.ensures.told;
+        seed_read = record { accepted = c.in_ok-seed.ensures.accepts.0 refl; spelled = c.in_ok-seed.ensures.bytes };
+        value = rw c.input_widths.ensures at c.in_ok-bits.ensures.spelled;
       };
       written = rw c.deref.ensures.value at wrote;
     })
@@ -34,8 +34,8 @@ returns-clause-fault g c = IfErr-weaker c.write_value.result _ _
     (λ bytes circuit. deal-unwritten bytes c.args.seed.now c.args.index c.args.value.now c.in_ok-circuit.circuit c.in_ok-seed.seed c.in_ok-bits.bits.items
     (record {
       circuit = circuit;
-      seed_told = record { accepted = c.in_ok-seed.ensures.accepts.0 refl; spelled = c.in_ok-seed.ensures.bytes };
-      value = rw c.input_widths.ensures at c.in_ok-bits.ensures.told;
+      seed_read = record { accepted = c.in_ok-seed.ensures.accepts.0 refl; spelled = c.in_ok-seed.ensures.bytes };
+      value = rw c.input_widths.ensures at c.in_ok-bits.ensures.spelled;
     }) fault unwritten)
     c.in_ok-circuit.ensures.circuit)
     c.write_value.ensures.fault

@@ -3,7 +3,7 @@ use Rattle.std.proofs.lemmas.Result.{err_from_is_err_and}
 use Rattle.gc_format.specs.GarbledFile.{IsGarbledFile}
 use Rattle.gc_command.specs.Lines.{output_lines}
 use Rattle.gc_command.proofs.AnswerLemmas.{length-decoded}
-use Rattle.gc_command.proofs.EvalLemmas.{told-before, eval-told, labels-fault-before, circuit-fault, labels-fault, job-fault}
+use Rattle.gc_command.proofs.EvalLemmas.{held-before, eval-files, labels-fault-before, circuit-fault, labels-fault, job-fault}
 use Rattle.gc_command.proofs.eval.eval.Goals as goal
 
 pub returns-in_err-circuit-clause-fault : goal.returns-in_err-circuit-clause-fault
@@ -20,11 +20,11 @@ returns-in_err-labels-clause-fault g c =
     let bytes = g.F.Files.bytes c.args.files.now in
     let names = map string_bytes c.args.labels.now in
     let parts = c.in_ok-garbled.garbled in
-    let told = told-before bytes (g.F.Files.bytes c.read_circuit_and_digest.new.files) c.read_circuit_and_digest.ensures.same
-    (λ held. IsGarbledFile held parts) c.args.garbled.now c.in_ok-garbled.ensures.told in
+    let read = held-before bytes (g.F.Files.bytes c.read_circuit_and_digest.new.files) c.read_circuit_and_digest.ensures.same
+    (λ held. IsGarbledFile held parts) c.args.garbled.now c.in_ok-garbled.ensures.garbled in
     rw (p.1, p.2)
     (labels-fault bytes c.args.circuit.now c.args.garbled.now c.args.workers names c.in_ok-circuit.circuit c.in_ok-circuit.ensures.circuit
-    parts told c.in_err-labels.field-0.0
+    parts read c.in_err-labels.field-0.0
     (labels-fault-before bytes (g.F.Files.bytes c.read_garbled_file.new.files)
     (λ n. c.read_garbled_file.ensures.same n ∙ c.read_circuit_and_digest.ensures.same n) names c.in_err-labels.field-0.0
     c.in_err-labels.ensures.fault))
@@ -37,10 +37,10 @@ returns-in_err-outputs-clause-fault g c =
     let parts = c.in_ok-garbled.garbled in
     rw (p.1, p.2)
     (job-fault bytes c.args.circuit.now c.args.garbled.now c.args.workers names c.in_ok-circuit.circuit parts c.in_ok-labels.labels.items
-    (eval-told bytes (g.F.Files.bytes c.read_circuit_and_digest.new.files) (g.F.Files.bytes c.read_garbled_file.new.files)
+    (eval-files bytes (g.F.Files.bytes c.read_circuit_and_digest.new.files) (g.F.Files.bytes c.read_garbled_file.new.files)
     c.read_circuit_and_digest.ensures.same c.read_garbled_file.ensures.same c.args.circuit.now c.args.garbled.now names
     c.in_ok-circuit.circuit parts c.in_ok-labels.labels.items c.in_ok-circuit.ensures.circuit
-    c.in_ok-garbled.ensures.told c.in_ok-labels.ensures.told)
+    c.in_ok-garbled.ensures.garbled c.in_ok-labels.ensures.labels)
     c.in_err-outputs.field-0.0 (rw c.deref.ensures.value at c.in_err-outputs.ensures.fault))
 
 pub output_lines-requires : goal.output_lines-requires
@@ -62,11 +62,11 @@ returns-clause-answers g c =
       c = c.in_ok-circuit.circuit;
       g = parts;
       files = c.in_ok-labels.labels.items;
-      told =
-          eval-told bytes (g.F.Files.bytes c.read_circuit_and_digest.new.files) (g.F.Files.bytes c.read_garbled_file.new.files)
+      input =
+          eval-files bytes (g.F.Files.bytes c.read_circuit_and_digest.new.files) (g.F.Files.bytes c.read_garbled_file.new.files)
           c.read_circuit_and_digest.ensures.same c.read_garbled_file.ensures.same c.args.circuit.now c.args.garbled.now names
           c.in_ok-circuit.circuit parts c.in_ok-labels.labels.items c.in_ok-circuit.ensures.circuit
-          c.in_ok-garbled.ensures.told c.in_ok-labels.ensures.told;
+          c.in_ok-garbled.ensures.garbled c.in_ok-labels.ensures.labels;
       few = c.in_ok-outputs.ensures.workers;
       outputs = c.in_ok-outputs.outputs.items;
       decoded = rw c.deref.ensures.value at c.in_ok-outputs.ensures.decoded;

@@ -1,15 +1,15 @@
 use Rattle.std.proofs.Common.{◌≡◌, ℕ, ◌++◌, List, drop, map}
 use Rattle.gc_read.specs.declared.fault.FileFault.{FileFault}
 use Rattle.gc_format.specs.LabelFile.{LabelFileParts}
-use Rattle.gc_command.specs.Eval.{TellLabels, FirstBadLabels}
+use Rattle.gc_command.specs.Eval.{AreLabelFiles, FirstBadLabels}
 use Rattle.gc_command.proofs.evaluated_files.read_label_files.Given as goal
 
 -- What holds of the files that are left holds of all.
 abbrev pub invariant-loop-name : goal.invariant-loop-name
 invariant-loop-name g l = record {
-  told : (left : List LabelFileParts)
-      → TellLabels (g.F.Files.bytes l.fn.files) (map g.N.AsStr.text (drop l.name-index l.names)) left
-      → TellLabels (g.F.Files.bytes l.fn.files) (map g.N.AsStr.text l.names) (l.labels.items ++ left);
+  files : (left : List LabelFileParts)
+      → AreLabelFiles (g.F.Files.bytes l.fn.files) (map g.N.AsStr.text (drop l.name-index l.names)) left
+      → AreLabelFiles (g.F.Files.bytes l.fn.files) (map g.N.AsStr.text l.names) (l.labels.items ++ left);
   faults : (fault : FileFault)
       → FirstBadLabels (g.F.Files.bytes l.fn.files) (map g.N.AsStr.text (drop l.name-index l.names)) fault
       → FirstBadLabels (g.F.Files.bytes l.fn.files) (map g.N.AsStr.text l.names) fault;

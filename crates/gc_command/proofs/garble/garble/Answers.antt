@@ -16,9 +16,9 @@ returns-clause-answers g c = IfOk-weaker c.write_garbling.result _ _
     (λ bytes circuit wrote. record {
       circuit = c.in_ok-circuit.circuit;
       seed = c.in_ok-seed.seed;
-      told = record {
+      input = record {
         circuit = circuit;
-        seed_told = record { accepted = c.in_ok-seed.ensures.accepts.0 refl; spelled = c.in_ok-seed.ensures.bytes };
+        seed_read = record { accepted = c.in_ok-seed.ensures.accepts.0 refl; spelled = c.in_ok-seed.ensures.bytes };
       };
       garbling = c.in_ok-digest.garbling;
       few = c.in_ok-digest.ensures.workers;
@@ -35,7 +35,7 @@ returns-clause-fault g c = IfErr-weaker c.write_garbling.result _ _
     (λ bytes circuit. garble-unwritten bytes c.args.seed.now c.args.workers c.in_ok-circuit.circuit c.in_ok-seed.seed
     (record {
       circuit = circuit;
-      seed_told = record { accepted = c.in_ok-seed.ensures.accepts.0 refl; spelled = c.in_ok-seed.ensures.bytes };
+      seed_read = record { accepted = c.in_ok-seed.ensures.accepts.0 refl; spelled = c.in_ok-seed.ensures.bytes };
     }) c.in_ok-digest.ensures.workers fault unwritten)
     c.in_ok-circuit.ensures.circuit)
     c.write_garbling.ensures.fault

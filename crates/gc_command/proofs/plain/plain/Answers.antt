@@ -5,13 +5,13 @@ use Rattle.gc_command.specs.CircuitFile.{IsCircuit}
 use Rattle.gc_command.specs.Lines.{output_lines}
 use Rattle.gc_command.proofs.AnswerLemmas.{map_err-ok, IfSome-map, length-outputs}
 use Rattle.gc_command.proofs.PlainLemmas.{answers-plain}
-use Rattle.gc_command.proofs.ValuesLemmas.{TellValues-widths}
+use Rattle.gc_command.proofs.ValuesLemmas.{SpellValues-widths}
 use Rattle.gc_command.proofs.plain.plain.Goals as goal
 
 pub plain_eval-requires : goal.plain_eval-requires
 plain_eval-requires g c =
-    rw c.deref.ensures.value (TellValues-widths c.input_widths.result.now _ _
-    c.in_ok-values.ensures.told ∙ c.input_widths.ensures)
+    rw c.deref.ensures.value (SpellValues-widths c.input_widths.result.now _ _
+    c.in_ok-values.ensures.spelled ∙ c.input_widths.ensures)
 
 pub output_lines-requires : goal.output_lines-requires
 output_lines-requires g c =
@@ -38,7 +38,7 @@ returns-clause-answers g c =
     (λ value. value.items) bytes (map string_bytes c.args.values.now) c.in_ok-circuit.circuit
     c.in_ok-values.values.items
     c.in_ok-outputs.outputs.items c.in_ok-output_lines.field-0.items circuit
-    (rw (← c.input_widths.ensures) c.in_ok-values.ensures.told)
+    (rw (← c.input_widths.ensures) c.in_ok-values.ensures.spelled)
     (rw (← c.deref.ensures.value) are)
     (c.in_ok-output_lines.ensures ∙ ap₂ output_lines c.output_widths.ensures c.deref-2.ensures.value))
     c.in_ok-circuit.ensures.circuit

@@ -3,14 +3,14 @@ use Rattle.std.proofs.lemmas.Result.{err_from_is_err_and}
 use Rattle.gc_command.specs.CircuitFile.{IsCircuit}
 use Rattle.gc_command.specs.Lines.{output_lines}
 use Rattle.gc_command.proofs.AnswerLemmas.{IfSome-map, length-decoded}
-use Rattle.gc_command.proofs.ValuesLemmas.{TellValues-widths}
+use Rattle.gc_command.proofs.ValuesLemmas.{SpellValues-widths}
 use Rattle.gc_command.proofs.OwnFilesLemmas.{own-digest, own-honest}
 use Rattle.gc_command.proofs.RunLemmas.{honest-decode, honest-fault, want-of-memory}
 use Rattle.gc_command.proofs.run.run.Goals as goal
 
 pub own_labels-requires-clause-fits : goal.own_labels-requires-clause-fits
 own_labels-requires-clause-fits g c =
-    rw c.deref.ensures.value (TellValues-widths c.input_widths.result.now _ _ c.in_ok-values.ensures.told ∙ c.input_widths.ensures)
+    rw c.deref.ensures.value (SpellValues-widths c.input_widths.result.now _ _ c.in_ok-values.ensures.spelled ∙ c.input_widths.ensures)
 
 pub returns-in_err-labels-clause-fault : goal.returns-in_err-labels-clause-fault
 returns-in_err-labels-clause-fault g c =
@@ -24,7 +24,7 @@ returns-in_err-labels-clause-fault g c =
         record {
           circuit = circuit;
           seed_text = c.in_ok-seed.ensures.accepts.0 refl;
-          input_values = rw c.input_widths.ensures at c.in_ok-values.ensures.told;
+          input_values = rw c.input_widths.ensures at c.in_ok-values.ensures.spelled;
         },
       ),
     ) c.in_ok-garbled.ensures.workers c.in_err-labels.field-0.0 c.in_err-labels.ensures.fault)
@@ -39,9 +39,9 @@ pub returns-in_err-outputs-clause-fault : goal.returns-in_err-outputs-clause-fau
 returns-in_err-outputs-clause-fault g c =
     let p = err_from_is_err_and c.from_residual-in_err-outputs.result c.from_residual-in_err-outputs.ensures.1 in
     let values = map (λ value. value.items) c.in_ok-values.values.items in
-    let told = rw c.input_widths.ensures at c.in_ok-values.ensures.told in
+    let spelled = rw c.input_widths.ensures at c.in_ok-values.ensures.spelled in
     let honest = own-honest c.in_ok-circuit.circuit c.in_ok-seed.seed values c.in_ok-garbled.garbled
-    c.in_ok-labels.labels.items (TellValues-widths c.in_ok-circuit.circuit.input_widths _ values told)
+    c.in_ok-labels.labels.items (SpellValues-widths c.in_ok-circuit.circuit.input_widths _ values spelled)
     c.in_ok-garbled.ensures.honest (rw c.deref.ensures.value at c.in_ok-labels.ensures.labels) in
     rw (p.1, p.2)
     (IfSome-map (g.F.Files.bytes c.args.files.now c.args.circuit.now) (λ bytes. IsCircuit bytes c.in_ok-circuit.circuit) _
@@ -49,7 +49,7 @@ returns-in_err-outputs-clause-fault g c =
       c.in_ok-circuit.circuit,
       (
         values,
-        record { circuit = circuit; seed_text = c.in_ok-seed.ensures.accepts.0 refl; input_values = told },
+        record { circuit = circuit; seed_text = c.in_ok-seed.ensures.accepts.0 refl; input_values = spelled },
       ),
     ) c.in_ok-garbled.ensures.workers c.in_err-outputs.field-0.0
     (honest-fault c.in_ok-circuit.circuit c.in_ok-circuit.ensures.lawful c.in_ok-seed.seed values c.in_ok-garbled.garbled
@@ -66,16 +66,16 @@ output_lines-requires g c =
 pub returns-clause-answers : goal.returns-clause-answers
 returns-clause-answers g c =
     let values = map (λ value. value.items) c.in_ok-values.values.items in
-    let told = rw c.input_widths.ensures at c.in_ok-values.ensures.told in
+    let spelled = rw c.input_widths.ensures at c.in_ok-values.ensures.spelled in
     let honest = own-honest c.in_ok-circuit.circuit c.in_ok-seed.seed values c.in_ok-garbled.garbled
-    c.in_ok-labels.labels.items (TellValues-widths c.in_ok-circuit.circuit.input_widths _ values told)
+    c.in_ok-labels.labels.items (SpellValues-widths c.in_ok-circuit.circuit.input_widths _ values spelled)
     c.in_ok-garbled.ensures.honest (rw c.deref.ensures.value at c.in_ok-labels.ensures.labels) in
     IfSome-map (g.F.Files.bytes c.args.files.now c.args.circuit.now)
     (λ bytes. IsCircuit bytes c.in_ok-circuit.circuit) _
     (λ bytes circuit. record {
       circuit = c.in_ok-circuit.circuit;
       values = values;
-      told = record { circuit = circuit; seed_text = c.in_ok-seed.ensures.accepts.0 refl; input_values = told };
+      input = record { circuit = circuit; seed_text = c.in_ok-seed.ensures.accepts.0 refl; input_values = spelled };
       few = c.in_ok-garbled.ensures.workers;
       outputs = c.in_ok-outputs.outputs.items;
       computed = honest-decode c.in_ok-circuit.circuit c.in_ok-circuit.ensures.lawful c.in_ok-seed.seed values

@@ -2,11 +2,11 @@ use Rattle.std.proofs.Common.{◌≡◌, [], drop, arith}
 use Rattle.std.proofs.lemmas.List.{append-nil, drop_all}
 use Rattle.gc_command.proofs.values.read_values.Goals as goal
 
-pub returns-clause-told : goal.returns-clause-told
-returns-clause-told g c =
-    let told = c.loop-i.invariant.values [] in
+pub returns-clause-spelled : goal.returns-clause-spelled
+returns-clause-spelled g c =
+    let spelled = c.loop-i.invariant.values [] in
     let no_width : drop c.loop-i.i c.args.widths.now ≡ [] =
     drop_all c.loop-i.i c.args.widths.now (omega arith) in
     let no_text : drop c.loop-i.i c.args.texts.now ≡ [] =
     drop_all c.loop-i.i c.args.texts.now (omega arith) in
-    rw append-nil at (told (rw (no_width, no_text) tt))
+    rw append-nil at (spelled (rw (no_width, no_text) tt))

@@ -74,9 +74,9 @@ returns-in_err-jobs_lines-clause-same g c = λ n. c.read_listed_jobs.ensures.sam
 pub returns-clause-answers : goal.returns-clause-answers
 returns-clause-answers g c = record {
   c = c.in_ok-circuit.circuit;
-  circuit_told = c.in_ok-circuit.ensures.circuit;
+  circuit_read = c.in_ok-circuit.ensures.circuit;
   jobs = c.in_ok-jobs.jobs.items;
-  told = listed-before (g.F.Files.bytes c.args.files.now) (g.F.Files.bytes c.read_circuit_and_digest.new.files)
+  are_listed = listed-before (g.F.Files.bytes c.args.files.now) (g.F.Files.bytes c.read_circuit_and_digest.new.files)
       c.read_circuit_and_digest.ensures.same c.args.list.now c.in_ok-circuit.circuit c.in_ok-jobs.jobs.items
       c.in_ok-jobs.ensures.listed;
   few = rw c.deref.ensures.value at c.in_ok-outputs.ensures.few;

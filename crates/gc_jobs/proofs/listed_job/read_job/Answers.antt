@@ -13,7 +13,7 @@ returns-in_err-labels-clause-fault g c =
     let names : tokens c.args.line.now ≡ c.in-Some.garbled.now.now ∷ labels =
     sym c.in_ok-words.ensures ∙ ap (map (λ word. word.now)) (sym c.deref.ensures.value ∙ c.in-Some.ensures.cases.0) in
     rw (p.1, p.2) (labels-named bytes c.args.circuit.now (tokens c.args.line.now) c.in-Some.garbled.now.now labels
-    c.in_ok-garbled.garbled names c.in_ok-garbled.ensures.told c.in_err-labels.field-0.0
+    c.in_ok-garbled.garbled names c.in_ok-garbled.ensures.garbled c.in_err-labels.field-0.0
     (labels-fault-before bytes (g.F.Files.bytes c.read_garbled_file.new.files) c.read_garbled_file.ensures.same labels
     c.in_err-labels.field-0.0 c.in_err-labels.ensures.fault))
 
@@ -31,7 +31,7 @@ returns-in_err-bind_by_digest-clause-fault g c =
         (
           name-files bytes (g.F.Files.bytes c.read_garbled_file.new.files) c.read_garbled_file.ensures.same
               (tokens c.args.line.now) c.in-Some.garbled.now.now labels c.in_ok-garbled.garbled
-              c.in_ok-labels.labels.items names c.in_ok-garbled.ensures.told c.in_ok-labels.ensures.told,
+              c.in_ok-labels.labels.items names c.in_ok-garbled.ensures.garbled c.in_ok-labels.ensures.labels,
           rw c.deref-2.ensures.value at c.in_err-bind_by_digest.ensures.err,
         ),
       ),
@@ -46,8 +46,8 @@ returns-clause-named g c =
     record {
       g = c.in_ok-garbled.garbled;
       files = c.in_ok-labels.labels.items;
-      told = name-files bytes (g.F.Files.bytes c.read_garbled_file.new.files) c.read_garbled_file.ensures.same
+      named = name-files bytes (g.F.Files.bytes c.read_garbled_file.new.files) c.read_garbled_file.ensures.same
           (tokens c.args.line.now) c.in-Some.garbled.now.now labels c.in_ok-garbled.garbled
-          c.in_ok-labels.labels.items names c.in_ok-garbled.ensures.told c.in_ok-labels.ensures.told;
+          c.in_ok-labels.labels.items names c.in_ok-garbled.ensures.garbled c.in_ok-labels.ensures.labels;
       bound = rw c.deref-2.ensures.value at c.in_ok-bind_by_digest.ensures.ok;
     }

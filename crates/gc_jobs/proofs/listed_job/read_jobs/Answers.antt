@@ -40,10 +40,10 @@ loop-line-preserved g c =
     let named = job-before bytes (g.F.Files.bytes c.loop-line.files) c.loop-line.invariant.same circuit _ job
     c.in_ok-read_job.ensures.named in
     record {
-      named = λ left told.
+      named = λ left rest.
           rw (c.in_ok-push.ensures.items, append_assoc c.loop-line.jobs.items (job ∷ []) left)
           (c.loop-line.invariant.named (job ∷ left)
-          (subst (λ l. NameJobs bytes circuit l (job ∷ left)) (sym next) (named, told)));
+          (subst (λ l. NameJobs bytes circuit l (job ∷ left)) (sym next) (named, rest)));
       faults = λ fault bad.
           c.loop-line.invariant.faults fault
           (subst (λ l. FirstBadJob bytes circuit l fault) (sym next) (inr (job, named, bad)));

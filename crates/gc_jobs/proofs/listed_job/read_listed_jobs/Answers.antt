@@ -22,7 +22,7 @@ returns-clause-listed g c =
     IfOk-weaker c.read_jobs.result _ _
     (λ jobs named. record {
       text = c.deref.result.now;
-      text_told = rw c.deref.ensures.value c.in_ok-text.ensures.given;
+      text_read = rw c.deref.ensures.value c.in_ok-text.ensures.given;
       is_list = c.in_ok-lines.ensures.list;
       named =
           jobs-before bytes (g.F.Files.bytes c.read.new.self) c.read.ensures.same c.args.circuit.now

@@ -1,7 +1,7 @@
 use Rattle.std.proofs.Common.{map, string_bytes, refl, sym, ◌∙◌}
 use Rattle.std.proofs.lemmas.Result.{err_from_is_err_and}
 use Rattle.gc_format.specs.GarbledFile.{IsGarbledFile}
-use Rattle.gc_command.proofs.EvalLemmas.{told-before, eval-told, labels-fault-before}
+use Rattle.gc_command.proofs.EvalLemmas.{held-before, eval-files, labels-fault-before}
 use Rattle.gc_trace.proofs.AuditFaults.{circuit-fault, labels-fault}
 use Rattle.gc_trace.proofs.audit.audit.Goals as goal
 
@@ -19,12 +19,12 @@ returns-in_err-labels-clause-fault g c =
     let bytes = g.F.Files.bytes c.args.files.now in
     let names = map string_bytes c.args.labels.now in
     let parts = c.in_ok-garbled.garbled in
-    let told = told-before bytes (g.F.Files.bytes c.read_circuit_and_begin_digest.new.files) c.read_circuit_and_begin_digest.ensures.same
-    (λ held. IsGarbledFile held parts) c.args.garbled.now c.in_ok-garbled.ensures.told in
+    let read = held-before bytes (g.F.Files.bytes c.read_circuit_and_begin_digest.new.files) c.read_circuit_and_begin_digest.ensures.same
+    (λ held. IsGarbledFile held parts) c.args.garbled.now c.in_ok-garbled.ensures.garbled in
     rw (p.1, p.2)
     (labels-fault bytes c.args.circuit.now c.args.seed.now c.args.garbled.now c.args.workers names
     c.in_ok-circuit.circuit c.in_ok-circuit.ensures.circuit (c.in_ok-seed.ensures.accepts.0 refl)
-    parts told c.in_err-labels.field-0.0
+    parts read c.in_err-labels.field-0.0
     (labels-fault-before bytes (g.F.Files.bytes c.read_garbled_file.new.files)
     (λ n. c.read_garbled_file.ensures.same n ∙ c.read_circuit_and_begin_digest.ensures.same n) names c.in_err-labels.field-0.0
     c.in_err-labels.ensures.fault))
@@ -40,12 +40,12 @@ returns-in_err-garbling-clause-fault g c =
         (
           c.in_ok-labels.labels.items,
           (
-            eval-told bytes (g.F.Files.bytes c.read_circuit_and_begin_digest.new.files)
+            eval-files bytes (g.F.Files.bytes c.read_circuit_and_begin_digest.new.files)
                 (g.F.Files.bytes c.read_garbled_file.new.files) c.read_circuit_and_begin_digest.ensures.same
                 c.read_garbled_file.ensures.same c.args.circuit.now c.args.garbled.now
                 (map string_bytes c.args.labels.now) c.in_ok-circuit.circuit c.in_ok-garbled.garbled
-                c.in_ok-labels.labels.items c.in_ok-circuit.ensures.circuit c.in_ok-garbled.ensures.told
-                c.in_ok-labels.ensures.told,
+                c.in_ok-labels.labels.items c.in_ok-circuit.ensures.circuit c.in_ok-garbled.ensures.garbled
+                c.in_ok-labels.ensures.labels,
             c.in_ok-seed.ensures.accepts.0 refl,
             c.in_err-garbling.ensures.workers,
           ),
@@ -64,14 +64,14 @@ returns-in-Ok-clause-answers g c =
       c = c.in_ok-circuit.circuit;
       g = c.in_ok-garbled.garbled;
       files = c.in_ok-labels.labels.items;
-      told = eval-told bytes (g.F.Files.bytes c.read_circuit_and_begin_digest.new.files)
+      input = eval-files bytes (g.F.Files.bytes c.read_circuit_and_begin_digest.new.files)
           (g.F.Files.bytes c.read_garbled_file.new.files) c.read_circuit_and_begin_digest.ensures.same
           c.read_garbled_file.ensures.same c.args.circuit.now c.args.garbled.now
           (map string_bytes c.args.labels.now) c.in_ok-circuit.circuit c.in_ok-garbled.garbled
-          c.in_ok-labels.labels.items c.in_ok-circuit.ensures.circuit c.in_ok-garbled.ensures.told
-          c.in_ok-labels.ensures.told;
+          c.in_ok-labels.labels.items c.in_ok-circuit.ensures.circuit c.in_ok-garbled.ensures.garbled
+          c.in_ok-labels.ensures.labels;
       seed = c.in_ok-seed.seed;
-      seed_told = record { accepted = c.in_ok-seed.ensures.accepts.0 refl; spelled = c.in_ok-seed.ensures.bytes };
+      seed_read = record { accepted = c.in_ok-seed.ensures.accepts.0 refl; spelled = c.in_ok-seed.ensures.bytes };
       few = c.in_ok-garbling.ensures.workers;
       printed = rw c.deref.ensures.value at (c.in-Ok.ensures c.in_ok-garbled.garbled (sym c.version-version.ensures)
           c.in_ok-garbling.ensures.audit);

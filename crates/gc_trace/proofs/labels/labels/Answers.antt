@@ -2,13 +2,13 @@ use Rattle.std.proofs.Common.{map, string_bytes, refl, ◌∙◌}
 use Rattle.std.proofs.lemmas.Result.{IfOk-weaker, IfErr-weaker}
 use Rattle.gc_command.specs.CircuitFile.{IsCircuit}
 use Rattle.gc_command.proofs.AnswerLemmas.{IfSome-map}
-use Rattle.gc_command.proofs.ValuesLemmas.{TellValues-widths}
+use Rattle.gc_command.proofs.ValuesLemmas.{SpellValues-widths}
 use Rattle.gc_trace.proofs.LabelsLemmas.{want-of-memory, want-has_cause}
 use Rattle.gc_trace.proofs.labels.labels.Goals as goal
 
 pub lines_of-requires : goal.lines_of-requires
 lines_of-requires g c =
-    rw c.deref.ensures.value (TellValues-widths c.input_widths.result.now _ _ c.in_ok-values.ensures.told
+    rw c.deref.ensures.value (SpellValues-widths c.input_widths.result.now _ _ c.in_ok-values.ensures.spelled
     ∙ c.input_widths.ensures)
 
 pub returns-clause-answers : goal.returns-clause-answers
@@ -19,10 +19,10 @@ returns-clause-answers g c = IfOk-weaker c.lines_of.result _ _
       circuit = c.in_ok-circuit.circuit;
       seed = c.in_ok-seed.seed;
       values = map (λ value. value.items) c.in_ok-values.values.items;
-      told = record {
+      input = record {
         circuit = circuit;
-        seed_told = record { accepted = c.in_ok-seed.ensures.accepts.0 refl; spelled = c.in_ok-seed.ensures.bytes };
-        input_values = rw c.input_widths.ensures at c.in_ok-values.ensures.told;
+        seed_read = record { accepted = c.in_ok-seed.ensures.accepts.0 refl; spelled = c.in_ok-seed.ensures.bytes };
+        input_values = rw c.input_widths.ensures at c.in_ok-values.ensures.spelled;
       };
       printed = rw c.deref.ensures.value at are;
     })
