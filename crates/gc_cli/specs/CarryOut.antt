@@ -20,13 +20,15 @@ use Rattle.gc_jobs.specs.Jobs.{AnswersJobs, HasJobsFault}
 abbrev pub Answers : FileBytes → FileBytes → OrderText → List ℕ → Type 0
 Answers old new (run circuit seed workers values) out =
     IfSome (old circuit) (λ file. AnswersRun file seed workers values out)
-Answers old new (plain circuit values) out = IfSome (old circuit) (λ file. AnswersPlain file values out)
+Answers old new (plain circuit values) out =
+    IfSome (old circuit) (λ file. AnswersPlain file values out)
 Answers old new (check circuit) out = IfSome (old circuit) (λ file. AnswersCheck file out)
 Answers old new (garble circuit seed name version workers) out =
     IfSome (old circuit) (λ file. AnswersGarble file seed version workers (new name) out)
 Answers old new (deal circuit seed index value name) out =
     IfSome (old circuit) (λ file. AnswersDeal file seed index value (new name) out)
-Answers old new (eval circuit garbled workers labels) out = AnswersEval old circuit garbled workers labels out
+Answers old new (eval circuit garbled workers labels) out =
+    AnswersEval old circuit garbled workers labels out
 Answers old new (jobs circuit list workers) out = AnswersJobs old circuit list workers out
 Answers old new (locate circuit) out = IfSome (old circuit) (λ file. AnswersLocate file out)
 Answers old new (stats circuit) out = IfSome (old circuit) (λ file. AnswersStats file out)
@@ -39,13 +41,15 @@ Answers old new (audit circuit seed garbled workers labels) out =
 abbrev pub HasFault : FileBytes → OrderText → Fault → Type 0
 HasFault bytes (run circuit seed workers values) fault =
     IfSome (bytes circuit) (λ file. HasRunFault file seed workers values fault)
-HasFault bytes (plain circuit values) fault = IfSome (bytes circuit) (λ file. HasPlainFault file values fault)
+HasFault bytes (plain circuit values) fault =
+    IfSome (bytes circuit) (λ file. HasPlainFault file values fault)
 HasFault bytes (check circuit) fault = IfSome (bytes circuit) (λ file. HasCheckFault file fault)
 HasFault bytes (garble circuit seed name version workers) fault =
     IfSome (bytes circuit) (λ file. HasGarbleFault file seed workers fault)
 HasFault bytes (deal circuit seed index value name) fault =
     IfSome (bytes circuit) (λ file. HasDealFault file seed index value fault)
-HasFault bytes (eval circuit garbled workers labels) fault = HasEvalFault bytes circuit garbled workers labels fault
+HasFault bytes (eval circuit garbled workers labels) fault =
+    HasEvalFault bytes circuit garbled workers labels fault
 HasFault bytes (jobs circuit list workers) fault = HasJobsFault bytes circuit list workers fault
 HasFault bytes (locate circuit) fault = IfSome (bytes circuit) (λ file. HasLocateFault file fault)
 HasFault bytes (stats circuit) fault = IfSome (bytes circuit) (λ file. HasStatsFault file fault)

@@ -34,7 +34,8 @@ FirstBadLabels bytes (name ∷ names) fault =
 abbrev pub FirstBadFile : FileBytes → List ℕ → List (List ℕ) → FileFault → Type 0
 FirstBadFile bytes garbled labels fault =
     IfSome (bytes garbled) (λ held. FirstFault held fault)
-    ⊎ ((g : GarbledParts) × IfSome (bytes garbled) (λ held. IsGarbledFile held g) × FirstBadLabels bytes labels fault)
+    ⊎ ((g : GarbledParts) × IfSome (bytes garbled) (λ held. IsGarbledFile held g)
+    × FirstBadLabels bytes labels fault)
 
 -- The faults of reading a garbled file, a label file, and label files in turn, memory aside.
 abbrev pub HasGarbledFault : FileBytes → List ℕ → Fault → Type 0
@@ -58,15 +59,15 @@ HasLabelsFault bytes labels Memory = Unit {0}
 HasLabelsFault bytes labels _ = ⊥
 
 -- The files of these names are a circuit, a garbled file and label files.
-pub record AreEvalFiles (bytes : FileBytes) (circuit garbled : List ℕ) (labels : List (List ℕ)) (c : Netlist)
-    (g : GarbledParts) (files : List LabelFileParts) : Type 0 where
+pub record AreEvalFiles (bytes : FileBytes) (circuit garbled : List ℕ) (labels : List (List ℕ))
+    (c : Netlist) (g : GarbledParts) (files : List LabelFileParts) : Type 0 where
   pub circuit_read : IfSome (bytes circuit) (λ held. IsCircuit held c)
   pub garbled_read : IfSome (bytes garbled) (λ held. IsGarbledFile held g)
   pub labels_read : AreLabelFiles bytes labels files
 
 -- What `eval` answers: the lines of what the files decode to, whatever the number of workers.
-pub record AnswersEval (bytes : FileBytes) (circuit garbled : List ℕ) (workers : ℕ) (labels : List (List ℕ))
-    (lines : List ℕ) : Type 0 where
+pub record AnswersEval (bytes : FileBytes) (circuit garbled : List ℕ) (workers : ℕ)
+    (labels : List (List ℕ)) (lines : List ℕ) : Type 0 where
   pub c : Netlist
   pub g : GarbledParts
   pub files : List LabelFileParts
@@ -87,9 +88,11 @@ HasEvalFault bytes circuit garbled workers labels (File fault) =
     × (fault ≢ file.Memory → FirstBadFile bytes garbled labels fault)
 HasEvalFault bytes circuit garbled workers labels (Binding fault) =
     (c : Netlist) × ((g : GarbledParts) × ((files : List LabelFileParts)
-    × (AreEvalFiles bytes circuit garbled labels c g files × HasJobFault c g files workers (Binding fault))))
+    × (AreEvalFiles bytes circuit garbled labels c g files
+    × HasJobFault c g files workers (Binding fault))))
 HasEvalFault bytes circuit garbled workers labels (Evaluation fault) =
     (c : Netlist) × ((g : GarbledParts) × ((files : List LabelFileParts)
-    × (AreEvalFiles bytes circuit garbled labels c g files × HasJobFault c g files workers (Evaluation fault))))
+    × (AreEvalFiles bytes circuit garbled labels c g files
+    × HasJobFault c g files workers (Evaluation fault))))
 HasEvalFault bytes circuit garbled workers labels Memory = Unit {0}
 HasEvalFault bytes circuit garbled workers labels _ = ⊥

@@ -21,8 +21,8 @@ pub record IsGarbleInput (bytes seed_text : List ℕ) (c : Netlist) (seed : List
 
 -- What `garble` does, whatever the number of workers: it writes the garbled file of the version, of the circuit's
 -- garbling under the seed, and states its number of bytes.
-pub record AnswersGarble (bytes seed_text : List ℕ) (version : Version) (workers : ℕ) (held : Option (List ℕ))
-    (lines : List ℕ) : Type 0 where
+pub record AnswersGarble (bytes seed_text : List ℕ) (version : Version) (workers : ℕ)
+    (held : Option (List ℕ)) (lines : List ℕ) : Type 0 where
   pub circuit : Netlist
   pub seed : List ℕ
   pub input : IsGarbleInput bytes seed_text circuit seed

@@ -12,7 +12,8 @@ use Rattle.gc_command.specs.declared.fault.Fault.{Fault}
 use Rattle.gc_command.specs.declared.fault.Fault.TheVariants.{Binding, Evaluation}
 
 -- The files are a job of the circuit, and its evaluation answers these bits.
-pub record DecodeTo (c : Netlist) (g : GarbledParts) (files : List LabelFileParts) (bits : List Bool) : Type 0 where
+pub record DecodeTo (c : Netlist) (g : GarbledParts) (files : List LabelFileParts)
+    (bits : List Bool) : Type 0 where
   pub job : JobParts
   pub bound : IsBound c g files job
   pub evaluated : IsEvaluated job (Ok bits)

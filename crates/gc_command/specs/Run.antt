@@ -25,7 +25,8 @@ pub record IsRunInput (bytes seed : List ℕ) (texts : List (List ℕ)) (c : Net
 
 -- There are such a circuit and such values.
 abbrev pub HasRunInput : List ℕ → List ℕ → List (List ℕ) → Type 0
-HasRunInput bytes seed texts = (c : Netlist) × ((values : List (List Bool)) × IsRunInput bytes seed texts c values)
+HasRunInput bytes seed texts =
+    (c : Netlist) × ((values : List (List Bool)) × IsRunInput bytes seed texts c values)
 
 -- The faults of the files that a run makes for itself: that there is no memory.
 abbrev pub IsWantOfMemory : Fault → Type 0
@@ -42,7 +43,8 @@ IsOwnFault workers (Garbling fault) = HasWorkFault workers fault
 IsOwnFault workers fault = IsWantOfMemory fault
 
 -- What `run` answers: the lines of the circuit's outputs on the values, whatever the number of workers.
-pub record AnswersRun (bytes seed : List ℕ) (workers : ℕ) (texts : List (List ℕ)) (lines : List ℕ) : Type 0 where
+pub record AnswersRun (bytes seed : List ℕ) (workers : ℕ) (texts : List (List ℕ))
+    (lines : List ℕ) : Type 0 where
   pub circuit : Netlist
   pub values : List (List Bool)
   pub input : IsRunInput bytes seed texts circuit values
@@ -55,15 +57,21 @@ pub record AnswersRun (bytes seed : List ℕ) (workers : ℕ) (texts : List (Lis
 abbrev pub HasRunFault : List ℕ → List ℕ → ℕ → List (List ℕ) → Fault → Type 0
 HasRunFault bytes seed workers texts CannotRead = HasCircuitFault bytes CannotRead
 HasRunFault bytes seed workers texts (Circuit fault) = HasCircuitFault bytes (Circuit fault)
-HasRunFault bytes seed workers texts BadSeed = ((c : Netlist) × IsCircuit bytes c) × ¬ IsSeedText seed
-HasRunFault bytes seed workers texts WrongCount = (c : Netlist) × IsCircuit bytes c × IsSeedText seed
+HasRunFault bytes seed workers texts BadSeed =
+    ((c : Netlist) × IsCircuit bytes c) × ¬ IsSeedText seed
+HasRunFault bytes seed workers texts WrongCount =
+    (c : Netlist) × IsCircuit bytes c × IsSeedText seed
     × HasValueFault c.input_widths texts WrongCount
-HasRunFault bytes seed workers texts (Value fault) = (c : Netlist) × IsCircuit bytes c × IsSeedText seed
+HasRunFault bytes seed workers texts (Value fault) =
+    (c : Netlist) × IsCircuit bytes c × IsSeedText seed
     × HasValueFault c.input_widths texts (Value fault)
 HasRunFault bytes seed workers texts (Garbling fault) =
     HasRunInput bytes seed texts × HasWorkFault workers fault
-HasRunFault bytes seed workers texts (File fault) = IsWantOfMemory (File fault) × HasRunInput bytes seed texts
-HasRunFault bytes seed workers texts (Binding fault) = IsWantOfMemory (Binding fault) × HasRunInput bytes seed texts
-HasRunFault bytes seed workers texts (Evaluation fault) = IsWantOfMemory (Evaluation fault) × HasRunInput bytes seed texts
+HasRunFault bytes seed workers texts (File fault) =
+    IsWantOfMemory (File fault) × HasRunInput bytes seed texts
+HasRunFault bytes seed workers texts (Binding fault) =
+    IsWantOfMemory (Binding fault) × HasRunInput bytes seed texts
+HasRunFault bytes seed workers texts (Evaluation fault) =
+    IsWantOfMemory (Evaluation fault) × HasRunInput bytes seed texts
 HasRunFault bytes seed workers texts Memory = Unit {0}
 HasRunFault bytes seed workers texts _ = ⊥

@@ -30,7 +30,8 @@ HasValueFault widths texts Memory = Unit {0}
 HasValueFault widths texts _ = ⊥
 
 -- The text spells the bits of the input value of this index, among values of these widths.
-pub record IsInputValue (widths : List ℕ) (index : ℕ) (text : List ℕ) (bits : List Bool) : Type 0 where
+pub record IsInputValue (widths : List ℕ) (index : ℕ) (text : List ℕ) (bits : List Bool)
+    : Type 0 where
   pub width : ℕ
   pub at : slice_get widths index ≡ Some width
   pub spelled : value_of_text text width ≡ Ok bits
@@ -39,5 +40,6 @@ pub record IsInputValue (widths : List ℕ) (index : ℕ) (text : List ℕ) (bit
 abbrev pub HasInputValueFault : List ℕ → ℕ → List ℕ → Fault → Type 0
 HasInputValueFault widths index text NoSuchValue = length widths ≤ index
 HasInputValueFault widths index text (Value fault) =
-    (width : ℕ) × (slice_get widths index ≡ Some width) × (fault ≢ value.Memory → value_of_text text width ≡ Err fault)
+    (width : ℕ) × (slice_get widths index ≡ Some width)
+    × (fault ≢ value.Memory → value_of_text text width ≡ Err fault)
 HasInputValueFault widths index text _ = ⊥

@@ -13,7 +13,8 @@ has_words (word ∷ words) = true
 
 -- The words of each line that has one: line feeds (byte 10) part lines, and tokens are those of Bristol Fashion.
 abbrev pub listed : List ℕ → List (List (List ℕ))
-listed text = map tokens (filter (λ line. has_words (tokens line)) (slice_split (λ b. b == 10) text))
+listed text =
+    map tokens (filter (λ line. has_words (tokens line)) (slice_split (λ b. b == 10) text))
 
 -- The text is UTF-8, and does not have too many such lines.
 pub record IsJobList (text : List ℕ) : Type 0 where

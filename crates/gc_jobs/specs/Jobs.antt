@@ -20,8 +20,8 @@ use Rattle.gc_command.specs.Eval.{AreLabelFiles, FirstBadFile}
 use Rattle.gc_jobs.specs.JobList.{IsJobList, listed}
 
 -- The words name a garbled file and then label files, of these parts.
-pub record NameFiles (bytes : FileBytes) (words : List (List ℕ)) (g : GarbledParts) (files : List LabelFileParts)
-    : Type 0 where
+pub record NameFiles (bytes : FileBytes) (words : List (List ℕ)) (g : GarbledParts)
+    (files : List LabelFileParts) : Type 0 where
   pub garbled : List ℕ
   pub labels : List (List ℕ)
   pub names : words ≡ garbled ∷ labels
@@ -29,7 +29,8 @@ pub record NameFiles (bytes : FileBytes) (words : List (List ℕ)) (g : GarbledP
   pub labels_read : AreLabelFiles bytes labels files
 
 -- The words name the files of this job of the circuit.
-pub record NameJob (bytes : FileBytes) (c : Netlist) (words : List (List ℕ)) (job : JobParts) : Type 0 where
+pub record NameJob (bytes : FileBytes) (c : Netlist) (words : List (List ℕ)) (job : JobParts)
+    : Type 0 where
   pub g : GarbledParts
   pub files : List LabelFileParts
   pub named : NameFiles bytes words g files
@@ -53,14 +54,16 @@ HasNamedFault bytes c words _ = ⊥
 -- The lines name these jobs: as many, and each its own.
 abbrev pub NameJobs : FileBytes → Netlist → List (List (List ℕ)) → List JobParts → Type 0
 NameJobs bytes c [] [] = Unit {0}
-NameJobs bytes c (words ∷ lines) (job ∷ jobs) = NameJob bytes c words job × NameJobs bytes c lines jobs
+NameJobs bytes c (words ∷ lines) (job ∷ jobs) =
+    NameJob bytes c words job × NameJobs bytes c lines jobs
 NameJobs bytes c _ _ = ⊥
 
 -- The first line that names no job has this fault.
 abbrev pub FirstBadJob : FileBytes → Netlist → List (List (List ℕ)) → Fault → Type 0
 FirstBadJob bytes c [] fault = ⊥
 FirstBadJob bytes c (words ∷ lines) fault =
-    HasNamedFault bytes c words fault ⊎ ((job : JobParts) × NameJob bytes c words job × FirstBadJob bytes c lines fault)
+    HasNamedFault bytes c words fault
+    ⊎ ((job : JobParts) × NameJob bytes c words job × FirstBadJob bytes c lines fault)
 
 -- The faults of the lines in turn.
 abbrev pub HasLinesFault : FileBytes → Netlist → List (List (List ℕ)) → Fault → Type 0
@@ -71,14 +74,16 @@ HasLinesFault bytes c lines (Binding fault) = FirstBadJob bytes c lines (Binding
 HasLinesFault bytes c lines _ = ⊥
 
 -- The file of this name is a list of these jobs.
-pub record AreListed (bytes : FileBytes) (list : List ℕ) (c : Netlist) (jobs : List JobParts) : Type 0 where
+pub record AreListed (bytes : FileBytes) (list : List ℕ) (c : Netlist) (jobs : List JobParts)
+    : Type 0 where
   pub text : List ℕ
   pub text_read : GivesFile (bytes list) text
   pub is_list : IsJobList text
   pub named : NameJobs bytes c (listed text) jobs
 
 -- It is a list, and the first line that names no job has this fault.
-pub record HasBadJob (bytes : FileBytes) (list : List ℕ) (c : Netlist) (fault : Fault) : Type 0 where
+pub record HasBadJob (bytes : FileBytes) (list : List ℕ) (c : Netlist) (fault : Fault)
+    : Type 0 where
   pub text : List ℕ
   pub text_read : GivesFile (bytes list) text
   pub is_list : IsJobList text
@@ -95,7 +100,8 @@ HasListFault bytes list c _ = ⊥
 
 -- What `jobs` answers: the lines of what each job decodes to, whatever the number of workers. A list without jobs
 -- answers nothing.
-pub record AnswersJobs (bytes : FileBytes) (circuit list : List ℕ) (workers : ℕ) (lines : List ℕ) : Type 0 where
+pub record AnswersJobs (bytes : FileBytes) (circuit list : List ℕ) (workers : ℕ) (lines : List ℕ)
+    : Type 0 where
   pub c : Netlist
   pub circuit_read : IfSome (bytes circuit) (λ held. IsCircuit held c)
   pub jobs : List JobParts
@@ -116,4 +122,5 @@ HasJobsFault bytes circuit list workers (Evaluation fault) =
     (c : Netlist) × IfSome (bytes circuit) (λ held. IsCircuit held c) × ((jobs : List JobParts)
     × AreListed bytes list c jobs × (0 < length jobs) × AreEvaluatedBy workers jobs (Err fault))
 HasJobsFault bytes circuit list workers fault =
-    (c : Netlist) × IfSome (bytes circuit) (λ held. IsCircuit held c) × HasListFault bytes list c fault
+    (c : Netlist) × IfSome (bytes circuit) (λ held. IsCircuit held c)
+    × HasListFault bytes list c fault

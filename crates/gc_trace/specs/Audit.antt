@@ -109,23 +109,27 @@ is_dealt (WrongLabel wire) = false
 is_dealt (Bits bits) = true
 
 -- What is found of a label file: whether it is the dealer's, and its line.
-pub data IsLabelsFound (c : Netlist) (seed : List ℕ) (file : LabelFileParts) : Bool → List ℕ → Type 0 where
+pub data IsLabelsFound (c : Netlist) (seed : List ℕ) (file : LabelFileParts)
+    : Bool → List ℕ → Type 0 where
   -- There is no input value of its index,
   no_value : length c.input_widths ≤ file.index →
       IsLabelsFound c seed file false (labels_line file.index (Name (codes "no value") ∷ []))
   -- or it has not a label for each wire of the value,
-  wrong_width : (width : ℕ) → slice_get c.input_widths file.index ≡ Some width → length file.labels ≢ width →
+  wrong_width : (width : ℕ) → slice_get c.input_widths file.index ≡ Some width →
+      length file.labels ≢ width →
       IsLabelsFound c seed file false (labels_line file.index (Name (codes "width") ∷ []))
   -- or the label of a wire is neither of the two: the first such wire,
   wrong_label : (wire : ℕ) → slice_get c.input_widths file.index ≡ Some (length file.labels) →
       IsFirstWrong seed (first_wire_of c file.index) file.labels wire →
-      IsLabelsFound c seed file false (labels_line file.index (Name (codes "wrong") ∷ Number wire ∷ []))
+      IsLabelsFound c seed file false
+      (labels_line file.index (Name (codes "wrong") ∷ Number wire ∷ []))
   -- or it is the dealer's for these bits.
   dealt : (bits : List Bool) → IsDealt c seed file bits →
       IsLabelsFound c seed file true (labels_line file.index (bits_words bits))
 
 -- What is found of label files in turn: whether all are the dealer's, and their lines.
-pub data AreLabelsFound (c : Netlist) (seed : List ℕ) : List LabelFileParts → Bool → List ℕ → Type 0 where
+pub data AreLabelsFound (c : Netlist) (seed : List ℕ)
+    : List LabelFileParts → Bool → List ℕ → Type 0 where
   none : AreLabelsFound c seed [] true []
   more : (files : List LabelFileParts) (file : LabelFileParts) (all_dealt one_dealt : Bool)
       (lines line_of_file : List ℕ) → AreLabelsFound c seed files all_dealt lines →
@@ -140,8 +144,8 @@ end_line false = line (Name (codes "dishonest") ∷ [])
 -- What is found of a garbled file and label files by the circuit and the seed, in lines. The last one says `honest`
 -- exactly where the garbled file is, byte for byte, that of the circuit's garbling under the seed, and each label file
 -- is the dealer's.
-pub record AreAuditLines (c : Netlist) (seed : List ℕ) (g : GarbledParts) (files : List LabelFileParts)
-    (lines : List ℕ) : Type 0 where
+pub record AreAuditLines (c : Netlist) (seed : List ℕ) (g : GarbledParts)
+    (files : List LabelFileParts) (lines : List ℕ) : Type 0 where
   pub garbling : GarblingParts
   pub garbled : IsGarbled c seed garbling
   pub found : GarbledAudit
@@ -179,6 +183,7 @@ HasAuditFault bytes circuit seed garbled workers labels (File fault) =
     × (fault ≢ file.Memory → FirstBadFile bytes garbled labels fault)
 HasAuditFault bytes circuit seed garbled workers labels (Garbling fault) =
     (c : Netlist) × ((g : GarbledParts) × ((files : List LabelFileParts)
-    × (AreEvalFiles bytes circuit garbled labels c g files × IsSeedText seed × HasWorkFault workers fault)))
+    × (AreEvalFiles bytes circuit garbled labels c g files × IsSeedText seed
+    × HasWorkFault workers fault)))
 HasAuditFault bytes circuit seed garbled workers labels Memory = Unit {0}
 HasAuditFault bytes circuit seed garbled workers labels _ = ⊥

@@ -46,8 +46,8 @@ set_from c from count =
     take count (filter (is_set (input_wires c) c.gates) (range_with_len from (c.wires - from)))
 
 -- The bytes are a circuit's, the seed's text is a seed, and the texts spell values of the circuit's input widths.
-pub record IsLabelsInput (bytes seed_text : List ℕ) (texts : List (List ℕ)) (c : Netlist) (seed : List ℕ)
-    (values : List (List Bool)) : Type 0 where
+pub record IsLabelsInput (bytes seed_text : List ℕ) (texts : List (List ℕ)) (c : Netlist)
+    (seed : List ℕ) (values : List (List Bool)) : Type 0 where
   pub circuit : IsCircuit bytes c
   pub seed_read : IsSeed seed_text seed
   pub input_values : SpellValues c.input_widths texts values

@@ -34,7 +34,8 @@ located_lines located =
 abbrev pub AnswersLocate : List ℕ → List ℕ → Type 0
 AnswersLocate bytes lines =
     ((c : Netlist) × IsCircuit bytes c × (lines ≡ codes "no fault\n"))
-    ⊎ ((l : Located) × IsLocated bytes l.fault l.line l.column l.gate l.wire × (lines ≡ located_lines l))
+    ⊎ ((l : Located) × IsLocated bytes l.fault l.line l.column l.gate l.wire
+    × (lines ≡ located_lines l))
 
 -- The faults of `locate`: that the file can't be read, or that memory runs out.
 abbrev pub HasLocateFault : List ℕ → Fault → Type 0
