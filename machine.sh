@@ -31,6 +31,26 @@ is_built_from() {
     [ -x "$2" ] && read -r built_from <"$2.sources" && [ "$built_from" = "$1" ]
 } 2>/dev/null
 
+# Whether this processor has what x86-64-v3 asks for, as most since 2015 have.
+is_v3() {
+    while read -r key flags; do
+        [ "$key" != flags ] || break
+    done </proc/cpuinfo
+    for flag in avx avx2 bmi1 bmi2 f16c fma abm movbe; do
+        case " $flags " in *" $flag "*) ;; *) return 1 ;; esac
+    done
+} 2>/dev/null
+
+# Finds the program that was built from sources with this checksum: the one that ./build made for this processor, or the
+# one of dist/ for processors of its kind. Its path is then $program.
+find_program() {
+    program=$top/out/halfgates
+    is_built_from "$1" "$program" && return
+    program=$top/dist/halfgates
+    is_built_from "$1" "$program" || return
+    ! is_v3 || program=$program-v3
+}
+
 # From now on programs have memory by large pages, where the system gives them to who asks, and keep what they give back
 # for what they take next, all their threads from one heap: much of the time that opening large tables takes is the handing
 # out of their pages.
