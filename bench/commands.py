@@ -1,10 +1,12 @@
 #!/usr/bin/env python3
 """Times commands of the program, and lists of jobs, as tables of docs/SPEED.md.
 
-  commands.py PROGRAM
+  commands.py PROGRAM BENCH
 
 All commands on a circuit run in turns, and the fastest of several runs of each counts, in
-milliseconds. Reading, digests and files are part of these times.
+milliseconds. Reading, digests and files are part of these times. BENCH is gc_bench, which takes
+SHA-256 of the circuit's canonical text and of its garbled file in the same turns: no program can
+garble or evaluate faster by this implementation of SHA-256.
 """
 
 import subprocess
@@ -13,21 +15,29 @@ import tempfile
 import time
 from pathlib import Path
 
-from measure import CIRCUITS, make
+from measure import CIRCUITS, input_widths, make, times
 
 SEED = 64 * "0"
 REPEATS = 7
 
 # The circuits of the first table, and its columns.
-ON = "gates that read within a thousand, half AND", "64 chains of AND gates", "AES-128, 33 times"
+ON = (
+    "SHA-256's compression, 8 times",
+    "AES-128, 33 times",
+    "gates that read within a thousand, half AND",
+    "64 chains of AND gates",
+)
 COMMANDS = [
     ("`check`", "check CIRCUIT"),
     ("`locate`", "locate CIRCUIT"),
     ("`stats`", "stats CIRCUIT"),
     ("`garble` by 1", "garble CIRCUIT SEED made --workers 1"),
     ("by 4", "garble CIRCUIT SEED made --workers 4"),
+    ("`eval` by 1", "eval CIRCUIT garbled LABELS --workers 1"),
+    ("by 4", "eval CIRCUIT garbled LABELS --workers 4"),
     ("`audit` by 1", "audit CIRCUIT SEED garbled --workers 1"),
     ("by 4", "audit CIRCUIT SEED garbled --workers 4"),
+    ("SHA-256", "SHA-256"),
 ]
 
 # The columns of the second table.
@@ -49,18 +59,27 @@ LISTS = {
 
 
 def main():
-    program = Path(sys.argv[1]).resolve()
+    program, bench = map(Path.resolve, map(Path, sys.argv[1:]))
     with tempfile.TemporaryDirectory() as folder:
 
         def run(command):
-            words = command.replace("CIRCUIT", "circuit").replace("SEED", SEED).split()
+            """The seconds that a command takes, or SHA-256 of both texts."""
+            circuit = f"{folder}/circuit"
+            if command == "SHA-256":
+                took = times(bench, circuit, 1, "sha", "file_sha")
+                return (took["sha"] + took["file_sha"]) / 1e9
+            labels = " ".join(f"labels{index}" for index in range(len(input_widths(circuit))))
+            words = command.replace("CIRCUIT", "circuit").replace("SEED", SEED)
             how = {"cwd": folder, "stdout": subprocess.DEVNULL, "check": True}
-            subprocess.run([program, *words], **how)
+            begun = time.monotonic()
+            subprocess.run([program, *words.replace("LABELS", labels).split()], **how)
+            return time.monotonic() - begun
 
         print_head("Circuit", COMMANDS)
         for name in ON:
             make(CIRCUITS[name], f"{folder}/circuit")
             run("garble CIRCUIT SEED garbled")
+            deal_zeros(Path(folder), "", run)
             print_times(name, COMMANDS, run)
         print_head("`jobs`", JOBS)
         for name, (count, command) in LISTS.items():
@@ -69,16 +88,21 @@ def main():
             print_times(name, JOBS, run)
 
 
+def deal_zeros(folder, job, run):
+    """Writes a label file of zeros for each input value, and returns their names."""
+    names = []
+    for index, width in enumerate(input_widths(folder / "circuit")):
+        names.append(f"labels{job}{index}")
+        run(f"deal CIRCUIT SEED {index} x{2 * ((width + 7) // 8) * '0'} {names[-1]}")
+    return names
+
+
 def make_list(folder, count, run):
     """Writes a list of jobs, each with a garbled file and label files of its own."""
-    widths = (folder / "circuit").read_text().splitlines()[1].split()[1:]
     lines = []
     for job in range(count):
         run(f"garble CIRCUIT SEED job{job}")
-        names = [f"labels{job}_{index}" for index in range(len(widths))]
-        for index, (name, width) in enumerate(zip(names, map(int, widths))):
-            run(f"deal CIRCUIT SEED {index} {width * '0'} {name}")
-        lines.append(" ".join([f"job{job}", *names]))
+        lines.append(" ".join([f"job{job}", *deal_zeros(folder, f"{job}_", run)]))
     (folder / "list").write_text("\n".join(lines))
 
 
@@ -90,11 +114,9 @@ def print_head(first, commands):
 def print_times(name, commands, run):
     took = {command: [] for _, command in commands}
     for _ in range(REPEATS):
-        for command, times in took.items():
-            begun = time.monotonic()
-            run(command)
-            times.append(time.monotonic() - begun)
-    cells = [f"{1000 * min(times):,.0f}" for times in took.values()]
+        for command, seconds in took.items():
+            seconds.append(run(command))
+    cells = [f"{1000 * min(seconds):,.0f}" for seconds in took.values()]
     print("|", " | ".join([name, *cells]), "|", flush=True)
 
 

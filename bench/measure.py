@@ -30,6 +30,13 @@ def make(command, file):
     subprocess.run([sys.executable, TOP / script, *words], check=True)
 
 
+def input_widths(circuit):
+    """The widths of the input values of a circuit's file."""
+    with open(circuit) as file:
+        file.readline()
+        return [int(width) for width in file.readline().split()[1:]]
+
+
 def times(bench, circuit, repeats, *parts):
     """The fastest runs of parts in nanoseconds, and the numbers of gates and AND gates, by name.
 

@@ -14,7 +14,7 @@ import sys
 import tempfile
 import time
 
-from measure import times
+from measure import input_widths, times
 
 SEED = 64 * "0"
 REPEATS = 12
@@ -30,12 +30,6 @@ def run(words):
     if status:
         sys.exit(f"failed: {' '.join(words)}")
     return took, usage.ru_maxrss * 1024
-
-
-def input_widths(circuit):
-    with open(circuit) as file:
-        file.readline()
-        return [int(width) for width in file.readline().split()[1:]]
 
 
 def sums_of_parts(parts):

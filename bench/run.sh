@@ -36,5 +36,5 @@ tune_memory
 "$top/bench/workers.py" "$bench"
 "$top/bench/sizes.py" "$bench"
 "$top/bench/program.py" "$top/halfgates" "$bench" "$circuit"
-"$top/bench/commands.py" "$top/halfgates"
+"$top/bench/commands.py" "$top/halfgates" "$bench"
 "$top/bench/library.py" "$top/halfgates" "$bench" "$library"
