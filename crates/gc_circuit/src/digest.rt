@@ -84,16 +84,28 @@ impl<A: Allocator> Circuit<A> {
         BegunDigest { hasher, gates }
     }
 
-    /// The digest of the circuit, of which the beginning is given. That it is this circuit's is the caller's condition.
-    /// It takes no memory.
-    pub fn finish_digest(&self, begun: BegunDigest) -> [u8; 32]
+    /// Takes the lines that are left, so that finishing the digest takes no time. That the digest is of this circuit is
+    /// the caller's condition. It takes no memory.
+    pub fn advance_digest(&self, begun: &mut BegunDigest)
+        requires { IsBegun self.now begun.old }
+        ensures { IsBegun self.now begun.new }
+    {
+        let mut room = empty_room();
+        match self.write_rest(&mut begun.hasher, &mut room, begun.gates) {
+            Ok(()) => begun.gates = self.gates(),
+            Err(never) => match never {},
+        }
+    }
+
+    /// The digest of the circuit, of which the beginning is given. That it is of this circuit is the caller's
+    /// condition. It takes no memory.
+    pub fn finish_digest(&self, mut begun: BegunDigest) -> [u8; 32]
         requires { IsBegun self.now begun }
         ensures { result ≡ sha256 (canonical_text self.now) }
     {
-        let BegunDigest { mut hasher, gates } = begun;
         let mut room = empty_room();
-        match self.write_rest(&mut hasher, &mut room, gates) {
-            Ok(()) => hasher.finalize(),
+        match self.write_rest(&mut begun.hasher, &mut room, begun.gates) {
+            Ok(()) => begun.hasher.finalize(),
             Err(never) => match never {},
         }
     }
