@@ -123,10 +123,10 @@ module _ (widths : List ℕ) (files : List LabelFileParts) (i : ℕ) (file : Lab
 -- What comparing two digests says.
 module _ (a b : List ℕ) (differ : Bool) (is : differ ≡ not (pointwise eqb a b)) where
   pub other_digest : differ ≡ true → a ≡ b → ⊥
-  other_digest yes same = let e = (slice_eq-Decides Decides-eqb a b (pointwise eqb a b) refl).1 same in cc
+  other_digest differs same = let e = (slice_eq-Decides Decides-eqb a b (pointwise eqb a b) refl).1 same in cc
 
   pub same_digest : differ ≡ false → a ≡ b
-  same_digest no = (slice_eq-Decides Decides-eqb a b (pointwise eqb a b) refl).0 (is_true (pointwise eqb a b) (sym is ∙ no))
+  same_digest agrees = (slice_eq-Decides Decides-eqb a b (pointwise eqb a b) refl).0 (is_true (pointwise eqb a b) (sym is ∙ agrees))
     where
       is_true : (t : Bool) → not t ≡ false → t ≡ true
       is_true true e = refl

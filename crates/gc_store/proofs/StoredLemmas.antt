@@ -33,12 +33,12 @@ pub stored : (c : Netlist) (seed : List ℕ) (r : ℕ) (t : Tables) → IsKept c
 stored c seed r t kept = record {
   kept = kept;
   ready = λ i. (queued_ready c seed r t kept i, ready_queued c seed r t kept i);
-  countdowns = λ i g test at awaited. kept.counted i g at ∙ same_reads kept.known test g.operation
+  countdowns = λ i g test at waits. kept.counted i g at ∙ same_reads kept.known test g.operation
       (EachRead-map (λ w. (¬ IsKnown (content_of c seed t) w) ↔ IsAwaited (content_of c seed t) w)
       (λ w. unknown kept.known (Some w) ≡ picked test (Some w)) g.operation
       (λ w is. same_read kept.known test w (
-        λ not. (awaited w).1 (is.0 (λ known. not ((kept.marks_known w).1 known))),
-        λ yes known. is.1 ((awaited w).0 yes) ((kept.marks_known w).0 known),
+        λ not. (waits w).1 (is.0 (λ known. not ((kept.marks_known w).1 known))),
+        λ yes known. is.1 ((waits w).0 yes) ((kept.marks_known w).0 known),
       ))
       (awaited_reads (content_of c seed t) kept.lawful i g at));
 }

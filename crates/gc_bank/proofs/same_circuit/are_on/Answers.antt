@@ -10,7 +10,7 @@ returns-then-not-equals g c =
     slice_get_read c.args.jobs.now
     (length c.args.jobs.now) c.loop-job.job-index c.job-item.result refl (omega arith)
     c.job-item.is in (
-      λ yes. absurd (cc),
+      λ is. absurd (cc),
       λ on. absurd (
           let is = c.equals.ensures.1 (c.circuit.ensures.circuit
           ∙ on c.loop-job.job-index c.job-item.result (omega arith) at) in
@@ -30,6 +30,6 @@ loop-job-preserved g c =
 pub returns : goal.returns
 returns g c =
     let whole : c.loop-job.job-index ≡ length c.args.jobs.now = omega arith in (
-      λ yes. subst (AreOn c.args.circuit.now c.args.jobs.now) whole c.loop-job.invariant,
+      λ is. subst (AreOn c.args.circuit.now c.args.jobs.now) whole c.loop-job.invariant,
       λ on. refl,
     )
