@@ -4,7 +4,7 @@ use Rattle.std.specs.List.{join_with_byte}
 use Rattle.std.proofs.lemmas.List.{take_all}
 use Rattle.gc_netlist.specs.Spelling.{Name, words_of_widths}
 use Rattle.gc_netlist.specs.Canon.{line, written}
-use Rattle.gc_circuit.proofs.CanonLines.{numbers_after, line-widths}
+use Rattle.gc_canon.proofs.LineLemmas.{numbers_after, line-widths}
 
 joined : (text name count ns : List ℕ)
     → (text ++ name ++ 32 ∷ count ++ ns) ++ 10 ∷ []

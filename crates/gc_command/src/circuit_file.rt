@@ -136,12 +136,12 @@ fn read_and_hash<R: Threads, A: Allocator + Copy + Send + Sync, F: Files>(
         rt,
         || -> Sha256
             requires { count ≤ length bytes.now }
-            ensures { Holds256 result (take count.entry bytes.entry.now) }
+            ensures { Holds256 result (take count bytes.entry.now) }
         { Sha256::new_with_prefix(&bytes[..count]) },
         || -> Result<(Circuit<A>, Option<CommonLines>), ReadFault>
             ensures circuit { IfOk result (λ read. IsCircuit bytes.entry.now read.0) }
             ensures common { IfOk result (λ read.
-                IfSome read.1 (AreCommonLines read.0 bytes.entry.now count.entry)) }
+                IfSome read.1 (AreCommonLines read.0 bytes.entry.now count)) }
             ensures fault { IfErr result (λ fault. fault ≢ ReadFault.Memory
                 → circuit_of (tokens bytes.entry.now) ≡ Err fault) }
         { read_and_compare(alloc, bytes, count) },
