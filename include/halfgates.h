@@ -16,15 +16,17 @@
  *     halfgates_circuit_free(circuit);
  *
  * CODES. A function that can fail answers a code: 0 is success, and any other is the number of the fault that the
- * program `halfgates` prints, or one of two codes of this library. A call that fails changes no handle, and writes
+ * program `halfgates` prints, or one of three codes of this library. A call that fails changes no handle, and writes
  * nothing but what its description says.
  *
- * HANDLES. A handle is a pointer that a function of this library has written. Set it to NULL before. A function that
- * writes a handle doesn't free the old one. Each handle is freed once, by the function of its type; freeing NULL does
- * nothing. A garbling and a job keep what they need of their circuit, so handles are freed in any order.
+ * HANDLES. A handle is a pointer that a function of this library has written. Set it to NULL before: a call that fails
+ * leaves it so. A function that writes a handle doesn't free the old one. Each handle is freed once, by the function of
+ * its type; freeing NULL does nothing. A garbling and a job keep what they need of their circuit, so handles are freed
+ * in any order.
  *
  * THREADS. No function starts a thread, takes a lock or waits. Several threads may use several handles side by side,
- * garblings and jobs of one circuit too. One handle is used by one call at a time.
+ * garblings and jobs of one circuit too. One handle is used by one call at a time, whatever the call: threads that
+ * garble one circuit take turns, by a mutex or the like, or read the circuit once each.
  *
  * BUFFERS. The library reads and writes buffers within a call and keeps no pointer to them. No alignment is asked for
  * where a buffer is of bytes. A buffer that is written overlaps no other argument. Where a size is 0, the pointer
@@ -33,8 +35,9 @@
  * BITS are bytes 0 and 1, one for each wire, in wire order: those of input value 0, then those of value 1, and so on.
  * Another byte is HALFGATES_BAD_DIGIT, and a wrong number of them HALFGATES_WRONG_LENGTH.
  *
- * MEMORY comes from malloc, realloc and free. Where it runs out, the code is a Memory code: nothing is leaked, and the
- * call may be made again. No function is called from a signal handler.
+ * MEMORY comes from malloc, realloc and free. Where it runs out, the code is one of those that are named "Memory":
+ * nothing is leaked, and the call may be made again. No function is called from a signal handler, or in a process that
+ * was forked from one with several threads.
  *
  * SECRETS. Whoever has a seed or a garbling knows all labels. The library isn't constant-time, and wipes no memory.
  */
@@ -66,10 +69,10 @@ enum {
     HALFGATES_OUTPUT_UNSET = 10,        /* an output wire is no input, and no gate sets it */
     HALFGATES_TRAILING_TOKENS = 11,     /* tokens follow the last gate */
     HALFGATES_WIDTHS_EXCEED_WIRES = 12, /* the widths of a side add up to more than the wires */
-    HALFGATES_CIRCUIT_MEMORY = 13,      /* memory ran out for a circuit, or while evaluating it in the plain */
+    HALFGATES_CIRCUIT_MEMORY = 13,      /* memory ran out for a circuit, for bits, or while evaluating it in the plain */
 
     /* Bits. */
-    HALFGATES_BAD_DIGIT = 15,   /* a byte of bits is neither 0 nor 1 */
+    HALFGATES_BAD_DIGIT = 15,    /* a byte of bits is neither 0 nor 1 */
     HALFGATES_WRONG_LENGTH = 16, /* not one bit for each wire */
 
     HALFGATES_GARBLING_MEMORY = 23, /* memory ran out while garbling */
@@ -106,7 +109,7 @@ typedef struct halfgates_name {
 
 /*
  * The name of a code, as the program prints it, such as "BadTrailer"; "Ok" for 0, and "Unknown" for a number that is
- * none of the codes above. Use it as halfgates_fault_name(code).text.
+ * none of the codes above. Use it as halfgates_fault_name(code).text, and before C11 through a variable.
  */
 halfgates_name halfgates_fault_name(int32_t code);
 
@@ -138,6 +141,7 @@ typedef struct halfgates_numbers {
     uint32_t output_values; /* how many output values, at most 256 */
 } halfgates_numbers;
 
+/* Writes the numbers of a circuit. */
 int32_t halfgates_circuit_numbers(halfgates_circuit *circuit, halfgates_numbers *numbers);
 
 /*
@@ -150,14 +154,15 @@ int32_t halfgates_circuit_output_widths(halfgates_circuit *circuit, uint32_t *wi
 /* Writes the digest of a circuit, the SHA-256 of its canonical text, 32 bytes. It was taken when the text was read. */
 int32_t halfgates_circuit_digest(halfgates_circuit *circuit, uint8_t digest[32]);
 
-/* Stands for a gate or a wire where a fault is about none. */
+/* Stands for a gate, a wire or an output where there is none. */
 #define HALFGATES_NONE UINT32_MAX
 
 /* Where the first fault of a text is. */
 typedef struct halfgates_place {
     int32_t fault;   /* the fault, 1 to 12, or 0 where the text is a circuit; then the rest is 0 or HALFGATES_NONE */
-    uint32_t gate;   /* the gate, counted from 0, or HALFGATES_NONE */
-    uint32_t wire;   /* the wire, or HALFGATES_NONE */
+    uint32_t gate;   /* the gate, counted from 0, or HALFGATES_NONE where no gate is being read */
+    uint32_t wire;   /* the wire of the faults 7 to 10, else HALFGATES_NONE. For 7, HALFGATES_NO_SUCH_WIRE, it is the
+                        number as it stands in the text, which can be 4,294,967,295, as HALFGATES_NONE is */
     uint64_t line;   /* the line, counted from 1: byte 10 ends a line */
     uint64_t column; /* the column, counted from 1 in bytes */
 } halfgates_place;
@@ -198,15 +203,16 @@ uint64_t halfgates_garbled_size(halfgates_circuit *circuit, uint32_t version);
 
 /*
  * Writes the garbled file of a garbling in a version, 1 or 2, to `buffer`, and the number of its bytes to `written`.
- * Where `size` is less, the code is HALFGATES_SMALL_BUFFER: then `written` is the size that is needed, and `buffer`
- * stays as it is.
+ * What `buffer` has behind them stays. Where `size` is less, the code is HALFGATES_SMALL_BUFFER: then `written` is the
+ * size that is needed, and `buffer` stays as it is. A call with size 0 is a quick way to ask for the size. Other code:
+ * HALFGATES_MEMORY.
  */
 int32_t halfgates_garbling_write(halfgates_garbling *garbling, uint32_t version, uint8_t *buffer, size_t size,
                                  size_t *written);
 
 /*
  * Writes the label file of the input value `index`, counted from 0, which stands for `count` bits under a seed of 32
- * bytes, and the number of its bytes, 16 + 16 * count, to `written`. It needs no garbling. Codes:
+ * bytes, to `buffer`, and the number of its bytes, 16 + 16 * count, to `written`. It needs no garbling. Codes:
  * HALFGATES_NO_SUCH_VALUE, HALFGATES_WRONG_LENGTH, HALFGATES_BAD_DIGIT, HALFGATES_SMALL_BUFFER as above,
  * HALFGATES_CIRCUIT_MEMORY, HALFGATES_MEMORY. Deal each value once for a seed: two label files of one value give its
  * other labels away.
@@ -270,10 +276,10 @@ typedef struct halfgates_audit_report {
     uint8_t generator;    /* 1 where the generator's row of that pair differs */
     uint8_t evaluator;    /* 1 where the evaluator's row of that pair differs */
     uint8_t entry_colour; /* the colour, 0 or 1, of the first entry that differs */
-    uint32_t row;         /* the number of the first AND gate whose row pair differs, or HALFGATES_NONE */
-    uint32_t gate;        /* that gate's place in the circuit, or HALFGATES_NONE */
+    uint32_t row;         /* the number, among AND gates, of the first whose row pair differs, or HALFGATES_NONE */
+    uint32_t gate;        /* the number of that gate among all gates, or HALFGATES_NONE */
     uint32_t wire;        /* the wire that it sets, or HALFGATES_NONE */
-    uint32_t decode_bit;  /* the first output whose decode bit differs, or HALFGATES_NONE */
+    uint32_t decode_bit;  /* the first output whose decode bit differs, or HALFGATES_NONE. Outputs count from 0 */
     uint32_t entry;       /* the first output whose entries differ, or HALFGATES_NONE; version 1 has no entries */
 } halfgates_audit_report;
 
@@ -284,6 +290,9 @@ typedef struct halfgates_audit_report {
 int32_t halfgates_audit(halfgates_garbling *garbling, const uint8_t *garbled, size_t length,
                         halfgates_audit_report *report);
 
+/* A verdict, and no code: a label is neither of the two labels of its wire. */
+#define HALFGATES_WRONG_LABEL 63
+
 /* What an audit finds of a label file. */
 typedef struct halfgates_labels_report {
     int32_t verdict; /* HALFGATES_OK where the file is the one that halfgates_deal writes for the bits,
@@ -293,15 +302,10 @@ typedef struct halfgates_labels_report {
     uint32_t wire;   /* the first wire whose label is neither of its two, or HALFGATES_NONE */
 } halfgates_labels_report;
 
-
-
-/* A verdict, and no code: a label is neither of the two labels of its wire. */
-#define HALFGATES_WRONG_LABEL 63
-
 /*
- * Compares a label file, `length` bytes, with a garbling, and writes the bits that its labels stand for. Codes: 30 to
- * 36, the first fault of the file; HALFGATES_JOB_MEMORY; HALFGATES_SMALL_BUFFER where `size` is less than the number of
- * these bits, which the report then has. A file that differs is success.
+ * Compares a label file, `length` bytes, with a garbling, and writes the bits that its labels stand for: they are fewer
+ * than `length` / 16. Codes: 30 to 36, the first fault of the file; HALFGATES_JOB_MEMORY; HALFGATES_SMALL_BUFFER where
+ * `size` is less than the number of these bits, which the report then has. A file that differs is success.
  */
 int32_t halfgates_audit_labels(halfgates_garbling *garbling, const uint8_t *labels, size_t length, uint8_t *bits,
                                size_t size, halfgates_labels_report *report);
