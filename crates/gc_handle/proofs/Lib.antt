@@ -1,3 +1,4 @@
 pub mod Pair
 pub mod PointerSteps
+pub mod Recast
 pub mod Walk
