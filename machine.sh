@@ -1,7 +1,8 @@
 # What the launcher, the build, the tests and the benchmarks share. A script sources it, with the folder of the
 # repository as $top.
 
-# Where the sources of a program lie: crates.txt, and src/ and specs/ of the crates that it stands on.
+# Where the sources of a program lie: crates.txt, and src/ and specs/ of the crates that it stands on. The library has
+# its C functions and their header too.
 places_of_sources() {
     names=$(awk -F: -v program="$1" '
         { sub(/#.*/, "") }
@@ -14,11 +15,13 @@ places_of_sources() {
             print name
         }
         END { visit(program) }' "$top/crates.txt")
+    of_c=
+    [ "$1" = halfgates_c ] && of_c="c include/halfgates.h"
     for name in $names; do
         for place in "crates/$name/src" "crates/$name/specs"; do
             [ -d "$top/$place" ] && echo "$place"
         done
-    done | xargs echo crates.txt
+    done | xargs echo crates.txt $of_c
 }
 
 # The checksum of the sources of a program.

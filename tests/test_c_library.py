@@ -74,6 +74,9 @@ class FromC(LibraryTest):
     def test_null_with_a_size(self):
         self.run_built(SOURCES / "null.c")
 
+    def test_null_with_a_size_by_bare_names(self):
+        self.run_built(SOURCES / "null.c", LIBRARY)
+
     def test_refused_memory(self):
         printed = self.run_built(SOURCES / "memory.c", flags=WRAPPED)
         self.assertRegex(printed, r"^\d+ growths refused\n$")

@@ -425,6 +425,56 @@ class Handles(LibraryTest):
         self.assertRaises(TypeError, Circuit)
 
 
+# Calls the functions of the shared library as ctypes finds them, each with a NULL and a size of 1, and prints what is
+# not refused as a bad argument.
+NULLS = """
+from ctypes import byref, c_size_t, c_void_p, create_string_buffer
+from halfgates import Circuit, _library
+
+circuit = Circuit.read(open("examples/full_adder.txt", "rb").read())
+garbling = circuit.garble(bytes(32))
+garbled = bytes(garbling.write())
+labels = [bytes(circuit.deal(bytes(32), index, [1])) for index in range(3)]
+job = circuit.bind(garbled, labels)
+bits, labels, sizes = bytes([1, 1, 1]), b"".join(labels), (c_size_t * 3)(32, 32, 32)
+room, written, handle = create_string_buffer(512), c_size_t(), c_void_p()
+wires, place = (_library.WireLabels * 8)(), _library.Place()
+report, told = _library.AuditReport(), _library.LabelsReport()
+null = None, 1
+for name, *words in [
+    ("circuit_read", *null, byref(handle)),
+    ("circuit_input_widths", circuit, *null),
+    ("circuit_output_widths", circuit, *null),
+    ("locate", *null, place),
+    ("plain", circuit, *null, room, 2),
+    ("plain", circuit, bits, 3, *null),
+    ("garbling_write", garbling, 2, *null, byref(written)),
+    ("deal", circuit, bytes(32), 0, *null, room, 32, byref(written)),
+    ("deal", circuit, bytes(32), 0, bits, 1, *null, byref(written)),
+    ("labels", garbling, *null, 0, wires, 8),
+    ("labels", garbling, bits, 3, 0, *null),
+    ("job_bind", circuit, *null, labels, 96, sizes, 3, byref(handle)),
+    ("job_bind", circuit, garbled, 177, *null, sizes, 3, byref(handle)),
+    ("job_bind", circuit, garbled, 177, labels, 96, *null, byref(handle)),
+    ("evaluate", job, *null),
+    ("audit", garbling, *null, report),
+    ("audit_labels", garbling, *null, room, 1, told),
+    ("audit_labels", garbling, labels, 32, *null, told),
+]:
+    code = getattr(_library.library, f"halfgates_{name}")(*[getattr(it, "_at", it) for it in words])
+    if code != 60:
+        print(name, code)
+"""
+
+
+class BareNames(unittest.TestCase):
+    def test_null_with_a_size(self):
+        words = [sys.executable, "-c", NULLS]
+        how = {"cwd": TOP, "env": environment_of_python(), "capture_output": True, "text": True}
+        done = subprocess.run(words, check=False, **how)
+        self.assertEqual((done.returncode, done.stdout, done.stderr), (0, "", ""))
+
+
 class Package(unittest.TestCase):
     def test_version(self):
         said = re.search(r'^version = "(.*)"$', (TOP / "python/pyproject.toml").read_text(), re.M)

@@ -1,9 +1,28 @@
-/* A NULL whose size isn't 0 is a bad argument. Each call is made by a process of its own, and its end is looked at. */
+/*
+ * A NULL whose size isn't 0 is a bad argument. Each call is made by a process of its own, and its end is looked at.
+ *
+ *   null [LIBRARY]
+ *
+ * The functions are those of the archive, or of a shared library, which are found by their bare names.
+ */
 #include "check.h"
+#include <dlfcn.h>
 #include <sys/wait.h>
 #include <unistd.h>
 
+typedef void function(void);
+
+static void *library;
 static int failures;
+
+static function *find(const char *name) {
+    function *found;
+    *(void **)&found = dlsym(library, name);
+    CHECK(found != NULL);
+    return found;
+}
+
+#define CALLED(name) (library == NULL ? &name : (__typeof__(&name))find(#name))
 
 static void check_end(const char *what) {
     int status;
@@ -15,52 +34,72 @@ static void check_end(const char *what) {
     }
 }
 
-#define CHECK_REFUSED(call) \
+#define CHECK_REFUSED(name, ...) \
     do { \
         fflush(stderr); \
         if (fork() == 0) \
-            _exit((call) != HALFGATES_BAD_ARGUMENT); \
-        check_end(#call); \
+            _exit(CALLED(name)(__VA_ARGS__) != HALFGATES_BAD_ARGUMENT); \
+        check_end(#name "(" #__VA_ARGS__ ")"); \
     } while (0)
 
-int main(void) {
+#define CHECK_DONE(name, ...) CHECK_CODE(HALFGATES_OK, CALLED(name)(__VA_ARGS__))
+
+int main(int count, char **words) {
     const uint8_t seed[32] = {0}, bits[3] = {1, 0, 1};
     const size_t sizes[3] = {32, 32, 32};
     uint8_t garbled[177], labels[96], room[512];
     size_t written;
-    halfgates_circuit *circuit = read_text(FULL_ADDER), *made = NULL;
+    halfgates_circuit *circuit = NULL, *made = NULL;
     halfgates_garbling *garbling = NULL;
     halfgates_job *job = NULL, *bound = NULL;
     halfgates_place place;
     halfgates_wire_labels found[8];
     halfgates_audit_report report;
     halfgates_labels_report labels_report;
-    CHECK_CODE(HALFGATES_OK, halfgates_garble(circuit, seed, &garbling));
-    CHECK_CODE(HALFGATES_OK, halfgates_garbling_write(garbling, 2, garbled, sizeof garbled, &written));
+    if (count > 1) {
+        library = dlopen(words[1], RTLD_NOW | RTLD_LOCAL);
+        CHECK(library != NULL);
+    }
+    CHECK_DONE(halfgates_circuit_read, (const uint8_t *)FULL_ADDER, strlen(FULL_ADDER), &circuit);
+    CHECK_DONE(halfgates_garble, circuit, seed, &garbling);
+    CHECK_DONE(halfgates_garbling_write, garbling, 2, garbled, sizeof garbled, &written);
     for (uint32_t i = 0; i < 3; i++)
-        CHECK_CODE(HALFGATES_OK, halfgates_deal(circuit, seed, i, bits + i, 1, labels + 32 * i, 32, &written));
-    CHECK_CODE(HALFGATES_OK, halfgates_job_bind(circuit, garbled, 177, labels, 96, sizes, 3, &job));
+        CHECK_DONE(halfgates_deal, circuit, seed, i, bits + i, 1, labels + 32 * i, 32, &written);
+    CHECK_DONE(halfgates_job_bind, circuit, garbled, 177, labels, 96, sizes, 3, &job);
 
-    CHECK_REFUSED(halfgates_circuit_read(NULL, 1, &made));
-    CHECK_REFUSED(halfgates_locate(NULL, 1, &place));
-    CHECK_REFUSED(halfgates_circuit_input_widths(circuit, NULL, 3));
-    CHECK_REFUSED(halfgates_circuit_output_widths(circuit, NULL, 1));
-    CHECK_REFUSED(halfgates_plain(circuit, NULL, 3, room, 2));
-    CHECK_REFUSED(halfgates_plain(circuit, bits, 3, NULL, 2));
-    CHECK_REFUSED(halfgates_garbling_write(garbling, 2, NULL, 177, &written));
-    CHECK_REFUSED(halfgates_deal(circuit, seed, 0, NULL, 1, room, sizeof room, &written));
-    CHECK_REFUSED(halfgates_deal(circuit, seed, 0, bits, 1, NULL, 32, &written));
-    CHECK_REFUSED(halfgates_labels(garbling, NULL, 3, 0, found, 8));
-    CHECK_REFUSED(halfgates_labels(garbling, bits, 3, 0, NULL, 8));
-    CHECK_REFUSED(halfgates_job_bind(circuit, NULL, 177, labels, 96, sizes, 3, &bound));
-    CHECK_REFUSED(halfgates_job_bind(circuit, garbled, 177, NULL, 96, sizes, 3, &bound));
-    CHECK_REFUSED(halfgates_job_bind(circuit, garbled, 177, labels, 96, NULL, 3, &bound));
-    CHECK_REFUSED(halfgates_evaluate(job, NULL, 2));
-    CHECK_REFUSED(halfgates_audit(garbling, NULL, 177, &report));
-    CHECK_REFUSED(halfgates_audit_labels(garbling, NULL, 32, room, 1, &labels_report));
-    CHECK_REFUSED(halfgates_audit_labels(garbling, labels, 32, NULL, 1, &labels_report));
-    halfgates_circuit_free(circuit);
-    halfgates_garbling_free(garbling);
-    halfgates_job_free(job);
+    CHECK_REFUSED(halfgates_circuit_read, NULL, 1, &made);
+    CHECK_REFUSED(halfgates_locate, NULL, 1, &place);
+    CHECK_REFUSED(halfgates_circuit_input_widths, circuit, NULL, 1);
+    CHECK_REFUSED(halfgates_circuit_input_widths, circuit, NULL, 3);
+    CHECK_REFUSED(halfgates_circuit_output_widths, circuit, NULL, 1);
+    CHECK_REFUSED(halfgates_plain, circuit, NULL, 1, room, 2);
+    CHECK_REFUSED(halfgates_plain, circuit, NULL, 3, room, 2);
+    CHECK_REFUSED(halfgates_plain, circuit, bits, 3, NULL, 1);
+    CHECK_REFUSED(halfgates_plain, circuit, bits, 3, NULL, 2);
+    CHECK_REFUSED(halfgates_garbling_write, garbling, 2, NULL, 1, &written);
+    CHECK_REFUSED(halfgates_garbling_write, garbling, 2, NULL, 177, &written);
+    CHECK_REFUSED(halfgates_deal, circuit, seed, 0, NULL, 1, room, sizeof room, &written);
+    CHECK_REFUSED(halfgates_deal, circuit, seed, 0, bits, 1, NULL, 1, &written);
+    CHECK_REFUSED(halfgates_deal, circuit, seed, 0, bits, 1, NULL, 32, &written);
+    CHECK_REFUSED(halfgates_labels, garbling, NULL, 1, 0, found, 8);
+    CHECK_REFUSED(halfgates_labels, garbling, NULL, 3, 0, found, 8);
+    CHECK_REFUSED(halfgates_labels, garbling, bits, 3, 0, NULL, 1);
+    CHECK_REFUSED(halfgates_labels, garbling, bits, 3, 0, NULL, 8);
+    CHECK_REFUSED(halfgates_job_bind, circuit, NULL, 1, labels, 96, sizes, 3, &bound);
+    CHECK_REFUSED(halfgates_job_bind, circuit, NULL, 177, labels, 96, sizes, 3, &bound);
+    CHECK_REFUSED(halfgates_job_bind, circuit, garbled, 177, NULL, 1, sizes, 3, &bound);
+    CHECK_REFUSED(halfgates_job_bind, circuit, garbled, 177, NULL, 96, sizes, 3, &bound);
+    CHECK_REFUSED(halfgates_job_bind, circuit, garbled, 177, labels, 96, NULL, 1, &bound);
+    CHECK_REFUSED(halfgates_job_bind, circuit, garbled, 177, labels, 96, NULL, 3, &bound);
+    CHECK_REFUSED(halfgates_evaluate, job, NULL, 1);
+    CHECK_REFUSED(halfgates_evaluate, job, NULL, 2);
+    CHECK_REFUSED(halfgates_audit, garbling, NULL, 1, &report);
+    CHECK_REFUSED(halfgates_audit, garbling, NULL, 177, &report);
+    CHECK_REFUSED(halfgates_audit_labels, garbling, NULL, 1, room, 1, &labels_report);
+    CHECK_REFUSED(halfgates_audit_labels, garbling, NULL, 32, room, 1, &labels_report);
+    CHECK_REFUSED(halfgates_audit_labels, garbling, labels, 32, NULL, 1, &labels_report);
+    CALLED(halfgates_circuit_free)(circuit);
+    CALLED(halfgates_garbling_free)(garbling);
+    CALLED(halfgates_job_free)(job);
     return failures > 0;
 }

@@ -1,0 +1,105 @@
+/*
+ * The functions of halfgates.h that take buffers. A slice of Rattle is never NULL: where C passes a NULL, the proved
+ * export is told another address, and can't look. So each function here refuses a NULL that has a size, and then calls
+ * the proved export of its name, which the build renames to proved_halfgates_..
+ */
+#include <halfgates.h>
+
+#define PROVED(name) extern __typeof__(name) proved_##name
+
+PROVED(halfgates_circuit_read);
+PROVED(halfgates_circuit_input_widths);
+PROVED(halfgates_circuit_output_widths);
+PROVED(halfgates_locate);
+PROVED(halfgates_plain);
+PROVED(halfgates_garbling_write);
+PROVED(halfgates_deal);
+PROVED(halfgates_labels);
+PROVED(halfgates_job_bind);
+PROVED(halfgates_evaluate);
+PROVED(halfgates_audit);
+PROVED(halfgates_audit_labels);
+
+/* Whether there is a buffer of this size, or none is asked for. */
+static int is_there(const void *buffer, size_t size) {
+    return buffer != NULL || size == 0;
+}
+
+int32_t halfgates_circuit_read(const uint8_t *text, size_t length, halfgates_circuit **circuit) {
+    if (!is_there(text, length))
+        return HALFGATES_BAD_ARGUMENT;
+    return proved_halfgates_circuit_read(text, length, circuit);
+}
+
+int32_t halfgates_circuit_input_widths(halfgates_circuit *circuit, uint32_t *widths, size_t count) {
+    if (!is_there(widths, count))
+        return HALFGATES_BAD_ARGUMENT;
+    return proved_halfgates_circuit_input_widths(circuit, widths, count);
+}
+
+int32_t halfgates_circuit_output_widths(halfgates_circuit *circuit, uint32_t *widths, size_t count) {
+    if (!is_there(widths, count))
+        return HALFGATES_BAD_ARGUMENT;
+    return proved_halfgates_circuit_output_widths(circuit, widths, count);
+}
+
+int32_t halfgates_locate(const uint8_t *text, size_t length, halfgates_place *place) {
+    if (!is_there(text, length))
+        return HALFGATES_BAD_ARGUMENT;
+    return proved_halfgates_locate(text, length, place);
+}
+
+int32_t halfgates_plain(halfgates_circuit *circuit, const uint8_t *bits, size_t size, uint8_t *outputs,
+                        size_t outputs_size) {
+    if (!is_there(bits, size) || !is_there(outputs, outputs_size))
+        return HALFGATES_BAD_ARGUMENT;
+    return proved_halfgates_plain(circuit, bits, size, outputs, outputs_size);
+}
+
+int32_t halfgates_garbling_write(halfgates_garbling *garbling, uint32_t version, uint8_t *buffer, size_t size,
+                                 size_t *written) {
+    if (!is_there(buffer, size))
+        return HALFGATES_BAD_ARGUMENT;
+    return proved_halfgates_garbling_write(garbling, version, buffer, size, written);
+}
+
+int32_t halfgates_deal(halfgates_circuit *circuit, const uint8_t seed[32], uint32_t index, const uint8_t *bits,
+                       size_t count, uint8_t *buffer, size_t size, size_t *written) {
+    if (!is_there(bits, count) || !is_there(buffer, size))
+        return HALFGATES_BAD_ARGUMENT;
+    return proved_halfgates_deal(circuit, seed, index, bits, count, buffer, size, written);
+}
+
+int32_t halfgates_labels(halfgates_garbling *garbling, const uint8_t *bits, size_t size, uint32_t from,
+                         halfgates_wire_labels *labels, size_t count) {
+    if (!is_there(bits, size) || !is_there(labels, count))
+        return HALFGATES_BAD_ARGUMENT;
+    return proved_halfgates_labels(garbling, bits, size, from, labels, count);
+}
+
+int32_t halfgates_job_bind(halfgates_circuit *circuit, const uint8_t *garbled, size_t length, const uint8_t *labels,
+                           size_t labels_size, const size_t *lengths, size_t count, halfgates_job **job) {
+    if (!is_there(garbled, length) || !is_there(labels, labels_size) || !is_there(lengths, count))
+        return HALFGATES_BAD_ARGUMENT;
+    return proved_halfgates_job_bind(circuit, garbled, length, labels, labels_size, lengths, count, job);
+}
+
+int32_t halfgates_evaluate(halfgates_job *job, uint8_t *bits, size_t size) {
+    if (!is_there(bits, size))
+        return HALFGATES_BAD_ARGUMENT;
+    return proved_halfgates_evaluate(job, bits, size);
+}
+
+int32_t halfgates_audit(halfgates_garbling *garbling, const uint8_t *garbled, size_t length,
+                        halfgates_audit_report *report) {
+    if (!is_there(garbled, length))
+        return HALFGATES_BAD_ARGUMENT;
+    return proved_halfgates_audit(garbling, garbled, length, report);
+}
+
+int32_t halfgates_audit_labels(halfgates_garbling *garbling, const uint8_t *labels, size_t length, uint8_t *bits,
+                               size_t size, halfgates_labels_report *report) {
+    if (!is_there(labels, length) || !is_there(bits, size))
+        return HALFGATES_BAD_ARGUMENT;
+    return proved_halfgates_audit_labels(garbling, labels, length, bits, size, report);
+}
