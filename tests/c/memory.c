@@ -10,10 +10,11 @@ void *__real_malloc(size_t size);
 void *__real_realloc(void *at, size_t size);
 void __real_free(void *at);
 
-static long until_refusal, refusals, live;
+static long until_refusal, refusals, growths, live;
 
 /* Whether this growth is the one to refuse. */
 static int is_refused(void) {
+    growths++;
     if (until_refusal == 0 || --until_refusal > 0)
         return 0;
     refusals++;
@@ -51,6 +52,17 @@ void __wrap_free(void *at) {
         } \
     } while (0)
 
+/* Who asks for the size of a garbled file waits for no file. */
+static void check_sizes(halfgates_garbling *garbling) {
+    const long before = growths;
+    uint8_t room[176];
+    size_t written;
+    for (size_t size = 0; size <= sizeof room; size += sizeof room) {
+        CHECK_CODE(HALFGATES_SMALL_BUFFER, halfgates_garbling_write(garbling, 2, room, size, &written));
+        CHECK(written == 177 && growths == before);
+    }
+}
+
 /* All calls that take memory. */
 static void work(void) {
     const uint8_t *text = (const uint8_t *)FULL_ADDER, seed[32] = {5}, bits[3] = {1, 0, 1};
@@ -70,6 +82,7 @@ static void work(void) {
     CALL(halfgates_plain(circuit, bits, 3, outputs, 2));
     CHECK(outputs[0] == 0 && outputs[1] == 1);
     CALL(halfgates_garble(circuit, seed, &garbling));
+    check_sizes(garbling);
     CALL(halfgates_garbling_write(garbling, 1, garbled, sizeof garbled, &written));
     CALL(halfgates_garbling_write(garbling, 2, garbled, sizeof garbled, &written));
     for (uint32_t i = 0; i < 3; i++)

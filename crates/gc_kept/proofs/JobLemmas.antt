@@ -1,5 +1,5 @@
 -- How many bits an evaluation decodes to.
-use Rattle.std.proofs.Common.{◌≡◌, ℕ, ◌-◌, List, Bool, length, map, Ok, ap, ◌∙◌, arith}
+use Rattle.std.proofs.Common.{◌≡◌, ℕ, ◌-◌, List, Bool, length, Ok, ap, ◌∙◌, arith}
 use Rattle.std.specs.List.{zip}
 use Rattle.std.proofs.lemmas.List.{length-map}
 use Rattle.std.proofs.lemmas.List.FromFn.{length-map-range_with_len}

@@ -2,3 +2,4 @@ pub mod FileLemmas
 pub mod JobLemmas
 pub mod OutcomeLemmas
 pub mod PlainLemmas
+pub mod RoomLemmas

@@ -1,6 +1,6 @@
 //! Writing files to the buffers of callers.
 
-ghost use Rattle.std.specs.Prelude.{◌≡◌, Some, length, slice_get, IfErr, OnOk, OnErr};
+ghost use Rattle.std.specs.Prelude.{◌≡◌, ◌≤◌, Some, length, slice_get, IfErr, OnOk, OnErr};
 ghost use Rattle.gc_format.specs.GarbledFile.{garbled_file};
 ghost use Rattle.gc_format.specs.LabelFile.{label_file, label_parts_of};
 ghost use Rattle.gc_file.specs.Honest.{honest_parts};
@@ -16,6 +16,22 @@ use gc_job::BindFault;
 use gc_label::Seed;
 use gc_stats::garbled_size;
 use std::alloc::Global;
+
+/// The bytes of a label file's header, and of each label.
+const PART: usize = 16;
+
+/// Looks whether a buffer has room for a file of this size. Where it hasn't, tells the size.
+fn look_for_room(size: usize, buffer: &[u8], written: &mut usize) -> Result<(), KeptFault>
+    ensures ok { OnOk result (size ≤ length buffer.now) }
+    ensures fault { IfErr result (HasRoomFault size (length buffer.now)) }
+    ensures written { OnErr result (written.new ≡ size) }
+{
+    if buffer.len() < size {
+        *written = size;
+        return Err(KeptFault::SmallBuffer);
+    }
+    Ok(())
+}
 
 /// Copies a file to a buffer, whose end stays as it is, and tells the number of its bytes. Where the buffer is too
 /// small it stays as it is.
@@ -42,7 +58,7 @@ impl KeptCircuit {
     }
 
     /// Writes the label file of the input value of this index, for these bits under a seed, and tells the number of its
-    /// bytes.
+    /// bytes. Where the buffer is too small, no file is made.
     pub fn deal(
         &self,
         alloc: Global,
@@ -62,7 +78,9 @@ impl KeptCircuit {
         let Some(width) = circuit.input_widths().get(index as usize) else {
             return Err(KeptFault::Binding(BindFault::NoSuchValue));
         };
-        let bits = read_bits(alloc, bits, *width as usize)?;
+        let width = *width as usize;
+        let bits = read_bits(alloc, bits, width)?;
+        look_for_room(PART + PART * width, buffer, written)?;
         self.write_dealt(alloc, seed, index, &bits, buffer, written)
     }
 
@@ -97,7 +115,8 @@ impl KeptCircuit {
 }
 
 impl KeptGarbling {
-    /// Writes the garbled file of a version, and tells the number of its bytes.
+    /// Writes the garbled file of a version, and tells the number of its bytes. Where the buffer is too small, no file
+    /// is made.
     pub fn write(
         &self,
         alloc: Global,
@@ -116,6 +135,9 @@ impl KeptGarbling {
             (length buffer.old) written.new) }
         ensures unwritten { OnErr result (buffer.new ≡ buffer.old) }
     {
+        self.law_garbled();
+        let size = self.circuit().garbled_size(version);
+        look_for_room(size as usize, buffer, written)?;
         let mut sink = MemSink::new(alloc, None);
         match self.write_to(&mut sink, version) {
             Ok(_) => copy_file(sink.bytes(), buffer, written),

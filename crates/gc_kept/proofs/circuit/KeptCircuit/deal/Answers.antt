@@ -1,10 +1,12 @@
-use Rattle.std.proofs.Common.{◌≡◌, ◌∙◌, List, Bool, Some, length, map, slice_get, refl, sym, ap, arith}
+use Rattle.std.proofs.Common.{◌≡◌, ◌∙◌, ◌+◌, ◌*◌, length, map, refl, sym, ap, arith}
 use Rattle.std.proofs.lemmas.Bool.Decides.{nat_tests}
 use Rattle.std.proofs.lemmas.Result.{err_from_is_err_and}
 use Rattle.gc_audit.proofs.LabelsLemmas.{found_at}
+use Rattle.gc_format.specs.LabelFile.{label_file, label_parts_of}
 use Rattle.gc_kept.specs.Bits.{bit_byte}
 use Rattle.gc_kept.specs.Files.{no_value, of_bits, of_file}
 use Rattle.gc_kept.proofs.OutcomeLemmas.{OnOk-both, IfErr-map}
+use Rattle.gc_kept.proofs.RoomLemmas.{length-dealt, lacks_room}
 use Rattle.gc_kept.proofs.circuit.KeptCircuit.deal.Goals as goal
 
 pub returns-in_default-clause-fault : goal.returns-in_default-clause-fault
@@ -22,6 +24,23 @@ returns-in_err-bits-clause-fault c =
     c.in-Some.width.now found.0 found.1
     (c.input_widths.ensures ∙ ap (λ d. d.input_widths) c.circuit-circuit.ensures.same) refl refl)
     c.in_err-bits.ensures.fault)
+
+pub returns-in_err-look_for_room-clause-fault : goal.returns-in_err-look_for_room-clause-fault
+returns-in_err-look_for_room-clause-fault c =
+    let a = c.args in
+    let bits = c.in_ok-bits.bits.items in
+    let found = c.in-Some.ensures.lookup in
+    let p = err_from_is_err_and c.from_residual-in_err-look_for_room.result
+    c.from_residual-in_err-look_for_room.ensures.1 in
+    let size : 16 + 16 * c.in-Some.width.now ≡ length (label_file (label_parts_of a.self.now a.seed.now a.index bits)) =
+    omega (arith, length-dealt a.self.now a.seed.now a.index bits, c.in_ok-bits.ensures.count) in
+    rw (p.1, p.2) (of_file bits c.in_err-look_for_room.field-0.0 c.in_ok-bits.ensures.bytes
+    (found_at c.input_widths.result.now a.self.now.input_widths a.index a.index c.in-Some.width.now (length bits) found.0
+    found.1 (c.input_widths.ensures ∙ ap (λ d. d.input_widths) c.circuit-circuit.ensures.same) refl
+    c.in_ok-bits.ensures.count)
+    (lacks_room (label_file (label_parts_of a.self.now a.seed.now a.index bits)) (16 + 16 * c.in-Some.width.now)
+    (length a.buffer.now) c.look_for_room.new.written c.in_err-look_for_room.field-0.0 size
+    c.in_err-look_for_room.ensures.fault c.in_err-look_for_room.ensures.written))
 
 pub write_dealt-requires : goal.write_dealt-requires
 write_dealt-requires c =
