@@ -1,5 +1,7 @@
 -- What an audit of a garbled file finds, from what it finds of each part.
-use Rattle.std.proofs.Common.{◌≡◌, ◌≢◌, ◌↔◌, ℕ, ◌<◌, Bool, true, false, List, length, take, slice_get, Option, Some, None, MatchOption, refl, sym, ap, subst, ◌∙◌, arith}
+use Rattle.std.proofs.Common.{◌≡◌, ◌≢◌, ◌↔◌, ℕ, ◌+◌, ◌<◌, Bool, true, false, List, length, map, take, slice_get, get_or, Option, Some, None, MatchOption, refl, sym, ap, subst, ◌∙◌, arith}
+use Rattle.std.specs.List.{range_with_len}
+use Rattle.std.proofs.lemmas.List.FromFn.{get_or-map-range_with_len}
 use Rattle.std.proofs.lemmas.Option.{get_or_from_slice_get, slice_get-get_or}
 use Rattle.sha2.specs.Sha256.{sha256}
 use Rattle.gc_netlist.specs.Circuit.{Netlist, IsLawful}
@@ -7,6 +9,7 @@ use Rattle.gc_netlist.specs.Canon.{canonical_text}
 use Rattle.gc_label.specs.Seed.{offset_of}
 use Rattle.gc_half.specs.declared.garbling.RowPair.{RowPair}
 use Rattle.gc_half.specs.Garbling.{GarblingParts, FitsCircuit, decode_bits_of}
+use Rattle.gc_half.specs.Entry.{entry_of, entries_of}
 use Rattle.gc_format.specs.declared.parts.EntryPair.{EntryPair}
 use Rattle.gc_format.specs.declared.parts.Version.{Version}
 use Rattle.gc_format.specs.declared.parts.Version.TheVariants.{One, Two}
@@ -16,7 +19,7 @@ use Rattle.gc_write.proofs.ByteLemmas.{length-decode_bits, length-entry_pairs, e
 use Rattle.gc_file.specs.Honest.{version_entries, honest_parts}
 use Rattle.gc_audit.specs.declared.garbled.GarbledAudit.{GarbledAudit}
 use Rattle.gc_audit.specs.declared.garbled.PartsAudit.{PartsAudit}
-use Rattle.gc_audit.specs.Entries.{pair_at, DifferFirstIn, IsEntryDifference}
+use Rattle.gc_audit.specs.Entries.{pair_at, named, DifferFirstIn, IsEntryDifference}
 use Rattle.gc_audit.specs.Garbled.{AreCountsRight, IsPartsAudit, IsGarbledAudit, honest_audit}
 use Rattle.gc_audit.proofs.DifferenceLemmas.{differ_first, none_found}
 
@@ -27,6 +30,20 @@ pair_at_output offset g i below =
     let pair = entry_pair_of offset g i in
     slice_get-get_or (entry_pairs_of offset g) i pair (omega (arith, length-entry_pairs offset g))
     ∙ ap Some (entry_pairs-at offset g i pair below)
+
+-- Entries that were made of an output,
+pub named_of : (offset : ℕ) (g : GarblingParts) (i a b : ℕ) → a ≡ entry_of offset g i false
+    → b ≡ entry_of offset g i true → named (a, b) ≡ entry_pair_of offset g i
+named_of offset g i a b is_a is_b =
+    ap (λ e. named (e, b)) is_a ∙ ap (λ e. named (entry_of offset g i false, e)) is_b
+
+-- and those that were made of four outputs, at one of them.
+pub named_at : (offset : ℕ) (g : GarblingParts) (first i : ℕ) (made : List (ℕ × ℕ)) (none : ℕ × ℕ)
+    → made ≡ map (entries_of offset g) (range_with_len first 4) → i < 4
+    → named (get_or made i none) ≡ entry_pair_of offset g (first + i)
+named_at offset g first i made none is below =
+    ap named (ap (λ l. get_or l i none) is
+    ∙ get_or-map-range_with_len (entries_of offset g) first 4 i (first + i) none below refl)
 
 -- Pairs of which one colour's entries differ are different.
 DifferFirstIn-differ : (p q : EntryPair) (s : Bool) → DifferFirstIn p q s → p ≢ q

@@ -8,6 +8,10 @@ use Rattle.gc_audit.specs.Difference.{DifferFirstAt}
 abbrev pub pair_at : List EntryPair → ℕ → EntryPair
 pair_at entries i = slice_index_or entries i (record { entry_zero = 0; entry_one = 0 })
 
+-- The entry pair of entries 0 and 1.
+abbrev pub named : ℕ × ℕ → EntryPair
+named entries = record { entry_zero = entries.0; entry_one = entries.1 }
+
 -- This colour is the first, 0 before 1, whose entries in two pairs differ.
 abbrev pub DifferFirstIn : EntryPair → EntryPair → Bool → Type 0
 DifferFirstIn p q false = p.entry_zero ≢ q.entry_zero

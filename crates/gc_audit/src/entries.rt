@@ -1,17 +1,16 @@
 //! Comparing entries.
 
-ghost use Rattle.std.specs.Prelude.{◌≡◌, ◌<◌, MatchOption, length};
-ghost use Rattle.gc_netlist.specs.Circuit.{output_wires};
+ghost use Rattle.std.specs.Prelude.{◌≡◌, ◌+◌, ◌≤◌, IfNone, IfSome, MatchOption, length, take};
 ghost use Rattle.gc_half.specs.Garbling.{FitsCircuit};
 ghost use Rattle.gc_format.specs.GarbledFile.{entry_count};
-ghost use Rattle.gc_write.specs.Written.{entry_pair_of, entry_pairs_of};
+ghost use Rattle.gc_write.specs.Written.{entry_pairs_of};
 ghost use Rattle.gc_file.specs.Honest.{version_entries};
-ghost use Rattle.gc_audit.specs.Entries.{DifferFirstIn, IsEntryDifference};
+ghost use Rattle.gc_audit.specs.Entries.{DifferFirstIn, IsEntryDifference, named};
 
 use gc_circuit::Circuit;
 use gc_file::{EntryPair, Version};
-use gc_half::{Garbling, output_entry};
-use gc_label::Offset;
+use gc_half::{Garbling, four_output_entries, output_entry};
+use gc_label::{Label, Offset};
 use std::alloc::Allocator;
 
 /// The first entry that differs.
@@ -43,8 +42,9 @@ pub(crate) fn audit_entries<A: Allocator, B: Allocator>(
     }
 }
 
-/// The first of the entries that is not the garbling's. That the garbling fits the circuit, and that there is an entry
-/// pair for each output, are the caller's conditions.
+/// The first of the entries that is not the garbling's. Those of four outputs are hashed at once, and those of the last
+/// ones by themselves. That the garbling fits the circuit, and that there is an entry pair for each output, are the
+/// caller's conditions.
 fn audit_pairs<A: Allocator, B: Allocator>(
     circuit: &Circuit<A>,
     garbling: &Garbling<B>,
@@ -56,32 +56,78 @@ fn audit_pairs<A: Allocator, B: Allocator>(
     ensures { MatchOption result (entries.now ≡ entry_pairs_of offset garbling.now)
         (IsEntryDifference entries.now (entry_pairs_of offset garbling.now)) }
 {
-    for output in 0..garbling.outputs() {
+    let fours = garbling.outputs() / 4;
+    for k in 0..fours {
+        if let Some(difference) = audit_four(circuit, garbling, offset, entries, 4 * k) {
+            return Some(difference);
+        }
+    }
+    audit_last(circuit, garbling, offset, entries, 4 * fours)
+}
+
+/// The first of the entries of four outputs that is not the garbling's, where those before them are.
+fn audit_four<A: Allocator, B: Allocator>(
+    circuit: &Circuit<A>,
+    garbling: &Garbling<B>,
+    offset: Offset,
+    entries: &[EntryPair],
+    first: u32,
+) -> Option<EntryDifference>
+    requires fits { FitsCircuit circuit.now garbling.now }
+    requires entries { length entries.now ≡ garbling.now.outputs }
+    requires outputs { first + 4 ≤ garbling.now.outputs }
+    requires before { take first entries.now ≡ take first (entry_pairs_of offset garbling.now) }
+    ensures none { IfNone result (take (first + 4) entries.now
+        ≡ take (first + 4) (entry_pairs_of offset garbling.now)) }
+    ensures some { IfSome result
+        (IsEntryDifference entries.now (entry_pairs_of offset garbling.now)) }
+{
+    circuit.law_lawful();
+    let made = four_output_entries(circuit, garbling, offset, first);
+    for i in 0..4u32 {
+        let output = first + i;
         let pair = entries[output as usize];
-        if let Some(colour) = differing_colour(circuit, garbling, offset, output, pair) {
+        if let Some(colour) = differing_colour(pair, made[i as usize]) {
             return Some(EntryDifference { output, colour });
         }
     }
     None
 }
 
-/// The first colour, 0 before 1, whose entry in this pair of an output is not the garbling's. That the garbling fits
-/// the circuit, and that there is such an output, are the caller's conditions.
-fn differing_colour<A: Allocator, B: Allocator>(
+/// The first of the entries from this output on that is not the garbling's, where those before it are.
+fn audit_last<A: Allocator, B: Allocator>(
     circuit: &Circuit<A>,
     garbling: &Garbling<B>,
     offset: Offset,
-    output: u32,
-    pair: EntryPair,
-) -> Option<bool>
+    entries: &[EntryPair],
+    first: u32,
+) -> Option<EntryDifference>
     requires fits { FitsCircuit circuit.now garbling.now }
-    requires output { output < output_wires circuit.now }
-    ensures { MatchOption result (pair ≡ entry_pair_of offset garbling.now output)
-        (DifferFirstIn pair (entry_pair_of offset garbling.now output)) }
+    requires entries { length entries.now ≡ garbling.now.outputs }
+    requires first { first ≤ garbling.now.outputs }
+    requires before { take first entries.now ≡ take first (entry_pairs_of offset garbling.now) }
+    ensures { MatchOption result (entries.now ≡ entry_pairs_of offset garbling.now)
+        (IsEntryDifference entries.now (entry_pairs_of offset garbling.now)) }
 {
-    if pair.entry_zero != output_entry(circuit, garbling, offset, output, false) {
+    for output in first..garbling.outputs() {
+        let pair = entries[output as usize];
+        let entry_zero = output_entry(circuit, garbling, offset, output, false);
+        let entry_one = output_entry(circuit, garbling, offset, output, true);
+        if let Some(colour) = differing_colour(pair, (entry_zero, entry_one)) {
+            return Some(EntryDifference { output, colour });
+        }
+    }
+    None
+}
+
+/// The first colour, 0 before 1, whose entry in this pair is not the one that was made.
+fn differing_colour(pair: EntryPair, made: (Label, Label)) -> Option<bool>
+    ensures { MatchOption result (pair ≡ named made) (DifferFirstIn pair (named made)) }
+{
+    let (entry_zero, entry_one) = made;
+    if pair.entry_zero != entry_zero {
         Some(false)
-    } else if pair.entry_one != output_entry(circuit, garbling, offset, output, true) {
+    } else if pair.entry_one != entry_one {
         Some(true)
     } else {
         None

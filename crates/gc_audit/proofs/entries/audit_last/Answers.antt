@@ -1,10 +1,11 @@
-use Rattle.std.proofs.Common.{length, refl, ◌∙◌, arith}
+use Rattle.std.proofs.Common.{length, refl, subst, ◌∙◌, arith}
 use Rattle.std.proofs.lemmas.Option.{slice_get_read}
 use Rattle.gc_write.specs.Written.{entry_pair_of, entry_pairs_of}
 use Rattle.gc_write.proofs.ByteLemmas.{length-entry_pairs}
+use Rattle.gc_audit.specs.Entries.{DifferFirstIn}
 use Rattle.gc_audit.proofs.DifferenceLemmas.{same_more, same_all}
-use Rattle.gc_audit.proofs.GarbledLemmas.{entry_difference, pair_at_output}
-use Rattle.gc_audit.proofs.entries.audit_pairs.Goals as goal
+use Rattle.gc_audit.proofs.GarbledLemmas.{entry_difference, pair_at_output, named_of}
+use Rattle.gc_audit.proofs.entries.audit_last.Goals as goal
 
 pub returns-in-Some : goal.returns-in-Some
 returns-in-Some g c =
@@ -12,7 +13,10 @@ returns-in-Some g c =
     entry_difference a.entries.now (entry_pairs_of a.offset a.garbling.now) i pair
     (entry_pair_of a.offset a.garbling.now i) c.in-Some.colour c.loop-output.invariant
     (slice_get_read a.entries.now (length a.entries.now) i pair refl (omega arith) c.index-entries-output.is)
-    (pair_at_output a.offset a.garbling.now i (omega arith)) c.in-Some.ensures
+    (pair_at_output a.offset a.garbling.now i (omega arith))
+    (subst (λ made. DifferFirstIn pair made c.in-Some.colour)
+    (named_of a.offset a.garbling.now i _ _ c.output_entry-entry_zero.ensures c.output_entry-entry_one.ensures)
+    c.in-Some.ensures)
 
 pub loop-output-preserved : goal.loop-output-preserved
 loop-output-preserved g c =
@@ -20,7 +24,9 @@ loop-output-preserved g c =
     same_more a.entries.now (entry_pairs_of a.offset a.garbling.now) i pair
     (entry_pair_of a.offset a.garbling.now i) c.loop-output.invariant
     (slice_get_read a.entries.now (length a.entries.now) i pair refl (omega arith) c.index-entries-output.is)
-    (pair_at_output a.offset a.garbling.now i (omega arith)) c.in_default.ensures
+    (pair_at_output a.offset a.garbling.now i (omega arith))
+    (c.in_default.ensures
+    ∙ named_of a.offset a.garbling.now i _ _ c.output_entry-entry_zero.ensures c.output_entry-entry_one.ensures)
 
 pub returns : goal.returns
 returns g c =

@@ -1,0 +1,33 @@
+use Rattle.std.proofs.Common.{◌≡◌, ◌+◌, length, take, refl, subst, ◌∙◌, arith}
+use Rattle.std.proofs.lemmas.Option.{slice_get_read}
+use Rattle.gc_write.specs.Written.{entry_pair_of, entry_pairs_of}
+use Rattle.gc_audit.specs.Entries.{DifferFirstIn}
+use Rattle.gc_audit.proofs.DifferenceLemmas.{same_more}
+use Rattle.gc_audit.proofs.GarbledLemmas.{entry_difference, pair_at_output, named_at}
+use Rattle.gc_audit.proofs.entries.audit_four.Goals as goal
+
+pub returns-in-Some-clause-some : goal.returns-in-Some-clause-some
+returns-in-Some-clause-some g c =
+    let a = c.args in let output = a.first + c.loop-i.i in let pair = c.index-entries-output.result in
+    entry_difference a.entries.now (entry_pairs_of a.offset a.garbling.now) output pair
+    (entry_pair_of a.offset a.garbling.now output) c.in-Some.colour c.loop-i.invariant
+    (slice_get_read a.entries.now (length a.entries.now) output pair refl (omega arith)
+    c.index-entries-output.is)
+    (pair_at_output a.offset a.garbling.now output (omega arith))
+    (subst (λ p. DifferFirstIn pair p c.in-Some.colour)
+    (named_at a.offset a.garbling.now a.first c.loop-i.i _ _ c.four_output_entries-made.ensures (omega arith))
+    c.in-Some.ensures)
+
+pub loop-i-preserved : goal.loop-i-preserved
+loop-i-preserved g c =
+    let a = c.args in let i = c.loop-i.i in let output = a.first + i in
+    let pair = c.index-entries-output.result in let pairs = entry_pairs_of a.offset a.garbling.now in
+    let next : output + 1 ≡ a.first + (i + 1) = omega arith in
+    subst (λ n. take n a.entries.now ≡ take n pairs) next
+    (same_more a.entries.now pairs output pair
+    (entry_pair_of a.offset a.garbling.now output) c.loop-i.invariant
+    (slice_get_read a.entries.now (length a.entries.now) output pair refl (omega arith)
+    c.index-entries-output.is)
+    (pair_at_output a.offset a.garbling.now output (omega arith))
+    (c.in_default.ensures
+    ∙ named_at a.offset a.garbling.now a.first i _ _ c.four_output_entries-made.ensures (omega arith)))
