@@ -111,7 +111,10 @@ def help_words(text):
     """The words of a command by its help: the names of its arguments, and its options."""
     usage = re.search(r"^Usage: halfgates \w+ (.*)$", text, re.M)[1].split()
     arguments = [term for term in help_terms(text) if not term.startswith("-")]
-    options = [term.split()[0] for term in help_terms(text) if term.startswith("--")]
+    values = [term.split() for term in help_terms(text) if term.startswith("--")]
+    options = [option for option, _ in values]
+    # A value has the name of its option.
+    assert all(value == f"<{option[2:].upper()}>" for option, value in values), text
     # The line of usage and the explanations name the same words.
     assert [word for word in usage if word != "[OPTIONS]"] == arguments, text
     assert ("[OPTIONS]" in usage) == bool(options), text
