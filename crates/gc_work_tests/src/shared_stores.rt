@@ -11,6 +11,7 @@ use std::hint::spin_loop;
 use std::marker::Brand;
 use std::process::Abort;
 use std::sync::Wait;
+use std::sync::atomic::{AtomicBool, Ordering};
 use std::sync::ledger::{Blank, Ledger};
 use std::thread;
 use std::thread::Threads;
@@ -233,6 +234,77 @@ fn sleepers_end<L: Ledger + Send + Sync, R: Abort + Threads + Wait + Sync>(
 #[test]
 fn all_sleepers_end_with_a_stop(rt: HostRuntime) {
     assert!(rt; sleepers_end::<Brand, HostRuntime>(&rt, rt.alloc(), ledger()).is_some());
+}
+
+/// Hands in two tasks at once. The answer is the last that is claimed then; None where the store is complete.
+fn exchange<L: Ledger>(
+    rt: &impl Wait,
+    shared: &SharedStore<L>,
+    tally: &mut Tally<L>,
+    batch: &mut Batch,
+    two: (Task, Task),
+) -> Option<Task> {
+    let sealed = [Sealed::make(two.0), Sealed::make(two.1)];
+    if shared.hand_in_all(rt, &sealed, tally, batch) != Ok(false) {
+        return None;
+    }
+    batch.pop()
+}
+
+/// Hands in all gates of the full adder, of which the first two are held, and tells before the last one. The answer is
+/// whether that one completes the store.
+fn hand_in_all_gates<L: Ledger>(
+    rt: &impl Wait,
+    shared: &SharedStore<L>,
+    tally: &mut Tally<L>,
+    held: (Task, Task),
+    is_last: &AtomicBool,
+) -> Option<bool> {
+    let mut batch = Batch::new();
+    let next = (exchange(rt, shared, tally, &mut batch, held)?, batch.pop()?);
+    let last = Sealed::make(exchange(rt, shared, tally, &mut batch, next)?);
+    is_last.store(true, Ordering::SeqCst);
+    Some(shared.hand_in(rt, last, tally, &mut batch) == Ok(true))
+}
+
+/// Three threads wait for a gate, while another hands in all gates and leaves none to take: each is told that nothing is
+/// left, and not before the last gate.
+fn sleepers_end_at_last<L: Ledger + Send + Sync, R: Abort + Threads + Wait + Sync>(
+    rt: &R,
+    alloc: Global,
+    ledger: Blank,
+) -> Option<()>
+    requires { IsForStore L.name L.parts ledger }
+{
+    let (store, mut tally) = open_with_tally::<L, Global>(alloc, ledger)?;
+    let shared = SharedStore::new(store);
+    let held = (shared.take(rt)?, shared.take(rt)?);
+    let is_last = AtomicBool::new(false);
+    let mut ended = [false; 3];
+    let (is_complete, ()) = thread::join(
+        rt,
+        || {
+            pause();
+            hand_in_all_gates(rt, &shared, &mut tally, held, &is_last)
+        },
+        || {
+            thread::for_each_mut(
+                rt,
+                &mut ended,
+                3,
+                &|_i: usize, ended: &mut bool| {
+                    *ended = shared.take(rt).is_none() && is_last.load(Ordering::SeqCst);
+                },
+            );
+        },
+    );
+    assert!(rt; is_complete == Some(true) && ended == [true; 3]);
+    Some(())
+}
+
+#[test]
+fn all_sleepers_end_with_the_last_gate(rt: HostRuntime) {
+    assert!(rt; sleepers_end_at_last::<Brand, HostRuntime>(&rt, rt.alloc(), ledger()).is_some());
 }
 
 /// Hands in each gate of the full adder. The last one completes the store, and then nothing is left to take.
