@@ -25,13 +25,13 @@ fn job_on_zeros<'c>(alloc: Global, circuit: &'c Circuit, text: &str) -> Result<J
     Ok(Job::bind(alloc, circuit, garbled, &labels)?)
 }
 
-/// Whether two workers meet as they evaluate a circuit, and answer what one thread answers.
+/// Whether the workers 0 and 1 meet as they evaluate a circuit, and answer what one thread answers.
 fn meet<R: Threads + Wait + Sync>(rt: &R, alloc: Global, text: &str) -> Result<bool, Fail> {
     let circuit = Circuit::read(alloc, text.as_bytes())?;
     let job = job_on_zeros(alloc, &circuit, text)?;
     let observer = Meeting::new();
     let found = evaluate_many(rt, alloc, &job, 2, &observer);
-    Ok(observer.has_met() && found == evaluate(alloc, &job))
+    Ok(observer.has_met() && observer.are_below(2) && found == evaluate(alloc, &job))
 }
 
 /// Two workers evaluate 2,000 independent AND gates.
@@ -46,6 +46,18 @@ fn two_evaluators_meet(rt: HostRuntime) -> Result<(), Fail> {
 fn two_evaluators_meet_at_a_board(rt: HostRuntime) -> Result<(), Fail> {
     assert!(rt; meet(&rt, rt.alloc(), and_chains(rt.alloc(), 40, 50)?.as_str())?);
     Ok(())
+}
+
+/// 64 groups of chains of eight AND gates, four chains in each, of which the gates take turns in the file: four gates
+/// that follow each other are stepped at once.
+fn chains_by_fours(alloc: Global) -> Result<String, Fail> {
+    let mut text = String::from_str(alloc, "2048 2052\n1 4\n1 1\n")?;
+    for gate in 0..2048u64 {
+        let chain = gate % 4;
+        let read = if gate % 32 < 4 { chain } else { gate };
+        text.push_str(format!(in alloc; "2 1 {read} {chain} {} AND\n", gate + 4)?.as_str())?;
+    }
+    Ok(text)
 }
 
 /// Whether this number of workers report each gate of a circuit, none more often than this, each by its own number.
@@ -63,15 +75,18 @@ fn is_reported<R: Threads + Wait + Sync>(
     Ok(observer.is_each_reported(most) && observer.are_below(workers))
 }
 
-/// Once on one thread, and by layers with gates of each operation; at a board at least once.
+/// Once on one thread, and by layers with gates of each operation; at a board, where gates are stepped one, two and
+/// four at once, at least once.
 #[test]
 fn each_gate_is_reported(rt: HostRuntime) -> Result<(), Fail> {
     let by_layers = mixed_blocks(rt.alloc(), 1100)?;
-    let at_board = and_chains(rt.alloc(), 64, 32)?;
+    let by_twos = and_chains(rt.alloc(), 64, 32)?;
+    let by_fours = chains_by_fours(rt.alloc())?;
     for workers in [1, 2, 64] {
         assert!(rt; is_reported(&rt, rt.alloc(), FULL_ADDER, workers, 1)?);
         assert!(rt; is_reported(&rt, rt.alloc(), by_layers.as_str(), workers, 1)?);
-        assert!(rt; is_reported(&rt, rt.alloc(), at_board.as_str(), workers, u64::MAX)?);
+        assert!(rt; is_reported(&rt, rt.alloc(), by_twos.as_str(), workers, u64::MAX)?);
+        assert!(rt; is_reported(&rt, rt.alloc(), by_fours.as_str(), workers, u64::MAX)?);
     }
     Ok(())
 }

@@ -30,7 +30,7 @@ fn are_same<A: Allocator, B: Allocator>(
     true
 }
 
-/// Whether two workers seal the gates of a circuit of 2,000 gates, each gate once, as one thread does.
+/// Whether the workers 0 and 1 seal the gates of a circuit of 2,000 gates, each gate once, as one thread does.
 fn meet<R: Threads + Wait + Sync>(rt: &R, alloc: Global, text: &str) -> Option<bool> {
     let circuit = read(alloc, text)?;
     let seed = seed_of(0);
@@ -39,6 +39,7 @@ fn meet<R: Threads + Wait + Sync>(rt: &R, alloc: Global, text: &str) -> Option<b
     let one_thread = garble_one_thread(alloc, &circuit, &seed).ok()?;
     Some(
         observer.has_met()
+            && observer.are_below(2)
             && observer.calls() == 2000
             && are_same(&circuit, &garbling, &one_thread),
     )

@@ -9,8 +9,8 @@ pub struct Meeting {
     calls: AtomicU64,
     // The number of the first worker, plus 1.
     first: AtomicU64,
-    // 1 once another came.
-    met: AtomicU64,
+    // That of another worker, plus 1, once one came.
+    other: AtomicU64,
 }
 
 impl Meeting {
@@ -19,13 +19,19 @@ impl Meeting {
         Meeting {
             calls: AtomicU64::new(0),
             first: AtomicU64::new(0),
-            met: AtomicU64::new(0),
+            other: AtomicU64::new(0),
         }
     }
 
     /// Whether a worker other than the first one came.
     pub fn has_met(&self) -> bool {
-        self.met.load(Ordering::SeqCst) == 1
+        self.other.load(Ordering::SeqCst) != 0
+    }
+
+    /// Whether the first worker and the last other one have numbers below this one.
+    pub fn are_below(&self, workers: u32) -> bool {
+        let most = u64::from(workers);
+        self.first.load(Ordering::SeqCst) <= most && self.other.load(Ordering::SeqCst) <= most
     }
 
     /// How many calls there were.
@@ -52,7 +58,7 @@ impl Gatehouse for Meeting {
         match found {
             Ok(_) => self.wait(),
             Err(first) if first == number => {}
-            Err(_) => self.met.store(1, Ordering::SeqCst),
+            Err(_) => self.other.store(number, Ordering::SeqCst),
         }
     }
 }
