@@ -107,7 +107,21 @@ pub(crate) fn one_of_each_version<'c>(
     Ok(jobs)
 }
 
-/// Two of three workers step the gates of two jobs on 2,000 independent AND gates.
+/// Whether two of this many workers meet as they evaluate jobs together, each by its own number, and the answers are
+/// those of one thread.
+fn meet<R: Threads + Wait + Sync>(
+    rt: &R,
+    alloc: Global,
+    jobs: &[Job],
+    workers: u32,
+) -> Result<bool, Fail> {
+    let observer = Meeting::new();
+    let found = evaluated(rt, alloc, jobs, workers, &observer)?;
+    let is_right = found == one_after_another(alloc, jobs);
+    Ok(observer.has_met() && observer.are_below(workers) && is_right)
+}
+
+/// Two of three workers step the gates of two jobs on 2,000 independent AND gates, and two workers those of one job.
 #[test]
 fn two_job_workers_meet(rt: HostRuntime) -> Result<(), Fail> {
     let alloc = rt.alloc();
@@ -115,10 +129,9 @@ fn two_job_workers_meet(rt: HostRuntime) -> Result<(), Fail> {
     let circuit = Circuit::read(alloc, text.as_bytes())?;
     let zeros = "0".repeat(alloc, 2000)?;
     let values = [zeros.as_str(), zeros.as_str()];
-    let jobs = one_of_each_version(alloc, &circuit, text.as_str(), &values)?;
-    let observer = Meeting::new();
-    let found = evaluated(&rt, alloc, &jobs, 3, &observer)?;
-    assert!(rt; observer.has_met());
-    assert_eq!(rt; found, one_after_another(alloc, &jobs));
+    let mut jobs = one_of_each_version(alloc, &circuit, text.as_str(), &values)?;
+    assert!(rt; meet(&rt, alloc, &jobs, 3)?);
+    drop(jobs.pop());
+    assert!(rt; jobs.len() == 1 && meet(&rt, alloc, &jobs, 2)?);
     Ok(())
 }
