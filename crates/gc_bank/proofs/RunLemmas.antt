@@ -29,7 +29,8 @@ use Rattle.gc_eval.proofs.BoardLabels.{active_solves}
 use Rattle.gc_job.proofs.WiringLemmas.{set_once, input_not_set, set_within}
 use Rattle.gc_bank.specs.Rounds.{gates_of, IsRound}
 use Rattle.gc_bank.specs.Seats.{InRound, round_in}
-use Rattle.gc_bank.specs.Views.{Stays, made_now, made_after, IsAlone, SetsMade, ReadsMade, FirstLacking, AnswersAlone, sighting, sightings, Seen, Ran, Saw, SawUndone, Got, Lacks, Says, Answers, AnswersTwo, IsReady}
+use Rattle.gc_walk.specs.Walks.{made_now}
+use Rattle.gc_bank.specs.Views.{made_after, IsAlone, SetsMade, ReadsMade, FirstLacking, AnswersAlone, sighting, sightings, Seen, Ran, Saw, SawUndone, Got, Lacks, Says, Answers, AnswersTwo, IsReady}
 use Rattle.gc_bank.specs.declared.step.Ready.{Ready}
 
 pub ran_then : {first : List (ℕ × ℕ)} (a b c : Seen) (list : List (ℕ × ℕ)) (m n : ℕ) → Ran a b first m
@@ -162,13 +163,6 @@ unmade r g l (Done label) e = refl
 unmade r g l Taken e = refl
 unmade r g l (NotYet w) e = refl
 
-length_made : (r g : ℕ) (l : List (ℕ × ℕ)) (answer : Answer)
-    → length (made_after r g l answer) ≡ length l + made_now answer
-length_made r g l (Made label) = omega (arith, length-append l ((r, g) ∷ []))
-length_made r g l (Done label) = omega arith
-length_made r g l Taken = omega arith
-length_made r g l (NotYet w) = omega arith
-
 -- an answer for another gate leaves how often a gate stands in the made list
 pub made_apart : (r g h : ℕ) (l : List (ℕ × ℕ)) (answer : Answer) → h ≢ g
     → pairs r h (made_after r g l answer) ≡ pairs r h l
@@ -258,33 +252,6 @@ pub not_ready : (job : JobParts) (r g : ℕ) (a b : Seen) (found : Result Ready 
     → (made_now answer ≡ 0) × Says job r g a b answer
 not_ready job r g a b found answer is holds =
     subst (λ f. IfErr f (λ x. (made_now x ≡ 0) × Says job r g a b x)) is holds
-
--- what stays in a call
-pub ran_stays : {list : List (ℕ × ℕ)} (a b : Seen) (m : ℕ) → Ran a b list m → Stays a b
-ran_stays a b m p = record {
-  jobs = p.jobs;
-  all = p.all;
-  seats = p.seats;
-  stand = p.stand;
-  about = p.about;
-  hand = p.hand;
-}
-
--- how many gates are made after an answer
-pub answer_made : (job : JobParts) (r g m : ℕ) (a b : Seen) (answer : Answer) → Answers job r g m a b answer
-    → length b.inner.made ≡ length a.inner.made + made_now answer
-answer_made job r g m a b answer h =
-    omega (arith, ap length h.1.made, length_made r g a.inner.made answer)
-
-pub two_made_now : (job : JobParts) (r g h m : ℕ) (a b : Seen) (both : Answer × Answer)
-    → AnswersTwo job r g h m a b both
-    → length b.inner.made ≡ length a.inner.made + (made_now both.0 + made_now both.1)
-two_made_now job r g h m a b both t = omega (
-  arith,
-  ap length t.2.made,
-  length_made r h (made_after r g a.inner.made both.0) both.1,
-  length_made r g a.inner.made both.0,
-)
 
 -- what is ready stays ready
 pub ready_later : {list : List (ℕ × ℕ)} (job : JobParts) (r g m : ℕ) (a b : Seen) (ready : Ready)

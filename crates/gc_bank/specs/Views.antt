@@ -125,13 +125,6 @@ pub record IsReady (job : JobParts) (r g : ℕ) (v : Seen) (ready : Ready) : Typ
   pub found : 0 < looked r g ready.free v.inner.looks
   pub free : ready.free ≤ stamp r 0
 
--- 1 where the answer is Made, and else 0
-abbrev pub made_now : Answer → ℕ
-made_now (Made label) = 1
-made_now (Done label) = 0
-made_now Taken = 0
-made_now (NotYet w) = 0
-
 -- The seat stands for all seats of its banks. Then the answers follow from its made list alone.
 abbrev pub IsAlone : Seen → Type 0
 IsAlone v = v.seats ≡ v.all

@@ -10,18 +10,18 @@ use std::thread;
 use std::thread::Threads;
 
 /// For each job, in order, its output bits, where there are any: each worker evaluates an equal part of the list, one
-/// job after another. There is no answer where there is no memory for the list of them.
+/// job after another. The answer is empty where there is no memory for it.
 pub(crate) fn evaluate_apart<
     A: Allocator + Send + Sync,
     B: Allocator + Copy + Send + Sync,
     C: Allocator + Send + Sync,
     R: Threads + Sync,
->(rt: &R, alloc: B, jobs: &[Job<'_, A, C>], workers: u32) -> Option<Vec<Option<Vec<bool, B>>, B>>
+>(rt: &R, alloc: B, jobs: &[Job<'_, A, C>], workers: u32) -> Vec<Option<Vec<bool, B>>, B>
     requires { 0 < workers }
-    ensures { IfSome result (λ v. AreKnown jobs.now v.items) }
+    ensures { AreKnown jobs.now result.items }
 {
     let Ok(mut slots) = none_known(alloc, jobs.len()) else {
-        return None;
+        return Vec::new(alloc);
     };
     thread::for_each_mut(
         rt,
@@ -32,5 +32,5 @@ pub(crate) fn evaluate_apart<
             ensures { IfSome slot.exit.now (λ bits. AreBitsOf jobs.entry.now i bits.items) }
         { *slot = evaluate(alloc, &jobs[i]).ok() },
     );
-    Some(slots)
+    slots
 }

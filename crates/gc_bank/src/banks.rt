@@ -73,10 +73,8 @@ impl<'j, 'c, B: Allocator, A: Allocator, C: Allocator> Banks<'j, 'c, B, A, C> {
         let Some(round) = seat.inside else {
             unreachable!()
         };
-        let answer = self.step_in(&mut seat.place, round, gate);
-        if let Answer::Made(_) = answer {
-            seat.count = seat.count.saturating_add(1);
-        }
+        let answer = self.step_at(&mut seat.place, self.job(round), round, gate);
+        seat.count = seat.count.saturating_add(answer.made());
         answer
     }
 
@@ -108,14 +106,10 @@ impl<'j, 'c, B: Allocator, A: Allocator, C: Allocator> Banks<'j, 'c, B, A, C> {
         let Some(round) = seat.inside else {
             unreachable!()
         };
-        let (answer, next_answer) = self.step_two_in(&mut seat.place, round, first, second);
-        if let Answer::Made(_) = answer {
-            seat.count = seat.count.saturating_add(1);
-        }
-        if let Answer::Made(_) = next_answer {
-            seat.count = seat.count.saturating_add(1);
-        }
-        (answer, next_answer)
+        let answers = self.step_two_at(&mut seat.place, self.job(round), round, first, second);
+        let made = answers.0.made() + answers.1.made();
+        seat.count = seat.count.saturating_add(made);
+        answers
     }
 
     /// The active label of a wire in the seat's round, if it is an input wire or the gate that sets it is done in the

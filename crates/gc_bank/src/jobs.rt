@@ -52,18 +52,14 @@ pub fn evaluate_jobs<
     if workers == 0 || workers > MAX_WORKERS {
         return Err(EvalFault::BadWorkers);
     }
-    if workers == 1 {
-        return evaluate_rest(alloc, jobs, Vec::new(alloc));
-    }
-    let known = if is_shared(alloc, jobs, workers) {
+    let known = if workers == 1 {
+        Vec::new(alloc)
+    } else if is_shared(alloc, jobs, workers) {
         evaluate_together(rt, alloc, jobs, workers, observer)
     } else {
         evaluate_apart(rt, alloc, jobs, workers)
     };
-    match known {
-        Some(known) => evaluate_rest(alloc, jobs, known),
-        None => evaluate_rest(alloc, jobs, Vec::new(alloc)),
-    }
+    evaluate_rest(alloc, jobs, known)
 }
 
 /// Whether several workers share each job, in place of evaluating jobs of their own.

@@ -50,7 +50,7 @@ impl<'j, 'c, B: Allocator, A: Allocator, C: Allocator> CloseRefused<'j, 'c, B, A
 /// This number of new seats, out of a place that stands for them all.
 fn deal_all<B: Allocator, A: Allocator, C: Allocator>(
     words: &Words<Series<B, A, C>>,
-    first: Place<Series<B, A, C>>,
+    mut first: Place<Series<B, A, C>>,
     count: u32,
     mut seats: Vec<BankSeat<B, A, C>, B>,
 ) -> Result<Vec<BankSeat<B, A, C>, B>, OpenFault>
@@ -62,7 +62,6 @@ fn deal_all<B: Allocator, A: Allocator, C: Allocator>(
         × All (λ s. IsBoardPlace gates_of words.now.table_id words.now.key s.place
         × IsNew s.place.me.0) v.items) }
 {
-    let mut first = first;
     let mut left = count;
     while left > 1 {
         let place = deal_place(words, &mut first);
@@ -210,25 +209,12 @@ fn gather<B: Allocator, A: Allocator, C: Allocator>(
     ensures made { (r g : ℕ) → pairs r g result.me.0.inner.made
         ≡ total (λ s. pairs r g (view s).inner.made) seats.items }
 {
-    let Some(
-        BankSeat {
-            place: mut whole,
-            inside: _,
-            count: _,
-        },
-    ) = seats.pop()
-    else {
+    let Some(last) = seats.pop() else {
         unreachable!()
     };
-    while let Some(
-        BankSeat {
-            place,
-            inside: _,
-            count: _,
-        },
-    ) = seats.pop()
-    {
-        join_place(words, &mut whole, place);
+    let mut whole = last.place;
+    while let Some(seat) = seats.pop() {
+        join_place(words, &mut whole, seat.place);
     }
     whole
 }

@@ -1,22 +1,25 @@
 //! What a seat does inside a round: it steps a gate and asks for a label.
 
-ghost use Rattle.std.specs.Prelude.{◌≡◌, ◌≢◌, ℕ, ◌+◌, ◌*◌, ◌<◌, ◌≤◌, ◌++◌, ◌∷◌, [], length, slice_get, IfSome, IfNone, IfOk, IfErr, MatchOption, MatchResult, Some, None};
+ghost use Rattle.std.specs.Prelude.{◌≡◌, ◌≢◌, ℕ, ◌<◌, ◌≤◌, length, slice_get, IfSome, IfNone, IfOk, IfErr, MatchOption, MatchResult, Some, None};
 ghost use Rattle.gc_rounds.specs.Places.{IsSamePlace};
 ghost use Rattle.gc_round_board.specs.Pairs.{pairs, looked};
 ghost use Rattle.gc_round_board.specs.Board.{stamp};
 ghost use Rattle.gc_round_board.specs.Places.{IsPlaceAt};
-ghost use Rattle.gc_job.specs.ActiveLabels.{gates_of as gates_in, active, set_of};
+ghost use Rattle.gc_job.specs.ActiveLabels.{active, set_of};
 ghost use Rattle.gc_eval.specs.Views.{AreReadBy, Reads, IsMadeNow};
+ghost use Rattle.gc_walk.specs.Walks.{made_now};
 ghost use Rattle.gc_bank.specs.Rounds.{gates_of, IsRound};
-ghost use Rattle.gc_bank.specs.Views.{Stays, made_now, Ran, IsIdle, Got, Lacks, Says, Answers, AnswersTwo, IsReady, Knows, IsAlone, SetsMade, ReadsMade, FirstLacking, AnswersAlone, AnswersTwoAlone};
-ghost use Rattle.gc_bank.specs.Seats.{InRound, IsJobOf, IsPlaceFor, IsPlaceIn, round_of};
+ghost use Rattle.gc_bank.specs.Views.{Ran, IsIdle, Got, Lacks, Says, Answers, AnswersTwo, IsReady, Knows, IsAlone, SetsMade, ReadsMade, FirstLacking, AnswersAlone, AnswersTwoAlone};
+ghost use Rattle.gc_bank.specs.Seats.{IsJobOf, IsPlaceFor, IsPlaceIn};
 
 use crate::seat::Banks;
 use crate::series::Series;
+use gc_board::{DONE, IN_HAND};
 use gc_eval::{Answer, Job};
 use gc_label::Label;
 use gc_round_board::{
-    Place, Words, claim, load_high, load_low, load_state, store_done, store_high, store_low,
+    Place, Words, claim, load_high, load_low, load_state, state_word, store_done, store_high,
+    store_low,
 };
 use std::alloc::Allocator;
 
@@ -38,22 +41,6 @@ fn load_label<B: Allocator, A: Allocator, C: Allocator>(
     let low = load_low(words, place, round, gate);
     let high = load_high(words, place, round, gate);
     Label::from_halves(low, high)
-}
-
-/// The state word of a gate that is in hand in the round.
-#[inline]
-fn held(round: u32) -> u64
-    ensures { result ≡ stamp round 1 }
-{
-    0x1_0000_0000 * round as u64 + 1
-}
-
-/// The state word of a gate that is done in the round.
-#[inline]
-fn done(round: u32) -> u64
-    ensures { result ≡ stamp round 2 }
-{
-    0x1_0000_0000 * round as u64 + 2
 }
 
 /// What a gate is made of in a round: the labels that it reads, and its state word, which was found free.
@@ -101,7 +88,7 @@ impl<'j, 'c, B: Allocator, A: Allocator, C: Allocator> Banks<'j, 'c, B, A, C> {
             return None;
         };
         let words = &self.board.table.shared;
-        if load_state(words, place, round, gate) == done(round) {
+        if load_state(words, place, round, gate) == state_word(round, DONE) {
             Some(load_label(words, place, job, round, gate))
         } else {
             None
@@ -193,10 +180,10 @@ impl<'j, 'c, B: Allocator, A: Allocator, C: Allocator> Banks<'j, 'c, B, A, C> {
     {
         let words = &self.board.table.shared;
         let free = load_state(words, place, round, gate);
-        if free == done(round) {
+        if free == state_word(round, DONE) {
             return Err(Answer::Done(load_label(words, place, job, round, gate)));
         }
-        if free == held(round) {
+        if free == state_word(round, IN_HAND) {
             return Err(Answer::Taken);
         }
         match self.read_both(place, job, round, gate) {
@@ -229,10 +216,10 @@ impl<'j, 'c, B: Allocator, A: Allocator, C: Allocator> Banks<'j, 'c, B, A, C> {
     {
         let words = &self.board.table.shared;
         let found = claim(words, place, round, gate, free);
-        if found == done(round) {
+        if found == state_word(round, DONE) {
             return Answer::Done(load_label(words, place, job, round, gate));
         }
-        if found == held(round) {
+        if found == state_word(round, IN_HAND) {
             return Answer::Taken;
         }
         let (low, high) = label.halves();
@@ -352,56 +339,5 @@ impl<'j, 'c, B: Allocator, A: Allocator, C: Allocator> Banks<'j, 'c, B, A, C> {
             (Err(answer), Ok(other)) => (answer, self.make(place, job, round, second, other)),
             (Err(one), Err(other)) => (one, other),
         }
-    }
-
-    /// A step in the round that the seat at this place is inside.
-    pub(crate) fn step_in(
-        &self,
-        place: &mut Place<Series<B, A, C>>,
-        round: u32,
-        gate: u32,
-    ) -> Answer
-        requires place { IsPlaceIn self.now place.old round }
-        requires round { round < length self.now.jobs.now }
-        requires gate { InRound self.now.jobs.now place.old.me.0 (λ job. gate < gates_in job) }
-        requires empty { IsIdle place.old.me.0 }
-        ensures same { IsSamePlace place.old place.new }
-        ensures answer { InRound self.now.jobs.now place.old.me.0
-            (λ job. Answers job (round_of place.old.me.0) gate 11 place.old.me.0
-            place.new.me.0 result) }
-        ensures alone { IsAlone place.old.me.0 → InRound self.now.jobs.now place.old.me.0
-            (λ job. AnswersAlone job (round_of place.old.me.0) gate place.old.me.0 result) }
-        ensures stays { Stays place.old.me.0 place.new.me.0 }
-        ensures made { length place.new.me.0.inner.made
-            ≡ length place.old.me.0.inner.made + made_now result }
-    {
-        self.step_at(place, self.job(round), round, gate)
-    }
-
-    /// A step of two gates in the round that the seat at this place is inside.
-    pub(crate) fn step_two_in(
-        &self,
-        place: &mut Place<Series<B, A, C>>,
-        round: u32,
-        first: u32,
-        second: u32,
-    ) -> (Answer, Answer)
-        requires place { IsPlaceIn self.now place.old round }
-        requires round { round < length self.now.jobs.now }
-        requires first { InRound self.now.jobs.now place.old.me.0 (λ job. first < gates_in job) }
-        requires second { InRound self.now.jobs.now place.old.me.0 (λ job. second < gates_in job) }
-        requires empty { IsIdle place.old.me.0 }
-        ensures same { IsSamePlace place.old place.new }
-        ensures answers { InRound self.now.jobs.now place.old.me.0
-            (λ job. AnswersTwo job (round_of place.old.me.0) first second 22 place.old.me.0
-            place.new.me.0 result) }
-        ensures alone { IsAlone place.old.me.0 → InRound self.now.jobs.now place.old.me.0
-            (λ job. AnswersTwoAlone job (round_of place.old.me.0) first second
-            place.old.me.0 result) }
-        ensures stays { Stays place.old.me.0 place.new.me.0 }
-        ensures made { length place.new.me.0.inner.made
-            ≡ length place.old.me.0.inner.made + (made_now result.0 + made_now result.1) }
-    {
-        self.step_two_at(place, self.job(round), round, first, second)
     }
 }

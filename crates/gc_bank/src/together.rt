@@ -1,6 +1,6 @@
 //! Workers that evaluate a list of jobs together.
 
-ghost use Rattle.std.specs.Prelude.{◌≡◌, ◌<◌, ◌≤◌, length, IfOk, IfSome, List};
+ghost use Rattle.std.specs.Prelude.{◌≡◌, ◌<◌, ◌≤◌, length, IfOk, List};
 ghost use Rattle.gc_job.specs.Job.{JobParts};
 ghost use Rattle.gc_bank.specs.Jobs.{AreOnOneCircuit};
 ghost use Rattle.gc_bank.specs.Seats.{jobs_on};
@@ -14,8 +14,8 @@ use std::alloc::{AllocError, Allocator};
 use std::thread;
 use std::thread::Threads;
 
-/// For each job, in order, its output bits where a worker kept them. There is no answer where there is no memory for
-/// the banks and their workers.
+/// For each job, in order, its output bits where a worker kept them. None has any where there is no memory for the
+/// banks and their workers, and the answer is empty where there is none for it.
 pub(crate) fn evaluate_together<
     A: Allocator + Send + Sync,
     B: Allocator + Copy + Send + Sync,
@@ -28,23 +28,23 @@ pub(crate) fn evaluate_together<
     jobs: &[Job<'_, A, C>],
     workers: u32,
     observer: &H,
-) -> Option<Vec<Option<Vec<bool, B>>, B>>
+) -> Vec<Option<Vec<bool, B>>, B>
     requires count { (0 < length jobs.now) × (length jobs.now ≤ 65536) }
     requires one { AreOnOneCircuit jobs.now }
     requires workers { (0 < workers) × (workers ≤ 64) }
-    ensures { IfSome result (λ v. AreKnown jobs.now v.items) }
+    ensures { AreKnown jobs.now result.items }
 {
     let Ok(slots) = none_known(alloc, jobs.len()) else {
-        return None;
+        return Vec::new(alloc);
     };
     let Ok((banks, seats)) = Banks::open(alloc, jobs, workers) else {
-        return None;
+        return slots;
     };
     let Ok(mut workers) = workers_of(alloc, &banks, seats) else {
-        return None;
+        return slots;
     };
     work_together(rt, alloc, &banks, workers.as_mut_slice(), observer);
-    Some(all_kept(&banks, slots, workers))
+    all_kept(&banks, slots, workers)
 }
 
 /// Lets the workers go through all rounds, the last one on the calling thread and each other in a thread of its own,

@@ -108,20 +108,6 @@ fn await_bank<'j, 'c, B: Allocator, A: Allocator, C: Allocator>(
 }
 
 impl<B: Allocator, A: Allocator, C: Allocator> Worker<B, A, C> {
-    /// Steps a gate of the round, and notes the answer.
-    fn step_one<'j, 'c>(&mut self, banks: &Banks<'j, 'c, B, A, C>, round: u32, gate: u32)
-        requires worker { IsWorkerAt banks.now (Inside round) self.old }
-        requires round { round < length (jobs_on banks.now) }
-        requires gate { gate < gates_of (jobs_on banks.now) }
-        ensures worker { IsWorkerAt banks.now (Inside round) self.new }
-        ensures left { batches_left self.new.walk ≡ batches_left self.old.walk }
-    {
-        // `job` also says that the round has the gates of all rounds.
-        let _ = banks.job(round);
-        let answer = banks.step(&mut self.seat, gate);
-        self.walk.note(gate, answer);
-    }
-
     /// Steps two gates of the round at once, and notes the answers.
     fn step_two<'j, 'c>(
         &mut self,
@@ -159,8 +145,13 @@ impl<B: Allocator, A: Allocator, C: Allocator> Worker<B, A, C> {
         ensures left { batches_left self.new.walk ≡ batches_left self.old.walk }
     {
         batch.report_to(observer, self.number);
+        // `job` also says that the round has the gates of all rounds.
+        let _ = banks.job(round);
         match batch {
-            Batch::One(a) => self.step_one(banks, round, a),
+            Batch::One(a) => {
+                let answer = banks.step(&mut self.seat, a);
+                self.walk.note(a, answer);
+            }
             Batch::Two(a, b) => self.step_two(banks, round, a, b),
             Batch::Four(a, b, c, d) => {
                 self.step_two(banks, round, a, b);

@@ -116,13 +116,6 @@ IsMadeNow (Done label) = ⊥
 IsMadeNow Taken = ⊥
 IsMadeNow (NotYet w) = ⊥
 
--- how many gates an answer says to be made by the call
-abbrev pub made_now : Answer → ℕ
-made_now (Made label) = 1
-made_now (Done label) = 0
-made_now Taken = 0
-made_now (NotYet w) = 0
-
 -- A gate that sets wire w was made this number of times by the seat.
 abbrev pub SetsMade : JobParts → ℕ → View JobParts → ℕ → Type 0
 SetsMade job w v n = (h : ℕ) → IsSetBy job.circuit w h → times h v.made ≡ n

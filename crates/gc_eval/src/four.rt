@@ -7,7 +7,6 @@ ghost use Rattle.gc_eval.specs.Views.{Answers, AnswersFour, AreReadBy, IsIdle};
 ghost use Rattle.gc_eval.specs.Seats.{IsPlaceOn, IsPlaceFor, IsSeatOf, IsSameSeat, view, job_on};
 
 use crate::seat::{EvalBoard, EvalSeat};
-use crate::step::made_now;
 use gc_board::Place;
 use gc_job::{Facts, ReadGate};
 use gc_label::Label;
@@ -188,10 +187,7 @@ impl<'j, 'c, B: Allocator, A: Allocator, C: Allocator> EvalBoard<'j, 'c, B, A, C
             (view seat.old) (view seat.new) result }
     {
         let answers = self.step_four_at(&mut seat.place, a, b, c, d);
-        let made = made_now(&answers.0)
-            + made_now(&answers.1)
-            + made_now(&answers.2)
-            + made_now(&answers.3);
+        let made = answers.0.made() + answers.1.made() + answers.2.made() + answers.3.made();
         seat.count = seat.count.saturating_add(made);
         answers
     }

@@ -7,7 +7,7 @@ ghost use Rattle.gc_board.specs.Steps.{after_claim, after_stored, after_done};
 ghost use Rattle.gc_board.specs.Places.{IsPlaceAt, IsSamePlace};
 ghost use Rattle.gc_label.specs.Label.{low_half, high_half};
 ghost use Rattle.gc_job.specs.ActiveLabels.{gates_of, active, set_of};
-ghost use Rattle.gc_eval.specs.Views.{Ran, Got, Lacks, Says, Answers, AnswersTwo, IsAlone, IsMadeNow, made_now, SetsMade, ReadsMade, FirstLacking, AnswersAlone, AnswersTwoAlone, AreReadBy, IsIdle, Knows, Reads};
+ghost use Rattle.gc_eval.specs.Views.{Ran, Got, Lacks, Says, Answers, AnswersTwo, IsAlone, IsMadeNow, SetsMade, ReadsMade, FirstLacking, AnswersAlone, AnswersTwoAlone, AreReadBy, IsIdle, Knows, Reads};
 ghost use Rattle.gc_eval.specs.Seats.{IsPlaceOn, IsPlaceFor, IsSeatOf, IsSameSeat, view, job_on};
 
 use crate::seat::{EvalBoard, EvalSeat};
@@ -35,17 +35,6 @@ fn load_label<A: Allocator, C: Allocator>(
     let low = load_low(words, place, gate);
     let high = load_high(words, place, gate);
     Label::from_halves(low, high)
-}
-
-/// How many gates an answer says to be made by the call.
-#[inline]
-pub(crate) fn made_now(answer: &Answer) -> u64
-    ensures { result ≡ made_now answer.now }
-{
-    match answer {
-        Answer::Made(_) => 1,
-        _ => 0,
-    }
 }
 
 impl<A: Allocator, C: Allocator> EvalSeat<A, C> {
@@ -356,8 +345,7 @@ impl<'j, 'c, B: Allocator, A: Allocator, C: Allocator> EvalBoard<'j, 'c, B, A, C
             → AnswersAlone (job_on self.now) gate (view seat.old) result }
     {
         let answer = self.step_at(&mut seat.place, gate);
-        let made = made_now(&answer);
-        seat.count = seat.count.saturating_add(made);
+        seat.count = seat.count.saturating_add(answer.made());
         answer
     }
 
@@ -375,7 +363,7 @@ impl<'j, 'c, B: Allocator, A: Allocator, C: Allocator> EvalBoard<'j, 'c, B, A, C
             → AnswersTwoAlone (job_on self.now) one other (view seat.old) result }
     {
         let answers = self.step_two_at(&mut seat.place, one, other);
-        let made = made_now(&answers.0) + made_now(&answers.1);
+        let made = answers.0.made() + answers.1.made();
         seat.count = seat.count.saturating_add(made);
         answers
     }

@@ -29,3 +29,10 @@ is_learnt (Made label) = true
 is_learnt (Done label) = true
 is_learnt Taken = false
 is_learnt (NotYet w) = false
+
+-- how many gates a step made, of which this is the answer: 1 where it is Made, and else 0
+abbrev pub made_now : Answer → ℕ
+made_now (Made label) = 1
+made_now (Done label) = 0
+made_now Taken = 0
+made_now (NotYet w) = 0

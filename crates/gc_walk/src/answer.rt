@@ -1,3 +1,6 @@
+ghost use Rattle.std.specs.Prelude.{◌≡◌};
+ghost use Rattle.gc_walk.specs.Walks.{made_now};
+
 use gc_label::Label;
 
 /// What a step found of a gate.
@@ -11,4 +14,17 @@ pub enum Answer {
     Taken,
     /// The gate reads this wire, which has no label yet.
     NotYet(u32),
+}
+
+impl Answer {
+    /// How many gates the step made: one or none.
+    #[inline]
+    pub fn made(&self) -> u64
+        ensures { result ≡ made_now self.now }
+    {
+        match self {
+            Answer::Made(_) => 1,
+            _ => 0,
+        }
+    }
 }

@@ -9,9 +9,9 @@ use Rattle.gc_bank.specs.declared.seat.BankSeat.{BankSeat}
 use Rattle.gc_bank.proofs.RunLemmas.{still_in, pairs_merged}
 use Rattle.gc_bank.proofs.open.gather.Goals as goal
 
-pub loop-place-init : goal.loop-place-init
-loop-place-init g c =
-    let seat = c.in-Some.field-0 in
+pub loop-seat-init : goal.loop-seat-init
+loop-seat-init g c =
+    let seat = c.in-Some.last in
     let old = c.args.seats.items in
     let new = c.pop.new.self.items in
     let is = c.in-Some.ensures.items in
@@ -32,31 +32,31 @@ pub join_place-requires-clause-other : goal.join_place-requires-clause-other
 join_place-requires-clause-other g c =
     let Own : BankSeat _ _ _ → Type 0 =
     λ s. IsBoardPlace gates_of c.args.words.now.table_id c.args.words.now.key s.place in
-    (all_last c.loop-place.seats.items c.pop-in-loop-place.new.self.items c.in-Some-pop.field-0
-    c.in-Some-pop.ensures.items Own c.loop-place.invariant.1).seated
+    (all_last c.loop-seat.seats.items c.pop-in-loop-seat.new.self.items c.in-Some-pop.seat
+    c.in-Some-pop.ensures.items Own c.loop-seat.invariant.1).seated
 
 pub join_place-requires-clause-idle : goal.join_place-requires-clause-idle
 join_place-requires-clause-idle g c =
-    let seat = c.in-Some-pop.field-0 in
+    let seat = c.in-Some-pop.seat in
     let Out : BankSeat _ _ _ → Type 0 = λ s. s.place.me.0.stand ≡ Outside in (
-      all_last c.loop-place.seats.items c.pop-in-loop-place.new.self.items seat c.in-Some-pop.ensures.items
-          Out c.loop-place.invariant.2,
+      all_last c.loop-seat.seats.items c.pop-in-loop-seat.new.self.items seat c.in-Some-pop.ensures.items
+          Out c.loop-seat.invariant.2,
       seat.at_rest.0,
       seat.at_rest.1,
     )
 
-pub loop-place-preserved : goal.loop-place-preserved
-loop-place-preserved g c =
-    let seat = c.in-Some-pop.field-0 in
-    let old = c.loop-place.seats.items in
-    let new = c.pop-in-loop-place.new.self.items in
+pub loop-seat-preserved : goal.loop-seat-preserved
+loop-seat-preserved g c =
+    let seat = c.in-Some-pop.seat in
+    let old = c.loop-seat.seats.items in
+    let new = c.pop-in-loop-seat.new.self.items in
     let is = c.in-Some-pop.ensures.items in
     let kept = c.join_place.ensures in
-    let i = c.loop-place.invariant in
+    let i = c.loop-seat.invariant in
     let Own : BankSeat _ _ _ → Type 0 =
     λ s. IsBoardPlace gates_of c.args.words.now.table_id c.args.words.now.key s.place in
     let Out : BankSeat _ _ _ → Type 0 = λ s. s.place.me.0.stand ≡ Outside in (
-      still_in _ _ c.loop-place.whole c.join_place.new.place i.0 kept.0
+      still_in _ _ c.loop-seat.whole c.join_place.new.place i.0 kept.0
           (ap (λ (u : Seen). u.jobs) kept.1) (ap (λ (u : Seen). u.all) kept.1)
           (ap (λ (u : Seen). u.inner.job) kept.1),
       all_but_last old new seat is Own i.1,
@@ -71,7 +71,7 @@ loop-place-preserved g c =
       λ r gate. omega (
         arith,
         total_last old new seat is (λ (s : BankSeat _ _ _). pairs r gate s.place.me.0.inner.made),
-        pairs_merged c.loop-place.whole.me.0 seat.place.me.0 c.join_place.new.place.me.0 r gate kept.1,
+        pairs_merged c.loop-seat.whole.me.0 seat.place.me.0 c.join_place.new.place.me.0 r gate kept.1,
         i.4 r gate,
       ),
     )

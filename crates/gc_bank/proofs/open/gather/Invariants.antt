@@ -7,8 +7,8 @@ use Rattle.gc_bank.specs.Rounds.{gates_of}
 use Rattle.gc_bank.specs.declared.seat.BankSeat.{BankSeat}
 use Rattle.gc_bank.proofs.open.gather.Given as goal
 
-abbrev pub invariant-loop-place : goal.invariant-loop-place
-invariant-loop-place g l =
+abbrev pub invariant-loop-seat : goal.invariant-loop-seat
+invariant-loop-seat g l =
     IsBoardPlace gates_of l.words.table_id l.words.key l.whole
     × All (λ (s : BankSeat _ _ _). IsBoardPlace gates_of l.words.table_id l.words.key s.place) l.seats.items
     × All (λ (s : BankSeat _ _ _). s.place.me.0.stand ≡ Outside) l.seats.items
@@ -17,5 +17,5 @@ invariant-loop-place g l =
     + total (λ (s : BankSeat _ _ _). pairs r g' s.place.me.0.inner.made) l.seats.items
     ≡ total (λ (s : BankSeat _ _ _). pairs r g' s.place.me.0.inner.made) l.fn.seats.items)
 
-abbrev pub decreases-loop-place : goal.decreases-loop-place
-decreases-loop-place g l = goal.left-loop-place g l
+abbrev pub decreases-loop-seat : goal.decreases-loop-seat
+decreases-loop-seat g l = goal.left-loop-seat g l

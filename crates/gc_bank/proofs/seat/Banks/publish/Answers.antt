@@ -5,8 +5,8 @@ use Rattle.gc_bank.specs.Views.{Seen, Saw, Ran, Knows}
 use Rattle.gc_bank.proofs.RunLemmas.{unknown, saw_claim, made_ran}
 use Rattle.gc_bank.proofs.seat.Banks.publish.Goals as goal
 
-pub returns-then-found-held-clause-answer : goal.returns-then-found-held-clause-answer
-returns-then-found-held-clause-answer g c =
+pub returns-then-found-state_word-2-clause-answer : goal.returns-then-found-state_word-2-clause-answer
+returns-then-found-state_word-2-clause-answer g c =
     let old = c.args.place.now.me.0 in
     let new = c.claim-found.new.place.me.0 in
     let r = c.args.round in
@@ -15,8 +15,8 @@ returns-then-found-held-clause-answer g c =
     let e = c.claim-found.ensures in (
       (
         unknown (pairs r gate old.inner.known) found (stamp r 2) e.finds.known
-            (λ two. c.if-found-done.false (omega (arith, two, c.done.ensures))),
-        subst (Saw old new (at r gate)) (c.if-found-held.true ∙ c.held.ensures)
+            (λ two. c.if-found-state_word.false (omega (arith, two, c.state_word.ensures))),
+        subst (Saw old new (at r gate)) (c.if-found-state_word-2.true ∙ c.state_word-2.ensures)
             (saw_claim old new (at r gate) found (ap (λ (x : Seen). x.steps) e.view)),
       ),
       search rules,
@@ -39,7 +39,7 @@ returns-clause-answer g c =
         c.requires.label,
         known,
         unknown (pairs r gate old.inner.known) found (stamp r 2) e.finds.known
-            (λ two. c.if-found-done.false (omega (arith, two, c.done.ensures))),
+            (λ two. c.if-found-state_word.false (omega (arith, two, c.state_word.ensures))),
       ),
       ran,
     )

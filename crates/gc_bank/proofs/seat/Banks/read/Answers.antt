@@ -51,8 +51,8 @@ load_label-requires-clause-place g c =
       exists = gate_there _ c.args.round c.args.wire c.in-Some.gate c.args.job.now c.requires.job.0 by;
     }
 
-pub returns-else-load_state-done-clause-none : goal.returns-else-load_state-done-clause-none
-returns-else-load_state-done-clause-none g c =
+pub returns-else-load_state-state_word-clause-none : goal.returns-else-load_state-state_word-clause-none
+returns-else-load_state-state_word-clause-none g c =
     let old = c.args.place.now.me.0 in
     let new = c.load_state.new.place.me.0 in
     let gate = c.in-Some.gate in
@@ -60,7 +60,7 @@ returns-else-load_state-done-clause-none g c =
     let finds = c.load_state.ensures.finds in
     let found = c.load_state.result in
     let ne : found ≡ stamp r 2 → ⊥ =
-    λ e. c.if-load_state-done.false (omega (arith, e, c.done.ensures)) in
+    λ e. c.if-load_state-state_word.false (omega (arith, e, c.state_word.ensures)) in
     lacks_undone c.args.job.now r c.args.wire gate old new c.circuit.ensures.whole.lawful
     (omega (arith, c.input_wires.ensures, ap input_wires c.circuit.ensures.circuit))
     (subst (λ (x : Netlist). IsSetBy x c.args.wire gate) (sym c.requires.job.1) c.in-Some.ensures.some)
@@ -70,8 +70,8 @@ returns-else-load_state-done-clause-none g c =
       saw_load old new (at r gate) found (ap (λ (x : Seen). x.steps) c.load_state.ensures.view),
     )
 
-pub returns-else-load_state-done-clause-alone : goal.returns-else-load_state-done-clause-alone
-returns-else-load_state-done-clause-alone g c = λ alone h set.
+pub returns-else-load_state-state_word-clause-alone : goal.returns-else-load_state-state_word-clause-alone
+returns-else-load_state-state_word-clause-alone g c = λ alone h set.
     let r = c.args.round in
     let gate = c.in-Some.gate in
     let by = subst (λ (x : Netlist). IsSetBy x c.args.wire gate)
@@ -80,4 +80,4 @@ returns-else-load_state-done-clause-alone g c = λ alone h set.
     (set_once c.args.job.now.circuit c.args.wire gate h c.circuit.ensures.whole.lawful by set)
     ((c.load_state.ensures.finds.alone alone).1
     ∙ only_other (stamp r 2) c.load_state.result
-    (λ e. c.if-load_state-done.false (omega (arith, e, c.done.ensures))))
+    (λ e. c.if-load_state-state_word.false (omega (arith, e, c.state_word.ensures))))

@@ -6,8 +6,8 @@ use Rattle.gc_bank.specs.Views.{Seen, Ran, Saw}
 use Rattle.gc_bank.proofs.RunLemmas.{unknown, saw_load, ran_then, lacks_then, alone_later, reads_back, lacking_back}
 use Rattle.gc_bank.proofs.seat.Banks.ready.Goals as goal
 
-pub returns-then-free-held-clause-err : goal.returns-then-free-held-clause-err
-returns-then-free-held-clause-err g c =
+pub returns-then-free-state_word-2-clause-err : goal.returns-then-free-state_word-2-clause-err
+returns-then-free-state_word-2-clause-err g c =
     let old = c.args.place.now.me.0 in
     let new = c.load_state-free.new.place.me.0 in
     let r = c.args.round in
@@ -17,8 +17,8 @@ returns-then-free-held-clause-err g c =
       refl,
       (
         unknown (pairs r gate old.inner.known) found (stamp r 2) e.finds.known
-            (λ two. c.if-free-done.false (omega (arith, two, c.done.ensures))),
-        subst (Saw old new (at r gate)) (c.if-free-held.true ∙ c.held.ensures)
+            (λ two. c.if-free-state_word.false (omega (arith, two, c.state_word.ensures))),
+        subst (Saw old new (at r gate)) (c.if-free-state_word-2.true ∙ c.state_word-2.ensures)
             (saw_load old new (at r gate) found (ap (λ (x : Seen). x.steps) e.view)),
       ),
     )
@@ -54,7 +54,7 @@ returns-in-Err-clause-err g c =
       refl,
       (
         unknown (pairs r gate old.inner.known) found (stamp r 2) c.load_state-free.ensures.finds.known
-            (λ two. c.if-free-done.false (omega (arith, two, c.done.ensures))),
+            (λ two. c.if-free-state_word.false (omega (arith, two, c.state_word.ensures))),
         err.0,
         lacks_then c.args.job.now r c.in-Err.wire 1 old seen read first err.1,
       ),
@@ -69,7 +69,7 @@ returns-in-Ok-clause-alone g c = λ alone.
     let found = c.load_state-free.result in
     let first : Ran old seen old.inner.made 1 = search rules in (
       (c.load_state-free.ensures.finds.alone alone).1
-          ∙ only_other (stamp r 2) found (λ e. c.if-free-done.false (omega (arith, e, c.done.ensures))),
+          ∙ only_other (stamp r 2) found (λ e. c.if-free-state_word.false (omega (arith, e, c.state_word.ensures))),
       reads_back c.args.job.now r gate 1 old seen first
           (c.in-Ok.ensures.alone (alone_later old seen 1 first alone)),
     )
@@ -83,7 +83,7 @@ returns-in-Err-clause-alone g c = λ alone.
     let found = c.load_state-free.result in
     let first : Ran old seen old.inner.made 1 = search rules in (
       (c.load_state-free.ensures.finds.alone alone).1
-          ∙ only_other (stamp r 2) found (λ e. c.if-free-done.false (omega (arith, e, c.done.ensures))),
+          ∙ only_other (stamp r 2) found (λ e. c.if-free-state_word.false (omega (arith, e, c.state_word.ensures))),
       lacking_back c.args.job.now r gate 1 c.in-Err.wire old seen first
           (c.in-Err.ensures.alone (alone_later old seen 1 first alone)),
     )
