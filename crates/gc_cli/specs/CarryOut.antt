@@ -2,6 +2,7 @@
 use Rattle.std.specs.Prelude.{◌≡◌, ℕ, List, IfSome}
 use Rattle.gc_command.specs.declared.fault.Fault.{Fault}
 use Rattle.gc_order.specs.Order.{OrderText, run, plain, check, locate, stats, garble, deal, eval, jobs, list_labels, audit}
+use Rattle.gc_command.specs.Fault.{HasCause}
 use Rattle.gc_command.specs.Files.{FileBytes}
 use Rattle.gc_command.specs.Run.{AnswersRun, HasRunFault}
 use Rattle.gc_command.specs.Plain.{AnswersPlain, HasPlainFault}
@@ -37,26 +38,36 @@ Answers old new (list_labels circuit seed from count values) out =
 Answers old new (audit circuit seed garbled workers labels) out =
     AnswersAudit old circuit seed garbled workers labels out
 
--- The order has this fault.
-abbrev pub HasFault : FileBytes → OrderText → Fault → Type 0
-HasFault bytes (run circuit seed workers values) fault =
+-- The order has this fault. `Failed` says of a name that its file has failed: that a file can't be read, or written, has
+-- such a cause, whether its bytes are known or not.
+abbrev pub HasFault : FileBytes → (List ℕ → Type 0) → OrderText → Fault → Type 0
+HasFault bytes Failed (run circuit seed workers values) fault =
     IfSome (bytes circuit) (λ file. HasRunFault file seed workers values fault)
-HasFault bytes (plain circuit values) fault =
+    × HasCause fault (Failed circuit) ⊥
+HasFault bytes Failed (plain circuit values) fault =
     IfSome (bytes circuit) (λ file. HasPlainFault file values fault)
-HasFault bytes (check circuit) fault = IfSome (bytes circuit) (λ file. HasCheckFault file fault)
-HasFault bytes (garble circuit seed name version workers) fault =
+    × HasCause fault (Failed circuit) ⊥
+HasFault bytes Failed (check circuit) fault =
+    IfSome (bytes circuit) (λ file. HasCheckFault file fault) × HasCause fault (Failed circuit) ⊥
+HasFault bytes Failed (garble circuit seed name version workers) fault =
     IfSome (bytes circuit) (λ file. HasGarbleFault file seed workers fault)
-HasFault bytes (deal circuit seed index value name) fault =
+    × HasCause fault (Failed circuit) (Failed name)
+HasFault bytes Failed (deal circuit seed index value name) fault =
     IfSome (bytes circuit) (λ file. HasDealFault file seed index value fault)
-HasFault bytes (eval circuit garbled workers labels) fault =
-    HasEvalFault bytes circuit garbled workers labels fault
-HasFault bytes (jobs circuit list workers) fault = HasJobsFault bytes circuit list workers fault
-HasFault bytes (locate circuit) fault = IfSome (bytes circuit) (λ file. HasLocateFault file fault)
-HasFault bytes (stats circuit) fault = IfSome (bytes circuit) (λ file. HasStatsFault file fault)
-HasFault bytes (list_labels circuit seed from count values) fault =
+    × HasCause fault (Failed circuit) (Failed name)
+HasFault bytes Failed (eval circuit garbled workers labels) fault =
+    HasEvalFault bytes Failed circuit garbled workers labels fault
+HasFault bytes Failed (jobs circuit list workers) fault =
+    HasJobsFault bytes Failed circuit list workers fault
+HasFault bytes Failed (locate circuit) fault =
+    IfSome (bytes circuit) (λ file. HasLocateFault file fault) × HasCause fault (Failed circuit) ⊥
+HasFault bytes Failed (stats circuit) fault =
+    IfSome (bytes circuit) (λ file. HasStatsFault file fault) × HasCause fault (Failed circuit) ⊥
+HasFault bytes Failed (list_labels circuit seed from count values) fault =
     IfSome (bytes circuit) (λ file. HasLabelsFault file seed values fault)
-HasFault bytes (audit circuit seed garbled workers labels) fault =
-    HasAuditFault bytes circuit seed garbled workers labels fault
+    × HasCause fault (Failed circuit) ⊥
+HasFault bytes Failed (audit circuit seed garbled workers labels) fault =
+    HasAuditFault bytes Failed circuit seed garbled workers labels fault
 
 -- The order writes the file of this name.
 abbrev pub Writes : OrderText → List ℕ → Type 0

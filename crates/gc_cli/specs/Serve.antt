@@ -25,11 +25,12 @@ PrintsAnswer old new order before after =
     ((out : List ℕ) × Answers old new order out × Appends before.contents after.contents out)
     × (after.failures ≡ before.failures)
 
--- A fault that an order has, with its cause, ends it, and nothing is printed; or a call to print its answer failed.
-abbrev pub FailsToAnswer : FileBytes → FileBytes → Type 0 → OrderText → Printed → Printed → Fault
-    → Type 0
-FailsToAnswer old new IsCaused order before after fault =
-    (HasFault old order fault × IsCaused × (after ≡ before))
+-- A fault that an order has ends it, and nothing is printed; or a call to print its answer failed. `Failed` says of a
+-- name that its file has failed.
+abbrev pub FailsToAnswer : FileBytes → FileBytes → (List ℕ → Type 0) → OrderText → Printed → Printed
+    → Fault → Type 0
+FailsToAnswer old new Failed order before after fault =
+    (HasFault old Failed order fault × (after ≡ before))
     ⊎ (((out : List ℕ) × Answers old new order out) × (fault ≡ CannotWrite)
     × (after.failures ≡ before.failures + 1))
 
@@ -39,12 +40,11 @@ IsDone old new words before after =
     HasAnswer old new words (Appends before.contents after.contents)
     × (after.failures ≡ before.failures)
 
--- A fault that ends a run is one that its order has, with its cause, and nothing was printed; or it is that a call to
--- print failed.
-abbrev pub IsFaulty : FileBytes → FileBytes → Type 0 → List (List ℕ) → Printed → Printed → Fault
-    → Type 0
-IsFaulty old new IsCaused words before after fault =
-    ((order : OrderText) × IsOrder words order × HasFault old order fault × IsCaused
+-- A fault that ends a run is one that its order has, and nothing was printed; or it is that a call to print failed.
+abbrev pub IsFaulty : FileBytes → FileBytes → (List ℕ → Type 0) → List (List ℕ) → Printed → Printed
+    → Fault → Type 0
+IsFaulty old new Failed words before after fault =
+    ((order : OrderText) × IsOrder words order × HasFault old Failed order fault
     × (after ≡ before))
     ⊎ (HasAnswer old new words (λ _. Unit {0}) × (fault ≡ CannotWrite)
     × (after.failures ≡ before.failures + 1))
@@ -73,11 +73,11 @@ abbrev pub PrintsFault : Printed → Printed → Fault → Type 0
 PrintsFault before after fault = PrintsLine before after (fault_line fault)
 
 -- A fault ended the run, and standard error has its line, unless a call to print it failed.
-abbrev pub EndsByFault : FileBytes → FileBytes → (Fault → Type 0) → List (List ℕ) → Printed
+abbrev pub EndsByFault : FileBytes → FileBytes → (List ℕ → Type 0) → List (List ℕ) → Printed
     → Printed → Printed → Printed → Type 0
-EndsByFault old new IsCaused words out out_after err err_after =
+EndsByFault old new Failed words out out_after err err_after =
     (fault : Fault)
-    × (IsFaulty old new (IsCaused fault) words out out_after fault
+    × (IsFaulty old new Failed words out out_after fault
     × PrintsFault err err_after fault)
 
 -- It has the line that says why the words of a command line can't be had.

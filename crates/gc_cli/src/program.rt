@@ -5,7 +5,7 @@ ghost use Rattle.std.specs.Io.KnownBytes.{Appends};
 ghost use Rattle.std.specs.IoError.{error_kind};
 ghost use Rattle.gc_format.specs.Counted.{CountsFailure};
 ghost use Rattle.gc_order.specs.Order.{text_of};
-ghost use Rattle.gc_command.specs.Fault.{HasCause};
+ghost use Rattle.gc_command.specs.Files.{HasFailed};
 ghost use Rattle.gc_cli.specs.CommandLine.{IsMistaken};
 ghost use Rattle.gc_cli.specs.Serve.{EndsByFault, FailsToAnswer, IsDone, PrintsAnswer, PrintsFault, PrintsRefusal};
 ghost use Rattle.gc_cli.specs.Serve.{fault_line, reason_of, refusal_line};
@@ -53,7 +53,7 @@ pub fn serve<R: Threads + Wait + Sync, F: Files, O: Write, E: Write, P: Progress
     ensures no_errors { result ≡ DONE → err.new ≡ err.old }
 
     ensures fault { result ≡ FAULT → EndsByFault (F.bytes files.old) (F.bytes files.new)
-        (λ fault. HasCause fault (F.failures files.old) (F.failures files.new))
+        (HasFailed (F.failures files.old) (F.failures files.new))
         (map string_bytes words.now) out.old out.new err.old err.new }
 
     // Words that neither are an order nor ask for a text: only they, where there was memory to read them, and all of
@@ -92,7 +92,7 @@ fn print_answer<R: Threads + Wait + Sync, F: Files, O: Write, P: Progress>(
     ensures done { OnOk result (PrintsAnswer (F.bytes files.old) (F.bytes files.new)
         (text_of order.now) out.old out.new) }
     ensures fault { IfErr result (λ fault. FailsToAnswer (F.bytes files.old) (F.bytes files.new)
-        (HasCause fault (F.failures files.old) (F.failures files.new))
+        (HasFailed (F.failures files.old) (F.failures files.new))
         (text_of order.now) out.old out.new fault) }
 {
     if let Order::Labels {

@@ -2,7 +2,7 @@
 
 ghost use Rattle.std.specs.Prelude.{◌≡◌, ◌≢◌, ℕ, List, IfOk, IfErr};
 ghost use Rattle.gc_order.specs.Order.{text_of};
-ghost use Rattle.gc_command.specs.Fault.{HasCause};
+ghost use Rattle.gc_command.specs.Files.{HasFailed};
 ghost use Rattle.gc_cli.specs.CarryOut.{Answers, HasFault, Writes};
 
 use gc_command::check::check;
@@ -31,11 +31,8 @@ pub fn carry_out<
 >(rt: &R, alloc: A, order: &Order, files: &mut F, progress: &P) -> Result<Vec<u8, A>, Fault>
     ensures answers { IfOk result (λ out.
         Answers (F.bytes files.old) (F.bytes files.new) (text_of order.now) out.items) }
-    ensures fault { IfErr result (HasFault (F.bytes files.old) (text_of order.now)) }
-
-    // Where a file's bytes are not known, a fault of a file has its cause all the same.
-    ensures cause { IfErr result
-        (λ fault. HasCause fault (F.failures files.old) (F.failures files.new)) }
+    ensures fault { IfErr result (HasFault (F.bytes files.old)
+        (HasFailed (F.failures files.old) (F.failures files.new)) (text_of order.now)) }
 
     // A file changes only where the order writes it, and is as it was after any fault but that it can't be written.
     ensures others { (name : List ℕ) → ¬ Writes (text_of order.now) name

@@ -1,16 +1,16 @@
 -- From what each step of `eval` answers to what it answers as a whole.
-use Rattle.std.proofs.Common.{◌≡◌, ℕ, List, [], ◌∷◌, IfSome, inl, inr, subst, ◌∙◌}
+use Rattle.std.proofs.Common.{◌≡◌, ℕ, List, [], ◌∷◌, IfSome, inl, inr, refl, sym, subst, ◌∙◌}
 use Rattle.gc_netlist.specs.Circuit.{Netlist}
-use Rattle.gc_read.specs.declared.fault.FileFault.{FileFault}
 use Rattle.gc_format.specs.GarbledFile.{GarbledParts, IsGarbledFile}
 use Rattle.gc_format.specs.LabelFile.{LabelFileParts, IsLabelFile}
-use Rattle.gc_read.specs.FileFault.{FirstLabelFault}
+use Rattle.gc_read.specs.FileFault.{FirstFault, FirstLabelFault}
 use Rattle.gc_command.specs.declared.fault.Fault.{Fault}
 use Rattle.gc_command.specs.declared.fault.Fault.TheVariants as faults
+use Rattle.gc_command.specs.Fault.{HasCause}
 use Rattle.gc_command.specs.Files.{FileBytes}
 use Rattle.gc_command.specs.CircuitFile.{IsCircuit, IsCircuitFault, HasCircuitFault}
 use Rattle.gc_command.specs.Job.{HasJobFault}
-use Rattle.gc_command.specs.Eval.{AreLabelFiles, FirstBadLabels, HasGarbledFault, HasLabelsFault, AreEvalFiles, HasEvalFault}
+use Rattle.gc_command.specs.Eval.{AreLabelFiles, HasGarbledFault, HasLabelFault, HasLabelsFault, HasFilesFault, AreEvalFiles, HasEvalFault}
 
 -- What holds of a file holds of it before, where no file has changed,
 module _ (old new : FileBytes) (same : (n : List ℕ) → new n ≡ old n) where
@@ -25,26 +25,60 @@ module _ (old new : FileBytes) (same : (n : List ℕ) → new n ≡ old n) where
   labels-before (name ∷ names) (parts ∷ files) read =
       (held-before (λ held. IsLabelFile held parts) name read.0, labels-before names files read.1)
 
-  pub bad-before : (names : List (List ℕ)) (fault : FileFault) → FirstBadLabels new names fault → FirstBadLabels old names fault
-  bad-before [] fault bad = absurd bad
-  bad-before (name ∷ names) fault (inl here) = inl (held-before (λ held. FirstLabelFault held fault) name here)
-  bad-before (name ∷ names) fault (inr later) =
-      inr (later.0, held-before (λ held. IsLabelFile held later.0) name later.1, bad-before names fault later.2)
+  -- Where it fails it has failed since before, and its faults are those that it had before.
+  module _ (Fails Failed : List ℕ → Type 0) (since : (n : List ℕ) → Fails n → Failed n) where
+    pub garbled-fault-before : (name : List ℕ) (fault : Fault) → HasGarbledFault new Fails name fault
+        → HasGarbledFault old Failed name fault
+    garbled-fault-before name (faults.Circuit fault) has = absurd has
+    garbled-fault-before name faults.WrongCount has = absurd has
+    garbled-fault-before name (faults.Value fault) has = absurd has
+    garbled-fault-before name faults.BadSeed has = absurd has
+    garbled-fault-before name faults.NoSuchValue has = absurd has
+    garbled-fault-before name (faults.Garbling fault) has = absurd has
+    garbled-fault-before name (faults.File fault) has = λ other. held-before (λ held. FirstFault held fault) name (has other)
+    garbled-fault-before name (faults.Binding fault) has = absurd has
+    garbled-fault-before name (faults.Evaluation fault) has = absurd has
+    garbled-fault-before name faults.BadList has = absurd has
+    garbled-fault-before name faults.CannotRead has = since name has
+    garbled-fault-before name faults.CannotWrite has = absurd has
+    garbled-fault-before name faults.Memory has = tt
 
-  pub labels-fault-before : (names : List (List ℕ)) (fault : Fault) → HasLabelsFault new names fault → HasLabelsFault old names fault
-  labels-fault-before names (faults.File fault) has = λ other. bad-before names fault (has other)
-  labels-fault-before names faults.CannotRead has = tt
-  labels-fault-before names faults.Memory has = tt
-  labels-fault-before names (faults.Circuit fault) has = absurd has
-  labels-fault-before names faults.WrongCount has = absurd has
-  labels-fault-before names (faults.Value fault) has = absurd has
-  labels-fault-before names faults.BadSeed has = absurd has
-  labels-fault-before names faults.BadList has = absurd has
-  labels-fault-before names faults.NoSuchValue has = absurd has
-  labels-fault-before names (faults.Garbling fault) has = absurd has
-  labels-fault-before names (faults.Binding fault) has = absurd has
-  labels-fault-before names (faults.Evaluation fault) has = absurd has
-  labels-fault-before names faults.CannotWrite has = absurd has
+    pub label-fault-before : (name : List ℕ) (fault : Fault) → HasLabelFault new Fails name fault
+        → HasLabelFault old Failed name fault
+    label-fault-before name (faults.Circuit fault) has = absurd has
+    label-fault-before name faults.WrongCount has = absurd has
+    label-fault-before name (faults.Value fault) has = absurd has
+    label-fault-before name faults.BadSeed has = absurd has
+    label-fault-before name faults.NoSuchValue has = absurd has
+    label-fault-before name (faults.Garbling fault) has = absurd has
+    label-fault-before name (faults.File fault) has = λ other. held-before (λ held. FirstLabelFault held fault) name (has other)
+    label-fault-before name (faults.Binding fault) has = absurd has
+    label-fault-before name (faults.Evaluation fault) has = absurd has
+    label-fault-before name faults.BadList has = absurd has
+    label-fault-before name faults.CannotRead has = since name has
+    label-fault-before name faults.CannotWrite has = absurd has
+    label-fault-before name faults.Memory has = tt
+
+    pub labels-fault-before : (names : List (List ℕ)) (fault : Fault) → HasLabelsFault new Fails names fault
+        → HasLabelsFault old Failed names fault
+    labels-fault-before [] fault has = has
+    labels-fault-before (name ∷ names) fault (inl here) = inl (label-fault-before name fault here)
+    labels-fault-before (name ∷ names) fault (inr later) =
+        inr (
+          later.0,
+          held-before (λ held. IsLabelFile held later.0) name later.1,
+          labels-fault-before names fault later.2,
+        )
+
+    pub files-fault-before : (garbled : List ℕ) (labels : List (List ℕ)) (fault : Fault)
+        → HasFilesFault new Fails garbled labels fault → HasFilesFault old Failed garbled labels fault
+    files-fault-before garbled labels fault (inl here) = inl (garbled-fault-before garbled fault here)
+    files-fault-before garbled labels fault (inr later) =
+        inr (
+          later.0,
+          held-before (λ held. IsGarbledFile held later.0) garbled later.1,
+          labels-fault-before labels fault later.2,
+        )
 
 -- The files that the steps read are among the files as they were before.
 pub eval-files : (old between new : FileBytes) → ((n : List ℕ) → between n ≡ old n) → ((n : List ℕ) → new n ≡ between n)
@@ -57,71 +91,108 @@ eval-files old between new first second circuit garbled labels c g files circuit
   labels_read = labels-before old new (λ n. second n ∙ first n) labels files labels_read;
 }
 
-module _ (bytes : FileBytes) (circuit garbled : List ℕ) (workers : ℕ) (labels : List (List ℕ)) where
+-- Memory may run out at any label file.
+pub labels-memory : (bytes : FileBytes) (Failed : List ℕ → Type 0) (names : List (List ℕ))
+    → HasLabelsFault bytes Failed names faults.Memory
+labels-memory bytes Failed [] = refl
+labels-memory bytes Failed (name ∷ names) = inl tt
+
+-- The faults of the files of an evaluation: that one can't be read, that one is not well formed, or want of memory.
+abbrev pub IsFileFault : Fault → Type 0
+IsFileFault (faults.File fault) = Unit {0}
+IsFileFault faults.CannotRead = Unit {0}
+IsFileFault faults.Memory = Unit {0}
+IsFileFault _ = ⊥
+
+module _ (bytes : FileBytes) (Failed : List ℕ → Type 0) where
+  pub garbled-kind : (name : List ℕ) (fault : Fault) → HasGarbledFault bytes Failed name fault → IsFileFault fault
+  garbled-kind name (faults.Circuit fault) has = absurd has
+  garbled-kind name faults.WrongCount has = absurd has
+  garbled-kind name (faults.Value fault) has = absurd has
+  garbled-kind name faults.BadSeed has = absurd has
+  garbled-kind name faults.NoSuchValue has = absurd has
+  garbled-kind name (faults.Garbling fault) has = absurd has
+  garbled-kind name (faults.File fault) has = tt
+  garbled-kind name (faults.Binding fault) has = absurd has
+  garbled-kind name (faults.Evaluation fault) has = absurd has
+  garbled-kind name faults.BadList has = absurd has
+  garbled-kind name faults.CannotRead has = tt
+  garbled-kind name faults.CannotWrite has = absurd has
+  garbled-kind name faults.Memory has = tt
+
+  label-kind : (name : List ℕ) (fault : Fault) → HasLabelFault bytes Failed name fault → IsFileFault fault
+  label-kind name (faults.Circuit fault) has = absurd has
+  label-kind name faults.WrongCount has = absurd has
+  label-kind name (faults.Value fault) has = absurd has
+  label-kind name faults.BadSeed has = absurd has
+  label-kind name faults.NoSuchValue has = absurd has
+  label-kind name (faults.Garbling fault) has = absurd has
+  label-kind name (faults.File fault) has = tt
+  label-kind name (faults.Binding fault) has = absurd has
+  label-kind name (faults.Evaluation fault) has = absurd has
+  label-kind name faults.BadList has = absurd has
+  label-kind name faults.CannotRead has = tt
+  label-kind name faults.CannotWrite has = absurd has
+  label-kind name faults.Memory has = tt
+
+  pub labels-kind : (names : List (List ℕ)) (fault : Fault) → HasLabelsFault bytes Failed names fault → IsFileFault fault
+  labels-kind [] fault is = subst IsFileFault (sym is) tt
+  labels-kind (name ∷ names) fault (inl here) = label-kind name fault here
+  labels-kind (name ∷ names) fault (inr later) = labels-kind names fault later.2
+
+  pub files-kind : (garbled : List ℕ) (labels : List (List ℕ)) (fault : Fault)
+      → HasFilesFault bytes Failed garbled labels fault → IsFileFault fault
+  files-kind garbled labels fault (inl here) = garbled-kind garbled fault here
+  files-kind garbled labels fault (inr later) = labels-kind labels fault later.2
+
+module _ (bytes : FileBytes) (Failed : List ℕ → Type 0) (circuit garbled : List ℕ) (workers : ℕ) (labels : List (List ℕ)) where
   -- The fault of the circuit's file,
   pub circuit-fault : (fault : Fault) → IsCircuitFault fault → IfSome (bytes circuit) (λ held. HasCircuitFault held fault)
-      → HasEvalFault bytes circuit garbled workers labels fault
-  circuit-fault faults.CannotRead kind has = tt
-  circuit-fault (faults.Circuit fault) kind has = has
-  circuit-fault faults.Memory kind has = tt
-  circuit-fault faults.WrongCount kind has = absurd kind
-  circuit-fault (faults.Value fault) kind has = absurd kind
-  circuit-fault faults.BadSeed kind has = absurd kind
-  circuit-fault faults.BadList kind has = absurd kind
-  circuit-fault faults.NoSuchValue kind has = absurd kind
-  circuit-fault (faults.Garbling fault) kind has = absurd kind
-  circuit-fault (faults.File fault) kind has = absurd kind
-  circuit-fault (faults.Binding fault) kind has = absurd kind
-  circuit-fault (faults.Evaluation fault) kind has = absurd kind
-  circuit-fault faults.CannotWrite kind has = absurd kind
+      → HasCause fault (Failed circuit) ⊥ → HasEvalFault bytes Failed circuit garbled workers labels fault
+  circuit-fault (faults.Circuit fault) kind has failed = has
+  circuit-fault faults.WrongCount kind has failed = absurd kind
+  circuit-fault (faults.Value fault) kind has failed = absurd kind
+  circuit-fault faults.BadSeed kind has failed = absurd kind
+  circuit-fault faults.NoSuchValue kind has failed = absurd kind
+  circuit-fault (faults.Garbling fault) kind has failed = absurd kind
+  circuit-fault (faults.File fault) kind has failed = absurd kind
+  circuit-fault (faults.Binding fault) kind has failed = absurd kind
+  circuit-fault (faults.Evaluation fault) kind has failed = absurd kind
+  circuit-fault faults.BadList kind has failed = absurd kind
+  circuit-fault faults.CannotRead kind has failed = inl failed
+  circuit-fault faults.CannotWrite kind has failed = absurd kind
+  circuit-fault faults.Memory kind has failed = tt
 
-  module _ (c : Netlist) (circuit_read : IfSome (bytes circuit) (λ held. IsCircuit held c)) where
-    -- of the garbled file,
-    pub garbled-fault : (fault : Fault) → HasGarbledFault bytes garbled fault → HasEvalFault bytes circuit garbled workers labels fault
-    garbled-fault (faults.File fault) has = ((c, circuit_read), λ other. inl (has other))
-    garbled-fault faults.CannotRead has = tt
-    garbled-fault faults.Memory has = tt
-    garbled-fault (faults.Circuit fault) has = absurd has
-    garbled-fault faults.WrongCount has = absurd has
-    garbled-fault (faults.Value fault) has = absurd has
-    garbled-fault faults.BadSeed has = absurd has
-    garbled-fault faults.BadList has = absurd has
-    garbled-fault faults.NoSuchValue has = absurd has
-    garbled-fault (faults.Garbling fault) has = absurd has
-    garbled-fault (faults.Binding fault) has = absurd has
-    garbled-fault (faults.Evaluation fault) has = absurd has
-    garbled-fault faults.CannotWrite has = absurd has
-
-    -- of the label files,
-    pub labels-fault : (g : GarbledParts) → IfSome (bytes garbled) (λ held. IsGarbledFile held g) → (fault : Fault)
-        → HasLabelsFault bytes labels fault → HasEvalFault bytes circuit garbled workers labels fault
-    labels-fault g read (faults.File fault) has = ((c, circuit_read), λ other. inr (g, read, has other))
-    labels-fault g read faults.CannotRead has = tt
-    labels-fault g read faults.Memory has = tt
-    labels-fault g read (faults.Circuit fault) has = absurd has
-    labels-fault g read faults.WrongCount has = absurd has
-    labels-fault g read (faults.Value fault) has = absurd has
-    labels-fault g read faults.BadSeed has = absurd has
-    labels-fault g read faults.BadList has = absurd has
-    labels-fault g read faults.NoSuchValue has = absurd has
-    labels-fault g read (faults.Garbling fault) has = absurd has
-    labels-fault g read (faults.Binding fault) has = absurd has
-    labels-fault g read (faults.Evaluation fault) has = absurd has
-    labels-fault g read faults.CannotWrite has = absurd has
+  -- of the other files,
+  pub files-fault : (c : Netlist) → IfSome (bytes circuit) (λ held. IsCircuit held c) → (fault : Fault)
+      → HasFilesFault bytes Failed garbled labels fault → HasEvalFault bytes Failed circuit garbled workers labels fault
+  files-fault c read (faults.Circuit fault) has = absurd (files-kind bytes Failed garbled labels (faults.Circuit fault) has)
+  files-fault c read faults.WrongCount has = absurd (files-kind bytes Failed garbled labels faults.WrongCount has)
+  files-fault c read (faults.Value fault) has = absurd (files-kind bytes Failed garbled labels (faults.Value fault) has)
+  files-fault c read faults.BadSeed has = absurd (files-kind bytes Failed garbled labels faults.BadSeed has)
+  files-fault c read faults.NoSuchValue has = absurd (files-kind bytes Failed garbled labels faults.NoSuchValue has)
+  files-fault c read (faults.Garbling fault) has = absurd (files-kind bytes Failed garbled labels (faults.Garbling fault) has)
+  files-fault c read (faults.File fault) has = (c, read, has)
+  files-fault c read (faults.Binding fault) has = absurd (files-kind bytes Failed garbled labels (faults.Binding fault) has)
+  files-fault c read (faults.Evaluation fault) has = absurd (files-kind bytes Failed garbled labels (faults.Evaluation fault) has)
+  files-fault c read faults.BadList has = absurd (files-kind bytes Failed garbled labels faults.BadList has)
+  files-fault c read faults.CannotRead has = inr (c, read, has)
+  files-fault c read faults.CannotWrite has = absurd (files-kind bytes Failed garbled labels faults.CannotWrite has)
+  files-fault c read faults.Memory has = tt
 
   -- and of their job.
   pub job-fault : (c : Netlist) (g : GarbledParts) (files : List LabelFileParts) → AreEvalFiles bytes circuit garbled labels c g files
-      → (fault : Fault) → HasJobFault c g files workers fault → HasEvalFault bytes circuit garbled workers labels fault
-  job-fault c g files read (faults.Binding fault) has = (c, (g, (files, (read, has))))
-  job-fault c g files read (faults.Evaluation fault) has = (c, (g, (files, (read, has))))
+      → (fault : Fault) → HasJobFault c g files workers fault → HasEvalFault bytes Failed circuit garbled workers labels fault
   job-fault c g files read (faults.Circuit fault) has = absurd has
   job-fault c g files read faults.WrongCount has = absurd has
   job-fault c g files read (faults.Value fault) has = absurd has
   job-fault c g files read faults.BadSeed has = absurd has
-  job-fault c g files read faults.BadList has = absurd has
   job-fault c g files read faults.NoSuchValue has = absurd has
   job-fault c g files read (faults.Garbling fault) has = absurd has
   job-fault c g files read (faults.File fault) has = absurd has
+  job-fault c g files read (faults.Binding fault) has = (c, (g, (files, (read, has))))
+  job-fault c g files read (faults.Evaluation fault) has = (c, (g, (files, (read, has))))
+  job-fault c g files read faults.BadList has = absurd has
   job-fault c g files read faults.CannotRead has = absurd has
   job-fault c g files read faults.CannotWrite has = absurd has
   job-fault c g files read faults.Memory has = absurd has

@@ -4,6 +4,7 @@ pub mod AnswerLemmas
 pub mod RunLemmas
 pub mod EvalLemmas
 pub mod FaultLemmas
+pub mod CauseLemmas
 pub mod OwnFilesLemmas
 pub mod PlainLemmas
 pub mod CheckLemmas

@@ -2,7 +2,6 @@
 -- known.
 use Rattle.std.specs.Prelude.{◌≡◌, ◌≢◌, ℕ, ◌⊎◌, Bool, List, [], ◌∷◌, IfSome}
 use Rattle.gc_netlist.specs.Circuit.{Netlist}
-use Rattle.gc_read.specs.declared.fault.FileFault.{FileFault}
 use Rattle.gc_read.specs.declared.fault.FileFault.TheVariants as file
 use Rattle.gc_format.specs.GarbledFile.{GarbledParts, IsGarbledFile}
 use Rattle.gc_format.specs.LabelFile.{LabelFileParts, IsLabelFile}
@@ -22,41 +21,36 @@ AreLabelFiles bytes (name ∷ names) (parts ∷ files) =
     IfSome (bytes name) (λ held. IsLabelFile held parts) × AreLabelFiles bytes names files
 AreLabelFiles bytes _ _ = ⊥
 
--- The first file that is no label file has this fault.
-abbrev pub FirstBadLabels : FileBytes → List (List ℕ) → FileFault → Type 0
-FirstBadLabels bytes [] fault = ⊥
-FirstBadLabels bytes (name ∷ names) fault =
-    IfSome (bytes name) (λ held. FirstLabelFault held fault)
-    ⊎ ((parts : LabelFileParts) × IfSome (bytes name) (λ held. IsLabelFile held parts)
-    × FirstBadLabels bytes names fault)
+-- The faults of reading the garbled file of this name, memory aside. `Failed` says of a name that its file has failed.
+abbrev pub HasGarbledFault : FileBytes → (List ℕ → Type 0) → List ℕ → Fault → Type 0
+HasGarbledFault bytes Failed name (File fault) =
+    fault ≢ file.Memory → IfSome (bytes name) (λ held. FirstFault held fault)
+HasGarbledFault bytes Failed name CannotRead = Failed name
+HasGarbledFault bytes Failed name Memory = Unit {0}
+HasGarbledFault bytes Failed name _ = ⊥
 
--- The garbled file has this fault, or it has none, and the label files have it.
-abbrev pub FirstBadFile : FileBytes → List ℕ → List (List ℕ) → FileFault → Type 0
-FirstBadFile bytes garbled labels fault =
-    IfSome (bytes garbled) (λ held. FirstFault held fault)
-    ⊎ ((g : GarbledParts) × IfSome (bytes garbled) (λ held. IsGarbledFile held g)
-    × FirstBadLabels bytes labels fault)
-
--- The faults of reading a garbled file, a label file, and label files in turn, memory aside.
-abbrev pub HasGarbledFault : FileBytes → List ℕ → Fault → Type 0
-HasGarbledFault bytes garbled (File fault) =
-    fault ≢ file.Memory → IfSome (bytes garbled) (λ held. FirstFault held fault)
-HasGarbledFault bytes garbled CannotRead = Unit {0}
-HasGarbledFault bytes garbled Memory = Unit {0}
-HasGarbledFault bytes garbled _ = ⊥
-
-abbrev pub HasLabelFault : FileBytes → List ℕ → Fault → Type 0
-HasLabelFault bytes name (File fault) =
+-- Those of reading the label file of this name.
+abbrev pub HasLabelFault : FileBytes → (List ℕ → Type 0) → List ℕ → Fault → Type 0
+HasLabelFault bytes Failed name (File fault) =
     fault ≢ file.Memory → IfSome (bytes name) (λ held. FirstLabelFault held fault)
-HasLabelFault bytes name CannotRead = Unit {0}
-HasLabelFault bytes name Memory = Unit {0}
-HasLabelFault bytes name _ = ⊥
+HasLabelFault bytes Failed name CannotRead = Failed name
+HasLabelFault bytes Failed name Memory = Unit {0}
+HasLabelFault bytes Failed name _ = ⊥
 
-abbrev pub HasLabelsFault : FileBytes → List (List ℕ) → Fault → Type 0
-HasLabelsFault bytes labels (File fault) = fault ≢ file.Memory → FirstBadLabels bytes labels fault
-HasLabelsFault bytes labels CannotRead = Unit {0}
-HasLabelsFault bytes labels Memory = Unit {0}
-HasLabelsFault bytes labels _ = ⊥
+-- Those of reading label files in turn: one has the fault, and each file before it is a label file.
+abbrev pub HasLabelsFault : FileBytes → (List ℕ → Type 0) → List (List ℕ) → Fault → Type 0
+HasLabelsFault bytes Failed [] fault = fault ≡ Memory
+HasLabelsFault bytes Failed (name ∷ names) fault =
+    HasLabelFault bytes Failed name fault
+    ⊎ ((parts : LabelFileParts) × IfSome (bytes name) (λ held. IsLabelFile held parts)
+    × HasLabelsFault bytes Failed names fault)
+
+-- Those of reading a garbled file and then label files: it has the fault, or it is a garbled file, and these have it.
+abbrev pub HasFilesFault : FileBytes → (List ℕ → Type 0) → List ℕ → List (List ℕ) → Fault → Type 0
+HasFilesFault bytes Failed garbled labels fault =
+    HasGarbledFault bytes Failed garbled fault
+    ⊎ ((g : GarbledParts) × IfSome (bytes garbled) (λ held. IsGarbledFile held g)
+    × HasLabelsFault bytes Failed labels fault)
 
 -- The files of these names are a circuit, a garbled file and label files.
 pub record AreEvalFiles (bytes : FileBytes) (circuit garbled : List ℕ) (labels : List (List ℕ))
@@ -78,21 +72,26 @@ pub record AnswersEval (bytes : FileBytes) (circuit garbled : List ℕ) (workers
   pub printed : lines ≡ output_lines c.output_widths outputs
 
 -- When `eval` has which fault: it is the first in the order of the work, in which the number of workers comes after
--- binding, but that memory may run out at each step.
-abbrev pub HasEvalFault : FileBytes → List ℕ → List ℕ → ℕ → List (List ℕ) → Fault → Type 0
-HasEvalFault bytes circuit garbled workers labels CannotRead = Unit {0}
-HasEvalFault bytes circuit garbled workers labels (Circuit fault) =
+-- binding, but that memory may run out at each step. A file that can't be read has failed, and each file before it is
+-- what it has to be.
+abbrev pub HasEvalFault : FileBytes → (List ℕ → Type 0) → List ℕ → List ℕ → ℕ → List (List ℕ) → Fault
+    → Type 0
+HasEvalFault bytes Failed circuit garbled workers labels CannotRead =
+    Failed circuit
+    ⊎ ((c : Netlist) × IfSome (bytes circuit) (λ held. IsCircuit held c)
+    × HasFilesFault bytes Failed garbled labels CannotRead)
+HasEvalFault bytes Failed circuit garbled workers labels (Circuit fault) =
     IfSome (bytes circuit) (λ held. HasCircuitFault held (Circuit fault))
-HasEvalFault bytes circuit garbled workers labels (File fault) =
-    ((c : Netlist) × IfSome (bytes circuit) (λ held. IsCircuit held c))
-    × (fault ≢ file.Memory → FirstBadFile bytes garbled labels fault)
-HasEvalFault bytes circuit garbled workers labels (Binding fault) =
+HasEvalFault bytes Failed circuit garbled workers labels (File fault) =
+    (c : Netlist) × IfSome (bytes circuit) (λ held. IsCircuit held c)
+    × HasFilesFault bytes Failed garbled labels (File fault)
+HasEvalFault bytes Failed circuit garbled workers labels (Binding fault) =
     (c : Netlist) × ((g : GarbledParts) × ((files : List LabelFileParts)
     × (AreEvalFiles bytes circuit garbled labels c g files
     × HasJobFault c g files workers (Binding fault))))
-HasEvalFault bytes circuit garbled workers labels (Evaluation fault) =
+HasEvalFault bytes Failed circuit garbled workers labels (Evaluation fault) =
     (c : Netlist) × ((g : GarbledParts) × ((files : List LabelFileParts)
     × (AreEvalFiles bytes circuit garbled labels c g files
     × HasJobFault c g files workers (Evaluation fault))))
-HasEvalFault bytes circuit garbled workers labels Memory = Unit {0}
-HasEvalFault bytes circuit garbled workers labels _ = ⊥
+HasEvalFault bytes Failed circuit garbled workers labels Memory = Unit {0}
+HasEvalFault bytes Failed circuit garbled workers labels _ = ⊥

@@ -1,5 +1,5 @@
 -- The numbers, names and texts of faults.
-use Rattle.std.specs.Prelude.{◌≡◌, ℕ, ◌<◌, List, ◌∷◌, ◌++◌, codes}
+use Rattle.std.specs.Prelude.{◌≡◌, ℕ, List, ◌∷◌, ◌++◌, codes}
 use Rattle.std.specs.Fmt.{decimal}
 use Rattle.gc_netlist.specs.Fault as read
 use Rattle.gc_value.specs.Value as value
@@ -58,8 +58,8 @@ IsFaultOfFile file.CannotRead fault = fault ≡ CannotRead
 IsFaultOfFile file.CannotWrite fault = fault ≡ CannotWrite
 IsFaultOfFile file.Memory fault = fault ≡ Memory
 
--- A fault of a file comes only where the number of failures rose.
-abbrev pub HasCause : Fault → ℕ → ℕ → Type 0
-HasCause CannotRead old new = old < new
-HasCause CannotWrite old new = old < new
-HasCause fault old new = Unit {0}
+-- A fault of a file has its cause: a file that can't be read has failed, or one that can't be written.
+abbrev pub HasCause : Fault → Type 0 → Type 0 → Type 0
+HasCause CannotRead Reading Writing = Reading
+HasCause CannotWrite Reading Writing = Writing
+HasCause fault Reading Writing = Unit {0}

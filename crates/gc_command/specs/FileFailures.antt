@@ -1,13 +1,14 @@
--- How many failures of files a history has.
-use Rattle.std.specs.Prelude.{ℕ, ◌+◌}
+-- Which files have failed in a history.
+use Rattle.std.specs.Prelude.{ℕ, [], ◌∷◌, ◌++◌, replicate}
 use Rattle.gc_command.specs.declared.file_failures.FileHistory.{FileHistory, Start, Failed', Kept', Shut'}
+use Rattle.gc_command.specs.Files.{FailedFiles}
 
--- `of_sink` and `of_source` are those of a sink and of a source.
-abbrev pub number_of_failures : {K S : Type 0} → (K → ℕ) → (S → ℕ) → FileHistory K S → ℕ
-number_of_failures of_sink of_source Start = 0
-number_of_failures of_sink of_source (Failed' shape before) =
-    number_of_failures of_sink of_source before + 1
-number_of_failures of_sink of_source (Kept' shape before sink) =
-    number_of_failures of_sink of_source before + of_sink sink.value
-number_of_failures of_sink of_source (Shut' shape before source) =
-    number_of_failures of_sink of_source before + of_source source.value
+-- `of_sink` and `of_source` are the numbers of failures of a sink and of a source.
+abbrev pub failed_files : {K S : Type 0} → (K → ℕ) → (S → ℕ) → FileHistory K S → FailedFiles
+failed_files of_sink of_source Start = []
+failed_files of_sink of_source (Failed' shape before name) =
+    failed_files of_sink of_source before ++ name.value ∷ []
+failed_files of_sink of_source (Kept' shape before name sink) =
+    failed_files of_sink of_source before ++ replicate (of_sink sink.value) name.value
+failed_files of_sink of_source (Shut' shape before name source) =
+    failed_files of_sink of_source before ++ replicate (of_source source.value) name.value

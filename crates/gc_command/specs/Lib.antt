@@ -1,3 +1,4 @@
+pub mod SeenName
 pub mod Files
 pub mod FileFailures
 pub mod Fault

@@ -10,6 +10,7 @@ ghost use Rattle.gc_netlist.specs.Text.{tokens};
 ghost use Rattle.gc_circuit.specs.Digest.{AreCommonLines, IsBegun};
 ghost use Rattle.gc_command.specs.CircuitFile.{IsCircuit, IsCircuitFault, HasCircuitFault};
 ghost use Rattle.gc_command.specs.Fault.{HasCause};
+ghost use Rattle.gc_command.specs.Files.{HasFailed};
 
 use crate::fault::Fault;
 use crate::files::Files;
@@ -31,8 +32,8 @@ pub fn read_circuit<A: Allocator + Copy, F: Files>(
     ensures fault { IfErr result (λ fault. IfSome (F.bytes files.old name.now)
         (λ bytes. HasCircuitFault bytes fault)) }
     ensures kind { IfErr result IsCircuitFault }
-    ensures cause { IfErr result
-        (λ fault. HasCause fault (F.failures files.old) (F.failures files.new)) }
+    ensures cause { IfErr result (λ fault. HasCause fault
+        (HasFailed (F.failures files.old) (F.failures files.new) name.now) ⊥) }
     ensures counted { OnOk result (F.failures files.new ≡ F.failures files.old) }
     ensures same { (n : List ℕ) → F.bytes files.new n ≡ F.bytes files.old n }
 {
@@ -76,8 +77,8 @@ pub fn read_circuit_and_digest<R: Threads, A: Allocator + Copy + Send + Sync, F:
     ensures fault { IfErr result (λ fault. IfSome (F.bytes files.old name.now)
         (λ bytes. HasCircuitFault bytes fault)) }
     ensures kind { IfErr result IsCircuitFault }
-    ensures cause { IfErr result
-        (λ fault. HasCause fault (F.failures files.old) (F.failures files.new)) }
+    ensures cause { IfErr result (λ fault. HasCause fault
+        (HasFailed (F.failures files.old) (F.failures files.new) name.now) ⊥) }
     ensures counted { OnOk result (F.failures files.new ≡ F.failures files.old) }
     ensures same { (n : List ℕ) → F.bytes files.new n ≡ F.bytes files.old n }
 {
@@ -101,8 +102,8 @@ pub fn read_circuit_and_begin_digest<R: Threads, A: Allocator + Copy + Send + Sy
     ensures fault { IfErr result (λ fault. IfSome (F.bytes files.old name.now)
         (λ bytes. HasCircuitFault bytes fault)) }
     ensures kind { IfErr result IsCircuitFault }
-    ensures cause { IfErr result
-        (λ fault. HasCause fault (F.failures files.old) (F.failures files.new)) }
+    ensures cause { IfErr result (λ fault. HasCause fault
+        (HasFailed (F.failures files.old) (F.failures files.new) name.now) ⊥) }
     ensures counted { OnOk result (F.failures files.new ≡ F.failures files.old) }
     ensures same { (n : List ℕ) → F.bytes files.new n ≡ F.bytes files.old n }
 {
@@ -124,8 +125,8 @@ fn read_and_hash<R: Threads, A: Allocator + Copy + Send + Sync, F: Files>(
     ensures fault { IfErr result (λ fault. IfSome (F.bytes files.old name.now)
         (λ bytes. HasCircuitFault bytes fault)) }
     ensures kind { IfErr result IsCircuitFault }
-    ensures cause { IfErr result
-        (λ fault. HasCause fault (F.failures files.old) (F.failures files.new)) }
+    ensures cause { IfErr result (λ fault. HasCause fault
+        (HasFailed (F.failures files.old) (F.failures files.new) name.now) ⊥) }
     ensures counted { OnOk result (F.failures files.new ≡ F.failures files.old) }
     ensures same { (n : List ℕ) → F.bytes files.new n ≡ F.bytes files.old n }
 {

@@ -5,6 +5,7 @@ ghost use Rattle.gc_format.specs.LabelFile.{label_file, label_parts_of};
 ghost use Rattle.gc_command.specs.Deal.{AnswersDeal, HasDealFault};
 ghost use Rattle.gc_command.specs.Wrote.{HasWritten, IsUnwritten};
 ghost use Rattle.gc_command.specs.Fault.{HasCause};
+ghost use Rattle.gc_command.specs.Files.{HasFailed};
 
 use crate::circuit_file::read_circuit;
 use crate::fault::Fault;
@@ -32,8 +33,9 @@ pub fn deal<A: Allocator + Copy, F: Files>(
         lines.items)) }
     ensures fault { IfErr result (λ fault. IfSome (F.bytes files.old circuit.now)
         (λ bytes. HasDealFault bytes seed.now index value.now fault)) }
-    ensures cause { IfErr result
-        (λ fault. HasCause fault (F.failures files.old) (F.failures files.new)) }
+    ensures cause { IfErr result (λ fault. HasCause fault
+        (HasFailed (F.failures files.old) (F.failures files.new) circuit.now)
+        (HasFailed (F.failures files.old) (F.failures files.new) out.now)) }
     ensures others { (n : List ℕ) → n ≢ out.now → F.bytes files.new n ≡ F.bytes files.old n }
     ensures unwritten { IfErr result (λ fault. fault ≢ Fault.CannotWrite
         → (n : List ℕ) → F.bytes files.new n ≡ F.bytes files.old n) }
@@ -60,8 +62,8 @@ fn write_value<A: Allocator + Copy, F: Files>(
         (λ _. HasWritten (label_file (label_parts_of circuit.now seed.now index bits.now))
         (F.bytes files.new out.now) lines.items)) }
     ensures fault { IfErr result IsUnwritten }
-    ensures cause { IfErr result
-        (λ fault. HasCause fault (F.failures files.old) (F.failures files.new)) }
+    ensures cause { IfErr result (λ fault. HasCause fault ⊥
+        (HasFailed (F.failures files.old) (F.failures files.new) out.now)) }
     ensures others { (n : List ℕ) → n ≢ out.now → F.bytes files.new n ≡ F.bytes files.old n }
     ensures unwritten { IfErr result (λ fault. fault ≢ Fault.CannotWrite
         → (n : List ℕ) → F.bytes files.new n ≡ F.bytes files.old n) }

@@ -2,7 +2,7 @@
 
 ghost use Rattle.std.specs.Prelude.{◌≡◌, ℕ, List, map, IfOk, IfErr, string_bytes};
 ghost use Rattle.gc_command.specs.Eval.{AnswersEval, HasEvalFault};
-ghost use Rattle.gc_command.specs.Fault.{HasCause};
+ghost use Rattle.gc_command.specs.Files.{HasFailed};
 
 use crate::circuit_file::read_circuit_and_digest;
 use crate::evaluated_files::{read_garbled_file, read_label_files};
@@ -30,10 +30,9 @@ pub fn eval<R: Threads + Wait + Sync, A: Allocator + Copy + Send + Sync, F: File
     ensures answers { IfOk result
         (λ lines. AnswersEval (F.bytes files.old) circuit.now garbled.now workers
         (map string_bytes labels.now) lines.items) }
-    ensures fault { IfErr result (HasEvalFault (F.bytes files.old) circuit.now garbled.now workers
+    ensures fault { IfErr result (HasEvalFault (F.bytes files.old)
+        (HasFailed (F.failures files.old) (F.failures files.new)) circuit.now garbled.now workers
         (map string_bytes labels.now)) }
-    ensures cause { IfErr result
-        (λ fault. HasCause fault (F.failures files.old) (F.failures files.new)) }
     ensures same { (name : List ℕ) → F.bytes files.new name ≡ F.bytes files.old name }
 {
     progress.begin(1, 3, Work::ReadingCircuit);

@@ -4,7 +4,7 @@ ghost use Rattle.std.specs.Prelude.{◌≡◌, ℕ, List, map, IfOk, IfErr, IfSo
 ghost use Rattle.gc_format.specs.GarbledFile.{IsGarbledFile};
 ghost use Rattle.gc_format.specs.LabelFile.{IsLabelFile};
 ghost use Rattle.gc_command.specs.Eval.{HasGarbledFault, HasLabelFault, HasLabelsFault, AreLabelFiles};
-ghost use Rattle.gc_command.specs.Fault.{HasCause};
+ghost use Rattle.gc_command.specs.Files.{HasFailed};
 
 use crate::fault::Fault;
 use crate::files::Files;
@@ -20,15 +20,14 @@ pub fn read_garbled_file<A: Allocator + Copy, F: Files>(
 ) -> Result<Garbled<A>, Fault>
     ensures garbled { IfOk result
         (λ g. IfSome (F.bytes files.old name.now) (λ held. IsGarbledFile held g)) }
-    ensures fault { IfErr result (HasGarbledFault (F.bytes files.old) name.now) }
-    ensures cause { IfErr result
-        (λ fault. HasCause fault (F.failures files.old) (F.failures files.new)) }
+    ensures fault { IfErr result (HasGarbledFault (F.bytes files.old)
+        (HasFailed (F.failures files.old) (F.failures files.new)) name.now) }
     ensures counted { OnOk result (F.failures files.new ≡ F.failures files.old) }
     ensures same { (n : List ℕ) → F.bytes files.new n ≡ F.bytes files.old n }
 {
     let mut source = files.open(name)?;
     let taken = read_garbled_from(alloc, &mut source);
-    files.shut(source);
+    files.shut(name, source);
     Ok(taken?)
 }
 
@@ -40,9 +39,8 @@ pub fn read_label_files<N: AsStr, A: Allocator + Copy, F: Files>(
 ) -> Result<Vec<LabelFile<A>, A>, Fault>
     ensures labels { IfOk result (λ labels.
         AreLabelFiles (F.bytes files.old) (map N.text names.now) labels.items) }
-    ensures fault { IfErr result (HasLabelsFault (F.bytes files.old) (map N.text names.now)) }
-    ensures cause { IfErr result
-        (λ fault. HasCause fault (F.failures files.old) (F.failures files.new)) }
+    ensures fault { IfErr result (HasLabelsFault (F.bytes files.old)
+        (HasFailed (F.failures files.old) (F.failures files.new)) (map N.text names.now)) }
     ensures counted { OnOk result (F.failures files.new ≡ F.failures files.old) }
     ensures same { (n : List ℕ) → F.bytes files.new n ≡ F.bytes files.old n }
 {
@@ -61,9 +59,8 @@ fn read_label_file<A: Allocator + Copy, F: Files>(
 ) -> Result<LabelFile<A>, Fault>
     ensures parts { IfOk result
         (λ parts. IfSome (F.bytes files.old name.now) (λ held. IsLabelFile held parts)) }
-    ensures fault { IfErr result (HasLabelFault (F.bytes files.old) name.now) }
-    ensures cause { IfErr result
-        (λ fault. HasCause fault (F.failures files.old) (F.failures files.new)) }
+    ensures fault { IfErr result (HasLabelFault (F.bytes files.old)
+        (HasFailed (F.failures files.old) (F.failures files.new)) name.now) }
     ensures counted { OnOk result (F.failures files.new ≡ F.failures files.old) }
     ensures same { (n : List ℕ) → F.bytes files.new n ≡ F.bytes files.old n }
 {

@@ -1,65 +1,72 @@
-//! A count of the failures of files, which contracts alone read.
+//! Which files have failed, which contracts alone read.
 
-ghost use Rattle.std.specs.Prelude.{◌≡◌, ◌+◌};
+ghost use Rattle.std.specs.Prelude.{◌≡◌, ◌++◌, ◌∷◌, [], replicate};
 
+use crate::seen_name::SeenName;
 use gc_file::{Sink, Source};
 use std::marker::Model;
 use std::snapshot::Snapshot;
 
-/// How often files have failed, as contracts see it: a number, which the failures of kept sinks and of shut sources
-/// raise too. No code holds it and it has no last value. It takes no memory.
+/// Which files have failed, as contracts see it: for each call that failed the name of its file, in order. A sink that
+/// was kept and a source that was shut add as many as they have counted. No code holds it, and it takes no memory.
 #[derive(Drop)]
 pub struct FileFailures<K: Sink, S: Source> {
     history: FileHistory<K, S>,
 }
 
-/// No failure yet; or what was before, with a call that failed, with a sink that was kept, or with a source that was
-/// shut. Snapshots have no bytes.
+/// No failure yet; or what was before, with the name of a file, of which a call failed, a sink was kept, or a source
+/// was shut. Snapshots have no bytes.
 #[derive(Drop)]
 enum FileHistory<K, S> {
     Start,
-    Failed(Snapshot<FileHistory<K, S>>),
-    Kept(Snapshot<FileHistory<K, S>>, Snapshot<K>),
-    Shut(Snapshot<FileHistory<K, S>>, Snapshot<S>),
+    Failed(Snapshot<FileHistory<K, S>>, Snapshot<SeenName>),
+    Kept(Snapshot<FileHistory<K, S>>, Snapshot<SeenName>, Snapshot<K>),
+    Shut(Snapshot<FileHistory<K, S>>, Snapshot<SeenName>, Snapshot<S>),
 }
 
 impl<K: Sink, S: Source> Model for FileFailures<K, S> {
-    ghost use Rattle.std.specs.Prelude.{ℕ};
-    ghost use Rattle.gc_command.specs.FileFailures.{number_of_failures};
+    ghost use Rattle.std.specs.Prelude.{ℕ, List};
+    ghost use Rattle.gc_command.specs.FileFailures.{failed_files};
 
-    ghost Value = { ℕ };
+    ghost Value = { List (List ℕ) };
 
-    ghost view = { λ c. number_of_failures K.failures S.failures c.history };
+    ghost view = { λ f. failed_files K.failures S.failures f.history };
 }
 
 impl<K: Sink, S: Source> FileFailures<K, S> {
     /// No failure yet.
     pub fn new() -> FileFailures<K, S>
-        ensures { result ≡ 0 }
+        ensures { result ≡ [] }
     {
         FileFailures {
             history: FileHistory::Start,
         }
     }
 
-    /// Counts a call that failed.
-    pub fn add_one(&mut self)
-        ensures { self.new ≡ self.old + 1 }
+    /// Adds a call on the file of this name that failed.
+    pub fn add_one(&mut self, name: &str)
+        ensures { self.new ≡ self.old ++ name.now ∷ [] }
     {
-        self.history = FileHistory::Failed(Snapshot::of(&self.history));
+        let before = Snapshot::of(&self.history);
+        let name = SeenName::of(name);
+        self.history = FileHistory::Failed(before, Snapshot::of(&name));
     }
 
-    /// Counts the failures of a sink.
-    pub fn add_sink(&mut self, sink: &K)
-        ensures { self.new ≡ self.old + K.failures sink.now }
+    /// Adds the failures of a sink of the file of this name.
+    pub fn add_sink(&mut self, name: &str, sink: &K)
+        ensures { self.new ≡ self.old ++ replicate (K.failures sink.now) name.now }
     {
-        self.history = FileHistory::Kept(Snapshot::of(&self.history), Snapshot::of(sink));
+        let before = Snapshot::of(&self.history);
+        let name = SeenName::of(name);
+        self.history = FileHistory::Kept(before, Snapshot::of(&name), Snapshot::of(sink));
     }
 
-    /// Counts the failures of a source.
-    pub fn add_source(&mut self, source: &S)
-        ensures { self.new ≡ self.old + S.failures source.now }
+    /// Adds the failures of a source of the file of this name.
+    pub fn add_source(&mut self, name: &str, source: &S)
+        ensures { self.new ≡ self.old ++ replicate (S.failures source.now) name.now }
     {
-        self.history = FileHistory::Shut(Snapshot::of(&self.history), Snapshot::of(source));
+        let before = Snapshot::of(&self.history);
+        let name = SeenName::of(name);
+        self.history = FileHistory::Shut(before, Snapshot::of(&name), Snapshot::of(source));
     }
 }

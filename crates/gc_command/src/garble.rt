@@ -11,6 +11,7 @@ ghost use Rattle.gc_write.specs.Written.{IsWritten};
 ghost use Rattle.gc_command.specs.Garble.{AnswersGarble, HasGarbleFault};
 ghost use Rattle.gc_command.specs.Wrote.{HasWritten, IsUnwritten};
 ghost use Rattle.gc_command.specs.Fault.{HasCause};
+ghost use Rattle.gc_command.specs.Files.{HasFailed};
 
 use crate::circuit_file::read_circuit_and_begin_digest;
 use crate::fault::Fault;
@@ -44,8 +45,9 @@ pub fn garble<R: Threads + Wait + Sync, A: Allocator + Copy + Send + Sync, F: Fi
         lines.items)) }
     ensures fault { IfErr result (λ fault. IfSome (F.bytes files.old circuit.now)
         (λ bytes. HasGarbleFault bytes seed.now workers fault)) }
-    ensures cause { IfErr result
-        (λ fault. HasCause fault (F.failures files.old) (F.failures files.new)) }
+    ensures cause { IfErr result (λ fault. HasCause fault
+        (HasFailed (F.failures files.old) (F.failures files.new) circuit.now)
+        (HasFailed (F.failures files.old) (F.failures files.new) out.now)) }
     ensures others { (n : List ℕ) → n ≢ out.now → F.bytes files.new n ≡ F.bytes files.old n }
     ensures unwritten { IfErr result (λ fault. fault ≢ Fault.CannotWrite
         → (n : List ℕ) → F.bytes files.new n ≡ F.bytes files.old n) }
@@ -80,8 +82,8 @@ fn write_garbling<A: Allocator + Copy, F: Files>(
         (λ _. HasWritten (garbled_file (honest_parts version circuit.now garbling.now seed.now))
         (F.bytes files.new out.now) lines.items)) }
     ensures fault { IfErr result IsUnwritten }
-    ensures cause { IfErr result
-        (λ fault. HasCause fault (F.failures files.old) (F.failures files.new)) }
+    ensures cause { IfErr result (λ fault. HasCause fault ⊥
+        (HasFailed (F.failures files.old) (F.failures files.new) out.now)) }
     ensures others { (n : List ℕ) → n ≢ out.now → F.bytes files.new n ≡ F.bytes files.old n }
     ensures unwritten { IfErr result (λ fault. fault ≢ Fault.CannotWrite
         → (n : List ℕ) → F.bytes files.new n ≡ F.bytes files.old n) }

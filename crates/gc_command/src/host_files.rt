@@ -1,6 +1,6 @@
 //! The files of the system that the program runs on.
 
-ghost use Rattle.std.specs.Prelude.{◌≡◌, ◌≢◌, ◌↔◌, None, IfOk, IfErr, IfSome, OnOk};
+ghost use Rattle.std.specs.Prelude.{◌≡◌, ◌≢◌, ◌↔◌, [], None, IfOk, IfErr, IfSome, OnOk};
 ghost use Rattle.std.specs.Io.KnownBytes.{IsAtEnd};
 ghost use Rattle.std.specs.IoError.{error_kind};
 
@@ -35,9 +35,9 @@ pub struct HostFiles<'r, R: rt::Files> {
 }
 
 impl<'r, R: rt::Files> HostFiles<'r, R> {
-    /// The files of this runtime. No failure is counted yet.
+    /// The files of this runtime. None has failed yet.
     pub fn new(rt: &'r R) -> HostFiles<'r, R>
-        ensures { result.failures ≡ 0 }
+        ensures { result.failures ≡ [] }
     {
         HostFiles {
             rt,
@@ -58,7 +58,7 @@ impl<'r, R: rt::Files> Files for HostFiles<'r, R> {
     fn read<A: Allocator + Copy>(&mut self, alloc: A, name: &str) -> Result<Vec<u8, A>, FileError> {
         let outcome = read_file(self.rt, alloc, name);
         if let Err(FileError::CannotRead) = outcome {
-            self.failures.add_one();
+            self.failures.add_one(name);
         }
         outcome
     }
@@ -69,18 +69,18 @@ impl<'r, R: rt::Files> Files for HostFiles<'r, R> {
                 sink: OutSink::new(file),
             }),
             Err(_) => {
-                self.failures.add_one();
+                self.failures.add_one(name);
                 Err(FileError::CannotWrite)
             }
         }
     }
 
-    fn keep(&mut self, _name: &str, sink: HostSink<R::File>) -> Result<(), FileError> {
-        self.failures.add_sink(&sink);
+    fn keep(&mut self, name: &str, sink: HostSink<R::File>) -> Result<(), FileError> {
+        self.failures.add_sink(name, &sink);
         match sink.sink.into_inner().flush() {
             Ok(()) => Ok(()),
             Err(_) => {
-                self.failures.add_one();
+                self.failures.add_one(name);
                 Err(FileError::CannotWrite)
             }
         }
@@ -92,15 +92,15 @@ impl<'r, R: rt::Files> Files for HostFiles<'r, R> {
             Err(error) => {
                 let cause = cause_of(&error);
                 if let FileError::CannotRead = cause {
-                    self.failures.add_one();
+                    self.failures.add_one(name);
                 }
                 Err(cause)
             }
         }
     }
 
-    fn shut(&mut self, source: InSource<R::File>) {
-        self.failures.add_source(&source);
+    fn shut(&mut self, name: &str, source: InSource<R::File>) {
+        self.failures.add_source(name, &source);
     }
 }
 

@@ -19,6 +19,7 @@ mod own_files;
 pub mod plain;
 mod progress;
 pub mod run;
+mod seen_name;
 mod values;
 mod wrote;
 

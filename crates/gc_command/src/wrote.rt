@@ -4,6 +4,7 @@ ghost use Rattle.std.specs.Prelude.{◌≡◌, ◌<◌, ◌≤◌, ◌+◌, ◌�
 ghost use Rattle.gc_write.specs.Written.{IsWritten};
 ghost use Rattle.gc_command.specs.Wrote.{HasWritten, IsUnwritten, wrote_line};
 ghost use Rattle.gc_command.specs.Fault.{HasCause};
+ghost use Rattle.gc_command.specs.Files.{HasFailed};
 
 use crate::fault::Fault;
 use crate::files::{FileError, Files};
@@ -20,8 +21,8 @@ pub fn create_file<F: Files>(files: &mut F, name: &str) -> Result<F::Sink, Fault
         (λ _. F.Sink.taken sink ≡ Some [])) }
     ensures counted { OnOk result (F.failures files.new ≡ F.failures files.old) }
     ensures fault { IfErr result IsUnwritten }
-    ensures cause { IfErr result
-        (λ fault. HasCause fault (F.failures files.old) (F.failures files.new)) }
+    ensures cause { IfErr result (λ fault. HasCause fault ⊥
+        (HasFailed (F.failures files.old) (F.failures files.new) name.now)) }
     ensures others { (n : List ℕ) → n ≢ name.now → F.bytes files.new n ≡ F.bytes files.old n }
     ensures unwritten { IfErr result (λ fault. fault ≢ Fault.CannotWrite
         → (n : List ℕ) → F.bytes files.new n ≡ F.bytes files.old n) }
@@ -49,7 +50,8 @@ pub fn keep_written<A: Allocator, F: Files>(
         → IsWritten file written (Some []) (F.Sink.taken sink)
         → HasWritten file (F.bytes files.new name.now) line.items) }
     ensures fault { IfErr result (λ fault. fault ≡ Fault.CannotWrite) }
-    ensures cause { OnErr result (F.failures files.old < F.failures files.new) }
+    ensures cause { OnErr result
+        (HasFailed (F.failures files.old) (F.failures files.new) name.now) }
     ensures others { (n : List ℕ) → n ≢ name.now → F.bytes files.new n ≡ F.bytes files.old n }
 {
     files.keep(name, sink)?;

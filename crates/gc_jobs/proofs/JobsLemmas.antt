@@ -2,21 +2,20 @@
 use Rattle.std.proofs.Common.{◌≡◌, ℕ, ◌+◌, ◌<◌, map, drop, drop-cons, get_or, Bool, List, [], ◌∷◌, IfSome, sum, inl, inr, length, slice_get, Some, sym, ap, ◌∙◌, zero, suc, refl, subst, arith}
 use Rattle.std.proofs.lemmas.Option.{slice_get_within}
 use Rattle.gc_netlist.specs.Circuit.{Netlist, IsLawful}
-use Rattle.gc_read.specs.declared.fault.FileFault.{FileFault}
 use Rattle.gc_format.specs.GarbledFile.{GarbledParts, IsGarbledFile}
 use Rattle.gc_format.specs.LabelFile.{LabelFileParts}
-use Rattle.gc_read.specs.FileFault.{FirstFault}
 use Rattle.gc_job.specs.Job.{JobParts}
 use Rattle.gc_bank.specs.Jobs.{AreEvaluated, AreOnOneCircuit}
 use Rattle.gc_command.specs.declared.fault.Fault.{Fault}
 use Rattle.gc_command.specs.declared.fault.Fault.TheVariants as faults
+use Rattle.gc_command.specs.Fault.{HasCause}
 use Rattle.gc_command.specs.Files.{FileBytes, GivesFile}
 use Rattle.gc_command.specs.CircuitFile.{IsCircuit, IsCircuitFault, HasCircuitFault}
 use Rattle.gc_command.specs.Eval.{AreLabelFiles, HasLabelsFault}
 use Rattle.gc_jobs.specs.JobList.{IsJobList, listed}
 use Rattle.gc_jobs.specs.Jobs.{NameFiles, NameJob, FirstBadNamed, HasNamedFault, NameJobs, FirstBadJob, HasLinesFault, HasListFault, HasBadJob, AreListed, HasJobsFault}
 use Rattle.gc_command.proofs.AnswerLemmas.{length-decoded}
-use Rattle.gc_command.proofs.EvalLemmas.{held-before, labels-before, bad-before}
+use Rattle.gc_command.proofs.EvalLemmas.{held-before, labels-before, files-fault-before, labels-kind}
 
 -- What files name they named before, where no file has changed.
 module _ (old new : FileBytes) (same : (n : List ℕ) → new n ≡ old n) where
@@ -51,34 +50,6 @@ module _ (old new : FileBytes) (same : (n : List ℕ) → new n ≡ old n) where
     bound = is.bound;
   }
 
-  first-before : (words : List (List ℕ)) (fault : FileFault) → FirstBadNamed new words fault → FirstBadNamed old words fault
-  first-before [] fault bad = bad
-  first-before (garbled ∷ labels) fault (inl here) =
-      inl (held-before old new same (λ held. FirstFault held fault) garbled here)
-  first-before (garbled ∷ labels) fault (inr later) =
-      inr (
-        later.0,
-        held-before old new same (λ held. IsGarbledFile held later.0) garbled later.1,
-        bad-before old new same labels fault later.2,
-      )
-
-  pub named-before : (c : Netlist) (words : List (List ℕ)) (fault : Fault) → HasNamedFault new c words fault
-      → HasNamedFault old c words fault
-  named-before c words (faults.File fault) has = λ other. first-before words fault (has other)
-  named-before c words (faults.Binding fault) has =
-      (has.0, (has.1.0, (files-before words has.0 has.1.0 has.1.1.0, has.1.1.1)))
-  named-before c words faults.CannotRead has = tt
-  named-before c words faults.Memory has = tt
-  named-before c words (faults.Circuit fault) has = absurd has
-  named-before c words faults.WrongCount has = absurd has
-  named-before c words (faults.Value fault) has = absurd has
-  named-before c words faults.BadSeed has = absurd has
-  named-before c words faults.BadList has = absurd has
-  named-before c words faults.NoSuchValue has = absurd has
-  named-before c words (faults.Garbling fault) has = absurd has
-  named-before c words (faults.Evaluation fault) has = absurd has
-  named-before c words faults.CannotWrite has = absurd has
-
   pub jobs-before : (c : Netlist) (lines : List (List (List ℕ))) (jobs : List JobParts) → NameJobs new c lines jobs
       → NameJobs old c lines jobs
   jobs-before c [] [] named = tt
@@ -86,32 +57,6 @@ module _ (old new : FileBytes) (same : (n : List ℕ) → new n ≡ old n) where
   jobs-before c (words ∷ lines) [] named = absurd named
   jobs-before c (words ∷ lines) (job ∷ jobs) named =
       (job-before c words job named.0, jobs-before c lines jobs named.1)
-
-  first-job-before : (c : Netlist) (lines : List (List (List ℕ))) (fault : Fault) → FirstBadJob new c lines fault
-      → FirstBadJob old c lines fault
-  first-job-before c [] fault bad = bad
-  first-job-before c (words ∷ lines) fault (inl here) = inl (named-before c words fault here)
-  first-job-before c (words ∷ lines) fault (inr later) =
-      inr (later.0, job-before c words later.0 later.1, first-job-before c lines fault later.2)
-
-  -- The fault of the lines of a list is the list's.
-  pub list-fault : (list text : List ℕ) (c : Netlist) → GivesFile (old list) text → IsJobList text → (fault : Fault)
-      → HasLinesFault new c (listed text) fault → HasListFault old list c fault
-  list-fault list text c read is (faults.File fault) has =
-      record { text = text; text_read = read; is_list = is; first = first-job-before c (listed text) (faults.File fault) has }
-  list-fault list text c read is (faults.Binding fault) has =
-      record { text = text; text_read = read; is_list = is; first = first-job-before c (listed text) (faults.Binding fault) has }
-  list-fault list text c read is faults.CannotRead has = tt
-  list-fault list text c read is faults.Memory has = tt
-  list-fault list text c read is (faults.Circuit fault) has = absurd has
-  list-fault list text c read is faults.WrongCount has = absurd has
-  list-fault list text c read is (faults.Value fault) has = absurd has
-  list-fault list text c read is faults.BadSeed has = absurd has
-  list-fault list text c read is faults.BadList has = absurd has
-  list-fault list text c read is faults.NoSuchValue has = absurd has
-  list-fault list text c read is (faults.Garbling fault) has = absurd has
-  list-fault list text c read is (faults.Evaluation fault) has = absurd has
-  list-fault list text c read is faults.CannotWrite has = absurd has
 
   pub listed-before : (list : List ℕ) (c : Netlist) (jobs : List JobParts) → AreListed new list c jobs
       → AreListed old list c jobs
@@ -122,70 +67,126 @@ module _ (old new : FileBytes) (same : (n : List ℕ) → new n ≡ old n) where
     named = jobs-before c (listed are.text) jobs are.named;
   }
 
-  bad-job-before : (list : List ℕ) (c : Netlist) (fault : Fault) → HasBadJob new list c fault → HasBadJob old list c fault
-  bad-job-before list c fault has = record {
-    text = has.text;
-    text_read = subst (λ held. GivesFile held has.text) (same list) has.text_read;
-    is_list = has.is_list;
-    first = first-job-before c (listed has.text) fault has.first;
-  }
+  -- Where a file fails it has failed since before, and the faults of files are those that they had before.
+  module _ (Fails Failed : List ℕ → Type 0) (since : (n : List ℕ) → Fails n → Failed n) where
+    first-before : (words : List (List ℕ)) (fault : Fault) → FirstBadNamed new Fails words fault
+        → FirstBadNamed old Failed words fault
+    first-before [] fault bad = bad
+    first-before (garbled ∷ labels) fault bad =
+        files-fault-before old new same Fails Failed since garbled labels fault bad
 
-  -- The fault of a list and its jobs is that of the command.
-  pub jobs-list-fault : (circuit list : List ℕ) (workers : ℕ) (c : Netlist)
-      → IfSome (old circuit) (λ held. IsCircuit held c) → (fault : Fault) → HasListFault new list c fault
-      → HasJobsFault old circuit list workers fault
-  jobs-list-fault circuit list workers c read (faults.File fault) has =
-      (c, read, bad-job-before list c (faults.File fault) has)
-  jobs-list-fault circuit list workers c read (faults.Binding fault) has =
-      (c, read, bad-job-before list c (faults.Binding fault) has)
-  jobs-list-fault circuit list workers c read faults.BadList has =
-      (c, read, held-before old new same (λ text. IsJobList text → ⊥) list has)
-  jobs-list-fault circuit list workers c read faults.CannotRead has = tt
-  jobs-list-fault circuit list workers c read faults.Memory has = tt
-  jobs-list-fault circuit list workers c read (faults.Circuit fault) has = absurd has
-  jobs-list-fault circuit list workers c read faults.WrongCount has = absurd has
-  jobs-list-fault circuit list workers c read (faults.Value fault) has = absurd has
-  jobs-list-fault circuit list workers c read faults.BadSeed has = absurd has
-  jobs-list-fault circuit list workers c read faults.NoSuchValue has = absurd has
-  jobs-list-fault circuit list workers c read (faults.Garbling fault) has = absurd has
-  jobs-list-fault circuit list workers c read (faults.Evaluation fault) has = absurd has
-  jobs-list-fault circuit list workers c read faults.CannotWrite has = absurd has
+    pub named-before : (c : Netlist) (words : List (List ℕ)) (fault : Fault) → HasNamedFault new Fails c words fault
+        → HasNamedFault old Failed c words fault
+    named-before c words (faults.File fault) has = first-before words (faults.File fault) has
+    named-before c words (faults.Binding fault) has =
+        (has.0, (has.1.0, (files-before words has.0 has.1.0 has.1.1.0, has.1.1.1)))
+    named-before c words faults.CannotRead has = first-before words faults.CannotRead has
+    named-before c words faults.Memory has = tt
+    named-before c words (faults.Circuit fault) has = absurd has
+    named-before c words faults.WrongCount has = absurd has
+    named-before c words (faults.Value fault) has = absurd has
+    named-before c words faults.BadSeed has = absurd has
+    named-before c words faults.BadList has = absurd has
+    named-before c words faults.NoSuchValue has = absurd has
+    named-before c words (faults.Garbling fault) has = absurd has
+    named-before c words (faults.Evaluation fault) has = absurd has
+    named-before c words faults.CannotWrite has = absurd has
+
+    first-job-before : (c : Netlist) (lines : List (List (List ℕ))) (fault : Fault) → FirstBadJob new Fails c lines fault
+        → FirstBadJob old Failed c lines fault
+    first-job-before c [] fault bad = bad
+    first-job-before c (words ∷ lines) fault (inl here) = inl (named-before c words fault here)
+    first-job-before c (words ∷ lines) fault (inr later) =
+        inr (later.0, job-before c words later.0 later.1, first-job-before c lines fault later.2)
+
+    -- The fault of the lines of a list is the list's.
+    pub list-fault : (list text : List ℕ) (c : Netlist) → GivesFile (old list) text → IsJobList text → (fault : Fault)
+        → HasLinesFault new Fails c (listed text) fault → HasListFault old Failed list c fault
+    list-fault list text c read is (faults.File fault) has =
+        record { text = text; text_read = read; is_list = is; first = first-job-before c (listed text) (faults.File fault) has }
+    list-fault list text c read is (faults.Binding fault) has =
+        record { text = text; text_read = read; is_list = is; first = first-job-before c (listed text) (faults.Binding fault) has }
+    list-fault list text c read is faults.CannotRead has =
+        inr record { text = text; text_read = read; is_list = is; first = first-job-before c (listed text) faults.CannotRead has }
+    list-fault list text c read is faults.Memory has = tt
+    list-fault list text c read is (faults.Circuit fault) has = absurd has
+    list-fault list text c read is faults.WrongCount has = absurd has
+    list-fault list text c read is (faults.Value fault) has = absurd has
+    list-fault list text c read is faults.BadSeed has = absurd has
+    list-fault list text c read is faults.BadList has = absurd has
+    list-fault list text c read is faults.NoSuchValue has = absurd has
+    list-fault list text c read is (faults.Garbling fault) has = absurd has
+    list-fault list text c read is (faults.Evaluation fault) has = absurd has
+    list-fault list text c read is faults.CannotWrite has = absurd has
+
+    bad-job-before : (list : List ℕ) (c : Netlist) (fault : Fault) → HasBadJob new Fails list c fault → HasBadJob old Failed list c fault
+    bad-job-before list c fault has = record {
+      text = has.text;
+      text_read = subst (λ held. GivesFile held has.text) (same list) has.text_read;
+      is_list = has.is_list;
+      first = first-job-before c (listed has.text) fault has.first;
+    }
+
+    -- The fault of a list and its jobs is that of the command.
+    pub jobs-list-fault : (circuit list : List ℕ) (workers : ℕ) (c : Netlist)
+        → IfSome (old circuit) (λ held. IsCircuit held c) → (fault : Fault) → HasListFault new Fails list c fault
+        → HasJobsFault old Failed circuit list workers fault
+    jobs-list-fault circuit list workers c read (faults.File fault) has =
+        (c, read, bad-job-before list c (faults.File fault) has)
+    jobs-list-fault circuit list workers c read (faults.Binding fault) has =
+        (c, read, bad-job-before list c (faults.Binding fault) has)
+    jobs-list-fault circuit list workers c read faults.BadList has =
+        (c, read, held-before old new same (λ text. IsJobList text → ⊥) list has)
+    jobs-list-fault circuit list workers c read faults.CannotRead (inl here) = inr (c, read, inl (since list here))
+    jobs-list-fault circuit list workers c read faults.CannotRead (inr later) =
+        inr (c, read, inr (bad-job-before list c faults.CannotRead later))
+    jobs-list-fault circuit list workers c read faults.Memory has = tt
+    jobs-list-fault circuit list workers c read (faults.Circuit fault) has = absurd has
+    jobs-list-fault circuit list workers c read faults.WrongCount has = absurd has
+    jobs-list-fault circuit list workers c read (faults.Value fault) has = absurd has
+    jobs-list-fault circuit list workers c read faults.BadSeed has = absurd has
+    jobs-list-fault circuit list workers c read faults.NoSuchValue has = absurd has
+    jobs-list-fault circuit list workers c read (faults.Garbling fault) has = absurd has
+    jobs-list-fault circuit list workers c read (faults.Evaluation fault) has = absurd has
+    jobs-list-fault circuit list workers c read faults.CannotWrite has = absurd has
 
 -- The fault of the circuit's file is that of the command.
-pub jobs-circuit-fault : (bytes : FileBytes) (circuit list : List ℕ) (workers : ℕ) (fault : Fault) → IsCircuitFault fault
-    → IfSome (bytes circuit) (λ held. HasCircuitFault held fault) → HasJobsFault bytes circuit list workers fault
-jobs-circuit-fault bytes circuit list workers faults.CannotRead kind has = tt
-jobs-circuit-fault bytes circuit list workers (faults.Circuit fault) kind has = has
-jobs-circuit-fault bytes circuit list workers faults.Memory kind has = tt
-jobs-circuit-fault bytes circuit list workers faults.WrongCount kind has = absurd kind
-jobs-circuit-fault bytes circuit list workers (faults.Value fault) kind has = absurd kind
-jobs-circuit-fault bytes circuit list workers faults.BadSeed kind has = absurd kind
-jobs-circuit-fault bytes circuit list workers faults.BadList kind has = absurd kind
-jobs-circuit-fault bytes circuit list workers faults.NoSuchValue kind has = absurd kind
-jobs-circuit-fault bytes circuit list workers (faults.Garbling fault) kind has = absurd kind
-jobs-circuit-fault bytes circuit list workers (faults.File fault) kind has = absurd kind
-jobs-circuit-fault bytes circuit list workers (faults.Binding fault) kind has = absurd kind
-jobs-circuit-fault bytes circuit list workers (faults.Evaluation fault) kind has = absurd kind
-jobs-circuit-fault bytes circuit list workers faults.CannotWrite kind has = absurd kind
+pub jobs-circuit-fault : (bytes : FileBytes) (Failed : List ℕ → Type 0) (circuit list : List ℕ) (workers : ℕ) (fault : Fault)
+    → IsCircuitFault fault → IfSome (bytes circuit) (λ held. HasCircuitFault held fault) → HasCause fault (Failed circuit) ⊥
+    → HasJobsFault bytes Failed circuit list workers fault
+jobs-circuit-fault bytes Failed circuit list workers faults.CannotRead kind has failed = inl failed
+jobs-circuit-fault bytes Failed circuit list workers (faults.Circuit fault) kind has failed = has
+jobs-circuit-fault bytes Failed circuit list workers faults.Memory kind has failed = tt
+jobs-circuit-fault bytes Failed circuit list workers faults.WrongCount kind has failed = absurd kind
+jobs-circuit-fault bytes Failed circuit list workers (faults.Value fault) kind has failed = absurd kind
+jobs-circuit-fault bytes Failed circuit list workers faults.BadSeed kind has failed = absurd kind
+jobs-circuit-fault bytes Failed circuit list workers faults.BadList kind has failed = absurd kind
+jobs-circuit-fault bytes Failed circuit list workers faults.NoSuchValue kind has failed = absurd kind
+jobs-circuit-fault bytes Failed circuit list workers (faults.Garbling fault) kind has failed = absurd kind
+jobs-circuit-fault bytes Failed circuit list workers (faults.File fault) kind has failed = absurd kind
+jobs-circuit-fault bytes Failed circuit list workers (faults.Binding fault) kind has failed = absurd kind
+jobs-circuit-fault bytes Failed circuit list workers (faults.Evaluation fault) kind has failed = absurd kind
+jobs-circuit-fault bytes Failed circuit list workers faults.CannotWrite kind has failed = absurd kind
 
 -- The fault of the label files is that of the words that name them,
-pub labels-named : (bytes : FileBytes) (c : Netlist) (words : List (List ℕ)) (garbled : List ℕ) (labels : List (List ℕ))
+pub labels-named : (bytes : FileBytes) (Failed : List ℕ → Type 0) (c : Netlist) (words : List (List ℕ)) (garbled : List ℕ) (labels : List (List ℕ))
     (g : GarbledParts) → words ≡ garbled ∷ labels → IfSome (bytes garbled) (λ held. IsGarbledFile held g) → (fault : Fault)
-    → HasLabelsFault bytes labels fault → HasNamedFault bytes c words fault
-labels-named bytes c words garbled labels g names read (faults.File fault) has =
-    λ other. subst (λ w. FirstBadNamed bytes w fault) (sym names) (inr (g, read, has other))
-labels-named bytes c words garbled labels g names read faults.CannotRead has = tt
-labels-named bytes c words garbled labels g names read faults.Memory has = tt
-labels-named bytes c words garbled labels g names read (faults.Circuit fault) has = absurd has
-labels-named bytes c words garbled labels g names read faults.WrongCount has = absurd has
-labels-named bytes c words garbled labels g names read (faults.Value fault) has = absurd has
-labels-named bytes c words garbled labels g names read faults.BadSeed has = absurd has
-labels-named bytes c words garbled labels g names read faults.BadList has = absurd has
-labels-named bytes c words garbled labels g names read faults.NoSuchValue has = absurd has
-labels-named bytes c words garbled labels g names read (faults.Garbling fault) has = absurd has
-labels-named bytes c words garbled labels g names read (faults.Binding fault) has = absurd has
-labels-named bytes c words garbled labels g names read (faults.Evaluation fault) has = absurd has
-labels-named bytes c words garbled labels g names read faults.CannotWrite has = absurd has
+    → HasLabelsFault bytes Failed labels fault → HasNamedFault bytes Failed c words fault
+labels-named bytes Failed c words garbled labels g names read (faults.File fault) has =
+    subst (λ w. FirstBadNamed bytes Failed w (faults.File fault)) (sym names) (inr (g, read, has))
+labels-named bytes Failed c words garbled labels g names read faults.CannotRead has =
+    subst (λ w. FirstBadNamed bytes Failed w faults.CannotRead) (sym names) (inr (g, read, has))
+labels-named bytes Failed c words garbled labels g names read faults.Memory has = tt
+labels-named bytes Failed c words garbled labels g names read (faults.Circuit fault) has = absurd (labels-kind bytes Failed labels (faults.Circuit fault) has)
+labels-named bytes Failed c words garbled labels g names read faults.WrongCount has = absurd (labels-kind bytes Failed labels faults.WrongCount has)
+labels-named bytes Failed c words garbled labels g names read (faults.Value fault) has = absurd (labels-kind bytes Failed labels (faults.Value fault) has)
+labels-named bytes Failed c words garbled labels g names read faults.BadSeed has = absurd (labels-kind bytes Failed labels faults.BadSeed has)
+labels-named bytes Failed c words garbled labels g names read faults.BadList has = absurd (labels-kind bytes Failed labels faults.BadList has)
+labels-named bytes Failed c words garbled labels g names read faults.NoSuchValue has = absurd (labels-kind bytes Failed labels faults.NoSuchValue has)
+labels-named bytes Failed c words garbled labels g names read (faults.Garbling fault) has = absurd (labels-kind bytes Failed labels (faults.Garbling fault) has)
+labels-named bytes Failed c words garbled labels g names read (faults.Binding fault) has = absurd (labels-kind bytes Failed labels (faults.Binding fault) has)
+labels-named bytes Failed c words garbled labels g names read (faults.Evaluation fault) has = absurd (labels-kind bytes Failed labels (faults.Evaluation fault) has)
+labels-named bytes Failed c words garbled labels g names read faults.CannotWrite has = absurd (labels-kind bytes Failed labels faults.CannotWrite has)
 
 -- What the lines from one on name, it and those after it name.
 pub line-next : {X : Type 0} (v : X → List (List ℕ)) (lines : List X) (i : ℕ) (d : X) → i < length lines
@@ -195,22 +196,22 @@ line-next v lines i d within =
     ap (map v) (drop-cons lines i d within) ∙ ap (λ k. v (get_or lines i d) ∷ map v (drop k lines)) n
 
 -- The fault of a line that names no job is that of the lines.
-pub lines-fault : (bytes : FileBytes) (c : Netlist) (words : List (List ℕ)) (lines all : List (List (List ℕ)))
-    (fault : Fault) → (FirstBadJob bytes c (words ∷ lines) fault → FirstBadJob bytes c all fault)
-    → HasNamedFault bytes c words fault → HasLinesFault bytes c all fault
-lines-fault bytes c words lines all (faults.File fault) up has = up (inl has)
-lines-fault bytes c words lines all (faults.Binding fault) up has = up (inl has)
-lines-fault bytes c words lines all faults.CannotRead up has = tt
-lines-fault bytes c words lines all faults.Memory up has = tt
-lines-fault bytes c words lines all (faults.Circuit fault) up has = absurd has
-lines-fault bytes c words lines all faults.WrongCount up has = absurd has
-lines-fault bytes c words lines all (faults.Value fault) up has = absurd has
-lines-fault bytes c words lines all faults.BadSeed up has = absurd has
-lines-fault bytes c words lines all faults.BadList up has = absurd has
-lines-fault bytes c words lines all faults.NoSuchValue up has = absurd has
-lines-fault bytes c words lines all (faults.Garbling fault) up has = absurd has
-lines-fault bytes c words lines all (faults.Evaluation fault) up has = absurd has
-lines-fault bytes c words lines all faults.CannotWrite up has = absurd has
+pub lines-fault : (bytes : FileBytes) (Failed : List ℕ → Type 0) (c : Netlist) (words : List (List ℕ)) (lines all : List (List (List ℕ)))
+    (fault : Fault) → (FirstBadJob bytes Failed c (words ∷ lines) fault → FirstBadJob bytes Failed c all fault)
+    → HasNamedFault bytes Failed c words fault → HasLinesFault bytes Failed c all fault
+lines-fault bytes Failed c words lines all (faults.File fault) up has = up (inl has)
+lines-fault bytes Failed c words lines all (faults.Binding fault) up has = up (inl has)
+lines-fault bytes Failed c words lines all faults.CannotRead up has = up (inl has)
+lines-fault bytes Failed c words lines all faults.Memory up has = tt
+lines-fault bytes Failed c words lines all (faults.Circuit fault) up has = absurd has
+lines-fault bytes Failed c words lines all faults.WrongCount up has = absurd has
+lines-fault bytes Failed c words lines all (faults.Value fault) up has = absurd has
+lines-fault bytes Failed c words lines all faults.BadSeed up has = absurd has
+lines-fault bytes Failed c words lines all faults.BadList up has = absurd has
+lines-fault bytes Failed c words lines all faults.NoSuchValue up has = absurd has
+lines-fault bytes Failed c words lines all (faults.Garbling fault) up has = absurd has
+lines-fault bytes Failed c words lines all (faults.Evaluation fault) up has = absurd has
+lines-fault bytes Failed c words lines all faults.CannotWrite up has = absurd has
 
 -- Jobs that lines name are all on the circuit, and as many.
 named_on : (bytes : FileBytes) (c : Netlist) (lines : List (List (List ℕ))) (jobs : List JobParts)

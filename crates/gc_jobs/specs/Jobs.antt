@@ -2,8 +2,6 @@
 -- known.
 use Rattle.std.specs.Prelude.{◌≡◌, ◌≢◌, ℕ, ◌<◌, ◌⊎◌, Bool, List, [], ◌∷◌, length, IfSome, Err}
 use Rattle.gc_netlist.specs.Circuit.{Netlist}
-use Rattle.gc_read.specs.declared.fault.FileFault.{FileFault}
-use Rattle.gc_read.specs.declared.fault.FileFault.TheVariants as file
 use Rattle.gc_format.specs.GarbledFile.{GarbledParts, IsGarbledFile}
 use Rattle.gc_format.specs.LabelFile.{LabelFileParts}
 use Rattle.gc_gatehouse.specs.Workers.{AreFew}
@@ -16,7 +14,7 @@ use Rattle.gc_command.specs.declared.fault.Fault.TheVariants.{Circuit, File, Bin
 use Rattle.gc_command.specs.Files.{FileBytes, GivesFile}
 use Rattle.gc_command.specs.CircuitFile.{IsCircuit, HasCircuitFault}
 use Rattle.gc_command.specs.Lines.{jobs_lines}
-use Rattle.gc_command.specs.Eval.{AreLabelFiles, FirstBadFile}
+use Rattle.gc_command.specs.Eval.{AreLabelFiles, HasFilesFault}
 use Rattle.gc_jobs.specs.JobList.{IsJobList, listed}
 
 -- The words name a garbled file and then label files, of these parts.
@@ -36,20 +34,20 @@ pub record NameJob (bytes : FileBytes) (c : Netlist) (words : List (List ℕ)) (
   pub named : NameFiles bytes words g files
   pub bound : IsBound c g files job
 
--- The first of the files that the words name has this fault.
-abbrev pub FirstBadNamed : FileBytes → List (List ℕ) → FileFault → Type 0
-FirstBadNamed bytes [] fault = ⊥
-FirstBadNamed bytes (garbled ∷ labels) fault = FirstBadFile bytes garbled labels fault
+-- The faults of reading the files that the words name, in turn. `Failed` says of a name that its file has failed.
+abbrev pub FirstBadNamed : FileBytes → (List ℕ → Type 0) → List (List ℕ) → Fault → Type 0
+FirstBadNamed bytes Failed [] fault = ⊥
+FirstBadNamed bytes Failed (garbled ∷ labels) fault = HasFilesFault bytes Failed garbled labels fault
 
 -- The faults of the files that the words name, and of binding them.
-abbrev pub HasNamedFault : FileBytes → Netlist → List (List ℕ) → Fault → Type 0
-HasNamedFault bytes c words (File fault) = fault ≢ file.Memory → FirstBadNamed bytes words fault
-HasNamedFault bytes c words (Binding fault) =
+abbrev pub HasNamedFault : FileBytes → (List ℕ → Type 0) → Netlist → List (List ℕ) → Fault → Type 0
+HasNamedFault bytes Failed c words CannotRead = FirstBadNamed bytes Failed words CannotRead
+HasNamedFault bytes Failed c words (File fault) = FirstBadNamed bytes Failed words (File fault)
+HasNamedFault bytes Failed c words (Binding fault) =
     (g : GarbledParts) × ((files : List LabelFileParts) × (NameFiles bytes words g files
     × (fault ≢ bind.Memory → FirstBindFault c g files fault)))
-HasNamedFault bytes c words CannotRead = Unit {0}
-HasNamedFault bytes c words Memory = Unit {0}
-HasNamedFault bytes c words _ = ⊥
+HasNamedFault bytes Failed c words Memory = Unit {0}
+HasNamedFault bytes Failed c words _ = ⊥
 
 -- The lines name these jobs: as many, and each its own.
 abbrev pub NameJobs : FileBytes → Netlist → List (List (List ℕ)) → List JobParts → Type 0
@@ -59,19 +57,22 @@ NameJobs bytes c (words ∷ lines) (job ∷ jobs) =
 NameJobs bytes c _ _ = ⊥
 
 -- The first line that names no job has this fault.
-abbrev pub FirstBadJob : FileBytes → Netlist → List (List (List ℕ)) → Fault → Type 0
-FirstBadJob bytes c [] fault = ⊥
-FirstBadJob bytes c (words ∷ lines) fault =
-    HasNamedFault bytes c words fault
-    ⊎ ((job : JobParts) × NameJob bytes c words job × FirstBadJob bytes c lines fault)
+abbrev pub FirstBadJob : FileBytes → (List ℕ → Type 0) → Netlist → List (List (List ℕ)) → Fault
+    → Type 0
+FirstBadJob bytes Failed c [] fault = ⊥
+FirstBadJob bytes Failed c (words ∷ lines) fault =
+    HasNamedFault bytes Failed c words fault
+    ⊎ ((job : JobParts) × NameJob bytes c words job
+    × FirstBadJob bytes Failed c lines fault)
 
 -- The faults of the lines in turn.
-abbrev pub HasLinesFault : FileBytes → Netlist → List (List (List ℕ)) → Fault → Type 0
-HasLinesFault bytes c lines CannotRead = Unit {0}
-HasLinesFault bytes c lines Memory = Unit {0}
-HasLinesFault bytes c lines (File fault) = FirstBadJob bytes c lines (File fault)
-HasLinesFault bytes c lines (Binding fault) = FirstBadJob bytes c lines (Binding fault)
-HasLinesFault bytes c lines _ = ⊥
+abbrev pub HasLinesFault : FileBytes → (List ℕ → Type 0) → Netlist → List (List (List ℕ)) → Fault
+    → Type 0
+HasLinesFault bytes Failed c lines CannotRead = FirstBadJob bytes Failed c lines CannotRead
+HasLinesFault bytes Failed c lines Memory = Unit {0}
+HasLinesFault bytes Failed c lines (File fault) = FirstBadJob bytes Failed c lines (File fault)
+HasLinesFault bytes Failed c lines (Binding fault) = FirstBadJob bytes Failed c lines (Binding fault)
+HasLinesFault bytes Failed c lines _ = ⊥
 
 -- The file of this name is a list of these jobs.
 pub record AreListed (bytes : FileBytes) (list : List ℕ) (c : Netlist) (jobs : List JobParts)
@@ -82,21 +83,21 @@ pub record AreListed (bytes : FileBytes) (list : List ℕ) (c : Netlist) (jobs :
   pub named : NameJobs bytes c (listed text) jobs
 
 -- It is a list, and the first line that names no job has this fault.
-pub record HasBadJob (bytes : FileBytes) (list : List ℕ) (c : Netlist) (fault : Fault)
-    : Type 0 where
+pub record HasBadJob (bytes : FileBytes) (Failed : List ℕ → Type 0) (list : List ℕ) (c : Netlist)
+    (fault : Fault) : Type 0 where
   pub text : List ℕ
   pub text_read : GivesFile (bytes list) text
   pub is_list : IsJobList text
-  pub first : FirstBadJob bytes c (listed text) fault
+  pub first : FirstBadJob bytes Failed c (listed text) fault
 
 -- The faults of a list and of its jobs in turn, memory aside.
-abbrev pub HasListFault : FileBytes → List ℕ → Netlist → Fault → Type 0
-HasListFault bytes list c BadList = IfSome (bytes list) (λ text. IsJobList text → ⊥)
-HasListFault bytes list c (File fault) = HasBadJob bytes list c (File fault)
-HasListFault bytes list c (Binding fault) = HasBadJob bytes list c (Binding fault)
-HasListFault bytes list c CannotRead = Unit {0}
-HasListFault bytes list c Memory = Unit {0}
-HasListFault bytes list c _ = ⊥
+abbrev pub HasListFault : FileBytes → (List ℕ → Type 0) → List ℕ → Netlist → Fault → Type 0
+HasListFault bytes Failed list c BadList = IfSome (bytes list) (λ text. IsJobList text → ⊥)
+HasListFault bytes Failed list c (File fault) = HasBadJob bytes Failed list c (File fault)
+HasListFault bytes Failed list c (Binding fault) = HasBadJob bytes Failed list c (Binding fault)
+HasListFault bytes Failed list c CannotRead = Failed list ⊎ HasBadJob bytes Failed list c CannotRead
+HasListFault bytes Failed list c Memory = Unit {0}
+HasListFault bytes Failed list c _ = ⊥
 
 -- What `jobs` answers: the lines of what each job decodes to, whatever the number of workers. A list without jobs
 -- answers nothing.
@@ -112,15 +113,19 @@ pub record AnswersJobs (bytes : FileBytes) (circuit list : List ℕ) (workers : 
   pub printed : lines ≡ jobs_lines c.output_widths outputs
 
 -- When `jobs` has which fault: it is the first in the order of the work (the circuit, the list, the files and the
--- binding of each job in turn, the number of workers, evaluation), but that memory may run out at each step.
-abbrev pub HasJobsFault : FileBytes → List ℕ → List ℕ → ℕ → Fault → Type 0
-HasJobsFault bytes circuit list workers CannotRead = Unit {0}
-HasJobsFault bytes circuit list workers Memory = Unit {0}
-HasJobsFault bytes circuit list workers (Circuit fault) =
+-- binding of each job in turn, the number of workers, evaluation), but that memory may run out at each step. A file
+-- that can't be read has failed, and each file before it is what it has to be.
+abbrev pub HasJobsFault : FileBytes → (List ℕ → Type 0) → List ℕ → List ℕ → ℕ → Fault → Type 0
+HasJobsFault bytes Failed circuit list workers CannotRead =
+    Failed circuit
+    ⊎ ((c : Netlist) × IfSome (bytes circuit) (λ held. IsCircuit held c)
+    × HasListFault bytes Failed list c CannotRead)
+HasJobsFault bytes Failed circuit list workers Memory = Unit {0}
+HasJobsFault bytes Failed circuit list workers (Circuit fault) =
     IfSome (bytes circuit) (λ held. HasCircuitFault held (Circuit fault))
-HasJobsFault bytes circuit list workers (Evaluation fault) =
+HasJobsFault bytes Failed circuit list workers (Evaluation fault) =
     (c : Netlist) × IfSome (bytes circuit) (λ held. IsCircuit held c) × ((jobs : List JobParts)
     × AreListed bytes list c jobs × (0 < length jobs) × AreEvaluatedBy workers jobs (Err fault))
-HasJobsFault bytes circuit list workers fault =
+HasJobsFault bytes Failed circuit list workers fault =
     (c : Netlist) × IfSome (bytes circuit) (λ held. IsCircuit held c)
-    × HasListFault bytes list c fault
+    × HasListFault bytes Failed list c fault

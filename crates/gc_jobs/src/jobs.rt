@@ -5,7 +5,7 @@ ghost use Rattle.gc_gatehouse.specs.Workers.{AreFew};
 ghost use Rattle.gc_bank.specs.Jobs.{AreEvaluated, AreEvaluatedBy, AreOnOneCircuit};
 ghost use Rattle.gc_bank.specs.declared.jobs.TheConstants.{MAX_JOBS};
 ghost use Rattle.gc_jobs.specs.Jobs.{AnswersJobs, HasJobsFault};
-ghost use Rattle.gc_command.specs.Fault.{HasCause};
+ghost use Rattle.gc_command.specs.Files.{HasFailed};
 
 use crate::listed_job::read_listed_jobs;
 use gc_bank::evaluate_jobs;
@@ -29,9 +29,8 @@ pub fn jobs<R: Threads + Sync, A: Allocator + Copy + Send + Sync, F: Files, P: P
 ) -> Result<Vec<u8, A>, Fault>
     ensures answers { IfOk result
         (λ lines. AnswersJobs (F.bytes files.old) circuit.now list.now workers lines.items) }
-    ensures fault { IfErr result (HasJobsFault (F.bytes files.old) circuit.now list.now workers) }
-    ensures cause { IfErr result
-        (λ fault. HasCause fault (F.failures files.old) (F.failures files.new)) }
+    ensures fault { IfErr result (HasJobsFault (F.bytes files.old)
+        (HasFailed (F.failures files.old) (F.failures files.new)) circuit.now list.now workers) }
     ensures same { (name : List ℕ) → F.bytes files.new name ≡ F.bytes files.old name }
 {
     progress.begin(1, 3, Work::ReadingCircuit);

@@ -5,7 +5,7 @@ ghost use Rattle.sha2.specs.Sha256.{sha256};
 ghost use Rattle.gc_netlist.specs.Canon.{canonical_text};
 ghost use Rattle.gc_netlist.specs.Text.{tokens};
 ghost use Rattle.gc_jobs.specs.Jobs.{AreListed, HasListFault, HasLinesFault, HasNamedFault, NameJob, NameJobs};
-ghost use Rattle.gc_command.specs.Fault.{HasCause};
+ghost use Rattle.gc_command.specs.Files.{HasFailed};
 
 use crate::job_list::{listed_lines, words_of_line};
 use gc_circuit::Circuit;
@@ -26,9 +26,8 @@ pub fn read_listed_jobs<'c, A: Allocator + Copy, F: Files, P: Progress>(
     requires { digest.now ≡ sha256 (canonical_text circuit.now) }
     ensures listed { IfOk result
         (λ jobs. AreListed (F.bytes files.old) list.now circuit.now jobs.items) }
-    ensures fault { IfErr result (HasListFault (F.bytes files.old) list.now circuit.now) }
-    ensures cause { IfErr result
-        (λ fault. HasCause fault (F.failures files.old) (F.failures files.new)) }
+    ensures fault { IfErr result (HasListFault (F.bytes files.old)
+        (HasFailed (F.failures files.old) (F.failures files.new)) list.now circuit.now) }
     ensures counted { OnOk result (F.failures files.new ≡ F.failures files.old) }
     ensures same { (n : List ℕ) → F.bytes files.new n ≡ F.bytes files.old n }
 {
@@ -51,10 +50,9 @@ fn read_jobs<'c, A: Allocator + Copy, F: Files, P: Progress>(
     requires words { All (λ words. 0 < length words) (map (λ line. tokens line.now) lines.now) }
     ensures named { IfOk result (λ jobs. NameJobs (F.bytes files.old) circuit.now
         (map (λ line. tokens line.now) lines.now) jobs.items) }
-    ensures fault { IfErr result (HasLinesFault (F.bytes files.old) circuit.now
+    ensures fault { IfErr result (HasLinesFault (F.bytes files.old)
+        (HasFailed (F.failures files.old) (F.failures files.new)) circuit.now
         (map (λ line. tokens line.now) lines.now)) }
-    ensures cause { IfErr result
-        (λ fault. HasCause fault (F.failures files.old) (F.failures files.new)) }
     ensures counted { OnOk result (F.failures files.new ≡ F.failures files.old) }
     ensures same { (n : List ℕ) → F.bytes files.new n ≡ F.bytes files.old n }
 {
@@ -82,9 +80,8 @@ fn read_job<'c, A: Allocator + Copy, F: Files>(
     requires digest { digest.now ≡ sha256 (canonical_text circuit.now) }
     requires words { 0 < length (tokens line.now) }
     ensures named { IfOk result (NameJob (F.bytes files.old) circuit.now (tokens line.now)) }
-    ensures fault { IfErr result (HasNamedFault (F.bytes files.old) circuit.now (tokens line.now)) }
-    ensures cause { IfErr result
-        (λ fault. HasCause fault (F.failures files.old) (F.failures files.new)) }
+    ensures fault { IfErr result (HasNamedFault (F.bytes files.old)
+        (HasFailed (F.failures files.old) (F.failures files.new)) circuit.now (tokens line.now)) }
     ensures counted { OnOk result (F.failures files.new ≡ F.failures files.old) }
     ensures same { (n : List ℕ) → F.bytes files.new n ≡ F.bytes files.old n }
 {

@@ -1,6 +1,7 @@
 -- What files in memory hold.
 use Rattle.std.specs.Prelude.{ℕ, List, Option, Some, None, find, option_map, bytes_eq, if◌then◌else◌}
 use Rattle.std.specs.Borrow.{Bor}
+use Rattle.gc_command.specs.Files.{FailedFiles}
 use Rattle.gc_serving.specs.declared.mem_files.Limits.{Limits}
 
 -- the bytes of the first file of a name
@@ -14,12 +15,12 @@ written_or None name held = held
 written_or (Some file) name held = if bytes_eq file.0 name then Some file.1 else held
 
 -- files in memory: the files, each with its name and its bytes; the one that was written, if one was; how much goes
--- well; and how often they have failed so far
+-- well; and the files that have failed so far
 pub record HeldFiles : Type 0 where
   pub files : List (Bor (List ℕ) × Bor (List ℕ))
   pub written : Option (List ℕ × List ℕ)
   pub limits : Limits
-  pub failures : ℕ
+  pub failures : FailedFiles
 
 abbrev pub bytes_of : HeldFiles → List ℕ → Option (List ℕ)
 bytes_of f name = written_or f.written name (bytes_at f.files name)

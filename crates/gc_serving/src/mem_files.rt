@@ -1,6 +1,6 @@
 //! Files in memory.
 
-ghost use Rattle.std.specs.Prelude.{◌≡◌, ℕ, List, Option, Some, None, false, IfOk, option_map, string_bytes};
+ghost use Rattle.std.specs.Prelude.{◌≡◌, ℕ, List, [], Option, Some, None, false, IfOk, option_map, string_bytes};
 ghost use Rattle.gc_command.specs.Files.{CountsRead};
 ghost use Rattle.gc_serving.specs.MemFiles.{bytes_at, bytes_of, written_or};
 
@@ -58,7 +58,7 @@ impl<'a, B: Allocator> MemFiles<'a, B> {
     /// Files that never fail.
     pub fn new(alloc: B, files: &'a [(&'a str, &'a [u8])]) -> MemFiles<'a, B>
         ensures { result
-            ≡ record { files = files.now; written = None; limits = Limits.NONE; failures = 0 } }
+            ≡ record { files = files.now; written = None; limits = Limits.NONE; failures = [] } }
     {
         MemFiles::limited(alloc, files, Limits::NONE)
     }
@@ -66,7 +66,7 @@ impl<'a, B: Allocator> MemFiles<'a, B> {
     /// Files that fail beyond these limits.
     pub fn limited(alloc: B, files: &'a [(&'a str, &'a [u8])], limits: Limits) -> MemFiles<'a, B>
         ensures { result
-            ≡ record { files = files.now; written = None; limits = limits; failures = 0 } }
+            ≡ record { files = files.now; written = None; limits = limits; failures = [] } }
     {
         MemFiles {
             alloc,
@@ -112,14 +112,14 @@ impl<'a, B: Allocator> MemFiles<'a, B> {
         ensures bytes { IfOk result (λ bytes. bytes_of self.old name.now ≡ Some bytes.now) }
         ensures files { self.new.files ≡ self.old.files }
         ensures written { self.new.written ≡ self.old.written }
-        ensures counted { CountsRead result self.old.failures self.new.failures }
+        ensures counted { CountsRead result name.now self.old.failures self.new.failures }
     {
         if self.goes_well() && !self.has_written(name) {
             if let Some(bytes) = held_at(self.files, name) {
                 return Ok(bytes);
             }
         }
-        self.failures.add_one();
+        self.failures.add_one(name);
         Err(FileError::CannotRead)
     }
 }
@@ -150,23 +150,23 @@ impl<'a, B: Allocator + Copy> Files for MemFiles<'a, B> {
         Ok(Vec::from_slice(alloc, bytes)?)
     }
 
-    fn create(&mut self, _name: &str) -> Result<MemSink<B>, FileError> {
+    fn create(&mut self, name: &str) -> Result<MemSink<B>, FileError> {
         if self.goes_well() {
             return Ok(MemSink::new(self.alloc, self.limits.taken));
         }
-        self.failures.add_one();
+        self.failures.add_one(name);
         Err(FileError::CannotWrite)
     }
 
     fn keep(&mut self, name: &str, sink: MemSink<B>) -> Result<(), FileError> {
-        self.failures.add_sink(&sink);
+        self.failures.add_sink(name, &sink);
         if self.goes_well() && self.written.is_none() {
             if let Ok(name) = String::from_str(self.alloc, name) {
                 self.written = Some((name, sink.into_bytes()));
                 return Ok(());
             }
         }
-        self.failures.add_one();
+        self.failures.add_one(name);
         Err(FileError::CannotWrite)
     }
 
@@ -175,7 +175,7 @@ impl<'a, B: Allocator + Copy> Files for MemFiles<'a, B> {
         Ok(MemSource::new(bytes, self.limits.given))
     }
 
-    fn shut(&mut self, source: MemSource<'a>) {
-        self.failures.add_source(&source);
+    fn shut(&mut self, name: &str, source: MemSource<'a>) {
+        self.failures.add_source(name, &source);
     }
 }

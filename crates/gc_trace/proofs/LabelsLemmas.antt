@@ -21,17 +21,17 @@ want-of-memory bytes seed texts faults.BadList want = absurd want
 want-of-memory bytes seed texts faults.CannotRead want = absurd want
 want-of-memory bytes seed texts faults.CannotWrite want = absurd want
 
-pub want-has_cause : (fault : Fault) (old new : ℕ) → IsWantOfMemory fault → HasCause fault old new
-want-has_cause (faults.Circuit fault) old new want = tt
-want-has_cause (faults.Garbling fault) old new want = tt
-want-has_cause faults.Memory old new want = tt
-want-has_cause faults.WrongCount old new want = tt
-want-has_cause (faults.Value fault) old new want = tt
-want-has_cause faults.BadSeed old new want = tt
-want-has_cause faults.NoSuchValue old new want = tt
-want-has_cause (faults.File fault) old new want = tt
-want-has_cause (faults.Binding fault) old new want = tt
-want-has_cause (faults.Evaluation fault) old new want = tt
-want-has_cause faults.BadList old new want = tt
-want-has_cause faults.CannotRead old new want = absurd want
-want-has_cause faults.CannotWrite old new want = absurd want
+pub want-has_cause : (fault : Fault) (Reading Writing : Type 0) → IsWantOfMemory fault → HasCause fault Reading Writing
+want-has_cause (faults.Circuit fault) Reading Writing want = tt
+want-has_cause (faults.Garbling fault) Reading Writing want = tt
+want-has_cause faults.Memory Reading Writing want = tt
+want-has_cause faults.WrongCount Reading Writing want = tt
+want-has_cause (faults.Value fault) Reading Writing want = tt
+want-has_cause faults.BadSeed Reading Writing want = tt
+want-has_cause faults.NoSuchValue Reading Writing want = tt
+want-has_cause (faults.File fault) Reading Writing want = tt
+want-has_cause (faults.Binding fault) Reading Writing want = tt
+want-has_cause (faults.Evaluation fault) Reading Writing want = tt
+want-has_cause faults.BadList Reading Writing want = tt
+want-has_cause faults.CannotRead Reading Writing want = absurd want
+want-has_cause faults.CannotWrite Reading Writing want = absurd want

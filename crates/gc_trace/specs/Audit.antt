@@ -1,6 +1,6 @@
 -- The command `audit`: what it answers, and which fault it has. What is said of a file is said where its bytes are
 -- known.
-use Rattle.std.specs.Prelude.{◌≡◌, ◌≢◌, ℕ, ◌≤◌, ◌↔◌, ◌&&◌, Bool, true, false, IsTrue, List, [], ◌∷◌, ◌++◌, length, map, slice_get, Option, Some, None, IfSome, codes}
+use Rattle.std.specs.Prelude.{◌≡◌, ◌≢◌, ℕ, ◌≤◌, ◌↔◌, ◌⊎◌, ◌&&◌, Bool, true, false, IsTrue, List, [], ◌∷◌, ◌++◌, length, map, slice_get, Option, Some, None, IfSome, codes}
 use Rattle.gc_netlist.specs.Circuit.{Netlist}
 use Rattle.gc_netlist.specs.Spelling.{Word, Number, Name, bit_number}
 use Rattle.gc_netlist.specs.Canon.{line}
@@ -11,7 +11,6 @@ use Rattle.gc_format.specs.declared.parts.Version.{Version}
 use Rattle.gc_format.specs.declared.parts.Version.TheVariants.{One, Two}
 use Rattle.gc_format.specs.GarbledFile.{GarbledParts}
 use Rattle.gc_format.specs.LabelFile.{LabelFileParts}
-use Rattle.gc_read.specs.declared.fault.FileFault.TheVariants as file
 use Rattle.gc_file.specs.Honest.{honest_parts}
 use Rattle.gc_gatehouse.specs.Workers.{AreFew}
 use Rattle.gc_work.specs.WorkFault.{HasWorkFault}
@@ -30,7 +29,7 @@ use Rattle.gc_command.specs.declared.fault.Fault.TheVariants.{Circuit, BadSeed, 
 use Rattle.gc_command.specs.Files.{FileBytes}
 use Rattle.gc_command.specs.CircuitFile.{IsCircuit, HasCircuitFault}
 use Rattle.gc_command.specs.SeedText.{IsSeed}
-use Rattle.gc_command.specs.Eval.{AreEvalFiles, FirstBadFile}
+use Rattle.gc_command.specs.Eval.{AreEvalFiles, HasFilesFault}
 
 -- the line that says of a part that it is right
 abbrev pub right_line : List ℕ → List ℕ
@@ -171,19 +170,24 @@ pub record AnswersAudit (bytes : FileBytes) (circuit seed_text garbled : List �
   pub printed : AreAuditLines c seed g files lines
 
 -- When `audit` has which fault: it is the first in the order of the work (the circuit, the seed, the garbled file, the
--- label files in turn, the number of workers, garbling), but that memory may run out at each step.
-abbrev pub HasAuditFault : FileBytes → List ℕ → List ℕ → List ℕ → ℕ → List (List ℕ) → Fault → Type 0
-HasAuditFault bytes circuit seed garbled workers labels CannotRead = Unit {0}
-HasAuditFault bytes circuit seed garbled workers labels (Circuit fault) =
+-- label files in turn, the number of workers, garbling), but that memory may run out at each step. A file that can't be
+-- read has failed, and each file before it, and the seed, is what it has to be.
+abbrev pub HasAuditFault : FileBytes → (List ℕ → Type 0) → List ℕ → List ℕ → List ℕ → ℕ
+    → List (List ℕ) → Fault → Type 0
+HasAuditFault bytes Failed circuit seed garbled workers labels CannotRead =
+    Failed circuit
+    ⊎ ((c : Netlist) × IfSome (bytes circuit) (λ held. IsCircuit held c) × IsSeedText seed
+    × HasFilesFault bytes Failed garbled labels CannotRead)
+HasAuditFault bytes Failed circuit seed garbled workers labels (Circuit fault) =
     IfSome (bytes circuit) (λ held. HasCircuitFault held (Circuit fault))
-HasAuditFault bytes circuit seed garbled workers labels BadSeed =
+HasAuditFault bytes Failed circuit seed garbled workers labels BadSeed =
     ((c : Netlist) × IfSome (bytes circuit) (λ held. IsCircuit held c)) × ¬ IsSeedText seed
-HasAuditFault bytes circuit seed garbled workers labels (File fault) =
-    ((c : Netlist) × IfSome (bytes circuit) (λ held. IsCircuit held c)) × IsSeedText seed
-    × (fault ≢ file.Memory → FirstBadFile bytes garbled labels fault)
-HasAuditFault bytes circuit seed garbled workers labels (Garbling fault) =
+HasAuditFault bytes Failed circuit seed garbled workers labels (File fault) =
+    (c : Netlist) × IfSome (bytes circuit) (λ held. IsCircuit held c) × IsSeedText seed
+    × HasFilesFault bytes Failed garbled labels (File fault)
+HasAuditFault bytes Failed circuit seed garbled workers labels (Garbling fault) =
     (c : Netlist) × ((g : GarbledParts) × ((files : List LabelFileParts)
     × (AreEvalFiles bytes circuit garbled labels c g files × IsSeedText seed
     × HasWorkFault workers fault)))
-HasAuditFault bytes circuit seed garbled workers labels Memory = Unit {0}
-HasAuditFault bytes circuit seed garbled workers labels _ = ⊥
+HasAuditFault bytes Failed circuit seed garbled workers labels Memory = Unit {0}
+HasAuditFault bytes Failed circuit seed garbled workers labels _ = ⊥

@@ -8,7 +8,7 @@ ghost use Rattle.gc_half.specs.Garbling.{IsGarbled};
 ghost use Rattle.gc_format.specs.GarbledFile.{GarbledParts};
 ghost use Rattle.gc_work.specs.WorkFault.{JudgesWorkers};
 ghost use Rattle.gc_audit.specs.Garbled.{AreCountsRight, IsGarbledAudit, IsPartsAudit};
-ghost use Rattle.gc_command.specs.Fault.{HasCause};
+ghost use Rattle.gc_command.specs.Files.{HasFailed};
 ghost use Rattle.gc_trace.specs.Audit.{AnswersAudit, AreAuditLines, AreLabelsFound, HasAuditFault};
 ghost use Rattle.gc_format.specs.declared.parts.Version.TheVariants.{Two};
 ghost use Rattle.gc_trace.specs.Audit.{bits_line, digest_line, end_line, entries_line, garbled_lines};
@@ -47,10 +47,9 @@ pub fn audit<R: Threads + Wait + Sync, A: Allocator + Copy + Send + Sync, F: Fil
 ) -> Result<Vec<u8, A>, Fault>
     ensures answers { IfOk result (λ lines. AnswersAudit (F.bytes files.old) circuit.now seed.now
         garbled.now workers (map string_bytes labels.now) lines.items) }
-    ensures fault { IfErr result (HasAuditFault (F.bytes files.old) circuit.now seed.now garbled.now
+    ensures fault { IfErr result (HasAuditFault (F.bytes files.old)
+        (HasFailed (F.failures files.old) (F.failures files.new)) circuit.now seed.now garbled.now
         workers (map string_bytes labels.now)) }
-    ensures cause { IfErr result
-        (λ fault. HasCause fault (F.failures files.old) (F.failures files.new)) }
     ensures same { (name : List ℕ) → F.bytes files.new name ≡ F.bytes files.old name }
 {
     let (circuit, begun) = read_circuit_and_begin_digest(rt, alloc, circuit, files)?;

@@ -3,6 +3,7 @@
 ghost use Rattle.std.specs.Prelude.{◌≡◌, ◌<◌, ◌++◌, ◌∷◌, ℕ, List, [], length, map, IfOk, IfErr, IfSome, MatchOption, string_bytes};
 ghost use Rattle.gc_circuit.specs.Meaning.{Fits};
 ghost use Rattle.gc_command.specs.Fault.{HasCause};
+ghost use Rattle.gc_command.specs.Files.{HasFailed};
 ghost use Rattle.gc_trace.specs.Labels.{AnswersLabels, AreLabelLines, HasLabelsFault, IsWantOfMemory};
 ghost use Rattle.gc_trace.specs.Labels.{label_digits, wire_line};
 
@@ -65,8 +66,8 @@ pub fn labels<A: Allocator + Copy, F: Files>(
         (λ bytes. AnswersLabels bytes seed.now from count (map string_bytes values.now) lines)) }
     ensures fault { IfErr result (λ fault. IfSome (F.bytes files.old circuit.now)
         (λ bytes. HasLabelsFault bytes seed.now (map string_bytes values.now) fault)) }
-    ensures cause { IfErr result
-        (λ fault. HasCause fault (F.failures files.old) (F.failures files.new)) }
+    ensures cause { IfErr result (λ fault. HasCause fault
+        (HasFailed (F.failures files.old) (F.failures files.new) circuit.now) ⊥) }
     ensures same { (name : List ℕ) → F.bytes files.new name ≡ F.bytes files.old name }
 {
     let circuit = read_circuit(alloc, circuit, files)?;

@@ -1,7 +1,8 @@
 use Rattle.std.proofs.Common.{◌≡◌, ℕ, ◌++◌, List, drop, map}
-use Rattle.gc_read.specs.declared.fault.FileFault.{FileFault}
 use Rattle.gc_format.specs.LabelFile.{LabelFileParts}
-use Rattle.gc_command.specs.Eval.{AreLabelFiles, FirstBadLabels}
+use Rattle.gc_command.specs.declared.fault.Fault.{Fault}
+use Rattle.gc_command.specs.Files.{FailedFiles, HasFailed}
+use Rattle.gc_command.specs.Eval.{AreLabelFiles, HasLabelsFault}
 use Rattle.gc_command.proofs.evaluated_files.read_label_files.Given as goal
 
 -- What holds of the files that are left holds of all.
@@ -10,9 +11,11 @@ invariant-loop-name g l = record {
   files : (left : List LabelFileParts)
       → AreLabelFiles (g.F.Files.bytes l.fn.files) (map g.N.AsStr.text (drop l.name-index l.names)) left
       → AreLabelFiles (g.F.Files.bytes l.fn.files) (map g.N.AsStr.text l.names) (l.labels.items ++ left);
-  faults : (fault : FileFault)
-      → FirstBadLabels (g.F.Files.bytes l.fn.files) (map g.N.AsStr.text (drop l.name-index l.names)) fault
-      → FirstBadLabels (g.F.Files.bytes l.fn.files) (map g.N.AsStr.text l.names) fault;
+  faults : (failed : FailedFiles) (fault : Fault)
+      → HasLabelsFault (g.F.Files.bytes l.fn.files) (HasFailed (g.F.Files.failures l.fn.files) failed)
+      (map g.N.AsStr.text (drop l.name-index l.names)) fault
+      → HasLabelsFault (g.F.Files.bytes l.fn.files) (HasFailed (g.F.Files.failures l.fn.files) failed)
+      (map g.N.AsStr.text l.names) fault;
   same : (n : List ℕ) → g.F.Files.bytes l.files n ≡ g.F.Files.bytes l.fn.files n;
   counted : g.F.Files.failures l.files ≡ g.F.Files.failures l.fn.files;
 }

@@ -2,6 +2,7 @@ use Rattle.std.proofs.Common.{◌∙◌, refl}
 use Rattle.std.proofs.lemmas.Result.{IfOk-weaker, IfErr-weaker}
 use Rattle.gc_command.specs.CircuitFile.{IsCircuit}
 use Rattle.gc_command.proofs.AnswerLemmas.{IfSome-map}
+use Rattle.gc_command.proofs.CauseLemmas.{cause-writing}
 use Rattle.gc_command.proofs.WroteLemmas.{IfSome-both, garble-unwritten, garbled-fits}
 use Rattle.gc_command.proofs.garble.garble.Goals as goal
 
@@ -42,7 +43,7 @@ returns-clause-fault g c = IfErr-weaker c.write_garbling.result _ _
 
 pub returns-clause-cause : goal.returns-clause-cause
 returns-clause-cause g c = IfErr-weaker c.write_garbling.result _ _
-    (λ fault cause. rw c.in_ok-circuit.ensures.counted at cause)
+    (λ fault cause. cause-writing fault _ _ (rw c.in_ok-circuit.ensures.counted at cause))
     c.write_garbling.ensures.cause
 
 pub returns-clause-unwritten : goal.returns-clause-unwritten

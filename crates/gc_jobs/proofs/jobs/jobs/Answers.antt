@@ -1,8 +1,9 @@
-use Rattle.std.proofs.Common.{map, length, option_map, Err, sym, ap, ap₂, ◌∙◌, subst, arith}
+use Rattle.std.proofs.Common.{ℕ, List, map, length, option_map, Err, sym, ap, ap₂, ◌∙◌, subst, arith}
 use Rattle.std.proofs.lemmas.Option.{slice_get-get_or, slice_get-map}
 use Rattle.std.proofs.lemmas.Result.{err_from_is_err_and}
 use Rattle.gc_bank.specs.Jobs.{AreEvaluatedBy, AreOnOneCircuit}
 use Rattle.gc_jobs.specs.JobList.{listed}
+use Rattle.gc_command.specs.Files.{HasFailed}
 use Rattle.gc_command.specs.Lines.{jobs_lines}
 use Rattle.gc_jobs.proofs.JobsLemmas.{jobs-circuit-fault, jobs-list-fault, listed-before, length-listed, named_count, named_on_one}
 use Rattle.gc_jobs.proofs.jobs.jobs.Goals as goal
@@ -10,16 +11,23 @@ use Rattle.gc_jobs.proofs.jobs.jobs.Goals as goal
 pub returns-in_err-circuit-clause-fault : goal.returns-in_err-circuit-clause-fault
 returns-in_err-circuit-clause-fault g c =
     let p = err_from_is_err_and c.from_residual.result c.from_residual.ensures.1 in
+    let failed = g.F.Files.failures c.read_circuit_and_digest.new.files in
+    let Failed : List ℕ → Type 0 = HasFailed (g.F.Files.failures c.args.files.now) failed in
     rw (p.1, p.2)
-    (jobs-circuit-fault (g.F.Files.bytes c.args.files.now) c.args.circuit.now c.args.list.now c.args.workers
-    c.in_err-circuit.field-0.0 c.in_err-circuit.ensures.kind c.in_err-circuit.ensures.fault)
+    (jobs-circuit-fault (g.F.Files.bytes c.args.files.now) Failed c.args.circuit.now c.args.list.now c.args.workers
+    c.in_err-circuit.field-0.0 c.in_err-circuit.ensures.kind c.in_err-circuit.ensures.fault c.in_err-circuit.ensures.cause)
 
 pub returns-in_err-jobs-clause-fault : goal.returns-in_err-jobs-clause-fault
 returns-in_err-jobs-clause-fault g c =
     let p = err_from_is_err_and c.from_residual-in_err-jobs.result c.from_residual-in_err-jobs.ensures.1 in
+    let failed = g.F.Files.failures c.read_listed_jobs.new.files in
+    let Failed : List ℕ → Type 0 = HasFailed (g.F.Files.failures c.args.files.now) failed in
+    let Fails : List ℕ → Type 0 = HasFailed (g.F.Files.failures c.read_circuit_and_digest.new.files) failed in
+    let since : (n : List ℕ) → Fails n → Failed n = λ n fails. rw c.in_ok-circuit.ensures.counted at fails in
     rw (p.1, p.2)
     (jobs-list-fault (g.F.Files.bytes c.args.files.now) (g.F.Files.bytes c.read_circuit_and_digest.new.files)
-    c.read_circuit_and_digest.ensures.same c.args.circuit.now c.args.list.now c.args.workers c.in_ok-circuit.circuit
+    c.read_circuit_and_digest.ensures.same Fails Failed since
+    c.args.circuit.now c.args.list.now c.args.workers c.in_ok-circuit.circuit
     c.in_ok-circuit.ensures.circuit c.in_err-jobs.field-0.0 c.in_err-jobs.ensures.fault)
 
 pub evaluate_listed-requires-clause-count : goal.evaluate_listed-requires-clause-count

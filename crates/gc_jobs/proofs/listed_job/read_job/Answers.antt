@@ -1,6 +1,7 @@
-use Rattle.std.proofs.Common.{◌≡◌, ◌∷◌, map, sym, ap, ◌∙◌}
+use Rattle.std.proofs.Common.{◌≡◌, ℕ, List, ◌∷◌, map, sym, ap, ◌∙◌}
 use Rattle.std.proofs.lemmas.Result.{err_from_is_err_and}
 use Rattle.gc_netlist.specs.Text.{tokens}
+use Rattle.gc_command.specs.Files.{HasFailed}
 use Rattle.gc_command.proofs.EvalLemmas.{labels-fault-before}
 use Rattle.gc_jobs.proofs.JobsLemmas.{name-files, labels-named}
 use Rattle.gc_jobs.proofs.listed_job.read_job.Goals as goal
@@ -12,9 +13,13 @@ returns-in_err-labels-clause-fault g c =
     let labels = map (λ word. word.now) c.in-Some.labels.now in
     let names : tokens c.args.line.now ≡ c.in-Some.garbled.now.now ∷ labels =
     sym c.in_ok-words.ensures ∙ ap (map (λ word. word.now)) (sym c.deref.ensures.value ∙ c.in-Some.ensures.cases.0) in
-    rw (p.1, p.2) (labels-named bytes c.args.circuit.now (tokens c.args.line.now) c.in-Some.garbled.now.now labels
+    let failed = g.F.Files.failures c.read_label_files.new.files in
+    let Failed : List ℕ → Type 0 = HasFailed (g.F.Files.failures c.args.files.now) failed in
+    rw (p.1, p.2) (labels-named bytes Failed c.args.circuit.now (tokens c.args.line.now) c.in-Some.garbled.now.now labels
     c.in_ok-garbled.garbled names c.in_ok-garbled.ensures.garbled c.in_err-labels.field-0.0
-    (labels-fault-before bytes (g.F.Files.bytes c.read_garbled_file.new.files) c.read_garbled_file.ensures.same labels
+    (labels-fault-before bytes (g.F.Files.bytes c.read_garbled_file.new.files) c.read_garbled_file.ensures.same
+    (HasFailed (g.F.Files.failures c.read_garbled_file.new.files) failed) Failed
+    (λ n fails. rw c.in_ok-garbled.ensures.counted at fails) labels
     c.in_err-labels.field-0.0 c.in_err-labels.ensures.fault))
 
 pub returns-in_err-bind_by_digest-clause-fault : goal.returns-in_err-bind_by_digest-clause-fault

@@ -1,7 +1,8 @@
-use Rattle.std.proofs.Common.{◌≡◌, ◌+◌, ◌<◌, [], ◌∷◌, inr, drop, map, length, sym, ◌∙◌, subst, arith, append_assoc}
+use Rattle.std.proofs.Common.{◌≡◌, ℕ, ◌+◌, ◌<◌, List, [], ◌∷◌, inr, drop, map, length, sym, ◌∙◌, subst, arith, append_assoc}
 use Rattle.std.proofs.lemmas.List.{append-nil, drop_all, length-map}
 use Rattle.std.proofs.lemmas.Result.{err_from_is_err_and}
 use Rattle.gc_netlist.specs.Text.{tokens}
+use Rattle.gc_command.specs.Files.{HasFailed}
 use Rattle.gc_jobs.specs.Jobs.{NameJobs, FirstBadJob}
 use Rattle.gc_jobs.proofs.JobListLemmas.{get_or-shown}
 use Rattle.gc_jobs.proofs.JobsLemmas.{job-before, named-before, line-next, lines-fault}
@@ -23,11 +24,15 @@ returns-in_err-read_job-clause-fault g c =
     let rest = map (λ line. tokens line.now) (drop (c.loop-line.line-index + 1) c.args.lines.now) in
     let next = line-next (λ line. tokens line.now) c.args.lines.now c.loop-line.line-index
     record { ref_ptr = (0, 0); now = [] } c.loop-line-test.true in
+    let failed = g.F.Files.failures c.read_job.new.files in
+    let Failed : List ℕ → Type 0 = HasFailed (g.F.Files.failures c.args.files.now) failed in
     rw (p.1, p.2)
-    (lines-fault bytes c.args.circuit.now _ rest all fault
-    (λ bad. c.loop-line.invariant.faults fault
-    (subst (λ l. FirstBadJob bytes c.args.circuit.now l fault) (sym next) bad))
-    (named-before bytes (g.F.Files.bytes c.loop-line.files) c.loop-line.invariant.same c.args.circuit.now _ fault
+    (lines-fault bytes Failed c.args.circuit.now _ rest all fault
+    (λ bad. c.loop-line.invariant.faults failed fault
+    (subst (λ l. FirstBadJob bytes Failed c.args.circuit.now l fault) (sym next) bad))
+    (named-before bytes (g.F.Files.bytes c.loop-line.files) c.loop-line.invariant.same
+    (HasFailed (g.F.Files.failures c.loop-line.files) failed) Failed
+    (λ n fails. rw c.loop-line.invariant.counted at fails) c.args.circuit.now _ fault
     c.in_err-read_job.ensures.fault))
 
 pub loop-line-preserved : goal.loop-line-preserved
@@ -44,9 +49,10 @@ loop-line-preserved g c =
           rw (c.in_ok-push.ensures.items, append_assoc c.loop-line.jobs.items (job ∷ []) left)
           (c.loop-line.invariant.named (job ∷ left)
           (subst (λ l. NameJobs bytes circuit l (job ∷ left)) (sym next) (named, rest)));
-      faults = λ fault bad.
-          c.loop-line.invariant.faults fault
-          (subst (λ l. FirstBadJob bytes circuit l fault) (sym next) (inr (job, named, bad)));
+      faults = λ failed fault bad.
+          c.loop-line.invariant.faults failed fault
+          (subst (λ l. FirstBadJob bytes (HasFailed (g.F.Files.failures c.args.files.now) failed) circuit l fault) (sym next)
+          (inr (job, named, bad)));
       same = λ n. c.read_job.ensures.same n ∙ c.loop-line.invariant.same n;
       counted = c.in_ok-read_job.ensures.counted ∙ c.loop-line.invariant.counted;
     }

@@ -1,4 +1,4 @@
-use Rattle.std.proofs.Common.{◌≡◌, ◌&&◌, ◌++◌, ◌∙◌, List, ℕ, ap, sym}
+use Rattle.std.proofs.Common.{◌≡◌, ◌&&◌, ◌++◌, ◌∙◌, ap, sym}
 use Rattle.gc_trace.specs.Audit.{garbled_lines, end_line}
 use Rattle.gc_trace.proofs.AuditLemmas.{audit-lines}
 use Rattle.gc_trace.proofs.audit.audit_lines.Goals.{then-is_honest, else-is_honest}
