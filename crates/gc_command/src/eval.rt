@@ -4,8 +4,8 @@ ghost use Rattle.std.specs.Prelude.{◌≡◌, ℕ, List, map, IfOk, IfErr, stri
 ghost use Rattle.gc_command.specs.Eval.{AnswersEval, HasEvalFault};
 ghost use Rattle.gc_command.specs.Files.{HasFailed};
 
-use crate::circuit_file::read_circuit_and_digest;
-use crate::evaluated_files::{read_garbled_file, read_label_files};
+use crate::circuit_file::read_circuit_and_begin_digest;
+use crate::evaluated_files::{finish_digest_and_read_garbled_file, read_label_files};
 use crate::fault::Fault;
 use crate::files::Files;
 use crate::job::evaluate_files;
@@ -36,9 +36,11 @@ pub fn eval<R: Threads + Wait + Sync, A: Allocator + Copy + Send + Sync, F: File
     ensures same { (name : List ℕ) → F.bytes files.new name ≡ F.bytes files.old name }
 {
     progress.begin(1, 3, Work::ReadingCircuit);
-    let (circuit, digest) = read_circuit_and_digest(rt, alloc, circuit, files)?;
+    let (circuit, begun) = read_circuit_and_begin_digest(rt, alloc, circuit, files)?;
     progress.begin(2, 3, Work::ReadingFiles);
-    let garbled = read_garbled_file(alloc, garbled, files)?;
+    let (digest, garbled) = finish_digest_and_read_garbled_file(
+        rt, alloc, &circuit, begun, garbled, files,
+    )?;
     let labels = read_label_files(alloc, labels, files)?;
     let gates = circuit.gates();
     progress.begin(3, 3, Work::Evaluating { gates });
