@@ -5,7 +5,7 @@ use gc_eval::{EvalFault, Job, evaluate, evaluate_many};
 use gc_file::{Version, read_garbled, read_labels};
 use gc_gatehouse::Open;
 use gc_refusing::Refusing;
-use gc_worked::circuits::{FULL_ADDER, and_chains, many_ands, mixed_blocks};
+use gc_worked::circuits::{FULL_ADDER, and_chains, many_ands, mixed_layers};
 use gc_worked::counting::Counting;
 use gc_worked::files::{label_file, write};
 use gc_worked::meeting::Meeting;
@@ -79,7 +79,7 @@ fn is_reported<R: Threads + Wait + Sync>(
 /// four at once, at least once.
 #[test]
 fn each_gate_is_reported(rt: HostRuntime) -> Result<(), Fail> {
-    let by_layers = mixed_blocks(rt.alloc(), 1100)?;
+    let by_layers = mixed_layers(rt.alloc(), 1100)?;
     let by_twos = and_chains(rt.alloc(), 64, 32)?;
     let by_fours = chains_by_fours(rt.alloc())?;
     for workers in [1, 2, 64] {

@@ -5,7 +5,7 @@ use gc_circuit::Circuit;
 use gc_half::{Garbling, garble_one_thread};
 use gc_refusing::Refusing;
 use gc_work::{Open, WorkFault, garble};
-use gc_worked::circuits::{FULL_ADDER, NO_GATES, and_chains, many_ands, mixed_blocks};
+use gc_worked::circuits::{FULL_ADDER, NO_GATES, and_chains, many_ands, mixed_layers};
 use gc_worked::counting::Counting;
 use gc_worked::meeting::Meeting;
 use std::alloc::{Allocator, Global};
@@ -78,7 +78,7 @@ fn is_reported_once<R: Threads + Wait + Sync>(
 #[test]
 fn each_gate_is_reported_once(rt: HostRuntime) -> Result<(), Fail> {
     let alone = String::from_str(rt.alloc(), FULL_ADDER)?;
-    let by_layers = mixed_blocks(rt.alloc(), 1100)?;
+    let by_layers = mixed_layers(rt.alloc(), 1100)?;
     let by_store = and_chains(rt.alloc(), 64, 32)?;
     for text in [&alone, &by_layers, &by_store] {
         for workers in [1, 2, 64] {

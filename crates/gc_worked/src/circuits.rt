@@ -74,17 +74,19 @@ pub fn and_chains(alloc: Global, chains: u32, length: u32) -> Result<String, Fai
     Ok(text)
 }
 
-/// Blocks of five gates, one of each operation, of which each begins with an AND gate of two input wires.
-pub fn mixed_blocks(alloc: Global, blocks: u32) -> Result<String, Fail> {
-    let n = u64::from(blocks);
+/// An AND gate for each two input wires, and then for each of these one gate of each other operation.
+pub fn mixed_layers(alloc: Global, ands: u32) -> Result<String, Fail> {
+    let n = u64::from(ands);
     let mut text = format!(in alloc; "{} {}\n2 {n} {n}\n1 1\n", 5 * n, 7 * n)?;
     for i in 0..n {
-        let w = 2 * n + 5 * i;
-        text.push_str(format!(in alloc; "2 1 {i} {} {w} AND\n", n + i)?.as_str())?;
-        text.push_str(format!(in alloc; "2 1 {w} {i} {} XOR\n", w + 1)?.as_str())?;
-        text.push_str(format!(in alloc; "1 1 {} {} INV\n", w + 1, w + 2)?.as_str())?;
-        text.push_str(format!(in alloc; "1 1 1 {} EQ\n", w + 3)?.as_str())?;
-        text.push_str(format!(in alloc; "1 1 {} {} EQW\n", w + 2, w + 4)?.as_str())?;
+        text.push_str(format!(in alloc; "2 1 {i} {} {} AND\n", n + i, 2 * n + i)?.as_str())?;
+    }
+    for i in 0..n {
+        let w = 3 * n + 4 * i;
+        text.push_str(format!(in alloc; "2 1 {} {i} {w} XOR\n", 2 * n + i)?.as_str())?;
+        text.push_str(format!(in alloc; "1 1 {w} {} INV\n", w + 1)?.as_str())?;
+        text.push_str(format!(in alloc; "1 1 1 {} EQ\n", w + 2)?.as_str())?;
+        text.push_str(format!(in alloc; "1 1 {} {} EQW\n", w + 1, w + 3)?.as_str())?;
     }
     Ok(text)
 }
