@@ -38,8 +38,8 @@ Answers old new (list_labels circuit seed from count values) out =
 Answers old new (audit circuit seed garbled workers labels) out =
     AnswersAudit old circuit seed garbled workers labels out
 
--- The order has this fault. `Failed` says of a name that its file has failed: that a file can't be read, or written, has
--- such a cause, whether its bytes are known or not.
+-- The order has this fault. `Failed` says of a name that its file has failed: that a file can't be read, or written,
+-- has such a cause, whether its bytes are known or not.
 abbrev pub HasFault : FileBytes → (List ℕ → Type 0) → OrderText → Fault → Type 0
 HasFault bytes Failed (run circuit seed workers values) fault =
     IfSome (bytes circuit) (λ file. HasRunFault file seed workers values fault)

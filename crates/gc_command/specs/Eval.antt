@@ -74,8 +74,8 @@ pub record AnswersEval (bytes : FileBytes) (circuit garbled : List ℕ) (workers
 -- When `eval` has which fault: it is the first in the order of the work, in which the number of workers comes after
 -- binding, but that memory may run out at each step. A file that can't be read has failed, and each file before it is
 -- what it has to be.
-abbrev pub HasEvalFault : FileBytes → (List ℕ → Type 0) → List ℕ → List ℕ → ℕ → List (List ℕ) → Fault
-    → Type 0
+abbrev pub HasEvalFault : FileBytes → (List ℕ → Type 0) → List ℕ → List ℕ → ℕ → List (List ℕ)
+    → Fault → Type 0
 HasEvalFault bytes Failed circuit garbled workers labels CannotRead =
     Failed circuit
     ⊎ ((c : Netlist) × IfSome (bytes circuit) (λ held. IsCircuit held c)

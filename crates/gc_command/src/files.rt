@@ -65,7 +65,8 @@ pub trait Files {
         ensures held { OnOk result (IfSome (Self.Sink.taken sink)
             (λ taken. bytes self.new name.now ≡ Some taken)) }
         ensures counted { CountsWrite result name.now
-            (failures self.old ++ replicate (Self.Sink.failures sink) name.now) (failures self.new) }
+            (failures self.old ++ replicate (Self.Sink.failures sink) name.now)
+            (failures self.new) }
         ensures no_memory { IfErr result (λ e. e ≢ FileError.Memory) }
         ensures others { (n : List ℕ) → n ≢ name.now → bytes self.new n ≡ bytes self.old n };
 

@@ -37,7 +37,8 @@ pub record NameJob (bytes : FileBytes) (c : Netlist) (words : List (List ℕ)) (
 -- The faults of reading the files that the words name, in turn. `Failed` says of a name that its file has failed.
 abbrev pub FirstBadNamed : FileBytes → (List ℕ → Type 0) → List (List ℕ) → Fault → Type 0
 FirstBadNamed bytes Failed [] fault = ⊥
-FirstBadNamed bytes Failed (garbled ∷ labels) fault = HasFilesFault bytes Failed garbled labels fault
+FirstBadNamed bytes Failed (garbled ∷ labels) fault =
+    HasFilesFault bytes Failed garbled labels fault
 
 -- The faults of the files that the words name, and of binding them.
 abbrev pub HasNamedFault : FileBytes → (List ℕ → Type 0) → Netlist → List (List ℕ) → Fault → Type 0
@@ -71,7 +72,8 @@ abbrev pub HasLinesFault : FileBytes → (List ℕ → Type 0) → Netlist → L
 HasLinesFault bytes Failed c lines CannotRead = FirstBadJob bytes Failed c lines CannotRead
 HasLinesFault bytes Failed c lines Memory = Unit {0}
 HasLinesFault bytes Failed c lines (File fault) = FirstBadJob bytes Failed c lines (File fault)
-HasLinesFault bytes Failed c lines (Binding fault) = FirstBadJob bytes Failed c lines (Binding fault)
+HasLinesFault bytes Failed c lines (Binding fault) =
+    FirstBadJob bytes Failed c lines (Binding fault)
 HasLinesFault bytes Failed c lines _ = ⊥
 
 -- The file of this name is a list of these jobs.
