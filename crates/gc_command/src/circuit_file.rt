@@ -43,21 +43,21 @@ pub fn read_circuit<A: Allocator + Copy, F: Files>(
 
 /// How much of a circuit's file is hashed while the circuit is read.
 #[derive(Clone, Copy)]
-enum Part {
+pub enum HashedPart {
     /// The first half. Reading takes half as long as hashing, and what is left can be hashed beside other work.
     Half,
     /// The whole file.
     Whole,
 }
 
-impl Part {
+impl HashedPart {
     /// How many bytes of a text of this length it is.
     fn bytes(self, len: usize) -> usize
         ensures { result ≤ len }
     {
         match self {
-            Part::Half => len / 2,
-            Part::Whole => len,
+            HashedPart::Half => len / 2,
+            HashedPart::Whole => len,
         }
     }
 }
@@ -82,41 +82,20 @@ pub fn read_circuit_and_digest<R: Threads, A: Allocator + Copy + Send + Sync, F:
     ensures counted { OnOk result (F.failures files.new ≡ F.failures files.old) }
     ensures same { (n : List ℕ) → F.bytes files.new n ≡ F.bytes files.old n }
 {
-    let (circuit, begun) = read_and_hash(rt, alloc, name, files, Part::Whole)?;
+    let (circuit, begun) = read_and_begin_digest(rt, alloc, name, files, HashedPart::Whole)?;
     let digest = circuit.finish_digest(begun);
     Ok((circuit, digest))
 }
 
-/// The circuit of a file, and its digest, which a thread of its own begins while the circuit is read, as
-/// [`read_circuit_and_digest`] does. What is left of it can be done beside other work, without the file's bytes.
-pub fn read_circuit_and_begin_digest<R: Threads, A: Allocator + Copy + Send + Sync, F: Files>(
+/// The circuit of a file, and its digest, which a thread of its own begins with this part of the file, as
+/// [`read_circuit_and_digest`] does with the whole. What is left of the digest can be taken beside other work, without
+/// the file's bytes.
+pub fn read_and_begin_digest<R: Threads, A: Allocator + Copy + Send + Sync, F: Files>(
     rt: &R,
     alloc: A,
     name: &str,
     files: &mut F,
-) -> Result<(Circuit<A>, BegunDigest), Fault>
-    ensures begun { IfOk result (λ made. IsBegun made.0 made.1) }
-    ensures circuit { IfOk result
-        (λ made. IfSome (F.bytes files.old name.now) (λ bytes. IsCircuit bytes made.0)) }
-    ensures lawful { IfOk result (λ made. IsLawful made.0) }
-    ensures fault { IfErr result (λ fault. IfSome (F.bytes files.old name.now)
-        (λ bytes. HasCircuitFault bytes fault)) }
-    ensures kind { IfErr result IsCircuitFault }
-    ensures cause { IfErr result (λ fault. HasCause fault
-        (HasFailed (F.failures files.old) (F.failures files.new) name.now) ⊥) }
-    ensures counted { OnOk result (F.failures files.new ≡ F.failures files.old) }
-    ensures same { (n : List ℕ) → F.bytes files.new n ≡ F.bytes files.old n }
-{
-    read_and_hash(rt, alloc, name, files, Part::Half)
-}
-
-/// The circuit of a file, and its digest, begun with a part of the file.
-fn read_and_hash<R: Threads, A: Allocator + Copy + Send + Sync, F: Files>(
-    rt: &R,
-    alloc: A,
-    name: &str,
-    files: &mut F,
-    part: Part,
+    part: HashedPart,
 ) -> Result<(Circuit<A>, BegunDigest), Fault>
     ensures begun { IfOk result (λ made. IsBegun made.0 made.1) }
     ensures circuit { IfOk result

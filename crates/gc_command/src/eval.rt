@@ -4,7 +4,7 @@ ghost use Rattle.std.specs.Prelude.{◌≡◌, ℕ, List, map, IfOk, IfErr, stri
 ghost use Rattle.gc_command.specs.Eval.{AnswersEval, HasEvalFault};
 ghost use Rattle.gc_command.specs.Files.{HasFailed};
 
-use crate::circuit_file::read_circuit_and_begin_digest;
+use crate::circuit_file::{HashedPart, read_and_begin_digest};
 use crate::evaluated_files::{finish_digest_and_read_garbled_file, read_label_files};
 use crate::fault::Fault;
 use crate::files::Files;
@@ -36,7 +36,7 @@ pub fn eval<R: Threads + Wait + Sync, A: Allocator + Copy + Send + Sync, F: File
     ensures same { (name : List ℕ) → F.bytes files.new name ≡ F.bytes files.old name }
 {
     progress.begin(1, 3, Work::ReadingCircuit);
-    let (circuit, begun) = read_circuit_and_begin_digest(rt, alloc, circuit, files)?;
+    let (circuit, begun) = read_and_begin_digest(rt, alloc, circuit, files, HashedPart::Half)?;
     progress.begin(2, 3, Work::ReadingFiles);
     let (digest, garbled) = finish_digest_and_read_garbled_file(
         rt, alloc, &circuit, begun, garbled, files,

@@ -13,7 +13,7 @@ ghost use Rattle.gc_command.specs.Wrote.{HasWritten, IsUnwritten};
 ghost use Rattle.gc_command.specs.Fault.{HasCause};
 ghost use Rattle.gc_command.specs.Files.{HasFailed};
 
-use crate::circuit_file::read_circuit_and_begin_digest;
+use crate::circuit_file::{HashedPart, read_and_begin_digest};
 use crate::fault::Fault;
 use crate::files::Files;
 use crate::garbling::digest_and_garbling;
@@ -53,7 +53,7 @@ pub fn garble<R: Threads + Wait + Sync, A: Allocator + Copy + Send + Sync, F: Fi
         → (n : List ℕ) → F.bytes files.new n ≡ F.bytes files.old n) }
 {
     progress.begin(1, 3, Work::ReadingCircuit);
-    let (circuit, begun) = read_circuit_and_begin_digest(rt, alloc, circuit, files)?;
+    let (circuit, begun) = read_and_begin_digest(rt, alloc, circuit, files, HashedPart::Half)?;
     let seed = Seed::from_hex(seed)?;
     let gates = circuit.gates();
     progress.begin(2, 3, Work::Garbling { gates });

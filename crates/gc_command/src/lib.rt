@@ -23,7 +23,7 @@ mod seen_name;
 mod values;
 mod wrote;
 
-pub use circuit_file::{read_circuit, read_circuit_and_begin_digest, read_circuit_and_digest};
+pub use circuit_file::{HashedPart, read_and_begin_digest, read_circuit, read_circuit_and_digest};
 pub use evaluated_files::{read_garbled_file, read_label_files};
 pub use fault::Fault;
 pub use file_failures::FileFailures;

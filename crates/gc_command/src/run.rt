@@ -5,7 +5,7 @@ ghost use Rattle.gc_command.specs.Run.{AnswersRun, HasRunFault};
 ghost use Rattle.gc_command.specs.Fault.{HasCause};
 ghost use Rattle.gc_command.specs.Files.{HasFailed};
 
-use crate::circuit_file::read_circuit_and_begin_digest;
+use crate::circuit_file::{HashedPart, read_and_begin_digest};
 use crate::fault::Fault;
 use crate::files::Files;
 use crate::job::evaluate_files;
@@ -39,7 +39,7 @@ pub fn run<R: Threads + Wait + Sync, A: Allocator + Copy + Send + Sync, F: Files
     ensures same { (name : List ℕ) → F.bytes files.new name ≡ F.bytes files.old name }
 {
     progress.begin(1, 3, Work::ReadingCircuit);
-    let (circuit, begun) = read_circuit_and_begin_digest(rt, alloc, circuit, files)?;
+    let (circuit, begun) = read_and_begin_digest(rt, alloc, circuit, files, HashedPart::Half)?;
     let seed = Seed::from_hex(seed)?;
     let values = read_values(alloc, circuit.input_widths(), values)?;
     let gates = circuit.gates();

@@ -21,7 +21,7 @@ use gc_audit::{
 };
 use gc_circuit::{BegunDigest, Circuit, Memory};
 use gc_command::{
-    Fault, Files, digest_and_garbling, push_digits, push_number, read_circuit_and_begin_digest,
+    Fault, Files, HashedPart, digest_and_garbling, push_digits, push_number, read_and_begin_digest,
     read_garbled_file, read_label_files,
 };
 use gc_file::{Garbled, LabelFile, Version};
@@ -52,7 +52,7 @@ pub fn audit<R: Threads + Wait + Sync, A: Allocator + Copy + Send + Sync, F: Fil
         workers (map string_bytes labels.now)) }
     ensures same { (name : List ℕ) → F.bytes files.new name ≡ F.bytes files.old name }
 {
-    let (circuit, begun) = read_circuit_and_begin_digest(rt, alloc, circuit, files)?;
+    let (circuit, begun) = read_and_begin_digest(rt, alloc, circuit, files, HashedPart::Half)?;
     let seed = Seed::from_hex(seed)?;
     let garbled = read_garbled_file(alloc, garbled, files)?;
     let version = garbled.version();

@@ -11,7 +11,7 @@ pub returns-in_err-circuit-clause-fault : goal.returns-in_err-circuit-clause-fau
 returns-in_err-circuit-clause-fault g c =
     let p = err_from_is_err_and c.from_residual.result c.from_residual.ensures.1 in
     let bytes = g.F.Files.bytes c.args.files.now in
-    let failed = g.F.Files.failures c.read_circuit_and_begin_digest.new.files in
+    let failed = g.F.Files.failures c.read_and_begin_digest.new.files in
     let Failed : List ℕ → Type 0 = HasFailed (g.F.Files.failures c.args.files.now) failed in
     rw (p.1, p.2)
     (circuit-fault bytes Failed c.args.circuit.now c.args.garbled.now c.args.workers (map string_bytes c.args.labels.now)
@@ -23,13 +23,13 @@ returns-in_err-digest-clause-fault g c =
     let bytes = g.F.Files.bytes c.args.files.now in
     let failed = g.F.Files.failures c.finish_digest_and_read_garbled_file.new.files in
     let Failed : List ℕ → Type 0 = HasFailed (g.F.Files.failures c.args.files.now) failed in
-    let Fails : List ℕ → Type 0 = HasFailed (g.F.Files.failures c.read_circuit_and_begin_digest.new.files) failed in
+    let Fails : List ℕ → Type 0 = HasFailed (g.F.Files.failures c.read_and_begin_digest.new.files) failed in
     let since : (n : List ℕ) → Fails n → Failed n = λ n fails. rw c.in_ok-circuit.ensures.counted at fails in
     rw (p.1, p.2)
     (files-fault bytes Failed c.args.circuit.now c.args.garbled.now c.args.workers (map string_bytes c.args.labels.now)
     c.in_ok-circuit.circuit c.in_ok-circuit.ensures.circuit c.in_err-digest.field-0.0
-    (inl (garbled-fault-before bytes (g.F.Files.bytes c.read_circuit_and_begin_digest.new.files)
-    c.read_circuit_and_begin_digest.ensures.same Fails Failed since
+    (inl (garbled-fault-before bytes (g.F.Files.bytes c.read_and_begin_digest.new.files)
+    c.read_and_begin_digest.ensures.same Fails Failed since
     c.args.garbled.now c.in_err-digest.field-0.0 c.in_err-digest.ensures.fault)))
 
 pub returns-in_err-labels-clause-fault : goal.returns-in_err-labels-clause-fault
@@ -43,7 +43,7 @@ returns-in_err-labels-clause-fault g c =
     let Fails : List ℕ → Type 0 = HasFailed (g.F.Files.failures c.finish_digest_and_read_garbled_file.new.files) failed in
     let since : (n : List ℕ) → Fails n → Failed n =
     λ n fails. rw (c.in_ok-digest.ensures.counted, c.in_ok-circuit.ensures.counted) at fails in
-    let read = held-before bytes (g.F.Files.bytes c.read_circuit_and_begin_digest.new.files) c.read_circuit_and_begin_digest.ensures.same
+    let read = held-before bytes (g.F.Files.bytes c.read_and_begin_digest.new.files) c.read_and_begin_digest.ensures.same
     (λ held. IsGarbledFile held parts) c.args.garbled.now c.in_ok-digest.ensures.garbled in
     rw (p.1, p.2)
     (files-fault bytes Failed c.args.circuit.now c.args.garbled.now c.args.workers names c.in_ok-circuit.circuit
@@ -52,7 +52,7 @@ returns-in_err-labels-clause-fault g c =
       parts,
       read,
       labels-fault-before bytes (g.F.Files.bytes c.finish_digest_and_read_garbled_file.new.files)
-          (λ n. c.finish_digest_and_read_garbled_file.ensures.same n ∙ c.read_circuit_and_begin_digest.ensures.same n) Fails Failed since
+          (λ n. c.finish_digest_and_read_garbled_file.ensures.same n ∙ c.read_and_begin_digest.ensures.same n) Fails Failed since
           names c.in_err-labels.field-0.0 c.in_err-labels.ensures.fault,
     )))
 
@@ -67,8 +67,8 @@ returns-in_err-outputs-clause-fault g c =
     rw (p.1, p.2)
     (job-fault bytes Failed c.args.circuit.now c.args.garbled.now c.args.workers names c.in_ok-circuit.circuit parts
     c.in_ok-labels.labels.items
-    (eval-files bytes (g.F.Files.bytes c.read_circuit_and_begin_digest.new.files) (g.F.Files.bytes c.finish_digest_and_read_garbled_file.new.files)
-    c.read_circuit_and_begin_digest.ensures.same c.finish_digest_and_read_garbled_file.ensures.same c.args.circuit.now c.args.garbled.now names
+    (eval-files bytes (g.F.Files.bytes c.read_and_begin_digest.new.files) (g.F.Files.bytes c.finish_digest_and_read_garbled_file.new.files)
+    c.read_and_begin_digest.ensures.same c.finish_digest_and_read_garbled_file.ensures.same c.args.circuit.now c.args.garbled.now names
     c.in_ok-circuit.circuit parts c.in_ok-labels.labels.items c.in_ok-circuit.ensures.circuit
     c.in_ok-digest.ensures.garbled c.in_ok-labels.ensures.labels)
     c.in_err-outputs.field-0.0 (rw c.deref.ensures.value at c.in_err-outputs.ensures.fault))
@@ -81,7 +81,7 @@ output_lines-requires g c =
 
 pub returns-in_err-output_lines-clause-same : goal.returns-in_err-output_lines-clause-same
 returns-in_err-output_lines-clause-same g c = λ n.
-    c.read_label_files.ensures.same n ∙ c.finish_digest_and_read_garbled_file.ensures.same n ∙ c.read_circuit_and_begin_digest.ensures.same n
+    c.read_label_files.ensures.same n ∙ c.finish_digest_and_read_garbled_file.ensures.same n ∙ c.read_and_begin_digest.ensures.same n
 
 pub returns-clause-answers : goal.returns-clause-answers
 returns-clause-answers g c =
@@ -93,8 +93,8 @@ returns-clause-answers g c =
       g = parts;
       files = c.in_ok-labels.labels.items;
       input =
-          eval-files bytes (g.F.Files.bytes c.read_circuit_and_begin_digest.new.files) (g.F.Files.bytes c.finish_digest_and_read_garbled_file.new.files)
-          c.read_circuit_and_begin_digest.ensures.same c.finish_digest_and_read_garbled_file.ensures.same c.args.circuit.now c.args.garbled.now names
+          eval-files bytes (g.F.Files.bytes c.read_and_begin_digest.new.files) (g.F.Files.bytes c.finish_digest_and_read_garbled_file.new.files)
+          c.read_and_begin_digest.ensures.same c.finish_digest_and_read_garbled_file.ensures.same c.args.circuit.now c.args.garbled.now names
           c.in_ok-circuit.circuit parts c.in_ok-labels.labels.items c.in_ok-circuit.ensures.circuit
           c.in_ok-digest.ensures.garbled c.in_ok-labels.ensures.labels;
       few = c.in_ok-outputs.ensures.workers;
@@ -105,4 +105,4 @@ returns-clause-answers g c =
 
 pub returns-clause-same : goal.returns-clause-same
 returns-clause-same g c = λ n.
-    c.read_label_files.ensures.same n ∙ c.finish_digest_and_read_garbled_file.ensures.same n ∙ c.read_circuit_and_begin_digest.ensures.same n
+    c.read_label_files.ensures.same n ∙ c.finish_digest_and_read_garbled_file.ensures.same n ∙ c.read_and_begin_digest.ensures.same n

@@ -9,7 +9,7 @@ use Rattle.gc_trace.proofs.audit.audit.Goals as goal
 pub returns-in_err-circuit-clause-fault : goal.returns-in_err-circuit-clause-fault
 returns-in_err-circuit-clause-fault g c =
     let p = err_from_is_err_and c.from_residual.result c.from_residual.ensures.1 in
-    let failed = g.F.Files.failures c.read_circuit_and_begin_digest.new.files in
+    let failed = g.F.Files.failures c.read_and_begin_digest.new.files in
     let Failed : List ℕ → Type 0 = HasFailed (g.F.Files.failures c.args.files.now) failed in
     rw (p.1, p.2)
     (circuit-fault (g.F.Files.bytes c.args.files.now) Failed c.args.circuit.now c.args.seed.now c.args.garbled.now
@@ -22,13 +22,13 @@ returns-in_err-garbled-clause-fault g c =
     let bytes = g.F.Files.bytes c.args.files.now in
     let failed = g.F.Files.failures c.read_garbled_file.new.files in
     let Failed : List ℕ → Type 0 = HasFailed (g.F.Files.failures c.args.files.now) failed in
-    let Fails : List ℕ → Type 0 = HasFailed (g.F.Files.failures c.read_circuit_and_begin_digest.new.files) failed in
+    let Fails : List ℕ → Type 0 = HasFailed (g.F.Files.failures c.read_and_begin_digest.new.files) failed in
     let since : (n : List ℕ) → Fails n → Failed n = λ n fails. rw c.in_ok-circuit.ensures.counted at fails in
     rw (p.1, p.2)
     (files-fault bytes Failed c.args.circuit.now c.args.seed.now c.args.garbled.now c.args.workers
     (map string_bytes c.args.labels.now) c.in_ok-circuit.circuit c.in_ok-circuit.ensures.circuit
     (c.in_ok-seed.ensures.accepts.0 refl) c.in_err-garbled.field-0.0
-    (inl (garbled-fault-before bytes (g.F.Files.bytes c.read_circuit_and_begin_digest.new.files) c.read_circuit_and_begin_digest.ensures.same
+    (inl (garbled-fault-before bytes (g.F.Files.bytes c.read_and_begin_digest.new.files) c.read_and_begin_digest.ensures.same
     Fails Failed since c.args.garbled.now c.in_err-garbled.field-0.0 c.in_err-garbled.ensures.fault)))
 
 pub returns-in_err-labels-clause-fault : goal.returns-in_err-labels-clause-fault
@@ -42,7 +42,7 @@ returns-in_err-labels-clause-fault g c =
     let Fails : List ℕ → Type 0 = HasFailed (g.F.Files.failures c.read_garbled_file.new.files) failed in
     let since : (n : List ℕ) → Fails n → Failed n =
     λ n fails. rw (c.in_ok-garbled.ensures.counted, c.in_ok-circuit.ensures.counted) at fails in
-    let read = held-before bytes (g.F.Files.bytes c.read_circuit_and_begin_digest.new.files) c.read_circuit_and_begin_digest.ensures.same
+    let read = held-before bytes (g.F.Files.bytes c.read_and_begin_digest.new.files) c.read_and_begin_digest.ensures.same
     (λ held. IsGarbledFile held parts) c.args.garbled.now c.in_ok-garbled.ensures.garbled in
     rw (p.1, p.2)
     (files-fault bytes Failed c.args.circuit.now c.args.seed.now c.args.garbled.now c.args.workers names
@@ -52,7 +52,7 @@ returns-in_err-labels-clause-fault g c =
       parts,
       read,
       labels-fault-before bytes (g.F.Files.bytes c.read_garbled_file.new.files)
-          (λ n. c.read_garbled_file.ensures.same n ∙ c.read_circuit_and_begin_digest.ensures.same n) Fails Failed since
+          (λ n. c.read_garbled_file.ensures.same n ∙ c.read_and_begin_digest.ensures.same n) Fails Failed since
           names c.in_err-labels.field-0.0 c.in_err-labels.ensures.fault,
     )))
 
@@ -67,8 +67,8 @@ returns-in_err-garbling-clause-fault g c =
         (
           c.in_ok-labels.labels.items,
           (
-            eval-files bytes (g.F.Files.bytes c.read_circuit_and_begin_digest.new.files)
-                (g.F.Files.bytes c.read_garbled_file.new.files) c.read_circuit_and_begin_digest.ensures.same
+            eval-files bytes (g.F.Files.bytes c.read_and_begin_digest.new.files)
+                (g.F.Files.bytes c.read_garbled_file.new.files) c.read_and_begin_digest.ensures.same
                 c.read_garbled_file.ensures.same c.args.circuit.now c.args.garbled.now
                 (map string_bytes c.args.labels.now) c.in_ok-circuit.circuit c.in_ok-garbled.garbled
                 c.in_ok-labels.labels.items c.in_ok-circuit.ensures.circuit c.in_ok-garbled.ensures.garbled
@@ -82,7 +82,7 @@ returns-in_err-garbling-clause-fault g c =
 
 pub returns-in_err-garbling-clause-same : goal.returns-in_err-garbling-clause-same
 returns-in_err-garbling-clause-same g c = λ n.
-    c.read_label_files.ensures.same n ∙ c.read_garbled_file.ensures.same n ∙ c.read_circuit_and_begin_digest.ensures.same n
+    c.read_label_files.ensures.same n ∙ c.read_garbled_file.ensures.same n ∙ c.read_and_begin_digest.ensures.same n
 
 pub returns-in-Ok-clause-answers : goal.returns-in-Ok-clause-answers
 returns-in-Ok-clause-answers g c =
@@ -91,8 +91,8 @@ returns-in-Ok-clause-answers g c =
       c = c.in_ok-circuit.circuit;
       g = c.in_ok-garbled.garbled;
       files = c.in_ok-labels.labels.items;
-      input = eval-files bytes (g.F.Files.bytes c.read_circuit_and_begin_digest.new.files)
-          (g.F.Files.bytes c.read_garbled_file.new.files) c.read_circuit_and_begin_digest.ensures.same
+      input = eval-files bytes (g.F.Files.bytes c.read_and_begin_digest.new.files)
+          (g.F.Files.bytes c.read_garbled_file.new.files) c.read_and_begin_digest.ensures.same
           c.read_garbled_file.ensures.same c.args.circuit.now c.args.garbled.now
           (map string_bytes c.args.labels.now) c.in_ok-circuit.circuit c.in_ok-garbled.garbled
           c.in_ok-labels.labels.items c.in_ok-circuit.ensures.circuit c.in_ok-garbled.ensures.garbled
@@ -106,8 +106,8 @@ returns-in-Ok-clause-answers g c =
 
 pub returns-in-Ok-clause-same : goal.returns-in-Ok-clause-same
 returns-in-Ok-clause-same g c = λ n.
-    c.read_label_files.ensures.same n ∙ c.read_garbled_file.ensures.same n ∙ c.read_circuit_and_begin_digest.ensures.same n
+    c.read_label_files.ensures.same n ∙ c.read_garbled_file.ensures.same n ∙ c.read_and_begin_digest.ensures.same n
 
 pub returns-clause-same : goal.returns-clause-same
 returns-clause-same g c = λ n.
-    c.read_label_files.ensures.same n ∙ c.read_garbled_file.ensures.same n ∙ c.read_circuit_and_begin_digest.ensures.same n
+    c.read_label_files.ensures.same n ∙ c.read_garbled_file.ensures.same n ∙ c.read_and_begin_digest.ensures.same n
