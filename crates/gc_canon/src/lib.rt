@@ -4,5 +4,5 @@
 mod lines;
 mod sink;
 
-pub use lines::{LONGEST, ROOM, Room, empty_room, sizes_line, write_gate, write_widths};
+pub use lines::{EMPTY_ROOM, LONGEST, ROOM, Room, sizes_line, write_gate, write_widths};
 pub use sink::{Comparison, Differs, TextSink};

@@ -19,9 +19,7 @@ pub const LONGEST: usize = 41;
 pub type Room = [u8; ROOM];
 
 /// Room in which nothing is written.
-pub fn empty_room() -> Room {
-    [0; ROOM]
-}
+pub const EMPTY_ROOM: Room = [0; ROOM];
 
 /// Writes bytes before the place `end`, and returns where they start.
 fn write_bytes(room: &mut Room, end: usize, bytes: &[u8]) -> usize
@@ -150,7 +148,7 @@ pub fn write_widths<S: TextSink>(sink: &mut S, widths: &[u32]) -> Result<(), S::
     ensures { OnOk result ((whole text : List ℕ) → S.holds sink.old whole text
         → S.holds sink.new whole (text ++ line (words_of_widths widths.now))) }
 {
-    let mut room = empty_room();
+    let mut room = EMPTY_ROOM;
     sink.put(digits(&mut room, widths.len() as u32))?;
     for width in widths {
         sink.put(spaced_digits(&mut room, *width))?;

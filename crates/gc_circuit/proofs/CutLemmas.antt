@@ -1,8 +1,8 @@
 -- Cuts of a text between two tokens.
-use Rattle.std.proofs.Common.{◌≡◌, ℕ, ◌-◌, ◌<◌, ◌≤◌, ◌++◌, inl, inr, List, [], ◌∷◌, length, take, drop, slice_index, true, codes, sym, ap, ◌∙◌, arith, append_assoc, take-append-drop}
+use Rattle.std.proofs.Common.{◌≡◌, ℕ, ◌+◌, ◌-◌, ◌<◌, ◌≤◌, ◌++◌, inl, inr, List, [], ◌∷◌, length, take, drop, slice_index, true, codes, sym, ap, ◌∙◌, arith, append_assoc, take-append-drop}
 use Rattle.std.proofs.lemmas.Grind.{common_steps}
 use Rattle.gc_netlist.specs.Text.{is_blank}
-use Rattle.gc_circuit.specs.Cursor.{IsCut}
+use Rattle.gc_circuit.specs.Cursor.{IsCut, KeepsCuts}
 
 -- A cut further on, where a blank comes next or nothing,
 pub cut_before : (all rest text : List ℕ) (k n : ℕ) → IsCut all rest → k ≤ length rest →
@@ -33,6 +33,14 @@ cut_behind all rest n cut some fits blank = record {
       grind (arith, common_steps) in
       ap is_blank (sym same) ∙ blank);
 }
+
+-- So each cut leads to one behind a blank.
+pub keeps_behind : (text : List ℕ) (n : ℕ) → n < length text →
+    is_blank (slice_index text n) ≡ true → KeepsCuts text (drop (n + 1) text)
+keeps_behind text n within blank all cut =
+    let same : n + 1 - 1 ≡ n = omega arith in
+    cut_behind all text (n + 1) cut (omega arith) (omega (arith, within))
+    (ap (λ k. is_blank (slice_index text k)) same ∙ blank)
 
 -- the last of the bytes of `2 1 `
 pub two_blank : (text : List ℕ) → 4 ≤ length text → take 4 text ≡ codes "2 1 " →

@@ -1,12 +1,13 @@
--- What is read at once: short numbers, the numbers 2 and 1, and names of three bytes.
-use Rattle.std.proofs.Common.{◌≡◌, ℕ, suc, ◌+◌, ◌-◌, ◌*◌, ◌^◌, ◌<◌, ◌≤◌, List, [], ◌∷◌, ◌++◌, length, take, drop, slice_index, true, false, refl, sym, ap, ◌∙◌, arith, take-append-drop, codes}
+-- What is read at once: short numbers, the numbers 2 and 1, and the names XOR and AND.
+use Rattle.std.proofs.Common.{◌≡◌, ℕ, suc, ◌+◌, ◌-◌, ◌*◌, ◌^◌, ◌<◌, ◌≤◌, ◌||◌, Bool, List, [], ◌∷◌, ◌++◌, length, take, drop, slice_index, true, false, Ok, refl, sym, ap, ◌∙◌, arith, take-append-drop, codes}
 use Rattle.std.proofs.Math.Nat.{pow-le-pow_right, pow-succ'}
 use Rattle.std.proofs.lemmas.Bool.Decides.{nat_tests}
 use Rattle.std.proofs.lemmas.Grind.{common_steps}
 use Rattle.std.proofs.lemmas.List.Elements.{All-push}
 use Rattle.gc_netlist.specs.Text.{tokens, is_blank, is_digit, value_of}
-use Rattle.gc_netlist.specs.Reading.{gate_at, two_at}
-use Rattle.gc_netlist.specs.Met.{two_left, gate_left}
+use Rattle.gc_netlist.specs.Reading.{number_at, token_at, operation_of_two, gate_at, two_at}
+use Rattle.gc_netlist.specs.declared.gate.Operation.{Operation}
+use Rattle.gc_netlist.specs.declared.gate.Operation.TheVariants.{Xor, And}
 use Rattle.gc_circuit.proofs.TokenLemmas.{NoBlank, tokens-blank, tokens_first}
 use Rattle.gc_circuit.proofs.NumberLemmas.{digits_no_blank}
 
@@ -52,11 +53,6 @@ pub gate_of_two : (ts : List (List ℕ)) → gate_at ((50 ∷ []) ∷ (49 ∷ []
 unfolding gate_at value_of
 gate_of_two ts = refl
 
--- and where a fault of it leaves a reader
-pub left_of_two : (ts : List (List ℕ)) → gate_left ((50 ∷ []) ∷ (49 ∷ []) ∷ ts) ≡ two_left ts
-unfolding gate_left value_of
-left_of_two ts = refl
-
 no_blanks : (a b c : ℕ) → is_blank a ≡ false → is_blank b ≡ false → is_blank c ≡ false →
     NoBlank (a ∷ b ∷ c ∷ [])
 no_blanks a b c first second third =
@@ -65,17 +61,48 @@ no_blanks a b c first second third =
     let two = All-push (λ x. is_blank x ≡ false) (a ∷ []) b one second in
     All-push (λ x. is_blank x ≡ false) (a ∷ b ∷ []) c two third
 
--- a text that begins with a space, a name of three bytes and a line feed
-pub name_taken : (text : List ℕ) → 5 ≤ length text → slice_index text 0 ≡ 32 →
-    slice_index text 4 ≡ 10 → is_blank (slice_index text 1) ≡ false →
-    is_blank (slice_index text 2) ≡ false → is_blank (slice_index text 3) ≡ false →
-    tokens text ≡ take 3 (drop 1 text) ∷ tokens (drop 5 text)
-name_taken (s ∷ a ∷ b ∷ c ∷ e ∷ t) long space feed first second third =
-    tokens-blank s (a ∷ b ∷ c ∷ e ∷ t) (ap is_blank space)
-    ∙ tokens_first a (b ∷ c ∷ []) e t (no_blanks a b c first second third) (ap is_blank feed)
-    ∙ ap (λ ts. (a ∷ b ∷ c ∷ []) ∷ ts) (tokens-blank e t (ap is_blank feed))
-name_taken [] long space feed first second third = absurd (omega (arith, long))
-name_taken (s ∷ []) long space feed first second third = absurd (omega (arith, long))
-name_taken (s ∷ a ∷ []) long space feed first second third = absurd (omega (arith, long))
-name_taken (s ∷ a ∷ b ∷ []) long space feed first second third = absurd (omega (arith, long))
-name_taken (s ∷ a ∷ b ∷ c ∷ []) long space feed first second third = absurd (omega (arith, long))
+-- a gate after these counts, from the tokens that its parts leave
+pub two_read : (ts us bs cs ds : List (List ℕ)) (a b set : ℕ) (name : List ℕ) (operation : Operation) →
+    number_at ts ≡ Ok (a, us) → number_at us ≡ Ok (b, bs) → number_at bs ≡ Ok (set, cs) →
+    token_at cs ≡ Ok (name, ds) → operation_of_two name a b ≡ Ok operation →
+    two_at ts ≡ Ok (record { operation = operation; set = set }, ds)
+unfolding two_at
+two_read ts us bs cs ds a b set name operation first second third named is =
+    rw (first, second, third, named, is) refl
+
+-- a text that begins with a name of three bytes and a line feed
+line_ended : (text : List ℕ) (a b c : ℕ) → 4 ≤ length text →
+    slice_index text 0 ∷ slice_index text 1 ∷ slice_index text 2 ∷ [] ≡ a ∷ b ∷ c ∷ [] →
+    slice_index text 3 ≡ 10 → NoBlank (a ∷ b ∷ c ∷ []) →
+    token_at (tokens text) ≡ Ok (a ∷ b ∷ c ∷ [], tokens (drop 4 text))
+line_ended (x ∷ y ∷ z ∷ e ∷ t) a b c long name feed none =
+    ap token_at (ap (λ l. tokens (l ++ e ∷ t)) name ∙ tokens_first a (b ∷ c ∷ []) e t none (ap is_blank feed)
+    ∙ ap (λ ts. (a ∷ b ∷ c ∷ []) ∷ ts) (tokens-blank e t (ap is_blank feed)))
+line_ended [] a b c long name feed none = absurd (omega (arith, long))
+line_ended (x ∷ []) a b c long name feed none = absurd (omega (arith, long))
+line_ended (x ∷ y ∷ []) a b c long name feed none = absurd (omega (arith, long))
+line_ended (x ∷ y ∷ z ∷ []) a b c long name feed none = absurd (omega (arith, long))
+
+pub xor_ended : (text : List ℕ) → 4 ≤ length text →
+    slice_index text 0 ∷ slice_index text 1 ∷ slice_index text 2 ∷ [] ≡ codes "XOR" →
+    slice_index text 3 ≡ 10 →
+    token_at (tokens text) ≡ Ok (codes "XOR", tokens (drop 4 text))
+xor_ended text long name feed = line_ended text 88 79 82 long name feed (no_blanks 88 79 82 refl refl refl)
+
+pub and_ended : (text : List ℕ) → 4 ≤ length text →
+    slice_index text 0 ∷ slice_index text 1 ∷ slice_index text 2 ∷ [] ≡ codes "AND" →
+    slice_index text 3 ≡ 10 →
+    token_at (tokens text) ≡ Ok (codes "AND", tokens (drop 4 text))
+and_ended text long name feed = line_ended text 65 78 68 long name feed (no_blanks 65 78 68 refl refl refl)
+
+-- one of two, and not the first
+pub the_other : (a b : Bool) → a ≡ false → a || b ≡ true → b ≡ true
+the_other a b not one = ap (λ x. x || b) (sym not) ∙ one
+
+pub operation_xor : (a b : ℕ) → operation_of_two (codes "XOR") a b ≡ Ok (Xor a b)
+unfolding operation_of_two
+operation_xor a b = refl
+
+pub operation_and : (a b : ℕ) → operation_of_two (codes "AND") a b ≡ Ok (And a b)
+unfolding operation_of_two
+operation_and a b = refl

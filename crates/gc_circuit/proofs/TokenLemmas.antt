@@ -55,15 +55,18 @@ tokens_take n text some fits none ends =
     let head : get_or text n 0 ≡ y = grind (arith, common_steps, ap (λ l. get_or l 0 0) e) in
     sym (ap is_blank head) ∙ ends longer)
 
+-- what is left before a blank and behind it
+pub past_blank : (text : List ℕ) (n : ℕ) → n < length text → is_blank (slice_index text n) ≡ true →
+    tokens (drop n text) ≡ tokens (drop (n + 1) text)
+past_blank text n within blank =
+    let next : suc n ≡ n + 1 = omega arith in
+    ap tokens (drop-cons text n 0 within) ∙ tokens-blank (get_or text n 0) (drop (suc n) text) blank
+    ∙ ap (λ k. tokens (drop k text)) next
+
 -- one more blank passed
 pub blank_passed : (text : List ℕ) (i : ℕ) → i < length text → is_blank (get_or text i 0) ≡ true →
     tokens (drop i text) ≡ tokens text → tokens (drop (i + 1) text) ≡ tokens text
-blank_passed text i within blank before =
-    let e : drop i text ≡ get_or text i 0 ∷ drop (suc i) text = drop-cons text i 0 within in
-    let n : suc i ≡ i + 1 = omega arith in
-    ap (λ k. tokens (drop k text)) (sym n)
-    ∙ sym (tokens-blank (get_or text i 0) (drop (suc i) text) blank)
-    ∙ ap tokens (sym e) ∙ before
+blank_passed text i within blank before = sym (past_blank text i within blank) ∙ before
 
 -- one more byte of a run
 pub run_more : (text : List ℕ) (i : ℕ) → i < length text → NoBlank (take i text) →

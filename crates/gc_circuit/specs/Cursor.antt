@@ -17,3 +17,7 @@ pub record IsCut (text rest : List ℕ) : Type 0 where
   pub before : List ℕ
   pub whole : text ≡ before ++ rest
   pub between : IsBreak before rest
+
+-- Wherever the one text is what a cut leaves, so is the other.
+abbrev pub KeepsCuts : List ℕ → List ℕ → Type 0
+KeepsCuts text rest = (all : List ℕ) → IsCut all text → IsCut all rest

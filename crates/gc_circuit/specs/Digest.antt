@@ -11,7 +11,8 @@ unfoldable pub first_lines : Netlist → (gates : ℕ) → List ℕ
 first_lines c gates = flat_map line (take (4 + gates) (lines_of_circuit c))
 
 -- The text begins with these lines of the circuit's canonical text, and they have at least `least` bytes.
-pub record AreCommonLines (c : Netlist) (text : List ℕ) (least : ℕ) (common : CommonLines) : Type 0 where
+pub record AreCommonLines (c : Netlist) (text : List ℕ) (least : ℕ) (common : CommonLines)
+    : Type 0 where
   pub within : common.gates ≤ length c.gates
   pub inside : common.bytes ≤ length text
   pub long : least ≤ common.bytes

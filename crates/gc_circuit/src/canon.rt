@@ -6,14 +6,14 @@ ghost use Rattle.gc_netlist.specs.Canon.{line, canonical_text};
 ghost use Rattle.gc_circuit.specs.Digest.{first_lines};
 
 use crate::circuit::Circuit;
-use gc_canon::{LONGEST, ROOM, Room, TextSink, empty_room, sizes_line, write_gate, write_widths};
+use gc_canon::{EMPTY_ROOM, LONGEST, ROOM, Room, TextSink, sizes_line, write_gate, write_widths};
 use gc_value::Memory;
 use std::alloc::Allocator;
 
-/// The number of gates whose lines are given to a sink at once. The room holds this many of the longest lines.
+/// The number of gates whose lines are given to a sink at once.
 const GATES_AT_ONCE: u32 = 12;
 
-// The longest lines of so many gates fit the room.
+// The room holds this many of the longest lines.
 const _: () = prove!(GATES_AT_ONCE as usize * LONGEST <= ROOM);
 
 impl<A: Allocator> Circuit<A> {
@@ -90,7 +90,7 @@ impl<A: Allocator> Circuit<A> {
         ensures { IfOk result (λ text. text.items ≡ canonical_text self.now) }
     {
         let mut text = Vec::new(alloc);
-        let mut room = empty_room();
+        let mut room = EMPTY_ROOM;
         self.write_header(&mut text, &mut room)?;
         self.write_rest(&mut text, &mut room, 0)?;
         Ok(text)

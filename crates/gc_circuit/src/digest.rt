@@ -7,7 +7,7 @@ ghost use Rattle.gc_netlist.specs.Canon.{canonical_text};
 ghost use Rattle.gc_circuit.specs.Digest.{AreCommonLines, IsBegun};
 
 use crate::circuit::Circuit;
-use gc_canon::{Comparison, empty_room};
+use gc_canon::{Comparison, EMPTY_ROOM};
 use sha2::{Digest, Sha256};
 use std::alloc::Allocator;
 
@@ -40,7 +40,7 @@ impl<A: Allocator> Circuit<A> {
         ensures { IsBegun self.now result }
     {
         let mut hasher = Sha256::new();
-        let mut room = empty_room();
+        let mut room = EMPTY_ROOM;
         match self.write_header(&mut hasher, &mut room) {
             Ok(()) => BegunDigest { hasher, gates: 0 },
             Err(never) => match never {},
@@ -52,7 +52,7 @@ impl<A: Allocator> Circuit<A> {
     pub fn common_lines(&self, text: &[u8], least: usize) -> Option<CommonLines>
         ensures { IfSome result (AreCommonLines self.now text.now least) }
     {
-        let mut room = empty_room();
+        let mut room = EMPTY_ROOM;
         let mut comparison = Comparison::new(text);
         self.write_header(&mut comparison, &mut room).ok()?;
         let mut gates = 0;
@@ -90,7 +90,7 @@ impl<A: Allocator> Circuit<A> {
         requires { IsBegun self.now begun.old }
         ensures { IsBegun self.now begun.new }
     {
-        let mut room = empty_room();
+        let mut room = EMPTY_ROOM;
         match self.write_rest(&mut begun.hasher, &mut room, begun.gates) {
             Ok(()) => begun.gates = self.gates(),
             Err(never) => match never {},
@@ -103,7 +103,7 @@ impl<A: Allocator> Circuit<A> {
         requires { IsBegun self.now begun }
         ensures { result ≡ sha256 (canonical_text self.now) }
     {
-        let mut room = empty_room();
+        let mut room = EMPTY_ROOM;
         match self.write_rest(&mut begun.hasher, &mut room, begun.gates) {
             Ok(()) => begun.hasher.finalize(),
             Err(never) => match never {},

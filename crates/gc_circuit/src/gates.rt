@@ -77,17 +77,15 @@ fn read_one(tokens: &mut Tokens<'_>) -> Result<Gate, ReadFault>
 }
 
 /// A gate: how many wires it reads and sets, and then the rest. Where these counts are at fault, the first is the last
-/// token taken.
+/// token taken. Few gates are read here: the others don't pay for it.
 #[tactic(auto, unfolding(gc_netlist::specs::Reading::gate_at, gc_netlist::specs::Met::gate_left))]
-pub(crate) fn read_gate(tokens: &mut Tokens<'_>) -> Result<Gate, ReadFault>
+#[inline(never)]
+fn read_any_gate(tokens: &mut Tokens<'_>) -> Result<Gate, ReadFault>
     ensures read { MatchResult result (λ g. gate_at tokens.old.left ≡ Ok (g, tokens.new.left))
         (λ e. gate_at tokens.old.left ≡ Err e) }
     ensures left { IfErr result (λ _. tokens.new.left ≡ gate_left tokens.old.left) }
     ensures kept { tokens.new.text ≡ tokens.old.text }
 {
-    if tokens.two_and_one() {
-        return read_two(tokens);
-    }
     let reads = tokens.number()?;
     let first = tokens.mark();
     let sets = tokens.number()?;
@@ -98,5 +96,20 @@ pub(crate) fn read_gate(tokens: &mut Tokens<'_>) -> Result<Gate, ReadFault>
     } else {
         tokens.reset(first);
         Err(ReadFault::BadShape)
+    }
+}
+
+/// A gate, of whichever spelling. The answer of the call is made anew by `?`: handed on as it stands, it would bring
+/// the usual gate into memory too.
+#[inline(always)]
+pub(crate) fn read_gate(tokens: &mut Tokens<'_>) -> Result<Gate, ReadFault>
+    ensures read { MatchResult result (λ g. gate_at tokens.old.left ≡ Ok (g, tokens.new.left))
+        (λ e. gate_at tokens.old.left ≡ Err e) }
+    ensures left { IfErr result (λ _. tokens.new.left ≡ gate_left tokens.old.left) }
+    ensures kept { tokens.new.text ≡ tokens.old.text }
+{
+    match tokens.common_gate() {
+        Some(gate) => Ok(gate),
+        None => Ok(read_any_gate(tokens)?),
     }
 }

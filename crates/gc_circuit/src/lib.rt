@@ -11,6 +11,7 @@ mod circuit;
 mod digest;
 mod eval;
 mod gates;
+mod line;
 mod locate;
 mod number;
 mod read;

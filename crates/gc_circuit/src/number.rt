@@ -20,10 +20,9 @@ const SHORT: usize = 9;
 /// loop has few turns, so that the compiler unrolls it, and no value is too large.
 #[inline(always)]
 pub(crate) fn short_number(text: &[u8]) -> Option<(u32, usize)>
-    requires { 0 < length text.now → is_blank (slice_index text.now 0) ≡ false }
-    ensures { IfSome result (λ r. (r.1 ≤ length text.now)
+    ensures { IfSome result (λ r. (r.1 < length text.now)
         × (number_at (tokens text.now) ≡ Ok (r.0, tokens (drop r.1 text.now)))
-        × (r.1 < length text.now → is_blank (slice_index text.now r.1) ≡ true)) }
+        × (is_blank (slice_index text.now r.1) ≡ true)) }
 {
     if text.len() < SHORT {
         return None;
@@ -32,7 +31,7 @@ pub(crate) fn short_number(text: &[u8]) -> Option<(u32, usize)>
     for i in 0..SHORT {
         let byte = text[i];
         if !byte.is_ascii_digit() {
-            return if is_blank(byte) {
+            return if i > 0 && is_blank(byte) {
                 Some((value, i))
             } else {
                 None

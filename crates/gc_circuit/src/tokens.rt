@@ -1,13 +1,14 @@
-ghost use Rattle.std.specs.Prelude.{◌≡◌, ℕ, ◌<◌, ◌≤◌, ◌+◌, ◌-◌, ◌∷◌, ◌++◌, length, take, drop, true, false, slice_index, codes, All, IfOk, IfErr, IsTrue, IsFalse, MatchOption, MatchResult, Ok, Err};
+ghost use Rattle.std.specs.Prelude.{◌≡◌, ℕ, ◌<◌, ◌≤◌, ◌+◌, ◌-◌, ◌++◌, length, take, drop, true, false, slice_index, All, IfOk, IfErr, IsTrue, MatchOption, MatchResult, Ok, Err};
 ghost use Rattle.gc_netlist.specs.Text.{tokens, is_blank};
-ghost use Rattle.gc_netlist.specs.Reading.{token_at, number_at, limited_at, check_end};
+ghost use Rattle.gc_netlist.specs.Reading.{token_at, number_at, gate_at, limited_at, check_end};
 ghost use Rattle.gc_netlist.specs.Met.{limited_left};
 ghost use Rattle.gc_netlist.specs.Place.{Token, Behind, IsSpot};
 ghost use Rattle.gc_circuit.specs.Cursor.{IsCut};
 
 use crate::back::{last_end, start_back};
+use crate::line::common_gate;
 use crate::number::{is_blank, leading_number, short_number};
-use gc_netlist::ReadFault;
+use gc_netlist::{Gate, ReadFault};
 use std::marker::Model;
 
 /// A cursor in a text, seen as the text and the tokens that are left. The calls that read gates are inlined, so that
@@ -56,26 +57,6 @@ fn run_len(text: &[u8]) -> usize
         }
     }
     text.len()
-}
-
-/// Whether the text begins with the numbers 2 and 1 and a space after each.
-#[inline(always)]
-fn begins_with_two_and_one(text: &[u8]) -> bool
-    ensures { IsTrue result → (4 ≤ length text.now) × (take 4 text.now ≡ codes "2 1 ") }
-{
-    matches!(text, [b'2', b' ', b'1', b' ', ..])
-}
-
-/// Whether the text begins with a space, three bytes that are no blanks, and a line feed.
-#[inline(always)]
-fn begins_with_name_of_three(text: &[u8]) -> bool
-    ensures long { IsTrue result → 5 ≤ length text.now }
-    ensures blanks { IsTrue result → (slice_index text.now 0 ≡ 32) × (slice_index text.now 4 ≡ 10) }
-    ensures name { IsTrue result → (is_blank (slice_index text.now 1) ≡ false)
-        × (is_blank (slice_index text.now 2) ≡ false)
-        × (is_blank (slice_index text.now 3) ≡ false) }
-{
-    matches!(text, [b' ', a, b, c, b'\n', ..] if !is_blank(*a) && !is_blank(*b) && !is_blank(*c))
 }
 
 impl<'a> Tokens<'a> {
@@ -148,18 +129,16 @@ impl<'a> Tokens<'a> {
         self.text.len()
     }
 
-    /// Takes the numbers 2 and 1 where they come next, each with a space after it. Returns whether they do.
+    /// Takes a gate that is spelled as nearly all are, where it comes next.
     #[inline(always)]
-    pub fn two_and_one(&mut self) -> bool
-        ensures taken { IsTrue result → self.old.left ≡ codes "2" ∷ codes "1" ∷ self.new.left }
-        ensures left { IsFalse result → self.new.left ≡ self.old.left }
+    pub fn common_gate(&mut self) -> Option<Gate>
+        ensures read { MatchOption result (self.new.left ≡ self.old.left)
+            (λ g. gate_at self.old.left ≡ Ok (g, self.new.left)) }
         ensures kept { self.new.text ≡ self.old.text }
     {
-        let taken = begins_with_two_and_one(self.rest);
-        if taken {
-            self.rest = &self.rest[4..];
-        }
-        taken
+        let (gate, rest) = common_gate(self.rest)?;
+        self.rest = rest;
+        Some(gate)
     }
 
     /// Takes a token that is due.
@@ -170,9 +149,6 @@ impl<'a> Tokens<'a> {
         ensures left { IfErr result (λ _. self.new.left ≡ self.old.left) }
         ensures kept { self.new.text ≡ self.old.text }
     {
-        if let Some(name) = self.name_of_three() {
-            return Ok(name);
-        }
         let text = skip_blanks(self.rest);
         if text.is_empty() {
             return Err(ReadFault::Truncated);
@@ -180,21 +156,6 @@ impl<'a> Tokens<'a> {
         let (token, rest) = text.split_at(run_len(text));
         self.rest = rest;
         Ok(token)
-    }
-
-    /// Takes a token of three bytes and the line feed after it, where one space comes before it.
-    #[inline(always)]
-    fn name_of_three(&mut self) -> Option<&'a [u8]>
-        ensures read { MatchOption result (self.new.left ≡ self.old.left)
-            (λ t. token_at self.old.left ≡ Ok (t.now, self.new.left)) }
-        ensures kept { self.new.text ≡ self.old.text }
-    {
-        if !begins_with_name_of_three(self.rest) {
-            return None;
-        }
-        let name = &self.rest[1..4];
-        self.rest = &self.rest[5..];
-        Some(name)
     }
 
     /// Takes a number that is due.

@@ -1,6 +1,6 @@
 use Rattle.std.proofs.Common.{◌≡◌, ◌<◌, ◌≤◌, length, get_or, true, refl, sym, ◌∙◌, arith}
 use Rattle.gc_netlist.specs.Text.{is_digit}
-use Rattle.gc_circuit.proofs.NumberLemmas.{value-nil, value_more, digits_more, number_read, blank_later}
+use Rattle.gc_circuit.proofs.NumberLemmas.{value-nil, value_more, digits_more, number_read}
 use Rattle.gc_circuit.proofs.ShortLemmas.{digit_most, short_value, short_more}
 use Rattle.gc_circuit.proofs.number.short_number.Goals as goal
 
@@ -10,14 +10,12 @@ loop-i-init c = record { value = sym value-nil; small = omega arith; digits = re
 pub returns-then-is_blank : goal.returns-then-is_blank
 returns-then-is_blank c =
     let blank = sym c.is_blank.ensures ∙ c.if-is_blank.true in
-    let within : c.loop-i.i < length c.args.text.now = omega arith in
     let small = short_value c.loop-i.value c.loop-i.i c.loop-i.invariant.small c.loop-i-test.true in (
       omega arith,
-      number_read c.args.text.now c.loop-i.i c.loop-i.value
-          (blank_later c.args.text.now c.loop-i.i within c.requires blank) (omega arith)
+      number_read c.args.text.now c.loop-i.i c.loop-i.value (omega arith) (omega arith)
           c.loop-i.invariant.digits
           c.loop-i.invariant.value (omega (arith, small)) (λ _. blank),
-      λ _. blank,
+      blank,
     )
 
 pub overflow_mul-value : goal.overflow_mul-value

@@ -1,4 +1,4 @@
-use Rattle.std.proofs.Common.{◌≡◌, ℕ, ◌<◌, ◌≤◌, length, slice_index, true}
+use Rattle.std.proofs.Common.{◌≡◌, ℕ, ◌<◌, ◌≤◌, length, slice_index, true, arith}
 use Rattle.gc_netlist.specs.Text.{is_blank}
 use Rattle.gc_circuit.proofs.CutLemmas.{cut_before}
 use Rattle.gc_circuit.proofs.ShortLemmas.{rest_whole}
@@ -12,7 +12,7 @@ invariant_of-self c =
     let Ends : ℕ → Type 0 = λ n. (n ≤ length text) × (n < length text → is_blank (slice_index text n) ≡ true) in
     let ends : Ends c.match-short_number.value.1 =
     elim c.match-short_number.branch [
-      | in-Some w ↦ (let e = w.in-Some.ensures in rw w.value-is (e.0, e.2))
+      | in-Some w ↦ (let e = w.in-Some.ensures in rw w.value-is (omega (arith, e.0), λ _. e.2))
       | in-None+in_ok-value-in-None w ↦
           (let e = w.in_ok-value-in-None.ensures in rw w.value-is (e.0, e.2))
     ] in

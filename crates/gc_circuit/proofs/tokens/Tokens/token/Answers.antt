@@ -6,14 +6,13 @@ use Rattle.gc_circuit.proofs.CutLemmas.{cut_before}
 use Rattle.gc_circuit.proofs.tokens.Tokens.token.Goals as goal
 
 pub returns-then-is_empty-clause-read : goal.returns-then-is_empty-clause-read
-returns-then-is_empty-clause-read c = ap token_at (sym c.in_default.ensures.read
-    ∙ none_left _ _ _ (ap (λ (v : Cursor). v.left) c.self.view_is) c.skip_blanks-text.ensures.same (sym c.is_empty.ensures
+returns-then-is_empty-clause-read c = ap token_at (none_left _ _ _ (ap (λ (v : Cursor). v.left) c.self.view_is) c.skip_blanks-text.ensures.same (sym c.is_empty.ensures
     ∙ c.if-is_empty.true))
 
 pub returns-clause-read : goal.returns-clause-read
 returns-clause-read c =
     ap token_at
-    (sym c.in_default.ensures.read ∙ one_left _ _ _ (ap (λ (v : Cursor). v.left) c.self.view_is) c.skip_blanks-text.ensures.same _ _ _
+    (one_left _ _ _ (ap (λ (v : Cursor). v.left) c.self.view_is) c.skip_blanks-text.ensures.same _ _ _
     (some_bytes _ _ c.is_empty.ensures c.if-is_empty.false) c.skip_blanks-text.ensures.begins
     c.run_len.ensures.within c.run_len.ensures.run c.run_len.ensures.ends c.split_at.ensures.front
     c.split_at.ensures.back)
