@@ -1,5 +1,5 @@
 -- The labels of a label file.
-use Rattle.std.proofs.Common.{◌≡◌, ℕ, suc, ◌+◌, ◌^◌, ◌<◌, ◌≤◌, slice_get, Some, sum, length-append, Bool, false, List, [], ◌∷◌, ◌++◌, length, length-take, flat_map, take, drop, get_or, append-nil, refl, sym, ap, ◌∙◌, arith}
+use Rattle.std.proofs.Common.{◌≡◌, ℕ, suc, ◌+◌, ◌*◌, ◌^◌, ◌<◌, ◌≤◌, slice_get, Some, sum, length-append, Bool, false, List, [], ◌∷◌, ◌++◌, length, length-take, flat_map, take, drop, get_or, append-nil, refl, sym, ap, ◌∙◌, arith}
 use Rattle.std.proofs.Math.Seq.{take-add, drop-cons}
 use Rattle.std.proofs.lemmas.List.{take-append-drop}
 use Rattle.std.proofs.lemmas.Grind.{flat_map-append}
@@ -86,11 +86,11 @@ label_file-is c seed index bits first width first_is width_is =
     ∙ ap (λ f. (label_magic ++ number_bytes index ++ number_bytes (length (encoded_from at seed bits))) ++
     label_bytes seed f bits) first_is
 
--- The file of fewer than 2 ^ 32 labels has fewer than 2 ^ 64 bytes.
-pub label_file-size : (c : Netlist) (seed : List ℕ) (index : ℕ) (bits : List Bool) → length bits < 2 ^ 32 →
-    length (label_file (label_parts_of c seed index bits)) < 2 ^ 64
+-- How many bytes a label file has.
+pub length-label_file : (c : Netlist) (seed : List ℕ) (index : ℕ) (bits : List Bool)
+    → length (label_file (label_parts_of c seed index bits)) ≡ 16 + 16 * length bits
 unfolding label_file
-label_file-size c seed index bits few =
+length-label_file c seed index bits =
     let labels = encoded_from (sum (take index c.input_widths)) seed bits in
     let counts = label_magic ++ number_bytes index in
     omega (
@@ -103,6 +103,11 @@ label_file-size c seed index bits few =
       length-flat_map bytes_of_label 16 length-bytes_of_label labels,
       length-encoded_from (sum (take index c.input_widths)) seed bits,
     )
+
+-- The file of fewer than 2 ^ 32 labels has fewer than 2 ^ 64 bytes.
+pub label_file-size : (c : Netlist) (seed : List ℕ) (index : ℕ) (bits : List Bool) → length bits < 2 ^ 32 →
+    length (label_file (label_parts_of c seed index bits)) < 2 ^ 64
+label_file-size c seed index bits few = omega (arith, length-label_file c seed index bits)
 
 -- The wires of an input value stand before the number of wires.
 pub first_wire-room : (c : Netlist) → IsLawful c → (index width : ℕ)

@@ -6,7 +6,8 @@ use Rattle.gc_format.specs.LabelFile.{label_file, label_parts_of}
 use Rattle.gc_kept.specs.Bits.{bit_byte}
 use Rattle.gc_kept.specs.Files.{no_value, of_bits, of_file}
 use Rattle.gc_kept.proofs.OutcomeLemmas.{OnOk-both, IfErr-map}
-use Rattle.gc_kept.proofs.RoomLemmas.{length-dealt, lacks_room}
+use Rattle.gc_write.proofs.DealLemmas.{length-label_file}
+use Rattle.gc_kept.proofs.RoomLemmas.{lacks_room}
 use Rattle.gc_kept.proofs.circuit.KeptCircuit.deal.Goals as goal
 
 pub returns-in_default-clause-fault : goal.returns-in_default-clause-fault
@@ -33,7 +34,7 @@ returns-in_err-look_for_room-clause-fault c =
     let p = err_from_is_err_and c.from_residual-in_err-look_for_room.result
     c.from_residual-in_err-look_for_room.ensures.1 in
     let size : 16 + 16 * c.in-Some.width.now ≡ length (label_file (label_parts_of a.self.now a.seed.now a.index bits)) =
-    omega (arith, length-dealt a.self.now a.seed.now a.index bits, c.in_ok-bits.ensures.count) in
+    omega (arith, length-label_file a.self.now a.seed.now a.index bits, c.in_ok-bits.ensures.count) in
     rw (p.1, p.2) (of_file bits c.in_err-look_for_room.field-0.0 c.in_ok-bits.ensures.bytes
     (found_at c.input_widths.result.now a.self.now.input_widths a.index a.index c.in-Some.width.now (length bits) found.0
     found.1 (c.input_widths.ensures ∙ ap (λ d. d.input_widths) c.circuit-circuit.ensures.same) refl
