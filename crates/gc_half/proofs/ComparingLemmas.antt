@@ -3,9 +3,13 @@ use Rattle.std.proofs.Common.{◌≡◌, ℕ, ◌+◌, ◌<◌, ◌++◌, List, 
 use Rattle.std.proofs.lemmas.List.{take_all, take_at, take_more, take_more_set, take-append-le, drop_all, drop_more, drop-drop, drop-set-lt, get_or-drop, get_or_append_left, length-take-le}
 use Rattle.std.proofs.Math.Seq.{get_or-append_seam}
 use Rattle.std.proofs.lemmas.Option.{slice_get_within, slice_get-get_or, get_or_from_slice_get}
+use Rattle.gc_netlist.specs.Circuit.{Netlist, IsLawful, input_wires}
+use Rattle.gc_label.specs.Seed.{input_label_of}
 use Rattle.gc_half.specs.declared.garbling.RowPair.{RowPair}
 use Rattle.gc_half.specs.declared.garbling.Mismatch.{Mismatch}
-use Rattle.gc_half.specs.Comparing.{IsFirstMismatch, RowTableParts, AreCompared, IsNextMismatch}
+use Rattle.gc_half.specs.Garbling.{GarblingParts, IsGarbled}
+use Rattle.gc_half.specs.Comparing.{IsFirstMismatch, IsComparison, HasLabels, RowTableParts, AreCompared, IsNextMismatch}
+use Rattle.gc_half.proofs.CanonicalLemmas.{garbling_of-IsGarbled, IsGarbled-same}
 use Rattle.gc_half.proofs.SetWires.{lt_or_le}
 
 -- the row pairs that are made, the given ones that are left, and the first mismatch
@@ -35,10 +39,9 @@ module _ (given : List RowPair) where
       → IsFirstMismatch given (made ++ pair ∷ []) m
   stays made pair m is = record {
     before = is.before ∙ sym (take-append-le m.place made (pair ∷ [])
-        (let within = slice_get_within made m.place is.pair is.made_there in omega arith));
+        (let within = slice_get_within made m.place m.made is.made_there in omega arith));
     given_there = is.given_there;
-    pair = is.pair;
-    made_there = longer made is.pair pair m.place is.made_there;
+    made_there = longer made m.made pair m.place is.made_there;
     differ = is.differ;
   }
 
@@ -73,7 +76,6 @@ module _ (given : List RowPair) where
         subst (IsFirstMismatch given (made ++ pair ∷ [])) (sym is.0) (record {
           before = before ∙ sym (take_at made (pair ∷ []) (length made) refl);
           given_there = there;
-          pair = pair;
           made_there = last made pair;
           differ = is.1;
         })
@@ -130,3 +132,25 @@ module _ (given : List RowPair) where
   compared-end made left None are many =
       sym (take_all (length made) given (omega arith)) ∙ are.first (omega arith)
   compared-end made left (Some m) are many = are.first (omega arith)
+
+module _ (c : Netlist) (seed : List ℕ) (lawful : IsLawful c) (g : GarblingParts) where
+  -- The circuit's garbling has its labels,
+  pub garbled-HasLabels : IsGarbled c seed g → HasLabels c seed g
+  garbled-HasLabels is = record {
+    labels = ap (λ (p : GarblingParts). p.zero_labels) (IsGarbled-same c seed lawful g is);
+    fits = record { wires = is.wires; and_gates = is.garbling.row_count; outputs = is.outputs };
+  }
+
+  -- what is compared with its rows is compared with the garbling's,
+  pub garbled-IsComparison : IsGarbled c seed g → (given : List RowPair) (first : Option Mismatch)
+      → MatchOption first (given ≡ g.rows) (IsFirstMismatch given g.rows) → IsComparison c seed given first
+  garbled-IsComparison is given first =
+      subst (λ rows. MatchOption first (given ≡ rows) (IsFirstMismatch given rows))
+      (ap (λ (p : GarblingParts). p.rows) (IsGarbled-same c seed lawful g is))
+
+  -- and the labels of the input wires are the seed's.
+  pub HasLabels-input : HasLabels c seed g → (w : ℕ) → w < input_wires c
+      → get_or g.zero_labels w 0 ≡ input_label_of seed w
+  HasLabels-input has w input =
+      ap (λ labels. get_or labels w 0) has.labels
+      ∙ (garbling_of-IsGarbled c seed lawful).garbling.labels.inputs w input

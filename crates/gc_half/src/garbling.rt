@@ -24,6 +24,8 @@ pub struct Mismatch {
     pub place: usize,
     /// The row pair that was given.
     pub given: RowPair,
+    /// The row pair that was made.
+    pub made: RowPair,
 }
 
 /// The zero label of each wire of a circuit, the row pair of each AND gate in file order, and the number of

@@ -105,7 +105,11 @@ fn next_mismatch(
     ensures { IsNextMismatch first place given made.now result }
 {
     if first.is_none() && given != *made {
-        Some(Mismatch { place, given })
+        Some(Mismatch {
+            place,
+            given,
+            made: *made,
+        })
     } else {
         first
     }

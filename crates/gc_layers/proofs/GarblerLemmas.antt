@@ -1,10 +1,11 @@
 -- A garbling that is partly there.
-use Rattle.std.proofs.Common.{◌≡◌, ℕ, ◌+◌, ◌<◌, ◌≤◌, ◌⊎◌, inl, inr, true, false, List, length, length-set, map, set, get_or, slice_index, slice_get, Some, refl, sym, ap, subst, ◌∙◌, arith}
+use Rattle.std.proofs.Common.{◌≡◌, ◌≢◌, count_by, ℕ, ◌+◌, ◌-◌, ◌<◌, ◌≤◌, ◌⊎◌, inl, inr, true, false, List, length, length-set, map, set, get_or, slice_index, slice_get, Some, refl, sym, ap, subst, ◌∙◌, arith}
 use Rattle.std.specs.List.{range_with_len}
 use Rattle.std.proofs.lemmas.Bool.{cases_eq}
 use Rattle.std.proofs.lemmas.List.{get_or-set_same, get_or_past, ext_get_or}
+use Rattle.std.proofs.lemmas.List.Sums.{count_by-le-length}
 use Rattle.std.proofs.lemmas.List.FromFn.{fill_by_all, length-map-range_with_len}
-use Rattle.std.proofs.lemmas.Option.{get_or_from_slice_get}
+use Rattle.std.proofs.lemmas.Option.{get_or_from_slice_get, slice_get-get_or}
 use Rattle.gc_netlist.specs.declared.gate.Operation.{Operation}
 use Rattle.gc_netlist.specs.declared.gate.Operation.TheVariants.{Xor, And, Inv, Eq, Eqw}
 use Rattle.gc_netlist.specs.declared.gate.Gate.{Gate}
@@ -15,14 +16,15 @@ use Rattle.gc_label.specs.Seed.{offset_of}
 use Rattle.gc_half.specs.declared.garbling.RowPair.{RowPair}
 use Rattle.gc_half.specs.Hash.{hash}
 use Rattle.gc_half.specs.HalfGate.{and_zero}
-use Rattle.gc_half.specs.OneGate.{first_read, second_read, gate_zero, gate_rows, row_pair}
-use Rattle.gc_half.specs.Garbling.{rows_of, GarblingParts, IsGarbled}
-use Rattle.gc_half.specs.Canonical.{input_zero, zero_label_of, row_pairs_of}
+use Rattle.gc_half.specs.OneGate.{first_read, second_read, gate_zero, row_pair}
+use Rattle.gc_half.specs.Garbling.{rows_of, IsGarbled}
+use Rattle.gc_half.specs.Canonical.{input_zero, zero_label_of, row_pairs_of, garbling_of}
 use Rattle.gc_half.proofs.CanonicalLemmas.{input_zero-input, input_zero-other, zero_label_of-input, zero_label_of-gate, zero_label_of-not_set, row_pairs_of-at, length-row_pairs_of, garbling_of-IsGarbled, parts-same}
 use Rattle.gc_half.proofs.AndNumbers.{and_or_other, and_number-below}
 use Rattle.gc_half.proofs.SetWires.{set_or_not, lt_or_le}
 use Rattle.gc_labelling.specs.Layer.{AreLabels}
-use Rattle.gc_layers.specs.Garbler.{AreRows, IsGate, no_rows, row_of, with_pair}
+use Rattle.gc_queue.proofs.ListLemmas.{count_by-all_back, count_by-set_more}
+use Rattle.gc_layers.specs.Garbler.{AreKept, AreRows, IsGate, is_present, no_rows, row_of}
 use Rattle.gc_layers.proofs.PartlyLemmas.{partly-put, partly-more}
 
 module _ (c : Netlist) (seed : List ℕ) where
@@ -71,31 +73,76 @@ module _ (c : Netlist) (seed : List ℕ) where
         | inr other ↦ inl (omega arith)
       ]
 
-  -- The row pair of a gate is put where it belongs, if it has one.
-  pub rows-gate : (op : Operation) (k offset x y : ℕ) (rows : List RowPair)
-      → (is_and op ≡ true → row_pair hash offset k x y ≡ row_of c seed k) → (is_and op ≡ true → k < and_count c)
-      → AreRows c seed k rows →
-      AreRows c seed k (with_pair rows k (gate_rows hash offset k op x y))
-      × (is_and op ≡ true → get_or (with_pair rows k (gate_rows hash offset k op x y)) k no_rows ≡ row_of c seed k)
-  rows-gate (Xor u v) k offset x y rows right below are = (are, λ h. cc)
-  rows-gate (And u v) k offset x y rows right below are = (
-    rows-put k k (row_pair hash offset k x y) rows (below refl) (right refl) are,
-    λ h. get_or-set_same rows k (row_pair hash offset k x y) no_rows (omega (arith, below refl, are.count))
-        ∙ right refl,
-  )
-  rows-gate (Inv u) k offset x y rows right below are = (are, λ h. cc)
-  rows-gate (Eq bit) k offset x y rows right below are = (are, λ h. cc)
-  rows-gate (Eqw u) k offset x y rows right below are = (are, λ h. cc)
+  -- Where none is missing, all are there.
+  pub kept-whole : (rows : List RowPair) → AreKept c seed 0 rows 0 → AreKept c seed (and_count c) rows 0
+  kept-whole rows are = record {
+    are_rows = record {
+      count = are.are_rows.count;
+      partly = partly-more (row_of c seed) no_rows (λ p. p.evaluator ≡ 0) (λ i. i < 0) (λ i. i < and_count c) rows
+          (λ i below. inr (are.are_rows.partly.right i (present i below))) are.are_rows.partly;
+    };
+    counted = are.counted;
+  }
+    where
+      absent : (pair : RowPair) → pair.evaluator ≡ 0 → is_present pair ≡ true → ⊥
+      absent pair blank there = cc
+
+      present : (i : ℕ) → i < and_count c → (get_or rows i no_rows).evaluator ≢ 0
+      present i below blank =
+          absent (get_or rows i no_rows) blank
+          (count_by-all_back is_present rows (omega (arith, are.counted)) i (get_or rows i no_rows)
+          (slice_get-get_or rows i no_rows (omega (arith, below, are.are_rows.count))))
+
+  -- A row pair that is there is one of the first.
+  pub kept-has : (k missing : ℕ) (rows : List RowPair) (pair : RowPair) → slice_get rows k ≡ Some pair
+      → is_present pair ≡ true → AreKept c seed k rows missing → AreKept c seed (k + 1) rows missing
+  kept-has k missing rows pair at there are = record {
+    are_rows = rows-next k rows (are.are_rows.partly.right k (λ blank. absent pair
+        (ap (λ (p : RowPair). p.evaluator) (sym (get_or_from_slice_get rows k pair no_rows at)) ∙ blank) there)) are.are_rows;
+    counted = are.counted;
+  }
+    where
+      absent : (p : RowPair) → p.evaluator ≡ 0 → is_present p ≡ true → ⊥
+      absent p blank here = cc
+
+  -- One that was missing is there.
+  pub count-put : (missing k : ℕ) (rows : List RowPair) (old pair : RowPair) → slice_get rows k ≡ Some old
+      → is_present old ≡ false → is_present pair ≡ true → missing + count_by is_present rows ≡ length rows →
+      (1 ≤ missing)
+      × (missing - 1 + count_by is_present (set rows k pair) ≡ missing + count_by is_present rows)
+  count-put missing k rows old pair at absent present counted =
+      let more = count_by-set_more is_present rows k old pair at absent present in
+      let some : 1 ≤ missing =
+      omega (arith, more, counted, count_by-le-length is_present (set rows k pair), length-set rows k pair) in
+      (some, omega (arith, some, more))
+
+  -- A row pair that isn't there is put where it belongs,
+  pub kept-put : (n k missing : ℕ) (rows : List RowPair) (pair : RowPair) → k < and_count c → pair ≡ row_of c seed k
+      → (left : ℕ) → left + count_by is_present (set rows k pair) ≡ missing + count_by is_present rows
+      → AreKept c seed n rows missing → AreKept c seed n (set rows k pair) left
+  kept-put n k missing rows pair below is left counts are = record {
+    are_rows = rows-put n k pair rows below is are.are_rows;
+    counted = counts ∙ are.counted ∙ sym (length-set rows k pair);
+  }
+
+  -- and may be one of the first.
+  pub kept-next : (k : ℕ) (rows : List RowPair) (pair : RowPair) → k < and_count c → pair ≡ row_of c seed k
+      → (left : ℕ) → AreKept c seed k (set rows k pair) left → AreKept c seed (k + 1) (set rows k pair) left
+  kept-next k rows pair below is left are = record {
+    are_rows = rows-next k (set rows k pair) (get_or-set_same rows k pair no_rows
+        (omega (arith, below, length-set rows k pair, are.are_rows.count)) ∙ is) are.are_rows;
+    counted = are.counted;
+  }
 
   -- At the end the row pairs are whole.
-  rows-end : IsLawful c → (rows : List RowPair) → AreRows c seed (and_count c) rows → rows ≡ row_pairs_of c seed
+  pub rows-end : IsLawful c → (rows : List RowPair) → AreRows c seed (and_count c) rows → rows ≡ row_pairs_of c seed
   rows-end lawful rows are =
       let long = length-row_pairs_of c seed lawful in
       ext_get_or no_rows rows (row_pairs_of c seed) (are.count ∙ sym long)
       (λ k below. are.partly.there k (omega (arith, below, are.count)))
 
   -- At the end the labels are whole,
-  labels-end : (labels : List ℕ) → AreLabels c (zero_label_of c seed) (length c.gates) labels
+  pub labels-end : (labels : List ℕ) → AreLabels c (zero_label_of c seed) (length c.gates) labels
       → labels ≡ map (zero_label_of c seed) (range_with_len 0 c.wires)
   labels-end labels are = fill_by_all (zero_label_of c seed) labels c.wires 0 are.wires at
     where
@@ -110,13 +157,13 @@ module _ (c : Netlist) (seed : List ℕ) where
 
   module _ (lawful : IsLawful c) where
     -- and both are the garbling.
-    pub garbled-end : (g : GarblingParts) (labels : List ℕ) (rows : List RowPair) (outputs : ℕ)
-        → g ≡ record { zero_labels = labels; rows = rows; outputs = outputs } → outputs ≡ output_wires c
-        → AreLabels c (zero_label_of c seed) (length c.gates) labels → AreRows c seed (and_count c) rows → IsGarbled c seed g
-    garbled-end g labels rows outputs is outputs_are are_labels are_rows =
-        subst (IsGarbled c seed) (sym (is ∙ parts-same (record { zero_labels = labels; rows = rows; outputs = outputs })
+    pub garbled-end : (labels : List ℕ) (rows : List RowPair) (outputs : ℕ) → outputs ≡ output_wires c
+        → labels ≡ (garbling_of c seed).zero_labels → AreRows c seed (and_count c) rows
+        → IsGarbled c seed (record { zero_labels = labels; rows = rows; outputs = outputs })
+    garbled-end labels rows outputs outputs_are labels_are are_rows =
+        subst (IsGarbled c seed) (sym (parts-same (record { zero_labels = labels; rows = rows; outputs = outputs })
         (map (zero_label_of c seed) (range_with_len 0 c.wires)) (row_pairs_of c seed) (output_wires c)
-        (labels-end labels are_labels) (rows-end lawful rows are_rows) outputs_are))
+        labels_are (rows-end lawful rows are_rows) outputs_are))
         (garbling_of-IsGarbled c seed lawful)
 
     -- At the start the labels of the input wires are there.

@@ -1,3 +1,4 @@
+pub mod ComparedLemmas
 pub mod EvaluatorLemmas
 pub mod GarblerLemmas
 pub mod MadeLemmas

@@ -1,6 +1,7 @@
 -- The garbling of a circuit as a labelling of its wires, partly there.
-use Rattle.std.specs.Prelude.{◌≡◌, ℕ, ◌<◌, Bool, List, Option, None, Some, count_by, length, nat_lt, slice_index_or, slice_set}
-use Rattle.gc_netlist.specs.Circuit.{Netlist, IsLawful, and_count}
+use Rattle.std.specs.Prelude.{◌≡◌, ℕ, ◌+◌, ◌<◌, Bool, true, false, List, count_by, length, nat_lt, slice_index_or}
+use Rattle.gc_netlist.specs.declared.gate.Operation.{Operation}
+use Rattle.gc_netlist.specs.Circuit.{Netlist, IsLawful, and_count, is_and}
 use Rattle.gc_label.specs.Seed.{offset_of}
 use Rattle.gc_half.specs.declared.garbling.RowPair.{RowPair}
 use Rattle.gc_half.specs.declared.half_gate.AndGate.{AndGate}
@@ -23,11 +24,6 @@ rows_by w = row_pair hash w.waits.gate.offset w.waits.gate.k w.waits.gate.a w.wa
 abbrev pub garbled_of : PlacedGate AndGate → Garbled
 garbled_of w = record { zero_label = zero_by w; rows = rows_by w }
 
--- the row pairs, with that of the k-th AND gate where there is one
-abbrev pub with_pair : List RowPair → ℕ → Option RowPair → List RowPair
-with_pair rows k None = rows
-with_pair rows k (Some pair) = slice_set rows k pair
-
 -- a row pair of zeros
 abbrev pub no_rows : RowPair
 no_rows = record { generator = 0; evaluator = 0 }
@@ -47,6 +43,11 @@ module _ (c : Netlist) (seed : List ℕ) where
     pub count : length rows ≡ and_count c
     pub partly : IsPartly row_of no_rows (λ pair. pair.evaluator ≡ 0) (λ k. k < n) rows
 
+  -- How many of these row pairs are not there is counted.
+  pub record AreKept (n : ℕ) (rows : List RowPair) (missing : ℕ) : Type 0 where
+    pub are_rows : AreRows n rows
+    pub counted : missing + count_by is_present rows ≡ length rows
+
   -- The gate that waits is one of the circuit's AND gates, with the zero labels of the wires that it reads.
   pub record IsGate (w : PlacedGate AndGate) : Type 0 where
     pub set : w.waits.set < c.wires
@@ -54,15 +55,28 @@ module _ (c : Netlist) (seed : List ℕ) where
     pub number : w.waits.gate.k < and_count c
     pub row : rows_by w ≡ row_of w.waits.gate.k
 
--- The circuit and the seed of a garbling.
+-- This is the number of an AND gate, of a circuit for which something holds under a seed.
+abbrev pub IsNumberFor : (Netlist → List ℕ → ℕ → Type 0) → ℕ → Type 0
+IsNumberFor Holds k =
+    (c : Netlist) × (seed : List ℕ) × (n : ℕ) × Holds c seed n × (k < and_count c)
+
+-- A gate of this operation with this row pair, which is the k-th AND gate where it is one, was kept: what held before
+-- holds after and, where it follows the first k, it is among them.
+pub record KeepsGate (Old New : Netlist → List ℕ → ℕ → Type 0) (k : ℕ) (operation : Operation)
+    (pair : RowPair) : Type 0 where
+  pub other : is_and operation ≡ false → (c : Netlist) (seed : List ℕ) → Old c seed k → New c seed k
+  pub next : is_and operation ≡ true → (c : Netlist) (seed : List ℕ) → pair ≡ row_of c seed k
+      → Old c seed k → New c seed (k + 1)
+
+-- The circuit and the seed of a garbling, and the row pairs with which its own are compared.
 pub record GarblerParts : Type 0 where
   pub circuit : Netlist
   pub seed : List ℕ
+  pub given : List RowPair
 
--- The offset is the seed's, and the row pairs are right as far as they are there. This many of them are.
-pub record IsGarbler (of : GarblerParts) (offset : ℕ) (rows : List RowPair) (present : ℕ)
+-- The offset is the seed's, and what was taken of row pairs is the garbling's.
+pub record IsGarbler (of : GarblerParts) (offset : ℕ) (Holds : Netlist → List ℕ → ℕ → Type 0)
     : Type 0 where
   pub lawful : IsLawful of.circuit
   pub is_offset : offset ≡ offset_of of.seed
-  pub are_rows : AreRows of.circuit of.seed 0 rows
-  pub counted : present ≡ count_by is_present rows
+  pub kept : Holds of.circuit of.seed 0

@@ -1,107 +1,71 @@
 //! The garbling of a circuit as a labelling of its wires.
 
-ghost use Rattle.std.specs.Prelude.{◌≡◌, ◌≢◌, ℕ, ◌<◌, IfOk, IsTrue, length, slice_index_or};
-ghost use Rattle.gc_netlist.specs.Circuit.{IsLawful, and_count};
-ghost use Rattle.gc_layers.specs.Garbler.{AreRows, IsGate, garbled_of, is_present, no_rows, row_of};
+ghost use Rattle.std.specs.Prelude.{◌≡◌};
 
 use crate::placed::PlacedGate;
+use crate::row_keeper::RowKeeper;
 use crate::to_garble::Garbled;
-use gc_circuit::{Circuit, Gate, Memory};
-use gc_half::{AndGate, RowPair, WaitingGate, garble_gate};
+use gc_circuit::{Circuit, Gate};
+use gc_half::{AndGate, WaitingGate, garble_gate};
 use gc_label::{Label, Offset, Seed, offset};
 use gc_labelling::{Labelling, Place};
-use gc_table::Table;
 use std::alloc::Allocator;
 use std::marker::Model;
 
-/// The garbling of a circuit under a seed, of which the labels are elsewhere: an AND gate without a row pair has zeros.
+/// The garbling of a circuit under a seed, of which the labels are elsewhere.
 #[derive(Drop)]
-pub(crate) struct Garbler<'c, A: Allocator, C: Allocator> {
+pub(crate) struct Garbler<'c, K: RowKeeper, C: Allocator> {
     circuit: &'c Circuit<C>,
     seed: &'c Seed,
     offset: Offset,
-    // By AND number.
-    rows: Table<RowPair, A>,
-    // How many row pairs are there.
-    present: u32,
+    keeper: K,
 }
 
-/// Whether a row pair is there.
-#[inline]
-fn is_present(pair: &RowPair) -> bool
-    ensures { result ≡ is_present pair.now }
-{
-    pair.evaluator != Label::ZERO
-}
-
-impl<'c, A: Allocator, C: Allocator> Model for Garbler<'c, A, C> {
+impl<'c, K: RowKeeper, C: Allocator> Model for Garbler<'c, K, C> {
     ghost use Rattle.gc_layers.specs.Garbler.{GarblerParts, IsGarbler};
 
     ghost Value = { GarblerParts };
 
-    ghost view = { λ t. record { circuit = t.circuit.now; seed = t.seed.now } };
+    ghost view = { λ t. record {
+      circuit = t.circuit.now;
+      seed = t.seed.now;
+      given = K.given t.keeper;
+    } };
 
-    ghost invariant = { λ t. IsGarbler (record { circuit = t.circuit.now; seed = t.seed.now })
-        t.offset t.rows t.present };
+    ghost invariant = { λ t. IsGarbler
+        (record { circuit = t.circuit.now; seed = t.seed.now; given = K.given t.keeper })
+        t.offset (K.holds t.keeper) };
 }
 
-impl<'c, A: Allocator, C: Allocator> Garbler<'c, A, C> {
-    /// A garbling of which no row pair is there.
-    pub(crate) fn open(
-        alloc: A,
-        circuit: &'c Circuit<C>,
-        seed: &'c Seed,
-    ) -> Result<Garbler<'c, A, C>, Memory>
-        ensures { IfOk result (λ t. t ≡ record { circuit = circuit.now; seed = seed.now }) }
+impl<'c, K: RowKeeper, C: Allocator> Garbler<'c, K, C> {
+    /// A garbling whose row pairs go to this keeper, which has taken none.
+    pub(crate) fn new(circuit: &'c Circuit<C>, seed: &'c Seed, keeper: K) -> Garbler<'c, K, C>
+        requires { K.holds keeper circuit.now seed.now 0 }
+        ensures { result ≡ record {
+          circuit = circuit.now;
+          seed = seed.now;
+          given = K.given keeper;
+        } }
     {
-        let ands = circuit.and_count();
         circuit.law_lawful();
-        Ok(Garbler {
+        Garbler {
             circuit,
             seed,
             offset: offset(seed),
-            rows: Table::open(alloc, Garbled::NONE.rows, ands)?,
-            present: 0,
-        })
+            keeper,
+        }
     }
 
-    /// The row pairs, and whether all are there.
-    pub(crate) fn into_rows(self) -> (Vec<RowPair, A>, bool)
-        ensures rows { AreRows self.entry.circuit self.entry.seed 0 result.0.items }
-        ensures whole { IsTrue result.1 → (k : ℕ) → k < length result.0.items
-            → (slice_index_or result.0.items k no_rows).evaluator ≢ 0 }
+    /// What became of the row pairs.
+    pub(crate) fn into_keeper(self) -> K
+        ensures holds { K.holds result self.entry.circuit self.entry.seed 0 }
+        ensures given { K.given result ≡ self.entry.given }
     {
-        let is_whole = self.present == self.circuit.and_count();
-        let Garbler {
-            circuit: _,
-            seed: _,
-            offset: _,
-            rows,
-            present: _,
-        } = self;
-        (rows.into_entries(), is_whole)
-    }
-
-    /// Puts the row pair of the k-th AND gate where it belongs, if it isn't there.
-    #[inline]
-    fn put(&mut self, k: u32, pair: RowPair)
-        requires number { k < and_count self.old.circuit }
-        requires pair { pair ≡ row_of self.old.circuit self.old.seed k }
-        ensures { self.new ≡ self.old }
-    {
-        let old = self.rows.get(k);
-        if is_present(&old) {
-            return;
-        }
-        let is_new = is_present(&pair);
-        self.rows.set(k, pair);
-        if is_new {
-            self.present += 1;
-        }
+        self.keeper
     }
 }
 
-impl<'c, A: Allocator, C: Allocator> Labelling<PlacedGate<AndGate>> for Garbler<'c, A, C> {
+impl<'c, K: RowKeeper, C: Allocator> Labelling<PlacedGate<AndGate>> for Garbler<'c, K, C> {
     ghost use Rattle.gc_half.specs.Canonical.{zero_label_of};
     ghost use Rattle.gc_layers.specs.Garbler.{IsGate};
 
@@ -141,7 +105,7 @@ impl<'c, A: Allocator, C: Allocator> Labelling<PlacedGate<AndGate>> for Garbler<
 
     #[inline]
     fn keep(&mut self, gate: &PlacedGate<AndGate>, made: &Garbled) -> (u32, Label) {
-        self.put(gate.waits.gate.k, made.rows);
+        self.keeper.keep(gate.waits.gate.k, made.rows);
         (gate.waits.set, made.zero_label)
     }
 }

@@ -1,46 +1,44 @@
 //! Gates that no layer had.
 
-ghost use Rattle.std.specs.Prelude.{◌≡◌, ℕ, ◌≢◌, ◌<◌, IsTrue, length, true, false, slice_index, slice_index_or, slice_set};
-ghost use Rattle.gc_netlist.specs.Circuit.{EachRead, is_and, and_count};
+ghost use Rattle.std.specs.Prelude.{◌≡◌, ℕ, ◌+◌, ◌<◌, List, IsTrue, length, slice_index, slice_index_or, slice_set};
+ghost use Rattle.gc_netlist.specs.Circuit.{Netlist, EachRead, is_and, and_count};
 ghost use Rattle.gc_half.specs.Hash.{hash};
-ghost use Rattle.gc_half.specs.OneGate.{first_read, second_read, gate_rows};
+ghost use Rattle.gc_half.specs.OneGate.{first_read, second_read, row_pair};
 ghost use Rattle.gc_half.specs.Garbling.{zero_of};
 ghost use Rattle.gc_labelling.specs.declared.mark.Mark.TheVariants.{Absent, There};
 ghost use Rattle.gc_half.specs.Canonical.{zero_label_of};
 ghost use Rattle.gc_labelling.specs.Layer.{AreLabels, AreMarked};
-ghost use Rattle.gc_layers.specs.Garbler.{AreRows, with_pair, no_rows};
+ghost use Rattle.gc_layers.specs.Garbler.{IsNumberFor, KeepsGate};
 
+use crate::row_keeper::RowKeeper;
 use gc_circuit::{Circuit, Gate};
 use gc_gatehouse::Gatehouse;
-use gc_half::{RowPair, garble_gate, labels_read};
+use gc_half::{garble_gate, labels_read};
 use gc_label::{Label, Offset, Seed, offset};
 use gc_labelling::Mark;
 use std::alloc::Allocator;
 
-/// Garbles each gate whose label or row pair isn't there, as worker 0, which reports it to the observer first. The
-/// caller knows whether all row pairs are there.
-pub(crate) fn garble_rest<C: Allocator, H: Gatehouse>(
+/// Garbles each gate whose label or row pair isn't there, as worker 0, which reports it to the observer first.
+pub(crate) fn garble_rest<K: RowKeeper, C: Allocator, H: Gatehouse>(
     observer: &H,
     circuit: &Circuit<C>,
     seed: &Seed,
     marks: &[Mark],
     labels: &mut [Label],
-    rows: &mut [RowPair],
-    has_all_rows: bool,
+    keeper: &mut K,
 )
     requires count { length marks.now ≡ circuit.now.wires }
     requires marks { AreMarked (zero_label_of circuit.now seed.now) marks.now labels.old }
     requires labels { AreLabels circuit.now (zero_label_of circuit.now seed.now) 0 labels.old }
-    requires rows { AreRows circuit.now seed.now 0 rows.old }
-    requires whole { IsTrue has_all_rows → (k : ℕ) → k < length rows.old
-        → (slice_index_or rows.old k no_rows).evaluator ≢ 0 }
+    requires rows { K.holds keeper.old circuit.now seed.now 0 }
     ensures labels { AreLabels circuit.now (zero_label_of circuit.now seed.now)
         (length circuit.now.gates) labels.new }
-    ensures rows { AreRows circuit.now seed.now (and_count circuit.now) rows.new }
+    ensures rows { K.holds keeper.new circuit.now seed.now (and_count circuit.now) }
+    ensures given { K.given keeper.new ≡ K.given keeper.old }
 {
     circuit.law_lawful();
-    if !has_all_rows || !are_marked(marks) {
-        garble_missing(observer, circuit, seed, marks, labels, rows);
+    if !keeper.is_whole() || !are_marked(marks) {
+        garble_missing(observer, circuit, seed, marks, labels, keeper);
     }
 }
 
@@ -58,29 +56,30 @@ pub(crate) fn are_marked(marks: &[Mark]) -> bool
 }
 
 /// The same, from gate to gate in file order.
-fn garble_missing<C: Allocator, H: Gatehouse>(
+fn garble_missing<K: RowKeeper, C: Allocator, H: Gatehouse>(
     observer: &H,
     circuit: &Circuit<C>,
     seed: &Seed,
     marks: &[Mark],
     labels: &mut [Label],
-    rows: &mut [RowPair],
+    keeper: &mut K,
 )
     requires count { length marks.now ≡ circuit.now.wires }
     requires marks { AreMarked (zero_label_of circuit.now seed.now) marks.now labels.old }
     requires labels { AreLabels circuit.now (zero_label_of circuit.now seed.now) 0 labels.old }
-    requires rows { AreRows circuit.now seed.now 0 rows.old }
+    requires rows { K.holds keeper.old circuit.now seed.now 0 }
     ensures labels { AreLabels circuit.now (zero_label_of circuit.now seed.now)
         (length circuit.now.gates) labels.new }
-    ensures rows { AreRows circuit.now seed.now (and_count circuit.now) rows.new }
+    ensures rows { K.holds keeper.new circuit.now seed.now (and_count circuit.now) }
+    ensures given { K.given keeper.new ≡ K.given keeper.old }
 {
     let offset = offset(seed);
     let mut k = 0;
     for i in 0..circuit.gates() {
         let gate = circuit.gate(i);
-        if !is_there(marks, rows, k, gate) {
+        if !is_there(marks, keeper, k, gate) {
             observer.before(0, i);
-            garble_at(labels, rows, k, offset, gate);
+            garble_at(labels, keeper, k, offset, gate);
         }
         if gate.operation.is_and() {
             k += 1;
@@ -90,32 +89,33 @@ fn garble_missing<C: Allocator, H: Gatehouse>(
 
 /// Whether the label of the wire that a gate sets is there and, of the k-th AND gate, its row pair.
 #[inline]
-fn is_there(marks: &[Mark], rows: &[RowPair], k: u32, gate: Gate) -> bool
+fn is_there<K: RowKeeper>(marks: &[Mark], keeper: &K, k: u32, gate: Gate) -> bool
     requires set { gate.set < length marks.now }
-    requires number { IsTrue (is_and gate.operation) → k < length rows.now }
+    requires number { IsTrue (is_and gate.operation) → IsNumberFor (K.holds keeper.now) k }
     ensures label { IsTrue result → slice_index_or marks.now gate.set Absent ≡ There }
-    ensures row { IsTrue result → IsTrue (is_and gate.operation)
-        → (slice_index_or rows.now k no_rows).evaluator ≢ 0 }
+    ensures row { IsTrue result → IsTrue (is_and gate.operation) → (c : Netlist) (seed : List ℕ)
+        → K.holds keeper.now c seed k → K.holds keeper.now c seed (k + 1) }
 {
-    marks[gate.set as usize].is_there()
-        && (!gate.operation.is_and() || rows[k as usize].evaluator != Label::ZERO)
+    marks[gate.set as usize].is_there() && (!gate.operation.is_and() || keeper.has(k))
 }
 
-/// Garbles a gate where its label and its row pair belong. An AND gate is the k-th, counted from 0.
-fn garble_at(labels: &mut [Label], rows: &mut [RowPair], k: u32, offset: Offset, gate: Gate)
+/// Garbles a gate: its label goes where it belongs, and the row pair of the k-th AND gate, counted from 0, to the
+/// keeper.
+fn garble_at<K: RowKeeper>(labels: &mut [Label], keeper: &mut K, k: u32, offset: Offset, gate: Gate)
     requires read { EachRead (λ w. w < length labels.old) gate.operation }
     requires set { gate.set < length labels.old }
-    requires number { IsTrue (is_and gate.operation) → k < length rows.old }
+    requires number { IsTrue (is_and gate.operation) → IsNumberFor (K.holds keeper.old) k }
     ensures labels { labels.new ≡ slice_set labels.old gate.set
         (zero_of hash offset (slice_index labels.old) k gate.operation) }
-    ensures rows { rows.new ≡ with_pair rows.old k (gate_rows hash offset k gate.operation
-        (first_read (slice_index labels.old) gate.operation)
+    ensures rows { KeepsGate (K.holds keeper.old) (K.holds keeper.new) k gate.operation
+        (row_pair hash offset k (first_read (slice_index labels.old) gate.operation)
         (second_read (slice_index labels.old) gate.operation)) }
+    ensures given { K.given keeper.new ≡ K.given keeper.old }
 {
     let (first, second) = labels_read(labels, gate.operation);
     let (label, pair) = garble_gate(k, offset, gate.operation, first, second);
     labels[gate.set as usize] = label;
     if let Some(pair) = pair {
-        rows[k as usize] = pair;
+        keeper.keep(k, pair);
     }
 }

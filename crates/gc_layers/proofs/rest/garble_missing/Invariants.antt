@@ -2,13 +2,13 @@ use Rattle.std.proofs.Common.{◌≡◌}
 use Rattle.gc_netlist.specs.Circuit.{and_number}
 use Rattle.gc_half.specs.Canonical.{zero_label_of}
 use Rattle.gc_labelling.specs.Layer.{AreLabels, AreMarked}
-use Rattle.gc_layers.specs.Garbler.{AreRows}
 use Rattle.gc_layers.proofs.rest.garble_missing.Given as goal
 
 abbrev pub invariant-loop-i : goal.invariant-loop-i
 invariant-loop-i g l = record {
   labels : AreLabels l.circuit (zero_label_of l.circuit l.seed) l.i l.labels;
   marks : AreMarked (zero_label_of l.circuit l.seed) l.marks l.labels;
-  rows : AreRows l.circuit l.seed l.k l.rows;
+  rows : g.K.RowKeeper.holds l.keeper l.circuit l.seed l.k;
+  given : g.K.RowKeeper.given l.keeper ≡ g.K.RowKeeper.given l.fn.keeper;
   number : l.k ≡ and_number l.circuit l.i;
 }
