@@ -1,9 +1,11 @@
 //! Why there is no garbling.
 
-ghost use Rattle.std.specs.Prelude.{◌≡◌};
-ghost use Rattle.gc_work.specs.WorkFault.{code_of, name_of};
+ghost use Rattle.std.specs.Prelude.{◌≡◌, IfErr, OnOk};
+ghost use Rattle.gc_gatehouse.specs.Workers.{AreFew};
+ghost use Rattle.gc_work.specs.WorkFault.{HasWorkFault, code_of, name_of};
 
 use gc_circuit::Memory;
+use gc_gatehouse::MAX_WORKERS;
 use std::error::Error;
 use std::fmt;
 
@@ -36,6 +38,18 @@ impl WorkFault {
             WorkFault::Memory => "Memory",
         }
     }
+}
+
+/// Refuses 0 workers and more than [`MAX_WORKERS`].
+pub(crate) fn check_workers(workers: u32) -> Result<(), WorkFault>
+    ensures few { OnOk result (AreFew workers) }
+    ensures refused { IfErr result (λ fault.
+        (fault ≡ WorkFault.BadWorkers) × HasWorkFault workers fault) }
+{
+    if workers == 0 || workers > MAX_WORKERS {
+        return Err(WorkFault::BadWorkers);
+    }
+    Ok(())
 }
 
 impl fmt::Display for WorkFault {

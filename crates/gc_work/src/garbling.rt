@@ -6,7 +6,7 @@ ghost use Rattle.gc_store.specs.Account.{IsForStore};
 ghost use Rattle.gc_work.specs.Ready.{IsReady};
 ghost use Rattle.gc_work.specs.WorkFault.{JudgesWorkers};
 
-use crate::fault::WorkFault;
+use crate::fault::{WorkFault, check_workers};
 use crate::gather::gather;
 use crate::pool::TaskPool;
 use crate::sweep::sweep;
@@ -55,9 +55,7 @@ pub fn garble<
     ensures garbled { IfOk result (IsGarbled circuit.now seed.now) }
     ensures workers { JudgesWorkers workers result }
 {
-    if workers == 0 || workers > MAX_WORKERS {
-        return Err(WorkFault::BadWorkers);
-    }
+    check_workers(workers)?;
     match way_of(alloc, circuit, workers)? {
         Way::Alone => Ok(garble_alone(alloc, circuit, seed, observer)?),
         Way::Layers => Ok(garble_by_layers(rt, alloc, circuit, seed, workers, observer)?),
