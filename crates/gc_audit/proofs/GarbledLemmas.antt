@@ -1,15 +1,19 @@
 -- What an audit of a garbled file finds, from what it finds of each part.
-use Rattle.std.proofs.Common.{◌≡◌, ◌≢◌, ◌↔◌, ℕ, ◌+◌, ◌<◌, Bool, true, false, List, length, map, take, slice_get, get_or, Option, Some, None, MatchOption, refl, sym, ap, subst, ◌∙◌, arith}
+use Rattle.std.proofs.Common.{◌≡◌, ◌≢◌, ◌↔◌, ℕ, ◌+◌, ◌-◌, ◌<◌, Bool, true, false, List, length, map, take, slice_get, slice_index, get_or, Option, Some, None, MatchOption, refl, sym, ap, subst, ◌∙◌, arith}
 use Rattle.std.specs.List.{range_with_len}
 use Rattle.std.proofs.lemmas.List.FromFn.{get_or-map-range_with_len}
 use Rattle.std.proofs.lemmas.Option.{get_or_from_slice_get, slice_get-get_or}
 use Rattle.sha2.specs.Sha256.{sha256}
-use Rattle.gc_netlist.specs.Circuit.{Netlist, IsLawful}
+use Rattle.gc_netlist.specs.Circuit.{Netlist, IsLawful, output_wires}
 use Rattle.gc_netlist.specs.Canon.{canonical_text}
 use Rattle.gc_label.specs.Seed.{offset_of}
 use Rattle.gc_half.specs.declared.garbling.RowPair.{RowPair}
 use Rattle.gc_half.specs.Garbling.{GarblingParts, FitsCircuit, decode_bits_of}
-use Rattle.gc_half.specs.Entry.{entry_of, entries_of}
+use Rattle.gc_half.specs.Canonical.{garbling_of, row_pairs_of}
+use Rattle.gc_half.specs.Comparing.{HasLabels}
+use Rattle.gc_half.specs.Entry.{entry_of, entries_of, label_of_colour, output_tweak}
+use Rattle.gc_half.specs.Hash.{hash}
+use Rattle.gc_half.proofs.CanonicalLemmas.{length-row_pairs_of, parts-same}
 use Rattle.gc_format.specs.declared.parts.EntryPair.{EntryPair}
 use Rattle.gc_format.specs.declared.parts.Version.{Version}
 use Rattle.gc_format.specs.declared.parts.Version.TheVariants.{One, Two}
@@ -19,6 +23,8 @@ use Rattle.gc_write.proofs.ByteLemmas.{length-decode_bits, length-entry_pairs, e
 use Rattle.gc_file.specs.Honest.{version_entries, honest_parts}
 use Rattle.gc_audit.specs.declared.garbled.GarbledAudit.{GarbledAudit}
 use Rattle.gc_audit.specs.declared.garbled.PartsAudit.{PartsAudit}
+use Rattle.gc_audit.specs.Difference.{DifferFirstAt}
+use Rattle.gc_audit.specs.Rows.{IsRowDifference}
 use Rattle.gc_audit.specs.Entries.{pair_at, named, DifferFirstIn, IsEntryDifference}
 use Rattle.gc_audit.specs.Garbled.{AreCountsRight, IsPartsAudit, IsGarbledAudit, honest_audit}
 use Rattle.gc_audit.proofs.DifferenceLemmas.{differ_first, none_found}
@@ -138,3 +144,42 @@ module _ (c : Netlist) (g : GarblingParts) (seed : List ℕ) (file : GarbledPart
         honest-parts (at.digest.0 refl) at.parts.rows at.parts.bits at.parts.entries,
     λ is. none-in_file lawful fits is audit found,
   )
+
+module _ (c : Netlist) (seed : List ℕ) (lawful : IsLawful c) (g : GarblingParts) (has : HasLabels c seed g) where
+  -- The garbling has these labels,
+  same_garbling : record { zero_labels = g.zero_labels; rows = row_pairs_of c seed; outputs = g.outputs } ≡ garbling_of c seed
+  same_garbling =
+      parts-same (record { zero_labels = g.zero_labels; rows = row_pairs_of c seed; outputs = g.outputs })
+      (garbling_of c seed).zero_labels (row_pairs_of c seed) (output_wires c) has.labels refl has.fits.outputs
+
+  -- the entry pairs of a circuit with this many AND gates
+  abbrev pairs_with : ℕ → List EntryPair
+  pairs_with ands =
+      let entry : ℕ → Bool → ℕ = λ i s.
+      hash
+      (label_of_colour (offset_of seed) (slice_index g.zero_labels (length g.zero_labels - g.outputs + i)) s)
+      (output_tweak ands i) in
+      let pair : ℕ → EntryPair = λ i. record { entry_zero = entry i false; entry_one = entry i true } in
+      map pair (range_with_len 0 g.outputs)
+
+  same_entries : (v : Version) → version_entries v (offset_of seed) g ≡ version_entries v (offset_of seed) (garbling_of c seed)
+  same_entries One = refl
+  same_entries Two =
+      ap pairs_with (has.fits.and_gates ∙ sym (length-row_pairs_of c seed lawful))
+      ∙ ap (entry_pairs_of (offset_of seed)) same_garbling
+
+  -- so what is found of the other parts by the labels is found by the garbling.
+  pub compared-audit : (file : GarbledParts) (audit : PartsAudit) → AreCountsRight c file
+      → MatchOption audit.rows (file.rows ≡ row_pairs_of c seed) (IsRowDifference c file.rows (row_pairs_of c seed))
+      → MatchOption audit.bits (file.decode_bits ≡ decode_bits_of g) (DifferFirstAt file.decode_bits (decode_bits_of g))
+      → (let entries = version_entries file.version (offset_of seed) g in
+      MatchOption audit.entries (file.entries ≡ entries) (IsEntryDifference file.entries entries))
+      → IsPartsAudit c (garbling_of c seed) seed file audit
+  compared-audit file audit counts rows bits entries = record {
+    counts = counts;
+    rows = rows;
+    bits = subst (λ l. MatchOption audit.bits (file.decode_bits ≡ l) (DifferFirstAt file.decode_bits l))
+        (ap decode_bits_of same_garbling) bits;
+    entries = subst (λ l. MatchOption audit.entries (file.entries ≡ l) (IsEntryDifference file.entries l))
+        (same_entries file.version) entries;
+  }

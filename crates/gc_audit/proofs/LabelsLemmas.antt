@@ -1,15 +1,17 @@
 -- What an audit of a label file finds, from what it finds of the labels.
-use Rattle.std.proofs.Common.{◌≡◌, ◌↔◌, ℕ, zero, suc, ◌+◌, ◌<◌, Bool, true, false, List, [], ◌∷◌, ◌++◌, length, length-append, take, slice_get, get_or, ltb, Some, refl, sym, ap, subst, ◌∙◌, arith}
+use Rattle.std.proofs.Common.{◌≡◌, ◌≢◌, ◌↔◌, ℕ, zero, suc, ◌+◌, ◌<◌, Bool, true, false, List, [], ◌∷◌, ◌++◌, length, length-append, take, slice_get, get_or, ltb, Some, refl, sym, ap, subst, ◌∙◌, arith}
 use Rattle.std.proofs.lemmas.List.{take_more}
 use Rattle.std.proofs.lemmas.Option.{slice_get_within, slice_get_read, get_or_from_slice_get}
 use borrow.Author.Tests.{ltb-true}
-use Rattle.gc_netlist.specs.Circuit.{Netlist, input_wires}
+use Rattle.gc_netlist.specs.Circuit.{Netlist, IsLawful, input_wires}
 use Rattle.gc_circuit.specs.Meaning.{xor}
 use Rattle.gc_label.specs.Label.{colour}
 use Rattle.gc_label.specs.Seed.{offset_of, input_label_of}
 use Rattle.gc_label.proofs.SeedLemmas.{colour-offset_of}
 use Rattle.gc_half.specs.Evaluation.{encode}
-use Rattle.gc_half.specs.Garbling.{GarblingParts, IsGarbled}
+use Rattle.gc_half.specs.Garbling.{GarblingParts}
+use Rattle.gc_half.specs.Comparing.{HasLabels}
+use Rattle.gc_half.proofs.ComparingLemmas.{HasLabels-input}
 use Rattle.gc_half.proofs.HalfGateLaw.{colour-encode}
 use Rattle.gc_format.specs.LabelFile.{LabelFileParts, encoded_from}
 use Rattle.gc_write.proofs.DealLemmas.{encoded_from-append, length-encoded_from}
@@ -87,15 +89,26 @@ pub found_at : (xs ys : List ℕ) (i j x y : ℕ) → true ≡ ltb i (length xs)
 found_at xs ys i j x y below at same place e =
     rw (← same, ← place, e) (slice_get_read xs (length xs) i x refl (ltb-true i (length xs) (sym below)) at)
 
--- What a label stands for by a garbling's zero label of an input wire, it stands for by the seed.
-pub by_seed : (c : Netlist) (seed : List ℕ) (g : GarblingParts) → IsGarbled c seed g
-    → (wire zero_label offset label : ℕ) (bit : Bool) → wire < input_wires c
-    → slice_get g.zero_labels wire ≡ Some zero_label → offset ≡ offset_of seed
-    → label ≡ encode offset zero_label bit → label ≡ encode (offset_of seed) (input_label_of seed wire) bit
-by_seed c seed g garbled wire zero_label offset label bit input at offset_is is =
-    let zero : zero_label ≡ input_label_of seed wire =
-    sym (get_or_from_slice_get g.zero_labels wire zero_label 0 at) ∙ garbled.garbling.labels.inputs wire input in
-    is ∙ ap (λ o. encode o zero_label bit) offset_is ∙ ap (λ z. encode (offset_of seed) z bit) zero
+module _ (c : Netlist) (seed : List ℕ) (lawful : IsLawful c) (g : GarblingParts) (has : HasLabels c seed g)
+    (wire zero_label offset : ℕ) (input : wire < input_wires c) (at : slice_get g.zero_labels wire ≡ Some zero_label)
+    (offset_is : offset ≡ offset_of seed) where
+  zero_is : zero_label ≡ input_label_of seed wire
+  zero_is =
+      sym (get_or_from_slice_get g.zero_labels wire zero_label 0 at) ∙ HasLabels-input c seed lawful g has wire input
+
+  encoded : (bit : Bool) → encode offset zero_label bit ≡ encode (offset_of seed) (input_label_of seed wire) bit
+  encoded bit =
+      ap (λ o. encode o zero_label bit) offset_is ∙ ap (λ z. encode (offset_of seed) z bit) zero_is
+
+  -- What a label stands for by the zero label of an input wire, it stands for by the seed,
+  pub by_seed : (label : ℕ) (bit : Bool) → label ≡ encode offset zero_label bit
+      → label ≡ encode (offset_of seed) (input_label_of seed wire) bit
+  by_seed label bit is = is ∙ encoded bit
+
+  -- and so for none.
+  pub none_by_seed : (label : ℕ) → ((bit : Bool) → label ≢ encode offset zero_label bit) → (bit : Bool)
+      → label ≢ encode (offset_of seed) (input_label_of seed wire) bit
+  none_by_seed label none bit is = none bit (is ∙ sym (encoded bit))
 
 module _ (c : Netlist) (seed : List ℕ) (file : LabelFileParts) where
   -- A dealer's file has as many labels as bits.

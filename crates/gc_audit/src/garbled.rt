@@ -1,19 +1,23 @@
 //! Comparing a garbled file with the garbling of a circuit.
 
-ghost use Rattle.std.specs.Prelude.{◌≡◌, ◌↔◌, IfOk, MatchOption, IsTrue, length};
+ghost use Rattle.std.specs.Prelude.{◌≡◌, ◌↔◌, List, MatchOption, IsTrue, length};
 ghost use Rattle.sha2.specs.Sha256.{sha256};
 ghost use Rattle.gc_netlist.specs.Canon.{canonical_text};
-ghost use Rattle.gc_half.specs.Garbling.{decode_bits_of, FitsCircuit, IsGarbled};
-ghost use Rattle.gc_format.specs.GarbledFile.{entry_count};
+ghost use Rattle.gc_netlist.specs.Circuit.{output_wires};
+ghost use Rattle.gc_half.specs.declared.garbling.RowPair.{RowPair};
+ghost use Rattle.gc_half.specs.Canonical.{garbling_of};
+ghost use Rattle.gc_half.specs.Comparing.{HasLabels, IsComparison};
+ghost use Rattle.gc_half.specs.Garbling.{decode_bits_of, FitsCircuit};
+ghost use Rattle.gc_format.specs.GarbledFile.{GarbledParts, entry_count};
 ghost use Rattle.gc_file.specs.Honest.{honest_parts};
 ghost use Rattle.gc_audit.specs.Difference.{DifferFirstAt};
 ghost use Rattle.gc_audit.specs.Garbled.{AreCountsRight, IsPartsAudit, IsGarbledAudit, honest_audit};
 
 use crate::entries::{EntryDifference, audit_entries};
 use crate::rows::{RowDifference, first_mismatch, row_difference};
-use gc_circuit::{Circuit, Memory};
-use gc_file::{Garbled, Version};
-use gc_half::{Garbling, garble_and_compare, garble_one_thread};
+use gc_circuit::Circuit;
+use gc_file::{EntryPair, Garbled, Version};
+use gc_half::{Garbling, Mismatch};
 use gc_label::{Seed, offset};
 use std::alloc::Allocator;
 
@@ -96,11 +100,7 @@ fn audit_parts<A: Allocator, B: Allocator, C: Allocator>(
         return None;
     }
     Some(PartsAudit {
-        rows: row_difference(
-            circuit,
-            garbling.rows(),
-            first_mismatch(garbling.rows(), file.rows()),
-        ),
+        rows: row_difference(circuit, first_mismatch(garbling.rows(), file.rows())),
         bits: audit_bits(garbling, file.decode_bits()),
         entries: audit_entries(
             circuit,
@@ -112,51 +112,39 @@ fn audit_parts<A: Allocator, B: Allocator, C: Allocator>(
     })
 }
 
-/// Garbles a circuit under a seed on one thread, and compares the parts of a garbled file that are counted, as
-/// [`audit_garbled`] does. Where their counts are right, each row pair is compared as it is made, and takes the place
-/// of the file's, so that garbling takes no memory for rows; else the file is let go before.
-pub fn garble_and_audit<A: Allocator + Copy, C: Allocator>(
-    alloc: A,
-    circuit: &Circuit<C>,
+/// What an audit finds of the parts of a garbled file, as [`audit_garbled`] does, where its row pairs were compared
+/// before: `first` is the first that is not the garbling's. `labels` has the garbling's zero labels.
+///
+/// The counts of the file are right, as [`are_counts_right`] says, and it has this version, these decode bits and these
+/// entry pairs: these are the caller's conditions. It takes no memory.
+pub fn audit_compared<A: Allocator, B: Allocator>(
+    circuit: &Circuit<A>,
+    labels: &Garbling<B>,
     seed: &Seed,
-    file: Garbled<A>,
-) -> Result<(Garbling<A>, Option<PartsAudit>), Memory>
-    ensures garbled { IfOk result (λ made. IsGarbled circuit.now seed.now made.0) }
-    ensures parts { IfOk result (λ made. MatchOption made.1 (¬ AreCountsRight circuit.now file)
-        (IsPartsAudit circuit.now made.0 seed.now file)) }
+    first: Option<Mismatch>,
+    version: Version,
+    decode_bits: &[bool],
+    entries: &[EntryPair],
+) -> PartsAudit
+    requires labels { HasLabels circuit.now seed.now labels.now }
+    requires first { (filed : List RowPair) × IsComparison circuit.now seed.now filed first }
+    requires bits { length decode_bits.now ≡ output_wires circuit.now }
+    requires entries { length entries.now ≡ entry_count version (length decode_bits.now) }
+    ensures { (file : GarbledParts) → AreCountsRight circuit.now file → file.version ≡ version
+        → file.decode_bits ≡ decode_bits.now → file.entries ≡ entries.now
+        → IsComparison circuit.now seed.now file.rows first
+        → IsPartsAudit circuit.now (garbling_of circuit.now seed.now) seed.now file result }
 {
-    if are_counts_right(circuit, &file) {
-        let (garbling, parts) = garble_and_audit_parts(alloc, circuit, seed, file)?;
-        return Ok((garbling, Some(parts)));
+    circuit.law_lawful();
+    PartsAudit {
+        rows: row_difference(circuit, first),
+        bits: audit_bits(labels, decode_bits),
+        entries: audit_entries(circuit, labels, offset(seed), version, entries),
     }
-    drop(file);
-    Ok((garble_one_thread(alloc, circuit, seed)?, None))
 }
 
-/// The same, where the counts are right.
-fn garble_and_audit_parts<A: Allocator + Copy, C: Allocator>(
-    alloc: A,
-    circuit: &Circuit<C>,
-    seed: &Seed,
-    file: Garbled<A>,
-) -> Result<(Garbling<A>, PartsAudit), Memory>
-    requires { AreCountsRight circuit.now file }
-    ensures garbled { IfOk result (λ made. IsGarbled circuit.now seed.now made.0) }
-    ensures parts { IfOk result (λ made. IsPartsAudit circuit.now made.0 seed.now file made.1) }
-{
-    let version = file.version();
-    let (rows, decode_bits, entries) = file.into_parts();
-    let (garbling, first) = garble_and_compare(alloc, circuit, seed, rows)?;
-    let parts = PartsAudit {
-        rows: row_difference(circuit, garbling.rows(), first),
-        bits: audit_bits(&garbling, &decode_bits),
-        entries: audit_entries(circuit, &garbling, offset(seed), version, &entries),
-    };
-    Ok((garbling, parts))
-}
-
-/// Whether the file has as many row pairs, decode bits and entry pairs as the circuit and its version ask for.
-fn are_counts_right<A: Allocator, B: Allocator>(circuit: &Circuit<A>, file: &Garbled<B>) -> bool
+/// Whether a garbled file has as many row pairs, decode bits and entry pairs as the circuit and its version ask for.
+pub fn are_counts_right<A: Allocator, B: Allocator>(circuit: &Circuit<A>, file: &Garbled<B>) -> bool
     ensures { IsTrue result ↔ AreCountsRight circuit.now file.now }
 {
     file.rows().len() == circuit.and_count() as usize

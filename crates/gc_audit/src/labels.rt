@@ -3,7 +3,7 @@
 ghost use Rattle.std.specs.Prelude.{◌≡◌, ◌≢◌, ◌<◌, ◌≤◌, ◌+◌, ◌^◌, ◌↔◌, Bool, List, MatchOption, IfOk, length, sum};
 ghost use Rattle.gc_netlist.specs.Circuit.{input_wires};
 ghost use Rattle.gc_half.specs.Evaluation.{encode};
-ghost use Rattle.gc_half.specs.Garbling.{IsGarbled};
+ghost use Rattle.gc_half.specs.Comparing.{HasLabels};
 ghost use Rattle.gc_audit.specs.Labels.{IsLabelsVerdict, IsDealt, HasBits, AreCompared, first_wire_of};
 
 use gc_circuit::{Circuit, Memory};
@@ -30,30 +30,30 @@ pub enum LabelsVerdict<A: Allocator = Global> {
 /// [`LabelsVerdict`] that holds. The answer is bits exactly where the file is the label file that a dealer writes of
 /// the circuit, the seed and these bits.
 ///
-/// The garbling is that of the circuit and the seed: this is the caller's condition. It takes memory once, for the
-/// bits; `Memory` stands in place of the answer only where this was refused.
+/// `labels` has the zero labels of the circuit's garbling under the seed: this is the caller's condition. It takes memory
+/// once, for the bits; `Memory` stands in place of the answer only where this was refused.
 pub fn audit_labels<A: Allocator, B: Allocator, C: Allocator, D: Allocator>(
     alloc: A,
     circuit: &Circuit<B>,
-    garbling: &Garbling<C>,
+    labels: &Garbling<C>,
     seed: &Seed,
     file: &LabelFile<D>,
 ) -> Result<LabelsVerdict<A>, Memory>
-    requires { IsGarbled circuit.now seed.now garbling.now }
+    requires { HasLabels circuit.now seed.now labels.now }
     ensures verdict { IfOk result (IsLabelsVerdict circuit.now seed.now file.now) }
     ensures dealt { IfOk result (λ verdict. (bits : List Bool) → HasBits verdict bits
         ↔ IsDealt circuit.now seed.now file.now bits) }
 {
     let index = file.index() as usize;
-    let labels = file.labels();
+    let filed = file.labels();
     let Some(width) = circuit.input_widths().get(index) else {
         return Ok(LabelsVerdict::NoValue);
     };
-    if labels.len() != *width as usize {
+    if filed.len() != *width as usize {
         return Ok(LabelsVerdict::WrongWidth);
     }
     let first = first_wire(circuit, index);
-    compare(alloc, circuit, garbling, seed, first, labels)
+    compare(alloc, circuit, labels, seed, first, filed)
 }
 
 /// The first wire of the input value with this index. That there is one is the caller's condition.
@@ -73,27 +73,26 @@ fn sum_of(widths: &[u32]) -> u32
     widths.iter().sum()
 }
 
-/// The bits that these labels stand for on the input wires from the first one on, or the first wire whose label stands
-/// for none. That the garbling is that of the circuit and the seed, and that these are input wires, are the caller's
-/// conditions.
+/// The bits that the filed labels stand for on the input wires from the first one on, or the first wire whose label stands
+/// for none. That `labels` has the garbling's zero labels, and that these are input wires, are the caller's conditions.
 fn compare<A: Allocator, B: Allocator, C: Allocator>(
     alloc: A,
     circuit: &Circuit<B>,
-    garbling: &Garbling<C>,
+    labels: &Garbling<C>,
     seed: &Seed,
     first: u32,
-    labels: &[Label],
+    filed: &[Label],
 ) -> Result<LabelsVerdict<A>, Memory>
-    requires garbled { IsGarbled circuit.now seed.now garbling.now }
-    requires wires { first + length labels.now ≤ input_wires circuit.now }
-    ensures { IfOk result (AreCompared seed.now first labels.now) }
+    requires labels { HasLabels circuit.now seed.now labels.now }
+    requires wires { first + length filed.now ≤ input_wires circuit.now }
+    ensures { IfOk result (AreCompared seed.now first filed.now) }
 {
     circuit.law_lawful();
     let offset = offset(seed);
-    let mut bits = Vec::with_capacity(alloc, labels.len())?;
-    for (i, label) in labels.iter().enumerate() {
+    let mut bits = Vec::with_capacity(alloc, filed.len())?;
+    for (i, label) in filed.iter().enumerate() {
         let wire = first + i as u32;
-        let Some(bit) = bit_of(offset, garbling.zero_label(wire), *label) else {
+        let Some(bit) = bit_of(offset, labels.zero_label(wire), *label) else {
             return Ok(LabelsVerdict::WrongLabel(wire));
         };
         bits.push(bit)?;

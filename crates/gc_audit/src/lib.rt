@@ -1,7 +1,7 @@
 //! Comparing files with what a circuit and a seed give.
 //!
 //! [`audit_garbled`] says whether a garbled file is that of a circuit's garbling, and where each of its parts first
-//! differs. [`audit_labels`] says whether a label file is one that a dealer writes, and of which bits. The files were
+//! differs; [`audit_compared`] says the same where its row pairs were compared while others were made. [`audit_labels`] says whether a label file is one that a dealer writes, and of which bits. The files were
 //! read before, and nothing of them is trusted. [`law_audited_files`] says that what is found of their parts holds of
 //! their bytes.
 #![tactic(auto)]
@@ -13,7 +13,7 @@ mod laws;
 mod rows;
 
 pub use entries::EntryDifference;
-pub use garbled::{GarbledAudit, PartsAudit, audit_garbled, garble_and_audit};
+pub use garbled::{GarbledAudit, PartsAudit, are_counts_right, audit_compared, audit_garbled};
 pub use labels::{LabelsVerdict, audit_labels};
 pub use laws::law_audited_files;
 pub use rows::{DifferingRows, RowDifference};

@@ -44,28 +44,30 @@ pub(crate) fn first_mismatch(garbled: &[RowPair], filed: &[RowPair]) -> Option<M
     for place in 0..garbled.len() {
         let given = filed[place];
         if given != garbled[place] {
-            return Some(Mismatch { place, given });
+            return Some(Mismatch {
+                place,
+                given,
+                made: garbled[place],
+            });
         }
     }
     None
 }
 
-/// The AND gate of the first row pair that is not the garbling's. That the garbling has a pair for each AND gate, and
-/// one at that place, is the caller's condition.
+/// The AND gate of the first row pair that is not the garbling's. That it is compared with the garbling's row pairs, of
+/// which there is one for each AND gate, is the caller's condition.
 pub(crate) fn row_difference<A: Allocator>(
     circuit: &Circuit<A>,
-    garbled: &[RowPair],
     first: Option<Mismatch>,
 ) -> Option<RowDifference>
-    requires garbled { length garbled.now ≡ and_count circuit.now }
-    requires place { IfSome first (λ m. m.place < length garbled.now) }
-    ensures { (filed : List RowPair)
-        → MatchOption first (filed ≡ garbled.now) (IsFirstMismatch filed garbled.now)
-        → MatchOption result (filed ≡ garbled.now) (IsRowDifference circuit.now filed garbled.now) }
+    requires { IfSome first (λ m. m.place < and_count circuit.now) }
+    ensures { (filed garbled : List RowPair)
+        → MatchOption first (filed ≡ garbled) (IsFirstMismatch filed garbled)
+        → MatchOption result (filed ≡ garbled) (IsRowDifference circuit.now filed garbled) }
 {
     circuit.law_lawful();
     let mismatch = first?;
-    let rows = differing_rows(mismatch.given, garbled[mismatch.place])?;
+    let rows = differing_rows(mismatch.given, mismatch.made)?;
     Some(difference_at(circuit, mismatch.place as u32, rows))
 }
 

@@ -15,7 +15,7 @@ IsFileAt file old new = new ≡ file ++ drop (length file) old
 abbrev pub HasRoomFault : ℕ → ℕ → KeptFault → Type 0
 HasRoomFault length_of room fault = (fault ≡ SmallBuffer) × (room < length_of)
 
--- The fault of writing a file: its length is told where the room is too little. Memory may be missing instead.
+-- The fault of writing a file: its length is reported where the room is too little. Memory may be missing instead.
 abbrev pub HasWriteFault : List ℕ → ℕ → ℕ → KeptFault → Type 0
 HasWriteFault file room written SmallBuffer = (room < length file) × (written ≡ length file)
 HasWriteFault file room written Memory = Unit {0}

@@ -20,7 +20,7 @@ use std::alloc::Global;
 /// The bytes of a label file's header, and of each label.
 const PART: usize = 16;
 
-/// Looks whether a buffer has room for a file of this size. Where it hasn't, tells the size.
+/// Checks that a buffer has room for a file of this size. Where it hasn't, reports the size.
 fn look_for_room(size: usize, buffer: &[u8], written: &mut usize) -> Result<(), KeptFault>
     ensures ok { OnOk result (size ≤ length buffer.now) }
     ensures fault { IfErr result (HasRoomFault size (length buffer.now)) }
@@ -33,7 +33,7 @@ fn look_for_room(size: usize, buffer: &[u8], written: &mut usize) -> Result<(), 
     Ok(())
 }
 
-/// Copies a file to a buffer, whose end stays as it is, and tells the number of its bytes. Where the buffer is too
+/// Copies a file to a buffer, whose end stays as it is, and reports the number of its bytes. Where the buffer is too
 /// small it stays as it is.
 fn copy_file(file: &[u8], buffer: &mut [u8], written: &mut usize) -> Result<(), KeptFault>
     ensures ok { OnOk result (IsFileAt file.now buffer.old buffer.new) }
@@ -57,8 +57,8 @@ impl KeptCircuit {
         garbled_size(self.circuit(), version)
     }
 
-    /// Writes the label file of the input value of this index, for these bits under a seed, and tells the number of its
-    /// bytes. Where the buffer is too small, no file is made.
+    /// Writes the label file of the input value of this index, for these bits under a seed, and reports the number of
+    /// its bytes. Where the buffer is too small, no file is made.
     pub fn deal(
         &self,
         alloc: Global,
@@ -84,8 +84,8 @@ impl KeptCircuit {
         self.write_dealt(alloc, seed, index, &bits, buffer, written)
     }
 
-    /// Writes the label file of an input value with these bits, and tells the number of its bytes. That there is such a
-    /// value, and that the bits have its width, are the caller's conditions.
+    /// Writes the label file of an input value with these bits, and reports the number of its bytes. That there is such
+    /// a value, and that the bits have its width, are the caller's conditions.
     fn write_dealt(
         &self,
         alloc: Global,
@@ -115,7 +115,7 @@ impl KeptCircuit {
 }
 
 impl KeptGarbling {
-    /// Writes the garbled file of a version, and tells the number of its bytes. Where the buffer is too small, no file
+    /// Writes the garbled file of a version, and reports the number of its bytes. Where the buffer is too small, no file
     /// is made.
     pub fn write(
         &self,

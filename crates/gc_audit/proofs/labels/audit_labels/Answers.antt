@@ -8,13 +8,13 @@ use Rattle.gc_audit.proofs.labels.audit_labels.Given.{Over}
 use Rattle.gc_audit.proofs.labels.audit_labels.Goals.{After-compare}
 use Rattle.gc_audit.proofs.labels.audit_labels.Goals as goal
 
-pub returns-then-labels-width-clause-dealt : goal.returns-then-labels-width-clause-dealt
-returns-then-labels-width-clause-dealt g c =
+pub returns-then-filed-width-clause-dealt : goal.returns-then-filed-width-clause-dealt
+returns-then-filed-width-clause-dealt g c =
     let a = c.args in let width = c.in-Some.width.now in let found = c.in-Some.ensures.lookup in
     let at = found_at c.input_widths.result.now a.circuit.now.input_widths c.index-index.result a.file.now.index
     width width found.0 found.1 c.input_widths.ensures c.index-index.ensures refl in
     verdict-dealt a.circuit.now a.seed.now a.file.now {A = ℕ} WrongWidth
-    (width, at, λ e. c.if-labels-width.true (ap length c.labels-labels.ensures ∙ e))
+    (width, at, λ e. c.if-filed-width.true (ap length c.labels-filed.ensures ∙ e))
 
 -- The verdict on the labels is that on the file.
 verdict : (g : Over) (c : After-compare g) → IfOk c.compare.result
@@ -23,12 +23,12 @@ verdict g c =
     let a = c.args in let found = c.in-Some.ensures.lookup in
     let at = found_at c.input_widths.result.now a.circuit.now.input_widths c.index-index.result a.file.now.index
     c.in-Some.width.now (length a.file.now.labels) found.0 found.1 c.input_widths.ensures c.index-index.ensures
-    (ap length (sym c.labels-labels.ensures) ∙ c.if-labels-width.false) in
+    (ap length (sym c.labels-filed.ensures) ∙ c.if-filed-width.false) in
     let first = c.first_wire-first.result in
     IfOk-weaker c.compare.result (AreCompared a.seed.now first a.file.now.labels) _
     (λ v is. compared-verdict a.circuit.now a.seed.now a.file.now v first c.index-index.result at
     c.first_wire-first.ensures c.index-index.ensures is)
-    (subst (λ l. IfOk c.compare.result (AreCompared a.seed.now first l)) c.labels-labels.ensures
+    (subst (λ l. IfOk c.compare.result (AreCompared a.seed.now first l)) c.labels-filed.ensures
     c.compare.ensures)
 
 pub returns-clause-verdict : goal.returns-clause-verdict

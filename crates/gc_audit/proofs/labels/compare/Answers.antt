@@ -1,15 +1,30 @@
 use Rattle.std.proofs.Common.{◌+◌, length, refl, arith}
 use Rattle.std.proofs.lemmas.Option.{slice_get_read}
-use Rattle.gc_audit.proofs.LabelsLemmas.{encoded_from-more, by_seed}
+use Rattle.gc_audit.proofs.LabelsLemmas.{encoded_from-more, by_seed, none_by_seed}
 use Rattle.gc_audit.proofs.labels.compare.Goals as goal
 
 pub loop-i-preserved : goal.loop-i-preserved
 loop-i-preserved g c =
-    let a = c.args in let i = c.loop-i.i in let label = c.index-labels-i.result in
-    let at = slice_get_read a.labels.now (length a.labels.now) i label refl (omega arith) c.index-labels-i.is in
-    let is = by_seed a.circuit.now a.seed.now a.garbling.now c.requires.garbled (a.first + i) c.zero_label.result
-    c.offset-offset.result label c.in-Some.bit (omega arith) c.zero_label.ensures c.offset-offset.ensures
-    c.in-Some.ensures in
-    let more = encoded_from-more a.seed.now a.first a.labels.now c.loop-i.bits.items c.push.new.self.items i label
+    let a = c.args in let i = c.loop-i.i in let label = c.index-filed-i.result in
+    let at = slice_get_read a.filed.now (length a.filed.now) i label refl (omega arith) c.index-filed-i.is in
+    let is = by_seed a.circuit.now a.seed.now c.law_lawful.ensures a.labels.now c.requires.labels (a.first + i)
+    c.zero_label.result c.offset-offset.result (omega arith) c.zero_label.ensures c.offset-offset.ensures label
+    c.in-Some.bit c.in-Some.ensures in
+    let more = encoded_from-more a.seed.now a.first a.filed.now c.loop-i.bits.items c.push.new.self.items i label
     c.in-Some.bit c.loop-i.invariant.read c.loop-i.invariant.count at is c.in_ok-push.ensures.items in
     record { read = more.0; count = more.1 }
+
+pub returns-in_default : goal.returns-in_default
+returns-in_default g c =
+    let a = c.args in let i = c.loop-i.i in let label = c.index-filed-i.result in
+    record {
+      place = i;
+      wire_at = refl;
+      bits = c.loop-i.bits.items;
+      before = c.loop-i.invariant.read;
+      label = label;
+      at = slice_get_read a.filed.now (length a.filed.now) i label refl (omega arith) c.index-filed-i.is;
+      wrong = none_by_seed a.circuit.now a.seed.now c.law_lawful.ensures a.labels.now c.requires.labels (a.first + i)
+          c.zero_label.result c.offset-offset.result (omega arith) c.zero_label.ensures c.offset-offset.ensures label
+          c.in_default.ensures;
+    }

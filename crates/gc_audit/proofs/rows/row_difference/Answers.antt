@@ -1,5 +1,5 @@
-use Rattle.std.proofs.Common.{◌≡◌, ◌<◌, length, IfSome, MatchOption, refl, subst, sym, arith}
-use Rattle.std.proofs.lemmas.Option.{slice_get_read}
+use Rattle.std.proofs.Common.{◌≡◌, ◌<◌, length, IfSome, MatchOption, subst, sym, arith}
+use Rattle.gc_netlist.specs.Circuit.{and_count}
 use Rattle.gc_half.specs.declared.garbling.Mismatch.{Mismatch}
 use Rattle.gc_half.specs.Comparing.{IsFirstMismatch}
 use Rattle.gc_half.proofs.AndNumbers.{and_number-le, and_number-end}
@@ -15,20 +15,13 @@ overflow_cast-mismatch g c =
       c.law_lawful.ensures.few_gates,
       and_number-le circuit (length circuit.gates),
       and_number-end circuit,
-      c.requires.garbled,
-      subst (λ o. IfSome o (λ (m : Mismatch). m.place < length c.args.garbled.now)) c.in_ok-mismatch.was
-          c.requires.place,
+      subst (λ o. IfSome o (λ (m : Mismatch). m.place < and_count circuit)) c.in_ok-mismatch.was c.requires,
     )
 
 pub returns : goal.returns
-returns g c = λ filed found.
-    let garbled = c.args.garbled.now in
+returns g c = λ filed garbled found.
     let m = c.in_ok-mismatch.mismatch in
-    let here : m.place < length garbled =
-    subst (λ o. IfSome o (λ (m : Mismatch). m.place < length garbled)) c.in_ok-mismatch.was c.requires.place in
-    row_found c.args.circuit.now filed garbled m c.index-garbled-mismatch.result
+    row_found c.args.circuit.now filed garbled m
     (subst (λ o. MatchOption o (filed ≡ garbled) (IsFirstMismatch filed garbled)) c.in_ok-mismatch.was found)
-    (slice_get_read garbled (length garbled) m.place c.index-garbled-mismatch.result refl here
-    c.index-garbled-mismatch.is)
     c.difference_at.result c.difference_at.ensures.number c.difference_at.ensures.gate
-    (subst (DifferIn m.given c.index-garbled-mismatch.result) (sym c.difference_at.ensures.rows) c.in_ok-rows.ensures)
+    (subst (DifferIn m.given m.made) (sym c.difference_at.ensures.rows) c.in_ok-rows.ensures)
