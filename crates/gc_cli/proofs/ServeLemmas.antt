@@ -2,8 +2,8 @@
 use Rattle.std.proofs.Common.{ℕ, List, Result, Ok, Err, inl, inr}
 use Rattle.std.specs.Prelude.{IfErr}
 use Rattle.gc_order.specs.Order.{OrderText}
+use Rattle.gc_files.specs.Files.{FileBytes}
 use Rattle.gc_command.specs.declared.fault.Fault.{Fault}
-use Rattle.gc_command.specs.Files.{FileBytes}
 use Rattle.gc_cli.specs.CommandLine.{IsOrder}
 use Rattle.gc_cli.specs.Output.{Printed}
 use Rattle.gc_cli.specs.Serve.{FailsToAnswer, IsFaulty}

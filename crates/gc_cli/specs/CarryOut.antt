@@ -1,9 +1,9 @@
 -- What a command answers and writes, and which fault it has, where the files' bytes are known.
 use Rattle.std.specs.Prelude.{◌≡◌, ℕ, List, IfSome}
+use Rattle.gc_files.specs.Files.{FileBytes}
 use Rattle.gc_command.specs.declared.fault.Fault.{Fault}
 use Rattle.gc_order.specs.Order.{OrderText, run, plain, check, locate, stats, garble, deal, eval, jobs, list_labels, audit}
 use Rattle.gc_command.specs.Fault.{HasCause}
-use Rattle.gc_command.specs.Files.{FileBytes}
 use Rattle.gc_command.specs.Run.{AnswersRun, HasRunFault}
 use Rattle.gc_command.specs.Plain.{AnswersPlain, HasPlainFault}
 use Rattle.gc_command.specs.Check.{AnswersCheck, HasCheckFault}

@@ -8,9 +8,8 @@ mod progress_line;
 mod work;
 
 pub use command_line::Heap;
-pub use gc_command::{
-    Fault, FileError, FileFailures, Files, HostFiles, HostSink, Progress, Silent, Work, read_all,
-};
+pub use gc_command::{Fault, Progress, Silent, Work};
+pub use gc_files::{FileError, FileFailures, Files, HostFiles, HostSink, read_all};
 pub use gc_order::{Order, order_of};
 pub use output::Output;
 pub use program::{DONE, FAULT, USAGE, refuse_line, serve};

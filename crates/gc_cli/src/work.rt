@@ -2,7 +2,7 @@
 
 ghost use Rattle.std.specs.Prelude.{◌≡◌, ◌≢◌, ℕ, List, IfOk, IfErr};
 ghost use Rattle.gc_order.specs.Order.{text_of};
-ghost use Rattle.gc_command.specs.Files.{HasFailed};
+ghost use Rattle.gc_files.specs.Files.{HasFailed};
 ghost use Rattle.gc_cli.specs.CarryOut.{Answers, HasFault, Writes};
 
 use gc_command::check::check;
@@ -11,7 +11,8 @@ use gc_command::eval::eval;
 use gc_command::garble::garble;
 use gc_command::plain::plain;
 use gc_command::run::run;
-use gc_command::{Fault, Files, Progress};
+use gc_command::{Fault, Progress};
+use gc_files::Files;
 use gc_jobs::jobs::jobs;
 use gc_order::Order;
 use gc_trace::audit::audit;

@@ -1,12 +1,12 @@
 -- Which file has failed, and that a fault has its cause.
 use Rattle.std.proofs.Common.{◌≡◌, ◌≢◌, ℕ, suc, ◌+◌, List, [], ◌∷◌, ◌++◌, replicate, Err, refl, ap, ◌∙◌, append_assoc, arith}
 use Rattle.std.proofs.lemmas.List.{replicate_more}
-use Rattle.gc_command.specs.declared.files.FileError.{FileError}
-use Rattle.gc_command.specs.declared.files.FileError.TheVariants as file
+use Rattle.gc_files.specs.declared.files.FileError.{FileError}
+use Rattle.gc_files.specs.declared.files.FileError.TheVariants as file
+use Rattle.gc_files.specs.Files.{FailedFiles, HasFailed, CountsWrite}
 use Rattle.gc_command.specs.declared.fault.Fault.{Fault}
 use Rattle.gc_command.specs.declared.fault.Fault.TheVariants as faults
 use Rattle.gc_command.specs.Fault.{HasCause}
-use Rattle.gc_command.specs.Files.{FailedFiles, HasFailed, CountsWrite}
 
 -- What causes a fault of a command that writes a file causes that of one that reads another file too.
 pub cause-writing : (fault : Fault) (Reading Writing : Type 0) → HasCause fault ⊥ Writing → HasCause fault Reading Writing

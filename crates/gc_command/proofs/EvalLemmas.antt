@@ -4,10 +4,10 @@ use Rattle.gc_netlist.specs.Circuit.{Netlist}
 use Rattle.gc_format.specs.GarbledFile.{GarbledParts, IsGarbledFile}
 use Rattle.gc_format.specs.LabelFile.{LabelFileParts, IsLabelFile}
 use Rattle.gc_read.specs.FileFault.{FirstFault, FirstLabelFault}
+use Rattle.gc_files.specs.Files.{FileBytes}
 use Rattle.gc_command.specs.declared.fault.Fault.{Fault}
 use Rattle.gc_command.specs.declared.fault.Fault.TheVariants as faults
 use Rattle.gc_command.specs.Fault.{HasCause}
-use Rattle.gc_command.specs.Files.{FileBytes}
 use Rattle.gc_command.specs.CircuitFile.{IsCircuit, IsCircuitFault, HasCircuitFault}
 use Rattle.gc_command.specs.Job.{HasJobFault}
 use Rattle.gc_command.specs.Eval.{AreLabelFiles, HasGarbledFault, HasLabelFault, HasLabelsFault, HasFilesFault, AreEvalFiles, HasEvalFault}

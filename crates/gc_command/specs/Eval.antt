@@ -7,9 +7,9 @@ use Rattle.gc_format.specs.GarbledFile.{GarbledParts, IsGarbledFile}
 use Rattle.gc_format.specs.LabelFile.{LabelFileParts, IsLabelFile}
 use Rattle.gc_read.specs.FileFault.{FirstFault, FirstLabelFault}
 use Rattle.gc_gatehouse.specs.Workers.{AreFew}
+use Rattle.gc_files.specs.Files.{FileBytes}
 use Rattle.gc_command.specs.declared.fault.Fault.{Fault}
 use Rattle.gc_command.specs.declared.fault.Fault.TheVariants.{Circuit, File, Binding, Evaluation, CannotRead, Memory}
-use Rattle.gc_command.specs.Files.{FileBytes}
 use Rattle.gc_command.specs.CircuitFile.{IsCircuit, HasCircuitFault}
 use Rattle.gc_command.specs.Lines.{output_lines}
 use Rattle.gc_command.specs.Job.{DecodeTo, HasJobFault}

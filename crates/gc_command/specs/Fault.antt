@@ -8,8 +8,8 @@ use Rattle.gc_read.specs.declared.take.TakeFault.{TakeFault}
 use Rattle.gc_read.specs.declared.take.TakeFault.TheVariants as take
 use Rattle.gc_work.specs.WorkFault as work
 use Rattle.gc_job.specs.Fault.{bind_code_of, bind_name_of, eval_code_of, eval_name_of}
-use Rattle.gc_command.specs.declared.files.FileError.{FileError}
-use Rattle.gc_command.specs.declared.files.FileError.TheVariants as file
+use Rattle.gc_files.specs.declared.files.FileError.{FileError}
+use Rattle.gc_files.specs.declared.files.FileError.TheVariants as file
 use Rattle.gc_command.specs.declared.fault.Fault.{Fault}
 use Rattle.gc_command.specs.declared.fault.Fault.TheVariants.{Circuit, WrongCount, Value, BadSeed, NoSuchValue, Garbling, File, Binding, Evaluation, BadList, CannotRead, CannotWrite, Memory}
 

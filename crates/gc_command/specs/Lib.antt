@@ -1,6 +1,3 @@
-pub mod SeenName
-pub mod Files
-pub mod FileFailures
 pub mod Fault
 pub mod CircuitFile
 pub mod Values

@@ -5,16 +5,16 @@ ghost use Rattle.hex.specs.Hex.{encode_lower};
 ghost use Rattle.gc_netlist.specs.Spelling.{Name, words_of_widths};
 ghost use Rattle.sha2.specs.Sha256.{sha256};
 ghost use Rattle.gc_netlist.specs.Canon.{canonical_text, line};
+ghost use Rattle.gc_files.specs.Files.{HasFailed};
 ghost use Rattle.gc_command.specs.Check.{AnswersCheck, HasCheckFault, check_lines};
 ghost use Rattle.gc_command.specs.Fault.{HasCause};
-ghost use Rattle.gc_command.specs.Files.{HasFailed};
 
 use crate::circuit_file::read_circuit_and_digest;
 use crate::fault::Fault;
-use crate::files::Files;
 use crate::lines::{push_count, push_number};
 use crate::progress::{Progress, Work};
 use gc_circuit::Circuit;
+use gc_files::Files;
 use std::alloc::{AllocError, Allocator};
 use std::thread::Threads;
 

@@ -8,13 +8,13 @@ ghost use Rattle.gc_netlist.specs.Circuit.{IsLawful};
 ghost use Rattle.gc_netlist.specs.Reading.{circuit_of};
 ghost use Rattle.gc_netlist.specs.Text.{tokens};
 ghost use Rattle.gc_circuit.specs.Digest.{AreCommonLines, IsBegun};
+ghost use Rattle.gc_files.specs.Files.{HasFailed};
 ghost use Rattle.gc_command.specs.CircuitFile.{IsCircuit, IsCircuitFault, HasCircuitFault};
 ghost use Rattle.gc_command.specs.Fault.{HasCause};
-ghost use Rattle.gc_command.specs.Files.{HasFailed};
 
 use crate::fault::Fault;
-use crate::files::Files;
 use gc_circuit::{BegunDigest, Circuit, CommonLines, ReadFault};
+use gc_files::Files;
 use sha2::{Digest, Sha256};
 use std::alloc::Allocator;
 use std::thread;

@@ -2,18 +2,18 @@
 
 ghost use Rattle.std.specs.Prelude.{◌≡◌, ◌≢◌, ℕ, List, Some, length, slice_get, IfOk, IfErr, IfSome};
 ghost use Rattle.gc_format.specs.LabelFile.{label_file, label_parts_of};
+ghost use Rattle.gc_files.specs.Files.{HasFailed};
 ghost use Rattle.gc_command.specs.Deal.{AnswersDeal, HasDealFault};
 ghost use Rattle.gc_command.specs.Wrote.{HasWritten, IsUnwritten};
 ghost use Rattle.gc_command.specs.Fault.{HasCause};
-ghost use Rattle.gc_command.specs.Files.{HasFailed};
 
 use crate::circuit_file::read_circuit;
 use crate::fault::Fault;
-use crate::files::Files;
 use crate::values::read_input_value;
 use crate::wrote::{ROOM, create_file, keep_written};
 use gc_circuit::Circuit;
 use gc_file::write_labels;
+use gc_files::Files;
 use gc_label::Seed;
 use std::alloc::Allocator;
 

@@ -1,16 +1,16 @@
 //! The command `eval`: evaluating a circuit from a garbled file and label files.
 
 ghost use Rattle.std.specs.Prelude.{◌≡◌, ℕ, List, map, IfOk, IfErr, string_bytes};
+ghost use Rattle.gc_files.specs.Files.{HasFailed};
 ghost use Rattle.gc_command.specs.Eval.{AnswersEval, HasEvalFault};
-ghost use Rattle.gc_command.specs.Files.{HasFailed};
 
 use crate::circuit_file::{HashedPart, read_and_begin_digest};
 use crate::evaluated_files::{finish_digest_and_read_garbled_file, read_label_files};
 use crate::fault::Fault;
-use crate::files::Files;
 use crate::job::evaluate_files;
 use crate::lines::output_lines;
 use crate::progress::{Progress, Work};
+use gc_files::Files;
 use std::alloc::Allocator;
 use std::sync::Wait;
 use std::thread::Threads;

@@ -6,13 +6,13 @@ ghost use Rattle.gc_netlist.specs.Canon.{canonical_text};
 ghost use Rattle.gc_circuit.specs.Digest.{IsBegun};
 ghost use Rattle.gc_format.specs.GarbledFile.{IsGarbledFile};
 ghost use Rattle.gc_format.specs.LabelFile.{IsLabelFile};
+ghost use Rattle.gc_files.specs.Files.{HasFailed};
 ghost use Rattle.gc_command.specs.Eval.{HasGarbledFault, HasLabelFault, HasLabelsFault, AreLabelFiles};
-ghost use Rattle.gc_command.specs.Files.{HasFailed};
 
 use crate::fault::Fault;
-use crate::files::Files;
 use gc_circuit::{BegunDigest, Circuit};
 use gc_file::{Garbled, LabelFile, read_garbled_from, read_labels};
+use gc_files::Files;
 use std::alloc::Allocator;
 use std::convert::AsStr;
 use std::thread;

@@ -3,10 +3,10 @@
 ghost use Rattle.std.specs.Prelude.{◌≡◌, Some};
 ghost use Rattle.gc_command.specs.Fault.{code_of, name_of, text_of};
 
-use crate::files::FileError;
 use gc_circuit::{ReadFault, ValueFault};
 use gc_eval::{BindFault, EvalFault};
 use gc_file::{FileFault, TakeFault, WriteFault};
+use gc_files::FileError;
 use gc_label::BadSeed;
 use gc_work::WorkFault;
 use std::alloc::{AllocError, AllocFailed};

@@ -1,5 +1,4 @@
-//! The files that commands read and write, and the commands on one circuit, each in a module of its name: `check`,
-//! `plain`, `garble`, `deal`, `eval` and `run`.
+//! The commands on one circuit, each in a module of its name: `check`, `plain`, `garble`, `deal`, `eval` and `run`.
 #![tactic(auto)]
 
 pub mod check;
@@ -8,28 +7,21 @@ pub mod deal;
 pub mod eval;
 mod evaluated_files;
 mod fault;
-mod file_failures;
-mod files;
 pub mod garble;
 mod garbling;
-mod host_files;
 mod job;
 mod lines;
 mod own_files;
 pub mod plain;
 mod progress;
 pub mod run;
-mod seen_name;
 mod values;
 mod wrote;
 
 pub use circuit_file::{HashedPart, read_and_begin_digest, read_circuit, read_circuit_and_digest};
 pub use evaluated_files::{read_garbled_file, read_label_files};
 pub use fault::Fault;
-pub use file_failures::FileFailures;
-pub use files::{FileError, Files};
 pub use garbling::digest_and_garbling;
-pub use host_files::{HostFiles, HostSink, read_all};
 pub use lines::{jobs_lines, push_count, push_digits, push_number};
 pub use progress::{Progress, Silent, Work};
 pub use values::read_values;

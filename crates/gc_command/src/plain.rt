@@ -1,16 +1,16 @@
 //! The command `plain`: evaluating a circuit as it stands, without garbling.
 
 ghost use Rattle.std.specs.Prelude.{◌≡◌, ℕ, List, map, IfOk, IfErr, IfSome, string_bytes};
+ghost use Rattle.gc_files.specs.Files.{HasFailed};
 ghost use Rattle.gc_command.specs.Plain.{AnswersPlain, HasPlainFault};
 ghost use Rattle.gc_command.specs.Fault.{HasCause};
-ghost use Rattle.gc_command.specs.Files.{HasFailed};
 
 use crate::circuit_file::read_circuit;
 use crate::fault::Fault;
-use crate::files::Files;
 use crate::lines::output_lines;
 use crate::values::read_values;
 use gc_circuit::{ReadFault, plain_eval};
+use gc_files::Files;
 use std::alloc::Allocator;
 
 /// Evaluates the circuit of a file on the values, and answers the lines of its output values.

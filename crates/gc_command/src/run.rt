@@ -1,18 +1,18 @@
 //! The command `run`: garbling, dealing and evaluating in one.
 
 ghost use Rattle.std.specs.Prelude.{◌≡◌, ℕ, List, map, IfOk, IfErr, IfSome, string_bytes};
+ghost use Rattle.gc_files.specs.Files.{HasFailed};
 ghost use Rattle.gc_command.specs.Run.{AnswersRun, HasRunFault};
 ghost use Rattle.gc_command.specs.Fault.{HasCause};
-ghost use Rattle.gc_command.specs.Files.{HasFailed};
 
 use crate::circuit_file::{HashedPart, read_and_begin_digest};
 use crate::fault::Fault;
-use crate::files::Files;
 use crate::job::evaluate_files;
 use crate::lines::output_lines;
 use crate::own_files::{own_garbled, own_labels};
 use crate::progress::{Progress, Work};
 use crate::values::read_values;
+use gc_files::Files;
 use gc_label::Seed;
 use std::alloc::Allocator;
 use std::sync::Wait;

@@ -2,13 +2,13 @@
 
 ghost use Rattle.std.specs.Prelude.{◌≡◌, ◌<◌, ◌≤◌, ◌+◌, ◌≢◌, ℕ, List, [], Some, IfOk, IfErr, IfSome, OnOk, OnErr, vec_capacity};
 ghost use Rattle.gc_write.specs.Written.{IsWritten};
+ghost use Rattle.gc_files.specs.Files.{HasFailed};
 ghost use Rattle.gc_command.specs.Wrote.{HasWritten, IsUnwritten, wrote_line};
 ghost use Rattle.gc_command.specs.Fault.{HasCause};
-ghost use Rattle.gc_command.specs.Files.{HasFailed};
 
 use crate::fault::Fault;
-use crate::files::{FileError, Files};
 use gc_file::WriteFault;
+use gc_files::{FileError, Files};
 use itoa::Buffer;
 use std::alloc::Allocator;
 

@@ -9,9 +9,9 @@ use Rattle.gc_job.specs.declared.fault.BindFault.TheVariants as bind
 use Rattle.gc_job.specs.Job.{JobParts}
 use Rattle.gc_job.specs.Binding.{FirstBindFault, IsBound}
 use Rattle.gc_bank.specs.Jobs.{AreEvaluated, AreEvaluatedBy}
+use Rattle.gc_files.specs.Files.{FileBytes, GivesFile}
 use Rattle.gc_command.specs.declared.fault.Fault.{Fault}
 use Rattle.gc_command.specs.declared.fault.Fault.TheVariants.{Circuit, File, Binding, Evaluation, BadList, CannotRead, Memory}
-use Rattle.gc_command.specs.Files.{FileBytes, GivesFile}
 use Rattle.gc_command.specs.CircuitFile.{IsCircuit, HasCircuitFault}
 use Rattle.gc_command.specs.Lines.{jobs_lines}
 use Rattle.gc_command.specs.Eval.{AreLabelFiles, HasFilesFault}

@@ -4,13 +4,14 @@ ghost use Rattle.std.specs.Prelude.{◌≡◌, ◌<◌, ◌≤◌, ℕ, List, le
 ghost use Rattle.gc_gatehouse.specs.Workers.{AreFew};
 ghost use Rattle.gc_bank.specs.Jobs.{AreEvaluated, AreEvaluatedBy, AreOnOneCircuit};
 ghost use Rattle.gc_bank.specs.declared.jobs.TheConstants.{MAX_JOBS};
+ghost use Rattle.gc_files.specs.Files.{HasFailed};
 ghost use Rattle.gc_jobs.specs.Jobs.{AnswersJobs, HasJobsFault};
-ghost use Rattle.gc_command.specs.Files.{HasFailed};
 
 use crate::listed_job::read_listed_jobs;
 use gc_bank::evaluate_jobs;
-use gc_command::{Fault, Files, Progress, Work, jobs_lines, read_circuit_and_digest};
+use gc_command::{Fault, Progress, Work, jobs_lines, read_circuit_and_digest};
 use gc_eval::{EvalFault, Job};
+use gc_files::Files;
 use gc_gatehouse::Open;
 use std::alloc::Allocator;
 use std::thread::Threads;

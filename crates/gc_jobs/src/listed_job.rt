@@ -4,13 +4,14 @@ ghost use Rattle.std.specs.Prelude.{◌≡◌, ◌<◌, ℕ, List, length, map, 
 ghost use Rattle.sha2.specs.Sha256.{sha256};
 ghost use Rattle.gc_netlist.specs.Canon.{canonical_text};
 ghost use Rattle.gc_netlist.specs.Text.{tokens};
+ghost use Rattle.gc_files.specs.Files.{HasFailed};
 ghost use Rattle.gc_jobs.specs.Jobs.{AreListed, HasListFault, HasLinesFault, HasNamedFault, NameJob, NameJobs};
-ghost use Rattle.gc_command.specs.Files.{HasFailed};
 
 use crate::job_list::{listed_lines, words_of_line};
 use gc_circuit::Circuit;
-use gc_command::{Fault, Files, Progress, Work, read_garbled_file, read_label_files};
+use gc_command::{Fault, Progress, Work, read_garbled_file, read_label_files};
 use gc_eval::Job;
+use gc_files::Files;
 use std::alloc::Allocator;
 
 /// The jobs of the list in the file of this name. The list's bytes are let go. That this is the digest of the circuit's

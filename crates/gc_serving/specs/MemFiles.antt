@@ -1,7 +1,7 @@
 -- What files in memory hold.
 use Rattle.std.specs.Prelude.{ℕ, List, Option, Some, None, find, option_map, bytes_eq, if◌then◌else◌}
 use Rattle.std.specs.Borrow.{Bor}
-use Rattle.gc_command.specs.Files.{FailedFiles}
+use Rattle.gc_files.specs.Files.{FailedFiles}
 use Rattle.gc_serving.specs.declared.mem_files.Limits.{Limits}
 
 -- the bytes of the first file of a name

@@ -1,11 +1,11 @@
 //! Files in memory.
 
 ghost use Rattle.std.specs.Prelude.{◌≡◌, ℕ, List, [], Option, Some, None, false, IfOk, option_map, string_bytes};
-ghost use Rattle.gc_command.specs.Files.{CountsRead};
+ghost use Rattle.gc_files.specs.Files.{CountsRead};
 ghost use Rattle.gc_serving.specs.MemFiles.{bytes_at, bytes_of, written_or};
 
-use gc_cli::{FileError, FileFailures, Files};
 use gc_file::{MemSink, MemSource};
+use gc_files::{FileError, FileFailures, Files};
 use std::alloc::{Allocator, Global};
 use std::marker::Model;
 

@@ -2,10 +2,10 @@
 use Rattle.std.proofs.Common.{ℕ, List, IfSome, inl, inr}
 use Rattle.gc_netlist.specs.Circuit.{Netlist}
 use Rattle.gc_label.specs.Seed.{IsSeedText}
+use Rattle.gc_files.specs.Files.{FileBytes}
 use Rattle.gc_command.specs.declared.fault.Fault.{Fault}
 use Rattle.gc_command.specs.declared.fault.Fault.TheVariants as faults
 use Rattle.gc_command.specs.Fault.{HasCause}
-use Rattle.gc_command.specs.Files.{FileBytes}
 use Rattle.gc_command.specs.CircuitFile.{IsCircuit, IsCircuitFault, HasCircuitFault}
 use Rattle.gc_command.specs.Eval.{HasFilesFault}
 use Rattle.gc_command.proofs.EvalLemmas.{files-kind}

@@ -24,9 +24,9 @@ use Rattle.gc_audit.specs.declared.labels.LabelsVerdict.{LabelsVerdict}
 use Rattle.gc_audit.specs.declared.labels.LabelsVerdict.TheVariants.{NoValue, WrongWidth, WrongLabel, Bits}
 use Rattle.gc_audit.specs.Garbled.{IsGarbledAudit}
 use Rattle.gc_audit.specs.Labels.{IsDealt, IsFirstWrong, first_wire_of}
+use Rattle.gc_files.specs.Files.{FileBytes}
 use Rattle.gc_command.specs.declared.fault.Fault.{Fault}
 use Rattle.gc_command.specs.declared.fault.Fault.TheVariants.{Circuit, BadSeed, File, Garbling, CannotRead, Memory}
-use Rattle.gc_command.specs.Files.{FileBytes}
 use Rattle.gc_command.specs.CircuitFile.{IsCircuit, HasCircuitFault}
 use Rattle.gc_command.specs.SeedText.{IsSeed}
 use Rattle.gc_command.specs.Eval.{AreEvalFiles, HasFilesFault}

@@ -8,7 +8,7 @@ ghost use Rattle.gc_half.specs.Garbling.{IsGarbled};
 ghost use Rattle.gc_format.specs.GarbledFile.{GarbledParts};
 ghost use Rattle.gc_work.specs.WorkFault.{JudgesWorkers};
 ghost use Rattle.gc_audit.specs.Garbled.{AreCountsRight, IsGarbledAudit, IsPartsAudit};
-ghost use Rattle.gc_command.specs.Files.{HasFailed};
+ghost use Rattle.gc_files.specs.Files.{HasFailed};
 ghost use Rattle.gc_trace.specs.Audit.{AnswersAudit, AreAuditLines, AreLabelsFound, HasAuditFault};
 ghost use Rattle.gc_format.specs.declared.parts.Version.TheVariants.{Two};
 ghost use Rattle.gc_trace.specs.Audit.{bits_line, digest_line, end_line, entries_line, garbled_lines};
@@ -21,10 +21,11 @@ use gc_audit::{
 };
 use gc_circuit::{BegunDigest, Circuit, Memory};
 use gc_command::{
-    Fault, Files, HashedPart, digest_and_garbling, push_digits, push_number, read_and_begin_digest,
+    Fault, HashedPart, digest_and_garbling, push_digits, push_number, read_and_begin_digest,
     read_garbled_file, read_label_files,
 };
 use gc_file::{Garbled, LabelFile, Version};
+use gc_files::Files;
 use gc_half::Garbling;
 use gc_label::Seed;
 use gc_work::WorkFault;

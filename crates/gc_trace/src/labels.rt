@@ -2,15 +2,16 @@
 
 ghost use Rattle.std.specs.Prelude.{◌≡◌, ◌<◌, ◌++◌, ◌∷◌, ℕ, List, [], length, map, IfOk, IfErr, IfSome, MatchOption, string_bytes};
 ghost use Rattle.gc_circuit.specs.Meaning.{Fits};
+ghost use Rattle.gc_files.specs.Files.{HasFailed};
 ghost use Rattle.gc_command.specs.Fault.{HasCause};
-ghost use Rattle.gc_command.specs.Files.{HasFailed};
 ghost use Rattle.gc_trace.specs.Labels.{AnswersLabels, AreLabelLines, HasLabelsFault, IsWantOfMemory};
 ghost use Rattle.gc_trace.specs.Labels.{label_digits, wire_line};
 
 use crate::set_wires::SetWires;
 use arrayvec::ArrayVec;
 use gc_circuit::{Circuit, ReadFault, wire_bits};
-use gc_command::{Fault, Files, read_circuit, read_values};
+use gc_command::{Fault, read_circuit, read_values};
+use gc_files::Files;
 use gc_half::garble_one_thread;
 use gc_label::{Label, Offset, Seed, offset};
 use gc_work::WorkFault;

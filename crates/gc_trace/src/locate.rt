@@ -1,13 +1,14 @@
 //! The command `locate`: where the first fault of a circuit's text is.
 
 ghost use Rattle.std.specs.Prelude.{◌≡◌, ◌++◌, ℕ, List, Option, IfOk, IfErr, IfSome, OnOk};
+ghost use Rattle.gc_files.specs.Files.{HasFailed};
 ghost use Rattle.gc_command.specs.Fault.{HasCause};
-ghost use Rattle.gc_command.specs.Files.{HasFailed};
 ghost use Rattle.gc_trace.specs.Locate.{AnswersLocate, HasLocateFault, fault_line, located_lines, optional_line};
 
 use crate::lines::push_word;
 use gc_circuit::{Circuit, Located, ReadFault};
-use gc_command::{Fault, Files, push_count, push_number};
+use gc_command::{Fault, push_count, push_number};
+use gc_files::Files;
 use std::alloc::{AllocError, Allocator};
 
 /// Reads the text of a file, and answers where its first fault is as a circuit, or the line `no fault`.

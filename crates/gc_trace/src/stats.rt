@@ -1,12 +1,13 @@
 //! The command `stats`: the numbers of a circuit's gates, its depths, and the bytes of its garbled files.
 
 ghost use Rattle.std.specs.Prelude.{◌≡◌, ℕ, List, IfOk, IfErr, IfSome};
+ghost use Rattle.gc_files.specs.Files.{HasFailed};
 ghost use Rattle.gc_command.specs.Fault.{HasCause};
-ghost use Rattle.gc_command.specs.Files.{HasFailed};
 ghost use Rattle.gc_trace.specs.Stats.{AnswersStats, HasStatsFault, stats_lines};
 
 use gc_circuit::ReadFault;
-use gc_command::{Fault, Files, push_count, read_circuit};
+use gc_command::{Fault, push_count, read_circuit};
+use gc_files::Files;
 use gc_stats::{Stats, stats as stats_of};
 use std::alloc::{AllocError, Allocator};
 

@@ -1,7 +1,7 @@
 use Rattle.std.proofs.Common.{ℕ, List, map, string_bytes, inl, inr, ap₂, ◌∙◌}
 use Rattle.std.proofs.lemmas.Result.{err_from_is_err_and}
 use Rattle.gc_format.specs.GarbledFile.{IsGarbledFile}
-use Rattle.gc_command.specs.Files.{HasFailed}
+use Rattle.gc_files.specs.Files.{HasFailed}
 use Rattle.gc_command.specs.Lines.{output_lines}
 use Rattle.gc_command.proofs.AnswerLemmas.{length-decoded}
 use Rattle.gc_command.proofs.EvalLemmas.{held-before, garbled-fault-before, labels-fault-before, eval-files, circuit-fault, files-fault, job-fault}

@@ -2,8 +2,8 @@ use Rattle.std.proofs.Common.{ℕ, List, map, length, option_map, Err, sym, ap, 
 use Rattle.std.proofs.lemmas.Option.{slice_get-get_or, slice_get-map}
 use Rattle.std.proofs.lemmas.Result.{err_from_is_err_and}
 use Rattle.gc_bank.specs.Jobs.{AreEvaluatedBy, AreOnOneCircuit}
+use Rattle.gc_files.specs.Files.{HasFailed}
 use Rattle.gc_jobs.specs.JobList.{listed}
-use Rattle.gc_command.specs.Files.{HasFailed}
 use Rattle.gc_command.specs.Lines.{jobs_lines}
 use Rattle.gc_jobs.proofs.JobsLemmas.{jobs-circuit-fault, jobs-list-fault, listed-before, length-listed, named_count, named_on_one}
 use Rattle.gc_jobs.proofs.jobs.jobs.Goals as goal

@@ -1,7 +1,7 @@
 use Rattle.std.proofs.Common.{◌≡◌, ℕ, List, ◌∷◌, map, sym, ap, ◌∙◌}
 use Rattle.std.proofs.lemmas.Result.{err_from_is_err_and}
 use Rattle.gc_netlist.specs.Text.{tokens}
-use Rattle.gc_command.specs.Files.{HasFailed}
+use Rattle.gc_files.specs.Files.{HasFailed}
 use Rattle.gc_command.proofs.EvalLemmas.{labels-fault-before}
 use Rattle.gc_jobs.proofs.JobsLemmas.{name-files, labels-named}
 use Rattle.gc_jobs.proofs.listed_job.read_job.Goals as goal

@@ -2,7 +2,7 @@ use Rattle.std.proofs.Common.{◌≡◌, ℕ, ◌+◌, ◌<◌, List, [], ◌∷
 use Rattle.std.proofs.lemmas.List.{append-nil, drop_all, length-map}
 use Rattle.std.proofs.lemmas.Result.{err_from_is_err_and}
 use Rattle.gc_netlist.specs.Text.{tokens}
-use Rattle.gc_command.specs.Files.{HasFailed}
+use Rattle.gc_files.specs.Files.{HasFailed}
 use Rattle.gc_jobs.specs.Jobs.{NameJobs, FirstBadJob}
 use Rattle.gc_jobs.proofs.JobListLemmas.{get_or-shown}
 use Rattle.gc_jobs.proofs.JobsLemmas.{job-before, named-before, line-next, lines-fault}

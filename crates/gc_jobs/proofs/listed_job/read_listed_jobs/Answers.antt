@@ -2,7 +2,7 @@ use Rattle.std.proofs.Common.{◌≡◌, ℕ, List, ◌==◌, map, ap, ◌∙◌
 use Rattle.std.specs.List.{slice_split}
 use Rattle.std.proofs.lemmas.Result.{IfOk-weaker, IfErr-weaker}
 use Rattle.gc_netlist.specs.Text.{tokens}
-use Rattle.gc_command.specs.Files.{HasFailed}
+use Rattle.gc_files.specs.Files.{HasFailed}
 use Rattle.gc_jobs.specs.JobList.{listed}
 use Rattle.gc_jobs.specs.Jobs.{NameJobs, HasLinesFault}
 use Rattle.gc_jobs.proofs.JobListLemmas.{all_have_words}

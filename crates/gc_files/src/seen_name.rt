@@ -20,7 +20,7 @@ enum Letters {
 
 impl Model for SeenName {
     ghost use Rattle.std.specs.Prelude.{ℕ, List};
-    ghost use Rattle.gc_command.specs.SeenName.{bytes_of};
+    ghost use Rattle.gc_files.specs.SeenName.{bytes_of};
 
     ghost Value = { List ℕ };
 

@@ -1,7 +1,7 @@
 -- What calls on files answer, and which files have failed.
 use Rattle.std.specs.Prelude.{◌≡◌, ℕ, List, [], ◌∷◌, ◌++◌, replicate, Option, Some, None, Result, Ok, Err}
-use Rattle.gc_command.specs.declared.files.FileError.{FileError}
-use Rattle.gc_command.specs.declared.files.FileError.TheVariants.{CannotRead, CannotWrite, Memory}
+use Rattle.gc_files.specs.declared.files.FileError.{FileError}
+use Rattle.gc_files.specs.declared.files.FileError.TheVariants.{CannotRead, CannotWrite, Memory}
 
 -- The bytes of files by name, where they are known.
 abbrev pub FileBytes : Type 0

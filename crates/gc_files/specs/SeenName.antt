@@ -1,6 +1,6 @@
 -- The bytes of a name that contracts alone read.
 use Rattle.std.specs.Prelude.{ℕ, List, [], ◌∷◌, ◌++◌}
-use Rattle.gc_command.specs.declared.seen_name.Letters.{Letters, Start, Then'}
+use Rattle.gc_files.specs.declared.seen_name.Letters.{Letters, Start, Then'}
 
 abbrev pub bytes_of : Letters → List ℕ
 bytes_of Start = []

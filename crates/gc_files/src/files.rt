@@ -1,7 +1,7 @@
 //! The files that commands read and write.
 
 ghost use Rattle.std.specs.Prelude.{◌≡◌, ◌≢◌, ◌++◌, ℕ, List, [], replicate, Option, Some, IfOk, IfErr, OnOk, IfSome};
-ghost use Rattle.gc_command.specs.Files.{GivesFile, FailedFiles, CountsRead, CountsWrite};
+ghost use Rattle.gc_files.specs.Files.{GivesFile, FailedFiles, CountsRead, CountsWrite};
 
 use std::alloc::{AllocError, Allocator};
 
@@ -18,7 +18,7 @@ pub enum FileError {
 
 impl From<AllocError> for FileError {
     ghost use Rattle.std.specs.Prelude.{◌≡◌};
-    ghost use Rattle.gc_command.specs.declared.files.FileError.TheVariants as errors;
+    ghost use Rattle.gc_files.specs.declared.files.FileError.TheVariants as errors;
 
     ghost from_gives = { λ _ e. e ≡ errors.Memory };
 

@@ -26,7 +26,7 @@ enum FileHistory<K, S> {
 
 impl<K: Sink, S: Source> Model for FileFailures<K, S> {
     ghost use Rattle.std.specs.Prelude.{ℕ, List};
-    ghost use Rattle.gc_command.specs.FileFailures.{failed_files};
+    ghost use Rattle.gc_files.specs.FileFailures.{failed_files};
 
     ghost Value = { List (List ℕ) };
 

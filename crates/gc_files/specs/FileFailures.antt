@@ -1,7 +1,7 @@
 -- Which files have failed in a history.
 use Rattle.std.specs.Prelude.{ℕ, [], ◌∷◌, ◌++◌, replicate}
-use Rattle.gc_command.specs.declared.file_failures.FileHistory.{FileHistory, Start, Failed', Kept', Shut'}
-use Rattle.gc_command.specs.Files.{FailedFiles}
+use Rattle.gc_files.specs.declared.file_failures.FileHistory.{FileHistory, Start, Failed', Kept', Shut'}
+use Rattle.gc_files.specs.Files.{FailedFiles}
 
 -- `of_sink` and `of_source` are the numbers of failures of a sink and of a source.
 abbrev pub failed_files : {K S : Type 0} → (K → ℕ) → (S → ℕ) → FileHistory K S → FailedFiles

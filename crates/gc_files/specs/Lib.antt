@@ -1,0 +1,3 @@
+pub mod SeenName
+pub mod Files
+pub mod FileFailures

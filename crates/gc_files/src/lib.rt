@@ -1,0 +1,11 @@
+//! What files are for commands: files by name, and which of them have failed.
+#![tactic(auto)]
+
+mod file_failures;
+mod files;
+mod host_files;
+mod seen_name;
+
+pub use file_failures::FileFailures;
+pub use files::{FileError, Files};
+pub use host_files::{HostFiles, HostSink, read_all};
