@@ -12,11 +12,11 @@ ghost use Rattle.gc_cli.specs.Serve.{fault_line, reason_of, refusal_line};
 
 use crate::command_line::Heap;
 use crate::output::Output;
-use crate::work::carry_out;
+use crate::work::{carry_out, label_lines};
 use gc_command::{Fault, Progress};
 use gc_files::Files;
 use gc_order::Order;
-use gc_trace::labels::{LabelLines, labels};
+use gc_trace::labels::LabelLines;
 use std::alloc::{Allocator, Global};
 use std::io::{self, ErrorKind, Write};
 use std::sync::Wait;
@@ -96,23 +96,8 @@ fn print_answer<R: Threads + Wait + Sync, F: Files, O: Write, P: Progress>(
         (HasFailed (F.failures files.old) (F.failures files.new))
         (text_of order.now) out.old out.new fault) }
 {
-    if let Order::Labels {
-        circuit,
-        seed,
-        from,
-        count,
-        values,
-    } = order
-    {
-        let lines = labels(
-            alloc,
-            circuit.as_str(),
-            seed.as_str(),
-            *from,
-            *count,
-            values,
-            files,
-        );
+    if let Order::Labels { .. } = order {
+        let lines = label_lines(alloc, order, files);
         progress.end();
         return print_lines(lines?, out);
     }

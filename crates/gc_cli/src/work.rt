@@ -3,7 +3,7 @@
 ghost use Rattle.std.specs.Prelude.{◌≡◌, ◌≢◌, ℕ, List, IfOk, IfErr};
 ghost use Rattle.gc_order.specs.Order.{text_of};
 ghost use Rattle.gc_files.specs.Files.{HasFailed};
-ghost use Rattle.gc_cli.specs.CarryOut.{Answers, HasFault, Writes};
+ghost use Rattle.gc_cli.specs.CarryOut.{Answers, HasFault, IsLabels, Writes};
 
 use gc_command::check::check;
 use gc_command::deal::deal;
@@ -121,22 +121,8 @@ pub fn carry_out<
         ),
         Order::Locate { circuit } => locate(alloc, circuit.as_str(), files),
         Order::Stats { circuit } => stats(alloc, circuit.as_str(), files),
-        Order::Labels {
-            circuit,
-            seed,
-            from,
-            count,
-            values,
-        } => {
-            let lines = labels(
-                alloc,
-                circuit.as_str(),
-                seed.as_str(),
-                *from,
-                *count,
-                values,
-                files,
-            )?;
+        Order::Labels { .. } => {
+            let lines = label_lines(alloc, order, files)?;
             Ok(all_lines(alloc, lines)?)
         }
         Order::Audit {
@@ -156,6 +142,40 @@ pub fn carry_out<
             files,
         ),
     }
+}
+
+/// The lines of `labels`, which are made as they are taken. That this is the order is the caller's condition.
+pub fn label_lines<A: Allocator + Copy, F: Files>(
+    alloc: A,
+    order: &Order,
+    files: &mut F,
+) -> Result<LabelLines<A>, Fault>
+    requires { IsLabels (text_of order.now) }
+    ensures answers { IfOk result (λ lines.
+        Answers (F.bytes files.old) (F.bytes files.new) (text_of order.now) lines) }
+    ensures fault { IfErr result (HasFault (F.bytes files.old)
+        (HasFailed (F.failures files.old) (F.failures files.new)) (text_of order.now)) }
+    ensures same { (name : List ℕ) → F.bytes files.new name ≡ F.bytes files.old name }
+{
+    let Order::Labels {
+        circuit,
+        seed,
+        from,
+        count,
+        values,
+    } = order
+    else {
+        unreachable!()
+    };
+    labels(
+        alloc,
+        circuit.as_str(),
+        seed.as_str(),
+        *from,
+        *count,
+        values,
+        files,
+    )
 }
 
 /// The lines that are left, all at once.
