@@ -7,8 +7,7 @@ use Rattle.gc_read.specs.FileFault.{FirstFault, FirstLabelFault}
 use Rattle.gc_files.specs.Files.{FileBytes}
 use Rattle.gc_command.specs.declared.fault.Fault.{Fault}
 use Rattle.gc_command.specs.declared.fault.Fault.TheVariants as faults
-use Rattle.gc_command.specs.Fault.{HasCause}
-use Rattle.gc_command.specs.CircuitFile.{IsCircuit, IsCircuitFault, HasCircuitFault}
+use Rattle.gc_command.specs.CircuitFile.{IsCircuit, HasReadingFault}
 use Rattle.gc_command.specs.Job.{HasJobFault}
 use Rattle.gc_command.specs.Eval.{AreLabelFiles, HasGarbledFault, HasLabelFault, HasLabelsFault, HasFilesFault, AreEvalFiles, HasEvalFault}
 
@@ -147,21 +146,21 @@ module _ (bytes : FileBytes) (Failed : List ℕ → Type 0) where
 
 module _ (bytes : FileBytes) (Failed : List ℕ → Type 0) (circuit garbled : List ℕ) (workers : ℕ) (labels : List (List ℕ)) where
   -- The fault of the circuit's file,
-  pub circuit-fault : (fault : Fault) → IsCircuitFault fault → IfSome (bytes circuit) (λ held. HasCircuitFault held fault)
-      → HasCause fault (Failed circuit) ⊥ → HasEvalFault bytes Failed circuit garbled workers labels fault
-  circuit-fault (faults.Circuit fault) kind has failed = has
-  circuit-fault faults.WrongCount kind has failed = absurd kind
-  circuit-fault (faults.Value fault) kind has failed = absurd kind
-  circuit-fault faults.BadSeed kind has failed = absurd kind
-  circuit-fault faults.NoSuchValue kind has failed = absurd kind
-  circuit-fault (faults.Garbling fault) kind has failed = absurd kind
-  circuit-fault (faults.File fault) kind has failed = absurd kind
-  circuit-fault (faults.Binding fault) kind has failed = absurd kind
-  circuit-fault (faults.Evaluation fault) kind has failed = absurd kind
-  circuit-fault faults.BadList kind has failed = absurd kind
-  circuit-fault faults.CannotRead kind has failed = inl failed
-  circuit-fault faults.CannotWrite kind has failed = absurd kind
-  circuit-fault faults.Memory kind has failed = tt
+  pub circuit-fault : (fault : Fault) → HasReadingFault (bytes circuit) (Failed circuit) fault
+      → HasEvalFault bytes Failed circuit garbled workers labels fault
+  circuit-fault (faults.Circuit fault) has = has.first
+  circuit-fault faults.WrongCount has = absurd has.kind
+  circuit-fault (faults.Value fault) has = absurd has.kind
+  circuit-fault faults.BadSeed has = absurd has.kind
+  circuit-fault faults.NoSuchValue has = absurd has.kind
+  circuit-fault (faults.Garbling fault) has = absurd has.kind
+  circuit-fault (faults.File fault) has = absurd has.kind
+  circuit-fault (faults.Binding fault) has = absurd has.kind
+  circuit-fault (faults.Evaluation fault) has = absurd has.kind
+  circuit-fault faults.BadList has = absurd has.kind
+  circuit-fault faults.CannotRead has = inl has.cause
+  circuit-fault faults.CannotWrite has = absurd has.kind
+  circuit-fault faults.Memory has = tt
 
   -- of the other files,
   pub files-fault : (c : Netlist) → IfSome (bytes circuit) (λ held. IsCircuit held c) → (fault : Fault)

@@ -1,5 +1,5 @@
 -- The circuit of a file, and the faults that the file may have.
-use Rattle.std.specs.Prelude.{◌≡◌, ◌≢◌, ℕ, List, Ok, Err}
+use Rattle.std.specs.Prelude.{◌≡◌, ◌≢◌, ℕ, List, Option, IfSome, Ok, Err}
 use Rattle.gc_netlist.specs.declared.fault.ReadFault.TheVariants as read
 use Rattle.gc_netlist.specs.Circuit.{Netlist, IsLawful}
 use Rattle.gc_netlist.specs.Text.{tokens}
@@ -7,6 +7,7 @@ use Rattle.gc_netlist.specs.Spelling.{Spells}
 use Rattle.gc_netlist.specs.Reading.{circuit_of}
 use Rattle.gc_command.specs.declared.fault.Fault.{Fault}
 use Rattle.gc_command.specs.declared.fault.Fault.TheVariants.{Circuit, CannotRead, Memory}
+use Rattle.gc_command.specs.Fault.{HasCause}
 
 -- The bytes are the circuit's: reading answers it, they spell it, and it is lawful.
 pub record IsCircuit (bytes : List ℕ) (c : Netlist) : Type 0 where
@@ -27,3 +28,10 @@ HasCircuitFault bytes CannotRead = Unit {0}
 HasCircuitFault bytes (Circuit fault) = fault ≢ read.Memory → circuit_of (tokens bytes) ≡ Err fault
 HasCircuitFault bytes Memory = Unit {0}
 HasCircuitFault bytes _ = ⊥
+
+-- Reading a circuit's file has this fault: one that such a file may have, and the first of its bytes, where these are
+-- known. A file that can't be read has failed, as `Failed` says.
+pub record HasReadingFault (bytes : Option (List ℕ)) (Failed : Type 0) (fault : Fault) : Type 0 where
+  pub kind : IsCircuitFault fault
+  pub first : IfSome bytes (λ held. HasCircuitFault held fault)
+  pub cause : HasCause fault Failed ⊥

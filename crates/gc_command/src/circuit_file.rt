@@ -9,8 +9,7 @@ ghost use Rattle.gc_netlist.specs.Reading.{circuit_of};
 ghost use Rattle.gc_netlist.specs.Text.{tokens};
 ghost use Rattle.gc_circuit.specs.Digest.{AreCommonLines, IsBegun};
 ghost use Rattle.gc_files.specs.Files.{HasFailed};
-ghost use Rattle.gc_command.specs.CircuitFile.{IsCircuit, IsCircuitFault, HasCircuitFault};
-ghost use Rattle.gc_command.specs.Fault.{HasCause};
+ghost use Rattle.gc_command.specs.CircuitFile.{IsCircuit, HasReadingFault};
 
 use crate::fault::Fault;
 use gc_circuit::{BegunDigest, Circuit, CommonLines, ReadFault};
@@ -29,11 +28,8 @@ pub fn read_circuit<A: Allocator + Copy, F: Files>(
     ensures circuit { IfOk result
         (λ c. IfSome (F.bytes files.old name.now) (λ bytes. IsCircuit bytes c)) }
     ensures lawful { IfOk result IsLawful }
-    ensures fault { IfErr result (λ fault. IfSome (F.bytes files.old name.now)
-        (λ bytes. HasCircuitFault bytes fault)) }
-    ensures kind { IfErr result IsCircuitFault }
-    ensures cause { IfErr result (λ fault. HasCause fault
-        (HasFailed (F.failures files.old) (F.failures files.new) name.now) ⊥) }
+    ensures fault { IfErr result (HasReadingFault (F.bytes files.old name.now)
+        (HasFailed (F.failures files.old) (F.failures files.new) name.now)) }
     ensures counted { OnOk result (F.failures files.new ≡ F.failures files.old) }
     ensures same { (n : List ℕ) → F.bytes files.new n ≡ F.bytes files.old n }
 {
@@ -74,11 +70,8 @@ pub fn read_circuit_and_digest<R: Threads, A: Allocator + Copy + Send + Sync, F:
     ensures circuit { IfOk result
         (λ made. IfSome (F.bytes files.old name.now) (λ bytes. IsCircuit bytes made.0)) }
     ensures lawful { IfOk result (λ made. IsLawful made.0) }
-    ensures fault { IfErr result (λ fault. IfSome (F.bytes files.old name.now)
-        (λ bytes. HasCircuitFault bytes fault)) }
-    ensures kind { IfErr result IsCircuitFault }
-    ensures cause { IfErr result (λ fault. HasCause fault
-        (HasFailed (F.failures files.old) (F.failures files.new) name.now) ⊥) }
+    ensures fault { IfErr result (HasReadingFault (F.bytes files.old name.now)
+        (HasFailed (F.failures files.old) (F.failures files.new) name.now)) }
     ensures counted { OnOk result (F.failures files.new ≡ F.failures files.old) }
     ensures same { (n : List ℕ) → F.bytes files.new n ≡ F.bytes files.old n }
 {
@@ -101,11 +94,8 @@ pub fn read_and_begin_digest<R: Threads, A: Allocator + Copy + Send + Sync, F: F
     ensures circuit { IfOk result
         (λ made. IfSome (F.bytes files.old name.now) (λ bytes. IsCircuit bytes made.0)) }
     ensures lawful { IfOk result (λ made. IsLawful made.0) }
-    ensures fault { IfErr result (λ fault. IfSome (F.bytes files.old name.now)
-        (λ bytes. HasCircuitFault bytes fault)) }
-    ensures kind { IfErr result IsCircuitFault }
-    ensures cause { IfErr result (λ fault. HasCause fault
-        (HasFailed (F.failures files.old) (F.failures files.new) name.now) ⊥) }
+    ensures fault { IfErr result (HasReadingFault (F.bytes files.old name.now)
+        (HasFailed (F.failures files.old) (F.failures files.new) name.now)) }
     ensures counted { OnOk result (F.failures files.new ≡ F.failures files.old) }
     ensures same { (n : List ℕ) → F.bytes files.new n ≡ F.bytes files.old n }
 {

@@ -9,8 +9,7 @@ use Rattle.gc_bank.specs.Jobs.{AreEvaluated, AreOnOneCircuit}
 use Rattle.gc_files.specs.Files.{FileBytes, GivesFile}
 use Rattle.gc_command.specs.declared.fault.Fault.{Fault}
 use Rattle.gc_command.specs.declared.fault.Fault.TheVariants as faults
-use Rattle.gc_command.specs.Fault.{HasCause}
-use Rattle.gc_command.specs.CircuitFile.{IsCircuit, IsCircuitFault, HasCircuitFault}
+use Rattle.gc_command.specs.CircuitFile.{IsCircuit, HasReadingFault}
 use Rattle.gc_command.specs.Eval.{AreLabelFiles, HasLabelsFault}
 use Rattle.gc_jobs.specs.JobList.{IsJobList, listed}
 use Rattle.gc_jobs.specs.Jobs.{NameFiles, NameJob, FirstBadNamed, HasNamedFault, NameJobs, FirstBadJob, HasLinesFault, HasListFault, HasBadJob, AreListed, HasJobsFault}
@@ -152,21 +151,20 @@ module _ (old new : FileBytes) (same : (n : List ℕ) → new n ≡ old n) where
 
 -- The fault of the circuit's file is that of the command.
 pub jobs-circuit-fault : (bytes : FileBytes) (Failed : List ℕ → Type 0) (circuit list : List ℕ) (workers : ℕ) (fault : Fault)
-    → IsCircuitFault fault → IfSome (bytes circuit) (λ held. HasCircuitFault held fault) → HasCause fault (Failed circuit) ⊥
-    → HasJobsFault bytes Failed circuit list workers fault
-jobs-circuit-fault bytes Failed circuit list workers faults.CannotRead kind has failed = inl failed
-jobs-circuit-fault bytes Failed circuit list workers (faults.Circuit fault) kind has failed = has
-jobs-circuit-fault bytes Failed circuit list workers faults.Memory kind has failed = tt
-jobs-circuit-fault bytes Failed circuit list workers faults.WrongCount kind has failed = absurd kind
-jobs-circuit-fault bytes Failed circuit list workers (faults.Value fault) kind has failed = absurd kind
-jobs-circuit-fault bytes Failed circuit list workers faults.BadSeed kind has failed = absurd kind
-jobs-circuit-fault bytes Failed circuit list workers faults.BadList kind has failed = absurd kind
-jobs-circuit-fault bytes Failed circuit list workers faults.NoSuchValue kind has failed = absurd kind
-jobs-circuit-fault bytes Failed circuit list workers (faults.Garbling fault) kind has failed = absurd kind
-jobs-circuit-fault bytes Failed circuit list workers (faults.File fault) kind has failed = absurd kind
-jobs-circuit-fault bytes Failed circuit list workers (faults.Binding fault) kind has failed = absurd kind
-jobs-circuit-fault bytes Failed circuit list workers (faults.Evaluation fault) kind has failed = absurd kind
-jobs-circuit-fault bytes Failed circuit list workers faults.CannotWrite kind has failed = absurd kind
+    → HasReadingFault (bytes circuit) (Failed circuit) fault → HasJobsFault bytes Failed circuit list workers fault
+jobs-circuit-fault bytes Failed circuit list workers faults.CannotRead has = inl has.cause
+jobs-circuit-fault bytes Failed circuit list workers (faults.Circuit fault) has = has.first
+jobs-circuit-fault bytes Failed circuit list workers faults.Memory has = tt
+jobs-circuit-fault bytes Failed circuit list workers faults.WrongCount has = absurd has.kind
+jobs-circuit-fault bytes Failed circuit list workers (faults.Value fault) has = absurd has.kind
+jobs-circuit-fault bytes Failed circuit list workers faults.BadSeed has = absurd has.kind
+jobs-circuit-fault bytes Failed circuit list workers faults.BadList has = absurd has.kind
+jobs-circuit-fault bytes Failed circuit list workers faults.NoSuchValue has = absurd has.kind
+jobs-circuit-fault bytes Failed circuit list workers (faults.Garbling fault) has = absurd has.kind
+jobs-circuit-fault bytes Failed circuit list workers (faults.File fault) has = absurd has.kind
+jobs-circuit-fault bytes Failed circuit list workers (faults.Binding fault) has = absurd has.kind
+jobs-circuit-fault bytes Failed circuit list workers (faults.Evaluation fault) has = absurd has.kind
+jobs-circuit-fault bytes Failed circuit list workers faults.CannotWrite has = absurd has.kind
 
 -- The fault of the label files is that of the words that name them,
 pub labels-named : (bytes : FileBytes) (Failed : List ℕ → Type 0) (c : Netlist) (words : List (List ℕ)) (garbled : List ℕ) (labels : List (List ℕ))

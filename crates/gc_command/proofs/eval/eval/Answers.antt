@@ -15,7 +15,7 @@ returns-in_err-circuit-clause-fault g c =
     let Failed : List ℕ → Type 0 = HasFailed (g.F.Files.failures c.args.files.now) failed in
     rw (p.1, p.2)
     (circuit-fault bytes Failed c.args.circuit.now c.args.garbled.now c.args.workers (map string_bytes c.args.labels.now)
-    c.in_err-circuit.field-0.0 c.in_err-circuit.ensures.kind c.in_err-circuit.ensures.fault c.in_err-circuit.ensures.cause)
+    c.in_err-circuit.field-0.0 c.in_err-circuit.ensures.fault)
 
 pub returns-in_err-digest-clause-fault : goal.returns-in_err-digest-clause-fault
 returns-in_err-digest-clause-fault g c =

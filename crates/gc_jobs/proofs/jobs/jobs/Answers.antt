@@ -15,7 +15,7 @@ returns-in_err-circuit-clause-fault g c =
     let Failed : List ℕ → Type 0 = HasFailed (g.F.Files.failures c.args.files.now) failed in
     rw (p.1, p.2)
     (jobs-circuit-fault (g.F.Files.bytes c.args.files.now) Failed c.args.circuit.now c.args.list.now c.args.workers
-    c.in_err-circuit.field-0.0 c.in_err-circuit.ensures.kind c.in_err-circuit.ensures.fault c.in_err-circuit.ensures.cause)
+    c.in_err-circuit.field-0.0 c.in_err-circuit.ensures.fault)
 
 pub returns-in_err-jobs-clause-fault : goal.returns-in_err-jobs-clause-fault
 returns-in_err-jobs-clause-fault g c =
