@@ -4,7 +4,8 @@ ghost use Rattle.std.specs.Prelude.{◌≡◌, ◌++◌, ◌∷◌, ℕ, List, m
 ghost use Rattle.sha2.specs.Sha256.{sha256};
 ghost use Rattle.gc_netlist.specs.Canon.{canonical_text};
 ghost use Rattle.gc_circuit.specs.Digest.{IsBegun};
-ghost use Rattle.gc_half.specs.Garbling.{IsGarbled};
+ghost use Rattle.gc_half.specs.Canonical.{garbling_of};
+ghost use Rattle.gc_half.specs.Comparing.{HasLabels};
 ghost use Rattle.gc_format.specs.GarbledFile.{GarbledParts};
 ghost use Rattle.gc_work.specs.WorkFault.{JudgesWorkers};
 ghost use Rattle.gc_audit.specs.Garbled.{AreCountsRight, IsGarbledAudit, IsPartsAudit};
@@ -17,18 +18,19 @@ ghost use Rattle.gc_trace.specs.Audit.{is_dealt, parts_lines, rows_line, rows_na
 use crate::lines::{push_field, push_word};
 use gc_audit::{
     DifferingRows, EntryDifference, GarbledAudit, LabelsVerdict, PartsAudit, RowDifference,
-    audit_garbled, audit_labels, garble_and_audit,
+    are_counts_right, audit_compared, audit_labels,
 };
 use gc_circuit::{BegunDigest, Circuit, Memory};
 use gc_command::{
-    Fault, HashedPart, digest_and_garbling, push_digits, push_number, read_and_begin_digest,
-    read_garbled_file, read_label_files,
+    Fault, HashedPart, push_digits, push_number, read_and_begin_digest, read_garbled_file,
+    read_label_files,
 };
 use gc_file::{Garbled, LabelFile, Version};
 use gc_files::Files;
+use gc_gatehouse::Open;
 use gc_half::Garbling;
 use gc_label::Seed;
-use gc_work::WorkFault;
+use gc_work::{WorkFault, garble, garble_and_compare};
 use std::alloc::{AllocError, Allocator};
 use std::sync::Wait;
 use std::thread;
@@ -58,18 +60,19 @@ pub fn audit<R: Threads + Wait + Sync, A: Allocator + Copy + Send + Sync, F: Fil
     let garbled = read_garbled_file(alloc, garbled, files)?;
     let version = garbled.version();
     let labels = read_label_files(alloc, labels, files)?;
-    let (garbling, found) = garbling_and_audit(
+    let (labelled, found) = labels_and_audit(
         rt, alloc, &circuit, begun, &seed, garbled, workers,
     )?;
-    match audit_lines(alloc, &circuit, version, &found, &garbling, &seed, &labels) {
+    match audit_lines(alloc, &circuit, version, &found, &labelled, &seed, &labels) {
         Ok(lines) => Ok(lines),
         Err(_) => Err(Fault::Memory),
     }
 }
 
-/// The garbling of the circuit under the seed by this many workers, and what it finds of a garbled file. One worker
-/// compares each row pair as it is made, and needs no memory for rows beside the file's.
-fn garbling_and_audit<R: Threads + Wait + Sync, A: Allocator + Copy + Send + Sync>(
+/// The labels of the garbling of the circuit under the seed, by this many workers, and what it finds of a garbled file.
+/// A thread beside these finishes the circuit's digest, where one can be started. That the digest begun is the
+/// circuit's is the caller's condition.
+fn labels_and_audit<R: Threads + Wait + Sync, A: Allocator + Copy + Send + Sync>(
     rt: &R,
     alloc: A,
     circuit: &Circuit<A>,
@@ -79,32 +82,10 @@ fn garbling_and_audit<R: Threads + Wait + Sync, A: Allocator + Copy + Send + Syn
     workers: u32,
 ) -> Result<(Garbling<A>, GarbledAudit), WorkFault>
     requires { IsBegun circuit.now begun }
-    ensures garbled { IfOk result (λ made. IsGarbled circuit.now seed.now made.0) }
-    ensures audit { IfOk result
-        (λ made. IsGarbledAudit circuit.now made.0 seed.now file made.1) }
+    ensures labels { IfOk result (λ made. HasLabels circuit.now seed.now made.0) }
+    ensures audit { IfOk result (λ made.
+        IsGarbledAudit circuit.now (garbling_of circuit.now seed.now) seed.now file made.1) }
     ensures workers { JudgesWorkers workers result }
-{
-    if workers == 1 {
-        return Ok(audit_alone(rt, alloc, circuit, begun, seed, file)?);
-    }
-    let (digest, garbling) = digest_and_garbling(rt, alloc, circuit, begun, seed, workers)?;
-    let found = audit_garbled(circuit, &digest, &garbling, seed, &file);
-    Ok((garbling, found))
-}
-
-/// The same by one worker. A thread beside it finishes the circuit's digest, where one can be started.
-fn audit_alone<R: Threads, A: Allocator + Copy + Send + Sync>(
-    rt: &R,
-    alloc: A,
-    circuit: &Circuit<A>,
-    begun: BegunDigest,
-    seed: &Seed,
-    file: Garbled<A>,
-) -> Result<(Garbling<A>, GarbledAudit), Memory>
-    requires { IsBegun circuit.now begun }
-    ensures garbled { IfOk result (λ made. IsGarbled circuit.now seed.now made.0) }
-    ensures audit { IfOk result
-        (λ made. IsGarbledAudit circuit.now made.0 seed.now file made.1) }
 {
     let filed = file.digest();
     let (digest, made) = thread::join(
@@ -113,39 +94,76 @@ fn audit_alone<R: Threads, A: Allocator + Copy + Send + Sync>(
             requires { IsBegun circuit.now begun }
             ensures { result ≡ sha256 (canonical_text circuit.entry.now) }
         { circuit.finish_digest(begun) },
-        move || -> Result<(Garbling<A>, Option<PartsAudit>), Memory>
-            ensures garbled { IfOk result
-                (λ made. IsGarbled circuit.entry.now seed.entry.now made.0) }
+        move || -> Result<(Garbling<A>, Option<PartsAudit>), WorkFault>
+            ensures labels { IfOk result
+                (λ made. HasLabels circuit.entry.now seed.entry.now made.0) }
             ensures parts { IfOk result (λ made.
                 MatchOption made.1 (¬ AreCountsRight circuit.entry.now file)
-                (IsPartsAudit circuit.entry.now made.0 seed.entry.now file)) }
-        { garble_and_audit(alloc, circuit, seed, file) },
+                (IsPartsAudit circuit.entry.now (garbling_of circuit.entry.now seed.entry.now)
+                seed.entry.now file)) }
+            ensures workers { JudgesWorkers workers result }
+        { labels_and_parts(rt, alloc, circuit, seed, file, workers) },
     );
-    let (garbling, parts) = made?;
+    let (labels, parts) = made?;
     let digest = filed == digest;
-    Ok((garbling, GarbledAudit { digest, parts }))
+    Ok((labels, GarbledAudit { digest, parts }))
 }
 
-/// The lines of what is found of a garbled file of a version and of label files, by the garbling of the circuit under
-/// the seed.
+/// The same without the digest. Where the file's counts are right, its row pairs are compared with the garbling's as
+/// these are made, so that both together take hardly more memory than one of them. Else the file is let go before.
+fn labels_and_parts<R: Threads + Wait + Sync, A: Allocator + Copy + Send + Sync>(
+    rt: &R,
+    alloc: A,
+    circuit: &Circuit<A>,
+    seed: &Seed,
+    file: Garbled<A>,
+    workers: u32,
+) -> Result<(Garbling<A>, Option<PartsAudit>), WorkFault>
+    ensures labels { IfOk result (λ made. HasLabels circuit.now seed.now made.0) }
+    ensures parts { IfOk result (λ made. MatchOption made.1 (¬ AreCountsRight circuit.now file)
+        (IsPartsAudit circuit.now (garbling_of circuit.now seed.now) seed.now file)) }
+    ensures workers { JudgesWorkers workers result }
+{
+    circuit.law_lawful();
+    if !are_counts_right(circuit, &file) {
+        drop(file);
+        return Ok((garble(rt, alloc, circuit, seed, workers, &Open)?, None));
+    }
+    let version = file.version();
+    let (rows, decode_bits, entries) = file.into_parts();
+    let (labels, first) = garble_and_compare(rt, alloc, circuit, seed, rows, workers, &Open)?;
+    let parts = audit_compared(
+        circuit,
+        &labels,
+        seed,
+        first,
+        version,
+        &decode_bits,
+        &entries,
+    );
+    Ok((labels, Some(parts)))
+}
+
+/// The lines of what is found of a garbled file of a version and of label files, by the zero labels of the garbling of
+/// the circuit under the seed.
 fn audit_lines<A: Allocator + Copy>(
     alloc: A,
     circuit: &Circuit<A>,
     version: Version,
     found: &GarbledAudit,
-    garbling: &Garbling<A>,
+    labelled: &Garbling<A>,
     seed: &Seed,
     labels: &[LabelFile<A>],
 ) -> Result<Vec<u8, A>, Memory>
-    requires { IsGarbled circuit.now seed.now garbling.now }
+    requires { HasLabels circuit.now seed.now labelled.now }
     ensures { IfOk result (λ lines. (file : GarbledParts) → file.version ≡ version
-        → IsGarbledAudit circuit.now garbling.now seed.now file found.now
+        → IsGarbledAudit circuit.now (garbling_of circuit.now seed.now) seed.now file found.now
         → AreAuditLines circuit.now seed.now file labels.now lines.items) }
 {
     circuit.law_lawful();
     let mut lines = Vec::new(alloc);
     push_garbled(&mut lines, version, found)?;
-    let all_dealt = push_label_files(&mut lines, alloc, circuit, garbling, seed, labels)?;
+    let all_dealt = push_label_files(&mut lines, alloc, circuit, labelled, seed, labels)?;
     push_end(&mut lines, found.is_honest() && all_dealt)?;
     Ok(lines)
 }
@@ -302,18 +320,18 @@ fn push_label_files<A: Allocator + Copy>(
     lines: &mut Vec<u8, A>,
     alloc: A,
     circuit: &Circuit<A>,
-    garbling: &Garbling<A>,
+    labelled: &Garbling<A>,
     seed: &Seed,
     files: &[LabelFile<A>],
 ) -> Result<bool, Memory>
-    requires { IsGarbled circuit.now seed.now garbling.now }
+    requires { HasLabels circuit.now seed.now labelled.now }
     ensures { IfOk result (λ all_dealt. (added : List ℕ)
         × AreLabelsFound circuit.now seed.now files.now all_dealt added
         × (lines.new.items ≡ lines.old.items ++ added)) }
 {
     let mut all_dealt = true;
     for file in files {
-        let verdict = audit_labels(alloc, circuit, garbling, seed, file)?;
+        let verdict = audit_labels(alloc, circuit, labelled, seed, file)?;
         push_verdict(lines, file.index(), &verdict)?;
         all_dealt &= is_dealt(&verdict);
     }

@@ -56,9 +56,9 @@ returns-in_err-labels-clause-fault g c =
           names c.in_err-labels.field-0.0 c.in_err-labels.ensures.fault,
     )))
 
-pub returns-in_err-garbling-clause-fault : goal.returns-in_err-garbling-clause-fault
-returns-in_err-garbling-clause-fault g c =
-    let p = err_from_is_err_and c.from_residual-in_err-garbling.result c.from_residual-in_err-garbling.ensures.1 in
+pub returns-in_err-labelled-clause-fault : goal.returns-in_err-labelled-clause-fault
+returns-in_err-labelled-clause-fault g c =
+    let p = err_from_is_err_and c.from_residual-in_err-labelled.result c.from_residual-in_err-labelled.ensures.1 in
     let bytes = g.F.Files.bytes c.args.files.now in
     rw (p.1, p.2) (
       c.in_ok-circuit.circuit,
@@ -74,14 +74,14 @@ returns-in_err-garbling-clause-fault g c =
                 c.in_ok-labels.labels.items c.in_ok-circuit.ensures.circuit c.in_ok-garbled.ensures.garbled
                 c.in_ok-labels.ensures.labels,
             c.in_ok-seed.ensures.accepts.0 refl,
-            c.in_err-garbling.ensures.workers,
+            c.in_err-labelled.ensures.workers,
           ),
         ),
       ),
     )
 
-pub returns-in_err-garbling-clause-same : goal.returns-in_err-garbling-clause-same
-returns-in_err-garbling-clause-same g c = λ n.
+pub returns-in_err-labelled-clause-same : goal.returns-in_err-labelled-clause-same
+returns-in_err-labelled-clause-same g c = λ n.
     c.read_label_files.ensures.same n ∙ c.read_garbled_file.ensures.same n ∙ c.read_and_begin_digest.ensures.same n
 
 pub returns-in-Ok-clause-answers : goal.returns-in-Ok-clause-answers
@@ -99,9 +99,9 @@ returns-in-Ok-clause-answers g c =
           c.in_ok-labels.ensures.labels;
       seed = c.in_ok-seed.seed;
       seed_read = record { accepted = c.in_ok-seed.ensures.accepts.0 refl; spelled = c.in_ok-seed.ensures.bytes };
-      few = c.in_ok-garbling.ensures.workers;
+      few = c.in_ok-labelled.ensures.workers;
       printed = rw c.deref.ensures.value at (c.in-Ok.ensures c.in_ok-garbled.garbled (sym c.version-version.ensures)
-          c.in_ok-garbling.ensures.audit);
+          c.in_ok-labelled.ensures.audit);
     }
 
 pub returns-in-Ok-clause-same : goal.returns-in-Ok-clause-same
