@@ -14,7 +14,7 @@ use Rattle.gc_command.specs.Eval.{AreLabelFiles, HasLabelsFault}
 use Rattle.gc_jobs.specs.JobList.{IsJobList, listed}
 use Rattle.gc_jobs.specs.Jobs.{NameFiles, NameJob, FirstBadNamed, HasNamedFault, NameJobs, FirstBadJob, HasLinesFault, HasListFault, HasBadJob, AreListed, HasJobsFault}
 use Rattle.gc_command.proofs.AnswerLemmas.{length-decoded}
-use Rattle.gc_command.proofs.EvalLemmas.{held-before, labels-before, files-fault-before, labels-kind}
+use Rattle.gc_command.proofs.EvalLemmas.{by-circuit-fault, by-file-fault, held-before, labels-before, files-fault-before, labels-kind}
 
 -- What files name they named before, where no file has changed.
 module _ (old new : FileBytes) (same : (n : List ℕ) → new n ≡ old n) where
@@ -152,39 +152,21 @@ module _ (old new : FileBytes) (same : (n : List ℕ) → new n ≡ old n) where
 -- The fault of the circuit's file is that of the command.
 pub jobs-circuit-fault : (bytes : FileBytes) (Failed : List ℕ → Type 0) (circuit list : List ℕ) (workers : ℕ) (fault : Fault)
     → HasReadingFault (bytes circuit) (Failed circuit) fault → HasJobsFault bytes Failed circuit list workers fault
-jobs-circuit-fault bytes Failed circuit list workers faults.CannotRead has = inl has.cause
-jobs-circuit-fault bytes Failed circuit list workers (faults.Circuit fault) has = has.first
-jobs-circuit-fault bytes Failed circuit list workers faults.Memory has = tt
-jobs-circuit-fault bytes Failed circuit list workers faults.WrongCount has = absurd has.kind
-jobs-circuit-fault bytes Failed circuit list workers (faults.Value fault) has = absurd has.kind
-jobs-circuit-fault bytes Failed circuit list workers faults.BadSeed has = absurd has.kind
-jobs-circuit-fault bytes Failed circuit list workers faults.BadList has = absurd has.kind
-jobs-circuit-fault bytes Failed circuit list workers faults.NoSuchValue has = absurd has.kind
-jobs-circuit-fault bytes Failed circuit list workers (faults.Garbling fault) has = absurd has.kind
-jobs-circuit-fault bytes Failed circuit list workers (faults.File fault) has = absurd has.kind
-jobs-circuit-fault bytes Failed circuit list workers (faults.Binding fault) has = absurd has.kind
-jobs-circuit-fault bytes Failed circuit list workers (faults.Evaluation fault) has = absurd has.kind
-jobs-circuit-fault bytes Failed circuit list workers faults.CannotWrite has = absurd has.kind
+jobs-circuit-fault bytes Failed circuit list workers fault has =
+    by-circuit-fault
+    (λ f. HasReadingFault (bytes circuit) (Failed circuit) f → HasJobsFault bytes Failed circuit list workers f)
+    (λ f reading. reading.first) (λ reading. inl reading.cause) (λ reading. tt) fault has.kind has
 
 -- The fault of the label files is that of the words that name them,
 pub labels-named : (bytes : FileBytes) (Failed : List ℕ → Type 0) (c : Netlist) (words : List (List ℕ)) (garbled : List ℕ) (labels : List (List ℕ))
     (g : GarbledParts) → words ≡ garbled ∷ labels → IfSome (bytes garbled) (λ held. IsGarbledFile held g) → (fault : Fault)
     → HasLabelsFault bytes Failed labels fault → HasNamedFault bytes Failed c words fault
-labels-named bytes Failed c words garbled labels g names read (faults.File fault) has =
-    subst (λ w. FirstBadNamed bytes Failed w (faults.File fault)) (sym names) (inr (g, read, has))
-labels-named bytes Failed c words garbled labels g names read faults.CannotRead has =
-    subst (λ w. FirstBadNamed bytes Failed w faults.CannotRead) (sym names) (inr (g, read, has))
-labels-named bytes Failed c words garbled labels g names read faults.Memory has = tt
-labels-named bytes Failed c words garbled labels g names read (faults.Circuit fault) has = absurd (labels-kind bytes Failed labels (faults.Circuit fault) has)
-labels-named bytes Failed c words garbled labels g names read faults.WrongCount has = absurd (labels-kind bytes Failed labels faults.WrongCount has)
-labels-named bytes Failed c words garbled labels g names read (faults.Value fault) has = absurd (labels-kind bytes Failed labels (faults.Value fault) has)
-labels-named bytes Failed c words garbled labels g names read faults.BadSeed has = absurd (labels-kind bytes Failed labels faults.BadSeed has)
-labels-named bytes Failed c words garbled labels g names read faults.BadList has = absurd (labels-kind bytes Failed labels faults.BadList has)
-labels-named bytes Failed c words garbled labels g names read faults.NoSuchValue has = absurd (labels-kind bytes Failed labels faults.NoSuchValue has)
-labels-named bytes Failed c words garbled labels g names read (faults.Garbling fault) has = absurd (labels-kind bytes Failed labels (faults.Garbling fault) has)
-labels-named bytes Failed c words garbled labels g names read (faults.Binding fault) has = absurd (labels-kind bytes Failed labels (faults.Binding fault) has)
-labels-named bytes Failed c words garbled labels g names read (faults.Evaluation fault) has = absurd (labels-kind bytes Failed labels (faults.Evaluation fault) has)
-labels-named bytes Failed c words garbled labels g names read faults.CannotWrite has = absurd (labels-kind bytes Failed labels faults.CannotWrite has)
+labels-named bytes Failed c words garbled labels g names read fault has =
+    by-file-fault (λ f. HasLabelsFault bytes Failed labels f → HasNamedFault bytes Failed c words f)
+    (λ f bad. named f bad) (named faults.CannotRead) (λ bad. tt) fault (labels-kind bytes Failed labels fault has) has
+  where
+    named : (f : Fault) → HasLabelsFault bytes Failed labels f → FirstBadNamed bytes Failed words f
+    named f bad = subst (λ w. FirstBadNamed bytes Failed w f) (sym names) (inr (g, read, bad))
 
 -- What the lines from one on name, it and those after it name.
 pub line-next : {X : Type 0} (v : X → List (List ℕ)) (lines : List X) (i : ℕ) (d : X) → i < length lines

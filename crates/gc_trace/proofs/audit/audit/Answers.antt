@@ -14,7 +14,7 @@ returns-in_err-circuit-clause-fault g c =
     rw (p.1, p.2)
     (circuit-fault (g.F.Files.bytes c.args.files.now) Failed c.args.circuit.now c.args.seed.now c.args.garbled.now
     c.args.workers (map string_bytes c.args.labels.now) c.in_err-circuit.field-0.0
-    c.in_err-circuit.ensures.fault.kind c.in_err-circuit.ensures.fault.first c.in_err-circuit.ensures.fault.cause)
+    c.in_err-circuit.ensures.fault)
 
 pub returns-in_err-garbled-clause-fault : goal.returns-in_err-garbled-clause-fault
 returns-in_err-garbled-clause-fault g c =
