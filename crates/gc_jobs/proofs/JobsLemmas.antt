@@ -163,7 +163,7 @@ pub labels-named : (bytes : FileBytes) (Failed : List ℕ → Type 0) (c : Netli
     → HasLabelsFault bytes Failed labels fault → HasNamedFault bytes Failed c words fault
 labels-named bytes Failed c words garbled labels g names read fault has =
     by-file-fault (λ f. HasLabelsFault bytes Failed labels f → HasNamedFault bytes Failed c words f)
-    (λ f bad. named f bad) (named faults.CannotRead) (λ bad. tt) fault (labels-kind bytes Failed labels fault has) has
+    (λ f. named (faults.File f)) (named faults.CannotRead) (λ bad. tt) fault (labels-kind bytes Failed labels fault has) has
   where
     named : (f : Fault) → HasLabelsFault bytes Failed labels f → FirstBadNamed bytes Failed words f
     named f bad = subst (λ w. FirstBadNamed bytes Failed w f) (sym names) (inr (g, read, bad))

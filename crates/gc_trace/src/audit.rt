@@ -60,9 +60,7 @@ pub fn audit<R: Threads + Wait + Sync, A: Allocator + Copy + Send + Sync, F: Fil
     let garbled = read_garbled_file(alloc, garbled, files)?;
     let version = garbled.version();
     let labels = read_label_files(alloc, labels, files)?;
-    let (labelled, found) = labels_and_audit(
-        rt, alloc, &circuit, begun, &seed, garbled, workers,
-    )?;
+    let (labelled, found) = labels_and_audit(rt, alloc, &circuit, begun, &seed, garbled, workers)?;
     match audit_lines(alloc, &circuit, version, &found, &labelled, &seed, &labels) {
         Ok(lines) => Ok(lines),
         Err(_) => Err(Fault::Memory),

@@ -5,6 +5,7 @@ ghost use Rattle.gc_store.specs.Account.{IsForStore};
 ghost use Rattle.gc_store.specs.declared.tally.TheConstants.{MAX_TALLIES};
 
 use gc_circuit::Circuit;
+use gc_half::Garbling;
 use gc_label::Seed;
 use gc_store::{MAX_TALLIES, Sealed, Store, Tally, Task};
 use gc_worked::circuits::FULL_ADDER;
@@ -78,4 +79,21 @@ pub(crate) fn finish_gates<L: Ledger, A: Allocator>(
         }
     }
     most
+}
+
+/// Whether a garbling has the zero labels of another.
+pub(crate) fn has_labels<A: Allocator, B: Allocator>(
+    circuit: &Circuit,
+    labels: &Garbling<A>,
+    garbling: &Garbling<B>,
+) -> bool {
+    if !(labels.fits(circuit) && garbling.fits(circuit)) {
+        return false;
+    }
+    for wire in 0..circuit.wires() {
+        if labels.zero_label(wire) != garbling.zero_label(wire) {
+            return false;
+        }
+    }
+    true
 }

@@ -1,6 +1,6 @@
 //! Tests of garbling on many threads: the answer is that of one thread, and the threads are really at work.
 
-use crate::fixtures::{read, seed_of};
+use crate::fixtures::{has_labels, read, seed_of};
 use gc_circuit::Circuit;
 use gc_half::{Garbling, garble_one_thread};
 use gc_refusing::Refusing;
@@ -19,15 +19,7 @@ fn are_same<A: Allocator, B: Allocator>(
     one: &Garbling<A>,
     other: &Garbling<B>,
 ) -> bool {
-    if !(one.fits(circuit) && other.fits(circuit)) || one.rows() != other.rows() {
-        return false;
-    }
-    for wire in 0..circuit.wires() {
-        if one.zero_label(wire) != other.zero_label(wire) {
-            return false;
-        }
-    }
-    true
+    one.rows() == other.rows() && has_labels(circuit, one, other)
 }
 
 /// Whether the workers 0 and 1 seal the gates of a circuit of 2,000 gates, each gate once, as one thread does.
