@@ -1,4 +1,4 @@
-//! Files in memory for the tests of commands, which may fail, and words as a command line has them.
+//! Files in memory for the tests of commands, which may fail.
 #![tactic(auto)]
 
 mod mem_files;
