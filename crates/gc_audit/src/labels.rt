@@ -30,8 +30,8 @@ pub enum LabelsVerdict<A: Allocator = Global> {
 /// [`LabelsVerdict`] that holds. The answer is bits exactly where the file is the label file that a dealer writes of
 /// the circuit, the seed and these bits.
 ///
-/// `labels` has the zero labels of the circuit's garbling under the seed: this is the caller's condition. It takes memory
-/// once, for the bits; `Memory` stands in place of the answer only where this was refused.
+/// `labels` has the zero labels of the circuit's garbling under the seed: this is the caller's condition. It takes
+/// memory once, for the bits; `Memory` stands in place of the answer only where this was refused.
 pub fn audit_labels<A: Allocator, B: Allocator, C: Allocator, D: Allocator>(
     alloc: A,
     circuit: &Circuit<B>,
@@ -73,8 +73,9 @@ fn sum_of(widths: &[u32]) -> u32
     widths.iter().sum()
 }
 
-/// The bits that the filed labels stand for on the input wires from the first one on, or the first wire whose label stands
-/// for none. That `labels` has the garbling's zero labels, and that these are input wires, are the caller's conditions.
+/// The bits that the filed labels stand for on the input wires from the first one on, or the first wire whose label
+/// stands for none. That `labels` has the garbling's zero labels, and that these are input wires, are the caller's
+/// conditions.
 fn compare<A: Allocator, B: Allocator, C: Allocator>(
     alloc: A,
     circuit: &Circuit<B>,

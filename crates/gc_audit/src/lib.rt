@@ -1,9 +1,10 @@
 //! Comparing files with what a circuit and a seed give.
 //!
 //! [`audit_garbled`] says whether a garbled file is that of a circuit's garbling, and where each of its parts first
-//! differs; [`audit_compared`] says the same where its row pairs were compared while others were made. [`audit_labels`] says whether a label file is one that a dealer writes, and of which bits. The files were
-//! read before, and nothing of them is trusted. [`law_audited_files`] says that what is found of their parts holds of
-//! their bytes.
+//! differs; [`audit_compared`] says the same of the parts that are counted, where the row pairs were compared as the
+//! garbling's were made. [`audit_labels`] says whether a label file is one that a dealer writes, and of which bits. The
+//! files were read before, and nothing of them is trusted. [`law_audited_files`] says that what is found of their parts
+//! holds of their bytes.
 #![tactic(auto)]
 
 mod entries;

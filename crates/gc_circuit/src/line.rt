@@ -40,8 +40,8 @@ fn is_and(x: u8, y: u8, z: u8) -> bool
     (x == b'A') & (y == b'N') & (z == b'D')
 }
 
-/// The operation that the text begins with, XOR or AND, and the text after the line feed that follows it. No jump hangs
-/// on which of the two it is, since no processor foresees that.
+/// The operation that the text begins with, XOR or AND, and the text after the line feed that follows it. No branch
+/// depends on which of the two it is, since no processor predicts that.
 #[inline(always)]
 fn operation_and_feed(text: &[u8], a: u32, b: u32) -> Option<(Operation, &[u8])>
     ensures { IfSome result (λ r. (name : List ℕ)
@@ -64,7 +64,7 @@ fn operation_and_feed(text: &[u8], a: u32, b: u32) -> Option<(Operation, &[u8])>
 }
 
 /// The gate that the text begins with, and the text after its line, where the line is spelled as nearly all are: `2 1`,
-/// three short numbers and XOR or AND, with a space after each number and a line feed at the end.
+/// three short numbers and XOR or AND, with a space or another blank after each number and a line feed at the end.
 #[inline(always)]
 pub(crate) fn common_gate(text: &[u8]) -> Option<(Gate, &[u8])>
     ensures { IfSome result (λ r. (gate_at (tokens text.now) ≡ Ok (r.0, tokens r.1.now))

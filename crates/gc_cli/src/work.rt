@@ -145,7 +145,7 @@ pub fn carry_out<
 }
 
 /// The lines of `labels`, which are made as they are taken. That this is the order is the caller's condition.
-pub fn label_lines<A: Allocator + Copy, F: Files>(
+pub(crate) fn label_lines<A: Allocator + Copy, F: Files>(
     alloc: A,
     order: &Order,
     files: &mut F,

@@ -31,7 +31,8 @@ HasCircuitFault bytes _ = ⊥
 
 -- Reading a circuit's file has this fault: one that such a file may have, and the first of its bytes, where these are
 -- known. A file that can't be read has failed, as `Failed` says.
-pub record HasReadingFault (bytes : Option (List ℕ)) (Failed : Type 0) (fault : Fault) : Type 0 where
+pub record HasReadingFault (bytes : Option (List ℕ)) (Failed : Type 0) (fault : Fault)
+    : Type 0 where
   pub kind : IsCircuitFault fault
   pub first : IfSome bytes (λ held. HasCircuitFault held fault)
   pub cause : HasCause fault Failed ⊥

@@ -1,4 +1,4 @@
-//! What files are for commands: files by name, and which of them have failed.
+//! Files as commands see them: by name, and which of them have failed.
 #![tactic(auto)]
 
 mod file_failures;

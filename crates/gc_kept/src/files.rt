@@ -115,8 +115,8 @@ impl KeptCircuit {
 }
 
 impl KeptGarbling {
-    /// Writes the garbled file of a version, and reports the number of its bytes. Where the buffer is too small, no file
-    /// is made.
+    /// Writes the garbled file of a version, and reports the number of its bytes. Where the buffer is too small, no
+    /// file is made.
     pub fn write(
         &self,
         alloc: Global,

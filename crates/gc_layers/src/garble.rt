@@ -49,8 +49,9 @@ pub fn garble_by_layers<
 }
 
 /// Garbles a circuit as [`garble_by_layers`] does, and compares the given row pairs with those that it makes, which are
-/// not kept: it takes a byte for each. The answer is the garbling's labels, with the given row pairs, and the first of
-/// these that isn't the garbling's. That a row pair is given for each AND gate is the caller's condition.
+/// not kept: it takes a byte for each. The answer has the garbling's zero labels, and the first of the given row pairs
+/// that isn't the garbling's; of the row pairs in the answer only their number is known. That a row pair is given for
+/// each AND gate is the caller's condition.
 pub fn garble_and_compare_by_layers<
     A: Allocator + Copy + Send + Sync,
     C: Allocator + Sync,

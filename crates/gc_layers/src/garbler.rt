@@ -38,7 +38,7 @@ impl<'c, K: RowKeeper, C: Allocator> Model for Garbler<'c, K, C> {
 }
 
 impl<'c, K: RowKeeper, C: Allocator> Garbler<'c, K, C> {
-    /// A garbling whose row pairs go to this keeper, which has taken none.
+    /// A garbling whose row pairs go to this keeper.
     pub(crate) fn new(circuit: &'c Circuit<C>, seed: &'c Seed, keeper: K) -> Garbler<'c, K, C>
         requires { K.holds keeper circuit.now seed.now 0 }
         ensures { result ≡ record {

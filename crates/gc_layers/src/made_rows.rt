@@ -42,7 +42,7 @@ impl<A: Allocator> MadeRows<A> {
         })
     }
 
-    /// All row pairs. That each AND gate's is there is the caller's condition.
+    /// All row pairs, with zeros for those that are not there.
     pub(crate) fn into_rows(self) -> Vec<RowPair, A>
         ensures { result.items ≡ self.rows }
     {

@@ -73,7 +73,8 @@ impl<A: Allocator> Queue<A> {
         self.marks[gate as usize].is_claimed()
     }
 
-    /// Claims a ready gate. It looks for one from the gate `from` on, and then from the first on.
+    /// Claims a ready gate. It looks for one from the gate `from` on, and then from the first on; which one it finds is
+    /// not promised.
     #[inline]
     pub fn take(&mut self, from: u32) -> Option<u32>
         ensures { Takes self.old result self.new }
