@@ -4,7 +4,7 @@
   program.py PROGRAM BENCH CIRCUIT
 
 BENCH is gc_bench, which times the parts. Commands and parts run in turns, since the speed of a machine changes while it
-works, and the fastest run of each counts. The peak memory of each command is told in bytes a gate, beyond the circuit's
+works, and the fastest run of each counts. The peak memory of each command is printed in bytes a gate, beyond the circuit's
 file.
 """
 

@@ -439,7 +439,7 @@ job = circuit.bind(garbled, labels)
 bits, labels, sizes = bytes([1, 1, 1]), b"".join(labels), (c_size_t * 3)(32, 32, 32)
 room, written, handle = create_string_buffer(512), c_size_t(), c_void_p()
 wires, place = (_library.WireLabels * 8)(), _library.Place()
-report, told = _library.AuditReport(), _library.LabelsReport()
+report, labels_report = _library.AuditReport(), _library.LabelsReport()
 null = None, 1
 for name, *words in [
     ("circuit_read", *null, byref(handle)),
@@ -458,8 +458,8 @@ for name, *words in [
     ("job_bind", circuit, garbled, 177, labels, 96, *null, byref(handle)),
     ("evaluate", job, *null),
     ("audit", garbling, *null, report),
-    ("audit_labels", garbling, *null, room, 1, told),
-    ("audit_labels", garbling, labels, 32, *null, told),
+    ("audit_labels", garbling, *null, room, 1, labels_report),
+    ("audit_labels", garbling, labels, 32, *null, labels_report),
 ]:
     code = getattr(_library.library, f"halfgates_{name}")(*[getattr(it, "_at", it) for it in words])
     if code != 60:

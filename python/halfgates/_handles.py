@@ -211,7 +211,7 @@ class Garbling(_Handle):
         return GarbledReport._of(report)
 
     def audit_labels(self, labels: Buffer) -> LabelsReport:
-        """Compares a label file with the garbling, and tells the bits that it stands for. Faults: 30 to 36, 46."""
+        """Compares a label file with the garbling, and returns the bits that it stands for. Faults: 30 to 36, 46."""
         report = _library.LabelsReport()
         with self._used() as at, Lent(labels) as lent:
             bits = bytearray(max(lent.size // 16 - 1, 0))
