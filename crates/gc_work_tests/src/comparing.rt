@@ -42,8 +42,9 @@ fn is_found<R: Threads + Wait + Sync>(
     let seed = seed_of(0);
     let garbling = garble_one_thread(alloc, &circuit, &seed).ok()?;
     let given = altered(alloc, &garbling, places)?;
-    let (labels, mismatch) =
-        garble_and_compare(rt, alloc, &circuit, &seed, given, workers, &Open).ok()?;
+    let (labels, mismatch) = garble_and_compare(
+        rt, alloc, &circuit, &seed, given, workers, &Open,
+    ).ok()?;
     Some(has_labels(&circuit, &labels, &garbling) && mismatch.map(|m| m.place) == first)
 }
 
@@ -60,8 +61,7 @@ fn the_first_mismatch_is_found(rt: HostRuntime) -> Result<(), Fail> {
                 (&[1999, 1000, 1001], Some(1000)),
                 (&[1999], Some(1999)),
             ] {
-                assert!(rt;
-                    is_found(&rt, rt.alloc(), text, workers, places, first) == Some(true));
+                assert!(rt; is_found(&rt, rt.alloc(), text, workers, places, first) == Some(true));
             }
         }
     }
