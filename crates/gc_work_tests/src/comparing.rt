@@ -2,7 +2,7 @@
 
 use crate::fixtures::{has_labels, read, seed_of};
 use gc_circuit::Circuit;
-use gc_half::{Garbling, RowPair, garble_one_thread};
+use gc_half::{Garbling, Mismatch, RowPair, garble_one_thread};
 use gc_refusing::Refusing;
 use gc_work::{Open, WorkFault, garble_and_compare};
 use gc_worked::circuits::{NO_GATES, and_chains, many_ands};
@@ -29,6 +29,20 @@ fn altered<A: Allocator, B: Allocator>(
     Some(rows)
 }
 
+/// What this many workers answer of these row pairs, where there is one for each AND gate.
+fn compare<A: Allocator + Copy + Send + Sync, R: Threads + Wait + Sync>(
+    rt: &R,
+    alloc: A,
+    circuit: &Circuit,
+    given: Vec<RowPair, A>,
+    workers: u32,
+) -> Option<Result<(Garbling<A>, Option<Mismatch>), WorkFault>> {
+    if given.len() != circuit.and_count() as usize {
+        return None;
+    }
+    Some(garble_and_compare(rt, alloc, circuit, &seed_of(0), given, workers, &Open))
+}
+
 /// Whether this many workers find the first of the row pairs that are altered, and the labels.
 fn is_found<R: Threads + Wait + Sync>(
     rt: &R,
@@ -39,12 +53,9 @@ fn is_found<R: Threads + Wait + Sync>(
     first: Option<usize>,
 ) -> Option<bool> {
     let circuit = read(alloc, text)?;
-    let seed = seed_of(0);
-    let garbling = garble_one_thread(alloc, &circuit, &seed).ok()?;
+    let garbling = garble_one_thread(alloc, &circuit, &seed_of(0)).ok()?;
     let given = altered(alloc, &garbling, places)?;
-    let (labels, mismatch) = garble_and_compare(
-        rt, alloc, &circuit, &seed, given, workers, &Open,
-    ).ok()?;
+    let (labels, mismatch) = compare(rt, alloc, &circuit, given, workers)?.ok()?;
     Some(has_labels(&circuit, &labels, &garbling) && mismatch.map(|m| m.place) == first)
 }
 
@@ -72,14 +83,13 @@ fn the_first_mismatch_is_found(rt: HostRuntime) -> Result<(), Fail> {
 /// With growth 1, 2, 3, .. refused, two workers find the mismatch at place 7 or answer the fault for memory. The answer
 /// is how many runs met a refusal; None where one answered something else, or each met one.
 fn refused_runs<R: Threads + Wait + Sync>(rt: &R, alloc: Global, circuit: &Circuit) -> Option<u64> {
-    let seed = seed_of(0);
-    let garbling = garble_one_thread(alloc, circuit, &seed).ok()?;
+    let garbling = garble_one_thread(alloc, circuit, &seed_of(0)).ok()?;
     for n in 1..10_000 {
         let heap = Refusing::nth(alloc, n);
         let Some(given) = altered(&heap, &garbling, &[7]) else {
             continue;
         };
-        let is_right = match garble_and_compare(rt, &heap, circuit, &seed, given, 2, &Open) {
+        let is_right = match compare(rt, &heap, circuit, given, 2)? {
             Ok((labels, mismatch)) => {
                 has_labels(circuit, &labels, &garbling) && mismatch.map(|m| m.place) == Some(7)
             }
@@ -118,8 +128,7 @@ fn each_growth_refused(rt: HostRuntime) -> Result<(), Fail> {
 /// The fault with this number of workers on a circuit without gates.
 fn fault_with<R: Threads + Wait + Sync>(rt: &R, alloc: Global, workers: u32) -> Option<WorkFault> {
     let circuit = read(alloc, NO_GATES)?;
-    let given = Vec::new(alloc);
-    garble_and_compare(rt, alloc, &circuit, &seed_of(0), given, workers, &Open).err()
+    compare(rt, alloc, &circuit, Vec::new(alloc), workers)?.err()
 }
 
 #[test]
