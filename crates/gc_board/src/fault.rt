@@ -4,16 +4,15 @@ ghost use Rattle.std.specs.Prelude.{◌≡◌};
 ghost use Rattle.gc_board.specs.Fault.{code_of, name_of};
 
 use std::alloc::{AllocError, AllocFailed};
-use thiserror::Error;
+use std::error::Error;
+use std::fmt;
 
 /// Why a board can't be opened. Each comes only where a growth was refused.
-#[derive(Clone, Copy, Debug, PartialEq, Eq, Error)]
+#[derive(Clone, Copy, Debug, PartialEq, Eq)]
 pub enum OpenFault {
     /// Memory ran out.
-    #[error("Memory")]
     Memory,
     /// There was no memory for the table of the board's words.
-    #[error("NoTable")]
     NoTable,
 }
 
@@ -38,6 +37,19 @@ impl OpenFault {
         }
     }
 }
+
+/// Writes the name.
+impl fmt::Display for OpenFault {
+    ghost use Rattle.std.specs.Prelude.{Some};
+
+    ghost output = { λ fault. Some (name_of fault) };
+
+    fn fmt<W: fmt::Write>(&self, f: &mut fmt::Formatter<W>) -> fmt::Result {
+        f.write_str(self.name())
+    }
+}
+
+impl Error for OpenFault {}
 
 impl From<AllocError> for OpenFault {
     ghost use Rattle.std.specs.Prelude.{◌≡◌};

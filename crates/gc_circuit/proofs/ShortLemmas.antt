@@ -61,6 +61,12 @@ no_blanks a b c first second third =
     let two = All-push (λ x. is_blank x ≡ false) (a ∷ []) b one second in
     All-push (λ x. is_blank x ≡ false) (a ∷ b ∷ []) c two third
 
+-- a text that begins with a line feed
+pub feed_taken : (text : List ℕ) → 1 ≤ length text → slice_index text 0 ≡ 10 →
+    tokens (drop 1 text) ≡ tokens text
+feed_taken [] long feed = absurd (omega (arith, long))
+feed_taken (b ∷ t) long feed = sym (tokens-blank b t (ap is_blank feed))
+
 -- a gate after these counts, from the tokens that its parts leave
 pub two_read : (ts us bs cs ds : List (List ℕ)) (a b set : ℕ) (name : List ℕ) (operation : Operation) →
     number_at ts ≡ Ok (a, us) → number_at us ≡ Ok (b, bs) → number_at bs ≡ Ok (set, cs) →

@@ -6,6 +6,18 @@ ghost use Rattle.gc_circuit.specs.Cursor.{KeepsCuts};
 use crate::number::short_number;
 use gc_netlist::{Gate, Operation};
 
+/// The text after a line feed, where it begins with one, as it does behind a gate that was read by tokens.
+#[inline(always)]
+pub(crate) fn behind_feed(text: &[u8]) -> &[u8]
+    ensures same { tokens result.now ≡ tokens text.now }
+    ensures cuts { KeepsCuts text.now result.now }
+{
+    let [first, rest @ ..] = text else {
+        return text;
+    };
+    if *first == b'\n' { rest } else { text }
+}
+
 /// Whether the text begins with the numbers 2 and 1 and a space after each.
 #[inline(always)]
 fn begins_with_two_and_one(text: &[u8]) -> bool

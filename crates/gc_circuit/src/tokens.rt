@@ -1,4 +1,4 @@
-ghost use Rattle.std.specs.Prelude.{◌≡◌, ℕ, ◌<◌, ◌≤◌, ◌+◌, ◌-◌, ◌++◌, length, take, drop, true, false, slice_index, All, IfOk, IfErr, IsTrue, MatchOption, MatchResult, Ok, Err};
+ghost use Rattle.std.specs.Prelude.{◌≡◌, ℕ, ◌<◌, ◌≤◌, ◌+◌, ◌-◌, ◌++◌, length, take, drop, true, false, slice_index, All, IfOk, IfErr, MatchOption, MatchResult, Ok, Err};
 ghost use Rattle.gc_netlist.specs.Text.{tokens, is_blank};
 ghost use Rattle.gc_netlist.specs.Reading.{token_at, number_at, gate_at, limited_at, check_end};
 ghost use Rattle.gc_netlist.specs.Met.{limited_left};
@@ -6,7 +6,7 @@ ghost use Rattle.gc_netlist.specs.Place.{Token, Behind, IsSpot};
 ghost use Rattle.gc_circuit.specs.Cursor.{IsCut};
 
 use crate::back::{last_end, start_back};
-use crate::line::common_gate;
+use crate::line::{behind_feed, common_gate};
 use crate::number::{is_blank, leading_number, short_number};
 use gc_netlist::{Gate, ReadFault};
 use std::marker::Model;
@@ -136,7 +136,7 @@ impl<'a> Tokens<'a> {
             (λ g. gate_at self.old.left ≡ Ok (g, self.new.left)) }
         ensures kept { self.new.text ≡ self.old.text }
     {
-        let (gate, rest) = common_gate(self.rest)?;
+        let (gate, rest) = common_gate(behind_feed(self.rest))?;
         self.rest = rest;
         Some(gate)
     }

@@ -8,14 +8,26 @@ ghost use Rattle.gc_format.specs.MemSink.{fitting};
 
 use crate::failures::FailureCount;
 use std::alloc::{Allocator, Global};
+use std::error::Error;
+use std::fmt;
 use std::io::{self, ErrorKind, Write};
 use std::marker::Model;
-use thiserror::Error;
 
 /// A sink took nothing of a piece, and has counted it as a failure.
-#[derive(Clone, Copy, Debug, PartialEq, Eq, Error)]
-#[error("the sink failed")]
+#[derive(Clone, Copy, Debug, PartialEq, Eq)]
 pub struct SinkFault;
+
+impl fmt::Display for SinkFault {
+    ghost use Rattle.std.specs.Prelude.{Some, codes};
+
+    ghost output = { λ _. Some (codes "the sink failed") };
+
+    fn fmt<W: fmt::Write>(&self, f: &mut fmt::Formatter<W>) -> fmt::Result {
+        f.write_str("the sink failed")
+    }
+}
+
+impl Error for SinkFault {}
 
 /// Takes bytes piece by piece.
 pub trait Sink {

@@ -8,14 +8,26 @@ ghost use Rattle.gc_format.specs.Counted.{CountsFailure};
 ghost use Rattle.gc_format.specs.MemSource.{given};
 
 use crate::failures::FailureCount;
+use std::error::Error;
+use std::fmt;
 use std::io::{self, ErrorKind, Read};
 use std::marker::Model;
-use thiserror::Error;
 
 /// A source gave no byte, and has counted it as a failure.
-#[derive(Clone, Copy, Debug, PartialEq, Eq, Error)]
-#[error("the source failed")]
+#[derive(Clone, Copy, Debug, PartialEq, Eq)]
 pub struct SourceFault;
+
+impl fmt::Display for SourceFault {
+    ghost use Rattle.std.specs.Prelude.{Some, codes};
+
+    ghost output = { λ _. Some (codes "the source failed") };
+
+    fn fmt<W: fmt::Write>(&self, f: &mut fmt::Formatter<W>) -> fmt::Result {
+        f.write_str("the source failed")
+    }
+}
+
+impl Error for SourceFault {}
 
 /// Gives bytes piece by piece.
 pub trait Source {

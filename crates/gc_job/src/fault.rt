@@ -5,33 +5,27 @@ ghost use Rattle.gc_job.specs.Fault.{bind_code_of, bind_name_of, eval_code_of, e
 
 use gc_circuit::Memory;
 use std::alloc::{AllocError, AllocFailed};
-use thiserror::Error;
+use std::error::Error;
+use std::fmt;
 
 /// Why a garbled file and label files are no job for a circuit: the first fault that holds, in the order below. That of
 /// a label file is the first of the first file that has one. `Memory` stands in place of a later fault, or of the job,
 /// only where a growth was refused.
-#[derive(Clone, Copy, Debug, PartialEq, Eq, Error)]
+#[derive(Clone, Copy, Debug, PartialEq, Eq)]
 pub enum BindFault {
     /// The garbled file has the digest of another circuit.
-    #[error("OtherCircuit")]
     OtherCircuit,
     /// The garbled file has not a row pair for each AND gate and a decode bit for each output wire.
-    #[error("OtherCounts")]
     OtherCounts,
     /// A label file is for an input value that the circuit does not have.
-    #[error("NoSuchValue")]
     NoSuchValue,
     /// A label file has not a label for each wire of its input value.
-    #[error("WrongWidth")]
     WrongWidth,
     /// A label file is for an input value that a file before it is for.
-    #[error("DoubleValue")]
     DoubleValue,
     /// No label file is for an input value.
-    #[error("MissingValue")]
     MissingValue,
     /// Memory ran out.
-    #[error("Memory")]
     Memory,
 }
 
@@ -67,6 +61,19 @@ impl BindFault {
     }
 }
 
+/// Writes the name.
+impl fmt::Display for BindFault {
+    ghost use Rattle.std.specs.Prelude.{Some};
+
+    ghost output = { λ fault. Some (bind_name_of fault) };
+
+    fn fmt<W: fmt::Write>(&self, f: &mut fmt::Formatter<W>) -> fmt::Result {
+        f.write_str(self.name())
+    }
+}
+
+impl Error for BindFault {}
+
 impl From<AllocError> for BindFault {
     ghost use Rattle.std.specs.Prelude.{◌≡◌};
     ghost use Rattle.gc_job.specs.declared.fault.BindFault.TheVariants as faults;
@@ -78,33 +85,19 @@ impl From<AllocError> for BindFault {
     }
 }
 
-impl<T: Drop> From<AllocFailed<T>> for BindFault {
-    ghost use Rattle.std.specs.Prelude.{◌≡◌};
-    ghost use Rattle.gc_job.specs.declared.fault.BindFault.TheVariants as faults;
-
-    ghost from_gives = { λ _ e. e ≡ faults.Memory };
-
-    fn from(_e: AllocFailed<T>) -> BindFault {
-        BindFault::Memory
-    }
-}
-
 /// Why a job has no output bits. `Memory` stands in place of the answer only where a growth was refused.
-#[derive(Clone, Copy, Debug, PartialEq, Eq, Error)]
+#[derive(Clone, Copy, Debug, PartialEq, Eq)]
 pub enum EvalFault {
     /// The number of workers is 0 or above [`MAX_WORKERS`](gc_gatehouse::MAX_WORKERS). Evaluation on one thread never
     /// gives it.
-    #[error("BadWorkers")]
     BadWorkers,
     /// The garbled file does not recognise the active label of this output wire, counted from 0 among the output wires:
     /// the first such wire.
-    #[error("UnknownOutputLabel")]
     UnknownOutputLabel {
         /// The place of the output wire among the output wires.
         output: u32,
     },
     /// Memory ran out.
-    #[error("Memory")]
     Memory,
 }
 
@@ -131,6 +124,19 @@ impl EvalFault {
         }
     }
 }
+
+/// Writes the name.
+impl fmt::Display for EvalFault {
+    ghost use Rattle.std.specs.Prelude.{Some};
+
+    ghost output = { λ fault. Some (eval_name_of fault) };
+
+    fn fmt<W: fmt::Write>(&self, f: &mut fmt::Formatter<W>) -> fmt::Result {
+        f.write_str(self.name())
+    }
+}
+
+impl Error for EvalFault {}
 
 impl From<Memory> for EvalFault {
     ghost use Rattle.std.specs.Prelude.{◌≡◌};

@@ -9,7 +9,7 @@ use Rattle.gc_half.specs.declared.garbling.Mismatch.{Mismatch}
 use Rattle.gc_half.specs.Canonical.{row_pairs_of}
 use Rattle.gc_half.specs.Comparing.{IsComparison, IsFirstMismatch}
 use Rattle.gc_half.proofs.CanonicalLemmas.{length-row_pairs_of}
-use Rattle.gc_layers.specs.Compared.{AreComparedTo, IsBefore, IsNextMismatch}
+use Rattle.gc_layers.specs.Compared.{AreComparedTo, IsBefore, IsEarlierMismatch}
 use Rattle.gc_layers.specs.Garbler.{no_rows, row_of}
 
 -- What is before a place that is before the first mismatch is before it too.
@@ -58,7 +58,7 @@ module _ (c : Netlist) (seed : List ℕ) (given : List RowPair) where
       mismatch = before.mismatch;
     }
 
-    pub compared-next : (next : Option Mismatch) → k < and_count c → IsNextMismatch first k old pair next → After next
+    pub compared-next : (next : Option Mismatch) → k < and_count c → IsEarlierMismatch first k old pair next → After next
     compared-next next below (inl (differ, is_first, found)) =
         subst After (sym found) (compared-mismatch below differ is_first)
     compared-next next below (inr (right, stays)) = subst After (sym stays) (compared-other right)

@@ -93,18 +93,6 @@ module _ (c : Netlist) (seed : List ℕ) where
           (count_by-all_back is_present rows (omega (arith, are.counted)) i (get_or rows i no_rows)
           (slice_get-get_or rows i no_rows (omega (arith, below, are.are_rows.count))))
 
-  -- A row pair that is there is one of the first.
-  pub kept-has : (k missing : ℕ) (rows : List RowPair) (pair : RowPair) → slice_get rows k ≡ Some pair
-      → is_present pair ≡ true → AreKept c seed k rows missing → AreKept c seed (k + 1) rows missing
-  kept-has k missing rows pair at there are = record {
-    are_rows = rows-next k rows (are.are_rows.partly.right k (λ blank. absent pair
-        (ap (λ (p : RowPair). p.evaluator) (sym (get_or_from_slice_get rows k pair no_rows at)) ∙ blank) there)) are.are_rows;
-    counted = are.counted;
-  }
-    where
-      absent : (p : RowPair) → p.evaluator ≡ 0 → is_present p ≡ true → ⊥
-      absent p blank here = cc
-
   -- One that was missing is there.
   pub count-put : (missing k : ℕ) (rows : List RowPair) (old pair : RowPair) → slice_get rows k ≡ Some old
       → is_present old ≡ false → is_present pair ≡ true → missing + count_by is_present rows ≡ length rows →
@@ -133,6 +121,18 @@ module _ (c : Netlist) (seed : List ℕ) where
         (omega (arith, below, length-set rows k pair, are.are_rows.count)) ∙ is) are.are_rows;
     counted = are.counted;
   }
+
+  -- There is a label for each output wire.
+  pub outputs-fit : IsLawful c → (outputs : ℕ) → outputs ≡ output_wires c → (labels : List ℕ)
+      → labels ≡ (garbling_of c seed).zero_labels → outputs ≤ length labels
+  outputs-fit lawful outputs are labels whole =
+      omega (
+        arith,
+        lawful.outputs_fit,
+        are,
+        ap length whole,
+        length-map-range_with_len (zero_label_of c seed) 0 c.wires,
+      )
 
   -- At the end the row pairs are whole.
   pub rows-end : IsLawful c → (rows : List RowPair) → AreRows c seed (and_count c) rows → rows ≡ row_pairs_of c seed

@@ -12,8 +12,8 @@ IsBefore (Some m) place = place < m.place
 
 -- The first mismatch by place, once a pair is made at a place: this one, where it is one and before the other, or else
 -- the other.
-abbrev pub IsNextMismatch : Option Mismatch → ℕ → RowPair → RowPair → Option Mismatch → Type 0
-IsNextMismatch first place given made next =
+abbrev pub IsEarlierMismatch : Option Mismatch → ℕ → RowPair → RowPair → Option Mismatch → Type 0
+IsEarlierMismatch first place given made next =
     ((given ≢ made) × IsBefore first place
     × (next ≡ Some (record { place = place; given = given; made = made })))
     ⊎ ((IsBefore first place → given ≡ made) × (next ≡ first))

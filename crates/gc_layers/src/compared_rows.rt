@@ -2,7 +2,7 @@
 
 ghost use Rattle.std.specs.Prelude.{◌≡◌, ◌↔◌, ℕ, IfOk, IsTrue, List, length};
 ghost use Rattle.gc_netlist.specs.Circuit.{Netlist, and_count};
-ghost use Rattle.gc_layers.specs.Compared.{AreComparedTo, IsBefore, IsNextMismatch};
+ghost use Rattle.gc_layers.specs.Compared.{AreComparedTo, IsBefore, IsEarlierMismatch};
 
 use crate::row_keeper::RowKeeper;
 use gc_circuit::Memory;
@@ -31,13 +31,13 @@ fn is_before(first: &Option<Mismatch>, place: usize) -> bool
 
 /// The first mismatch, once this pair is made at a place where that one was given.
 #[inline]
-fn next_mismatch(
+fn earlier_mismatch(
     first: Option<Mismatch>,
     place: usize,
     given: RowPair,
     made: &RowPair,
 ) -> Option<Mismatch>
-    ensures { IsNextMismatch first place given made.now result }
+    ensures { IsEarlierMismatch first place given made.now result }
 {
     if given != *made && is_before(&first, place) {
         Some(Mismatch {
@@ -94,7 +94,7 @@ impl<'g, A: Allocator> RowKeeper for ComparedRows<'g, A> {
     #[inline]
     fn keep(&mut self, k: u32, pair: RowPair) {
         let place = k as usize;
-        self.first = next_mismatch(self.first, place, self.given[place], &pair);
+        self.first = earlier_mismatch(self.first, place, self.given[place], &pair);
         self.compared[place] = true;
     }
 }

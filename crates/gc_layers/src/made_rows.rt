@@ -2,7 +2,6 @@
 
 ghost use Rattle.std.specs.Prelude.{◌≡◌, ℕ, IfOk, List};
 ghost use Rattle.gc_netlist.specs.Circuit.{and_count};
-ghost use Rattle.gc_half.specs.Canonical.{row_pairs_of};
 ghost use Rattle.gc_layers.specs.Garbler.{AreKept, is_present};
 
 use crate::row_keeper::RowKeeper;

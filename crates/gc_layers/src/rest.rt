@@ -18,7 +18,8 @@ use gc_label::{Label, Offset, Seed, offset};
 use gc_labelling::Mark;
 use std::alloc::Allocator;
 
-/// Garbles each gate whose label or row pair isn't there, as worker 0, which reports it to the observer first.
+/// Garbles each gate whose label or row pair isn't there, in file order, as worker 0, which reports it to the observer
+/// first.
 pub(crate) fn garble_rest<K: RowKeeper, C: Allocator, H: Gatehouse>(
     observer: &H,
     circuit: &Circuit<C>,
@@ -37,8 +38,20 @@ pub(crate) fn garble_rest<K: RowKeeper, C: Allocator, H: Gatehouse>(
     ensures given { K.given keeper.new ≡ K.given keeper.old }
 {
     circuit.law_lawful();
-    if !keeper.is_whole() || !are_marked(marks) {
-        garble_missing(observer, circuit, seed, marks, labels, keeper);
+    if keeper.is_whole() && are_marked(marks) {
+        return;
+    }
+    let offset = offset(seed);
+    let mut k = 0;
+    for i in 0..circuit.gates() {
+        let gate = circuit.gate(i);
+        if !is_there(marks, keeper, k, gate) {
+            observer.before(0, i);
+            garble_at(labels, keeper, k, offset, gate);
+        }
+        if gate.operation.is_and() {
+            k += 1;
+        }
     }
 }
 
@@ -53,38 +66,6 @@ pub(crate) fn are_marked(marks: &[Mark]) -> bool
         }
     }
     true
-}
-
-/// The same, from gate to gate in file order.
-fn garble_missing<K: RowKeeper, C: Allocator, H: Gatehouse>(
-    observer: &H,
-    circuit: &Circuit<C>,
-    seed: &Seed,
-    marks: &[Mark],
-    labels: &mut [Label],
-    keeper: &mut K,
-)
-    requires count { length marks.now ≡ circuit.now.wires }
-    requires marks { AreMarked (zero_label_of circuit.now seed.now) marks.now labels.old }
-    requires labels { AreLabels circuit.now (zero_label_of circuit.now seed.now) 0 labels.old }
-    requires rows { K.holds keeper.old circuit.now seed.now 0 }
-    ensures labels { AreLabels circuit.now (zero_label_of circuit.now seed.now)
-        (length circuit.now.gates) labels.new }
-    ensures rows { K.holds keeper.new circuit.now seed.now (and_count circuit.now) }
-    ensures given { K.given keeper.new ≡ K.given keeper.old }
-{
-    let offset = offset(seed);
-    let mut k = 0;
-    for i in 0..circuit.gates() {
-        let gate = circuit.gate(i);
-        if !is_there(marks, keeper, k, gate) {
-            observer.before(0, i);
-            garble_at(labels, keeper, k, offset, gate);
-        }
-        if gate.operation.is_and() {
-            k += 1;
-        }
-    }
 }
 
 /// Whether the label of the wire that a gate sets is there and, of the k-th AND gate, its row pair.

@@ -15,7 +15,7 @@ use clap::{Arg, ArgAction, Command};
 use std::alloc::{AllocError, Global};
 
 /// The version of the program.
-const VERSION: &str = "0.5.0";
+const VERSION: &str = "0.5.1";
 
 const RUN_HELP: &str = "\
 Prints the output values, one per line: a character 0 or 1 for each wire, in wire order.

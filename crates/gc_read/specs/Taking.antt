@@ -1,5 +1,6 @@
 -- A garbled file that is taken from a source.
-use Rattle.std.specs.Prelude.{◌≡◌, ◌≢◌, ℕ, ◌⊎◌, ◌+◌, List, length, Option, Result, Ok, Err, codes}
+use Rattle.std.specs.Prelude.{◌≡◌, ◌≢◌, ℕ, ◌⊎◌, ◌+◌, List, ◌++◌, length, Option, Result, Ok, Err, codes}
+use Rattle.std.specs.Fmt.{decimal}
 use Rattle.std.specs.Io.KnownBytes.{Consumes, IsAtEnd}
 use Rattle.gc_read.specs.declared.fault.FileFault.TheVariants.{Memory}
 use Rattle.gc_read.specs.declared.take.TakeFault.{TakeFault}
@@ -17,6 +18,11 @@ code_of (ReadFault got) = 38
 abbrev pub name_of : TakeFault → List ℕ
 name_of (File fault) = faults.name_of fault
 name_of (ReadFault got) = codes "ReadFault"
+
+-- the name and, of a source that failed, how many bytes it had given
+abbrev pub text_of : TakeFault → List ℕ
+text_of (File fault) = faults.name_of fault
+text_of (ReadFault got) = codes "ReadFault after " ++ decimal got ++ codes " bytes"
 
 -- What is answered of the bytes that a source gave, with the bytes that it has left. A fault of the file is one that no
 -- further bytes can mend, or none are left; a source that failed gave `got` bytes, which are in order as far as they

@@ -4,32 +4,26 @@ ghost use Rattle.std.specs.Prelude.{◌≡◌};
 ghost use Rattle.gc_read.specs.Fault.{code_of, name_of};
 
 use std::alloc::{AllocError, AllocFailed};
-use thiserror::Error;
+use std::error::Error;
+use std::fmt;
 
 /// Why bytes are no file: the first fault in their order. `Memory` stands in place of a later fault, or of the file,
 /// only where a growth was refused.
-#[derive(Clone, Copy, Debug, PartialEq, Eq, Error)]
+#[derive(Clone, Copy, Debug, PartialEq, Eq)]
 pub enum FileFault {
     /// The first bytes are not those of the format.
-    #[error("BadMagic")]
     BadMagic,
     /// The bytes end before the file does.
-    #[error("Truncated")]
     Truncated,
     /// Bytes follow after the file.
-    #[error("Trailing")]
     Trailing,
     /// A count is above its limit.
-    #[error("CountTooLarge")]
     CountTooLarge,
     /// A bit is set in the last decode byte that stands for no output wire.
-    #[error("SpareBits")]
     SpareBits,
     /// The trailer is not the digest of the bytes before it.
-    #[error("BadTrailer")]
     BadTrailer,
     /// Memory ran out.
-    #[error("Memory")]
     Memory,
 }
 
@@ -64,6 +58,19 @@ impl FileFault {
         }
     }
 }
+
+/// Writes the name.
+impl fmt::Display for FileFault {
+    ghost use Rattle.std.specs.Prelude.{Some};
+
+    ghost output = { λ fault. Some (name_of fault) };
+
+    fn fmt<W: fmt::Write>(&self, f: &mut fmt::Formatter<W>) -> fmt::Result {
+        f.write_str(self.name())
+    }
+}
+
+impl Error for FileFault {}
 
 impl From<AllocError> for FileFault {
     ghost use Rattle.std.specs.Prelude.{◌≡◌};

@@ -1,26 +1,25 @@
 //! Taking a garbled file from a source.
 
 ghost use Rattle.std.specs.Prelude.{◌≡◌, ℕ, List, Some};
-ghost use Rattle.gc_read.specs.Taking.{code_of, name_of, IsTaken, IsAnswerOfAll, CountsReadFault};
+ghost use Rattle.gc_read.specs.Taking.{code_of, name_of, text_of, IsTaken, IsAnswerOfAll, CountsReadFault};
 
 use crate::fault::FileFault;
 use crate::garbled::Garbled;
 use crate::reader::GarbledReader;
 use gc_format::Source;
 use std::alloc::Allocator;
-use thiserror::Error;
+use std::error::Error;
+use std::fmt;
 
 /// The most bytes that a source is asked for at once.
 const PIECE: usize = 4096;
 
 /// Why a source gave no garbled file.
-#[derive(Clone, Copy, Debug, PartialEq, Eq, Error)]
+#[derive(Clone, Copy, Debug, PartialEq, Eq)]
 pub enum TakeFault {
     /// The bytes that it gave have this fault.
-    #[error("{0}")]
     File(FileFault),
     /// It failed, after it had given `got` bytes.
-    #[error("ReadFault after {got} bytes")]
     ReadFault { got: u64 },
 }
 
@@ -45,6 +44,22 @@ impl TakeFault {
         }
     }
 }
+
+/// Writes the name and, of a source that failed, how many bytes it had given.
+impl fmt::Display for TakeFault {
+    ghost use Rattle.std.specs.Prelude.{Some};
+
+    ghost output = { λ fault. Some (text_of fault) };
+
+    fn fmt<W: fmt::Write>(&self, f: &mut fmt::Formatter<W>) -> fmt::Result {
+        match self {
+            TakeFault::File(fault) => f.write_str(fault.name()),
+            TakeFault::ReadFault { got } => write!(f, "ReadFault after {got} bytes"),
+        }
+    }
+}
+
+impl Error for TakeFault {}
 
 /// Reads a garbled file of either version from a source, in pieces of at most 4,096 bytes. If the source doesn't fail,
 /// the answer is what [`read_garbled`](crate::read_garbled) answers for the bytes that it had left; a fault that no

@@ -42,13 +42,6 @@ impl<T: Copy, A: Allocator> Table<T, A> {
         })
     }
 
-    /// How many entries there are.
-    pub fn len(&self) -> usize
-        ensures { result ≡ length self.now }
-    {
-        self.len
-    }
-
     /// An entry. That there is one at this place is the caller's condition.
     #[inline]
     pub fn get(&self, i: u32) -> T

@@ -1,6 +1,6 @@
 //! Tests of row pairs that are compared with those of a garbling by many threads.
 
-use crate::fixtures::{has_labels, read, seed_of};
+use crate::fixtures::{has_labels, read, refused_runs, seed_of};
 use gc_circuit::Circuit;
 use gc_half::{Garbling, Mismatch, RowPair, garble_one_thread};
 use gc_refusing::Refusing;
@@ -59,50 +59,59 @@ fn is_found<R: Threads + Wait + Sync>(
     Some(has_labels(&circuit, &labels, &garbling) && mismatch.map(|m| m.place) == first)
 }
 
+/// Whether 1, 2 and 64 workers find it.
+fn is_found_by_all<R: Threads + Wait + Sync>(
+    rt: &R,
+    alloc: Global,
+    text: &str,
+    places: &[usize],
+    first: Option<usize>,
+) -> Option<bool> {
+    for workers in [1, 2, 64] {
+        if !is_found(rt, alloc, text, workers, places, first)? {
+            return Some(false);
+        }
+    }
+    Some(true)
+}
+
 /// By layers, and on one thread where a garbling would share a store.
 #[test]
 fn the_first_mismatch_is_found(rt: HostRuntime) -> Result<(), Fail> {
     let by_layers = many_ands(rt.alloc(), 2000)?;
     let chains = and_chains(rt.alloc(), 40, 50)?;
-    for text in [by_layers.as_str(), chains.as_str()] {
-        for workers in [1, 2, 64] {
-            for (places, first) in [
-                (&[] as &[usize], None),
-                (&[1999, 0], Some(0)),
-                (&[1999, 1000, 1001], Some(1000)),
-                (&[1999], Some(1999)),
-            ] {
-                assert!(rt; is_found(&rt, rt.alloc(), text, workers, places, first) == Some(true));
-            }
-        }
+    for (places, first) in [
+        (&[] as &[usize], None),
+        (&[1999, 0], Some(0)),
+        (&[1999, 1000, 1001], Some(1000)),
+        (&[1999], Some(1999)),
+    ] {
+        let found = is_found_by_all(&rt, rt.alloc(), by_layers.as_str(), places, first);
+        assert!(rt; found == Some(true));
+        let found = is_found_by_all(&rt, rt.alloc(), chains.as_str(), places, first);
+        assert!(rt; found == Some(true));
     }
     assert!(rt; is_found(&rt, rt.alloc(), NO_GATES, 2, &[], None) == Some(true));
     Ok(())
 }
 
-/// With growth 1, 2, 3, .. refused, two workers find the mismatch at place 7 or answer the fault for memory. The answer
-/// is how many runs met a refusal; None where one answered something else, or each met one.
-fn refused_runs<R: Threads + Wait + Sync>(rt: &R, alloc: Global, circuit: &Circuit) -> Option<u64> {
-    let garbling = garble_one_thread(alloc, circuit, &seed_of(0)).ok()?;
-    for n in 1..10_000 {
-        let heap = Refusing::nth(alloc, n);
-        let Some(given) = altered(&heap, &garbling, &[7]) else {
-            continue;
-        };
-        let is_right = match compare(rt, &heap, circuit, given, 2)? {
-            Ok((labels, mismatch)) => {
-                has_labels(circuit, &labels, &garbling) && mismatch.map(|m| m.place) == Some(7)
-            }
-            Err(fault) => fault == WorkFault::Memory && heap.refused() == 1,
-        };
-        if !is_right {
-            return None;
+/// Whether two workers find the mismatch at place 7 over this memory, or answer the fault for memory where it refuses a
+/// growth.
+fn is_found_or_refused<R: Threads + Wait + Sync>(
+    rt: &R,
+    heap: &Refusing<Global>,
+    circuit: &Circuit,
+    garbling: &Garbling,
+) -> Option<bool> {
+    let Some(given) = altered(heap, garbling, &[7]) else {
+        return Some(heap.refused() == 1);
+    };
+    Some(match compare(rt, heap, circuit, given, 2)? {
+        Ok((labels, mismatch)) => {
+            has_labels(circuit, &labels, garbling) && mismatch.map(|m| m.place) == Some(7)
         }
-        if heap.refused() == 0 {
-            return Some(n - 1);
-        }
-    }
-    None
+        Err(fault) => fault == WorkFault::Memory && heap.refused() == 1,
+    })
 }
 
 /// Whether more runs than this meet a refusal, and all runs answer as they should.
@@ -113,7 +122,12 @@ fn are_refused<R: Threads + Wait + Sync>(
     fewest: u64,
 ) -> Option<bool> {
     let circuit = read(alloc, text)?;
-    Some(refused_runs(rt, alloc, &circuit)? > fewest)
+    let garbling = garble_one_thread(alloc, &circuit, &seed_of(0)).ok()?;
+    let refused = refused_runs(
+        alloc,
+        |heap| is_found_or_refused(rt, heap, &circuit, &garbling),
+    )?;
+    Some(refused > fewest)
 }
 
 #[test]

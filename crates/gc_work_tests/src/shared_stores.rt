@@ -267,8 +267,8 @@ fn hand_in_all_gates<L: Ledger>(
     Some(shared.hand_in(rt, last, tally, &mut batch) == Ok(true))
 }
 
-/// Three threads wait for a gate, while another hands in all gates and leaves none to take: each is told that nothing is
-/// left, and not before the last gate.
+/// Three threads wait for a gate, while another hands in all gates and leaves none to take: each ends, and none before
+/// the last gate.
 fn sleepers_end_at_last<L: Ledger + Send + Sync, R: Abort + Threads + Wait + Sync>(
     rt: &R,
     alloc: Global,

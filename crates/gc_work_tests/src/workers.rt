@@ -1,9 +1,8 @@
 //! Tests of garbling on many threads: the answer is that of one thread, and the threads are really at work.
 
-use crate::fixtures::{has_labels, read, seed_of};
+use crate::fixtures::{has_labels, read, refused_runs, seed_of};
 use gc_circuit::Circuit;
 use gc_half::{Garbling, garble_one_thread};
-use gc_refusing::Refusing;
 use gc_work::{Open, WorkFault, garble};
 use gc_worked::circuits::{FULL_ADDER, NO_GATES, and_chains, many_ands, mixed_layers};
 use gc_worked::counting::Counting;
@@ -80,34 +79,8 @@ fn each_gate_is_reported_once(rt: HostRuntime) -> Result<(), Fail> {
     Ok(())
 }
 
-/// With growth 1, 2, 3, .. refused, this many workers answer the garbling of one thread or the fault for memory,
-/// whichever threads get it. The answer is how many runs met a refusal; None where one answered something else, or each
-/// met one.
-fn refused_runs<R: Threads + Wait + Sync>(
-    rt: &R,
-    alloc: Global,
-    circuit: &Circuit,
-    workers: u32,
-) -> Option<u64> {
-    let seed = seed_of(0);
-    let one_thread = garble_one_thread(alloc, circuit, &seed).ok()?;
-    for n in 1..10_000 {
-        let heap = Refusing::nth(alloc, n);
-        let is_right = match garble(rt, &heap, circuit, &seed, workers, &Open) {
-            Ok(garbling) => are_same(circuit, &garbling, &one_thread),
-            Err(fault) => fault == WorkFault::Memory && heap.refused() == 1,
-        };
-        if !is_right {
-            return None;
-        }
-        if heap.refused() == 0 {
-            return Some(n - 1);
-        }
-    }
-    None
-}
-
-/// Whether more runs than this meet a refusal, and all runs answer as they should.
+/// Whether this many workers answer the garbling of one thread or the fault for memory, whichever threads a refusal
+/// meets, and more runs than this meet one.
 fn are_refused<R: Threads + Wait + Sync>(
     rt: &R,
     alloc: Global,
@@ -116,7 +89,15 @@ fn are_refused<R: Threads + Wait + Sync>(
     fewest: u64,
 ) -> Option<bool> {
     let circuit = read(alloc, text)?;
-    Some(refused_runs(rt, alloc, &circuit, workers)? > fewest)
+    let seed = seed_of(0);
+    let one_thread = garble_one_thread(alloc, &circuit, &seed).ok()?;
+    let refused = refused_runs(alloc, |heap| {
+        Some(match garble(rt, heap, &circuit, &seed, workers, &Open) {
+            Ok(garbling) => are_same(&circuit, &garbling, &one_thread),
+            Err(fault) => fault == WorkFault::Memory && heap.refused() == 1,
+        })
+    })?;
+    Some(refused > fewest)
 }
 
 #[test]

@@ -10,14 +10,14 @@ ghost use Rattle.gc_write.specs.Writing.{IsUnderWay, Proceeds, Ends};
 use arrayvec::ArrayVec;
 use gc_format::Sink;
 use sha2::{Digest, Sha256};
-use thiserror::Error;
+use std::error::Error;
+use std::fmt;
 
 /// The most bytes that are sent to a sink at once.
 const ROOM: usize = 16_384;
 
 /// The sink failed. It has taken the first `sent` bytes of the file, and no others.
-#[derive(Clone, Copy, Debug, PartialEq, Eq, Error)]
-#[error("WriteFault after {sent} bytes")]
+#[derive(Clone, Copy, Debug, PartialEq, Eq)]
 pub struct WriteFault {
     pub sent: u64,
 }
@@ -37,6 +37,22 @@ impl WriteFault {
         "WriteFault"
     }
 }
+
+/// Writes the name, and how many bytes the sink took.
+impl fmt::Display for WriteFault {
+    ghost use Rattle.std.specs.Prelude.{Some, ◌++◌, codes};
+    ghost use Rattle.std.specs.Fmt.{decimal};
+
+    ghost output = { λ fault.
+        Some (codes "WriteFault after " ++ decimal fault.sent ++ codes " bytes") };
+
+    fn fmt<W: fmt::Write>(&self, f: &mut fmt::Formatter<W>) -> fmt::Result {
+        let sent = self.sent;
+        write!(f, "WriteFault after {sent} bytes")
+    }
+}
+
+impl Error for WriteFault {}
 
 /// Sees the bytes of a file as they go to the sink.
 pub(crate) trait Observer: Drop {

@@ -1,22 +1,14 @@
-use Rattle.std.proofs.Common.{◌≡◌, length, sym, ap, subst, ◌∙◌, arith}
-use Rattle.std.proofs.lemmas.List.FromFn.{length-map-range_with_len}
-use Rattle.gc_half.specs.Canonical.{zero_label_of}
+use Rattle.std.proofs.Common.{sym, subst}
 use Rattle.gc_half.specs.Garbling.{IsGarbled}
 use Rattle.gc_layers.specs.Garbler.{AreRows}
 use Rattle.gc_netlist.specs.Circuit.{and_count}
-use Rattle.gc_layers.proofs.GarblerLemmas.{garbled-end}
+use Rattle.gc_layers.proofs.GarblerLemmas.{garbled-end, outputs-fit}
 use Rattle.gc_layers.proofs.garble.garble_by_layers.Goals as goal
 
 pub from_parts-requires : goal.from_parts-requires
 from_parts-requires g c =
-    let circuit = c.args.circuit.now in
-    omega (
-      arith,
-      c.law_lawful.ensures.outputs_fit,
-      c.output_wires.ensures,
-      ap length c.in_ok-labels.ensures.labels,
-      length-map-range_with_len (zero_label_of circuit c.args.seed.now) 0 circuit.wires,
-    )
+    outputs-fit c.args.circuit.now c.args.seed.now c.law_lawful.ensures c.output_wires.result c.output_wires.ensures
+    c.in_ok-labels.labels.items c.in_ok-labels.ensures.labels
 
 pub returns : goal.returns
 returns g c =

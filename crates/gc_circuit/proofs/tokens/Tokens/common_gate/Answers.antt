@@ -5,7 +5,10 @@ use Rattle.gc_circuit.proofs.tokens.Tokens.common_gate.Goals as goal
 
 pub returns-clause-read : goal.returns-clause-read
 returns-clause-read c =
-    ap gate_at (sym (ap (λ (v : Cursor). v.left) c.self.view_is)) ∙ c.in_ok-gate.ensures.0
+    ap gate_at (sym (ap (λ (v : Cursor). v.left) c.self.view_is) ∙ sym c.behind_feed.ensures.same)
+    ∙ c.in_ok-gate.ensures.0
 
 pub invariant_of-self : goal.invariant_of-self
-invariant_of-self c = c.in_ok-gate.ensures.1 c.self.inside.text.now c.self.invariant
+invariant_of-self c =
+    let text = c.self.inside.text.now in
+    c.in_ok-gate.ensures.1 text (c.behind_feed.ensures.cuts text c.self.invariant)

@@ -13,7 +13,7 @@ returns-clause-kept g c circuit seed n is are =
     let old = get_or given k c.index-self-place.result in
     let at = slice_get-get_or given k c.index-self-place.result below in
     compared-next circuit seed given self.compared.items self.first k old c.args.pair at is n n (λ j few. inl few) are
-    c.next_mismatch-self.result (omega (arith, below, are.count)) c.next_mismatch-self.ensures
+    c.earlier_mismatch-self.result (omega (arith, below, are.count)) c.earlier_mismatch-self.ensures
 
 pub returns-clause-next : goal.returns-clause-next
 returns-clause-next g c circuit seed is are =
@@ -28,4 +28,4 @@ returns-clause-next g c circuit seed is are =
       | inr other ↦ inl (omega arith)
     ] in
     compared-next circuit seed given self.compared.items self.first k old c.args.pair at is k (k + 1) among are
-    c.next_mismatch-self.result (omega (arith, below, are.count)) c.next_mismatch-self.ensures
+    c.earlier_mismatch-self.result (omega (arith, below, are.count)) c.earlier_mismatch-self.ensures

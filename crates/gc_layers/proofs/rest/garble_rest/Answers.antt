@@ -7,8 +7,8 @@ use Rattle.gc_half.proofs.OneGateLemmas.{first_read-local, second_read-local}
 use Rattle.gc_labelling.specs.Layer.{AreLabels, AreMarked}
 use Rattle.gc_layers.proofs.PartlyLemmas.{labels-put, marked-label}
 use Rattle.gc_layers.proofs.GarblerLemmas.{labels-next, reads-there, gate-label, gate-row}
-use Rattle.gc_layers.proofs.rest.garble_missing.Goals as goal
-use Rattle.gc_layers.proofs.rest.garble_missing.Goals.{then-not-is_there, else-not-is_there, then-is_and, else-is_and}
+use Rattle.gc_layers.proofs.rest.garble_rest.Goals as goal
+use Rattle.gc_layers.proofs.rest.garble_rest.Goals.{then-not-is_there, else-not-is_there, then-is_and, else-is_and}
 
 pub is_there-requires-clause-number : goal.is_there-requires-clause-number
 is_there-requires-clause-number g c and = (
