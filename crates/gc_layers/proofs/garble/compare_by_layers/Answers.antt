@@ -1,4 +1,4 @@
-use Rattle.std.proofs.Common.{◌≡◌, sym, ap, subst, ◌∙◌}
+use Rattle.std.proofs.Common.{subst, ◌∙◌}
 use Rattle.gc_half.specs.Comparing.{IsComparison}
 use Rattle.gc_layers.proofs.ComparedLemmas.{compared-end}
 use Rattle.gc_layers.proofs.garble.compare_by_layers.Goals as goal

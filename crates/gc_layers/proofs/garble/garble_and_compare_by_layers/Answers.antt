@@ -1,7 +1,6 @@
 use Rattle.std.proofs.Common.{length, sym, ap, subst, ◌∙◌}
 use Rattle.std.proofs.lemmas.List.FromFn.{length-map-range_with_len}
 use Rattle.gc_half.specs.Canonical.{zero_label_of}
-use Rattle.gc_half.specs.Garbling.{GarblingParts}
 use Rattle.gc_half.specs.Comparing.{HasLabels}
 use Rattle.gc_layers.proofs.GarblerLemmas.{outputs-fit}
 use Rattle.gc_layers.proofs.garble.garble_and_compare_by_layers.Goals as goal

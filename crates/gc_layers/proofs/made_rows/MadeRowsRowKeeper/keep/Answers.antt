@@ -1,4 +1,4 @@
-use Rattle.std.proofs.Common.{◌≡◌, ◌+◌, ◌-◌, ◌<◌, sym, subst, ◌∙◌, arith}
+use Rattle.std.proofs.Common.{◌+◌, ◌-◌, ◌<◌, sym, subst, ◌∙◌, arith}
 use Rattle.gc_netlist.specs.Circuit.{and_count}
 use Rattle.gc_layers.specs.Garbler.{AreKept}
 use Rattle.gc_layers.proofs.GarblerLemmas.{count-put, kept-put, kept-next}
