@@ -69,7 +69,7 @@ enum {
     HALFGATES_OUTPUT_UNSET = 10,        /* an output wire is no input, and no gate sets it */
     HALFGATES_TRAILING_TOKENS = 11,     /* tokens follow the last gate */
     HALFGATES_WIDTHS_EXCEED_WIRES = 12, /* the widths of a side add up to more than the wires */
-    HALFGATES_CIRCUIT_MEMORY = 13,      /* memory ran out for a circuit, for bits, or while evaluating it in the plain */
+    HALFGATES_CIRCUIT_MEMORY = 13,      /* memory ran out for a circuit, for bits, or while evaluating it in the clear */
 
     /* Bits. */
     HALFGATES_BAD_DIGIT = 15,    /* a byte of bits is neither 0 nor 1 */
@@ -174,7 +174,7 @@ typedef struct halfgates_place {
 int32_t halfgates_locate(const uint8_t *text, size_t length, halfgates_place *place);
 
 /*
- * Evaluates a circuit in the plain. `bits` are those of all input wires, `size` bytes; `outputs` takes the bits of all
+ * Evaluates a circuit in the clear. `bits` are those of all input wires, `size` bytes; `outputs` takes the bits of all
  * output wires, and `outputs_size` is exactly their number, else HALFGATES_BAD_ARGUMENT. Codes: HALFGATES_WRONG_LENGTH,
  * HALFGATES_BAD_DIGIT, HALFGATES_CIRCUIT_MEMORY.
  */

@@ -1,4 +1,6 @@
-//! The six kinds of atomic step on the words of a board. A load of a half is one kind, with a call for each half.
+//! The six kinds of atomic step on the words of a board. A load of a half is one kind, with a call for each half. That
+//! the place is of these words, and that there is such a gate, are the caller's conditions; further ones stand in
+//! `requires`.
 
 ghost use Rattle.std.specs.Prelude.{◌≡◌, ℕ, ◌+◌, ◌*◌, ◌<◌};
 ghost use Rattle.gc_board.specs.declared.rule.Hand.TheVariants.{Empty, Has};

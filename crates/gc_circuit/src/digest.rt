@@ -84,19 +84,6 @@ impl<A: Allocator> Circuit<A> {
         BegunDigest { hasher, gates }
     }
 
-    /// Takes the lines that are left, so that finishing the digest takes no time. That the digest is of this circuit is
-    /// the caller's condition. It takes no memory.
-    pub fn advance_digest(&self, begun: &mut BegunDigest)
-        requires { IsBegun self.now begun.old }
-        ensures { IsBegun self.now begun.new }
-    {
-        let mut room = EMPTY_ROOM;
-        match self.write_rest(&mut begun.hasher, &mut room, begun.gates) {
-            Ok(()) => begun.gates = self.gates(),
-            Err(never) => match never {},
-        }
-    }
-
     /// The digest of the circuit, of which the beginning is given. That it is of this circuit is the caller's
     /// condition. It takes no memory.
     pub fn finish_digest(&self, mut begun: BegunDigest) -> [u8; 32]

@@ -1,4 +1,4 @@
-//! Boolean circuits in Bristol Fashion: reading and writing them, their digests, and evaluating them in the plain.
+//! Boolean circuits in Bristol Fashion: reading and writing them, their digests, and evaluating them in the clear.
 //!
 //! It re-exports the names of `gc_netlist`, which defines what a circuit is and what a text spells, and those of
 //! `gc_value`, which reads texts of values. Crates above take these names from here.

@@ -32,11 +32,11 @@ pub const FAULT: u8 = 1;
 pub const USAGE: u8 = 2;
 
 /// Does what the words of a command line say, of which the first is the program's name, and answers the status of the
-/// run. `progress` hears what a command goes about, and, before anything is printed, that it is done.
+/// run. `progress` observes each step of a command, and its end before anything is printed.
 ///
 /// - [`DONE`]: the lines of the order, or the help or the version that was asked for, are on `out`.
-/// - [`FAULT`]: the line `halfgates: fault CODE NAME` is on `err`, and nothing is on `out`. An `out` that can't be
-///   written is a fault.
+/// - [`FAULT`]: the line `halfgates: fault CODE NAME` is on `err`, unless `err` can't be written. Nothing is on `out`,
+///   but where `out` can't be written, which is the fault 51: it may then have the beginning of the answer.
 /// - [`USAGE`]: what clap says of words that are no order is on `err`. So is what it says where memory ran out.
 pub fn serve<R: Threads + Wait + Sync, F: Files, O: Write, E: Write, P: Progress>(
     rt: &R,

@@ -47,12 +47,12 @@ name_of BadList = codes "BadList"
 abbrev pub text_of : Fault → List ℕ
 text_of fault = codes "fault " ++ decimal (code_of fault) ++ 32 ∷ name_of fault
 
--- the fault that taking a garbled file comes to
+-- the fault of a command where taking a garbled file has this one
 abbrev pub IsFaultOfTaking : TakeFault → Fault → Type 0
 IsFaultOfTaking (take.File fault) e = e ≡ File fault
 IsFaultOfTaking (take.ReadFault got) e = e ≡ CannotRead
 
--- the fault that a call on a file comes to
+-- the fault of a command where a call on a file has this one
 abbrev pub IsFaultOfFile : FileError → Fault → Type 0
 IsFaultOfFile file.CannotRead fault = fault ≡ CannotRead
 IsFaultOfFile file.CannotWrite fault = fault ≡ CannotWrite

@@ -40,7 +40,7 @@ pub fn read_circuit<A: Allocator + Copy, F: Files>(
 /// How much of a circuit's file is hashed while the circuit is read.
 #[derive(Clone, Copy)]
 pub enum HashedPart {
-    /// The first half. Reading takes half as long as hashing, and what is left can be hashed beside other work.
+    /// The first half. Reading takes less time than hashing, and what is left can be hashed beside other work.
     Half,
     /// The whole file.
     Whole,

@@ -5,9 +5,9 @@ ghost use Rattle.gc_files.specs.Files.{HasFailed};
 ghost use Rattle.gc_command.specs.Eval.{AnswersEval, HasEvalFault};
 
 use crate::circuit_file::{HashedPart, read_and_begin_digest};
-use crate::evaluated_files::{finish_digest_and_read_garbled_file, read_label_files};
+use crate::evaluated_files::{read_garbled_file, read_label_files};
 use crate::fault::Fault;
-use crate::job::evaluate_files;
+use crate::job::finish_digest_and_evaluate;
 use crate::lines::output_lines;
 use crate::progress::{Progress, Work};
 use gc_files::Files;
@@ -38,12 +38,12 @@ pub fn eval<R: Threads + Wait + Sync, A: Allocator + Copy + Send + Sync, F: File
     progress.begin(1, 3, Work::ReadingCircuit);
     let (circuit, begun) = read_and_begin_digest(rt, alloc, circuit, files, HashedPart::Half)?;
     progress.begin(2, 3, Work::ReadingFiles);
-    let (digest, garbled) = finish_digest_and_read_garbled_file(
-        rt, alloc, &circuit, begun, garbled, files,
-    )?;
+    let garbled = read_garbled_file(alloc, garbled, files)?;
     let labels = read_label_files(alloc, labels, files)?;
     let gates = circuit.gates();
     progress.begin(3, 3, Work::Evaluating { gates });
-    let outputs = evaluate_files(rt, alloc, &circuit, &digest, garbled, &labels, workers)?;
+    let outputs = finish_digest_and_evaluate(
+        rt, alloc, &circuit, begun, garbled, &labels, workers,
+    )?;
     Ok(output_lines(alloc, circuit.output_widths(), &outputs)?)
 }

@@ -1,22 +1,16 @@
 //! The garbled file and the label files of an evaluation.
 
 ghost use Rattle.std.specs.Prelude.{◌≡◌, ℕ, List, map, IfOk, IfErr, IfSome, OnOk};
-ghost use Rattle.sha2.specs.Sha256.{sha256};
-ghost use Rattle.gc_netlist.specs.Canon.{canonical_text};
-ghost use Rattle.gc_circuit.specs.Digest.{IsBegun};
 ghost use Rattle.gc_format.specs.GarbledFile.{IsGarbledFile};
 ghost use Rattle.gc_format.specs.LabelFile.{IsLabelFile};
 ghost use Rattle.gc_files.specs.Files.{HasFailed};
 ghost use Rattle.gc_command.specs.Eval.{HasGarbledFault, HasLabelFault, HasLabelsFault, AreLabelFiles};
 
 use crate::fault::Fault;
-use gc_circuit::{BegunDigest, Circuit};
 use gc_file::{Garbled, LabelFile, read_garbled_from, read_labels};
 use gc_files::Files;
 use std::alloc::Allocator;
 use std::convert::AsStr;
-use std::thread;
-use std::thread::Threads;
 
 /// The garbled file of this name, read in pieces.
 pub fn read_garbled_file<A: Allocator + Copy, F: Files>(
@@ -35,37 +29,6 @@ pub fn read_garbled_file<A: Allocator + Copy, F: Files>(
     let taken = read_garbled_from(alloc, &mut source);
     files.shut(name, source);
     Ok(taken?)
-}
-
-/// The digest of the circuit, which is begun, and the garbled file of this name. That the digest is the circuit's is the
-/// caller's condition. A thread of its own goes on with the digest while the file is read, where one can be started.
-pub(crate) fn finish_digest_and_read_garbled_file<R: Threads, A: Allocator + Copy + Sync, F: Files>(
-    rt: &R,
-    alloc: A,
-    circuit: &Circuit<A>,
-    mut begun: BegunDigest,
-    name: &str,
-    files: &mut F,
-) -> Result<([u8; 32], Garbled<A>), Fault>
-    requires { IsBegun circuit.now begun }
-    ensures digest { IfOk result (λ made. made.0 ≡ sha256 (canonical_text circuit.now)) }
-    ensures garbled { IfOk result
-        (λ made. IfSome (F.bytes files.old name.now) (λ held. IsGarbledFile held made.1)) }
-    ensures fault { IfErr result (HasGarbledFault (F.bytes files.old)
-        (HasFailed (F.failures files.old) (F.failures files.new)) name.now) }
-    ensures counted { OnOk result (F.failures files.new ≡ F.failures files.old) }
-    ensures same { (n : List ℕ) → F.bytes files.new n ≡ F.bytes files.old n }
-{
-    let ((), garbled) = thread::join_mut(
-        rt,
-        &mut || -> ()
-            requires { IsBegun circuit.now begun }
-            ensures { IsBegun circuit.entry.now begun.exit }
-        { circuit.advance_digest(&mut begun) },
-        &mut || read_garbled_file(alloc, name, files),
-    );
-    let garbled = garbled?;
-    Ok((circuit.finish_digest(begun), garbled))
 }
 
 /// The label files of these names. Each is read and judged before the next is opened.

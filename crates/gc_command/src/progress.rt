@@ -37,7 +37,7 @@ impl Display for Work {
 
 /// An observer of a command that may take long.
 pub trait Progress {
-    /// The command goes about this work, its step `step` of `steps`, the first of which is step 1.
+    /// The command begins this work, its step `step` of `steps`, the first of which is step 1.
     fn begin(&self, step: u32, steps: u32, work: Work);
 
     /// The command is done, or a fault ended it: what it answers is about to be printed.

@@ -24,7 +24,7 @@ use std::thread::Threads;
 /// thread is worker 0; a thread is started for each other worker that has something to do, and where one can't be
 /// started the calling thread does its work too. Where many AND gates near each other can be evaluated at once,
 /// worker 0 goes from gate to gate and all evaluate the AND gates that it passed ([`evaluate_by_layers`]). Where half
-/// of the gates are AND and the workers' shares of the file need nothing of each other, each has a seat at a board.
+/// of the gates are AND and three gates in four need no gate of another worker's share, each has a seat at a board.
 /// Else worker 0 evaluates alone, as it does where the workers can't have their memory. `observer.before` is called
 /// for each gate before it is evaluated, and ahead of each step at a board.
 ///

@@ -1,6 +1,6 @@
 //! Observers of workers.
 
-/// An observer of the workers that garble or evaluate a circuit: each reports a gate here before it goes about it.
+/// An observer of the workers that garble or evaluate a circuit: each reports a gate here before it makes it.
 pub trait Gatehouse {
     /// Worker `worker`, counted from 0, is about to seal gate `gate` of the file, or to step at it. It holds no lock.
     fn before(&self, worker: u32, gate: u32);

@@ -61,7 +61,8 @@ impl<'c, A: Allocator + Copy, C: Allocator> Job<'c, A, C> {
     }
 
     /// The job as [`Job::bind`] answers it, for a caller that has the digest of the circuit's canonical text: it is not
-    /// taken again. That it is that digest is the caller's condition.
+    /// taken again. A caller that takes this digest beside other work may give the one that the garbled file has, and
+    /// compare them afterwards: until they are equal nothing is known of the answer.
     pub fn bind_by_digest<B: Allocator>(
         alloc: A,
         circuit: &'c Circuit<C>,
@@ -69,9 +70,10 @@ impl<'c, A: Allocator + Copy, C: Allocator> Job<'c, A, C> {
         garbled: Garbled<A>,
         files: &[LabelFile<B>],
     ) -> Result<Job<'c, A, C>, BindFault>
-        requires { digest.now ≡ sha256 (canonical_text circuit.now) }
-        ensures ok { IfOk result (λ job. IsBound circuit.now garbled files.now job) }
-        ensures err { IfErr result (λ fault. fault ≢ BindFault.Memory
+        ensures ok { digest.now ≡ sha256 (canonical_text circuit.now)
+            → IfOk result (λ job. IsBound circuit.now garbled files.now job) }
+        ensures err { digest.now ≡ sha256 (canonical_text circuit.now)
+            → IfErr result (λ fault. fault ≢ BindFault.Memory
             → FirstBindFault circuit.now garbled files.now fault) }
     {
         if garbled.digest() != *digest {

@@ -1,4 +1,4 @@
--- Evaluation in the plain, of bits as bytes.
+-- Evaluation in the clear, of bits as bytes.
 use Rattle.std.specs.Prelude.{◌≡◌, ◌≢◌, ℕ, Bool, List, map}
 use Rattle.gc_netlist.specs.Circuit.{Netlist, input_wires, output_wires}
 use Rattle.gc_circuit.specs.Meaning.{AreOutputs}

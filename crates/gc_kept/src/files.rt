@@ -58,7 +58,8 @@ impl KeptCircuit {
     }
 
     /// Writes the label file of the input value of this index, for these bits under a seed, and reports the number of
-    /// its bytes. Where the buffer is too small, no file is made.
+    /// its bytes. It refuses an index without a value (42), a wrong number of bits (16), a byte other than 0 and 1 (15),
+    /// and a buffer that is too small (61): then no file is made, and `written` is the size that is needed.
     pub fn deal(
         &self,
         alloc: Global,

@@ -53,7 +53,8 @@ impl KeptCircuit {
 }
 
 impl KeptJob {
-    /// Evaluates the job, as [`gc_job::evaluate`] does, and writes the bits of the output wires.
+    /// Evaluates the job, as [`gc_job::evaluate`] does, and writes the bits of the output wires. It refuses a room that
+    /// hasn't one byte for each output wire (60). After a fault `bits` is as it was.
     pub fn evaluate(&self, alloc: Global, bits: &mut [u8]) -> Result<(), KeptFault>
         ensures ok { OnOk result (AreEvaluated self.now bits.new) }
         ensures fault { IfErr result (HasEvaluationFault self.now (length bits.old)) }

@@ -1,4 +1,4 @@
-//! Evaluation in the plain, of bits as bytes.
+//! Evaluation in the clear, of bits as bytes.
 
 ghost use Rattle.std.specs.Prelude.{◌≡◌, length, map, flat_map, sum, IfOk, IfErr, OnOk, OnErr};
 ghost use Rattle.gc_circuit.specs.Meaning.{Fits};
@@ -33,8 +33,9 @@ pub(crate) fn values_of(
 }
 
 impl KeptCircuit {
-    /// Evaluates the circuit in the plain, as [`plain_eval`] does, on the bits of all input wires, and writes the bits
-    /// of the output wires.
+    /// Evaluates the circuit in the clear, as [`plain_eval`] does, on the bits of all input wires, and writes the bits
+    /// of the output wires. It refuses a room that hasn't one byte for each output wire (60), a wrong number of bits
+    /// (16), and a byte other than 0 and 1 (15). After a fault `outputs` is as it was.
     pub fn plain(&self, alloc: Global, bits: &[u8], outputs: &mut [u8]) -> Result<(), KeptFault>
         ensures ok { OnOk result (ArePlainOutputs self.now bits.now outputs.new) }
         ensures fault { IfErr result (HasPlainFault self.now bits.now (length outputs.old)) }

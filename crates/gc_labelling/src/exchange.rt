@@ -38,7 +38,7 @@ struct Offers {
 /// What the calling thread needs to know where it finds no block that is made.
 #[derive(Drop)]
 struct Returns {
-    // A block was lost for want of room.
+    // A block was lost because there was no room for it.
     lost: bool,
     // Whether the thread sleeps until a block is made.
     is_awaited: bool,

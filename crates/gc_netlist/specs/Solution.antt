@@ -1,4 +1,4 @@
--- Values on all wires at once that meet an equation at each gate. Bits in the plain, zero labels of a garbling and
+-- Values on all wires at once that meet an equation at each gate. Bits in the clear, zero labels of a garbling and
 -- active labels of an evaluation are such values, each for a rule of its own.
 use Rattle.std.specs.Prelude.{◌≡◌, ℕ, zero, suc, ◌<◌, ◌-◌, length, List, map, slice_get, Some, None, Option, if◌then◌else◌, ◌==◌}
 use Rattle.std.specs.List.{range_with_len}

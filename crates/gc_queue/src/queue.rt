@@ -64,7 +64,7 @@ impl<A: Allocator + Copy> Queue<A> {
 }
 
 impl<A: Allocator> Queue<A> {
-    /// Whether a gate is claimed.
+    /// Whether a gate is claimed. That there is such a gate is the caller's condition.
     #[inline]
     pub fn is_claimed(&self, gate: u32) -> bool
         requires { gate < length self.now.marks }
@@ -85,7 +85,7 @@ impl<A: Allocator> Queue<A> {
         Some(gate)
     }
 
-    /// Marks a claimed gate as finished.
+    /// Marks a gate as finished. That it is claimed is the caller's condition.
     #[inline]
     pub fn finish(&mut self, gate: u32)
         requires { slice_get self.old.marks gate ≡ Some mark.Claimed }
@@ -109,7 +109,7 @@ impl<A: Allocator> Queue<A> {
         }
     }
 
-    /// Puts a claimed gate back into the queue.
+    /// Puts a gate back into the queue. That it is claimed is the caller's condition.
     pub fn put_back(&mut self, gate: u32)
         requires { slice_get self.old.marks gate ≡ Some mark.Claimed }
         ensures { self.new ≡ with_mark self.old gate mark.Free }

@@ -1,4 +1,4 @@
-//! The words of two banks, through which seats enter, leave, seal and reopen rounds: the gatehouse of the banks.
+//! The words of two banks, through which seats enter, leave, seal and reopen rounds.
 //!
 //! Bank 0 serves the even rounds and bank 1 the odd ones, each in order. A bank's word holds how many seats are counted
 //! in (bits 0 to 15), the mark of a sealed bank (bit 16) and the round (bits 32 to 63). [`Rule`] is what holds of these

@@ -70,7 +70,7 @@ impl<L: Ledger, A: Allocator> Store<L, A> {
 
 impl<L: Ledger, A: Allocator + Copy> Store<L, A> {
     /// A store of this circuit and seed with every gate free, which begins the ledger. It takes all the memory that
-    /// the store needs.
+    /// the store needs. That the ledger is that of `L`, with [`MAX_TALLIES`] parts, is the caller's condition.
     pub fn open(
         alloc: A,
         ledger: Blank,

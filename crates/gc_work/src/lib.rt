@@ -1,9 +1,9 @@
 //! Garbling on many threads, and the pools of tasks that its workers take from.
 //!
-//! [`garble`] lets workers claim, seal and hand in the gates of one store, under a lock. What the store keeps at every
-//! moment makes the answer right, whatever the threads did. Where one thread can pass many AND gates before it needs
-//! what one of them sets, it garbles by layers instead (`gc_layers`). [`garble_and_compare`] compares given row pairs
-//! with those of a garbling.
+//! [`garble`] garbles on one thread, by layers (`gc_layers`) or through one store, as [`way_of`](gc_layers::way_of)
+//! says. Through a store workers claim, seal and hand in gates under a lock, and what the store keeps at every moment
+//! makes the answer right, whatever the threads did. [`garble_and_compare`] compares given row pairs with those of a
+//! garbling.
 //!
 //! A [`TaskPool`] is filled and emptied by one [`Owner`] and emptied by any number of [`Thief`]s, with no lock.
 //! What was pushed to it is what was taken from it and what is left, whatever the threads did.

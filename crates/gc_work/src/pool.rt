@@ -171,7 +171,8 @@ impl<A: Allocator + Copy> TaskPool<A> {
 
 impl<A: Allocator> TaskPool<A> {
     /// Pushes a task. Where the pool has no room and can't grow it gives the task back, and nothing changes; it
-    /// never does so at the first `capacity` pushes, which take no memory.
+    /// never does so at the first `capacity` pushes, which take no memory. That the owner is this pool's is the caller's
+    /// condition.
     pub fn push(&self, owner: &mut Owner<A>, task: Task) -> Result<(), NoRoom>
         requires { owner.old.pool ≡ self.now }
         ensures pushed { MatchResult result
@@ -185,8 +186,8 @@ impl<A: Allocator> TaskPool<A> {
         }
     }
 
-    /// The task that was pushed last of those that are left, where this try took one. Of a pool without thieves it
-    /// takes one as long as one is left. It takes no memory.
+    /// The task that was pushed last of those that are left, where this attempt took one. Of a pool without thieves it
+    /// takes one as long as one is left. That the owner is this pool's is the caller's condition. It takes no memory.
     pub fn pop(&self, owner: &mut Owner<A>) -> Option<Task>
         requires { owner.old.pool ≡ self.now }
         ensures popped { MatchOption result (owner.new ≡ owner.old)
@@ -197,7 +198,8 @@ impl<A: Allocator> TaskPool<A> {
         owner.worker.pop_as::<Pops>()
     }
 
-    /// The task that was pushed first of those that are left, where this try took one. It takes no memory.
+    /// The task that was pushed first of those that are left, where this attempt took one. That the thief is this pool's
+    /// is the caller's condition. It takes no memory.
     pub fn steal(&self, thief: &mut Thief<A>) -> Option<Task>
         requires { thief.old.pool ≡ self.now }
         ensures { MatchOption result (thief.new ≡ thief.old)
@@ -209,8 +211,8 @@ impl<A: Allocator> TaskPool<A> {
         }
     }
 
-    /// Takes the owner and all thieves of the pool back. Where a thief is missing (refusal 25, ThiefMissing) it
-    /// gives all back. It takes no memory.
+    /// Takes the owner and all thieves of the pool back. Where a thief is missing it gives all back. That the owner and
+    /// the thieves are this pool's is the caller's condition. It takes no memory.
     ///
     /// The tasks pushed are, as counts, those popped, those stolen and those left.
     pub fn gather(

@@ -230,7 +230,7 @@ pub extern "C" fn halfgates_circuit_digest(
     code
 }
 
-/// Evaluates a circuit in the plain, if there is one.
+/// Evaluates a circuit in the clear, if there is one.
 fn plain(alloc: Global, circuit: Option<&KeptCircuit>, bits: &[u8], outputs: &mut [u8]) -> i32
     ensures answer { MatchOption circuit.entry (result ≡ pos 60) (λ c. Answers result
         (ArePlainOutputs c.now bits.now outputs.new)
@@ -243,7 +243,7 @@ fn plain(alloc: Global, circuit: Option<&KeptCircuit>, bits: &[u8], outputs: &mu
     }
 }
 
-/// Evaluates a circuit in the plain.
+/// Evaluates a circuit in the clear.
 #[unsafe(no_mangle)]
 pub extern "C" fn halfgates_plain(
     alloc: Global,

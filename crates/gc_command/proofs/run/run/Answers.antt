@@ -30,11 +30,6 @@ returns-in_err-labels-clause-fault g c =
     ) c.in_ok-garbled.ensures.workers c.in_err-labels.field-0.0 c.in_err-labels.ensures.fault)
     c.in_ok-circuit.ensures.circuit)
 
-pub evaluate_files-requires-clause-digest : goal.evaluate_files-requires-clause-digest
-evaluate_files-requires-clause-digest g c = λ κs outlives.
-    c.digest-digest.ensures
-    ∙ own-digest c.in_ok-circuit.circuit c.in_ok-seed.seed c.in_ok-garbled.garbled c.in_ok-garbled.ensures.honest
-
 pub returns-in_err-outputs-clause-fault : goal.returns-in_err-outputs-clause-fault
 returns-in_err-outputs-clause-fault g c =
     let p = err_from_is_err_and c.from_residual-in_err-outputs.result c.from_residual-in_err-outputs.ensures.1 in
@@ -54,14 +49,16 @@ returns-in_err-outputs-clause-fault g c =
     ) c.in_ok-garbled.ensures.workers c.in_err-outputs.field-0.0
     (honest-fault c.in_ok-circuit.circuit c.in_ok-circuit.ensures.lawful c.in_ok-seed.seed values c.in_ok-garbled.garbled
     c.in_ok-labels.labels.items honest c.in_err-outputs.field-0.0
-    (rw c.deref-2.ensures.value at c.in_err-outputs.ensures.fault)))
+    (rw c.deref-2.ensures.value at (c.in_err-outputs.ensures.fault (c.digest-digest.ensures
+    ∙ own-digest c.in_ok-circuit.circuit c.in_ok-seed.seed c.in_ok-garbled.garbled c.in_ok-garbled.ensures.honest)))))
     c.in_ok-circuit.ensures.circuit)
 
 pub output_lines-requires : goal.output_lines-requires
 output_lines-requires g c =
     rw (c.output_widths.ensures, c.deref-3.ensures.value)
     (length-decoded c.in_ok-circuit.circuit c.in_ok-circuit.ensures.lawful c.in_ok-garbled.garbled c.deref-2.result.now
-    c.in_ok-outputs.outputs.items c.in_ok-outputs.ensures.decoded)
+    c.in_ok-outputs.outputs.items (c.in_ok-outputs.ensures.decoded (c.digest-digest.ensures
+    ∙ own-digest c.in_ok-circuit.circuit c.in_ok-seed.seed c.in_ok-garbled.garbled c.in_ok-garbled.ensures.honest)))
 
 pub returns-clause-answers : goal.returns-clause-answers
 returns-clause-answers g c =
@@ -80,7 +77,9 @@ returns-clause-answers g c =
       outputs = c.in_ok-outputs.outputs.items;
       computed = honest-decode c.in_ok-circuit.circuit c.in_ok-circuit.ensures.lawful c.in_ok-seed.seed values
           c.in_ok-garbled.garbled c.in_ok-labels.labels.items honest c.in_ok-outputs.outputs.items
-          (rw c.deref-2.ensures.value at c.in_ok-outputs.ensures.decoded);
+          (rw c.deref-2.ensures.value at (c.in_ok-outputs.ensures.decoded (c.digest-digest.ensures
+          ∙ own-digest c.in_ok-circuit.circuit c.in_ok-seed.seed c.in_ok-garbled.garbled
+          c.in_ok-garbled.ensures.honest)));
       printed = c.in_ok-output_lines.ensures ∙ ap₂ output_lines c.output_widths.ensures c.deref-3.ensures.value;
     })
     c.in_ok-circuit.ensures.circuit

@@ -37,7 +37,7 @@ returns-in_err-bind_by_digest-clause-fault g c =
           name-files bytes (g.F.Files.bytes c.read_garbled_file.new.files) c.read_garbled_file.ensures.same
               (tokens c.args.line.now) c.in-Some.garbled.now.now labels c.in_ok-garbled.garbled
               c.in_ok-labels.labels.items names c.in_ok-garbled.ensures.garbled c.in_ok-labels.ensures.labels,
-          rw c.deref-2.ensures.value at c.in_err-bind_by_digest.ensures.err,
+          rw c.deref-2.ensures.value at (c.in_err-bind_by_digest.ensures.err c.requires.digest),
         ),
       ),
     )
@@ -54,5 +54,5 @@ returns-clause-named g c =
       named = name-files bytes (g.F.Files.bytes c.read_garbled_file.new.files) c.read_garbled_file.ensures.same
           (tokens c.args.line.now) c.in-Some.garbled.now.now labels c.in_ok-garbled.garbled
           c.in_ok-labels.labels.items names c.in_ok-garbled.ensures.garbled c.in_ok-labels.ensures.labels;
-      bound = rw c.deref-2.ensures.value at c.in_ok-bind_by_digest.ensures.ok;
+      bound = rw c.deref-2.ensures.value at (c.in_ok-bind_by_digest.ensures.ok c.requires.digest);
     }

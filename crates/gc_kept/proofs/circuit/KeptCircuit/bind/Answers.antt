@@ -16,7 +16,8 @@ pub returns-in_err-job-clause-fault : goal.returns-in_err-job-clause-fault
 returns-in_err-job-clause-fault c =
     let p = err_from_is_err_and c.from_residual-in_err-job.result c.from_residual-in_err-job.ensures.1 in
     rw (p.1, p.2) (of_binding c.in_ok-garbled.garbled c.in_ok-files.files.items c.in_err-job.field-0.0 c.in_ok-garbled.ensures
-    c.in_ok-files.ensures.ok (λ other. rw (← c.circuit.ensures.same, ← c.deref.ensures.value) (c.in_err-job.ensures.err other)))
+    c.in_ok-files.ensures.ok (λ other. rw (← c.circuit.ensures.same, ← c.deref.ensures.value) (c.in_err-job.ensures.err
+    (rw c.circuit.ensures.same c.digest.ensures) other)))
 
 pub returns-in_err-again-clause-fault : goal.returns-in_err-again-clause-fault
 returns-in_err-again-clause-fault c =
