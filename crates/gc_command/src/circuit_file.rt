@@ -40,8 +40,9 @@ pub fn read_circuit<A: Allocator + Copy, F: Files>(
 /// How much of a circuit's file is hashed while the circuit is read.
 #[derive(Clone, Copy)]
 pub enum HashedPart {
-    /// The first half. Reading takes less time than hashing, and what is left can be hashed beside other work.
-    Half,
+    /// The first two fifths: hashing them takes as long as reading the whole. What is left can be hashed beside other
+    /// work.
+    Beginning,
     /// The whole file.
     Whole,
 }
@@ -52,7 +53,7 @@ impl HashedPart {
         ensures { result ≤ len }
     {
         match self {
-            HashedPart::Half => len / 2,
+            HashedPart::Beginning => len / 5 * 2,
             HashedPart::Whole => len,
         }
     }

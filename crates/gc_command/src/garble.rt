@@ -53,7 +53,7 @@ pub fn garble<R: Threads + Wait + Sync, A: Allocator + Copy + Send + Sync, F: Fi
         → (n : List ℕ) → F.bytes files.new n ≡ F.bytes files.old n) }
 {
     progress.begin(1, 3, Work::ReadingCircuit);
-    let (circuit, begun) = read_and_begin_digest(rt, alloc, circuit, files, HashedPart::Half)?;
+    let (circuit, begun) = read_and_begin_digest(rt, alloc, circuit, files, HashedPart::Beginning)?;
     let seed = Seed::from_hex(seed)?;
     let gates = circuit.gates();
     progress.begin(2, 3, Work::Garbling { gates });

@@ -39,7 +39,7 @@ pub fn run<R: Threads + Wait + Sync, A: Allocator + Copy + Send + Sync, F: Files
     ensures same { (name : List ℕ) → F.bytes files.new name ≡ F.bytes files.old name }
 {
     progress.begin(1, 3, Work::ReadingCircuit);
-    let (circuit, begun) = read_and_begin_digest(rt, alloc, circuit, files, HashedPart::Half)?;
+    let (circuit, begun) = read_and_begin_digest(rt, alloc, circuit, files, HashedPart::Beginning)?;
     let seed = Seed::from_hex(seed)?;
     let values = read_values(alloc, circuit.input_widths(), values)?;
     let gates = circuit.gates();
