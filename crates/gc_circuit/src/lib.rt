@@ -4,19 +4,14 @@
 //! `gc_value`, which reads texts of values. Crates above take these names from here.
 #![tactic(auto)]
 
-mod back;
 mod canon;
 mod checks;
 mod circuit;
 mod digest;
 mod eval;
-mod gates;
-mod line;
 mod locate;
-mod number;
 mod read;
 mod stop;
-mod tokens;
 
 pub use circuit::Circuit;
 pub use digest::{BegunDigest, CommonLines};

@@ -5,11 +5,10 @@ ghost use Rattle.gc_netlist.specs.Spelling.{Spells};
 ghost use Rattle.gc_netlist.specs.Place.{place_of, IsSpot, IsLocated};
 ghost use Rattle.gc_netlist.specs.Met.{IsMet};
 
-use crate::back::{column_after, line_after};
 use crate::circuit::Circuit;
 use crate::stop::Stop;
-use crate::tokens::Tokens;
 use gc_netlist::ReadFault;
+use gc_tokens::{Tokens, column_after, line_after};
 use gc_value::Memory;
 use std::alloc::Allocator;
 

@@ -10,10 +10,9 @@ ghost use Rattle.gc_circuit.specs.Stop.{GateStops, GatesStop, IsUnset};
 
 use crate::checks::{check_gate, wire_at_fault};
 use crate::circuit::Circuit;
-use crate::gates::read_gate;
 use crate::stop::{Stop, back_of};
-use crate::tokens::Tokens;
 use gc_netlist::{Gate, MAX_GATES, MAX_VALUES, MAX_WIRES, ReadFault};
+use gc_tokens::{Tokens, read_gate};
 use std::alloc::Allocator;
 
 /// The bytes that a gate takes at the least: those of `1 1 0 1 EQ` and a blank.

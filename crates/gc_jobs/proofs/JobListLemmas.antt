@@ -12,7 +12,7 @@ use Rattle.std.proofs.lemmas.Str.{IsUtf8-take, IsUtf8-drop, IsCharBoundary-after
 use mathlib.Core.Logic.{dite}
 use native.Mathlib.Decide.{dec_le}
 use Rattle.gc_netlist.specs.Text.{is_blank, is_some_run, tokens}
-use Rattle.gc_circuit.proofs.TokenLemmas.{Begins, tokens-nil, tokens_begin}
+use Rattle.gc_tokens.proofs.TokenLemmas.{Begins, tokens-nil, tokens_begin}
 use Rattle.gc_jobs.specs.JobList.{has_words}
 
 -- A byte that is no blank is in a token,

@@ -1,6 +1,6 @@
 use Rattle.std.proofs.Common.{◌∙◌, arith}
 use Rattle.std.proofs.lemmas.Result.{err_from_is_err_and}
-use Rattle.gc_circuit.proofs.NumberLemmas.{numbers_go_on, numbers_stop, numbers_done, left_goes_on, left_stops}
+use Rattle.gc_circuit.proofs.NumbersLemmas.{numbers_go_on, numbers_stop, numbers_done, left_goes_on, left_stops}
 use Rattle.gc_circuit.proofs.read.read_numbers.Goals as goal
 
 pub returns-in_err-number-clause-all : goal.returns-in_err-number-clause-all

@@ -1,6 +1,0 @@
-use Rattle.std.proofs.Common.{◌≡◌, take, All, false}
-use Rattle.gc_netlist.specs.Text.{is_blank}
-use Rattle.gc_circuit.proofs.tokens.run_len.Given as goal
-
-abbrev pub invariant-loop-i : goal.invariant-loop-i
-invariant-loop-i l = All (λ b. is_blank b ≡ false) (take l.i l.text)

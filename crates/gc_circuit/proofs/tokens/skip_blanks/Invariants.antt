@@ -1,6 +1,0 @@
-use Rattle.std.proofs.Common.{◌≡◌, drop}
-use Rattle.gc_netlist.specs.Text.{tokens}
-use Rattle.gc_circuit.proofs.tokens.skip_blanks.Given as goal
-
-abbrev pub invariant-loop-i : goal.invariant-loop-i
-invariant-loop-i l = tokens (drop l.i l.text) ≡ tokens l.text

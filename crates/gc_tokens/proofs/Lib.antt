@@ -1,0 +1,5 @@
+pub mod TokenLemmas
+pub mod NumberLemmas
+pub mod ShortLemmas
+pub mod CutLemmas
+pub mod BackLemmas

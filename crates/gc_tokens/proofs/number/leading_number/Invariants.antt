@@ -1,0 +1,11 @@
+use Rattle.std.proofs.Common.{◌≡◌, ◌^◌, ◌<◌, take, true}
+use Rattle.std.specs.List.{list_all}
+use Rattle.gc_netlist.specs.Text.{is_digit, value_of}
+use Rattle.gc_tokens.proofs.number.leading_number.Given as goal
+
+abbrev pub invariant-loop-i : goal.invariant-loop-i
+invariant-loop-i l = record {
+  value : l.value ≡ value_of (take l.i l.text);
+  small : l.value < 2 ^ 32;
+  digits : list_all is_digit (take l.i l.text) ≡ true;
+}
