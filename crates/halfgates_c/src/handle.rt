@@ -46,20 +46,6 @@ impl Handle {
         }
     }
 
-    /// A handle that holds nothing.
-    fn empty(alloc: Global) -> Handle
-        ensures { result.held ≡ None }
-    {
-        Handle::of_pointer(Pointer::null(alloc))
-    }
-
-    /// A handle of this.
-    fn of(held: Box<Held, Global>) -> Handle
-        ensures { result.held ≡ Some held.value }
-    {
-        Handle::of_pointer(Pointer::of(held))
-    }
-
     /// What is held, moved out.
     fn into_box(self) -> Option<Box<Held, Global>>
         ensures { MatchOption result (self.held ≡ None) (λ held. self.held ≡ Some held.value) }
@@ -72,7 +58,7 @@ impl Handle {
         ensures held { option_map (λ held. held.value) result ≡ self.old.held }
         ensures empty { self.new.held ≡ None }
     {
-        mem::replace(self, Handle::empty(alloc)).into_box()
+        mem::replace(self, Handle::holding(alloc, None)).into_box()
     }
 
     /// Gives back what was taken out.
@@ -86,10 +72,10 @@ impl Handle {
     pub(crate) fn holding(alloc: Global, held: Option<Box<Held, Global>>) -> Handle
         ensures { result.held ≡ option_map (λ held. held.value) held }
     {
-        match held {
-            Some(held) => Handle::of(held),
-            None => Handle::empty(alloc),
-        }
+        Handle::of_pointer(match held {
+            Some(held) => Pointer::of(held),
+            None => Pointer::null(alloc),
+        })
     }
 }
 

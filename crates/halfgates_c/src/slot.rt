@@ -1,6 +1,6 @@
 //! C's pointer.
 
-ghost use Rattle.std.specs.Prelude.{◌≡◌, None, Some, MatchOption, OnOk, OnErr, IfErr};
+ghost use Rattle.std.specs.Prelude.{◌≡◌, OnOk, OnErr, IfErr};
 ghost use Rattle.std.specs.declared.option.Option.{Option};
 ghost use Rattle.gc_handle.specs.Behind.{behind};
 ghost use Rattle.halfgates_c.specs.declared.handle.Handle.{Handle};
@@ -48,13 +48,6 @@ impl Slot {
         }
     }
 
-    /// The pointer to a handle.
-    fn of(handle: Box<Handle, Global>) -> Slot
-        ensures { result.handle ≡ Some handle.value }
-    {
-        Slot::of_pointer(Pointer::of(handle))
-    }
-
     /// Writes the pointer to a handle of this. The pointer that was there isn't looked at, as C needn't have set it.
     pub(crate) fn hand_out(&mut self, alloc: Global, held: Held) -> Result<(), KeptFault>
         ensures done { OnOk result (Holds self.new held) }
@@ -62,7 +55,7 @@ impl Slot {
         ensures kept { OnErr result (self.new ≡ self.old) }
     {
         let handle = Handle::holding(alloc, Some(Box::new(alloc, held)?));
-        let pointer = Slot::of(Box::new(alloc, handle)?);
+        let pointer = Slot::of_pointer(Pointer::of(Box::new(alloc, handle)?));
         mem::forget(mem::replace(self, pointer));
         Ok(())
     }
