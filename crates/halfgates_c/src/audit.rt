@@ -10,12 +10,11 @@ ghost use Rattle.halfgates_c.specs.Reports.{IsReport, AreRowFields, AreEntryFiel
 
 use crate::code::{BAD_ARGUMENT, code_of};
 use crate::handle::Handle;
-use crate::held::garbling_in;
 use crate::locate::NONE;
 use crate::null::is_null;
 use gc_audit::{DifferingRows, EntryDifference, GarbledAudit, PartsAudit, RowDifference};
 use gc_file::Version;
-use gc_kept::{KeptFault, KeptGarbling};
+use gc_kept::{Held, KeptFault, KeptGarbling};
 use std::alloc::Global;
 
 /// What an audit finds of a garbled file: `halfgates_audit_report`.
@@ -174,18 +173,6 @@ fn audit(
     Ok(())
 }
 
-/// Compares a garbled file with a garbling, if there is one, and writes a report.
-fn audit_by(alloc: Global, garbling: Option<&KeptGarbling>, file: &[u8], report: &mut Report) -> i32
-    ensures answer { MatchOption garbling.entry (result ≡ pos 60) (λ g.
-        Answers result (IsReportOn g.now file.now report.new) (HasGarbledFault file.now)) }
-    ensures kept { result ≢ pos 0 → report.new ≡ report.old }
-{
-    match garbling {
-        Some(garbling) => code_of(audit(alloc, garbling, file, report)),
-        None => BAD_ARGUMENT,
-    }
-}
-
 /// Compares a garbled file with a garbling.
 #[unsafe(no_mangle)]
 pub extern "C" fn halfgates_audit(
@@ -205,7 +192,10 @@ pub extern "C" fn halfgates_audit(
         return BAD_ARGUMENT;
     }
     let held = garbling.take(alloc);
-    let code = audit_by(alloc, garbling_in(&held), file, report);
+    let code = match held.as_deref() {
+        Some(Held::Garbling(garbling)) => code_of(audit(alloc, garbling, file, report)),
+        _ => BAD_ARGUMENT,
+    };
     garbling.put(alloc, held);
     code
 }

@@ -9,11 +9,10 @@ ghost use Rattle.halfgates_c.specs.LabelsReports.{AreFoundAt, HasNoRoomFor, HasR
 
 use crate::code::{BAD_ARGUMENT, code_of};
 use crate::handle::Handle;
-use crate::held::garbling_in;
 use crate::locate::NONE;
 use crate::null::is_null;
 use gc_audit::LabelsVerdict;
-use gc_kept::{KeptFault, KeptGarbling, write_bits};
+use gc_kept::{Held, KeptFault, KeptGarbling, write_bits};
 use std::alloc::Global;
 
 /// What an audit finds of a label file: `halfgates_labels_report`.
@@ -81,25 +80,6 @@ fn audit(
     write_found(&found, bits)
 }
 
-/// Compares a label file with a garbling, if there is one, and writes a report and the bits that are found.
-fn audit_by(
-    alloc: Global,
-    garbling: Option<&KeptGarbling>,
-    file: &[u8],
-    bits: &mut [u8],
-    report: &mut LabelsReport,
-) -> i32
-    ensures answer { MatchOption garbling.entry (result ≡ pos 60) (λ g.
-        Answers result (IsLabelsReportOn g.now file.now bits.old bits.new report.new)
-        (HasReportFault g.now file.now (length bits.old) report.old report.new)) }
-    ensures kept { result ≢ pos 0 → bits.new ≡ bits.old }
-{
-    match garbling {
-        Some(garbling) => code_of(audit(alloc, garbling, file, bits, report)),
-        None => BAD_ARGUMENT,
-    }
-}
-
 /// Compares a label file with a garbling.
 #[unsafe(no_mangle)]
 pub extern "C" fn halfgates_audit_labels(
@@ -121,7 +101,10 @@ pub extern "C" fn halfgates_audit_labels(
         return BAD_ARGUMENT;
     }
     let held = garbling.take(alloc);
-    let code = audit_by(alloc, garbling_in(&held), file, bits, report);
+    let code = match held.as_deref() {
+        Some(Held::Garbling(garbling)) => code_of(audit(alloc, garbling, file, bits, report)),
+        _ => BAD_ARGUMENT,
+    };
     garbling.put(alloc, held);
     code
 }

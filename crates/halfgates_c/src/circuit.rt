@@ -1,7 +1,7 @@
 //! Circuits.
 
 ghost use Rattle.std.specs.Prelude.{◌≡◌, ◌≢◌, OnOk, OnErr, IfErr, MatchOption, pos, length};
-ghost use Rattle.core.specs.Ptr.{as_ptr, as_mut_ptr};
+ghost use Rattle.core.specs.Ptr.{as_mut_ptr};
 ghost use denote.RawPtr.{Testable};
 ghost use Rattle.sha2.specs.Sha256.{sha256};
 ghost use Rattle.gc_netlist.specs.Canon.{canonical_text};
@@ -14,7 +14,6 @@ ghost use Rattle.halfgates_c.specs.Numbers.{AreNumbers, Copies};
 
 use crate::code::{BAD_ARGUMENT, OK, code_of};
 use crate::handle::Handle;
-use crate::held::circuit_in;
 use crate::null::is_null;
 use crate::slot::Slot;
 use gc_kept::{Held, KeptCircuit, KeptFault};
@@ -79,19 +78,6 @@ fn numbers_of(circuit: &KeptCircuit) -> Numbers
     }
 }
 
-/// Writes the numbers of a circuit, if there is one.
-fn write_numbers(circuit: Option<&KeptCircuit>, numbers: &mut Numbers) -> i32
-    ensures answer { MatchOption circuit.entry (result ≡ pos 60)
-        (λ c. (result ≡ pos 0) × AreNumbers c.now numbers.new) }
-    ensures kept { result ≢ pos 0 → numbers.new ≡ numbers.old }
-{
-    let Some(circuit) = circuit else {
-        return BAD_ARGUMENT;
-    };
-    *numbers = numbers_of(circuit);
-    OK
-}
-
 /// Writes the numbers of a circuit.
 #[unsafe(no_mangle)]
 pub extern "C" fn halfgates_circuit_numbers(
@@ -110,7 +96,13 @@ pub extern "C" fn halfgates_circuit_numbers(
         return BAD_ARGUMENT;
     }
     let held = circuit.take(alloc);
-    let code = write_numbers(circuit_in(&held), numbers);
+    let code = match held.as_deref() {
+        Some(Held::Circuit(circuit)) => {
+            *numbers = numbers_of(circuit);
+            OK
+        }
+        _ => BAD_ARGUMENT,
+    };
     circuit.put(alloc, held);
     code
 }
@@ -124,18 +116,6 @@ fn copy_widths(widths: &[u32], copied: &mut [u32]) -> i32
     }
     copied.copy_from_slice(widths);
     OK
-}
-
-/// Writes the widths of the input values, if there is a circuit.
-fn write_input_widths(circuit: Option<&KeptCircuit>, widths: &mut [u32]) -> i32
-    ensures answer { MatchOption circuit.entry
-        ((result ≡ pos 60) × (widths.new ≡ widths.old))
-        (λ c. Copies result c.now.input_widths widths.old widths.new) }
-{
-    match circuit {
-        Some(circuit) => copy_widths(circuit.circuit().input_widths(), widths),
-        None => BAD_ARGUMENT,
-    }
 }
 
 /// Writes the number of wires of each input value.
@@ -155,21 +135,12 @@ pub extern "C" fn halfgates_circuit_input_widths(
         return BAD_ARGUMENT;
     }
     let held = circuit.take(alloc);
-    let code = write_input_widths(circuit_in(&held), widths);
+    let code = match held.as_deref() {
+        Some(Held::Circuit(circuit)) => copy_widths(circuit.circuit().input_widths(), widths),
+        _ => BAD_ARGUMENT,
+    };
     circuit.put(alloc, held);
     code
-}
-
-/// Writes the widths of the output values, if there is a circuit.
-fn write_output_widths(circuit: Option<&KeptCircuit>, widths: &mut [u32]) -> i32
-    ensures answer { MatchOption circuit.entry
-        ((result ≡ pos 60) × (widths.new ≡ widths.old))
-        (λ c. Copies result c.now.output_widths widths.old widths.new) }
-{
-    match circuit {
-        Some(circuit) => copy_widths(circuit.circuit().output_widths(), widths),
-        None => BAD_ARGUMENT,
-    }
 }
 
 /// Writes the number of wires of each output value.
@@ -189,22 +160,12 @@ pub extern "C" fn halfgates_circuit_output_widths(
         return BAD_ARGUMENT;
     }
     let held = circuit.take(alloc);
-    let code = write_output_widths(circuit_in(&held), widths);
+    let code = match held.as_deref() {
+        Some(Held::Circuit(circuit)) => copy_widths(circuit.circuit().output_widths(), widths),
+        _ => BAD_ARGUMENT,
+    };
     circuit.put(alloc, held);
     code
-}
-
-/// Writes the digest of a circuit, if there is one.
-fn write_digest(circuit: Option<&KeptCircuit>, digest: &mut [u8; 32]) -> i32
-    ensures answer { MatchOption circuit.entry
-        ((result ≡ pos 60) × (digest.new ≡ digest.old))
-        (λ c. (result ≡ pos 0) × (digest.new ≡ sha256 (canonical_text c.now))) }
-{
-    let Some(circuit) = circuit else {
-        return BAD_ARGUMENT;
-    };
-    *digest = *circuit.digest();
-    OK
 }
 
 /// Writes the digest of a circuit.
@@ -225,22 +186,15 @@ pub extern "C" fn halfgates_circuit_digest(
         return BAD_ARGUMENT;
     }
     let held = circuit.take(alloc);
-    let code = write_digest(circuit_in(&held), digest);
+    let code = match held.as_deref() {
+        Some(Held::Circuit(circuit)) => {
+            *digest = *circuit.digest();
+            OK
+        }
+        _ => BAD_ARGUMENT,
+    };
     circuit.put(alloc, held);
     code
-}
-
-/// Evaluates a circuit in the clear, if there is one.
-fn plain(alloc: Global, circuit: Option<&KeptCircuit>, bits: &[u8], outputs: &mut [u8]) -> i32
-    ensures answer { MatchOption circuit.entry (result ≡ pos 60) (λ c. Answers result
-        (ArePlainOutputs c.now bits.now outputs.new)
-        (HasPlainFault c.now bits.now (length outputs.old))) }
-    ensures kept { result ≢ pos 0 → outputs.new ≡ outputs.old }
-{
-    match circuit {
-        Some(circuit) => code_of(circuit.plain(alloc, bits, outputs)),
-        None => BAD_ARGUMENT,
-    }
 }
 
 /// Evaluates a circuit in the clear.
@@ -262,7 +216,10 @@ pub extern "C" fn halfgates_plain(
         return BAD_ARGUMENT;
     }
     let held = circuit.take(alloc);
-    let code = plain(alloc, circuit_in(&held), bits, outputs);
+    let code = match held.as_deref() {
+        Some(Held::Circuit(circuit)) => code_of(circuit.plain(alloc, bits, outputs)),
+        _ => BAD_ARGUMENT,
+    };
     circuit.put(alloc, held);
     code
 }

@@ -1,6 +1,6 @@
 //! Files.
 
-ghost use Rattle.std.specs.Prelude.{◌≡◌, ◌≢◌, OnOk, OnErr, IfErr, MatchOption, pos, length};
+ghost use Rattle.std.specs.Prelude.{◌≡◌, ◌≢◌, MatchOption, pos, length};
 ghost use Rattle.core.specs.Ptr.{as_ptr, as_mut_ptr};
 ghost use denote.RawPtr.{Testable};
 ghost use Rattle.gc_stats.specs.Stats.{IsFileSize};
@@ -12,24 +12,9 @@ ghost use Rattle.halfgates_c.specs.Files.{IsGarbledAt, HasNoRoom};
 
 use crate::code::{BAD_ARGUMENT, code_of};
 use crate::handle::Handle;
-use crate::held::{circuit_in, garbling_in};
 use crate::null::is_null;
-use gc_kept::{KeptCircuit, KeptGarbling, version_of};
+use gc_kept::{Held, version_of};
 use std::alloc::Global;
-
-/// How many bytes the garbled file of a version has, and 0 where there is no circuit or no such version.
-fn size_of(circuit: Option<&KeptCircuit>, version: u32) -> u64
-    ensures { MatchOption circuit.entry (result ≡ 0) (λ c.
-        MatchOption (version_of version) (result ≡ 0) (λ v. IsFileSize v c.now result)) }
-{
-    let Some(circuit) = circuit else {
-        return 0;
-    };
-    let Some(version) = version_of(version) else {
-        return 0;
-    };
-    circuit.garbled_size(version)
-}
 
 /// How many bytes the garbled file of a version has; 0 for a bad argument.
 #[unsafe(no_mangle)]
@@ -43,32 +28,12 @@ pub extern "C" fn halfgates_garbled_size(alloc: Global, circuit: &mut Handle, ve
         return 0;
     }
     let held = circuit.take(alloc);
-    let size = size_of(circuit_in(&held), version);
+    let size = match (held.as_deref(), version_of(version)) {
+        (Some(Held::Circuit(circuit)), Some(version)) => circuit.garbled_size(version),
+        _ => 0,
+    };
     circuit.put(alloc, held);
     size
-}
-
-/// Writes the garbled file of a version, if there are a garbling and such a version.
-fn write(
-    alloc: Global,
-    garbling: Option<&KeptGarbling>,
-    version: u32,
-    buffer: &mut [u8],
-    written: &mut usize,
-) -> i32
-    ensures answer { MatchOption garbling.entry (result ≡ pos 60) (λ g.
-        MatchOption (version_of version) (result ≡ pos 60) (λ v.
-        Answers result (IsGarbledAt g.now v buffer.old buffer.new written.new)
-        (HasNoRoom g.now v (length buffer.old) written.new))) }
-    ensures kept { result ≢ pos 0 → buffer.new ≡ buffer.old }
-{
-    let Some(garbling) = garbling else {
-        return BAD_ARGUMENT;
-    };
-    let Some(version) = version_of(version) else {
-        return BAD_ARGUMENT;
-    };
-    code_of(garbling.write(alloc, version, buffer, written))
 }
 
 /// Writes the garbled file of a version.
@@ -93,30 +58,14 @@ pub extern "C" fn halfgates_garbling_write(
         return BAD_ARGUMENT;
     }
     let held = garbling.take(alloc);
-    let code = write(alloc, garbling_in(&held), version, buffer, written);
+    let code = match (held.as_deref(), version_of(version)) {
+        (Some(Held::Garbling(garbling)), Some(version)) => {
+            code_of(garbling.write(alloc, version, buffer, written))
+        }
+        _ => BAD_ARGUMENT,
+    };
     garbling.put(alloc, held);
     code
-}
-
-/// Writes the label file of an input value, if there is a circuit.
-fn deal(
-    alloc: Global,
-    circuit: Option<&KeptCircuit>,
-    seed: &[u8; 32],
-    index: u32,
-    bits: &[u8],
-    buffer: &mut [u8],
-    written: &mut usize,
-) -> i32
-    ensures answer { MatchOption circuit.entry (result ≡ pos 60) (λ c. Answers result
-        (IsDealtAt c.now seed.now index bits.now buffer.old buffer.new written.new)
-        (HasDealFault c.now seed.now index bits.now (length buffer.old) written.new)) }
-    ensures kept { result ≢ pos 0 → buffer.new ≡ buffer.old }
-{
-    match circuit {
-        Some(circuit) => code_of(circuit.deal(alloc, seed, index, bits, buffer, written)),
-        None => BAD_ARGUMENT,
-    }
 }
 
 /// Writes the label file of an input value.
@@ -143,7 +92,12 @@ pub extern "C" fn halfgates_deal(
         return BAD_ARGUMENT;
     }
     let held = circuit.take(alloc);
-    let code = deal(alloc, circuit_in(&held), seed, index, bits, buffer, written);
+    let code = match held.as_deref() {
+        Some(Held::Circuit(circuit)) => code_of(circuit.deal(
+            alloc, seed, index, bits, buffer, written,
+        )),
+        _ => BAD_ARGUMENT,
+    };
     circuit.put(alloc, held);
     code
 }

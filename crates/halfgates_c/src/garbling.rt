@@ -11,10 +11,9 @@ ghost use Rattle.halfgates_c.specs.Reading.{HoldsGarbling};
 
 use crate::code::{BAD_ARGUMENT, code_of};
 use crate::handle::Handle;
-use crate::held::{circuit_in, garbling_in};
 use crate::null::is_null;
 use crate::slot::Slot;
-use gc_kept::{Held, KeptCircuit, KeptFault, KeptGarbling};
+use gc_kept::{Held, KeptCircuit, KeptFault};
 use std::alloc::Global;
 
 /// Garbles a circuit, and hands the garbling out.
@@ -31,23 +30,6 @@ fn garble(
     let garbling = circuit.garble(alloc, seed)?;
     garbling.law_garbled();
     slot.hand_out(alloc, Held::Garbling(garbling))
-}
-
-/// Garbles a circuit, if there is one, and hands the garbling out.
-fn garble_into(
-    alloc: Global,
-    circuit: Option<&KeptCircuit>,
-    seed: &[u8; 32],
-    slot: &mut Slot,
-) -> i32
-    ensures answer { MatchOption circuit.entry (result ≡ pos 60) (λ c.
-        Answers result (HoldsGarbling c.now seed.now slot.new) IsWantOfMemory) }
-    ensures kept { result ≢ pos 0 → slot.new ≡ slot.old }
-{
-    match circuit {
-        Some(circuit) => code_of(garble(alloc, circuit, seed, slot)),
-        None => BAD_ARGUMENT,
-    }
 }
 
 /// Garbles a circuit under a seed.
@@ -70,7 +52,10 @@ pub extern "C" fn halfgates_garble(
         return BAD_ARGUMENT;
     }
     let held = circuit.take(alloc);
-    let code = garble_into(alloc, circuit_in(&held), seed, garbling);
+    let code = match held.as_deref() {
+        Some(Held::Circuit(circuit)) => code_of(garble(alloc, circuit, seed, garbling)),
+        _ => BAD_ARGUMENT,
+    };
     circuit.put(alloc, held);
     code
 }
@@ -79,19 +64,6 @@ pub extern "C" fn halfgates_garble(
 #[unsafe(no_mangle)]
 pub extern "C" fn halfgates_garbling_free(garbling: Slot) {
     drop(garbling);
-}
-
-/// Writes the zero label of a wire, if there is a garbling.
-fn write_zero_label(garbling: Option<&KeptGarbling>, wire: u32, label: &mut [u8; 16]) -> i32
-    ensures answer { MatchOption garbling.entry (result ≡ pos 60) (λ g.
-        Answers result (IsZeroLabel g.now wire label.new)
-        (λ fault. (fault ≡ KeptFault.BadArgument) × (length g.now.garbling.zero_labels ≤ wire))) }
-    ensures kept { result ≢ pos 0 → label.new ≡ label.old }
-{
-    match garbling {
-        Some(garbling) => code_of(garbling.zero_label(wire, label)),
-        None => BAD_ARGUMENT,
-    }
 }
 
 /// Writes the zero label of a wire.
@@ -114,22 +86,12 @@ pub extern "C" fn halfgates_zero_label(
         return BAD_ARGUMENT;
     }
     let held = garbling.take(alloc);
-    let code = write_zero_label(garbling_in(&held), wire, label);
+    let code = match held.as_deref() {
+        Some(Held::Garbling(garbling)) => code_of(garbling.zero_label(wire, label)),
+        _ => BAD_ARGUMENT,
+    };
     garbling.put(alloc, held);
     code
-}
-
-/// Writes the decode bit of an output wire, if there is a garbling.
-fn write_decode_bit(garbling: Option<&KeptGarbling>, output: u32, bit: &mut u8) -> i32
-    ensures answer { MatchOption garbling.entry (result ≡ pos 60) (λ g.
-        Answers result (IsDecodeBit g.now output bit.new)
-        (λ fault. (fault ≡ KeptFault.BadArgument) × (g.now.garbling.outputs ≤ output))) }
-    ensures kept { result ≢ pos 0 → bit.new ≡ bit.old }
-{
-    match garbling {
-        Some(garbling) => code_of(garbling.decode_bit(output, bit)),
-        None => BAD_ARGUMENT,
-    }
 }
 
 /// Writes the decode bit of an output wire.
@@ -152,7 +114,10 @@ pub extern "C" fn halfgates_decode_bit(
         return BAD_ARGUMENT;
     }
     let held = garbling.take(alloc);
-    let code = write_decode_bit(garbling_in(&held), output, bit);
+    let code = match held.as_deref() {
+        Some(Held::Garbling(garbling)) => code_of(garbling.decode_bit(output, bit)),
+        _ => BAD_ARGUMENT,
+    };
     garbling.put(alloc, held);
     code
 }

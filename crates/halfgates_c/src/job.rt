@@ -1,7 +1,7 @@
 //! Jobs.
 
-ghost use Rattle.std.specs.Prelude.{◌≡◌, ◌≢◌, OnOk, OnErr, IfErr, IfSome, MatchOption, MatchResult, pos, length};
-ghost use Rattle.core.specs.Ptr.{as_ptr, as_mut_ptr};
+ghost use Rattle.std.specs.Prelude.{◌≡◌, ◌≢◌, OnOk, OnErr, IfErr, MatchOption, pos, length};
+ghost use Rattle.core.specs.Ptr.{as_mut_ptr};
 ghost use denote.RawPtr.{Testable};
 ghost use Rattle.gc_kept.specs.Job.{HasJobFault, AreEvaluated, HasEvaluationFault};
 ghost use Rattle.halfgates_c.specs.Answers.{Answers};
@@ -10,10 +10,9 @@ ghost use Rattle.halfgates_c.specs.Reading.{HoldsJob};
 
 use crate::code::{BAD_ARGUMENT, code_of};
 use crate::handle::Handle;
-use crate::held::{circuit_in, job_in};
 use crate::null::is_null;
 use crate::slot::Slot;
-use gc_kept::{Held, KeptCircuit, KeptFault, KeptJob};
+use gc_kept::{Held, KeptCircuit, KeptFault};
 use std::alloc::Global;
 
 /// Binds files to a job of a circuit, and hands it out.
@@ -32,26 +31,6 @@ fn bind(
 {
     let job = circuit.bind(alloc, garbled, labels, lengths)?;
     slot.hand_out(alloc, Held::Job(job))
-}
-
-/// Binds files to a job of a circuit, if there is one, and hands it out.
-fn bind_to(
-    alloc: Global,
-    circuit: Option<&KeptCircuit>,
-    garbled: &[u8],
-    labels: &[u8],
-    lengths: &[usize],
-    slot: &mut Slot,
-) -> i32
-    ensures answer { MatchOption circuit.entry (result ≡ pos 60) (λ c.
-        Answers result (HoldsJob c.now garbled.now labels.now lengths.now slot.new)
-        (HasJobFault c.now garbled.now labels.now lengths.now)) }
-    ensures kept { result ≢ pos 0 → slot.new ≡ slot.old }
-{
-    match circuit {
-        Some(circuit) => code_of(bind(alloc, circuit, garbled, labels, lengths, slot)),
-        None => BAD_ARGUMENT,
-    }
 }
 
 /// Binds a garbled file and label files to a job.
@@ -76,7 +55,12 @@ pub extern "C" fn halfgates_job_bind(
         return BAD_ARGUMENT;
     }
     let held = circuit.take(alloc);
-    let code = bind_to(alloc, circuit_in(&held), garbled, labels, lengths, job);
+    let code = match held.as_deref() {
+        Some(Held::Circuit(circuit)) => code_of(bind(
+            alloc, circuit, garbled, labels, lengths, job,
+        )),
+        _ => BAD_ARGUMENT,
+    };
     circuit.put(alloc, held);
     code
 }
@@ -85,18 +69,6 @@ pub extern "C" fn halfgates_job_bind(
 #[unsafe(no_mangle)]
 pub extern "C" fn halfgates_job_free(job: Slot) {
     drop(job);
-}
-
-/// Evaluates a job, if there is one.
-fn evaluate(alloc: Global, job: Option<&KeptJob>, bits: &mut [u8]) -> i32
-    ensures answer { MatchOption job.entry (result ≡ pos 60) (λ j.
-        Answers result (AreEvaluated j.now bits.new) (HasEvaluationFault j.now (length bits.old))) }
-    ensures kept { result ≢ pos 0 → bits.new ≡ bits.old }
-{
-    match job {
-        Some(job) => code_of(job.evaluate(alloc, bits)),
-        None => BAD_ARGUMENT,
-    }
 }
 
 /// Evaluates a job, and writes the bits of all output wires.
@@ -112,7 +84,10 @@ pub extern "C" fn halfgates_evaluate(alloc: Global, job: &mut Handle, bits: &mut
         return BAD_ARGUMENT;
     }
     let held = job.take(alloc);
-    let code = evaluate(alloc, job_in(&held), bits);
+    let code = match held.as_deref() {
+        Some(Held::Job(job)) => code_of(job.evaluate(alloc, bits)),
+        _ => BAD_ARGUMENT,
+    };
     job.put(alloc, held);
     code
 }

@@ -11,7 +11,6 @@ mod code;
 mod files;
 mod garbling;
 mod handle;
-mod held;
 mod job;
 mod locate;
 mod name;

@@ -9,9 +9,8 @@ ghost use Rattle.halfgates_c.specs.WireLabels.{AreLabelsFrom, AreLabelsOn, AreWi
 
 use crate::code::{BAD_ARGUMENT, code_of};
 use crate::handle::Handle;
-use crate::held::garbling_in;
 use crate::null::is_null;
-use gc_kept::{KeptFault, KeptGarbling};
+use gc_kept::{Held, KeptFault, KeptGarbling};
 use std::alloc::Global;
 
 /// The labels of a wire: `halfgates_wire_labels`.
@@ -76,26 +75,6 @@ fn write(
     Ok(())
 }
 
-/// Writes the labels of wires, if there is a garbling.
-fn write_by(
-    alloc: Global,
-    garbling: Option<&KeptGarbling>,
-    bits: &[u8],
-    from: u32,
-    labels: &mut [WireLabels],
-) -> i32
-    ensures answer { MatchOption garbling.entry (result ≡ pos 60) (λ g.
-        Answers result (AreLabelsOn g.now bits.now from labels.new)
-        (HasWiresFault g.now bits.now from (length labels.old))) }
-    ensures count { length labels.new ≡ length labels.old }
-    ensures kept { result ≢ pos 0 → labels.new ≡ labels.old }
-{
-    match garbling {
-        Some(garbling) => code_of(write(alloc, garbling, bits, from, labels)),
-        None => BAD_ARGUMENT,
-    }
-}
-
 /// Writes the labels of the wires from one on.
 #[unsafe(no_mangle)]
 pub extern "C" fn halfgates_labels(
@@ -117,7 +96,10 @@ pub extern "C" fn halfgates_labels(
         return BAD_ARGUMENT;
     }
     let held = garbling.take(alloc);
-    let code = write_by(alloc, garbling_in(&held), bits, from, labels);
+    let code = match held.as_deref() {
+        Some(Held::Garbling(garbling)) => code_of(write(alloc, garbling, bits, from, labels)),
+        _ => BAD_ARGUMENT,
+    };
     garbling.put(alloc, held);
     code
 }
