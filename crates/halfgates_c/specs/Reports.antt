@@ -1,9 +1,8 @@
 -- Reports of audits.
-use Rattle.std.specs.Prelude.{◌≡◌, ◌↔◌, ℕ, List, Option, Some, None, unwrap_or, is_some}
+use Rattle.std.specs.Prelude.{◌≡◌, ◌↔◌, ℕ, List, Option, Some, None, option_and_then, unwrap_or, is_some}
 use Rattle.gc_format.specs.declared.parts.Version.{Version}
 use Rattle.gc_format.specs.declared.parts.Version.TheVariants.{One, Two}
 use Rattle.gc_audit.specs.declared.garbled.GarbledAudit.{GarbledAudit}
-use Rattle.gc_audit.specs.declared.garbled.PartsAudit.{PartsAudit}
 use Rattle.gc_audit.specs.declared.rows.RowDifference.{RowDifference}
 use Rattle.gc_audit.specs.declared.rows.DifferingRows.{DifferingRows}
 use Rattle.gc_audit.specs.declared.rows.DifferingRows.TheVariants.{Generator, Evaluator, Both}
@@ -14,25 +13,10 @@ use Rattle.gc_kept.specs.Garbling.{SeededGarbling}
 use Rattle.gc_kept.specs.Audit.{IsAuditOf}
 use Rattle.halfgates_c.specs.declared.locate.TheConstants.{NONE}
 use Rattle.halfgates_c.specs.declared.audit.Report.{Report}
-use Rattle.halfgates_c.specs.declared.audit.RowFields.{RowFields}
-use Rattle.halfgates_c.specs.declared.audit.EntryFields.{EntryFields}
 
 abbrev pub version_number : Version → ℕ
 version_number One = 1
 version_number Two = 2
-
--- The first row pair, decode bit and entry that differ.
-abbrev pub rows_found : Option PartsAudit → Option RowDifference
-rows_found None = None
-rows_found (Some parts) = parts.rows
-
-abbrev pub bits_found : Option PartsAudit → Option ℕ
-bits_found None = None
-bits_found (Some parts) = parts.bits
-
-abbrev pub entries_found : Option PartsAudit → Option EntryDifference
-entries_found None = None
-entries_found (Some parts) = parts.entries
 
 -- Which of the two rows differ.
 abbrev pub AreRowFlags : DifferingRows → ℕ → ℕ → Type 0
@@ -40,16 +24,18 @@ AreRowFlags Generator generator evaluator = (generator ≡ 1) × (evaluator ≡ 
 AreRowFlags Evaluator generator evaluator = (generator ≡ 0) × (evaluator ≡ 1)
 AreRowFlags Both generator evaluator = (generator ≡ 1) × (evaluator ≡ 1)
 
-abbrev pub AreRowFields : Option RowDifference → RowFields → Type 0
-AreRowFields None f =
-    (f.row ≡ NONE) × (f.gate ≡ NONE) × (f.wire ≡ NONE) × (f.generator ≡ 0) × (f.evaluator ≡ 0)
-AreRowFields (Some d) f =
-    (f.row ≡ d.number) × (f.gate ≡ d.gate) × (f.wire ≡ d.wire)
-    × AreRowFlags d.rows f.generator f.evaluator
+-- The report has the first row pair that differs, if there is one,
+abbrev pub AreRowFields : Option RowDifference → Report → Type 0
+AreRowFields None r =
+    (r.row ≡ NONE) × (r.gate ≡ NONE) × (r.wire ≡ NONE) × (r.generator ≡ 0) × (r.evaluator ≡ 0)
+AreRowFields (Some d) r =
+    (r.row ≡ d.number) × (r.gate ≡ d.gate) × (r.wire ≡ d.wire)
+    × AreRowFlags d.rows r.generator r.evaluator
 
-abbrev pub AreEntryFields : Option EntryDifference → EntryFields → Type 0
-AreEntryFields None f = (f.entry ≡ NONE) × (f.colour ≡ 0)
-AreEntryFields (Some d) f = (f.entry ≡ d.output) × (f.colour ≡ bit_byte d.colour)
+-- and the first entry that does.
+abbrev pub AreEntryFields : Option EntryDifference → Report → Type 0
+AreEntryFields None r = (r.entry ≡ NONE) × (r.entry_colour ≡ 0)
+AreEntryFields (Some d) r = (r.entry ≡ d.output) × (r.entry_colour ≡ bit_byte d.colour)
 
 -- The report says what is found of a garbled file of a version.
 pub record IsReport (version : Version) (audit : GarbledAudit) (r : Report) : Type 0 where
@@ -57,16 +43,9 @@ pub record IsReport (version : Version) (audit : GarbledAudit) (r : Report) : Ty
   pub version_is : r.version ≡ version_number version
   pub digest : r.digest ≡ bit_byte audit.digest
   pub counts : r.counts ≡ bit_byte (is_some audit.parts)
-  pub rows : AreRowFields (rows_found audit.parts) (record {
-    row = r.row;
-    gate = r.gate;
-    wire = r.wire;
-    generator = r.generator;
-    evaluator = r.evaluator;
-  })
-  pub bits : r.decode_bit ≡ unwrap_or (bits_found audit.parts) NONE
-  pub entries : AreEntryFields (entries_found audit.parts)
-      (record { entry = r.entry; colour = r.entry_colour })
+  pub rows : AreRowFields (option_and_then (λ parts. parts.rows) audit.parts) r
+  pub bits : r.decode_bit ≡ unwrap_or (option_and_then (λ parts. parts.bits) audit.parts) NONE
+  pub entries : AreEntryFields (option_and_then (λ parts. parts.entries) audit.parts) r
 
 -- The report says what is found of the garbled file that the bytes are.
 pub record IsReportOn (g : SeededGarbling) (bytes : List ℕ) (r : Report) : Type 0 where

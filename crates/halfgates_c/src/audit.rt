@@ -1,18 +1,18 @@
 //! Comparing files with a garbling.
 
-ghost use Rattle.std.specs.Prelude.{◌≡◌, ◌≢◌, OnOk, OnErr, IfErr, MatchOption, pos, unwrap_or};
+ghost use Rattle.std.specs.Prelude.{◌≡◌, ◌≢◌, OnOk, OnErr, IfErr, MatchOption, pos};
 ghost use Rattle.core.specs.Ptr.{as_mut_ptr};
 ghost use denote.RawPtr.{Testable};
 ghost use Rattle.gc_kept.specs.Audit.{HasGarbledFault};
 ghost use Rattle.halfgates_c.specs.Answers.{Answers};
 ghost use Rattle.halfgates_c.specs.Holding.{garbling_of};
-ghost use Rattle.halfgates_c.specs.Reports.{IsReport, AreRowFields, AreEntryFields, IsReportOn, version_number, rows_found, bits_found, entries_found};
+ghost use Rattle.halfgates_c.specs.Reports.{AreRowFlags, IsReport, IsReportOn, version_number};
 
 use crate::code::{BAD_ARGUMENT, code_of};
 use crate::handle::Handle;
 use crate::locate::NONE;
 use crate::null::is_null;
-use gc_audit::{DifferingRows, EntryDifference, GarbledAudit, PartsAudit, RowDifference};
+use gc_audit::{DifferingRows, GarbledAudit, RowDifference};
 use gc_file::Version;
 use gc_kept::{Held, KeptFault, KeptGarbling};
 use std::alloc::Global;
@@ -35,23 +35,6 @@ pub struct Report {
     pub entry: u32,
 }
 
-/// The fields of a report that are about rows.
-#[derive(Clone, Copy)]
-pub(crate) struct RowFields {
-    pub(crate) row: u32,
-    pub(crate) gate: u32,
-    pub(crate) wire: u32,
-    pub(crate) generator: u8,
-    pub(crate) evaluator: u8,
-}
-
-/// The fields of a report that are about entries.
-#[derive(Clone, Copy)]
-pub(crate) struct EntryFields {
-    pub(crate) entry: u32,
-    pub(crate) colour: u8,
-}
-
 /// The number of a version.
 fn version_number(version: Version) -> u8
     ensures { result ≡ version_number version }
@@ -62,76 +45,18 @@ fn version_number(version: Version) -> u8
     }
 }
 
-/// The first row pair that differs.
-fn rows_in(parts: Option<PartsAudit>) -> Option<RowDifference>
-    ensures { result ≡ rows_found parts }
-{
-    match parts {
-        Some(parts) => parts.rows,
-        None => None,
-    }
-}
-
-/// The first decode bit that differs.
-fn bits_in(parts: Option<PartsAudit>) -> Option<u32>
-    ensures { result ≡ bits_found parts }
-{
-    match parts {
-        Some(parts) => parts.bits,
-        None => None,
-    }
-}
-
-/// The first entry that differs.
-fn entries_in(parts: Option<PartsAudit>) -> Option<EntryDifference>
-    ensures { result ≡ entries_found parts }
-{
-    match parts {
-        Some(parts) => parts.entries,
-        None => None,
-    }
-}
-
-/// The fields of a difference in rows.
-fn row_fields(rows: Option<RowDifference>) -> RowFields
-    ensures { AreRowFields rows result }
+/// Whether the generator's row differs, and whether the evaluator's does, as bytes: 0 and 0 where no row pair differs.
+fn row_flags(rows: Option<RowDifference>) -> (u8, u8)
+    ensures { MatchOption rows ((result.0 ≡ 0) × (result.1 ≡ 0))
+        (λ d. AreRowFlags d.rows result.0 result.1) }
 {
     let Some(difference) = rows else {
-        return RowFields {
-            row: NONE,
-            gate: NONE,
-            wire: NONE,
-            generator: 0,
-            evaluator: 0,
-        };
+        return (0, 0);
     };
-    let (generator, evaluator) = match difference.rows {
+    match difference.rows {
         DifferingRows::Generator => (1, 0),
         DifferingRows::Evaluator => (0, 1),
         DifferingRows::Both => (1, 1),
-    };
-    RowFields {
-        row: difference.number,
-        gate: difference.gate,
-        wire: difference.wire,
-        generator,
-        evaluator,
-    }
-}
-
-/// The fields of a difference in entries.
-fn entry_fields(entries: Option<EntryDifference>) -> EntryFields
-    ensures { AreEntryFields entries result }
-{
-    match entries {
-        Some(difference) => EntryFields {
-            entry: difference.output,
-            colour: u8::from(difference.colour),
-        },
-        None => EntryFields {
-            entry: NONE,
-            colour: 0,
-        },
     }
 }
 
@@ -139,21 +64,22 @@ fn entry_fields(entries: Option<EntryDifference>) -> EntryFields
 fn report_of(version: Version, found: &GarbledAudit) -> Report
     ensures { IsReport version found.now result }
 {
-    let rows = row_fields(rows_in(found.parts));
-    let entries = entry_fields(entries_in(found.parts));
+    let rows = found.parts.and_then(|parts| parts.rows);
+    let entry = found.parts.and_then(|parts| parts.entries);
+    let (generator, evaluator) = row_flags(rows);
     Report {
         honest: u8::from(found.is_honest()),
         version: version_number(version),
         digest: u8::from(found.digest),
         counts: u8::from(found.parts.is_some()),
-        generator: rows.generator,
-        evaluator: rows.evaluator,
-        entry_colour: entries.colour,
-        row: rows.row,
-        gate: rows.gate,
-        wire: rows.wire,
-        decode_bit: bits_in(found.parts).unwrap_or(NONE),
-        entry: entries.entry,
+        generator,
+        evaluator,
+        entry_colour: entry.map_or(0, |entry| u8::from(entry.colour)),
+        row: rows.map_or(NONE, |rows| rows.number),
+        gate: rows.map_or(NONE, |rows| rows.gate),
+        wire: rows.map_or(NONE, |rows| rows.wire),
+        decode_bit: found.parts.and_then(|parts| parts.bits).unwrap_or(NONE),
+        entry: entry.map_or(NONE, |entry| entry.output),
     }
 }
 
