@@ -22,14 +22,11 @@ write_wires-requires-clause-bits c =
 
 pub write_wires-requires-clause-few : goal.write_wires-requires-clause-few
 write_wires-requires-clause-few c =
-    let all = c.in_ok-all.ensures.ok.meaning in
-    let n : ℕ = c.circuit-circuit.result.now.wires in
     omega (
       arith,
-      ap length c.deref.ensures.value,
-      ap length all.in_order,
-      length-map (range_with_len 0 n) all.bits,
-      length-range_with_len 0 n,
+      write_wires-requires-clause-bits c,
+      c.law_garbled.ensures.wires,
+      ap (λ (x : Netlist). x.wires) c.circuit-circuit.ensures,
       c.wires-wires.ensures.count,
       c.wires-wires.type_inv,
     )
