@@ -1,5 +1,4 @@
-use Rattle.std.proofs.Common.{◌≡◌, ◌*◌, ℕ, subst, arith}
-use Rattle.gc_queue.specs.Readers.{IsLinkedFrom}
+use Rattle.std.proofs.Common.{◌≡◌, ◌*◌, arith}
 use Rattle.gc_queue.proofs.ReadersLemmas.{unlinked, link_no_wire, link_wire}
 use Rattle.gc_queue.proofs.readers.Readers.of.Goals as goal
 
@@ -11,15 +10,16 @@ loop-read-init g c =
 
 pub loop-read-preserved-in-Some : goal.loop-read-preserved-in-Some
 loop-read-preserved-in-Some g c =
-    link_wire c.args.circuit.now c.gates-reads.ensures.lawful c.loop-read.read _ _ c.in-Some.wire c.index.result.now
-    c.loop-read-test.true c.loop-read.invariant c.in-Some.ensures c.index.ensures
+    link_wire c.args.circuit.now c.gates-reads.ensures.lawful _ c.loop-read.read _ _
+    (omega (arith, c.loop-read-test.true))
+    c.loop-read.invariant c.in-Some.wire c.index.result.now c.in-Some.ensures c.index.ensures
 
 pub loop-read-preserved : goal.loop-read-preserved
 loop-read-preserved g c =
-    link_no_wire c.args.circuit.now c.gates-reads.ensures.lawful c.loop-read.read _ _ c.loop-read-test.true
-    c.loop-read.invariant c.in_default.ensures
+    link_no_wire c.args.circuit.now c.gates-reads.ensures.lawful _ c.loop-read.read _ _
+    (omega (arith, c.loop-read-test.true)) c.loop-read.invariant c.in_default.ensures
 
 pub returns : goal.returns
 returns g c =
-    let P : ℕ → Type 0 = λ x. IsLinkedFrom c.args.circuit.now x c.loop-read.firsts.items c.loop-read.nexts.items in
-    subst P (let z : c.loop-read.read ≡ 0 = omega (arith, c.loop-read-test.false) in z) c.loop-read.invariant
+    let end : c.loop-read.read ≡ 0 = omega (arith, c.loop-read-test.false) in
+    rw end at c.loop-read.invariant
