@@ -77,7 +77,8 @@ module _ (c : Netlist) (lawful : IsLawful c) (m n : ℕ) (firsts nexts : List �
           | inl same ↦
               let wires = IsRead-same c m v w (rw same at is) read in
               let first = get_or_read firsts w x inside at 0 in
-              rw (same, wires, get_or-set_same nexts m x 0 within, first, ← one) (linked.first w wire)
+              rw (same, wires, get_or-set_same nexts m x 0 within, first, ← one)
+              (linked.first w wire)
           | inr other ↦ rw (get_or-set_other nexts m r x 0 other) (linked.next r v (omega arith) is)
         ];
       }

@@ -4,13 +4,15 @@ use Rattle.gc_queue.proofs.gate_set.GateSet.first_word.Goals as goal
 
 pub overflow_mul-result : goal.overflow_mul-result
 overflow_mul-result g c =
-    let fits = found_fits _ _ _ c.loop-self.invariant.set c.loop-self.self-inside.start c.index-filled.result.now
+    let fits = found_fits _ _ _ c.loop-self.invariant.set c.loop-self.self-inside.start
+    c.index-filled.result.now
     c.lowest_bit-bit.result in
     grind arith
 
 pub overflow_add-result : goal.overflow_add-result
 overflow_add-result g c =
-    let fits = found_fits _ _ _ c.loop-self.invariant.set c.loop-self.self-inside.start c.index-filled.result.now
+    let fits = found_fits _ _ _ c.loop-self.invariant.set c.loop-self.self-inside.start
+    c.index-filled.result.now
     c.lowest_bit-bit.result in
     grind arith
 

@@ -16,7 +16,8 @@ loop-read-init g c =
 pub count_down-requires : goal.count_down-requires
 count_down-requires g c =
     let counted = c.loop-read.invariant.counted in
-    let below : c.loop-read.read < read_count c.args.circuit.now = omega (arith, c.gates-reads.ensures.count) in
+    let below : c.loop-read.read < read_count c.args.circuit.now =
+    omega (arith, c.gates-reads.ensures.count) in
     still_counted c.args.circuit.now c.args.wire c.loop-read.read _ c.args.queue.now.countdowns _
     c.requires.counted counted below
     (c.requires.linked.next c.loop-read.read c.args.wire (omega arith) (counted.here below))
@@ -34,7 +35,8 @@ loop-read-preserved g c =
       countdowns = ap length c.count_down.ensures.countdowns
           ∙ length-set c.loop-read.queue.countdowns (read / 2) _ ∙ c.loop-read.invariant.countdowns;
       counted = rw c.count_down.ensures.countdowns
-          (counted_more c.args.circuit.now c.args.wire read _ _ _ c.requires.counted counted below after);
+          (counted_more c.args.circuit.now c.args.wire read _ _ _ c.requires.counted counted below
+          after);
     }
 
 pub returns-clause-counted : goal.returns-clause-counted
