@@ -1,10 +1,10 @@
 -- Of the wires that a gate reads, those that are not known are those that an unfinished gate sets.
-use Rattle.std.proofs.Common.{◌≡◌, ℕ, ◌<◌, ◌↔◌, inl, inr, slice_get, Some, sym, subst}
+use Rattle.std.proofs.Common.{◌≡◌, ℕ, ◌↔◌, inl, inr, slice_get, Some, sym, ◌∙◌}
 use Rattle.std.proofs.lemmas.Bool.{cases_eq}
 use Rattle.gc_netlist.specs.declared.gate.Gate.{Gate}
-use Rattle.gc_netlist.specs.Circuit.{EachRead, IsSetBefore, input_wires}
+use Rattle.gc_netlist.specs.Circuit.{EachRead, IsSetBefore}
 use Rattle.gc_netlist.proofs.SolutionLemmas.{EachRead-map}
-use Rattle.gc_store.specs.Content.{Content, IsFinished, IsKnown, IsLawfulContent}
+use Rattle.gc_store.specs.Content.{Content, IsKnown, IsLawfulContent}
 use Rattle.gc_store.specs.Kept.{IsAwaited}
 use Rattle.gc_store.proofs.CircuitLemmas.{set-apart}
 
@@ -18,12 +18,11 @@ module _ (s : Content) (lawful : IsLawfulContent s) where
 
       back : IsAwaited s w → ¬ IsKnown s w
       back (i, by, unfinished) (inl input) =
-          let P : ℕ → Type 0 = λ x. x < input_wires s.circuit in
-          lawful.circuit.sets_once i by.gate by.at (inl (subst P (sym by.wire) input))
+          lawful.circuit.sets_once i by.gate by.at (inl (rw by.wire input))
       back (i, by, unfinished) (inr (j, other, f)) = elim (cases_eq j i) [
-        | inl same ↦ unfinished (let P : ℕ → Type 0 = IsFinished s in subst P same f)
+        | inl same ↦ unfinished (rw same at f)
         | inr apart ↦ set-apart s.circuit lawful.circuit j i other.gate by.gate other.at by.at apart
-            (let e = other.wire in let h = by.wire in cc)
+            (other.wire ∙ sym by.wire)
       ]
 
   pub awaited_reads : (i : ℕ) (g : Gate) → slice_get s.circuit.gates i ≡ Some g

@@ -1,5 +1,6 @@
 -- Putting a task into a batch, and taking the last one out.
-use Rattle.std.proofs.Common.{◌≡◌, List, [], ◌∷◌, ◌++◌, map, Option, Some, None, MatchOption, refl, sym, ap, ◌∙◌, subst}
+use Rattle.std.proofs.Common.{◌≡◌, ◌≢◌, List, [], ◌∷◌, ◌++◌, map, Option, Some, None, MatchOption, refl, sym, ap, ◌∙◌}
+use Rattle.std.proofs.lemmas.List.{map_push}
 use Rattle.gc_store.specs.declared.task.Task.{Task}
 use Rattle.gc_store.specs.Batch.{tasks_of}
 
@@ -7,61 +8,43 @@ use Rattle.gc_store.specs.Batch.{tasks_of}
 abbrev pub AreAll : List (Option Task) → Type 0
 AreAll places = places ≡ map Some (tasks_of places)
 
-tasks_of-all : (tasks : List Task) → tasks_of (map Some tasks) ≡ tasks
-tasks_of-all [] = refl
-tasks_of-all (task ∷ tasks) = ap (λ l. task ∷ l) (tasks_of-all tasks)
-
 pub tasks_of-more : (places : List (Option Task)) (task : Task)
     → tasks_of (places ++ Some task ∷ []) ≡ tasks_of places ++ task ∷ []
 tasks_of-more [] task = refl
 tasks_of-more (None ∷ places) task = tasks_of-more places task
 tasks_of-more (Some first ∷ places) task = ap (λ l. first ∷ l) (tasks_of-more places task)
 
-all-append : (tasks : List Task) (task : Task) → map Some (tasks ++ task ∷ []) ≡ map Some tasks ++ Some task ∷ []
-all-append [] task = refl
-all-append (first ∷ tasks) task = ap (λ l. Some first ∷ l) (all-append tasks task)
-
 pub all-more : (places : List (Option Task)) (task : Task) → AreAll places → AreAll (places ++ Some task ∷ [])
 all-more places task all =
-    ap (λ l. l ++ Some task ∷ []) all ∙ sym (all-append (tasks_of places) task)
+    ap (λ l. l ++ Some task ∷ []) all ∙ sym (map_push Some (tasks_of places) task)
     ∙ ap (map Some) (sym (tasks_of-more places task))
 
--- the last place of such places, and those before it
-record Last (places : List (Option Task)) (last : Option Task) : Type 0 where
-  tasks : List Task
-  task : Task
-  before : places ≡ map Some tasks
-  is : last ≡ Some task
+not_none : (places : List (Option Task)) (tasks : List Task) → None ∷ places ≢ map Some tasks
+not_none places [] is = cc
+not_none places (task ∷ tasks) is = cc
 
-last_of : (tasks : List Task) (places : List (Option Task)) (last : Option Task)
-    → map Some tasks ≡ places ++ last ∷ [] → Last places last
-last_of [] [] last h = cc
-last_of [] (place ∷ places) last h = cc
-last_of (task ∷ tasks) [] last h = record { tasks = []; task = task; before = refl; is = cc }
-last_of (task ∷ tasks) (place ∷ places) last h =
-    let rest : map Some tasks ≡ places ++ last ∷ [] = cc in
-    let first : place ≡ Some task = cc in
-    let end = last_of tasks places last rest in
-    record {
-      tasks = task ∷ end.tasks;
-      task = end.task;
-      before = ap (λ p. p ∷ places) first ∙ ap (λ l. Some task ∷ l) end.before;
-      is = end.is;
-    }
+-- once the last of such places is taken out all others have a task, as it does
+all-less : (places : List (Option Task)) (last : Option Task) → AreAll (places ++ last ∷ [])
+    → AreAll places × (last ≢ None)
+all-less [] None all = cc
+all-less [] (Some task) all = (refl, λ none. let z : ⊥ = cc in z)
+all-less (None ∷ places) last all = absurd (not_none _ _ all)
+all-less (Some task ∷ places) last all =
+    let rest = all-less places last (let e : AreAll (places ++ last ∷ []) = cc in e) in
+    (ap (λ l. Some task ∷ l) rest.0, rest.1)
 
 module _ (places old : List (Option Task)) (last : Option Task) (was : old ≡ places ++ last ∷ []) (all : AreAll old) where
-  end : Last places last
-  end = last_of (tasks_of old) places last (sym all ∙ was)
+  pub still_all : AreAll places
+  still_all = (all-less places last (rw was at all)).0
 
-  -- once the last place is taken out all others have a task,
-  pub all-less : AreAll places
-  all-less = end.before ∙ ap (map Some) (sym (tasks_of-all end.tasks)) ∙ ap (λ l. map Some (tasks_of l)) (sym end.before)
-
-  -- and what was taken out is one
+  -- what was taken out is a task
   pub taken : (now : List Task) → tasks_of old ≡ now
       → MatchOption last ((now ≡ []) × (tasks_of places ≡ [])) (λ task. now ≡ tasks_of places ++ task ∷ [])
   taken now same =
-      let P : Option Task → Type 0 =
-      λ o. MatchOption o ((now ≡ []) × (tasks_of places ≡ [])) (λ task. now ≡ tasks_of places ++ task ∷ []) in
-      subst P (sym end.is) (sym same ∙ ap tasks_of was ∙ ap (λ o. tasks_of (places ++ o ∷ [])) end.is
-      ∙ tasks_of-more places end.task)
+      by_last last (all-less places last (rw was at all)).1 (sym same ∙ ap tasks_of was)
+    where
+      by_last : (o : Option Task) → o ≢ None → now ≡ tasks_of (places ++ o ∷ [])
+          → MatchOption o ((now ≡ []) × (tasks_of places ≡ []))
+          (λ task. now ≡ tasks_of places ++ task ∷ [])
+      by_last None some is = absurd (some refl)
+      by_last (Some task) some is = is ∙ tasks_of-more places task

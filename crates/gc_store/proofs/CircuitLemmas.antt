@@ -1,6 +1,7 @@
 -- Two gates set two wires, and two AND gates have two AND numbers.
-use Rattle.std.proofs.Common.{◌≡◌, ◌≢◌, ℕ, zero, suc, ◌<◌, ◌≤◌, ◌⊎◌, inl, inr, List, [], ◌∷◌, take, slice_get, Some, sum_by, cond, true, sym, arith}
-use Rattle.std.proofs.lemmas.List.Sums.{sum_by-take-le, sum_by-cons}
+use Rattle.std.proofs.Common.{◌≡◌, ◌≢◌, ℕ, suc, ◌<◌, ◌⊎◌, inl, inr, take, slice_get, Some, cond, true, sym, arith}
+use Rattle.std.proofs.lemmas.List.{take-take}
+use Rattle.std.proofs.lemmas.List.Sums.{sum_by-take-le}
 use Rattle.gc_netlist.specs.declared.gate.Gate.{Gate}
 use Rattle.gc_netlist.specs.Circuit.{Netlist, IsLawful, is_and, and_number, and_count}
 use Rattle.gc_half.proofs.AndNumbers.{and_number-and}
@@ -18,31 +19,21 @@ set-apart c lawful i j g h at_i at_j apart same =
       | inr below ↦ lawful.sets_once i g at_i (inr (j, below, record { gate = h; at = at_j; wire = sym same }))
     ]
 
--- a sum over the beginning of a list doesn't fall where there is more of it
-sum_by-take_more : {X : Type 0} (f : X → ℕ) (xs : List X) (i j : ℕ) → i ≤ j → sum_by f (take i xs) ≤ sum_by f (take j xs)
-sum_by-take_more f xs zero j h = omega arith
-sum_by-take_more f xs (suc i) zero h = absurd (omega arith)
-sum_by-take_more f [] (suc i) (suc j) h = omega arith
-sum_by-take_more f (x ∷ xs) (suc i) (suc j) h =
-    let rest = sum_by-take_more f xs i j (omega arith) in
-    omega (arith, rest, sum_by-cons f x (take i xs), sum_by-cons f x (take j xs))
-
 -- a gate after an AND gate has a higher AND number
 and_number-after : (c : Netlist) (i j : ℕ) (g : Gate) → slice_get c.gates i ≡ Some g → is_and g.operation ≡ true → i < j
     → and_number c i < and_number c j
 and_number-after c i j g at is below =
     let more = and_number-and c i g at is in
-    let rest = sum_by-take_more (λ (x : Gate). cond (is_and x.operation) 1 0) c.gates (suc i) j (omega arith) in
+    let front = take-take (suc i) j c.gates (omega arith) in
+    let rest = rw front at
+    (sum_by-take-le (λ (x : Gate). cond (is_and x.operation) 1 0) (take j c.gates) (suc i)) in
     omega (arith, more, rest)
 
 -- AND gates at two places have two AND numbers
 pub and_number-apart : (c : Netlist) (i j : ℕ) (g h : Gate) → slice_get c.gates i ≡ Some g → slice_get c.gates j ≡ Some h
     → is_and g.operation ≡ true → is_and h.operation ≡ true → i ≢ j → and_number c i ≢ and_number c j
 and_number-apart c i j g h at_i at_j and_i and_j apart same =
-    elim (order i j apart) [
-      | inl below ↦ (let less = and_number-after c i j g at_i and_i below in absurd (omega (arith, less, same)))
-      | inr below ↦ (let less = and_number-after c j i h at_j and_j below in absurd (omega (arith, less, same)))
-    ]
+    grind (arith, and_number-after c i j g at_i and_i, and_number-after c j i h at_j and_j)
 
 -- an AND gate's number is below the number of AND gates
 pub and_number-lt : (c : Netlist) (i : ℕ) (g : Gate) → slice_get c.gates i ≡ Some g

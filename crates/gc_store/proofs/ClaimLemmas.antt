@@ -1,7 +1,7 @@
 -- Claims one after the other.
-use Rattle.std.proofs.Common.{◌≡◌, ℕ, ◌+◌, List, [], ◌∷◌, ◌++◌, length, length-append, append_assoc, Some, None, inr, refl, sym, ap, ◌∙◌, subst, arith}
+use Rattle.std.proofs.Common.{◌≡◌, ℕ, ◌+◌, List, [], ◌∷◌, ◌++◌, length, length-append, append_assoc, Some, None, inr, refl, ap, ◌∙◌, arith}
 use Rattle.gc_store.specs.declared.task.Task.{Task}
-use Rattle.gc_store.specs.Content.{Content, IsReady}
+use Rattle.gc_store.specs.Content.{Content}
 use Rattle.gc_store.specs.Step.{Claims, ClaimsAll, ClaimsSome}
 
 -- How far claiming into a batch has come.
@@ -13,8 +13,7 @@ pub record HasClaimed (old : Content) (before : List Task) (answer : ℕ) (new :
 
 claims_more : (old middle new : Content) (tasks : List Task) (task : Task) → ClaimsAll old tasks middle
     → Claims middle (Some task) new → ClaimsAll old (tasks ++ task ∷ []) new
-claims_more old middle new [] task all one =
-    let P : Content → Type 0 = λ s. Claims s (Some task) new in (new, subst P all one, refl)
+claims_more old middle new [] task all one = (new, rw all at one, refl)
 claims_more old middle new (first ∷ tasks) task (next, claims, all) one =
     (next, claims, claims_more next middle new tasks task all one)
 
@@ -31,14 +30,10 @@ claimed_more old middle new before batch after answer task has claims more = rec
 -- where no gate is ready, claiming ends
 pub claimed_end : (old middle new : Content) (before after : List Task) (answer : ℕ)
     → HasClaimed old before answer middle after → Claims middle None new → ClaimsSome old before answer new after
-claimed_end old middle new before after answer has none =
-    let P : Content → Type 0 = λ s. HasClaimed old before answer s after in
-    let Q : Content → Type 0 = λ s. (i : ℕ) → ¬ IsReady s i in
-    let moved = subst P (sym none.1) has in
-    record {
-      tasks = moved.tasks;
-      claims = moved.claims;
-      answer_is = moved.answer_is;
-      batch = moved.batch;
-      ends = inr (subst Q (sym none.1) none.0);
-    }
+claimed_end old middle new before after answer has none = record {
+  tasks = has.tasks;
+  claims = rw none.1 has.claims;
+  answer_is = has.answer_is;
+  batch = has.batch;
+  ends = inr (rw none.1 none.0);
+}

@@ -1,6 +1,5 @@
 -- How many gates are finished, after a step.
-use Rattle.std.proofs.Common.{◌≡◌, ℕ, ◌+◌, List, [], ◌∷◌, Bool, Option, Some, None, Ok, Err, count_by, map, cond, refl, ap, ◌∙◌, arith}
-use Rattle.std.proofs.lemmas.List.Sums.{sum_by-cons}
+use Rattle.std.proofs.Common.{◌≡◌, ℕ, ◌+◌, List, [], ◌∷◌, Bool, Option, Some, None, Ok, Err, count_by, map, refl, ap, ◌∙◌, arith}
 use Rattle.gc_store.specs.declared.task.Task.{Task}
 use Rattle.gc_store.specs.Task.{sealed_zero_label, sealed_rows}
 use Rattle.gc_store.specs.Content.{State, Free, Claimed, Finished, Content, is_finished}
@@ -8,7 +7,7 @@ use Rattle.gc_store.specs.Step.{Claims, ClaimsAll, Finishes, Reopens, reopened}
 use Rattle.gc_store.specs.declared.refusal.Refused.{Refused}
 use Rattle.gc_store.specs.declared.refusal.Refused.TheVariants.{NotClaimed, OtherInputs}
 use Rattle.gc_store.specs.Refusal.{sealed_of}
-use Rattle.gc_queue.proofs.ListLemmas.{count_by-set, count_by-set_more}
+use Rattle.gc_queue.proofs.ListLemmas.{count_by-set, count_by-set_more, count_by-map}
 
 abbrev count : Content → ℕ
 count s = count_by is_finished s.states
@@ -35,32 +34,15 @@ ClaimsAll-count old new [] all = ap count all
 ClaimsAll-count old new (task ∷ tasks) all =
     ClaimsAll-count all.0 new tasks all.2 ∙ claims-count old all.0 (Some task) all.1
 
-abbrev one_if : Bool → ℕ
-one_if b = cond b 1 0
-
-abbrev one_if_finished : State → ℕ
-one_if_finished state = one_if (is_finished state)
-
-reopened_is : (state : State) → is_finished (reopened state) ≡ is_finished state
-reopened_is Free = refl
-reopened_is Claimed = refl
-reopened_is (Finished label rows) = refl
-
-reopened_all : (states : List State) → count_by is_finished (map reopened states) ≡ count_by is_finished states
-reopened_all [] = refl
-reopened_all (x ∷ xs) =
-    omega (
-      arith,
-      sum_by-cons one_if_finished (reopened x) (map reopened xs),
-      sum_by-cons one_if_finished x xs,
-      reopened_all xs,
-      ap one_if (reopened_is x),
-    )
+-- A state is finished where it was before it was reopened.
+pub reopened-count : (states : List State)
+    → count_by is_finished (map reopened states) ≡ count_by is_finished states
+reopened-count states = count_by-map is_finished is_finished reopened states (λ state. grind arith)
 
 -- Reopening finishes none.
 pub reopens-count : (old new : Content) (answer : ℕ) → Reopens old answer new
     → count_by is_finished new.states ≡ count_by is_finished old.states
-reopens-count old new answer step = ap count step.1 ∙ reopened_all old.states
+reopens-count old new answer step = ap count step.1 ∙ reopened-count old.states
 
 -- A refusal gives the task back.
 pub gives_back : (old new : Content) (task : Task) (refused : Refused) → Finishes old task (Err refused) new

@@ -1,7 +1,6 @@
 -- What follows for the content from what the tables keep.
-use Rattle.std.proofs.Common.{◌≡◌, ℕ, ◌↔◌, Bool, true, false, IsTrue, if◌then◌else◌, List, Some, refl, sym, ap, ◌∙◌, arith}
+use Rattle.std.proofs.Common.{◌≡◌, ℕ, ◌↔◌, Bool, IsTrue, List, Some, ◌∙◌, arith}
 use Rattle.gc_netlist.specs.declared.gate.Operation.{Operation}
-use Rattle.gc_netlist.specs.declared.gate.Operation.TheVariants.{Xor, And, Inv, Eq, Eqw}
 use Rattle.gc_netlist.specs.Circuit.{Netlist, EachRead}
 use Rattle.gc_netlist.proofs.SolutionLemmas.{EachRead-map}
 use Rattle.gc_queue.specs.Readers.{unknown, unknown_reads}
@@ -13,21 +12,11 @@ use Rattle.gc_store.proofs.StoreLemmas.{queued_ready, ready_queued}
 module _ (known test : ℕ → Bool) where
   -- a wire that is not known is picked
   same_read : (w : ℕ) → ((¬ IsTrue (known w)) ↔ IsTrue (test w)) → unknown known (Some w) ≡ picked test (Some w)
-  same_read w is = by_test (known w) (test w) refl refl
-    where
-      by_test : (k b : Bool) → known w ≡ k → test w ≡ b → unknown known (Some w) ≡ picked test (Some w)
-      by_test true true h e = absurd (is.1 e h)
-      by_test true false h e = ap {B = ℕ} (λ x. if x then 0 else 1) h ∙ ap {B = ℕ} (λ x. if x then 1 else 0) (sym e)
-      by_test false true h e = ap {B = ℕ} (λ x. if x then 0 else 1) h ∙ ap {B = ℕ} (λ x. if x then 1 else 0) (sym e)
-      by_test false false h e = let yes : IsTrue (test w) = is.0 (λ t. let z : ⊥ = cc in z) in let z : ⊥ = cc in absurd z
+  same_read w is = grind arith
 
   same_reads : (op : Operation) → EachRead (λ w. unknown known (Some w) ≡ picked test (Some w)) op
       → unknown_reads known op ≡ picked_reads test op
-  same_reads (Xor a b) each = omega (arith, each.0, each.1)
-  same_reads (And a b) each = omega (arith, each.0, each.1)
-  same_reads (Inv a) each = omega (arith, each)
-  same_reads (Eq v) each = refl
-  same_reads (Eqw a) each = omega (arith, each)
+  same_reads op each = grind arith
 
 pub stored : (c : Netlist) (seed : List ℕ) (r : ℕ) (t : Tables) → IsKept c seed r t → IsStored c seed r t
 stored c seed r t kept = record {
