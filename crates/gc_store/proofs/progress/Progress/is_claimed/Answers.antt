@@ -1,4 +1,4 @@
-use Rattle.std.proofs.Common.{◌≡◌, arith, ltb, false}
+use Rattle.std.proofs.Common.{arith}
 use Rattle.std.proofs.lemmas.Bool.Decides.{nat_tests}
 use Rattle.gc_store.proofs.StoreLemmas.{claimed_is, not_claimed, claimed_reads}
 use Rattle.gc_store.proofs.progress.Progress.is_claimed.Goals as goal
@@ -8,21 +8,18 @@ is_claimed-requires g c = omega (arith, c.gates.ensures.count, c.if-i-gates.true
 
 pub returns-then-i-gates : goal.returns-then-i-gates
 returns-then-i-gates g c =
-    let is = claimed_is _ _ _ _ _ c.args.i c.self.view_is c.self.invariant.kept in
-    record {
+    let is = claimed_is _ _ _ _ c.self.invariant.kept c.args.i in
+    rw (← c.self.view_is) (record {
       claimed = (λ yes. is.0 (c.is_claimed.ensures.0 yes), λ claimed. c.is_claimed.ensures.1 (is.1 claimed));
-      reads = λ yes. claimed_reads _ _ _ _ _ c.args.i c.self.view_is c.self.invariant.kept (is.0 (c.is_claimed.ensures.0 yes));
-    }
+      reads = λ yes. claimed_reads _ _ _ _ c.self.invariant.kept c.args.i
+          (is.0 (c.is_claimed.ensures.0 yes));
+    })
 
 pub returns-else-i-gates : goal.returns-else-i-gates
 returns-else-i-gates g c =
-    let past = c.if-i-gates.false in
-    let not_below : ltb c.args.i c.gates.result ≡ false = grind (arith, nat_tests) in
-    record {
-      claimed = (
-        λ yes. let z : ⊥ = cc in absurd z,
-        λ claimed. absurd (not_claimed _ _ _ _ _ c.args.i c.self.view_is c.self.invariant.kept
-            (omega (arith, c.gates.ensures.count)) claimed),
-      );
-      reads = λ yes. let z : ⊥ = cc in absurd z;
-    }
+    let none = not_claimed _ _ _ _ c.self.invariant.kept c.args.i
+    (omega (arith, c.gates.ensures.count, c.if-i-gates.false)) in
+    rw (← c.self.view_is) (record {
+      claimed = grind (arith, nat_tests, none, c.if-i-gates.false);
+      reads = λ yes. absurd (grind (arith, nat_tests, c.if-i-gates.false));
+    })
