@@ -231,6 +231,9 @@ module _ (c : Netlist) (seed : List ℕ) (r : ℕ) (t : Tables) (kept : IsKept c
       ∙ ap (λ rows. record (with_sealed s' own) { rows = rows })
       (two_rows _ _ _ _ t.finished_ands g.operation)
 
+  abbrev known' : ℕ → Bool
+  known' = with_known kept.known g.set
+
   -- the wire that a claimed gate sets is not known
   set_unknown : kept.known g.set ≡ false
   set_unknown = grind (arith, kept.marks_known g.set, no)
@@ -242,12 +245,11 @@ module _ (c : Netlist) (seed : List ℕ) (r : ℕ) (t : Tables) (kept : IsKept c
           grind (arith, cases_eq j i, f.at, claimed, by.wire)
 
   zero_labels-finish : set t.zero_labels g.set (sealed_zero_label own) ≡ map
-      (known_label c seed (with_known kept.known g.set)) (range_with_len 0 c.wires)
+      (known_label c seed known') (range_with_len 0 c.wires)
   zero_labels-finish =
       let zero = sealed_zero_label_is c kept.lawful.circuit seed i g at in
       rw kept.zero_labels
-      (set-table_is (known_label c seed kept.known)
-      (known_label c seed (with_known kept.known g.set)) c.wires g.set
+      (set-table_is (known_label c seed kept.known) (known_label c seed known') c.wires g.set
       (sealed_zero_label own) (kept.lawful.circuit.sets i g at) (grind (arith, nat_tests, zero))
       (λ w below other. grind (arith, nat_tests)))
 
@@ -261,13 +263,14 @@ module _ (c : Netlist) (seed : List ℕ) (r : ℕ) (t : Tables) (kept : IsKept c
     offset_is = kept.offset_is;
     marks = length-set t.marks i mark.Finished ∙ kept.marks;
     links = kept.links;
-    known = with_known kept.known g.set;
-    marks_known = λ w. subst (λ x. IsTrue (with_known kept.known g.set w) ↔ IsKnown x w)
-        (sym content-finish)
+    known = known';
+    marks_known = λ w. subst (λ x. IsTrue (known' w) ↔ IsKnown x w) (sym content-finish)
         (elim (cases_eq w g.set) [
-          | inl e ↦ rw e (λ _. known-finish_set s' kept.lawful i g at claimed, λ _. grind (arith, nat_tests))
+          | inl e ↦
+              let here : known' g.set ≡ true = grind (arith, nat_tests) in
+              rw e (λ _. known-finish_set s' kept.lawful i g at claimed, λ _. here)
           | inr other ↦
-              let same : with_known kept.known g.set w ≡ kept.known w = grind (arith, nat_tests) in (
+              let same : known' w ≡ kept.known w = grind (arith, nat_tests) in (
                 λ is. known-finish s' kept.lawful i g at claimed w
                     ((kept.marks_known w).0 (sym same ∙ is)),
                 λ known. same ∙ (kept.marks_known w).1

@@ -22,5 +22,4 @@ returns-then-filled-ne0-clause-found g c =
     (found_word _ _ _ c.loop-self.invariant.set c.loop-self.self-inside.start
     c.index-filled.result.now
     c.lowest_bit-bit.result (omega (arith, c.loop-self-test.true, c.len.ensures))
-    c.index-filled.ensures
-    c.lowest_bit-bit.ensures)
+    c.index-filled.ensures c.lowest_bit-bit.ensures)

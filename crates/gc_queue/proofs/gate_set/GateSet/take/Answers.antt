@@ -8,10 +8,8 @@ invariant_of-self g c =
     last_keeps _ _ _ c.self.invariant c.in_ok-word.word c.index-gates.result.now
     c.lowest_bit-bit.result
     (rw (← (c.self.view_is ∙ c.in_ok-word.ensures.same)) at c.in_ok-word.ensures.found)
-    c.index-gates.ensures
-    c.lowest_bit-bit.ensures c.index_mut-then-others-eq0.result.now
-    c.index_mut-then-others-eq0.ensures.value
-    c.if-others-eq0.true
+    c.index-gates.ensures c.lowest_bit-bit.ensures c.index_mut-then-others-eq0.result.now
+    c.index_mut-then-others-eq0.ensures.value c.if-others-eq0.true
 
 pub overflow_cast-result : goal.overflow_cast-result
 overflow_cast-result g c =

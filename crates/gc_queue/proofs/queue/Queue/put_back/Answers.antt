@@ -17,5 +17,4 @@ insert-requires g c = grind (arith, slice_get_within)
 pub invariant_of-self : goal.invariant_of-self
 invariant_of-self g c =
     put_back_keeps _ _ _ c.self.invariant c.args.gate (rw (← c.self.view_is) at c.requires)
-    c.insert.new.self
-    c.insert.ensures
+    c.insert.new.self c.insert.ensures

@@ -8,5 +8,5 @@ invariant_of-self-2 c =
 
 pub returns : goal.returns
 returns c =
-    taken c.pop.new.self.items c.self.inside.tasks.items c.in_ok-pop.field-0 c.in_ok-pop.ensures.items c.self.invariant c.args.self.now
-    c.self.view_is
+    taken c.pop.new.self.items c.self.inside.tasks.items c.in_ok-pop.field-0
+    c.in_ok-pop.ensures.items c.self.invariant c.args.self.now c.self.view_is

@@ -4,15 +4,12 @@ use Rattle.gc_store.proofs.progress.Progress.claim.Goals as goal
 
 pub returns-in_err-gate : goal.returns-in_err-gate
 returns-in_err-gate g c =
-    rw (← c.self.view_is)
-    (claims_none _ _ _ _ c.self.invariant.kept c.take.new.self c.from_residual.result
-    c.from_residual.ensures
-    c.in_err-gate.ensures)
+    rw (← c.self.view_is) (claims_none _ _ _ _ c.self.invariant.kept c.take.new.self
+    c.from_residual.result c.from_residual.ensures c.in_err-gate.ensures)
 
 pub invariant_of-self-2 : goal.invariant_of-self-2
 invariant_of-self-2 g c =
-    stored _ _ _ _
-    (take_keeps _ _ _ _ c.self.invariant.kept c.take.new.self c.in_ok-gate.gate
+    stored _ _ _ _ (take_keeps _ _ _ _ c.self.invariant.kept c.take.new.self c.in_ok-gate.gate
     c.in_ok-gate.ensures)
 
 pub task-requires : goal.task-requires
@@ -21,7 +18,5 @@ task-requires g c =
 
 pub returns : goal.returns
 returns g c =
-    rw (← c.self.view_is)
-    (claims _ _ _ _ c.self.invariant.kept c.take.new.self c.in_ok-gate.gate c.in_ok-gate.ensures
-    c.task.result
-    c.task.ensures.gate c.task.ensures.own)
+    rw (← c.self.view_is) (claims _ _ _ _ c.self.invariant.kept c.take.new.self c.in_ok-gate.gate
+    c.in_ok-gate.ensures c.task.result c.task.ensures.gate c.task.ensures.own)

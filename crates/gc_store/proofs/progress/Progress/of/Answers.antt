@@ -5,8 +5,8 @@ use Rattle.gc_store.proofs.progress.Progress.of.Goals as goal
 pub invariant_of-result : goal.invariant_of-result
 invariant_of-result g c =
     stored _ _ _ _ (opened_kept_as _ c.requires.tables.queue.lawful c.args.seed _ _
-    c.requires.readers _
-    (rw (← c.tables.view_is) at c.requires.tables) c.offset.result c.offset.ensures)
+    c.requires.readers _ (rw (← c.tables.view_is) at c.requires.tables) c.offset.result
+    c.offset.ensures)
 
 pub returns : goal.returns
 returns g c =

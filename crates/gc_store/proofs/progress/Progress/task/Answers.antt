@@ -9,8 +9,7 @@ use Rattle.gc_store.proofs.progress.Progress.task.Goals as goal
 pub labels_read-first-requires : goal.labels_read-first-requires
 labels_read-first-requires g c =
     reads_within _ _ _ _ c.self.invariant.kept _ c.gate-operation.result c.deref.result.now
-    c.gate-operation.ensures
-    (ap length c.deref.ensures.value)
+    c.gate-operation.ensures (ap length c.deref.ensures.value)
 
 pub index-requires : goal.index-requires
 index-requires g c =
@@ -23,8 +22,7 @@ returns-clause-own g c =
     let op = c.gate-operation.result.operation in
     rw (← c.self.view_is)
     (own_task _ _ _ _ c.self.invariant.kept _ c.gate-operation.result
-    (rw (← c.self.view_is) at c.requires)
-    c.gate-operation.ensures refl c.index.ensures refl
+    (rw (← c.self.view_is) at c.requires) c.gate-operation.ensures refl c.index.ensures refl
     (c.labels_read-first.ensures.first ∙ ap (λ (l : List ℕ). first_read (slice_index l) op) c.deref.ensures.value)
     (c.labels_read-first.ensures.second
     ∙ ap (λ (l : List ℕ). second_read (slice_index l) op) c.deref.ensures.value))
