@@ -22,20 +22,6 @@ use Rattle.gc_store.specs.Beginning.{FirstTables, no_rows, AreCounted, Begins}
 use Rattle.gc_queue.proofs.ListLemmas.{count_by-replicate, slice_get-replicate, slice_get-table}
 use Rattle.gc_store.proofs.TableLemmas.{known_label, states_are}
 
--- the tables that a store begins with, and these countdowns and links
-abbrev pub opened_tables : Netlist → List ℕ → List ℕ → List ℕ → List ℕ → Tables
-opened_tables c seed countdowns firsts nexts = record {
-  marks = replicate (length c.gates) mark.Free;
-  countdowns = countdowns;
-  firsts = firsts;
-  nexts = nexts;
-  zero_labels = map (input_zero c seed) (range_with_len 0 c.wires);
-  and_numbers = map (and_number c) (range_with_len 0 (length c.gates));
-  rows = replicate (and_count c) no_rows;
-  finished = 0;
-  finished_ands = 0;
-}
-
 -- every gate is free
 opened_states : (c : Netlist) (labels : List ℕ) (rows : List RowPair)
     → states_of c labels rows (replicate (length c.gates) mark.Free) ≡ replicate (length c.gates) Free
@@ -44,11 +30,6 @@ opened_states c labels rows =
     let state = get_or-replicate (length c.gates) k Free Free below in
     let gate = get_or-replicate (length c.gates) k mark.Free mark.Free below in
     grind (arith, gets, length-replicate))
-
-pub opened_content : (c : Netlist) (seed countdowns firsts nexts : List ℕ)
-    → content_of c seed (opened_tables c seed countdowns firsts nexts) ≡ opened c seed
-opened_content c seed countdowns firsts nexts =
-    ap (λ states. record (opened c seed) { states = states }) (opened_states c _ _)
 
 none_finished : (c : Netlist) (seed : List ℕ) (i : ℕ) → ¬ IsFinished (opened c seed) i
 none_finished c seed i f = let e = slice_get-replicate (length c.gates) i Free (Finished f.label f.rows) f.at in cc
@@ -110,60 +91,47 @@ counted_as c opening countdowns is count counted = record {
   counted = λ i n at. counted i n (ap (λ l. slice_get l i) is ∙ at);
 }
 
-module _ (c : Netlist) (lawful : IsLawful c) (seed firsts nexts : List ℕ) (links : IsLinked c firsts nexts) where
-  -- a new store keeps what stores keep
-  opened_kept : (countdowns : List ℕ) → AreCounted c countdowns → (r : ℕ) → r ≡ offset_of seed
-      → IsKept c seed r (opened_tables c seed countdowns firsts nexts)
-  opened_kept countdowns are r offset =
-      let states = opened_states c (map (input_zero c seed) (range_with_len 0 c.wires))
-      (replicate (and_count c) no_rows) in
-      record {
-        lawful = rw states (opened_lawful c lawful seed);
-        offset_is = offset;
-        marks = length-replicate (length c.gates) mark.Free;
-        links = links;
-        known = is_below (input_wires c);
-        marks_known = λ w. rw states (marks_known c seed w);
-        countdowns = are.count;
-        counted = counts_unknown c countdowns are;
-        zero_labels = fill_by_all (known_label c seed (is_below (input_wires c)))
-            (map (input_zero c seed) (range_with_len 0 c.wires)) c.wires 0
-            (length-map-range_with_len (input_zero c seed) 0 c.wires)
-            (λ w below. get_or-map-range_with_len (input_zero c seed) 0 c.wires w w 0 below (omega arith)
-            ∙ label_at_first c lawful seed w);
-        and_numbers = refl;
-        rows = length-replicate (and_count c) no_rows;
-        finished = rw states (sym (count_by-replicate is_finished (length c.gates) Free refl));
-      }
+-- the tables of a new store, from the first ones and these links
+abbrev pub new_tables : List ℕ → List ℕ → FirstTables → Tables
+new_tables firsts nexts t = record {
+  marks = t.marks;
+  countdowns = t.countdowns;
+  firsts = firsts;
+  nexts = nexts;
+  zero_labels = t.zero_labels;
+  and_numbers = t.and_numbers;
+  rows = t.rows;
+  finished = 0;
+  finished_ands = 0;
+}
 
-  -- the tables of a new store, from the first ones
-  abbrev pub new_tables : FirstTables → Tables
-  new_tables t = record {
-    marks = t.marks;
-    countdowns = t.countdowns;
-    firsts = firsts;
-    nexts = nexts;
-    zero_labels = t.zero_labels;
-    and_numbers = t.and_numbers;
-    rows = t.rows;
-    finished = 0;
-    finished_ands = 0;
+module _ (c : Netlist) (seed firsts nexts : List ℕ) (links : IsLinked c firsts nexts)
+    (t : FirstTables) (begins : Begins c seed t) where
+  states : states_of c t.zero_labels t.rows t.marks ≡ replicate (length c.gates) Free
+  states = ap (states_of c t.zero_labels t.rows) begins.queue.marks ∙ opened_states c _ _
+
+  -- a new store keeps what stores keep,
+  pub opened_kept : (r : ℕ) → r ≡ offset_of seed → IsKept c seed r (new_tables firsts nexts t)
+  opened_kept r offset = record {
+    lawful = rw states (opened_lawful c begins.queue.lawful seed);
+    offset_is = offset;
+    marks = ap length begins.queue.marks ∙ length-replicate (length c.gates) mark.Free;
+    links = links;
+    known = is_below (input_wires c);
+    marks_known = λ w. rw states (marks_known c seed w);
+    countdowns = begins.queue.countdowns.count;
+    counted = counts_unknown c t.countdowns begins.queue.countdowns;
+    zero_labels = begins.tables.zero_labels
+        ∙ fill_by_all (known_label c seed (is_below (input_wires c)))
+        (map (input_zero c seed) (range_with_len 0 c.wires)) c.wires 0
+        (length-map-range_with_len (input_zero c seed) 0 c.wires)
+        (λ w below. get_or-map-range_with_len (input_zero c seed) 0 c.wires w w 0 below (omega arith)
+        ∙ label_at_first c begins.queue.lawful seed w);
+    and_numbers = begins.tables.and_numbers;
+    rows = ap length begins.tables.rows ∙ length-replicate (and_count c) no_rows;
+    finished = rw states (sym (count_by-replicate is_finished (length c.gates) Free refl));
   }
 
-  module _ (t : FirstTables) (begins : Begins c seed t) where
-    tables_are : new_tables t ≡ opened_tables c seed t.countdowns firsts nexts
-    tables_are =
-        let marks = begins.queue.marks in
-        let labels = begins.tables.zero_labels in
-        let numbers = begins.tables.and_numbers in
-        let rows = begins.tables.rows in
-        grind arith
-
-    -- a store opened with them keeps what stores keep,
-    pub opened_kept_as : (r : ℕ) → r ≡ offset_of seed → IsKept c seed r (new_tables t)
-    opened_kept_as r offset =
-        rw tables_are (opened_kept t.countdowns begins.queue.countdowns r offset)
-
-    -- and has the content of a new store
-    pub opened_content_as : content_of c seed (new_tables t) ≡ opened c seed
-    opened_content_as = ap (content_of c seed) tables_are ∙ opened_content c seed t.countdowns firsts nexts
+  -- and has the content of a new store
+  pub opened_content : content_of c seed (new_tables firsts nexts t) ≡ opened c seed
+  opened_content = ap (λ x. record (opened c seed) { states = x }) states
