@@ -6,15 +6,17 @@ pub overflow_mul-result : goal.overflow_mul-result
 overflow_mul-result g c =
     let fits = found_fits _ _ _ c.loop-self.invariant.set c.loop-self.self-inside.start
     c.index-filled.result.now
-    c.lowest_bit-bit.result in
-    grind arith
+    c.lowest_bit-bit.result (omega (arith, c.loop-self-test.true, c.len.ensures))
+    c.index-filled.ensures c.lowest_bit-bit.ensures in
+    omega arith
 
 pub overflow_add-result : goal.overflow_add-result
 overflow_add-result g c =
     let fits = found_fits _ _ _ c.loop-self.invariant.set c.loop-self.self-inside.start
     c.index-filled.result.now
-    c.lowest_bit-bit.result in
-    grind arith
+    c.lowest_bit-bit.result (omega (arith, c.loop-self-test.true, c.len.ensures))
+    c.index-filled.ensures c.lowest_bit-bit.ensures in
+    omega arith
 
 pub returns-then-filled-ne0-clause-found : goal.returns-then-filled-ne0-clause-found
 returns-then-filled-ne0-clause-found g c =

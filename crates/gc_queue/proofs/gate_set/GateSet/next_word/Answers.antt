@@ -5,14 +5,16 @@ use Rattle.gc_queue.proofs.gate_set.GateSet.next_word.Goals as goal
 pub overflow_mul-result : goal.overflow_mul-result
 overflow_mul-result g c =
     let fits = found_fits _ _ _ c.self.invariant c.loop-i.i c.index-filled.result.now
-    c.lowest_bit-bit.result in
-    grind arith
+    c.lowest_bit-bit.result (omega (arith, c.loop-i-test.true, c.len-i-end.ensures))
+    c.index-filled.ensures c.lowest_bit-bit.ensures in
+    omega arith
 
 pub overflow_add-result : goal.overflow_add-result
 overflow_add-result g c =
     let fits = found_fits _ _ _ c.self.invariant c.loop-i.i c.index-filled.result.now
-    c.lowest_bit-bit.result in
-    grind arith
+    c.lowest_bit-bit.result (omega (arith, c.loop-i-test.true, c.len-i-end.ensures))
+    c.index-filled.ensures c.lowest_bit-bit.ensures in
+    omega arith
 
 pub returns-then-filled-ne0 : goal.returns-then-filled-ne0
 returns-then-filled-ne0 g c =
