@@ -1,6 +1,6 @@
 -- The law of a garbled circuit: on each wire that is set the active label stands for the wire's bit, and the outputs
 -- decode to the bits of the output wires.
-use Rattle.std.proofs.Common.{◌≡◌, ℕ, zero, suc, ◌+◌, ◌-◌, ◌<◌, ◌≤◌, Bool, true, false, not, List, [], ◌∷◌, map, refl, sym, ap, ◌∙◌, arith}
+use Rattle.std.proofs.Common.{◌≡◌, ℕ, zero, suc, ◌+◌, ◌-◌, ◌<◌, ◌≤◌, Bool, true, not, List, ◌∷◌, map, refl, sym, ap, ◌∙◌, arith}
 use lib.Bits.{xor_self}
 use Rattle.std.specs.List.{range_with_len}
 use Rattle.std.proofs.lemmas.Option.{get_or_from_slice_get}
@@ -13,54 +13,33 @@ use Rattle.gc_netlist.proofs.SolutionLemmas.{agree}
 use Rattle.gc_label.specs.Label.{◌⊕◌, colour, times}
 use Rattle.gc_half.specs.declared.garbling.RowPair.{RowPair}
 use Rattle.gc_half.specs.HalfGate.{and_active}
-use Rattle.gc_half.specs.OneGate.{first_read, second_read, gate_active}
+use Rattle.gc_half.specs.OneGate.{gate_active}
 use Rattle.gc_half.specs.Garbling.{zero_of, rows_of, IsGarbling}
 use Rattle.gc_half.specs.Evaluation.{active_of, active_rule, IsEvaluation, encode, decode}
 use Rattle.gc_half.specs.Law.{Decodes}
 use Rattle.gc_half.proofs.OneGateLemmas.{first_read-local, second_read-local}
-use Rattle.gc_half.proofs.XorSums.{Name, Plus, When, marks, none, sums_equal}
-use Rattle.gc_half.proofs.HalfGateLaw.{and_law, colour-encode}
+use Rattle.gc_half.proofs.HalfGateLaw.{and_law, colour-encode, sums}
 
 -- The active label of the wire that a gate sets looks at the wires that it reads alone.
 active_of_local : (hash : ℕ → ℕ → ℕ) (u v : ℕ → ℕ) (k : ℕ) (row : RowPair) (op : Operation) →
     EachRead (λ w. u w ≡ v w) op → active_of hash u k row op ≡ active_of hash v k row op
 active_of_local hash u v k row op h =
-    ap (λ first. gate_active hash k row op first (second_read u op)) (first_read-local u v op h)
-    ∙ ap (gate_active hash k row op (first_read v op)) (second_read-local u v op h)
+    λ t. gate_active hash k row op (first_read-local u v op h t) (second_read-local u v op h t)
 
 pub active_local : (hash : ℕ → ℕ → ℕ) (c : Netlist) (rows : List RowPair) → IsLocal (active_rule hash c rows)
 active_local hash c rows u v i g h = active_of_local hash u v _ _ g.operation h
 
 -- The label of an exclusive or is the sum of the labels.
 encode-xor : (r a b : ℕ) (x y : Bool) → encode r (a ⊕ b) (xor x y) ≡ encode r a x ⊕ encode r b y
-encode-xor r a b x y =
-    sums_equal (a ∷ b ∷ r ∷ []) (Plus (Plus (Name 0) (Name 1)) (When (xor x y) (Name 2)))
-    (Plus (Plus (Name 0) (When x (Name 2))) (Plus (Name 1) (When y (Name 2)))) (balanced x y)
-  where
-    balanced : (x y : Bool) →
-        none (marks (Plus (Plus (Plus (Name 0) (Name 1)) (When (xor x y) (Name 2)))
-        (Plus (Plus (Name 0) (When x (Name 2))) (Plus (Name 1) (When y (Name 2)))))) ≡ true
-    balanced true true = refl
-    balanced true false = refl
-    balanced false true = refl
-    balanced false false = refl
+encode-xor r a b x y = grind sums
 
 -- The label of a negation is the label, where the zero label has the offset added.
 encode-not : (r a : ℕ) (x : Bool) → encode r (a ⊕ r) (not x) ≡ encode r a x
-encode-not r a true = sums_equal (a ∷ r ∷ []) (Plus (Plus (Name 0) (Name 1)) (When false (Name 1)))
-    (Plus (Name 0) (Name 1)) refl
-encode-not r a false = sums_equal (a ∷ r ∷ []) (Plus (Plus (Name 0) (Name 1)) (Name 1))
-    (Plus (Name 0) (When false (Name 1))) refl
+encode-not r a x = grind sums
 
 -- A decode bit and the colour of the label that stands for a bit give the bit.
 decode-encode : (r a : ℕ) (x : Bool) → colour r ≡ true → xor (colour a) (colour (encode r a x)) ≡ x
-decode-encode r a x odd = ap (xor (colour a)) (colour-encode r a x odd) ∙ cases (colour a) x
-  where
-    cases : (p x : Bool) → xor p (xor x p) ≡ x
-    cases true true = refl
-    cases true false = refl
-    cases false true = refl
-    cases false false = refl
+decode-encode r a x odd = rw (colour-encode r a x odd) (grind arith)
 
 -- So it is for wires in a row.
 decode-wires : (r : ℕ) → colour r ≡ true → (label active : ℕ → ℕ) (bits : ℕ → Bool) (first count : ℕ) →
@@ -69,13 +48,11 @@ decode-wires : (r : ℕ) → colour r ≡ true → (label active : ℕ → ℕ) 
     ≡ map bits (range_with_len first count)
 decode-wires r odd label active bits first zero h = refl
 decode-wires r odd label active bits first (suc count) h =
-    let rest = range_with_len (first + 1) count in
-    ap (λ y. xor (colour (label first)) (colour y) ∷ decode (map colour (map label rest))
-    (map active rest)) (h first (omega arith) (omega arith))
-    ∙ ap (λ b. b ∷ decode (map colour (map label rest)) (map active rest))
-    (decode-encode r (label first) (bits first) odd)
-    ∙ ap (λ bs. bits first ∷ bs) (decode-wires r odd label active bits (first + 1) count
-    (λ w low high. h w (omega arith) (omega arith)))
+    let here = ap (λ y. xor (colour (label first)) (colour y)) (h first (omega arith) (omega arith))
+    ∙ decode-encode r (label first) (bits first) odd in
+    let rest = decode-wires r odd label active bits (first + 1) count
+    (λ w low high. h w (omega arith) (omega arith)) in
+    λ t. here t ∷ rest t
 
 module _ (hash : ℕ → ℕ → ℕ) (r : ℕ) (odd : colour r ≡ true) where
   -- The labels that stand for the bits meet the active-label equation of each operation.

@@ -1,5 +1,5 @@
 -- The label that an entry hashes.
-use Rattle.std.proofs.Common.{◌≡◌, ℕ, ◌+◌, ◌-◌, Bool, true, false, not, length, slice_get, slice_index, Some, refl, sym, ap, ◌∙◌}
+use Rattle.std.proofs.Common.{◌≡◌, ℕ, ◌+◌, ◌-◌, Bool, true, not, length, slice_get, slice_index, Some, sym, ap, ◌∙◌, arith}
 use Rattle.std.proofs.lemmas.Option.{get_or_from_slice_get}
 use mathlib.Core.Bool.{beq}
 use Rattle.gc_circuit.specs.Meaning.{xor}
@@ -13,25 +13,12 @@ use Rattle.gc_half.proofs.HalfGateLaw.{colour-encode}
 pub colour-label_of_colour : (offset zero_label : ℕ) (s : Bool) → colour offset ≡ true →
     colour (label_of_colour offset zero_label s) ≡ s
 colour-label_of_colour offset zero_label s odd =
-    colour-encode offset zero_label (xor (colour zero_label) s) odd ∙ cases (colour zero_label) s
-  where
-    cases : (a b : Bool) → xor (xor a b) a ≡ b
-    cases false false = refl
-    cases false true = refl
-    cases true false = refl
-    cases true true = refl
+    rw (colour-encode offset zero_label (xor (colour zero_label) s) odd) (grind arith)
 
 -- It is the zero label, plus the offset where the zero label has the other colour.
 pub label_of_colour-sum : (offset zero_label : ℕ) (s : Bool) →
     zero_label ⊕ times (not (beq (colour zero_label) s)) offset ≡ label_of_colour offset zero_label s
-label_of_colour-sum offset zero_label s = ap (λ b. zero_label ⊕ times b offset)
-    (differs (colour zero_label) s)
-  where
-    differs : (a b : Bool) → not (beq a b) ≡ xor a b
-    differs false false = refl
-    differs false true = refl
-    differs true false = refl
-    differs true true = refl
+label_of_colour-sum offset zero_label s = grind arith
 
 -- The hash of the label of an output wire, under the output's tweak, is its entry.
 pub entry_of-hash : (offset : ℕ) (g : GarblingParts) (i : ℕ) (s : Bool) (wire zero_label tweak : ℕ) →
@@ -41,5 +28,4 @@ pub entry_of-hash : (offset : ℕ) (g : GarblingParts) (i : ℕ) (s : Bool) (wir
 entry_of-hash offset g i s wire zero_label tweak place at tweak_is =
     let read = sym (get_or_from_slice_get g.zero_labels wire zero_label 0 at)
     ∙ ap (slice_index g.zero_labels) place in
-    ap (λ t. hash (label_of_colour offset zero_label s) t) tweak_is
-    ∙ ap (λ z. hash (label_of_colour offset z s) (output_tweak (length g.rows) i)) read
+    λ t. hash (label_of_colour offset (read t) s) (tweak_is t)
