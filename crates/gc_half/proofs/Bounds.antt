@@ -1,7 +1,10 @@
 -- Hashes, zero labels, rows and active labels are 16 bytes long: as numbers they are below 2 ^ 128.
-use Rattle.std.proofs.Common.{◌≡◌, ℕ, zero, suc, ◌+◌, ◌*◌, ◌^◌, ◌<◌, ◌⊎◌, inl, inr, Bool, true, false, if◌then◌else◌, ◌==◌, List, [], ◌∷◌, ◌++◌, length, take, get_or, slice_get, Option, Some, None, subst, arith}
+use Rattle.std.proofs.Common.{◌≡◌, ℕ, zero, suc, ◌^◌, ◌<◌, ◌⊎◌, inl, inr, Bool, List, [], ◌∷◌, ◌++◌, length, take, get_or, slice_get, Option, Some, None, subst, arith}
 use Rattle.std.specs.Int.{w32, bytes_high_first, to_be_bytes}
 use Rattle.std.proofs.lemmas.Nat.{xor_lt}
+use Rattle.std.proofs.lemmas.Bool.Decides.{nat_tests}
+use Rattle.std.proofs.lemmas.Grind.{common_steps}
+use Rattle.std.proofs.lemmas.Option.{gets}
 use Rattle.std.proofs.lemmas.List.{length-take-le}
 use Rattle.sha2.specs.Sha256.{sha256, digest_bytes}
 use Rattle.sha2.proofs.Facts256.{length-sha256}
@@ -10,14 +13,14 @@ use Rattle.gc_netlist.specs.declared.gate.Operation.TheVariants.{Xor, And, Inv, 
 use Rattle.gc_netlist.specs.declared.gate.Gate.{Gate}
 use Rattle.gc_netlist.specs.Circuit.{Netlist, and_number}
 use Rattle.gc_netlist.specs.Solution.{put_gate, values_after}
-use Rattle.gc_label.specs.Label.{◌⊕◌, colour, times, bytes_of_label}
-use Rattle.gc_label.specs.Seed.{offset_of, input_label_of}
+use Rattle.gc_label.specs.Label.{◌⊕◌, times, bytes_of_label}
+use Rattle.gc_label.specs.Seed.{offset_of}
 use Rattle.gc_label.proofs.LabelLemmas.{byte_at_is, label_of_bytes-lt}
 use Rattle.gc_label.proofs.SeedLemmas.{offset_of-lt, input_label_of-lt}
 use Rattle.gc_half.specs.declared.garbling.RowPair.{RowPair}
 use Rattle.gc_half.specs.Hash.{hash, tweak_bytes}
 use Rattle.gc_half.specs.HalfGate.{generator_row, evaluator_row, and_zero}
-use Rattle.gc_half.specs.Garbling.{zero_of, zero_rule, rows_of}
+use Rattle.gc_half.specs.Garbling.{zero_of, zero_rule}
 use Rattle.gc_half.specs.Canonical.{input_zero, zero_label_of, row_pairs_of, rows_after, with_operation, with_gate}
 
 -- The number is that of 16 bytes.
@@ -27,37 +30,29 @@ IsSmall label = label < 2 ^ 128
 -- ---- the hash
 
 -- each of these is a byte
-AreBytes : List ℕ → Type 0
+abbrev AreBytes : List ℕ → Type 0
 AreBytes bytes = (i : ℕ) → get_or bytes i 0 < 256
 
 AreBytes-append : (xs ys : List ℕ) → AreBytes xs → AreBytes ys → AreBytes (xs ++ ys)
-unfolding AreBytes
-AreBytes-append [] ys hx hy i = hy i
-AreBytes-append (x ∷ xs) ys hx hy zero = hx zero
-AreBytes-append (x ∷ xs) ys hx hy (suc i) = AreBytes-append xs ys (λ k. hx (suc k)) hy i
+AreBytes-append xs ys hx hy i = grind (arith, common_steps)
 
 AreBytes-take : (n : ℕ) (xs : List ℕ) → AreBytes xs → AreBytes (take n xs)
-unfolding AreBytes
-AreBytes-take zero xs h i = omega arith
-AreBytes-take (suc n) [] h i = omega arith
-AreBytes-take (suc n) (x ∷ xs) h zero = h zero
-AreBytes-take (suc n) (x ∷ xs) h (suc i) = AreBytes-take n xs (λ k. h (suc k)) i
+AreBytes-take n xs h i = grind (arith, common_steps)
 
 AreBytes-bytes_high_first : (k n : ℕ) → AreBytes (bytes_high_first k n)
-unfolding AreBytes
 AreBytes-bytes_high_first zero n i = omega arith
 AreBytes-bytes_high_first (suc k) n zero = omega (arith, byte_at_is k n)
 AreBytes-bytes_high_first (suc k) n (suc i) = AreBytes-bytes_high_first k n i
 
 AreBytes-digest_bytes : (h : List ℕ) (n : ℕ) → AreBytes (digest_bytes h n)
-unfolding digest_bytes AreBytes
+unfolding digest_bytes
 AreBytes-digest_bytes h zero i = omega arith
 AreBytes-digest_bytes h (suc n) i =
     AreBytes-append (digest_bytes h n) (to_be_bytes w32 (get_or h n 0)) (λ k. AreBytes-digest_bytes h n k)
     (AreBytes-bytes_high_first 4 (get_or h n 0)) i
 
 pub IsSmall-hash : (label tweak : ℕ) → IsSmall (hash label tweak)
-unfolding hash sha256 AreBytes
+unfolding hash sha256
 IsSmall-hash label tweak =
     let text = bytes_of_label label ++ tweak_bytes tweak in
     let len = length-sha256 text in
@@ -70,34 +65,27 @@ pub IsSmall-⊕ : (a b : ℕ) → IsSmall a → IsSmall b → IsSmall (a ⊕ b)
 IsSmall-⊕ a b ha hb = xor_lt 128 a b ha hb
 
 pub IsSmall-times : (bit : Bool) (label : ℕ) → IsSmall label → IsSmall (times bit label)
-IsSmall-times true label h = h
-IsSmall-times false label h = omega arith
+IsSmall-times bit label h = grind arith
 
-module _ (k r : ℕ) (small : IsSmall r) (a b : ℕ) (ha : IsSmall a) (hb : IsSmall b) where
-  pub IsSmall-generator_row : IsSmall (generator_row hash k r a b)
-  IsSmall-generator_row =
-      IsSmall-⊕ _ _ (IsSmall-⊕ _ _ (IsSmall-hash a (2 * k)) (IsSmall-hash (a ⊕ r) (2 * k)))
-      (IsSmall-times (colour b) r small)
+ruleset small = (IsSmall-hash, IsSmall-⊕, IsSmall-times)
 
-  pub IsSmall-evaluator_row : IsSmall (evaluator_row hash k r a b)
-  IsSmall-evaluator_row = IsSmall-⊕ _ _
-      (IsSmall-⊕ _ _ (IsSmall-hash b (2 * k + 1)) (IsSmall-hash (b ⊕ r) (2 * k + 1))) ha
+module _ (k r : ℕ) (fits : IsSmall r) (a b : ℕ) (ha : IsSmall a) (hb : IsSmall b) where
+  IsSmall-generator_row : IsSmall (generator_row hash k r a b)
+  IsSmall-generator_row = search small
 
-  pub IsSmall-and_zero : IsSmall (and_zero hash k r a b)
-  IsSmall-and_zero =
-      IsSmall-⊕ _ _ (IsSmall-⊕ _ _ (IsSmall-hash a (2 * k))
-      (IsSmall-times (colour a) _ IsSmall-generator_row))
-      (IsSmall-⊕ _ _ (IsSmall-hash b (2 * k + 1))
-      (IsSmall-times (colour b) _ (IsSmall-⊕ _ _ IsSmall-evaluator_row ha)))
+  IsSmall-evaluator_row : IsSmall (evaluator_row hash k r a b)
+  IsSmall-evaluator_row = search small
 
-pub IsSmall-zero_of : (r : ℕ) → IsSmall r → (label : ℕ → ℕ) → ((w : ℕ) → IsSmall (label w))
-    → (k : ℕ) (op : Operation) →
-    IsSmall (zero_of hash r label k op)
-IsSmall-zero_of r small label h k (Xor a b) = IsSmall-⊕ (label a) (label b) (h a) (h b)
-IsSmall-zero_of r small label h k (And a b) = IsSmall-and_zero k r small (label a) (label b) (h a) (h b)
-IsSmall-zero_of r small label h k (Inv a) = IsSmall-⊕ (label a) r (h a) small
-IsSmall-zero_of r small label h k (Eq v) = IsSmall-times v r small
-IsSmall-zero_of r small label h k (Eqw a) = h a
+  IsSmall-and_zero : IsSmall (and_zero hash k r a b)
+  IsSmall-and_zero = search (small, IsSmall-generator_row, IsSmall-evaluator_row)
+
+IsSmall-zero_of : (r : ℕ) → IsSmall r → (label : ℕ → ℕ) → ((w : ℕ) → IsSmall (label w))
+    → (k : ℕ) (op : Operation) → IsSmall (zero_of hash r label k op)
+IsSmall-zero_of r fits label h k (Xor a b) = search small
+IsSmall-zero_of r fits label h k (And a b) = IsSmall-and_zero k r fits (label a) (label b) (h a) (h b)
+IsSmall-zero_of r fits label h k (Inv a) = search small
+IsSmall-zero_of r fits label h k (Eq v) = search small
+IsSmall-zero_of r fits label h k (Eqw a) = h a
 
 -- ---- the garbling under a seed
 
@@ -107,11 +95,7 @@ module _ (rule : (ℕ → ℕ) → ℕ → Gate → ℕ)
   small-put_gate : (values : ℕ → ℕ) (i : ℕ) (o : Option Gate) → ((w : ℕ) → IsSmall (values w)) → (w : ℕ)
       → IsSmall (put_gate rule values i o w)
   small-put_gate values i None h w = h w
-  small-put_gate values i (Some g) h w = choice (w == g.set)
-    where
-      choice : (same : Bool) → IsSmall (if same then rule values i g else values w)
-      choice true = keeps values i g h
-      choice false = h w
+  small-put_gate values i (Some g) h w = grind (arith, nat_tests, keeps values i g h, h w)
 
   small-values_after : (c : Netlist) (given : ℕ → ℕ) → ((w : ℕ) → IsSmall (given w)) → (n w : ℕ)
       → IsSmall (values_after rule c given n w)
@@ -127,14 +111,7 @@ module _ (c : Netlist) (seed : List ℕ) where
       small-values_after (zero_rule hash (offset_of seed) c)
       (λ values i g h. IsSmall-zero_of (offset_of seed) (offset_of-lt seed) values h
       (and_number c i) g.operation) c (input_zero c seed)
-      (λ u. given u) (length c.gates) w
-    where
-      choice : (u : ℕ) (input : Bool) → IsSmall (if input then input_label_of seed u else 0)
-      choice u true = input_label_of-lt seed u
-      choice u false = omega arith
-
-      given : (u : ℕ) → IsSmall (input_zero c seed u)
-      given u = choice u _
+      (λ u. grind (arith, nat_tests, input_label_of-lt seed u)) (length c.gates) w
 
   -- both rows of a pair
   abbrev pub AreSmallRows : RowPair → Type 0
@@ -143,10 +120,7 @@ module _ (c : Netlist) (seed : List ℕ) where
   pushed : (pairs : List RowPair) (pair last : RowPair) (k : ℕ)
       → slice_get (pairs ++ last ∷ []) k ≡ Some pair →
       (slice_get pairs k ≡ Some pair) ⊎ (last ≡ pair)
-  pushed [] pair last zero h = inr (let e : Some last ≡ Some pair = h in cc)
-  pushed [] pair last (suc k) h = cc
-  pushed (x ∷ pairs) pair last zero h = inl h
-  pushed (x ∷ pairs) pair last (suc k) h = pushed pairs pair last k h
+  pushed pairs pair last k h = grind (arith, common_steps, gets)
 
   -- each pair that stands in a list is small
   abbrev pub AllSmall : List RowPair → Type 0
@@ -163,13 +137,10 @@ module _ (c : Netlist) (seed : List ℕ) where
       AllSmall (with_operation hash (offset_of seed) (zero_label_of c seed) number pairs op)
   small-with_operation number pairs h (Xor a b) = h
   small-with_operation number pairs h (And a b) =
-      small-push pairs h (rows_of hash (offset_of seed) (zero_label_of c seed) number a b) (
-        IsSmall-generator_row number (offset_of seed) (offset_of-lt seed) (zero_label_of c seed a)
-            (zero_label_of c seed b)
-            (IsSmall-zero_label_of a) (IsSmall-zero_label_of b),
-        IsSmall-evaluator_row number (offset_of seed) (offset_of-lt seed) (zero_label_of c seed a)
-            (zero_label_of c seed b)
-            (IsSmall-zero_label_of a) (IsSmall-zero_label_of b),
+      let fits = offset_of-lt seed in
+      small-push pairs h _ (
+        search (IsSmall-generator_row, IsSmall-zero_label_of, fits),
+        search (IsSmall-evaluator_row, IsSmall-zero_label_of, fits),
       )
   small-with_operation number pairs h (Inv a) = h
   small-with_operation number pairs h (Eq v) = h

@@ -1,14 +1,13 @@
 -- The garbling of a circuit under a seed, as functions: it is one, and there is no other.
-use Rattle.std.proofs.Common.{◌≡◌, ℕ, ◌-◌, ◌<◌, inl, inr, Bool, List, length, map, drop, get_or, slice_get, slice_index, Some, if◌then◌else◌, refl, sym, ap, ◌∙◌, arith}
+use Rattle.std.proofs.Common.{◌≡◌, ℕ, ◌-◌, ◌<◌, inl, inr, Bool, List, length, map, drop, get_or, slice_get, slice_index, Some, refl, sym, ap, ◌∙◌, arith}
 use Rattle.std.specs.List.{range_with_len}
-use Rattle.std.proofs.lemmas.Bool.{lt-ltb}
 use Rattle.std.proofs.lemmas.Bool.Decides.{nat_tests}
 use Rattle.std.proofs.lemmas.List.FromFn.{fill_by_all, length-map-range_with_len}
 use Rattle.gc_netlist.specs.declared.gate.Operation.TheVariants.{And}
 use Rattle.gc_netlist.specs.declared.gate.Gate.{Gate}
 use Rattle.gc_netlist.specs.Circuit.{Netlist, input_wires, output_wires, IsLawful, IsSet, and_number, and_count}
 use Rattle.gc_netlist.specs.Solution.{Solves}
-use Rattle.gc_netlist.proofs.SolutionLemmas.{agree, solution_solves}
+use Rattle.gc_netlist.proofs.SolutionLemmas.{solution_solves}
 use Rattle.gc_circuit.specs.Meaning.{IsAssignment}
 use Rattle.gc_netlist.proofs.Tables.{read-table, table_end, IsSetBefore-below}
 use Rattle.gc_label.specs.Label.{colour}
@@ -19,7 +18,7 @@ use Rattle.gc_half.specs.Hash.{hash}
 use Rattle.gc_half.specs.Garbling.{zero_of, zero_rule, rows_of, IsGarbling, GarblingParts, decode_bits_of, IsGarbled}
 use Rattle.gc_half.specs.Evaluation.{IsEvaluation, active_rule, encode, decode_bits}
 use Rattle.gc_half.specs.Canonical.{input_zero, zero_label_of, rows_after, row_pairs_of, garbling_of, active_label_of}
-use Rattle.gc_half.specs.Law.{HasOneGarbled, Decodes}
+use Rattle.gc_half.specs.Law.{HasOneGarbling, HasOneGarbled, Decodes}
 use Rattle.gc_half.proofs.CircuitLaw.{active_local, garbling-decodes}
 use Rattle.gc_half.proofs.SetWires.{set_or_not, solution-not_set}
 use Rattle.gc_half.proofs.GarblingLemmas.{zero_local, IsGarbling-same, rows-garbling, one_garbling}
@@ -29,14 +28,11 @@ pub parts-same : (g : GarblingParts) (zero_labels : List ℕ) (rows : List RowPa
     → g.zero_labels ≡ zero_labels → g.rows ≡ rows
     → g.outputs ≡ outputs → g ≡ record { zero_labels = zero_labels; rows = rows; outputs = outputs }
 parts-same g zero_labels rows outputs p q o =
-    let parts : List ℕ → List RowPair → ℕ → GarblingParts =
-    λ x y z. record { zero_labels = x; rows = y; outputs = z } in
-    ap (λ x. parts x g.rows g.outputs) p ∙ ap (λ y. parts zero_labels y g.outputs) q
-    ∙ ap (parts zero_labels rows) o
+    λ t. record { zero_labels = p t; rows = q t; outputs = o t }
 
 module _ (c : Netlist) (seed : List ℕ) where
   pub input_zero-input : (w : ℕ) → w < input_wires c → input_zero c seed w ≡ input_label_of seed w
-  input_zero-input w input = ap (λ b. if b then input_label_of seed w else 0) (lt-ltb w (input_wires c) input)
+  input_zero-input w input = grind (arith, nat_tests)
 
   pub input_zero-other : (w : ℕ) → ¬ (w < input_wires c) → input_zero c seed w ≡ 0
   input_zero-other w other = grind (arith, nat_tests)
@@ -106,27 +102,20 @@ module _ (c : Netlist) (seed : List ℕ) where
     -- and it is the only one.
     pub IsGarbled-same : (g : GarblingParts) → IsGarbled c seed g → g ≡ garbling_of c seed
     IsGarbled-same g garbled =
-        parts-same g (map (zero_label_of c seed) (range_with_len 0 c.wires)) (row_pairs_of c seed)
-        (output_wires c) labels rows garbled.outputs
+        parts-same g _ _ _ (fill_by_all (zero_label_of c seed) g.zero_labels c.wires 0 garbled.wires label_at)
+        rows garbled.outputs
       where
-        label_at : (w : ℕ) → w < c.wires → get_or g.zero_labels w 0 ≡ zero_label_of c seed w
-        label_at w below = elim (set_or_not c w) [
-          | inl set ↦
-              agree (zero_rule hash (offset_of seed) c) (zero_local hash (offset_of seed) c) c lawful
-              (input_label_of seed)
-              (λ k. get_or g.zero_labels k 0)
-              (zero_label_of c seed) garbled.garbling.labels canonical-garbling.labels w set
-          | inr unset ↦ garbled.not_set w below unset ∙ sym (zero_label_of-not_set w unset)
-        ]
-
-        labels : g.zero_labels ≡ map (zero_label_of c seed) (range_with_len 0 c.wires)
-        labels = fill_by_all (zero_label_of c seed) g.zero_labels c.wires 0 garbled.wires label_at
+        only : HasOneGarbling hash (offset_of seed) c (input_label_of seed)
+        only = one_garbling hash (offset_of seed) c lawful (input_label_of seed)
 
         rows : g.rows ≡ row_pairs_of c seed
-        rows =
-            (one_garbling hash (offset_of seed) c lawful (input_label_of seed)).same_rows
-            (λ k. get_or g.zero_labels k 0) (zero_label_of c seed) g.rows
-            (row_pairs_of c seed) garbled.garbling canonical-garbling
+        rows = only.same_rows _ _ _ _ garbled.garbling canonical-garbling
+
+        label_at : (w : ℕ) → w < c.wires → get_or g.zero_labels w 0 ≡ zero_label_of c seed w
+        label_at w below = elim (set_or_not c w) [
+          | inl set ↦ only.same_labels _ _ _ _ garbled.garbling canonical-garbling w set
+          | inr unset ↦ garbled.not_set w below unset ∙ sym (zero_label_of-not_set w unset)
+        ]
 
     -- Its decode bits are the colours of the output wires' zero labels,
     pub IsGarbled-decode_bits : (g : GarblingParts) → IsGarbled c seed g

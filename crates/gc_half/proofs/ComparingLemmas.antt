@@ -1,8 +1,7 @@
 -- Row pairs that are compared with given ones as they are made.
 use Rattle.std.proofs.Common.{◌≡◌, ℕ, ◌+◌, ◌<◌, ◌++◌, List, [], ◌∷◌, length, length-append, take, drop, get_or, set, slice_get, Option, Some, None, MatchOption, refl, sym, ap, subst, ◌∙◌, inl, inr, arith}
-use Rattle.std.proofs.lemmas.List.{take_all, take_at, take_more, take_more_set, take-append-le, drop_all, drop_more, drop-drop, drop-set-lt, get_or-drop, get_or_append_left, length-take-le}
-use Rattle.std.proofs.Math.Seq.{get_or-append_seam}
-use Rattle.std.proofs.lemmas.Option.{slice_get_within, slice_get-get_or, get_or_from_slice_get}
+use Rattle.std.proofs.lemmas.List.{take_all, take_at, take_more, take_more_set, take-append-le, drop_all, drop_more, drop-drop, drop-set-lt, get_or-drop, length-take-le}
+use Rattle.std.proofs.lemmas.Option.{gets, slice_get_within, get_or_from_slice_get}
 use Rattle.gc_netlist.specs.Circuit.{Netlist, IsLawful, input_wires}
 use Rattle.gc_label.specs.Seed.{input_label_of}
 use Rattle.gc_half.specs.declared.garbling.RowPair.{RowPair}
@@ -10,24 +9,12 @@ use Rattle.gc_half.specs.declared.garbling.Mismatch.{Mismatch}
 use Rattle.gc_half.specs.Garbling.{GarblingParts, IsGarbled}
 use Rattle.gc_half.specs.Comparing.{IsFirstMismatch, IsComparison, HasLabels, RowTableParts, AreCompared, IsNextMismatch}
 use Rattle.gc_half.proofs.CanonicalLemmas.{garbling_of-IsGarbled, IsGarbled-same}
+use Rattle.gc_half.proofs.RowLemmas.{slice_get-push, slice_get-append}
 use Rattle.gc_half.proofs.SetWires.{lt_or_le}
 
 -- the row pairs that are made, the given ones that are left, and the first mismatch
 abbrev parts : List RowPair → List RowPair → Option Mismatch → RowTableParts
 parts made left first = record { made = made; left = left; first = first }
-
--- The elements of a list with one more behind it.
-longer : (xs : List RowPair) (x y : RowPair) (k : ℕ) → slice_get xs k ≡ Some x
-    → slice_get (xs ++ y ∷ []) k ≡ Some x
-longer xs x y k at =
-    let within = slice_get_within xs k x at in
-    slice_get-get_or (xs ++ y ∷ []) k x (omega (arith, length-append xs (y ∷ [])))
-    ∙ ap Some (get_or_append_left xs (y ∷ []) x k within ∙ get_or_from_slice_get xs k x x at)
-
-last : (xs : List RowPair) (y : RowPair) → slice_get (xs ++ y ∷ []) (length xs) ≡ Some y
-last xs y =
-    slice_get-get_or (xs ++ y ∷ []) (length xs) y (omega (arith, length-append xs (y ∷ [])))
-    ∙ ap Some (get_or-append_seam xs y [] y)
 
 module _ (given : List RowPair) where
   -- At the start nothing is made.
@@ -39,56 +26,49 @@ module _ (given : List RowPair) where
       → IsFirstMismatch given (made ++ pair ∷ []) m
   stays made pair m is = record {
     before = is.before ∙ sym (take-append-le m.place made (pair ∷ [])
-        (let within = slice_get_within made m.place m.made is.made_there in omega arith));
+        (omega (arith, slice_get_within made m.place m.made is.made_there)));
     given_there = is.given_there;
-    made_there = longer made m.made pair m.place is.made_there;
+    made_there = slice_get-append made (pair ∷ []) m.place m.made is.made_there;
     differ = is.differ;
   }
 
   module _ (made rest : List RowPair) (old pair : RowPair) (left : old ∷ rest ≡ drop (length made) given) where
     -- The next given pair is left,
     within : length made < length given
-    within = elim (lt_or_le (length made) (length given)) [
-      | inl below ↦ below
-      | inr past ↦ absurd (let none : old ∷ rest ≡ [] = left ∙ drop_all (length made) given past in cc)
-    ]
-
-    here : get_or given (length made) old ≡ old
-    here = ap (λ k. get_or given k old) (omega arith) ∙ sym (get_or-drop (length made) given 0 old)
-        ∙ ap (λ l. get_or l 0 old) (sym left)
+    within = grind (arith, drop_all (length made) given)
 
     there : slice_get given (length made) ≡ Some old
-    there = slice_get-get_or given (length made) old within ∙ ap Some here
+    there = grind (arith, gets, get_or-drop (length made) given 0 old, within)
 
     -- and the pair that is made is compared with it.
     next_first : (first next : Option Mismatch) → IsNextMismatch first (length made) old pair next
         → MatchOption first (take (length made) given ≡ made) (IsFirstMismatch given made)
         → MatchOption next (take (length made + 1) given ≡ made ++ pair ∷ [])
         (IsFirstMismatch given (made ++ pair ∷ []))
-    next_first (Some m) next is before =
-        subst (λ n. MatchOption n (take (length made + 1) given ≡ made ++ pair ∷ [])
-        (IsFirstMismatch given (made ++ pair ∷ []))) (sym is) (stays made pair m before)
+    next_first (Some m) next is before = rw is (stays made pair m before)
     next_first None None is before =
-        take_more given (length made) old within
-        ∙ ap (λ l. l ++ get_or given (length made) old ∷ []) before
-        ∙ ap (λ p. made ++ p ∷ []) (here ∙ is)
+        rw (
+          take_more given (length made) old within,
+          get_or_from_slice_get given (length made) old old there,
+          before,
+          is,
+        ) refl
     next_first None (Some m) is before =
-        subst (IsFirstMismatch given (made ++ pair ∷ [])) (sym is.0) (record {
+        rw is.0 (record {
           before = before ∙ sym (take_at made (pair ∷ []) (length made) refl);
           given_there = there;
-          made_there = last made pair;
+          made_there = slice_get-push made pair;
           differ = is.1;
         })
 
-    pub compared-next : (first next : Option Mismatch) → IsNextMismatch first (length made) old pair next
+    compared-next : (first next : Option Mismatch) → IsNextMismatch first (length made) old pair next
         → MatchOption first (take (length made) given ≡ made) (IsFirstMismatch given made)
         → AreCompared given (parts (made ++ pair ∷ []) rest next)
     compared-next first next is before =
         let long : length (made ++ pair ∷ []) ≡ length made + 1 = length-append made (pair ∷ []) in
         record {
-          left = ap (drop 1) left ∙ drop-drop 1 (length made) given ∙ ap (λ k. drop k given) (sym long);
-          first = λ few. subst (λ k. MatchOption next (take k given ≡ made ++ pair ∷ [])
-              (IsFirstMismatch given (made ++ pair ∷ []))) (sym long) (next_first first next is before);
+          left = rw (long, ← drop-drop 1 (length made) given, ← left) refl;
+          first = λ few. rw long (next_first first next is before);
         }
 
   -- A pair takes the place of the next given one,
@@ -103,12 +83,9 @@ module _ (given : List RowPair) where
       let left : old ∷ rest ≡ drop (length made) given =
       ap (λ x. x ∷ rest) (sym (get_or_from_slice_get rows n old old at)) ∙ sym (drop_more rows n old below)
       ∙ before.left in
-      let fits : length made < length given = within made rest old pair left in
-      let P : List RowPair → List RowPair → Type 0 = λ m l. AreCompared given (parts m l next) in
-      subst (λ m. P m (drop (n + 1) (set rows n pair))) (sym (take_more_set rows n pair below))
-      (subst (P (made ++ pair ∷ [])) (sym (drop-set-lt (n + 1) rows n pair (omega arith)))
-      (compared-next made rest old pair left first next
-      (subst (λ k. IsNextMismatch first k old pair next) (sym long) is) (before.first (omega arith))))
+      rw (take_more_set rows n pair below, drop-set-lt (n + 1) rows n pair (omega arith))
+      (compared-next made rest old pair left first next (rw long is)
+      (before.first (omega (arith, within made rest old pair left))))
 
   -- or stands behind them all.
   pub compared-push : (made : List RowPair) (pair : RowPair) (first : Option Mismatch)

@@ -1,5 +1,5 @@
 -- Each lawful circuit has one garbling for any zero labels of the input wires.
-use Rattle.std.proofs.Common.{◌≡◌, ℕ, ◌<◌, List, length, slice_get, Some, inl, inr, refl, sym, ap, subst, ◌∙◌, arith}
+use Rattle.std.proofs.Common.{◌≡◌, ℕ, ◌<◌, List, length, slice_get, Some, inl, inr, refl, sym, ap, ◌∙◌, arith}
 use Rattle.std.proofs.lemmas.List.{take_all}
 use Rattle.std.proofs.lemmas.Option.{slice_get_within}
 use Rattle.gc_netlist.specs.declared.gate.Operation.{Operation}
@@ -9,7 +9,7 @@ use Rattle.gc_netlist.specs.Circuit.{Netlist, IsLawful, IsSet, IsSetBefore, Each
 use Rattle.gc_netlist.specs.Solution.{Solves, IsLocal, solution}
 use Rattle.gc_netlist.proofs.SolutionLemmas.{agree, solution_solves, EachRead-map, IsSetBefore-more}
 use Rattle.gc_half.specs.declared.garbling.RowPair.{RowPair}
-use Rattle.gc_half.specs.OneGate.{first_read, second_read, row_pair, gate_zero}
+use Rattle.gc_half.specs.OneGate.{row_pair, gate_zero}
 use Rattle.gc_half.specs.Garbling.{zero_of, zero_rule, rows_of, IsGarbling}
 use Rattle.gc_half.specs.Evaluation.{active_rule}
 use Rattle.gc_half.specs.Canonical.{rows_after}
@@ -24,19 +24,17 @@ module _ (hash : ℕ → ℕ → ℕ) (r : ℕ) where
   pub zero_of_local : (u v : ℕ → ℕ) (k : ℕ) (op : Operation) → EachRead (λ w. u w ≡ v w) op →
       zero_of hash r u k op ≡ zero_of hash r v k op
   zero_of_local u v k op h =
-      ap (λ first. gate_zero hash r k op first (second_read u op)) (first_read-local u v op h)
-      ∙ ap (gate_zero hash r k op (first_read v op)) (second_read-local u v op h)
+      λ t. gate_zero hash r k op (first_read-local u v op h t) (second_read-local u v op h t)
 
   pub zero_local : (c : Netlist) → IsLocal (zero_rule hash r c)
   zero_local c u v i g h = zero_of_local u v (and_number c i) g.operation h
 
   -- and so do its rows.
-  pub rows_of_local : (u v : ℕ → ℕ) (k a b : ℕ) (op : Operation) → op ≡ And a b
-      → EachRead (λ w. u w ≡ v w) op →
-      rows_of hash r u k a b ≡ rows_of hash r v k a b
+  rows_of_local : (u v : ℕ → ℕ) (k a b : ℕ) (op : Operation) → op ≡ And a b
+      → EachRead (λ w. u w ≡ v w) op → rows_of hash r u k a b ≡ rows_of hash r v k a b
   rows_of_local u v k a b op is h =
-      let reads = let P : Operation → Type 0 = EachRead (λ w. u w ≡ v w) in subst P is h in
-      ap (λ x. row_pair hash r k x (u b)) reads.0 ∙ ap (row_pair hash r k (v a)) reads.1
+      let same = rw is at h in
+      λ t. row_pair hash r k (same.0 t) (same.1 t)
 
   -- A garbling is one at other zero labels too that are the same on the wires that are set.
   pub IsGarbling-same : (c : Netlist) → IsLawful c → (given u v : ℕ → ℕ) (rows : List RowPair)
@@ -87,8 +85,7 @@ module _ (hash : ℕ → ℕ → ℕ) (r : ℕ) where
 
     same_labels : (u v : ℕ → ℕ) (p q : List RowPair) → IsGarbling hash r c given u p
         → IsGarbling hash r c given v q → (w : ℕ) → IsSet c w → u w ≡ v w
-    same_labels u v p q f g w set = agree (zero_rule hash r c) (zero_local c) c lawful given u v f.labels
-        g.labels w set
+    same_labels u v p q f g = agree (zero_rule hash r c) (zero_local c) c lawful given u v f.labels g.labels
 
     same_rows : (u v : ℕ → ℕ) (p q : List RowPair) → IsGarbling hash r c given u p
         → IsGarbling hash r c given v q → p ≡ q

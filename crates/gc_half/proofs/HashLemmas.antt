@@ -1,21 +1,22 @@
 -- The tweaked hash of a label is its hash.
-use Rattle.std.proofs.Common.{◌≡◌, ℕ, List, [], ◌∷◌, ap, arith, length, map, slice_index_or}
+use Rattle.std.proofs.Common.{◌≡◌, ℕ, List, [], ◌∷◌, ap, ◌∙◌, arith, length, map, slice_index_or}
+use Rattle.std.proofs.lemmas.Grind.{common_steps}
 use Rattle.gc_label.specs.Label.{label_of_bytes, bytes_of_label}
 use Rattle.gc_lanes.specs.Hash.{tweaked_hash}
 use Rattle.gc_half.specs.Hash.{hash, tweak_bytes}
 
-pub label-hash : (label number tweak : ℕ) → number ≡ label → tweaked_hash number tweak ≡ hash label tweak
+label-hash : (label number tweak : ℕ) → number ≡ label → tweaked_hash number tweak ≡ hash label tweak
 unfolding hash tweak_bytes tweaked_hash label_of_bytes bytes_of_label
 label-hash label number tweak is = ap (λ n. hash n tweak) is
+
+-- The hash of a label, made as a number from the label's number.
+pub hash-number : (label tweak : ℕ) {number hashed made : ℕ} → made ≡ hashed
+    → hashed ≡ tweaked_hash number tweak → number ≡ label → made ≡ hash label tweak
+hash-number label tweak from hashes of = from ∙ hashes ∙ label-hash label _ tweak of
 
 -- what is mapped over a list of four, element by element
 pub map-four : {A : Type 0} (f : A → ℕ) (inputs : List A) (u v w x : A) {e g h i : ℕ} → length inputs ≡ 4
     → e ≡ f (slice_index_or inputs 0 u) → g ≡ f (slice_index_or inputs 1 v)
     → h ≡ f (slice_index_or inputs 2 w) → i ≡ f (slice_index_or inputs 3 x)
     → e ∷ g ∷ h ∷ i ∷ [] ≡ map f inputs
-map-four f [] u v w x n p q r s = absurd (omega arith)
-map-four f (a ∷ []) u v w x n p q r s = absurd (omega arith)
-map-four f (a ∷ b ∷ []) u v w x n p q r s = absurd (omega arith)
-map-four f (a ∷ b ∷ c ∷ []) u v w x n p q r s = absurd (omega arith)
-map-four f (a ∷ b ∷ c ∷ d ∷ []) u v w x n p q r s = λ t. p t ∷ q t ∷ r t ∷ s t ∷ []
-map-four f (a ∷ b ∷ c ∷ d ∷ y ∷ more) u v w x n p q r s = absurd (omega arith)
+map-four f inputs u v w x n p q r s = grind (arith, common_steps)

@@ -1,10 +1,11 @@
 -- The row pairs of a garbling, gate after gate.
-use Rattle.std.proofs.Common.{◌≡◌, ℕ, zero, suc, ◌+◌, ◌<◌, ◌≤◌, ◌++◌, inl, inr, false, List, [], ◌∷◌, length, length-append, take, get_or, slice_get, Some, refl, sym, ap, ◌∙◌, arith}
-use Rattle.std.proofs.lemmas.Option.{slice_get_within, get_or_from_slice_get}
+use Rattle.std.proofs.Common.{◌≡◌, ℕ, zero, suc, ◌<◌, ◌≤◌, ◌++◌, inl, inr, false, List, [], ◌∷◌, length, length-append, take, slice_get, Some, refl, sym, ap, ◌∙◌, arith, rules}
+use Rattle.std.proofs.lemmas.Option.{gets, slice_get_within, get_or_from_slice_get}
 use Rattle.std.proofs.lemmas.Bool.{cases_eq}
+use Rattle.std.proofs.lemmas.Grind.{common_steps}
 use Rattle.std.proofs.lemmas.List.{take_more}
 use Rattle.gc_netlist.specs.declared.gate.Operation.{Operation}
-use Rattle.gc_netlist.specs.declared.gate.Operation.TheVariants.{Xor, And, Inv, Eq, Eqw}
+use Rattle.gc_netlist.specs.declared.gate.Operation.TheVariants.{And}
 use Rattle.gc_netlist.specs.declared.gate.Gate.{Gate}
 use Rattle.gc_netlist.specs.Circuit.{Netlist, is_and, and_number}
 use Rattle.gc_half.specs.declared.garbling.RowPair.{RowPair}
@@ -12,15 +13,12 @@ use Rattle.gc_half.specs.Garbling.{rows_of, IsGarbling}
 use Rattle.gc_half.specs.Canonical.{with_operation, with_gate, rows_after}
 use Rattle.gc_half.proofs.AndNumbers.{and_or_other, gate_at, and_number-and, and_number-other}
 
-slice_get-push : {X : Type 0} (xs : List X) (x : X) → slice_get (xs ++ x ∷ []) (length xs) ≡ Some x
-slice_get-push [] x = refl
-slice_get-push (y ∷ xs) x = slice_get-push xs x
+pub slice_get-push : {X : Type 0} (xs : List X) (x : X) → slice_get (xs ++ x ∷ []) (length xs) ≡ Some x
+slice_get-push xs x = grind (arith, common_steps, gets)
 
-slice_get-append : {X : Type 0} (xs ys : List X) (i : ℕ) (x : X) → slice_get xs i ≡ Some x
+pub slice_get-append : {X : Type 0} (xs ys : List X) (i : ℕ) (x : X) → slice_get xs i ≡ Some x
     → slice_get (xs ++ ys) i ≡ Some x
-slice_get-append [] ys i x h = cc
-slice_get-append (y ∷ xs) ys zero x h = h
-slice_get-append (y ∷ xs) ys (suc i) x h = slice_get-append xs ys i x h
+slice_get-append xs ys i x h = grind (arith, common_steps, gets)
 
 module _ (hash : ℕ → ℕ → ℕ) (r : ℕ) (c : Netlist) (label : ℕ → ℕ) where
   -- One more gate: an AND gate adds its row pair, and any other gate adds none.
@@ -44,11 +42,7 @@ module _ (hash : ℕ → ℕ → ℕ) (r : ℕ) (c : Netlist) (label : ℕ → �
       same : (op : Operation) → is_and op ≡ false →
           with_operation hash r label (and_number c i) (rows_after hash r c label i) op ≡ rows_after hash r
           c label i
-      same (Xor a b) h = refl
-      same (And a b) h = cc
-      same (Inv a) h = refl
-      same (Eq v) h = refl
-      same (Eqw a) h = refl
+      same op h = search rules
 
   pub rows_after-start : rows_after hash r c label 0 ≡ []
   unfolding rows_after
@@ -62,11 +56,21 @@ module _ (hash : ℕ → ℕ → ℕ) (r : ℕ) (c : Netlist) (label : ℕ → �
       let before = length-rows_after n (omega arith) in
       elim (and_or_other gate.0.operation) [
         | inl (a, (b, is)) ↦
-            ap length (rows_after-and n gate.0 a b gate.1 is)
-            ∙ length-append (rows_after hash r c label n) (rows_of hash r label (and_number c n) a b ∷ [])
-            ∙ ap (λ k. k + 1) before ∙ sym (and_number-and c n gate.0 gate.1 (ap is_and is))
-        | inr other ↦ ap length (rows_after-other n gate.0 gate.1 other) ∙ before
-            ∙ sym (and_number-other c n gate.0 gate.1 other)
+            rw (rows_after-and n gate.0 a b gate.1 is, and_number-and c n gate.0 gate.1 (ap is_and is))
+            (omega (arith, length-append {A = RowPair}))
+        | inr other ↦
+            rw (rows_after-other n gate.0 gate.1 other, and_number-other c n gate.0 gate.1 other) before
+      ]
+
+  -- A row pair stays where it stands,
+  kept : (n k : ℕ) (x : RowPair) → n < length c.gates
+      → slice_get (rows_after hash r c label n) k ≡ Some x
+      → slice_get (rows_after hash r c label (suc n)) k ≡ Some x
+  kept n k x within found =
+      let gate = gate_at c n within in
+      elim (and_or_other gate.0.operation) [
+        | inl (a, (b, is)) ↦ rw (rows_after-and n gate.0 a b gate.1 is) (slice_get-append _ _ k x found)
+        | inr other ↦ rw (rows_after-other n gate.0 gate.1 other) found
       ]
 
   -- and that of an AND gate stands at its AND number.
@@ -78,27 +82,10 @@ module _ (hash : ℕ → ℕ → ℕ) (r : ℕ) (c : Netlist) (label : ℕ → �
   rows_after-at (suc n) i g a b below h at is =
       elim (cases_eq i n) [
         | inl e ↦
-            let rows = rows_after hash r c label i in
-            ap (λ m. slice_get (rows_after hash r c label (suc m)) (and_number c i)) (sym e)
-            ∙ ap (λ l. slice_get l (and_number c i)) (rows_after-and i g a b at is)
-            ∙ ap (slice_get (rows ++ rows_of hash r label (and_number c i) a b ∷ []))
-            (sym (length-rows_after i (omega arith)))
-            ∙ slice_get-push rows (rows_of hash r label (and_number c i) a b)
-        | inr ne ↦ kept (rows_after-at n i g a b (omega arith) (omega arith) at is)
+            rw (← e, rows_after-and i g a b at is, ← length-rows_after i (omega arith))
+            (slice_get-push (rows_after hash r c label i) _)
+        | inr ne ↦ kept n _ _ (omega arith) (rows_after-at n i g a b (omega arith) (omega arith) at is)
       ]
-    where
-      kept : {x : RowPair} → slice_get (rows_after hash r c label n) (and_number c i) ≡ Some x →
-          slice_get (rows_after hash r c label (suc n)) (and_number c i) ≡ Some x
-      kept {x = x} found =
-          let gate = gate_at c n (omega arith) in
-          elim (and_or_other gate.0.operation) [
-            | inl (a', (b', is')) ↦
-                ap (λ l. slice_get l (and_number c i)) (rows_after-and n gate.0 a' b' gate.1 is')
-                ∙ slice_get-append (rows_after hash r c label n)
-                (rows_of hash r label (and_number c n) a' b' ∷ []) (and_number c i) x found
-            | inr other ↦ ap (λ l. slice_get l (and_number c i)) (rows_after-other n gate.0 gate.1 other)
-                ∙ found
-          ]
 
   -- The rows of any garbling with these zero labels are these.
   pub rows-take : (given : ℕ → ℕ) (rows : List RowPair) → IsGarbling hash r c given label rows → (n : ℕ)
@@ -113,12 +100,13 @@ module _ (hash : ℕ → ℕ → ℕ) (r : ℕ) (c : Netlist) (label : ℕ → �
         | inl (a, (b, is)) ↦
             let row = rows_of hash r label k a b in
             let found = garbling.and_gates n gate.0 a b gate.1 is in
-            ap (λ m. take m rows) (and_number-and c n gate.0 gate.1 (ap is_and is))
-            ∙ take_more rows k row (slice_get_within rows k row found)
-            ∙ ap (λ l. l ++ get_or rows k row ∷ []) before
-            ∙ ap (λ x. rows_after hash r c label n ++ x ∷ []) (get_or_from_slice_get rows k row row found)
-            ∙ sym (rows_after-and n gate.0 a b gate.1 is)
+            rw (
+              and_number-and c n gate.0 gate.1 (ap is_and is),
+              rows_after-and n gate.0 a b gate.1 is,
+              ← before,
+              take_more rows k row (slice_get_within rows k row found),
+              get_or_from_slice_get rows k row row found,
+            ) refl
         | inr other ↦
-            ap (λ m. take m rows) (and_number-other c n gate.0 gate.1 other) ∙ before
-            ∙ sym (rows_after-other n gate.0 gate.1 other)
+            rw (rows_after-other n gate.0 gate.1 other, and_number-other c n gate.0 gate.1 other) before
       ]

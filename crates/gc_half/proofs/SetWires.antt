@@ -1,5 +1,5 @@
 -- Which wires are set, and the values of those that are not.
-use Rattle.std.proofs.Common.{◌≡◌, ◌≢◌, ℕ, zero, suc, ◌<◌, ◌≤◌, ◌⊎◌, inl, inr, length, slice_get, Some, None, Option, refl, sym, ap, subst, ◌∙◌, arith}
+use Rattle.std.proofs.Common.{◌≡◌, ◌≢◌, ℕ, zero, suc, ◌<◌, ◌≤◌, ◌⊎◌, inl, inr, length, slice_get, Some, None, Option, refl, sym, subst, ◌∙◌, arith}
 use Rattle.std.proofs.lemmas.Bool.{cases_eq}
 use Rattle.std.proofs.lemmas.Bool.Decides.{nat_tests}
 use Rattle.gc_netlist.specs.declared.gate.Gate.{Gate}
@@ -24,28 +24,21 @@ module _ (c : Netlist) (w : ℕ) where
   by_gate n None at = inr (λ by. let e : Some by.gate ≡ None = sym by.at ∙ at in cc)
   by_gate n (Some g) at = elim (cases_eq g.set w) [
     | inl e ↦ inl (inr (n, omega arith, record { gate = g; at = at; wire = e }))
-    | inr other ↦ inr (λ by.
-        let e : Some by.gate ≡ Some g = sym by.at ∙ at in
-        let same : by.gate ≡ g = cc in other (ap (λ (x : Gate). x.set) (sym same) ∙ by.wire))
+    | inr other ↦ inr (λ by. other (cc (by.at, by.wire)))
   ]
 
   set_or_not_before : (n : ℕ) → IsSetBefore c n w ⊎ ¬ IsSetBefore c n w
   set_or_not_before zero = elim (lt_or_le w (input_wires c)) [
     | inl input ↦ inl (inl input)
-    | inr past ↦ inr (λ set. not_at_start past set)
+    | inr past ↦ inr (λ set. grind arith)
   ]
-    where
-      not_at_start : input_wires c ≤ w → IsSetBefore c 0 w → ⊥
-      not_at_start past (inl input) = omega arith
-      not_at_start past (inr (i, below, by)) = omega arith
   set_or_not_before (suc n) = elim (set_or_not_before n) [
     | inl set ↦ inl (IsSetBefore-more c n (suc n) w (omega arith) set)
     | inr unset ↦ elim (by_gate n (slice_get c.gates n) refl) [
       | inl set ↦ inl set
       | inr not_by ↦ inr (λ set. elim (last_or_before n set) [
         | inl before ↦ unset before
-        | inr by ↦ not_by
-            by
+        | inr by ↦ not_by by
       ])
     ]
   ]
@@ -55,21 +48,22 @@ module _ (c : Netlist) (w : ℕ) where
   set_or_not = set_or_not_before (length c.gates)
 
 module _ {A : Type 0} (rule : (ℕ → A) → ℕ → Gate → A) (c : Netlist) (given : ℕ → A) (w : ℕ) where
-  put_other : (values : ℕ → A) (n : ℕ) (o : Option Gate) → slice_get c.gates n ≡ o
-      → ¬ IsSetBefore c (suc n) w →
-      put_gate rule values n o w ≡ values w
-  put_other values n None at unset = refl
-  put_other values n (Some g) at unset =
-      let other : w ≢ g.set = λ e. unset (inr (n, omega arith, record { gate = g; at = at; wire = sym e })) in
-      grind (arith, nat_tests)
-
   -- A wire that is not set keeps the value that was given.
   not_set_before : (n : ℕ) → ¬ IsSetBefore c n w → values_after rule c given n w ≡ given w
   unfolding values_after
   not_set_before zero unset = refl
   not_set_before (suc n) unset =
-      put_other (values_after rule c given n) n (slice_get c.gates n) refl unset
+      not_by (slice_get c.gates n) refl
       ∙ not_set_before n (λ set. unset (IsSetBefore-more c n (suc n) w (omega arith) set))
+    where
+      -- the last gate sets another wire, if it is there
+      not_by : (o : Option Gate) → slice_get c.gates n ≡ o
+          → put_gate rule (values_after rule c given n) n o w ≡ values_after rule c given n w
+      not_by None at = refl
+      not_by (Some g) at =
+          let other : w ≢ g.set = λ e.
+          unset (inr (n, omega arith, record { gate = g; at = at; wire = sym e })) in
+          grind (arith, nat_tests)
 
   pub solution-not_set : ¬ IsSet c w → solution rule c given w ≡ given w
   solution-not_set unset = not_set_before (length c.gates) unset

@@ -1,30 +1,17 @@
-use Rattle.std.proofs.Common.{◌∙◌, ap, slice_index}
-use Rattle.std.specs.List.{list_any}
+use Rattle.std.proofs.Common.{arith}
 use Rattle.std.specs.Option.{option_to_list}
-use Rattle.gc_netlist.specs.Circuit.{reads}
-use Rattle.gc_half.specs.OneGate.{first_read, second_read}
-use Rattle.gc_half.specs.Waiting.{TableParts, zero_label_of_gate}
+use Rattle.gc_half.specs.Waiting.{zero_label_of_gate}
 use Rattle.gc_half.proofs.WaitingLemmas.{first_read-settled, second_read-settled}
 use Rattle.gc_half.proofs.table.GarblingTable.read.Goals as goal
 
 pub returns-clause-first : goal.returns-clause-first
 returns-clause-first g c =
-    let op = c.args.operation in
-    c.labels_read.ensures.first
-    ∙ ap (λ l. first_read (slice_index l) op) c.deref.ensures.value
-    ∙ first_read-settled zero_label_of_gate c.self.inside.labels.items (option_to_list c.self.inside.waiting) op
-    (ap (λ (t : TableParts). list_any (λ waits. reads op waits.set) t.waiting) c.self.view_is
-    ∙ c.in_ok-settle_read.ensures.unread)
-    ∙ ap (λ (t : TableParts). first_read (slice_index t.labels) op) c.self.view_is
-    ∙ ap (λ l. first_read (slice_index l) op) c.in_ok-settle_read.ensures.labels
+    let settled = first_read-settled zero_label_of_gate c.self.inside.labels.items
+    (option_to_list c.self.inside.waiting) c.args.operation in
+    grind (arith, settled)
 
 pub returns-clause-second : goal.returns-clause-second
 returns-clause-second g c =
-    let op = c.args.operation in
-    c.labels_read.ensures.second
-    ∙ ap (λ l. second_read (slice_index l) op) c.deref.ensures.value
-    ∙ second_read-settled zero_label_of_gate c.self.inside.labels.items (option_to_list c.self.inside.waiting) op
-    (ap (λ (t : TableParts). list_any (λ waits. reads op waits.set) t.waiting) c.self.view_is
-    ∙ c.in_ok-settle_read.ensures.unread)
-    ∙ ap (λ (t : TableParts). second_read (slice_index t.labels) op) c.self.view_is
-    ∙ ap (λ l. second_read (slice_index l) op) c.in_ok-settle_read.ensures.labels
+    let settled = second_read-settled zero_label_of_gate c.self.inside.labels.items
+    (option_to_list c.self.inside.waiting) c.args.operation in
+    grind (arith, settled)

@@ -1,5 +1,4 @@
-use Rattle.std.proofs.Common.{◌≡◌, ◌∙◌, ◌<◌, ℕ, List, length, get_or, set, ap, arith, slice_index, inl, inr}
-use Rattle.std.proofs.lemmas.Bool.{cases_eq}
+use Rattle.std.proofs.Common.{◌≡◌, ◌∙◌, ◌<◌, ℕ, List, length, set, ap, arith, slice_index}
 use Rattle.std.proofs.lemmas.Bool.Decides.{nat_tests}
 use Rattle.std.proofs.lemmas.List.{length-set, get_or-set_same, get_or-set_other}
 use Rattle.std.proofs.lemmas.Result.{on_ok_weaker}
@@ -13,10 +12,8 @@ use Rattle.gc_half.proofs.table.GarblingTable.step.Goals as goal
 set-put : (labels : List ℕ) (values : ℕ → ℕ) (s x y : ℕ) → s < length labels
     → ((w : ℕ) → slice_index labels w ≡ values w) → x ≡ y → (w : ℕ)
     → slice_index (set labels s x) w ≡ put values s y w
-set-put labels values s x y within same is w = elim (cases_eq w s) [
-  | inl e ↦ ap (λ k. get_or (set labels s x) k 0) e ∙ get_or-set_same labels s x 0 within ∙ is ∙ grind (arith, nat_tests)
-  | inr other ↦ get_or-set_other labels s w x 0 other ∙ same w ∙ grind (arith, nat_tests)
-]
+set-put labels values s x y within same is w =
+    grind (arith, nat_tests, get_or-set_same labels s x 0, get_or-set_other labels s w x 0, same w)
 
 pub returns-in-And-clause-waiting : goal.returns-in-And-clause-waiting
 returns-in-And-clause-waiting g c = on_ok_weaker c.pair.result (λ h w other before. h w other) c.pair.ensures.waiting
@@ -39,25 +36,24 @@ returns g c =
     let old = c.args.self.now in
     let room = c.in_ok-make_room.ensures in
     let read = c.in_ok-first.ensures in
+    let first = first_read (slice_index old.labels) op in
+    let second = second_read (slice_index old.labels) op in
     let long = ap length c.put.ensures.labels
     ∙ length-set c.make_room.new.self.labels c.args.gate.set c.garble_gate-label.result.0 in
     let kept = ap length read.labels in
     record {
-      label = λ w. ap (λ l. slice_index l w) c.put.ensures.labels
-          ∙ set-put c.make_room.new.self.labels (slice_index old.labels) c.args.gate.set
+      label = λ w. rw c.put.ensures.labels
+          (set-put c.make_room.new.self.labels (slice_index old.labels) c.args.gate.set
           c.garble_gate-label.result.0 _ room.there
           (λ v. room.label v ∙ ap (λ l. slice_index l v) read.labels)
           (c.garble_gate-label.ensures.zero_label
-          ∙ ap (λ a. gate_zero hash c.args.offset 0 op a c.in_ok-first.second) read.first
-          ∙ ap (λ b. gate_zero hash c.args.offset 0 op (first_read (slice_index old.labels) op) b) read.second
-          ∙ free_zero hash c.args.offset 0 (length old.rows) op (first_read (slice_index old.labels) op)
-          (second_read (slice_index old.labels) op) c.in_default.not-And) w;
+          ∙ (λ t. gate_zero hash c.args.offset 0 op (read.first t) (read.second t))
+          ∙ free_zero hash c.args.offset 0 (length old.rows) op first second c.in_default.not-And) w);
       there = omega (arith, long, room.there);
       kept = omega (arith, long, kept, room.kept);
       few = omega (arith, long, room.few);
       rows = c.put.ensures.rows ∙ room.rows ∙ read.rows
-          ∙ free_rows hash c.args.offset (length old.rows) old.rows op (first_read (slice_index old.labels) op)
-          (second_read (slice_index old.labels) op) c.in_default.not-And;
+          ∙ free_rows hash c.args.offset (length old.rows) old.rows op first second c.in_default.not-And;
       compared = λ given before.
           rw c.put.ensures.compared (room.compared given (read.compared given before));
       waiting = λ w other before. rw (c.put.ensures.waiting, room.waiting) (read.waiting w before);
