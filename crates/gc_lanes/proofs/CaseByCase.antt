@@ -1,5 +1,6 @@
 -- Numbers below a bound, case by case.
-use Rattle.std.proofs.Common.{◌≡◌, ℕ, zero, suc, ◌<◌, ◌+◌, ◌*◌, ◌/◌, ◌%◌, subst, arith}
+use Rattle.std.proofs.Common.{◌≡◌, ℕ, zero, suc, ◌<◌, ◌+◌, ◌*◌, ◌/◌, ◌%◌, ◌-◌, inl, inr, subst, arith}
+use Rattle.std.proofs.lemmas.Bool.{cases_lt}
 
 -- what holds of each number below four
 below_four : (P : ℕ → Type 0) → P 0 → P 1 → P 2 → P 3 → (j : ℕ) → j < 4 → P j
@@ -11,15 +12,12 @@ below_four P p0 p1 p2 p3 (suc (suc (suc (suc n)))) lt = absurd (omega arith)
 
 -- what holds of each number below eight
 pub below_eight : (P : ℕ → Type 0) → P 0 → P 1 → P 2 → P 3 → P 4 → P 5 → P 6 → P 7 → (j : ℕ) → j < 8 → P j
-below_eight P p0 p1 p2 p3 p4 p5 p6 p7 zero lt = p0
-below_eight P p0 p1 p2 p3 p4 p5 p6 p7 (suc zero) lt = p1
-below_eight P p0 p1 p2 p3 p4 p5 p6 p7 (suc (suc zero)) lt = p2
-below_eight P p0 p1 p2 p3 p4 p5 p6 p7 (suc (suc (suc zero))) lt = p3
-below_eight P p0 p1 p2 p3 p4 p5 p6 p7 (suc (suc (suc (suc zero)))) lt = p4
-below_eight P p0 p1 p2 p3 p4 p5 p6 p7 (suc (suc (suc (suc (suc zero))))) lt = p5
-below_eight P p0 p1 p2 p3 p4 p5 p6 p7 (suc (suc (suc (suc (suc (suc zero)))))) lt = p6
-below_eight P p0 p1 p2 p3 p4 p5 p6 p7 (suc (suc (suc (suc (suc (suc (suc zero))))))) lt = p7
-below_eight P p0 p1 p2 p3 p4 p5 p6 p7 (suc (suc (suc (suc (suc (suc (suc (suc n)))))))) lt = absurd (omega arith)
+below_eight P p0 p1 p2 p3 p4 p5 p6 p7 j lt = elim (cases_lt j 4) [
+  | inl low ↦ below_four P p0 p1 p2 p3 j low
+  | inr high ↦
+      let split : 4 + (j - 4) ≡ j = omega arith in
+      subst P split (below_four (λ k. P (4 + k)) p4 p5 p6 p7 (j - 4) (omega arith))
+]
 
 -- what holds of each number below sixteen
 pub below_sixteen : (P : ℕ → Type 0) → P 0 → P 1 → P 2 → P 3 → P 4 → P 5 → P 6 → P 7

@@ -11,16 +11,7 @@ word n = omega arith
 
 -- The words of a label are those of its bytes.
 pub last_words-label : (label : ℕ) → low_words label ≡ last_words (to_be_bytes w128 label)
-last_words-label label =
-    let w0 : label % 2 ^ 32 ≡ label / 16777216 % 256 * 16777216 + label / 65536 % 256 * 65536 + label / 256 % 256 * 256
-    + label % 256 = omega arith in
-    let w1 : label / 2 ^ 32 % 2 ^ 32 ≡ label / 2 ^ 56 % 256 * 16777216 + label / 2 ^ 48 % 256 * 65536
-    + label / 2 ^ 40 % 256 * 256 + label / 2 ^ 32 % 256 = omega arith in
-    let w2 : label / 2 ^ 64 % 2 ^ 32 ≡ label / 2 ^ 88 % 256 * 16777216 + label / 2 ^ 80 % 256 * 65536
-    + label / 2 ^ 72 % 256 * 256 + label / 2 ^ 64 % 256 = omega arith in
-    let w3 : label / 2 ^ 96 % 2 ^ 32 ≡ label / 2 ^ 120 % 256 * 16777216 + label / 2 ^ 112 % 256 * 65536
-    + label / 2 ^ 104 % 256 * 256 + label / 2 ^ 96 % 256 = omega arith in
-    λ t. w0 t ∷ w1 t ∷ w2 t ∷ w3 t ∷ []
+last_words-label label = search arith
 
 -- The label of four words is what their bytes spell.
 pub label-front : (a b c d : ℕ) → a < 2 ^ 32 → b < 2 ^ 32 → c < 2 ^ 32 → d < 2 ^ 32

@@ -40,11 +40,14 @@ word_at-append_left a b i le =
 -- a word in the second of two lists
 word_at-append_right : (a b : List ℕ) (n i : ℕ) → length a ≡ n → word_at (a ++ b) (n + i) ≡ word_at b i
 word_at-append_right a b n i e =
-    let at : (k : ℕ) → slice_index (a ++ b) (n + k) ≡ slice_index b k = λ k.
-    rw (← e) (get_or-append-add a b k 0) in
-    let next : (k : ℕ) → slice_index (a ++ b) (n + i + k) ≡ slice_index b (i + k) = λ k.
-    ap (slice_index (a ++ b)) (omega arith) ∙ at (i + k) in
-    rw (at i, next 1, next 2, next 3) refl
+    let at : (j k : ℕ) → j ≡ n + k → slice_index (a ++ b) j ≡ slice_index b k = λ j k is.
+    rw (is, ← e) (get_or-append-add a b k 0) in
+    rw (
+      at (n + i) i refl,
+      at (n + i + 1) (i + 1) (omega arith),
+      at (n + i + 2) (i + 2) (omega arith),
+      at (n + i + 3) (i + 3) (omega arith),
+    ) refl
 
 pub IsBlockOf_words : (l t : List ℕ) → length l ≡ 16 → length t ≡ 8
     → IsBlockOf ((l ++ t) ++ ending) (padded_words l t)

@@ -44,9 +44,8 @@ module _ (f : ℕ → ℕ → ℕ) (gives : GivesWord f) (n : ℕ) (a b : List �
   -- an operation on two vectors is one on the words of each lane
   pub lane-zip2 : (j : ℕ) → j < n → lane (zip2 f a b) j ≡ f (lane a j) (lane b j)
   lane-zip2 j lt =
-      lane-is (zip2 f a b) AreWords-zip2.1 j
-      ∙ get_or-zip2 f a b j 0 0 0 (omega (arith, wa.0)) (omega (arith, wb.0))
-      ∙ (λ t. f (sym (lane-is a wa.1 j) t) (sym (lane-is b wb.1 j) t))
+      rw (lane-is (zip2 f a b) AreWords-zip2.1 j, lane-is a wa.1 j, lane-is b wb.1 j)
+      (get_or-zip2 f a b j 0 0 0 (omega (arith, wa.0)) (omega (arith, wb.0)))
 
 abbrev right : ℕ → ℕ → ℕ
 right x k = x / 2 ^ k
@@ -73,22 +72,17 @@ module _ (n : ℕ) (a : List ℕ) (wa : AreWords n a) (k : ℕ) where
       → lane (zip2 bit_or (zip2 right a (replicate n k)) (zip2 left a (replicate n (32 - k)))) j
       ≡ rotate_right w32 (lane a j) k
   lane-rotated low high j in_lanes =
-      let x = lane a j in
-      let fits : k < 2 ^ 32 = omega arith in
-      let fits_rest : 32 - k < 2 ^ 32 = omega arith in
-      let wk = AreWords-splat n k fits in
-      let wr = AreWords-splat n (32 - k) fits_rest in
-      let rights = zip2 right a (replicate n k) in
-      let lefts = zip2 left a (replicate n (32 - k)) in
+      let wk = AreWords-splat n k (omega arith) in
+      let fits : 32 - k < 2 ^ 32 = omega arith in
+      let wr = AreWords-splat n (32 - k) fits in
       let down : k % 32 ≡ k = omega arith in
       let up : (32 - k) % 32 ≡ 32 - k = omega arith in
-      lane-zip2 bit_or (or_lt 32) n rights lefts
-      (AreWords-zip2 right right-gives n a (replicate n k) wa wk)
-      (AreWords-zip2 left left-gives n a (replicate n (32 - k)) wa wr) j in_lanes
-      ∙ rw (
+      rw (
+        lane-zip2 bit_or (or_lt 32) n _ _ (AreWords-zip2 right right-gives n a (replicate n k) wa wk)
+            (AreWords-zip2 left left-gives n a (replicate n (32 - k)) wa wr) j in_lanes,
         lane-right high j in_lanes,
         lane-zip2 left left-gives n a (replicate n (32 - k)) wa wr j in_lanes,
-        lane-splat n (32 - k) j fits_rest in_lanes,
+        lane-splat n (32 - k) j fits in_lanes,
         down,
         up,
       ) refl
