@@ -13,7 +13,7 @@ use Rattle.gc_netlist.specs.declared.gate.Operation.TheVariants.{Xor, And, Inv, 
 use Rattle.gc_netlist.specs.declared.gate.Gate.{Gate}
 use Rattle.gc_netlist.specs.Circuit.{Netlist, and_number}
 use Rattle.gc_netlist.specs.Solution.{put_gate, values_after}
-use Rattle.gc_label.specs.Label.{◌⊕◌, times, bytes_of_label}
+use Rattle.gc_label.specs.Label.{◌⊕◌, times, bytes_of_label, label_of_bytes}
 use Rattle.gc_label.specs.Seed.{offset_of}
 use Rattle.gc_label.proofs.LabelLemmas.{byte_at_is, label_of_bytes-lt}
 use Rattle.gc_label.proofs.SeedLemmas.{offset_of-lt, input_label_of-lt}
@@ -29,35 +29,9 @@ IsSmall label = label < 2 ^ 128
 
 -- ---- the hash
 
--- each of these is a byte
-abbrev AreBytes : List ℕ → Type 0
-AreBytes bytes = (i : ℕ) → get_or bytes i 0 < 256
-
-AreBytes-append : (xs ys : List ℕ) → AreBytes xs → AreBytes ys → AreBytes (xs ++ ys)
-AreBytes-append xs ys hx hy i = grind (arith, common_steps)
-
-AreBytes-take : (n : ℕ) (xs : List ℕ) → AreBytes xs → AreBytes (take n xs)
-AreBytes-take n xs h i = grind (arith, common_steps)
-
-AreBytes-bytes_high_first : (k n : ℕ) → AreBytes (bytes_high_first k n)
-AreBytes-bytes_high_first zero n i = omega arith
-AreBytes-bytes_high_first (suc k) n zero = omega (arith, byte_at_is k n)
-AreBytes-bytes_high_first (suc k) n (suc i) = AreBytes-bytes_high_first k n i
-
-AreBytes-digest_bytes : (h : List ℕ) (n : ℕ) → AreBytes (digest_bytes h n)
-unfolding digest_bytes
-AreBytes-digest_bytes h zero i = omega arith
-AreBytes-digest_bytes h (suc n) i =
-    AreBytes-append (digest_bytes h n) (to_be_bytes w32 (get_or h n 0)) (λ k. AreBytes-digest_bytes h n k)
-    (AreBytes-bytes_high_first 4 (get_or h n 0)) i
-
 pub IsSmall-hash : (label tweak : ℕ) → IsSmall (hash label tweak)
-unfolding hash sha256
-IsSmall-hash label tweak =
-    let text = bytes_of_label label ++ tweak_bytes tweak in
-    let len = length-sha256 text in
-    label_of_bytes-lt (take 16 (sha256 text)) (length-take-le 16 (sha256 text) (omega (arith, len)))
-    (AreBytes-take 16 (sha256 text) (AreBytes-digest_bytes _ 8))
+unfolding hash sha256 digest_bytes label_of_bytes
+IsSmall-hash label tweak = omega arith
 
 -- ---- gates
 
@@ -76,13 +50,10 @@ module _ (k r : ℕ) (fits : IsSmall r) (a b : ℕ) (ha : IsSmall a) (hb : IsSma
   IsSmall-evaluator_row : IsSmall (evaluator_row hash k r a b)
   IsSmall-evaluator_row = search small
 
-  IsSmall-and_zero : IsSmall (and_zero hash k r a b)
-  IsSmall-and_zero = search (small, IsSmall-generator_row, IsSmall-evaluator_row)
-
 IsSmall-zero_of : (r : ℕ) → IsSmall r → (label : ℕ → ℕ) → ((w : ℕ) → IsSmall (label w))
     → (k : ℕ) (op : Operation) → IsSmall (zero_of hash r label k op)
 IsSmall-zero_of r fits label h k (Xor a b) = search small
-IsSmall-zero_of r fits label h k (And a b) = IsSmall-and_zero k r fits (label a) (label b) (h a) (h b)
+IsSmall-zero_of r fits label h k (And a b) = search small depth 12
 IsSmall-zero_of r fits label h k (Inv a) = search small
 IsSmall-zero_of r fits label h k (Eq v) = search small
 IsSmall-zero_of r fits label h k (Eqw a) = h a
@@ -117,21 +88,13 @@ module _ (c : Netlist) (seed : List ℕ) where
   abbrev pub AreSmallRows : RowPair → Type 0
   AreSmallRows pair = IsSmall pair.generator × IsSmall pair.evaluator
 
-  pushed : (pairs : List RowPair) (pair last : RowPair) (k : ℕ)
-      → slice_get (pairs ++ last ∷ []) k ≡ Some pair →
-      (slice_get pairs k ≡ Some pair) ⊎ (last ≡ pair)
-  pushed pairs pair last k h = grind (arith, common_steps, gets)
-
   -- each pair that stands in a list is small
   abbrev pub AllSmall : List RowPair → Type 0
   AllSmall pairs = (k : ℕ) (pair : RowPair) → slice_get pairs k ≡ Some pair → AreSmallRows pair
 
   small-push : (pairs : List RowPair) → AllSmall pairs → (last : RowPair) → AreSmallRows last
       → AllSmall (pairs ++ last ∷ [])
-  small-push pairs h last small k pair at = elim (pushed pairs pair last k at) [
-    | inl before ↦ h k pair before
-    | inr same ↦ let P : RowPair → Type 0 = AreSmallRows in subst P same small
-  ]
+  small-push pairs h last small k pair at = grind (arith, common_steps, gets, h k pair)
 
   small-with_operation : (number : ℕ) (pairs : List RowPair) → AllSmall pairs → (op : Operation) →
       AllSmall (with_operation hash (offset_of seed) (zero_label_of c seed) number pairs op)

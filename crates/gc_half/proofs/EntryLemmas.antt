@@ -29,3 +29,6 @@ entry_of-hash offset g i s wire zero_label tweak place at tweak_is =
     let read = sym (get_or_from_slice_get g.zero_labels wire zero_label 0 at)
     ∙ ap (slice_index g.zero_labels) place in
     λ t. hash (label_of_colour offset (read t) s) (tweak_is t)
+
+-- What the functions of entries need.
+pub ruleset entries = (colour-label_of_colour, label_of_colour-sum, entry_of-hash)

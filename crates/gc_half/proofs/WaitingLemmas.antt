@@ -60,3 +60,5 @@ module _ {T : Type 0} (label : T → ℕ) where
       → second_read (slice_index labels) op ≡ second_read (slice_index (settled label labels ws)) op
   second_read-settled labels ws op free =
       second_read-local (slice_index labels) (slice_index (settled label labels ws)) op (settled-unread labels ws op free)
+
+pub ruleset reads_settled = (first_read-settled, second_read-settled)

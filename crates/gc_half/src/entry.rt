@@ -84,6 +84,7 @@ fn hashed_of_two<A: Allocator, B: Allocator>(
 }
 
 /// What entry `s` of output i hashes: a label, and the tweak of the output.
+#[tactic(auto, using(crate::proofs::EntryLemmas::entries))]
 #[inline]
 fn hashed<A: Allocator, B: Allocator>(
     circuit: &Circuit<A>,
@@ -103,6 +104,7 @@ fn hashed<A: Allocator, B: Allocator>(
 }
 
 /// That one of a wire's two labels whose colour is `s`.
+#[tactic(auto, using(crate::proofs::EntryLemmas::entries))]
 #[inline]
 fn label_of_colour(offset: Offset, zero_label: Label, s: bool) -> Label
     ensures label { result ≡ label_of_colour offset zero_label s }

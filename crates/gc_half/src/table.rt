@@ -102,6 +102,7 @@ impl<A: Allocator> GarblingTable<A> {
 
     /// The labels of the wires that an operation reads first and second. A gate that waits is garbled first where it
     /// sets one of these wires.
+    #[tactic(auto, using(crate::proofs::WaitingLemmas::reads_settled))]
     #[inline(always)]
     fn read(&mut self, operation: Operation) -> Result<(Label, Label), Memory>
         requires { EachRead (λ w. w < length self.old.labels) operation }
