@@ -44,12 +44,6 @@ module _ (c : Netlist) (seed : List ℕ) where
       solution-not_set (zero_rule hash (offset_of seed) c) c (input_zero c seed) w unset
       ∙ input_zero-other w (λ input. unset (inl input))
 
-  -- The rows are those of the zero labels.
-  row_pairs_of-rows : row_pairs_of c seed ≡ rows_after hash (offset_of seed) c (zero_label_of c seed)
-      (length c.gates)
-  unfolding row_pairs_of
-  row_pairs_of-rows = refl
-
   module _ (lawful : IsLawful c) where
     solves : Solves (zero_rule hash (offset_of seed) c) c (input_zero c seed) (zero_label_of c seed)
     unfolding zero_label_of
@@ -69,10 +63,10 @@ module _ (c : Netlist) (seed : List ℕ) where
     -- So these labels and rows are a garbling.
     pub canonical-garbling : IsGarbling hash (offset_of seed) c (input_label_of seed)
         (zero_label_of c seed) (row_pairs_of c seed)
+    unfolding row_pairs_of
     canonical-garbling =
-        rw row_pairs_of-rows
-        (rows-garbling hash (offset_of seed) c lawful (input_label_of seed) (zero_label_of c seed)
-        (record { inputs = zero_label_of-input; gates = zero_label_of-gate }))
+        rows-garbling hash (offset_of seed) c lawful (input_label_of seed) (zero_label_of c seed)
+        (record { inputs = zero_label_of-input; gates = zero_label_of-gate })
 
     -- An AND gate's row pair stands at its AND number,
     pub row_pairs_of-at : (i : ℕ) (g : Gate) (a b : ℕ) → slice_get c.gates i ≡ Some g
@@ -121,11 +115,8 @@ module _ (c : Netlist) (seed : List ℕ) where
     pub IsGarbled-decode_bits : (g : GarblingParts) → IsGarbled c seed g
         → decode_bits_of g ≡ decode_bits c (zero_label_of c seed)
     IsGarbled-decode_bits g garbled =
-        ap decode_bits_of (IsGarbled-same g garbled)
-        ∙ ap (λ n. map colour (drop (n - output_wires c)
-        (map (zero_label_of c seed) (range_with_len 0 c.wires))))
-        (length-map-range_with_len (zero_label_of c seed) 0 c.wires)
-        ∙ ap (map colour) (table_end (zero_label_of c seed) c.wires (output_wires c) lawful.outputs_fit)
+        rw (IsGarbled-same g garbled, length-map-range_with_len (zero_label_of c seed) 0 c.wires)
+        (ap (map colour) (table_end (zero_label_of c seed) c.wires (output_wires c) lawful.outputs_fit))
 
     -- and what its rows evaluate to, on labels that stand for input bits, decodes to the output bits.
     pub canonical-decodes : (input_bits bits : ℕ → Bool) → IsAssignment c input_bits bits → (active : ℕ → ℕ) →

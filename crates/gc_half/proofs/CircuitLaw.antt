@@ -15,41 +15,26 @@ use Rattle.gc_half.specs.declared.garbling.RowPair.{RowPair}
 use Rattle.gc_half.specs.HalfGate.{and_active}
 use Rattle.gc_half.specs.OneGate.{gate_active}
 use Rattle.gc_half.specs.Garbling.{zero_of, rows_of, IsGarbling}
-use Rattle.gc_half.specs.Evaluation.{active_of, active_rule, IsEvaluation, encode, decode}
+use Rattle.gc_half.specs.Evaluation.{row_at, active_of, active_rule, IsEvaluation, encode, decode}
 use Rattle.gc_half.specs.Law.{Decodes}
 use Rattle.gc_half.proofs.OneGateLemmas.{first_read-local, second_read-local}
 use Rattle.gc_half.proofs.HalfGateLaw.{and_law, colour-encode, sums}
 
 -- The active label of the wire that a gate sets looks at the wires that it reads alone.
-active_of_local : (hash : ℕ → ℕ → ℕ) (u v : ℕ → ℕ) (k : ℕ) (row : RowPair) (op : Operation) →
-    EachRead (λ w. u w ≡ v w) op → active_of hash u k row op ≡ active_of hash v k row op
-active_of_local hash u v k row op h =
-    λ t. gate_active hash k row op (first_read-local u v op h t) (second_read-local u v op h t)
-
 pub active_local : (hash : ℕ → ℕ → ℕ) (c : Netlist) (rows : List RowPair) → IsLocal (active_rule hash c rows)
-active_local hash c rows u v i g h = active_of_local hash u v _ _ g.operation h
+active_local hash c rows u v i g h =
+    λ t. gate_active hash (and_number c i) (row_at rows (and_number c i)) g.operation
+    (first_read-local u v g.operation h t) (second_read-local u v g.operation h t)
 
--- The label of an exclusive or is the sum of the labels.
-encode-xor : (r a b : ℕ) (x y : Bool) → encode r (a ⊕ b) (xor x y) ≡ encode r a x ⊕ encode r b y
-encode-xor r a b x y = grind sums
-
--- The label of a negation is the label, where the zero label has the offset added.
-encode-not : (r a : ℕ) (x : Bool) → encode r (a ⊕ r) (not x) ≡ encode r a x
-encode-not r a x = grind sums
-
--- A decode bit and the colour of the label that stands for a bit give the bit.
-decode-encode : (r a : ℕ) (x : Bool) → colour r ≡ true → xor (colour a) (colour (encode r a x)) ≡ x
-decode-encode r a x odd = rw (colour-encode r a x odd) (grind arith)
-
--- So it is for wires in a row.
+-- A decode bit and the colour of the label that stands for a bit give the bit, and so for wires in a row.
 decode-wires : (r : ℕ) → colour r ≡ true → (label active : ℕ → ℕ) (bits : ℕ → Bool) (first count : ℕ) →
     ((w : ℕ) → first ≤ w → w < first + count → active w ≡ encode r (label w) (bits w)) →
     decode (map colour (map label (range_with_len first count))) (map active (range_with_len first count))
     ≡ map bits (range_with_len first count)
 decode-wires r odd label active bits first zero h = refl
 decode-wires r odd label active bits first (suc count) h =
-    let here = ap (λ y. xor (colour (label first)) (colour y)) (h first (omega arith) (omega arith))
-    ∙ decode-encode r (label first) (bits first) odd in
+    let here : xor (colour (label first)) (colour (active first)) ≡ bits first =
+    rw (h first (omega arith) (omega arith), colour-encode r (label first) (bits first) odd) (grind arith) in
     let rest = decode-wires r odd label active bits (first + 1) count
     (λ w low high. h w (omega arith) (omega arith)) in
     λ t. here t ∷ rest t
@@ -60,13 +45,13 @@ module _ (hash : ℕ → ℕ → ℕ) (r : ℕ) (odd : colour r ≡ true) where
       ((a b : ℕ) → op ≡ And a b → row ≡ rows_of hash r label k a b) →
       encode r (zero_of hash r label k op) (bit_of bits op) ≡ active_of hash
       (λ w. encode r (label w) (bits w)) k row op
-  encode-operation label bits k row (Xor a b) h = encode-xor r (label a) (label b) (bits a) (bits b)
+  encode-operation label bits k row (Xor a b) h = grind sums
   encode-operation label bits k row (And a b) h =
       sym (and_law hash k r (label a) (label b) (bits a) (bits b) odd)
       ∙ ap (λ (w : RowPair). and_active hash k w.generator w.evaluator (encode r (label a) (bits a))
       (encode r (label b) (bits b))) (sym (h a b refl))
-  encode-operation label bits k row (Inv a) h = encode-not r (label a) (bits a)
-  encode-operation label bits k row (Eq b) h = xor_self (times b r)
+  encode-operation label bits k row (Inv a) h = grind sums
+  encode-operation label bits k row (Eq b) h = grind sums
   encode-operation label bits k row (Eqw a) h = refl
 
   module _ (c : Netlist) (lawful : IsLawful c) (given label : ℕ → ℕ) (rows : List RowPair)

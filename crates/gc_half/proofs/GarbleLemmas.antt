@@ -17,7 +17,6 @@ use Rattle.gc_half.specs.Hash.{hash}
 use Rattle.gc_half.specs.OneGate.{first_read, second_read, gate_rows}
 use Rattle.gc_half.specs.Garbling.{zero_of, zero_rule, GarblingParts, IsGarbled}
 use Rattle.gc_half.specs.Canonical.{input_zero, zero_label_of, row_pairs_of, garbling_of, rows_after, with_operation, with_row_pair}
-use Rattle.gc_half.proofs.AndNumbers.{and_number-le}
 use Rattle.gc_half.proofs.OneGateLemmas.{first_read-local, second_read-local}
 use Rattle.gc_half.proofs.GarblingLemmas.{zero_local}
 use Rattle.gc_half.proofs.RowLemmas.{rows_after-next, length-rows_after}
@@ -109,23 +108,19 @@ module _ (c : Netlist) (seed : List ℕ) where
     labels-read i g at labels are =
         EachRead-map (IsSetBefore c i) (λ w. w < length labels) g.operation are.there (lawful.reads i g at)
 
-    -- There are at most as many row pairs as gates so far.
-    pub rows-few : (i : ℕ) → i ≤ length c.gates → (rows : List RowPair)
-        → rows ≡ rows_after hash (offset_of seed) c (zero_label_of c seed) i →
-        length rows ≤ i
-    rows-few i within rows are =
-        let len = ap length are ∙ length-rows_after hash (offset_of seed) c (zero_label_of c seed) i within in
-        omega (arith, and_number-le c i)
+    -- There are as many row pairs as AND gates so far.
+    pub rows-number : (i : ℕ) → i ≤ length c.gates → (rows : List RowPair)
+        → rows ≡ rows_after hash (offset_of seed) c (zero_label_of c seed) i → length rows ≡ and_number c i
+    rows-number i within rows are =
+        rw are (length-rows_after hash (offset_of seed) c (zero_label_of c seed) i within)
 
     module _ (i : ℕ) (g : Gate) (at : slice_get c.gates i ≡ Some g) (labels : List ℕ) (rows : List RowPair)
         (are : AreLabels i labels) (rows_are : rows ≡ rows_after hash (offset_of seed) c
         (zero_label_of c seed) i) where
-      -- So far there are as many row pairs as the gate's AND number says.
       number : length rows ≡ and_number c i
       number =
           let within : i < length c.gates = slice_get_within c.gates i g at in
-          ap length rows_are ∙ length-rows_after hash (offset_of seed) c (zero_label_of c seed) i
-          (omega arith)
+          rows-number i (omega arith) rows rows_are
 
       -- The gate's label is put where it belongs,
       pub labels-next : (new : List ℕ) → ((w : ℕ) → slice_index new w ≡ put (slice_index labels) g.set

@@ -20,21 +20,11 @@ use Rattle.gc_half.proofs.CircuitLaw.{active_local}
 use Rattle.gc_half.proofs.RowLemmas.{length-rows_after, rows_after-at, rows-take}
 
 module _ (hash : ℕ → ℕ → ℕ) (r : ℕ) where
-  -- The zero label of the wire that a gate sets looks at the wires that it reads alone,
-  pub zero_of_local : (u v : ℕ → ℕ) (k : ℕ) (op : Operation) → EachRead (λ w. u w ≡ v w) op →
-      zero_of hash r u k op ≡ zero_of hash r v k op
-  zero_of_local u v k op h =
-      λ t. gate_zero hash r k op (first_read-local u v op h t) (second_read-local u v op h t)
-
+  -- The zero label of the wire that a gate sets looks at the wires that it reads alone.
   pub zero_local : (c : Netlist) → IsLocal (zero_rule hash r c)
-  zero_local c u v i g h = zero_of_local u v (and_number c i) g.operation h
-
-  -- and so do its rows.
-  rows_of_local : (u v : ℕ → ℕ) (k a b : ℕ) (op : Operation) → op ≡ And a b
-      → EachRead (λ w. u w ≡ v w) op → rows_of hash r u k a b ≡ rows_of hash r v k a b
-  rows_of_local u v k a b op is h =
-      let same = rw is at h in
-      λ t. row_pair hash r k (same.0 t) (same.1 t)
+  zero_local c u v i g h =
+      λ t. gate_zero hash r (and_number c i) g.operation (first_read-local u v g.operation h t)
+      (second_read-local u v g.operation h t)
 
   -- A garbling is one at other zero labels too that are the same on the wires that are set.
   pub IsGarbling-same : (c : Netlist) → IsLawful c → (given u v : ℕ → ℕ) (rows : List RowPair)
@@ -52,8 +42,9 @@ module _ (hash : ℕ → ℕ → ℕ) (r : ℕ) where
           ∙ garbling.labels.gates i g at ∙ zero_local c u v i g (reads i g at);
     };
     and_gates = λ i g a b at is.
+        let read = rw is at (reads i g at) in
         garbling.and_gates i g a b at is
-        ∙ ap Some (rows_of_local u v (and_number c i) a b g.operation is (reads i g at));
+        ∙ (λ t. Some (row_pair hash r (and_number c i) (read.0 t) (read.1 t)));
     row_count = garbling.row_count;
   }
     where

@@ -1,6 +1,6 @@
 -- A message of 24 bytes has one block, whose words are those of the label, the tweak and the padding.
 use Rattle.std.proofs.Common.{◌≡◌, ℕ, ◌+◌, ◌*◌, ◌<◌, ◌≤◌, List, ◌∷◌, ◌++◌, length, take, replicate, refl, sym, ap, ◌∙◌, arith, length-append}
-use Rattle.std.proofs.lemmas.List.{get_or-append-add, get_or_append_left, take_all}
+use Rattle.std.proofs.lemmas.List.{get_or-append_right, get_or_append_left, take_all}
 use Rattle.std.specs.Int.{w32, w64, to_be_bytes}
 use Rattle.std.specs.Prelude.{slice_index}
 use Rattle.sha2.specs.Sha256.{compress, digest_bytes, hash_after, initial_hash_256, sha256, word_at}
@@ -29,25 +29,11 @@ sha256-one_block m long =
 
 -- a word in the first of two lists
 word_at-append_left : (a b : List ℕ) (i : ℕ) → i + 4 ≤ length a → word_at (a ++ b) i ≡ word_at a i
-word_at-append_left a b i le =
-    rw (
-      get_or_append_left a b 0 i (omega arith),
-      get_or_append_left a b 0 (i + 1) (omega arith),
-      get_or_append_left a b 0 (i + 2) (omega arith),
-      get_or_append_left a b 0 (i + 3) (omega arith),
-    ) refl
+word_at-append_left a b i le = grind (arith, get_or_append_left)
 
 -- a word in the second of two lists
 word_at-append_right : (a b : List ℕ) (n i : ℕ) → length a ≡ n → word_at (a ++ b) (n + i) ≡ word_at b i
-word_at-append_right a b n i e =
-    let at : (j k : ℕ) → j ≡ n + k → slice_index (a ++ b) j ≡ slice_index b k = λ j k is.
-    rw (is, ← e) (get_or-append-add a b k 0) in
-    rw (
-      at (n + i) i refl,
-      at (n + i + 1) (i + 1) (omega arith),
-      at (n + i + 2) (i + 2) (omega arith),
-      at (n + i + 3) (i + 3) (omega arith),
-    ) refl
+word_at-append_right a b n i e = grind (arith, get_or-append_right)
 
 pub IsBlockOf_words : (l t : List ℕ) → length l ≡ 16 → length t ≡ 8
     → IsBlockOf ((l ++ t) ++ ending) (padded_words l t)
@@ -64,15 +50,11 @@ IsBlockOf_words l t el et =
     (tweak 0 (omega arith)) (tweak 4 (omega arith)) (after 0) (after 4)
     (after 8) (after 12) (after 16) (after 20) (after 24) (after 28) (after 32) (after 36)
 
-take-digest_bytes : (h : List ℕ) → take 16 (digest_bytes h 8) ≡ front_of_digest h
-unfolding digest_bytes
-take-digest_bytes h = refl
-
 -- the first half of the digest, from the words of the compressed state
 pub take-sha256 : (l t h : List ℕ) → length l ≡ 16 → length t ≡ 8
     → h ≡ compress initial_hash_256 ((l ++ t) ++ ending)
     → front_of_digest h ≡ take 16 (sha256 (l ++ t))
+unfolding digest_bytes
 take-sha256 l t h el et eh =
     let long : length (l ++ t) ≡ 24 = omega (arith, length-append l t) in
-    sym (take-digest_bytes h) ∙ ap (λ (x : List ℕ). take 16 (digest_bytes x 8)) eh
-    ∙ sym (ap (take 16) (sha256-one_block (l ++ t) long))
+    rw (sha256-one_block (l ++ t) long, ← eh) refl

@@ -1,9 +1,10 @@
 use Rattle.std.proofs.Common.{◌≡◌, ◌+◌, length, refl, sym, ap, ◌∙◌, inr, arith}
 use Rattle.gc_netlist.proofs.SolutionLemmas.{IsSetBefore-more}
 use Rattle.gc_half.specs.Garbling.{GarblingParts}
+use Rattle.gc_half.proofs.AndNumbers.{and_number-le}
 use Rattle.gc_half.proofs.ComparingLemmas.{compared-start, compared-end}
 use Rattle.gc_half.proofs.RowLemmas.{rows_after-start}
-use Rattle.gc_half.proofs.GarbleLemmas.{AreLabels, labels-start, labels-read, labels-next, padded-table, rows-few, rows-next, garbled-end}
+use Rattle.gc_half.proofs.GarbleLemmas.{AreLabels, labels-start, labels-read, labels-next, padded-table, rows-number, rows-next, garbled-end}
 use Rattle.gc_half.proofs.garble.garble_over.Goals as goal
 
 pub loop-i-init : goal.loop-i-init
@@ -23,12 +24,12 @@ step-requires g c =
     let i = c.loop-i.i in
     let gate = c.gate.result in
     let before = c.loop-i.invariant in
-    let few = rows-few netlist c.args.seed.now lawful i (omega arith) c.loop-i.table.rows before.rows in
+    let rows = rows-number netlist c.args.seed.now lawful i (omega arith) c.loop-i.table.rows before.rows in
     record {
       read = labels-read netlist c.args.seed.now lawful i gate c.gate.ensures c.loop-i.table.labels before.labels;
       place = omega (arith, lawful.sets i gate c.gate.ensures);
       few = omega (arith, before.labels.few);
-      number = omega (arith, few);
+      number = omega (arith, rows, and_number-le netlist i);
       once = before.waiting gate.set (lawful.sets_once i gate c.gate.ensures);
     }
 

@@ -9,7 +9,6 @@ pub loop-i-preserved : goal.loop-i-preserved
 loop-i-preserved g c =
     let circuit = c.args.circuit.now in
     let i = c.loop-i.i in
-    let next : suc i ≡ i + 1 = omega arith in
     record {
       written = grind (arith, map-range_with_len_more (and_number circuit) 0 i i);
       next = grind (arith, and_number-and circuit i c.gate.result, and_number-other circuit i c.gate.result);
