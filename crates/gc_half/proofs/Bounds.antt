@@ -1,25 +1,21 @@
 -- Hashes, zero labels, rows and active labels are 16 bytes long: as numbers they are below 2 ^ 128.
-use Rattle.std.proofs.Common.{◌≡◌, ℕ, zero, suc, ◌^◌, ◌<◌, ◌⊎◌, inl, inr, Bool, List, [], ◌∷◌, ◌++◌, length, take, get_or, slice_get, Option, Some, None, subst, arith}
-use Rattle.std.specs.Int.{w32, bytes_high_first, to_be_bytes}
+use Rattle.std.proofs.Common.{◌≡◌, ℕ, zero, suc, ◌^◌, ◌<◌, Bool, List, [], ◌∷◌, ◌++◌, length, slice_get, Option, Some, None, arith}
 use Rattle.std.proofs.lemmas.Nat.{xor_lt}
 use Rattle.std.proofs.lemmas.Bool.Decides.{nat_tests}
 use Rattle.std.proofs.lemmas.Grind.{common_steps}
 use Rattle.std.proofs.lemmas.Option.{gets}
-use Rattle.std.proofs.lemmas.List.{length-take-le}
 use Rattle.sha2.specs.Sha256.{sha256, digest_bytes}
-use Rattle.sha2.proofs.Facts256.{length-sha256}
 use Rattle.gc_netlist.specs.declared.gate.Operation.{Operation}
 use Rattle.gc_netlist.specs.declared.gate.Operation.TheVariants.{Xor, And, Inv, Eq, Eqw}
 use Rattle.gc_netlist.specs.declared.gate.Gate.{Gate}
 use Rattle.gc_netlist.specs.Circuit.{Netlist, and_number}
 use Rattle.gc_netlist.specs.Solution.{put_gate, values_after}
-use Rattle.gc_label.specs.Label.{◌⊕◌, times, bytes_of_label, label_of_bytes}
+use Rattle.gc_label.specs.Label.{◌⊕◌, times, label_of_bytes}
 use Rattle.gc_label.specs.Seed.{offset_of}
-use Rattle.gc_label.proofs.LabelLemmas.{byte_at_is, label_of_bytes-lt}
 use Rattle.gc_label.proofs.SeedLemmas.{offset_of-lt, input_label_of-lt}
 use Rattle.gc_half.specs.declared.garbling.RowPair.{RowPair}
-use Rattle.gc_half.specs.Hash.{hash, tweak_bytes}
-use Rattle.gc_half.specs.HalfGate.{generator_row, evaluator_row, and_zero}
+use Rattle.gc_half.specs.Hash.{hash}
+use Rattle.gc_half.specs.HalfGate.{generator_row, evaluator_row}
 use Rattle.gc_half.specs.Garbling.{zero_of, zero_rule}
 use Rattle.gc_half.specs.Canonical.{input_zero, zero_label_of, row_pairs_of, rows_after, with_operation, with_gate}
 

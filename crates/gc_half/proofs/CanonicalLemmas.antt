@@ -1,5 +1,5 @@
 -- The garbling of a circuit under a seed, as functions: it is one, and there is no other.
-use Rattle.std.proofs.Common.{◌≡◌, ℕ, ◌-◌, ◌<◌, inl, inr, Bool, List, length, map, drop, get_or, slice_get, slice_index, Some, refl, sym, ap, ◌∙◌, arith}
+use Rattle.std.proofs.Common.{◌≡◌, ℕ, ◌<◌, inl, inr, Bool, List, length, map, get_or, slice_get, slice_index, Some, refl, sym, ap, ◌∙◌, arith}
 use Rattle.std.specs.List.{range_with_len}
 use Rattle.std.proofs.lemmas.Bool.Decides.{nat_tests}
 use Rattle.std.proofs.lemmas.List.FromFn.{fill_by_all, length-map-range_with_len}
@@ -17,7 +17,7 @@ use Rattle.gc_half.specs.declared.garbling.RowPair.{RowPair}
 use Rattle.gc_half.specs.Hash.{hash}
 use Rattle.gc_half.specs.Garbling.{zero_of, zero_rule, rows_of, IsGarbling, GarblingParts, decode_bits_of, IsGarbled}
 use Rattle.gc_half.specs.Evaluation.{IsEvaluation, active_rule, encode, decode_bits}
-use Rattle.gc_half.specs.Canonical.{input_zero, zero_label_of, rows_after, row_pairs_of, garbling_of, active_label_of}
+use Rattle.gc_half.specs.Canonical.{input_zero, zero_label_of, row_pairs_of, garbling_of, active_label_of}
 use Rattle.gc_half.specs.Law.{HasOneGarbling, HasOneGarbled, Decodes}
 use Rattle.gc_half.proofs.CircuitLaw.{active_local, garbling-decodes}
 use Rattle.gc_half.proofs.SetWires.{set_or_not, solution-not_set}
@@ -96,8 +96,7 @@ module _ (c : Netlist) (seed : List ℕ) where
     -- and it is the only one.
     pub IsGarbled-same : (g : GarblingParts) → IsGarbled c seed g → g ≡ garbling_of c seed
     IsGarbled-same g garbled =
-        parts-same g _ _ _ (fill_by_all (zero_label_of c seed) g.zero_labels c.wires 0 garbled.wires label_at)
-        rows garbled.outputs
+        parts-same g _ _ _ zero_labels rows garbled.outputs
       where
         only : HasOneGarbling hash (offset_of seed) c (input_label_of seed)
         only = one_garbling hash (offset_of seed) c lawful (input_label_of seed)
@@ -111,12 +110,16 @@ module _ (c : Netlist) (seed : List ℕ) where
           | inr unset ↦ garbled.not_set w below unset ∙ sym (zero_label_of-not_set w unset)
         ]
 
+        zero_labels : g.zero_labels ≡ map (zero_label_of c seed) (range_with_len 0 c.wires)
+        zero_labels = fill_by_all (zero_label_of c seed) g.zero_labels c.wires 0 garbled.wires label_at
+
     -- Its decode bits are the colours of the output wires' zero labels,
     pub IsGarbled-decode_bits : (g : GarblingParts) → IsGarbled c seed g
         → decode_bits_of g ≡ decode_bits c (zero_label_of c seed)
     IsGarbled-decode_bits g garbled =
-        rw (IsGarbled-same g garbled, length-map-range_with_len (zero_label_of c seed) 0 c.wires)
-        (ap (map colour) (table_end (zero_label_of c seed) c.wires (output_wires c) lawful.outputs_fit))
+        let label = zero_label_of c seed in
+        rw (IsGarbled-same g garbled, length-map-range_with_len label 0 c.wires)
+        (ap (map colour) (table_end label c.wires (output_wires c) lawful.outputs_fit))
 
     -- and what its rows evaluate to, on labels that stand for input bits, decodes to the output bits.
     pub canonical-decodes : (input_bits bits : ℕ → Bool) → IsAssignment c input_bits bits → (active : ℕ → ℕ) →

@@ -1,16 +1,15 @@
 -- The law of a garbled circuit: on each wire that is set the active label stands for the wire's bit, and the outputs
 -- decode to the bits of the output wires.
-use Rattle.std.proofs.Common.{◌≡◌, ℕ, zero, suc, ◌+◌, ◌-◌, ◌<◌, ◌≤◌, Bool, true, not, List, ◌∷◌, map, refl, sym, ap, ◌∙◌, arith}
-use lib.Bits.{xor_self}
+use Rattle.std.proofs.Common.{◌≡◌, ℕ, zero, suc, ◌+◌, ◌-◌, ◌<◌, ◌≤◌, Bool, true, List, ◌∷◌, map, refl, sym, ap, ◌∙◌, arith}
 use Rattle.std.specs.List.{range_with_len}
 use Rattle.std.proofs.lemmas.Option.{get_or_from_slice_get}
 use Rattle.gc_netlist.specs.declared.gate.Operation.{Operation}
 use Rattle.gc_netlist.specs.declared.gate.Operation.TheVariants.{Xor, And, Inv, Eq, Eqw}
-use Rattle.gc_netlist.specs.Circuit.{Netlist, output_wires, IsSet, IsLawful, EachRead, and_number}
+use Rattle.gc_netlist.specs.Circuit.{Netlist, output_wires, IsSet, IsLawful, and_number}
 use Rattle.gc_netlist.specs.Solution.{IsLocal}
 use Rattle.gc_circuit.specs.Meaning.{bit_of, xor, IsAssignment}
 use Rattle.gc_netlist.proofs.SolutionLemmas.{agree}
-use Rattle.gc_label.specs.Label.{◌⊕◌, colour, times}
+use Rattle.gc_label.specs.Label.{colour}
 use Rattle.gc_half.specs.declared.garbling.RowPair.{RowPair}
 use Rattle.gc_half.specs.HalfGate.{and_active}
 use Rattle.gc_half.specs.OneGate.{gate_active}
@@ -34,7 +33,8 @@ decode-wires : (r : ℕ) → colour r ≡ true → (label active : ℕ → ℕ) 
 decode-wires r odd label active bits first zero h = refl
 decode-wires r odd label active bits first (suc count) h =
     let here : xor (colour (label first)) (colour (active first)) ≡ bits first =
-    rw (h first (omega arith) (omega arith), colour-encode r (label first) (bits first) odd) (grind arith) in
+    rw (h first (omega arith) (omega arith), colour-encode r (label first) (bits first) odd)
+    (grind arith) in
     let rest = decode-wires r odd label active bits (first + 1) count
     (λ w low high. h w (omega arith) (omega arith)) in
     λ t. here t ∷ rest t

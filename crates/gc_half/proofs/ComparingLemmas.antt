@@ -61,7 +61,8 @@ module _ (given : List RowPair) where
           differ = is.1;
         })
 
-    compared-next : (first next : Option Mismatch) → IsNextMismatch first (length made) old pair next
+    compared-next : (first next : Option Mismatch)
+        → IsNextMismatch first (length made) old pair next
         → MatchOption first (take (length made) given ≡ made) (IsFirstMismatch given made)
         → AreCompared given (parts (made ++ pair ∷ []) rest next)
     compared-next first next is before =

@@ -110,7 +110,8 @@ module _ (c : Netlist) (seed : List ℕ) where
 
     -- There are as many row pairs as AND gates so far.
     pub rows-number : (i : ℕ) → i ≤ length c.gates → (rows : List RowPair)
-        → rows ≡ rows_after hash (offset_of seed) c (zero_label_of c seed) i → length rows ≡ and_number c i
+        → rows ≡ rows_after hash (offset_of seed) c (zero_label_of c seed) i
+        → length rows ≡ and_number c i
     rows-number i within rows are =
         rw are (length-rows_after hash (offset_of seed) c (zero_label_of c seed) i within)
 
@@ -123,9 +124,11 @@ module _ (c : Netlist) (seed : List ℕ) where
           rows-number i (omega arith) rows rows_are
 
       -- The gate's label is put where it belongs,
-      pub labels-next : (new : List ℕ) → ((w : ℕ) → slice_index new w ≡ put (slice_index labels) g.set
+      pub labels-next : (new : List ℕ)
+          → ((w : ℕ) → slice_index new w ≡ put (slice_index labels) g.set
           (zero_of hash (offset_of seed) (slice_index labels) (length rows) g.operation) w)
-          → g.set < length new → length labels ≤ length new → length new ≤ c.wires → AreLabels (i + 1) new
+          → g.set < length new → length labels ≤ length new → length new ≤ c.wires
+          → AreLabels (i + 1) new
       labels-next new puts set kept few = record {
         few = few;
         there = λ w before. there w (last_or_before c w i (rw add-one at before));
@@ -142,17 +145,18 @@ module _ (c : Netlist) (seed : List ℕ) where
           label = λ t. zero_of hash (offset_of seed) (λ w. are.right w t) (number t) g.operation
 
       -- and its row pair is pushed.
-      pub rows-next : (new : List RowPair) → new ≡ with_row_pair rows (gate_rows hash (offset_of seed)
-          (length rows) g.operation (first_read (slice_index labels) g.operation)
-          (second_read (slice_index labels) g.operation)) →
-          new ≡ rows_after hash (offset_of seed) c (zero_label_of c seed) (i + 1)
+      pub rows-next : (new : List RowPair)
+          → new ≡ with_row_pair rows (gate_rows hash (offset_of seed) (length rows) g.operation
+          (first_read (slice_index labels) g.operation) (second_read (slice_index labels) g.operation))
+          → new ≡ rows_after hash (offset_of seed) c (zero_label_of c seed) (i + 1)
       rows-next new pushed =
           let within : i < length c.gates = slice_get_within c.gates i g at in
+          let read = slice_index labels in
           pushed
-          ∙ (λ t. with_operation hash (offset_of seed) (slice_index labels) (number t) (rows_are t) g.operation)
-          ∙ with_operation_local hash (offset_of seed) (slice_index labels) (zero_label_of c seed)
+          ∙ (λ t. with_operation hash (offset_of seed) read (number t) (rows_are t) g.operation)
+          ∙ with_operation_local hash (offset_of seed) read (zero_label_of c seed)
           (and_number c i) _ g.operation
-          (EachRead-map (IsSetBefore c i) (λ w. slice_index labels w ≡ zero_label_of c seed w) g.operation
+          (EachRead-map (IsSetBefore c i) (λ w. read w ≡ zero_label_of c seed w) g.operation
           (λ w set. labels-final i w (omega arith) labels are set) (lawful.reads i g at))
           ∙ sym (rows_after-next hash (offset_of seed) c (zero_label_of c seed) i g at)
           ∙ ap (rows_after hash (offset_of seed) c (zero_label_of c seed)) (omega arith)

@@ -1,16 +1,14 @@
 -- Each lawful circuit has one garbling for any zero labels of the input wires.
-use Rattle.std.proofs.Common.{◌≡◌, ℕ, ◌<◌, List, length, slice_get, Some, inl, inr, refl, sym, ap, ◌∙◌, arith}
+use Rattle.std.proofs.Common.{◌≡◌, ℕ, ◌<◌, List, length, slice_get, Some, inl, inr, refl, sym, ◌∙◌, arith}
 use Rattle.std.proofs.lemmas.List.{take_all}
 use Rattle.std.proofs.lemmas.Option.{slice_get_within}
-use Rattle.gc_netlist.specs.declared.gate.Operation.{Operation}
-use Rattle.gc_netlist.specs.declared.gate.Operation.TheVariants.{And}
 use Rattle.gc_netlist.specs.declared.gate.Gate.{Gate}
 use Rattle.gc_netlist.specs.Circuit.{Netlist, IsLawful, IsSet, IsSetBefore, EachRead, and_number}
 use Rattle.gc_netlist.specs.Solution.{Solves, IsLocal, solution}
 use Rattle.gc_netlist.proofs.SolutionLemmas.{agree, solution_solves, EachRead-map, IsSetBefore-more}
 use Rattle.gc_half.specs.declared.garbling.RowPair.{RowPair}
 use Rattle.gc_half.specs.OneGate.{row_pair, gate_zero}
-use Rattle.gc_half.specs.Garbling.{zero_of, zero_rule, rows_of, IsGarbling}
+use Rattle.gc_half.specs.Garbling.{zero_rule, IsGarbling}
 use Rattle.gc_half.specs.Evaluation.{active_rule}
 use Rattle.gc_half.specs.Canonical.{rows_after}
 use Rattle.gc_half.specs.Law.{HasOneGarbling, HasOneEvaluation}
@@ -76,7 +74,8 @@ module _ (hash : ℕ → ℕ → ℕ) (r : ℕ) where
 
     same_labels : (u v : ℕ → ℕ) (p q : List RowPair) → IsGarbling hash r c given u p
         → IsGarbling hash r c given v q → (w : ℕ) → IsSet c w → u w ≡ v w
-    same_labels u v p q f g = agree (zero_rule hash r c) (zero_local c) c lawful given u v f.labels g.labels
+    same_labels u v p q f g =
+        agree (zero_rule hash r c) (zero_local c) c lawful given u v f.labels g.labels
 
     same_rows : (u v : ℕ → ℕ) (p q : List RowPair) → IsGarbling hash r c given u p
         → IsGarbling hash r c given v q → p ≡ q

@@ -14,7 +14,8 @@ pub ruleset sums = (arith, xor_assoc, xor_comm, xor_self, xor_zero_l, xor_zero_r
 -- The colour of a label that stands for a bit.
 pub colour-encode : (offset label : ℕ) (bit : Bool) → colour offset ≡ true
     → colour (encode offset label bit) ≡ xor bit (colour label)
-colour-encode offset label bit odd = grind (arith, nat_tests, bit_at_xor label offset 120, xor_zero_r)
+colour-encode offset label bit odd =
+    grind (arith, nat_tests, bit_at_xor label offset 120, xor_zero_r)
 
 -- The hash of a label that stands for a bit is one of two.
 hash-encode : (hash : ℕ → ℕ → ℕ) (offset label j : ℕ) (bit : Bool) →
@@ -53,11 +54,13 @@ pub and_law : (hash : ℕ → ℕ → ℕ) (k r a b : ℕ) (x y : Bool) → colo
     and_active hash k (generator_row hash k r a b) (evaluator_row hash k r a b) (encode r a x) (encode r b y)
     ≡ encode r (and_zero hash k r a b) (x && y)
 and_law hash k r a b x y odd =
-    let generated = generator_law (hash a (2 * k)) (hash (a ⊕ r) (2 * k)) r x (colour a) (colour b) in
-    let evaluated = evaluator_law (hash b (2 * k + 1)) (hash (b ⊕ r) (2 * k + 1)) a r x y (colour b) in
+    let first = 2 * k in
+    let second = 2 * k + 1 in
+    let generated = generator_law (hash a first) (hash (a ⊕ r) first) r x (colour a) (colour b) in
+    let evaluated = evaluator_law (hash b second) (hash (b ⊕ r) second) a r x y (colour b) in
     rw (
-      hash-encode hash r a (2 * k) x,
-      hash-encode hash r b (2 * k + 1) y,
+      hash-encode hash r a first x,
+      hash-encode hash r b second y,
       colour-encode r a x odd,
       colour-encode r b y odd,
     )

@@ -6,10 +6,10 @@ use Rattle.gc_lanes.specs.Hash.{tweaked_hash}
 use Rattle.gc_half.specs.Hash.{hash, tweak_bytes}
 
 -- It may be made as a number, from the label's number.
-pub hash-number : (label tweak : ℕ) {number hashed made : ℕ} → made ≡ hashed
+pub hash-is : (label tweak : ℕ) {number hashed made : ℕ} → made ≡ hashed
     → hashed ≡ tweaked_hash number tweak → number ≡ label → made ≡ hash label tweak
 unfolding hash tweak_bytes tweaked_hash label_of_bytes bytes_of_label
-hash-number label tweak from hashes of = from ∙ hashes ∙ ap (λ n. hash n tweak) of
+hash-is label tweak from hashes of = from ∙ hashes ∙ ap (λ n. hash n tweak) of
 
 -- what is mapped over a list of four, element by element
 pub map-four : {A : Type 0} (f : A → ℕ) (inputs : List A) (u v w x : A) {e g h i : ℕ} → length inputs ≡ 4

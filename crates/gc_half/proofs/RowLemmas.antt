@@ -13,7 +13,8 @@ use Rattle.gc_half.specs.Garbling.{rows_of, IsGarbling}
 use Rattle.gc_half.specs.Canonical.{with_operation, with_gate, rows_after}
 use Rattle.gc_half.proofs.AndNumbers.{and_or_other, gate_at, and_number-and, and_number-other}
 
-pub slice_get-push : {X : Type 0} (xs : List X) (x : X) → slice_get (xs ++ x ∷ []) (length xs) ≡ Some x
+pub slice_get-push : {X : Type 0} (xs : List X) (x : X)
+    → slice_get (xs ++ x ∷ []) (length xs) ≡ Some x
 slice_get-push xs x = grind (arith, common_steps, gets)
 
 pub slice_get-append : {X : Type 0} (xs ys : List X) (i : ℕ) (x : X) → slice_get xs i ≡ Some x
@@ -56,10 +57,11 @@ module _ (hash : ℕ → ℕ → ℕ) (r : ℕ) (c : Netlist) (label : ℕ → �
       let before = length-rows_after n (omega arith) in
       elim (and_or_other gate.0.operation) [
         | inl (a, (b, is)) ↦
-            rw (rows_after-and n gate.0 a b gate.1 is, and_number-and c n gate.0 gate.1 (ap is_and is))
-            (omega (arith, length-append {A = RowPair}))
+            let counted = and_number-and c n gate.0 gate.1 (ap is_and is) in
+            rw (rows_after-and n gate.0 a b gate.1 is, counted) (omega (arith, length-append {A = RowPair}))
         | inr other ↦
-            rw (rows_after-other n gate.0 gate.1 other, and_number-other c n gate.0 gate.1 other) before
+            rw (rows_after-other n gate.0 gate.1 other, and_number-other c n gate.0 gate.1 other)
+            before
       ]
 
   -- A row pair stays where it stands,
@@ -69,7 +71,8 @@ module _ (hash : ℕ → ℕ → ℕ) (r : ℕ) (c : Netlist) (label : ℕ → �
   kept n k x within found =
       let gate = gate_at c n within in
       elim (and_or_other gate.0.operation) [
-        | inl (a, (b, is)) ↦ rw (rows_after-and n gate.0 a b gate.1 is) (slice_get-append _ _ k x found)
+        | inl (a, (b, is)) ↦
+            rw (rows_after-and n gate.0 a b gate.1 is) (slice_get-append _ _ k x found)
         | inr other ↦ rw (rows_after-other n gate.0 gate.1 other) found
       ]
 
@@ -84,7 +87,8 @@ module _ (hash : ℕ → ℕ → ℕ) (r : ℕ) (c : Netlist) (label : ℕ → �
         | inl e ↦
             rw (← e, rows_after-and i g a b at is, ← length-rows_after i (omega arith))
             (slice_get-push (rows_after hash r c label i) _)
-        | inr ne ↦ kept n _ _ (omega arith) (rows_after-at n i g a b (omega arith) (omega arith) at is)
+        | inr ne ↦
+            kept n _ _ (omega arith) (rows_after-at n i g a b (omega arith) (omega arith) at is)
       ]
 
   -- The rows of any garbling with these zero labels are these.
@@ -108,5 +112,6 @@ module _ (hash : ℕ → ℕ → ℕ) (r : ℕ) (c : Netlist) (label : ℕ → �
               get_or_from_slice_get rows k row row found,
             ) refl
         | inr other ↦
-            rw (rows_after-other n gate.0 gate.1 other, and_number-other c n gate.0 gate.1 other) before
+            rw (rows_after-other n gate.0 gate.1 other, and_number-other c n gate.0 gate.1 other)
+            before
       ]

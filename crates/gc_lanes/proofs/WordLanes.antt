@@ -78,7 +78,8 @@ module _ (n : ℕ) (a : List ℕ) (wa : AreWords n a) (k : ℕ) where
       let down : k % 32 ≡ k = omega arith in
       let up : (32 - k) % 32 ≡ 32 - k = omega arith in
       rw (
-        lane-zip2 bit_or (or_lt 32) n _ _ (AreWords-zip2 right right-gives n a (replicate n k) wa wk)
+        lane-zip2 bit_or (or_lt 32) n _ _
+            (AreWords-zip2 right right-gives n a (replicate n k) wa wk)
             (AreWords-zip2 left left-gives n a (replicate n (32 - k)) wa wr) j in_lanes,
         lane-right high j in_lanes,
         lane-zip2 left left-gives n a (replicate n (32 - k)) wa wr j in_lanes,

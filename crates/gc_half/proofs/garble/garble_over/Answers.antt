@@ -11,7 +11,8 @@ pub loop-i-init : goal.loop-i-init
 loop-i-init g c = record {
   labels =
       rw c.new-table.ensures
-      (labels-start c.args.circuit.now c.args.seed.now c.gates-i-end.ensures.lawful _ c.in_ok-labels.ensures);
+      (labels-start c.args.circuit.now c.args.seed.now c.gates-i-end.ensures.lawful _
+      c.in_ok-labels.ensures);
   rows = rw (c.new-table.ensures, c.new.ensures, rows_after-start) refl;
   compared = rw (c.new-table.ensures, c.new.ensures) (compared-start c.args.given.items);
   waiting = λ w unset. rw c.new-table.ensures tt;
@@ -20,13 +21,15 @@ loop-i-init g c = record {
 pub step-requires : goal.step-requires
 step-requires g c =
     let netlist = c.args.circuit.now in
+    let seed = c.args.seed.now in
     let lawful = c.gates-i-end.ensures.lawful in
     let i = c.loop-i.i in
     let gate = c.gate.result in
+    let old = c.loop-i.table in
     let before = c.loop-i.invariant in
-    let rows = rows-number netlist c.args.seed.now lawful i (omega arith) c.loop-i.table.rows before.rows in
+    let rows = rows-number netlist seed lawful i (omega arith) old.rows before.rows in
     record {
-      read = labels-read netlist c.args.seed.now lawful i gate c.gate.ensures c.loop-i.table.labels before.labels;
+      read = labels-read netlist seed lawful i gate c.gate.ensures old.labels before.labels;
       place = omega (arith, lawful.sets i gate c.gate.ensures);
       few = omega (arith, before.labels.few);
       number = omega (arith, rows, and_number-le netlist i);
@@ -48,7 +51,8 @@ loop-i-preserved g c =
     record {
       labels =
           labels-next netlist seed lawful i gate at old.labels old.rows before.labels before.rows
-          c.step.new.self.labels (rw offset at step.label) step.there step.kept (omega (arith, step.few));
+          c.step.new.self.labels (rw offset at step.label) step.there step.kept
+          (omega (arith, step.few));
       rows =
           rows-next netlist seed lawful i gate at old.labels old.rows before.labels before.rows
           c.step.new.self.rows (rw offset at step.rows);
@@ -56,7 +60,8 @@ loop-i-preserved g c =
       waiting = λ w unset.
           step.waiting w
           (λ same. unset (inr (i, omega arith, record { gate = gate; at = at; wire = sym same })))
-          (before.waiting w (λ set. unset (IsSetBefore-more netlist i (i + 1) w (omega arith) set)));
+          (before.waiting w
+          (λ set. unset (IsSetBefore-more netlist i (i + 1) w (omega arith) set)));
     }
 
 pub returns : goal.returns
@@ -73,8 +78,9 @@ returns g c =
           garbled-end netlist c.args.seed.now c.gates-i-end.ensures.lawful c.loop-i.i (omega arith)
           c.from_parts-garbling.result c.resize.new.self.items c.finish-rows.result.0.items
           c.output_wires.result c.from_parts-garbling.ensures
-          (padded-table _ made.zero_labels.items c.resize.new.self.items _ c.wires-2.result netlist.wires
-          are.few are.right made.zero_labels.ok.0 c.wires-2.ensures.count c.in_ok-resize.ensures.items)
+          (padded-table _ made.zero_labels.items c.resize.new.self.items _ c.wires-2.result
+          netlist.wires are.few are.right made.zero_labels.ok.0 c.wires-2.ensures.count
+          c.in_ok-resize.ensures.items)
           (c.finish-rows.ensures.made ∙ made.ensures.all.1 ∙ before.rows) c.output_wires.ensures;
       compared = λ many.
           rw (same_rows, c.finish-rows.ensures.first)

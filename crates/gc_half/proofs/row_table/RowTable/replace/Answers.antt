@@ -8,7 +8,8 @@ returns-clause-compared g c = λ given before.
     let rows = c.self.inside.rows.items in
     let made = c.self.inside.made in
     let view = c.self.view_is in
-    let within : made < length rows = omega (arith, rw (← view) at c.requires, length-drop made rows) in
+    let within : made < length rows =
+    omega (arith, rw (← view) at c.requires, length-drop made rows) in
     compared-replace given rows made c.index.result.now c.args.pair c.self.inside.first
     c.next_mismatch-self-inside.result within
     (slice_get_read rows (length rows) made c.index.result.now refl within c.index.ensures)

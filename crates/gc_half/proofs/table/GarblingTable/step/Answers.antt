@@ -48,12 +48,14 @@ returns g c =
           (λ v. room.label v ∙ ap (λ l. slice_index l v) read.labels)
           (c.garble_gate-label.ensures.zero_label
           ∙ (λ t. gate_zero hash c.args.offset 0 op (read.first t) (read.second t))
-          ∙ free_zero hash c.args.offset 0 (length old.rows) op first second c.in_default.not-And) w);
+          ∙ free_zero hash c.args.offset 0 (length old.rows) op first second
+          c.in_default.not-And) w);
       there = omega (arith, long, room.there);
       kept = omega (arith, long, kept, room.kept);
       few = omega (arith, long, room.few);
       rows = c.put.ensures.rows ∙ room.rows ∙ read.rows
-          ∙ free_rows hash c.args.offset (length old.rows) old.rows op first second c.in_default.not-And;
+          ∙ free_rows hash c.args.offset (length old.rows) old.rows op first second
+          c.in_default.not-And;
       compared = λ given before.
           rw c.put.ensures.compared (room.compared given (read.compared given before));
       waiting = λ w other before. rw (c.put.ensures.waiting, room.waiting) (read.waiting w before);
