@@ -39,13 +39,6 @@ IsSmall-times bit label h = grind arith
 
 ruleset small = (IsSmall-hash, IsSmall-⊕, IsSmall-times)
 
-module _ (k r : ℕ) (fits : IsSmall r) (a b : ℕ) (ha : IsSmall a) (hb : IsSmall b) where
-  IsSmall-generator_row : IsSmall (generator_row hash k r a b)
-  IsSmall-generator_row = search small
-
-  IsSmall-evaluator_row : IsSmall (evaluator_row hash k r a b)
-  IsSmall-evaluator_row = search small
-
 IsSmall-zero_of : (r : ℕ) → IsSmall r → (label : ℕ → ℕ) → ((w : ℕ) → IsSmall (label w))
     → (k : ℕ) (op : Operation) → IsSmall (zero_of hash r label k op)
 IsSmall-zero_of r fits label h k (Xor a b) = search small
@@ -97,10 +90,7 @@ module _ (c : Netlist) (seed : List ℕ) where
   small-with_operation number pairs h (Xor a b) = h
   small-with_operation number pairs h (And a b) =
       let fits = offset_of-lt seed in
-      small-push pairs h _ (
-        search (IsSmall-generator_row, IsSmall-zero_label_of, fits),
-        search (IsSmall-evaluator_row, IsSmall-zero_label_of, fits),
-      )
+      small-push pairs h _ (search (small, IsSmall-zero_label_of, fits))
   small-with_operation number pairs h (Inv a) = h
   small-with_operation number pairs h (Eq v) = h
   small-with_operation number pairs h (Eqw a) = h

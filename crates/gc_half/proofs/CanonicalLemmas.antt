@@ -111,7 +111,8 @@ module _ (c : Netlist) (seed : List ℕ) where
         ]
 
         zero_labels : g.zero_labels ≡ map (zero_label_of c seed) (range_with_len 0 c.wires)
-        zero_labels = fill_by_all (zero_label_of c seed) g.zero_labels c.wires 0 garbled.wires label_at
+        zero_labels =
+            fill_by_all (zero_label_of c seed) g.zero_labels c.wires 0 garbled.wires label_at
 
     -- Its decode bits are the colours of the output wires' zero labels,
     pub IsGarbled-decode_bits : (g : GarblingParts) → IsGarbled c seed g

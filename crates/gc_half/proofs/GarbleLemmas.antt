@@ -147,7 +147,8 @@ module _ (c : Netlist) (seed : List ℕ) where
       -- and its row pair is pushed.
       pub rows-next : (new : List RowPair)
           → new ≡ with_row_pair rows (gate_rows hash (offset_of seed) (length rows) g.operation
-          (first_read (slice_index labels) g.operation) (second_read (slice_index labels) g.operation))
+          (first_read (slice_index labels) g.operation)
+          (second_read (slice_index labels) g.operation))
           → new ≡ rows_after hash (offset_of seed) c (zero_label_of c seed) (i + 1)
       rows-next new pushed =
           let within : i < length c.gates = slice_get_within c.gates i g at in

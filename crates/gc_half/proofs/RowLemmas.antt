@@ -58,7 +58,8 @@ module _ (hash : ℕ → ℕ → ℕ) (r : ℕ) (c : Netlist) (label : ℕ → �
       elim (and_or_other gate.0.operation) [
         | inl (a, (b, is)) ↦
             let counted = and_number-and c n gate.0 gate.1 (ap is_and is) in
-            rw (rows_after-and n gate.0 a b gate.1 is, counted) (omega (arith, length-append {A = RowPair}))
+            rw (rows_after-and n gate.0 a b gate.1 is, counted)
+            (omega (arith, length-append {A = RowPair}))
         | inr other ↦
             rw (rows_after-other n gate.0 gate.1 other, and_number-other c n gate.0 gate.1 other)
             before
