@@ -39,14 +39,24 @@ name_stops r (a ∷ b ∷ w ∷ []) us count len s = grind (arith, nat_tests)
 name_stops r _ us count len s = absurd (grind arith)
 
 -- is that of no operation,
+unknown_two : (name : List ℕ) → ((k : ℕ) → IsNamed k name → ⊥) → (a b : ℕ) →
+    operation_of_two name a b ≡ Err UnknownOperation
+unfolding operation_of_two
+unknown_two name none a b = grind (arith, bytes_eq-Decides, none 1, none 2)
+
+unknown_one : (name : List ℕ) → ((k : ℕ) → IsNamed k name → ⊥) → (a : ℕ) →
+    operation_of_one name a ≡ Err UnknownOperation
+unfolding operation_of_one
+unknown_one name none a = grind (arith, bytes_eq-Decides, none 1, none 2)
+
 pub unknown_stops : (r : ℕ) (numbers name : List ℕ) (us rest : List (List ℕ)) →
     length numbers ≡ r + 1 → SpellWords us (map Number (r ∷ 1 ∷ numbers) ++ Name name ∷ []) rest →
     IsCount r → ((k : ℕ) → IsNamed k name → ⊥) → gate_at us ≡ Err UnknownOperation
-unfolding gate_at two_at one_at operation_of_two operation_of_one
+unfolding gate_at two_at one_at
 unknown_stops r (a ∷ w ∷ []) name us rest len s count none =
-    grind (arith, nat_tests, bytes_eq-Decides, none 1, none 2)
+    let bad = unknown_one name none a in grind (arith, nat_tests)
 unknown_stops r (a ∷ b ∷ w ∷ []) name us rest len s count none =
-    grind (arith, nat_tests, bytes_eq-Decides, none 1, none 2)
+    let bad = unknown_two name none a b in grind (arith, nat_tests)
 unknown_stops r _ name us rest len s count none = absurd (grind arith)
 
 -- or that of one with other counts.
