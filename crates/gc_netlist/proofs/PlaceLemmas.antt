@@ -10,7 +10,7 @@ use Rattle.gc_netlist.specs.Circuit.{Netlist}
 use Rattle.gc_netlist.specs.Spelling.{Word, Number, Name, SpellWords, words_of_operation, words_of_gate, words_of_widths, words_of_circuit}
 use Rattle.gc_netlist.specs.FirstFault.{wires_read, IsFirstUnset, FirstFault, no_number, no_name, bad_number, too_large, widths_exceed, bad_counts, unknown, other_counts, bad_constant, no_wire_to_read, unset, no_wire_to_set, set_twice, output_unset, trailing}
 use Rattle.gc_netlist.specs.Place.{Spot, Token, Behind, End, before_unset, place_of}
-use Rattle.gc_netlist.proofs.FaultLemmas.{Spell-length}
+use Rattle.gc_netlist.proofs.FaultLemmas.{Spell-length, Spell-lengths}
 use Rattle.gc_netlist.proofs.CheckFaults.{has_two_words}
 
 -- The end of the text, the end of a token, or a token of the text.
@@ -19,44 +19,37 @@ IsKind Truncated spot all = spot ≡ End
 IsKind OutputUnset spot all = (k : ℕ) × (spot ≡ Behind k) × (0 < k)
 IsKind _ spot all = (k : ℕ) × (spot ≡ Token k) × (k < all)
 
--- words at the beginning of the tokens, and those after them
-spelled : (ts rest : List (List ℕ)) (words more : List Word) → SpellWords ts (words ++ more) rest →
-    length ts ≡ length words + length more + length rest
-spelled ts rest words more s =
-    omega (arith, Spell-length ts rest (words ++ more) s, length-append words more)
-
 few_before : (c : Netlist) (wires : List ℕ) (w : ℕ) (first : IsFirstUnset c wires w) →
     before_unset c wires w first < length wires
 few_before c [] w h = absurd h
 few_before c (a ∷ more) w (inl here) = omega arith
-few_before c (a ∷ more) w (inr later) =
-    let h = few_before c more w later.1 in omega (arith, h)
+few_before c (a ∷ more) w (inr later) = omega (arith, few_before c more w later.1)
 
 has_reads : (sets : ℕ) (op : Operation) →
     length (wires_read op) + 4 ≤ length (words_of_operation sets op)
-has_reads sets (Xor a b) = omega arith
-has_reads sets (And a b) = omega arith
-has_reads sets (Inv a) = omega arith
-has_reads sets (Eq v) = omega arith
-has_reads sets (Eqw a) = omega arith
+has_reads sets op = grind arith
 
 read_token : (ts rest : List (List ℕ)) (c : Netlist) (words : List Word) (g : Gate) (w : ℕ)
     (first : IsFirstUnset c (wires_read g.operation) w) →
     SpellWords ts (words ++ words_of_gate g) rest →
     length words + 2 + before_unset c (wires_read g.operation) w first < length ts
 read_token ts rest c words g w first s =
-    let few = few_before c (wires_read g.operation) w first in
-    let reads = has_reads g.set g.operation in
-    let all = spelled ts rest words (words_of_gate g) s in
-    omega (arith, few, reads, all)
+    omega (
+      arith,
+      few_before c (wires_read g.operation) w first,
+      has_reads g.set g.operation,
+      Spell-lengths ts rest words (words_of_gate g) s,
+    )
 
 set_within : (ts rest : List (List ℕ)) (words : List Word) (g : Gate) →
     SpellWords ts (words ++ words_of_gate g) rest →
     length words + (length (words_of_gate g) - 2) < length ts
 set_within ts rest words g s =
-    let two = has_two_words g.set g.operation in
-    let all = spelled ts rest words (words_of_gate g) s in
-    omega (arith, two, all)
+    omega (
+      arith,
+      has_two_words g.set g.operation,
+      Spell-lengths ts rest words (words_of_gate g) s,
+    )
 
 kind_of : (ts : List (List ℕ)) (e : ReadFault) (first : FirstFault ts e) →
     IsKind e (place_of first).spot (length ts)
@@ -65,24 +58,24 @@ kind_of ts e (no_name r words due s) = refl
 kind_of ts e (bad_number words t rest due s none) =
     (length words, refl, omega (arith, Spell-length ts (t ∷ rest) words s))
 kind_of ts e (too_large words limit n rest due s above) =
-    (length words, refl, omega (arith, spelled ts rest words (Number n ∷ []) s))
+    (length words, refl, omega (arith, Spell-lengths ts rest words (Number n ∷ []) s))
 kind_of ts e (widths_exceed wires words widths rest side few s above) = (
   length words + length widths,
   refl,
-  omega (arith, spelled ts rest words (words_of_widths widths) s, length-map widths Number),
+  omega (arith, Spell-lengths ts rest words (words_of_widths widths) s, length-map widths Number),
 )
 kind_of ts e (bad_counts c words r k rest due s neither) =
-    (length words, refl, omega (arith, spelled ts rest words (Number r ∷ Number k ∷ []) s))
+    (length words, refl, omega (arith, Spell-lengths ts rest words (Number r ∷ Number k ∷ []) s))
 kind_of ts e (unknown r words name rest due s none) =
-    (length words, refl, omega (arith, spelled ts rest words (Name name ∷ []) s))
+    (length words, refl, omega (arith, Spell-lengths ts rest words (Name name ∷ []) s))
 kind_of ts e (other_counts r k words name rest due s named other) =
-    (length words, refl, omega (arith, spelled ts rest words (Name name ∷ []) s))
+    (length words, refl, omega (arith, Spell-lengths ts rest words (Name name ∷ []) s))
 kind_of ts e (bad_constant c words v w rest due s above) = (
   length words + 2,
   refl,
   omega (
     arith,
-    spelled ts rest words
+    Spell-lengths ts rest words
         (Number 1 ∷ Number 1 ∷ Number v ∷ Number w ∷ Name (codes "EQ") ∷ []) s,
   ),
 )

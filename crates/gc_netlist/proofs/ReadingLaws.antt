@@ -1,5 +1,5 @@
 -- Each text spells one lawful circuit or has one first fault.
-use Rattle.std.proofs.Common.{◌≢◌, MatchResult, IfErr, ◌≡◌, ℕ, ◌⊎◌, inl, inr, List, Result, Ok, Err, refl, sym, ◌∙◌}
+use Rattle.std.proofs.Common.{◌≢◌, MatchResult, IfErr, ◌≡◌, ℕ, ◌⊎◌, inl, inr, List, Result, Ok, Err, refl, sym, ◌∙◌, arith}
 use Rattle.gc_netlist.specs.declared.fault.ReadFault.{ReadFault}
 use Rattle.gc_netlist.specs.declared.fault.ReadFault.TheVariants.{Truncated, BadNumber, TooLarge, BadShape, UnknownOperation, BadConstant, NoSuchWire, Unset, SetTwice, OutputUnset, TrailingTokens, WidthsExceedWires, Memory}
 use Rattle.gc_netlist.specs.Circuit.{Netlist, IsLawful}
@@ -39,19 +39,7 @@ reading_law text = record {
 
 -- A fault that cannot be another one is Memory.
 only_memory : (e : ReadFault) → (e ≢ Memory → ⊥) → e ≡ Memory
-only_memory Truncated h = absurd (h (λ p. let no : ⊥ = cc in no))
-only_memory BadNumber h = absurd (h (λ p. let no : ⊥ = cc in no))
-only_memory TooLarge h = absurd (h (λ p. let no : ⊥ = cc in no))
-only_memory BadShape h = absurd (h (λ p. let no : ⊥ = cc in no))
-only_memory UnknownOperation h = absurd (h (λ p. let no : ⊥ = cc in no))
-only_memory BadConstant h = absurd (h (λ p. let no : ⊥ = cc in no))
-only_memory NoSuchWire h = absurd (h (λ p. let no : ⊥ = cc in no))
-only_memory Unset h = absurd (h (λ p. let no : ⊥ = cc in no))
-only_memory SetTwice h = absurd (h (λ p. let no : ⊥ = cc in no))
-only_memory OutputUnset h = absurd (h (λ p. let no : ⊥ = cc in no))
-only_memory TrailingTokens h = absurd (h (λ p. let no : ⊥ = cc in no))
-only_memory WidthsExceedWires h = absurd (h (λ p. let no : ⊥ = cc in no))
-only_memory Memory h = refl
+only_memory e h = grind arith
 
 -- What reading gives, memory aside.
 abbrev pub IsRead : List ℕ → Result Netlist ReadFault → Type 0
@@ -65,9 +53,3 @@ read_exactly text (Ok d) read c lawful spelled =
     ok_is d c (sym read ∙ circuit_of-back (tokens text) c lawful spelled)
 read_exactly text (Err e) read c lawful spelled = only_memory e
     (λ other. accepted c e (sym (circuit_of-back (tokens text) c lawful spelled) ∙ read other))
-
--- A fault is the first fault, memory aside.
-pub read_fault : (text : List ℕ) (r : Result Netlist ReadFault) → IsRead text r →
-    IfErr r (λ e. e ≢ Memory → FirstFault (tokens text) e)
-read_fault text (Ok d) read = tt
-read_fault text (Err e) read = λ other. circuit_of-fault (tokens text) e (read other)

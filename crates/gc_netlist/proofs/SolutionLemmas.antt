@@ -10,11 +10,7 @@ use Rattle.gc_netlist.specs.Solution.{Solves, IsLocal, put, put_gate, values_aft
 
 -- what is so of each wire, under P
 pub EachRead-map : (P Q : ℕ → Type 0) (op : Operation) → ((w : ℕ) → P w → Q w) → EachRead P op → EachRead Q op
-EachRead-map P Q (Xor a b) f h = (f a h.0, f b h.1)
-EachRead-map P Q (And a b) f h = (f a h.0, f b h.1)
-EachRead-map P Q (Inv a) f h = f a h
-EachRead-map P Q (Eqw a) f h = f a h
-EachRead-map P Q (Eq v) f h = tt
+EachRead-map P Q op f h = grind arith
 
 pub IsSetBefore-more : (c : Netlist) (m n w : ℕ) → m ≤ n → IsSetBefore c m w → IsSetBefore c n w
 IsSetBefore-more c m n w h (inl input) = inl input

@@ -24,20 +24,15 @@ set-table {A = A} f n s x h =
     (length-set (map f (range_with_len 0 n)) s x ∙ length-map-range_with_len f 0 n) at_each
   where
     at_each : (k : ℕ) → k < n → get_or (set (map f (range_with_len 0 n)) s x) k x ≡ put f s x k
-    at_each k below = elim (cases_eq k s) [
-      | inl e ↦
-          let inside : s < length (map f (range_with_len 0 n)) = rw (length-map-range_with_len f 0 n) h in
-          ap (λ j. get_or (set (map f (range_with_len 0 n)) s x) j x) e
-          ∙ get_or-set_same (map f (range_with_len 0 n)) s x x inside ∙ grind (arith, nat_tests)
-      | inr ne ↦ get_or-set_other (map f (range_with_len 0 n)) s k x x ne ∙ read-table f n k x below
-          ∙ grind (arith, nat_tests)
-    ]
+    at_each k below =
+        let inside : s < length (map f (range_with_len 0 n)) = rw (length-map-range_with_len f 0 n) h in
+        grind (arith, nat_tests, read-table, get_or-set_same, get_or-set_other)
 
 -- a wire that is set is a wire
 pub IsSetBefore-below : (c : Netlist) → IsLawful c → (n w : ℕ) → IsSetBefore c n w → w < c.wires
-IsSetBefore-below c lawful n w (inl input) = let h = lawful.inputs_fit in omega arith
+IsSetBefore-below c lawful n w (inl input) = omega (arith, lawful.inputs_fit)
 IsSetBefore-below c lawful n w (inr (i, below, by)) =
-    let h = lawful.sets i by.gate by.at in let e = by.wire in omega arith
+    omega (arith, lawful.sets i by.gate by.at, by.wire)
 
 -- EachRead of what holds of each wire
 pub EachRead-below : (c : Netlist) → IsLawful c → (i : ℕ) (g : Gate) →
@@ -70,22 +65,13 @@ module _ {A : Type 0} (rule : (ℕ → A) → ℕ → Gate → A) (c : Netlist) 
 -- the end of a table
 pub drop-table : {A : Type 0} (f : ℕ → A) (k a n : ℕ) →
     drop k (map f (range_with_len a n)) ≡ map f (range_with_len (a + k) (n - k))
-drop-table f zero a n =
-    ap (λ x. map f (range_with_len x n)) (let e : a ≡ a + 0 = omega arith in e)
-    ∙ ap (λ x. map f (range_with_len (a + 0) x)) (let e : n ≡ n - 0 = omega arith in e)
-drop-table f (suc k) a zero =
-    ap (λ x. map f (range_with_len (a + suc k) x)) (let e : 0 ≡ 0 - suc k = omega arith in e)
-drop-table f (suc k) a (suc n) =
-    drop-table f k (a + 1) n
-    ∙ ap (λ x. map f (range_with_len x (n - k))) (let e : a + 1 + k ≡ a + suc k = omega arith in e)
-    ∙ ap (λ x. map f (range_with_len (a + suc k) x)) (let e : n - k ≡ suc n - suc k = omega arith in e)
+drop-table f zero a n = grind arith
+drop-table f (suc k) a zero = grind arith
+drop-table f (suc k) a (suc n) = grind (arith, drop-table f k (a + 1) n)
 
 pub table_end : {A : Type 0} (f : ℕ → A) (n m : ℕ) → m ≤ n →
     drop (n - m) (map f (range_with_len 0 n)) ≡ map f (range_with_len (n - m) m)
-table_end f n m h =
-    drop-table f (n - m) 0 n
-    ∙ ap (λ x. map f (range_with_len x (n - (n - m)))) (let e : 0 + (n - m) ≡ n - m = omega arith in e)
-    ∙ ap (λ x. map f (range_with_len (n - m) x)) (let e : n - (n - m) ≡ m = omega arith in e)
+table_end f n m h = grind (arith, drop-table)
 
 -- One more gate, computed from the table: the step of every one-pass evaluator. The default d is never read.
 pub table_step : {A : Type 0} (rule : (ℕ → A) → ℕ → Gate → A) → IsLocal rule → (c : Netlist) →
