@@ -1,6 +1,7 @@
 -- The canonical text of a lawful circuit spells it.
-use Rattle.std.proofs.Common.{◌≡◌, ℕ, suc, ◌+◌, ◌-◌, ◌*◌, ◌<◌, ◌≤◌, ◌^◌, ◌++◌, List, [], ◌∷◌, length, map, sum, slice_get, append_assoc, nat_lt, Bool, true, false, Some, decimal, refl, sym, ap, subst, ◌∙◌, arith, rules}
+use Rattle.std.proofs.Common.{◌≡◌, ℕ, suc, ◌+◌, ◌-◌, ◌*◌, ◌<◌, ◌^◌, ◌++◌, List, [], ◌∷◌, length, map, sum, slice_get, append_assoc, nat_lt, Bool, true, false, Some, decimal, refl, sym, ap, ◌∙◌, arith, rules}
 use Rattle.std.specs.List.{fold, flat_map, list_all, filter, join_with_byte, AllByRecursion}
+use Rattle.std.proofs.lemmas.Bool.{and_parts}
 use Rattle.std.proofs.lemmas.Bool.Decides.{nat_tests}
 use Rattle.std.proofs.lemmas.List.Elements.{All-from_recursion}
 use Rattle.std.proofs.lemmas.List.Folds.{flat_map-map}
@@ -8,19 +9,17 @@ use Rattle.std.proofs.lemmas.List.Sums.{sum_by-cons}
 use Rattle.std.proofs.lemmas.Str.Parse.{IsDigitsTest, IsNumeralModel, numerals_by_fold}
 use Rattle.std.proofs.lemmas.Fmt.{digits_decimal, digits_value-decimal, decimal_nonempty}
 use Rattle.std.proofs.lemmas.List.Splits.{slice_split_at, slice_split-cons_yes}
-use Rattle.gc_netlist.specs.declared.limits.TheConstants.{MAX_GATES, MAX_WIRES, MAX_VALUES}
 use Rattle.gc_netlist.specs.declared.gate.Operation.{Operation}
-use Rattle.gc_netlist.specs.declared.gate.Operation.TheVariants.{Xor, And, Inv, Eq, Eqw}
 use Rattle.gc_netlist.specs.declared.gate.Gate.{Gate}
 use Rattle.gc_netlist.specs.Circuit.{Netlist, EachRead, IsLawful}
 use Rattle.gc_netlist.specs.Text.{is_blank, is_some_run, tokens, is_digit, value_of, number_of}
-use Rattle.gc_netlist.specs.Spelling.{Word, Number, Name, SpellsWord, SpellWords, Spells, bit_number, words_of_operation, words_of_gate, words_of_widths, words_of_circuit}
+use Rattle.gc_netlist.specs.Spelling.{Word, Number, Name, SpellsWord, SpellWords, Spells, bit_number, words_of_operation, words_of_gate, words_of_circuit}
 use Rattle.gc_netlist.specs.Reading.{circuit_of}
 use Rattle.gc_netlist.specs.Canon.{written, line, lines_of_circuit, canonical_text, CanonicalLaw}
 use Rattle.gc_netlist.proofs.SolutionLemmas.{EachRead-map}
 use Rattle.gc_netlist.proofs.Tables.{EachRead-below}
 use Rattle.gc_netlist.proofs.StepLemmas.{ok_is}
-use Rattle.gc_netlist.proofs.SpellingLemmas.{Spell-append}
+use Rattle.gc_netlist.proofs.SpellingLemmas.{Spell-append, same_words}
 use Rattle.gc_netlist.proofs.ReadingBack.{circuit_of-back}
 
 -- Not empty, and without a blank.
@@ -80,19 +79,15 @@ number_of-decimal n small =
     let below : nat_lt n (2 ^ 32) ≡ true = grind (arith, nat_tests) in
     rw (digits, value, below) refl
 
-own_parts : (d : ℕ) (ds : List ℕ) → list_all is_digit (d ∷ ds) ≡ true
-    → (is_digit d ≡ true) × (list_all is_digit ds ≡ true)
-own_parts d ds h = grind (arith, nat_tests)
-
-digits_solid : (ds : List ℕ) → list_all is_digit ds ≡ true → AllByRecursion (λ b. is_blank b ≡ false) ds
+digits_solid : (ds : List ℕ) → list_all is_digit ds ≡ true →
+    AllByRecursion (λ b. is_blank b ≡ false) ds
 digits_solid [] h = tt
 digits_solid (d ∷ ds) h =
-    let first : is_digit d ≡ true = (own_parts d ds h).0 in
-    (grind (arith, nat_tests), digits_solid ds (own_parts d ds h).1)
+    let both = and_parts (is_digit d) (list_all is_digit ds) h in
+    (grind (arith, nat_tests), digits_solid ds both.1)
 
 some_digits : (ds : List ℕ) → 0 < length ds → is_some_run ds ≡ true
-some_digits [] h = absurd (omega arith)
-some_digits (d ∷ ds) h = refl
+some_digits ds h = grind arith
 
 -- and are a run.
 pub decimal_run : (n : ℕ) → n < 2 ^ 32 → IsRun (decimal n)
@@ -129,21 +124,14 @@ pub lines_spelled : (lines : List (List Word)) → AllByRecursion (AllByRecursio
     → SpellWords (tokens (flat_map line lines)) (flat_map (λ l. l) lines) []
 lines_spelled [] h = tokens-nil
 lines_spelled (l ∷ lines) h =
-    let P : List (List ℕ) → Type 0 = λ ts. SpellWords ts l (tokens (flat_map line lines)) in
     let rest : List ℕ = flat_map line lines in
     Spell-append (tokens (line l ++ rest)) (tokens rest) [] l (flat_map (λ k. k) lines)
-    (subst P (sym (tokens-line l rest (plain_runs l h.0))) (words_spelled l (tokens rest) h.0))
+    (rw (tokens-line l rest (plain_runs l h.0)) (words_spelled l (tokens rest) h.0))
     (lines_spelled lines h.1)
 
 -- The words of the lines are those of the circuit.
-words_of_lines : (c : Netlist) → flat_map (λ l. l) (lines_of_circuit c) ≡ words_of_circuit c
-words_of_lines c =
-    let inputs : List Word = words_of_widths c.input_widths in
-    let outputs : List Word = words_of_widths c.output_widths in
-    ap (λ ws. Number (length c.gates) ∷ Number c.wires ∷ (inputs ++ (outputs ++ ws))) (flat_map-map
-    (λ l. l) words_of_gate c.gates)
-    ∙ ap (λ ws. Number (length c.gates) ∷ Number c.wires ∷ ws)
-    (sym (append_assoc inputs outputs (flat_map words_of_gate c.gates)))
+words_of_lines : (c : Netlist) → words_of_circuit c ≡ flat_map (λ l. l) (lines_of_circuit c)
+words_of_lines c = simp (flat_map-map, append_assoc)
 
 -- The words of lawful circuits are plain: those of a gate,
 abbrev IsSmallGate : Gate → Type 0
@@ -154,26 +142,11 @@ name_plain : (a b c : ℕ) → is_blank a ≡ false → is_blank b ≡ false →
 name_plain a b c p q r = record { some = refl; solid = (p, (q, (r, tt))) }
 
 bit_small : (v : Bool) → bit_number v < 2 ^ 32
-bit_small true = omega arith
-bit_small false = omega arith
+bit_small v = grind arith
 
 operation_plain : (op : Operation) (c : ℕ) → c < 2 ^ 32 → EachRead (λ w. w < 2 ^ 32) op
     → AllByRecursion IsPlain (words_of_operation c op)
-operation_plain (Xor a b) c small reads =
-    (omega arith, (omega arith, (reads.0, (reads.1, (small, (name_plain 88 79 82 refl refl refl, tt))))))
-operation_plain (And a b) c small reads =
-    (omega arith, (omega arith, (reads.0, (reads.1, (small, (name_plain 65 78 68 refl refl refl, tt))))))
-operation_plain (Inv a) c small reads =
-    (omega arith, (omega arith, (reads, (small, (name_plain 73 78 86 refl refl refl, tt)))))
-operation_plain (Eq v) c small reads = (
-  omega arith,
-  (
-    omega arith,
-    (bit_small v, (small, (record { some = refl; solid = (refl, (refl, tt)) }, tt))),
-  ),
-)
-operation_plain (Eqw a) c small reads =
-    (omega arith, (omega arith, (reads, (small, (name_plain 69 81 87 refl refl refl, tt)))))
+operation_plain op c small reads = grind (arith, bit_small)
 
 gates_plain : (gs : List Gate) → ((i : ℕ) (g : Gate) → slice_get gs i ≡ Some g → IsSmallGate g)
     → AllByRecursion (AllByRecursion IsPlain) (map words_of_gate gs)
@@ -192,35 +165,20 @@ numbers_plain (n ∷ ns) h =
 -- and those of the sizes.
 lines_plain : (c : Netlist) → IsLawful c → AllByRecursion (AllByRecursion IsPlain) (lines_of_circuit c)
 lines_plain c lawful =
-    let wires : c.wires ≤ MAX_WIRES = lawful.few_wires in
-    let gates : length c.gates ≤ MAX_GATES = lawful.few_gates in
-    let inputs : length c.input_widths ≤ MAX_VALUES = lawful.few_inputs in
-    let outputs : length c.output_widths ≤ MAX_VALUES = lawful.few_outputs in
-    let inputs_fit : sum c.input_widths ≤ c.wires = lawful.inputs_fit in
-    let outputs_fit : sum c.output_widths ≤ c.wires = lawful.outputs_fit in (
-      (omega arith, (omega arith, tt)),
-      (
-        (omega arith, numbers_plain c.input_widths (omega arith)),
-        (
-          (omega arith, numbers_plain c.output_widths (omega arith)),
-          (
-            tt,
-            gates_plain c.gates (λ i g at.
-                let set : g.set < c.wires = lawful.sets i g at in (
-                  omega arith,
-                  EachRead-map (λ w. w < c.wires) (λ w. w < 2 ^ 32) g.operation
-                      (λ w below. omega arith) (EachRead-below c lawful i g at),
-                )),
-          ),
-        ),
-      ),
-    )
+    let inputs = numbers_plain c.input_widths (omega (arith, lawful.inputs_fit)) in
+    let outputs = numbers_plain c.output_widths (omega (arith, lawful.outputs_fit)) in
+    let gates = gates_plain c.gates (λ i g at. (
+      omega (arith, lawful.sets i g at),
+      EachRead-map (λ w. w < c.wires) (λ w. w < 2 ^ 32) g.operation (λ w below. omega arith)
+          (EachRead-below c lawful i g at),
+    )) in
+    grind arith
 
 canonical_spells : (c : Netlist) → IsLawful c → Spells (canonical_text c) c
 unfolding canonical_text
 canonical_spells c lawful =
-    let P : List Word → Type 0 = λ ws. SpellWords (tokens (flat_map line (lines_of_circuit c))) ws [] in
-    subst P (words_of_lines c) (lines_spelled (lines_of_circuit c) (lines_plain c lawful))
+    same_words (tokens (canonical_text c)) [] (words_of_circuit c) (flat_map (λ l. l) (lines_of_circuit c))
+    (words_of_lines c) (lines_spelled (lines_of_circuit c) (lines_plain c lawful))
 
 pub canonical_law : (c : Netlist) → IsLawful c → CanonicalLaw c
 canonical_law c lawful =

@@ -1,7 +1,7 @@
 -- Each text spells one lawful circuit or has one first fault.
-use Rattle.std.proofs.Common.{◌≢◌, MatchResult, IfErr, ◌≡◌, ℕ, ◌⊎◌, inl, inr, List, Result, Ok, Err, refl, sym, ◌∙◌, arith}
+use Rattle.std.proofs.Common.{◌≢◌, MatchResult, ◌≡◌, ℕ, ◌⊎◌, inl, inr, List, Result, Ok, Err, refl, sym, ◌∙◌, arith}
 use Rattle.gc_netlist.specs.declared.fault.ReadFault.{ReadFault}
-use Rattle.gc_netlist.specs.declared.fault.ReadFault.TheVariants.{Truncated, BadNumber, TooLarge, BadShape, UnknownOperation, BadConstant, NoSuchWire, Unset, SetTwice, OutputUnset, TrailingTokens, WidthsExceedWires, Memory}
+use Rattle.gc_netlist.specs.declared.fault.ReadFault.TheVariants.{Memory}
 use Rattle.gc_netlist.specs.Circuit.{Netlist, IsLawful}
 use Rattle.gc_netlist.specs.Text.{tokens}
 use Rattle.gc_netlist.specs.Spelling.{Spells}

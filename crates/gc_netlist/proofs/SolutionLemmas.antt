@@ -1,12 +1,11 @@
 -- Values that meet a local rule at each gate agree on the wires that are set, and there are such values.
-use Rattle.std.proofs.Common.{◌≡◌, ◌≢◌, ℕ, zero, suc, ◌<◌, ◌≤◌, ◌⊎◌, inl, inr, length, slice_get, Some, None, Option, refl, sym, ap, ◌∙◌, subst, arith}
+use Rattle.std.proofs.Common.{◌≡◌, ◌≢◌, ℕ, zero, suc, ◌<◌, ◌≤◌, ◌⊎◌, inl, inr, length, slice_get, Some, None, Option, refl, sym, ap, ◌∙◌, arith}
 use Rattle.std.proofs.lemmas.Bool.Decides.{nat_tests}
 use Rattle.std.proofs.lemmas.Option.{slice_get_within}
 use Rattle.gc_netlist.specs.declared.gate.Operation.{Operation}
-use Rattle.gc_netlist.specs.declared.gate.Operation.TheVariants.{Xor, And, Inv, Eqw, Eq}
 use Rattle.gc_netlist.specs.declared.gate.Gate.{Gate}
 use Rattle.gc_netlist.specs.Circuit.{Netlist, EachRead, IsSetBefore, IsSet, IsLawful}
-use Rattle.gc_netlist.specs.Solution.{Solves, IsLocal, put, put_gate, values_after}
+use Rattle.gc_netlist.specs.Solution.{Solves, IsLocal, put_gate, values_after}
 
 -- what is so of each wire, under P
 pub EachRead-map : (P Q : ℕ → Type 0) (op : Operation) → ((w : ℕ) → P w → Q w) → EachRead P op → EachRead Q op
@@ -35,12 +34,6 @@ module _ {A : Type 0} (rule : (ℕ → A) → ℕ → Gate → A) (local : IsLoc
       → IsSet c w → u w ≡ v w
   agree given u v p q w h = agree_before given u v p q (length c.gates) w h
 
-put_same : {A : Type 0} (v : ℕ → A) (w : ℕ) (x : A) → put v w x w ≡ x
-put_same v w x = grind (arith, nat_tests)
-
-put_other : {A : Type 0} (v : ℕ → A) (w : ℕ) (x : A) (u : ℕ) → u ≢ w → put v w x u ≡ v u
-put_other v w x u h = grind (arith, nat_tests)
-
 cases_le : (m n : ℕ) → m ≤ suc n → (m ≡ suc n) ⊎ (m ≤ n)
 cases_le m n h = grind arith
 
@@ -50,17 +43,17 @@ module _ {A : Type 0} (rule : (ℕ → A) → ℕ → Gate → A) (local : IsLoc
       → IsSetBefore c n w → put_gate rule v n o w ≡ v w
   put_gate-keeps n w v None at set = refl
   put_gate-keeps n w v (Some g) at set =
-      put_other v g.set (rule v n g) w
-      (λ same. lawful.sets_once n g at (let P : ℕ → Type 0 = IsSetBefore c n in subst P same set))
+      let other : w ≢ g.set = λ same. lawful.sets_once n g at (rw (← same) set) in
+      grind (arith, nat_tests)
 
   -- a wire that is set keeps its value
   pub after-keeps : (m n w : ℕ) → m ≤ n → IsSetBefore c m w
       → values_after rule c given n w ≡ values_after rule c given m w
   unfolding values_after
-  after-keeps m zero w below set = let e : zero ≡ m = omega arith in ap (λ k. values_after rule c given k w) e
+  after-keeps m zero w below set = let e : m ≡ zero = omega arith in rw e refl
   after-keeps m (suc n) w below set =
       elim (cases_le m n below) [
-        | inl e ↦ ap (λ k. values_after rule c given k w) (sym e)
+        | inl e ↦ rw e refl
         | inr h ↦ put_gate-keeps n w (values_after rule c given n) (slice_get c.gates n) refl
             (IsSetBefore-more c m n w h set) ∙ after-keeps m n w h set
       ]
@@ -69,8 +62,9 @@ module _ {A : Type 0} (rule : (ℕ → A) → ℕ → Gate → A) (local : IsLoc
       → (IsSetBefore c (suc n) w → ⊥) → put_gate rule v n o w ≡ v w
   put_gate-passes n w v None at unset = refl
   put_gate-passes n w v (Some g) at unset =
-      put_other v g.set (rule v n g) w
-      (λ same. unset (inr (n, omega arith, record { gate = g; at = at; wire = sym same })))
+      let other : w ≢ g.set =
+      λ same. unset (inr (n, omega arith, record { gate = g; at = at; wire = sym same })) in
+      grind (arith, nat_tests)
 
   -- a wire that is not set keeps what is given
   pub after-unset : (n w : ℕ) → (IsSetBefore c n w → ⊥) → values_after rule c given n w ≡ given w
@@ -83,9 +77,7 @@ module _ {A : Type 0} (rule : (ℕ → A) → ℕ → Gate → A) (local : IsLoc
   after_at : (i : ℕ) (g : Gate) → slice_get c.gates i ≡ Some g
       → values_after rule c given (suc i) g.set ≡ rule (values_after rule c given i) i g
   unfolding values_after
-  after_at i g at =
-      ap (λ o. put_gate rule (values_after rule c given i) i o g.set) at
-      ∙ put_same (values_after rule c given i) g.set (rule (values_after rule c given i) i g)
+  after_at i g at = rw at (grind (arith, nat_tests))
 
   after_start : (w : ℕ) → values_after rule c given zero w ≡ given w
   unfolding values_after

@@ -1,7 +1,6 @@
 -- Tables of values on the wires, as lists.
-use Rattle.std.proofs.Common.{◌≡◌, ℕ, zero, suc, ◌+◌, ◌-◌, ◌<◌, ◌≤◌, inl, inr, List, [], ◌∷◌, length, length-set, map, set, drop, get_or, slice_get, Some, refl, sym, ap, ◌∙◌, arith, replicate, ◌++◌}
+use Rattle.std.proofs.Common.{◌≡◌, ℕ, zero, suc, ◌+◌, ◌-◌, ◌<◌, ◌≤◌, inl, inr, List, [], ◌∷◌, length, length-set, map, set, drop, get_or, slice_get, add-one, Some, refl, ap, ◌∙◌, arith, replicate, ◌++◌}
 use Rattle.std.proofs.lemmas.Bool.Decides.{nat_tests}
-use Rattle.std.proofs.lemmas.Bool.{cases_eq}
 use Rattle.std.proofs.lemmas.List.{get_or-set_same, get_or-set_other}
 use Rattle.std.proofs.lemmas.List.FromFn.{length-map-range_with_len, get_or-map-range_with_len, fill_by_all}
 use Rattle.std.specs.List.{range_with_len}
@@ -9,7 +8,7 @@ use Rattle.std.proofs.lemmas.Grind.{common_steps}
 use Rattle.gc_netlist.specs.declared.gate.Gate.{Gate}
 use Rattle.gc_netlist.specs.Circuit.{Netlist, EachRead, IsSetBefore, IsLawful}
 use Rattle.gc_netlist.proofs.SolutionLemmas.{EachRead-map}
-use Rattle.gc_netlist.specs.Solution.{IsLocal, put, put_gate, values_after}
+use Rattle.gc_netlist.specs.Solution.{IsLocal, put, values_after}
 
 -- what a table has at a place
 pub read-table : {A : Type 0} (f : ℕ → A) (n k : ℕ) (d : A) → k < n →
@@ -41,22 +40,11 @@ EachRead-below c lawful i g at = EachRead-map (IsSetBefore c i) (λ w. w < c.wir
     (λ w h. IsSetBefore-below c lawful i w h) (lawful.reads i g at)
 
 module _ {A : Type 0} (rule : (ℕ → A) → ℕ → Gate → A) (c : Netlist) (given : ℕ → A) where
-  after-suc : (i : ℕ) (g : Gate) → slice_get c.gates i ≡ Some g →
-      values_after rule c given (suc i)
+  after-next : (i : ℕ) (g : Gate) → slice_get c.gates i ≡ Some g →
+      values_after rule c given (i + 1)
       ≡ put (values_after rule c given i) g.set (rule (values_after rule c given i) i g)
   unfolding values_after
-  after-suc i g at = ap (put_gate rule (values_after rule c given i) i) at
-
-  -- one more gate
-  pub table_more : (lawful : IsLawful c) (i : ℕ) (g : Gate) → slice_get c.gates i ≡ Some g →
-      set (map (values_after rule c given i) (range_with_len 0 c.wires)) g.set
-      (rule (values_after rule c given i) i g)
-      ≡ map (values_after rule c given (i + 1)) (range_with_len 0 c.wires)
-  table_more lawful i g at =
-      set-table (values_after rule c given i) c.wires g.set (rule (values_after rule c given i) i g)
-      (lawful.sets i g at)
-      ∙ ap (λ f. map f (range_with_len 0 c.wires)) (sym (after-suc i g at))
-      ∙ ap (λ k. map (values_after rule c given k) (range_with_len 0 c.wires)) (omega arith)
+  after-next i g at = rw (add-one, at) refl
 
   pub after-zero : values_after rule c given 0 ≡ given
   unfolding values_after
@@ -81,16 +69,15 @@ pub table_step : {A : Type 0} (rule : (ℕ → A) → ℕ → Gate → A) → Is
     slice_get c.gates i ≡ Some g →
     x ≡ rule (λ w. get_or table w d) i g →
     set table g.set x ≡ map (values_after rule c given (i + 1)) (range_with_len 0 c.wires)
-table_step rule local c lawful given table i g d x is at value =
-    ap (λ l. set l g.set x) is
-    ∙ ap (set (map (values_after rule c given i) (range_with_len 0 c.wires)) g.set)
-    (value
-    ∙ local (λ w. get_or table w d) (values_after rule c given i) i g
-    (EachRead-map (λ w. w < c.wires) (λ w. get_or table w d ≡ values_after rule c given i w) g.operation
-    (λ w below. ap (λ l. get_or l w d) is
-    ∙ read-table (values_after rule c given i) c.wires w d below)
-    (EachRead-below c lawful i g at)))
-    ∙ table_more rule c given lawful i g at
+table_step {A = A} rule local c lawful given table i g d x is at value =
+    let v : ℕ → A = values_after rule c given i in
+    let read : EachRead (λ w. get_or table w d ≡ v w) g.operation =
+    EachRead-map (λ w. w < c.wires) (λ w. get_or table w d ≡ v w) g.operation
+    (λ w below. ap (λ l. get_or l w d) is ∙ read-table v c.wires w d below)
+    (EachRead-below c lawful i g at) in
+    let same : x ≡ rule v i g = value ∙ local (λ w. get_or table w d) v i g read in
+    rw (is, same, after-next rule c given i g at)
+    (set-table v c.wires g.set (rule v i g) (lawful.sets i g at))
 
 -- how long a table is
 pub length-table : {A : Type 0} (f : ℕ → A) (n : ℕ) (table : List A) →
