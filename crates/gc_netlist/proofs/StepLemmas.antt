@@ -16,26 +16,7 @@ pub bind_fails : {A B C : Type 0} (r : Result A ReadFault) (f : A → Result B R
 bind_fails (Ok x) f e h k l = l x refl h
 bind_fails (Err d) f e h k l = k (let same : d ≡ e = cc in ap Err same)
 
--- where a test chose
-pub chosen : {A C : Type 0} (b : Bool) (x y z : A) → cond b x y ≡ z → (b ≡ true → x ≡ z → C) →
-    (b ≡ false → y ≡ z → C) → C
-chosen true x y z h k l = k refl h
-chosen false x y z h k l = l refl h
-
+-- equal results of steps
 pub ok_is : {A : Type 0} (x y : A) →
     (let r : Result A ReadFault = Ok x in let t : Result A ReadFault = Ok y in r ≡ t) → x ≡ y
 ok_is x y h = cc
-
-pub fault_is : {A : Type 0} (d e : ReadFault) →
-    (let r : Result A ReadFault = Err d in let t : Result A ReadFault = Err e in r ≡ t) → d ≡ e
-fault_is d e h = cc
-
--- A fault is no success,
-pub refused : {A C : Type 0} (e : ReadFault) (y : A) →
-    (let r : Result A ReadFault = Err e in let t : Result A ReadFault = Ok y in r ≡ t) → C
-refused e y h = absurd (let z : ⊥ = cc in z)
-
--- and a success no fault.
-pub accepted : {A C : Type 0} (y : A) (e : ReadFault) →
-    (let r : Result A ReadFault = Ok y in let t : Result A ReadFault = Err e in r ≡ t) → C
-accepted y e h = absurd (let z : ⊥ = cc in z)
