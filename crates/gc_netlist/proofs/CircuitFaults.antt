@@ -14,24 +14,10 @@ use Rattle.gc_netlist.specs.Met.{limited_left, widths_left, gate_left, wire_at_f
 use Rattle.gc_netlist.proofs.StepLemmas.{bind_fails}
 use Rattle.gc_netlist.proofs.SpellingLemmas.{Spell-append, Spell-number, same_words, limited_takes, TakesWidths, widths_takes, gate_takes, gates_takes}
 use Rattle.gc_netlist.proofs.LawfulLemmas.{tested_set, set_tested, AreChecked, none_checked, gates_checked, outputs_are_set, checked_lawful}
-use Rattle.gc_netlist.proofs.ReadingBack.{lawful_checked}
+use Rattle.gc_netlist.proofs.ReadingBack.{lawful_checked, checked_begun}
 use Rattle.gc_netlist.proofs.FaultLemmas.{Spell-length, met, Met, limited_fault, widths_fault}
 use Rattle.gc_netlist.proofs.GateFaults.{gate_fault}
 use Rattle.gc_netlist.proofs.CheckFaults.{check_fault}
-
--- A header in order, with gates that pass their checks, begins a circuit.
-checked_begun : (n : ℕ) (c : Netlist) → n ≤ MAX_GATES → length c.gates ≤ n → c.wires ≤ MAX_WIRES →
-    length c.input_widths ≤ MAX_VALUES → input_wires c ≤ c.wires →
-    length c.output_widths ≤ MAX_VALUES → output_wires c ≤ c.wires →
-    AreChecked c.wires (input_wires c) c.gates → IsBegun n c
-checked_begun n c few so_far wires inputs inputs_fit outputs outputs_fit ok = record {
-  few_gates = few;
-  so_far = so_far;
-  lawful = checked_lawful (without_outputs c) (omega arith) wires inputs inputs_fit (omega arith)
-      (omega arith) ok (λ w last below. absurd (omega arith));
-  few_outputs = outputs;
-  outputs_fit = outputs_fit;
-}
 
 -- a whole circuit whose outputs are set
 begun_lawful : (c : Netlist) (u : Unit {0}) → IsBegun (length c.gates) c →

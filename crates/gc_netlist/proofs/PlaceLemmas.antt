@@ -100,24 +100,14 @@ kind_of ts e (trailing c t rest lawful s) =
 -- The text ends there,
 pub spot_end : (ts : List (List ℕ)) (e : ReadFault) (first : FirstFault ts e) → e ≡ Truncated →
     (place_of first).spot ≡ End
-spot_end ts e first is =
-    let P : ReadFault → Type 0 = λ d. IsKind d (place_of first).spot (length ts) in
-    subst P is (kind_of ts e first)
+spot_end ts e first is = let kind = kind_of ts e first in grind arith
 
 -- a token ends there,
 pub spot_behind : (ts : List (List ℕ)) (e : ReadFault) (first : FirstFault ts e) → e ≡ OutputUnset →
     (k : ℕ) × ((place_of first).spot ≡ Behind k) × (0 < k)
-spot_behind ts e first is =
-    let P : ReadFault → Type 0 = λ d. IsKind d (place_of first).spot (length ts) in
-    subst P is (kind_of ts e first)
+spot_behind ts e first is = let kind = kind_of ts e first in grind arith
 
 -- or one begins there.
 pub spot_token : (ts : List (List ℕ)) (e : ReadFault) (first : FirstFault ts e) → e ≢ Truncated →
     e ≢ OutputUnset → (k : ℕ) × ((place_of first).spot ≡ Token k) × (k < length ts)
-spot_token ts e first more whole = go e (place_of first).spot (kind_of ts e first) more whole
-  where
-    go : (d : ReadFault) (spot : Spot) → IsKind d spot (length ts) → d ≢ Truncated →
-        d ≢ OutputUnset → (k : ℕ) × (spot ≡ Token k) × (k < length ts)
-    go Truncated spot h p q = absurd (p refl)
-    go OutputUnset spot h p q = absurd (q refl)
-    go _ spot h p q = h
+spot_token ts e first more whole = let kind = kind_of ts e first in grind arith

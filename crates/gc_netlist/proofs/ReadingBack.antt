@@ -130,17 +130,9 @@ after_outputs n wires inputs outputs =
 abbrev pub after_inputs : ℕ → ℕ → List ℕ × List (List ℕ) → Result Netlist ReadFault
 after_inputs n wires inputs = widths_at wires inputs.1 >>= after_outputs n wires inputs.0
 
--- after the number of wires,
+-- and after the number of wires.
 abbrev pub after_wires : ℕ → ℕ × List (List ℕ) → Result Netlist ReadFault
 after_wires n wires = widths_at wires.0 wires.1 >>= after_inputs n wires.0
-
--- and after the number of gates.
-abbrev pub after_count : ℕ × List (List ℕ) → Result Netlist ReadFault
-after_count count = limited_at MAX_WIRES count.1 >>= after_wires count.0
-
-pub circuit_of-parts : (ts : List (List ℕ)) → circuit_of ts ≡ (limited_at MAX_GATES ts >>= after_count)
-unfolding circuit_of
-circuit_of-parts ts = refl
 
 -- The two sizes are read.
 pub sizes_back : {C : Type 0} (n wires : ℕ) (more : List Word) (ts rest : List (List ℕ)) →
@@ -171,17 +163,26 @@ module _ (c : Netlist) (lawful : IsLawful (without_outputs c)) where
   set_read w h =
       let below = set_below w h in let yes = set_tested c w h in grind (arith, nat_tests)
 
--- A lawful circuit is its own beginning.
-pub lawful_begun : (c : Netlist) → IsLawful c → IsBegun (length c.gates) c
-lawful_begun c lawful = record {
-  few_gates = lawful.few_gates;
-  so_far = omega arith;
-  lawful = checked_lawful (without_outputs c) lawful.few_gates lawful.few_wires lawful.few_inputs
-      lawful.inputs_fit (omega arith) (omega arith) (lawful_checked c lawful)
-      (λ w last below. absurd (omega arith));
-  few_outputs = lawful.few_outputs;
-  outputs_fit = lawful.outputs_fit;
+-- A header in order, with gates that pass their checks, begins a circuit.
+pub checked_begun : (n : ℕ) (c : Netlist) → n ≤ MAX_GATES → length c.gates ≤ n →
+    c.wires ≤ MAX_WIRES → length c.input_widths ≤ MAX_VALUES → input_wires c ≤ c.wires →
+    length c.output_widths ≤ MAX_VALUES → output_wires c ≤ c.wires →
+    AreChecked c.wires (input_wires c) c.gates → IsBegun n c
+checked_begun n c few so_far wires inputs inputs_fit outputs outputs_fit ok = record {
+  few_gates = few;
+  so_far = so_far;
+  lawful = checked_lawful (without_outputs c) (omega arith) wires inputs inputs_fit (omega arith)
+      (omega arith) ok (λ w last below. absurd (omega arith));
+  few_outputs = outputs;
+  outputs_fit = outputs_fit;
 }
+
+-- A lawful circuit is its own beginning.
+lawful_begun : (c : Netlist) → IsLawful c → IsBegun (length c.gates) c
+lawful_begun c lawful =
+    checked_begun (length c.gates) c lawful.few_gates (omega arith) lawful.few_wires
+    lawful.few_inputs lawful.inputs_fit lawful.few_outputs lawful.outputs_fit
+    (lawful_checked c lawful)
 
 -- The header and the gates so far are read.
 pub begun_back : {C : Type 0} (n : ℕ) (c : Netlist) (more : List Word) (ts rest : List (List ℕ)) →

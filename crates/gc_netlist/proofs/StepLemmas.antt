@@ -7,14 +7,14 @@ use Rattle.gc_netlist.specs.Reading.{◌>>=◌}
 pub bind_then : {A B C : Type 0} (r : Result A ReadFault) (f : A → Result B ReadFault) (y : B) →
     (r >>= f) ≡ Ok y → ((x : A) → r ≡ Ok x → f x ≡ Ok y → C) → C
 bind_then (Ok x) f y h k = k x refl h
-bind_then (Err e) f y h k = absurd (let z : ⊥ = cc in z)
+bind_then (Err e) f y h k = absurd (cc)
 
 -- where the first or the second step met a fault
 pub bind_fails : {A B C : Type 0} (r : Result A ReadFault) (f : A → Result B ReadFault)
     (e : ReadFault) → (r >>= f) ≡ Err e →
     (r ≡ Err e → C) → ((x : A) → r ≡ Ok x → f x ≡ Err e → C) → C
 bind_fails (Ok x) f e h k l = l x refl h
-bind_fails (Err d) f e h k l = k (let same : d ≡ e = cc in ap Err same)
+bind_fails (Err d) f e h k l = k (cc)
 
 -- equal results of steps
 pub ok_is : {A : Type 0} (x y : A) →
