@@ -163,7 +163,8 @@ numbers_plain (n ∷ ns) h =
     (omega arith, numbers_plain ns (omega arith))
 
 -- and those of the sizes.
-lines_plain : (c : Netlist) → IsLawful c → AllByRecursion (AllByRecursion IsPlain) (lines_of_circuit c)
+lines_plain : (c : Netlist) → IsLawful c →
+    AllByRecursion (AllByRecursion IsPlain) (lines_of_circuit c)
 lines_plain c lawful =
     let inputs = numbers_plain c.input_widths (omega (arith, lawful.inputs_fit)) in
     let outputs = numbers_plain c.output_widths (omega (arith, lawful.outputs_fit)) in
@@ -177,8 +178,9 @@ lines_plain c lawful =
 canonical_spells : (c : Netlist) → IsLawful c → Spells (canonical_text c) c
 unfolding canonical_text
 canonical_spells c lawful =
-    same_words (tokens (canonical_text c)) [] (words_of_circuit c) (flat_map (λ l. l) (lines_of_circuit c))
-    (words_of_lines c) (lines_spelled (lines_of_circuit c) (lines_plain c lawful))
+    same_words (tokens (canonical_text c)) [] (words_of_circuit c)
+    (flat_map (λ l. l) (lines_of_circuit c)) (words_of_lines c)
+    (lines_spelled (lines_of_circuit c) (lines_plain c lawful))
 
 pub canonical_law : (c : Netlist) → IsLawful c → CanonicalLaw c
 canonical_law c lawful =

@@ -4,16 +4,16 @@ use Rattle.std.specs.List.{flat_map, list_all, range_with_len}
 use Rattle.std.proofs.lemmas.Bool.{cases_eq, cases_Bool, both_ways}
 use Rattle.gc_netlist.specs.declared.fault.ReadFault.{ReadFault}
 use Rattle.gc_netlist.specs.declared.fault.ReadFault.TheVariants.{OutputUnset, TrailingTokens}
-use Rattle.gc_netlist.specs.declared.limits.TheConstants.{MAX_GATES, MAX_WIRES, MAX_VALUES}
+use Rattle.gc_netlist.specs.declared.limits.TheConstants.{MAX_GATES, MAX_WIRES}
 use Rattle.gc_netlist.specs.declared.gate.Gate.{Gate}
-use Rattle.gc_netlist.specs.Circuit.{Netlist, netlist_of, input_wires, output_wires, IsSet, IsLawful}
+use Rattle.gc_netlist.specs.Circuit.{Netlist, netlist_of, IsSet, IsLawful}
 use Rattle.gc_netlist.specs.Spelling.{Word, Number, SpellWords, words_of_gate, words_of_widths, words_of_circuit}
 use Rattle.gc_netlist.specs.Reading.{limited_at, widths_at, gate_at, is_set, check_gate, gates_at, check_outputs, check_end, circuit_of}
 use Rattle.gc_netlist.specs.FirstFault.{without_outputs, IsBegun, words_so_far, input_side, output_side, next_gate, number_of_gates, number_of_wires, FirstFault, output_unset, trailing}
 use Rattle.gc_netlist.specs.Met.{limited_left, widths_left, gate_left, wire_at_fault, IsMet}
 use Rattle.gc_netlist.proofs.StepLemmas.{bind_fails}
 use Rattle.gc_netlist.proofs.SpellingLemmas.{Spell-append, Spell-number, same_words, limited_takes, TakesWidths, widths_takes, gate_takes, gates_takes}
-use Rattle.gc_netlist.proofs.LawfulLemmas.{tested_set, set_tested, AreChecked, none_checked, gates_checked, outputs_are_set, checked_lawful}
+use Rattle.gc_netlist.proofs.LawfulLemmas.{tested_set, set_tested, none_checked, gates_checked, outputs_are_set, checked_lawful}
 use Rattle.gc_netlist.proofs.ReadingBack.{lawful_checked, checked_begun}
 use Rattle.gc_netlist.proofs.FaultLemmas.{Spell-length, met, Met, limited_fault, widths_fault}
 use Rattle.gc_netlist.proofs.GateFaults.{gate_fault}
@@ -76,7 +76,8 @@ module _ (ts : List (List ℕ)) where
       (omega (arith, Spell-length ts (t ∷ us) (words_of_circuit c) s)))
 
   -- Reading a header, step by step: each step's fault is the first.
-  pub count_met : (e : ReadFault) → limited_at MAX_GATES ts ≡ Err e → Met ts (limited_left ts) None e
+  pub count_met : (e : ReadFault) → limited_at MAX_GATES ts ≡ Err e →
+      Met ts (limited_left ts) None e
   count_met e bad = limited_fault ts [] MAX_GATES ts e number_of_gates refl bad
 
   module _ (count : ℕ × List (List ℕ)) (h_count : limited_at MAX_GATES ts ≡ Ok count) where
@@ -100,14 +101,16 @@ module _ (ts : List (List ℕ)) where
 
       s2 : SpellWords ts sizes wires.1
       s2 = Spell-append ts count.1 wires.1 (Number count.0 ∷ []) (Number wires.0 ∷ []) s1
-          (Spell-number count.1 wires.1 [] wires (limited_takes MAX_WIRES count.1 wires h_wires).0 refl)
+          (Spell-number count.1 wires.1 [] wires (limited_takes MAX_WIRES count.1 wires h_wires).0
+          refl)
 
       pub inputs_met : (e : ReadFault) → widths_at wires.0 wires.1 ≡ Err e →
           Met ts (widths_left wires.1) None e
       inputs_met e bad =
           widths_fault ts wires.0 sizes (input_side count.0 few small) wires.1 e s2 bad
 
-      module _ (inputs : List ℕ × List (List ℕ)) (h_inputs : widths_at wires.0 wires.1 ≡ Ok inputs) where
+      module _ (inputs : List ℕ × List (List ℕ))
+          (h_inputs : widths_at wires.0 wires.1 ≡ Ok inputs) where
         i : TakesWidths wires.0 wires.1 inputs
         i = widths_takes wires.0 wires.1 inputs h_inputs
 
@@ -166,11 +169,13 @@ module _ (ts : List (List ℕ)) where
               (next_gate count.0 b.0 below) gates.1 (gates_spelled (length gates.0) gates h) e bad
 
           -- or is refused.
-          pub wire_met : (gates : List Gate × List (List ℕ)) (g : Gate × List (List ℕ)) (e : ReadFault) →
+          pub wire_met : (gates : List Gate × List (List ℕ)) (g : Gate × List (List ℕ))
+              (e : ReadFault) →
               gates_at wires.0 (sum inputs.0) (length gates.0) [] outputs.1 ≡ Ok gates →
               length gates.0 < count.0 → gate_at gates.1 ≡ Ok g →
               check_gate wires.0 (is_set (sum inputs.0) gates.0) g.0 ≡ Err e →
-              (let at = wire_at_fault wires.0 (is_set (sum inputs.0) gates.0) g.0.set g.0.operation in
+              (let at =
+              wire_at_fault wires.0 (is_set (sum inputs.0) gates.0) g.0.set g.0.operation in
               IsMet ts e g.1 at.1 (Some (length gates.0)) (Some at.0))
           wire_met gates g e h below hg bad =
               let c : Netlist = with_gates gates.0 in
@@ -197,7 +202,8 @@ module _ (ts : List (List ℕ)) where
             -- The fault of the first output wire that isn't set,
             pub unset_met : (w : ℕ) → wires.0 ≤ w + sum outputs.0 → w < wires.0 →
                 is_set (sum inputs.0) gates.0 w ≡ false →
-                ((v : ℕ) → wires.0 ≤ v + sum outputs.0 → v < w → is_set (sum inputs.0) gates.0 v ≡ true) →
+                ((v : ℕ) → wires.0 ≤ v + sum outputs.0 → v < w →
+                is_set (sum inputs.0) gates.0 v ≡ true) →
                 IsMet ts OutputUnset gates.1 0 None (Some w)
             unset_met w last wire free lower =
                 let unset = λ (set : IsSet made w). both_ways _ free (set_tested made w set) in
@@ -208,7 +214,8 @@ module _ (ts : List (List ℕ)) where
             -- or of a token after the last gate.
             pub end_met : (u : Unit {0}) (e : ReadFault) → check_outputs made ≡ Ok u →
                 check_end gates.1 ≡ Err e → Met ts gates.1 None e
-            end_met u e set bad = end_fault made gates.1 e (begun_lawful made u whole.0 set) whole.1 bad
+            end_met u e set bad =
+                end_fault made gates.1 e (begun_lawful made u whole.0 set) whole.1 bad
 
             outputs_first : (e : ReadFault) → check_outputs made ≡ Err e → FirstFault ts e
             unfolding check_outputs
@@ -216,14 +223,15 @@ module _ (ts : List (List ℕ)) where
                 let set : ℕ → Bool = is_set (sum inputs.0) gates.0 in
                 let fits : sum outputs.0 ≤ wires.0 = o.fit in
                 let first : ℕ = wires.0 - sum outputs.0 in
-                let some : list_all set (range_with_len first (sum outputs.0)) ≡ false = grind arith in
+                let range : List ℕ = range_with_len first (sum outputs.0) in
+                let some : list_all set range ≡ false = grind arith in
                 let same : e ≡ OutputUnset = grind arith in
                 let (w, from, below, free, lower) = not_in_range set first (sum outputs.0) some in
                 rw same (unset_met w (omega arith) (omega arith) free
                 (λ v high low. lower v (omega arith) low)).first
 
-          gates_first : (e : ReadFault) → gates_at wires.0 (sum inputs.0) count.0 [] outputs.1 ≡ Err e →
-              FirstFault ts e
+          gates_first : (e : ReadFault) →
+              gates_at wires.0 (sum inputs.0) count.0 [] outputs.1 ≡ Err e → FirstFault ts e
           gates_first e bad =
               let (n, gates, below, h, stops) =
               gates_stop wires.0 (sum inputs.0) count.0 [] outputs.1 e bad in
@@ -253,7 +261,8 @@ module _ (ts : List (List ℕ)) where
       (λ gates h_gates h5.
       bind_fails (check_outputs (netlist_of wires.0 inputs.0 outputs.0 gates.0)) _ e h5
       (λ bad.
-      outputs_first count h_count wires h_wires inputs h_inputs outputs h_outputs gates h_gates e bad)
+      outputs_first count h_count wires h_wires inputs h_inputs outputs h_outputs gates h_gates e
+      bad)
       (λ u hu h6. bind_fails (check_end gates.1) _ e h6
       (λ bad. (end_met count h_count wires h_wires inputs h_inputs outputs h_outputs gates h_gates
       u e hu bad).first)

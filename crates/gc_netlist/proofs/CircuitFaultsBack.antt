@@ -31,7 +31,8 @@ limit_stops limit n us rest s above = grind (arith, nat_tests)
 
 width_stops : (wires count : ℕ) (widths : List ℕ) (us vs : List (List ℕ)) (e : ReadFault) →
     count ≤ MAX_VALUES → length widths < count →
-    SpellWords us (Number count ∷ map Number widths) vs → number_at vs ≡ Err e → widths_at wires us ≡ Err e
+    SpellWords us (Number count ∷ map Number widths) vs → number_at vs ≡ Err e →
+    widths_at wires us ≡ Err e
 unfolding widths_at numbers_at
 width_stops wires count widths us vs e few below s bad =
     limited_back MAX_VALUES count us vs (map Number widths) s few (λ t1 h1 s1.
@@ -115,7 +116,8 @@ module _ (ts : List (List ℕ)) where
       side_back wires before (Number count ∷ map Number widths) us side s (λ vs s1 h.
       h e (width_stops wires count widths vs us e few below s1 bad))
   no_number_back words us e (due_in_gate c before numbers due in_order) s bad =
-      no_gate c before (map Number numbers) us e due s (λ vs s1. number_stops numbers vs us e in_order s1 bad)
+      no_gate c before (map Number numbers) us e due s
+      (λ vs s1. number_stops numbers vs us e in_order s1 bad)
 
   -- Where a name is due.
   no_name_back : (r : ℕ) (words : List Word) → NameDue r words → SpellWords ts words [] →

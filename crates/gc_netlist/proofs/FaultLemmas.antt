@@ -23,7 +23,8 @@ Spell-length (t ∷ ts) rest (w ∷ ws) s = omega (arith, Spell-length ts rest w
 
 pub Spell-lengths : (ts rest : List (List ℕ)) (ws vs : List Word) → SpellWords ts (ws ++ vs) rest →
     length ts ≡ length ws + length vs + length rest
-Spell-lengths ts rest ws vs s = omega (arith, Spell-length ts rest (ws ++ vs) s, length-append ws vs)
+Spell-lengths ts rest ws vs s =
+    omega (arith, Spell-length ts rest (ws ++ vs) s, length-append ws vs)
 
 -- A first fault is met at its place.
 pub met : {ts left : List (List ℕ)} {e : ReadFault} {back : ℕ} (first : FirstFault ts e) →
@@ -60,7 +61,8 @@ module _ (ts : List (List ℕ)) where
       (λ n hn h1.
       let above : limit < n.0 = grind (arith, nat_tests) in
       let same : e ≡ TooLarge = grind (arith, nat_tests) in
-      let spelled = Spell-append ts us n.1 words (Number n.0 ∷ []) s (Spell-number us n.1 [] n hn refl) in
+      let spelled = Spell-append ts us n.1 words (Number n.0 ∷ []) s
+      (Spell-number us n.1 [] n hn refl) in
       rw (hn, same) (met (too_large words limit n.0 n.1 due spelled above) tt
       (omega (arith, Spell-lengths ts n.1 words (Number n.0 ∷ []) spelled))))
 

@@ -1,5 +1,5 @@
 -- The fault that reading meets in a gate is the first fault.
-use Rattle.std.proofs.Common.{◌≡◌, ◌≢◌, ℕ, ◌+◌, ◌<◌, ◌&&◌, ◌==◌, ◌++◌, ◌⊎◌, inl, inr, List, [], ◌∷◌, length, map, Option, Some, Ok, Err, codes, refl, arith}
+use Rattle.std.proofs.Common.{◌≡◌, ◌≢◌, ℕ, ◌+◌, ◌<◌, ◌&&◌, ◌==◌, ◌++◌, ◌⊎◌, inl, inr, List, [], ◌∷◌, length, map, true, Option, Some, Ok, Err, codes, refl, arith}
 use Rattle.std.proofs.lemmas.Bool.{cases_Bool}
 use Rattle.std.proofs.lemmas.Bool.Decides.{nat_tests}
 use Rattle.std.proofs.lemmas.Slice.Eq.{bytes_eq-Decides}
@@ -11,7 +11,7 @@ use Rattle.gc_netlist.specs.Reading.{token_at, number_at, operation_of_two, oper
 use Rattle.gc_netlist.specs.FirstFault.{GateDue, IsCount, GateNumberDue, first_count, second_count, wire_number, due_in_gate, NameDue, due_as_name, IsNamed, no_name, bad_counts, unknown, other_counts, bad_constant}
 use Rattle.gc_netlist.specs.Met.{two_left, one_left, gate_left}
 use Rattle.gc_netlist.proofs.StepLemmas.{bind_fails}
-use Rattle.gc_netlist.proofs.SpellingLemmas.{Spell-append, Spell-number, Spell-name, same_words}
+use Rattle.gc_netlist.proofs.SpellingLemmas.{Spell-append, Spell-number, Spell-name}
 use Rattle.gc_netlist.proofs.FaultLemmas.{Spell-lengths, met, Met, number_fault}
 
 -- What is wrong with a name that is refused: it has other counts, or no operation has it,
@@ -34,7 +34,8 @@ module _ (ts : List (List ℕ)) (c : Netlist) (words : List Word) (due : GateDue
   here = Some (length c.gates)
 
   -- words of the gate, after those before it
-  after : (ws : List Word) (vs : List (List ℕ)) → SpellWords us ws vs → SpellWords ts (words ++ ws) vs
+  after : (ws : List Word) (vs : List (List ℕ)) → SpellWords us ws vs →
+      SpellWords ts (words ++ ws) vs
   after ws vs s = Spell-append ts us vs words ws so_far s
 
   -- one more number
@@ -58,16 +59,18 @@ module _ (ts : List (List ℕ)) (c : Netlist) (words : List Word) (due : GateDue
     abbrev name_due : NameDue r before
     name_due = due_as_name c words numbers due count len
 
+    so_long : SpellWords ts before vs
+    so_long = after (map Number (r ∷ 1 ∷ numbers)) vs s
+
     no_name_fault : (e : ReadFault) → token_at vs ≡ Err e → Met ts vs here e
     no_name_fault e bad =
         let same : e ≡ Truncated = grind arith in
         let none : vs ≡ [] = grind arith in
-        rw same (met (no_name r before name_due (rw none at (after (map Number (r ∷ 1 ∷ numbers)) vs s))) tt tt)
+        rw same (met (no_name r before name_due (rw none at so_long)) tt tt)
 
     module _ (n : List ℕ × List (List ℕ)) (hn : token_at vs ≡ Ok n) where
       whole : SpellWords ts (before ++ Name n.0 ∷ []) n.1
-      whole = Spell-append ts vs n.1 before (Name n.0 ∷ [])
-          (after (map Number (r ∷ 1 ∷ numbers)) vs s) (Spell-name vs n.1 [] n hn refl)
+      whole = Spell-append ts vs n.1 before (Name n.0 ∷ []) so_long (Spell-name vs n.1 [] n hn refl)
 
       last_token : length before + 1 + length n.1 ≡ length ts
       last_token = omega (arith, Spell-lengths ts n.1 before (Name n.0 ∷ []) whole)
@@ -142,6 +145,11 @@ module _ (ts : List (List ℕ)) (c : Netlist) (words : List Word) (due : GateDue
       ]))
       (λ op ho h4. cc))))
 
+  -- the two counts of a gate
+  counts : (n r s : ℕ) (vs : List (List ℕ)) → (r == n && s == 1) ≡ true →
+      SpellWords us (Number r ∷ Number s ∷ []) vs → SpellWords us (Number n ∷ Number 1 ∷ []) vs
+  counts n r s vs is spelled = grind (arith, nat_tests)
+
   -- What is no gate by its words has its first fault there.
   pub gate_fault : (e : ReadFault) → gate_at us ≡ Err e → Met ts (gate_left us) here e
   unfolding gate_at gate_left
@@ -155,17 +163,10 @@ module _ (ts : List (List ℕ)) (c : Netlist) (words : List Word) (due : GateDue
       (λ s hs h2.
       let s2 = more (Number r.0 ∷ []) r.1 s s1 hs in
       elim (cases_Bool (r.0 == 2 && s.0 == 1)) [
-        | inl is ↦
-            let two : r.0 ≡ 2 = grind (arith, nat_tests) in
-            let one : s.0 ≡ 1 = grind (arith, nat_tests) in
-            let counts = same_words us s.1 (Number 2 ∷ Number 1 ∷ []) (Number r.0 ∷ Number s.0 ∷ []) (cc) s2 in
-            rw (hr, hs, is) (two_fault s.1 e counts (rw is at h2))
+        | inl is ↦ rw (hr, hs, is) (two_fault s.1 e (counts 2 r.0 s.0 s.1 is s2) (rw is at h2))
         | inr not_two ↦ elim (cases_Bool (r.0 == 1 && s.0 == 1)) [
-          | inl is ↦
-              let first : r.0 ≡ 1 = grind (arith, nat_tests) in
-              let one : s.0 ≡ 1 = grind (arith, nat_tests) in
-              let counts = same_words us s.1 (Number 1 ∷ Number 1 ∷ []) (Number r.0 ∷ Number s.0 ∷ []) (cc) s2 in
-              rw (hr, hs, not_two, is) (one_fault s.1 e counts (rw (not_two, is) at h2))
+          | inl is ↦ rw (hr, hs, not_two, is)
+              (one_fault s.1 e (counts 1 r.0 s.0 s.1 is s2) (rw (not_two, is) at h2))
           | inr not_one ↦
               let same : e ≡ BadShape = grind (arith, nat_tests) in
               let bad : IsCount r.0 × (s.0 ≡ 1) → ⊥ = λ p. grind (arith, nat_tests) in

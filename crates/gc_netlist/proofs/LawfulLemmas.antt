@@ -89,7 +89,8 @@ pub gates_checked : (wires inputs n : ℕ) (before : List Gate) (ts : List (List
     (x : List Gate × List (List ℕ)) → AreChecked wires inputs before →
     gates_at wires inputs n before ts ≡ Ok x → AreChecked wires inputs x.0
 unfolding gates_at
-gates_checked wires inputs zero before ts x ok h = let same : x.0 ≡ before = grind arith in rw same ok
+gates_checked wires inputs zero before ts x ok h =
+    let same : x.0 ≡ before = grind arith in rw same ok
 gates_checked wires inputs (suc n) before ts x ok h =
     bind_then (gate_at ts) _ x h (λ g hg h1.
     bind_then (check_gate wires (is_set inputs before) g.0) _ x h1 (λ u hu h2.
@@ -115,7 +116,7 @@ outputs_are_set c u h fits w last below =
     tested_set c w (in_range set (c.wires - output_wires c) (output_wires c) w all
     (omega arith) (omega arith))
 
--- A circuit is lawful if its limits are kept, its gates pass their checks, and its output wires are set.
+-- A circuit is lawful if it keeps the limits, its gates pass their checks, and its outputs are set.
 pub checked_lawful : (c : Netlist) → length c.gates ≤ MAX_GATES → c.wires ≤ MAX_WIRES →
     length c.input_widths ≤ MAX_VALUES → input_wires c ≤ c.wires →
     length c.output_widths ≤ MAX_VALUES → output_wires c ≤ c.wires →

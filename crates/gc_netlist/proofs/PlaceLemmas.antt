@@ -1,5 +1,5 @@
 -- Which kind of place a fault has.
-use Rattle.std.proofs.Common.{◌≡◌, ◌≢◌, ℕ, ◌+◌, ◌-◌, ◌<◌, ◌≤◌, ◌++◌, inl, inr, List, [], ◌∷◌, length, codes, refl, subst, arith}
+use Rattle.std.proofs.Common.{◌≡◌, ◌≢◌, ℕ, ◌+◌, ◌-◌, ◌<◌, ◌≤◌, ◌++◌, inl, inr, List, [], ◌∷◌, length, codes, refl, arith}
 use Rattle.std.proofs.lemmas.List.{length-map}
 use Rattle.gc_netlist.specs.declared.fault.ReadFault.{ReadFault}
 use Rattle.gc_netlist.specs.declared.fault.ReadFault.TheVariants.{Truncated, OutputUnset}
@@ -95,7 +95,8 @@ kind_of ts e (set_twice c words g rest due s reads set) =
 kind_of ts e (output_unset c w rest whole s last below free) =
     (length (words_of_circuit c), refl, omega arith)
 kind_of ts e (trailing c t rest lawful s) =
-    (length (words_of_circuit c), refl, omega (arith, Spell-length ts (t ∷ rest) (words_of_circuit c) s))
+    let all = Spell-length ts (t ∷ rest) (words_of_circuit c) s in
+    (length (words_of_circuit c), refl, omega arith)
 
 -- The text ends there,
 pub spot_end : (ts : List (List ℕ)) (e : ReadFault) (first : FirstFault ts e) → e ≡ Truncated →

@@ -19,7 +19,8 @@ use Rattle.gc_netlist.proofs.SpellingLemmas.{same_words}
 use Rattle.gc_netlist.proofs.LawfulLemmas.{AreChecked, before_set, set_before, set_tested, checked_lawful}
 
 -- Words after words, and back.
-pub Spell-split : {C : Type 0} (ts rest : List (List ℕ)) (ws vs : List Word) → SpellWords ts (ws ++ vs) rest →
+pub Spell-split : {C : Type 0} (ts rest : List (List ℕ)) (ws vs : List Word) →
+    SpellWords ts (ws ++ vs) rest →
     ((us : List (List ℕ)) → SpellWords ts ws us → SpellWords us vs rest → C) → C
 Spell-split ts rest [] vs s k = k ts refl s
 Spell-split [] rest (w ∷ ws) vs s k = elim s [ ]
@@ -138,7 +139,8 @@ after_wires n wires = widths_at wires.0 wires.1 >>= after_inputs n wires.0
 pub sizes_back : {C : Type 0} (n wires : ℕ) (more : List Word) (ts rest : List (List ℕ)) →
     n ≤ MAX_GATES → wires ≤ MAX_WIRES →
     SpellWords ts (Number n ∷ Number wires ∷ more) rest →
-    ((us : List (List ℕ)) → SpellWords us more rest → circuit_of ts ≡ after_wires n (wires, us) → C) → C
+    ((us : List (List ℕ)) → SpellWords us more rest → circuit_of ts ≡ after_wires n (wires, us) →
+    C) → C
 unfolding circuit_of
 sizes_back n wires more ts rest few small s k =
     limited_back MAX_GATES n ts rest (Number wires ∷ more) s few (λ t1 h1 s1.
@@ -200,7 +202,8 @@ begun_back n c more ts rest b s k =
     Spell-split t1 rest (inputs ++ outputs ++ gates) more s1 (λ us first second.
     Spell-split t1 us (inputs ++ outputs) gates first (λ t3 sides last.
     Spell-split t1 t3 inputs outputs sides (λ t2 side_one side_two.
-    let h2 = widths_back c.wires c.input_widths t1 t2 side_one b.lawful.few_inputs b.lawful.inputs_fit in
+    let h2 = widths_back c.wires c.input_widths t1 t2 side_one b.lawful.few_inputs
+    b.lawful.inputs_fit in
     let h3 = widths_back c.wires c.output_widths t2 t3 side_two b.few_outputs b.outputs_fit in
     let h4 = gates_back c.wires (input_wires c) c.gates n (n - length c.gates) [] t3 us
     (omega arith) (lawful_checked (without_outputs c) b.lawful) last in

@@ -1,5 +1,5 @@
 -- Each text spells one lawful circuit or has one first fault.
-use Rattle.std.proofs.Common.{◌≢◌, MatchResult, ◌≡◌, ℕ, ◌⊎◌, inl, inr, List, Result, Ok, Err, refl, sym, ◌∙◌, arith}
+use Rattle.std.proofs.Common.{◌≢◌, MatchResult, ◌≡◌, ℕ, ◌⊎◌, inl, inr, List, Result, Ok, Err, refl, arith}
 use Rattle.gc_netlist.specs.declared.fault.ReadFault.{ReadFault}
 use Rattle.gc_netlist.specs.declared.fault.ReadFault.TheVariants.{Memory}
 use Rattle.gc_netlist.specs.Circuit.{Netlist, IsLawful}
@@ -13,24 +13,29 @@ use Rattle.gc_netlist.proofs.ReadingBack.{circuit_of-back}
 use Rattle.gc_netlist.proofs.CircuitFaults.{circuit_of-fault}
 use Rattle.gc_netlist.proofs.CircuitFaultsBack.{first_fault-met}
 
+-- Reading gives a circuit or a fault.
+given : (text : List ℕ) (r : Result Netlist ReadFault) → circuit_of (tokens text) ≡ r →
+    ((c : Netlist) × IsLawful c × Spells text c) ⊎ ((e : ReadFault) × FirstFault (tokens text) e)
+given text (Ok c) h =
+    inl (c, circuit_of-lawful (tokens text) c h, circuit_of-spelled (tokens text) c h)
+given text (Err e) h = inr (e, circuit_of-fault (tokens text) e h)
+
 pub reading_law : (text : List ℕ) → ReadingLaw text
 reading_law text =
-    let lawful = circuit_of-lawful (tokens text) in
-    let spelled = circuit_of-spelled (tokens text) in
     let back = circuit_of-back (tokens text) in
-    let fault = circuit_of-fault (tokens text) in
     let first = first_fault-met (tokens text) in
-    let either : (r : Result Netlist ReadFault) → circuit_of (tokens text) ≡ r →
-        ((c : Netlist) × IsLawful c × Spells text c)
-        ⊎ ((e : ReadFault) × FirstFault (tokens text) e) =
-    elim [ Ok c ↦ λ h. inl (c, lawful c h, spelled c h) | Err e ↦ λ h. inr (e, fault e h) ] in
     record {
-      either = either (circuit_of (tokens text)) refl;
-      not_both = λ c e l s f. let p = back c l s in let q = first e f in cc;
-      one_circuit = λ c d l s k t. let p = back c l s in let q = back d k t in cc;
-      one_fault = λ e f m n. let p = first e m in let q = first f n in cc;
-      reads = λ c. (λ h. (lawful c h, spelled c h), λ p. back c p.0 p.1);
-      faults = λ e. (fault e, first e);
+      either = given text (circuit_of (tokens text)) refl;
+      not_both = λ c e lawful spelled fault.
+          let p = back c lawful spelled in let q = first e fault in cc;
+      one_circuit = λ c d lawful_c spelled_c lawful_d spelled_d.
+          let p = back c lawful_c spelled_c in let q = back d lawful_d spelled_d in cc;
+      one_fault = λ e f fault_e fault_f. let p = first e fault_e in let q = first f fault_f in cc;
+      reads = λ c. (
+        λ h. (circuit_of-lawful (tokens text) c h, circuit_of-spelled (tokens text) c h),
+        λ p. back c p.0 p.1,
+      );
+      faults = λ e. (circuit_of-fault (tokens text) e, first e);
     }
 
 -- What reading gives, memory aside.

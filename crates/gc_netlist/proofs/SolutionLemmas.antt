@@ -1,4 +1,4 @@
--- Values that meet a local rule at each gate agree on the wires that are set, and there are such values.
+-- Values that meet a local rule at each gate agree on the wires that are set, and they exist.
 use Rattle.std.proofs.Common.{◌≡◌, ◌≢◌, ℕ, zero, suc, ◌<◌, ◌≤◌, ◌⊎◌, inl, inr, length, slice_get, Some, None, Option, refl, sym, ap, ◌∙◌, arith}
 use Rattle.std.proofs.lemmas.Bool.Decides.{nat_tests}
 use Rattle.std.proofs.lemmas.Option.{slice_get_within}
@@ -8,7 +8,8 @@ use Rattle.gc_netlist.specs.Circuit.{Netlist, EachRead, IsSetBefore, IsSet, IsLa
 use Rattle.gc_netlist.specs.Solution.{Solves, IsLocal, put_gate, values_after}
 
 -- what is so of each wire, under P
-pub EachRead-map : (P Q : ℕ → Type 0) (op : Operation) → ((w : ℕ) → P w → Q w) → EachRead P op → EachRead Q op
+pub EachRead-map : (P Q : ℕ → Type 0) (op : Operation) → ((w : ℕ) → P w → Q w) → EachRead P op →
+    EachRead Q op
 EachRead-map P Q op f h = grind arith
 
 pub IsSetBefore-more : (c : Netlist) (m n w : ℕ) → m ≤ n → IsSetBefore c m w → IsSetBefore c n w

@@ -24,7 +24,8 @@ set-table {A = A} f n s x h =
   where
     at_each : (k : ℕ) → k < n → get_or (set (map f (range_with_len 0 n)) s x) k x ≡ put f s x k
     at_each k below =
-        let inside : s < length (map f (range_with_len 0 n)) = rw (length-map-range_with_len f 0 n) h in
+        let inside : s < length (map f (range_with_len 0 n)) =
+        rw (length-map-range_with_len f 0 n) h in
         grind (arith, nat_tests, read-table, get_or-set_same, get_or-set_other)
 
 -- a wire that is set is a wire
@@ -61,7 +62,8 @@ pub table_end : {A : Type 0} (f : ℕ → A) (n m : ℕ) → m ≤ n →
     drop (n - m) (map f (range_with_len 0 n)) ≡ map f (range_with_len (n - m) m)
 table_end f n m h = grind (arith, drop-table)
 
--- One more gate, computed from the table: the step of every one-pass evaluator. The default d is never read.
+-- One more gate, computed from the table: the step of every one-pass evaluator. The default d is
+-- never read.
 pub table_step : {A : Type 0} (rule : (ℕ → A) → ℕ → Gate → A) → IsLocal rule → (c : Netlist) →
     IsLawful c → (given : ℕ → A) →
     (table : List A) (i : ℕ) (g : Gate) (d x : A) →
