@@ -137,10 +137,6 @@ words_of_lines c = simp (flat_map-map, append_assoc)
 abbrev IsSmallGate : Gate → Type 0
 IsSmallGate g = (g.set < 2 ^ 32) × EachRead (λ w. w < 2 ^ 32) g.operation
 
-name_plain : (a b c : ℕ) → is_blank a ≡ false → is_blank b ≡ false → is_blank c ≡ false
-    → IsPlain (Name (a ∷ b ∷ c ∷ []))
-name_plain a b c p q r = record { some = refl; solid = (p, (q, (r, tt))) }
-
 bit_small : (v : Bool) → bit_number v < 2 ^ 32
 bit_small v = grind arith
 

@@ -7,7 +7,6 @@ use Rattle.std.proofs.lemmas.Grind.{common_steps}
 use Rattle.std.proofs.lemmas.Option.{gets}
 use Rattle.gc_netlist.specs.declared.fault.ReadFault.{ReadFault}
 use Rattle.gc_netlist.specs.declared.limits.TheConstants.{MAX_GATES, MAX_WIRES, MAX_VALUES}
-use Rattle.gc_netlist.specs.declared.gate.Operation.{Operation}
 use Rattle.gc_netlist.specs.declared.gate.Gate.{Gate}
 use Rattle.gc_netlist.specs.Circuit.{Netlist, netlist_of, input_wires, output_wires, EachRead, IsSetBefore, IsSet, IsLawful}
 use Rattle.gc_netlist.specs.Spelling.{Word, Number, SpellWords, words_of_gate, words_of_widths, words_of_circuit}
@@ -76,14 +75,10 @@ gate_back g ts rest s = grind (arith, nat_tests)
 -- What is lawful passes the checks.
 module _ (wires : ℕ) (set : ℕ → Bool) where
   -- a wire that is set
-  abbrev pub Good : ℕ → Type 0
+  abbrev Good : ℕ → Type 0
   Good w = (w < wires) × (set w ≡ true)
 
-  pub reads_good : (op : Operation) → EachRead Good op → check_reads wires set op ≡ Ok tt
-  unfolding check_reads check_read
-  reads_good op h = grind (arith, nat_tests)
-
-  pub gate_good : (g : Gate) → EachRead Good g.operation → g.set < wires → set g.set ≡ false →
+  gate_good : (g : Gate) → EachRead Good g.operation → g.set < wires → set g.set ≡ false →
       check_gate wires set g ≡ Ok tt
   unfolding check_gate check_set check_reads check_read
   gate_good g reads below fresh = grind (arith, nat_tests)

@@ -1,5 +1,6 @@
 -- Values that meet a local rule at each gate agree on the wires that are set, and they exist.
-use Rattle.std.proofs.Common.{◌≡◌, ◌≢◌, ℕ, zero, suc, ◌<◌, ◌≤◌, ◌⊎◌, inl, inr, length, slice_get, Some, None, Option, refl, sym, ap, ◌∙◌, arith}
+use Rattle.std.proofs.Common.{◌≡◌, ◌≢◌, ℕ, zero, suc, ◌≤◌, inl, inr, length, slice_get, Some, None, Option, refl, sym, ap, ◌∙◌, arith}
+use Rattle.std.proofs.lemmas.Bool.{cases_lt}
 use Rattle.std.proofs.lemmas.Bool.Decides.{nat_tests}
 use Rattle.std.proofs.lemmas.Option.{slice_get_within}
 use Rattle.gc_netlist.specs.declared.gate.Operation.{Operation}
@@ -20,9 +21,8 @@ module _ {A : Type 0} (rule : (ℕ → A) → ℕ → Gate → A) (local : IsLoc
     (lawful : IsLawful c) where
   agree_before : (given u v : ℕ → A) → Solves rule c given u → Solves rule c given v → (n w : ℕ)
       → IsSetBefore c n w → u w ≡ v w
-  agree_before given u v p q zero w (inl input) = p.inputs w input ∙ sym (q.inputs w input)
+  agree_before given u v p q n w (inl input) = p.inputs w input ∙ sym (q.inputs w input)
   agree_before given u v p q zero w (inr (i, below, set)) = absurd (omega arith)
-  agree_before given u v p q (suc n) w (inl input) = p.inputs w input ∙ sym (q.inputs w input)
   agree_before given u v p q (suc n) w (inr (i, below, set)) =
       ap u (sym set.wire) ∙ p.gates i set.gate set.at
       ∙ local u v i set.gate (EachRead-map (IsSetBefore c i) (λ x. u x ≡ v x) set.gate.operation
@@ -34,9 +34,6 @@ module _ {A : Type 0} (rule : (ℕ → A) → ℕ → Gate → A) (local : IsLoc
   pub agree : (given u v : ℕ → A) → Solves rule c given u → Solves rule c given v → (w : ℕ)
       → IsSet c w → u w ≡ v w
   agree given u v p q w h = agree_before given u v p q (length c.gates) w h
-
-cases_le : (m n : ℕ) → m ≤ suc n → (m ≡ suc n) ⊎ (m ≤ n)
-cases_le m n h = grind arith
 
 module _ {A : Type 0} (rule : (ℕ → A) → ℕ → Gate → A) (local : IsLocal rule) (c : Netlist)
     (lawful : IsLawful c) (given : ℕ → A) where
@@ -53,8 +50,8 @@ module _ {A : Type 0} (rule : (ℕ → A) → ℕ → Gate → A) (local : IsLoc
   unfolding values_after
   after-keeps m zero w below set = let e : m ≡ zero = omega arith in rw e refl
   after-keeps m (suc n) w below set =
-      elim (cases_le m n below) [
-        | inl e ↦ rw e refl
+      elim (cases_lt n m) [
+        | inl above ↦ let e : m ≡ suc n = omega arith in rw e refl
         | inr h ↦ put_gate-keeps n w (values_after rule c given n) (slice_get c.gates n) refl
             (IsSetBefore-more c m n w h set) ∙ after-keeps m n w h set
       ]
@@ -80,23 +77,19 @@ module _ {A : Type 0} (rule : (ℕ → A) → ℕ → Gate → A) (local : IsLoc
   unfolding values_after
   after_at i g at = rw at (grind (arith, nat_tests))
 
-  after_start : (w : ℕ) → values_after rule c given zero w ≡ given w
-  unfolding values_after
-  after_start w = refl
-
   -- what is computed gate by gate meets the rule at all gates at once
   pub solution_solves : Solves rule c given (values_after rule c given (length c.gates))
+  unfolding values_after
   solution_solves = record {
-    inputs = λ w h. after-keeps zero (length c.gates) w (omega arith) (inl h) ∙ after_start w;
+    inputs = λ w h. after-keeps zero (length c.gates) w (omega arith) (inl h);
     gates = λ i g at.
-        let n : ℕ = length c.gates in
-        let within : i < length c.gates = slice_get_within c.gates i g at in
+        let before : ℕ → A = values_after rule c given i in
+        let last : ℕ → A = values_after rule c given (length c.gates) in
+        let within = slice_get_within c.gates i g at in
+        let same : EachRead (λ w. before w ≡ last w) g.operation =
+        EachRead-map (IsSetBefore c i) (λ w. before w ≡ last w) g.operation
+        (λ w set. sym (after-keeps i (length c.gates) w (omega arith) set)) (lawful.reads i g at) in
         after-keeps (suc i) (length c.gates) g.set (omega arith)
         (inr (i, omega arith, record { gate = g; at = at; wire = refl }))
-        ∙ after_at i g at
-        ∙ local (values_after rule c given i) (values_after rule c given (length c.gates)) i g
-        (EachRead-map (IsSetBefore c i)
-        (λ w. values_after rule c given i w ≡ values_after rule c given (length c.gates) w)
-        g.operation
-        (λ w set. sym (after-keeps i (length c.gates) w (omega arith) set)) (lawful.reads i g at));
+        ∙ after_at i g at ∙ local before last i g same;
   }
