@@ -111,4 +111,10 @@ spot_behind ts e first is = let kind = kind_of ts e first in grind arith
 -- or one begins there.
 pub spot_token : (ts : List (List ℕ)) (e : ReadFault) (first : FirstFault ts e) → e ≢ Truncated →
     e ≢ OutputUnset → (k : ℕ) × ((place_of first).spot ≡ Token k) × (k < length ts)
-spot_token ts e first more whole = let kind = kind_of ts e first in grind arith
+spot_token ts e first more whole = go e (place_of first).spot (kind_of ts e first) more whole
+  where
+    go : (d : ReadFault) (spot : Spot) → IsKind d spot (length ts) → d ≢ Truncated →
+        d ≢ OutputUnset → (k : ℕ) × (spot ≡ Token k) × (k < length ts)
+    go Truncated spot h p q = absurd (p refl)
+    go OutputUnset spot h p q = absurd (q refl)
+    go _ spot h p q = h
