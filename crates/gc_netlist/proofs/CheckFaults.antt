@@ -36,8 +36,8 @@ module _ (c : Netlist) (lawful : IsLawful (without_outputs c)) where
   unfolding check_read
   read_passes w u h = grind (arith, nat_tests)
 
-  -- The first wire at fault of these that a gate of so many words reads, and how far before the
-  -- end of the gate it stands.
+  -- The first wire at fault of those that a gate of this number of words reads, and how far
+  -- before the end of the gate it stands.
   record ReadsFault (wires : List ℕ) (at : WireBack) (words : ℕ) (e : ReadFault) : Type 0 where
     pub wire : ℕ
     pub first : IsFirstUnset c wires wire

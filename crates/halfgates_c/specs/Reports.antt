@@ -1,5 +1,5 @@
 -- Reports of audits.
-use Rattle.std.specs.Prelude.{◌≡◌, ◌↔◌, ℕ, List, Option, Some, None, option_and_then, unwrap_or, is_some}
+use Rattle.std.specs.Prelude.{◌≡◌, ◌≤◌, ◌↔◌, ℕ, List, Option, Some, None, option_and_then, unwrap_or, is_some}
 use Rattle.gc_format.specs.declared.parts.Version.{Version}
 use Rattle.gc_format.specs.declared.parts.Version.TheVariants.{One, Two}
 use Rattle.gc_audit.specs.declared.garbled.GarbledAudit.{GarbledAudit}
@@ -39,6 +39,7 @@ AreEntryFields (Some d) r = (r.entry ≡ d.output) × (r.entry_colour ≡ bit_by
 
 -- The report says what is found of a garbled file of a version.
 pub record IsReport (version : Version) (audit : GarbledAudit) (r : Report) : Type 0 where
+  pub flag : r.honest ≤ 1
   pub honest : (r.honest ≡ 1) ↔ (audit ≡ honest_audit)
   pub version_is : r.version ≡ version_number version
   pub digest : r.digest ≡ bit_byte audit.digest
