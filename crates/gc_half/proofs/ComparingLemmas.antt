@@ -72,7 +72,7 @@ module _ (given : List RowPair) where
           first = λ few. rw long (next_first first next is before);
         }
 
-  -- A pair takes the place of the next given one,
+  -- A pair takes the place of the next given one.
   pub compared-replace : (rows : List RowPair) (n : ℕ) (old pair : RowPair) (first next : Option Mismatch)
       → n < length rows → slice_get rows n ≡ Some old → IsNextMismatch first n old pair next
       → AreCompared given (parts (take n rows) (drop n rows) first)
@@ -87,21 +87,6 @@ module _ (given : List RowPair) where
       rw (take_more_set rows n pair below, drop-set-lt (n + 1) rows n pair (omega arith))
       (compared-next made rest old pair left first next (rw long is)
       (before.first (omega (arith, within made rest old pair left))))
-
-  -- or stands behind them all.
-  pub compared-push : (made : List RowPair) (pair : RowPair) (first : Option Mismatch)
-      → AreCompared given (parts made [] first) → AreCompared given (parts (made ++ pair ∷ []) [] first)
-  compared-push made pair first before =
-      let long : length (made ++ pair ∷ []) ≡ length made + 1 = length-append made (pair ∷ []) in
-      elim (lt_or_le (length made) (length given)) [
-        | inl below ↦ absurd (
-            let none : [] ≡ get_or given (length made) pair ∷ drop (length made + 1) given =
-            before.left ∙ drop_more given (length made) pair below in cc)
-        | inr past ↦ record {
-          left = sym (drop_all (length (made ++ pair ∷ [])) given (omega arith));
-          first = λ few. absurd (omega arith);
-        }
-      ]
 
   -- Where as many were given as are made, all were compared.
   pub compared-end : (made left : List RowPair) (first : Option Mismatch)
