@@ -7,6 +7,6 @@ join_seat-requires g c = let p = c.requires.place in (
   p.table_id,
   c.requires.other.table_id,
   c.requires.empty.1,
-  omega (arith, p.fits.words),
-  merges g.J.Work.gates g.J.Work.right _ _ _ _ _ _ c.requires.empty.0,
+  omega arith,
+  merges _ _ _ _ _ _ _ _ c.requires.empty.0,
 )

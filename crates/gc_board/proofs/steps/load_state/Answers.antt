@@ -1,10 +1,5 @@
-use Rattle.std.proofs.Common.{arith}
 use Rattle.gc_board.proofs.Keeps.{loads_state}
 use Rattle.gc_board.proofs.steps.load_state.Goals as goal
 
 pub load-requires : goal.load-requires
-load-requires g c = let p = c.requires in (
-  p.place.table_id,
-  omega (arith, p.place.fits.words, p.exists),
-  loads_state g.J.Work.gates g.J.Work.right _ _ _ _ _ p.place.about p.place.whole c.args.gate,
-)
+load-requires g c = loads_state _ _ _ _ _ _ _ c.requires
