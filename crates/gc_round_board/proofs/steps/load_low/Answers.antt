@@ -1,11 +1,5 @@
-use Rattle.std.proofs.Common.{arith}
-use Rattle.gc_rounds.proofs.Keeps.{bank_small}
 use Rattle.gc_round_board.proofs.Keeps.{loads_low}
 use Rattle.gc_round_board.proofs.steps.load_low.Goals as goal
 
 pub load-requires : goal.load-requires
-load-requires g c = let p = c.requires.place in (
-  p.place.seated.table_id,
-  omega (arith, p.place.board.words, p.exists, bank_small c.args.round, c.index.ensures),
-  rw c.index.ensures (loads_low g.J.Work.gates g.J.Work.right _ _ _ _ _ _ p.place.about p.place.seated.whole c.args.round p.inside c.args.gate),
-)
+load-requires g c = rw c.index.ensures (loads_low _ _ _ _ _ _ _ _ _ c.requires.place)

@@ -1,11 +1,6 @@
-use Rattle.std.proofs.Common.{arith}
-use Rattle.gc_rounds.proofs.Keeps.{bank_small}
 use Rattle.gc_round_board.proofs.Keeps.{stores_low}
 use Rattle.gc_round_board.proofs.steps.store_low.Goals as goal
 
 pub store-requires : goal.store-requires
-store-requires g c = let p = c.requires.place in (
-  p.place.seated.table_id,
-  omega (arith, p.place.board.words, p.exists, bank_small c.args.round, c.index.ensures),
-  rw c.index.ensures (stores_low g.J.Work.gates g.J.Work.right _ _ _ _ _ _ p.place.about p.place.seated.whole c.args.round p.inside c.args.gate c.args.low c.requires.has p.exists c.requires.right),
-)
+store-requires g c = let w = c.requires in
+    rw c.index.ensures (stores_low _ _ _ _ _ _ _ _ _ w.place _ w.has w.right)
