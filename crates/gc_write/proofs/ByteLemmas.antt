@@ -1,5 +1,5 @@
 -- Bits on their way into bytes.
-use Rattle.std.proofs.Common.{◌≡◌, ℕ, zero, suc, ◌+◌, ◌-◌, ◌*◌, ◌^◌, ◌<◌, ◌≤◌, min, nat_cmp, Bool, true, false, List, [], ◌∷◌, ◌++◌, length, length-take, length-drop, take, drop, flat_map, get_or, slice_get, Some, ap, ◌∙◌, arith}
+use Rattle.std.proofs.Common.{◌≡◌, ℕ, zero, suc, ◌+◌, ◌-◌, ◌*◌, ◌^◌, ◌<◌, ◌≤◌, min, nat_cmp, Bool, true, false, List, [], ◌∷◌, ◌++◌, length, length-take, length-drop, take, drop, flat_map, get_or, slice_get, Some, append-nil, refl, ap, arith}
 use mir.Val.{bool_byte}
 use Rattle.std.specs.List.{range_with_len}
 use Rattle.std.specs.Ordering.{ord_min}
@@ -7,9 +7,11 @@ use Rattle.std.proofs.lemmas.Bool.Decides.{nat_tests}
 use Rattle.std.proofs.Math.Nat.{pow-suc}
 use Rattle.std.proofs.Math.Seq.{drop-cons}
 use Rattle.std.proofs.lemmas.List.{length-map, get_or-drop, get_or-take, drop_all}
-use Rattle.std.proofs.lemmas.List.FromFn.{length-range_with_len, get_or-map-range_with_len}
+use Rattle.std.proofs.lemmas.List.FromFn.{length-map-range_with_len, get_or-map-range_with_len}
 use Rattle.std.proofs.lemmas.Option.{slice_get_within, get_or_from_slice_get}
+use Rattle.gc_label.specs.Label.{bytes_of_label}
 use Rattle.gc_half.specs.Garbling.{GarblingParts, decode_bits_of}
+use Rattle.gc_half.specs.Entry.{entry_of}
 use Rattle.gc_format.specs.declared.parts.EntryPair.{EntryPair}
 use Rattle.gc_format.specs.DecodeBits.{bits_number, bytes_for, packed}
 use Rattle.gc_format.specs.GarbledFile.{entry_bytes}
@@ -20,21 +22,19 @@ use Rattle.gc_write.proofs.ListLemmas.{flat_map-ranges}
 pub ord_min-nat : (a b : ℕ) → ord_min nat_cmp a b ≡ min a b
 ord_min-nat a b = grind (arith, nat_tests)
 
-positive : (n : ℕ) → 0 < 2 ^ n
-positive zero = omega arith
-positive (suc n) = omega (arith, positive n, pow-suc 2 n)
-
 -- The number of n bits is below 2 ^ n.
-pub bits_number-below : (n : ℕ) (bits : List Bool) → length bits ≤ n → bits_number bits < 2 ^ n
-bits_number-below n [] few = positive n
+bits_number-below : (n : ℕ) (bits : List Bool) → length bits ≤ n → bits_number bits < 2 ^ n
+bits_number-below zero [] few = omega arith
+bits_number-below (suc n) [] few = omega (arith, bits_number-below n [] (omega arith), pow-suc 2 n)
 bits_number-below zero (bit ∷ bits) few = absurd (omega arith)
-bits_number-below (suc n) (true ∷ bits) few =
-    omega (arith, bits_number-below n bits (omega arith), pow-suc 2 n)
-bits_number-below (suc n) (false ∷ bits) few = omega (
-  arith,
-  bits_number-below n bits (omega arith),
-  pow-suc 2 n,
-)
+bits_number-below (suc n) (bit ∷ bits) few =
+    let rest = bits_number-below n bits (omega arith) in grind (arith, pow-suc 2 n)
+
+-- Without the first of its bits a byte is below 2 ^ 7.
+pub bits_number-later : (bits : List Bool) (first i : ℕ) → 0 < i →
+    bits_number (drop i (take 8 (drop first bits))) < 2 ^ 7
+bits_number-later bits first i some = bits_number-below 7 (drop i (take 8 (drop first bits)))
+    (omega (arith, length-drop i (take 8 (drop first bits)), length-take 8 (drop first bits)))
 
 -- The last bits of a byte, from one that is among the first eight from a place on.
 pub bits_number-last : (bits : List Bool) (first i : ℕ) (bit : Bool) → slice_get bits (first + i) ≡ Some bit
@@ -42,20 +42,17 @@ pub bits_number-last : (bits : List Bool) (first i : ℕ) (bit : Bool) → slice
     bits_number (drop i (take 8 (drop first bits)))
     ≡ bool_byte bit + 2 * bits_number (drop (suc i) (take 8 (drop first bits)))
 bits_number-last bits first i bit at low =
+    let byte = take 8 (drop first bits) in
     let here = slice_get_within bits (first + i) bit at in
-    let within : i < length (take 8 (drop first bits)) =
-    omega (arith, length-take 8 (drop first bits), length-drop first bits) in
-    let is : get_or (take 8 (drop first bits)) i false ≡ bit =
-    get_or-take 8 (drop first bits) i false low ∙ get_or-drop first bits i false
-    ∙ get_or_from_slice_get bits (first + i) bit false at
-    in
-    ap bits_number (drop-cons (take 8 (drop first bits)) i false within)
-    ∙ cases _ bit (drop (suc i) (take 8 (drop first bits))) is
+    let within : i < length byte = omega (arith, length-take 8 (drop first bits), length-drop first bits) in
+    let is : get_or byte i false ≡ bit =
+    rw (get_or-take 8 (drop first bits) i false low, get_or-drop)
+    (get_or_from_slice_get bits (first + i) bit false at) in
+    rw (drop-cons byte i false within, is) (cases bit (drop (suc i) byte))
   where
-    cases : (a b : Bool) (rest : List Bool) → a ≡ b → bits_number (a ∷ rest) ≡ bool_byte b + 2 * bits_number
-        rest
-    cases a false rest is = ap (λ x. bits_number (x ∷ rest)) is
-    cases a true rest is = ap (λ x. bits_number (x ∷ rest)) is
+    cases : (bit : Bool) (rest : List Bool) → bits_number (bit ∷ rest) ≡ bool_byte bit + 2 * bits_number rest
+    cases false rest = refl
+    cases true rest = refl
 
 -- There are none behind the last.
 pub bits_number-end : (bits : List Bool) (first count : ℕ) → count ≡ min 8 (length bits - first) →
@@ -73,26 +70,41 @@ packed-at bits k d within = get_or-map-range_with_len _ 0 (bytes_for (length bit
 -- There are as many decode bits as output wires.
 pub length-decode_bits : (g : GarblingParts) → g.outputs ≤ length g.zero_labels
     → length (decode_bits_of g) ≡ g.outputs
-length-decode_bits g fits =
-    length-map (drop (length g.zero_labels - g.outputs) g.zero_labels) _
-    ∙ omega (arith, length-drop (length g.zero_labels - g.outputs) g.zero_labels)
+length-decode_bits g fits = simp (length-map, length-drop) (omega arith)
 
 pub bool_byte-le : (bit : Bool) → bool_byte bit ≤ 1
-bool_byte-le true = omega arith
-bool_byte-le false = omega arith
+bool_byte-le bit = grind arith
 
 -- The entry pairs, one for each output wire.
 pub length-entry_pairs : (offset : ℕ) (g : GarblingParts) → length (entry_pairs_of offset g) ≡ g.outputs
-length-entry_pairs offset g = length-map (range_with_len 0 g.outputs) (entry_pair_of offset g)
-    ∙ length-range_with_len 0 g.outputs
+length-entry_pairs offset g = length-map-range_with_len (entry_pair_of offset g) 0 g.outputs
 
 pub entry_pairs-at : (offset : ℕ) (g : GarblingParts) (i : ℕ) (d : EntryPair) → i < g.outputs →
     get_or (entry_pairs_of offset g) i d ≡ entry_pair_of offset g i
-entry_pairs-at offset g i d within = get_or-map-range_with_len (entry_pair_of offset g) 0 g.outputs i i d
-    within (omega arith)
+entry_pairs-at offset g i d within =
+    get_or-map-range_with_len (entry_pair_of offset g) 0 g.outputs i i d within (omega arith)
 
--- The bytes of entry pairs, and those of the pairs after them.
-pub entries-more : (offset : ℕ) (g : GarblingParts) (first m n j k : ℕ) → j ≡ first + m → k ≡ m + n →
-    flat_map entry_bytes (entry_pairs_from offset g first m) ++ flat_map entry_bytes (entry_pairs_from offset g j n)
-    ≡ flat_map entry_bytes (entry_pairs_from offset g first k)
-entries-more offset g = flat_map-ranges entry_bytes (entry_pair_of offset g)
+module _ (offset : ℕ) (g : GarblingParts) where
+  -- The bytes of entry pairs, and those of the pairs after them,
+  pub entries-more : (first m n j k : ℕ) {pairs : List EntryPair} → pairs ≡ entry_pairs_from offset g j n
+      → j ≡ first + m → k ≡ m + n →
+      flat_map entry_bytes (entry_pairs_from offset g first m) ++ flat_map entry_bytes pairs
+      ≡ flat_map entry_bytes (entry_pairs_from offset g first k)
+  entries-more first m n j k is at all =
+      rw is (flat_map-ranges entry_bytes (entry_pair_of offset g) first m n j k at all)
+
+  -- those of the one after them,
+  pub entries-one : (first m i k : ℕ) {entry_zero entry_one : ℕ} {made : List ℕ}
+      → made ≡ bytes_of_label entry_zero ++ bytes_of_label entry_one → entry_zero ≡ entry_of offset g i false
+      → entry_one ≡ entry_of offset g i true → i ≡ first + m → k ≡ m + 1 →
+      flat_map entry_bytes (entry_pairs_from offset g first m) ++ made
+      ≡ flat_map entry_bytes (entry_pairs_from offset g first k)
+  entries-one first m i k is is_zero is_one at all =
+      rw (is, is_zero, is_one) (simp append-nil at (entries-more first m 1 i k refl at all))
+
+  -- and those of all the others.
+  pub entries-rest : (first m j all : ℕ) → j ≡ first + m → m ≤ all →
+      flat_map entry_bytes (entry_pairs_from offset g first m)
+      ++ flat_map entry_bytes (entry_pairs_from offset g j (all - m))
+      ≡ flat_map entry_bytes (entry_pairs_from offset g first all)
+  entries-rest first m j all at within = entries-more first m (all - m) j all refl at (omega arith)

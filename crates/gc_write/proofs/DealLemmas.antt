@@ -1,11 +1,12 @@
 -- The labels of a label file.
-use Rattle.std.proofs.Common.{◌≡◌, ℕ, suc, ◌+◌, ◌*◌, ◌^◌, ◌<◌, ◌≤◌, slice_get, Some, sum, length-append, Bool, false, List, [], ◌∷◌, ◌++◌, length, length-take, flat_map, take, drop, get_or, append-nil, refl, sym, ap, ◌∙◌, arith}
-use Rattle.std.proofs.Math.Seq.{take-add, drop-cons}
-use Rattle.std.proofs.lemmas.List.{take-append-drop}
+use Rattle.std.proofs.Common.{◌≡◌, ℕ, suc, ◌+◌, ◌*◌, ◌^◌, ◌<◌, ◌≤◌, slice_get, Some, sum, length-append, Bool, false, List, [], ◌∷◌, ◌++◌, length, flat_map, take, drop, get_or, append-nil, refl, sym, ap, arith}
+use Rattle.std.proofs.Math.Seq.{take-add}
+use Rattle.std.proofs.lemmas.List.{take-append-drop, length-take-le, take_more}
 use Rattle.std.proofs.lemmas.Grind.{flat_map-append}
 use Rattle.std.proofs.lemmas.List.Sums.{sum_by_more_le}
 use Rattle.std.proofs.lemmas.Option.{slice_get_within, get_or_from_slice_get}
 use Rattle.gc_netlist.specs.Circuit.{Netlist, IsLawful}
+use Rattle.gc_netlist.specs.declared.limits.TheConstants.{MAX_WIRES}
 use Rattle.gc_label.specs.Label.{bytes_of_label}
 use Rattle.gc_label.proofs.LabelLemmas.{length-bytes_of_label}
 use Rattle.gc_label.specs.Seed.{offset_of, input_label_of}
@@ -25,35 +26,29 @@ module _ (seed : List ℕ) where
       seed ys
   encoded_from-append first [] ys = ap (λ n. encoded_from n seed ys) (omega arith)
   encoded_from-append first (x ∷ xs) ys =
-      ap (λ l. encode (offset_of seed) (input_label_of seed first) x ∷ l)
-      (encoded_from-append (first + 1) xs ys
-      ∙ ap (λ n. encoded_from (first + 1) seed xs ++ encoded_from n seed ys) (omega arith))
+      let next : first + suc (length xs) ≡ first + 1 + length xs = omega arith in
+      rw (encoded_from-append (first + 1) xs ys, next) refl
 
-  pub label_bytes-append : (first : ℕ) (xs ys : List Bool) →
-      label_bytes first (xs ++ ys) ≡ label_bytes first xs ++ label_bytes (first + length xs) ys
-  label_bytes-append first xs ys =
-      ap (flat_map bytes_of_label) (encoded_from-append first xs ys)
-      ∙ flat_map-append bytes_of_label (encoded_from first seed xs) (encoded_from (first + length xs) seed ys)
+  -- The bytes of some bits, and of those after them.
+  label_bytes-append : (first : ℕ) (xs ys : List Bool) {at : ℕ} {zs : List Bool} → length xs ≡ at
+      → xs ++ ys ≡ zs → label_bytes first xs ++ label_bytes (first + at) ys ≡ label_bytes first zs
+  label_bytes-append first xs ys len all =
+      rw (← all, ← len, encoded_from-append first xs ys, flat_map-append) refl
 
   -- Some bits, and those after them up to a place.
-  pub label_bytes-next : (first : ℕ) (bits : List Bool) (done more : ℕ) → done ≤ length bits →
+  pub label_bytes-next : (first : ℕ) (bits : List Bool) (done more next : ℕ) → next ≤ length bits
+      → done + more ≡ next →
       label_bytes first (take done bits) ++ label_bytes (first + done) (take more (drop done bits))
-      ≡ label_bytes first (take (done + more) bits)
-  label_bytes-next first bits done more within =
-      ap (λ n. label_bytes first (take done bits) ++ label_bytes (first + n) (take more (drop done bits)))
-      (omega (arith, length-take done bits))
-      ∙ sym (label_bytes-append first (take done bits) (take more (drop done bits)))
-      ∙ ap (label_bytes first) (sym (take-add done more bits))
+      ≡ label_bytes first (take next bits)
+  label_bytes-next first bits done more next within is =
+      rw (← is) (label_bytes-append first _ _ (length-take-le done bits (omega arith)) (sym (take-add done more bits)))
 
   -- Some bits, and the rest.
   pub label_bytes-rest : (first : ℕ) (bits : List Bool) (done : ℕ) → done ≤ length bits →
       label_bytes first (take done bits) ++ label_bytes (first + done) (drop done bits) ≡ label_bytes first
       bits
   label_bytes-rest first bits done within =
-      ap (λ n. label_bytes first (take done bits) ++ label_bytes (first + n) (drop done bits))
-      (omega (arith, length-take done bits))
-      ∙ sym (label_bytes-append first (take done bits) (drop done bits))
-      ∙ ap (label_bytes first) (take-append-drop done bits)
+      label_bytes-append first _ _ (length-take-le done bits within) (take-append-drop done bits)
 
   -- One bit more.
   pub label_bytes-one : (first : ℕ) (bits : List Bool) (i : ℕ) → i < length bits →
@@ -61,12 +56,8 @@ module _ (seed : List ℕ) where
       (encode (offset_of seed) (input_label_of seed (first + i)) (get_or bits i false))
       ≡ label_bytes first (take (i + 1) bits)
   label_bytes-one first bits i within =
-      ap (λ l. label_bytes first (take i bits) ++ l) (sym (append-nil _)
-      ∙ ap (label_bytes (first + i)) (sym one))
-      ∙ label_bytes-next first bits i 1 (omega arith)
-    where
-      one : take 1 (drop i bits) ≡ get_or bits i false ∷ []
-      one = ap (take 1) (drop-cons bits i false within)
+      let more : take i bits ++ get_or bits i false ∷ [] ≡ take (i + 1) bits = sym (take_more bits i false within) in
+      simp append-nil at (label_bytes-append first _ _ (length-take-le i bits (omega arith)) more)
 
 pub length-encoded_from : (first : ℕ) (seed : List ℕ) (bits : List Bool)
     → length (encoded_from first seed bits) ≡ length bits
@@ -74,17 +65,13 @@ length-encoded_from first seed [] = refl
 length-encoded_from first seed (bit ∷ bits) = ap suc (length-encoded_from (first + 1) seed bits)
 
 -- A label file is its header and its labels.
-pub label_file-is : (c : Netlist) (seed : List ℕ) (index : ℕ) (bits : List Bool) (first width : ℕ) →
-    first ≡ sum (take index c.input_widths) → width ≡ length bits →
-    (label_magic ++ number_bytes index ++ number_bytes width) ++ label_bytes seed first bits
+pub label_file-is : (c : Netlist) (seed : List ℕ) (index : ℕ) (bits : List Bool) (first : ℕ) →
+    first ≡ sum (take index c.input_widths) →
+    (label_magic ++ number_bytes index ++ number_bytes (length bits)) ++ label_bytes seed first bits
     ≡ label_file (label_parts_of c seed index bits)
 unfolding label_file
-label_file-is c seed index bits first width first_is width_is =
-    let at = sum (take index c.input_widths) in
-    ap (λ n. (label_magic ++ number_bytes index ++ number_bytes n) ++ label_bytes seed first bits)
-    (width_is ∙ sym (length-encoded_from at seed bits))
-    ∙ ap (λ f. (label_magic ++ number_bytes index ++ number_bytes (length (encoded_from at seed bits))) ++
-    label_bytes seed f bits) first_is
+label_file-is c seed index bits first is =
+    rw (is, length-encoded_from (sum (take index c.input_widths)) seed bits) refl
 
 -- How many bytes a label file has.
 pub length-label_file : (c : Netlist) (seed : List ℕ) (index : ℕ) (bits : List Bool)
@@ -92,28 +79,27 @@ pub length-label_file : (c : Netlist) (seed : List ℕ) (index : ℕ) (bits : Li
 unfolding label_file
 length-label_file c seed index bits =
     let labels = encoded_from (sum (take index c.input_widths)) seed bits in
-    let counts = label_magic ++ number_bytes index in
     omega (
       arith,
-      length-append (counts ++ number_bytes (length labels)) (flat_map bytes_of_label labels),
-      length-append counts (number_bytes (length labels)),
-      length-append label_magic (number_bytes index),
+      length-append (number_bytes index ++ number_bytes (length labels)) (flat_map bytes_of_label labels),
+      length-append (number_bytes index) (number_bytes (length labels)),
       length-number_bytes index,
       length-number_bytes (length labels),
       length-flat_map bytes_of_label 16 length-bytes_of_label labels,
       length-encoded_from (sum (take index c.input_widths)) seed bits,
     )
 
--- The file of fewer than 2 ^ 32 labels has fewer than 2 ^ 64 bytes.
-pub label_file-size : (c : Netlist) (seed : List ℕ) (index : ℕ) (bits : List Bool) → length bits < 2 ^ 32 →
-    length (label_file (label_parts_of c seed index bits)) < 2 ^ 64
-label_file-size c seed index bits few = omega (arith, length-label_file c seed index bits)
-
 -- The wires of an input value stand before the number of wires.
 pub first_wire-room : (c : Netlist) → IsLawful c → (index width : ℕ)
     → slice_get c.input_widths index ≡ Some width →
-    sum (take index c.input_widths) + width ≤ c.wires
+    sum (take index c.input_widths) + width ≤ MAX_WIRES
 first_wire-room c lawful index width at =
     let within = slice_get_within c.input_widths index width at in
     let read = get_or_from_slice_get c.input_widths index width 0 at in
-    omega (arith, sum_by_more_le (λ n. n) c.input_widths index 0 within, read, lawful.inputs_fit)
+    omega (
+      arith,
+      sum_by_more_le (λ n. n) c.input_widths index 0 within,
+      read,
+      lawful.inputs_fit,
+      lawful.few_wires,
+    )

@@ -1,21 +1,22 @@
 -- The ends of files on their way to a sink.
-use Rattle.std.proofs.Common.{◌≡◌, ℕ, List, [], ◌++◌, length, append-nil, Option, Result, Ok, Err, MatchResult, sym, ap, subst, ◌∙◌}
-use Rattle.std.specs.Io.KnownBytes.{Appends}
+use Rattle.std.proofs.Common.{◌≡◌, ℕ, ◌^◌, ◌<◌, List, [], ◌++◌, length, length-append, take, append_assoc, append-nil, Option, Result, Ok, Err, sym, ap, ◌∙◌, arith}
+use Rattle.std.proofs.Math.Seq.{take-append_seam}
+use Rattle.std.proofs.lemmas.Result.{err_from_is_err_and}
+use Rattle.std.specs.Result.{IsErrAnd}
 use Rattle.sha2.specs.declared.Sha256.{Sha256}
 use Rattle.sha2.specs.Hashers.{Holds256}
 use Rattle.sha2.specs.Sha256.{sha256}
-use Rattle.gc_format.specs.Counted.{counted}
 use Rattle.gc_write.specs.declared.writer.FileWriter.{FileWriter}
 use Rattle.gc_write.specs.declared.writer.WriteFault.{WriteFault}
 use Rattle.gc_write.specs.Writing.{IsUnderWay, IsStopped, Proceeds, Ends}
+use Rattle.gc_write.specs.Written.{IsWritten}
 use Rattle.gc_write.proofs.WritingLemmas.{IsStopped-more}
 
 -- Where nothing is held, the sink took the file.
-IsUnderWay-whole : {O : Type 0} {Saw : O → List ℕ → Type 0} (w : FileWriter O)
-    (now before : Option (List ℕ)) (file : List ℕ)
-    (u : IsUnderWay Saw w now before (file ++ [])) → w.held.items ≡ [] → u.beginning ≡ file
-IsUnderWay-whole w now before file u empty =
-    sym (append-nil u.beginning) ∙ ap (λ l. u.beginning ++ l) (sym empty) ∙ u.whole ∙ append-nil file
+took_all : {O : Type 0} {Saw : O → List ℕ → Type 0} (w : FileWriter O) {now before : Option (List ℕ)}
+    (file : List ℕ) (u : IsUnderWay Saw w now before (file ++ [])) → w.held.items ≡ []
+    → u.beginning ≡ file
+took_all w file u empty = simp (empty, append-nil) at u.whole
 
 module _ {O : Type 0} {Saw : O → List ℕ → Type 0} {w w' : FileWriter O} {taken now : Option (List ℕ)} where
   -- All that was held is handed over, and the file has ended.
@@ -24,75 +25,64 @@ module _ {O : Type 0} {Saw : O → List ℕ → Type 0} {w w' : FileWriter O} {t
   Ends-sent sent empty = record {
     goes = λ before file a.
         let u = sent.goes before file a in
-        let is : u.beginning ≡ file ++ [] = IsUnderWay-whole w' now before file u empty
-        ∙ sym (append-nil file) in
-        (subst (Appends before now) is u.taken, u.count ∙ ap (λ l. counted (length l)) is);
+        rw (append-nil file, ← took_all w' file u empty) (u.taken, u.count);
   }
 
-  -- The sink stopped before the last bytes.
-  pub Ends-exit : {last : List ℕ → List ℕ} (r : Result ℕ WriteFault) (e : WriteFault) → r ≡ Err e →
-      Proceeds Saw w w' taken now (Err e) [] → Ends Saw w taken now r last
-  Ends-exit {last} r e is stopped =
-      subst (λ (r' : Result ℕ WriteFault). Ends Saw w taken now r' last) (sym is) (record {
-        goes = λ before file a.
-            subst (λ l. IsStopped before now (l ++ last file) e.sent) (append-nil file)
-            (IsStopped-more before now (file ++ []) (last file) e.sent (stopped.goes before file a));
+  -- The sink stopped in bytes, before the last ones.
+  pub Ends-exit : {e : WriteFault} {xs : List ℕ} (r : Result ℕ WriteFault) (rest : List ℕ → List ℕ)
+      → IsErrAnd r (λ y. y ≡ e) → Proceeds Saw w w' taken now (Err e) xs
+      → Ends Saw w taken now r (λ file. xs ++ rest file)
+  Ends-exit {e} {xs} r rest is stopped =
+      let p = err_from_is_err_and r is in
+      rw (p.1, p.2) (record {
+        goes = λ before file a. rw (← append_assoc file xs (rest file))
+            (IsStopped-more (rest file) (stopped.goes before file a));
       })
 
--- A file whose bytes are digested is handed over, and its digest is written by a writer that is not observed.
-module _
-    {O : Type 0}
-    (Saw : O → List ℕ → Type 0)
-    (w w' : FileWriter Sha256)
-    (v v' : FileWriter O)
-    (taken now now' : Option (List ℕ))
-    (digest : List ℕ)
-    (unseen : (bytes : List ℕ) → Saw v.observer bytes)
-    (digested : (bytes : List ℕ) → Holds256 w'.observer bytes → digest ≡ sha256 bytes)
-    (empty : w'.held.items ≡ [])
-    (same_held : v.held ≡ w'.held)
-    (same_sent : v.sent ≡ w'.sent)
-    (sent : Proceeds Holds256 w w' taken now (Ok tt) []) where
-  begun : (before : Option (List ℕ)) (file : List ℕ) → IsUnderWay Holds256 w taken before file
-      → IsUnderWay Saw v now before file
-  begun before file a =
+  -- Bytes are written, and then the last ones.
+  pub Ends-step : {end : Option (List ℕ)} {r : Result ℕ WriteFault} {xs : List ℕ} {last : List ℕ → List ℕ}
+      → Proceeds Saw w w' taken now (Ok tt) xs → Ends Saw w' now end r last
+      → Ends Saw w taken end r (λ file. xs ++ last (file ++ xs))
+  Ends-step {end} {r} {xs} {last} written ended = record {
+    goes = λ before file a. rw (← append_assoc file xs (last (file ++ xs)))
+        (ended.goes before (file ++ xs) (written.goes before file a));
+  }
+
+-- A file whose bytes are digested is handed over, and a writer that is not observed goes on with the digest.
+pub Ends-digest : {O : Type 0} {Saw : O → List ℕ → Type 0} {w w' : FileWriter Sha256} {v : FileWriter O}
+    {taken now end : Option (List ℕ)} {r : Result ℕ WriteFault} {digest : List ℕ}
+    → ((bytes : List ℕ) → Saw v.observer bytes)
+    → ((bytes : List ℕ) → Holds256 w'.observer bytes → digest ≡ sha256 bytes)
+    → v.held ≡ w'.held → v.sent ≡ w'.sent → w'.held.items ≡ []
+    → Proceeds Holds256 w w' taken now (Ok tt) [] → Ends Saw v now end r (λ _. digest ++ [])
+    → Ends Holds256 w taken end r sha256
+Ends-digest {w'} {digest} unseen digested same_held same_sent empty sent ended = record {
+  goes = λ before file a.
       let u = sent.goes before file a in
-      record {
+      let right = digested u.beginning u.seen ∙ ap sha256 (took_all w' file u empty) in
+      rw (← right, ← append-nil digest) (ended.goes before file (record {
         beginning = u.beginning;
-        whole = ap (λ h. u.beginning ++ h.items) same_held ∙ u.whole ∙ append-nil file;
+        whole = rw (same_held) (u.whole ∙ append-nil file);
         seen = unseen u.beginning;
         taken = u.taken;
         count = same_sent ∙ u.count;
-      }
+      }));
+}
 
-  right : (before : Option (List ℕ)) (file : List ℕ) → IsUnderWay Holds256 w taken before file
-      → digest ≡ sha256 file
-  right before file a =
-      let u = sent.goes before file a in
-      digested u.beginning u.seen ∙ ap sha256 (IsUnderWay-whole w' now before file u empty)
+-- The sink stopped in the file.
+IsWritten-stopped : {file : List ℕ} {old new : Option (List ℕ)} {sent : ℕ} → length file < 2 ^ 64
+    → IsStopped old new file sent → IsWritten file (Err (record { sent = sent })) old new
+IsWritten-stopped {sent} small s =
+    let size = sym (ap length s.whole) ∙ length-append s.beginning s.rest in
+    let same : sent ≡ length s.beginning = omega (arith, s.count, size) in
+    (omega (arith, s.not_all, size), rw (same, ← s.whole, take-append_seam) s.taken)
 
-  -- The sink stopped in the digest.
-  pub Ends-digest_exit : (r : Result ℕ WriteFault) (e : WriteFault) → r ≡ Err e →
-      Proceeds Saw v v' now now' (Err e) digest → Ends Holds256 w taken now' r sha256
-  Ends-digest_exit r e is stopped =
-      subst (λ (r' : Result ℕ WriteFault). Ends Holds256 w taken now' r' sha256) (sym is) (record {
-        goes = λ before file a.
-            subst (λ d. IsStopped before now' (file ++ d) e.sent) (right before file a)
-            (stopped.goes before file (begun before file a));
-      })
-
-  -- The digest is written, and the file has ended.
-  pub Ends-digest : (end : Option (List ℕ)) (r : Result ℕ WriteFault) →
-      Proceeds Saw v v' now now' (Ok tt) digest → Ends Saw v' now' end r (λ _. [])
-      → Ends Holds256 w taken end r sha256
-  Ends-digest end r written ended = record {
-    goes = λ before file a.
-        let P : List ℕ → Type 0 = λ whole.
-        MatchResult r (λ n. Appends before end whole × (n ≡ counted (length whole)))
-        (λ fault. IsStopped before end whole fault.sent)
-        in
-        let whole : (file ++ digest) ++ [] ≡ file ++ sha256 file =
-        append-nil (file ++ digest) ∙ ap (λ d. file ++ d) (right before file a)
-        in
-        subst P whole (ended.goes before (file ++ digest) (written.goes before file (begun before file a)));
-  }
+-- The file was written from its first byte to its last.
+pub IsWritten-whole : {O : Type 0} {Saw : O → List ℕ → Type 0} {w : FileWriter O} {old new : Option (List ℕ)}
+    {file : List ℕ} {last : List ℕ → List ℕ} (r : Result ℕ WriteFault) → length file < 2 ^ 64
+    → ((now : Option (List ℕ)) → IsUnderWay Saw w now now []) → last [] ≡ file
+    → Ends Saw w old new r last → IsWritten file r old new
+IsWritten-whole {old} (Ok n) small begun whole ended = rw (← whole)
+    (let e = ended.goes old [] (begun old) in (omega (arith, e.1, ap length whole), e.0))
+IsWritten-whole {old} (Err fault) small begun whole ended =
+    IsWritten-stopped small (rw (← whole) (ended.goes old [] (begun old)))

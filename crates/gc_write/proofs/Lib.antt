@@ -1,9 +1,7 @@
-pub mod KnownLemmas
 pub mod WritingLemmas
 pub mod EndLemmas
 pub mod ListLemmas
 pub mod ByteLemmas
 pub mod SizeLemmas
-pub mod WrittenLemmas
 pub mod DealLemmas
 pub mod WrittenFiles

@@ -1,12 +1,15 @@
-use Rattle.std.proofs.Common.{arith, ◌∙◌}
-use Rattle.gc_write.proofs.KnownLemmas.{Appends-take}
+use Rattle.std.proofs.Common.{◌∙◌, arith}
+use Rattle.std.proofs.KnownBytes.{Appends-trans}
+use Rattle.std.proofs.Math.Seq.{take-add}
+use Rattle.std.proofs.lemmas.List.{take_rest}
 use Rattle.gc_write.proofs.writer.put_all.Goals as goal
 
 pub loop-done-preserved : goal.loop-done-preserved
 loop-done-preserved g c =
-    let put = c.in-Ok.ensures in let so_far = c.loop-done.invariant in (
+    let put = c.in-Ok.ensures in let so_far = c.loop-done.invariant in
+    let piece = c.args.piece.now in (
       omega (arith, put.bound),
-      Appends-take _ _ _ c.args.piece.now c.loop-done.done c.in-Ok.n so_far.1
-          put.bytes,
+      rw (take-add c.loop-done.done c.in-Ok.n piece)
+          (Appends-trans _ _ _ _ _ so_far.1 (rw (take_rest piece c.loop-done.done) at put.bytes)),
       put.counted ∙ so_far.2,
     )
