@@ -1,7 +1,8 @@
 -- Parts that are whole are a garbled file.
 use Rattle.std.proofs.Common.{◌≡◌, ℕ, ◌+◌, ◌<◌, List, ◌++◌, length, take, drop, map, flat_map, get_or, All, refl, sym, ap, ◌∙◌, arith}
 use Rattle.std.specs.List.{range_with_len}
-use Rattle.std.proofs.lemmas.List.{take-append-drop, take-take, drop-take, take_all, length-take-le, length-drop}
+use Rattle.std.proofs.Math.Seq.{take-add}
+use Rattle.std.proofs.lemmas.List.{take_all, length-take-le, length-drop}
 use Rattle.std.proofs.lemmas.List.FromFn.{length-map-range_with_len}
 use Rattle.sha2.specs.Sha256.{sha256}
 use Rattle.gc_format.specs.LabelBytes.{length-row_bytes, length-entry_bytes}
@@ -17,10 +18,7 @@ use Rattle.gc_format.proofs.PackLemmas.{packed-unpacked}
 
 -- Two pieces that stand one after the other.
 pub take_plus : {X : Type 0} (a b : ℕ) (xs : List X) → take a xs ++ take b (drop a xs) ≡ take (a + b) xs
-take_plus a b xs =
-    rw (← drop-take a b xs)
-    (ap (λ l. l ++ drop a (take (a + b) xs)) (sym (take-take a (a + b) xs (omega arith)))
-    ∙ take-append-drop a (take (a + b) xs))
+take_plus a b xs = sym (take-add a b xs)
 
 -- A header, in its parts.
 pub header_parts : (h digest : List ℕ) → length h ≡ 48 → IsHeaderInOrder (version_of h) h
@@ -49,22 +47,25 @@ module _ (h r d e t : List ℕ) (p : GarbledParts) (whole : length h ≡ 48)
     (rows_are : flat_map row_bytes p.rows ≡ r) (entries_are : flat_map entry_bytes p.entries ≡ e)
     (bits_are : p.decode_bits ≡ map (bit_in d) (range_with_len 0 (output_count h))) where
   row_number : length p.rows ≡ row_count h
-  row_number = let size = length-pairs row_bytes length-row_bytes p.rows in let same = ap length rows_are in
-      omega arith
+  row_number = omega (arith, length-pairs row_bytes length-row_bytes p.rows, ap length rows_are)
 
   bit_number : length p.decode_bits ≡ output_count h
-  bit_number = ap length bits_are ∙ length-map-range_with_len (bit_in d) 0 (output_count h)
+  bit_number = rw (bits_are, length-map-range_with_len) refl
 
   entry_number : length p.entries ≡ entry_count (version_of h) (output_count h)
-  entry_number = let size = length-pairs entry_bytes length-entry_bytes p.entries in let same =
-      ap length entries_are in omega arith
+  entry_number = omega (arith, length-pairs entry_bytes length-entry_bytes p.entries, ap length entries_are)
 
   body_is : body p ≡ h ++ r ++ d ++ e
-  body_is =
-      let bits : packed p.decode_bits ≡ d = ap packed bits_are
-      ∙ packed-unpacked d (output_count h) decode_full small_decode none in
-      rw (row_number, bit_number, version_is, rows_are, bits, entries_are)
-      (ap (λ l. l ++ r ++ d ++ e) (header_parts h p.digest whole in_order small_header digest_is))
+  body_is = rw (
+    row_number,
+    bit_number,
+    version_is,
+    rows_are,
+    bits_are,
+    packed-unpacked d (output_count h) decode_full small_decode none,
+    entries_are,
+    header_parts h p.digest whole in_order small_header digest_is,
+  ) refl
 
   pub file_is : All (λ row. IsLabel row.generator × IsLabel row.evaluator) p.rows
       → All (λ pair. IsLabel pair.entry_zero × IsLabel pair.entry_one) p.entries
@@ -73,12 +74,9 @@ module _ (h r d e t : List ℕ) (p : GarbledParts) (whole : length h ≡ 48)
   file_is row_labels entry_labels = record {
     few_rows = rw row_number (in_order.few_rows (omega arith));
     few_outputs = rw bit_number (in_order.few_outputs (omega arith));
-    digest = ap length digest_is ∙ length-take-le 32 (drop 8 h) (omega (arith, length-drop8));
+    digest = rw digest_is (length-take-le 32 (drop 8 h) (omega (arith, length-drop 8 h)));
     rows = row_labels;
     entries = entry_labels;
     entry_pairs = rw (version_is, bit_number) entry_number;
     spelled = rw (body_is, ← right) refl;
   }
-    where
-      length-drop8 : length (drop 8 h) ≡ 40
-      length-drop8 = length-drop 8 h ∙ omega arith

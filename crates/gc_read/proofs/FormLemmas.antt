@@ -22,18 +22,17 @@ pub label_file_is : (b : List ℕ) → ((i : ℕ) → get_or b i 0 < 256) → Is
     → IsLabelFile b (record { index = index; labels = labels })
 unfolding label_file
 label_file_is b are form index index_is labels labels_are each =
-    let long = form.header in
-    let whole = form.whole in
     let size = length-items 16 bytes_of_label length-bytes_of_label labels in
     let same = ap length labels_are in
     let rest = length-drop 16 b in
     let count : length labels ≡ label_count b = omega arith in
+    let fits = number_at-lt 8 b are in
     record {
-      index = let fits = number_at-lt 8 b are in omega arith;
-      few_labels = let few = form.few_labels in omega arith;
+      index = omega arith;
+      few_labels = omega arith;
       labels = each;
-      spelled = sym (ap (λ m. m ++ number_bytes index ++ number_bytes (length labels) ++ flat_map
-          bytes_of_label labels) (sym (begins b (omega arith) form.begun))
+      spelled = sym (ap (λ m. m ++ number_bytes index ++ number_bytes (length labels)
+          ++ flat_map bytes_of_label labels) (sym (begins b (omega arith) form.begun))
           ∙ rw (
             index_is,
             count,

@@ -1,13 +1,13 @@
 -- The header of a garbled file.
 use Rattle.std.proofs.Common.{◌≡◌, ℕ, zero, suc, ◌+◌, ◌-◌, ◌*◌, ◌<◌, ◌≤◌, List, [], ◌∷◌, ◌++◌, length, take, drop, slice_index, refl, sym, ap, subst, ◌∙◌, append_assoc, length-append, arith}
-use Rattle.std.proofs.lemmas.List.{take-append-le, take-take, take-append-drop, drop-append-le, get_or_append_left, length-drop}
+use Rattle.std.proofs.lemmas.List.{take_at, take-append-le, take-take, take-append-drop, drop-append-le, get_or_append_left, length-drop}
 use Rattle.sha2.specs.Sha256.{sha256}
 use Rattle.gc_read.specs.declared.fault.FileFault.{FileFault}
 use Rattle.gc_format.specs.declared.parts.Version.{Version}
 use Rattle.gc_format.specs.GarbledFile.{magic}
 use Rattle.gc_format.specs.DecodeBits.{bytes_for}
 use Rattle.gc_format.specs.GarbledFile.{entry_count}
-use Rattle.gc_read.specs.FileFault.{IsBegun, row_count, output_count, decode_end, entries_end, trailer_end, trailer, HasHeader, HasSpareBit, HasDecodeBits, LastingFault, bad_magic, too_many_rows, too_many_outputs, spare_bits, bad_trailer, trailing, IsHeaderInOrder, IsInOrder}
+use Rattle.gc_read.specs.FileFault.{IsBegun, row_count, output_count, decode_end, entries_end, trailer_end, IsTrailerRight, HasHeader, HasSpareBit, HasDecodeBits, LastingFault, bad_magic, too_many_rows, too_many_outputs, spare_bits, bad_trailer, trailing, IsHeaderInOrder, IsInOrder}
 use Rattle.gc_format.proofs.NumberLemmas.{number_at-append}
 
 take_both : (n m : ℕ) (xs : List ℕ) → take n (take m xs) ≡ take m (take n xs)
@@ -20,14 +20,10 @@ take_both (suc n) (suc m) (x ∷ xs) = ap (λ l. x ∷ l) (take_both n m xs)
 -- A beginning of bytes that begin with a magic is one of it too.
 pub begun_before : (m bytes more : List ℕ) → IsBegun m (bytes ++ more) → IsBegun m bytes
 begun_before m bytes more begun =
-    ap (take 8) (sym (take-append-le (length bytes) bytes more (omega arith) ∙ take-whole bytes))
+    ap (take 8) (sym (take_at bytes more (length bytes) refl))
     ∙ take_both 8 (length bytes) (bytes ++ more)
     ∙ ap (take (length bytes)) begun
     ∙ take-take (length bytes) (length (bytes ++ more)) m (omega (arith, length-append bytes more))
-  where
-    take-whole : (xs : List ℕ) → take (length xs) xs ≡ xs
-    take-whole [] = refl
-    take-whole (x ∷ xs) = ap (λ l. x ∷ l) (take-whole xs)
 
 -- A beginning of a header that is in order is a beginning of a file that is.
 pub header_in_order : (v : Version) (bytes : List ℕ) → length bytes < 48 → IsHeaderInOrder v bytes
@@ -51,14 +47,10 @@ module _ (bytes more : List ℕ) where
   rows-more long = number_at-append 40 bytes more (omega arith)
 
   decode_end-more : 48 ≤ length bytes → decode_end (bytes ++ more) ≡ decode_end bytes
-  decode_end-more long = ap (λ n. 48 + 32 * n + bytes_for (output_count (bytes ++ more)))
-      (rows-more (omega arith))
-      ∙ ap (λ n. 48 + 32 * row_count bytes + bytes_for n) (outputs-more long)
+  decode_end-more long = rw (rows-more (omega arith), outputs-more long) refl
 
   entries_end-more : (v : Version) → 48 ≤ length bytes → entries_end v (bytes ++ more) ≡ entries_end v bytes
-  entries_end-more v long = ap (λ n. n + 32 * entry_count v (output_count (bytes ++ more)))
-      (decode_end-more long)
-      ∙ ap (λ n. decode_end bytes + 32 * entry_count v n) (outputs-more long)
+  entries_end-more v long = rw (rows-more (omega arith), outputs-more long) refl
 
   header-more : (v : Version) → HasHeader v bytes → HasHeader v (bytes ++ more)
   header-more v has =
@@ -73,8 +65,8 @@ module _ (bytes more : List ℕ) where
   last-more : 48 ≤ length bytes → decode_end bytes ≤ length bytes
       → slice_index (bytes ++ more) (decode_end (bytes ++ more) - 1) ≡ slice_index bytes
       (decode_end bytes - 1)
-  last-more long reaches = ap (λ n. slice_index (bytes ++ more) (n - 1)) (decode_end-more long)
-      ∙ get_or_append_left bytes more 0 (decode_end bytes - 1) (omega arith)
+  last-more long reaches =
+      rw (decode_end-more long) (get_or_append_left bytes more 0 (decode_end bytes - 1) (omega arith))
 
   spare-more : 48 ≤ length bytes → decode_end bytes ≤ length bytes → HasSpareBit bytes
       → HasSpareBit (bytes ++ more)
@@ -99,18 +91,16 @@ module _ (bytes more : List ℕ) where
         no_spare_bit = λ spare. has.no_spare_bit (spare-less long has.whole spare);
       }
 
-  trailer-more : (v : Version) → 48 ≤ length bytes → trailer_end v bytes ≤ length bytes
-      → trailer v (bytes ++ more) ≡ trailer v bytes
-  trailer-more v long reaches = ap (λ n. take 32 (drop n (bytes ++ more))) (entries_end-more v long)
-      ∙ ap (take 32) (drop-append-le (entries_end v bytes) bytes more (omega arith))
-      ∙ take-append-le 32 (drop (entries_end v bytes) bytes) more
-      (omega (arith, length-drop (entries_end v bytes) bytes))
-
-  message-more : (v : Version) → 48 ≤ length bytes → trailer_end v bytes ≤ length bytes
-      → sha256 (take (entries_end v (bytes ++ more)) (bytes ++ more)) ≡ sha256
-      (take (entries_end v bytes) bytes)
-  message-more v long reaches = ap sha256 (ap (λ n. take n (bytes ++ more)) (entries_end-more v long)
-      ∙ take-append-le (entries_end v bytes) bytes more (omega arith))
+  right-more : (v : Version) → 48 ≤ length bytes → trailer_end v bytes ≤ length bytes
+      → IsTrailerRight v (bytes ++ more) ≡ IsTrailerRight v bytes
+  right-more v long reaches =
+      let end = entries_end v bytes in
+      rw (
+        entries_end-more v long,
+        drop-append-le end bytes more (omega arith),
+        take-append-le end bytes more (omega arith),
+        take-append-le 32 (drop end bytes) more (omega (arith, length-drop end bytes)),
+      ) refl
 
   -- A lasting fault is that of all longer bytes.
   pub lasts : (e : FileFault) → LastingFault bytes e → LastingFault (bytes ++ more) e
@@ -129,17 +119,14 @@ module _ (bytes more : List ℕ) where
       let long = has.header.whole in
       bad_trailer v (decode_bits-more v has)
       (omega (arith, entries_end-more v long, length-append bytes more))
-      (λ is. wrong (sym (trailer-more v long reaches) ∙ is ∙ message-more v long reaches))
+      (λ is. wrong (rw (right-more v long reaches) at is))
   lasts _ (trailing v has reaches is) =
       let long = has.header.whole in
       trailing v (decode_bits-more v has) (omega (arith, entries_end-more v long, length-append bytes more))
-      (trailer-more v long (omega arith) ∙ is ∙ sym (message-more v long (omega arith)))
+      (rw (right-more v long (omega arith)) is)
 
 -- A lasting fault of the first bytes of a piece is that of the whole piece.
 pub lasts_piece : (header piece : List ℕ) (n : ℕ) (e : FileFault) → LastingFault (header ++ take n piece) e
     → LastingFault (header ++ piece) e
 lasts_piece header piece n e fault =
-    let P : List ℕ → Type 0 = λ b. LastingFault b e in
-    subst P (append_assoc header (take n piece) (drop n piece)
-    ∙ ap (λ l. header ++ l) (take-append-drop n piece))
-    (lasts (header ++ take n piece) (drop n piece) e fault)
+    rw (append_assoc, take-append-drop) at (lasts (header ++ take n piece) (drop n piece) e fault)

@@ -6,5 +6,4 @@ pub mod StepLemmas
 pub mod BitLemmas
 pub mod FileLemmas
 pub mod FormLemmas
-pub mod StateLemmas
 pub mod TakeLemmas

@@ -11,7 +11,6 @@ use Rattle.gc_format.specs.GarbledFile.{magic, entry_count}
 use Rattle.gc_read.specs.FileFault.{IsBegun, row_count, output_count, decode_end, entries_end, trailer_end, IsTrailerRight, HasHeader, HasSpareBit, HasDecodeBits, LastingFault, spare_bits, bad_trailer, trailing, IsHeaderInOrder, IsInOrder}
 use Rattle.gc_read.specs.Body.{version_of, row_size, decode_size, entry_size, IsFilled, IsBody}
 use Rattle.gc_format.proofs.NumberLemmas.{number_at-append}
-use Rattle.gc_read.proofs.PieceLemmas.{by_zero}
 
 pub length-magic : (v : Version) → length (magic v) ≡ 8
 length-magic One = refl
@@ -28,39 +27,28 @@ begun v bytes long is = is ∙ sym (take_all (length bytes) (magic v) (omega (ar
 
 module _ (h r d e x : List ℕ) (whole : length h ≡ 48) where
   nested : h ++ r ++ d ++ e ++ x ≡ h ++ (r ++ (d ++ (e ++ x)))
-  nested = simp append_assoc refl
+  nested = simp append_assoc
 
   rows_is : row_count (h ++ r ++ d ++ e ++ x) ≡ row_count h
-  rows_is = ap row_count nested ∙ number_at-append 40 h (r ++ (d ++ (e ++ x))) (omega arith)
+  rows_is = rw nested (number_at-append 40 h (r ++ (d ++ (e ++ x))) (omega arith))
 
   outputs_is : output_count (h ++ r ++ d ++ e ++ x) ≡ output_count h
-  outputs_is = ap output_count nested ∙ number_at-append 44 h (r ++ (d ++ (e ++ x))) (omega arith)
-
-  magic_is : take 8 (h ++ r ++ d ++ e ++ x) ≡ take 8 h
-  magic_is = ap (take 8) nested ∙ take-append-le 8 h (r ++ (d ++ (e ++ x))) (omega arith)
+  outputs_is = rw nested (number_at-append 44 h (r ++ (d ++ (e ++ x))) (omega arith))
 
   pub decode_end_is : decode_end (h ++ r ++ d ++ e ++ x) ≡ 48 + row_size h + decode_size h
-  decode_end_is = ap (λ n. 48 + 32 * n + decode_size (h ++ r ++ d ++ e ++ x)) rows_is
-      ∙ ap (λ n. 48 + row_size h + bytes_for n) outputs_is
+  decode_end_is = rw (rows_is, outputs_is) refl
 
   pub entries_end_is : entries_end (version_of h) (h ++ r ++ d ++ e ++ x) ≡ 48 + row_size h + decode_size h
       + entry_size h
-  entries_end_is = ap (λ n. n + 32 * entry_count (version_of h) (output_count (h ++ r ++ d ++ e ++ x)))
-      decode_end_is
-      ∙ ap (λ n. 48 + row_size h + decode_size h + 32 * entry_count (version_of h) n) outputs_is
+  entries_end_is = rw (rows_is, outputs_is) refl
 
   pub length_is : length (h ++ r ++ d ++ e ++ x) ≡ 48 + length r + length d + length e + length x
-  length_is = omega (
-    arith,
-    length-append (h ++ r ++ d ++ e) x,
-    length-append (h ++ r ++ d) e,
-    length-append (h ++ r) d,
-    length-append h r,
-  )
+  length_is = simp (length-append, whole)
 
-  pub has_header : IsHeaderInOrder (version_of h) h → HasHeader (version_of h) (h ++ r ++ d ++ e ++ x)
+  has_header : IsHeaderInOrder (version_of h) h → HasHeader (version_of h) (h ++ r ++ d ++ e ++ x)
   has_header in_order = record {
-    begins = magic_is ∙ begins (version_of h) h (omega arith) in_order.begun;
+    begins = rw (nested, take-append-le 8 h (r ++ (d ++ (e ++ x))) (omega arith))
+        (begins (version_of h) h (omega arith) in_order.begun);
     whole = omega (arith, length_is);
     few_rows = rw rows_is (in_order.few_rows (omega arith));
     few_outputs = rw outputs_is (in_order.few_outputs (omega arith));
@@ -75,26 +63,24 @@ module _ (h r d e x : List ℕ) (whole : length h ≡ 48) where
         few_outputs = λ long. has.few_outputs;
       }
 
-  last_is : length r ≡ row_size h → length d ≡ decode_size h → 0 < length d
+  last_is : length r ≡ row_size h → length d ≡ decode_size h → 0 < output_count h % 8
       → slice_index (h ++ r ++ d ++ e ++ x) (decode_end (h ++ r ++ d ++ e ++ x) - 1) ≡ slice_index d
       (length d - 1)
-  last_is rows_full decode_full some =
+  last_is rows_full decode_full part =
       let place : decode_end (h ++ r ++ d ++ e ++ x) - 1 ≡ length h + (length r + (length d - 1)) =
       omega (arith, decode_end_is) in
-      ap (λ l. slice_index l (decode_end (h ++ r ++ d ++ e ++ x) - 1)) nested
-      ∙ ap (λ n. slice_index (h ++ (r ++ (d ++ (e ++ x)))) n) place
-      ∙ get_or-append-add h (r ++ (d ++ (e ++ x))) (length r + (length d - 1)) 0
-      ∙ get_or-append-add r (d ++ (e ++ x)) (length d - 1) 0
-      ∙ get_or_append_left d (e ++ x) 0 (length d - 1) (omega arith)
-
-  some_decode : length d ≡ decode_size h → 0 < output_count h % 8 → 0 < length d
-  some_decode full part = omega arith
+      rw (
+        place,
+        nested,
+        get_or-append-add h (r ++ (d ++ (e ++ x))),
+        get_or-append-add r (d ++ (e ++ x)),
+      ) (get_or_append_left d (e ++ x) 0 (length d - 1) (omega arith))
 
   pub spare : length r ≡ row_size h → length d ≡ decode_size h → IsSpare (output_count h) d
       → HasSpareBit (h ++ r ++ d ++ e ++ x)
   spare rows_full decode_full is = record {
     not_full = rw outputs_is is.not_full;
-    bit = rw (last_is rows_full decode_full (some_decode decode_full is.not_full), outputs_is) is.bit;
+    bit = rw (last_is rows_full decode_full is.not_full, outputs_is) is.bit;
   }
 
   no_spare : length r ≡ row_size h → length d ≡ decode_size h → (IsSpare (output_count h) d → ⊥)
@@ -103,7 +89,7 @@ module _ (h r d e x : List ℕ) (whole : length h ≡ 48) where
       let part : 0 < output_count h % 8 = rw outputs_is at has.not_full in
       none (record {
         not_full = part;
-        bit = rw (last_is rows_full decode_full (some_decode decode_full part), outputs_is) at has.bit;
+        bit = rw (last_is rows_full decode_full part, outputs_is) at has.bit;
       })
 
   pub spare_fault : IsHeaderInOrder (version_of h) h → length r ≡ row_size h → length d ≡ decode_size h
@@ -113,7 +99,7 @@ module _ (h r d e x : List ℕ) (whole : length h ≡ 48) where
       spare_bits (version_of h) (has_header in_order) (omega (arith, decode_end_is, length_is))
       (spare rows_full decode_full is)
 
-  has_decode_bits : IsHeaderInOrder (version_of h) h → length r ≡ row_size h → length d ≡ decode_size h
+  pub has_decode_bits : IsHeaderInOrder (version_of h) h → length r ≡ row_size h → length d ≡ decode_size h
       → (IsSpare (output_count h) d → ⊥) → HasDecodeBits (version_of h) (h ++ r ++ d ++ e ++ x)
   has_decode_bits in_order rows_full decode_full none = record {
     header = has_header in_order;
@@ -125,13 +111,7 @@ module _ (h r d e x : List ℕ) (whole : length h ≡ 48) where
   module _ (rows_full : length r ≡ row_size h) (decode_full : length d ≡ decode_size h)
       (entries_full : length e ≡ entry_size h) where
     before_at : length (h ++ r ++ d ++ e) ≡ entries_end (version_of h) (h ++ r ++ d ++ e ++ x)
-    before_at = omega (
-      arith,
-      entries_end_is,
-      length-append (h ++ r ++ d) e,
-      length-append (h ++ r) d,
-      length-append h r,
-    )
+    before_at = simp length-append (omega (arith, entries_end_is))
 
     before_is : take (entries_end (version_of h) (h ++ r ++ d ++ e ++ x)) (h ++ r ++ d ++ e ++ x) ≡ h ++ r
         ++ d ++ e
@@ -140,29 +120,13 @@ module _ (h r d e x : List ℕ) (whole : length h ≡ 48) where
     after_is : drop (entries_end (version_of h) (h ++ r ++ d ++ e ++ x)) (h ++ r ++ d ++ e ++ x) ≡ x
     after_is = drop_at (h ++ r ++ d ++ e) x _ before_at
 
-    right_is : (t : List ℕ) → take 32 x ≡ t → t ≡ sha256 (h ++ r ++ d ++ e)
+    pub right_is : (t : List ℕ) → take 32 x ≡ t → t ≡ sha256 (h ++ r ++ d ++ e)
         → IsTrailerRight (version_of h) (h ++ r ++ d ++ e ++ x)
-    right_is t first is = ap (take 32) after_is ∙ first ∙ is ∙ ap sha256 (sym before_is)
+    right_is t first is = rw (after_is, before_is) (first ∙ is)
 
     pub is_right : (t : List ℕ) → take 32 x ≡ t → IsTrailerRight (version_of h) (h ++ r ++ d ++ e ++ x)
         → t ≡ sha256 (h ++ r ++ d ++ e)
-    is_right t first is = sym first ∙ ap (take 32) (sym after_is) ∙ is ∙ ap sha256 before_is
-
-    trailer_fault : (t : List ℕ) → take 32 x ≡ t → 32 ≤ length x → IsHeaderInOrder (version_of h) h
-        → (IsSpare (output_count h) d → ⊥)
-        → (t ≡ sha256 (h ++ r ++ d ++ e) → ⊥) → LastingFault (h ++ r ++ d ++ e ++ x) BadTrailer
-    trailer_fault t first long in_order none wrong =
-        bad_trailer (version_of h) (has_decode_bits in_order rows_full decode_full none)
-        (omega (arith, entries_end_is, length_is))
-        (λ is. wrong (is_right t first is))
-
-    trailing_fault : (t : List ℕ) → take 32 x ≡ t → 32 < length x → IsHeaderInOrder (version_of h) h
-        → (IsSpare (output_count h) d → ⊥)
-        → t ≡ sha256 (h ++ r ++ d ++ e) → LastingFault (h ++ r ++ d ++ e ++ x) Trailing
-    trailing_fault t first long in_order none is =
-        trailing (version_of h) (has_decode_bits in_order rows_full decode_full none)
-        (omega (arith, entries_end_is, length_is))
-        (right_is t first is)
+    is_right t first is = sym first ∙ rw (after_is, before_is) at is
 
 -- What is wrong with the trailer t, or with the bytes s after it.
 module _ (h r d e t s : List ℕ) (whole : length h ≡ 48) (rows_full : length r ≡ row_size h)
@@ -173,72 +137,51 @@ module _ (h r d e t s : List ℕ) (whole : length h ≡ 48) (rows_full : length 
   pub bad_trailer_fault : (t ≡ sha256 (h ++ r ++ d ++ e) → ⊥)
       → LastingFault (h ++ r ++ d ++ e ++ t ++ s) BadTrailer
   bad_trailer_fault wrong =
-      rw append_assoc (trailer_fault h r d e (t ++ s) whole rows_full decode_full entries_full t
-      (take_at t s 32 trailer_full) (omega (arith, length-append t s)) in_order none wrong)
+      let x = t ++ s in
+      rw append_assoc (bad_trailer (version_of h)
+      (has_decode_bits h r d e x whole in_order rows_full decode_full none)
+      (omega (arith, entries_end_is h r d e x whole, length_is h r d e x whole, length-append t s))
+      (λ is. wrong (is_right h r d e x whole rows_full decode_full entries_full t
+      (take_at t s 32 trailer_full) is)))
 
   pub more_fault : t ≡ sha256 (h ++ r ++ d ++ e) → 0 < length s
       → LastingFault (h ++ r ++ d ++ e ++ t ++ s) Trailing
-  more_fault is some = rw append_assoc (trailing_fault h r d e (t ++ s) whole rows_full decode_full
-      entries_full t
-      (take_at t s 32 trailer_full) (omega (arith, length-append t s)) in_order none is)
-
--- Bytes that reach so far have all the parts before.
-pub rows_full : (row_size decode_size entry_size : ℕ) (r d e t : List ℕ)
-    → IsFilled row_size decode_size entry_size r d e t
-    → row_size + decode_size ≤ length r + length d + length e + length t → length r ≡ row_size
-rows_full row_size decode_size entry_size r d e t f long =
-    by_zero (length d + length e + length t) (λ none. omega (arith, f.rows_fit)) f.rows_first
-
-pub decode_full : (row_size decode_size entry_size : ℕ) (r d e t : List ℕ)
-    → IsFilled row_size decode_size entry_size r d e t
-    → row_size + decode_size ≤ length r + length d + length e + length t → length d ≡ decode_size
-decode_full row_size decode_size entry_size r d e t f long =
-    by_zero (length e + length t) (λ none. omega (arith, f.rows_fit, f.decode_fits)) f.decode_first
+  more_fault is some =
+      let x = t ++ s in
+      rw append_assoc (trailing (version_of h)
+      (has_decode_bits h r d e x whole in_order rows_full decode_full none)
+      (omega (arith, entries_end_is h r d e x whole, length_is h r d e x whole, length-append t s))
+      (right_is h r d e x whole rows_full decode_full entries_full t (take_at t s 32 trailer_full) is))
 
 -- The parts as far as they have come are in order.
 pub parts_in_order : (h r d e t : List ℕ) → length h ≡ 48 → IsHeaderInOrder (version_of h) h
     → IsFilled (row_size h) (decode_size h) (entry_size h) r d e t
     → (length d ≡ decode_size h → IsSpare (output_count h) d → ⊥)
     → (length t ≡ 32 → t ≡ sha256 (h ++ r ++ d ++ e)) → IsInOrder (version_of h) (h ++ r ++ d ++ e ++ t)
-parts_in_order h r d e t whole header f none is_right =
+parts_in_order h r d e t whole header f none right =
+    let decode = decode_end_is h r d e t whole in
     let ends = entries_end_is h r d e t whole in
     let long = length_is h r d e t whole in
     record {
       header = header_in_order h r d e t whole header;
       no_spare_bit = λ reaches.
-          let far : row_size h + decode_size h ≤ length r + length d + length e + length t =
-          omega (arith, decode_end_is h r d e t whole) in
-          let full = decode_full _ _ _ r d e t f far in
-          no_spare h r d e t whole (rows_full _ _ _ r d e t f far) full (none full);
+          let full : length d ≡ decode_size h = grind arith in
+          no_spare h r d e t whole (grind arith) full (none full);
       right = λ reaches.
-          let trailer_full : length t ≡ 32 = omega (
-            arith,
-            f.rows_fit,
-            f.decode_fits,
-            f.entries_fit,
-            f.trailer_fits,
-          ) in
+          let trailer_full : length t ≡ 32 = omega arith in
           right_is h r d e t whole (f.rows_first (omega arith)) (f.decode_first (omega arith))
-          (f.entries_first (omega arith)) t
-          (take_all 32 t (omega arith)) (is_right trailer_full);
-      ends = λ has_header. omega (arith, f.rows_fit, f.decode_fits, f.entries_fit, f.trailer_fits);
+          (f.entries_first (omega arith)) t (take_all 32 t (omega arith)) (right trailer_full);
+      ends = λ has_header. omega arith;
     }
 
-pub in_order : (h r d e t : List ℕ) (s : Sha256) → IsBody h r d e t s
+pub in_order : {h r d e t : List ℕ} {s : Sha256} → IsBody h r d e t s
     → IsInOrder (version_of h) (h ++ r ++ d ++ e ++ t)
-in_order h r d e t s body = parts_in_order h r d e t body.whole body.in_order body.filled body.no_spare_bit
+in_order body = parts_in_order _ _ _ _ _ body.whole body.in_order body.filled body.no_spare_bit
     body.hashed.right
 
 -- Where the trailer isn't whole the file isn't.
-pub ends_early : (h r d e t : List ℕ) (s : Sha256) → IsBody h r d e t s → length t < 32
+pub ends_early : {h r d e t : List ℕ} {s : Sha256} → IsBody h r d e t s → length t < 32
     → length (h ++ r ++ d ++ e ++ t) < trailer_end (version_of h) (h ++ r ++ d ++ e ++ t)
-ends_early h r d e t s body short =
+ends_early {h} {r} {d} {e} {t} body short =
     let f = body.filled in
-    omega (
-      arith,
-      entries_end_is h r d e t body.whole,
-      length_is h r d e t body.whole,
-      f.rows_fit,
-      f.decode_fits,
-      f.entries_fit,
-    )
+    omega (arith, entries_end_is h r d e t body.whole, length_is h r d e t body.whole)

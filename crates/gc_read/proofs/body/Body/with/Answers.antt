@@ -40,7 +40,7 @@ hashed : (g : Over) (c : After-update-3 g) →
     c.self.inside.trailer.items c.update-3.new.self
 hashed g c =
     let q1 = c.cut_up-cuts.result.rows.now in
-    hashed_step _ _ _ _ _ _ c.self.invariant _ _ _ _ _ _ (cut-up g c) _
+    hashed_step c.self.invariant (cut-up g c)
     (λ m holds. c.update-3.ensures (m ++ q1 ++ c.cut_up-cuts.result.decode_bytes.now)
     (c.update-2.ensures (m ++ q1) (c.update.ensures m holds)))
 
@@ -67,7 +67,7 @@ returns-in_err-add_decode_bytes-clause-err g c =
     let spare : IsSpare (output_count h) decode_bytes =
     rw (← c.as_slice.ensures.value, ← c.of-counts.ensures.outputs) fault.2 in
     rw (fault.0, ← c.self.view_is)
-    (spare_step _ _ _ _ _ _ c.self.invariant _ _ _ _ _ _ (cut-up g now) full spare))
+    (spare_step c.self.invariant (cut-up g now) full spare))
 
 pub returns-in_err-add_trailer-clause-err : goal.returns-in_err-add_trailer-clause-err
 returns-in_err-add_trailer-clause-err g c =
@@ -77,7 +77,7 @@ returns-in_err-add_trailer-clause-err g c =
     let p = err_from_is_err_and c.from_residual-in_err-add_trailer.result
     c.from_residual-in_err-add_trailer.ensures.1 in
     rw (p.1, p.2) (λ other. rw (fault.0, ← c.self.view_is)
-    (bad_trailer_step _ _ _ _ _ _ c.self.invariant _ _ _ _ _ _ (cut-up g now)
+    (bad_trailer_step c.self.invariant (cut-up g now)
     (no-spare g at.In_ok-add_decode_bytes) fault.1 (fault.2 _ (hashed g now))))
 
 pub returns-then-not-is_empty-clause-err : goal.returns-then-not-is_empty-clause-err
@@ -86,8 +86,8 @@ returns-then-not-is_empty-clause-err g c =
     let now = at.After-update-3 in
     let some : 0 < length c.cut_up-cuts.result.rest.now = grind (arith, nat_tests) in
     λ other. rw (← c.self.view_is)
-    (more_step _ _ _ _ _ _ c.self.invariant _ _ _ _ _ _ (cut-up g now) (no-spare g at.In_ok-add_decode_bytes)
-    c.add_trailer.new.hasher (c.in_ok-add_trailer.ensures.hashed _ (hashed g now)) some)
+    (more_step c.self.invariant (cut-up g now) (no-spare g at.In_ok-add_decode_bytes)
+    (c.in_ok-add_trailer.ensures.hashed _ (hashed g now)) some)
 
 pub invariant_of-result : goal.invariant_of-result
 invariant_of-result g c =
@@ -99,8 +99,8 @@ invariant_of-result g c =
       c.in_ok-add-2.ensures.ok,
       c.in_ok-add_trailer.ensures.ok,
     )
-    (body_step _ _ _ _ _ _ c.self.invariant _ _ _ _ _ _ (cut-up g now) (no-spare g at.In_ok-add_decode_bytes)
-    c.add_trailer.new.hasher (c.in_ok-add_trailer.ensures.hashed _ (hashed g now)))
+    (body_step c.self.invariant (cut-up g now) (no-spare g at.In_ok-add_decode_bytes)
+    (c.in_ok-add_trailer.ensures.hashed _ (hashed g now)))
 
 pub returns-clause-ok : goal.returns-clause-ok
 returns-clause-ok g c =
@@ -113,20 +113,7 @@ returns-clause-ok g c =
       c.in_ok-add_trailer.ensures.ok,
       ← c.self.view_is,
     )
-    (view_step _ _ _ _ _ _ c.self.invariant _ _ _ _ _ _ (cut-up g now) none)
+    (view_step c.self.invariant (cut-up g now) none)
 
 pub returns-clause-sound : goal.returns-clause-sound
-returns-clause-sound g c =
-    let at = goal.at.returns-clause-sound g c in
-    let now = at.After-update-3 in
-    rw (
-      c.in_ok-add.ensures.ok,
-      c.in_ok-add_decode_bytes.ensures.ok,
-      c.in_ok-add-2.ensures.ok,
-      c.in_ok-add_trailer.ensures.ok,
-    ) (
-      version_of c.self.inside.header.items,
-      in_order _ _ _ _ _ c.add_trailer.new.hasher
-          (body_step _ _ _ _ _ _ c.self.invariant _ _ _ _ _ _ (cut-up g now) (no-spare g at.In_ok-add_decode_bytes)
-          c.add_trailer.new.hasher (c.in_ok-add_trailer.ensures.hashed _ (hashed g now))),
-    )
+returns-clause-sound g c = (version_of c.self.inside.header.items, in_order (invariant_of-result g c))

@@ -1,27 +1,18 @@
-use Rattle.std.proofs.Common.{ap, length, flat_map, length-append, arith}
-use Rattle.gc_read.proofs.PairLemmas.{length-pairs}
+use Rattle.std.proofs.Common.{arith}
+use Rattle.gc_read.proofs.PairLemmas.{length-view}
 use Rattle.gc_read.proofs.pairs.Pairs.len.Goals as goal
 
 pub returns : goal.returns
 returns g c =
-    let pairs = length-pairs g.P.LabelPair.bytes_of g.P.LabelPair.length_bytes c.self.inside.pairs.items in
-    let parts = length-append (flat_map g.P.LabelPair.bytes_of c.self.inside.pairs.items)
-    c.self.inside.partial.items in
-    let all = ap length c.self.view_is in
-    omega (arith, pairs, parts, all)
+    omega (arith, length-view g.P.LabelPair.bytes_of g.P.LabelPair.length_bytes c.self.inside.pairs.items
+    c.self.inside.partial.items c.self.view_is)
 
 pub overflow_add-result : goal.overflow_add-result
 overflow_add-result g c =
-    let pairs = length-pairs g.P.LabelPair.bytes_of g.P.LabelPair.length_bytes c.self.inside.pairs.items in
-    let parts = length-append (flat_map g.P.LabelPair.bytes_of c.self.inside.pairs.items)
-    c.self.inside.partial.items in
-    let all = ap length c.self.view_is in
-    omega (arith, pairs, parts, all)
+    omega (arith, length-view g.P.LabelPair.bytes_of g.P.LabelPair.length_bytes c.self.inside.pairs.items
+    c.self.inside.partial.items c.self.view_is)
 
 pub overflow_mul-result : goal.overflow_mul-result
 overflow_mul-result g c =
-    let pairs = length-pairs g.P.LabelPair.bytes_of g.P.LabelPair.length_bytes c.self.inside.pairs.items in
-    let parts = length-append (flat_map g.P.LabelPair.bytes_of c.self.inside.pairs.items)
-    c.self.inside.partial.items in
-    let all = ap length c.self.view_is in
-    omega (arith, pairs, parts, all)
+    omega (arith, length-view g.P.LabelPair.bytes_of g.P.LabelPair.length_bytes c.self.inside.pairs.items
+    c.self.inside.partial.items c.self.view_is)

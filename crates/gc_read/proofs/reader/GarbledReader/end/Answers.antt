@@ -1,7 +1,10 @@
-use Rattle.gc_read.proofs.StateLemmas.{header_ended}
+use Rattle.std.proofs.Common.{arith}
+use Rattle.gc_read.specs.FileFault.{truncated}
+use Rattle.gc_read.proofs.HeaderLemmas.{header_in_order}
 use Rattle.gc_read.proofs.reader.GarbledReader.end.Goals as goal
 
 pub returns-in-Header : goal.returns-in-Header
 returns-in-Header g c =
-    let holds = rw c.in-Header.is at c.self.invariant in
-    rw (← c.self.view_is, c.in-Header.is) (header_ended holds.1.0 _ holds.0 holds.1.1)
+    let (short, (v, in_order)) = rw c.in-Header.is at c.self.invariant in
+    rw (← c.self.view_is, c.in-Header.is)
+    (λ other. truncated v (header_in_order v _ short in_order) (omega arith))
