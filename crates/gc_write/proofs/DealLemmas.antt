@@ -1,5 +1,5 @@
 -- The labels of a label file.
-use Rattle.std.proofs.Common.{◌≡◌, ℕ, suc, ◌+◌, ◌*◌, ◌^◌, ◌<◌, ◌≤◌, slice_get, Some, sum, length-append, Bool, false, List, [], ◌∷◌, ◌++◌, length, flat_map, take, drop, get_or, append-nil, refl, sym, ap, arith}
+use Rattle.std.proofs.Common.{◌≡◌, ℕ, suc, ◌+◌, ◌-◌, ◌*◌, ◌^◌, ◌<◌, ◌≤◌, slice_get, Some, sum, length-append, Bool, false, List, [], ◌∷◌, ◌++◌, length, flat_map, take, drop, get_or, append-nil, refl, sym, ap, ◌∙◌, arith}
 use Rattle.std.proofs.Math.Seq.{take-add}
 use Rattle.std.proofs.lemmas.List.{take-append-drop, length-take-le, take_more}
 use Rattle.std.proofs.lemmas.Grind.{flat_map-append}
@@ -22,8 +22,8 @@ module _ (seed : List ℕ) where
   label_bytes first bits = flat_map bytes_of_label (encoded_from first seed bits)
 
   pub encoded_from-append : (first : ℕ) (xs ys : List Bool) →
-      encoded_from first seed (xs ++ ys) ≡ encoded_from first seed xs ++ encoded_from (first + length xs)
-      seed ys
+      encoded_from first seed (xs ++ ys)
+      ≡ encoded_from first seed xs ++ encoded_from (first + length xs) seed ys
   encoded_from-append first [] ys = ap (λ n. encoded_from n seed ys) (omega arith)
   encoded_from-append first (x ∷ xs) ys =
       let next : first + suc (length xs) ≡ first + 1 + length xs = omega arith in
@@ -35,18 +35,20 @@ module _ (seed : List ℕ) where
   label_bytes-append first xs ys len all =
       rw (← all, ← len, encoded_from-append first xs ys, flat_map-append) refl
 
-  -- Some bits, and those after them up to a place.
-  pub label_bytes-next : (first : ℕ) (bits : List Bool) (done more next : ℕ) → next ≤ length bits
-      → done + more ≡ next →
-      label_bytes first (take done bits) ++ label_bytes (first + done) (take more (drop done bits))
+  -- Some bits, and those after them up to a place,
+  pub label_bytes-next : (first : ℕ) (bits : List Bool) (done next : ℕ) → done ≤ next
+      → next ≤ length bits →
+      label_bytes first (take done bits) ++ label_bytes (first + done) (take (next - done) (drop done bits))
       ≡ label_bytes first (take next bits)
-  label_bytes-next first bits done more next within is =
-      rw (← is) (label_bytes-append first _ _ (length-take-le done bits (omega arith)) (sym (take-add done more bits)))
+  label_bytes-next first bits done next on within =
+      let is : next ≡ done + (next - done) = omega arith in
+      label_bytes-append first _ _ (length-take-le done bits (omega arith))
+      (sym (ap (λ n. take n bits) is ∙ take-add done (next - done) bits))
 
-  -- Some bits, and the rest.
+  -- or the rest.
   pub label_bytes-rest : (first : ℕ) (bits : List Bool) (done : ℕ) → done ≤ length bits →
-      label_bytes first (take done bits) ++ label_bytes (first + done) (drop done bits) ≡ label_bytes first
-      bits
+      label_bytes first (take done bits) ++ label_bytes (first + done) (drop done bits)
+      ≡ label_bytes first bits
   label_bytes-rest first bits done within =
       label_bytes-append first _ _ (length-take-le done bits within) (take-append-drop done bits)
 
@@ -56,8 +58,8 @@ module _ (seed : List ℕ) where
       (encode (offset_of seed) (input_label_of seed (first + i)) (get_or bits i false))
       ≡ label_bytes first (take (i + 1) bits)
   label_bytes-one first bits i within =
-      let more : take i bits ++ get_or bits i false ∷ [] ≡ take (i + 1) bits = sym (take_more bits i false within) in
-      simp append-nil at (label_bytes-append first _ _ (length-take-le i bits (omega arith)) more)
+      simp append-nil at (label_bytes-append first (take i bits) (get_or bits i false ∷ [])
+      (length-take-le i bits (omega arith)) (sym (take_more bits i false within)))
 
 pub length-encoded_from : (first : ℕ) (seed : List ℕ) (bits : List Bool)
     → length (encoded_from first seed bits) ≡ length bits
@@ -81,7 +83,8 @@ length-label_file c seed index bits =
     let labels = encoded_from (sum (take index c.input_widths)) seed bits in
     omega (
       arith,
-      length-append (number_bytes index ++ number_bytes (length labels)) (flat_map bytes_of_label labels),
+      length-append (number_bytes index ++ number_bytes (length labels))
+          (flat_map bytes_of_label labels),
       length-append (number_bytes index) (number_bytes (length labels)),
       length-number_bytes index,
       length-number_bytes (length labels),

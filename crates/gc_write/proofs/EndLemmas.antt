@@ -13,12 +13,13 @@ use Rattle.gc_write.specs.Written.{IsWritten}
 use Rattle.gc_write.proofs.WritingLemmas.{IsStopped-more}
 
 -- Where nothing is held, the sink took the file.
-took_all : {O : Type 0} {Saw : O → List ℕ → Type 0} (w : FileWriter O) {now before : Option (List ℕ)}
-    (file : List ℕ) (u : IsUnderWay Saw w now before (file ++ [])) → w.held.items ≡ []
+took_all : {O : Type 0} {Saw : O → List ℕ → Type 0} (w : FileWriter O)
+    {now before : Option (List ℕ)} (file : List ℕ) (u : IsUnderWay Saw w now before (file ++ [])) → w.held.items ≡ []
     → u.beginning ≡ file
 took_all w file u empty = simp (empty, append-nil) at u.whole
 
-module _ {O : Type 0} {Saw : O → List ℕ → Type 0} {w w' : FileWriter O} {taken now : Option (List ℕ)} where
+module _ {O : Type 0} {Saw : O → List ℕ → Type 0} {w w' : FileWriter O}
+    {taken now : Option (List ℕ)} where
   -- All that was held is handed over, and the file has ended.
   pub Ends-sent : Proceeds Saw w w' taken now (Ok tt) [] → w'.held.items ≡ []
       → Ends Saw w taken now (Ok w'.sent) (λ _. [])
@@ -40,17 +41,17 @@ module _ {O : Type 0} {Saw : O → List ℕ → Type 0} {w w' : FileWriter O} {t
       })
 
   -- Bytes are written, and then the last ones.
-  pub Ends-step : {end : Option (List ℕ)} {r : Result ℕ WriteFault} {xs : List ℕ} {last : List ℕ → List ℕ}
-      → Proceeds Saw w w' taken now (Ok tt) xs → Ends Saw w' now end r last
+  pub Ends-step : {end : Option (List ℕ)} {r : Result ℕ WriteFault} {xs : List ℕ}
+      {last : List ℕ → List ℕ} → Proceeds Saw w w' taken now (Ok tt) xs → Ends Saw w' now end r last
       → Ends Saw w taken end r (λ file. xs ++ last (file ++ xs))
   Ends-step {end} {r} {xs} {last} written ended = record {
     goes = λ before file a. rw (← append_assoc file xs (last (file ++ xs)))
         (ended.goes before (file ++ xs) (written.goes before file a));
   }
 
--- A file whose bytes are digested is handed over, and a writer that is not observed goes on with the digest.
-pub Ends-digest : {O : Type 0} {Saw : O → List ℕ → Type 0} {w w' : FileWriter Sha256} {v : FileWriter O}
-    {taken now end : Option (List ℕ)} {r : Result ℕ WriteFault} {digest : List ℕ}
+-- A file whose bytes are digested is handed over. A writer that is not observed writes the digest.
+pub Ends-digest : {O : Type 0} {Saw : O → List ℕ → Type 0} {w w' : FileWriter Sha256}
+    {v : FileWriter O} {taken now end : Option (List ℕ)} {r : Result ℕ WriteFault} {digest : List ℕ}
     → ((bytes : List ℕ) → Saw v.observer bytes)
     → ((bytes : List ℕ) → Holds256 w'.observer bytes → digest ≡ sha256 bytes)
     → v.held ≡ w'.held → v.sent ≡ w'.sent → w'.held.items ≡ []
@@ -78,8 +79,8 @@ IsWritten-stopped {sent} small s =
     (omega (arith, s.not_all, size), rw (same, ← s.whole, take-append_seam) s.taken)
 
 -- The file was written from its first byte to its last.
-pub IsWritten-whole : {O : Type 0} {Saw : O → List ℕ → Type 0} {w : FileWriter O} {old new : Option (List ℕ)}
-    {file : List ℕ} {last : List ℕ → List ℕ} (r : Result ℕ WriteFault) → length file < 2 ^ 64
+pub IsWritten-whole : {O : Type 0} {Saw : O → List ℕ → Type 0} {w : FileWriter O}
+    {old new : Option (List ℕ)} {file : List ℕ} {last : List ℕ → List ℕ} (r : Result ℕ WriteFault) → length file < 2 ^ 64
     → ((now : Option (List ℕ)) → IsUnderWay Saw w now now []) → last [] ≡ file
     → Ends Saw w old new r last → IsWritten file r old new
 IsWritten-whole {old} (Ok n) small begun whole ended = rw (← whole)

@@ -5,8 +5,9 @@ use Rattle.std.proofs.lemmas.List.{take_more, take-append-drop}
 use Rattle.std.proofs.lemmas.Grind.{flat_map-append}
 
 -- What is made of the first elements, and of one element more,
-pub flat_map-step : {X A : Type 0} (f : X → List A) (xs : List X) {i : ℕ} {x : X} {made : List A} → i < length xs
-    → x ≡ get_or xs i x → made ≡ f x → flat_map f (take i xs) ++ made ≡ flat_map f (take (i + 1) xs)
+pub flat_map-step : {X A : Type 0} (f : X → List A) (xs : List X) {i : ℕ} {x : X} {made : List A}
+    → i < length xs → x ≡ get_or xs i x → made ≡ f x
+    → flat_map f (take i xs) ++ made ≡ flat_map f (take (i + 1) xs)
 flat_map-step f xs {i} {x} within at is =
     rw (is, take_more xs i x within, ← at, flat_map-append, append-nil) refl
 
@@ -16,7 +17,8 @@ pub flat_map-rest : {X A : Type 0} (f : X → List A) (xs : List X) (i : ℕ)
 flat_map-rest f xs i = rw (← flat_map-append, take-append-drop) refl
 
 -- What is made of the numbers of a range, and of those of the range after it.
-pub flat_map-ranges : {X A : Type 0} (b : X → List A) (f : ℕ → X) (a m n j k : ℕ) → j ≡ a + m → k ≡ m + n →
+pub flat_map-ranges : {X A : Type 0} (b : X → List A) (f : ℕ → X) (a m n j k : ℕ) → j ≡ a + m
+    → k ≡ m + n →
     flat_map b (map f (range_with_len a m)) ++ flat_map b (map f (range_with_len j n))
     ≡ flat_map b (map f (range_with_len a k))
 flat_map-ranges b f a zero n j k at all =

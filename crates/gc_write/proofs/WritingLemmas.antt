@@ -7,7 +7,7 @@ use Rattle.std.specs.Io.KnownBytes.{Appends}
 use Rattle.std.specs.Result.{IsErrAnd}
 use Rattle.gc_write.specs.declared.writer.FileWriter.{FileWriter}
 use Rattle.gc_write.specs.declared.writer.WriteFault.{WriteFault}
-use Rattle.gc_format.specs.Counted.{CountsFailure, counted}
+use Rattle.gc_format.specs.Counted.{counted}
 use Rattle.gc_write.specs.Writing.{IsUnderWay, IsStopped, Proceeds}
 
 -- A sink that stopped in a file stopped in each longer one.
@@ -22,7 +22,8 @@ IsStopped-more more s = record {
   count = s.count;
 }
 
-module _ {O : Type 0} {Saw : O → List ℕ → Type 0} {w w' : FileWriter O} {now now' : Option (List ℕ)} where
+module _ {O : Type 0} {Saw : O → List ℕ → Type 0} {w w' : FileWriter O}
+    {now now' : Option (List ℕ)} where
   -- A sink that takes only the first of the bytes that are held stops in the file.
   pub Proceeds-stopped : (more total : ℕ) → Appends now now' (take more w.held.items)
       → more < length w.held.items → total ≡ counted (w.sent + more)
@@ -64,8 +65,3 @@ module _ {O : Type 0} {Saw : O → List ℕ → Type 0} {w w' : FileWriter O} {n
     goes = λ before file u. rw (← append_assoc file xs ys)
         (second.goes before (file ++ xs) (first.goes before file u));
   })
-
--- Nothing is written.
-pub Proceeds-nothing : {O : Type 0} {Saw : O → List ℕ → Type 0} {w : FileWriter O} {now : Option (List ℕ)}
-    → Proceeds Saw w w now now (Ok tt) []
-Proceeds-nothing = record { goes = λ before file u. rw append-nil u }

@@ -1,5 +1,5 @@
 -- What the writers write are files.
-use Rattle.std.proofs.Common.{◌≡◌, ℕ, ◌≤◌, List, [], length, sum, take, get_or, All, refl, sym, ◌∙◌, arith}
+use Rattle.std.proofs.Common.{ℕ, List, length, sum, take, get_or, All, refl, sym, ◌∙◌, arith}
 use Rattle.std.specs.List.{range_with_len, zip}
 use Rattle.std.proofs.lemmas.List.Sums.{count_by-le-length}
 use Rattle.std.proofs.lemmas.List.Elements.{All-map}
@@ -9,15 +9,11 @@ use Rattle.gc_netlist.specs.Circuit.{Netlist, IsLawful, is_and}
 use Rattle.gc_netlist.specs.Canon.{canonical_text}
 use Rattle.gc_label.specs.Seed.{offset_of}
 use Rattle.gc_label.proofs.SeedLemmas.{offset_of-lt, input_label_of-lt}
-use Rattle.gc_half.specs.Garbling.{decode_bits_of}
 use Rattle.gc_half.specs.Canonical.{garbling_of}
 use Rattle.gc_half.proofs.Bounds.{IsSmall-hash, IsSmall-⊕, IsSmall-times, IsSmall-row_pairs_of}
 use Rattle.gc_half.proofs.CanonicalLemmas.{garbling_of-IsGarbled}
-use Rattle.gc_format.specs.declared.parts.Version.{Version}
-use Rattle.gc_format.specs.declared.parts.Version.TheVariants.{One, Two}
-use Rattle.gc_format.specs.declared.parts.EntryPair.{EntryPair}
-use Rattle.gc_format.specs.GarbledFile.{IsLabel, IsGarbledFile, garbled_file, parts_of, entry_count}
-use Rattle.gc_write.specs.Written.{entry_pair_of, entry_pairs_of}
+use Rattle.gc_format.specs.GarbledFile.{IsLabel}
+use Rattle.gc_write.specs.Written.{entry_pair_of}
 use Rattle.gc_write.specs.WrittenLaw.{AreFiles}
 use Rattle.gc_write.proofs.ByteLemmas.{length-decode_bits, length-entry_pairs}
 use Rattle.gc_write.proofs.DealLemmas.{length-encoded_from, first_wire-room}
@@ -27,25 +23,30 @@ are_files c lawful seed =
     let g = garbling_of c seed in let garbled = garbling_of-IsGarbled c seed lawful in
     let few_gates = count_by-le-length (λ gate. is_and gate.operation) c.gates in
     let bits = length-decode_bits g (omega (arith, garbled.wires, garbled.outputs, lawful.outputs_fit)) in
-    let file = λ (version : Version) (entries : List EntryPair)
-    (labels : All (λ pair. IsLabel pair.entry_zero × IsLabel pair.entry_one) entries)
-    (count : length entries ≡ entry_count version (length (decode_bits_of g))).
-    let is : IsGarbledFile (garbled_file (parts_of version c g entries)) (parts_of version c g entries) = record {
-      few_rows = omega (arith, few_gates, garbled.garbling.row_count, lawful.few_gates);
-      few_outputs = omega (arith, bits, garbled.outputs, lawful.outputs_fit, lawful.few_wires);
-      digest = length-sha256 (canonical_text c);
-      rows = λ k row within. IsSmall-row_pairs_of c seed k (get_or g.rows k row)
-          (slice_get-get_or g.rows k row within);
-      entries = labels;
-      entry_pairs = count;
-      spelled = refl;
-    } in is in
+    let rows : All (λ row. IsLabel row.generator × IsLabel row.evaluator) g.rows =
+    λ k row within. IsSmall-row_pairs_of c seed k (get_or g.rows k row)
+    (slice_get-get_or g.rows k row within) in
     record {
-      one = file One [] (λ k pair within. absurd (omega arith)) refl;
-      two = file Two (entry_pairs_of (offset_of seed) g) (All-map
-          (λ pair. IsLabel pair.entry_zero × IsLabel pair.entry_one) (entry_pair_of (offset_of seed) g) (range_with_len 0 g.outputs)
-          (λ k i within. (IsSmall-hash _ _, IsSmall-hash _ _)))
-          (length-entry_pairs (offset_of seed) g ∙ sym bits);
+      one = record {
+        few_rows = omega (arith, few_gates, garbled.garbling.row_count, lawful.few_gates);
+        few_outputs = omega (arith, bits, garbled.outputs, lawful.outputs_fit, lawful.few_wires);
+        digest = length-sha256 (canonical_text c);
+        rows = rows;
+        entries = λ k pair within. absurd (omega arith);
+        entry_pairs = refl;
+        spelled = refl;
+      };
+      two = record {
+        few_rows = omega (arith, few_gates, garbled.garbling.row_count, lawful.few_gates);
+        few_outputs = omega (arith, bits, garbled.outputs, lawful.outputs_fit, lawful.few_wires);
+        digest = length-sha256 (canonical_text c);
+        rows = rows;
+        entries = All-map (λ pair. IsLabel pair.entry_zero × IsLabel pair.entry_one)
+            (entry_pair_of (offset_of seed) g) (range_with_len 0 g.outputs)
+            (λ k i within. (IsSmall-hash _ _, IsSmall-hash _ _));
+        entry_pairs = length-entry_pairs (offset_of seed) g ∙ sym bits;
+        spelled = refl;
+      };
       labels = λ index bits small at. record {
         index = small;
         few_labels = omega (
@@ -53,7 +54,8 @@ are_files c lawful seed =
           length-encoded_from (sum (take index c.input_widths)) seed bits,
           first_wire-room c lawful index (length bits) at,
         );
-        labels = All-map IsLabel _ (zip (range_with_len (sum (take index c.input_widths)) (length bits)) bits)
+        labels = All-map IsLabel _
+            (zip (range_with_len (sum (take index c.input_widths)) (length bits)) bits)
             (λ k pair within. IsSmall-⊕ _ _ (input_label_of-lt seed _)
             (IsSmall-times _ (offset_of seed) (offset_of-lt seed)));
         spelled = refl;

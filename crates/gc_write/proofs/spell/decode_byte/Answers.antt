@@ -5,12 +5,14 @@ use Rattle.gc_write.proofs.spell.decode_byte.Goals as goal
 
 pub overflow_mul-byte : goal.overflow_mul-byte
 overflow_mul-byte g c =
-    let below = bits_number-later (decode_bits_of c.args.garbling.now) (8 * c.args.k) c.loop-i.i (omega arith) in
+    let bits = decode_bits_of c.args.garbling.now in
+    let below = bits_number-later bits (8 * c.args.k) c.loop-i.i (omega arith) in
     record { fits = omega arith }
 
 pub overflow_add-byte : goal.overflow_add-byte
 overflow_add-byte g c =
-    let below = bits_number-later (decode_bits_of c.args.garbling.now) (8 * c.args.k) c.loop-i.i (omega arith) in
+    let bits = decode_bits_of c.args.garbling.now in
+    let below = bits_number-later bits (8 * c.args.k) c.loop-i.i (omega arith) in
     record { fits = omega (arith, bool_byte-le c.decode_bit.result) }
 
 pub loop-i-init : goal.loop-i-init
@@ -30,7 +32,8 @@ loop-i-preserved g c =
     let bits = decode_bits_of c.args.garbling.now in let i = c.loop-i.i - 1 in
     let low : i < 8 = omega (arith, ord_min-nat 8 (c.outputs-outputs.result - 8 * c.args.k)) in
     let next : suc i ≡ c.loop-i.i = omega arith in
-    let last = rw next at (bits_number-last bits (8 * c.args.k) i c.decode_bit.result c.decode_bit.ensures low) in
+    let last =
+    rw next at (bits_number-last bits (8 * c.args.k) i c.decode_bit.result c.decode_bit.ensures low) in
     (omega arith, omega (arith, last))
 
 pub returns : goal.returns

@@ -13,12 +13,14 @@ use Rattle.gc_write.proofs.write.write_garbled2_by_digest.Goals as goal
 
 size : (c : Netlist) (g : GarblingParts) (seed : List ℕ) → IsSmall g
     → length (garbled_file (parts_two c g seed)) < 2 ^ 64
-size c g seed small = garbled_file-size _ c g _ small (omega (arith, length-entry_pairs (offset_of seed) g))
+size c g seed small =
+    garbled_file-size _ c g _ small (omega (arith, length-entry_pairs (offset_of seed) g))
 
 pub returns-in_err-write_front-clause-file : goal.returns-in_err-write_front-clause-file
 returns-in_err-write_front-clause-file g c =
     let parts = parts_two c.args.circuit.now c.args.garbling.now c.args.seed.now in
-    IsWritten-whole c.from_residual.result (size _ _ c.args.seed.now c.in_err-write_front.ensures.small)
+    IsWritten-whole c.from_residual.result
+    (size _ _ c.args.seed.now c.in_err-write_front.ensures.small)
     c.new-file.ensures (garbled_file-front parts)
     (Ends-exit c.from_residual.result (λ _. flat_map entry_bytes parts.entries ++ sha256 (body parts))
     c.from_residual.ensures.1 c.in_err-write_front.ensures.bytes)
@@ -27,16 +29,16 @@ pub returns-in_err-write_entries-clause-file : goal.returns-in_err-write_entries
 returns-in_err-write_entries-clause-file g c =
     let exit = c.from_residual-in_err-write_entries in
     let parts = parts_two c.args.circuit.now c.args.garbling.now c.args.seed.now in
-    IsWritten-whole exit.result (size _ _ c.args.seed.now c.in_ok-write_front.ensures.small) c.new-file.ensures
-    (garbled_file-body parts)
+    IsWritten-whole exit.result (size _ _ c.args.seed.now c.in_ok-write_front.ensures.small)
+    c.new-file.ensures (garbled_file-body parts)
     (Ends-exit exit.result (λ _. sha256 (body parts)) exit.ensures.1
     (Proceeds-step refl c.in_ok-write_front.ensures.bytes
     (rw c.offset.ensures at c.in_err-write_entries.ensures.bytes)))
 
 pub returns-clause-file : goal.returns-clause-file
 returns-clause-file g c =
-    IsWritten-whole c.end_with_digest.result (size _ _ c.args.seed.now c.in_ok-write_front.ensures.small)
-    c.new-file.ensures
+    IsWritten-whole c.end_with_digest.result
+    (size _ _ c.args.seed.now c.in_ok-write_front.ensures.small) c.new-file.ensures
     (garbled_file-body (parts_two c.args.circuit.now c.args.garbling.now c.args.seed.now))
     (Ends-step (Proceeds-step refl c.in_ok-write_front.ensures.bytes
     (rw c.offset.ensures at c.in_ok-write_entries.ensures.bytes)) c.end_with_digest.ensures.bytes)

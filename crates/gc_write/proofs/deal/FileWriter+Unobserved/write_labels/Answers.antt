@@ -1,4 +1,4 @@
-use Rattle.std.proofs.Common.{◌-◌, length, ◌+◌, ◌∙◌, arith}
+use Rattle.std.proofs.Common.{◌+◌, length, ◌∙◌, arith}
 use Rattle.std.proofs.lemmas.List.{take_all}
 use Rattle.gc_write.proofs.ByteLemmas.{ord_min-nat}
 use Rattle.gc_write.proofs.DealLemmas.{label_bytes-next, label_bytes-rest}
@@ -12,7 +12,7 @@ returns-in_err-write_some_labels-clause-bytes g c =
     let least = ord_min-nat (done + 64) (length bits) in
     Proceeds-exit c.from_residual.result _ c.from_residual.ensures.1
     (label_bytes-rest seed first bits next (omega arith))
-    (Proceeds-step (label_bytes-next seed first bits done (next - done) next (omega arith) (omega arith))
+    (Proceeds-step (label_bytes-next seed first bits done next (omega arith) (omega arith))
     c.loop-done.invariant.1 c.in_err-write_some_labels.ensures.bytes)
 
 pub loop-done-preserved : goal.loop-done-preserved
@@ -21,7 +21,7 @@ loop-done-preserved g c =
     let least = ord_min-nat (done + 64) (length bits) in (
       omega arith,
       Proceeds-step
-          (label_bytes-next c.args.seed.now c.args.first bits done (next - done) next (omega arith) (omega arith))
+          (label_bytes-next c.args.seed.now c.args.first bits done next (omega arith) (omega arith))
           c.loop-done.invariant.1 c.in_ok-write_some_labels.ensures.bytes,
       c.in_ok-write_some_labels.ensures.counted ∙ c.loop-done.invariant.2,
     )

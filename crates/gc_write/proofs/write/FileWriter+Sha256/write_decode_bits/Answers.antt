@@ -41,4 +41,5 @@ pub returns-clause-bytes : goal.returns-clause-bytes
 returns-clause-bytes g c =
     let bits = decode_bits_of c.args.garbling.now in
     let count = length-decode_bits c.args.garbling.now c.outputs.ensures.bound in
-    rw (take_all c.loop-k.k (packed bits) (omega (arith, count, length-packed bits))) at c.loop-k.invariant.0
+    rw (take_all c.loop-k.k (packed bits) (omega (arith, count, length-packed bits)))
+    at c.loop-k.invariant.0

@@ -5,14 +5,14 @@ use Rattle.gc_write.proofs.write.FileWriter+Sha256.write_entries.Goals as goal
 
 pub returns-in_err-write_fours-clause-bytes : goal.returns-in_err-write_fours-clause-bytes
 returns-in_err-write_fours-clause-bytes g c =
-    let n = 4 * (c.outputs-fours.result / 4) in
+    let garbling = c.args.garbling.now in let n = 4 * (c.outputs-fours.result / 4) in
     Proceeds-exit c.from_residual.result _ c.from_residual.ensures.1
-    (entries-rest c.args.offset c.args.garbling.now 0 n n c.args.garbling.now.outputs (omega arith) (omega arith))
+    (entries-rest c.args.offset garbling 0 n n garbling.outputs (omega arith) (omega arith))
     c.in_err-write_fours.ensures.bytes
 
 pub returns-clause-bytes : goal.returns-clause-bytes
 returns-clause-bytes g c =
-    let n = 4 * (c.outputs-fours.result / 4) in
+    let garbling = c.args.garbling.now in let n = 4 * (c.outputs-fours.result / 4) in
     Proceeds-step
-    (entries-rest c.args.offset c.args.garbling.now 0 n n c.args.garbling.now.outputs (omega arith) (omega arith))
+    (entries-rest c.args.offset garbling 0 n n garbling.outputs (omega arith) (omega arith))
     c.in_ok-write_fours.ensures.bytes c.write_last_entries.ensures.bytes

@@ -32,7 +32,8 @@ pub returns-in_err-write_rows-clause-bytes : goal.returns-in_err-write_rows-clau
 returns-in_err-write_rows-clause-bytes g c =
     let exit = c.from_residual-in_err-write_rows in
     let here = is g (goal.at.returns-in_err-write_rows-clause-bytes g c).After-as_slice in
-    Proceeds-exit exit.result _ exit.ensures.1 refl (Proceeds-step refl (rw here at c.in_ok-write.ensures.bytes)
+    Proceeds-exit exit.result _ exit.ensures.1 refl
+    (Proceeds-step refl (rw here at c.in_ok-write.ensures.bytes)
     (rw c.rows.ensures at c.in_err-write_rows.ensures.bytes))
 
 pub returns-clause-bytes : goal.returns-clause-bytes

@@ -5,21 +5,23 @@ use Rattle.gc_write.proofs.write.FileWriter+Sha256.write_last_entries.Goals as g
 
 pub returns-in_err-write-clause-bytes : goal.returns-in_err-write-clause-bytes
 returns-in_err-write-clause-bytes g c =
-    let garbling = c.args.garbling.now in let first = c.args.first in let i = c.loop-i.i in
-    let done = i + 1 - first in
+    let o = c.args.offset in let garbling = c.args.garbling.now in
+    let first = c.args.first in let i = c.loop-i.i in let done = i + 1 - first in
     Proceeds-exit c.from_residual.result _ c.from_residual.ensures.1
-    (entries-rest c.args.offset garbling first done _ (garbling.outputs - first) refl (omega arith))
-    (Proceeds-step (entries-one c.args.offset garbling first (i - first) i done c.pair_bytes.ensures
+    (entries-rest o garbling first done _ (garbling.outputs - first) refl (omega arith))
+    (Proceeds-step (entries-one o garbling first (i - first) i done c.pair_bytes.ensures
     c.output_entry-entry_zero.ensures c.output_entry-entry_one.ensures (omega arith) (omega arith))
     c.loop-i.invariant.0 c.in_err-write.ensures.bytes)
 
 pub loop-i-preserved : goal.loop-i-preserved
-loop-i-preserved g c = let first = c.args.first in let i = c.loop-i.i in (
-  Proceeds-step (entries-one c.args.offset c.args.garbling.now first (i - first) i (i + 1 - first) c.pair_bytes.ensures
-      c.output_entry-entry_zero.ensures c.output_entry-entry_one.ensures (omega arith) (omega arith))
-      c.loop-i.invariant.0 c.in_ok-write.ensures.bytes,
-  c.in_ok-write.ensures.counted ∙ c.loop-i.invariant.1,
-)
+loop-i-preserved g c =
+    let first = c.args.first in let i = c.loop-i.i in let done = i + 1 - first in (
+      Proceeds-step
+          (entries-one c.args.offset c.args.garbling.now first (i - first) i done c.pair_bytes.ensures
+          c.output_entry-entry_zero.ensures c.output_entry-entry_one.ensures (omega arith) (omega arith))
+          c.loop-i.invariant.0 c.in_ok-write.ensures.bytes,
+      c.in_ok-write.ensures.counted ∙ c.loop-i.invariant.1,
+    )
 
 pub returns-clause-bytes : goal.returns-clause-bytes
 returns-clause-bytes g c =

@@ -6,15 +6,18 @@ use Rattle.gc_write.proofs.write.FileWriter+Sha256.write_rows.Goals as goal
 
 pub returns-in_err-write-clause-bytes : goal.returns-in_err-write-clause-bytes
 returns-in_err-write-clause-bytes g c =
-    Proceeds-exit c.from_residual.result _ c.from_residual.ensures.1 (flat_map-rest row_bytes c.args.rows.now _)
+    Proceeds-exit c.from_residual.result _ c.from_residual.ensures.1
+    (flat_map-rest row_bytes c.args.rows.now _)
     (Proceeds-step
-    (flat_map-step row_bytes c.args.rows.now c.loop-row-test.true c.row-item.is c.pair_bytes.ensures)
+    (flat_map-step row_bytes c.args.rows.now c.loop-row-test.true c.row-item.is
+    c.pair_bytes.ensures)
     c.loop-row.invariant.0 c.in_err-write.ensures.bytes)
 
 pub loop-row-preserved : goal.loop-row-preserved
 loop-row-preserved g c = (
   Proceeds-step
-      (flat_map-step row_bytes c.args.rows.now c.loop-row-test.true c.row-item.is c.pair_bytes.ensures)
+      (flat_map-step row_bytes c.args.rows.now c.loop-row-test.true c.row-item.is
+      c.pair_bytes.ensures)
       c.loop-row.invariant.0 c.in_ok-write.ensures.bytes,
   c.in_ok-write.ensures.counted ∙ c.loop-row.invariant.1,
 )
