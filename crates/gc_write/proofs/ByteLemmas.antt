@@ -1,7 +1,6 @@
 -- Bits on their way into bytes.
 use Rattle.std.proofs.Common.{◌≡◌, ℕ, zero, suc, ◌+◌, ◌-◌, ◌*◌, ◌^◌, ◌<◌, ◌≤◌, min, nat_cmp, Bool, true, false, List, [], ◌∷◌, ◌++◌, length, length-take, length-drop, take, drop, flat_map, get_or, slice_get, Some, append-nil, refl, ap, arith}
 use mir.Val.{bool_byte}
-use Rattle.std.specs.List.{range_with_len}
 use Rattle.std.specs.Ordering.{ord_min}
 use Rattle.std.proofs.lemmas.Bool.Decides.{nat_tests}
 use Rattle.std.proofs.Math.Nat.{pow-suc}
@@ -37,20 +36,22 @@ bits_number-later bits first i some = bits_number-below 7 (drop i (take 8 (drop 
     (omega (arith, length-drop i (take 8 (drop first bits)), length-take 8 (drop first bits)))
 
 -- The last bits of a byte, from one that is among the first eight from a place on.
-pub bits_number-last : (bits : List Bool) (first i : ℕ) (bit : Bool) → slice_get bits (first + i) ≡ Some bit
-    → i < 8 →
+pub bits_number-last : (bits : List Bool) (first i : ℕ) (bit : Bool)
+    → slice_get bits (first + i) ≡ Some bit → i < 8 →
     bits_number (drop i (take 8 (drop first bits)))
     ≡ bool_byte bit + 2 * bits_number (drop (suc i) (take 8 (drop first bits)))
 bits_number-last bits first i bit at low =
     let byte = take 8 (drop first bits) in
     let here = slice_get_within bits (first + i) bit at in
-    let within : i < length byte = omega (arith, length-take 8 (drop first bits), length-drop first bits) in
+    let within : i < length byte =
+    omega (arith, length-take 8 (drop first bits), length-drop first bits) in
     let is : get_or byte i false ≡ bit =
     rw (get_or-take 8 (drop first bits) i false low, get_or-drop)
     (get_or_from_slice_get bits (first + i) bit false at) in
     rw (drop-cons byte i false within, is) (cases bit (drop (suc i) byte))
   where
-    cases : (bit : Bool) (rest : List Bool) → bits_number (bit ∷ rest) ≡ bool_byte bit + 2 * bits_number rest
+    cases : (bit : Bool) (rest : List Bool) →
+        bits_number (bit ∷ rest) ≡ bool_byte bit + 2 * bits_number rest
     cases false rest = refl
     cases true rest = refl
 
@@ -65,7 +66,8 @@ bits_number-end bits first count is =
 pub packed-at : (bits : List Bool) (k d : ℕ) → k < bytes_for (length bits) →
     get_or (packed bits) k d ≡ bits_number (take 8 (drop (8 * k) bits))
 unfolding packed
-packed-at bits k d within = get_or-map-range_with_len _ 0 (bytes_for (length bits)) k k d within (omega arith)
+packed-at bits k d within =
+    get_or-map-range_with_len _ 0 (bytes_for (length bits)) k k d within (omega arith)
 
 -- There are as many decode bits as output wires.
 pub length-decode_bits : (g : GarblingParts) → g.outputs ≤ length g.zero_labels
@@ -76,7 +78,8 @@ pub bool_byte-le : (bit : Bool) → bool_byte bit ≤ 1
 bool_byte-le bit = grind arith
 
 -- The entry pairs, one for each output wire.
-pub length-entry_pairs : (offset : ℕ) (g : GarblingParts) → length (entry_pairs_of offset g) ≡ g.outputs
+pub length-entry_pairs : (offset : ℕ) (g : GarblingParts)
+    → length (entry_pairs_of offset g) ≡ g.outputs
 length-entry_pairs offset g = length-map-range_with_len (entry_pair_of offset g) 0 g.outputs
 
 pub entry_pairs-at : (offset : ℕ) (g : GarblingParts) (i : ℕ) (d : EntryPair) → i < g.outputs →
@@ -86,25 +89,19 @@ entry_pairs-at offset g i d within =
 
 module _ (offset : ℕ) (g : GarblingParts) where
   -- The bytes of entry pairs, and those of the pairs after them,
-  pub entries-more : (first m n j k : ℕ) {pairs : List EntryPair} → pairs ≡ entry_pairs_from offset g j n
-      → j ≡ first + m → k ≡ m + n →
+  pub entries-more : (first m n j k : ℕ) {pairs : List EntryPair}
+      → pairs ≡ entry_pairs_from offset g j n → j ≡ first + m → k ≡ m + n →
       flat_map entry_bytes (entry_pairs_from offset g first m) ++ flat_map entry_bytes pairs
       ≡ flat_map entry_bytes (entry_pairs_from offset g first k)
   entries-more first m n j k is at all =
       rw is (flat_map-ranges entry_bytes (entry_pair_of offset g) first m n j k at all)
 
-  -- those of the one after them,
+  -- or of the one after them.
   pub entries-one : (first m i k : ℕ) {entry_zero entry_one : ℕ} {made : List ℕ}
-      → made ≡ bytes_of_label entry_zero ++ bytes_of_label entry_one → entry_zero ≡ entry_of offset g i false
-      → entry_one ≡ entry_of offset g i true → i ≡ first + m → k ≡ m + 1 →
+      → made ≡ bytes_of_label entry_zero ++ bytes_of_label entry_one
+      → entry_zero ≡ entry_of offset g i false → entry_one ≡ entry_of offset g i true
+      → i ≡ first + m → k ≡ m + 1 →
       flat_map entry_bytes (entry_pairs_from offset g first m) ++ made
       ≡ flat_map entry_bytes (entry_pairs_from offset g first k)
   entries-one first m i k is is_zero is_one at all =
       rw (is, is_zero, is_one) (simp append-nil at (entries-more first m 1 i k refl at all))
-
-  -- and those of all the others.
-  pub entries-rest : (first m j all : ℕ) → j ≡ first + m → m ≤ all →
-      flat_map entry_bytes (entry_pairs_from offset g first m)
-      ++ flat_map entry_bytes (entry_pairs_from offset g j (all - m))
-      ≡ flat_map entry_bytes (entry_pairs_from offset g first all)
-  entries-rest first m j all at within = entries-more first m (all - m) j all refl at (omega arith)

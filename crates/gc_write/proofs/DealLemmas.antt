@@ -1,5 +1,5 @@
 -- The labels of a label file.
-use Rattle.std.proofs.Common.{◌≡◌, ℕ, suc, ◌+◌, ◌-◌, ◌*◌, ◌^◌, ◌<◌, ◌≤◌, slice_get, Some, sum, length-append, Bool, false, List, [], ◌∷◌, ◌++◌, length, flat_map, take, drop, get_or, append-nil, refl, sym, ap, ◌∙◌, arith}
+use Rattle.std.proofs.Common.{◌≡◌, ℕ, suc, ◌+◌, ◌-◌, ◌*◌, ◌<◌, ◌≤◌, slice_get, Some, sum, length-append, Bool, false, List, [], ◌∷◌, ◌++◌, length, flat_map, take, drop, get_or, append-nil, refl, sym, ap, ◌∙◌, arith}
 use Rattle.std.proofs.Math.Seq.{take-add}
 use Rattle.std.proofs.lemmas.List.{take-append-drop, length-take-le, take_more}
 use Rattle.std.proofs.lemmas.Grind.{flat_map-append}
@@ -38,7 +38,8 @@ module _ (seed : List ℕ) where
   -- Some bits, and those after them up to a place,
   pub label_bytes-next : (first : ℕ) (bits : List Bool) (done next : ℕ) → done ≤ next
       → next ≤ length bits →
-      label_bytes first (take done bits) ++ label_bytes (first + done) (take (next - done) (drop done bits))
+      label_bytes first (take done bits)
+      ++ label_bytes (first + done) (take (next - done) (drop done bits))
       ≡ label_bytes first (take next bits)
   label_bytes-next first bits done next on within =
       let is : next ≡ done + (next - done) = omega arith in

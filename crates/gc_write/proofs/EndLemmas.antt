@@ -1,5 +1,5 @@
 -- The ends of files on their way to a sink.
-use Rattle.std.proofs.Common.{◌≡◌, ℕ, ◌^◌, ◌<◌, List, [], ◌++◌, length, length-append, take, append_assoc, append-nil, Option, Result, Ok, Err, sym, ap, ◌∙◌, arith}
+use Rattle.std.proofs.Common.{◌≡◌, ℕ, ◌^◌, ◌<◌, List, [], ◌++◌, length, length-append, append_assoc, append-nil, Option, Result, Ok, Err, sym, ap, ◌∙◌, arith}
 use Rattle.std.proofs.Math.Seq.{take-append_seam}
 use Rattle.std.proofs.lemmas.Result.{err_from_is_err_and}
 use Rattle.std.specs.Result.{IsErrAnd}
@@ -14,7 +14,8 @@ use Rattle.gc_write.proofs.WritingLemmas.{IsStopped-more}
 
 -- Where nothing is held, the sink took the file.
 took_all : {O : Type 0} {Saw : O → List ℕ → Type 0} (w : FileWriter O)
-    {now before : Option (List ℕ)} (file : List ℕ) (u : IsUnderWay Saw w now before (file ++ [])) → w.held.items ≡ []
+    {now before : Option (List ℕ)} (file : List ℕ) (u : IsUnderWay Saw w now before (file ++ []))
+    → w.held.items ≡ []
     → u.beginning ≡ file
 took_all w file u empty = simp (empty, append-nil) at u.whole
 
@@ -80,7 +81,8 @@ IsWritten-stopped {sent} small s =
 
 -- The file was written from its first byte to its last.
 pub IsWritten-whole : {O : Type 0} {Saw : O → List ℕ → Type 0} {w : FileWriter O}
-    {old new : Option (List ℕ)} {file : List ℕ} {last : List ℕ → List ℕ} (r : Result ℕ WriteFault) → length file < 2 ^ 64
+    {old new : Option (List ℕ)} {file : List ℕ} {last : List ℕ → List ℕ} (r : Result ℕ WriteFault)
+    → length file < 2 ^ 64
     → ((now : Option (List ℕ)) → IsUnderWay Saw w now now []) → last [] ≡ file
     → Ends Saw w old new r last → IsWritten file r old new
 IsWritten-whole {old} (Ok n) small begun whole ended = rw (← whole)

@@ -8,8 +8,7 @@ use Rattle.gc_half.specs.Garbling.{GarblingParts}
 use Rattle.gc_format.specs.declared.parts.Version.{Version}
 use Rattle.gc_format.specs.declared.parts.Version.TheVariants.{One, Two}
 use Rattle.gc_format.specs.declared.parts.EntryPair.{EntryPair}
-use Rattle.gc_format.specs.DecodeBits.{bytes_for, packed}
-use Rattle.gc_format.specs.Number.{number_bytes}
+use Rattle.gc_format.specs.DecodeBits.{bytes_for}
 use Rattle.gc_format.specs.GarbledFile.{GarbledParts, magic, body, row_bytes, entry_bytes, garbled_file, parts_of}
 use Rattle.gc_write.proofs.ByteLemmas.{length-decode_bits}
 use Rattle.gc_format.specs.LabelBytes.{length-row_bytes, length-entry_bytes}
@@ -17,13 +16,13 @@ use Rattle.gc_format.proofs.NumberLemmas.{length-number_bytes}
 use Rattle.gc_format.proofs.PackLemmas.{length-packed}
 use Rattle.gc_write.specs.Written.{front, IsSmall, parts_one}
 
-pub length-flat_map : {X A : Type 0} (f : X → List A) (n : ℕ) → ((x : X) → length (f x) ≡ n) → (xs : List X) →
-    length (flat_map f xs) ≡ n * length xs
+pub length-flat_map : {X A : Type 0} (f : X → List A) (n : ℕ) → ((x : X) → length (f x) ≡ n)
+    → (xs : List X) → length (flat_map f xs) ≡ n * length xs
 length-flat_map f n each [] = omega arith
 length-flat_map f n each (x ∷ xs) =
     simp (length-append, each, length-flat_map f n each xs) (omega arith)
 
--- The bytes of a garbled file: the header, the row pairs, the decode bits, the entry pairs and the trailer.
+-- The bytes of a garbled file: header, row pairs, decode bits, entry pairs and trailer.
 pub length-garbled_file : (p : GarbledParts) → length p.digest ≡ 32 →
     length (garbled_file p)
     ≡ 48 + 32 * length p.rows + bytes_for (length p.decode_bits) + 32 * length p.entries + 32
@@ -45,8 +44,8 @@ length-garbled_file p digest =
     length-magic Two = refl
 
 -- The garbled files of a garbling have fewer than 2 ^ 64 bytes.
-pub garbled_file-size : (version : Version) (c : Netlist) (g : GarblingParts) (entries : List EntryPair)
-    → IsSmall g → length entries ≤ g.outputs
+pub garbled_file-size : (version : Version) (c : Netlist) (g : GarblingParts)
+    (entries : List EntryPair) → IsSmall g → length entries ≤ g.outputs
     → length (garbled_file (parts_of version c g entries)) < 2 ^ 64
 garbled_file-size version c g entries small few = omega (
   arith,
@@ -57,10 +56,11 @@ garbled_file-size version c g entries small few = omega (
 )
 
 -- A garbled file is what stands before its entries, its entries and its trailer.
-pub garbled_file-front : (p : GarbledParts) → front p ++ (flat_map entry_bytes p.entries ++ sha256 (body p))
-    ≡ garbled_file p
+pub garbled_file-front : (p : GarbledParts)
+    → front p ++ (flat_map entry_bytes p.entries ++ sha256 (body p)) ≡ garbled_file p
 unfolding garbled_file
-garbled_file-front p = sym (append_assoc (front p) (flat_map entry_bytes p.entries) (sha256 (body p)))
+garbled_file-front p =
+    sym (append_assoc (front p) (flat_map entry_bytes p.entries) (sha256 (body p)))
 
 pub garbled_file-body : (p : GarbledParts) → body p ++ sha256 (body p) ≡ garbled_file p
 unfolding garbled_file

@@ -1,5 +1,5 @@
 -- Files on their way to a sink.
-use Rattle.std.proofs.Common.{◌≡◌, ℕ, ◌+◌, ◌<◌, List, [], ◌++◌, length, take, drop, length-append, length-take, length-drop, append_assoc, append-nil, Option, Result, Ok, Err, arith}
+use Rattle.std.proofs.Common.{◌≡◌, ℕ, ◌+◌, ◌<◌, List, [], ◌++◌, length, take, drop, length-append, length-take, length-drop, append_assoc, append-nil, Option, Result, Ok, Err, ◌∙◌, arith}
 use Rattle.std.proofs.KnownBytes.{Appends-trans}
 use Rattle.std.proofs.lemmas.List.{take-append-drop}
 use Rattle.std.proofs.lemmas.Result.{err_from_is_err_and}
@@ -8,7 +8,7 @@ use Rattle.std.specs.Result.{IsErrAnd}
 use Rattle.gc_write.specs.declared.writer.FileWriter.{FileWriter}
 use Rattle.gc_write.specs.declared.writer.WriteFault.{WriteFault}
 use Rattle.gc_format.specs.Counted.{counted}
-use Rattle.gc_write.specs.Writing.{IsUnderWay, IsStopped, Proceeds}
+use Rattle.gc_write.specs.Writing.{IsStopped, Proceeds}
 
 -- A sink that stopped in a file stopped in each longer one.
 pub IsStopped-more : {before now : Option (List ℕ)} {file : List ℕ} {sent : ℕ} (more : List ℕ)
@@ -48,8 +48,8 @@ module _ {O : Type 0} {Saw : O → List ℕ → Type 0} {w w' : FileWriter O}
 
   -- The sink stopped in bytes, before more.
   pub Proceeds-exit : {e : WriteFault} {xs zs : List ℕ} (r : Result (Unit {0}) WriteFault)
-      (rest : List ℕ) → IsErrAnd r (λ y. y ≡ e) → xs ++ rest ≡ zs → Proceeds Saw w w' now now' (Err e) xs
-      → Proceeds Saw w w' now now' r zs
+      (rest : List ℕ) → IsErrAnd r (λ y. y ≡ e) → xs ++ rest ≡ zs
+      → Proceeds Saw w w' now now' (Err e) xs → Proceeds Saw w w' now now' r zs
   Proceeds-exit {e} {xs} r rest is whole stopped =
       let p = err_from_is_err_and r is in
       rw (p.1, p.2, ← whole) (record {
@@ -65,3 +65,27 @@ module _ {O : Type 0} {Saw : O → List ℕ → Type 0} {w w' : FileWriter O}
     goes = λ before file u. rw (← append_assoc file xs ys)
         (second.goes before (file ++ xs) (first.goes before file u));
   })
+
+-- What a loop has done so far: it wrote these bytes, and the sink has not failed.
+pub record Wrote {O : Type 0} (Saw : O → List ℕ → Type 0) (old new : FileWriter O)
+    (taken now : Option (List ℕ)) (failures_old failures_new : ℕ) (made : List ℕ) : Type 0 where
+  pub bytes : Proceeds Saw old new taken now (Ok tt) made
+  pub counted : failures_new ≡ failures_old
+
+module _ {O : Type 0} {Saw : O → List ℕ → Type 0} {v w w' : FileWriter O}
+    {taken now now' : Option (List ℕ)} {m n : ℕ} {xs ys zs : List ℕ} where
+  -- It writes more bytes,
+  pub Wrote-more : {k : ℕ} → xs ++ ys ≡ zs → Wrote Saw v w taken now m n xs
+      → Proceeds Saw w w' now now' (Ok tt) ys → k ≡ n → Wrote Saw v w' taken now' m k zs
+  Wrote-more is so_far more none = record {
+    bytes = Proceeds-step is so_far.bytes more;
+    counted = none ∙ so_far.counted;
+  }
+
+  -- or the sink stops in them, before the rest.
+  pub Wrote-exit : {e : WriteFault} {all : List ℕ} (r : Result (Unit {0}) WriteFault)
+      (rest : List ℕ) → IsErrAnd r (λ y. y ≡ e) → xs ++ ys ≡ zs → zs ++ rest ≡ all
+      → Wrote Saw v w taken now m n xs → Proceeds Saw w w' now now' (Err e) ys
+      → Proceeds Saw v w' taken now' r all
+  Wrote-exit r rest exit is whole so_far more =
+      Proceeds-exit r rest exit whole (Proceeds-step is so_far.bytes more)

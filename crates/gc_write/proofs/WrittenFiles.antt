@@ -22,7 +22,8 @@ pub are_files : (c : Netlist) → IsLawful c → (seed : List ℕ) → AreFiles 
 are_files c lawful seed =
     let g = garbling_of c seed in let garbled = garbling_of-IsGarbled c seed lawful in
     let few_gates = count_by-le-length (λ gate. is_and gate.operation) c.gates in
-    let bits = length-decode_bits g (omega (arith, garbled.wires, garbled.outputs, lawful.outputs_fit)) in
+    let bits =
+    length-decode_bits g (omega (arith, garbled.wires, garbled.outputs, lawful.outputs_fit)) in
     let rows : All (λ row. IsLabel row.generator × IsLabel row.evaluator) g.rows =
     λ k row within. IsSmall-row_pairs_of c seed k (get_or g.rows k row)
     (slice_get-get_or g.rows k row within) in

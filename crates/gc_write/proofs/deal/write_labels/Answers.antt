@@ -9,7 +9,8 @@ use Rattle.gc_write.proofs.deal.write_labels.Goals as goal
 
 pub overflow_cast-bits : goal.overflow_cast-bits
 overflow_cast-bits g c =
-    let room = first_wire-room c.args.circuit.now c.first_wire-first.ensures.lawful c.args.index _ c.requires in
+    let lawful = c.first_wire-first.ensures.lawful in
+    let room = first_wire-room c.args.circuit.now lawful c.args.index _ c.requires in
     record { fits = omega arith }
 
 pub write_labels-requires : goal.write_labels-requires
@@ -30,14 +31,14 @@ whole g c =
     c.first_wire-first.ensures.sum)
 
 -- and its bytes can be counted.
-size : (g : Over) (c : After-as_slice g) →
-    length (label_file (label_parts_of c.args.circuit.now c.args.seed.now c.args.index c.args.bits.now)) < 2 ^ 64
+size : (g : Over) (c : After-as_slice g) → let a = c.args in
+    length (label_file (label_parts_of a.circuit.now a.seed.now a.index a.bits.now)) < 2 ^ 64
 size g c =
-    let a = c.args in
+    let a = c.args in let lawful = c.first_wire-first.ensures.lawful in
     omega (
       arith,
       length-label_file a.circuit.now a.seed.now a.index a.bits.now,
-      first_wire-room a.circuit.now c.first_wire-first.ensures.lawful a.index (length a.bits.now) c.requires,
+      first_wire-room a.circuit.now lawful a.index (length a.bits.now) c.requires,
     )
 
 pub returns-in_err-write-clause-file : goal.returns-in_err-write-clause-file
@@ -45,7 +46,8 @@ returns-in_err-write-clause-file g c =
     let header = (goal.at.returns-in_err-write-clause-file g c).After-as_slice in
     let labels = label_bytes c.args.seed.now c.first_wire-first.result c.args.bits.now in
     IsWritten-whole c.from_residual.result (size g header) c.new-file.ensures (whole g header)
-    (Ends-exit c.from_residual.result (λ _. labels) c.from_residual.ensures.1 c.in_err-write.ensures.bytes)
+    (Ends-exit c.from_residual.result (λ _. labels) c.from_residual.ensures.1
+    c.in_err-write.ensures.bytes)
 
 pub returns-in_err-write_labels-clause-file : goal.returns-in_err-write_labels-clause-file
 returns-in_err-write_labels-clause-file g c =

@@ -32,8 +32,8 @@ loop-i-preserved g c =
     let bits = decode_bits_of c.args.garbling.now in let i = c.loop-i.i - 1 in
     let low : i < 8 = omega (arith, ord_min-nat 8 (c.outputs-outputs.result - 8 * c.args.k)) in
     let next : suc i ≡ c.loop-i.i = omega arith in
-    let last =
-    rw next at (bits_number-last bits (8 * c.args.k) i c.decode_bit.result c.decode_bit.ensures low) in
+    let bit = c.decode_bit in
+    let last = rw next at (bits_number-last bits (8 * c.args.k) i bit.result bit.ensures low) in
     (omega arith, omega (arith, last))
 
 pub returns : goal.returns

@@ -5,4 +5,5 @@ use Rattle.gc_write.proofs.spell.decode_byte.Given as goal
 
 abbrev pub invariant-loop-i : goal.invariant-loop-i
 invariant-loop-i g l =
-    (l.i ≤ l.count) × (l.byte ≡ bits_number (drop l.i (take 8 (drop l.first (decode_bits_of l.garbling)))))
+    (l.i ≤ l.count)
+    × (l.byte ≡ bits_number (drop l.i (take 8 (drop l.first (decode_bits_of l.garbling)))))

@@ -22,8 +22,9 @@ returns-in_err-write_front-clause-file g c =
     IsWritten-whole c.from_residual.result
     (size _ _ c.args.seed.now c.in_err-write_front.ensures.small)
     c.new-file.ensures (garbled_file-front parts)
-    (Ends-exit c.from_residual.result (λ _. flat_map entry_bytes parts.entries ++ sha256 (body parts))
-    c.from_residual.ensures.1 c.in_err-write_front.ensures.bytes)
+    (Ends-exit c.from_residual.result
+    (λ _. flat_map entry_bytes parts.entries ++ sha256 (body parts)) c.from_residual.ensures.1
+    c.in_err-write_front.ensures.bytes)
 
 pub returns-in_err-write_entries-clause-file : goal.returns-in_err-write_entries-clause-file
 returns-in_err-write_entries-clause-file g c =

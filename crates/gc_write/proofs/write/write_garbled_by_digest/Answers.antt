@@ -12,8 +12,9 @@ returns-in_err-write_front-clause-file g c =
     IsWritten-whole c.from_residual.result
     (garbled_file-size _ _ c.args.garbling.now _ c.in_err-write_front.ensures.small (omega arith))
     c.new-file.ensures (garbled_file-front parts)
-    (Ends-exit c.from_residual.result (λ _. flat_map entry_bytes parts.entries ++ sha256 (body parts))
-    c.from_residual.ensures.1 c.in_err-write_front.ensures.bytes)
+    (Ends-exit c.from_residual.result
+    (λ _. flat_map entry_bytes parts.entries ++ sha256 (body parts)) c.from_residual.ensures.1
+    c.in_err-write_front.ensures.bytes)
 
 pub returns-clause-file : goal.returns-clause-file
 returns-clause-file g c =

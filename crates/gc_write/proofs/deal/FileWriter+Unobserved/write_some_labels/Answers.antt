@@ -1,9 +1,9 @@
-use Rattle.std.proofs.Common.{◌≡◌, ◌+◌, ◌++◌, take, refl, ◌∙◌, arith}
+use Rattle.std.proofs.Common.{◌≡◌, ◌+◌, ◌++◌, take, refl, arith}
 use Rattle.std.proofs.lemmas.List.{take_all}
 use Rattle.std.proofs.lemmas.List.FromFn.{get_or-map-range_with_len}
 use Rattle.gc_label.specs.Seed.{input_label_of}
 use Rattle.gc_write.proofs.DealLemmas.{label_bytes, label_bytes-one, label_bytes-rest}
-use Rattle.gc_write.proofs.WritingLemmas.{Proceeds-step, Proceeds-exit}
+use Rattle.gc_write.proofs.WritingLemmas.{Wrote-more, Wrote-exit}
 use Rattle.gc_write.proofs.deal.FileWriter+Unobserved.write_some_labels.Given.{Over}
 use Rattle.gc_write.proofs.deal.FileWriter+Unobserved.write_some_labels.Goals.{After-to_bytes}
 use Rattle.gc_write.proofs.deal.FileWriter+Unobserved.write_some_labels.Goals as goal
@@ -19,8 +19,8 @@ here g c =
       c.to_bytes.ensures.bytes,
       c.xor.ensures,
       c.fill_input_labels.ensures,
-      get_or-map-range_with_len (input_label_of seed) first 64 i (first + i) c.index-zero_labels-i.result
-          (omega arith) refl,
+      get_or-map-range_with_len (input_label_of seed) first 64 i (first + i)
+          c.index-zero_labels-i.result (omega arith) refl,
       c.times.ensures,
       c.label-offset.ensures.same,
       c.offset.ensures,
@@ -28,18 +28,16 @@ here g c =
 
 pub returns-in_err-write-clause-bytes : goal.returns-in_err-write-clause-bytes
 returns-in_err-write-clause-bytes g c =
-    Proceeds-exit c.from_residual.result _ c.from_residual.ensures.1
+    Wrote-exit c.from_residual.result _ c.from_residual.ensures.1
+    (here g (goal.at.returns-in_err-write-clause-bytes g c).After-to_bytes)
     (label_bytes-rest c.args.seed.now c.args.first c.args.bits.now (c.loop-i.i + 1) (omega arith))
-    (Proceeds-step (here g (goal.at.returns-in_err-write-clause-bytes g c).After-to_bytes)
-    c.loop-i.invariant.0 c.in_err-write.ensures.bytes)
+    c.loop-i.invariant c.in_err-write.ensures.bytes
 
 pub loop-i-preserved : goal.loop-i-preserved
-loop-i-preserved g c = (
-  Proceeds-step (here g (goal.at.loop-i-preserved g c).After-to_bytes) c.loop-i.invariant.0
-      c.in_ok-write.ensures.bytes,
-  c.in_ok-write.ensures.counted ∙ c.loop-i.invariant.1,
-)
+loop-i-preserved g c =
+    Wrote-more (here g (goal.at.loop-i-preserved g c).After-to_bytes) c.loop-i.invariant
+    c.in_ok-write.ensures.bytes c.in_ok-write.ensures.counted
 
 pub returns-clause-bytes : goal.returns-clause-bytes
 returns-clause-bytes g c =
-    rw (take_all c.loop-i.i c.args.bits.now (omega arith)) at c.loop-i.invariant.0
+    rw (take_all c.loop-i.i c.args.bits.now (omega arith)) at c.loop-i.invariant.bytes

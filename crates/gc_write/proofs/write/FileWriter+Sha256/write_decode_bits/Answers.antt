@@ -1,10 +1,10 @@
-use Rattle.std.proofs.Common.{◌≡◌, ◌<◌, ◌+◌, ◌++◌, ◌∷◌, [], length, take, drop, refl, ◌∙◌, arith}
+use Rattle.std.proofs.Common.{◌≡◌, ◌<◌, ◌+◌, ◌++◌, ◌∷◌, [], length, take, refl, arith}
 use Rattle.std.proofs.lemmas.List.{take_more, take_all, take-append-drop}
 use Rattle.gc_half.specs.Garbling.{decode_bits_of}
 use Rattle.gc_format.specs.DecodeBits.{packed}
 use Rattle.gc_format.proofs.PackLemmas.{length-packed}
 use Rattle.gc_write.proofs.ByteLemmas.{packed-at, length-decode_bits}
-use Rattle.gc_write.proofs.WritingLemmas.{Proceeds-step, Proceeds-exit}
+use Rattle.gc_write.proofs.WritingLemmas.{Wrote-more, Wrote-exit}
 use Rattle.gc_write.proofs.write.FileWriter+Sha256.write_decode_bits.Given.{Over}
 use Rattle.gc_write.proofs.write.FileWriter+Sha256.write_decode_bits.Goals.{After-decode_byte}
 use Rattle.gc_write.proofs.write.FileWriter+Sha256.write_decode_bits.Goals as goal
@@ -25,21 +25,19 @@ here g c =
 
 pub returns-in_err-write-clause-bytes : goal.returns-in_err-write-clause-bytes
 returns-in_err-write-clause-bytes g c =
-    Proceeds-exit c.from_residual.result _ c.from_residual.ensures.1
-    (take-append-drop _ (packed (decode_bits_of c.args.garbling.now)))
-    (Proceeds-step (here g (goal.at.returns-in_err-write-clause-bytes g c).After-decode_byte)
-    c.loop-k.invariant.0 c.in_err-write.ensures.bytes)
+    Wrote-exit c.from_residual.result _ c.from_residual.ensures.1
+    (here g (goal.at.returns-in_err-write-clause-bytes g c).After-decode_byte)
+    (take-append-drop _ (packed (decode_bits_of c.args.garbling.now))) c.loop-k.invariant
+    c.in_err-write.ensures.bytes
 
 pub loop-k-preserved : goal.loop-k-preserved
-loop-k-preserved g c = (
-  Proceeds-step (here g (goal.at.loop-k-preserved g c).After-decode_byte) c.loop-k.invariant.0
-      c.in_ok-write.ensures.bytes,
-  c.in_ok-write.ensures.counted ∙ c.loop-k.invariant.1,
-)
+loop-k-preserved g c =
+    Wrote-more (here g (goal.at.loop-k-preserved g c).After-decode_byte) c.loop-k.invariant
+    c.in_ok-write.ensures.bytes c.in_ok-write.ensures.counted
 
 pub returns-clause-bytes : goal.returns-clause-bytes
 returns-clause-bytes g c =
     let bits = decode_bits_of c.args.garbling.now in
     let count = length-decode_bits c.args.garbling.now c.outputs.ensures.bound in
     rw (take_all c.loop-k.k (packed bits) (omega (arith, count, length-packed bits)))
-    at c.loop-k.invariant.0
+    at c.loop-k.invariant.bytes

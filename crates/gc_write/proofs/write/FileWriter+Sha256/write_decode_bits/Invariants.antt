@@ -1,12 +1,12 @@
-use Rattle.std.proofs.Common.{◌≡◌, take, Ok}
+use Rattle.std.proofs.Common.{take}
 use Rattle.sha2.specs.Hashers.{Holds256}
 use Rattle.gc_half.specs.Garbling.{decode_bits_of}
 use Rattle.gc_format.specs.DecodeBits.{packed}
-use Rattle.gc_write.specs.Writing.{Proceeds}
+use Rattle.gc_write.proofs.WritingLemmas.{Wrote}
 use Rattle.gc_write.proofs.write.FileWriter+Sha256.write_decode_bits.Given as goal
 
 abbrev pub invariant-loop-k : goal.invariant-loop-k
 invariant-loop-k g l =
-    Proceeds Holds256 l.initial.self l.self (g.S.Sink.taken l.initial.sink) (g.S.Sink.taken l.sink) (Ok tt)
+    Wrote Holds256 l.initial.self l.self (g.S.Sink.taken l.initial.sink) (g.S.Sink.taken l.sink)
+    (g.S.Sink.failures l.initial.sink) (g.S.Sink.failures l.sink)
     (take l.k (packed (decode_bits_of l.garbling)))
-    × (g.S.Sink.failures l.sink ≡ g.S.Sink.failures l.initial.sink)

@@ -9,7 +9,8 @@ use Rattle.gc_write.proofs.write.FileWriter+Sha256.write_front.Goals as goal
 
 -- What is written first is the header.
 is : (g : Over) (c : After-as_slice g) →
-    c.as_slice.result.now ≡ header (parts_of c.args.version c.args.circuit.now c.args.garbling.now [])
+    let a = c.args in
+    c.as_slice.result.now ≡ header (parts_of a.version a.circuit.now a.garbling.now [])
 is g c = rw (
   c.as_slice.ensures.value,
   c.header-header.ensures,

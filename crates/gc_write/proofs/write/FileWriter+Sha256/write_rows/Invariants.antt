@@ -1,11 +1,11 @@
-use Rattle.std.proofs.Common.{◌≡◌, flat_map, take, Ok}
+use Rattle.std.proofs.Common.{flat_map, take}
 use Rattle.sha2.specs.Hashers.{Holds256}
 use Rattle.gc_format.specs.GarbledFile.{row_bytes}
-use Rattle.gc_write.specs.Writing.{Proceeds}
+use Rattle.gc_write.proofs.WritingLemmas.{Wrote}
 use Rattle.gc_write.proofs.write.FileWriter+Sha256.write_rows.Given as goal
 
 abbrev pub invariant-loop-row : goal.invariant-loop-row
 invariant-loop-row g l =
-    Proceeds Holds256 l.initial.self l.self (g.S.Sink.taken l.initial.sink) (g.S.Sink.taken l.sink) (Ok tt)
+    Wrote Holds256 l.initial.self l.self (g.S.Sink.taken l.initial.sink) (g.S.Sink.taken l.sink)
+    (g.S.Sink.failures l.initial.sink) (g.S.Sink.failures l.sink)
     (flat_map row_bytes (take l.row-index l.rows))
-    × (g.S.Sink.failures l.sink ≡ g.S.Sink.failures l.initial.sink)
