@@ -17,14 +17,16 @@ use Rattle.gc_read.proofs.PlaceLemmas.{begins}
 use Rattle.gc_format.proofs.PackLemmas.{packed-unpacked}
 
 -- Two pieces that stand one after the other.
-pub take_plus : {X : Type 0} (a b : ℕ) (xs : List X) → take a xs ++ take b (drop a xs) ≡ take (a + b) xs
+pub take_plus : {X : Type 0} (a b : ℕ) (xs : List X)
+    → take a xs ++ take b (drop a xs) ≡ take (a + b) xs
 take_plus a b xs = sym (take-add a b xs)
 
 -- A header, in its parts.
 pub header_parts : (h digest : List ℕ) → length h ≡ 48 → IsHeaderInOrder (version_of h) h
     → ((i : ℕ) → get_or h i 0 < 256)
     → digest ≡ take 32 (drop 8 h)
-    → magic (version_of h) ++ digest ++ number_bytes (row_count h) ++ number_bytes (output_count h) ≡ h
+    → magic (version_of h) ++ digest ++ number_bytes (row_count h)
+    ++ number_bytes (output_count h) ≡ h
 header_parts h digest whole in_order small is =
     rw (
       is,
@@ -53,7 +55,8 @@ module _ (h r d e t : List ℕ) (p : GarbledParts) (whole : length h ≡ 48)
   bit_number = rw (bits_are, length-map-range_with_len) refl
 
   entry_number : length p.entries ≡ entry_count (version_of h) (output_count h)
-  entry_number = omega (arith, length-pairs entry_bytes length-entry_bytes p.entries, ap length entries_are)
+  entry_number =
+      omega (arith, length-pairs entry_bytes length-entry_bytes p.entries, ap length entries_are)
 
   body_is : body p ≡ h ++ r ++ d ++ e
   body_is = rw (

@@ -16,8 +16,8 @@ pub begins : (b : List ℕ) → 8 ≤ length b → IsBegun label_magic b → tak
 begins b long begun = begun ∙ take_all (length b) label_magic long
 
 -- Bytes of the form of a label file are the one with these labels.
-pub label_file_is : (b : List ℕ) → ((i : ℕ) → get_or b i 0 < 256) → IsLabelForm b → (index : ℕ) → index ≡ number_at 8 b
-    → (labels : List ℕ)
+pub label_file_is : (b : List ℕ) → ((i : ℕ) → get_or b i 0 < 256) → IsLabelForm b
+    → (index : ℕ) → index ≡ number_at 8 b → (labels : List ℕ)
     → flat_map bytes_of_label labels ≡ drop 16 b → All IsLabel labels
     → IsLabelFile b (record { index = index; labels = labels })
 unfolding label_file

@@ -1,6 +1,6 @@
 -- The header of a garbled file.
 use Rattle.std.proofs.Common.{◌≡◌, ℕ, zero, suc, ◌+◌, ◌-◌, ◌*◌, ◌<◌, ◌≤◌, List, [], ◌∷◌, ◌++◌, length, take, drop, slice_index, refl, sym, ap, subst, ◌∙◌, append_assoc, length-append, arith}
-use Rattle.std.proofs.lemmas.List.{take_at, take-append-le, take-take, take-append-drop, drop-append-le, get_or_append_left, length-drop}
+use Rattle.std.proofs.lemmas.List.{take_at, take_all, length-take, take-append-le, take-take, take-append-drop, drop-append-le, get_or_append_left, length-drop}
 use Rattle.sha2.specs.Sha256.{sha256}
 use Rattle.gc_read.specs.declared.fault.FileFault.{FileFault}
 use Rattle.gc_format.specs.declared.parts.Version.{Version}
@@ -11,11 +11,7 @@ use Rattle.gc_read.specs.FileFault.{IsBegun, row_count, output_count, decode_end
 use Rattle.gc_format.proofs.NumberLemmas.{number_at-append}
 
 take_both : (n m : ℕ) (xs : List ℕ) → take n (take m xs) ≡ take m (take n xs)
-take_both zero zero xs = refl
-take_both zero (suc m) xs = refl
-take_both (suc n) zero xs = refl
-take_both (suc n) (suc m) [] = refl
-take_both (suc n) (suc m) (x ∷ xs) = ap (λ l. x ∷ l) (take_both n m xs)
+take_both n m xs = grind (arith, take-take {A = ℕ}, take_all {A = ℕ}, length-take {A = ℕ})
 
 -- A beginning of bytes that begin with a magic is one of it too.
 pub begun_before : (m bytes more : List ℕ) → IsBegun m (bytes ++ more) → IsBegun m bytes
@@ -37,9 +33,6 @@ header_in_order v bytes short header = record {
 
 -- What holds of bytes stays when more follow.
 module _ (bytes more : List ℕ) where
-  magic-more : 8 ≤ length bytes → take 8 (bytes ++ more) ≡ take 8 bytes
-  magic-more long = take-append-le 8 bytes more long
-
   outputs-more : 48 ≤ length bytes → output_count (bytes ++ more) ≡ output_count bytes
   outputs-more long = number_at-append 44 bytes more (omega arith)
 
@@ -49,24 +42,26 @@ module _ (bytes more : List ℕ) where
   decode_end-more : 48 ≤ length bytes → decode_end (bytes ++ more) ≡ decode_end bytes
   decode_end-more long = rw (rows-more (omega arith), outputs-more long) refl
 
-  entries_end-more : (v : Version) → 48 ≤ length bytes → entries_end v (bytes ++ more) ≡ entries_end v bytes
+  entries_end-more : (v : Version) → 48 ≤ length bytes
+      → entries_end v (bytes ++ more) ≡ entries_end v bytes
   entries_end-more v long = rw (rows-more (omega arith), outputs-more long) refl
 
   header-more : (v : Version) → HasHeader v bytes → HasHeader v (bytes ++ more)
   header-more v has =
       let long = has.whole in
       record {
-        begins = magic-more (omega arith) ∙ has.begins;
+        begins = rw (take-append-le 8 bytes more (omega arith)) has.begins;
         whole = omega (arith, length-append bytes more);
         few_rows = rw (rows-more (omega arith)) has.few_rows;
         few_outputs = rw (outputs-more long) has.few_outputs;
       }
 
   last-more : 48 ≤ length bytes → decode_end bytes ≤ length bytes
-      → slice_index (bytes ++ more) (decode_end (bytes ++ more) - 1) ≡ slice_index bytes
-      (decode_end bytes - 1)
+      → slice_index (bytes ++ more) (decode_end (bytes ++ more) - 1)
+      ≡ slice_index bytes (decode_end bytes - 1)
   last-more long reaches =
-      rw (decode_end-more long) (get_or_append_left bytes more 0 (decode_end bytes - 1) (omega arith))
+      rw (decode_end-more long)
+      (get_or_append_left bytes more 0 (decode_end bytes - 1) (omega arith))
 
   spare-more : 48 ≤ length bytes → decode_end bytes ≤ length bytes → HasSpareBit bytes
       → HasSpareBit (bytes ++ more)
@@ -87,7 +82,7 @@ module _ (bytes more : List ℕ) where
       let long = has.header.whole in
       record {
         header = header-more v has.header;
-        whole = let reaches = has.whole in omega (arith, decode_end-more long, length-append bytes more);
+        whole = omega (arith, has.whole, decode_end-more long, length-append bytes more);
         no_spare_bit = λ spare. has.no_spare_bit (spare-less long has.whole spare);
       }
 
@@ -106,11 +101,11 @@ module _ (bytes more : List ℕ) where
   pub lasts : (e : FileFault) → LastingFault bytes e → LastingFault (bytes ++ more) e
   lasts _ (bad_magic none) = bad_magic (λ v begun. none v (begun_before (magic v) bytes more begun))
   lasts _ (too_many_rows v is long many) =
-      too_many_rows v (magic-more (omega arith) ∙ is) (omega (arith, length-append bytes more))
-      (rw (rows-more long) many)
+      too_many_rows v (rw (take-append-le 8 bytes more (omega arith)) is)
+      (omega (arith, length-append bytes more)) (rw (rows-more long) many)
   lasts _ (too_many_outputs v is long many) =
-      too_many_outputs v (magic-more (omega arith) ∙ is) (omega (arith, length-append bytes more))
-      (rw (outputs-more long) many)
+      too_many_outputs v (rw (take-append-le 8 bytes more (omega arith)) is)
+      (omega (arith, length-append bytes more)) (rw (outputs-more long) many)
   lasts _ (spare_bits v header reaches spare) =
       spare_bits v (header-more v header)
       (omega (arith, decode_end-more header.whole, length-append bytes more))
@@ -122,11 +117,11 @@ module _ (bytes more : List ℕ) where
       (λ is. wrong (rw (right-more v long reaches) at is))
   lasts _ (trailing v has reaches is) =
       let long = has.header.whole in
-      trailing v (decode_bits-more v has) (omega (arith, entries_end-more v long, length-append bytes more))
-      (rw (right-more v long (omega arith)) is)
+      trailing v (decode_bits-more v has)
+      (omega (arith, entries_end-more v long, length-append bytes more)) (rw (right-more v long (omega arith)) is)
 
 -- A lasting fault of the first bytes of a piece is that of the whole piece.
-pub lasts_piece : (header piece : List ℕ) (n : ℕ) (e : FileFault) → LastingFault (header ++ take n piece) e
-    → LastingFault (header ++ piece) e
+pub lasts_piece : (header piece : List ℕ) (n : ℕ) (e : FileFault)
+    → LastingFault (header ++ take n piece) e → LastingFault (header ++ piece) e
 lasts_piece header piece n e fault =
     rw (append_assoc, take-append-drop) at (lasts (header ++ take n piece) (drop n piece) e fault)

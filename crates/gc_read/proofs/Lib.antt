@@ -3,7 +3,6 @@ pub mod PlaceLemmas
 pub mod PairLemmas
 pub mod HeaderLemmas
 pub mod StepLemmas
-pub mod BitLemmas
 pub mod FileLemmas
 pub mod FormLemmas
 pub mod TakeLemmas

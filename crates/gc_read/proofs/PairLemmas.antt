@@ -5,8 +5,8 @@ use Rattle.std.proofs.lemmas.Grind.{flat_map-append}
 use Rattle.gc_read.proofs.PieceLemmas.{empty_list}
 
 -- The bytes of items, the same number for each.
-pub length-items : {P : Type 0} (size : ℕ) (bytes_of : P → List ℕ) → ((p : P) → length (bytes_of p) ≡ size)
-    → (items : List P)
+pub length-items : {P : Type 0} (size : ℕ) (bytes_of : P → List ℕ)
+    → ((p : P) → length (bytes_of p) ≡ size) → (items : List P)
     → length (flat_map bytes_of items) ≡ size * length items
 length-items size bytes_of each [] = omega arith
 length-items size bytes_of each (p ∷ items) =
@@ -14,14 +14,8 @@ length-items size bytes_of each (p ∷ items) =
 
 -- The bytes of pairs, 32 each.
 pub length-pairs : {P : Type 0} (bytes_of : P → List ℕ) → ((p : P) → length (bytes_of p) ≡ 32)
-    → (pairs : List P)
-    → length (flat_map bytes_of pairs) ≡ 32 * length pairs
+    → (pairs : List P) → length (flat_map bytes_of pairs) ≡ 32 * length pairs
 length-pairs bytes_of size pairs = length-items 32 bytes_of size pairs
-
--- One more pair.
-pub pairs_push : {P : Type 0} (bytes_of : P → List ℕ) (pairs : List P) (p : P)
-    → flat_map bytes_of (pairs ++ p ∷ []) ≡ flat_map bytes_of pairs ++ bytes_of p
-pairs_push bytes_of pairs p = rw (flat_map-append, append-nil) refl
 
 -- The bytes of one more item stand after those before.
 pub take_item : (size at next : ℕ) (bytes : List ℕ) → at + size ≡ next
@@ -31,9 +25,10 @@ take_item size at next bytes is =
 
 -- How many bytes pairs have, and bytes of another.
 pub length-view : {P : Type 0} (bytes_of : P → List ℕ) → ((p : P) → length (bytes_of p) ≡ 32)
-    → (pairs : List P) (partial : List ℕ) {bytes : List ℕ} → flat_map bytes_of pairs ++ partial ≡ bytes
-    → length bytes ≡ 32 * length pairs + length partial
-length-view bytes_of size pairs partial is = rw (← is) (simp (length-append, length-pairs bytes_of size))
+    → (pairs : List P) (partial : List ℕ) {bytes : List ℕ}
+    → flat_map bytes_of pairs ++ partial ≡ bytes → length bytes ≡ 32 * length pairs + length partial
+length-view bytes_of size pairs partial is =
+    rw (← is) (simp (length-append, length-pairs bytes_of size))
 
 -- Whole pairs leave no bytes of another.
 pub whole_pairs : {P : Type 0} (bytes_of : P → List ℕ) → ((p : P) → length (bytes_of p) ≡ 32)

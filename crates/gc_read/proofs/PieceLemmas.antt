@@ -8,7 +8,7 @@ pub empty_list : {X : Type 0} (xs : List X) → length xs ≡ 0 → xs ≡ []
 empty_list [] h = refl
 empty_list (x ∷ xs) h = absurd (omega arith)
 
--- What a part of this size takes of a piece: it isn't overfilled, and where something is left it is full.
+-- What a part of this size takes of a piece: it isn't overfilled. Where bytes are left it is full.
 pub record Takes (size had took left piece : ℕ) : Type 0 where
   pub fits : had + took ≤ size
   pub full : 0 < left → had + took ≡ size
@@ -16,14 +16,16 @@ pub record Takes (size had took left piece : ℕ) : Type 0 where
 
 takes : (size : ℕ) (part piece : List ℕ) {front : List ℕ} → length part ≤ size
     → front ≡ take (size - length part) piece
-    → Takes size (length part) (length front) (length (drop (size - length part) piece)) (length piece)
+    → Takes size (length part) (length front) (length (drop (size - length part) piece))
+    (length piece)
 takes size part piece fits is =
     let took = length-take (size - length part) piece in
     let left = length-drop (size - length part) piece in
     rw is (record { fits = omega arith; full = λ some. omega arith; all = omega arith })
 
 -- Bytes go in front of a rest that is empty.
-in_front : (rest q more : List ℕ) → (0 < length q → length rest ≡ 0) → rest ++ (q ++ more) ≡ q ++ (rest ++ more)
+in_front : (rest q more : List ℕ) → (0 < length q → length rest ≡ 0)
+    → rest ++ (q ++ more) ≡ q ++ (rest ++ more)
 in_front rest [] more none = refl
 in_front rest (x ∷ q) more none = rw (empty_list rest (none (omega arith))) refl
 
@@ -44,10 +46,12 @@ module _ {row_size decode_size entry_size : ℕ} {r d e t : List ℕ}
   pub takes_rows : Takes row_size (length r) (length q1) (length after_rows) (length piece)
   takes_rows = takes row_size r piece filled.rows_fit cuts.rows
 
-  pub takes_decode : Takes decode_size (length d) (length q2) (length after_decode) (length after_rows)
+  pub takes_decode : Takes decode_size (length d) (length q2) (length after_decode)
+      (length after_rows)
   takes_decode = takes decode_size d after_rows filled.decode_fits cuts.decode
 
-  pub takes_entries : Takes entry_size (length e) (length q3) (length after_entries) (length after_decode)
+  pub takes_entries : Takes entry_size (length e) (length q3) (length after_entries)
+      (length after_decode)
   takes_entries = takes entry_size e after_decode filled.entries_fit cuts.entries
 
   pub takes_trailer : Takes 32 (length t) (length q4) (length left) (length after_entries)
@@ -56,11 +60,10 @@ module _ {row_size decode_size entry_size : ℕ} {r d e t : List ℕ}
   -- Each part takes its bytes of the piece.
   pub filled_more : IsFilled row_size decode_size entry_size (r ++ q1) (d ++ q2) (e ++ q3) (t ++ q4)
   filled_more =
-      let t1 = takes_rows in let t2 = takes_decode in let t3 = takes_entries in let t4 = takes_trailer in
-      let a1 = length-append r q1 in
-      let a2 = length-append d q2 in
-      let a3 = length-append e q3 in
-      let a4 = length-append t q4 in
+      let t1 = takes_rows in let t2 = takes_decode in
+      let t3 = takes_entries in let t4 = takes_trailer in
+      let a1 = length-append r q1 in let a2 = length-append d q2 in
+      let a3 = length-append e q3 in let a4 = length-append t q4 in
       record {
         rows_fit = omega arith;
         decode_fits = omega arith;

@@ -19,7 +19,8 @@ length-magic Two = refl
 -- A whole header begins with the whole magic.
 pub begins : (v : Version) (bytes : List ℕ) → 8 ≤ length bytes → IsBegun (magic v) bytes
     → take 8 bytes ≡ magic v
-begins v bytes long begun = begun ∙ take_all (length bytes) (magic v) (omega (arith, length-magic v))
+begins v bytes long begun =
+    begun ∙ take_all (length bytes) (magic v) (omega (arith, length-magic v))
 
 pub begun : (v : Version) (bytes : List ℕ) → 8 ≤ length bytes → take 8 bytes ≡ magic v
     → IsBegun (magic v) bytes
@@ -38,8 +39,8 @@ module _ (h r d e x : List ℕ) (whole : length h ≡ 48) where
   pub decode_end_is : decode_end (h ++ r ++ d ++ e ++ x) ≡ 48 + row_size h + decode_size h
   decode_end_is = rw (rows_is, outputs_is) refl
 
-  pub entries_end_is : entries_end (version_of h) (h ++ r ++ d ++ e ++ x) ≡ 48 + row_size h + decode_size h
-      + entry_size h
+  pub entries_end_is : entries_end (version_of h) (h ++ r ++ d ++ e ++ x)
+      ≡ 48 + row_size h + decode_size h + entry_size h
   entries_end_is = rw (rows_is, outputs_is) refl
 
   pub length_is : length (h ++ r ++ d ++ e ++ x) ≡ 48 + length r + length d + length e + length x
@@ -54,7 +55,8 @@ module _ (h r d e x : List ℕ) (whole : length h ≡ 48) where
     few_outputs = rw outputs_is (in_order.few_outputs (omega arith));
   }
 
-  header_in_order : IsHeaderInOrder (version_of h) h → IsHeaderInOrder (version_of h) (h ++ r ++ d ++ e ++ x)
+  header_in_order : IsHeaderInOrder (version_of h) h
+      → IsHeaderInOrder (version_of h) (h ++ r ++ d ++ e ++ x)
   header_in_order in_order =
       let has = has_header in_order in
       record {
@@ -92,15 +94,15 @@ module _ (h r d e x : List ℕ) (whole : length h ≡ 48) where
         bit = rw (last_is rows_full decode_full part, outputs_is) at has.bit;
       })
 
-  pub spare_fault : IsHeaderInOrder (version_of h) h → length r ≡ row_size h → length d ≡ decode_size h
-      → IsSpare (output_count h) d
+  pub spare_fault : IsHeaderInOrder (version_of h) h → length r ≡ row_size h
+      → length d ≡ decode_size h → IsSpare (output_count h) d
       → LastingFault (h ++ r ++ d ++ e ++ x) SpareBits
   spare_fault in_order rows_full decode_full is =
       spare_bits (version_of h) (has_header in_order) (omega (arith, decode_end_is, length_is))
       (spare rows_full decode_full is)
 
-  pub has_decode_bits : IsHeaderInOrder (version_of h) h → length r ≡ row_size h → length d ≡ decode_size h
-      → (IsSpare (output_count h) d → ⊥) → HasDecodeBits (version_of h) (h ++ r ++ d ++ e ++ x)
+  has_decode_bits : IsHeaderInOrder (version_of h) h → length r ≡ row_size h
+      → length d ≡ decode_size h → (IsSpare (output_count h) d → ⊥) → HasDecodeBits (version_of h) (h ++ r ++ d ++ e ++ x)
   has_decode_bits in_order rows_full decode_full none = record {
     header = has_header in_order;
     whole = omega (arith, decode_end_is, length_is);
@@ -113,20 +115,18 @@ module _ (h r d e x : List ℕ) (whole : length h ≡ 48) where
     before_at : length (h ++ r ++ d ++ e) ≡ entries_end (version_of h) (h ++ r ++ d ++ e ++ x)
     before_at = simp length-append (omega (arith, entries_end_is))
 
-    before_is : take (entries_end (version_of h) (h ++ r ++ d ++ e ++ x)) (h ++ r ++ d ++ e ++ x) ≡ h ++ r
-        ++ d ++ e
-    before_is = take_at (h ++ r ++ d ++ e) x _ before_at
+    right_same : IsTrailerRight (version_of h) (h ++ r ++ d ++ e ++ x)
+        ≡ (take 32 x ≡ sha256 (h ++ r ++ d ++ e))
+    right_same =
+        rw (drop_at (h ++ r ++ d ++ e) x _ before_at, take_at (h ++ r ++ d ++ e) x _ before_at) refl
 
-    after_is : drop (entries_end (version_of h) (h ++ r ++ d ++ e ++ x)) (h ++ r ++ d ++ e ++ x) ≡ x
-    after_is = drop_at (h ++ r ++ d ++ e) x _ before_at
-
-    pub right_is : (t : List ℕ) → take 32 x ≡ t → t ≡ sha256 (h ++ r ++ d ++ e)
+    right_is : (t : List ℕ) → take 32 x ≡ t → t ≡ sha256 (h ++ r ++ d ++ e)
         → IsTrailerRight (version_of h) (h ++ r ++ d ++ e ++ x)
-    right_is t first is = rw (after_is, before_is) (first ∙ is)
+    right_is t first is = rw right_same (first ∙ is)
 
-    pub is_right : (t : List ℕ) → take 32 x ≡ t → IsTrailerRight (version_of h) (h ++ r ++ d ++ e ++ x)
-        → t ≡ sha256 (h ++ r ++ d ++ e)
-    is_right t first is = sym first ∙ rw (after_is, before_is) at is
+    pub is_right : (t : List ℕ) → take 32 x ≡ t
+        → IsTrailerRight (version_of h) (h ++ r ++ d ++ e ++ x) → t ≡ sha256 (h ++ r ++ d ++ e)
+    is_right t first is = sym first ∙ rw right_same at is
 
 -- What is wrong with the trailer t, or with the bytes s after it.
 module _ (h r d e t s : List ℕ) (whole : length h ≡ 48) (rows_full : length r ≡ row_size h)
@@ -151,13 +151,15 @@ module _ (h r d e t s : List ℕ) (whole : length h ≡ 48) (rows_full : length 
       rw append_assoc (trailing (version_of h)
       (has_decode_bits h r d e x whole in_order rows_full decode_full none)
       (omega (arith, entries_end_is h r d e x whole, length_is h r d e x whole, length-append t s))
-      (right_is h r d e x whole rows_full decode_full entries_full t (take_at t s 32 trailer_full) is))
+      (right_is h r d e x whole rows_full decode_full entries_full t
+      (take_at t s 32 trailer_full) is))
 
 -- The parts as far as they have come are in order.
 pub parts_in_order : (h r d e t : List ℕ) → length h ≡ 48 → IsHeaderInOrder (version_of h) h
     → IsFilled (row_size h) (decode_size h) (entry_size h) r d e t
     → (length d ≡ decode_size h → IsSpare (output_count h) d → ⊥)
-    → (length t ≡ 32 → t ≡ sha256 (h ++ r ++ d ++ e)) → IsInOrder (version_of h) (h ++ r ++ d ++ e ++ t)
+    → (length t ≡ 32 → t ≡ sha256 (h ++ r ++ d ++ e))
+    → IsInOrder (version_of h) (h ++ r ++ d ++ e ++ t)
 parts_in_order h r d e t whole header f none right =
     let decode = decode_end_is h r d e t whole in
     let ends = entries_end_is h r d e t whole in

@@ -1,5 +1,5 @@
 -- A piece that comes after the header of a garbled file.
-use Rattle.std.proofs.Common.{◌≡◌, ℕ, ◌+◌, ◌-◌, ◌<◌, ◌≤◌, List, [], ◌∷◌, ◌++◌, length, take, drop, refl, sym, ap, ◌∙◌, append_assoc, append-nil, length-append, arith}
+use Rattle.std.proofs.Common.{◌≡◌, ℕ, ◌+◌, ◌-◌, ◌<◌, ◌≤◌, List, [], ◌∷◌, ◌++◌, length, take, drop, refl, sym, ap, ◌∙◌, append_assoc, append-nil, length-append, rules, arith}
 use Rattle.std.proofs.lemmas.List.{get_or-take}
 use Rattle.sha2.specs.declared.Sha256.{Sha256}
 use Rattle.sha2.specs.Hashers.{Holds256}
@@ -15,7 +15,8 @@ use Rattle.gc_read.proofs.PieceLemmas.{empty_list, takes_rows, takes_decode, tak
 use Rattle.gc_read.proofs.PlaceLemmas.{begins, spare_fault, bad_trailer_fault, more_fault}
 
 -- The eighth byte of a magic gives its version.
-pub version_of-begun : (v : Version) (bytes : List ℕ) → take 8 bytes ≡ magic v → version_of bytes ≡ v
+pub version_of-begun : (v : Version) (bytes : List ℕ) → take 8 bytes ≡ magic v
+    → version_of bytes ≡ v
 unfolding version_of
 version_of-begun One bytes is = rw (← get_or-take 8 bytes 7 0 (omega arith), is) refl
 version_of-begun Two bytes is = rw (← get_or-take 8 bytes 7 0 (omega arith), is) refl
@@ -27,15 +28,7 @@ pub body_new : (v : Version) (header : List ℕ) (hasher : Sha256) → length he
 body_new v header hasher whole in_order holds = record {
   whole = whole;
   in_order = rw (version_of-begun v header (begins v header (omega arith) in_order.begun)) in_order;
-  filled = record {
-    rows_fit = omega arith;
-    decode_fits = omega arith;
-    entries_fit = omega arith;
-    trailer_fits = omega arith;
-    rows_first = λ some. omega arith;
-    decode_first = λ some. omega arith;
-    entries_first = λ some. omega arith;
-  };
+  filled = search (rules, arith);
   no_spare_bit = λ full spare. let part = spare.not_full in absurd (omega arith);
   hashed = record { holds = λ short. simp append-nil holds; right = λ full. absurd (omega arith) };
 }
@@ -88,8 +81,8 @@ module _ {h r d e t : List ℕ} {hasher : Sha256} (body : IsBody h r d e t hashe
       let full = left_over body.filled cuts some in
       let decode_full = f.decode_first (omega arith) in
       rw (whole_more body.filled cuts h)
-      (more_fault h (r ++ q1) (d ++ q2) (e ++ q3) (t ++ q4) left body.whole (f.rows_first (omega arith))
-      decode_full (f.entries_first (omega arith)) full body.in_order (no_spare decode_full)
+      (more_fault h (r ++ q1) (d ++ q2) (e ++ q3) (t ++ q4) left body.whole
+      (f.rows_first (omega arith)) decode_full (f.entries_first (omega arith)) full body.in_order (no_spare decode_full)
       (hashed.right full) some)
 
   pub body_step : (length (d ++ q2) ≡ decode_size h → IsSpare (output_count h) (d ++ q2) → ⊥)
@@ -104,6 +97,6 @@ module _ {h r d e t : List ℕ} {hasher : Sha256} (body : IsBody h r d e t hashe
     hashed = hashed;
   }
 
-  pub view_step : length left ≡ 0 → h ++ (r ++ q1) ++ (d ++ q2) ++ (e ++ q3) ++ (t ++ q4) ≡ h ++ r ++ d ++ e
-      ++ t ++ piece
+  pub view_step : length left ≡ 0
+      → h ++ (r ++ q1) ++ (d ++ q2) ++ (e ++ q3) ++ (t ++ q4) ≡ h ++ r ++ d ++ e ++ t ++ piece
   view_step none = rw (whole_more body.filled cuts h, empty_list left none, append-nil) refl

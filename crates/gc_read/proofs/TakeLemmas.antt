@@ -24,8 +24,8 @@ fed_length (Ok bytes) = length bytes
 fed_length (Err e) = 0
 
 -- What is answered of the bytes given is answered of all.
-answer_of_all : (given left bytes : List ℕ) (result : Result GarbledParts TakeFault) → bytes ≡ given ++ left
-    → IsAnswer given (Some left) result → IsAnswerOfAll bytes result
+answer_of_all : (given left bytes : List ℕ) (result : Result GarbledParts TakeFault)
+    → bytes ≡ given ++ left → IsAnswer given (Some left) result → IsAnswerOfAll bytes result
 answer_of_all given left bytes (Ok parts) all (file, at_end) = rw (all, at_end, append-nil) file
 answer_of_all given left bytes (Err (File fault)) all answer = λ other. elim (answer other) [
   | inl stays ↦ rw all (lasting fault (lasts given left fault stays))
@@ -33,24 +33,27 @@ answer_of_all given left bytes (Err (File fault)) all answer = λ other. elim (a
 ]
 answer_of_all given left bytes (Err (ReadFault got)) all answer = tt
 
-pub taken_all : (old new : Option (List ℕ)) (result : Result GarbledParts TakeFault) → IsTaken old new result
-    → (bytes : List ℕ) → old ≡ Some bytes → IsAnswerOfAll bytes result
+pub taken_all : (old new : Option (List ℕ)) (result : Result GarbledParts TakeFault)
+    → IsTaken old new result → (bytes : List ℕ) → old ≡ Some bytes → IsAnswerOfAll bytes result
 taken_all None new result taken bytes is = cc
 taken_all (Some xs) None result taken bytes is = absurd taken.consumed
 taken_all (Some xs) (Some left) result taken bytes is =
     answer_of_all taken.given left bytes result (let given = taken.consumed in cc) taken.answer
 
 -- What was given is what the reader holds.
-given_is : {bytes : List ℕ} {a b : Option (List ℕ)} {got : ℕ} (t : IsTaking (Ok bytes) a b got) → t.given ≡ bytes
+given_is : {bytes : List ℕ} {a b : Option (List ℕ)} {got : ℕ} (t : IsTaking (Ok bytes) a b got)
+    → t.given ≡ bytes
 given_is t = let fed = t.fed in cc
 
 -- A piece that was given and fed.
 pub taking_more : (reader after : Fed) (piece : List ℕ) (answer : Result (Unit {0}) FileFault)
     {a b d : Option (List ℕ)} {got more : ℕ}
-    → IsTaking reader a b got → IsFed reader piece answer after → ((e : FileFault) → answer ≡ Err e → ⊥)
-    → Consumes b d piece → more ≡ counted (got + length piece) → IsTaking after a d more
+    → IsTaking reader a b got → IsFed reader piece answer after
+    → ((e : FileFault) → answer ≡ Err e → ⊥) → Consumes b d piece
+    → more ≡ counted (got + length piece) → IsTaking after a d more
 taking_more (Err e) after piece answer taking fed not_err consumed count = let is = taking.fed in cc
-taking_more (Ok bytes) after piece (Err e) taking fed not_err consumed count = absurd (not_err e refl)
+taking_more (Ok bytes) after piece (Err e) taking fed not_err consumed count =
+    absurd (not_err e refl)
 taking_more (Ok bytes) after piece (Ok done) taking fed not_err consumed count = record {
   given = bytes ++ piece;
   fed = fed.0;
@@ -60,8 +63,8 @@ taking_more (Ok bytes) after piece (Ok done) taking fed not_err consumed count =
 }
 
 -- A piece that was given, and has a fault.
-pub taken_fault : (reader after : Fed) (piece : List ℕ) {e : FileFault} {a b d : Option (List ℕ)} {got : ℕ}
-    → IsTaking reader a b got → IsFed reader piece (Err e) after → Consumes b d piece
+pub taken_fault : (reader after : Fed) (piece : List ℕ) {e : FileFault}
+    {a b d : Option (List ℕ)} {got : ℕ} → IsTaking reader a b got → IsFed reader piece (Err e) after → Consumes b d piece
     → IsTaken a d (Err (File e))
 taken_fault (Err f) after piece taking fed consumed = let is = taking.fed in cc
 taken_fault (Ok bytes) after piece taking fed consumed = record {

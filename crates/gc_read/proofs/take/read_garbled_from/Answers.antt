@@ -4,13 +4,15 @@ use Rattle.gc_read.proofs.take.read_garbled_from.Goals as goal
 
 pub returns-in-Err-feed-clause-all : goal.returns-in-Err-feed-clause-all
 returns-in-Err-feed-clause-all g c =
-    taken_all _ _ _
-    (taken_fault c.loop-reader.reader c.feed.new.self _ c.loop-reader.invariant.taking c.in-Err-feed.ensures c.in-Ok.ensures.bytes.0)
+    taken_all _ _ _ (taken_fault c.loop-reader.reader c.feed.new.self _ c.loop-reader.invariant.taking
+    c.in-Err-feed.ensures c.in-Ok.ensures.bytes.0)
 
 pub loop-reader-preserved : goal.loop-reader-preserved
-loop-reader-preserved g c = record {
-  taking = taking_more c.loop-reader.reader c.feed.new.self _ c.feed.result c.loop-reader.invariant.taking c.feed.ensures c.in_default.not-Err
-      c.in-Ok.ensures.bytes.0
-      (let bound = c.in-Ok.ensures.bound in let sum = c.saturating_add-got.ensures in omega arith);
-  counted = c.in-Ok.ensures.counted ∙ c.loop-reader.invariant.counted;
-}
+loop-reader-preserved g c =
+    let so_far = c.loop-reader.invariant in
+    record {
+      taking = taking_more c.loop-reader.reader c.feed.new.self _ c.feed.result so_far.taking
+          c.feed.ensures c.in_default.not-Err c.in-Ok.ensures.bytes.0
+          (let bound = c.in-Ok.ensures.bound in let sum = c.saturating_add-got.ensures in omega arith);
+      counted = c.in-Ok.ensures.counted ∙ so_far.counted;
+    }

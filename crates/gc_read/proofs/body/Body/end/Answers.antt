@@ -30,10 +30,11 @@ returns g c =
       entries = c.into_pairs-2.result.items;
     } in
     rw (← c.self.view_is)
-    (file_is inside.header.items inside.rows inside.decode_bytes.items inside.entries inside.trailer.items
-    parts body.whole body.in_order (body.filled.rows_first (omega arith)) decode_full
-    (body.filled.entries_first (omega arith)) (body.no_spare_bit decode_full) (body.hashed.right full)
-    (rw (← header) c.digest_in-digest.ensures.bytes) (rw (← decode) c.in_ok-decode_bits.ensures.bytes)
+    (file_is inside.header.items inside.rows inside.decode_bytes.items inside.entries
+    inside.trailer.items parts body.whole body.in_order (body.filled.rows_first (omega arith)) decode_full
+    (body.filled.entries_first (omega arith)) (body.no_spare_bit decode_full)
+    (body.hashed.right full) (rw (← header) c.digest_in-digest.ensures.bytes)
+    (rw (← decode) c.in_ok-decode_bits.ensures.bytes)
     (rw (← header) c.of-counts.ensures.version) (rw (← header) c.digest_in-digest.ensures.digest)
     c.into_pairs.ensures.bytes c.into_pairs-2.ensures.bytes
     (rw (← decode, ← header, ← c.of-counts.ensures.outputs) c.in_ok-decode_bits.ensures.bits)

@@ -12,10 +12,10 @@ use Rattle.gc_read.proofs.body.Body.with.Goals as goal
 
 -- The piece is cut up into what each part lacks.
 cut-up : (g : Over) (c : After-update-3 g) →
-    let h = c.self.inside.header.items in
+    let inside = c.self.inside in let h = inside.header.items in
     let cuts = c.cut_up-cuts.result in
-    IsCutUp (row_size h - length c.self.inside.rows) (decode_size h - length c.self.inside.decode_bytes.items)
-    (entry_size h - length c.self.inside.entries) (32 - length c.self.inside.trailer.items) c.args.piece.now
+    IsCutUp (row_size h - length inside.rows) (decode_size h - length inside.decode_bytes.items)
+    (entry_size h - length inside.entries) (32 - length inside.trailer.items) c.args.piece.now
     cuts.rows.now cuts.decode_bytes.now cuts.entries.now cuts.trailer.now cuts.rest.now
 cut-up g c =
     let decode_len : c.len-2.result ≡ length c.self.inside.decode_bytes.items = search rules in
@@ -34,10 +34,10 @@ cut-up g c =
 
 -- What the hasher holds then.
 hashed : (g : Over) (c : After-update-3 g) →
-    let cuts = c.cut_up-cuts.result in
-    IsHashed (c.self.inside.header.items ++ (c.self.inside.rows ++ cuts.rows.now)
-    ++ (c.self.inside.decode_bytes.items ++ cuts.decode_bytes.now) ++ (c.self.inside.entries ++ cuts.entries.now))
-    c.self.inside.trailer.items c.update-3.new.self
+    let inside = c.self.inside in let cuts = c.cut_up-cuts.result in
+    IsHashed (inside.header.items ++ (inside.rows ++ cuts.rows.now)
+    ++ (inside.decode_bytes.items ++ cuts.decode_bytes.now) ++ (inside.entries ++ cuts.entries.now))
+    inside.trailer.items c.update-3.new.self
 hashed g c =
     let q1 = c.cut_up-cuts.result.rows.now in
     hashed_step c.self.invariant (cut-up g c)
@@ -50,7 +50,8 @@ no-spare : (g : Over) (c : In_ok-add_decode_bytes g) →
     let decode_bytes = c.self.inside.decode_bytes.items ++ c.cut_up-cuts.result.decode_bytes.now in
     length decode_bytes ≡ decode_size h → IsSpare (output_count h) decode_bytes → ⊥
 no-spare g c =
-    rw (← c.as_slice.ensures.value, ← c.of-counts.ensures.decode_bytes, ← c.of-counts.ensures.outputs)
+    let counts = c.of-counts.ensures in
+    rw (← c.as_slice.ensures.value, ← counts.decode_bytes, ← counts.outputs)
     c.in_ok-add_decode_bytes.ensures.checked
 
 pub returns-in_err-add_decode_bytes-clause-err : goal.returns-in_err-add_decode_bytes-clause-err
@@ -116,4 +117,5 @@ returns-clause-ok g c =
     (view_step c.self.invariant (cut-up g now) none)
 
 pub returns-clause-sound : goal.returns-clause-sound
-returns-clause-sound g c = (version_of c.self.inside.header.items, in_order (invariant_of-result g c))
+returns-clause-sound g c =
+    (version_of c.self.inside.header.items, in_order (invariant_of-result g c))
