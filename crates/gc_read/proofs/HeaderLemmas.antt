@@ -118,7 +118,8 @@ module _ (bytes more : List ℕ) where
   lasts _ (trailing v has reaches is) =
       let long = has.header.whole in
       trailing v (decode_bits-more v has)
-      (omega (arith, entries_end-more v long, length-append bytes more)) (rw (right-more v long (omega arith)) is)
+      (omega (arith, entries_end-more v long, length-append bytes more))
+      (rw (right-more v long (omega arith)) is)
 
 -- A lasting fault of the first bytes of a piece is that of the whole piece.
 pub lasts_piece : (header piece : List ℕ) (n : ℕ) (e : FileFault)

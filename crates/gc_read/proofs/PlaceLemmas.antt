@@ -102,7 +102,8 @@ module _ (h r d e x : List ℕ) (whole : length h ≡ 48) where
       (spare rows_full decode_full is)
 
   has_decode_bits : IsHeaderInOrder (version_of h) h → length r ≡ row_size h
-      → length d ≡ decode_size h → (IsSpare (output_count h) d → ⊥) → HasDecodeBits (version_of h) (h ++ r ++ d ++ e ++ x)
+      → length d ≡ decode_size h → (IsSpare (output_count h) d → ⊥)
+      → HasDecodeBits (version_of h) (h ++ r ++ d ++ e ++ x)
   has_decode_bits in_order rows_full decode_full none = record {
     header = has_header in_order;
     whole = omega (arith, decode_end_is, length_is);

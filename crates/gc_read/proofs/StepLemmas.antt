@@ -82,7 +82,8 @@ module _ {h r d e t : List ℕ} {hasher : Sha256} (body : IsBody h r d e t hashe
       let decode_full = f.decode_first (omega arith) in
       rw (whole_more body.filled cuts h)
       (more_fault h (r ++ q1) (d ++ q2) (e ++ q3) (t ++ q4) left body.whole
-      (f.rows_first (omega arith)) decode_full (f.entries_first (omega arith)) full body.in_order (no_spare decode_full)
+      (f.rows_first (omega arith)) decode_full (f.entries_first (omega arith)) full
+      body.in_order (no_spare decode_full)
       (hashed.right full) some)
 
   pub body_step : (length (d ++ q2) ≡ decode_size h → IsSpare (output_count h) (d ++ q2) → ⊥)

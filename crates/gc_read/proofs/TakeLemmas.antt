@@ -64,7 +64,8 @@ taking_more (Ok bytes) after piece (Ok done) taking fed not_err consumed count =
 
 -- A piece that was given, and has a fault.
 pub taken_fault : (reader after : Fed) (piece : List ℕ) {e : FileFault}
-    {a b d : Option (List ℕ)} {got : ℕ} → IsTaking reader a b got → IsFed reader piece (Err e) after → Consumes b d piece
+    {a b d : Option (List ℕ)} {got : ℕ} → IsTaking reader a b got
+    → IsFed reader piece (Err e) after → Consumes b d piece
     → IsTaken a d (Err (File e))
 taken_fault (Err f) after piece taking fed consumed = let is = taking.fed in cc
 taken_fault (Ok bytes) after piece taking fed consumed = record {

@@ -4,7 +4,8 @@ use Rattle.gc_read.proofs.take.read_garbled_from.Goals as goal
 
 pub returns-in-Err-feed-clause-all : goal.returns-in-Err-feed-clause-all
 returns-in-Err-feed-clause-all g c =
-    taken_all _ _ _ (taken_fault c.loop-reader.reader c.feed.new.self _ c.loop-reader.invariant.taking
+    taken_all _ _ _
+    (taken_fault c.loop-reader.reader c.feed.new.self _ c.loop-reader.invariant.taking
     c.in-Err-feed.ensures c.in-Ok.ensures.bytes.0)
 
 pub loop-reader-preserved : goal.loop-reader-preserved
@@ -13,6 +14,6 @@ loop-reader-preserved g c =
     record {
       taking = taking_more c.loop-reader.reader c.feed.new.self _ c.feed.result so_far.taking
           c.feed.ensures c.in_default.not-Err c.in-Ok.ensures.bytes.0
-          (let bound = c.in-Ok.ensures.bound in let sum = c.saturating_add-got.ensures in omega arith);
+          (omega (arith, c.in-Ok.ensures.bound, c.saturating_add-got.ensures));
       counted = c.in-Ok.ensures.counted ∙ so_far.counted;
     }

@@ -57,26 +57,21 @@ no-spare g c =
 pub returns-in_err-add_decode_bytes-clause-err : goal.returns-in_err-add_decode_bytes-clause-err
 returns-in_err-add_decode_bytes-clause-err g c =
     let now = (goal.at.returns-in_err-add_decode_bytes-clause-err g c).After-update-3 in
-    let h = c.self.inside.header.items in
-    let decode_bytes = c.self.inside.decode_bytes.items ++ c.cut_up-cuts.result.decode_bytes.now in
-    let p = err_from_is_err_and c.from_residual-in_err-add_decode_bytes.result
-    c.from_residual-in_err-add_decode_bytes.ensures.1 in
+    let exit = c.from_residual-in_err-add_decode_bytes in
+    let p = err_from_is_err_and exit.result exit.ensures.1 in
+    let header = c.as_slice.ensures.value in let counts = c.of-counts.ensures in
     rw (p.1, p.2) (λ other.
     let fault = c.in_err-add_decode_bytes.ensures.err other in
-    let full : length decode_bytes ≡ decode_size h =
-    rw (← c.as_slice.ensures.value, ← c.of-counts.ensures.decode_bytes) fault.1 in
-    let spare : IsSpare (output_count h) decode_bytes =
-    rw (← c.as_slice.ensures.value, ← c.of-counts.ensures.outputs) fault.2 in
-    rw (fault.0, ← c.self.view_is)
-    (spare_step c.self.invariant (cut-up g now) full spare))
+    rw (fault.0, ← c.self.view_is) (spare_step c.self.invariant (cut-up g now)
+    (rw (← header, ← counts.decode_bytes) fault.1) (rw (← header, ← counts.outputs) fault.2)))
 
 pub returns-in_err-add_trailer-clause-err : goal.returns-in_err-add_trailer-clause-err
 returns-in_err-add_trailer-clause-err g c =
     let at = goal.at.returns-in_err-add_trailer-clause-err g c in
     let now = at.After-update-3 in
     let fault = c.in_err-add_trailer.ensures.err in
-    let p = err_from_is_err_and c.from_residual-in_err-add_trailer.result
-    c.from_residual-in_err-add_trailer.ensures.1 in
+    let exit = c.from_residual-in_err-add_trailer in
+    let p = err_from_is_err_and exit.result exit.ensures.1 in
     rw (p.1, p.2) (λ other. rw (fault.0, ← c.self.view_is)
     (bad_trailer_step c.self.invariant (cut-up g now)
     (no-spare g at.In_ok-add_decode_bytes) fault.1 (fault.2 _ (hashed g now))))
