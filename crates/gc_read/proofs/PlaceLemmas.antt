@@ -1,13 +1,13 @@
 -- Where the parts of a garbled file stand, and what is wrong with them.
-use Rattle.std.proofs.Common.{◌≡◌, ℕ, ◌+◌, ◌-◌, ◌*◌, ◌%◌, ◌<◌, ◌≤◌, List, ◌++◌, length, take, drop, slice_index, refl, sym, ap, ◌∙◌, append_assoc, length-append, arith}
+use Rattle.std.proofs.Common.{◌≡◌, ℕ, ◌+◌, ◌-◌, ◌%◌, ◌<◌, ◌≤◌, List, ◌++◌, length, take, slice_index, refl, sym, ◌∙◌, append_assoc, length-append, arith}
 use Rattle.std.proofs.lemmas.List.{take-append-le, take_at, drop_at, take_all, get_or-append-add, get_or_append_left}
 use Rattle.sha2.specs.declared.Sha256.{Sha256}
 use Rattle.sha2.specs.Sha256.{sha256}
 use Rattle.gc_read.specs.declared.fault.FileFault.TheVariants.{SpareBits, BadTrailer, Trailing}
 use Rattle.gc_format.specs.declared.parts.Version.{Version}
 use Rattle.gc_format.specs.declared.parts.Version.TheVariants.{One, Two}
-use Rattle.gc_format.specs.DecodeBits.{bytes_for, IsSpare}
-use Rattle.gc_format.specs.GarbledFile.{magic, entry_count}
+use Rattle.gc_format.specs.DecodeBits.{IsSpare}
+use Rattle.gc_format.specs.GarbledFile.{magic}
 use Rattle.gc_read.specs.FileFault.{IsBegun, row_count, output_count, decode_end, entries_end, trailer_end, IsTrailerRight, HasHeader, HasSpareBit, HasDecodeBits, LastingFault, spare_bits, bad_trailer, trailing, IsHeaderInOrder, IsInOrder}
 use Rattle.gc_read.specs.Body.{version_of, row_size, decode_size, entry_size, IsFilled, IsBody}
 use Rattle.gc_format.proofs.NumberLemmas.{number_at-append}

@@ -1,5 +1,5 @@
 -- A garbled file that is taken from a source.
-use Rattle.std.proofs.Common.{◌≡◌, ℕ, ◌+◌, ◌*◌, inl, inr, List, ◌++◌, length, Option, Some, None, Result, Ok, Err, refl, sym, ap, subst, ◌∙◌, append_assoc, length-append, arith}
+use Rattle.std.proofs.Common.{◌≡◌, ℕ, ◌+◌, ◌*◌, inl, inr, List, ◌++◌, length, Option, Some, None, Result, Ok, Err, refl, ap, length-append, arith}
 use Rattle.std.proofs.lemmas.List.{append-nil}
 use Rattle.std.proofs.KnownBytes.{Consumes-trans}
 use Rattle.std.specs.Io.KnownBytes.{Consumes}
@@ -7,8 +7,8 @@ use Rattle.gc_netlist.specs.declared.limits.TheConstants.{MAX_GATES, MAX_WIRES}
 use Rattle.gc_read.specs.declared.fault.FileFault.{FileFault}
 use Rattle.gc_read.specs.declared.take.TakeFault.{TakeFault}
 use Rattle.gc_read.specs.declared.take.TakeFault.TheVariants.{File, ReadFault}
-use Rattle.gc_format.specs.GarbledFile.{GarbledParts, IsGarbledFile}
-use Rattle.gc_read.specs.FileFault.{FirstFault, lasting}
+use Rattle.gc_format.specs.GarbledFile.{GarbledParts}
+use Rattle.gc_read.specs.FileFault.{lasting}
 use Rattle.gc_read.specs.Reading.{Fed, IsFed}
 use Rattle.gc_format.specs.Counted.{counted}
 use Rattle.gc_read.specs.Taking.{IsAnswer, IsTaken, IsAnswerOfAll, IsTaking}

@@ -1,4 +1,4 @@
-use Rattle.std.proofs.Common.{refl, arith}
+use Rattle.std.proofs.Common.{arith}
 use Rattle.gc_read.specs.FileFault.{bad_label_magic, too_many_labels, labels_trailing, header_truncated, labels_truncated}
 use Rattle.gc_read.proofs.labels.check_labels.Goals as goal
 
