@@ -1,11 +1,11 @@
 -- Bits on their way into bytes.
-use Rattle.std.proofs.Common.{◌≡◌, ℕ, zero, suc, ◌+◌, ◌-◌, ◌*◌, ◌^◌, ◌<◌, ◌≤◌, min, nat_cmp, Bool, true, false, List, [], ◌∷◌, ◌++◌, length, length-take, length-drop, take, drop, flat_map, get_or, slice_get, Some, append-nil, refl, ap, arith}
+use Rattle.std.proofs.Common.{◌≡◌, ℕ, zero, suc, ◌+◌, ◌*◌, ◌^◌, ◌<◌, ◌≤◌, min, nat_cmp, Bool, true, false, List, [], ◌∷◌, ◌++◌, length, length-take, length-drop, take, drop, flat_map, get_or, slice_get, Some, append-nil, refl, arith}
 use mir.Val.{bool_byte}
 use Rattle.std.specs.Ordering.{ord_min}
 use Rattle.std.proofs.lemmas.Bool.Decides.{nat_tests}
 use Rattle.std.proofs.Math.Nat.{pow-suc}
 use Rattle.std.proofs.Math.Seq.{drop-cons}
-use Rattle.std.proofs.lemmas.List.{length-map, get_or-drop, get_or-take, drop_all}
+use Rattle.std.proofs.lemmas.List.{length-map, get_or-drop, get_or-take}
 use Rattle.std.proofs.lemmas.List.FromFn.{length-map-range_with_len, get_or-map-range_with_len}
 use Rattle.std.proofs.lemmas.Option.{slice_get_within, get_or_from_slice_get}
 use Rattle.gc_label.specs.Label.{bytes_of_label}
@@ -54,13 +54,6 @@ bits_number-last bits first i bit at low =
         bits_number (bit ∷ rest) ≡ bool_byte bit + 2 * bits_number rest
     cases false rest = refl
     cases true rest = refl
-
--- There are none behind the last.
-pub bits_number-end : (bits : List Bool) (first count : ℕ) → count ≡ min 8 (length bits - first) →
-    bits_number (drop count (take 8 (drop first bits))) ≡ 0
-bits_number-end bits first count is =
-    ap bits_number (drop_all count (take 8 (drop first bits))
-    (omega (arith, length-take 8 (drop first bits), length-drop first bits)))
 
 -- What stands in each byte.
 pub packed-at : (bits : List Bool) (k d : ℕ) → k < bytes_for (length bits) →

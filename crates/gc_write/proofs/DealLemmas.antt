@@ -1,7 +1,7 @@
 -- The labels of a label file.
-use Rattle.std.proofs.Common.{◌≡◌, ℕ, suc, ◌+◌, ◌-◌, ◌*◌, ◌<◌, ◌≤◌, slice_get, Some, sum, length-append, Bool, false, List, [], ◌∷◌, ◌++◌, length, flat_map, take, drop, get_or, append-nil, refl, sym, ap, ◌∙◌, arith}
+use Rattle.std.proofs.Common.{◌≡◌, ℕ, suc, ◌+◌, ◌-◌, ◌*◌, ◌≤◌, slice_get, Some, sum, length-append, Bool, List, [], ◌∷◌, ◌++◌, length, flat_map, take, drop, refl, sym, ap, ◌∙◌, arith}
 use Rattle.std.proofs.Math.Seq.{take-add}
-use Rattle.std.proofs.lemmas.List.{take-append-drop, length-take-le, take_more}
+use Rattle.std.proofs.lemmas.List.{take-append-drop, length-take-le}
 use Rattle.std.proofs.lemmas.Grind.{flat_map-append}
 use Rattle.std.proofs.lemmas.List.Sums.{sum_by_more_le}
 use Rattle.std.proofs.lemmas.Option.{slice_get_within, get_or_from_slice_get}
@@ -9,8 +9,6 @@ use Rattle.gc_netlist.specs.Circuit.{Netlist, IsLawful}
 use Rattle.gc_netlist.specs.declared.limits.TheConstants.{MAX_WIRES}
 use Rattle.gc_label.specs.Label.{bytes_of_label}
 use Rattle.gc_label.proofs.LabelLemmas.{length-bytes_of_label}
-use Rattle.gc_label.specs.Seed.{offset_of, input_label_of}
-use Rattle.gc_half.specs.Evaluation.{encode}
 use Rattle.gc_format.specs.Number.{number_bytes}
 use Rattle.gc_format.specs.LabelFile.{label_magic, label_file, label_parts_of, encoded_from}
 use Rattle.gc_write.proofs.SizeLemmas.{length-flat_map}
@@ -30,8 +28,9 @@ module _ (seed : List ℕ) where
       rw (encoded_from-append (first + 1) xs ys, next) refl
 
   -- The bytes of some bits, and of those after them.
-  label_bytes-append : (first : ℕ) (xs ys : List Bool) {at : ℕ} {zs : List Bool} → length xs ≡ at
-      → xs ++ ys ≡ zs → label_bytes first xs ++ label_bytes (first + at) ys ≡ label_bytes first zs
+  pub label_bytes-append : (first : ℕ) (xs ys : List Bool) {at : ℕ} {zs : List Bool}
+      → length xs ≡ at → xs ++ ys ≡ zs
+      → label_bytes first xs ++ label_bytes (first + at) ys ≡ label_bytes first zs
   label_bytes-append first xs ys len all =
       rw (← all, ← len, encoded_from-append first xs ys, flat_map-append) refl
 
@@ -52,15 +51,6 @@ module _ (seed : List ℕ) where
       ≡ label_bytes first bits
   label_bytes-rest first bits done within =
       label_bytes-append first _ _ (length-take-le done bits within) (take-append-drop done bits)
-
-  -- One bit more.
-  pub label_bytes-one : (first : ℕ) (bits : List Bool) (i : ℕ) → i < length bits →
-      label_bytes first (take i bits) ++ bytes_of_label
-      (encode (offset_of seed) (input_label_of seed (first + i)) (get_or bits i false))
-      ≡ label_bytes first (take (i + 1) bits)
-  label_bytes-one first bits i within =
-      simp append-nil at (label_bytes-append first (take i bits) (get_or bits i false ∷ [])
-      (length-take-le i bits (omega arith)) (sym (take_more bits i false within)))
 
 pub length-encoded_from : (first : ℕ) (seed : List ℕ) (bits : List Bool)
     → length (encoded_from first seed bits) ≡ length bits

@@ -62,10 +62,6 @@ unfolding garbled_file
 garbled_file-front p =
     sym (append_assoc (front p) (flat_map entry_bytes p.entries) (sha256 (body p)))
 
-pub garbled_file-body : (p : GarbledParts) → body p ++ sha256 (body p) ≡ garbled_file p
-unfolding garbled_file
-garbled_file-body p = refl
-
 -- One without entries ends after its decode bits.
 pub garbled_file-one : (c : Netlist) (g : GarblingParts) →
     front (parts_one c g) ++ sha256 (front (parts_one c g)) ≡ garbled_file (parts_one c g)

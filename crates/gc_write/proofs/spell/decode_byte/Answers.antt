@@ -1,6 +1,8 @@
-use Rattle.std.proofs.Common.{◌≡◌, suc, ◌<◌, ◌-◌, ◌*◌, min, length, sym, arith}
+use Rattle.std.proofs.Common.{◌≡◌, suc, ◌<◌, ◌-◌, ◌*◌, length-take, length-drop, take, drop, ap, sym, arith}
+use Rattle.std.proofs.lemmas.List.{drop_all}
 use Rattle.gc_half.specs.Garbling.{decode_bits_of}
-use Rattle.gc_write.proofs.ByteLemmas.{bool_byte-le, ord_min-nat, bits_number-later, bits_number-last, bits_number-end, length-decode_bits}
+use Rattle.gc_format.specs.DecodeBits.{bits_number}
+use Rattle.gc_write.proofs.ByteLemmas.{bool_byte-le, ord_min-nat, bits_number-later, bits_number-last, length-decode_bits}
 use Rattle.gc_write.proofs.spell.decode_byte.Goals as goal
 
 pub overflow_mul-byte : goal.overflow_mul-byte
@@ -17,15 +19,12 @@ overflow_add-byte g c =
 
 pub loop-i-init : goal.loop-i-init
 loop-i-init g c =
-    let bits = decode_bits_of c.args.garbling.now in
-    let count : c.min-count.result ≡ min 8 (length bits - 8 * c.args.k) =
-    omega (
-      arith,
-      ord_min-nat 8 (c.outputs-outputs.result - 8 * c.args.k),
-      length-decode_bits c.args.garbling.now c.outputs-outputs.ensures.bound,
-    )
-    in
-    (omega arith, sym (bits_number-end bits (8 * c.args.k) c.min-count.result count))
+    let bits = decode_bits_of c.args.garbling.now in let first = 8 * c.args.k in
+    let least = ord_min-nat 8 (c.outputs-outputs.result - first) in
+    let count = length-decode_bits c.args.garbling.now c.outputs-outputs.ensures.bound in
+    let end = drop_all c.min-count.result (take 8 (drop first bits))
+    (omega (arith, length-take 8 (drop first bits), length-drop first bits)) in
+    (omega arith, sym (ap bits_number end))
 
 pub loop-i-preserved : goal.loop-i-preserved
 loop-i-preserved g c =

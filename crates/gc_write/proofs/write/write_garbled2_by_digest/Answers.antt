@@ -1,45 +1,43 @@
-use Rattle.std.proofs.Common.{ℕ, ◌<◌, List, ◌++◌, ◌^◌, length, flat_map, refl, arith}
+use Rattle.std.proofs.Common.{◌++◌, flat_map, refl, arith}
 use Rattle.sha2.specs.Sha256.{sha256}
 use Rattle.gc_label.specs.Seed.{offset_of}
+use Rattle.gc_format.specs.declared.parts.Version.TheVariants.{Two}
 use Rattle.gc_format.specs.GarbledFile.{body, entry_bytes, garbled_file}
-use Rattle.gc_half.specs.Garbling.{GarblingParts}
-use Rattle.gc_netlist.specs.Circuit.{Netlist}
-use Rattle.gc_write.specs.Written.{IsSmall, parts_two}
+use Rattle.gc_write.specs.Written.{parts_two}
 use Rattle.gc_write.proofs.ByteLemmas.{length-entry_pairs}
-use Rattle.gc_write.proofs.SizeLemmas.{garbled_file-front, garbled_file-body, garbled_file-size}
+use Rattle.gc_write.proofs.SizeLemmas.{garbled_file-front, garbled_file-size}
 use Rattle.gc_write.proofs.WritingLemmas.{Proceeds-step}
 use Rattle.gc_write.proofs.EndLemmas.{Ends-exit, Ends-step, IsWritten-whole}
 use Rattle.gc_write.proofs.write.write_garbled2_by_digest.Goals as goal
 
-size : (c : Netlist) (g : GarblingParts) (seed : List ℕ) → IsSmall g
-    → length (garbled_file (parts_two c g seed)) < 2 ^ 64
-size c g seed small =
-    garbled_file-size _ c g _ small (omega (arith, length-entry_pairs (offset_of seed) g))
-
 pub returns-in_err-write_front-clause-file : goal.returns-in_err-write_front-clause-file
 returns-in_err-write_front-clause-file g c =
     let parts = parts_two c.args.circuit.now c.args.garbling.now c.args.seed.now in
+    let pairs = length-entry_pairs (offset_of c.args.seed.now) c.args.garbling.now in
     IsWritten-whole c.from_residual.result
-    (size _ _ c.args.seed.now c.in_err-write_front.ensures.small)
-    c.new-file.ensures (garbled_file-front parts)
-    (Ends-exit c.from_residual.result
+    (garbled_file-size _ _ _ parts.entries c.in_err-write_front.ensures.small (omega arith))
+    c.new-file.ensures (garbled_file-front parts) (Ends-exit c.from_residual.result
     (λ _. flat_map entry_bytes parts.entries ++ sha256 (body parts)) c.from_residual.ensures.1
     c.in_err-write_front.ensures.bytes)
 
 pub returns-in_err-write_entries-clause-file : goal.returns-in_err-write_entries-clause-file
+unfolding garbled_file
 returns-in_err-write_entries-clause-file g c =
     let exit = c.from_residual-in_err-write_entries in
     let parts = parts_two c.args.circuit.now c.args.garbling.now c.args.seed.now in
-    IsWritten-whole exit.result (size _ _ c.args.seed.now c.in_ok-write_front.ensures.small)
-    c.new-file.ensures (garbled_file-body parts)
-    (Ends-exit exit.result (λ _. sha256 (body parts)) exit.ensures.1
+    let pairs = length-entry_pairs (offset_of c.args.seed.now) c.args.garbling.now in
+    IsWritten-whole exit.result
+    (garbled_file-size Two c.args.circuit.now _ _ c.in_ok-write_front.ensures.small (omega arith))
+    c.new-file.ensures refl (Ends-exit exit.result (λ _. sha256 (body parts)) exit.ensures.1
     (Proceeds-step refl c.in_ok-write_front.ensures.bytes
     (rw c.offset.ensures at c.in_err-write_entries.ensures.bytes)))
 
 pub returns-clause-file : goal.returns-clause-file
+unfolding garbled_file
 returns-clause-file g c =
+    let parts = parts_two c.args.circuit.now c.args.garbling.now c.args.seed.now in
+    let pairs = length-entry_pairs (offset_of c.args.seed.now) c.args.garbling.now in
     IsWritten-whole c.end_with_digest.result
-    (size _ _ c.args.seed.now c.in_ok-write_front.ensures.small) c.new-file.ensures
-    (garbled_file-body (parts_two c.args.circuit.now c.args.garbling.now c.args.seed.now))
-    (Ends-step (Proceeds-step refl c.in_ok-write_front.ensures.bytes
+    (garbled_file-size Two c.args.circuit.now _ _ c.in_ok-write_front.ensures.small (omega arith))
+    c.new-file.ensures refl (Ends-step (Proceeds-step refl c.in_ok-write_front.ensures.bytes
     (rw c.offset.ensures at c.in_ok-write_entries.ensures.bytes)) c.end_with_digest.ensures.bytes)

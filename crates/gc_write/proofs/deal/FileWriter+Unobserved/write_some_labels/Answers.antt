@@ -1,8 +1,8 @@
-use Rattle.std.proofs.Common.{◌≡◌, ◌+◌, ◌++◌, take, refl, arith}
-use Rattle.std.proofs.lemmas.List.{take_all}
+use Rattle.std.proofs.Common.{◌≡◌, ◌+◌, ◌∷◌, [], ◌++◌, take, get_or, false, append-nil, refl, sym, arith}
+use Rattle.std.proofs.lemmas.List.{take_all, take_more, length-take-le}
 use Rattle.std.proofs.lemmas.List.FromFn.{get_or-map-range_with_len}
 use Rattle.gc_label.specs.Seed.{input_label_of}
-use Rattle.gc_write.proofs.DealLemmas.{label_bytes, label_bytes-one, label_bytes-rest}
+use Rattle.gc_write.proofs.DealLemmas.{label_bytes, label_bytes-append, label_bytes-rest}
 use Rattle.gc_write.proofs.WritingLemmas.{Wrote-more, Wrote-exit}
 use Rattle.gc_write.proofs.deal.FileWriter+Unobserved.write_some_labels.Given.{Over}
 use Rattle.gc_write.proofs.deal.FileWriter+Unobserved.write_some_labels.Goals.{After-to_bytes}
@@ -15,6 +15,7 @@ here : (g : Over) (c : After-to_bytes g) →
     ≡ label_bytes c.args.seed.now first (take (c.loop-i.i + 1) bits)
 here g c =
     let seed = c.args.seed.now in let first = c.args.first in let i = c.loop-i.i in
+    let bits = c.args.bits.now in
     rw (
       c.to_bytes.ensures.bytes,
       c.xor.ensures,
@@ -24,7 +25,8 @@ here g c =
       c.times.ensures,
       c.label-offset.ensures.same,
       c.offset.ensures,
-    ) (label_bytes-one seed first c.args.bits.now i c.loop-i-test.true)
+    ) (simp append-nil at (label_bytes-append seed first (take i bits) (get_or bits i false ∷ [])
+    (length-take-le i bits (omega arith)) (sym (take_more bits i false c.loop-i-test.true))))
 
 pub returns-in_err-write-clause-bytes : goal.returns-in_err-write-clause-bytes
 returns-in_err-write-clause-bytes g c =
