@@ -1,45 +1,56 @@
-use Rattle.std.proofs.Common.{◌≡◌, ◌<◌, ◌≤◌, length, get_or, true, refl, sym, ◌∙◌, arith}
-use Rattle.gc_netlist.specs.Text.{is_digit}
-use Rattle.gc_tokens.proofs.NumberLemmas.{value-nil, value_more, digits_more, number_read}
-use Rattle.gc_tokens.proofs.ShortLemmas.{digit_most, short_value, short_more}
+use Rattle.std.proofs.Common.{◌≡◌, ℕ, ◌+◌, ◌*◌, ◌^◌, ◌<◌, ◌≤◌, length, get_or, true, refl, sym, ◌∙◌, arith}
+use Rattle.std.proofs.Math.Nat.{pow-le-pow_right}
+use Rattle.std.proofs.lemmas.Bool.Decides.{nat_tests}
+use Rattle.std.proofs.lemmas.Grind.{common_steps}
+use Rattle.gc_netlist.specs.Text.{is_digit, value_of}
+use Rattle.gc_tokens.proofs.NumberLemmas.{value_more, digits_more, number_read}
 use Rattle.gc_tokens.proofs.number.short_number.Goals as goal
 
+digit_most : (b : ℕ) → is_digit b ≡ true → b ≤ 57
+digit_most b h = grind (arith, nat_tests)
+
+-- at the most eight digits
+short_value : (value i : ℕ) → value < 10 ^ i → i < 9 → value < 10 ^ 8
+short_value value i small few =
+    let ten : 0 < 10 = omega arith in
+    let below : i ≤ 8 = omega arith in
+    let most : 10 ^ i ≤ 10 ^ 8 = pow-le-pow_right ten below in
+    omega arith
+
+-- one digit more
+short_more : (value i digit : ℕ) → value < 10 ^ i → digit ≤ 9 → value * 10 + digit < 10 ^ (i + 1)
+short_more value i digit small fits = grind (arith, common_steps)
+
 pub loop-i-init : goal.loop-i-init
-loop-i-init c = record { value = sym value-nil; small = omega arith; digits = refl }
+unfolding value_of
+loop-i-init c =
+    record { value = refl; small = omega arith; fits = λ few. omega arith; digits = refl }
 
 pub returns-then-is_blank : goal.returns-then-is_blank
 returns-then-is_blank c =
-    let blank = sym c.is_blank.ensures ∙ c.if-is_blank.true in
-    let small = short_value c.loop-i.value c.loop-i.i c.loop-i.invariant.small c.loop-i-test.true in (
+    let blank = sym c.is_blank.ensures ∙ c.if-is_blank.true in (
       omega arith,
       number_read c.args.text.now c.loop-i.i c.loop-i.value (omega arith) (omega arith)
-          c.loop-i.invariant.digits
-          c.loop-i.invariant.value (omega (arith, small)) (λ _. blank),
+          c.loop-i.invariant.digits c.loop-i.invariant.value (omega arith) (λ _. blank),
       blank,
     )
 
-pub overflow_mul-value : goal.overflow_mul-value
-overflow_mul-value c =
-    let small = short_value c.loop-i.value c.loop-i.i c.loop-i.invariant.small c.loop-i-test.true in
-    omega (arith, small)
-
 pub overflow_add-value : goal.overflow_add-value
 overflow_add-value c =
-    let small = short_value c.loop-i.value c.loop-i.i c.loop-i.invariant.small c.loop-i-test.true in
-    let digit : is_digit (get_or c.args.text.now c.loop-i.i 0) ≡ true =
-    sym c.is_ascii_digit.ensures.value ∙ c.if-not-is_ascii_digit.false in
-    omega (arith, small, digit_most (get_or c.args.text.now c.loop-i.i 0) digit, c.from.ensures)
+    let digit = sym c.is_ascii_digit.ensures.value ∙ c.if-not-is_ascii_digit.false in
+    let most = digit_most (get_or c.args.text.now c.loop-i.i 0) digit in
+    omega arith
 
 pub loop-i-preserved : goal.loop-i-preserved
 loop-i-preserved c =
-    let digit : is_digit (get_or c.args.text.now c.loop-i.i 0) ≡ true =
-    sym c.is_ascii_digit.ensures.value ∙ c.if-not-is_ascii_digit.false in
+    let digit = sym c.is_ascii_digit.ensures.value ∙ c.if-not-is_ascii_digit.false in
     let within : c.loop-i.i < length c.args.text.now = omega arith in
-    let e = value_more c.args.text.now c.loop-i.i within in
+    let more = value_more c.args.text.now c.loop-i.i within in
     let most = digit_most (get_or c.args.text.now c.loop-i.i 0) digit in
-    let fits : c.from.result ≤ 9 = omega (arith, most, c.from.ensures) in
+    let small = short_more _ _ c.from.result c.loop-i.invariant.small (omega arith) in
     record {
-      value = omega (arith, e, c.loop-i.invariant.value, c.from.ensures);
-      small = short_more c.loop-i.value c.loop-i.i c.from.result c.loop-i.invariant.small fits;
+      value = omega arith;
+      small = small;
+      fits = short_value _ _ small;
       digits = digits_more c.args.text.now c.loop-i.i true within c.loop-i.invariant.digits digit;
     }

@@ -2,6 +2,6 @@ use Rattle.gc_tokens.proofs.BackLemmas.{end_spot}
 use Rattle.gc_tokens.proofs.tokens.Tokens.end_before.Goals as goal
 
 pub returns : goal.returns
-returns c = end_spot c.args.self.now.text c.before-2.result.now c.args.self.now.left c.last_end.result
-    c.before-2.ensures.front c.before-2.ensures.within c.before-2.ensures.parted c.last_end.ensures.within
-    c.last_end.ensures.same c.last_end.ensures.ends c.requires
+returns c = end_spot _ _ _ _ c.before-2.ensures.front c.before-2.ensures.within
+    c.before-2.ensures.parted c.last_end.ensures.within c.last_end.ensures.same
+    c.last_end.ensures.ends c.requires
