@@ -6,6 +6,5 @@ use Rattle.gc_value.proofs.value.push_bits.Goals as goal
 
 pub loop-i-preserved : goal.loop-i-preserved
 loop-i-preserved g c =
-    map_pushed (λ i. bit_at c.args.byte i == 1) c.loop-i.i c.args.bits.now.items c.loop-i.bits.items
-    c.push.new.self.items _
-    c.loop-i.invariant c.in_ok-push.ensures.items (ap (λ x. x == 1) (shr_and_one c.args.byte c.loop-i.i))
+    map_pushed (λ i. bit_at c.args.byte i == 1) c.loop-i.i _ _ _ _ c.loop-i.invariant
+    c.in_ok-push.ensures.items (ap (λ x. x == 1) (shr_and_one c.args.byte c.loop-i.i))

@@ -7,6 +7,7 @@ use Rattle.gc_value.proofs.value.read_hexadecimal.Given as goal
 abbrev pub invariant-loop-k : goal.invariant-loop-k
 invariant-loop-k g l = record {
   digits : list_all is_hex_digit (take (2 * l.k) l.digits) ≡ true;
-  bits : l.bits.items ≡ map (wire_bit (Hexadecimal l.digits)) (range_with_len 0 (min (8 * l.k) l.width));
+  bits : l.bits.items
+      ≡ map (wire_bit (Hexadecimal l.digits)) (range_with_len 0 (min (8 * l.k) l.width));
   unused : (i : ℕ) → l.width ≤ i → i < 8 * l.k → wire_bit (Hexadecimal l.digits) i ≡ false;
 }
