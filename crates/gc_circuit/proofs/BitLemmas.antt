@@ -1,33 +1,29 @@
 -- Bits on the wires.
-use Rattle.std.proofs.Common.{◌≡◌, ℕ, zero, suc, ◌+◌, ◌-◌, ◌<◌, ◌≤◌, ◌&&◌, sum, List, [], ◌∷◌, length, map, set, take, get_or, slice_get, Some, not, inl, refl, sym, ap, ◌∙◌, arith, Bool, false, replicate, ◌++◌}
+use Rattle.std.proofs.Common.{◌≡◌, ℕ, ◌+◌, ◌-◌, ◌<◌, ◌≤◌, sum, List, length, map, set, take, get_or, slice_get, Some, inl, refl, sym, ap, ◌∙◌, arith, Bool, false, replicate, ◌++◌}
 use Rattle.std.specs.List.{range_with_len}
 use Rattle.gc_netlist.specs.declared.gate.Operation.{Operation}
-use Rattle.gc_netlist.specs.declared.gate.Operation.TheVariants.{Xor, And, Inv, Eqw, Eq}
 use Rattle.gc_netlist.specs.declared.gate.Gate.{Gate}
 use Rattle.gc_netlist.specs.Circuit.{Netlist, EachRead, IsLawful, input_wires}
 use Rattle.gc_netlist.specs.Solution.{IsLocal, values_after}
-use Rattle.gc_circuit.specs.Meaning.{bit_of, bit_rule, bits_of, xor, AreWireBits}
+use Rattle.gc_circuit.specs.Meaning.{bit_of, bit_rule, bits_of, AreWireBits}
 use Rattle.gc_netlist.proofs.SolutionLemmas.{after-unset, solution_solves}
 use Rattle.gc_netlist.proofs.Tables.{table_step, table_padded, after-zero}
 use Rattle.std.specs.List.{flat_map}
 use Rattle.std.proofs.lemmas.List.Concat.{length-flat_map}
 use Rattle.std.proofs.lemmas.List.Sums.{sum-map}
-use Rattle.std.proofs.lemmas.List.{take_more, get_or_past}
+use Rattle.std.proofs.lemmas.List.{take_more, map_more, map_push, get_or-map, get_or_past}
+use Rattle.std.proofs.lemmas.Simd.{map-map}
 
 pub bit_of_local : (u v : ℕ → Bool) (op : Operation) → EachRead (λ w. u w ≡ v w) op →
     bit_of u op ≡ bit_of v op
-bit_of_local u v (Xor a b) h = ap (λ x. xor x (u b)) h.0 ∙ ap (xor (v a)) h.1
-bit_of_local u v (And a b) h = ap (λ x. x && u b) h.0 ∙ ap (λ x. v a && x) h.1
-bit_of_local u v (Inv a) h = ap not h
-bit_of_local u v (Eqw a) h = h
-bit_of_local u v (Eq b) h = refl
+bit_of_local u v op h = grind arith
 
 pub bit_local : IsLocal bit_rule
 bit_local u v i g h = bit_of_local u v g.operation h
 
 -- one more gate of the evaluation
-pub bits_more : (c : Netlist) (x : ℕ → Bool) (bits : List Bool) (i : ℕ) (g : Gate) (b : Bool) → IsLawful c →
-    bits ≡ map (values_after bit_rule c x i) (range_with_len 0 c.wires) →
+pub bits_more : (c : Netlist) (x : ℕ → Bool) (bits : List Bool) (i : ℕ) (g : Gate) (b : Bool) →
+    IsLawful c → bits ≡ map (values_after bit_rule c x i) (range_with_len 0 c.wires) →
     slice_get c.gates i ≡ Some g → b ≡ bit_of (bits_of bits) g.operation →
     set bits g.set b ≡ map (values_after bit_rule c x (i + 1)) (range_with_len 0 c.wires)
 bits_more c x bits i g b lawful is at bit =
@@ -49,41 +45,27 @@ bits_end c x all lawful fits is = record {
   bits = values_after bit_rule c (bits_of x) (length c.gates);
   assignment = solution_solves bit_rule bit_local c lawful (bits_of x);
   unset = λ w free. after-unset bit_rule bit_local c lawful (bits_of x) (length c.gates) w free
-      ∙ get_or_past x w false (let high : w < input_wires c → ⊥ = (λ low. free (inl low)) in omega arith);
+      ∙ get_or_past x w false
+      (let high : w < input_wires c → ⊥ = (λ low. free (inl low)) in omega arith);
   in_order = is;
 }
 
 -- how long the values are together, where they have these widths
 pub length-joined : {X : Type 0} (f : X → List Bool) (xs : List X) (widths : List ℕ) →
     map length (map f xs) ≡ widths → length (flat_map f xs) ≡ sum widths
-length-joined {X = X} f xs widths h =
-    length-flat_map f xs ∙ sym (sum-map (λ x. length (f x)) xs) ∙ ap sum (sym (map-map xs) ∙ h)
-  where
-    map-map : (ys : List X) → map length (map f ys) ≡ map (λ x. length (f x)) ys
-    map-map [] = refl
-    map-map (y ∷ ys) = ap (λ l. length (f y) ∷ l) (map-map ys)
+length-joined f xs widths h = rw (length-flat_map f xs, ← h, map-map, sum-map) refl
 
 -- one more value of the right width
 pub widths_more : {X : Type 0} (f : X → List Bool) (xs : List X) (widths : List ℕ) (i : ℕ) (x : X) →
     i < length xs → i < length widths → get_or xs i x ≡ x →
     length (f x) ≡ get_or widths i 0 → map length (map f (take i xs)) ≡ take i widths →
     map length (map f (take (i + 1) xs)) ≡ take (i + 1) widths
-widths_more {X = X} f xs widths i x in_xs in_widths at same before =
-    rw (take_more xs i x in_xs, take_more widths i 0 in_widths, at)
-    (map-more (take i xs) ∙ ap (λ l. l ++ length (f x) ∷ []) before ∙ ap (λ n. take i widths ++ n ∷ []) same)
-  where
-    map-more : (ys : List X) → map length (map f (ys ++ x ∷ [])) ≡ map length (map f ys) ++ length (f x) ∷ []
-    map-more [] = refl
-    map-more (y ∷ ys) = ap (λ l. length (f y) ∷ l) (map-more ys)
+widths_more f xs widths i x in_xs in_widths at same before =
+    rw (map_more f xs i x in_xs, map_push, take_more widths i 0 in_widths, at, before, same) refl
 
 -- the width of one value
 pub width_at : {X : Type 0} (f : X → List Bool) (xs : List X) (widths : List ℕ) (i : ℕ) (x : X) →
     map length (map f xs) ≡ widths → i < length xs → get_or xs i x ≡ x →
     length (f x) ≡ get_or widths i 0
-width_at {X = X} f xs widths i x h within at = at_place xs i within at ∙ ap (λ l. get_or l i 0) h
-  where
-    at_place : (ys : List X) (k : ℕ) → k < length ys → get_or ys k x ≡ x →
-        length (f x) ≡ get_or (map length (map f ys)) k 0
-    at_place [] k below e = absurd (omega arith)
-    at_place (y ∷ ys) zero below e = ap (λ z. length (f z)) (sym e)
-    at_place (y ∷ ys) (suc k) below e = at_place ys k (omega arith) e
+width_at f xs widths i x h within at =
+    rw (← h, map-map, get_or-map (λ y. length (f y)) xs i x 0 within, at) refl

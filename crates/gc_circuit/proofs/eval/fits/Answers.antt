@@ -1,5 +1,4 @@
-use Rattle.std.proofs.Common.{◌≡◌, get_or, length, take, sym, refl, ap, arith}
-use Rattle.std.proofs.lemmas.Grind.{common_steps}
+use Rattle.std.proofs.Common.{get_or, sym, ap, arith}
 use Rattle.gc_circuit.proofs.BitLemmas.{widths_more, width_at}
 use Rattle.gc_circuit.proofs.eval.fits.Goals as goal
 
@@ -23,12 +22,3 @@ loop-i-preserved g c =
     c.index-values-i.result c.loop-i-test.true
     (omega arith) (sym c.index-values-i.is) (omega (arith, c.len.ensures, c.if-len-widths.false))
     c.loop-i.invariant
-
-pub returns : goal.returns
-returns g c =
-    let whole : c.loop-i.i ≡ length c.args.values.now = omega arith in
-    let values : take c.loop-i.i c.args.values.now ≡ c.args.values.now = grind (arith, common_steps) in
-    let widths : take c.loop-i.i c.input_widths-widths.result.now ≡ c.input_widths-widths.result.now =
-    grind (arith, common_steps) in
-    let h = rw (values, widths, c.input_widths-widths.ensures) at c.loop-i.invariant in
-    (λ _. h, λ _. refl)

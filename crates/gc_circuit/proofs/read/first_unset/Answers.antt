@@ -1,9 +1,16 @@
-use Rattle.std.proofs.Common.{arith}
-use Rattle.gc_circuit.proofs.UnsetLemmas.{each_set}
+use Rattle.std.proofs.Common.{◌≡◌, ℕ, suc, ◌<◌, List, [], ◌∷◌, length, slice_index_or, Bool, true, false, refl, arith}
+use Rattle.std.specs.List.{list_all}
 use Rattle.gc_circuit.proofs.read.first_unset.Goals as goal
+
+-- Where each mark is set, all are.
+each_set : (marks : List Bool) →
+    ((v : ℕ) → v < length marks → slice_index_or marks v false ≡ true) →
+    list_all (λ b. b) marks ≡ true
+each_set [] each = refl
+each_set (b ∷ marks) each =
+    rw (each 0 (omega arith)) (each_set marks (λ v below. each (suc v) (omega arith)))
 
 pub unreachable-requires : goal.unreachable-requires
 unreachable-requires c =
     let all = each_set c.args.is_set.now (λ v below. c.loop-i.invariant v (omega arith)) in
-    let some = c.requires in
-    cc (all, some)
+    cc (all, c.requires)

@@ -8,4 +8,5 @@ returns g c =
     let other : c.in-Err.stop.fault ≢ Memory = search rules in
     located c.args.text.now _ _ _ _ _ _ _ c.offset_of.result _ _
     (c.in-Err.ensures.kept ∙ c.new-tokens.ensures.whole) c.new-tokens.ensures.all
-    (c.in-Err.ensures.met other) c.offset_of.ensures.spot c.line_after.ensures c.column_after.ensures
+    (c.in-Err.ensures.met other) c.offset_of.ensures.spot c.line_after.ensures
+    c.column_after.ensures

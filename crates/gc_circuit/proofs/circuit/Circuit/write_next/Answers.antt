@@ -7,5 +7,5 @@ pub returns-clause-written : goal.returns-clause-written
 returns-clause-written g c =
     let on : c.args.done ≤ c.min-next.result = grind arith in
     λ whole held. subst (g.S.TextSink.holds c.put.new.self whole)
-    (next_lines c.gate_lines.result.now c.args.self.now c.args.done c.min-next.result on c.gate_lines.ensures)
+    (next_lines _ c.args.self.now c.args.done c.min-next.result on c.gate_lines.ensures)
     (c.in_ok-put.ensures whole (first_lines c.args.self.now c.args.done) held)
