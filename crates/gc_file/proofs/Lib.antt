@@ -1,4 +1,5 @@
 pub mod FaultLemmas
+pub mod ItemLemmas
 pub mod OneFile
 pub mod EitherLemmas
 pub mod LabelFileLemmas
