@@ -1,6 +1,6 @@
 -- Label files in turn, and the places where they stand.
-use Rattle.std.proofs.Common.{◌≡◌, ◌≢◌, ℕ, ◌+◌, ◌<◌, ◌≤◌, Bool, true, false, inl, inr, List, [], length, take, set, get_or, slice_get, Option, Some, None, is_some, MatchOption, not, eqb, ltb, refl, sym, ap, subst, ◌∙◌, arith}
-use Rattle.std.proofs.lemmas.Option.{slice_get_within, slice_get_read, same_Some}
+use Rattle.std.proofs.Common.{◌≡◌, ◌≢◌, ℕ, ◌+◌, ◌<◌, ◌≤◌, Bool, true, false, inl, inr, List, [], length, take, set, get_or, slice_get, Option, Some, None, is_some, MatchOption, not, eqb, ltb, refl, sym, ◌∙◌, arith}
+use Rattle.std.proofs.lemmas.Option.{slice_get_within, slice_get_read}
 use Rattle.std.proofs.lemmas.Bool.{cases_eq}
 use Rattle.std.proofs.lemmas.List.{get_or-set_same, get_or-set_other, length-set}
 use Rattle.std.proofs.lemmas.Bool.Decides.{Decides-eqb}
@@ -8,80 +8,76 @@ use Rattle.std.proofs.lemmas.Slice.Eq.{slice_eq-Decides}
 use lib.Pointwise.{pointwise}
 use borrow.Author.Tests.{ltb-true}
 use Rattle.gc_format.specs.LabelFile.{LabelFileParts}
-use Rattle.gc_job.specs.declared.fault.BindFault.TheVariants.{WrongWidth, DoubleValue}
-use Rattle.gc_job.specs.Binding.{HasFile, IsInOrder, AreInOrder, LabelsFault, wrong_width, double_value}
+use Rattle.gc_job.specs.declared.fault.BindFault.TheVariants.{DoubleValue}
+use Rattle.gc_job.specs.Binding.{HasFile, IsInOrder, AreInOrder, LabelsFault, double_value}
 use Rattle.gc_job.specs.Places.{IsFileAt, ArePlaces}
 use Rattle.gc_job.proofs.TakeLemmas.{slice_get-take, slice_get_taken}
 
 -- What `get` found at an index.
-pub read_at : (xs : List ℕ) (i j x y : ℕ) → true ≡ ltb i (length xs) → x ≡ get_or xs i x → i ≡ j → y ≡ x
+pub read_at : (xs : List ℕ) (i j x y : ℕ) → true ≡ ltb i (length xs) → x ≡ get_or xs i x → i ≡ j
+    → y ≡ x
     → slice_get xs j ≡ Some y
-read_at xs i j x y below at e f = rw (f, ← e) (slice_get_read xs (length xs) i x refl (ltb-true i (length xs) (sym below)) at)
+read_at xs i j x y below at e f = rw (f, ← e)
+    (slice_get_read xs (length xs) i x refl (ltb-true i (length xs) (sym below)) at)
 
 -- What a marked place says,
 place_taken : (before : List LabelFileParts) (value : ℕ) (o : Option ℕ) → is_some o ≡ true
     → MatchOption o (HasFile before value → ⊥) (IsFileAt before value) → HasFile before value
 place_taken before value None is h = absurd (cc)
-place_taken before value (Some place) is h = record { place = place; file = h.file; at = h.at; index = h.index }
+place_taken before value (Some place) is h = record
+    { place = place; file = h.file; at = h.at; index = h.index }
 
 -- and one that isn't.
-place_free : (before : List LabelFileParts) (value : ℕ) (o : Option ℕ) → is_some o ≡ false
+pub place_free : (before : List LabelFileParts) (value : ℕ) (o : Option ℕ) → is_some o ≡ false
     → MatchOption o (HasFile before value → ⊥) (IsFileAt before value) → HasFile before value → ⊥
 place_free before value None is h = h
 place_free before value (Some place) is h = absurd (cc)
 
--- A file whose value has another width,
-pub wrong_width_at : (widths : List ℕ) (before : List LabelFileParts) (file : LabelFileParts) (width : ℕ)
-    → slice_get widths file.index ≡ Some width → (length file.labels ≡ width → ⊥)
-    → LabelsFault widths before file WrongWidth
-wrong_width_at widths before file width at other = wrong_width width at other
-
-module _ (widths : List ℕ) (before : List LabelFileParts) (file : LabelFileParts) (places : List (Option ℕ))
+module _ (widths : List ℕ) (before : List LabelFileParts) (file : LabelFileParts)
+    (places : List (Option ℕ))
     (wide : length widths ≤ length places) (marked : ArePlaces before places)
     (at : slice_get widths file.index ≡ Some (length file.labels)) where
   inside : file.index < length places
   inside = omega (arith, slice_get_within widths file.index (length file.labels) at, wide)
 
-  -- one that has a file already,
-  pub double_value_at : is_some (get_or places file.index None) ≡ true → LabelsFault widths before file DoubleValue
+  -- A file whose value has a file already,
+  pub double_value_at : is_some (get_or places file.index None) ≡ true
+      → LabelsFault widths before file DoubleValue
   double_value_at is =
-      double_value at (place_taken before file.index (get_or places file.index None) is (marked file.index inside))
+      double_value at (place_taken before file.index (get_or places file.index None) is
+      (marked file.index inside))
 
   -- and one that is in order.
   pub in_order_at : is_some (get_or places file.index None) ≡ false → IsInOrder widths before file
   in_order_at is = record {
     width = at;
-    first = place_free before file.index (get_or places file.index None) is (marked file.index inside);
+    first = place_free before file.index (get_or places file.index None) is
+        (marked file.index inside);
   }
 
 -- No file stands before the first, so none is marked.
-pub places_none : (places : List (Option ℕ)) → ((k : ℕ) → k < length places → get_or places k None ≡ None)
+pub places_none : (places : List (Option ℕ)) → ((k : ℕ) → k < length places
+    → get_or places k None ≡ None)
     → ArePlaces [] places
-places_none places empty value room = rw (empty value room) (λ h. no_file value h)
-  where
-    no_file : (value : ℕ) → HasFile [] value → ⊥
-    no_file value h = cc (h.at)
+places_none places empty value room = rw (empty value room) (λ h. cc (h.at))
 
 module _ (widths : List ℕ) (files : List LabelFileParts) (i : ℕ) (file : LabelFileParts)
     (at : slice_get files i ≡ Some file) where
   -- One more file is in order.
-  pub in_order_more : AreInOrder widths files i → IsInOrder widths (take i files) file → AreInOrder widths files (i + 1)
+  pub in_order_more : AreInOrder widths files i → IsInOrder widths (take i files) file
+      → AreInOrder widths files (i + 1)
   in_order_more before last k other below at_k = elim (cases_eq k i) [
-    | inl same ↦
-        let is : file ≡ other = same_Some file other (sym at ∙ ap (slice_get files) (sym same) ∙ at_k) in
-        let Q : ℕ → Type 0 = λ n. IsInOrder widths (take n files) other in
-        let P : LabelFileParts → Type 0 = λ f. IsInOrder widths (take i files) f in
-        subst Q (sym same) (subst P is last)
+    | inl same ↦ let is : file ≡ other = cc in rw (same, ← is) last
     | inr differs ↦ before k other (omega arith) at_k
   ]
 
-  file_before : (value : ℕ) → value ≢ file.index → HasFile (take (i + 1) files) value → HasFile (take i files) value
+  file_before : (value : ℕ) → value ≢ file.index → HasFile (take (i + 1) files) value
+      → HasFile (take i files) value
   file_before value other h =
       let new = slice_get_taken (i + 1) h.place files h.file h.at in
       elim (cases_eq h.place i) [
         | inl same ↦
-            let is : file ≡ h.file = same_Some file h.file (sym at ∙ ap (slice_get files) (sym same) ∙ new.1) in
-            absurd (other (sym h.index ∙ ap (λ (f : LabelFileParts). f.index) (sym is)))
+            let is : file ≡ h.file = cc (new.1) in absurd (other (rw is (sym h.index)))
         | inr differs ↦ record {
           place = h.place;
           file = h.file;
@@ -103,19 +99,18 @@ module _ (widths : List ℕ) (files : List LabelFileParts) (i : ℕ) (file : Lab
       }
 
   -- Its value is marked.
-  pub places_more : (places : List (Option ℕ)) → file.index < length places → ArePlaces (take i files) places
+  pub places_more : (places : List (Option ℕ)) → file.index < length places
+      → ArePlaces (take i files) places
       → ArePlaces (take (i + 1) files) (set places file.index (Some i))
   places_more places room marked value inside = elim (cases_eq value file.index) [
-    | inl same ↦
-        let Q : Option ℕ → Type 0 =
-        λ o. MatchOption o (HasFile (take (i + 1) files) value → ⊥) (IsFileAt (take (i + 1) files) value) in
-        subst Q (sym (ap (λ n. get_or (set places file.index (Some i)) n None) same
-        ∙ get_or-set_same places file.index (Some i) None room))
-        (record { file = file; at = slice_get-take (i + 1) i files (omega arith) ∙ at; index = sym same })
-    | inr other ↦
-        let Q : Option ℕ → Type 0 =
-        λ o. MatchOption o (HasFile (take (i + 1) files) value → ⊥) (IsFileAt (take (i + 1) files) value) in
-        subst Q (sym (get_or-set_other places file.index value (Some i) None other))
+    | inl same ↦ rw (same, get_or-set_same places file.index (Some i) None room)
+        (record {
+          file = file;
+          at = slice_get-take (i + 1) i files (omega arith) ∙ at;
+          index =
+              refl;
+        })
+    | inr other ↦ rw (get_or-set_other places file.index value (Some i) None other)
         (place_kept value (get_or places value None) other
         (marked value (omega (arith, inside, length-set places file.index (Some i)))))
   ]
@@ -123,11 +118,10 @@ module _ (widths : List ℕ) (files : List LabelFileParts) (i : ℕ) (file : Lab
 -- What comparing two digests says.
 module _ (a b : List ℕ) (differ : Bool) (is : differ ≡ not (pointwise eqb a b)) where
   pub other_digest : differ ≡ true → a ≡ b → ⊥
-  other_digest differs same = let e = (slice_eq-Decides Decides-eqb a b (pointwise eqb a b) refl).1 same in cc
+  other_digest differs same = let e = (slice_eq-Decides Decides-eqb a b (pointwise eqb a b) refl).1
+      same in cc
 
   pub same_digest : differ ≡ false → a ≡ b
-  same_digest agrees = (slice_eq-Decides Decides-eqb a b (pointwise eqb a b) refl).0 (is_true (pointwise eqb a b) (sym is ∙ agrees))
-    where
-      is_true : (t : Bool) → not t ≡ false → t ≡ true
-      is_true true e = refl
-      is_true false e = absurd (cc)
+  same_digest agrees =
+      (slice_eq-Decides Decides-eqb a b (pointwise eqb a b) refl).0
+      (let e : not (pointwise eqb a b) ≡ false = sym is ∙ agrees in grind arith)

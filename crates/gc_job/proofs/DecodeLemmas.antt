@@ -1,6 +1,7 @@
 -- Decoding, one label after another, and recognising labels.
-use Rattle.std.proofs.Common.{◌≡◌, ℕ, ◌+◌, ◌-◌, ◌<◌, ◌≤◌, ◌++◌, List, [], ◌∷◌, Bool, true, false, not, length, length-take, length-drop, take, drop, get_or, slice_get, slice_index, Some, below_more, refl, sym, ap, ◌∙◌, arith}
+use Rattle.std.proofs.Common.{◌≡◌, ℕ, ◌+◌, ◌-◌, ◌<◌, ◌≤◌, ◌++◌, List, [], ◌∷◌, Bool, false, not, length, length-take, length-drop, take, drop, get_or, slice_get, slice_index, Some, inl, inr, refl, sym, ap, ◌∙◌, arith}
 use Rattle.std.proofs.Math.Bool.{beq}
+use Rattle.std.proofs.lemmas.Bool.{cases_eq}
 use Rattle.std.proofs.lemmas.List.{take_more, length-take-le, get_or_default, get_or-take, get_or-drop}
 use Rattle.std.proofs.lemmas.Option.{slice_get_read}
 use Rattle.gc_circuit.specs.Meaning.{xor}
@@ -11,7 +12,8 @@ use Rattle.gc_half.specs.Evaluation.{decode}
 use Rattle.gc_format.specs.declared.parts.EntryPair.{EntryPair}
 use Rattle.gc_job.specs.Evaluate.{IsRecognised, AreRecognised}
 
-decode-push : (bits : List Bool) (labels : List ℕ) (b : Bool) (l : ℕ) → length bits ≡ length labels →
+decode-push : (bits : List Bool) (labels : List ℕ) (b : Bool) (l : ℕ) → length bits ≡ length labels
+    →
     decode (bits ++ b ∷ []) (labels ++ l ∷ []) ≡ decode bits labels ++ xor b (colour l) ∷ []
 decode-push [] [] b l same = refl
 decode-push [] (m ∷ labels) b l same = absurd (omega (arith, same))
@@ -19,53 +21,51 @@ decode-push (a ∷ bits) [] b l same = absurd (omega (arith, same))
 decode-push (a ∷ bits) (m ∷ labels) b l same =
     ap (λ ds. xor a (colour m) ∷ ds) (decode-push bits labels b l (omega (arith, same)))
 
--- one more label
-pub decode_more : (bits : List Bool) (labels : List ℕ) (i : ℕ) → i < length bits → i < length labels →
-    decode (take (i + 1) bits) (take (i + 1) labels) ≡ decode (take i bits) (take i labels)
-    ++ xor (get_or bits i false) (colour (get_or labels i 0)) ∷ []
-decode_more bits labels i in_bits in_labels =
-    rw (take_more bits i false in_bits, take_more labels i 0 in_labels)
-    (decode-push (take i bits) (take i labels) (get_or bits i false) (get_or labels i 0)
-    (length-take-le i bits (omega arith) ∙ sym (length-take-le i labels (omega arith))))
-
--- the same, as the code has it
+-- One more label is decoded.
 pub decode_next : (bits : List Bool) (labels : List ℕ) (i : ℕ) (label : ℕ) (done : List Bool)
     → i < length bits → i < length labels → label ≡ get_or labels i label →
     done ≡ decode (take i bits) (take i labels) →
-    done ++ not (beq (get_or bits i false) (colour label)) ∷ [] ≡ decode (take (i + 1) bits) (take (i + 1) labels)
+    done ++ not (beq (get_or bits i false) (colour label)) ∷ []
+    ≡ decode (take (i + 1) bits) (take (i + 1) labels)
 decode_next bits labels i label done in_bits in_labels at is =
-    let same : get_or labels i 0 ≡ label = get_or_default labels i 0 label in_labels ∙ sym at in
-    rw is (ap (λ b. decode (take i bits) (take i labels) ++ b ∷ [])
-    (as_xor (get_or bits i false) (colour label) ∙ ap (λ l. xor (get_or bits i false) (colour l)) (sym same)))
-    ∙ sym (decode_more bits labels i in_bits in_labels)
+    rw (
+      is,
+      as_xor (get_or bits i false) (colour label),
+      take_more bits i false in_bits,
+      take_more labels i label in_labels,
+      ← at,
+    ) (sym (decode-push (take i bits) (take i labels) (get_or bits i false) label
+    (length-take-le i bits (omega arith) ∙ sym (length-take-le i labels (omega arith)))))
   where
     as_xor : (a b : Bool) → not (beq a b) ≡ xor a b
-    as_xor true true = refl
-    as_xor true false = refl
-    as_xor false true = refl
-    as_xor false false = refl
+    as_xor a b = grind arith
 
 -- A label by its place in a part of the labels.
-label_in_part : (labels : List ℕ) (first end i label : ℕ) → first ≤ i → i < end → end ≤ length labels
-    → label ≡ get_or labels i label → slice_get (take (end - first) (drop first labels)) (i - first) ≡ Some label
+label_in_part : (labels : List ℕ) (first end i label : ℕ) → first ≤ i → i < end
+    → end ≤ length labels
+    → label ≡ get_or labels i label → slice_get (take (end - first) (drop first labels))
+    (i - first) ≡ Some label
 label_in_part labels first end i label from below within at =
     let part = take (end - first) (drop first labels) in
     let place : first + (i - first) ≡ i = omega arith in
-    let same : get_or part (i - first) label ≡ get_or labels i label =
-    get_or-take (end - first) (drop first labels) (i - first) label (omega arith)
-    ∙ get_or-drop first labels (i - first) label ∙ ap (λ k. get_or labels k label) place
-    in
     slice_get_read part (length part) (i - first) label refl
-    (omega (arith, length-take (end - first) (drop first labels), length-drop first labels)) (at ∙ sym same)
+    (omega (arith, length-take (end - first) (drop first labels), length-drop first labels))
+    (at ∙ rw (
+      get_or-take (end - first) (drop first labels) (i - first) label (omega arith),
+      get_or-drop first labels (i - first) label,
+      place,
+    ) refl)
 
 -- A hash by its place among those of this part.
-pub hash_in_part : (and_gates : ℕ) (labels hashes : List ℕ) (first end i label hashed : ℕ) → first ≤ i → i < end
+pub hash_in_part : (and_gates : ℕ) (labels hashes : List ℕ) (first end i label hashed : ℕ)
+    → first ≤ i → i < end
     → end ≤ length labels → i - first < length hashes → label ≡ get_or labels i label
     → hashed ≡ get_or hashes (i - first) hashed
     → ((j l : ℕ) → slice_get (take (end - first) (drop first labels)) j ≡ Some l
     → slice_index hashes j ≡ hash l (output_tweak and_gates (first + j)))
     → hashed ≡ hash label (output_tweak and_gates i)
-hash_in_part and_gates labels hashes first end i label hashed from below within inside at read each =
+hash_in_part and_gates labels hashes first end i label hashed from below within inside at read
+    each =
     let place : first + (i - first) ≡ i = omega arith in
     read ∙ sym (get_or_default hashes (i - first) 0 hashed inside)
     ∙ each (i - first) label (label_in_part labels first end i label from below within at)
@@ -75,8 +75,8 @@ hash_in_part and_gates labels hashes first end i label hashed from below within 
 pub recognised_more : (and_gates : ℕ) (entries : List EntryPair) (labels : List ℕ) (i label : ℕ)
     → slice_get labels i ≡ Some label → IsRecognised and_gates entries i label
     → AreRecognised and_gates entries labels i → AreRecognised and_gates entries labels (i + 1)
-recognised_more and_gates entries labels i label at known before =
-    let P : ℕ → Type 0 = λ k. (l : ℕ) → slice_get labels k ≡ Some l → IsRecognised and_gates entries k l in
-    let here : P i = λ l got. let same : l ≡ label = cc in rw same known in
-    let all : (k : ℕ) → k < i + 1 → P k = below_more P i (λ k low l got. before k l low got) here in
-    λ k l low got. all k low l got
+recognised_more and_gates entries labels i label at known before k l low got =
+    elim (cases_eq k i) [
+      | inl same ↦ let is : l ≡ label = cc in rw (same, is) known
+      | inr other ↦ before k l (omega arith) got
+    ]

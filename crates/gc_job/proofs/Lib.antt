@@ -1,4 +1,3 @@
-pub mod AndNumberLemmas
 pub mod BindLemmas
 pub mod DecodeLemmas
 pub mod HonestLemmas

@@ -1,6 +1,6 @@
 -- The labels of the output wires.
-use Rattle.std.proofs.Common.{◌≡◌, ℕ, ◌+◌, ◌-◌, ◌<◌, List, length, map, drop, slice_get, Some, Bool, Result, Ok, Err, refl, sym, ap, subst, ◌∙◌, arith}
-use Rattle.std.specs.List.{range_with_len, zip}
+use Rattle.std.proofs.Common.{◌≡◌, ℕ, ◌+◌, ◌-◌, ◌<◌, List, length, map, drop, slice_get, Some, Bool, Result, Ok, Err, refl, sym, ap, ◌∙◌, arith}
+use Rattle.std.specs.List.{range_with_len}
 use Rattle.std.proofs.lemmas.List.FromFn.{length-map-range_with_len, get_or-map-range_with_len}
 use Rattle.std.proofs.lemmas.List.{length-map}
 use Rattle.std.proofs.lemmas.Slice.Zip.{length-zip}
@@ -11,7 +11,7 @@ use Rattle.gc_netlist.proofs.SolutionLemmas.{solution_solves}
 use Rattle.gc_netlist.proofs.Tables.{length-table, table_end}
 use Rattle.gc_half.specs.declared.garbling.RowPair.{RowPair}
 use Rattle.gc_half.specs.Hash.{hash}
-use Rattle.gc_half.specs.Evaluation.{active_rule, IsEvaluation}
+use Rattle.gc_half.specs.Evaluation.{active_rule}
 use Rattle.gc_half.proofs.CircuitLaw.{active_local}
 use Rattle.gc_job.specs.declared.fault.EvalFault.{EvalFault}
 use Rattle.gc_job.specs.declared.fault.EvalFault.TheVariants.{Memory}
@@ -26,64 +26,75 @@ module _ (c : Netlist) (lawful : IsLawful c) (values : ℕ → ℕ) where
   pub outputs-table : (table last : List ℕ) → table ≡ map values (range_with_len 0 c.wires)
       → last ≡ drop (c.wires - output_wires c) table → last ≡ on_outputs c values
   outputs-table table last is end =
-      end ∙ ap (drop (c.wires - output_wires c)) is ∙ table_end values c.wires (output_wires c) lawful.outputs_fit
+      end ∙ ap (drop (c.wires - output_wires c)) is
+      ∙ table_end values c.wires (output_wires c) lawful.outputs_fit
 
   pub length-outputs : (last : List ℕ) → last ≡ on_outputs c values → length last ≡ output_wires c
-  length-outputs last is = ap length is ∙ length-map-range_with_len values (c.wires - output_wires c) (output_wires c)
+  length-outputs last is = ap length is ∙ length-map-range_with_len values
+      (c.wires - output_wires c) (output_wires c)
 
   -- The label of one of them.
   pub output-at : (i label : ℕ) → slice_get (on_outputs c values) i ≡ Some label
       → (i < output_wires c) × (label ≡ values (c.wires - output_wires c + i))
   output-at i label at =
-      let inside : i < output_wires c =
-      omega (arith, slice_get_within (on_outputs c values) i label at, length-map-range_with_len values (c.wires - output_wires c) (output_wires c)) in (
+      let outputs = output_wires c in
+      let inside : i < outputs = omega (
+        arith,
+        slice_get_within (on_outputs c values) i label at,
+        length-outputs (on_outputs c values) refl,
+      ) in (
         inside,
         sym (get_or_from_slice_get (on_outputs c values) i label 0 at)
-            ∙ get_or-map-range_with_len values (c.wires - output_wires c) (output_wires c) i (c.wires - output_wires c + i) 0 inside (omega arith),
+            ∙ get_or-map-range_with_len values (c.wires - outputs) outputs i (c.wires - outputs + i)
+            0 inside (omega arith),
       )
 
 -- How many labels an evaluation gives.
-pub length-active : (c : Netlist) (rows : List RowPair) (inputs labels : List ℕ) → AreActive c rows inputs labels
+pub length-active : (c : Netlist) (rows : List RowPair) (inputs labels : List ℕ)
+    → AreActive c rows inputs labels
     → length labels ≡ c.wires
 length-active c rows inputs labels are = length-table are.active c.wires labels are.table
 
 -- A job is evaluated where its output labels are decoded,
 pub decoded-job : (job : JobParts) (c : Netlist) (rows : List RowPair) (inputs labels last : List ℕ)
-    (result : Result (List Bool) EvalFault) (are : AreActive c rows inputs labels) → c ≡ job.circuit → rows ≡ job.rows
-    → inputs ≡ job.inputs → last ≡ on_outputs c are.active → IsDecodingOf job last result → IsEvaluated job result
+    (result : Result (List Bool) EvalFault) (are : AreActive c rows inputs labels) → c ≡ job.circuit
+    → rows ≡ job.rows
+    → inputs ≡ job.inputs → last ≡ on_outputs c are.active → IsDecodingOf job last result
+    → IsEvaluated job result
 decoded-job job c rows inputs labels last result are same_c same_rows same_inputs is decoding =
-    let OfCircuit : Netlist → Type 0 = λ d. IsEvaluation hash d job.rows (labels_of job.inputs) are.active in
-    let OfRows : List RowPair → Type 0 = λ rs. IsEvaluation hash c rs (labels_of job.inputs) are.active in
-    let OfInputs : List ℕ → Type 0 = λ ls. IsEvaluation hash c rows (labels_of ls) are.active in
-    let Decoding : List ℕ → Type 0 = λ ls. IsDecodingOf job ls result in
+    let outputs : last ≡ on_outputs job.circuit are.active = is ∙ rw same_c refl in
     record {
       active = are.active;
-      evaluation = subst OfCircuit same_c (subst OfRows same_rows (subst OfInputs same_inputs are.evaluation));
-      decoding = subst Decoding (is ∙ ap (λ d. on_outputs d are.active) same_c) decoding;
+      evaluation = rw (← same_c, ← same_rows, ← same_inputs) are.evaluation;
+      decoding = rw (← outputs) decoding;
     }
 
 -- and where memory is missing.
 pub no_memory : (job : JobParts) → IsWhole job → IsEvaluated job (Err Memory)
 no_memory job whole = record {
   active = solution (active_rule hash job.circuit job.rows) job.circuit (labels_of job.inputs);
-  evaluation = solution_solves (active_rule hash job.circuit job.rows) (active_local hash job.circuit job.rows)
+  evaluation = solution_solves (active_rule hash job.circuit job.rows)
+      (active_local hash job.circuit job.rows)
       job.circuit whole.lawful (labels_of job.inputs);
   decoding = tt;
 }
 
 -- A job that is bound is whole.
-pub bound-whole : (c : Netlist) → IsLawful c → (g : GarbledParts) (files : List LabelFileParts) (job : JobParts)
+pub bound-whole : (c : Netlist) → IsLawful c → (g : GarbledParts) (files : List LabelFileParts)
+    (job : JobParts)
     → IsBound c g files job → IsWhole job
-bound-whole c lawful g files job bound =
-    subst IsWhole (sym bound.parts)
-    (record { lawful = lawful; rows = bound.counts.rows; decode_bits = bound.counts.decode_bits; inputs = bound.labels.count })
+bound-whole c lawful g files job bound = rw bound.parts (record {
+  lawful = lawful;
+  rows = bound.counts.rows;
+  decode_bits = bound.counts.decode_bits;
+  inputs = bound.labels.count;
+})
 
 -- An evaluation answers a bit for each output wire.
-pub length-evaluated : (job : JobParts) → IsWhole job → (bits : List Bool) → IsEvaluated job (Ok bits)
+pub length-evaluated : (job : JobParts) → IsWhole job → (bits : List Bool)
+    → IsEvaluated job (Ok bits)
     → length bits ≡ output_wires job.circuit
 length-evaluated job whole bits is =
     let labels = on_outputs job.circuit is.active in
-    let long : length labels ≡ output_wires job.circuit =
-    length-outputs job.circuit whole.lawful is.active labels refl in
-    ap length is.decoding.0 ∙ length-map (zip job.decode_bits labels) _ ∙ length-zip job.decode_bits labels
-    ∙ omega (arith, long, whole.decode_bits)
+    let long = length-outputs job.circuit whole.lawful is.active labels refl in
+    rw (is.decoding.0, length-map, length-zip) (omega (arith, long, whole.decode_bits))

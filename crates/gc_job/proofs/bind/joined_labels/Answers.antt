@@ -7,7 +7,6 @@ pub loop-place-preserved : goal.loop-place-preserved
 loop-place-preserved g c =
     c.in_ok-extend_from_slice.ensures.items
     ∙ rw (c.loop-place.invariant, c.labels.ensures)
-    (joined_more c.args.files.now c.args.places.now c.loop-place.place-index c.unwrap.result c.index-files-unwrap.result
+    (joined_more c.args.files.now c.args.places.now c.loop-place.place-index c.unwrap.result _
     (omega arith) c.unwrap.ensures
-    (slice_get_read c.args.files.now (length c.args.files.now) c.unwrap.result c.index-files-unwrap.result refl
-    (search rules) c.index-files-unwrap.is))
+    (slice_get_read _ (length c.args.files.now) _ _ refl (search rules) c.index-files-unwrap.is))

@@ -1,10 +1,9 @@
-use Rattle.std.specs.List.{range_with_len}
-use Rattle.std.proofs.Common.{◌≡◌, ◌<◌, ◌+◌, suc, inr, length, map, slice_index, sym, ◌∙◌, ap, arith, refl}
+use Rattle.std.proofs.Common.{◌≡◌, ◌<◌, ◌+◌, inr, add-one, length, sym, ◌∙◌, ap, arith, refl}
 use Rattle.gc_netlist.proofs.SolutionLemmas.{EachRead-map, IsSetBefore-more, solution_solves}
 use Rattle.gc_netlist.proofs.Tables.{table_step, length-table, EachRead-below, after-zero}
-use Rattle.gc_netlist.specs.Solution.{solution, values_after}
+use Rattle.gc_netlist.specs.Solution.{solution}
 use Rattle.gc_half.specs.Hash.{hash}
-use Rattle.gc_half.specs.Evaluation.{active_of, active_rule, row_at}
+use Rattle.gc_half.specs.Evaluation.{active_rule}
 use Rattle.gc_half.proofs.CircuitLaw.{active_local}
 use Rattle.gc_half.proofs.AndNumbers.{and_number-and, and_number-other, and_number-below}
 use Rattle.gc_job.specs.Evaluate.{labels_of}
@@ -16,8 +15,8 @@ loop-i-init g c = record {
   labels = c.new-active.ensures.labels ∙ c.in_ok-input_active_labels.ensures
       ∙ rw (
         c.wires.ensures.count,
-        after-zero (active_rule hash c.args.circuit.now c.args.rows.now) c.args.circuit.now
-            (labels_of c.args.inputs.now),
+        after-zero (active_rule hash c.args.circuit.now c.args.rows.now)
+            c.args.circuit.now (labels_of c.args.inputs.now),
       ) refl;
   waiting = λ w unset. rw c.new-active.ensures.waiting tt;
   numbered = refl;
@@ -36,7 +35,7 @@ step-requires-clause-read g c =
     let long = length-table _ c.args.circuit.now.wires _ c.loop-i.invariant.labels in
     EachRead-map (λ w. w < c.args.circuit.now.wires) (λ w. w < length c.loop-i.active.labels)
     c.gate-gate.result.operation (λ w h. omega (arith, long, h))
-    (EachRead-below c.args.circuit.now c.wires.ensures.lawful c.loop-i.i c.gate-gate.result c.gate-gate.ensures)
+    (EachRead-below _ c.wires.ensures.lawful c.loop-i.i _ c.gate-gate.ensures)
 
 pub step-requires-clause-place : goal.step-requires-clause-place
 step-requires-clause-place g c =
@@ -56,38 +55,44 @@ loop-i-preserved g c =
     let netlist = c.args.circuit.now in
     let gate = c.gate-gate.result in
     let i = c.loop-i.i in
-    let one : i + 1 ≡ suc i = omega arith in
+    let rule = active_rule hash netlist c.args.rows.now in
     record {
       labels = c.step.ensures.labels
-          ∙ table_step (active_rule hash netlist c.args.rows.now) (active_local hash netlist c.args.rows.now)
-          netlist c.wires.ensures.lawful (labels_of c.args.inputs.now) c.loop-i.active.labels i gate 0 _
-          c.loop-i.invariant.labels c.gate-gate.ensures
-          (ap (λ k. active_of hash (slice_index c.loop-i.active.labels) k (row_at c.args.rows.now k)
-          gate.operation) c.loop-i.invariant.numbered);
-      waiting = λ w unset.
-          c.step.ensures.waiting w
-          (λ same. unset (inr (i, omega arith, record { gate = gate; at = c.gate-gate.ensures; wire = sym same })))
-          (c.loop-i.invariant.waiting w (λ before. unset (IsSetBefore-more netlist i (i + 1) w (omega arith) before)));
-      numbered = rw one (elim c.if-is_and.branch [
-        | then-is_and w ↦ w.and_number-is ∙ ap (λ n. n + 1) c.loop-i.invariant.numbered
-            ∙ sym (and_number-and netlist i gate c.gate-gate.ensures
-            (sym c.is_and.ensures ∙ w.if-is_and.true))
-        | else-is_and w ↦ w.and_number-is ∙ c.loop-i.invariant.numbered
-            ∙ sym (and_number-other netlist i gate c.gate-gate.ensures
-            (sym c.is_and.ensures ∙ w.if-is_and.false))
+          ∙ table_step rule (active_local hash netlist c.args.rows.now) netlist
+          c.wires.ensures.lawful (labels_of c.args.inputs.now) c.loop-i.active.labels i gate 0 _
+          c.loop-i.invariant.labels c.gate-gate.ensures (rw c.loop-i.invariant.numbered refl);
+      waiting = λ w unset. c.step.ensures.waiting w
+          (λ same. unset (inr (
+            i,
+            omega arith,
+            record { gate = gate; at = c.gate-gate.ensures; wire = sym same },
+          )))
+          (c.loop-i.invariant.waiting w
+          (λ before. unset (IsSetBefore-more netlist i (i + 1) w (omega arith) before)));
+      numbered = rw (add-one i) (elim c.if-is_and.branch [
+        | then-is_and w ↦ rw (
+          w.and_number-is,
+          and_number-and netlist i gate c.gate-gate.ensures
+              (sym c.is_and.ensures ∙ w.if-is_and.true),
+        )
+            (ap (λ n. n + 1) c.loop-i.invariant.numbered)
+        | else-is_and w ↦ rw (
+          w.and_number-is,
+          and_number-other netlist i gate c.gate-gate.ensures
+              (sym c.is_and.ensures ∙ w.if-is_and.false),
+        ) c.loop-i.invariant.numbered
       ]);
     }
 
 pub returns : goal.returns
-returns g c = record {
-  active = solution (active_rule hash c.args.circuit.now c.args.rows.now) c.args.circuit.now
-      (labels_of c.args.inputs.now);
-  evaluation = solution_solves (active_rule hash c.args.circuit.now c.args.rows.now)
-      (active_local hash c.args.circuit.now c.args.rows.now) c.args.circuit.now c.wires.ensures.lawful
-      (labels_of c.args.inputs.now);
-  table =
-      c.into_labels.ensures ∙ c.loop-i.invariant.labels
-      ∙ ap (λ n. map (values_after (active_rule hash c.args.circuit.now c.args.rows.now) c.args.circuit.now
-      (labels_of c.args.inputs.now) n) (range_with_len 0 c.args.circuit.now.wires))
-      (let e : c.loop-i.i ≡ length c.args.circuit.now.gates = omega (arith, c.gates-i-end.ensures.count) in e);
-}
+returns g c =
+    let netlist = c.args.circuit.now in
+    let rule = active_rule hash netlist c.args.rows.now in
+    let given = labels_of c.args.inputs.now in
+    let whole : c.loop-i.i ≡ length netlist.gates = omega (arith, c.gates-i-end.ensures.count) in
+    record {
+      active = solution rule netlist given;
+      evaluation = solution_solves rule (active_local hash netlist c.args.rows.now) netlist
+          c.wires.ensures.lawful given;
+      table = rw (← whole) (c.into_labels.ensures ∙ c.loop-i.invariant.labels);
+    }

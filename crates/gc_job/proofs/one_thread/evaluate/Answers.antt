@@ -11,17 +11,14 @@ returns-in_err-active-clause-evaluated g c =
 
 pub output_labels-requires : goal.output_labels-requires
 output_labels-requires g c =
-    ap length c.deref.ensures.value
-    ∙ length-active c.circuit-circuit.result.now c.rows.result.now c.inputs.result.now c.in_ok-active.active.items
-    c.in_ok-active.ensures
+    ap length c.deref.ensures.value ∙ length-active _ _ _ _ c.in_ok-active.ensures
 
 pub decode-requires : goal.decode-requires
 decode-requires g c = rw (← c.circuit-circuit.ensures.circuit) c.output_labels.ensures.count
 
 pub returns-clause-evaluated : goal.returns-clause-evaluated
 returns-clause-evaluated g c =
-    decoded-job c.args.job.now c.circuit-circuit.result.now c.rows.result.now c.inputs.result.now
-    c.in_ok-active.active.items c.output_labels.result.now _ c.in_ok-active.ensures c.circuit-circuit.ensures.circuit
+    decoded-job c.args.job.now _ _ _ _ _ _ c.in_ok-active.ensures c.circuit-circuit.ensures.circuit
     c.rows.ensures c.inputs.ensures
     (c.output_labels.ensures.last c.in_ok-active.ensures.active
     (c.deref.ensures.value ∙ c.in_ok-active.ensures.table))
@@ -29,5 +26,5 @@ returns-clause-evaluated g c =
 
 pub returns-clause-honest : goal.returns-clause-honest
 returns-clause-honest g c =
-    honest-result (λ outputs. outputs.items) c.args.job.now c.decode.result c.circuit-circuit.ensures.whole
-    (returns-clause-evaluated g c)
+    honest-result (λ outputs. outputs.items) c.args.job.now c.decode.result
+    c.circuit-circuit.ensures.whole (returns-clause-evaluated g c)

@@ -8,19 +8,16 @@ use Rattle.gc_job.proofs.one_thread.evaluate_detached.Goals as goal
 pub returns-in_err-active-clause-evaluated : goal.returns-in_err-active-clause-evaluated
 returns-in_err-active-clause-evaluated g c =
     let p = err_from_is_err_and c.from_residual.result c.from_residual.ensures.1 in
-    rw (p.1, p.2) (no_memory (job_of c.args.circuit.now c.args.job.now.garbled c.args.job.now.inputs) c.requires)
+    rw (p.1, p.2) (no_memory _ c.requires)
 
 pub output_labels-requires : goal.output_labels-requires
 output_labels-requires g c =
-    ap length c.deref.ensures.value
-    ∙ length-active c.args.circuit.now c.rows.result.now c.inputs.result.now c.in_ok-active.active.items
-    c.in_ok-active.ensures
+    ap length c.deref.ensures.value ∙ length-active _ _ _ _ c.in_ok-active.ensures
 
 pub returns-clause-evaluated : goal.returns-clause-evaluated
 returns-clause-evaluated g c =
     let job = job_of c.args.circuit.now c.args.job.now.garbled c.args.job.now.inputs in
-    decoded-job job c.args.circuit.now c.rows.result.now c.inputs.result.now
-    c.in_ok-active.active.items c.output_labels.result.now _ c.in_ok-active.ensures refl
+    decoded-job job _ _ _ _ _ _ c.in_ok-active.ensures refl
     (c.rows.ensures ∙ ap (λ garbled. garbled.rows) c.garbled.ensures) c.inputs.ensures
     (c.output_labels.ensures.last c.in_ok-active.ensures.active
     (c.deref.ensures.value ∙ c.in_ok-active.ensures.table))
@@ -28,6 +25,5 @@ returns-clause-evaluated g c =
 
 pub returns-clause-honest : goal.returns-clause-honest
 returns-clause-honest g c =
-    honest-result (λ outputs. outputs.items)
-    (job_of c.args.circuit.now c.args.job.now.garbled c.args.job.now.inputs) c.decoding.result c.requires
+    honest-result (λ outputs. outputs.items) _ c.decoding.result c.requires
     (returns-clause-evaluated g c)

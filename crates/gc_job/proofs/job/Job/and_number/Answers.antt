@@ -1,5 +1,4 @@
-use Rattle.std.proofs.Common.{◌≡◌, suc, ◌+◌, sym, ap, ◌∙◌, arith}
-use Rattle.gc_netlist.specs.Circuit.{and_number}
+use Rattle.std.proofs.Common.{◌+◌, sym, ap, ◌∙◌, add-one}
 use Rattle.gc_half.proofs.AndNumbers.{and_number-and, and_number-other}
 use Rattle.gc_job.proofs.job.Job.and_number.Goals as goal
 use Rattle.gc_job.proofs.job.Job.and_number.Goals.{then-is_and, else-is_and}
@@ -8,14 +7,15 @@ pub loop-i-preserved : goal.loop-i-preserved
 loop-i-preserved g c =
     let circuit = c.circuit-circuit.result.now in
     let i = c.loop-i.i in
-    let next : suc i ≡ i + 1 = omega arith in
-    elim c.if-is_and.branch [
-      | then-is_and w ↦
-          w.number-is ∙ ap (λ n. n + 1) c.loop-i.invariant
-          ∙ sym (and_number-and circuit i c.gate.result c.gate.ensures (sym c.is_and.ensures
-          ∙ w.if-is_and.true)) ∙ ap (and_number circuit) next
-      | else-is_and w ↦
-          w.number-is ∙ c.loop-i.invariant
-          ∙ sym (and_number-other circuit i c.gate.result c.gate.ensures (sym c.is_and.ensures
-          ∙ w.if-is_and.false)) ∙ ap (and_number circuit) next
-    ]
+    rw (add-one i) (elim c.if-is_and.branch [
+      | then-is_and w ↦ rw (
+        w.number-is,
+        and_number-and circuit i c.gate.result c.gate.ensures
+            (sym c.is_and.ensures ∙ w.if-is_and.true),
+      ) (ap (λ n. n + 1) c.loop-i.invariant)
+      | else-is_and w ↦ rw (
+        w.number-is,
+        and_number-other circuit i c.gate.result c.gate.ensures
+            (sym c.is_and.ensures ∙ w.if-is_and.false),
+      ) c.loop-i.invariant
+    ])

@@ -1,18 +1,16 @@
 use Rattle.std.proofs.Common.{◌∙◌, sym, refl}
 use Rattle.std.proofs.lemmas.Result.{err_from_is_err_and}
-use Rattle.gc_job.specs.Binding.{HasCounts, other_circuit, other_counts, of_labels}
+use Rattle.gc_job.specs.Binding.{other_circuit, other_counts, of_labels}
 use Rattle.gc_job.proofs.BindLemmas.{other_digest, same_digest}
 use Rattle.gc_job.proofs.job.Job.bind_by_digest.Goals as goal
 
 pub returns-then-ne-clause-err : goal.returns-then-ne-clause-err
 returns-then-ne-clause-err g c = λ is _. other_circuit (λ same.
-    other_digest c.digest.result c.args.digest.now c.ne.result c.ne.ensures c.if-ne.true
-    (c.digest.ensures ∙ same ∙ sym is))
+    other_digest _ _ _ c.ne.ensures c.if-ne.true (c.digest.ensures ∙ same ∙ sym is))
 
 pub returns-then-not-has_counts-clause-err : goal.returns-then-not-has_counts-clause-err
 returns-then-not-has_counts-clause-err g c = λ is _. other_counts
-    (sym c.digest.ensures ∙ same_digest c.digest.result c.args.digest.now c.ne.result c.ne.ensures c.if-ne.false
-    ∙ is)
+    (sym c.digest.ensures ∙ same_digest _ _ _ c.ne.ensures c.if-ne.false ∙ is)
     (λ counts.
     let fits = c.has_counts.ensures.1 counts in let lacks = c.if-not-has_counts.true in cc)
 
@@ -20,13 +18,12 @@ pub returns-in_err-inputs-clause-err : goal.returns-in_err-inputs-clause-err
 returns-in_err-inputs-clause-err g c =
     let p = err_from_is_err_and c.from_residual.result c.from_residual.ensures.1 in
     rw (p.1, p.2) (λ is other. of_labels c.in_err-inputs.field-0.0
-    (sym c.digest.ensures ∙ same_digest c.digest.result c.args.digest.now c.ne.result c.ne.ensures c.if-ne.false
-    ∙ is)
+    (sym c.digest.ensures ∙ same_digest _ _ _ c.ne.ensures c.if-ne.false ∙ is)
     (c.has_counts.ensures.0 c.if-not-has_counts.false) (c.in_err-inputs.ensures.err other))
 
 pub invariant_of-result : goal.invariant_of-result
 invariant_of-result g c =
-    let counts : HasCounts c.args.circuit.now c.args.garbled = c.has_counts.ensures.0 c.if-not-has_counts.false in record {
+    let counts = c.has_counts.ensures.0 c.if-not-has_counts.false in record {
       lawful = c.law_lawful.ensures;
       rows = counts.rows;
       decode_bits = counts.decode_bits;
@@ -35,9 +32,7 @@ invariant_of-result g c =
 
 pub returns-clause-ok : goal.returns-clause-ok
 returns-clause-ok g c = λ is. record {
-  of_circuit =
-      sym c.digest.ensures ∙ same_digest c.digest.result c.args.digest.now c.ne.result c.ne.ensures c.if-ne.false
-      ∙ is;
+  of_circuit = sym c.digest.ensures ∙ same_digest _ _ _ c.ne.ensures c.if-ne.false ∙ is;
   counts = c.has_counts.ensures.0 c.if-not-has_counts.false;
   labels = c.in_ok-inputs.ensures.ok;
   parts = refl;
