@@ -15,8 +15,7 @@ use Rattle.gc_job.proofs.TakeLemmas.{slice_get-take, slice_get_taken}
 
 -- What `get` found at an index.
 pub read_at : (xs : List ℕ) (i j x y : ℕ) → true ≡ ltb i (length xs) → x ≡ get_or xs i x → i ≡ j
-    → y ≡ x
-    → slice_get xs j ≡ Some y
+    → y ≡ x → slice_get xs j ≡ Some y
 read_at xs i j x y below at e f = rw (f, ← e)
     (slice_get_read xs (length xs) i x refl (ltb-true i (length xs) (sym below)) at)
 
@@ -24,8 +23,8 @@ read_at xs i j x y below at e f = rw (f, ← e)
 place_taken : (before : List LabelFileParts) (value : ℕ) (o : Option ℕ) → is_some o ≡ true
     → MatchOption o (HasFile before value → ⊥) (IsFileAt before value) → HasFile before value
 place_taken before value None is h = absurd (cc)
-place_taken before value (Some place) is h = record
-    { place = place; file = h.file; at = h.at; index = h.index }
+place_taken before value (Some place) is h =
+    record { place = place; file = h.file; at = h.at; index = h.index }
 
 -- and one that isn't.
 pub place_free : (before : List LabelFileParts) (value : ℕ) (o : Option ℕ) → is_some o ≡ false
@@ -34,8 +33,8 @@ place_free before value None is h = h
 place_free before value (Some place) is h = absurd (cc)
 
 module _ (widths : List ℕ) (before : List LabelFileParts) (file : LabelFileParts)
-    (places : List (Option ℕ))
-    (wide : length widths ≤ length places) (marked : ArePlaces before places)
+    (places : List (Option ℕ)) (wide : length widths ≤ length places)
+    (marked : ArePlaces before places)
     (at : slice_get widths file.index ≡ Some (length file.labels)) where
   inside : file.index < length places
   inside = omega (arith, slice_get_within widths file.index (length file.labels) at, wide)
@@ -56,9 +55,8 @@ module _ (widths : List ℕ) (before : List LabelFileParts) (file : LabelFilePar
   }
 
 -- No file stands before the first, so none is marked.
-pub places_none : (places : List (Option ℕ)) → ((k : ℕ) → k < length places
-    → get_or places k None ≡ None)
-    → ArePlaces [] places
+pub places_none : (places : List (Option ℕ))
+    → ((k : ℕ) → k < length places → get_or places k None ≡ None) → ArePlaces [] places
 places_none places empty value room = rw (empty value room) (λ h. cc (h.at))
 
 module _ (widths : List ℕ) (files : List LabelFileParts) (i : ℕ) (file : LabelFileParts)
@@ -103,13 +101,10 @@ module _ (widths : List ℕ) (files : List LabelFileParts) (i : ℕ) (file : Lab
       → ArePlaces (take i files) places
       → ArePlaces (take (i + 1) files) (set places file.index (Some i))
   places_more places room marked value inside = elim (cases_eq value file.index) [
-    | inl same ↦ rw (same, get_or-set_same places file.index (Some i) None room)
-        (record {
-          file = file;
-          at = slice_get-take (i + 1) i files (omega arith) ∙ at;
-          index =
-              refl;
-        })
+    | inl same ↦
+        let here = slice_get-take (i + 1) i files (omega arith) ∙ at in
+        rw (same, get_or-set_same places file.index (Some i) None room)
+        (record { file = file; at = here; index = refl })
     | inr other ↦ rw (get_or-set_other places file.index value (Some i) None other)
         (place_kept value (get_or places value None) other
         (marked value (omega (arith, inside, length-set places file.index (Some i)))))
@@ -118,8 +113,8 @@ module _ (widths : List ℕ) (files : List LabelFileParts) (i : ℕ) (file : Lab
 -- What comparing two digests says.
 module _ (a b : List ℕ) (differ : Bool) (is : differ ≡ not (pointwise eqb a b)) where
   pub other_digest : differ ≡ true → a ≡ b → ⊥
-  other_digest differs same = let e = (slice_eq-Decides Decides-eqb a b (pointwise eqb a b) refl).1
-      same in cc
+  other_digest differs same =
+      let e = (slice_eq-Decides Decides-eqb a b (pointwise eqb a b) refl).1 same in cc
 
   pub same_digest : differ ≡ false → a ≡ b
   same_digest agrees =

@@ -12,9 +12,9 @@ use Rattle.gc_half.specs.Evaluation.{decode}
 use Rattle.gc_format.specs.declared.parts.EntryPair.{EntryPair}
 use Rattle.gc_job.specs.Evaluate.{IsRecognised, AreRecognised}
 
-decode-push : (bits : List Bool) (labels : List ℕ) (b : Bool) (l : ℕ) → length bits ≡ length labels
-    →
-    decode (bits ++ b ∷ []) (labels ++ l ∷ []) ≡ decode bits labels ++ xor b (colour l) ∷ []
+decode-push : (bits : List Bool) (labels : List ℕ) (b : Bool) (l : ℕ)
+    → length bits ≡ length labels
+    → decode (bits ++ b ∷ []) (labels ++ l ∷ []) ≡ decode bits labels ++ xor b (colour l) ∷ []
 decode-push [] [] b l same = refl
 decode-push [] (m ∷ labels) b l same = absurd (omega (arith, same))
 decode-push (a ∷ bits) [] b l same = absurd (omega (arith, same))
@@ -40,36 +40,26 @@ decode_next bits labels i label done in_bits in_labels at is =
     as_xor : (a b : Bool) → not (beq a b) ≡ xor a b
     as_xor a b = grind arith
 
--- A label by its place in a part of the labels.
-label_in_part : (labels : List ℕ) (first end i label : ℕ) → first ≤ i → i < end
-    → end ≤ length labels
-    → label ≡ get_or labels i label → slice_get (take (end - first) (drop first labels))
-    (i - first) ≡ Some label
-label_in_part labels first end i label from below within at =
-    let part = take (end - first) (drop first labels) in
-    let place : first + (i - first) ≡ i = omega arith in
-    slice_get_read part (length part) (i - first) label refl
-    (omega (arith, length-take (end - first) (drop first labels), length-drop first labels))
-    (at ∙ rw (
-      get_or-take (end - first) (drop first labels) (i - first) label (omega arith),
-      get_or-drop first labels (i - first) label,
-      place,
-    ) refl)
-
 -- A hash by its place among those of this part.
 pub hash_in_part : (and_gates : ℕ) (labels hashes : List ℕ) (first end i label hashed : ℕ)
-    → first ≤ i → i < end
-    → end ≤ length labels → i - first < length hashes → label ≡ get_or labels i label
+    → first ≤ i → i < end → end ≤ length labels → i - first < length hashes
+    → label ≡ get_or labels i label
     → hashed ≡ get_or hashes (i - first) hashed
     → ((j l : ℕ) → slice_get (take (end - first) (drop first labels)) j ≡ Some l
     → slice_index hashes j ≡ hash l (output_tweak and_gates (first + j)))
     → hashed ≡ hash label (output_tweak and_gates i)
-hash_in_part and_gates labels hashes first end i label hashed from below within inside at read
-    each =
+hash_in_part and_gates labels hashes first end i label hashed from below within inside at
+    read each =
+    let part = take (end - first) (drop first labels) in
     let place : first + (i - first) ≡ i = omega arith in
+    let same : get_or part (i - first) label ≡ label =
+    get_or-take (end - first) (drop first labels) (i - first) label (omega arith)
+    ∙ get_or-drop first labels (i - first) label ∙ rw place (sym at) in
+    let found = slice_get_read part (length part) (i - first) label refl
+    (omega (arith, length-take (end - first) (drop first labels), length-drop first labels))
+    (sym same) in
     read ∙ sym (get_or_default hashes (i - first) 0 hashed inside)
-    ∙ each (i - first) label (label_in_part labels first end i label from below within at)
-    ∙ ap (λ k. hash label (output_tweak and_gates k)) place
+    ∙ each (i - first) label found ∙ rw place refl
 
 -- One more label is recognised.
 pub recognised_more : (and_gates : ℕ) (entries : List EntryPair) (labels : List ℕ) (i label : ℕ)

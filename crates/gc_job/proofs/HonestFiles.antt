@@ -2,7 +2,7 @@
 use Rattle.std.proofs.Common.{◌≡◌, ℕ, suc, ◌+◌, Bool, List, [], ◌∷◌, length, map, sum, take, drop, flat_map, slice_get, Some, Result, MatchResult, refl, sym, ap, ◌∙◌, arith}
 use Rattle.std.proofs.lemmas.List.{length-drop, length-map, take-append-drop, drop-drop}
 use Rattle.std.proofs.lemmas.Option.{slice_get-map, slice_get_within, same_Some}
-use Rattle.std.proofs.lemmas.List.Sums.{sum-map}
+use Rattle.std.proofs.lemmas.List.Sums.{sum-map, sum_by-cons}
 use Rattle.std.proofs.lemmas.List.Concat.{length-flat_map}
 use Rattle.gc_netlist.specs.Circuit.{Netlist, IsLawful}
 use Rattle.gc_circuit.specs.Meaning.{AreOutputs}
@@ -19,7 +19,6 @@ use Rattle.gc_job.specs.Binding.{HasCounts, LabelsFault, no_such_value, wrong_wi
 use Rattle.gc_job.specs.Honest.{IsHonest, AreHonestFiles, HonestFilesLaw}
 use Rattle.gc_job.proofs.TakeLemmas.{slice_get_taken}
 use Rattle.gc_job.proofs.HonestLemmas.{honest-evaluates}
-use Rattle.gc_job.proofs.JoinLemmas.{sum-cons}
 use Rattle.gc_job.proofs.OutputLemmas.{bound-whole}
 
 -- Labels that are those of the bits of each value, from that value's first wire on, are those of
@@ -39,7 +38,8 @@ joined-labels seed (bits ∷ values) first labels count at =
       let e : take w labels ≡ encoded_from first seed bits =
           at 0 bits refl ∙ ap (λ n. encoded_from n seed bits) (omega arith) in e,
       joined-labels seed values (first + w) (drop w labels)
-          (omega (arith, length-drop w labels, count, sum-cons w (map length values))) rest,
+          (omega (arith, length-drop w labels, count, sum_by-cons (λ m. m) w (map length values)))
+          rest,
     ) (sym (encoded_from-append seed first bits (flat_map (λ value. value) values)))
   where
     rest : (k : ℕ) (others : List Bool) → slice_get values k ≡ Some others →
@@ -47,7 +47,7 @@ joined-labels seed (bits ∷ values) first labels count at =
         ≡ encoded_from (first + length bits + sum (take k (map length values))) seed others
     rest k others at_k =
         let before : ℕ = sum (take k (map length values)) in
-        let more = sum-cons (length bits) (take k (map length values)) in
+        let more = sum_by-cons (λ m. m) (length bits) (take k (map length values)) in
         let from : first + sum (length bits ∷ take k (map length values))
         ≡ first + length bits + before = omega (arith, more) in
         rw (drop-drop before (length bits) labels, ← more, ← from) (at (suc k) others at_k)
@@ -55,9 +55,6 @@ joined-labels seed (bits ∷ values) first labels count at =
 module _ (c : Netlist) (lawful : IsLawful c) (seed : List ℕ) (values : List (List Bool))
     (g : GarbledParts) (files : List LabelFileParts)
     (honest : AreHonestFiles c seed values g files) where
-  value-count : length values ≡ length c.input_widths
-  value-count = sym (length-map values length) ∙ ap length honest.fits
-
   counts : HasCounts c g
   counts =
       let is = honest.garbled.garbled in
@@ -97,7 +94,7 @@ module _ (c : Netlist) (lawful : IsLawful c) (seed : List ℕ) (values : List (L
   no-bind-fault _ (of_labels _ is has (of_file i file fault before at has_fault)) =
       no-labels-fault i file fault at has_fault
   no-bind-fault _ (of_labels _ is has (missing_value value in_order inside none)) =
-      none (honest.each value (omega (arith, value-count)))
+      none (honest.each value (omega (arith, length-map values length, ap length honest.fits)))
 
   bound-inputs : (job : JobParts) → IsBound c g files job
       → job.inputs ≡ encoded_from 0 seed (flat_map (λ value. value) values)
@@ -145,12 +142,6 @@ module _ (c : Netlist) (lawful : IsLawful c) (seed : List ℕ) (values : List (L
       (honest-evaluates job (bound-whole c lawful g files job bound) seed
       (flat_map (λ value. value) values) (bound-honest job bound) result is)
 
-pub honest-files : (c : Netlist) → IsLawful c
-    → (seed : List ℕ) (values : List (List Bool)) (g : GarbledParts)
-    (files : List LabelFileParts) → AreHonestFiles c seed values g files
-    → HonestFilesLaw c seed values g files
-honest-files c lawful seed values g files honest = record {
-  no_fault = no-bind-fault c lawful seed values g files honest;
-  honest = bound-honest c lawful seed values g files honest;
-  outputs = bound-outputs c lawful seed values g files honest;
-}
+  pub honest-files : HonestFilesLaw c seed values g files
+  honest-files =
+      record { no_fault = no-bind-fault; honest = bound-honest; outputs = bound-outputs }

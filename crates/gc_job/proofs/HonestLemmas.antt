@@ -159,10 +159,8 @@ module _ (job : JobParts) (whole : IsWhole job) (seed : List ℕ) (bits : List B
 pub honest-result : {V : Type 0} (view : V → List Bool) (job : JobParts)
     (result : Result V EvalFault) → IsWhole job
     → IsEvaluated job (result_map_both view (λ (fault : EvalFault). fault) result)
-    → (seed : List ℕ) (bits : List Bool)
-    → IsHonest job seed bits →
-    MatchResult result (λ outputs. AreOutputs job.circuit bits (view outputs))
-    (λ fault. fault ≡ Memory)
+    → (seed : List ℕ) (bits : List Bool) → IsHonest job seed bits → MatchResult result
+    (λ outputs. AreOutputs job.circuit bits (view outputs)) (λ fault. fault ≡ Memory)
 honest-result view job (Ok outputs) whole is seed bits honest =
     honest-evaluates job whole seed bits honest (Ok (view outputs)) is
 honest-result view job (Err fault) whole is seed bits honest =

@@ -9,7 +9,7 @@ use Rattle.std.proofs.lemmas.List.Concat.{flat_map-append, length-flat_map}
 use Rattle.std.proofs.lemmas.Option.{slice_get_within, get_or_from_slice_get}
 use Rattle.gc_format.specs.LabelFile.{LabelFileParts}
 use Rattle.gc_job.specs.declared.fault.BindFault.TheVariants.{MissingValue}
-use Rattle.gc_job.specs.Binding.{HasFile, AreInOrder, FirstLabelsFault, missing_value, AreLabelsOf, AreBound}
+use Rattle.gc_job.specs.Binding.{HasFile, AreInOrder, FirstLabelsFault, missing_value, AreBound}
 use Rattle.gc_job.specs.Places.{IsFileAt, ArePlaces, labels_at}
 use Rattle.gc_half.proofs.SetWires.{lt_or_le}
 use Rattle.gc_job.proofs.TakeLemmas.{slice_get-take}
@@ -17,18 +17,16 @@ use Rattle.gc_job.proofs.BindLemmas.{place_free}
 
 -- The places of the first n values.
 pub places_front : (files : List LabelFileParts) (places : List (Option ℕ)) (n : ℕ)
-    → ArePlaces files places
-    → ArePlaces files (take n places)
+    → ArePlaces files places → ArePlaces files (take n places)
 places_front files places n marked value room =
     let long = length-take n places in
     rw (get_or-take n places value None (omega arith)) (marked value (omega arith))
 
 -- The labels of one more place.
 pub joined_more : (files : List LabelFileParts) (places : List (Option ℕ)) (i k : ℕ)
-    (file : LabelFileParts)
-    → i < length places → get_or places i None ≡ Some k → slice_get files k ≡ Some file →
-    flat_map (labels_at files) (take i places)
-    ++ file.labels ≡ flat_map (labels_at files) (take (i + 1) places)
+    (file : LabelFileParts) → i < length places → get_or places i None ≡ Some k
+    → slice_get files k ≡ Some file → flat_map (labels_at files) (take i places) ++ file.labels
+    ≡ flat_map (labels_at files) (take (i + 1) places)
 joined_more files places i k file room is at = rw (
   take_more places i None room,
   flat_map-append (labels_at files) (take i places) (get_or places i None ∷ []),
@@ -36,23 +34,16 @@ joined_more files places i k file room is at = rw (
   at,
 ) (sym (ap (λ ls. flat_map (labels_at files) (take i places) ++ ls) (append-nil file.labels)))
 
-pub sum-cons : (n : ℕ) (ns : List ℕ) → sum (n ∷ ns) ≡ n + sum ns
-sum-cons n ns = sum_by-cons (λ m. m) n ns
-
 module _ {X : Type 0} (f : X → List ℕ) where
-  length-joined : (xs : List X) → length (flat_map f xs) ≡ sum (map (λ x. length (f x)) xs)
-  length-joined xs = length-flat_map f xs ∙ sym (sum-map (λ x. length (f x)) xs)
-
   -- The k-th list of those joined stands where the lengths before it end.
   joined-at : (xs : List X) (k : ℕ) (d : X) → k < length xs →
-      take (length (f (get_or xs k d))) (drop (sum (take k (map (λ x. length (f x)) xs)))
-      (flat_map f xs))
-      ≡ f (get_or xs k d)
+      take (length (f (get_or xs k d)))
+      (drop (sum (take k (map (λ x. length (f x)) xs))) (flat_map f xs)) ≡ f (get_or xs k d)
   joined-at [] k d room = absurd (omega arith)
   joined-at (x ∷ xs) zero d room = take_at (f x) (flat_map f xs) (length (f x)) refl
   joined-at (x ∷ xs) (suc k) d room =
       rw (
-        sum-cons (length (f x)) (take k (map (λ y. length (f y)) xs)),
+        sum_by-cons (λ m. m) (length (f x)) (take k (map (λ y. length (f y)) xs)),
         ← drop-drop (sum (take k (map (λ y. length (f y)) xs))) (length (f x))
             (f x ++ flat_map f xs),
         drop_at (f x) (flat_map f xs) (length (f x)) refl,
@@ -67,21 +58,14 @@ module _ (widths : List ℕ) (files : List LabelFileParts)
 
   -- No two files are for one value.
   not_before : (i k : ℕ) (file other : LabelFileParts) → slice_get files i ≡ Some file
-      → slice_get files k ≡ Some other
-      → file.index ≡ other.index → k < i → ⊥
+      → slice_get files k ≡ Some other → file.index ≡ other.index → k < i → ⊥
   not_before i k file other at at_k same below =
+      let before = slice_get-take i k files below ∙ at_k in
       (in_order i file (slice_get_within files i file at) at).first
-      (record {
-        place = k;
-        file = other;
-        at = slice_get-take i k files below ∙ at_k;
-        index =
-            sym same;
-      })
+      (record { place = k; file = other; at = before; index = sym same })
 
   one_file : (i k : ℕ) (file other : LabelFileParts) → slice_get files i ≡ Some file
-      → slice_get files k ≡ Some other
-      → file.index ≡ other.index → i ≡ k
+      → slice_get files k ≡ Some other → file.index ≡ other.index → i ≡ k
   one_file i k file other at at_k same = elim (lt_or_le i k) [
     | inl below ↦ absurd (not_before k i other file at_k at (sym same) below)
     | inr above ↦ elim (cases_eq i k) [
@@ -92,22 +76,17 @@ module _ (widths : List ℕ) (files : List LabelFileParts)
 
   -- Where a place is missing, so is a file.
   pub missing_file : (places : List (Option ℕ)) → length places ≡ length widths
-      → ArePlaces files places
-      → list_any is_none places ≡ true → FirstLabelsFault widths files MissingValue
+      → ArePlaces files places → list_any is_none places ≡ true
+      → FirstLabelsFault widths files MissingValue
   missing_file places count marked missing =
       let some = Any-from_list_any is_none places missing in
-      let gap : is_none (get_or places some.0 None) ≡ true =
-      ap is_none (get_or_default places some.0 None some.1 some.2 ∙ some.3) ∙ some.4 in
+      let none = ap is_none (get_or_default places some.0 None some.1 some.2 ∙ some.3) ∙ some.4 in
+      let gap : is_some (get_or places some.0 None) ≡ false = grind (arith, none) in
       missing_value some.0 in_order (omega (arith, count, some.2))
-      (place_free files some.0 (get_or places some.0 None) (is_none_not _ gap)
-      (marked some.0 some.2))
-    where
-      is_none_not : (o : Option ℕ) → is_none o ≡ true → is_some o ≡ false
-      is_none_not o h = grind arith
+      (place_free files some.0 (get_or places some.0 None) gap (marked some.0 some.2))
 
   module _ (places : List (Option ℕ)) (count : length places ≡ length widths)
-      (marked : ArePlaces files places)
-      (whole : list_any is_none places ≡ false) where
+      (marked : ArePlaces files places) (whole : list_any is_none places ≡ false) where
     -- Each value has a file, at its place.
     has_place : (value : ℕ) → value < length places
         → (k : ℕ) × (get_or places value None ≡ Some k) × IsFileAt files value k
@@ -153,17 +132,13 @@ module _ (widths : List ℕ) (files : List LabelFileParts)
       whole = λ value room.
           let place = has_place value (omega (arith, count)) in
           record { place = place.0; file = place.2.file; at = place.2.at; index = place.2.index };
-      count = ap length is ∙ length-joined (labels_at files) places ∙ ap sum lengths-widths;
-      from_files = from_files;
+      count = ap length is ∙ length-flat_map (labels_at files) places ∙ sym (sum-map size places)
+          ∙ ap sum lengths-widths;
+      from_files = λ k file at.
+          let within = slice_get_within widths file.index _ (width_at k file at) in
+          rw (is, ← lengths-widths, ← labels-at k file at)
+          (joined-at (labels_at files) places file.index None (omega arith));
     }
-      where
-        from_files : AreLabelsOf widths files labels
-        from_files k file at =
-            let within = slice_get_within widths file.index (length file.labels)
-            (width_at k file at)
-            in
-            rw (is, ← lengths-widths, ← labels-at k file at)
-            (joined-at (labels_at files) places file.index None (omega arith))
 
     -- And each place has a file.
     pub places-inside : (value : ℕ) (d : Option ℕ) → value < length places

@@ -8,7 +8,7 @@ use Rattle.std.proofs.lemmas.Option.{slice_get_within, get_or_from_slice_get}
 use Rattle.gc_netlist.specs.Circuit.{Netlist, output_wires, IsLawful}
 use Rattle.gc_netlist.specs.Solution.{solution, on_outputs}
 use Rattle.gc_netlist.proofs.SolutionLemmas.{solution_solves}
-use Rattle.gc_netlist.proofs.Tables.{length-table, table_end}
+use Rattle.gc_netlist.proofs.Tables.{table_end}
 use Rattle.gc_half.specs.declared.garbling.RowPair.{RowPair}
 use Rattle.gc_half.specs.Hash.{hash}
 use Rattle.gc_half.specs.Evaluation.{active_rule}
@@ -30,8 +30,7 @@ module _ (c : Netlist) (lawful : IsLawful c) (values : ℕ → ℕ) where
       ∙ table_end values c.wires (output_wires c) lawful.outputs_fit
 
   pub length-outputs : (last : List ℕ) → last ≡ on_outputs c values → length last ≡ output_wires c
-  length-outputs last is = ap length is ∙ length-map-range_with_len values
-      (c.wires - output_wires c) (output_wires c)
+  length-outputs last is = ap length is ∙ length-map-range_with_len values _ (output_wires c)
 
   -- The label of one of them.
   pub output-at : (i label : ℕ) → slice_get (on_outputs c values) i ≡ Some label
@@ -49,18 +48,11 @@ module _ (c : Netlist) (lawful : IsLawful c) (values : ℕ → ℕ) where
             0 inside (omega arith),
       )
 
--- How many labels an evaluation gives.
-pub length-active : (c : Netlist) (rows : List RowPair) (inputs labels : List ℕ)
-    → AreActive c rows inputs labels
-    → length labels ≡ c.wires
-length-active c rows inputs labels are = length-table are.active c.wires labels are.table
-
 -- A job is evaluated where its output labels are decoded,
 pub decoded-job : (job : JobParts) (c : Netlist) (rows : List RowPair) (inputs labels last : List ℕ)
-    (result : Result (List Bool) EvalFault) (are : AreActive c rows inputs labels) → c ≡ job.circuit
-    → rows ≡ job.rows
-    → inputs ≡ job.inputs → last ≡ on_outputs c are.active → IsDecodingOf job last result
-    → IsEvaluated job result
+    (result : Result (List Bool) EvalFault) (are : AreActive c rows inputs labels)
+    → c ≡ job.circuit → rows ≡ job.rows → inputs ≡ job.inputs → last ≡ on_outputs c are.active
+    → IsDecodingOf job last result → IsEvaluated job result
 decoded-job job c rows inputs labels last result are same_c same_rows same_inputs is decoding =
     let outputs : last ≡ on_outputs job.circuit are.active = is ∙ rw same_c refl in
     record {
@@ -74,15 +66,13 @@ pub no_memory : (job : JobParts) → IsWhole job → IsEvaluated job (Err Memory
 no_memory job whole = record {
   active = solution (active_rule hash job.circuit job.rows) job.circuit (labels_of job.inputs);
   evaluation = solution_solves (active_rule hash job.circuit job.rows)
-      (active_local hash job.circuit job.rows)
-      job.circuit whole.lawful (labels_of job.inputs);
+      (active_local hash job.circuit job.rows) job.circuit whole.lawful (labels_of job.inputs);
   decoding = tt;
 }
 
 -- A job that is bound is whole.
 pub bound-whole : (c : Netlist) → IsLawful c → (g : GarbledParts) (files : List LabelFileParts)
-    (job : JobParts)
-    → IsBound c g files job → IsWhole job
+    (job : JobParts) → IsBound c g files job → IsWhole job
 bound-whole c lawful g files job bound = rw bound.parts (record {
   lawful = lawful;
   rows = bound.counts.rows;
@@ -92,8 +82,7 @@ bound-whole c lawful g files job bound = rw bound.parts (record {
 
 -- An evaluation answers a bit for each output wire.
 pub length-evaluated : (job : JobParts) → IsWhole job → (bits : List Bool)
-    → IsEvaluated job (Ok bits)
-    → length bits ≡ output_wires job.circuit
+    → IsEvaluated job (Ok bits) → length bits ≡ output_wires job.circuit
 length-evaluated job whole bits is =
     let labels = on_outputs job.circuit is.active in
     let long = length-outputs job.circuit whole.lawful is.active labels refl in

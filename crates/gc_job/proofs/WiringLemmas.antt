@@ -16,8 +16,7 @@ set_within c w g set = slice_get_within c.gates g set.gate set.at
 
 -- One gate more that doesn't set a wire.
 pub not_set_below_more : (c : Netlist) (w i : ℕ) (g : Gate) → slice_get c.gates i ≡ Some g
-    → g.set ≢ w
-    → ((h : ℕ) → h < i → IsSetBy c w h → ⊥) → (h : ℕ) → h < i + 1 → IsSetBy c w h → ⊥
+    → g.set ≢ w → ((h : ℕ) → h < i → IsSetBy c w h → ⊥) → (h : ℕ) → h < i + 1 → IsSetBy c w h → ⊥
 not_set_below_more c w i g at other none h below by = elim (cases_eq h i) [
   | inl same ↦ let is : g ≡ by.gate = cc in other (rw is by.wire)
   | inr apart ↦ none h (omega arith) by

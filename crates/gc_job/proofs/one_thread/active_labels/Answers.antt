@@ -62,25 +62,17 @@ loop-i-preserved g c =
           c.wires.ensures.lawful (labels_of c.args.inputs.now) c.loop-i.active.labels i gate 0 _
           c.loop-i.invariant.labels c.gate-gate.ensures (rw c.loop-i.invariant.numbered refl);
       waiting = λ w unset. c.step.ensures.waiting w
-          (λ same. unset (inr (
-            i,
-            omega arith,
-            record { gate = gate; at = c.gate-gate.ensures; wire = sym same },
-          )))
+          (λ same. unset
+          (inr (i, omega arith, record { gate = gate; at = c.gate-gate.ensures; wire = sym same })))
           (c.loop-i.invariant.waiting w
           (λ before. unset (IsSetBefore-more netlist i (i + 1) w (omega arith) before)));
       numbered = rw (add-one i) (elim c.if-is_and.branch [
-        | then-is_and w ↦ rw (
-          w.and_number-is,
-          and_number-and netlist i gate c.gate-gate.ensures
-              (sym c.is_and.ensures ∙ w.if-is_and.true),
-        )
-            (ap (λ n. n + 1) c.loop-i.invariant.numbered)
-        | else-is_and w ↦ rw (
-          w.and_number-is,
-          and_number-other netlist i gate c.gate-gate.ensures
-              (sym c.is_and.ensures ∙ w.if-is_and.false),
-        ) c.loop-i.invariant.numbered
+        | then-is_and w ↦ w.and_number-is ∙ ap (λ n. n + 1) c.loop-i.invariant.numbered
+            ∙ sym (and_number-and netlist i gate c.gate-gate.ensures
+            (sym c.is_and.ensures ∙ w.if-is_and.true))
+        | else-is_and w ↦ w.and_number-is ∙ c.loop-i.invariant.numbered
+            ∙ sym (and_number-other netlist i gate c.gate-gate.ensures
+            (sym c.is_and.ensures ∙ w.if-is_and.false))
       ]);
     }
 

@@ -1,6 +1,7 @@
 use Rattle.std.proofs.Common.{◌∙◌, length, ap}
 use Rattle.std.proofs.lemmas.Result.{err_from_is_err_and}
-use Rattle.gc_job.proofs.OutputLemmas.{length-active, decoded-job, no_memory}
+use Rattle.gc_netlist.proofs.Tables.{length-table}
+use Rattle.gc_job.proofs.OutputLemmas.{decoded-job, no_memory}
 use Rattle.gc_job.proofs.HonestLemmas.{honest-result}
 use Rattle.gc_job.proofs.one_thread.evaluate.Goals as goal
 
@@ -11,7 +12,7 @@ returns-in_err-active-clause-evaluated g c =
 
 pub output_labels-requires : goal.output_labels-requires
 output_labels-requires g c =
-    ap length c.deref.ensures.value ∙ length-active _ _ _ _ c.in_ok-active.ensures
+    ap length c.deref.ensures.value ∙ length-table _ _ _ c.in_ok-active.ensures.table
 
 pub decode-requires : goal.decode-requires
 decode-requires g c = rw (← c.circuit-circuit.ensures.circuit) c.output_labels.ensures.count

@@ -1,7 +1,8 @@
 use Rattle.std.proofs.Common.{◌∙◌, refl, ap, length}
 use Rattle.std.proofs.lemmas.Result.{err_from_is_err_and}
 use Rattle.gc_job.specs.Job.{job_of}
-use Rattle.gc_job.proofs.OutputLemmas.{length-active, decoded-job, no_memory}
+use Rattle.gc_netlist.proofs.Tables.{length-table}
+use Rattle.gc_job.proofs.OutputLemmas.{decoded-job, no_memory}
 use Rattle.gc_job.proofs.HonestLemmas.{honest-result}
 use Rattle.gc_job.proofs.one_thread.evaluate_detached.Goals as goal
 
@@ -12,7 +13,7 @@ returns-in_err-active-clause-evaluated g c =
 
 pub output_labels-requires : goal.output_labels-requires
 output_labels-requires g c =
-    ap length c.deref.ensures.value ∙ length-active _ _ _ _ c.in_ok-active.ensures
+    ap length c.deref.ensures.value ∙ length-table _ _ _ c.in_ok-active.ensures.table
 
 pub returns-clause-evaluated : goal.returns-clause-evaluated
 returns-clause-evaluated g c =

@@ -8,14 +8,10 @@ loop-i-preserved g c =
     let circuit = c.circuit-circuit.result.now in
     let i = c.loop-i.i in
     rw (add-one i) (elim c.if-is_and.branch [
-      | then-is_and w ↦ rw (
-        w.number-is,
-        and_number-and circuit i c.gate.result c.gate.ensures
-            (sym c.is_and.ensures ∙ w.if-is_and.true),
-      ) (ap (λ n. n + 1) c.loop-i.invariant)
-      | else-is_and w ↦ rw (
-        w.number-is,
-        and_number-other circuit i c.gate.result c.gate.ensures
-            (sym c.is_and.ensures ∙ w.if-is_and.false),
-      ) c.loop-i.invariant
+      | then-is_and w ↦ w.number-is ∙ ap (λ n. n + 1) c.loop-i.invariant
+          ∙ sym (and_number-and circuit i c.gate.result c.gate.ensures
+          (sym c.is_and.ensures ∙ w.if-is_and.true))
+      | else-is_and w ↦ w.number-is ∙ c.loop-i.invariant
+          ∙ sym (and_number-other circuit i c.gate.result c.gate.ensures
+          (sym c.is_and.ensures ∙ w.if-is_and.false))
     ])
