@@ -43,16 +43,12 @@ module _ (widths : List ℕ) (before : List LabelFileParts) (file : LabelFilePar
   pub double_value_at : is_some (get_or places file.index None) ≡ true
       → LabelsFault widths before file DoubleValue
   double_value_at is =
-      double_value at (place_taken before file.index (get_or places file.index None) is
-      (marked file.index inside))
+      double_value at (place_taken before file.index _ is (marked file.index inside))
 
   -- and one that is in order.
   pub in_order_at : is_some (get_or places file.index None) ≡ false → IsInOrder widths before file
-  in_order_at is = record {
-    width = at;
-    first = place_free before file.index (get_or places file.index None) is
-        (marked file.index inside);
-  }
+  in_order_at is =
+      record { width = at; first = place_free before file.index _ is (marked file.index inside) }
 
 -- No file stands before the first, so none is marked.
 pub places_none : (places : List (Option ℕ))
@@ -76,12 +72,9 @@ module _ (widths : List ℕ) (files : List LabelFileParts) (i : ℕ) (file : Lab
       elim (cases_eq h.place i) [
         | inl same ↦
             let is : file ≡ h.file = cc (new.1) in absurd (other (rw is (sym h.index)))
-        | inr differs ↦ record {
-          place = h.place;
-          file = h.file;
-          at = slice_get-take i h.place files (omega (arith, new.0)) ∙ new.1;
-          index = h.index;
-        }
+        | inr differs ↦
+            let found = slice_get-take i h.place files (omega (arith, new.0)) ∙ new.1 in
+            record { place = h.place; file = h.file; at = found; index = h.index }
       ]
 
   place_kept : (value : ℕ) (o : Option ℕ) → value ≢ file.index
@@ -90,11 +83,8 @@ module _ (widths : List ℕ) (files : List LabelFileParts) (i : ℕ) (file : Lab
   place_kept value None other h = λ has. h (file_before value other has)
   place_kept value (Some place) other h =
       let old = slice_get_taken i place files h.file h.at in
-      record {
-        file = h.file;
-        at = slice_get-take (i + 1) place files (omega (arith, old.0)) ∙ old.1;
-        index = h.index;
-      }
+      let found = slice_get-take (i + 1) place files (omega (arith, old.0)) ∙ old.1 in
+      record { file = h.file; at = found; index = h.index }
 
   -- Its value is marked.
   pub places_more : (places : List (Option ℕ)) → file.index < length places

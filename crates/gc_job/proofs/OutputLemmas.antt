@@ -37,11 +37,8 @@ module _ (c : Netlist) (lawful : IsLawful c) (values : ℕ → ℕ) where
       → (i < output_wires c) × (label ≡ values (c.wires - output_wires c + i))
   output-at i label at =
       let outputs = output_wires c in
-      let inside : i < outputs = omega (
-        arith,
-        slice_get_within (on_outputs c values) i label at,
-        length-outputs (on_outputs c values) refl,
-      ) in (
+      let within : i < length (on_outputs c values) = slice_get_within _ _ _ at in
+      let inside : i < outputs = omega (arith, length-outputs (on_outputs c values) refl) in (
         inside,
         sym (get_or_from_slice_get (on_outputs c values) i label 0 at)
             ∙ get_or-map-range_with_len values (c.wires - outputs) outputs i (c.wires - outputs + i)
