@@ -1,7 +1,6 @@
 -- Labels of files joined in the order of their values.
-use Rattle.std.proofs.Common.{◌≡◌, ℕ, zero, suc, ◌+◌, ◌<◌, true, false, List, [], ◌∷◌, ◌++◌, length, map, sum, take, drop, get_or, slice_get, Option, Some, None, is_none, is_some, flat_map, MatchOption, IsSomeAnd, inl, inr, refl, sym, ap, ◌∙◌, arith}
+use Rattle.std.proofs.Common.{◌≡◌, ℕ, zero, suc, ◌+◌, ◌<◌, true, false, List, [], ◌∷◌, ◌++◌, length, map, sum, take, drop, get_or, slice_get, Option, Some, None, is_none, is_some, flat_map, MatchOption, IsSomeAnd, refl, sym, ap, ◌∙◌, arith}
 use Rattle.std.specs.List.{list_any}
-use Rattle.std.proofs.lemmas.Bool.{cases_eq}
 use Rattle.std.proofs.lemmas.List.{take_at, drop_at, drop-drop, length-map, length-take, get_or-take, take_more, append-nil, same_lists, get_or-map, get_or_default}
 use Rattle.std.proofs.lemmas.List.Folds.{list_any_at, Any-from_list_any}
 use Rattle.std.proofs.lemmas.List.Sums.{sum-map, sum_by-cons}
@@ -11,7 +10,6 @@ use Rattle.gc_format.specs.LabelFile.{LabelFileParts}
 use Rattle.gc_job.specs.declared.fault.BindFault.TheVariants.{MissingValue}
 use Rattle.gc_job.specs.Binding.{HasFile, AreInOrder, FirstLabelsFault, missing_value, AreBound}
 use Rattle.gc_job.specs.Places.{IsFileAt, ArePlaces, labels_at}
-use Rattle.gc_half.proofs.SetWires.{lt_or_le}
 use Rattle.gc_job.proofs.TakeLemmas.{slice_get-take}
 use Rattle.gc_job.proofs.BindLemmas.{place_free}
 
@@ -66,13 +64,11 @@ module _ (widths : List ℕ) (files : List LabelFileParts)
 
   one_file : (i k : ℕ) (file other : LabelFileParts) → slice_get files i ≡ Some file
       → slice_get files k ≡ Some other → file.index ≡ other.index → i ≡ k
-  one_file i k file other at at_k same = elim (lt_or_le i k) [
-    | inl below ↦ absurd (not_before k i other file at_k at (sym same) below)
-    | inr above ↦ elim (cases_eq i k) [
-      | inl e ↦ e
-      | inr differs ↦ absurd (not_before i k file other at at_k same (omega arith))
-    ]
-  ]
+  one_file i k file other at at_k same = omega (
+    arith,
+    not_before i k file other at at_k same,
+    not_before k i other file at_k at (sym same),
+  )
 
   -- Where a place is missing, so is a file.
   pub missing_file : (places : List (Option ℕ)) → length places ≡ length widths

@@ -2,7 +2,6 @@
 use Rattle.std.proofs.Common.{◌≡◌, ◌≢◌, refl, ℕ, ◌+◌, ◌<◌, ◌≤◌, inl, inr, List, set, length, length-set, get_or-set_same, get_or-set_other, slice_get, Some, sym, ◌∙◌, arith}
 use Rattle.std.proofs.lemmas.Option.{slice_get_within}
 use Rattle.std.proofs.lemmas.Bool.{cases_eq}
-use Rattle.gc_half.proofs.SetWires.{lt_or_le}
 use Rattle.gc_netlist.specs.declared.gate.Gate.{Gate}
 use Rattle.gc_netlist.specs.Circuit.{Netlist, IsSetBy, IsLawful, input_wires}
 use Rattle.gc_job.specs.Wiring.{AreSetters}
@@ -28,13 +27,8 @@ set_once_before c w g h lawful a b lt =
 
 -- One gate sets a wire.
 pub set_once : (c : Netlist) (w g h : ℕ) → IsLawful c → IsSetBy c w g → IsSetBy c w h → g ≡ h
-set_once c w g h lawful a b = elim (cases_eq g h) [
-  | inl same ↦ same
-  | inr apart ↦ elim (lt_or_le g h) [
-    | inl before ↦ absurd (set_once_before c w g h lawful a b before)
-    | inr after ↦ absurd (set_once_before c w h g lawful b a (omega arith))
-  ]
-]
+set_once c w g h lawful a b =
+    omega (arith, set_once_before c w g h lawful a b, set_once_before c w h g lawful b a)
 
 -- No gate sets an input wire.
 pub input_not_set : (c : Netlist) (w g : ℕ) → IsLawful c → w < input_wires c → IsSetBy c w g → ⊥
@@ -44,10 +38,8 @@ input_not_set c w g lawful input set =
 -- A gate sets a wire after the input wires.
 pub past_inputs : (c : Netlist) (i : ℕ) (g : Gate) → IsLawful c → slice_get c.gates i ≡ Some g
     → input_wires c ≤ g.set
-past_inputs c i g lawful at = elim (lt_or_le g.set (input_wires c)) [
-  | inl input ↦ absurd (lawful.sets_once i g at (inl input))
-  | inr past ↦ past
-]
+past_inputs c i g lawful at =
+    let none = λ (input : g.set < input_wires c). lawful.sets_once i g at (inl input) in omega arith
 
 -- one gate more
 pub more_setters : (c : Netlist) (n i : ℕ) (g : Gate) (setters : List ℕ) → IsLawful c
