@@ -1,57 +1,128 @@
 -- A table that is partly there, and a place of it that is set.
-use Rattle.std.proofs.Common.{◌≡◌, ℕ, ◌<◌, ◌⊎◌, inl, inr, List, length, length-set, set, get_or, slice_index, sym, ap, subst, ◌∙◌, arith}
+use Rattle.std.proofs.Common.{◌≡◌, ℕ, ◌+◌, ◌<◌, ◌⊎◌, inl, inr, add-one, List, length, length-set, map, set, get_or, slice_get, slice_index, Some, sym, ap, ◌∙◌, arith}
+use Rattle.std.specs.List.{range_with_len}
 use Rattle.std.proofs.lemmas.Bool.{cases_eq}
-use Rattle.std.proofs.lemmas.List.{get_or-set_same, get_or-set_other}
-use Rattle.gc_netlist.specs.Circuit.{Netlist, IsSetBefore}
+use Rattle.std.proofs.lemmas.List.{get_or-set_same, get_or-set_other, get_or_past}
+use Rattle.std.proofs.lemmas.List.FromFn.{length-map-range_with_len}
+use Rattle.gc_netlist.specs.declared.gate.Gate.{Gate}
+use Rattle.gc_netlist.specs.Circuit.{Netlist, IsLawful, IsSetBefore, input_wires}
+use Rattle.gc_netlist.proofs.Tables.{read-table}
+use Rattle.gc_half.proofs.SetWires.{lt_or_le, last_or_before}
 use Rattle.gc_labelling.specs.declared.mark.Mark.{Mark}
 use Rattle.gc_labelling.specs.Layer.{IsPartly, AreLabels, AreMarked}
 
-module _ {A : Type 0} (whole : ℕ → A) (none : A) (IsBlank : A → Type 0) where
-  -- What belongs at a place may be put there,
-  pub partly-put : (IsThere : ℕ → Type 0) (table : List A) (s : ℕ) (x : A) → s < length table → x ≡ whole s
-      → IsPartly whole none IsBlank IsThere table → IsPartly whole none IsBlank IsThere (set table s x)
-  partly-put IsThere table s x below is partly = record {
-    right = λ i present. elim (cases_eq i s) [
-      | inl e ↦ here i e
-      | inr other ↦
-          let same = get_or-set_other table s i x none other in
-          same ∙ partly.right i (λ blank. present (subst IsBlank (sym same) blank))
-    ];
-    there = λ i there. elim (cases_eq i s) [
-      | inl e ↦ here i e
-      | inr other ↦ get_or-set_other table s i x none other ∙ partly.there i there
-    ];
+module _ {A : Type 0} (whole : ℕ → A) (none : A) where
+  -- Where what belongs at a place is put there, each place has what belongs there or what it had.
+  put-at : (table : List A) (s : ℕ) (x : A) → s < length table → x ≡ whole s → (i : ℕ)
+      → (get_or (set table s x) i none ≡ whole i)
+      ⊎ (get_or (set table s x) i none ≡ get_or table i none)
+  put-at table s x below is i = elim (cases_eq i s) [
+    | inl e ↦ inl (rw e (get_or-set_same table s x none below ∙ is))
+    | inr other ↦ inr (get_or-set_other table s i x none other)
+  ]
+
+  module _ (IsBlank : A → Type 0) (IsThere : ℕ → Type 0) (table : List A)
+      (partly : IsPartly whole none IsBlank IsThere table) where
+    -- So it may be put there,
+    pub partly-put : (s : ℕ) (x : A) → s < length table → x ≡ whole s
+        → IsPartly whole none IsBlank IsThere (set table s x)
+    partly-put s x below is = record {
+      right = λ i present. elim (put-at table s x below is i) [
+        | inl now ↦ now
+        | inr same ↦ same ∙ partly.right i (rw same at present)
+      ];
+      there = λ i there. elim (put-at table s x below is i) [
+        | inl now ↦ now
+        | inr same ↦ same ∙ partly.there i there
+      ];
+    }
+
+    -- and more is there.
+    pub partly-more : (More : ℕ → Type 0)
+        → ((i : ℕ) → More i → IsThere i ⊎ (get_or table i none ≡ whole i))
+        → IsPartly whole none IsBlank More table
+    partly-more More more = record {
+      right = partly.right;
+      there = λ i there. elim (more i there) [
+        | inl before ↦ partly.there i before
+        | inr now ↦ now
+      ];
+    }
+
+module _ (c : Netlist) (label_of : ℕ → ℕ) where
+  -- A table of the labels of the input wires, and of 0 on all others, is a start.
+  pub labels-start : IsLawful c → (given : ℕ → ℕ) (labels : List ℕ)
+      → labels ≡ map given (range_with_len 0 c.wires)
+      → ((w : ℕ) → w < input_wires c → given w ≡ label_of w)
+      → ((w : ℕ) → ¬ (w < input_wires c) → given w ≡ 0) → AreLabels c label_of 0 labels
+  labels-start lawful given labels are inputs others = rw are (record {
+    wires = count;
+    partly = record {
+      right = λ w present. elim (lt_or_le w (input_wires c)) [
+        | inl input ↦ at_input w input
+        | inr past ↦ absurd (present (blank w (omega arith)))
+      ];
+      there = λ w set. elim set [
+        | inl input ↦ at_input w input
+        | inr before ↦ absurd (omega (arith, before.1))
+      ];
+    };
+  })
+    where
+      table : List ℕ
+      table = map given (range_with_len 0 c.wires)
+
+      count : length table ≡ c.wires
+      count = length-map-range_with_len given 0 c.wires
+
+      at_input : (w : ℕ) → w < input_wires c → slice_index table w ≡ label_of w
+      at_input w input =
+          read-table given c.wires w 0 (omega (arith, lawful.inputs_fit)) ∙ inputs w input
+
+      blank : (w : ℕ) → ¬ (w < input_wires c) → slice_index table w ≡ 0
+      blank w past = elim (lt_or_le w c.wires) [
+        | inl below ↦ read-table given c.wires w 0 below ∙ others w past
+        | inr past_all ↦ get_or_past table w 0 (omega (arith, count))
+      ]
+
+  -- One gate more: the label of the wire that it sets is there,
+  pub labels-next : (i : ℕ) (g : Gate) (labels : List ℕ) → slice_get c.gates i ≡ Some g
+      → slice_index labels g.set ≡ label_of g.set
+      → AreLabels c label_of i labels → AreLabels c label_of (i + 1) labels
+  labels-next i g labels at is are = record {
+    wires = are.wires;
+    partly = partly-more label_of 0 _ _ labels are.partly (IsSetBefore c (i + 1)) more;
   }
     where
-      here : (i : ℕ) → i ≡ s → get_or (set table s x) i none ≡ whole i
-      here i e = ap (λ k. get_or (set table s x) k none) e ∙ get_or-set_same table s x none below ∙ is ∙ ap whole (sym e)
+      more : (w : ℕ) → IsSetBefore c (i + 1) w
+          → IsSetBefore c i w ⊎ (slice_index labels w ≡ label_of w)
+      more w set = elim (last_or_before c w i (rw add-one at set)) [
+        | inl before ↦ inl before
+        | inr by ↦ inr (cc (by.at, by.wire))
+      ]
 
-  -- and more is there.
-  pub partly-more : (IsThere More : ℕ → Type 0) (table : List A)
-      → ((i : ℕ) → More i → IsThere i ⊎ (get_or table i none ≡ whole i))
-      → IsPartly whole none IsBlank IsThere table → IsPartly whole none IsBlank More table
-  partly-more IsThere More table more partly = record {
-    right = partly.right;
-    there = λ i there. elim (more i there) [
-      | inl before ↦ partly.there i before
-      | inr now ↦ now
-    ];
-  }
-
-module _ (label_of : ℕ → ℕ) where
   -- A label may be put where it belongs,
-  pub labels-put : (c : Netlist) (n w x : ℕ) (labels : List ℕ) → w < c.wires → x ≡ label_of w
+  pub labels-put : (n w x : ℕ) (labels : List ℕ) → w < c.wires → x ≡ label_of w
       → AreLabels c label_of n labels → AreLabels c label_of n (set labels w x)
-  labels-put c n w x labels below is are = record {
+  labels-put n w x labels below is are = record {
     wires = length-set labels w x ∙ are.wires;
-    partly = partly-put label_of 0 (λ label. label ≡ 0) (IsSetBefore c n) labels w x
-        (omega (arith, below, are.wires)) is are.partly;
+    partly = partly-put label_of 0 _ _ labels are.partly w x (omega (arith, are.wires)) is;
   }
 
-  -- and what is marked stays there.
-  pub marked-label : (w x : ℕ) (marks : List Mark) (labels : List ℕ) → w < length labels → x ≡ label_of w
-      → AreMarked label_of marks labels → AreMarked label_of marks (set labels w x)
-  marked-label w x marks labels below is are u marked = elim (cases_eq u w) [
-    | inl e ↦ ap (slice_index (set labels w x)) e ∙ get_or-set_same labels w x 0 below ∙ is ∙ ap label_of (sym e)
-    | inr other ↦ get_or-set_other labels w u x 0 other ∙ are u marked
-  ]
+  -- that of a gate too,
+  pub labels-made : (i : ℕ) (g : Gate) (x : ℕ) (labels : List ℕ) → slice_get c.gates i ≡ Some g
+      → g.set < c.wires → x ≡ label_of g.set
+      → AreLabels c label_of i labels → AreLabels c label_of (i + 1) (set labels g.set x)
+  labels-made i g x labels at below is are =
+      labels-next i g (set labels g.set x) at
+      (get_or-set_same labels g.set x 0 (omega (arith, are.wires)) ∙ is)
+      (labels-put i g.set x labels below is are)
+
+-- and what is marked stays there.
+pub marked-label : (label_of : ℕ → ℕ) (w x : ℕ) (marks : List Mark) (labels : List ℕ)
+    → w < length labels → x ≡ label_of w → AreMarked label_of marks labels → AreMarked label_of marks (set labels w x)
+marked-label label_of w x marks labels below is are u marked =
+    elim (put-at label_of 0 labels w x below is u) [
+      | inl now ↦ now
+      | inr same ↦ same ∙ are u marked
+    ]

@@ -1,5 +1,4 @@
-use Rattle.std.proofs.Common.{subst, ◌∙◌}
-use Rattle.gc_half.specs.Comparing.{IsComparison}
+use Rattle.std.proofs.Common.{◌∙◌}
 use Rattle.gc_layers.proofs.ComparedLemmas.{compared-end}
 use Rattle.gc_layers.proofs.garble.compare_by_layers.Goals as goal
 
@@ -9,9 +8,6 @@ make_by_layers-requires-after_bounds g c κs within =
 
 pub returns-clause-compared : goal.returns-clause-compared
 returns-clause-compared g c =
-    let circuit = c.args.circuit.now in let seed = c.args.seed.now in
-    let rows = c.in_ok-labels.rows in
-    let given = c.in_ok-labels.ensures.given ∙ c.in_ok-rows.ensures.given in
-    rw c.first.ensures (subst (λ l. IsComparison circuit seed l rows.first) given
-    (compared-end circuit seed rows.given.now c.law_lawful.ensures rows.compared.items rows.first
-    c.in_ok-labels.ensures.rows))
+    rw (c.first.ensures, ← (c.in_ok-labels.ensures.given ∙ c.in_ok-rows.ensures.given))
+    (compared-end c.args.circuit.now c.args.seed.now _ c.law_lawful.ensures _ _
+    c.in_ok-labels.ensures.rows)

@@ -1,5 +1,4 @@
-use Rattle.std.proofs.Common.{◌*◌, inl, inr, get_or, set, length-set, ap, arith}
-use Rattle.std.proofs.lemmas.Bool.{cases_eq}
+use Rattle.std.proofs.Common.{◌*◌, get_or, set, length-set, ap, arith}
 use Rattle.std.proofs.lemmas.Option.{slice_get_within}
 use Rattle.gc_layers.specs.Evaluator.{active_by}
 use Rattle.gc_layers.proofs.MadeLemmas.{made-put}
@@ -10,6 +9,7 @@ returns c j below gate d at =
     let gates = c.args.gates.now in
     let made = c.args.made.now in
     let results = c.eval_four_ands.result in
+    let are = c.eval_four_ands.ensures in
     let first = 4 * c.args.i in
     let second = c.min-second.result in
     let third = c.min-third.result in
@@ -24,41 +24,17 @@ returns c j below gate d at =
     let one_length = length-set made first w in
     let two_length = length-set one second x in
     let three_length = length-set two third y in
-    let are = c.eval_four_ands.ensures in
-    let put_first = made-put active_by gates made first c.index-gates-first.result w
-    (ap (λ l. get_or l 0 c.index-eval_four_ands-0.result) are)
-    (omega (arith, c.requires.place, c.requires.room)) j in
-    let put_second = made-put active_by gates one second c.index-gates-second.result x
-    (ap (λ l. get_or l 1 c.index-eval_four_ands-1.result) are)
-    (omega (arith, c.requires.place, c.requires.room, c.min-second.ensures, one_length)) j in
-    let put_third = made-put active_by gates two third c.index-gates-third.result y
-    (ap (λ l. get_or l 2 c.index-eval_four_ands-2.result) are)
-    (omega (arith, c.requires.place, c.requires.room, c.min-third.ensures, one_length, two_length)) j in
-    let put_fourth = made-put active_by gates three fourth c.index-gates-fourth.result z
-    (ap (λ l. get_or l 3 c.index-eval_four_ands-3.result) are)
-    (omega (arith, c.requires.place, c.requires.room, c.min-fourth.ensures, one_length, two_length, three_length)) j in
     let within = slice_get_within gates j gate at in
-    put_fourth (elim (cases_eq j fourth) [
-      | inl e ↦ inl e
-      | inr not_fourth ↦ inr (put_third (elim (cases_eq j third) [
-        | inl e ↦ inl e
-        | inr not_third ↦ inr (put_second (elim (cases_eq j second) [
-          | inl e ↦ inl e
-          | inr not_second ↦ inr (put_first (elim (cases_eq j first) [
-            | inl e ↦ inl e
-            | inr not_first ↦ inr (c.requires.before j (omega (
-              arith,
-              below,
-              within,
-              not_first,
-              not_second,
-              not_third,
-              not_fourth,
-              c.min-second.ensures,
-              c.min-third.ensures,
-              c.min-fourth.ensures,
-            )))
-          ]))
-        ]))
-      ]))
-    ]) gate d at
+    made-put active_by gates three fourth c.index-gates-fourth.result z
+    (ap (λ l. get_or l 3 c.index-eval_four_ands-3.result) are)
+    (omega (arith, c.min-fourth.ensures)) j (λ not_fourth.
+    made-put active_by gates two third c.index-gates-third.result y
+    (ap (λ l. get_or l 2 c.index-eval_four_ands-2.result) are)
+    (omega (arith, c.min-third.ensures)) j (λ not_third.
+    made-put active_by gates one second c.index-gates-second.result x
+    (ap (λ l. get_or l 1 c.index-eval_four_ands-1.result) are)
+    (omega (arith, c.min-second.ensures)) j (λ not_second.
+    made-put active_by gates made first c.index-gates-first.result w
+    (ap (λ l. get_or l 0 c.index-eval_four_ands-0.result) are) (omega arith) j (λ not_first.
+    c.requires.before j
+    (omega (arith, c.min-second.ensures, c.min-third.ensures, c.min-fourth.ensures)))))) gate d at

@@ -1,5 +1,4 @@
-use Rattle.std.proofs.Common.{◌≡◌, ◌*◌, inl, inr, set, length-set, ap, ◌∙◌, arith, rules}
-use Rattle.std.proofs.lemmas.Bool.{cases_eq}
+use Rattle.std.proofs.Common.{◌≡◌, ◌*◌, set, length-set, ap, ◌∙◌, arith, rules}
 use Rattle.std.proofs.lemmas.Option.{slice_get_within}
 use Rattle.gc_layers.specs.Garbler.{garbled_of}
 use Rattle.gc_layers.proofs.MadeLemmas.{made-put}
@@ -15,23 +14,11 @@ returns c j below gate d at =
     let other = c.named-2.result in
     let is_first : one ≡ garbled_of c.index-gates-first.result = search rules in
     let is_second : other ≡ garbled_of c.index-gates-second.result = search rules in
-    let put_first = made-put garbled_of gates made first c.index-gates-first.result one
-    (is_first ∙ ap garbled_of c.index-gates-first.is)
-    (omega (arith, c.requires.place, c.requires.room)) j in
-    let put_second = made-put garbled_of gates (set made first one) second c.index-gates-second.result other
-    (is_second ∙ ap garbled_of c.index-gates-second.is)
-    (omega (arith, c.requires.place, c.requires.room, c.min-second.ensures, length-set made first one)) j in
-    put_second (elim (cases_eq j second) [
-      | inl e ↦ inl e
-      | inr not_second ↦ inr (put_first (elim (cases_eq j first) [
-        | inl e ↦ inl e
-        | inr not_first ↦ inr (c.requires.before j (omega (
-          arith,
-          below,
-          slice_get_within gates j gate at,
-          not_first,
-          not_second,
-          c.min-second.ensures,
-        )))
-      ]))
-    ]) gate d at
+    let long = length-set made first one in
+    let within = slice_get_within gates j gate at in
+    made-put garbled_of gates (set made first one) second c.index-gates-second.result other
+    (is_second ∙ ap garbled_of c.index-gates-second.is) (omega (arith, c.min-second.ensures)) j
+    (λ not_second.
+    made-put garbled_of gates made first c.index-gates-first.result one
+    (is_first ∙ ap garbled_of c.index-gates-first.is) (omega arith) j (λ not_first.
+    c.requires.before j (omega (arith, c.min-second.ensures)))) gate d at

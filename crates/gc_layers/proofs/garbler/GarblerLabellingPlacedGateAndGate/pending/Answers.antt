@@ -1,14 +1,9 @@
-use Rattle.std.proofs.Common.{ap, subst, ◌∙◌}
-use Rattle.gc_netlist.specs.Circuit.{IsLawful}
-use Rattle.gc_label.specs.Seed.{offset_of}
-use Rattle.gc_layers.specs.Garbler.{GarblerParts}
 use Rattle.gc_layers.proofs.GarblerLemmas.{may-wait}
 use Rattle.gc_layers.proofs.garbler.GarblerLabellingPlacedGateAndGate.pending.Goals as goal
 
 pub returns : goal.returns
 returns g c =
-    let of : GarblerParts = c.args.self.now in
-    may-wait of.circuit of.seed (subst (λ (t : GarblerParts). IsLawful t.circuit) c.self.view_is c.self.invariant.lawful)
-    c.args.place.gate c.args.gate c.requires.gate c.args.place.k c.self.inside.offset c.requires.place.number
-    (c.self.invariant.is_offset ∙ ap (λ (t : GarblerParts). offset_of t.seed) c.self.view_is)
+    let is = rw c.self.view_is at c.self.invariant in
+    may-wait c.args.self.now.circuit c.args.self.now.seed is.lawful c.args.place.gate c.args.gate
+    c.requires.gate c.args.place.k c.self.inside.offset c.requires.place.number is.is_offset
     c.args.first c.args.second c.requires.first c.requires.second c.requires.and c.args.place.gate
