@@ -46,13 +46,8 @@ module _ (c : Netlist) (seed : List ℕ) (given : List RowPair) where
       -- what was compared before
       other : (j : ℕ) → j < and_count c → (j < more) ⊎ (get_or (set compared k true) j false ≡ true)
           → IsBefore first j → j ≢ k → get_or given j no_rows ≡ row_of c seed j
-      other j within there less differ = are.same j within (elim there [
-        | inl few ↦ elim (among j few) [
-          | inl before ↦ inl before
-          | inr same ↦ absurd (differ same)
-        ]
-        | inr marked ↦ inr (sym (get_or-set_other compared k j true false differ) ∙ marked)
-      ]) less
+      other j within there less differ = are.same j within
+          (grind (arith, among j, get_or-set_other compared k j true false differ)) less
 
   -- Where all were compared, the first mismatch is found.
   pub compared-end : IsLawful c → (compared : List Bool) (first : Option Mismatch)

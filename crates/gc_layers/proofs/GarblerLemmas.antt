@@ -79,10 +79,7 @@ module _ (c : Netlist) (seed : List ℕ) where
           are_rows = record {
             count = put.are_rows.count;
             partly = partly-more (row_of c seed) no_rows _ _ (set rows k pair) put.are_rows.partly
-                (λ i. i < k + 1) (λ i few. elim (cases_eq i k) [
-                  | inl e ↦ inr (rw e here)
-                  | inr other ↦ inl (omega arith)
-                ]);
+                (λ i. i < k + 1) (λ i few. grind (arith, here));
           };
           counted = put.counted;
         }
@@ -102,10 +99,7 @@ module _ (c : Netlist) (seed : List ℕ) where
       at : (w : ℕ) → w < c.wires → slice_index labels w ≡ zero_label_of c seed w
       at w below = elim (set_or_not c w) [
         | inl set ↦ are.partly.there w set
-        | inr unset ↦ elim (cases_eq (slice_index labels w) 0) [
-          | inl blank ↦ blank ∙ sym (zero_label_of-not_set c seed w unset)
-          | inr present ↦ are.partly.right w present
-        ]
+        | inr unset ↦ grind (arith, are.partly.right w, zero_label_of-not_set c seed w unset)
       ]
 
   module _ (lawful : IsLawful c) where

@@ -7,7 +7,7 @@ use Rattle.std.proofs.lemmas.List.FromFn.{length-map-range_with_len}
 use Rattle.gc_netlist.specs.declared.gate.Gate.{Gate}
 use Rattle.gc_netlist.specs.Circuit.{Netlist, IsLawful, IsSetBefore, input_wires}
 use Rattle.gc_netlist.proofs.Tables.{read-table}
-use Rattle.gc_half.proofs.SetWires.{lt_or_le, last_or_before}
+use Rattle.gc_half.proofs.SetWires.{last_or_before}
 use Rattle.gc_labelling.specs.declared.mark.Mark.{Mark}
 use Rattle.gc_labelling.specs.Layer.{IsPartly, AreLabels, AreMarked}
 
@@ -58,14 +58,8 @@ module _ (c : Netlist) (label_of : ℕ → ℕ) where
   labels-start lawful given labels are inputs others = rw are (record {
     wires = count;
     partly = record {
-      right = λ w present. elim (lt_or_le w (input_wires c)) [
-        | inl input ↦ at_input w input
-        | inr past ↦ absurd (present (blank w (omega arith)))
-      ];
-      there = λ w set. elim set [
-        | inl input ↦ at_input w input
-        | inr before ↦ absurd (omega (arith, before.1))
-      ];
+      right = λ w present. grind (arith, at_input w, blank w);
+      there = λ w set. grind (arith, at_input w);
     };
   })
     where
@@ -80,10 +74,8 @@ module _ (c : Netlist) (label_of : ℕ → ℕ) where
           read-table given c.wires w 0 (omega (arith, lawful.inputs_fit)) ∙ inputs w input
 
       blank : (w : ℕ) → ¬ (w < input_wires c) → slice_index table w ≡ 0
-      blank w past = elim (lt_or_le w c.wires) [
-        | inl below ↦ read-table given c.wires w 0 below ∙ others w past
-        | inr past_all ↦ get_or_past table w 0 (omega (arith, count))
-      ]
+      blank w past =
+          grind (arith, read-table given c.wires w 0, others w past, get_or_past table w 0, count)
 
   -- One gate more: the label of the wire that it sets is there,
   pub labels-next : (i : ℕ) (g : Gate) (labels : List ℕ) → slice_get c.gates i ≡ Some g
@@ -108,15 +100,6 @@ module _ (c : Netlist) (label_of : ℕ → ℕ) where
     wires = length-set labels w x ∙ are.wires;
     partly = partly-put label_of 0 _ _ labels are.partly w x (omega (arith, are.wires)) is;
   }
-
-  -- that of a gate too,
-  pub labels-made : (i : ℕ) (g : Gate) (x : ℕ) (labels : List ℕ) → slice_get c.gates i ≡ Some g
-      → g.set < c.wires → x ≡ label_of g.set
-      → AreLabels c label_of i labels → AreLabels c label_of (i + 1) (set labels g.set x)
-  labels-made i g x labels at below is are =
-      labels-next i g (set labels g.set x) at
-      (get_or-set_same labels g.set x 0 (omega (arith, are.wires)) ∙ is)
-      (labels-put i g.set x labels below is are)
 
 -- and what is marked stays there.
 pub marked-label : (label_of : ℕ → ℕ) (w x : ℕ) (marks : List Mark) (labels : List ℕ)

@@ -1,10 +1,11 @@
 use Rattle.std.proofs.Common.{◌≡◌, ◌+◌, add-one, ℕ, true, false, slice_index, sym, ap, ◌∙◌, arith}
+use Rattle.std.proofs.lemmas.List.{get_or-set_same}
 use Rattle.gc_netlist.specs.Circuit.{is_and}
 use Rattle.gc_half.proofs.AndNumbers.{and_number-and, and_number-other}
 use Rattle.gc_half.specs.Canonical.{zero_label_of}
 use Rattle.gc_half.proofs.OneGateLemmas.{first_read-local, second_read-local}
 use Rattle.gc_labelling.specs.Layer.{AreLabels, AreMarked}
-use Rattle.gc_layers.proofs.PartlyLemmas.{labels-next, labels-made, marked-label}
+use Rattle.gc_layers.proofs.PartlyLemmas.{labels-next, labels-put, marked-label}
 use Rattle.gc_layers.proofs.GarblerLemmas.{is-number, reads-there, gate-label, gate-row}
 use Rattle.gc_layers.proofs.rest.garble_rest.Goals as goal
 use Rattle.gc_layers.proofs.rest.garble_rest.Goals.{then-not-is_there, else-not-is_there, then-is_and, else-is_and}
@@ -49,7 +50,9 @@ loop-i-preserved g c =
     × (is_and gate.operation ≡ true → Holds keeper circuit seed (k + 1))
     × (is_and gate.operation ≡ false → Holds keeper circuit seed k) = elim c.if-not-is_there.branch [
       | then-not-is_there w ↦ rw (w.labels-is, w.garble_at.ensures.labels, w.keeper-is) (
-        labels-made circuit zero i gate _ labels at below label was.labels,
+        labels-next circuit zero i gate _ at
+            (get_or-set_same labels gate.set _ 0 (omega (arith, was.labels.wires)) ∙ label)
+            (labels-put circuit zero i gate.set _ labels below label was.labels),
         marked-label zero gate.set _ c.args.marks.now labels (omega (arith, was.labels.wires))
             label was.marks,
         w.garble_at.ensures.given ∙ was.given,
