@@ -18,9 +18,9 @@ before-less None j k less before = tt
 before-less (Some m) j k less before = omega arith
 
 module _ (c : Netlist) (seed : List ℕ) (given : List RowPair) where
-  -- One row pair more is compared: it is the first mismatch, or it is right or behind the first mismatch.
-  pub compared-next : (compared : List Bool) (first next : Option Mismatch) (k : ℕ) (old pair : RowPair)
-      → slice_get given k ≡ Some old → pair ≡ row_of c seed k → (n more : ℕ)
+  -- One row pair more is compared: it is the first mismatch, or it is right or behind the first.
+  pub compared-next : (compared : List Bool) (first next : Option Mismatch) (k : ℕ)
+      (old pair : RowPair) → slice_get given k ≡ Some old → pair ≡ row_of c seed k → (n more : ℕ)
       → ((j : ℕ) → j < more → (j < n) ⊎ (j ≡ k)) → k < and_count c
       → IsEarlierMismatch first k old pair next → AreComparedTo c seed n given compared first
       → AreComparedTo c seed more given (set compared k true) next

@@ -1,15 +1,14 @@
 -- A garbling that is partly there.
-use Rattle.std.proofs.Common.{◌≡◌, ◌≢◌, count_by, ℕ, ◌+◌, ◌-◌, ◌<◌, ◌≤◌, ◌⊎◌, inl, inr, true, false, List, length, length-set, map, set, get_or, slice_index, slice_get, Some, refl, sym, ap, ◌∙◌, arith}
+use Rattle.std.proofs.Common.{◌≡◌, ◌≢◌, count_by, ℕ, ◌+◌, ◌-◌, ◌<◌, ◌≤◌, inl, inr, true, false, List, length, length-set, map, set, get_or, slice_index, slice_get, Some, sym, ◌∙◌, arith}
 use Rattle.std.specs.List.{range_with_len}
-use Rattle.std.proofs.lemmas.Bool.{cases_eq}
 use Rattle.std.proofs.lemmas.Bool.Decides.{nat_tests}
 use Rattle.std.proofs.lemmas.List.{get_or-set_same, ext_get_or}
 use Rattle.std.proofs.lemmas.List.Sums.{count_by-le-length}
-use Rattle.std.proofs.lemmas.List.FromFn.{fill_by_all, length-map-range_with_len}
+use Rattle.std.proofs.lemmas.List.FromFn.{fill_by_all}
 use Rattle.std.proofs.lemmas.Option.{get_or_from_slice_get, slice_get-get_or, slice_get_within}
 use Rattle.gc_netlist.specs.declared.gate.Operation.{Operation}
 use Rattle.gc_netlist.specs.declared.gate.Gate.{Gate}
-use Rattle.gc_netlist.specs.Circuit.{Netlist, IsLawful, IsSetBefore, EachRead, is_and, and_number, and_count, input_wires, output_wires}
+use Rattle.gc_netlist.specs.Circuit.{Netlist, IsLawful, IsSetBefore, EachRead, is_and, and_number, and_count, output_wires}
 use Rattle.gc_netlist.proofs.SolutionLemmas.{EachRead-map}
 use Rattle.gc_label.specs.Seed.{offset_of}
 use Rattle.gc_half.specs.declared.garbling.RowPair.{RowPair}
@@ -47,7 +46,8 @@ module _ (c : Netlist) (seed : List ℕ) where
           grind (arith, nat_tests)
 
   module _ (k missing : ℕ) (rows : List RowPair) (old pair : RowPair)
-      (at : slice_get rows k ≡ Some old) (absent : is_present old ≡ false) (present : is_present pair ≡ true) where
+      (at : slice_get rows k ≡ Some old) (absent : is_present old ≡ false)
+      (present : is_present pair ≡ true) where
     -- One that was missing is there.
     pub count-put : missing + count_by is_present rows ≡ length rows → (1 ≤ missing)
         × (missing - 1 + count_by is_present (set rows k pair) ≡ length (set rows k pair))
@@ -75,7 +75,8 @@ module _ (c : Netlist) (seed : List ℕ) where
         → AreKept c seed (k + 1) (set rows k pair) (missing - 1)
     kept-next is are =
         let put = kept-put k is are in
-        let here = get_or-set_same rows k pair no_rows (slice_get_within rows k old at) ∙ is in record {
+        let below = slice_get_within rows k old at in
+        let here = get_or-set_same rows k pair no_rows below ∙ is in record {
           are_rows = record {
             count = put.are_rows.count;
             partly = partly-more (row_of c seed) no_rows _ _ (set rows k pair) put.are_rows.partly

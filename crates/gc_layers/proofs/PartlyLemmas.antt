@@ -1,5 +1,5 @@
 -- A table that is partly there, and a place of it that is set.
-use Rattle.std.proofs.Common.{◌≡◌, ℕ, ◌+◌, ◌<◌, ◌⊎◌, inl, inr, add-one, List, length, length-set, map, set, get_or, slice_get, slice_index, Some, sym, ap, ◌∙◌, arith}
+use Rattle.std.proofs.Common.{◌≡◌, ℕ, ◌+◌, ◌<◌, ◌⊎◌, ⊎_elim, inl, inr, add-one, List, length, length-set, map, set, get_or, slice_get, slice_index, Some, ◌∙◌, arith}
 use Rattle.std.specs.List.{range_with_len}
 use Rattle.std.proofs.lemmas.Bool.{cases_eq}
 use Rattle.std.proofs.lemmas.List.{get_or-set_same, get_or-set_other, get_or_past}
@@ -31,10 +31,7 @@ module _ {A : Type 0} (whole : ℕ → A) (none : A) where
         | inl now ↦ now
         | inr same ↦ same ∙ partly.right i (rw same at present)
       ];
-      there = λ i there. elim (put-at table s x below is i) [
-        | inl now ↦ now
-        | inr same ↦ same ∙ partly.there i there
-      ];
+      there = λ i there. grind (arith, put-at table s x below is i, partly.there i there);
     }
 
     -- and more is there.
@@ -43,10 +40,7 @@ module _ {A : Type 0} (whole : ℕ → A) (none : A) where
         → IsPartly whole none IsBlank More table
     partly-more More more = record {
       right = partly.right;
-      there = λ i there. elim (more i there) [
-        | inl before ↦ partly.there i before
-        | inr now ↦ now
-      ];
+      there = λ i there. ⊎_elim (partly.there i) (λ now. now) (more i there);
     }
 
 module _ (c : Netlist) (label_of : ℕ → ℕ) where
@@ -103,9 +97,7 @@ module _ (c : Netlist) (label_of : ℕ → ℕ) where
 
 -- and what is marked stays there.
 pub marked-label : (label_of : ℕ → ℕ) (w x : ℕ) (marks : List Mark) (labels : List ℕ)
-    → w < length labels → x ≡ label_of w → AreMarked label_of marks labels → AreMarked label_of marks (set labels w x)
+    → w < length labels → x ≡ label_of w → AreMarked label_of marks labels
+    → AreMarked label_of marks (set labels w x)
 marked-label label_of w x marks labels below is are u marked =
-    elim (put-at label_of 0 labels w x below is u) [
-      | inl now ↦ now
-      | inr same ↦ same ∙ are u marked
-    ]
+    grind (arith, put-at label_of 0 labels w x below is u, are u marked)

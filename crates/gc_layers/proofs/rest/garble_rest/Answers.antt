@@ -38,17 +38,16 @@ loop-i-preserved g c =
     let reads = reads-there circuit seed lawful i gate at labels was.labels in
     let first = first_read-local (slice_index labels) zero gate.operation reads in
     let second = second_read-local (slice_index labels) zero gate.operation reads in
-    let offset = c.offset-offset.result in
     let is_offset = c.offset-offset.ensures in
-    let label = gate-label circuit seed lawful i gate at k offset was.number is_offset
-    _ _ first second in
-    let row = gate-row circuit seed lawful i gate at k offset was.number is_offset _ _ first second in
+    let label = gate-label circuit seed lawful i gate at k _ was.number is_offset _ _ first second in
+    let row = gate-row circuit seed lawful i gate at k _ was.number is_offset _ _ first second in
     let below = lawful.sets i gate at in
     let made : AreLabels circuit zero (i + 1) c.if-not-is_there.labels
     × AreMarked zero c.args.marks.now c.if-not-is_there.labels
     × (given keeper ≡ given c.args.keeper.now)
     × (is_and gate.operation ≡ true → Holds keeper circuit seed (k + 1))
-    × (is_and gate.operation ≡ false → Holds keeper circuit seed k) = elim c.if-not-is_there.branch [
+    × (is_and gate.operation ≡ false → Holds keeper circuit seed k) =
+    elim c.if-not-is_there.branch [
       | then-not-is_there w ↦ rw (w.labels-is, w.garble_at.ensures.labels, w.keeper-is) (
         labels-next circuit zero i gate _ at
             (get_or-set_same labels gate.set _ 0 (omega (arith, was.labels.wires)) ∙ label)

@@ -1,4 +1,4 @@
-use Rattle.std.proofs.Common.{◌≡◌, ◌<◌, length, ap, subst, ◌∙◌, arith}
+use Rattle.std.proofs.Common.{◌<◌, length, ap, subst, ◌∙◌, arith}
 use Rattle.std.proofs.lemmas.List.{get_or_default}
 use Rattle.gc_half.proofs.AndNumbers.{and_number-below}
 use Rattle.gc_layers.specs.Garbler.{no_rows}
@@ -10,8 +10,9 @@ pub bounds-self-inside-place : goal.bounds-self-inside-place
 bounds-self-inside-place g c =
     let is : IsEvaluator c.args.self.now = subst IsEvaluator c.self.view_is c.self.invariant in
     let rows = ap (λ (t : EvaluatorParts). length t.rows) c.self.view_is in
-    omega (arith, c.requires.place.number, is.as_many, and_number-below c.args.self.now.circuit
-    c.args.place.gate c.args.gate c.requires.gate c.requires.and)
+    let below = and_number-below c.args.self.now.circuit c.args.place.gate c.args.gate
+    c.requires.gate c.requires.and in
+    omega (arith, c.requires.place.number, is.as_many)
 
 pub returns : goal.returns
 returns g c =
@@ -19,8 +20,9 @@ returns g c =
     let is : IsEvaluator of = subst IsEvaluator c.self.view_is c.self.invariant in
     let rows = ap (λ (t : EvaluatorParts). t.rows) c.self.view_is in
     let k = c.args.place.k in
-    let below : k < length of.rows = omega (arith, c.requires.place.number, is.as_many,
-    and_number-below of.circuit c.args.place.gate c.args.gate c.requires.gate c.requires.and) in
+    let most = and_number-below of.circuit c.args.place.gate c.args.gate c.requires.gate
+    c.requires.and in
+    let below : k < length of.rows = omega (arith, c.requires.place.number, is.as_many) in
     record {
       set = is.lawful.sets c.args.place.gate c.args.gate c.requires.gate;
       label = rw (rows, get_or_default of.rows k c.index-self-place.result no_rows below)
