@@ -1,9 +1,9 @@
 -- What is left of a gathered pool, and one task that is taken from it.
-use Rattle.std.proofs.Common.{◌≡◌, ℕ, ◌+◌, ◌<◌, Bool, true, false, cond, List, [], ◌∷◌, ◌++◌, length, Option, Some, None, MatchOption, sym, refl, ap, ◌∙◌, subst, append_assoc, rules, arith}
+use Rattle.std.proofs.Common.{◌≡◌, ℕ, ◌+◌, ◌<◌, Bool, true, false, cond, List, [], ◌∷◌, ◌++◌, length, Option, Some, None, MatchOption, sym, refl, ap, ◌∙◌, append_assoc, rules, arith}
 use Rattle.std.specs.Bool.{Decides}
 use Rattle.std.proofs.lemmas.Bool.Decides.{Decides-and, Decides-like, Decides-eqb}
 use Rattle.std.specs.Set.{remove_key}
-use Rattle.std.proofs.lemmas.List.Sums.{sum_by-cons, sum_by-append}
+use Rattle.std.proofs.lemmas.List.Sums.{sum_by-cons, sum_by-append, sum_by_push}
 use Rattle.gc_store.specs.declared.task.Task.{Task}
 use Rattle.gc_work.specs.declared.account.PoolAccount.{PoolAccount}
 use Rattle.gc_work.specs.Pool.{IsTaken, weigh}
@@ -65,19 +65,17 @@ taken task (t ∷ ts) some = by (same_task task t) refl (taken task ts)
 
 taken-weigh : (h : Task → ℕ) (task : Task) (before after : List Task) → IsTaken task before after
     → weigh h before ≡ h task + weigh h after
-taken-weigh h task before after t =
-    let a = ap (weigh h) t.2 in
-    let b = ap (weigh h) t.3 in
-    omega (
-      arith,
-      sum_by-append h t.0 (task ∷ t.1),
-      sum_by-cons h task t.1,
-      sum_by-append h t.0 t.1,
-    )
+taken-weigh h task before after (front, back, was, now) = rw (was, now) (omega (
+  arith,
+  sum_by-append h front (task ∷ back),
+  sum_by-cons h task back,
+  sum_by-append h front back,
+))
 
--- where these tasks are, as counts, some that are gone and some that are left, they weigh without the former what the
--- latter weigh
-without-weigh : (tasks gone left : List Task) → ((h : Task → ℕ) → weigh h tasks ≡ weigh h gone + weigh h left)
+-- where these tasks are, as counts, some that are gone and some that are left, they weigh without
+-- the former what the latter weigh
+without-weigh : (tasks gone left : List Task)
+    → ((h : Task → ℕ) → weigh h tasks ≡ weigh h gone + weigh h left)
     → (h : Task → ℕ) → weigh h (without tasks gone) ≡ weigh h left
 without-weigh tasks [] left same h = omega (arith, same h)
 without-weigh tasks (t ∷ ts) left same h =
@@ -96,16 +94,13 @@ without-push tasks (t ∷ ts) task = without-push (remove_key (same_task t) task
 
 -- an account with all parts, which knows the tasks in the pool, is a gathered pool's
 gathered : (v : PoolAccount) → v.parts ≡ all_parts → KnowsSome v → IsGathered v
-gathered v all some = record {
+gathered v all (tasks, knows) = record {
   parts = all;
   conserved = λ h.
-      let whole : (k : Task → ℕ) → weigh k v.pushed ≡ weigh k (v.stolen ++ v.popped) + weigh k some.0 =
-      λ k. omega (arith, some.1.whole all k, sum_by-append k v.stolen v.popped) in
-      omega (
-        arith,
-        some.1.whole all h,
-        without-weigh v.pushed (v.stolen ++ v.popped) some.0 whole h,
-      );
+      let gone = v.stolen ++ v.popped in
+      let left = without-weigh v.pushed gone tasks
+      (λ k. omega (arith, knows.whole all k, sum_by-append k v.stolen v.popped)) h in
+      omega (arith, knows.whole all h);
 }
 
 -- a task that was popped is taken from what was left
@@ -113,23 +108,14 @@ hands_one : (v w : PoolAccount) (task : Task) → IsGathered v
     → w ≡ account v.parts v.pushed (v.popped ++ task ∷ []) v.stolen → KnowsSome w
     → IsTaken task (left_of v) (left_of w)
 hands_one v w task g is_w some =
-    let left : left_of w ≡ remove_key (same_task task) (left_of v) =
-    ap left_of is_w
-    ∙ ap (without v.pushed) (sym (append_assoc v.stolen v.popped (task ∷ [])))
-    ∙ without-push v.pushed (v.stolen ++ v.popped) task in
-    let all : w.parts ≡ all_parts = ap (λ (u : PoolAccount). u.parts) is_w ∙ g.parts in
-    let pushed = ap (λ (u : PoolAccount). weigh (is task) u.pushed) is_w in
-    let popped = ap (λ (u : PoolAccount). weigh (is task) u.popped) is_w in
-    let stolen = ap (λ (u : PoolAccount). weigh (is task) u.stolen) is_w in
-    subst (IsTaken task (left_of v)) (sym left) (taken task (left_of v) (omega (
+    let knows = rw is_w at some in
+    let gone = v.stolen ++ v.popped in
+    let more = sum_by_push (is task) v.popped task in
+    rw (is_w, ← append_assoc v.stolen v.popped (task ∷ []), without-push v.pushed gone task)
+    (taken task (left_of v) (omega (
       arith,
       g.conserved (is task),
-      some.1.whole all (is task),
-      pushed,
-      popped,
-      stolen,
-      sum_by-append (is task) v.popped (task ∷ []),
-      sum_by-cons (is task) task [],
+      knows.1.whole g.parts (is task),
       is_itself task,
     )))
 
@@ -137,26 +123,24 @@ nothing : (tasks : List Task) → weigh (λ _. 1) tasks ≡ 0 → tasks ≡ []
 nothing [] none = refl
 nothing (t ∷ ts) none = absurd (omega (arith, sum_by-cons (λ (_ : Task). 1) t ts))
 
--- where the deque is empty, nothing is left
-hands_none : (v : PoolAccount) → IsGathered v → Knows v [] → left_of v ≡ []
-hands_none v g k = nothing (left_of v) (omega (arith, g.conserved (λ _. 1), k.whole g.parts (λ _. 1)))
-
 -- what an account with all parts says of the tasks in the pool
 pub counted : (v w : PoolAccount) (count : ℕ) → w ≡ v → w.parts ≡ all_parts
     → (tasks : List Task) × (length tasks ≡ count) × Knows v tasks → IsGathered w
-counted v w count same all knows = gathered w all (knows.0, subst (λ (u : PoolAccount). Knows u knows.0) (sym same) knows.2)
+counted v w count same all (tasks, _, knows) = gathered w all (tasks, rw same knows)
 
 -- how `next` changes the account
 abbrev pub HandsOut : PoolAccount → PoolAccount → Option Task → Type 0
 HandsOut v w r = MatchOption r ((w ≡ v) × Knows v [])
     (λ t. (w ≡ account v.parts v.pushed (v.popped ++ t ∷ []) v.stolen) × KnowsSome w)
 
-pub still_gathered : (v w : PoolAccount) (r : Option Task) → IsGathered v → HandsOut v w r → IsGathered w
-still_gathered v w None g handed = subst IsGathered (sym handed.0) g
-still_gathered v w (Some task) g handed =
-    gathered w (ap (λ (u : PoolAccount). u.parts) handed.0 ∙ g.parts) handed.1
+pub still_gathered : (v w : PoolAccount) (r : Option Task) → IsGathered v → HandsOut v w r
+    → IsGathered w
+still_gathered v w None g (same, _) = rw same g
+still_gathered v w (Some task) g (is, knows) =
+    gathered w (ap (λ (u : PoolAccount). u.parts) is ∙ g.parts) knows
 
 pub takes_one : (v w : PoolAccount) (r : Option Task) → IsGathered v → HandsOut v w r
     → MatchOption r (left_of v ≡ []) (λ t. IsTaken t (left_of v) (left_of w))
-takes_one v w None g handed = hands_none v g handed.1
-takes_one v w (Some task) g handed = hands_one v w task g handed.0 handed.1
+takes_one v w None g (_, empty) =
+    nothing (left_of v) (omega (arith, g.conserved (λ _. 1), empty.whole g.parts (λ _. 1)))
+takes_one v w (Some task) g (is, knows) = hands_one v w task g is knows

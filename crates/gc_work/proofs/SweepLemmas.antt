@@ -2,8 +2,7 @@
 use Rattle.std.proofs.Common.{ℕ, ◌-◌, ◌<◌, Bool, Some, Ok, length, count_by, arith, length-set, ap}
 use Rattle.std.proofs.lemmas.List.Sums.{count_by-le-length}
 use Rattle.gc_store.specs.declared.task.Task.{Task}
-use Rattle.gc_store.specs.Task.{sealed_zero_label, sealed_rows}
-use Rattle.gc_store.specs.Content.{Content, Claimed, Finished, is_finished}
+use Rattle.gc_store.specs.Content.{Content, State, is_finished}
 use Rattle.gc_store.specs.Step.{Claims, Finishes}
 use Rattle.gc_store.proofs.CountLemmas.{claims-count, finishes-count}
 
@@ -11,16 +10,14 @@ use Rattle.gc_store.proofs.CountLemmas.{claims-count, finishes-count}
 abbrev pub left : Content → ℕ
 left s = length s.states - count_by is_finished s.states
 
-pub one_fewer : (old next new : Content) (task sealed : Task) (complete : Bool) → Claims old (Some task) next
-    → Finishes next sealed (Ok complete) new → left new < left old
-one_fewer old next new task sealed complete claims finishes =
-    let claimed = ap (λ (s : Content). length s.states) claims.2 in
-    let finished = ap (λ (s : Content). length s.states) finishes.2 in
-    omega (
-      arith,
-      claims-count old next (Some task) claims,
-      finishes-count next new sealed complete finishes,
-      count_by-le-length is_finished new.states,
-      length-set old.states task.gate Claimed,
-      length-set next.states sealed.gate (Finished (sealed_zero_label sealed) (sealed_rows sealed)),
-    )
+pub one_fewer : (old next new : Content) (task sealed : Task) (complete : Bool)
+    → Claims old (Some task) next → Finishes next sealed (Ok complete) new → left new < left old
+one_fewer old next new task sealed complete claims finishes = omega (
+  arith,
+  claims-count old next (Some task) claims,
+  finishes-count next new sealed complete finishes,
+  count_by-le-length is_finished new.states,
+  ap (λ (s : Content). length s.states) claims.2,
+  ap (λ (s : Content). length s.states) finishes.2,
+  length-set {A = State},
+)

@@ -1,22 +1,24 @@
-use Rattle.std.proofs.Common.{◌≡◌, ◌∷◌, [], ◌++◌, ◌∙◌, length, ap, subst, rules}
-use Rattle.gc_work.specs.Places.{AreRows}
+use Rattle.std.proofs.Common.{◌≡◌, ◌∙◌, ◌∷◌, [], ◌++◌, Some, length, slice_get, ap, rules}
+use Rattle.std.proofs.lemmas.List.Elements.{All-push}
 use Rattle.gc_gatehouse.proofs.Whole.{whole_back}
-use Rattle.gc_work.proofs.PlaceLemmas.{AreHeld-grow}
+use Rattle.gc_half.proofs.RowLemmas.{slice_get-push, slice_get-append}
 use Rattle.gc_work.proofs.workers.open_pools.Goals as goal
 
 pub loop-i-preserved : goal.loop-i-preserved
 loop-i-preserved g c =
-    let pool = c.in_ok-pool.pool in
     let pools = c.loop-i.pools.items in
+    let pool = c.in_ok-pool.pool in
     let place : length pools ≡ c.len-place.result = search rules in
-    let own : c.in_ok-pool.owner.pool ≡ pool = ap (λ o. o.pool) c.in_ok-pool.ensures.owner in
+    let own = ap (λ o. o.pool) c.in_ok-pool.ensures.owner in
     let count : c.loop-i.rows.len ≡ length c.loop-i.rows.items = search rules in
-    let rows = whole_back c.loop-i.rows.len c.loop-i.rows.items c.spread.new.rows
-    (c.spread.auto.rows ∙ ap length c.as_mut_slice.ensures.value) count in
+    let back = whole_back _ _ _ (c.spread.auto.rows ∙ ap length c.as_mut_slice.ensures.value)
+    count in
     record {
-      seats = rw c.in_ok-push-2.ensures.items (rw c.in_ok-push.ensures.items
-          (AreHeld-grow pools pool c.loop-i.seats.items
-          (record { place = c.len-place.result; owner = c.in_ok-pool.owner }) c.loop-i.invariant.seats place own));
-      rows = rw rows (rw c.in_ok-push.ensures.items
-          (subst (λ ps. AreRows (ps ++ pool ∷ []) c.spread.new.rows) c.as_slice.ensures.value c.in_ok-spread.ensures));
+      seats = rw (c.in_ok-push-2.ensures.items, c.in_ok-push.ensures.items)
+          (All-push (λ s. slice_get (pools ++ pool ∷ []) s.place ≡ Some s.owner.pool)
+          c.loop-i.seats.items _
+          (λ k d h. slice_get-append pools (pool ∷ []) _ _ (c.loop-i.invariant.seats k d h))
+          (rw (← place, own) (slice_get-push pools pool)));
+      rows = rw (back, c.in_ok-push.ensures.items)
+          (rw c.as_slice.ensures.value at c.in_ok-spread.ensures);
     }

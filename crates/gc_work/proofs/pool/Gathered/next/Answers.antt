@@ -16,7 +16,9 @@ pub invariant_of-self : goal.invariant_of-self
 invariant_of-self g c = still_gathered _ _ c.pop_as.result c.self.invariant c.pop_as.ensures.rule
 
 pub returns-clause-left : goal.returns-clause-left
-returns-clause-left g c = rw (← c.self.view_is) (takes_one _ _ c.pop_as.result c.self.invariant c.pop_as.ensures.rule)
+returns-clause-left g c = rw (← c.self.view_is)
+    (takes_one _ _ c.pop_as.result c.self.invariant c.pop_as.ensures.rule)
 
 pub returns-clause-conserved : goal.returns-clause-conserved
-returns-clause-conserved g c = (still_gathered _ _ c.pop_as.result c.self.invariant c.pop_as.ensures.rule).conserved
+returns-clause-conserved g c =
+    (still_gathered _ _ c.pop_as.result c.self.invariant c.pop_as.ensures.rule).conserved

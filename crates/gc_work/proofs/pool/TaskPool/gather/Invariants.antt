@@ -12,7 +12,9 @@ invariant-loop-thief g l = record {
   deque : worker_deque l.worker ≡ worker_deque l.initial.worker;
   pushed : (worker_view l.worker).pushed ≡ (worker_view l.initial.worker).pushed;
   popped : (worker_view l.worker).popped ≡ (worker_view l.initial.worker).popped;
-  stolen : (worker_view l.worker).stolen ++ stolen_by (into_iter_items l.thief-iterator) ≡ stolen_by l.fn.thieves.items;
-  parts : (worker_view l.worker).parts + length (into_iter_items l.thief-iterator) ≡ (worker_view l.initial.worker).parts + length l.fn.thieves.items;
+  stolen : (worker_view l.worker).stolen ++ stolen_by (into_iter_items l.thief-iterator)
+      ≡ stolen_by l.fn.thieves.items;
+  parts : (worker_view l.worker).parts + length (into_iter_items l.thief-iterator)
+      ≡ (worker_view l.initial.worker).parts + length l.fn.thieves.items;
   all : AllOf (worker_deque l.worker) (into_iter_items l.thief-iterator);
 }
