@@ -1,26 +1,23 @@
 -- What a `Pointer` owns: nothing at null, or a box of the program's heap.
-use Rattle.std.proofs.Common.{◌≡◌, ℕ, List, ◌∷◌, refl}
-use seplogic.Ra.Ura.{Ura}
+use Rattle.gc_handle.proofs.Walk.{◌≡◌, ℕ, List, ◌∷◌, refl, Ura, Logic, sem, Item, Goal, Seq, ‵}
+use Rattle.gc_handle.proofs.Walk.{given, ◌$◌, drop, use1, learn, Fml, ftrue, RattleType, Laws, Ptr}
+use Rattle.gc_handle.proofs.Walk.{block_ptr, null_ptr}
 use mir.Raw.{raw as bare}
+use base.Fml.{ffalse}
 use base.Fraction.{full_share}
-use base.Logic.{ent, via, guard, guard_i, snd∗, never_e}
-use base.Fml.{Fml, ftrue, ffalse}
-use types.Logic.{Logic, sem}
-use types.Kit.{Item, Goal, Seq, ‵, given, ◌$◌, drop, use1, learn}
+use base.Logic.{via, guard_i, snd∗, never_e}
 use contract.Monad.{fact_use}
-use denote.RattleType.{RattleType}
 use denote.Memory.{lone}
-use denote.RawPtr.{Ptr, block_ptr, null_ptr, lies_at, Testable}
-use denote.Param.Laws.{Laws}
+use denote.RawPtr.{lies_at, Testable}
 use Rattle.std.specs.declared.option.Option.{Option}
-use Rattle.std.specs.declared.option.Option.TheVariants.{None, Some}
+pub use Rattle.std.specs.declared.option.Option.TheVariants.{None, Some}
 use Rattle.std.specs.declared.alloc.Global.{Global}
 use Rattle.std.specs.contracts.alloc.Global as global
 use Rattle.std.proofs.alloc.Global.TheLaws as global_laws
-use Rattle.std.specs.contracts.impls.GlobalAllocator.TheImpl.{ghosts}
+pub use Rattle.std.specs.contracts.impls.GlobalAllocator.TheImpl.{ghosts}
 use Rattle.std.proofs.GlobalToken.{dealloc_token-Testable}
-use Rattle.std_alloc.specs.Box.Ownership.{box_owns}
-use Rattle.gc_handle.specs.Behind.{behind}
+pub use Rattle.gc_handle.specs.Behind.{behind}
+use Rattle.gc_handle.proofs.Pair.{box_owns}
 
 -- the allocator of the program's heap
 abbrev pub Heap : RattleType
@@ -33,20 +30,13 @@ module _ (R : RattleType) (alloc : Global) where
   abbrev pub box_at : Ptr → R.Denot → Fml
   box_at = box_owns (ghosts.dealloc_token alloc) R
 
-  -- the right to free a box's block makes its pointer one that may be compared with null
-  testable : {M : Type 1} {𝓤 : Ura M} (𝓛 : Logic 𝓤) (at : Ptr) (value : R.Denot)
-      → ent 𝓤 (sem 𝓛 (box_at at value)) (guard 𝓤 (Testable at) (sem 𝓛 (box_at at value)))
-  testable {𝓤 = 𝓤} 𝓛 at value =
-      let contents = sem 𝓛 (lies_at R full_share at value) in
-      let token = sem 𝓛 (ghosts.dealloc_token alloc (bare (lone R.mir)) at) in
-      let by_token = via 𝓤 _ (snd∗ 𝓤 contents token) (dealloc_token-Testable 𝓛 alloc (bare (lone R.mir)) at) in
-      fact_use 𝓤 (Testable at) by_token (guard_i 𝓤 (Testable at) (sem 𝓛 (box_at at value)))
-
-  module _ {M : Type 1} {𝓤 : Ura M} {𝓛 : Logic 𝓤} {K : Type 0} {Γ : List (Item 𝓤)} {G : Goal 𝓤 𝓛.H} where
+  module _ {M : Type 1} {𝓤 : Ura M} {𝓛 : Logic 𝓤} {K : Type 0} {Γ : List (Item 𝓤)}
+      {G : Goal 𝓤 𝓛.H} where
     impossible : K → Seq K 𝓛 (‵ ffalse ∷ Γ) G
     impossible t = use1 𝓛 (given ⊥ (‵ ftrue)) (never_e 𝓤 _) $ learn t (λ none. absurd none)
 
-    -- the two cases of what lies behind a pointer
+    -- the two cases of what lies behind a pointer. The right to free a box's block makes its
+    -- pointer one that may be compared with null
     pub null_or_box : K → (at : Ptr) (value : Option R.Denot)
         → (at ≡ null_ptr → value ≡ None → Seq K 𝓛 Γ G)
         → ((block offset : ℕ) (x : R.Denot) → at ≡ block_ptr block offset → value ≡ Some x
@@ -57,5 +47,10 @@ module _ (R : RattleType) (alloc : Global) where
     null_or_box t (block_ptr block offset) None at_null at_box = impossible t
     null_or_box t (block_ptr block offset) (Some x) at_null at_box =
         let at : Ptr = block_ptr block offset in
-        use1 𝓛 (given (Testable at) (‵ (box_at at x))) (testable 𝓛 at x) $
-        learn t (λ may_test. at_box block offset x refl refl may_test)
+        let box = sem 𝓛 (box_at at x) in
+        let token = sem 𝓛 (ghosts.dealloc_token alloc (bare (lone R.mir)) at) in
+        let by_token = via 𝓤 token (snd∗ 𝓤 (sem 𝓛 (lies_at R full_share at x)) token)
+        (dealloc_token-Testable 𝓛 alloc (bare (lone R.mir)) at) in
+        use1 𝓛 (given (Testable at) (‵ (box_at at x)))
+        (fact_use 𝓤 (Testable at) by_token (guard_i 𝓤 (Testable at) box)) $
+        learn t (at_box block offset x refl refl)

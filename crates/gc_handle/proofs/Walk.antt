@@ -1,32 +1,102 @@
--- Steps that the proofs by hand share.
-use Rattle.std.proofs.Common.{◌≡◌, List, [], ◌∷◌, ◌++◌, sym, subst}
-use seplogic.Ra.Ura.{Ura}
-use mir.Syntax.{Fn}
-use mir.Val.{Val}
-use base.Logic.{SProp, emp}
-use base.Fml.{ftrue, fsep}
-use prog.Wp.{Calls, Loops, WpFn}
-use types.Logic.{Logic}
-use types.Kit.{Item, Goal, prop, runs, allocs, params', at_ret, Seq, Step, step, ‵, raw, ◌$◌, use0, fjoin}
-use types.Run.{enter}
-use contract.Monad.{fact, fact_i}
-use denote.Steps.{nothing}
+-- The names of the kit that the proofs by hand cite, and the steps that they share.
+pub use Rattle.std.proofs.Common.{◌≡◌, ℕ, List, [], ◌∷◌, ◌++◌, refl, sym, ap, ◌∙◌, subst, lit<}
+pub use lib.Dec.{T}
+pub use seplogic.Ra.Ura.{Ura}
+pub use base.Logic.{SProp, ent, emp, id⊢}
+pub use base.Fml.{Fml, ftrue, flft}
+pub use mir.Syntax.{Fn, Callee, a_type, dcons, dnil}
+pub use mir.Val.{Val, vptr}
+pub use mir.MapTy.{inst_fn}
+pub use prog.Model.{Model}
+pub use prog.Wp.{Calls, Loops, WpFn, Closed}
+pub use types.Logic.{Logic, sem}
+pub use types.Kit.{Item, Goal, Seq, Sq, Step, step, prop, ‵, raw, given, ◌⊛◌, some, later, ◌$◌, ! }
+pub use types.Kit.{by, qed, ◌∵◌, runs, allocs, params', at_ret, move, keep, drop, split, split3}
+pub use types.Kit.{join, fsplit, fjoin, pick, fpick, fpack, feq_i, feq_l, use0, use1, learn, await}
+pub use types.Kit.{rewrite}
+pub use types.Run.{enter, stop, fld, lit, of_opd, bin, no_more, and_then, first, branches, blocks}
+pub use types.Run.{exec, returns}
+pub use types.ByLocal.{alloc_all, pass_all, free_all, look_at, get, get_in, sets, sets_last, env}
+pub use types.ByLocal.{lands_as, lands_last}
+pub use types.Part.{agg, sub, whole}
+pub use contract.Monad.{fact, fact_i}
+pub use contract.Running.{Running, tables}
+pub use denote.Exit.{Kept, yes, no, Last, left}
+pub use denote.RattleType.{RattleType, Valss}
+pub use denote.RawPtr.{Ptr, block_ptr, null_ptr, ptr_val}
+pub use denote.Steps.{nothing, only, heard}
+pub use denote.Param.{param, layout, layouts, bounded}
+pub use denote.Param.Laws.{Laws, param_laws}
+use denote.Param.Mute.{blank}
+use denote.Laws.{Are, Ises}
+use denote.RattleType.{owns}
+use denote.Signature.{types_at, plain}
+use denote.Triple.Clauses.{Ended, Clauses, closing, at_exit}
+pub use denote.Triple.Entry.{alive}
+use denote.Triple.Spec.{Meets}
+use denote.Triple.Statement.{Contract}
+use denote.Triple.Walked.{Stays, stay_dropped, walk_of}
+use Rattle.core.proofs.alloc.Calls.{Goes-blank}
+use Rattle.std.proofs.raw_atomic.Walks.{proved_at, leaves}
 
 module _ {M : Type 1} {𝓤 : Ura M} {𝓛 : Logic 𝓤} {K : Type 0} {Γ : List (Item 𝓤)} where
   -- enters a function of one parameter, whose machine value is known
   pub enter_at : K → (C : Calls 𝓤 𝓛.H) (Λ : Loops 𝓤 𝓛.H) (fn : Fn) (Post : Val → SProp 𝓤)
       → (value : Val) {values : List Val} → values ≡ value ∷ []
-      → Step K 𝓛 Γ (allocs fn.locals (λ E. params' E (value ∷ []) (runs C Λ E fn.body (at_ret E Post))))
+      → Step K 𝓛 Γ
+      (allocs fn.locals (λ E. params' E (value ∷ []) (runs C Λ E fn.body (at_ret E Post))))
       Γ (prop (WpFn 𝓤 𝓛.H C Λ fn (values ++ []) Post))
   enter_at t C Λ fn Post value is = step (λ rest.
       subst (λ (args : List Val). Seq K 𝓛 Γ (prop (WpFn 𝓤 𝓛.H C Λ fn (args ++ []) Post))) (sym is)
       (enter t C Λ fn (value ∷ []) Post $ rest))
 
-  module _ {G : Goal 𝓤 𝓛.H} where
-    -- a fact, for the contract
-    pub states : K → (P : Type 0) → P → Step K 𝓛 (raw (fact 𝓤 P) ∷ Γ) G Γ G
-    states t P holds = use0 𝓛 (raw (fact 𝓤 P)) (fact_i 𝓤 P (emp 𝓤) holds)
+-- A function from X to Y, of which nothing is kept of the parameter.
+module _ (n : ℕ) (X Y : RattleType) (kept : Kept) where
+  abbrev pub takes : Ended
+  takes = record {
+    signature = record {
+      lifetimes = n;
+      outlives = [];
+      params = plain (λ κs. X) ∷ [];
+      result = plain (λ κs. Y);
+    };
+    kept = (kept, tt);
+  }
 
-    -- of the one parameter, which was used up, nothing is left
-    pub used_up : K → Step K 𝓛 (‵ (fsep ftrue ftrue) ∷ Γ) G Γ G
-    used_up t = step (λ rest. nothing t $ nothing t $ fjoin t $ rest)
+  module _ {M : Type 1} {𝓤 : Ura M} (𝓛 : Logic 𝓤) (terms : Clauses 𝓤 takes) where
+    abbrev pub stays : Stays takes.signature.params takes.kept
+    stays = (stay_dropped (plain (λ κs. X)) kept, tt)
+
+    abbrev pub Walk : Contract 𝓤
+    Walk = walk_of 𝓛 takes stays terms
+
+    -- It meets its contract, by a walk from what it is given. At the end nothing is left to say of
+    -- the parameter.
+    pub met_by : ((x : X.Denot) (last : Last (X.exit kept) x)
+        → T (blank (left (X.exit kept) x last)))
+        → (𝓜 : Model 𝓤 𝓛.H) (𝓡 : Running 𝓤 𝓛.H 𝓜) (self : Callee) (fn : Fn)
+        → (let 𝓣 = tables 𝓤 𝓛.H 𝓜 𝓡 𝓡.env in Closed 𝓤 𝓛.H 𝓣.C 𝓣.Λ self fn
+        → ((y : Walk.Ghost) → Are (X ∷ []) (Ises (X ∷ [])) y.0.3 y.0.4
+        → Sq 𝓛 (‵ (X.own_val y.0.3.0 y.0.4.0) ∷ raw (alive 𝓛 takes.signature y.0.0 y.0.1)
+        ∷ raw ((terms y.0.0 y.0.3).requires y.1) ∷ [])
+        (prop (WpFn 𝓤 𝓛.H 𝓣.C 𝓣.Λ fn (y.0.4.0 ++ []) (Walk.post y))))
+        → Meets 𝓛 takes.signature (𝓣.C self) (closing 𝓛 takes terms))
+    met_by silent 𝓜 𝓡 self fn closed walk =
+        proved_at 𝓛 takes stays terms 𝓜 𝓡 (Goes-blank 𝓛 n (plain (λ κs. X)) kept (λ κs. silent), tt)
+        self fn closed (λ y are.
+        let tokens = raw (alive 𝓛 takes.signature y.0.0 y.0.1) in
+        let params = ‵ (owns (types_at takes.signature.params y.0.0) y.0.3 y.0.4) in
+        qed 𝓛 ((tokens ⊛ params) ∷ raw ((terms y.0.0 y.0.3).requires y.1) ∷ []) ∵
+        split ! $ move ! (1 ∷ []) $ fsplit ! $ keep ! (0 ∷ 2 ∷ 3 ∷ []) $ walk y are)
+
+    -- The end of such a walk: what the result owns, and the tokens. The contract holds.
+    pub ends : (y : Walk.Ghost) (value : Val) (result : Y.Denot) (last : Last (X.exit kept) y.0.3.0)
+        → (let end = at_exit takes y.0.0 y.0.3 (last, tt) in
+        ent 𝓤 (emp 𝓤) ((terms y.0.0 y.0.3).ensures y.1 result end))
+        → Sq 𝓛 (‵ (Y.own_val result (value ∷ [])) ∷ raw (alive 𝓛 takes.signature y.0.0 y.0.1) ∷ [])
+        (prop (Walk.post y value))
+    ends y value result last holds =
+        let end = at_exit takes y.0.0 y.0.3 (last, tt) in
+        use0 𝓛 (raw ((terms y.0.0 y.0.3).ensures y.1 result end)) holds $
+        nothing ! $ nothing ! $ fjoin ! $ keep ! (3 ∷ 0 ∷ 2 ∷ 1 ∷ []) $
+        by ! (leaves 𝓛 takes stays terms y value result (last, tt) (tt, tt))

@@ -1,47 +1,31 @@
 -- `of` takes the pointer and the allocator out of the box, and moves them over.
-use Rattle.std.proofs.Common.{◌≡◌, [], ◌∷◌, refl, ap}
-use mir.Syntax.{a_type, dcons, dnil}
-use mir.Val.{Val, vptr}
-use mir.MapTy.{inst_fn}
-use base.Logic.{SProp, id⊢}
-use base.Fml.{Fml, ftrue, fsep, flft}
-use types.Kit.{‵, raw, ◌⊛◌, some, later, ◌$◌, ◌∵◌, !, qed, by}
-use types.Kit.{move, keep, drop, split, split3, join, fsplit, fjoin, pick, use1, await, rewrite}
-use types.Run.{stop, fld, of_opd, no_more, and_then, returns}
-use types.ByLocal.{alloc_all, pass_all, free_all, look_at, get, get_in, sets, lands_as}
-use types.Part.{agg, sub, whole}
-use contract.Monad.{fact}
-use contract.Running.{tables}
-use denote.Exit.{no}
-use denote.RattleType.{RattleType, owns}
-use denote.Signature.{types_at, plain}
+use Rattle.gc_handle.proofs.Walk.{◌≡◌, [], ◌∷◌, refl, ap, id⊢, Fml, ftrue, a_type, dcons, dnil, Val}
+use Rattle.gc_handle.proofs.Walk.{vptr, inst_fn, fact, fact_i, no, RattleType, Ptr, block_ptr}
+use Rattle.gc_handle.proofs.Walk.{param, bounded, param_laws, ‵, raw, ◌⊛◌, some, later, ◌$◌, ! }
+use Rattle.gc_handle.proofs.Walk.{move, keep, drop, split, split3, join, fjoin, pick, use1, await}
+use Rattle.gc_handle.proofs.Walk.{rewrite, heard, only, nothing, stop, fld, of_opd, no_more}
+use Rattle.gc_handle.proofs.Walk.{and_then, returns, alloc_all, pass_all, free_all, look_at, get}
+use Rattle.gc_handle.proofs.Walk.{get_in, sets, lands_as, agg, sub, whole, enter_at, takes, alive}
+use Rattle.gc_handle.proofs.Walk.{met_by, ends}
+use base.Fml.{fsep}
 use denote.Builtin.{RawPtr}
-use denote.RawPtr.{Ptr, block_ptr}
-use denote.Steps.{only, heard}
-use denote.Param.{param, bounded}
-use denote.Param.Laws.{param_laws}
 use denote.Struct.Tuple.{Tuple}
 use denote.Triple.Spec.{triple_of}
 use denote.Triple.Call.{calls_at}
-use denote.Triple.Walked.{Stays, stay_dropped, walk_of}
-use Rattle.core.proofs.alloc.Calls.{Goes-blank}
 use Rattle.core.proofs.atomic.Steps.{fm}
-use Rattle.std_alloc.specs.Box.Ownership.{box_owns}
 use Rattle.std_alloc.specs.contracts.boxed.Box as box_type
 use Rattle.std_alloc.specs.contracts.boxed.Box.into_raw_with_allocator as callee
 use Rattle.std_alloc.proofs.boxed.Box.into_raw_with_allocator.Met.{met}
-use Rattle.std.proofs.raw_atomic.Walks.{proved_at, leaves}
 use Rattle.gc_handle.specs.contracts.parted.Parted as parted_type
-use Rattle.gc_handle.proofs.Pair.{pair, pair_fits, fields_own, pair_in, box_out}
-use Rattle.gc_handle.proofs.Walk.{enter_at, states, used_up}
-use Rattle.gc_handle.specs.contracts.parted.Parted.of.{ended, clauses}
+use Rattle.gc_handle.proofs.Pair.{box_owns, pair, pair_fits, fields_own, pair_in, box_out}
+use Rattle.gc_handle.specs.contracts.parted.Parted.of.{clauses}
 use Rattle.gc_handle.specs.contracts.parted.Parted.of.Key.{name as #self}
 use Rattle.gc_handle.proofs.parted.Parted.of.Statement.{statement}
 use Rattle.gc_handle.proofs.parted.Parted.of.Code as code
 
 pub of_spec : {M : Type 1} → statement M
-of_spec 𝓤 𝓛 𝓜 𝓡 wired T A T-laws A-laws ghosts allocates drops_value drops_alloc allocator glue_value glue_alloc =
-    let 𝓣 = tables 𝓤 𝓛.H 𝓜 𝓡 𝓡.env in
+of_spec 𝓤 𝓛 𝓜 𝓡 wired T A T-laws A-laws ghosts allocates drops_value drops_alloc allocator
+    glue_value glue_alloc =
     let R : RattleType = param 0 T in
     let Heap : RattleType = param 1 A in
     let heap_laws = param_laws 1 A A-laws in
@@ -50,37 +34,30 @@ of_spec 𝓤 𝓛 𝓜 𝓡 wired T A T-laws A-laws ghosts allocates drops_value
     let Raw : RattleType = Tuple (RawPtr ∷ Heap ∷ []) in
     let methods = dcons allocates (dcons drops_value (dcons drops_alloc dnil)) in
     let instance = bounded (a_type ∷ a_type ∷ []) (T, (A, tt)) methods in
-    let fn = inst_fn instance code.function in
-    let En = ended T A ghosts allocates drops_value drops_alloc in
-    let contract = clauses T A ghosts allocates drops_value drops_alloc 𝓛 𝓜.mem 𝓡.returns in
-    let moved : Stays En.signature.params En.kept = (stay_dropped (plain (λ _. Box)) no, tt) in
-    proved_at 𝓛 En moved contract 𝓜 𝓡 (Goes-blank 𝓛 2 (plain (λ _. Box)) no (λ lifetimes x last. tt), tt)
-    (#self instance) fn (code.unfolded 𝓤 𝓛.H 𝓜 𝓡 wired (T, (A, tt)) allocates drops_value drops_alloc) (λ entry are.
-    let lifetimes = entry.0.0 in
-    let shares = entry.0.1 in
-    let held = entry.0.3.0 in
+    let terms = clauses T A ghosts allocates drops_value drops_alloc 𝓛 𝓜.mem 𝓡.returns in
+    met_by 2 Box Parted no 𝓛 terms (λ x last. tt) 𝓜 𝓡 (#self instance)
+    (inst_fn instance code.function)
+    (code.unfolded 𝓤 𝓛.H 𝓜 𝓡 wired (T, (A, tt)) allocates drops_value drops_alloc) (λ y are.
+    let lifetimes = y.0.0 in
+    let shares = y.0.1 in
+    let held = y.0.3.0 in
     let box_at : Ptr → Fml = λ p. box_owns (ghosts.dealloc_token held.alloc) R p held.value in
-    let Post : Val → SProp 𝓤 = (walk_of 𝓛 En moved contract).post entry in
-    let tokens = ‵ (flft lifetimes.0 shares.0) ⊛ ‵ (flft lifetimes.1.0 shares.1.0) ⊛ ‵ ftrue in
-    let params = ‵ (owns (types_at En.signature.params lifetimes) entry.0.3 entry.0.4) in
-    let required = raw ((contract lifetimes entry.0.3).requires entry.1) in
-    qed 𝓛 ((tokens ⊛ params) ∷ required ∷ []) ∵
-    split ! $ move ! (1 ∷ []) $ fsplit ! $
+    let tokens = raw (alive 𝓛 (takes 2 Box Parted no).signature lifetimes shares) in
     -- the box is a pair: opened to learn its machine value, and closed again
-    box_out Heap heap_laws ghosts ! R held.ptr held.alloc held.value entry.0.4.0 (λ block offset heap is fits.
+    box_out Heap heap_laws ghosts ! R held.ptr held.alloc held.value y.0.4.0
+    (λ block offset heap is fits.
+    let ptr = block_ptr block offset in
     let given : Val = pair (vptr block offset) heap in
-    let given_fits = pair_fits Heap (block_ptr block offset) heap fits in
-    let box : Box.Denot = record { ptr = block_ptr block offset; alloc = held.alloc; value = held.value } in
-    pair_in Heap heap_laws ghosts ! (box_at box.ptr) box.ptr held.alloc heap $
+    let given_fits = pair_fits Heap ptr heap fits in
+    let box : Box.Denot = record { ptr = ptr; alloc = held.alloc; value = held.value } in
+    pair_in Heap heap_laws ghosts ! (box_at ptr) ptr held.alloc heap $
     -- what the call requires
     let call = triple_of 𝓛 (callee.signature T A ghosts allocates drops_alloc drops_value)
     (callee.spec T A ghosts allocates drops_alloc drops_value 𝓛 𝓜.mem 𝓡.returns) in
     let args : call.Ghost = ((lifetimes, shares, tt, (box, tt), (given ∷ [], tt)), tt) in
-    fjoin ! $ move ! (1 ∷ 0 ∷ []) $ join ! $ join ! $
+    nothing ! $ move ! (1 ∷ 0 ∷ []) $ fjoin ! $ move ! (1 ∷ 0 ∷ []) $ join ! $ join ! $
     use1 𝓛 (raw (call.pre args)) (id⊢ 𝓤 _) $
-    enter_at ! 𝓣.C 𝓣.Λ fn Post given is $
-    alloc_all ! (λ l.
-    pass_all ! refl (given_fits, tt) $
+    enter_at ! _ _ _ _ given is $ alloc_all ! (λ l. pass_all ! refl (given_fits, tt) $
     -- `Box::into_raw_with_allocator(held)`
     sets ! (of_opd ! (get ! refl)) refl given_fits $
     calls_at ! (fm 𝓛 𝓜 𝓡) call
@@ -89,17 +66,20 @@ of_spec 𝓤 𝓛 𝓜 𝓡 wired T A T-laws A-laws ghosts allocates drops_value
     args (and_then ! (get ! refl) (no_more !)) (λ returned.
     -- what it ensures: the box's allocator, and a pointer that the box lies behind
     use1 𝓛 (later (some (λ (raw_box : Raw.Denot). (tokens ⊛ ‵ (Raw.own_val raw_box (returned ∷ [])))
-    ⊛ some (λ (_ : (Unit {0} × (Unit {0} × Unit {0})) × Unit {0}). ‵ (fsep (fsep ftrue (fsep ftrue ftrue)) ftrue)
+    ⊛ some (λ (_ : (Unit {0} × (Unit {0} × Unit {0})) × Unit {0}).
+    ‵ (fsep (fsep ftrue (fsep ftrue ftrue)) ftrue)
     ⊛ (raw (fact 𝓤 (raw_box.1 ≡ held.alloc)) ⊛ ‵ (box_at raw_box.0)))))) (id⊢ 𝓤 _) $
     await ! tt $ pick ! (λ raw_box.
     split ! $ move ! (1 ∷ []) $ pick ! (λ _. split3 ! $ drop ! $
     heard ! (raw_box.1 ≡ held.alloc) (λ same_alloc.
     move ! (1 ∷ []) $ split ! $ move ! (1 ∷ []) $
     -- the tuple's allocator is the box's
-    rewrite ! 0 (λ (alloc : A.Denot). ‵ (fields_own Heap raw_box.0 alloc (returned ∷ []))) same_alloc refl $
+    rewrite ! 0 (λ (alloc : A.Denot). ‵ (fields_own Heap raw_box.0 alloc (returned ∷ [])))
+    same_alloc refl $
     move ! (0 ∷ 2 ∷ []) $ fjoin ! $
     -- with the box behind its pointer, the tuple is such a pair too
-    box_out Heap heap_laws ghosts ! R raw_box.0 held.alloc held.value (returned ∷ []) (λ block' offset' heap' is' fits'.
+    box_out Heap heap_laws ghosts ! R raw_box.0 held.alloc held.value (returned ∷ [])
+    (λ block' offset' heap' is' fits'.
     let at = block_ptr block' offset' in
     let made : Val = pair (vptr block' offset') heap' in
     let made_fits = pair_fits Heap at heap' fits' in
@@ -111,11 +91,6 @@ of_spec 𝓤 𝓛 𝓜 𝓡 wired T A T-laws A-laws ghosts allocates drops_value
     sets ! (of_opd ! (get ! refl)) refl fits' $
     sets ! (agg ! (and_then ! (get ! refl) (and_then ! (get ! refl) (no_more !)))) refl made_fits $
     pair_in Heap heap_laws ghosts ! (box_at at) at held.alloc heap' $
-    -- the contract, and the return
-    states ! (held.value ≡ held.value) refl $
-    used_up ! $
-    returns ! (look_at ! 0 refl) $
-    free_all ! refl $
-    keep ! (3 ∷ 0 ∷ 2 ∷ 1 ∷ []) $
+    returns ! (look_at ! 0 refl) $ free_all ! refl $ keep ! (0 ∷ 1 ∷ []) $
     let result : Parted.Denot = record { at = at; alloc = held.alloc; value = held.value } in
-    by ! (leaves 𝓛 En moved contract entry made result ((tt, (tt, tt)), tt) (tt, tt))))))))))
+    ends 2 Box Parted no 𝓛 terms y made result (tt, (tt, tt)) (fact_i 𝓤 _ _ refl)))))))))
