@@ -1,5 +1,6 @@
 -- The number that a word of a command line spells is what `parse` reads.
-use Rattle.std.proofs.Common.{◌≡◌, ℕ, ◌<◌, ◌^◌, Bool, true, false, List, Result, Ok, Err, refl, arith}
+use Rattle.std.proofs.Common.{◌≡◌, ℕ, ◌<◌, ◌^◌, Bool, true, false, List, Result, Ok, Err, refl}
+use Rattle.std.proofs.Common.{arith}
 use Rattle.std.specs.Prelude.{if◌then◌else◌}
 use Rattle.std.specs.Result.{result_unwrap_or}
 use Rattle.std.specs.Str.Parse.{ParsesUnsigned, digits_value, without_leading_plus}
@@ -12,16 +13,15 @@ refused : (b : Bool) (n : ℕ) → (b ≡ true → ⊥) → 0 ≡ (if b then n e
 refused true n other = absurd (other refl)
 refused false n other = refl
 
-accepted : (b : Bool) (m n : ℕ) → b ≡ true → m ≡ n → m ≡ (if b then n else 0)
-accepted true m n taken same = same
-accepted false m n taken same = absurd (cc)
-
-pub number-parsed : {E : Type 0} (text : List ℕ) (r : Result ℕ E) → ParsesUnsigned 32 10 text r → result_unwrap_or r 0 ≡ number_in text
+pub number-parsed : {E : Type 0} (text : List ℕ) (r : Result ℕ E) → ParsesUnsigned 32 10 text r
+    → result_unwrap_or r 0 ≡ number_in text
 number-parsed text (Ok n) (fits, same) =
     let number = digits_value 10 (without_leading_plus text) in
     let small : number < 2 ^ 32 = fits.1 in
-    accepted (accepts false (Unsigned 0 4294967295) text) n number
-    (Accepts-accepts false (Unsigned 0 4294967295) text (fits.0, omega arith, omega arith, omega arith)) same
+    let taken : accepts false (Unsigned 0 4294967295) text ≡ true =
+    Accepts-accepts false (Unsigned 0 4294967295) text
+    (fits.0, omega arith, omega arith, omega arith) in
+    rw taken same
 number-parsed text (Err e) other =
-    refused (accepts false (Unsigned 0 4294967295) text) (digits_value 10 (without_leading_plus text))
-    (λ taken. let is = accepts-Accepts false (Unsigned 0 4294967295) text taken in other (is.0, omega arith))
+    refused _ (digits_value 10 (without_leading_plus text)) (λ taken.
+    let is = accepts-Accepts false (Unsigned 0 4294967295) text taken in other (is.0, omega arith))

@@ -7,4 +7,5 @@ returns c =
     let two = c.in_ok-program-2.ensures _ _ one c.plain.ensures in
     let three = c.in_ok-program-3.ensures _ _ two c.check.ensures in
     let four = c.in_ok-program-4.ensures _ _ three c.locate.ensures in
-    IfOk-weaker c.with_command-5.result _ _ (λ made has. has _ _ four c.stats.ensures) c.with_command-5.ensures
+    IfOk-weaker c.with_command-5.result _ _ (λ made has. has _ _ four c.stats.ensures)
+    c.with_command-5.ensures

@@ -2,5 +2,6 @@ use Rattle.gc_order.proofs.commands.run.Goals as goal
 
 pub returns : goal.returns
 returns c =
-    let one = c.with_arg-command.ensures _ _ c.command_with_seed-command.ensures c.workers_arg.ensures in
+    let one = c.with_arg-command.ensures _ _
+    c.command_with_seed-command.ensures c.workers_arg.ensures in
     c.with_arg.ensures _ _ one c.values_arg.ensures

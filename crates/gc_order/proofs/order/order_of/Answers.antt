@@ -1,8 +1,10 @@
-use Rattle.std.proofs.Common.{◌≡◌, ap, ◌∙◌, sym, subst, refl, true, ℕ, List, Option, Some, map, option_map, string_bytes}
+use Rattle.std.proofs.Common.{◌≡◌, ap, ◌∙◌, sym, subst, refl, true, ℕ, List, Option, Some, map}
+use Rattle.std.proofs.Common.{option_map, string_bytes}
 use Rattle.std.specs.Prelude.{option_and_then}
 use Rattle.std.proofs.lemmas.Result.{err_from_is_err_and}
 use Rattle.clap.specs.Matches.{subcommand_name_of}
-use Rattle.clap.specs.Words.{App, HasKind, HasMatchesOf, Row, app_of, fault_of, found_of, is_simple, rows_of, subcommand_of, subcommand_rows_of}
+use Rattle.clap.specs.Words.{App, HasKind, HasMatchesOf, Row, app_of, fault_of, is_simple}
+use Rattle.clap.specs.Words.{subcommand_of, subcommand_rows_of}
 use Rattle.clap.specs.Faults.{is_simple_and_free}
 use Rattle.clap.specs.declared.builder.command.Command.{Command}
 use Rattle.clap.specs.declared.parser.matches.ArgMatches.{ArgMatches}
@@ -26,10 +28,12 @@ returns-clause-kinds c =
 pub returns-in_err-matches-clause-kinds : goal.returns-in_err-matches-clause-kinds
 returns-in_err-matches-clause-kinds c =
     let shape = c.in_ok-halfgates.ensures.shape in
-    let free : is_simple_and_free (app_of c.in_ok-halfgates.field-0) ≡ true = ap is_simple_and_free shape ∙ is_simple-program in
-    let Fails : App → Type 0 = λ a. HasKind (fault_of a (map string_bytes c.args.words.now)) c.in_err-matches.field-0.0 in
-    let fails : Fails program = subst Fails shape (c.in_err-matches.ensures.kinds free) in
-    let p = err_from_is_err_and c.from_residual-in_err-matches.result c.from_residual-in_err-matches.ensures.1 in
+    let Fails : App → Type 0 = λ a.
+    HasKind (fault_of a (map string_bytes c.args.words.now)) c.in_err-matches.field-0.0 in
+    let fails : Fails program = subst Fails shape
+    (c.in_err-matches.ensures.kinds (ap is_simple_and_free shape ∙ is_simple-program)) in
+    let p = err_from_is_err_and c.from_residual-in_err-matches.result
+    c.from_residual-in_err-matches.ensures.1 in
     rw (p.1, p.2) fails
 
 is_simple-alone : is_simple program ≡ true
@@ -37,9 +41,10 @@ unfolding clap_on_literals
 is_simple-alone = refl
 
 -- the subcommand that clap's rules find, from what its calls answer
-found-subcommand : (c : Command) (m : ArgMatches) (words : List (List ℕ)) (name : List ℕ) (rows : List Row) → HasShape program c
-    → HasMatchesOf (app_of c) words m → Some name ≡ subcommand_name_of m
-    → Some rows ≡ option_map (λ p. p.1) (subcommand_rows_of m) → subcommand_of program words ≡ Some (name, rows)
+found-subcommand : (c : Command) (m : ArgMatches) (words : List (List ℕ)) (name : List ℕ)
+    (rows : List Row) → HasShape program c → HasMatchesOf (app_of c) words m
+    → Some name ≡ subcommand_name_of m → Some rows ≡ option_map (λ p. p.1) (subcommand_rows_of m)
+    → subcommand_of program words ≡ Some (name, rows)
 found-subcommand c m words name rows is matches named found =
     let simple : is_simple (app_of c) ≡ true = ap is_simple is.shape ∙ is_simple-alone in
     ap (λ (a : App). subcommand_of a words) (sym is.shape) ∙ sym (matches simple).1
@@ -47,15 +52,13 @@ found-subcommand c m words name rows is matches named found =
 
 pub returns-clause-order : goal.returns-clause-order
 returns-clause-order c =
-    let found = found-subcommand c.in_ok-halfgates.field-0 c.in_ok-matches.matches (map string_bytes c.args.words.now)
-    c.in-Some.name.now (rows_of (found_of c.in-Some.found.now)) c.in_ok-halfgates.ensures c.in_ok-matches.ensures.matches
+    let found = found-subcommand _ _ _ _ _ c.in_ok-halfgates.ensures c.in_ok-matches.ensures.matches
     c.in-Some.ensures.name c.in-Some.ensures.rows in
     ap (λ (o : Option (List ℕ × List Row)). option_and_then (λ p. command_in p.0 p.1) o) found
     ∙ c.in_ok-named_order-in-Some.ensures
 
 pub named_order-requires : goal.named_order-requires
 named_order-requires c =
-    let found = found-subcommand c.in_ok-halfgates.field-0 c.in_ok-matches.matches (map string_bytes c.args.words.now)
-    c.in-Some.name.now (rows_of (found_of c.in-Some.found.now)) c.in_ok-halfgates.ensures c.in_ok-matches.ensures.matches
-    c.in-Some.ensures.name c.in-Some.ensures.rows in
-    entered-one_of (map string_bytes c.args.words.now) c.in-Some.name.now (rows_of (found_of c.in-Some.found.now)) found
+    entered-one_of (map string_bytes c.args.words.now) _ _
+    (found-subcommand _ _ _ _ _ c.in_ok-halfgates.ensures c.in_ok-matches.ensures.matches
+    c.in-Some.ensures.name c.in-Some.ensures.rows)

@@ -8,5 +8,6 @@ use Rattle.gc_order.proofs.words.number_of.Goals as goal
 pub returns : goal.returns
 returns c =
     let found = unwrap_or-now c.get_str.result _ _ c.get_str.ensures in
-    let rows = ap (λ o. unwrap_or o []) (first_value-rows (found_of c.args.found.now) c.args.id.now) in
-    c.number_in.ensures ∙ ap number_in (ap (λ w. w.now) c.unwrap_or.ensures ∙ found ∙ rows)
+    let first = first_value-rows (found_of c.args.found.now) c.args.id.now in
+    c.number_in.ensures ∙ ap number_in (ap (λ w. w.now) c.unwrap_or.ensures ∙ found
+    ∙ ap (λ o. unwrap_or o []) first)

@@ -8,7 +8,7 @@ use Rattle.gc_order.proofs.words.word_of.Goals as goal
 pub returns : goal.returns
 returns c =
     let found = unwrap_or-now c.get_str.result _ _ c.get_str.ensures in
-    let rows = ap (λ o. unwrap_or o []) (first_value-rows (found_of c.args.found.now) c.args.id.now) in
+    let first = first_value-rows (found_of c.args.found.now) c.args.id.now in
     IfOk-weaker c.from_str.result _ _
     (λ word copied. copied ∙ ap (λ w. w.now) c.unwrap_or.ensures ∙ found
-    ∙ rows) c.from_str.ensures.ok
+    ∙ ap (λ o. unwrap_or o []) first) c.from_str.ensures.ok
