@@ -10,7 +10,7 @@ module _ {X : Type 0} (xs ys : List X) where
       → slice_get ys k ≡ Some y → x ≢ y → DifferFirstAt xs ys k
   differ_first k x y before at_x at_y differ = record {
     before = before;
-    there = λ same. let e : Some x ≡ Some y = sym at_x ∙ same ∙ at_y in let f : x ≡ y = cc in differ f;
+    there = λ same. differ (cc (at_x, at_y, same));
   }
 
   -- Where their elements are the same, they are the same up to the next place,

@@ -40,16 +40,14 @@ pair_at_output offset g i below =
 -- Entries that were made of an output,
 pub named_of : (offset : ℕ) (g : GarblingParts) (i a b : ℕ) → a ≡ entry_of offset g i false
     → b ≡ entry_of offset g i true → named (a, b) ≡ entry_pair_of offset g i
-named_of offset g i a b is_a is_b =
-    ap (λ e. named (e, b)) is_a ∙ ap (λ e. named (entry_of offset g i false, e)) is_b
+named_of offset g i a b is_a is_b = rw (is_a, is_b)
 
 -- and those that were made of four outputs, at one of them.
 pub named_at : (offset : ℕ) (g : GarblingParts) (first i : ℕ) (made : List (ℕ × ℕ)) (none : ℕ × ℕ)
     → made ≡ map (entries_of offset g) (range_with_len first 4) → i < 4
     → named (get_or made i none) ≡ entry_pair_of offset g (first + i)
 named_at offset g first i made none is below =
-    ap named (ap (λ l. get_or l i none) is
-    ∙ get_or-map-range_with_len (entries_of offset g) first 4 i (first + i) none below refl)
+    rw (is, get_or-map-range_with_len (entries_of offset g) first 4 i (first + i) none below refl)
 
 -- Pairs of which one colour's entries differ are different.
 DifferFirstIn-differ : (p q : EntryPair) (s : Bool) → DifferFirstIn p q s → p ≢ q
@@ -64,8 +62,7 @@ entry_difference entries pairs i p q s before at_p at_q differ = record {
   first = differ_first entries pairs i p q before at_p at_q (DifferFirstIn-differ p q s differ);
   colour =
       let none : EntryPair = record { entry_zero = 0; entry_one = 0 } in
-      subst (λ r. DifferFirstIn r (pair_at pairs i) s) (sym (get_or_from_slice_get entries i p none at_p))
-      (subst (λ r. DifferFirstIn p r s) (sym (get_or_from_slice_get pairs i q none at_q)) differ);
+      rw (get_or_from_slice_get entries i p none at_p, get_or_from_slice_get pairs i q none at_q) differ;
 }
 
 module _ (c : Netlist) (g : GarblingParts) (seed : List ℕ) (file : GarbledParts) where
@@ -76,19 +73,7 @@ module _ (c : Netlist) (g : GarblingParts) (seed : List ℕ) (file : GarbledPart
   honest-parts : file.digest ≡ sha256 (canonical_text c) → file.rows ≡ g.rows
       → file.decode_bits ≡ decode_bits_of g
       → file.entries ≡ version_entries file.version (offset_of seed) g → IsHonest
-  honest-parts digest rows bits entries =
-      let parts : List ℕ → List RowPair → List Bool → List EntryPair → GarbledParts =
-      λ d r b e. record {
-        version = file.version;
-        digest = d;
-        rows = r;
-        decode_bits = b;
-        entries = e;
-      } in
-      ap (λ d. parts d file.rows file.decode_bits file.entries) digest
-      ∙ ap (λ r. parts (sha256 (canonical_text c)) r file.decode_bits file.entries) rows
-      ∙ ap (λ b. parts (sha256 (canonical_text c)) g.rows b file.entries) bits
-      ∙ ap (parts (sha256 (canonical_text c)) g.rows (decode_bits_of g)) entries
+  honest-parts digest rows bits entries = rw (← entries, ← bits, ← digest, ← rows)
 
   -- An honest file has the counts of the circuit.
   honest-counts : IsLawful c → FitsCircuit c g → IsHonest → AreCountsRight c file
@@ -116,24 +101,19 @@ module _ (c : Netlist) (g : GarblingParts) (seed : List ℕ) (file : GarbledPart
         → parts ≡ Some (record { rows = None; bits = None; entries = None })
     none-in_parts None wrong = absurd (wrong (honest-counts lawful fits is))
     none-in_parts (Some p) found =
-        let rows : p.rows ≡ None =
-        none_found p.rows file.rows g.rows (λ d. d.number) _ (λ d h. h.first) found.rows
-        (ap (λ (f : GarbledParts). f.rows) is) in
-        let bits : p.bits ≡ None =
-        none_found p.bits file.decode_bits (decode_bits_of g) (λ d. d) _ (λ d h. h) found.bits
-        (ap (λ (f : GarbledParts). f.decode_bits) is) in
-        let entries : p.entries ≡ None =
-        none_found p.entries file.entries (version_entries file.version (offset_of seed) g)
-        (λ d. d.output) _ (λ d h. h.first) found.entries
-        (ap (λ (f : GarbledParts). f.entries) is) in
-        rw (rows, bits, entries)
+        rw (
+          none_found p.rows _ _ (λ d. d.number) _ (λ d h. h.first) found.rows
+              (ap (λ (f : GarbledParts). f.rows) is),
+          none_found p.bits _ _ (λ d. d) _ (λ d h. h) found.bits
+              (ap (λ (f : GarbledParts). f.decode_bits) is),
+          none_found p.entries _ _ (λ d. d.output) _ (λ d h. h.first) found.entries
+              (ap (λ (f : GarbledParts). f.entries) is),
+        )
 
     none-in_file : (audit : GarbledAudit) → IsGarbledAudit c g seed file audit → audit ≡ honest_audit
     none-in_file audit found =
         let digest : audit.digest ≡ true = found.digest.1 (ap (λ (f : GarbledParts). f.digest) is) in
-        let parts = none-in_parts audit.parts found.parts in
-        let of : Bool → Option PartsAudit → GarbledAudit = λ d p. record { digest = d; parts = p } in
-        ap (λ d. of d audit.parts) digest ∙ ap (of true) parts
+        rw (← none-in_parts audit.parts found.parts, ← digest)
 
   -- and where none is found the file is honest.
   pub finds_none-honest : IsLawful c → FitsCircuit c g → (audit : GarbledAudit)
@@ -148,9 +128,7 @@ module _ (c : Netlist) (g : GarblingParts) (seed : List ℕ) (file : GarbledPart
 module _ (c : Netlist) (seed : List ℕ) (lawful : IsLawful c) (g : GarblingParts) (has : HasLabels c seed g) where
   -- The garbling has these labels,
   same_garbling : record { zero_labels = g.zero_labels; rows = row_pairs_of c seed; outputs = g.outputs } ≡ garbling_of c seed
-  same_garbling =
-      parts-same (record { zero_labels = g.zero_labels; rows = row_pairs_of c seed; outputs = g.outputs })
-      (garbling_of c seed).zero_labels (row_pairs_of c seed) (output_wires c) has.labels refl has.fits.outputs
+  same_garbling = parts-same _ _ _ _ has.labels refl has.fits.outputs
 
   -- the entry pairs of a circuit with this many AND gates
   abbrev pairs_with : ℕ → List EntryPair

@@ -29,10 +29,10 @@ encode-same offset label x y odd same =
     cases : (c x y : Bool) → xor x c ≡ xor y c → x ≡ y
     cases c true true e = refl
     cases c false false e = refl
-    cases true true false e = absurd (cc)
-    cases false true false e = absurd (cc)
-    cases true false true e = absurd (cc)
-    cases false false true e = absurd (cc)
+    cases true true false e = cc
+    cases false true false e = cc
+    cases true false true e = cc
+    cases false false true e = cc
 
 module _ (seed : List ℕ) where
   -- So labels stand for one list of bits.
@@ -42,12 +42,9 @@ module _ (seed : List ℕ) where
   encoded_from-same first [] (y ∷ ys) len same = absurd (omega arith)
   encoded_from-same first (x ∷ xs) [] len same = absurd (omega arith)
   encoded_from-same first (x ∷ xs) (y ∷ ys) len same =
-      let head : encode (offset_of seed) (input_label_of seed first) x
-      ≡ encode (offset_of seed) (input_label_of seed first) y = cc in
-      let tail : encoded_from (first + 1) seed xs ≡ encoded_from (first + 1) seed ys = cc in
-      let one = encode-same (offset_of seed) (input_label_of seed first) x y (colour-offset_of seed) head in
-      let rest = encoded_from-same (first + 1) xs ys (omega arith) tail in
-      ap (λ b. b ∷ xs) one ∙ ap (λ l. y ∷ l) rest
+      let one = encode-same (offset_of seed) (input_label_of seed first) x y (colour-offset_of seed) (cc) in
+      let rest = encoded_from-same (first + 1) xs ys (omega arith) (cc) in
+      cc
 
   -- The label at a place stands for the bit there.
   encoded_from-at : (first : ℕ) (bits : List Bool) (i : ℕ) → i < length bits →
@@ -97,8 +94,7 @@ module _ (c : Netlist) (seed : List ℕ) (lawful : IsLawful c) (g : GarblingPart
       sym (get_or_from_slice_get g.zero_labels wire zero_label 0 at) ∙ HasLabels-input c seed lawful g has wire input
 
   encoded : (bit : Bool) → encode offset zero_label bit ≡ encode (offset_of seed) (input_label_of seed wire) bit
-  encoded bit =
-      ap (λ o. encode o zero_label bit) offset_is ∙ ap (λ z. encode (offset_of seed) z bit) zero_is
+  encoded bit = rw (offset_is, zero_is)
 
   -- What a label stands for by the zero label of an input wire, it stands for by the seed,
   pub by_seed : (label : ℕ) (bit : Bool) → label ≡ encode offset zero_label bit
@@ -123,13 +119,9 @@ module _ (c : Netlist) (seed : List ℕ) (file : LabelFileParts) where
   dealt-right bits wire dealt wrong =
       let first = first_wire_of c file.index in let i = wrong.place in
       let within = slice_get_within file.labels i wrong.label wrong.at in
-      let read : Some wrong.label
-      ≡ Some (encode (offset_of seed) (input_label_of seed (first + i)) (get_or bits i false)) =
-      sym wrong.at ∙ ap (λ (f : LabelFileParts). slice_get f.labels i) dealt.parts
-      ∙ encoded_from-at seed first bits i (omega (arith, length-dealt bits dealt)) in
-      let same : wrong.label ≡ encode (offset_of seed) (input_label_of seed (first + i)) (get_or bits i false) = cc in
-      wrong.wrong (get_or bits i false)
-      (same ∙ ap (λ w. encode (offset_of seed) (input_label_of seed w) (get_or bits i false)) (sym wrong.wire_at))
+      let read = encoded_from-at seed first bits i (omega (arith, length-dealt bits dealt)) in
+      let filed = ap (λ (f : LabelFileParts). slice_get f.labels i) dealt.parts in
+      wrong.wrong (get_or bits i false) (rw wrong.wire_at (cc (read, filed, wrong.at)))
 
   -- The verdict is bits exactly where the file is the dealer's for them.
   pub verdict-dealt : {A : Type 0} (verdict : LabelsVerdict A) → IsLabelsVerdict c seed file verdict
@@ -140,10 +132,7 @@ module _ (c : Netlist) (seed : List ℕ) (file : LabelFileParts) where
   )
   verdict-dealt WrongWidth is bits = (
     λ h. absurd h,
-    λ dealt.
-        let both : Some is.0 ≡ Some (length bits) = sym is.1 ∙ dealt.width in
-        let width : is.0 ≡ length bits = cc in
-        is.2 (length-dealt bits dealt ∙ sym width),
+    λ dealt. is.2 (cc (length-dealt bits dealt, is.1, dealt.width)),
   )
   verdict-dealt (WrongLabel wire) is bits = (λ h. absurd h, λ dealt. dealt-right bits wire dealt is.1)
   verdict-dealt (Bits found) is bits = (
@@ -162,16 +151,11 @@ module _ (c : Netlist) (seed : List ℕ) (file : LabelFileParts) where
   compared-verdict NoValue first index width place same is = absurd is
   compared-verdict WrongWidth first index width place same is = absurd is
   compared-verdict (WrongLabel wire) first index width place same is =
-      let at : first ≡ first_wire_of c file.index = place ∙ ap (first_wire_of c) same in
-      (width, subst (λ n. IsFirstWrong seed n file.labels wire) at is)
+      (width, rw (← same, ← place) is)
   compared-verdict (Bits bits) first index width place same is =
-      let at : first ≡ first_wire_of c file.index = place ∙ ap (first_wire_of c) same in
       let labels : file.labels ≡ encoded_from (first_wire_of c file.index) seed bits.items =
-      is ∙ ap (λ n. encoded_from n seed bits.items) at in
+      rw (← same, ← place) is in
       record {
-        width = width ∙ ap Some (ap length labels
-            ∙ length-encoded_from (first_wire_of c file.index) seed bits.items);
-        parts =
-            let parts : List ℕ → LabelFileParts = λ l. record { index = file.index; labels = l } in
-            ap parts labels;
+        width = width ∙ ap Some (ap length labels ∙ length-encoded_from _ seed bits.items);
+        parts = rw (← labels);
       }
