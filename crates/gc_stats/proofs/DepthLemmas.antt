@@ -9,56 +9,31 @@ use Rattle.gc_netlist.specs.declared.gate.Operation.TheVariants.{Xor, And, Inv, 
 use Rattle.gc_netlist.specs.declared.gate.Gate.{Gate}
 use Rattle.gc_netlist.specs.Circuit.{Netlist, EachRead, IsSet, IsSetBefore, IsLawful}
 use Rattle.gc_netlist.specs.Solution.{IsLocal, Solves, values_after}
-use Rattle.gc_netlist.proofs.SolutionLemmas.{EachRead-map, IsSetBefore-more, solution_solves}
+use Rattle.gc_netlist.proofs.SolutionLemmas.{IsSetBefore-more, solution_solves}
 use Rattle.gc_netlist.proofs.Tables.{IsSetBefore-below, after-zero, read-table}
 use Rattle.gc_stats.specs.declared.depths.Depths.{Depths}
 use Rattle.gc_stats.specs.Stats.{IsGreatest, depth_of, and_depth_of}
-use Rattle.gc_stats.specs.Depths.{none_deep, depths_in, depths_rule}
+use Rattle.gc_stats.specs.Depths.{none_deep, depths_in, depths_of, depths_rule}
 
-depth_of_local : (u v : ℕ → ℕ) (op : Operation) → EachRead (λ w. u w ≡ v w) op → depth_of u op ≡ depth_of v op
-depth_of_local u v (Xor a b) h = ap (λ x. max x (u b) + 1) h.0 ∙ ap (λ x. max (v a) x + 1) h.1
-depth_of_local u v (And a b) h = ap (λ x. max x (u b) + 1) h.0 ∙ ap (λ x. max (v a) x + 1) h.1
-depth_of_local u v (Inv a) h = ap (λ x. x + 1) h
-depth_of_local u v (Eqw a) h = ap (λ x. x + 1) h
-depth_of_local u v (Eq b) h = refl
-
-and_depth_of_local : (u v : ℕ → ℕ) (op : Operation) → EachRead (λ w. u w ≡ v w) op →
-    and_depth_of u op ≡ and_depth_of v op
-and_depth_of_local u v (Xor a b) h = ap (λ x. max x (u b)) h.0 ∙ ap (max (v a)) h.1
-and_depth_of_local u v (And a b) h = ap (λ x. max x (u b) + 1) h.0 ∙ ap (λ x. max (v a) x + 1) h.1
-and_depth_of_local u v (Inv a) h = h
-and_depth_of_local u v (Eqw a) h = h
-and_depth_of_local u v (Eq b) h = refl
-
--- A gate adds one at most.
-pub depth_of-le : (depth : ℕ → ℕ) (op : Operation) (n : ℕ) → ((w : ℕ) → depth w ≤ n) → depth_of depth op ≤ n + 1
-depth_of-le depth (Xor a b) n h = omega (arith, h a, h b)
-depth_of-le depth (And a b) n h = omega (arith, h a, h b)
-depth_of-le depth (Inv a) n h = omega (arith, h a)
-depth_of-le depth (Eqw a) n h = omega (arith, h a)
-depth_of-le depth (Eq b) n h = omega arith
-
-pub and_depth_of-le : (depth : ℕ → ℕ) (op : Operation) (n : ℕ) → ((w : ℕ) → depth w ≤ n) →
-    and_depth_of depth op ≤ n + 1
-and_depth_of-le depth (Xor a b) n h = omega (arith, h a, h b)
-and_depth_of-le depth (And a b) n h = omega (arith, h a, h b)
-and_depth_of-le depth (Inv a) n h = omega (arith, h a)
-and_depth_of-le depth (Eqw a) n h = omega (arith, h a)
-and_depth_of-le depth (Eq b) n h = omega arith
-
-abbrev made : ℕ → ℕ → Depths
-made depth and_depth = record { depth = depth; and_depth = and_depth }
+depths_of_local : (u v : ℕ → Depths) (op : Operation) → EachRead (λ w. u w ≡ v w) op
+    → depths_of u op ≡ depths_of v op
+depths_of_local u v (Xor a b) h = rw (h.0, h.1)
+depths_of_local u v (And a b) h = rw (h.0, h.1)
+depths_of_local u v (Inv a) h = rw h
+depths_of_local u v (Eqw a) h = rw h
+depths_of_local u v (Eq b) h = refl
 
 pub depths_local : IsLocal depths_rule
-depths_local u v i g h =
-    let depth = depth_of_local (λ w. (u w).depth) (λ w. (v w).depth) g.operation
-    (EachRead-map (λ w. u w ≡ v w) (λ w. (u w).depth ≡ (v w).depth) g.operation
-    (λ w e. ap (λ (d : Depths). d.depth) e) h) in
-    let and_depth = and_depth_of_local (λ w. (u w).and_depth) (λ w. (v w).and_depth) g.operation
-    (EachRead-map (λ w. u w ≡ v w) (λ w. (u w).and_depth ≡ (v w).and_depth) g.operation
-    (λ w e. ap (λ (d : Depths). d.and_depth) e) h) in
-    ap (λ n. made n (and_depth_of (λ w. (u w).and_depth) g.operation)) depth
-    ∙ ap (made (depth_of (λ w. (v w).depth) g.operation)) and_depth
+depths_local u v i g h = depths_of_local u v g.operation h
+
+-- A gate adds one at most.
+pub depth_of-le : (depth : ℕ → ℕ) (op : Operation) (n : ℕ) → ((w : ℕ) → depth w ≤ n)
+    → (depth_of depth op ≤ n + 1) × (and_depth_of depth op ≤ n + 1)
+depth_of-le depth (Xor a b) n h = (omega (arith, h a, h b), omega (arith, h a, h b))
+depth_of-le depth (And a b) n h = (omega (arith, h a, h b), omega (arith, h a, h b))
+depth_of-le depth (Inv a) n h = (omega (arith, h a), omega (arith, h a))
+depth_of-le depth (Eqw a) n h = (omega (arith, h a), omega (arith, h a))
+depth_of-le depth (Eq b) n h = (omega arith, omega arith)
 
 -- The number is the greatest in the table of those of wires that the first i gates set, and at most i.
 pub record IsDeepest (c : Netlist) (i : ℕ) (table : List Depths) (f : Depths → ℕ) (n : ℕ) : Type 0 where
@@ -75,10 +50,9 @@ past (suc k) (suc w) = past k w
 pub table_start : (c : Netlist) (n : ℕ) (table : List Depths) → n ≡ c.wires → table ≡ replicate n none_deep →
     table ≡ map (values_after depths_rule c (λ w. none_deep) 0) (range_with_len 0 c.wires)
 table_start c n table wires is =
-    is
-    ∙ fill_by_all (λ w. none_deep) (replicate n none_deep) c.wires none_deep
-    (length-replicate n none_deep ∙ wires) (λ w below. past n w)
-    ∙ ap (λ f. map f (range_with_len 0 c.wires)) (sym (after-zero depths_rule c (λ w. none_deep)))
+    rw (is, after-zero depths_rule c (λ w. none_deep))
+    (fill_by_all (λ w. none_deep) (replicate n none_deep) c.wires none_deep
+    (length-replicate n none_deep ∙ wires) (λ w below. past n w))
 
 pub deepest_start : (c : Netlist) (n : ℕ) (table : List Depths) (f : Depths → ℕ) → f none_deep ≡ 0 →
     table ≡ replicate n none_deep → IsDeepest c 0 table f 0
@@ -97,10 +71,6 @@ module _ (c : Netlist) (lawful : IsLawful c) (i : ℕ) (g : Gate) (at : slice_ge
   at_other : (w : ℕ) → w ≢ g.set → f (depths_in (set table g.set d) w) ≡ f (depths_in table w)
   at_other w other = ap f (get_or-set_other table g.set w d none_deep other)
 
-  is_other : (w : ℕ) → IsSetBefore c i w → w ≢ g.set
-  is_other w before same =
-      lawful.sets_once i g at (let P : ℕ → Type 0 = IsSetBefore c i in subst P same before)
-
   most_more : (n m : ℕ) → IsDeepest c i table f n → m ≡ max n (f d) → (w : ℕ) →
       f (depths_in (set table g.set d) w) ≤ m
   most_more n m h is w = elim (cases_eq w g.set) [
@@ -112,7 +82,8 @@ module _ (c : Netlist) (lawful : IsLawful c) (i : ℕ) (g : Gate) (at : slice_ge
       (m ≡ 0) ⊎ ((w : ℕ) × IsSetBefore c (i + 1) w × (f (depths_in (set table g.set d) w) ≡ m))
   reached_before n m (inl none) is = inl (is ∙ none)
   reached_before n m (inr (w, before, deep)) is =
-      inr (w, IsSetBefore-more c i (i + 1) w (omega arith) before, at_other w (is_other w before) ∙ deep ∙ sym is)
+      let other : w ≢ g.set = λ same. lawful.sets_once i g at (rw (← same) before) in
+      inr (w, IsSetBefore-more c i (i + 1) w (omega arith) before, at_other w other ∙ deep ∙ sym is)
 
   pub deepest_more : (n m : ℕ) → IsDeepest c i table f n → f d ≤ n + 1 → m ≡ max n (f d) →
       IsDeepest c (i + 1) (set table g.set d) f m
@@ -138,15 +109,12 @@ module _ (c : Netlist) (lawful : IsLawful c) (i : ℕ) (table : List Depths) (f 
 
   solves : Solves depths_rule c (λ w. none_deep) on
   unfolding on
-  solves =
-      let P : ℕ → Type 0 = λ k. Solves depths_rule c (λ w. none_deep) (values_after depths_rule c (λ w. none_deep) k) in
-      subst P (sym whole) (solution_solves depths_rule depths_local c lawful (λ w. none_deep))
+  solves = rw whole (solution_solves depths_rule depths_local c lawful (λ w. none_deep))
 
   in_table : (w : ℕ) → IsSet c w → f (depths_in table w) ≡ f (on w)
   unfolding on
   in_table w set =
-      ap (λ t. f (depths_in t w)) is
-      ∙ ap f (read-table on c.wires w none_deep (IsSetBefore-below c lawful (length c.gates) w set))
+      rw (is, read-table on c.wires w none_deep (IsSetBefore-below c lawful (length c.gates) w set))
 
   reached_all : (n : ℕ) → (n ≡ 0) ⊎ ((w : ℕ) × IsSetBefore c i w × (f (depths_in table w) ≡ n)) →
       (n ≡ 0) ⊎ ((w : ℕ) × IsSet c w × (f (on w) ≡ n))

@@ -14,8 +14,8 @@ use Rattle.gc_stats.specs.Stats.{is_read, is_unread}
 pub is_read-more : (gates : List Gate) (i : ℕ) (g : Gate) (w : ℕ) → slice_get gates i ≡ Some g →
     (is_read (take i gates) w || reads g.operation w) ≡ is_read (take (i + 1) gates) w
 is_read-more gates i g w at =
-    ap (λ (x : Gate). is_read (take i gates) w || reads x.operation w) (sym (get_or_from_slice_get gates i g g at))
-    ∙ sym (list_any_more (λ (x : Gate). reads x.operation w) gates i g (slice_get_within gates i g at))
+    let read = λ (x : Gate). reads x.operation w in
+    rw (list_any_more read gates i g (slice_get_within gates i g at), get_or_from_slice_get gates i g g at)
 
 -- A slice that was written back into its vector.
 pub written_back : (n : ℕ) (new rest : List Bool) → length new ≡ n → take n (new ++ rest) ≡ new

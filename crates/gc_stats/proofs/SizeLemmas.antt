@@ -27,8 +27,9 @@ length-honest version c lawful seed g garbled =
     let bits : length (decode_bits_of g) ≡ output_wires c =
     length-decode_bits g (omega (arith, garbled.wires, garbled.outputs, lawful.outputs_fit)) ∙ garbled.outputs in
     let entries = length-version_entries version (offset_of seed) g ∙ ap (entry_count version) garbled.outputs in
-    length-garbled_file (honest_parts version c g seed) (length-sha256 (canonical_text c))
-    ∙ ap (λ n. 48 + 32 * n + bytes_for (length (decode_bits_of g))
-    + 32 * length (version_entries version (offset_of seed) g) + 32) garbled.garbling.row_count
-    ∙ ap (λ n. 48 + 32 * and_count c + bytes_for n + 32 * length (version_entries version (offset_of seed) g) + 32) bits
-    ∙ ap (λ n. 48 + 32 * and_count c + bytes_for (output_wires c) + 32 * n + 32) entries
+    rw (
+      length-garbled_file (honest_parts version c g seed) (length-sha256 (canonical_text c)),
+      garbled.garbling.row_count,
+      bits,
+      entries,
+    )

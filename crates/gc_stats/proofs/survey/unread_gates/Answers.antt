@@ -14,10 +14,6 @@ bounds-read-gate g c = omega (
   c.wires.ensures.lawful.sets c.loop-i.i c.gate-gate.result c.gate-gate.ensures,
 )
 
--- A gate that is not counted adds none.
-none_more : (n m : ℕ) (b : Bool) → m ≡ n → b ≡ false → m ≡ n + one_if b
-none_more n m b is fails = is ∙ (let e : n ≡ n + 0 = omega arith in e) ∙ ap (λ x. n + one_if x) (sym fails)
-
 pub loop-i-preserved : goal.loop-i-preserved
 loop-i-preserved g c =
     let circuit = c.args.circuit.now in
@@ -29,13 +25,12 @@ loop-i-preserved g c =
     let outputs_fit = c.wires.ensures.lawful.outputs_fit in
     count_more (is_unread circuit) circuit.gates c.loop-i.i gate c.loop-i.unread _ c.gate-gate.ensures
     c.loop-i.invariant (elim c.if-not-read-gate.branch [
-      | then-not-read-gate+then-gate-first_output w ↦ w.unread-is
-          ∙ ap (λ b. c.loop-i.unread + one_if b) (sym (unread circuit gate (sym in_table ∙ w.if-not-read-gate.true)
-          (omega (arith, outputs_fit, w.if-gate-first_output.true))))
+      | then-not-read-gate+then-gate-first_output w ↦
+          rw (unread circuit gate (sym in_table ∙ w.if-not-read-gate.true) (omega arith)) w.unread-is
       | else-not-read-gate w ↦ elim w.else-not-read-gate.branch [
-        | else-not-read-gate-via-then-not-read-gate+else-gate-first_output v ↦ none_more c.loop-i.unread _ _ w.unread-is
-            (not_unread-output circuit gate (omega (arith, outputs_fit, v.if-gate-first_output.false)))
-        | else-not-read-gate-via-else-not-read-gate v ↦ none_more c.loop-i.unread _ _ w.unread-is
-            (not_unread-read circuit gate (sym in_table ∙ v.if-not-read-gate.false))
+        | else-not-read-gate-via-then-not-read-gate+else-gate-first_output v ↦
+            rw (not_unread-output circuit gate (omega arith)) (omega arith)
+        | else-not-read-gate-via-else-not-read-gate v ↦
+            rw (not_unread-read circuit gate (sym in_table ∙ v.if-not-read-gate.false)) (omega arith)
       ]
     ])

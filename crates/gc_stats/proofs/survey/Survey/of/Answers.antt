@@ -7,7 +7,7 @@ use Rattle.gc_stats.specs.declared.depths.Depths.{Depths}
 use Rattle.gc_stats.specs.Stats.{is_xor, is_inv, is_eq, is_eqw, depth_rule, and_depth_rule}
 use Rattle.gc_stats.specs.Depths.{none_deep, depths_in, depths_rule}
 use Rattle.gc_stats.proofs.CountLemmas.{count_more}
-use Rattle.gc_stats.proofs.DepthLemmas.{table_start, deepest_start, deepest_more, deepest_all, depths_local, depth_of-le, and_depth_of-le}
+use Rattle.gc_stats.proofs.DepthLemmas.{table_start, deepest_start, deepest_more, deepest_all, depths_local, depth_of-le}
 use Rattle.gc_stats.proofs.ReadLemmas.{is_read-more, is_read-all, written_back}
 use Rattle.gc_stats.proofs.survey.Survey.of.Goals as goal
 
@@ -76,14 +76,14 @@ loop-i-preserved g c =
           (omega (
             arith,
             ap (λ (d : Depths). d.depth) found,
-            depth_of-le (λ w. (depths_in table w).depth) gate.operation _ before.depth.most,
+            (depth_of-le (λ w. (depths_in table w).depth) gate.operation _ before.depth.most).0,
           ))
           c.max-deepest.ensures.depth;
       and_depth = deepest_more circuit lawful i gate at table place (λ d. d.and_depth) reached _ _ before.and_depth
           (omega (
             arith,
             ap (λ (d : Depths). d.and_depth) found,
-            and_depth_of-le (λ w. (depths_in table w).and_depth) gate.operation _ before.and_depth.most,
+            (depth_of-le (λ w. (depths_in table w).and_depth) gate.operation _ before.and_depth.most).1,
           ))
           c.max-deepest.ensures.and_depth;
       long = ap length back ∙ same_length ∙ before.long;
