@@ -1,17 +1,15 @@
 -- Files that were read are honest in their parts exactly where they are in their bytes.
-use Rattle.std.proofs.Common.{◌≡◌, ◌↔◌, ℕ, Bool, List, length, slice_get, Some, sym, ap, subst, ◌∙◌}
-use Rattle.gc_netlist.specs.Circuit.{Netlist, IsLawful, output_wires, and_count}
+use Rattle.std.proofs.Common.{ℕ, List, ap, ◌∙◌}
+use Rattle.gc_netlist.specs.Circuit.{Netlist, IsLawful}
 use Rattle.gc_half.specs.Canonical.{garbling_of}
 use Rattle.gc_format.specs.declared.parts.Version.{Version}
 use Rattle.gc_format.specs.declared.parts.Version.TheVariants.{One, Two}
 use Rattle.gc_format.specs.GarbledFile.{GarbledParts, IsGarbledFile, garbled_file}
-use Rattle.gc_format.specs.LabelFile.{LabelFileParts, IsLabelFile, label_file, label_parts_of}
+use Rattle.gc_format.specs.LabelFile.{label_file, label_parts_of}
 use Rattle.gc_write.proofs.WrittenFiles.{are_files}
 use Rattle.gc_file.specs.Honest.{honest_parts}
 use Rattle.gc_file.proofs.OneFile.{one_file}
 use Rattle.gc_file.proofs.LabelFileLemmas.{one_label_file}
-use Rattle.gc_audit.specs.Garbled.{AreCountsRight}
-use Rattle.gc_audit.specs.Labels.{IsDealt}
 use Rattle.gc_audit.specs.AuditedFileLaw.{AuditedFileLaw}
 
 module _ (c : Netlist) (lawful : IsLawful c) (seed : List ℕ) where
@@ -22,36 +20,22 @@ module _ (c : Netlist) (lawful : IsLawful c) (seed : List ℕ) where
   honest_file One = (are_files c lawful seed).one
   honest_file Two = (are_files c lawful seed).two
 
-  counts : (bytes : List ℕ) (file : GarbledParts) → IsGarbledFile bytes file →
-      AreCountsRight c file
-      ↔ ((length file.rows ≡ and_count c) × (length file.decode_bits ≡ output_wires c))
-  counts bytes file is = (
-    λ right. (right.rows, right.decode_bits),
-    λ right. record { rows = right.0; decode_bits = right.1; entries = is.entry_pairs },
-  )
-
-  garbled : (bytes : List ℕ) (file : GarbledParts) → IsGarbledFile bytes file →
-      (file ≡ honest file.version) ↔ (bytes ≡ garbled_file (honest file.version))
-  garbled bytes file is = (
-    λ same. is.spelled ∙ ap garbled_file same,
-    λ same.
-        one_file bytes file (honest file.version) is
-        (subst (λ b. IsGarbledFile b (honest file.version)) (sym same) (honest_file file.version)),
-  )
-
-  labels : (bytes : List ℕ) (file : LabelFileParts) → IsLabelFile bytes file → (bits : List Bool)
-      → slice_get c.input_widths file.index ≡ Some (length bits) →
-      IsDealt c seed file bits ↔ (bytes ≡ label_file (label_parts_of c seed file.index bits))
-  labels bytes file is bits width = (
-    λ dealt. is.spelled ∙ ap label_file dealt.parts,
-    λ same.
-        let written = (are_files c lawful seed).labels file.index bits is.index width in
-        record {
-          width = width;
-          parts = one_label_file bytes file (label_parts_of c seed file.index bits) is
-              (subst (λ b. IsLabelFile b (label_parts_of c seed file.index bits)) (sym same) written);
-        },
-  )
-
   pub audited_files : AuditedFileLaw c seed
-  audited_files = record { counts = counts; garbled = garbled; labels = labels }
+  audited_files = record {
+    counts = λ bytes file is. (
+      λ right. (right.rows, right.decode_bits),
+      λ right. record { rows = right.0; decode_bits = right.1; entries = is.entry_pairs },
+    );
+    garbled = λ bytes file is. (
+      λ same. is.spelled ∙ ap garbled_file same,
+      λ same. one_file bytes file (honest file.version) is (rw same (honest_file file.version)),
+    );
+    labels = λ bytes file is bits width. (
+      λ dealt. is.spelled ∙ ap label_file dealt.parts,
+      λ same. record {
+        width = width;
+        parts = one_label_file bytes file (label_parts_of c seed file.index bits) is
+            (rw same ((are_files c lawful seed).labels file.index bits is.index width));
+      },
+    );
+  }

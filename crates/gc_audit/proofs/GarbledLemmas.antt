@@ -4,10 +4,9 @@ use Rattle.std.specs.List.{range_with_len}
 use Rattle.std.proofs.lemmas.List.FromFn.{get_or-map-range_with_len}
 use Rattle.std.proofs.lemmas.Option.{get_or_from_slice_get, slice_get-get_or}
 use Rattle.sha2.specs.Sha256.{sha256}
-use Rattle.gc_netlist.specs.Circuit.{Netlist, IsLawful, output_wires}
+use Rattle.gc_netlist.specs.Circuit.{Netlist, IsLawful}
 use Rattle.gc_netlist.specs.Canon.{canonical_text}
 use Rattle.gc_label.specs.Seed.{offset_of}
-use Rattle.gc_half.specs.declared.garbling.RowPair.{RowPair}
 use Rattle.gc_half.specs.Garbling.{GarblingParts, FitsCircuit, decode_bits_of}
 use Rattle.gc_half.specs.Canonical.{garbling_of, row_pairs_of}
 use Rattle.gc_half.specs.Comparing.{HasLabels}
@@ -25,7 +24,7 @@ use Rattle.gc_audit.specs.declared.garbled.GarbledAudit.{GarbledAudit}
 use Rattle.gc_audit.specs.declared.garbled.PartsAudit.{PartsAudit}
 use Rattle.gc_audit.specs.Difference.{DifferFirstAt}
 use Rattle.gc_audit.specs.Rows.{IsRowDifference}
-use Rattle.gc_audit.specs.Entries.{pair_at, named, DifferFirstIn, IsEntryDifference}
+use Rattle.gc_audit.specs.Entries.{named, DifferFirstIn, IsEntryDifference}
 use Rattle.gc_audit.specs.Garbled.{AreCountsRight, IsPartsAudit, IsGarbledAudit, honest_audit}
 use Rattle.gc_audit.proofs.DifferenceLemmas.{differ_first, none_found}
 

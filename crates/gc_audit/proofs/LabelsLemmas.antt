@@ -57,26 +57,21 @@ module _ (seed : List ℕ) where
       encoded_from-at (first + 1) bits i (omega arith)
       ∙ ap (λ w. Some (encode (offset_of seed) (input_label_of seed w) (get_or bits i false))) (omega arith)
 
-  encoded_from-push : (first : ℕ) (labels : List ℕ) (bits : List Bool) (i label : ℕ) (bit : Bool)
-      → take i labels ≡ encoded_from first seed bits → length bits ≡ i → slice_get labels i ≡ Some label
-      → label ≡ encode (offset_of seed) (input_label_of seed (first + i)) bit
-      → take (i + 1) labels ≡ encoded_from first seed (bits ++ bit ∷ [])
-  encoded_from-push first labels bits i label bit read count at is =
-      let one : ℕ → List ℕ = λ n. encode (offset_of seed) (input_label_of seed (first + n)) bit ∷ [] in
-      take_more labels i label (slice_get_within labels i label at)
-      ∙ ap (λ l. l ++ get_or labels i label ∷ []) read
-      ∙ ap (λ l. encoded_from first seed bits ++ l ∷ []) (get_or_from_slice_get labels i label label at ∙ is)
-      ∙ ap (λ n. encoded_from first seed bits ++ one n) (sym count)
-      ∙ sym (encoded_from-append seed first bits (bit ∷ []))
-
   -- One label more.
   pub encoded_from-more : (first : ℕ) (labels : List ℕ) (bits more : List Bool) (i label : ℕ) (bit : Bool)
       → take i labels ≡ encoded_from first seed bits → length bits ≡ i → slice_get labels i ≡ Some label
       → label ≡ encode (offset_of seed) (input_label_of seed (first + i)) bit → more ≡ bits ++ bit ∷ []
       → (take (i + 1) labels ≡ encoded_from first seed more) × (length more ≡ i + 1)
   encoded_from-more first labels bits more i label bit read count at is pushed = (
-    encoded_from-push first labels bits i label bit read count at is
-        ∙ ap (encoded_from first seed) (sym pushed),
+    rw (
+      take_more labels i label (slice_get_within labels i label at),
+      get_or_from_slice_get labels i label label at,
+      read,
+      pushed,
+      encoded_from-append seed first bits (bit ∷ []),
+      count,
+      is,
+    ),
     ap length pushed ∙ omega (arith, length-append bits (bit ∷ []), count),
   )
 
