@@ -55,11 +55,12 @@ allocate_spec 𝓤 𝓛 𝓜 𝓡 wired B laws g d e bound _ =
     let W = walk_of 𝓛 T stayed c in
     let vs : Vals S κs = (shr_vals a.0, (uint_vals w64 a.1.0, (uint_vals w64 a.1.1.0, tt))) in
     let y : W.Ghost = ((κs, qs, bounds, a, vs), τ) in
-    let kept = a.0.now in let h = kept.inner in let p = inner_at B a.0.ref_ptr in let t = tally_at B a.0.ref_ptr in
+    let h = a.0.now.inner in let p = inner_at B a.0.ref_ptr in let t = tally_at B a.0.ref_ptr in
+    let tallied = a.0.now.tally in
     let Count = triple_of 𝓛 counts.signature (counts.spec 𝓛 𝓜.mem 𝓡.returns) in
     let shown : List Val = vptr t.0 t.1 ∷ [] in
     let x : Count.Ghost =
-    (((κs.0, tt), (qs.0, tt), tt, (record { ref_ptr = t; now = kept.tally }, tt), (shown, tt)), tt) in
+    (((κs.0, tt), (qs.0, tt), tt, (record { ref_ptr = t; now = tallied }, tt), (shown, tt)), tt) in
     let Take = Takes Z 𝓛 𝓜.mem 𝓡.returns in
     let lent : List Val = vptr p.0 p.1 ∷ [] in
     let z : Take.Ghost =
