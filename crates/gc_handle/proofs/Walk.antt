@@ -3,7 +3,7 @@ pub use Rattle.std.proofs.Common.{◌≡◌, ℕ, List, [], ◌∷◌, ◌++◌,
 pub use lib.Dec.{T}
 pub use seplogic.Ra.Ura.{Ura}
 pub use base.Logic.{SProp, ent, emp, id⊢}
-pub use base.Fml.{Fml, ftrue, flft}
+pub use base.Fml.{Fml, ftrue}
 pub use mir.Syntax.{Fn, Callee, a_type, dcons, dnil}
 pub use mir.Val.{Val, vptr}
 pub use mir.MapTy.{inst_fn}
