@@ -37,15 +37,13 @@ module _ (bytes lengths : List ℕ) (files : List LabelFileParts) (rest : List �
   -- or there is no next file.
   pub too_many : length lengths ≤ i → 0 < length rest → length bytes ≢ sum lengths
   too_many none some same =
-      let all : length bytes ≡ sum lengths + length rest = counted ∙ ap (λ l. sum l + length rest) (take_all i lengths none) in
-      omega (arith, all, some, same)
+      omega (arith, rw (take_all i lengths none) at counted, some, same)
 
   module _ (front back : List ℕ) (split : rest ≡ front ++ back) (within : i < length lengths)
       (long : length front ≡ slice_index lengths i) where
     next_length : take (i + 1) lengths ≡ map file_length files ++ length front ∷ []
     next_length =
-        take_more lengths i 0 within ∙ ap (λ l. l ++ slice_index lengths i ∷ []) lengths_of
-        ∙ ap (λ n. map file_length files ++ n ∷ []) (sym long)
+        rw (take_more lengths i 0 within, lengths_of, long)
 
     places : length files ≡ i
     places =
@@ -57,28 +55,27 @@ module _ (bytes lengths : List ℕ) (files : List LabelFileParts) (rest : List �
       files = files;
       piece = front;
       others = back;
-      spelled =
-          spelled ∙ ap (λ l. flat_map label_file files ++ l) split
-          ∙ sym (append_assoc (flat_map label_file files) front back);
-      lengths_of = ap (λ n. take (n + 1) lengths) places ∙ next_length;
+      spelled = rw (spelled, split) (sym (append_assoc (flat_map label_file files) front back));
+      lengths_of = rw places next_length;
       whole = whole;
       first = first;
     }
 
     -- or is a file.
-    module _ (file : LabelFileParts) (is : IsLabelFile front file) where
-      pub grown : bytes ≡ flat_map label_file (files ++ file ∷ []) ++ back
-      grown =
-          spelled
-          ∙ ap (λ l. flat_map label_file files ++ l)
-          (split ∙ ap (λ l. l ++ back) (is.spelled ∙ sym (append-nil (label_file file))))
-          ∙ sym (append_assoc (flat_map label_file files) (label_file file ++ []) back)
-          ∙ ap (λ l. l ++ back) (sym (flat_map-append label_file files (file ∷ [])))
-
-      pub lengths-grown : take (i + 1) lengths ≡ map file_length (files ++ file ∷ [])
-      lengths-grown =
-          next_length ∙ ap (λ l. map file_length files ++ length l ∷ []) is.spelled
-          ∙ sym (map-append file_length files (file ∷ []))
-
-      pub all-grown : All IsOwnFile (files ++ file ∷ [])
-      all-grown = All-push IsOwnFile files file whole (subst (λ bytes. IsLabelFile bytes file) is.spelled is)
+    pub grown : (file : LabelFileParts) → IsLabelFile front file
+        → (bytes ≡ flat_map label_file (files ++ file ∷ []) ++ back)
+        × (take (i + 1) lengths ≡ map file_length (files ++ file ∷ []))
+        × All IsOwnFile (files ++ file ∷ [])
+    grown file is = (
+      rw (
+        spelled,
+        split,
+        is.spelled,
+        flat_map-append label_file files (file ∷ []),
+        append-nil (label_file file),
+        append_assoc (flat_map label_file files) (label_file file) back,
+      ),
+      next_length ∙ ap (λ l. map file_length files ++ length l ∷ []) is.spelled
+          ∙ sym (map-append file_length files (file ∷ [])),
+      All-push IsOwnFile files file whole (rw (← is.spelled) is),
+    )

@@ -16,7 +16,8 @@ module _ {V : Type 0} (bits_in : V → List Bool) where
 
   length-joined : (values : List V) → length (flat_map bits_in values) ≡ sum (map length (map bits_in values))
   length-joined values =
-      length-flat_map bits_in values ∙ sym (sum-map (λ v. length (bits_in v)) values) ∙ ap sum (sym (each_length values))
+      rw (each_length values, length-flat_map bits_in values)
+      (sym (sum-map (λ v. length (bits_in v)) values))
 
   -- After the values so far come these bits.
   module _ (bits : List Bool) (widths : List ℕ) (values : List V) (rest : List Bool) (i : ℕ)

@@ -28,17 +28,10 @@ loop-length-preserved c =
     let s = c.split_at in
     let split : l.rest.now ≡ s.result.0.now ++ s.result.1.now =
     rw (s.ensures.front, s.ensures.back) (sym (take-append-drop (slice_index c.args.lengths.now l.length-index) l.rest.now)) in
-    rw c.in_ok-push.ensures.items (record {
-      spelled = lemmas.grown c.args.bytes.now c.args.lengths.now l.files.items l.rest.now l.length-index l.invariant.spelled
-          l.invariant.lengths_of l.invariant.whole s.result.0.now s.result.1.now split (omega arith) s.ensures.front_len
-          c.in_ok-read_labels.field-0 c.in_ok-read_labels.ensures;
-      lengths_of = lemmas.lengths-grown c.args.bytes.now c.args.lengths.now l.files.items l.rest.now l.length-index
-          l.invariant.spelled l.invariant.lengths_of l.invariant.whole s.result.0.now s.result.1.now split (omega arith)
-          s.ensures.front_len c.in_ok-read_labels.field-0 c.in_ok-read_labels.ensures;
-      whole = lemmas.all-grown c.args.bytes.now c.args.lengths.now l.files.items l.rest.now l.length-index
-          l.invariant.spelled l.invariant.lengths_of l.invariant.whole s.result.0.now s.result.1.now split (omega arith)
-          s.ensures.front_len c.in_ok-read_labels.field-0 c.in_ok-read_labels.ensures;
-    })
+    let next = lemmas.grown c.args.bytes.now c.args.lengths.now l.files.items l.rest.now l.length-index
+    l.invariant.spelled l.invariant.lengths_of l.invariant.whole s.result.0.now s.result.1.now split
+    (omega arith) s.ensures.front_len c.in_ok-read_labels.field-0 c.in_ok-read_labels.ensures in
+    rw c.in_ok-push.ensures.items (record { spelled = next.0; lengths_of = next.1; whole = next.2 })
 
 pub returns-then-rest-gt0-clause-fault : goal.returns-then-rest-gt0-clause-fault
 returns-then-rest-gt0-clause-fault c =
