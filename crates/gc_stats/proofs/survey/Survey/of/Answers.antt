@@ -73,18 +73,11 @@ loop-i-preserved g c =
       table = table_step depths_rule depths_local circuit lawful (λ w. none_deep) table i gate none_deep reached
           before.table at found;
       depth = deepest_more circuit lawful i gate at table place (λ d. d.depth) reached _ _ before.depth
-          (omega (
-            arith,
-            ap (λ (d : Depths). d.depth) found,
-            (depth_of-le (λ w. (depths_in table w).depth) gate.operation _ before.depth.most).0,
-          ))
+          (rw found (depth_of-le (λ w. (depths_in table w).depth) gate.operation _ before.depth.most).0)
           c.max-deepest.ensures.depth;
       and_depth = deepest_more circuit lawful i gate at table place (λ d. d.and_depth) reached _ _ before.and_depth
-          (omega (
-            arith,
-            ap (λ (d : Depths). d.and_depth) found,
-            (depth_of-le (λ w. (depths_in table w).and_depth) gate.operation _ before.and_depth.most).1,
-          ))
+          (rw found
+          (depth_of-le (λ w. (depths_in table w).and_depth) gate.operation _ before.and_depth.most).1)
           c.max-deepest.ensures.and_depth;
       long = ap length back ∙ same_length ∙ before.long;
       read = λ w below. ap (λ t. slice_index_or t w false) back
