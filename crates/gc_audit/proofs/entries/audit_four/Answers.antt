@@ -9,8 +9,7 @@ use Rattle.gc_audit.proofs.entries.audit_four.Goals as goal
 pub returns-in-Some-clause-some : goal.returns-in-Some-clause-some
 returns-in-Some-clause-some g c =
     let a = c.args in let output = a.first + c.loop-i.i in let pair = c.index-entries-output.result in
-    entry_difference a.entries.now (entry_pairs_of a.offset a.garbling.now) output pair
-    (entry_pair_of a.offset a.garbling.now output) c.in-Some.colour c.loop-i.invariant
+    entry_difference _ _ output pair _ c.in-Some.colour c.loop-i.invariant
     (slice_get_read a.entries.now (length a.entries.now) output pair refl (omega arith)
     c.index-entries-output.is)
     (pair_at_output a.offset a.garbling.now output (omega arith))
@@ -24,8 +23,7 @@ loop-i-preserved g c =
     let pair = c.index-entries-output.result in let pairs = entry_pairs_of a.offset a.garbling.now in
     let next : output + 1 ≡ a.first + (i + 1) = omega arith in
     subst (λ n. take n a.entries.now ≡ take n pairs) next
-    (same_more a.entries.now pairs output pair
-    (entry_pair_of a.offset a.garbling.now output) c.loop-i.invariant
+    (same_more a.entries.now pairs output pair _ c.loop-i.invariant
     (slice_get_read a.entries.now (length a.entries.now) output pair refl (omega arith)
     c.index-entries-output.is)
     (pair_at_output a.offset a.garbling.now output (omega arith))

@@ -10,8 +10,7 @@ use Rattle.gc_audit.proofs.entries.audit_last.Goals as goal
 pub returns-in-Some : goal.returns-in-Some
 returns-in-Some g c =
     let a = c.args in let i = c.loop-output.output in let pair = c.index-entries-output.result in
-    entry_difference a.entries.now (entry_pairs_of a.offset a.garbling.now) i pair
-    (entry_pair_of a.offset a.garbling.now i) c.in-Some.colour c.loop-output.invariant
+    entry_difference _ _ i pair _ c.in-Some.colour c.loop-output.invariant
     (slice_get_read a.entries.now (length a.entries.now) i pair refl (omega arith) c.index-entries-output.is)
     (pair_at_output a.offset a.garbling.now i (omega arith))
     (subst (λ made. DifferFirstIn pair made c.in-Some.colour)
@@ -21,8 +20,7 @@ returns-in-Some g c =
 pub loop-output-preserved : goal.loop-output-preserved
 loop-output-preserved g c =
     let a = c.args in let i = c.loop-output.output in let pair = c.index-entries-output.result in
-    same_more a.entries.now (entry_pairs_of a.offset a.garbling.now) i pair
-    (entry_pair_of a.offset a.garbling.now i) c.loop-output.invariant
+    same_more a.entries.now (entry_pairs_of a.offset a.garbling.now) i pair _ c.loop-output.invariant
     (slice_get_read a.entries.now (length a.entries.now) i pair refl (omega arith) c.index-entries-output.is)
     (pair_at_output a.offset a.garbling.now i (omega arith))
     (c.in_default.ensures

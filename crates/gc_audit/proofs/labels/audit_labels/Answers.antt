@@ -11,18 +11,21 @@ use Rattle.gc_audit.proofs.labels.audit_labels.Goals as goal
 pub returns-then-filed-width-clause-dealt : goal.returns-then-filed-width-clause-dealt
 returns-then-filed-width-clause-dealt g c =
     let a = c.args in let width = c.in-Some.width.now in let found = c.in-Some.ensures.lookup in
-    let at = found_at c.input_widths.result.now a.circuit.now.input_widths c.index-index.result a.file.now.index
-    width width found.0 found.1 c.input_widths.ensures c.index-index.ensures refl in
-    verdict-dealt a.circuit.now a.seed.now a.file.now {A = ℕ} WrongWidth
-    (width, at, λ e. c.if-filed-width.true (ap length c.labels-filed.ensures ∙ e))
+    let at = found_at _ _ c.index-index.result _ width width found.0 found.1 c.input_widths.ensures
+    c.index-index.ensures refl in
+    verdict-dealt a.circuit.now a.seed.now a.file.now {A = ℕ} WrongWidth (
+      width,
+      at,
+      λ e.
+          c.if-filed-width.true (ap length c.labels-filed.ensures ∙ e),
+    )
 
 -- The verdict on the labels is that on the file.
 verdict : (g : Over) (c : After-compare g) → IfOk c.compare.result
     (IsLabelsVerdict c.args.circuit.now c.args.seed.now c.args.file.now)
 verdict g c =
     let a = c.args in let found = c.in-Some.ensures.lookup in
-    let at = found_at c.input_widths.result.now a.circuit.now.input_widths c.index-index.result a.file.now.index
-    c.in-Some.width.now (length a.file.now.labels) found.0 found.1 c.input_widths.ensures c.index-index.ensures
+    let at = found_at _ _ _ _ _ _ found.0 found.1 c.input_widths.ensures c.index-index.ensures
     (ap length (sym c.labels-filed.ensures) ∙ c.if-filed-width.false) in
     let first = c.first_wire-first.result in
     IfOk-weaker c.compare.result (AreCompared a.seed.now first a.file.now.labels) _
