@@ -1,5 +1,5 @@
 -- What is known of the gates and the output wires of a closed board.
-use Rattle.std.proofs.Common.{◌≡◌, ℕ, zero, suc, ◌+◌, List, Bool, Result, subst, ap, arith}
+use Rattle.std.proofs.Common.{◌≡◌, ℕ, zero, suc, ◌+◌, List, Bool, Result, arith, add-one}
 use Rattle.std.specs.List.{range_with_len}
 use Rattle.gc_netlist.specs.Solution.{on_outputs}
 use Rattle.gc_board.specs.Counts.{total}
@@ -10,26 +10,23 @@ use Rattle.gc_job.specs.ActiveLabels.{active}
 use Rattle.gc_eval.proofs.BoardLabels.{active_solves}
 
 -- one number more
-total_from : (f : ℕ → ℕ) (a n : ℕ) → total f (range_with_len a (suc n)) ≡ total f (range_with_len a n) + f
-    (a + n)
-total_from f a zero = let same : a ≡ a + 0 = omega arith in omega (arith, ap f same)
-total_from f a (suc n) =
-    let same : a + 1 + n ≡ a + suc n = omega arith in
-    omega (arith, total_from f (a + 1) n, ap f same)
+total_from : (f : ℕ → ℕ) (a n : ℕ)
+    → total f (range_with_len a (suc n)) ≡ total f (range_with_len a n) + f (a + n)
+total_from f a zero = grind arith
+total_from f a (suc n) = grind (arith, total_from f (a + 1) n)
 
-pub total-range : (f : ℕ → ℕ) (n : ℕ) → total f (range_with_len 0 (n + 1)) ≡ total f
-    (range_with_len 0 n) + f n
+pub total-range : (f : ℕ → ℕ) (n : ℕ)
+    → total f (range_with_len 0 (n + 1)) ≡ total f (range_with_len 0 n) + f n
 total-range f n =
-    let next : n + 1 ≡ suc n = omega arith in
     let same : 0 + n ≡ n = omega arith in
-    omega (arith, ap (λ k. total f (range_with_len 0 k)) next, total_from f 0 n, ap f same)
+    rw add-one (rw same at (total_from f 0 n))
 
 -- The job is evaluated where the active labels of its output wires are decoded.
 pub evaluated_outputs : (job : JobParts) (labels : List ℕ) (result : Result (List Bool) EvalFault)
-    → IsWhole job
-    → labels ≡ on_outputs job.circuit (active job) → IsDecodingOf job labels result → IsEvaluated job result
+    → IsWhole job → labels ≡ on_outputs job.circuit (active job) → IsDecodingOf job labels result
+    → IsEvaluated job result
 evaluated_outputs job labels result whole is decoding = record {
   active = active job;
   evaluation = active_solves job whole.lawful;
-  decoding = subst (λ (ls : List ℕ). IsDecodingOf job ls result) is decoding;
+  decoding = rw is at decoding;
 }

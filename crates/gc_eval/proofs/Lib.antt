@@ -1,5 +1,4 @@
 pub mod BoardLabels
 pub mod ClosedLemmas
 pub mod GatherLemmas
-pub mod LayerAnswers
 pub mod RunLemmas

@@ -5,14 +5,12 @@ use Rattle.gc_eval.proofs.many.work_together.Goals as goal
 
 pub finish-requires-clause-own : goal.finish-requires-clause-own
 finish-requires-clause-own g c =
-    all_last c.run_all.new.workers c.in-Some.others.now c.in-Some.last.now c.in-Some.ensures.cases.0
-    (IsWorkerOf c.args.board.now) c.run_all.ensures
+    all_last _ _ _ c.in-Some.ensures.cases.0 (IsWorkerOf c.args.board.now) c.run_all.ensures
 
 pub finish-requires-clause-others : goal.finish-requires-clause-others
 finish-requires-clause-others g c =
-    all_but_last c.run_all.new.workers c.in-Some.others.now c.in-Some.last.now c.in-Some.ensures.cases.0
-    (IsWorkerOf c.args.board.now) c.run_all.ensures
+    all_but_last _ _ _ c.in-Some.ensures.cases.0 (IsWorkerOf c.args.board.now) c.run_all.ensures
 
 pub returns-in-Some : goal.returns-in-Some
 returns-in-Some g c =
-    All-push (IsWorkerOf c.args.board.now) c.finish.new.others c.finish.new.self c.finish.ensures.others c.finish.ensures.own
+    All-push (IsWorkerOf c.args.board.now) _ _ c.finish.ensures.others c.finish.ensures.own

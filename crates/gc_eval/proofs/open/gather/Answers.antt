@@ -1,7 +1,7 @@
 use Rattle.std.proofs.Common.{arith, ap}
 use Rattle.gc_board.specs.Counts.{times}
-use Rattle.gc_board.specs.Places.{IsPlaceOf}
 use Rattle.gc_board.specs.declared.rule.View.{View}
+use Rattle.gc_board.specs.Places.{IsPlaceOf}
 use Rattle.gc_job.specs.ActiveLabels.{gates_of}
 use Rattle.gc_job.specs.Job.{JobParts}
 use Rattle.gc_eval.specs.declared.seat.EvalSeat.{EvalSeat}
@@ -11,19 +11,15 @@ use Rattle.gc_eval.proofs.open.gather.Goals as goal
 
 pub loop-place-init : goal.loop-place-init
 loop-place-init g c =
-    let seat = c.in-Some.field-0 in
-    let old = c.args.seats.items in
-    let new = c.pop.new.self.items in
-    let is = c.in-Some.ensures.items in
     let Own : EvalSeat _ _ → Type 0 =
-    λ s. IsPlaceOf gates_of c.args.words.now.table_id c.args.words.now.key s.place in (
-      all_last old new seat is Own c.requires.own,
-      all_but_last old new seat is Own c.requires.own,
-      omega (arith, length_last old new seat is, seat.at_rest.2),
+    λ s. IsPlaceOf gates_of c.args.words.now.table_id c.args.words.now.key s.place in
+    let is = c.in-Some.ensures.items in (
+      all_last _ _ _ is Own c.requires.own,
+      all_but_last _ _ _ is Own c.requires.own,
+      omega (arith, length_last _ _ _ is, c.in-Some.field-0.at_rest.2),
       λ gate. omega (
         arith,
-        total_last old new seat is
-            (λ (s : EvalSeat _ _). times gate s.place.me.0.made),
+        total_last _ _ _ is (λ (s : EvalSeat _ _). times gate s.place.me.0.made),
       ),
     )
 
@@ -31,34 +27,30 @@ pub join_place-requires-clause-other : goal.join_place-requires-clause-other
 join_place-requires-clause-other g c =
     let Own : EvalSeat _ _ → Type 0 =
     λ s. IsPlaceOf gates_of c.args.words.now.table_id c.args.words.now.key s.place in
-    all_last c.loop-place.seats.items c.pop-in-loop-place.new.self.items c.in-Some-pop.field-0 c.in-Some-pop.ensures.items
-    Own c.loop-place.invariant.1
+    all_last _ _ _ c.in-Some-pop.ensures.items Own c.loop-place.invariant.1
 
 pub loop-place-preserved : goal.loop-place-preserved
 loop-place-preserved g c =
-    let seat = c.in-Some-pop.field-0 in
-    let old = c.loop-place.seats.items in
-    let new = c.pop-in-loop-place.new.self.items in
+    let Own : EvalSeat _ _ → Type 0 =
+    λ s. IsPlaceOf gates_of c.args.words.now.table_id c.args.words.now.key s.place in
     let is = c.in-Some-pop.ensures.items in
     let kept = c.join_place.ensures in
-    let i = c.loop-place.invariant in
-    let Own : EvalSeat _ _ → Type 0 =
-    λ s. IsPlaceOf gates_of c.args.words.now.table_id c.args.words.now.key s.place in (
-      moved_at _ _ _ c.loop-place.whole c.join_place.new.place i.0 kept.0
-          (ap (λ (u : View JobParts). u.job) kept.1)
+    let i = c.loop-place.invariant in (
+      moved_at i.0 kept.0 (ap (λ (u : View JobParts). u.job) kept.1)
           (ap (λ (u : View JobParts). u.all) kept.1),
-      all_but_last old new seat is Own i.1,
+      all_but_last _ _ _ is Own i.1,
       omega (
         arith,
-        length_last old new seat is,
-        seat.at_rest.2,
+        length_last _ _ _ is,
+        c.in-Some-pop.field-0.at_rest.2,
         i.2,
         ap (λ (u : View JobParts). u.seats) kept.1,
       ),
       λ gate. omega (
         arith,
-        total_last old new seat is (λ (s : EvalSeat _ _). times gate s.place.me.0.made),
-        times_merged c.loop-place.whole.me.0 seat.place.me.0 c.join_place.new.place.me.0 gate kept.1,
+        total_last _ _ _ is (λ (s : EvalSeat _ _). times gate s.place.me.0.made),
+        times_merged c.loop-place.whole.me.0 c.in-Some-pop.field-0.place.me.0
+            c.join_place.new.place.me.0 gate kept.1,
         i.3 gate,
       ),
     )

@@ -8,7 +8,8 @@ use Rattle.gc_eval.proofs.open.gather.Given as goal
 abbrev pub invariant-loop-place : goal.invariant-loop-place
 invariant-loop-place g l =
     IsPlaceOf gates_of l.words.table_id l.words.key l.whole
-    × All (λ (s : EvalSeat _ _). IsPlaceOf gates_of l.words.table_id l.words.key s.place) l.seats.items
+    × All (λ (s : EvalSeat _ _). IsPlaceOf gates_of l.words.table_id l.words.key s.place)
+    l.seats.items
     × (l.whole.me.0.seats + length l.seats.items ≡ length l.fn.seats.items)
     × ((g' : ℕ) → times g' l.whole.me.0.made + total
     (λ (s : EvalSeat _ _). times g' s.place.me.0.made) l.seats.items

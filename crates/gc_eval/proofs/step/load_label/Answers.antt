@@ -5,5 +5,5 @@ use Rattle.gc_eval.proofs.step.load_label.Goals as goal
 pub returns-clause-right : goal.returns-clause-right
 returns-clause-right g c =
     c.from_halves.ensures
-    ∙ joined c.args.words.now.key.work c.args.gate c.load_low-low.result c.load_high-high.result c.load_low-low.ensures.found
+    ∙ joined c.args.words.now.key.work _ _ _ c.load_low-low.ensures.found
     c.load_high-high.ensures.found

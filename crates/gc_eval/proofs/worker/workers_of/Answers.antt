@@ -9,13 +9,12 @@ use Rattle.gc_eval.proofs.worker.workers_of.Goals as goal
 pub loop-seat-preserved : goal.loop-seat-preserved
 loop-seat-preserved g c =
     let board = c.args.board.now in
-    let old = c.loop-seat.seats.items in
-    let new = c.pop.new.self.items in
     let is = c.in-Some.ensures.items in
     let was = c.loop-seat.invariant in record {
-      seats = all_but_last old new c.in-Some.seat is (IsSeatOf board) was.seats;
-      workers = rw c.in_ok-push.ensures.items (All-push (IsWorkerOf board) c.loop-seat.workers.items _ was.workers (
-        all_last old new c.in-Some.seat is (IsSeatOf board) was.seats,
-        c.in_ok-new.ensures.gates ∙ c.gates-gates.ensures.count ∙ ap (λ (n : Netlist). length n.gates) c.circuit.ensures,
+      seats = all_but_last _ _ _ is (IsSeatOf board) was.seats;
+      workers = rw c.in_ok-push.ensures.items (All-push (IsWorkerOf board) _ _ was.workers (
+        all_last _ _ _ is (IsSeatOf board) was.seats,
+        c.in_ok-new.ensures.gates ∙ c.gates-gates.ensures.count
+            ∙ ap (λ (n : Netlist). length n.gates) c.circuit.ensures,
       ));
     }

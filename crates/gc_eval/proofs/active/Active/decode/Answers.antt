@@ -1,8 +1,5 @@
-use Rattle.std.proofs.Common.{◌≡◌, ◌∙◌, Vec, Ok, Err, MatchOption, subst}
+use Rattle.std.proofs.Common.{◌∙◌, Ok, Err}
 use Rattle.std.proofs.lemmas.Result.{err_from_is_err_and}
-use Rattle.gc_netlist.specs.Solution.{on_outputs}
-use Rattle.gc_job.specs.ActiveLabels.{active}
-use Rattle.gc_eval.specs.Done.{HasOutputs, LacksOutput}
 use Rattle.gc_eval.proofs.ClosedLemmas.{evaluated_outputs}
 use Rattle.gc_job.proofs.OutputLemmas.{length-outputs, no_memory}
 use Rattle.gc_eval.proofs.active.Active.decode.Goals as goal
@@ -14,43 +11,22 @@ returns-in_err-labels-clause-err g c =
 
 pub decode-requires : goal.decode-requires
 decode-requires g c =
-    let self = c.args.self.now in
-    let job = self.job.now in
-    let right = subst (λ o. MatchOption o (LacksOutput self)
-    (λ (v : Vec _ _). (v.items ≡ on_outputs job.circuit (active job))
-    × HasOutputs self)) c.in-Some.is c.in_ok-labels.ensures in
-    length-outputs job.circuit c.circuit.ensures.whole.lawful (active job) c.deref.result.now
-    (c.deref.ensures.value ∙ right.0)
+    let right = rw c.in-Some.is at c.in_ok-labels.ensures in
+    length-outputs _ c.circuit.ensures.whole.lawful _ _ (c.deref.ensures.value ∙ right.0)
 
 pub returns-in-Ok-clause-ok : goal.returns-in-Ok-clause-ok
 returns-in-Ok-clause-ok g c =
-    let self = c.args.self.now in
-    let job = self.job.now in
-    let right = subst (λ o. MatchOption o (LacksOutput self)
-    (λ (v : Vec _ _). (v.items ≡ on_outputs job.circuit (active job))
-    × HasOutputs self)) c.in-Some.is c.in_ok-labels.ensures in (
-      evaluated_outputs job c.deref.result.now (Ok c.in-Ok.bits.items) c.circuit.ensures.whole
-          (c.deref.ensures.value ∙ right.0)
+    let right = rw c.in-Some.is at c.in_ok-labels.ensures in (
+      evaluated_outputs _ _ (Ok _) c.circuit.ensures.whole (c.deref.ensures.value ∙ right.0)
           c.in-Ok.ensures,
       right.1,
     )
 
 pub returns-clause-err : goal.returns-clause-err
 returns-clause-err g c =
-    let self = c.args.self.now in
-    let job = self.job.now in
-    let right = subst (λ o. MatchOption o (LacksOutput self)
-    (λ (v : Vec _ _). (v.items ≡ on_outputs job.circuit (active job))
-    × HasOutputs self)) c.in-Some.is c.in_ok-labels.ensures in
-    evaluated_outputs job c.deref.result.now (Err c.in-Err.fault) c.circuit.ensures.whole
-    (c.deref.ensures.value ∙ right.0)
+    let right = rw c.in-Some.is at c.in_ok-labels.ensures in
+    evaluated_outputs _ _ (Err _) c.circuit.ensures.whole (c.deref.ensures.value ∙ right.0)
     c.in-Err.ensures
 
 pub returns-clause-recognised : goal.returns-clause-recognised
-returns-clause-recognised g c _ =
-    let self = c.args.self.now in
-    let job = self.job.now in
-    let right = subst (λ o. MatchOption o (LacksOutput self)
-    (λ (v : Vec _ _). (v.items ≡ on_outputs job.circuit (active job))
-    × HasOutputs self)) c.in-Some.is c.in_ok-labels.ensures in
-    right.1
+returns-clause-recognised g c _ = let right = rw c.in-Some.is at c.in_ok-labels.ensures in right.1

@@ -10,35 +10,16 @@ use Rattle.gc_eval.proofs.active.Active.done.Goals.{then-word-eq-DONE, else-word
 
 pub loop-gate-preserved : goal.loop-gate-preserved
 loop-gate-preserved g c =
-    let words = slots_items c.args.self.now.closed.words in
     let gate = c.loop-gate.gate in
-    let found : state_of words gate ≡ c.word.result = word_is words
-    (3 * gate) c.word.result c.word.ensures in
-    let more = total-range (λ k. only 2 (state_of words k)) gate in
+    let words = slots_items c.args.self.now.closed.words in
+    let more = rw (word_is words (3 * gate) _ c.word.ensures)
+    at (total-range (λ k. only 2 (state_of words k)) gate) in
     let i = c.loop-gate.invariant in
     elim c.if-word-eq-DONE.branch [
-      | then-word-eq-DONE w ↦ (
-        omega (
-          arith,
-          more,
-          i.0,
-          w.done-is,
-          ap (only 2) found,
-          only_same 2 c.word.result
-              (sym w.if-word-eq-DONE.true),
-        ),
-        omega (arith, i.1, w.done-is),
-      )
-      | else-word-eq-DONE w ↦ (
-        omega (
-          arith,
-          more,
-          i.0,
-          w.done-is,
-          ap (only 2) found,
-          only_other 2 c.word.result
-              (λ e. w.if-word-eq-DONE.false (sym e)),
-        ),
-        omega (arith, i.1, w.done-is),
-      )
+      | then-word-eq-DONE w ↦
+          let one = only_same 2 _ (sym w.if-word-eq-DONE.true) in
+          (omega (arith, more, i.0, w.done-is, one), omega (arith, i.1, w.done-is))
+      | else-word-eq-DONE w ↦
+          let none = only_other 2 _ (λ e. w.if-word-eq-DONE.false (sym e)) in
+          (omega (arith, more, i.0, w.done-is, none), omega (arith, i.1, w.done-is))
     ]
