@@ -106,10 +106,9 @@ fn opening(rt: HostRuntime) -> Result<(), Fail> {
     let circuit = Circuit::read(rt.alloc(), FULL_ADDER.as_bytes())?;
     let job = job_of(rt.alloc(), &circuit, FULL_ADDER, &ADDENDS)?;
     let refused = runs_refused(rt.alloc(), |heap: &Refusing<Global>| {
-        match EvalBoard::open(heap, &job, 2) {
-            Ok((_, seats)) => plain_if(seats.len() == 2),
-            Err(OpenFault::Memory) => Run::Memory,
-            Err(OpenFault::NoTable) => Run::Memory,
+        match EvalBoard::open(heap, &job, 2).map(|(_, seats)| seats.len()) {
+            Ok(seats) => plain_if(seats == 2),
+            Err(OpenFault::Memory) | Err(OpenFault::NoTable) => Run::Memory,
         }
     });
     assert_eq!(rt; refused, Ok(6));
@@ -119,10 +118,7 @@ fn opening(rt: HostRuntime) -> Result<(), Fail> {
 /// The fault of the growth n of `open`.
 fn fault_at(alloc: Global, job: &Job, n: u64) -> Option<OpenFault> {
     let heap = Refusing::nth(alloc, n);
-    match EvalBoard::open(&heap, job, 2) {
-        Ok(_) => None,
-        Err(fault) => Some(fault),
-    }
+    EvalBoard::open(&heap, job, 2).err()
 }
 
 #[test]

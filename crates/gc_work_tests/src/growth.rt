@@ -23,8 +23,9 @@ fn opens<L: Ledger>(heap: &Refusing<Global>, ledger: Blank, circuit: &Circuit) -
     let Ok(copy) = circuit.try_clone(heap) else {
         return Answer::Memory;
     };
-    match Store::<L, &Refusing<Global>>::open(heap, ledger, copy, seed_of(0)) {
-        Ok(store) => plain_if(store.finished() == 0),
+    let opened = Store::<L, &Refusing<Global>>::open(heap, ledger, copy, seed_of(0));
+    match opened.map(|store| store.finished()) {
+        Ok(finished) => plain_if(finished == 0),
         Err(Memory) => Answer::Memory,
     }
 }
@@ -36,8 +37,8 @@ fn opens_anew(heap: &Refusing<Global>, circuit: &Circuit) -> Answer {
 
 /// Whether a pool with three thieves opens.
 fn opens_pool(heap: &Refusing<Global>) -> Answer {
-    match TaskPool::open(heap, 2, 3) {
-        Ok((_, _, thieves)) => plain_if(thieves.len() == 3),
+    match TaskPool::open(heap, 2, 3).map(|(_, _, thieves)| thieves.len()) {
+        Ok(thieves) => plain_if(thieves == 3),
         Err(Memory) => Answer::Memory,
     }
 }
