@@ -1,5 +1,5 @@
 -- The active labels of a job meet the equations of the gates, as do the labels of a board.
-use Rattle.std.proofs.Common.{◌≡◌, ◌≢◌, ℕ, zero, suc, ◌*◌, ◌+◌, ◌<◌, List, [], ◌∷◌, slice_get, get_or, Some, refl, sym, ap, ◌∙◌}
+use Rattle.std.proofs.Common.{◌≡◌, ℕ, zero, suc, ◌*◌, ◌+◌, ◌<◌, List, [], ◌∷◌, slice_get, get_or, Some, refl, sym, ◌∙◌}
 use mathlib.Core.Option.{some, some-injective, some-ne-none}
 use lib.ListN.{get_elem?}
 use Rattle.gc_netlist.specs.declared.gate.Operation.{Operation}
@@ -17,7 +17,7 @@ use Rattle.gc_board.specs.Board.{Cell}
 use Rattle.gc_board.specs.declared.rule.View.{View}
 use Rattle.gc_job.specs.Job.{JobParts}
 use Rattle.gc_job.specs.Evaluate.{labels_of}
-use Rattle.gc_job.specs.ActiveLabels.{active, gates_of, set_by, set_of, active_from, IsRightHalf}
+use Rattle.gc_job.specs.ActiveLabels.{active, gates_of, set_of, active_from, IsRightHalf}
 use Rattle.gc_job.proofs.WiringLemmas.{input_not_set}
 use Rattle.gc_eval.specs.Views.{Got}
 

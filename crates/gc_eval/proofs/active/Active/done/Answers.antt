@@ -1,4 +1,4 @@
-use Rattle.std.proofs.Common.{◌≡◌, ◌*◌, arith, ap, sym}
+use Rattle.std.proofs.Common.{◌*◌, arith, sym}
 use Rattle.std.specs.Slots.{slots_items}
 use Rattle.gc_board.specs.Board.{state_of}
 use Rattle.gc_board.specs.Counts.{only}

@@ -1,7 +1,6 @@
-use Rattle.std.proofs.Common.{◌≡◌, ◌+◌, ◌*◌, ◌<◌, inl, inr, ⊎_elim, arith, sym, ap, ◌∙◌}
+use Rattle.std.proofs.Common.{◌+◌, ◌*◌, ◌<◌, inl, inr, ⊎_elim, arith, sym, ◌∙◌}
 use Rattle.std.specs.Slots.{slots_items, slots_len}
-use Rattle.gc_netlist.specs.Circuit.{IsSetBy, input_wires}
-use Rattle.gc_board.specs.Board.{starting}
+use Rattle.gc_netlist.specs.Circuit.{input_wires}
 use Rattle.gc_job.proofs.WiringLemmas.{set_once, set_within}
 use Rattle.gc_eval.proofs.BoardLabels.{active_solves, label_in, word_is}
 use Rattle.gc_eval.proofs.active.Active.label.Given.{Over}
@@ -58,5 +57,6 @@ returns-else-word-eq-DONE-clause-none g c = ⊎_elim
     (λ done.
     let by = rw c.args.self.now.wired at c.in-Some.ensures.some in
     let same = set_once _ _ _ _ c.circuit.ensures.whole.lawful by done.1 in
-    let word = word_is (slots_items c.args.self.now.closed.words) (3 * c.in-Some.gate) _ c.word.ensures in
+    let words = slots_items c.args.self.now.closed.words in
+    let word = word_is words (3 * c.in-Some.gate) _ c.word.ensures in
     c.if-word-eq-DONE.false (sym word ∙ (rw (← same) at done.2)))

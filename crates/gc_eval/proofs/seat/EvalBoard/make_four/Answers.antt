@@ -1,4 +1,4 @@
-use Rattle.std.proofs.Common.{◌≡◌, arith}
+use Rattle.std.proofs.Common.{arith}
 use Rattle.gc_eval.proofs.RunLemmas.{two_made, four_made}
 use Rattle.gc_eval.proofs.seat.EvalBoard.make_four.Goals as goal
 

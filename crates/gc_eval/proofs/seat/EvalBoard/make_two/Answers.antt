@@ -1,8 +1,4 @@
-use Rattle.std.proofs.Common.{◌≡◌}
-use Rattle.gc_board.specs.Counts.{times}
 use Rattle.gc_eval.proofs.RunLemmas.{two_made, made_other, alone_later}
-use Rattle.gc_eval.proofs.seat.EvalBoard.make_two.Given.{Over}
-use Rattle.gc_eval.proofs.seat.EvalBoard.make_two.Goals.{After-make_beside-answer}
 use Rattle.gc_eval.proofs.seat.EvalBoard.make_two.Goals as goal
 
 pub returns-in-Some-clause-answer : goal.returns-in-Some-clause-answer

@@ -1,6 +1,5 @@
-use Rattle.std.proofs.Common.{◌≡◌, ◌<◌, arith, refl, sym, ap, ◌∙◌}
+use Rattle.std.proofs.Common.{◌<◌, arith, refl, sym, ap, ◌∙◌}
 use Rattle.gc_netlist.specs.Circuit.{IsSetBy}
-use Rattle.gc_board.specs.Counts.{times}
 use Rattle.gc_board.specs.declared.rule.View.{View}
 use Rattle.gc_board.proofs.Sums.{only_other}
 use Rattle.gc_job.specs.ActiveLabels.{gates_of}

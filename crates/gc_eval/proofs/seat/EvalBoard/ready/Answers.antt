@@ -1,5 +1,5 @@
-use Rattle.std.proofs.Common.{◌≡◌, ℕ, rules, arith, refl, ap, sym, ◌∙◌}
-use Rattle.gc_board.specs.Counts.{times, only}
+use Rattle.std.proofs.Common.{rules, arith, refl, ap, sym, ◌∙◌}
+use Rattle.gc_board.specs.Counts.{only}
 use Rattle.gc_board.specs.Board.{in_hand}
 use Rattle.gc_board.proofs.Sums.{only_same, only_other}
 use Rattle.gc_eval.specs.Views.{Ran}
