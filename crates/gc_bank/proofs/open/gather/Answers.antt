@@ -11,20 +11,17 @@ use Rattle.gc_bank.proofs.open.gather.Goals as goal
 
 pub loop-seat-init : goal.loop-seat-init
 loop-seat-init g c =
-    let seat = c.in-Some.last in
-    let old = c.args.seats.items in
-    let new = c.pop.new.self.items in
-    let is = c.in-Some.ensures.items in
     let Own : BankSeat _ _ _ → Type 0 =
     λ s. IsBoardPlace gates_of c.args.words.now.table_id c.args.words.now.key s.place in
-    let Out : BankSeat _ _ _ → Type 0 = λ s. s.place.me.0.stand ≡ Outside in (
-      all_last old new seat is Own c.requires.own,
-      all_but_last old new seat is Own c.requires.own,
-      all_but_last old new seat is Out c.requires.outside,
-      omega (arith, length_last old new seat is, seat.at_rest.2),
+    let Out : BankSeat _ _ _ → Type 0 = λ s. s.place.me.0.stand ≡ Outside in
+    let is = c.in-Some.ensures.items in (
+      all_last _ _ _ is Own c.requires.own,
+      all_but_last _ _ _ is Own c.requires.own,
+      all_but_last _ _ _ is Out c.requires.outside,
+      omega (arith, length_last _ _ _ is, c.in-Some.last.at_rest.2),
       λ r gate. omega (
         arith,
-        total_last old new seat is (λ (s : BankSeat _ _ _). pairs r gate s.place.me.0.inner.made),
+        total_last _ _ _ is (λ (s : BankSeat _ _ _). pairs r gate s.place.me.0.inner.made),
       ),
     )
 
@@ -32,46 +29,41 @@ pub join_place-requires-clause-other : goal.join_place-requires-clause-other
 join_place-requires-clause-other g c =
     let Own : BankSeat _ _ _ → Type 0 =
     λ s. IsBoardPlace gates_of c.args.words.now.table_id c.args.words.now.key s.place in
-    (all_last c.loop-seat.seats.items c.pop-in-loop-seat.new.self.items c.in-Some-pop.seat
-    c.in-Some-pop.ensures.items Own c.loop-seat.invariant.1).seated
+    (all_last _ _ _ c.in-Some-pop.ensures.items Own c.loop-seat.invariant.1).seated
 
 pub join_place-requires-clause-idle : goal.join_place-requires-clause-idle
 join_place-requires-clause-idle g c =
-    let seat = c.in-Some-pop.seat in
-    let Out : BankSeat _ _ _ → Type 0 = λ s. s.place.me.0.stand ≡ Outside in (
-      all_last c.loop-seat.seats.items c.pop-in-loop-seat.new.self.items seat c.in-Some-pop.ensures.items
-          Out c.loop-seat.invariant.2,
+    let Out : BankSeat _ _ _ → Type 0 = λ s. s.place.me.0.stand ≡ Outside in
+    let seat = c.in-Some-pop.seat in (
+      all_last _ _ _ c.in-Some-pop.ensures.items Out c.loop-seat.invariant.2,
       seat.at_rest.0,
       seat.at_rest.1,
     )
 
 pub loop-seat-preserved : goal.loop-seat-preserved
 loop-seat-preserved g c =
-    let seat = c.in-Some-pop.seat in
-    let old = c.loop-seat.seats.items in
-    let new = c.pop-in-loop-seat.new.self.items in
-    let is = c.in-Some-pop.ensures.items in
-    let kept = c.join_place.ensures in
-    let i = c.loop-seat.invariant in
     let Own : BankSeat _ _ _ → Type 0 =
     λ s. IsBoardPlace gates_of c.args.words.now.table_id c.args.words.now.key s.place in
-    let Out : BankSeat _ _ _ → Type 0 = λ s. s.place.me.0.stand ≡ Outside in (
-      still_in _ _ c.loop-seat.whole c.join_place.new.place i.0 kept.0
-          (ap (λ (u : Seen). u.jobs) kept.1) (ap (λ (u : Seen). u.all) kept.1)
+    let Out : BankSeat _ _ _ → Type 0 = λ s. s.place.me.0.stand ≡ Outside in
+    let is = c.in-Some-pop.ensures.items in
+    let kept = c.join_place.ensures in
+    let i = c.loop-seat.invariant in (
+      still_in i.0 kept.0 (ap (λ (u : Seen). u.jobs) kept.1) (ap (λ (u : Seen). u.all) kept.1)
           (ap (λ (u : Seen). u.inner.job) kept.1),
-      all_but_last old new seat is Own i.1,
-      all_but_last old new seat is Out i.2,
+      all_but_last _ _ _ is Own i.1,
+      all_but_last _ _ _ is Out i.2,
       omega (
         arith,
-        length_last old new seat is,
-        seat.at_rest.2,
+        length_last _ _ _ is,
+        c.in-Some-pop.seat.at_rest.2,
         i.3,
         ap (λ (u : Seen). u.seats) kept.1,
       ),
       λ r gate. omega (
         arith,
-        total_last old new seat is (λ (s : BankSeat _ _ _). pairs r gate s.place.me.0.inner.made),
-        pairs_merged c.loop-seat.whole.me.0 seat.place.me.0 c.join_place.new.place.me.0 r gate kept.1,
+        total_last _ _ _ is (λ (s : BankSeat _ _ _). pairs r gate s.place.me.0.inner.made),
+        pairs_merged c.loop-seat.whole.me.0 c.in-Some-pop.seat.place.me.0
+            c.join_place.new.place.me.0 r gate kept.1,
         i.4 r gate,
       ),
     )

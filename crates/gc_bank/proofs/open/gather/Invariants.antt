@@ -10,7 +10,8 @@ use Rattle.gc_bank.proofs.open.gather.Given as goal
 abbrev pub invariant-loop-seat : goal.invariant-loop-seat
 invariant-loop-seat g l =
     IsBoardPlace gates_of l.words.table_id l.words.key l.whole
-    × All (λ (s : BankSeat _ _ _). IsBoardPlace gates_of l.words.table_id l.words.key s.place) l.seats.items
+    × All (λ (s : BankSeat _ _ _). IsBoardPlace gates_of l.words.table_id l.words.key s.place)
+    l.seats.items
     × All (λ (s : BankSeat _ _ _). s.place.me.0.stand ≡ Outside) l.seats.items
     × (l.whole.me.0.seats + length l.seats.items ≡ length l.fn.seats.items)
     × ((r g' : ℕ) → pairs r g' l.whole.me.0.inner.made

@@ -1,18 +1,15 @@
-use Rattle.std.proofs.Common.{arith, length, refl}
-use Rattle.std.proofs.lemmas.Option.{slice_get_read}
+use Rattle.std.proofs.Common.{arith, ap, length}
 use Rattle.gc_bank.specs.declared.seat.BankSeat.{BankSeat}
 use Rattle.gc_bank.proofs.RunLemmas.{total_taken}
 use Rattle.gc_bank.proofs.open.made_by.Goals as goal
 
 pub loop-seat-preserved : goal.loop-seat-preserved
 loop-seat-preserved g c =
-    let seat = c.seat-item.result in
-    let at = slice_get_read c.args.seats.now (length c.args.seats.now) c.loop-seat.seat-index seat refl
-    (omega arith) c.seat-item.is in
-    omega (
+    let seat = c.seat-item.result in omega (
       arith,
       total_taken (λ (s : BankSeat _ _ _). length s.place.me.0.inner.made) c.args.seats.now
-          c.loop-seat.seat-index seat at,
+          c.loop-seat.seat-index seat (omega arith),
+      ap (λ (s : BankSeat _ _ _). length s.place.me.0.inner.made) c.seat-item.is,
       seat.counted,
       c.loop-seat.invariant,
       c.saturating_add-made.ensures,

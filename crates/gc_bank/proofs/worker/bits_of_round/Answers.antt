@@ -9,13 +9,13 @@ use Rattle.gc_bank.proofs.worker.bits_of_round.Goals as goal
 pub decode-requires : goal.decode-requires
 decode-requires g c =
     let job = c.job-job.result.now in
-    length-outputs job.circuit c.circuit.ensures.whole.lawful (active job) c.args.labels.now
+    length-outputs job.circuit c.circuit.ensures.whole.lawful (active job) _
     (c.requires.labels job c.job-job.ensures.at)
 
 pub returns-in-Ok : goal.returns-in-Ok
 returns-in-Ok g c =
     let job = c.job-job.result.now in
-    let bits = c.in-Ok.bits.items in
-    bits_at (jobs_on c.args.banks.now) c.args.round job bits c.job-job.ensures.at
-    (evaluated_outputs job c.args.labels.now (Ok bits) c.circuit.ensures.whole
-    (c.requires.labels job c.job-job.ensures.at) c.in-Ok.ensures)
+    let at = c.job-job.ensures.at in
+    bits_at (jobs_on c.args.banks.now) c.args.round job _ at
+    (evaluated_outputs job _ (Ok _) c.circuit.ensures.whole (c.requires.labels job at)
+    c.in-Ok.ensures)

@@ -9,15 +9,14 @@ pub loop-seat-preserved : goal.loop-seat-preserved
 loop-seat-preserved g c =
     let banks = c.args.banks.now in
     let was = c.loop-seat.invariant in record {
-      seats = all_but_last c.loop-seat.seats.items c.pop.new.self.items c.in-Some.seat c.in-Some.ensures.items
+      seats = all_but_last _ _ _ c.in-Some.ensures.items
           (λ (s : BankSeat _ _ _). IsSeatOf banks s × IsNew (view s)) was.seats;
-      workers = rw c.in_ok-push.ensures.items (All-push
-          (IsWorkerOf banks) c.loop-seat.workers.items _ was.workers
-          c.in_ok-worker_of.ensures);
+      workers = rw c.in_ok-push.ensures.items
+          (All-push (IsWorkerOf banks) _ _ was.workers c.in_ok-worker_of.ensures);
     }
 
 pub worker_of-requires : goal.worker_of-requires
 worker_of-requires g c =
     let banks = c.args.banks.now in
-    all_last c.loop-seat.seats.items c.pop.new.self.items c.in-Some.seat c.in-Some.ensures.items
+    all_last _ _ _ c.in-Some.ensures.items
     (λ (s : BankSeat _ _ _). IsSeatOf banks s × IsNew (view s)) c.loop-seat.invariant.seats

@@ -1,6 +1,5 @@
-use Rattle.std.proofs.Common.{◌≡◌, List, ap, ◌∙◌, sym, arith, get_or}
+use Rattle.std.proofs.Common.{List, ap, ◌∙◌, sym, arith}
 use Rattle.std.proofs.lemmas.Option.{slice_get-get_or}
-use Rattle.gc_netlist.specs.Circuit.{Netlist}
 use Rattle.gc_rounds.specs.declared.view.Key.{Key}
 use Rattle.gc_job.specs.Job.{JobParts}
 use Rattle.gc_bank.proofs.seat.Banks.open.Goals as goal
@@ -11,12 +10,8 @@ invariant_of-banks-clause-about g c =
 
 pub invariant_of-banks-clause-circuit : goal.invariant_of-banks-clause-circuit
 invariant_of-banks-clause-circuit g c = λ r job there.
-    let jobs : List JobParts = c.args.jobs.now in
-    let first : JobParts = get_or jobs 0 c.index-jobs-0.result in
-    let shared : Netlist = c.circuit-circuit.result.now in
-    let here : shared ≡ first.circuit =
-    c.circuit-circuit.ensures.circuit ∙ ap (λ (j : JobParts). j.circuit) c.index-jobs-0.is in
-    let wired : c.in_ok-wiring.wiring ≡ shared = c.in_ok-wiring.ensures in
-    let one : job.circuit ≡ first.circuit = c.requires.circuit r 0 job first there
-    (slice_get-get_or jobs 0 c.index-jobs-0.result (omega (arith, c.requires.jobs.0))) in
-    one ∙ sym here ∙ sym wired
+    let here = c.circuit-circuit.ensures.circuit
+    ∙ ap (λ (j : JobParts). j.circuit) c.index-jobs-0.is in
+    let one = slice_get-get_or c.args.jobs.now 0 c.index-jobs-0.result
+    (omega (arith, c.requires.jobs.0)) in
+    c.requires.circuit r 0 job _ there one ∙ sym here ∙ sym c.in_ok-wiring.ensures

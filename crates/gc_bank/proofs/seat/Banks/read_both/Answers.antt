@@ -1,55 +1,37 @@
-use Rattle.std.proofs.Common.{◌≡◌, Some, inr, slice_get, sym, ap, ◌∙◌}
-use Rattle.gc_netlist.specs.Circuit.{Netlist}
+use Rattle.std.proofs.Common.{inr, sym, ◌∙◌}
 use Rattle.gc_eval.proofs.BoardLabels.{active_step}
-use Rattle.gc_bank.proofs.RunLemmas.{lacks_then, both_err, both_ok, alone_later}
+use Rattle.gc_bank.proofs.RunLemmas.{grown, still, lacks_within, second_lacking, both_made, alone_later}
 use Rattle.gc_bank.proofs.seat.Banks.read_both.Goals as goal
 
 pub returns-in-Err-read_some-clause-err : goal.returns-in-Err-read_some-clause-err
 returns-in-Err-read_some-clause-err g c =
-    let job = c.args.job.now in
-    let at : slice_get job.circuit.gates c.args.gate ≡ Some c.gate-operation.result =
-    ap (λ (n : Netlist). slice_get n.gates c.args.gate) (sym c.circuit.ensures.circuit)
-    ∙ c.gate-operation.ensures in
+    let at = rw c.circuit.ensures.circuit at c.gate-operation.ensures in
     let err = c.in-Err-read_some.ensures.err in (
-      record { gate = c.gate-operation.result; at = at; reads = inr (sym c.second_wire.ensures ∙ err.0) },
-      lacks_then job c.args.round c.in-Err-read_some.wire 3 c.args.place.now.me.0
-          c.read_some.new.place.me.0 c.read_some-2.new.place.me.0 c.read_some.ensures.ran err.1,
+      record { gate = _; at = at; reads = inr (sym c.second_wire.ensures ∙ err.0) },
+      lacks_within (grown c.read_some.ensures.ran) still err.1,
     )
 
 pub returns-clause-ok : goal.returns-clause-ok
 returns-clause-ok g c =
-    let job = c.args.job.now in
-    let at : slice_get job.circuit.gates c.args.gate ≡ Some c.gate-operation.result =
-    ap (λ (n : Netlist). slice_get n.gates c.args.gate) (sym c.circuit.ensures.circuit)
-    ∙ c.gate-operation.ensures in
-    active_step job c.args.gate c.in-Ok.label c.in-Ok-read_some.label c.gate-operation.result
-    c.circuit.ensures.whole.lawful at
+    active_step c.args.job.now _ _ _ _ c.circuit.ensures.whole.lawful
+    (rw c.circuit.ensures.circuit at c.gate-operation.ensures)
     (λ w e. c.in-Ok.ensures.ok w (c.first_wire.ensures ∙ e))
     (λ w e. c.in-Ok-read_some.ensures.ok w (c.second_wire.ensures ∙ e))
 
 pub returns-in-Err-read_some-clause-alone : goal.returns-in-Err-read_some-clause-alone
 returns-in-Err-read_some-clause-alone g c = λ alone.
-    let job = c.args.job.now in
-    let at : slice_get job.circuit.gates c.args.gate ≡ Some c.gate-operation.result =
-    ap (λ (n : Netlist). slice_get n.gates c.args.gate) (sym c.circuit.ensures.circuit)
-    ∙ c.gate-operation.ensures in
-    let old = c.args.place.now.me.0 in
-    let mid = c.read_some.new.place.me.0 in
     let ran = c.read_some.ensures.ran in
-    both_err job c.args.round c.args.gate 3 c.gate-operation.result c.in-Err-read_some.wire old mid at ran
-    (sym c.second_wire.ensures ∙ c.in-Err-read_some.ensures.err.0)
-    (c.in-Err-read_some.ensures.alone (alone_later old mid 3 ran alone))
+    second_lacking c.args.job.now _ _ _ (rw c.circuit.ensures.circuit at c.gate-operation.ensures)
+    c.args.place.now.me.0
     (λ u e. c.in-Ok.ensures.alone alone u (c.first_wire.ensures ∙ e))
+    _ (sym c.second_wire.ensures ∙ c.in-Err-read_some.ensures.err.0)
+    (rw ran.made at (c.in-Err-read_some.ensures.alone (alone_later ran alone)))
 
 pub returns-clause-alone : goal.returns-clause-alone
 returns-clause-alone g c = λ alone.
-    let job = c.args.job.now in
-    let at : slice_get job.circuit.gates c.args.gate ≡ Some c.gate-operation.result =
-    ap (λ (n : Netlist). slice_get n.gates c.args.gate) (sym c.circuit.ensures.circuit)
-    ∙ c.gate-operation.ensures in
-    let old = c.args.place.now.me.0 in
-    let mid = c.read_some.new.place.me.0 in
     let ran = c.read_some.ensures.ran in
-    both_ok job c.args.round c.args.gate 3 c.gate-operation.result old mid at ran
+    both_made c.args.job.now _ _ _ (rw c.circuit.ensures.circuit at c.gate-operation.ensures)
+    c.args.place.now.me.0
     (λ u e. c.in-Ok.ensures.alone alone u (c.first_wire.ensures ∙ e))
-    (λ u e. c.in-Ok-read_some.ensures.alone (alone_later old mid 3 ran alone) u (c.second_wire.ensures ∙ e))
+    (λ u e. rw ran.made at
+    (c.in-Ok-read_some.ensures.alone (alone_later ran alone) u (c.second_wire.ensures ∙ e)))
