@@ -1,7 +1,8 @@
 -- What the steps of a command hand on to the next.
-use Rattle.std.proofs.Common.{◌≡◌, Bool, true, false, List, length, Option, Some, None, Result, Ok, Err, is_ok, sum, sym, subst, ap, ◌∙◌}
+use Rattle.std.proofs.Common.{◌≡◌, Bool, List, length, Option, Result, Ok, Err, is_ok, sum, sym, ap, ◌∙◌}
 use Rattle.std.specs.Prelude.{IfOk, IfSome, MatchResult}
 use Rattle.std.proofs.lemmas.List.FromFn.{length-map-range_with_len}
+use Rattle.std.proofs.lemmas.Option.{IfSome_then}
 use Rattle.gc_netlist.specs.Circuit.{Netlist, IsLawful, output_wires}
 use Rattle.gc_circuit.specs.Meaning.{AreOutputs}
 use Rattle.gc_format.specs.GarbledFile.{GarbledParts}
@@ -14,14 +15,12 @@ use Rattle.gc_command.specs.Job.{DecodeTo}
 pub map_err-ok : {T E D : Type 0} (r : Result T E) (s : Result T D) (Q : E → Type 0)
     (P : T → Type 0) (x : T) → MatchResult r (λ y. s ≡ Ok y) Q
     → is_ok s ≡ is_ok r → IfOk r P → s ≡ Ok x → P x
-map_err-ok (Ok y) s Q P x passed variant holds is = let same : y ≡ x = cc in subst P same holds
-map_err-ok (Err e) s Q P x passed variant holds is =
-    absurd (let kind = ap is_ok is in let no : true ≡ false = sym kind ∙ variant in cc)
+map_err-ok (Ok y) s Q P x passed variant holds is = let same : x ≡ y = cc in rw same holds
+map_err-ok (Err e) s Q P x passed variant holds is = let kind = ap is_ok is in absurd cc
 
 pub IfSome-map : {T : Type 0} (o : Option T) (P Q : T → Type 0) → ((x : T) → P x → Q x) → IfSome o P
     → IfSome o Q
-IfSome-map None P Q f h = h
-IfSome-map (Some x) P Q f h = f x h
+IfSome-map o P Q f h = IfSome_then o h f
 
 -- outputs have the output widths
 pub length-outputs : (c : Netlist) (x outputs : List Bool) → AreOutputs c x outputs
@@ -30,8 +29,8 @@ length-outputs c x outputs are =
     sym (ap length are.last ∙ length-map-range_with_len are.bits _ (output_wires c))
 
 -- and so have those that files decode to
-pub length-decoded : (c : Netlist) → IsLawful c → (g : GarbledParts) (files : List LabelFileParts) (bits : List Bool)
-    → DecodeTo c g files bits → sum c.output_widths ≡ length bits
+pub length-decoded : (c : Netlist) → IsLawful c → (g : GarbledParts) (files : List LabelFileParts)
+    (bits : List Bool) → DecodeTo c g files bits → sum c.output_widths ≡ length bits
 length-decoded c lawful g files bits is =
     sym (length-evaluated is.job (bound-whole c lawful g files is.job is.bound) bits is.evaluated
     ∙ ap (λ (j : JobParts). output_wires j.circuit) is.bound.parts)

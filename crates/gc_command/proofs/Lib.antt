@@ -6,5 +6,4 @@ pub mod EvalLemmas
 pub mod FaultLemmas
 pub mod CauseLemmas
 pub mod OwnFilesLemmas
-pub mod PlainLemmas
 pub mod CheckLemmas

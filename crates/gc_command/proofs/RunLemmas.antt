@@ -1,12 +1,12 @@
 -- From what each step of a run answers to what it answers as a whole.
-use Rattle.std.proofs.Common.{ℕ, List, Bool, Ok, Err, ⊎_elim, flat_map, refl, arith}
+use Rattle.std.proofs.Common.{ℕ, List, Bool, Ok, Err, flat_map, refl, arith}
 use Rattle.gc_netlist.specs.Circuit.{Netlist, IsLawful}
 use Rattle.gc_circuit.specs.Meaning.{AreOutputs}
 use Rattle.gc_format.specs.GarbledFile.{GarbledParts}
 use Rattle.gc_format.specs.LabelFile.{LabelFileParts}
 use Rattle.gc_job.specs.declared.fault.EvalFault.TheVariants as eval
 use Rattle.gc_job.specs.Binding.{FirstBindFault}
-use Rattle.gc_job.specs.Honest.{AreHonestFiles}
+use Rattle.gc_job.specs.Honest.{AreHonestFiles, HonestFilesLaw}
 use Rattle.gc_job.proofs.HonestFiles.{honest-files}
 use Rattle.gc_command.specs.declared.fault.Fault.{Fault}
 use Rattle.gc_command.specs.declared.fault.Fault.TheVariants as faults
@@ -15,48 +15,35 @@ use Rattle.gc_gatehouse.specs.Workers.{AreFew}
 use Rattle.gc_command.specs.Run.{HasRunInput, IsWantOfMemory, HasRunFault}
 use Rattle.gc_command.proofs.FaultLemmas.{bind-memory}
 
-module _ (c : Netlist) (lawful : IsLawful c) (seed : List ℕ) (values : List (List Bool)) (g : GarbledParts)
-    (files : List LabelFileParts) (honest : AreHonestFiles c seed values g files) where
+module _ {c : Netlist} (lawful : IsLawful c) {seed : List ℕ} {values : List (List Bool)}
+    {g : GarbledParts} {files : List LabelFileParts}
+    (honest : AreHonestFiles c seed values g files) where
+  law : HonestFilesLaw c seed values g files
+  law = honest-files c lawful seed values g files honest
+
   -- Honest files decode to the circuit's outputs,
   pub honest-decode : (outputs : List Bool) → DecodeTo c g files outputs
       → AreOutputs c (flat_map (λ value. value) values) outputs
-  honest-decode outputs is =
-      (honest-files c lawful seed values g files honest).outputs is.job is.bound (Ok outputs) is.evaluated
+  honest-decode outputs is = law.outputs is.job is.bound (Ok outputs) is.evaluated
 
   -- and only memory may be missing.
   pub honest-fault : (fault : Fault) → HasJobFault c g files 1 fault → IsWantOfMemory fault
   honest-fault (faults.Binding fault) has =
-      bind-memory (FirstBindFault c g files) (honest-files c lawful seed values g files honest).no_fault fault has
-  honest-fault (faults.Evaluation eval.BadWorkers) has = absurd (⊎_elim (λ none. omega (arith, none)) (λ many. omega (arith, many)) has.2)
+      bind-memory (FirstBindFault c g files) law.no_fault fault has
+  honest-fault (faults.Evaluation eval.BadWorkers) has = absurd (grind (arith, has.2))
   honest-fault (faults.Evaluation eval.Memory) has = refl
   honest-fault (faults.Evaluation (eval.UnknownOutputLabel output)) has =
-      (honest-files c lawful seed values g files honest).outputs has.0 has.1
-      (Err (eval.UnknownOutputLabel output)) has.2.1
-  honest-fault (faults.Circuit fault) has = absurd has
-  honest-fault faults.WrongCount has = absurd has
-  honest-fault (faults.Value fault) has = absurd has
-  honest-fault faults.BadSeed has = absurd has
-  honest-fault faults.BadList has = absurd has
-  honest-fault faults.NoSuchValue has = absurd has
-  honest-fault (faults.Garbling fault) has = absurd has
-  honest-fault (faults.File fault) has = absurd has
-  honest-fault faults.CannotRead has = absurd has
-  honest-fault faults.CannotWrite has = absurd has
-  honest-fault faults.Memory has = absurd has
+      law.outputs has.0 has.1 (Err (eval.UnknownOutputLabel output)) has.2.1
+  honest-fault fault has = absurd has
 
 -- Where memory is missing, a run has that fault.
-pub want-of-memory : (bytes seed : List ℕ) (workers : ℕ) (texts : List (List ℕ)) → HasRunInput bytes seed texts
-    → AreFew workers → (fault : Fault) → IsWantOfMemory fault → HasRunFault bytes seed workers texts fault
-want-of-memory bytes seed workers texts input few (faults.Garbling fault) want = (input, rw want few)
+pub want-of-memory : (bytes seed : List ℕ) (workers : ℕ) (texts : List (List ℕ))
+    → HasRunInput bytes seed texts → AreFew workers → (fault : Fault) → IsWantOfMemory fault
+    → HasRunFault bytes seed workers texts fault
+want-of-memory bytes seed workers texts input few (faults.Garbling fault) want =
+    (input, rw want few)
 want-of-memory bytes seed workers texts input few (faults.File fault) want = (want, input)
 want-of-memory bytes seed workers texts input few (faults.Binding fault) want = (want, input)
 want-of-memory bytes seed workers texts input few (faults.Evaluation fault) want = (want, input)
 want-of-memory bytes seed workers texts input few faults.Memory want = tt
-want-of-memory bytes seed workers texts input few (faults.Circuit fault) want = absurd want
-want-of-memory bytes seed workers texts input few faults.WrongCount want = absurd want
-want-of-memory bytes seed workers texts input few (faults.Value fault) want = absurd want
-want-of-memory bytes seed workers texts input few faults.BadSeed want = absurd want
-want-of-memory bytes seed workers texts input few faults.BadList want = absurd want
-want-of-memory bytes seed workers texts input few faults.NoSuchValue want = absurd want
-want-of-memory bytes seed workers texts input few faults.CannotRead want = absurd want
-want-of-memory bytes seed workers texts input few faults.CannotWrite want = absurd want
+want-of-memory bytes seed workers texts input few fault want = absurd want

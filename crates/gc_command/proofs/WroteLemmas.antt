@@ -1,5 +1,5 @@
 -- What a command answers where its file is written, and where it can't be.
-use Rattle.std.proofs.Common.{◌≡◌, ℕ, Bool, List, Option, Some, None, length, ap, ◌∙◌}
+use Rattle.std.proofs.Common.{◌≡◌, ℕ, Bool, List, Option, Some, None, length, sym, ap, ◌∙◌}
 use Rattle.std.specs.Prelude.{IfSome}
 use Rattle.std.specs.List.{slice_get}
 use Rattle.std.proofs.lemmas.List.FromFn.{length-map-range_with_len}
@@ -15,50 +15,37 @@ use Rattle.gc_command.specs.Deal.{IsDealInput, HasDealFault}
 use Rattle.gc_command.specs.Garble.{IsGarbleInput, HasGarbleFault}
 
 -- two facts of one known value, joined
-pub IfSome-both : {T : Type 0} (o : Option T) (P Q R : T → Type 0) → ((x : T) → P x → Q x → R x) → IfSome o P → IfSome o Q → IfSome o R
+pub IfSome-both : {T : Type 0} (o : Option T) (P Q R : T → Type 0)
+    → ((x : T) → P x → Q x → R x) → IfSome o P → IfSome o Q → IfSome o R
 IfSome-both None P Q R f p q = p
 IfSome-both (Some x) P Q R f p q = f x p q
 
 -- the bits that a text spells have the width of their value
-pub input_value-width : (widths : List ℕ) (index : ℕ) (text : List ℕ) (bits : List Bool) → IsInputValue widths index text bits
-    → slice_get widths index ≡ Some (length bits)
+pub input_value-width : (widths : List ℕ) (index : ℕ) (text : List ℕ) (bits : List Bool)
+    → IsInputValue widths index text bits → slice_get widths index ≡ Some (length bits)
 input_value-width widths index text bits is =
     let value = ((value_text_law text is.width).value bits).0 is.spelled in
-    is.at ∙ ap Some (let e = ap length value.in_wire_order ∙ length-map-range_with_len _ 0 is.width in cc)
+    let width = ap length value.in_wire_order ∙ length-map-range_with_len _ 0 is.width in
+    is.at ∙ ap Some (sym width)
 
-pub deal-unwritten : (bytes seed_text : List ℕ) (index : ℕ) (text : List ℕ) (c : Netlist) (seed : List ℕ) (bits : List Bool)
-    → IsDealInput bytes seed_text index text c seed bits → (fault : Fault) → IsUnwritten fault → HasDealFault bytes seed_text index text fault
-deal-unwritten bytes seed_text index text c seed bits input faults.CannotWrite h = (c, (seed, (bits, input)))
+pub deal-unwritten : (bytes seed_text : List ℕ) (index : ℕ) (text : List ℕ) (c : Netlist)
+    (seed : List ℕ) (bits : List Bool) → IsDealInput bytes seed_text index text c seed bits
+    → (fault : Fault) → IsUnwritten fault → HasDealFault bytes seed_text index text fault
+deal-unwritten bytes seed_text index text c seed bits input faults.CannotWrite h =
+    (c, (seed, (bits, input)))
 deal-unwritten bytes seed_text index text c seed bits input faults.Memory h = tt
-deal-unwritten bytes seed_text index text c seed bits input (faults.Circuit fault) h = absurd h
-deal-unwritten bytes seed_text index text c seed bits input faults.WrongCount h = absurd h
-deal-unwritten bytes seed_text index text c seed bits input (faults.Value fault) h = absurd h
-deal-unwritten bytes seed_text index text c seed bits input faults.BadSeed h = absurd h
-deal-unwritten bytes seed_text index text c seed bits input faults.BadList h = absurd h
-deal-unwritten bytes seed_text index text c seed bits input faults.NoSuchValue h = absurd h
-deal-unwritten bytes seed_text index text c seed bits input (faults.Garbling fault) h = absurd h
-deal-unwritten bytes seed_text index text c seed bits input (faults.File fault) h = absurd h
-deal-unwritten bytes seed_text index text c seed bits input (faults.Binding fault) h = absurd h
-deal-unwritten bytes seed_text index text c seed bits input (faults.Evaluation fault) h = absurd h
-deal-unwritten bytes seed_text index text c seed bits input faults.CannotRead h = absurd h
+deal-unwritten bytes seed_text index text c seed bits input fault h = absurd h
 
 pub garble-unwritten : (bytes seed_text : List ℕ) (workers : ℕ) (c : Netlist) (seed : List ℕ)
     → IsGarbleInput bytes seed_text c seed → AreFew workers → (fault : Fault) → IsUnwritten fault
     → HasGarbleFault bytes seed_text workers fault
-garble-unwritten bytes seed_text workers c seed input few faults.CannotWrite h = ((c, (seed, input)), few)
+garble-unwritten bytes seed_text workers c seed input few faults.CannotWrite h =
+    ((c, (seed, input)), few)
 garble-unwritten bytes seed_text workers c seed input few faults.Memory h = tt
-garble-unwritten bytes seed_text workers c seed input few (faults.Circuit fault) h = absurd h
-garble-unwritten bytes seed_text workers c seed input few faults.WrongCount h = absurd h
-garble-unwritten bytes seed_text workers c seed input few (faults.Value fault) h = absurd h
-garble-unwritten bytes seed_text workers c seed input few faults.BadSeed h = absurd h
-garble-unwritten bytes seed_text workers c seed input few faults.BadList h = absurd h
-garble-unwritten bytes seed_text workers c seed input few faults.NoSuchValue h = absurd h
-garble-unwritten bytes seed_text workers c seed input few (faults.Garbling fault) h = absurd h
-garble-unwritten bytes seed_text workers c seed input few (faults.File fault) h = absurd h
-garble-unwritten bytes seed_text workers c seed input few (faults.Binding fault) h = absurd h
-garble-unwritten bytes seed_text workers c seed input few (faults.Evaluation fault) h = absurd h
-garble-unwritten bytes seed_text workers c seed input few faults.CannotRead h = absurd h
+garble-unwritten bytes seed_text workers c seed input few fault h = absurd h
 
 -- a garbling of the circuit fits it
-pub garbled-fits : (c : Netlist) (seed : List ℕ) (g : GarblingParts) → IsGarbled c seed g → FitsCircuit c g
-garbled-fits c seed g is = record { wires = is.wires; and_gates = is.garbling.row_count; outputs = is.outputs }
+pub garbled-fits : (c : Netlist) (seed : List ℕ) (g : GarblingParts) → IsGarbled c seed g
+    → FitsCircuit c g
+garbled-fits c seed g is =
+    record { wires = is.wires; and_gates = is.garbling.row_count; outputs = is.outputs }

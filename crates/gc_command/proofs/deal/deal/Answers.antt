@@ -1,26 +1,28 @@
 use Rattle.std.proofs.Common.{◌∙◌, refl}
+use Rattle.std.proofs.lemmas.Option.{IfSome_then}
 use Rattle.std.proofs.lemmas.Result.{IfOk-weaker, IfErr-weaker}
-use Rattle.gc_command.specs.CircuitFile.{IsCircuit}
-use Rattle.gc_command.proofs.AnswerLemmas.{IfSome-map}
 use Rattle.gc_command.proofs.CauseLemmas.{cause-writing}
 use Rattle.gc_command.proofs.WroteLemmas.{IfSome-both, input_value-width, deal-unwritten}
 use Rattle.gc_command.proofs.deal.deal.Goals as goal
 
 pub write_value-requires : goal.write_value-requires
 write_value-requires g c =
-    let spelled = rw c.input_widths.ensures at c.in_ok-bits.ensures.spelled in
-    rw c.deref.ensures.value (input_value-width c.in_ok-circuit.circuit.input_widths c.args.index c.args.value.now c.in_ok-bits.bits.items spelled)
+    rw (c.deref.ensures.value, ← c.input_widths.ensures)
+    (input_value-width _ _ _ _ c.in_ok-bits.ensures.spelled)
 
 pub returns-clause-answers : goal.returns-clause-answers
 returns-clause-answers g c = IfOk-weaker c.write_value.result _ _
-    (λ lines written. IfSome-both (g.F.Files.bytes c.args.files.now c.args.circuit.now) (λ bytes. IsCircuit bytes c.in_ok-circuit.circuit) _ _
+    (λ lines written. IfSome-both (g.F.Files.bytes c.args.files.now c.args.circuit.now) _ _ _
     (λ bytes circuit wrote. record {
       circuit = c.in_ok-circuit.circuit;
       seed = c.in_ok-seed.seed;
       bits = c.in_ok-bits.bits.items;
       input = record {
         circuit = circuit;
-        seed_read = record { accepted = c.in_ok-seed.ensures.accepts.0 refl; spelled = c.in_ok-seed.ensures.bytes };
+        seed_read = record {
+          accepted = c.in_ok-seed.ensures.accepts.0 refl;
+          spelled = c.in_ok-seed.ensures.bytes;
+        };
         value = rw c.input_widths.ensures at c.in_ok-bits.ensures.spelled;
       };
       written = rw c.deref.ensures.value at wrote;
@@ -31,14 +33,15 @@ returns-clause-answers g c = IfOk-weaker c.write_value.result _ _
 
 pub returns-clause-fault : goal.returns-clause-fault
 returns-clause-fault g c = IfErr-weaker c.write_value.result _ _
-    (λ fault unwritten. IfSome-map (g.F.Files.bytes c.args.files.now c.args.circuit.now) (λ bytes. IsCircuit bytes c.in_ok-circuit.circuit) _
-    (λ bytes circuit. deal-unwritten bytes c.args.seed.now c.args.index c.args.value.now c.in_ok-circuit.circuit c.in_ok-seed.seed c.in_ok-bits.bits.items
-    (record {
+    (λ fault unwritten. IfSome_then _ c.in_ok-circuit.ensures.circuit
+    (λ bytes circuit. deal-unwritten _ _ _ _ c.in_ok-circuit.circuit _ _ record {
       circuit = circuit;
-      seed_read = record { accepted = c.in_ok-seed.ensures.accepts.0 refl; spelled = c.in_ok-seed.ensures.bytes };
+      seed_read = record {
+        accepted = c.in_ok-seed.ensures.accepts.0 refl;
+        spelled = c.in_ok-seed.ensures.bytes;
+      };
       value = rw c.input_widths.ensures at c.in_ok-bits.ensures.spelled;
-    }) fault unwritten)
-    c.in_ok-circuit.ensures.circuit)
+    } fault unwritten))
     c.write_value.ensures.fault
 
 pub returns-clause-cause : goal.returns-clause-cause

@@ -1,24 +1,18 @@
-use Rattle.std.proofs.Common.{◌≡◌, ℕ, List, [], map, drop, arith}
+use Rattle.std.proofs.Common.{◌≡◌, [], drop, arith}
 use Rattle.std.proofs.lemmas.List.{append-nil, drop_all}
 use Rattle.std.proofs.lemmas.Result.{err_from_is_err_and}
-use Rattle.gc_files.specs.Files.{HasFailed}
 use Rattle.gc_command.proofs.EvalLemmas.{labels-memory}
 use Rattle.gc_command.proofs.evaluated_files.read_label_files.Goals as goal
 
 pub returns-in_err-labels-clause-fault : goal.returns-in_err-labels-clause-fault
 returns-in_err-labels-clause-fault g c =
     let p = err_from_is_err_and c.from_residual.result c.from_residual.ensures.1 in
-    let bytes = g.F.Files.bytes c.args.files.now in
-    let failed = g.F.Files.failures c.args.files.now in
-    rw (p.1, p.2) (labels-memory bytes (HasFailed failed failed) (map g.N.AsStr.text c.args.names.now))
+    rw (p.1, p.2) (labels-memory _ _ _)
 
 pub returns-in_err-push-clause-fault : goal.returns-in_err-push-clause-fault
 returns-in_err-push-clause-fault g c =
     let p = err_from_is_err_and c.from_residual-in_err-push.result c.from_residual-in_err-push.ensures.1 in
-    let bytes = g.F.Files.bytes c.args.files.now in
-    let Failed : List ℕ → Type 0 =
-    HasFailed (g.F.Files.failures c.args.files.now) (g.F.Files.failures c.read_label_file.new.files) in
-    rw (p.1, p.2) (labels-memory bytes Failed (map g.N.AsStr.text c.args.names.now))
+    rw (p.1, p.2) (labels-memory _ _ _)
 
 pub returns-clause-labels : goal.returns-clause-labels
 returns-clause-labels g c =

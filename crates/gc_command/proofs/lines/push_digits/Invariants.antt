@@ -3,4 +3,5 @@ use Rattle.gc_value.specs.Value.{binary_digit}
 use Rattle.gc_command.proofs.lines.push_digits.Given as goal
 
 abbrev pub invariant-loop-bit : goal.invariant-loop-bit
-invariant-loop-bit g l = l.line.items ≡ l.fn.line.items ++ map binary_digit (take l.bit-index l.bits)
+invariant-loop-bit g l =
+    l.line.items ≡ l.fn.line.items ++ map binary_digit (take l.bit-index l.bits)

@@ -1,4 +1,5 @@
-use Rattle.std.proofs.Common.{map, string_bytes, refl, ap₂, ◌∙◌}
+use Rattle.std.proofs.Common.{map, refl, ap₂, ◌∙◌}
+use Rattle.std.proofs.lemmas.Option.{IfSome_then}
 use Rattle.std.proofs.lemmas.Result.{err_from_is_err_and}
 use Rattle.gc_command.specs.CircuitFile.{IsCircuit}
 use Rattle.gc_command.specs.Lines.{output_lines}
@@ -10,14 +11,15 @@ use Rattle.gc_command.proofs.run.run.Goals as goal
 
 pub own_labels-requires-clause-fits : goal.own_labels-requires-clause-fits
 own_labels-requires-clause-fits g c =
-    rw c.deref.ensures.value (SpellValues-widths c.input_widths.result.now _ _ c.in_ok-values.ensures.spelled ∙ c.input_widths.ensures)
+    rw (c.deref.ensures.value, ← c.input_widths.ensures)
+    (SpellValues-widths _ _ _ c.in_ok-values.ensures.spelled)
 
 pub returns-in_err-labels-clause-fault : goal.returns-in_err-labels-clause-fault
 returns-in_err-labels-clause-fault g c =
     let p = err_from_is_err_and c.from_residual-in_err-labels.result c.from_residual-in_err-labels.ensures.1 in
     rw (p.1, p.2)
-    (IfSome-map (g.F.Files.bytes c.args.files.now c.args.circuit.now) (λ bytes. IsCircuit bytes c.in_ok-circuit.circuit) _
-    (λ bytes circuit. want-of-memory bytes c.args.seed.now c.args.workers (map string_bytes c.args.values.now) (
+    (IfSome_then _ c.in_ok-circuit.ensures.circuit
+    (λ bytes circuit. want-of-memory _ _ _ _ (
       c.in_ok-circuit.circuit,
       (
         map (λ value. value.items) c.in_ok-values.values.items,
@@ -27,59 +29,57 @@ returns-in_err-labels-clause-fault g c =
           input_values = rw c.input_widths.ensures at c.in_ok-values.ensures.spelled;
         },
       ),
-    ) c.in_ok-garbled.ensures.workers c.in_err-labels.field-0.0 c.in_err-labels.ensures.fault)
-    c.in_ok-circuit.ensures.circuit)
+    ) c.in_ok-garbled.ensures.workers _ c.in_err-labels.ensures.fault))
 
 pub returns-in_err-outputs-clause-fault : goal.returns-in_err-outputs-clause-fault
 returns-in_err-outputs-clause-fault g c =
     let p = err_from_is_err_and c.from_residual-in_err-outputs.result c.from_residual-in_err-outputs.ensures.1 in
-    let values = map (λ value. value.items) c.in_ok-values.values.items in
     let spelled = rw c.input_widths.ensures at c.in_ok-values.ensures.spelled in
-    let honest = own-honest c.in_ok-circuit.circuit c.in_ok-seed.seed values c.in_ok-garbled.garbled
-    c.in_ok-labels.labels.items (SpellValues-widths c.in_ok-circuit.circuit.input_widths _ values spelled)
-    c.in_ok-garbled.ensures.honest (rw c.deref.ensures.value at c.in_ok-labels.ensures.labels) in
+    let honest = own-honest (SpellValues-widths _ _ _ spelled) c.in_ok-garbled.ensures.honest
+    (rw c.deref.ensures.value at c.in_ok-labels.ensures.labels) in
+    let digest = c.digest-digest.ensures ∙ own-digest c.in_ok-garbled.ensures.honest in
     rw (p.1, p.2)
-    (IfSome-map (g.F.Files.bytes c.args.files.now c.args.circuit.now) (λ bytes. IsCircuit bytes c.in_ok-circuit.circuit) _
-    (λ bytes circuit. want-of-memory bytes c.args.seed.now c.args.workers (map string_bytes c.args.values.now) (
+    (IfSome_then _ c.in_ok-circuit.ensures.circuit
+    (λ bytes circuit. want-of-memory _ _ _ _ (
       c.in_ok-circuit.circuit,
       (
-        values,
-        record { circuit = circuit; seed_text = c.in_ok-seed.ensures.accepts.0 refl; input_values = spelled },
+        map (λ value. value.items) c.in_ok-values.values.items,
+        record {
+          circuit = circuit;
+          seed_text = c.in_ok-seed.ensures.accepts.0 refl;
+          input_values = spelled;
+        },
       ),
-    ) c.in_ok-garbled.ensures.workers c.in_err-outputs.field-0.0
-    (honest-fault c.in_ok-circuit.circuit c.in_ok-circuit.ensures.lawful c.in_ok-seed.seed values c.in_ok-garbled.garbled
-    c.in_ok-labels.labels.items honest c.in_err-outputs.field-0.0
-    (rw c.deref-2.ensures.value at (c.in_err-outputs.ensures.fault (c.digest-digest.ensures
-    ∙ own-digest c.in_ok-circuit.circuit c.in_ok-seed.seed c.in_ok-garbled.garbled c.in_ok-garbled.ensures.honest)))))
-    c.in_ok-circuit.ensures.circuit)
+    ) c.in_ok-garbled.ensures.workers _ (honest-fault c.in_ok-circuit.ensures.lawful honest _
+    (rw c.deref-2.ensures.value at (c.in_err-outputs.ensures.fault digest)))))
 
 pub output_lines-requires : goal.output_lines-requires
 output_lines-requires g c =
+    let digest = c.digest-digest.ensures ∙ own-digest c.in_ok-garbled.ensures.honest in
     rw (c.output_widths.ensures, c.deref-3.ensures.value)
-    (length-decoded c.in_ok-circuit.circuit c.in_ok-circuit.ensures.lawful c.in_ok-garbled.garbled c.deref-2.result.now
-    c.in_ok-outputs.outputs.items (c.in_ok-outputs.ensures.decoded (c.digest-digest.ensures
-    ∙ own-digest c.in_ok-circuit.circuit c.in_ok-seed.seed c.in_ok-garbled.garbled c.in_ok-garbled.ensures.honest)))
+    (length-decoded _ c.in_ok-circuit.ensures.lawful _ _ _ (c.in_ok-outputs.ensures.decoded digest))
 
 pub returns-clause-answers : goal.returns-clause-answers
 returns-clause-answers g c =
-    let values = map (λ value. value.items) c.in_ok-values.values.items in
     let spelled = rw c.input_widths.ensures at c.in_ok-values.ensures.spelled in
-    let honest = own-honest c.in_ok-circuit.circuit c.in_ok-seed.seed values c.in_ok-garbled.garbled
-    c.in_ok-labels.labels.items (SpellValues-widths c.in_ok-circuit.circuit.input_widths _ values spelled)
-    c.in_ok-garbled.ensures.honest (rw c.deref.ensures.value at c.in_ok-labels.ensures.labels) in
+    let honest = own-honest (SpellValues-widths _ _ _ spelled) c.in_ok-garbled.ensures.honest
+    (rw c.deref.ensures.value at c.in_ok-labels.ensures.labels) in
+    let digest = c.digest-digest.ensures ∙ own-digest c.in_ok-garbled.ensures.honest in
     IfSome-map (g.F.Files.bytes c.args.files.now c.args.circuit.now)
     (λ bytes. IsCircuit bytes c.in_ok-circuit.circuit) _
     (λ bytes circuit. record {
       circuit = c.in_ok-circuit.circuit;
-      values = values;
-      input = record { circuit = circuit; seed_text = c.in_ok-seed.ensures.accepts.0 refl; input_values = spelled };
+      values = map (λ value. value.items) c.in_ok-values.values.items;
+      input = record {
+        circuit = circuit;
+        seed_text = c.in_ok-seed.ensures.accepts.0 refl;
+        input_values = spelled;
+      };
       few = c.in_ok-garbled.ensures.workers;
       outputs = c.in_ok-outputs.outputs.items;
-      computed = honest-decode c.in_ok-circuit.circuit c.in_ok-circuit.ensures.lawful c.in_ok-seed.seed values
-          c.in_ok-garbled.garbled c.in_ok-labels.labels.items honest c.in_ok-outputs.outputs.items
-          (rw c.deref-2.ensures.value at (c.in_ok-outputs.ensures.decoded (c.digest-digest.ensures
-          ∙ own-digest c.in_ok-circuit.circuit c.in_ok-seed.seed c.in_ok-garbled.garbled
-          c.in_ok-garbled.ensures.honest)));
-      printed = c.in_ok-output_lines.ensures ∙ ap₂ output_lines c.output_widths.ensures c.deref-3.ensures.value;
+      computed = honest-decode c.in_ok-circuit.ensures.lawful honest _
+          (rw c.deref-2.ensures.value at (c.in_ok-outputs.ensures.decoded digest));
+      printed = c.in_ok-output_lines.ensures
+          ∙ ap₂ output_lines c.output_widths.ensures c.deref-3.ensures.value;
     })
     c.in_ok-circuit.ensures.circuit

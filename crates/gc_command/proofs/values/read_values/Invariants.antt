@@ -8,7 +8,8 @@ abbrev pub invariant-loop-i : goal.invariant-loop-i
 invariant-loop-i g l = record {
   values : (left : List (List Bool))
       → SpellValues (drop l.i l.widths) (map string_bytes (drop l.i l.texts)) left
-      → SpellValues l.widths (map string_bytes l.texts) (map (λ value. value.items) l.values.items ++ left);
+      → SpellValues l.widths (map string_bytes l.texts)
+      (map (λ value. value.items) l.values.items ++ left);
   faults : (fault : ValueFault) → FirstBadValue (drop l.i l.widths)
       (map string_bytes (drop l.i l.texts)) fault
       → FirstBadValue l.widths (map string_bytes l.texts) fault;

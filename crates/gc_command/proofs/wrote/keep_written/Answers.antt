@@ -5,6 +5,5 @@ use Rattle.gc_command.proofs.wrote.keep_written.Goals as goal
 pub returns-in_err-keep-clause-cause : goal.returns-in_err-keep-clause-cause
 returns-in_err-keep-clause-cause g c =
     let p = err_from_is_err_and c.from_residual.result c.from_residual.ensures.1 in
-    rw p.1
-    (keep-failed (g.F.Files.failures c.args.files.now) (g.F.Files.failures c.keep.new.self) c.args.name.now _
-    c.in_err-keep.field-0.0 c.in_err-keep.ensures.counted c.in_err-keep.ensures.no_memory)
+    rw p.1 (keep-failed (g.F.Files.failures c.args.files.now) _ _ _ _
+    c.in_err-keep.ensures.counted c.in_err-keep.ensures.no_memory)
