@@ -5,33 +5,15 @@ use Rattle.gc_command.specs.declared.fault.Fault.TheVariants as faults
 use Rattle.gc_command.specs.Fault.{HasCause}
 use Rattle.gc_trace.specs.Labels.{HasLabelsFault, IsWantOfMemory}
 
-pub want-of-memory : (bytes seed : List ℕ) (texts : List (List ℕ)) (fault : Fault) → IsWantOfMemory fault
-    → HasLabelsFault bytes seed texts fault
+pub want-of-memory : (bytes seed : List ℕ) (texts : List (List ℕ)) (fault : Fault)
+    → IsWantOfMemory fault → HasLabelsFault bytes seed texts fault
 want-of-memory bytes seed texts (faults.Circuit fault) want = λ other. absurd (other want)
 want-of-memory bytes seed texts (faults.Garbling fault) want = want
 want-of-memory bytes seed texts faults.Memory want = tt
-want-of-memory bytes seed texts faults.WrongCount want = absurd want
-want-of-memory bytes seed texts (faults.Value fault) want = absurd want
-want-of-memory bytes seed texts faults.BadSeed want = absurd want
-want-of-memory bytes seed texts faults.NoSuchValue want = absurd want
-want-of-memory bytes seed texts (faults.File fault) want = absurd want
-want-of-memory bytes seed texts (faults.Binding fault) want = absurd want
-want-of-memory bytes seed texts (faults.Evaluation fault) want = absurd want
-want-of-memory bytes seed texts faults.BadList want = absurd want
-want-of-memory bytes seed texts faults.CannotRead want = absurd want
-want-of-memory bytes seed texts faults.CannotWrite want = absurd want
+want-of-memory bytes seed texts fault want = absurd want
 
-pub want-has_cause : (fault : Fault) (Reading Writing : Type 0) → IsWantOfMemory fault → HasCause fault Reading Writing
-want-has_cause (faults.Circuit fault) Reading Writing want = tt
-want-has_cause (faults.Garbling fault) Reading Writing want = tt
-want-has_cause faults.Memory Reading Writing want = tt
-want-has_cause faults.WrongCount Reading Writing want = tt
-want-has_cause (faults.Value fault) Reading Writing want = tt
-want-has_cause faults.BadSeed Reading Writing want = tt
-want-has_cause faults.NoSuchValue Reading Writing want = tt
-want-has_cause (faults.File fault) Reading Writing want = tt
-want-has_cause (faults.Binding fault) Reading Writing want = tt
-want-has_cause (faults.Evaluation fault) Reading Writing want = tt
-want-has_cause faults.BadList Reading Writing want = tt
+pub want-has_cause : (fault : Fault) (Reading Writing : Type 0) → IsWantOfMemory fault
+    → HasCause fault Reading Writing
 want-has_cause faults.CannotRead Reading Writing want = absurd want
 want-has_cause faults.CannotWrite Reading Writing want = absurd want
+want-has_cause fault Reading Writing want = tt

@@ -1,61 +1,47 @@
 -- The wires of a circuit that are set, one after another.
-use Rattle.std.proofs.Common.{◌≡◌, ℕ, zero, suc, ◌+◌, ◌-◌, ◌<◌, ◌≤◌, Bool, true, false, List, [], ◌∷◌, ◌++◌, length, map, take, filter, set, get_or, slice_get, slice_index_or, Some, refl, sym, ap, ◌∙◌, arith}
+use Rattle.std.proofs.Common.{◌≡◌, ℕ, zero, suc, ◌+◌, ◌-◌, ◌<◌, ◌≤◌, Bool, true, false, List, ◌∷◌, length, map, take, filter, set, get_or, slice_get, slice_index_or, Some, refl, arith}
 use Rattle.std.specs.List.{range_with_len}
-use Rattle.std.proofs.lemmas.Option.{slice_get_within, slice_get_read, get_or_from_slice_get}
+use Rattle.std.proofs.lemmas.Grind.{common_steps}
+use Rattle.std.proofs.lemmas.Option.{slice_get_within, get_or_from_slice_get, gets}
 use Rattle.std.proofs.lemmas.List.{take_more}
-use Rattle.std.proofs.lemmas.List.FromFn.{get_or-map-range_with_len}
+use Rattle.std.proofs.lemmas.List.FromFn.{get_or-map-range_with_len, length-map-range_with_len}
 use Rattle.gc_netlist.specs.declared.gate.Gate.{Gate}
 use Rattle.gc_netlist.specs.Circuit.{Netlist, input_wires}
 use Rattle.gc_netlist.specs.Reading.{is_set}
-use Rattle.gc_netlist.proofs.Tables.{length-table}
 use Rattle.gc_trace.specs.Labels.{WiresLeft, set_from}
 use Rattle.gc_circuit.proofs.CheckLemmas.{marks_more}
 
 module _ (test : ℕ → Bool) where
   opened : (i n : ℕ) → i < n → range_with_len i (n - i) ≡ i ∷ range_with_len (i + 1) (n - (i + 1))
-  opened i n below =
-      ap (range_with_len i) (let e : n - i ≡ suc (n - (i + 1)) = omega arith in e)
+  opened i n below = let e : n - i ≡ suc (n - (i + 1)) = omega arith in rw e refl
 
   -- a wire that is passed over
   pub passed : (i n : ℕ) → i < n → test i ≡ false
       → filter test (range_with_len i (n - i)) ≡ filter test (range_with_len (i + 1) (n - (i + 1)))
-  passed i n below not = ap (filter test) (opened i n below) ∙ rw not refl
+  passed i n below not = rw (opened i n below, not) refl
 
   -- a wire that is given
   pub given : (i n : ℕ) → i < n → test i ≡ true
-      → filter test (range_with_len i (n - i)) ≡ i ∷ filter test (range_with_len (i + 1) (n - (i + 1)))
-  given i n below is = ap (filter test) (opened i n below) ∙ rw is refl
-
-  -- the end
-  pub none_left : (i n : ℕ) → n ≤ i → filter test (range_with_len i (n - i)) ≡ []
-  none_left i n past = ap (λ m. filter test (range_with_len i m)) (let e : n - i ≡ 0 = omega arith in e)
+      → filter test (range_with_len i (n - i))
+      ≡ i ∷ filter test (range_with_len (i + 1) (n - (i + 1)))
+  given i n below is = rw (opened i n below, is) refl
 
 -- the flag of a wire, read
 pub flag_read : (flags : List Bool) (w : ℕ) (b : Bool) → w < length flags → b ≡ get_or flags w b
     → get_or flags w false ≡ b
-flag_read flags w b below read =
-    get_or_from_slice_get flags w b false (slice_get_read flags (length flags) w b refl below read)
+flag_read flags w b below read = grind (arith, common_steps, gets)
 
 -- one wire of those that are left
 pub take_one : (k w : ℕ) (ws : List ℕ) → 0 < k → take k (w ∷ ws) ≡ w ∷ take (k - 1) ws
-take_one k w ws some = ap (λ n. take n (w ∷ ws)) (let e : k ≡ suc (k - 1) = omega arith in e)
+take_one k w ws some = grind (arith, common_steps)
 
 -- Two tests that agree on these wires pass the same ones.
-pub same_passed : (f g : ℕ → Bool) (a n : ℕ) → ((k : ℕ) → a ≤ k → k < a + n → f k ≡ g k)
+same_passed : (f g : ℕ → Bool) (a n : ℕ) → ((k : ℕ) → a ≤ k → k < a + n → f k ≡ g k)
     → filter f (range_with_len a n) ≡ filter g (range_with_len a n)
 same_passed f g a zero same = refl
 same_passed f g a (suc n) same =
-    rw (same a (omega arith) (omega arith))
-    (rw (same_passed f g (a + 1) n (λ k above below. same k (omega arith) (omega arith))) refl)
-
--- The flags of a table are the test that it holds.
-pub flags_are : (f : ℕ → Bool) (n from : ℕ) (flags : List Bool) → flags ≡ map f (range_with_len 0 n)
-    → filter (λ k. slice_index_or flags k false) (range_with_len from (n - from))
-    ≡ filter f (range_with_len from (n - from))
-flags_are f n from flags is =
-    same_passed (λ k. slice_index_or flags k false) f from (n - from)
-    (λ k above below. ap (λ l. get_or l k false) is
-    ∙ get_or-map-range_with_len f 0 n k k false (omega arith) (omega arith))
+    let rest = same_passed f g (a + 1) n (λ k above below. same k (omega arith) (omega arith)) in
+    rw (same a (omega arith) (omega arith), rest) refl
 
 -- one gate more
 pub flags_more : (inputs n i : ℕ) (gates : List Gate) (g : Gate) (flags : List Bool)
@@ -64,10 +50,8 @@ pub flags_more : (inputs n i : ℕ) (gates : List Gate) (g : Gate) (flags : List
     → set flags g.set true ≡ map (is_set inputs (take (i + 1) gates)) (range_with_len 0 n)
 flags_more inputs n i gates g flags at below is =
     let within : i < length gates = slice_get_within gates i g at in
-    marks_more inputs n (take i gates) g flags is below
-    ∙ ap (λ before. map (is_set inputs before) (range_with_len 0 n))
-    (ap (λ x. take i gates ++ x ∷ []) (sym (get_or_from_slice_get gates i g g at))
-    ∙ sym (take_more gates i g within))
+    rw (take_more gates i g within, get_or_from_slice_get gates i g g at)
+    (marks_more inputs n (take i gates) g flags is below)
 
 abbrev pub wires_left : ℕ → List ℕ → WiresLeft
 wires_left n ws = record { wires = n; left = ws }
@@ -79,7 +63,8 @@ pub all_left : (c : Netlist) (from count : ℕ) (flags : List Bool)
     (range_with_len from (length flags - from))))
     ≡ wires_left c.wires (set_from c from count)
 all_left c from count flags is =
-    ap (λ n. wires_left n (take count (filter (λ k. slice_index_or flags k false) (range_with_len from (n - from)))))
-    (length-table _ c.wires flags is)
-    ∙ ap (λ ws. wires_left c.wires (take count ws))
-    (flags_are (is_set (input_wires c) c.gates) c.wires from flags is)
+    let test = is_set (input_wires c) c.gates in
+    let same = same_passed (λ k. slice_index_or (map test (range_with_len 0 c.wires)) k false) test
+    from (c.wires - from) (λ k above below.
+    get_or-map-range_with_len test 0 c.wires k k false (omega arith) (omega arith)) in
+    rw (is, length-map-range_with_len test 0 c.wires, same) refl

@@ -1,113 +1,81 @@
-use Rattle.std.proofs.Common.{ℕ, List, map, string_bytes, inl, inr, refl, sym, ◌∙◌}
+use Rattle.std.proofs.Common.{map, string_bytes, inl, inr, refl, sym, ◌∙◌}
+use mathlib.Core.Path.{fun_ext}
 use Rattle.std.proofs.lemmas.Result.{err_from_is_err_and}
-use Rattle.gc_format.specs.GarbledFile.{IsGarbledFile}
 use Rattle.gc_files.specs.Files.{HasFailed}
-use Rattle.gc_command.proofs.EvalLemmas.{held-before, garbled-fault-before, labels-fault-before, eval-files}
+use Rattle.gc_command.proofs.EvalLemmas.{eval-files}
 use Rattle.gc_trace.proofs.AuditFaults.{circuit-fault, files-fault}
 use Rattle.gc_trace.proofs.audit.audit.Goals as goal
 
 pub returns-in_err-circuit-clause-fault : goal.returns-in_err-circuit-clause-fault
 returns-in_err-circuit-clause-fault g c =
     let p = err_from_is_err_and c.from_residual.result c.from_residual.ensures.1 in
-    let failed = g.F.Files.failures c.read_and_begin_digest.new.files in
-    let Failed : List ℕ → Type 0 = HasFailed (g.F.Files.failures c.args.files.now) failed in
-    rw (p.1, p.2)
-    (circuit-fault (g.F.Files.bytes c.args.files.now) Failed c.args.circuit.now c.args.seed.now c.args.garbled.now
-    c.args.workers (map string_bytes c.args.labels.now) c.in_err-circuit.field-0.0
-    c.in_err-circuit.ensures.fault)
+    rw (p.1, p.2) (circuit-fault (g.F.Files.bytes c.args.files.now)
+    (HasFailed (g.F.Files.failures c.args.files.now) (g.F.Files.failures c.read_and_begin_digest.new.files))
+    c.args.circuit.now c.args.seed.now c.args.garbled.now c.args.workers
+    (map string_bytes c.args.labels.now) _ c.in_err-circuit.ensures.fault)
 
 pub returns-in_err-garbled-clause-fault : goal.returns-in_err-garbled-clause-fault
 returns-in_err-garbled-clause-fault g c =
     let p = err_from_is_err_and c.from_residual-in_err-garbled.result c.from_residual-in_err-garbled.ensures.1 in
-    let bytes = g.F.Files.bytes c.args.files.now in
-    let failed = g.F.Files.failures c.read_garbled_file.new.files in
-    let Failed : List ℕ → Type 0 = HasFailed (g.F.Files.failures c.args.files.now) failed in
-    let Fails : List ℕ → Type 0 = HasFailed (g.F.Files.failures c.read_and_begin_digest.new.files) failed in
-    let since : (n : List ℕ) → Fails n → Failed n = λ n fails. rw c.in_ok-circuit.ensures.counted at fails in
-    rw (p.1, p.2)
-    (files-fault bytes Failed c.args.circuit.now c.args.seed.now c.args.garbled.now c.args.workers
-    (map string_bytes c.args.labels.now) c.in_ok-circuit.circuit c.in_ok-circuit.ensures.circuit
-    (c.in_ok-seed.ensures.accepts.0 refl) c.in_err-garbled.field-0.0
-    (inl (garbled-fault-before bytes (g.F.Files.bytes c.read_and_begin_digest.new.files) c.read_and_begin_digest.ensures.same
-    Fails Failed since c.args.garbled.now c.in_err-garbled.field-0.0 c.in_err-garbled.ensures.fault)))
+    let first = fun_ext c.read_and_begin_digest.ensures.same in
+    rw (p.1, p.2) (files-fault (g.F.Files.bytes c.args.files.now)
+    (HasFailed (g.F.Files.failures c.args.files.now) (g.F.Files.failures c.read_garbled_file.new.files))
+    c.args.circuit.now c.args.seed.now c.args.garbled.now c.args.workers
+    (map string_bytes c.args.labels.now) _ c.in_ok-circuit.ensures.circuit
+    (c.in_ok-seed.ensures.accepts.0 refl) _
+    (inl (rw (first, c.in_ok-circuit.ensures.counted) at c.in_err-garbled.ensures.fault)))
 
 pub returns-in_err-labels-clause-fault : goal.returns-in_err-labels-clause-fault
 returns-in_err-labels-clause-fault g c =
     let p = err_from_is_err_and c.from_residual-in_err-labels.result c.from_residual-in_err-labels.ensures.1 in
-    let bytes = g.F.Files.bytes c.args.files.now in
-    let names = map string_bytes c.args.labels.now in
-    let parts = c.in_ok-garbled.garbled in
-    let failed = g.F.Files.failures c.read_label_files.new.files in
-    let Failed : List ℕ → Type 0 = HasFailed (g.F.Files.failures c.args.files.now) failed in
-    let Fails : List ℕ → Type 0 = HasFailed (g.F.Files.failures c.read_garbled_file.new.files) failed in
-    let since : (n : List ℕ) → Fails n → Failed n =
-    λ n fails. rw (c.in_ok-garbled.ensures.counted, c.in_ok-circuit.ensures.counted) at fails in
-    let read = held-before bytes (g.F.Files.bytes c.read_and_begin_digest.new.files) c.read_and_begin_digest.ensures.same
-    (λ held. IsGarbledFile held parts) c.args.garbled.now c.in_ok-garbled.ensures.garbled in
-    rw (p.1, p.2)
-    (files-fault bytes Failed c.args.circuit.now c.args.seed.now c.args.garbled.now c.args.workers names
-    c.in_ok-circuit.circuit c.in_ok-circuit.ensures.circuit (c.in_ok-seed.ensures.accepts.0 refl)
-    c.in_err-labels.field-0.0
-    (inr (
-      parts,
-      read,
-      labels-fault-before bytes (g.F.Files.bytes c.read_garbled_file.new.files)
-          (λ n. c.read_garbled_file.ensures.same n ∙ c.read_and_begin_digest.ensures.same n) Fails Failed since
-          names c.in_err-labels.field-0.0 c.in_err-labels.ensures.fault,
-    )))
+    let first = fun_ext c.read_and_begin_digest.ensures.same in
+    let second = fun_ext c.read_garbled_file.ensures.same in
+    let fault = rw (second, first, c.in_ok-garbled.ensures.counted, c.in_ok-circuit.ensures.counted)
+    at c.in_err-labels.ensures.fault in
+    rw (p.1, p.2) (files-fault (g.F.Files.bytes c.args.files.now)
+    (HasFailed (g.F.Files.failures c.args.files.now) (g.F.Files.failures c.read_label_files.new.files))
+    c.args.circuit.now c.args.seed.now c.args.garbled.now c.args.workers
+    (map string_bytes c.args.labels.now) _ c.in_ok-circuit.ensures.circuit
+    (c.in_ok-seed.ensures.accepts.0 refl) _
+    (inr (c.in_ok-garbled.garbled, rw first at c.in_ok-garbled.ensures.garbled, fault)))
 
 pub returns-in_err-labelled-clause-fault : goal.returns-in_err-labelled-clause-fault
 returns-in_err-labelled-clause-fault g c =
     let p = err_from_is_err_and c.from_residual-in_err-labelled.result c.from_residual-in_err-labelled.ensures.1 in
-    let bytes = g.F.Files.bytes c.args.files.now in
-    rw (p.1, p.2) (
-      c.in_ok-circuit.circuit,
-      (
-        c.in_ok-garbled.garbled,
-        (
-          c.in_ok-labels.labels.items,
-          (
-            eval-files bytes (g.F.Files.bytes c.read_and_begin_digest.new.files)
-                (g.F.Files.bytes c.read_garbled_file.new.files) c.read_and_begin_digest.ensures.same
-                c.read_garbled_file.ensures.same c.args.circuit.now c.args.garbled.now
-                (map string_bytes c.args.labels.now) c.in_ok-circuit.circuit c.in_ok-garbled.garbled
-                c.in_ok-labels.labels.items c.in_ok-circuit.ensures.circuit c.in_ok-garbled.ensures.garbled
-                c.in_ok-labels.ensures.labels,
-            c.in_ok-seed.ensures.accepts.0 refl,
-            c.in_err-labelled.ensures.workers,
-          ),
-        ),
-      ),
-    )
+    let files = eval-files c.read_and_begin_digest.ensures.same c.read_garbled_file.ensures.same
+    c.in_ok-circuit.ensures.circuit c.in_ok-garbled.ensures.garbled c.in_ok-labels.ensures.labels in
+    let seed = c.in_ok-seed.ensures.accepts.0 refl in
+    rw (p.1, p.2)
+    (c.in_ok-circuit.circuit, (c.in_ok-garbled.garbled, (c.in_ok-labels.labels.items, (files, seed, c.in_err-labelled.ensures.workers))))
 
 pub returns-in_err-labelled-clause-same : goal.returns-in_err-labelled-clause-same
 returns-in_err-labelled-clause-same g c = λ n.
-    c.read_label_files.ensures.same n ∙ c.read_garbled_file.ensures.same n ∙ c.read_and_begin_digest.ensures.same n
+    c.read_label_files.ensures.same n ∙ c.read_garbled_file.ensures.same n
+    ∙ c.read_and_begin_digest.ensures.same n
 
 pub returns-in-Ok-clause-answers : goal.returns-in-Ok-clause-answers
-returns-in-Ok-clause-answers g c =
-    let bytes = g.F.Files.bytes c.args.files.now in
-    record {
-      c = c.in_ok-circuit.circuit;
-      g = c.in_ok-garbled.garbled;
-      files = c.in_ok-labels.labels.items;
-      input = eval-files bytes (g.F.Files.bytes c.read_and_begin_digest.new.files)
-          (g.F.Files.bytes c.read_garbled_file.new.files) c.read_and_begin_digest.ensures.same
-          c.read_garbled_file.ensures.same c.args.circuit.now c.args.garbled.now
-          (map string_bytes c.args.labels.now) c.in_ok-circuit.circuit c.in_ok-garbled.garbled
-          c.in_ok-labels.labels.items c.in_ok-circuit.ensures.circuit c.in_ok-garbled.ensures.garbled
-          c.in_ok-labels.ensures.labels;
-      seed = c.in_ok-seed.seed;
-      seed_read = record { accepted = c.in_ok-seed.ensures.accepts.0 refl; spelled = c.in_ok-seed.ensures.bytes };
-      few = c.in_ok-labelled.ensures.workers;
-      printed = rw c.deref.ensures.value at (c.in-Ok.ensures c.in_ok-garbled.garbled (sym c.version-version.ensures)
-          c.in_ok-labelled.ensures.audit);
-    }
+returns-in-Ok-clause-answers g c = record {
+  c = c.in_ok-circuit.circuit;
+  g = c.in_ok-garbled.garbled;
+  files = c.in_ok-labels.labels.items;
+  input = eval-files c.read_and_begin_digest.ensures.same c.read_garbled_file.ensures.same
+      c.in_ok-circuit.ensures.circuit c.in_ok-garbled.ensures.garbled c.in_ok-labels.ensures.labels;
+  seed = c.in_ok-seed.seed;
+  seed_read = record {
+    accepted = c.in_ok-seed.ensures.accepts.0 refl;
+    spelled = c.in_ok-seed.ensures.bytes;
+  };
+  few = c.in_ok-labelled.ensures.workers;
+  printed = rw c.deref.ensures.value at (c.in-Ok.ensures c.in_ok-garbled.garbled
+      (sym c.version-version.ensures) c.in_ok-labelled.ensures.audit);
+}
 
 pub returns-in-Ok-clause-same : goal.returns-in-Ok-clause-same
 returns-in-Ok-clause-same g c = λ n.
-    c.read_label_files.ensures.same n ∙ c.read_garbled_file.ensures.same n ∙ c.read_and_begin_digest.ensures.same n
+    c.read_label_files.ensures.same n ∙ c.read_garbled_file.ensures.same n
+    ∙ c.read_and_begin_digest.ensures.same n
 
 pub returns-clause-same : goal.returns-clause-same
 returns-clause-same g c = λ n.
-    c.read_label_files.ensures.same n ∙ c.read_garbled_file.ensures.same n ∙ c.read_and_begin_digest.ensures.same n
+    c.read_label_files.ensures.same n ∙ c.read_garbled_file.ensures.same n
+    ∙ c.read_and_begin_digest.ensures.same n

@@ -10,5 +10,6 @@ returns g c =
       c.in_ok-push_bits.ensures,
       c.in_ok-push_rows.ensures,
       c.in_ok-extend_from_slice.ensures.items,
-    ) (four_joined c.args.lines.now.items (right_line (codes "counts")) (rows_line c.args.parts.rows)
-    (bits_line c.args.parts.bits) (entries_line c.args.version c.args.parts.entries))
+    ) (four_joined c.args.lines.now.items (right_line (codes "counts"))
+    (rows_line c.args.parts.rows) (bits_line c.args.parts.bits)
+    (entries_line c.args.version c.args.parts.entries))

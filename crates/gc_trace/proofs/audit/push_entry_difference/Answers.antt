@@ -13,5 +13,5 @@ returns g c =
       c.from.ensures,
       c.from-2.ensures,
       bit_is c.args.difference.colour,
-    ) (entry_joined c.args.lines.now.items (codes "entries") (codes "wrong") (decimal c.args.difference.output)
-    (decimal (bit_number c.args.difference.colour)))
+    ) (entry_joined c.args.lines.now.items (codes "entries") (codes "wrong")
+    (decimal c.args.difference.output) (decimal (bit_number c.args.difference.colour)))

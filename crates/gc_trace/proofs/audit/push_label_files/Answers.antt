@@ -1,4 +1,4 @@
-use Rattle.std.proofs.Common.{[], ◌++◌, ◌∙◌, append-nil, append_assoc, sym, ap}
+use Rattle.std.proofs.Common.{[], ◌++◌, append-nil, append_assoc, sym}
 use Rattle.std.proofs.lemmas.List.{take_all}
 use Rattle.gc_trace.specs.Audit.{none, verdict_line}
 use Rattle.gc_trace.proofs.AuditLemmas.{found_more}
@@ -13,13 +13,10 @@ loop-file-preserved g c =
     let line = verdict_line file.index c.in_ok-verdict.verdict in
     let before = c.loop-file.invariant in (
       before.0 ++ line,
-      rw c.is_dealt-all_dealt.ensures (found_more c.args.circuit.now c.args.seed.now c.args.files.now
-          c.loop-file.file-index file c.in_ok-verdict.verdict c.loop-file.all_dealt before.0 c.loop-file-test.true
-          c.file-item.is before.1 c.in_ok-verdict.ensures.verdict),
-      c.in_ok-push_verdict.ensures
-          ∙ ap (λ i. c.loop-file.lines.items ++ verdict_line i c.in_ok-verdict.verdict) c.index.ensures
-          ∙ ap (λ l. l ++ line) before.2
-          ∙ append_assoc c.args.lines.now.items before.0 line,
+      rw c.is_dealt-all_dealt.ensures (found_more _ _ c.args.files.now c.loop-file.file-index file
+          _ _ _ c.loop-file-test.true c.file-item.is before.1 c.in_ok-verdict.ensures.verdict),
+      rw (c.in_ok-push_verdict.ensures, c.index.ensures, before.2)
+          (append_assoc c.args.lines.now.items before.0 line),
     )
 
 pub returns : goal.returns

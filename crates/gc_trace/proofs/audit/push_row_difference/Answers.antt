@@ -14,6 +14,6 @@ returns g c =
       c.in_ok-extend_from_slice.ensures.items,
       c.rows_name.ensures,
       c.from.ensures,
-    ) (row_joined c.args.lines.now.items (codes "rows") (codes "wrong") (decimal c.args.difference.number)
-    (codes "gate") (decimal c.args.difference.gate) (codes "wire") (decimal c.args.difference.wire)
-    (rows_name c.args.difference.rows))
+    ) (row_joined c.args.lines.now.items (codes "rows") (codes "wrong")
+    (decimal c.args.difference.number) (codes "gate") (decimal c.args.difference.gate)
+    (codes "wire") (decimal c.args.difference.wire) (rows_name c.args.difference.rows))

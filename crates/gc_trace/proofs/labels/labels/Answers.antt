@@ -1,4 +1,4 @@
-use Rattle.std.proofs.Common.{map, string_bytes, refl, ◌∙◌}
+use Rattle.std.proofs.Common.{map, string_bytes, refl}
 use Rattle.std.proofs.lemmas.Result.{IfOk-weaker, IfErr-weaker}
 use Rattle.gc_command.specs.CircuitFile.{IsCircuit}
 use Rattle.gc_command.proofs.AnswerLemmas.{IfSome-map}
@@ -8,8 +8,8 @@ use Rattle.gc_trace.proofs.labels.labels.Goals as goal
 
 pub lines_of-requires : goal.lines_of-requires
 lines_of-requires g c =
-    rw c.deref.ensures.value (SpellValues-widths c.input_widths.result.now _ _ c.in_ok-values.ensures.spelled
-    ∙ c.input_widths.ensures)
+    rw (c.deref.ensures.value, ← c.input_widths.ensures)
+    (SpellValues-widths _ _ _ c.in_ok-values.ensures.spelled)
 
 pub returns-clause-answers : goal.returns-clause-answers
 returns-clause-answers g c = IfOk-weaker c.lines_of.result _ _
@@ -21,7 +21,10 @@ returns-clause-answers g c = IfOk-weaker c.lines_of.result _ _
       values = map (λ value. value.items) c.in_ok-values.values.items;
       input = record {
         circuit = circuit;
-        seed_read = record { accepted = c.in_ok-seed.ensures.accepts.0 refl; spelled = c.in_ok-seed.ensures.bytes };
+        seed_read = record {
+          accepted = c.in_ok-seed.ensures.accepts.0 refl;
+          spelled = c.in_ok-seed.ensures.bytes;
+        };
         input_values = rw c.input_widths.ensures at c.in_ok-values.ensures.spelled;
       };
       printed = rw c.deref.ensures.value at are;

@@ -1,8 +1,5 @@
-use Rattle.std.proofs.Common.{◌∙◌, [], map, ap, arith}
-use Rattle.std.specs.List.{range_with_len}
+use Rattle.std.proofs.Common.{◌∙◌, refl, arith}
 use Rattle.std.proofs.lemmas.List.{take_all}
-use Rattle.gc_netlist.specs.Circuit.{input_wires}
-use Rattle.gc_netlist.specs.Reading.{is_set}
 use Rattle.gc_netlist.proofs.Tables.{length-table}
 use Rattle.gc_circuit.proofs.CheckLemmas.{start_table}
 use Rattle.gc_trace.proofs.WireLemmas.{flags_more}
@@ -12,11 +9,15 @@ pub loop-i-init : goal.loop-i-init
 loop-i-init g c =
     let wires = c.wires-2.result in
     start_table c.input_wires.result wires _ _ _ _ _
-    (omega (arith, c.wires.ensures.lawful.inputs_fit, c.input_wires.ensures, c.wires-2.ensures.count))
-    c.in_ok-is_set.ensures.items c.in_ok-is_set.ensures.len c.in_ok-resize.ensures.items c.in_ok-resize.ensures.len
-    c.in_ok-resize-2.ensures.items
-    ∙ ap (λ n. map (is_set n []) (range_with_len 0 wires)) c.input_wires.ensures
-    ∙ ap (λ n. map (is_set (input_wires c.args.circuit.now) []) (range_with_len 0 n)) c.wires-2.ensures.count
+    (omega (
+      arith,
+      c.wires.ensures.lawful.inputs_fit,
+      c.input_wires.ensures,
+      c.wires-2.ensures.count,
+    ))
+    c.in_ok-is_set.ensures.items c.in_ok-is_set.ensures.len c.in_ok-resize.ensures.items
+    c.in_ok-resize.ensures.len c.in_ok-resize-2.ensures.items
+    ∙ rw (c.input_wires.ensures, c.wires-2.ensures.count) refl
 
 pub index_mut-requires : goal.index_mut-requires
 index_mut-requires g c = omega (
@@ -27,13 +28,12 @@ index_mut-requires g c = omega (
 
 pub loop-i-preserved : goal.loop-i-preserved
 loop-i-preserved g c =
-    flags_more (input_wires c.args.circuit.now) c.args.circuit.now.wires c.loop-i.i c.args.circuit.now.gates
-    c.gate-wire.result c.loop-i.is_set.items c.gate-wire.ensures
-    (c.wires.ensures.lawful.sets c.loop-i.i c.gate-wire.result c.gate-wire.ensures) c.loop-i.invariant
+    flags_more _ _ c.loop-i.i _ _ _ c.gate-wire.ensures
+    (c.wires.ensures.lawful.sets c.loop-i.i c.gate-wire.result c.gate-wire.ensures)
+    c.loop-i.invariant
 
 pub returns : goal.returns
 returns g c =
-    c.loop-i.invariant
-    ∙ ap (λ gates. map (is_set (input_wires c.args.circuit.now) gates) (range_with_len 0 c.args.circuit.now.wires))
-    (take_all c.loop-i.i c.args.circuit.now.gates
-    (omega (arith, c.loop-i-test.false, c.gates-i-end.ensures.count)))
+    let whole = take_all c.loop-i.i c.args.circuit.now.gates
+    (omega (arith, c.loop-i-test.false, c.gates-i-end.ensures.count)) in
+    rw whole at c.loop-i.invariant

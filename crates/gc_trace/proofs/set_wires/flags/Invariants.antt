@@ -6,4 +6,5 @@ use Rattle.gc_trace.proofs.set_wires.flags.Given as goal
 
 abbrev pub invariant-loop-i : goal.invariant-loop-i
 invariant-loop-i g l = l.is_set.items
-    ≡ map (is_set (input_wires l.circuit) (take l.i l.circuit.gates)) (range_with_len 0 l.circuit.wires)
+    ≡ map (is_set (input_wires l.circuit) (take l.i l.circuit.gates))
+    (range_with_len 0 l.circuit.wires)
