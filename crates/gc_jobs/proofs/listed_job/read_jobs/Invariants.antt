@@ -8,15 +8,17 @@ use Rattle.gc_jobs.proofs.listed_job.read_jobs.Given as goal
 
 -- What the lines that are left name, all of them name.
 abbrev pub invariant-loop-line : goal.invariant-loop-line
-invariant-loop-line g l = record {
-  named : (left : List JobParts)
-      → NameJobs (g.F.Files.bytes l.fn.files) l.circuit (map (λ line. tokens line.now) (drop l.line-index l.lines)) left
-      → NameJobs (g.F.Files.bytes l.fn.files) l.circuit (map (λ line. tokens line.now) l.lines) (l.jobs.items ++ left);
-  faults : (failed : FailedFiles) (fault : Fault)
-      → FirstBadJob (g.F.Files.bytes l.fn.files) (HasFailed (g.F.Files.failures l.fn.files) failed) l.circuit
-      (map (λ line. tokens line.now) (drop l.line-index l.lines)) fault
-      → FirstBadJob (g.F.Files.bytes l.fn.files) (HasFailed (g.F.Files.failures l.fn.files) failed) l.circuit
-      (map (λ line. tokens line.now) l.lines) fault;
-  same : (n : List ℕ) → g.F.Files.bytes l.files n ≡ g.F.Files.bytes l.fn.files n;
-  counted : g.F.Files.failures l.files ≡ g.F.Files.failures l.fn.files;
-}
+invariant-loop-line g l =
+    let bytes = g.F.Files.bytes l.fn.files in
+    let failures = g.F.Files.failures l.fn.files in
+    let all = map (λ line. tokens line.now) l.lines in
+    let rest = map (λ line. tokens line.now) (drop l.line-index l.lines) in
+    record {
+      named : (left : List JobParts) → NameJobs bytes l.circuit rest left
+          → NameJobs bytes l.circuit all (l.jobs.items ++ left);
+      faults : (failed : FailedFiles) (fault : Fault)
+          → FirstBadJob bytes (HasFailed failures failed) l.circuit rest fault
+          → FirstBadJob bytes (HasFailed failures failed) l.circuit all fault;
+      same : (n : List ℕ) → g.F.Files.bytes l.files n ≡ bytes n;
+      counted : g.F.Files.failures l.files ≡ failures;
+    }
