@@ -51,13 +51,14 @@ find_program() {
     is_built_from "$1" "$program" && return
     program=$top/dist/halfgates
     is_built_from "$1" "$program" || return
-    ! is_v3 || program=$program-v3
+    ! is_v3 || program=$top/dist/v3/halfgates
 }
 
 # From now on programs have memory by large pages, where the system gives them to who asks, and keep what they give back
-# for what they take next, all their threads from one heap: much of the time that opening large tables takes is the handing
-# out of their pages.
+# for what they take next, all their threads from one heap: much of the time that opening large tables takes is the
+# handing out of their pages. Where the address space is limited, the room that is taken ahead may not fit.
 tune_memory() {
+    [ "$(ulimit -v)" = unlimited ] || return 0
     malloc=glibc.malloc
     keeps=$malloc.arena_max=1:$malloc.mmap_threshold=1099511627776:$malloc.trim_threshold=1099511627776
     GLIBC_TUNABLES=${GLIBC_TUNABLES-$malloc.hugetlb=1:$keeps:$malloc.top_pad=268435456}
