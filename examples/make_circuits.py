@@ -17,6 +17,7 @@ hexadecimal digits, in the order in which they are typed:
 answers.json beside this script has values to try, and what the circuits answer.
 """
 
+import sys
 from argparse import ArgumentParser, RawDescriptionHelpFormatter
 from functools import partial
 from pathlib import Path
@@ -153,4 +154,7 @@ def main():
 
 
 if __name__ == "__main__":
-    main()
+    try:
+        main()
+    except OSError as error:
+        sys.exit(str(error))

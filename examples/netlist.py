@@ -55,6 +55,7 @@ class Netlist:
     """A module of Yosys, which becomes a circuit. A bit is a number, or the text of a constant."""
 
     def __init__(self, module):
+        demand("ports" in module and "cells" in module, "this is no netlist of Yosys")
         self.ports = module["ports"]
         self.cells = module["cells"]
         for name, port in self.ports.items():
@@ -164,10 +165,12 @@ def main():
     try:
         netlist = Netlist(choose(read_modules(words.netlist), words.module))
         circuit = netlist.convert()
+        with words.circuit.open("w") as file:
+            circuit.write(file)
     except Unclear as unclear:
         sys.exit(f"{words.netlist}: {unclear}")
-    with words.circuit.open("w") as file:
-        circuit.write(file)
+    except OSError as error:
+        sys.exit(str(error))
     for direction in "input", "output":
         for index, (name, port) in enumerate(netlist.side(direction)):
             print(f"{direction} {index} {name} {len(port['bits'])}")

@@ -80,6 +80,8 @@ static size_t deal(halfgates_circuit *circuit, const uint8_t seed[32], uint32_t 
                    uint8_t *file) {
     uint8_t bits[MAX_WIDTH];
     size_t written;
+    if (width < MAX_WIDTH && number >> width != 0)
+        stop("a number has more bits than its value has wires");
     for (uint32_t i = 0; i < width; i++)
         bits[i] = number >> i & 1;
     check(halfgates_deal(circuit, seed, index, bits, width, file, 16 + 16 * (size_t)width, &written));
@@ -130,6 +132,17 @@ static uint64_t evaluate(const char *name, const struct message *message) {
     return answer;
 }
 
+/* A number of decimal digits below 2^64. */
+static uint64_t number_of(const char *word) {
+    char *end = NULL;
+    uint64_t number;
+    errno = 0;
+    number = strtoull(word, &end, 10);
+    if (*word < '0' || *word > '9' || *end != 0 || errno != 0)
+        stop("a number is decimal, and below 2^64");
+    return number;
+}
+
 int main(int count, char **words) {
     struct message message;
     uint64_t numbers[PARTIES];
@@ -138,7 +151,7 @@ int main(int count, char **words) {
         return 2;
     }
     for (int i = 0; i < PARTIES; i++)
-        numbers[i] = strtoull(words[2 + i], NULL, 10);
+        numbers[i] = number_of(words[2 + i]);
     garble(words[1], numbers, &message);
     printf("%" PRIu64 "\n", evaluate(words[1], &message));
     free(message.garbled);

@@ -21,6 +21,8 @@ COPIES = 100
 
 
 def bits_of(number, width):
+    if not 0 <= number < 1 << width:
+        sys.exit(f"{number} isn't a number of {width} bits")
     return [number >> i & 1 for i in range(width)]
 
 
