@@ -69,7 +69,7 @@ enum {
     HALFGATES_OUTPUT_UNSET = 10,        /* an output wire is no input, and no gate sets it */
     HALFGATES_TRAILING_TOKENS = 11,     /* tokens follow the last gate */
     HALFGATES_WIDTHS_EXCEED_WIRES = 12, /* the widths of a side add up to more than the wires */
-    HALFGATES_CIRCUIT_MEMORY = 13,      /* memory ran out for a circuit, for bits, or while evaluating it in the clear */
+    HALFGATES_CIRCUIT_MEMORY = 13,      /* memory ran out for a circuit, for bits, or evaluating in the clear */
 
     /* Bits. */
     HALFGATES_BAD_DIGIT = 15,    /* a byte of bits is neither 0 nor 1 */

@@ -5,8 +5,8 @@
  *     halfgates::garbling garbling = circuit.garble(seed);
  *     halfgates::bytes garbled = garbling.write();
  *
- * Handles are moved and not copied, and are freed when their scope ends. A call that fails throws a `fault`. Methods that
- * call the library aren't const, since one handle is used by one call at a time.
+ * Handles are moved and not copied, and are freed when their scope ends. A call that fails throws a `fault`. Methods
+ * that call the library aren't const, since one handle is used by one call at a time.
  */
 #ifndef HALFGATES_HPP
 #define HALFGATES_HPP

@@ -47,7 +47,7 @@ class GarbledReport(NamedTuple):
     honest: bool  #: whether nothing differs
     version: int  #: the version of the file, 1 or 2
     digest: bool  #: whether the digest is the circuit's
-    counts: bool  #: whether there is a row pair for each AND gate and a decode bit for each output; else no more is said
+    counts: bool  #: whether each AND gate has a row pair and each output a decode bit; else no more is said
     row: Optional[int]  #: the number of the first AND gate whose row pair differs
     gate: Optional[int]  #: the place of that gate among all gates
     wire: Optional[int]  #: the wire that it sets
