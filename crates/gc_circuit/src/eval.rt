@@ -35,7 +35,7 @@ fn operation_bit(bits: &[bool], operation: Operation) -> bool
     ensures { result ≡ bit_of (bits_of bits.now) operation }
 {
     match operation {
-        // In one arm, so that the processor has not to guess which of the two comes next.
+        // In one arm, so that the processor doesn't have to guess which of the two comes next.
         Operation::Xor(a, b) | Operation::And(a, b) => {
             let (first, second) = (bits[a as usize], bits[b as usize]);
             if operation.is_and() {

@@ -1,30 +1,17 @@
--- The fault that reading meets is the first fault.
-use Rattle.std.proofs.Common.{◌≡◌, ℕ, zero, suc, ◌+◌, ◌<◌, ◌≤◌, ◌++◌, List, [], ◌∷◌, length, length-append, map, sum, append_assoc, Option, None, Err, refl, arith}
+-- What comes of reading: what is read is spelled, or its fault is the first fault.
+use Rattle.std.proofs.Common.{◌≡◌, ℕ, zero, suc, ◌+◌, ◌≤◌, ◌++◌, inl, inr, List, [], ◌∷◌, length, length-append, map, sum, append_assoc, nat_le, Option, Some, None, MatchResult, Result, Ok, Err, refl, arith}
+use Rattle.std.proofs.lemmas.Bool.{cases_Bool}
 use Rattle.std.proofs.lemmas.Bool.Decides.{nat_tests}
 use Rattle.std.proofs.lemmas.List.{length-map, map-append}
 use Rattle.gc_netlist.specs.declared.fault.ReadFault.{ReadFault}
-use Rattle.gc_netlist.specs.declared.fault.ReadFault.TheVariants.{Truncated, BadNumber, TooLarge, WidthsExceedWires}
 use Rattle.gc_netlist.specs.declared.limits.TheConstants.{MAX_VALUES}
 use Rattle.gc_netlist.specs.Text.{number_of}
 use Rattle.gc_netlist.specs.Spelling.{Word, Number, SpellWords, words_of_widths}
-use Rattle.gc_netlist.specs.Reading.{number_at, limited_at, numbers_at, widths_at}
+use Rattle.gc_netlist.specs.Reading.{◌>>=◌, numbered, number_at, limited_at, numbers_at, widths_at}
 use Rattle.gc_netlist.specs.FirstFault.{FirstFault, SideDue, LimitedDue, number_of_values, NumberDue, due_with_limit, due_as_width, no_number, bad_number, too_large, widths_exceed}
 use Rattle.gc_netlist.specs.Place.{gate_of_number, place_of, IsLowest}
-use Rattle.gc_netlist.specs.Met.{limited_left, numbers_left, widths_left, back_of, IsBack, IsMet}
-use Rattle.gc_netlist.proofs.StepLemmas.{bind_fails}
-use Rattle.gc_netlist.proofs.SpellingLemmas.{Spell-append, Spell-number, same_words, limited_takes, numbers_takes, widths_spelled}
-
--- Words take as many tokens.
-pub Spell-length : (ts rest : List (List ℕ)) (ws : List Word) → SpellWords ts ws rest →
-    length ts ≡ length ws + length rest
-Spell-length ts rest [] s = rw s (omega arith)
-Spell-length [] rest (w ∷ ws) s = absurd s
-Spell-length (t ∷ ts) rest (w ∷ ws) s = omega (arith, Spell-length ts rest ws s.1)
-
-pub Spell-lengths : (ts rest : List (List ℕ)) (ws vs : List Word) → SpellWords ts (ws ++ vs) rest →
-    length ts ≡ length ws + length vs + length rest
-Spell-lengths ts rest ws vs s =
-    omega (arith, Spell-length ts rest (ws ++ vs) s, length-append ws vs)
+use Rattle.gc_netlist.specs.Met.{left_after, limited_left, numbers_left, widths_left, back_of, IsBack, IsMet}
+use Rattle.gc_netlist.proofs.SpellingLemmas.{Spell-append, Spell-length, Spell-lengths}
 
 -- A first fault is met at its place.
 pub met : {ts left : List (List ℕ)} {e : ReadFault} {back : ℕ} (first : FirstFault ts e) →
@@ -37,79 +24,86 @@ met first lowest spot =
 abbrev pub Met : List (List ℕ) → List (List ℕ) → Option ℕ → ReadFault → Type 0
 Met ts left gate e = IsMet ts e left (back_of e) gate None
 
-module _ (ts : List (List ℕ)) where
-  -- No number stands where one is due.
-  pub number_fault : (words : List Word) (us : List (List ℕ)) (e : ReadFault)
-      (due : NumberDue words) → SpellWords ts words us → number_at us ≡ Err e →
-      Met ts us (gate_of_number due) e
-  number_fault words [] e due s h =
-      let same : e ≡ Truncated = grind arith in
-      rw same (met (no_number words due s) tt tt)
-  number_fault words (t ∷ us) e due s h =
-      let same : e ≡ BadNumber = grind arith in
-      let none : number_of t ≡ None = grind arith in
-      rw same (met (bad_number words t us due s none) tt
-      (omega (arith, Spell-length ts (t ∷ us) words s)))
+-- What comes of a step of reading: what it reads is so, or its fault is met with these left.
+pub record Outcome {A : Type 0} (ts : List (List ℕ)) (gate : Option ℕ) (left : List (List ℕ))
+    (r : Result A ReadFault) (Good : A → Type 0) : Type 0 where
+  pub is : MatchResult r Good (Met ts left gate)
 
-  pub limited_fault : (words : List Word) (limit : ℕ) (us : List (List ℕ)) (e : ReadFault) →
-      LimitedDue words limit → SpellWords ts words us → limited_at limit us ≡ Err e →
-      Met ts (limited_left us) None e
+-- One step after another.
+pub step : {A B : Type 0} {ts us : List (List ℕ)} {gate : Option ℕ} {Took : A → Type 0}
+    {Good : B → Type 0} {r : Result A ReadFault} (f : A → Result B ReadFault)
+    (next : A → List (List ℕ)) → Outcome ts gate us r Took →
+    ((x : A) → Took x → Outcome ts gate (next x) (f x) Good) →
+    Outcome ts gate (left_after r us next) (r >>= f) Good
+step {r = Ok x} f next o k = k x o.is
+step {r = Err e} f next o k = record { is = o.is }
+
+module _ (ts : List (List ℕ)) where
+  -- A number that is due.
+  pub number_read : {words : List Word} (us : List (List ℕ)) (due : NumberDue words) →
+      SpellWords ts words us →
+      Outcome ts (gate_of_number due) us (number_at us) (λ x. SpellWords us (Number x.0 ∷ []) x.1)
+  number_read {words = words} [] due s = record { is = met (no_number words due s) tt tt }
+  number_read {words = words} (t ∷ us) due s = go (number_of t) refl
+    where
+      go : (o : Option ℕ) → number_of t ≡ o → Outcome ts (gate_of_number due) (t ∷ us)
+          (numbered o us) (λ x. SpellWords (t ∷ us) (Number x.0 ∷ []) x.1)
+      go (Some n) some = record { is = (some, refl) }
+      go None none = record {
+        is = met (bad_number words t us due s none) tt
+            (omega (arith, Spell-length ts (t ∷ us) words s));
+      }
+
+  -- A number with a limit.
+  pub limited_read : {words : List Word} {limit : ℕ} (us : List (List ℕ)) →
+      LimitedDue words limit → SpellWords ts words us →
+      Outcome ts None (limited_left us) (limited_at limit us)
+      (λ x. SpellWords ts (words ++ Number x.0 ∷ []) x.1 × (x.0 ≤ limit))
   unfolding limited_at limited_left
-  limited_fault words limit us e due s h =
-      bind_fails (number_at us) _ e h
-      (λ bad. rw bad (number_fault words us e (due_with_limit words limit due) s bad))
-      (λ n hn h1.
-      let above : limit < n.0 = grind (arith, nat_tests) in
-      let same : e ≡ TooLarge = grind (arith, nat_tests) in
-      let spelled = Spell-append ts us n.1 words (Number n.0 ∷ []) s
-      (Spell-number us n.1 [] n hn refl) in
-      rw (hn, same) (met (too_large words limit n.0 n.1 due spelled above) tt
-      (omega (arith, Spell-lengths ts n.1 words (Number n.0 ∷ []) spelled))))
+  limited_read {words = words} {limit = limit} us due s =
+      step _ _ (number_read us (due_with_limit words limit due) s) (λ n took.
+      let spelled = Spell-append ts us n.1 words (Number n.0 ∷ []) s took in
+      elim (cases_Bool (nat_le n.0 limit)) [
+        | inl within ↦ rw within (record { is = (spelled, grind (arith, nat_tests)) })
+        | inr above ↦ rw above (record {
+          is = met (too_large words limit n.0 n.1 due spelled (grind (arith, nat_tests))) tt
+              (omega (arith, Spell-lengths ts n.1 words (Number n.0 ∷ []) spelled));
+        })
+      ])
 
   -- The values of a side.
-  module _ (wires : ℕ) (words : List Word) (side : SideDue wires words) where
-    width_fault : (count k : ℕ) (before : List ℕ) (us : List (List ℕ)) (e : ReadFault) →
+  module _ {wires : ℕ} {words : List Word} (side : SideDue wires words) where
+    numbers_read : (count k : ℕ) (before : List ℕ) (us : List (List ℕ)) →
         count ≤ MAX_VALUES → length before + k ≡ count →
         SpellWords ts (words ++ Number count ∷ map Number before) us →
-        numbers_at k before us ≡ Err e → Met ts (numbers_left k us) None e
+        Outcome ts None (numbers_left k us) (numbers_at k before us)
+        (λ x. (length x.0 ≡ count) × SpellWords ts (words ++ Number count ∷ map Number x.0) x.1)
     unfolding numbers_at numbers_left
-    width_fault count zero before us e few len s h = cc
-    width_fault count (suc k) before us e few len s h =
-        let so_far : List Word = words ++ Number count ∷ map Number before in
-        bind_fails (number_at us) _ e h
-        (λ bad. rw bad (number_fault so_far us e
-        (due_as_width wires words count before side few (omega arith)) s bad))
-        (λ next hn h1.
-        let longer : List ℕ = before ++ next.0 ∷ [] in
-        let spelled = Spell-append ts us next.1 so_far (Number next.0 ∷ []) s
-        (Spell-number us next.1 [] next hn refl) in
-        rw hn (width_fault count k longer next.1 e few
+    numbers_read count zero before us few len s = record { is = (omega arith, s) }
+    numbers_read count (suc k) before us few len s =
+        step _ _ (number_read us (due_as_width wires words count before side few (omega arith)) s)
+        (λ next took. numbers_read count k (before ++ next.0 ∷ []) next.1 few
         (omega (arith, length-append before (next.0 ∷ [])))
-        (same_words ts next.1 (words ++ Number count ∷ map Number longer)
-        (so_far ++ Number next.0 ∷ []) (simp (append_assoc, map-append)) spelled) h1))
+        (rw map-append (rw append_assoc at (Spell-append ts us next.1
+        (words ++ Number count ∷ map Number before) (Number next.0 ∷ []) s took))))
 
-    pub widths_fault : (us : List (List ℕ)) (e : ReadFault) → SpellWords ts words us →
-        widths_at wires us ≡ Err e → Met ts (widths_left us) None e
+    pub widths_read : (us : List (List ℕ)) → SpellWords ts words us →
+        Outcome ts None (widths_left us) (widths_at wires us)
+        (λ x. SpellWords ts (words ++ words_of_widths x.0) x.1 × (length x.0 ≤ MAX_VALUES)
+        × (sum x.0 ≤ wires))
     unfolding widths_at widths_left
-    widths_fault us e s h =
-        bind_fails (limited_at MAX_VALUES us) _ e h
-        (λ bad. rw bad
-        (limited_fault words MAX_VALUES us e (number_of_values wires words side) s bad))
-        (λ count hc h1.
-        let l = limited_takes MAX_VALUES us count hc in
-        bind_fails (numbers_at count.0 [] count.1) _ e h1
-        (λ bad. rw (hc, bad) (width_fault count.0 count.0 [] count.1 e l.1 (omega arith)
-        (Spell-append ts us count.1 words (Number count.0 ∷ []) s
-        (Spell-number us count.1 [] count l.0 refl)) bad))
-        (λ widths hw h2.
-        let above : wires < sum widths.0 = grind (arith, nat_tests) in
-        let same : e ≡ WidthsExceedWires = grind (arith, nat_tests) in
-        let both = widths_spelled us count widths l (numbers_takes count.0 [] count.1 widths hw) in
-        let spelled = Spell-append ts us widths.1 words (words_of_widths widths.0) s both.1 in
-        rw (hc, hw, same)
-        (met (widths_exceed wires words widths.0 widths.1 side both.0 spelled above) tt
-        (omega (
-          arith,
-          Spell-lengths ts widths.1 words (words_of_widths widths.0) spelled,
-          length-map widths.0 Number,
-        )))))
+    widths_read us s =
+        step _ _ (limited_read us (number_of_values wires words side) s)
+        (λ count c. step _ _ (numbers_read count.0 count.0 [] count.1 c.1 (omega arith) c.0)
+        (λ widths w.
+        let spelled : SpellWords ts (words ++ words_of_widths widths.0) widths.1 = rw w.0 w.1 in
+        let few : length widths.0 ≤ MAX_VALUES = omega arith in
+        elim (cases_Bool (nat_le (sum widths.0) wires)) [
+          | inl within ↦ rw within (record { is = (spelled, few, grind (arith, nat_tests)) })
+          | inr above ↦
+              let all = Spell-lengths ts widths.1 words (words_of_widths widths.0) spelled in
+              rw above (record {
+                is = met (widths_exceed wires words widths.0 widths.1 side few spelled
+                    (grind (arith, nat_tests))) tt (omega (arith, all, length-map widths.0 Number));
+              })
+        ]))

@@ -1,31 +1,53 @@
--- The fault that reading meets in a gate is the first fault.
-use Rattle.std.proofs.Common.{◌≡◌, ◌≢◌, ℕ, ◌+◌, ◌<◌, ◌&&◌, ◌==◌, ◌++◌, ◌⊎◌, inl, inr, List, [], ◌∷◌, length, map, true, Option, Some, Ok, Err, codes, refl, arith}
+-- What comes of reading a gate and of judging it by the gates before it, or the first fault.
+use Rattle.std.proofs.Common.{◌≡◌, ℕ, ◌+◌, ◌-◌, ◌<◌, ◌&&◌, ◌==◌, ◌++◌, ◌⊎◌, inl, inr, List, [], ◌∷◌, length, length-append, map, true, Option, Some, MatchResult, Result, Ok, Err, codes, refl, arith, ◌≤◌, Bool}
 use Rattle.std.proofs.lemmas.Bool.{cases_Bool}
 use Rattle.std.proofs.lemmas.Bool.Decides.{nat_tests}
 use Rattle.std.proofs.lemmas.Slice.Eq.{bytes_eq-Decides}
 use Rattle.gc_netlist.specs.declared.fault.ReadFault.{ReadFault}
-use Rattle.gc_netlist.specs.declared.fault.ReadFault.TheVariants.{Truncated, BadShape, UnknownOperation, BadConstant}
-use Rattle.gc_netlist.specs.Circuit.{Netlist}
-use Rattle.gc_netlist.specs.Spelling.{Word, Number, Name, SpellWords}
-use Rattle.gc_netlist.specs.Reading.{token_at, number_at, operation_of_two, operation_of_one, two_at, one_at, gate_at}
-use Rattle.gc_netlist.specs.FirstFault.{GateDue, IsCount, GateNumberDue, first_count, second_count, wire_number, due_in_gate, NameDue, due_as_name, IsNamed, no_name, bad_counts, unknown, other_counts, bad_constant}
-use Rattle.gc_netlist.specs.Met.{two_left, one_left, gate_left}
-use Rattle.gc_netlist.proofs.StepLemmas.{bind_fails}
-use Rattle.gc_netlist.proofs.SpellingLemmas.{Spell-append, Spell-number, Spell-name}
-use Rattle.gc_netlist.proofs.FaultLemmas.{Spell-lengths, met, Met, number_fault}
+use Rattle.gc_netlist.specs.declared.fault.ReadFault.TheVariants.{BadShape, UnknownOperation, BadConstant, NoSuchWire, Unset, SetTwice}
+use Rattle.gc_netlist.specs.declared.gate.Operation.{Operation}
+use Rattle.gc_netlist.specs.declared.gate.Gate.{Gate}
+use Rattle.gc_netlist.specs.Circuit.{Netlist, input_wires, EachRead, IsSet, IsLawful}
+use Rattle.gc_netlist.specs.Spelling.{Word, Number, Name, SpellWords, words_of_operation, words_of_gate}
+use Rattle.gc_netlist.specs.Reading.{◌>>=◌, token_at, number_at, operation_of_two, operation_of_one, two_at, one_at, gate_at, is_set, check_read, check_set, check_reads, check_gate}
+use Rattle.gc_netlist.specs.FirstFault.{GateDue, IsCount, GateNumberDue, first_count, second_count, wire_number, due_in_gate, NameDue, due_as_name, IsNamed, no_name, bad_counts, unknown, other_counts, bad_constant, without_outputs, wires_read, IsFirstUnset, no_wire_to_read, unset, no_wire_to_set, set_twice}
+use Rattle.gc_netlist.specs.Met.{left_after, two_left, one_left, gate_left, WireBack, wire_of_one, wire_of_two, wire_at_fault, IsMet}
+use Rattle.gc_netlist.proofs.SpellingLemmas.{Spell-append, Spell-length, Spell-lengths, same_words}
+use Rattle.gc_netlist.proofs.FaultLemmas.{met, Outcome, step, number_read}
+use Rattle.gc_netlist.specs.declared.gate.Operation.TheVariants.{Xor, And, Inv, Eq, Eqw}
+use Rattle.gc_netlist.specs.Place.{before_unset}
+use Rattle.gc_netlist.proofs.LawfulLemmas.{tested_set}
+use Rattle.gc_netlist.proofs.ReadingBack.{set_read}
 
--- What is wrong with a name that is refused: it has other counts, or no operation has it,
-two_refused : (name : List ℕ) (a b : ℕ) (e : ReadFault) → operation_of_two name a b ≡ Err e →
-    ((e ≡ BadShape) × IsNamed 1 name) ⊎ ((e ≡ UnknownOperation) × ((k : ℕ) → IsNamed k name → ⊥))
+-- The words of a gate with a constant.
+abbrev pub words_of_constant : ℕ → ℕ → List Word
+words_of_constant v w = Number 1 ∷ Number 1 ∷ Number v ∷ Number w ∷ Name (codes "EQ") ∷ []
+
+-- What a name gives after the counts r and 1 and these numbers: the words of the gate, or a fault,
+-- where it has other counts, where no operation has it, or where it wants a constant.
+abbrev Named : ℕ → List ℕ → ℕ → ℕ → List ℕ → Result Operation ReadFault → Type 0
+Named r numbers v w name o =
+    let words : List Word = map Number (r ∷ 1 ∷ numbers) ++ Name name ∷ [] in
+    MatchResult o (λ op. words_of_operation w op ≡ words)
+    (λ e. ((e ≡ BadShape) × IsNamed (3 - r) name)
+    ⊎ (((e ≡ UnknownOperation) × ((k : ℕ) → IsNamed k name → ⊥))
+    ⊎ ((e ≡ BadConstant) × (1 < v) × (words_of_constant v w ≡ words))))
+
+two_named : (a b w : ℕ) (name : List ℕ) (o : Result Operation ReadFault) →
+    operation_of_two name a b ≡ o → Named 2 (a ∷ b ∷ w ∷ []) a w name o
 unfolding operation_of_two
-two_refused name a b e h = grind (arith, bytes_eq-Decides)
+two_named a b w name (Ok op) h = grind (arith, bytes_eq-Decides)
+two_named a b w name (Err e) h = grind (arith, bytes_eq-Decides)
 
--- or it wants a constant.
-one_refused : (name : List ℕ) (a : ℕ) (e : ReadFault) → operation_of_one name a ≡ Err e →
-    ((e ≡ BadShape) × IsNamed 2 name) ⊎ (((e ≡ UnknownOperation) × ((k : ℕ) → IsNamed k name → ⊥))
-    ⊎ ((e ≡ BadConstant) × (codes "EQ" ≡ name) × (1 < a)))
+one_named : (a w : ℕ) (name : List ℕ) (o : Result Operation ReadFault) →
+    operation_of_one name a ≡ o → Named 1 (a ∷ w ∷ []) a w name o
 unfolding operation_of_one
-one_refused name a e h = grind (arith, nat_tests, bytes_eq-Decides)
+one_named a w name (Ok op) h = grind (arith, nat_tests, bytes_eq-Decides)
+one_named a w name (Err e) h = grind (arith, nat_tests, bytes_eq-Decides)
+
+-- A gate that was read, and what comes after it.
+abbrev made : Operation → ℕ → List (List ℕ) → Result (Gate × List (List ℕ)) ReadFault
+made op w rest = Ok (record { operation = op; set = w }, rest)
 
 module _ (ts : List (List ℕ)) (c : Netlist) (words : List Word) (due : GateDue c words)
     (us : List (List ℕ)) (so_far : SpellWords ts words us) where
@@ -33,148 +55,216 @@ module _ (ts : List (List ℕ)) (c : Netlist) (words : List Word) (due : GateDue
   abbrev here : Option ℕ
   here = Some (length c.gates)
 
+  -- Its words are spelled.
+  abbrev Spelled : Gate × List (List ℕ) → Type 0
+  Spelled g = SpellWords us (words_of_gate g.0) g.1
+
   -- words of the gate, after those before it
   after : (ws : List Word) (vs : List (List ℕ)) → SpellWords us ws vs →
       SpellWords ts (words ++ ws) vs
   after ws vs s = Spell-append ts us vs words ws so_far s
 
-  -- one more number
-  more : (ws : List Word) (vs : List (List ℕ)) (x : ℕ × List (List ℕ)) → SpellWords us ws vs →
-      number_at vs ≡ Ok x → SpellWords us (ws ++ Number x.0 ∷ []) x.1
-  more ws vs x s h = Spell-append us vs x.1 ws (Number x.0 ∷ []) s (Spell-number vs x.1 [] x h refl)
-
-  -- No number stands in the gate where one is due.
-  in_gate : (numbers : List ℕ) (vs : List (List ℕ)) (e : ReadFault) → GateNumberDue numbers →
-      SpellWords us (map Number numbers) vs → number_at vs ≡ Err e → Met ts vs here e
-  in_gate numbers vs e at s bad =
-      number_fault ts (words ++ map Number numbers) vs e (due_in_gate c words numbers due at)
-      (after (map Number numbers) vs s) bad
+  -- One more number of the gate.
+  number : {B : Type 0} {Good : B → Type 0} (numbers : List ℕ) (vs : List (List ℕ))
+      (f : ℕ × List (List ℕ) → Result B ReadFault) (next : ℕ × List (List ℕ) → List (List ℕ)) →
+      GateNumberDue numbers → SpellWords us (map Number numbers) vs →
+      ((x : ℕ × List (List ℕ)) → SpellWords us (map Number numbers ++ Number x.0 ∷ []) x.1 →
+      Outcome ts here (next x) (f x) Good) →
+      Outcome ts here (left_after (number_at vs) vs next) (number_at vs >>= f) Good
+  number numbers vs f next at s k =
+      step f next (number_read ts vs (due_in_gate c words numbers due at)
+      (after (map Number numbers) vs s))
+      (λ x took. k x (Spell-append us vs x.1 (map Number numbers) (Number x.0 ∷ []) s took))
 
   -- A name is due after the counts r and 1 and r + 1 numbers.
-  module _ (r : ℕ) (numbers : List ℕ) (count : IsCount r) (len : length numbers ≡ r + 1)
-      (vs : List (List ℕ)) (s : SpellWords us (map Number (r ∷ 1 ∷ numbers)) vs) where
-    abbrev before : List Word
-    before = words ++ map Number (r ∷ 1 ∷ numbers)
+  module _ (r : ℕ) (numbers : List ℕ) (v w : ℕ) (count : IsCount r)
+      (len : length numbers ≡ r + 1) where
+    abbrev first : List Word
+    first = map Number (r ∷ 1 ∷ numbers)
 
-    abbrev name_due : NameDue r before
+    abbrev name_due : NameDue r (words ++ first)
     name_due = due_as_name c words numbers due count len
 
-    so_long : SpellWords ts before vs
-    so_long = after (map Number (r ∷ 1 ∷ numbers)) vs s
+    judged : (name : List ℕ) (rest : List (List ℕ)) (o : Result Operation ReadFault) →
+        Named r numbers v w name o → SpellWords us first (name ∷ rest) →
+        Outcome ts here rest (o >>= (λ op. made op w rest)) Spelled
+    judged name rest (Ok op) same s = record {
+      is = rw same (Spell-append us (name ∷ rest) rest first (Name name ∷ []) s (refl, refl));
+    }
+    judged name rest (Err e) why s =
+        let before : List Word = words ++ first in
+        let so_long = after first (name ∷ rest) s in
+        let whole =
+        Spell-append ts (name ∷ rest) rest before (Name name ∷ []) so_long (refl, refl) in
+        let place : length before + 1 + length rest ≡ length ts =
+        omega (arith, Spell-length ts (name ∷ rest) before so_long) in
+        record {
+          is = elim why [
+            | inl p ↦ rw p.0
+                (met (other_counts r (3 - r) before name rest name_due whole p.1 (omega arith)) tt
+                place)
+            | inr (inl p) ↦ rw p.0 (met (unknown r before name rest name_due whole p.1) tt place)
+            | inr (inr p) ↦
+                let all = after (words_of_constant v w) rest (same_words us rest
+                (words_of_constant v w) (first ++ Name name ∷ []) p.2
+                (Spell-append us (name ∷ rest) rest first (Name name ∷ []) s (refl, refl))) in
+                rw p.0 (met (bad_constant c words v w rest due all p.1) tt
+                (omega (arith, Spell-lengths ts rest words (words_of_constant v w) all)))
+          ];
+        }
 
-    no_name_fault : (e : ReadFault) → token_at vs ≡ Err e → Met ts vs here e
-    no_name_fault e bad =
-        let same : e ≡ Truncated = grind arith in
-        let none : vs ≡ [] = grind arith in
-        rw same (met (no_name r before name_due (rw none at so_long)) tt tt)
+    name_read : (operation : List ℕ → Result Operation ReadFault) (vs : List (List ℕ)) →
+        ((name : List ℕ) → Named r numbers v w name (operation name)) →
+        SpellWords us first vs →
+        Outcome ts here (left_after (token_at vs) vs (λ name. name.1))
+        (token_at vs >>= (λ name. operation name.0 >>= (λ op. made op w name.1))) Spelled
+    name_read operation [] named s =
+        record { is = met (no_name r (words ++ first) name_due (after first [] s)) tt tt }
+    name_read operation (name ∷ rest) named s = judged name rest (operation name) (named name) s
 
-    module _ (n : List ℕ × List (List ℕ)) (hn : token_at vs ≡ Ok n) where
-      whole : SpellWords ts (before ++ Name n.0 ∷ []) n.1
-      whole = Spell-append ts vs n.1 before (Name n.0 ∷ []) so_long (Spell-name vs n.1 [] n hn refl)
-
-      last_token : length before + 1 + length n.1 ≡ length ts
-      last_token = omega (arith, Spell-lengths ts n.1 before (Name n.0 ∷ []) whole)
-
-      is_unknown : ((k : ℕ) → IsNamed k n.0 → ⊥) → Met ts n.1 here UnknownOperation
-      is_unknown none = met (unknown r before n.0 n.1 name_due whole none) tt last_token
-
-      is_other : (k : ℕ) → IsNamed k n.0 → k ≢ r → Met ts n.1 here BadShape
-      is_other k named other =
-          met (other_counts r k before n.0 n.1 name_due whole named other) tt last_token
-
-  two_fault : (vs : List (List ℕ)) (e : ReadFault) → SpellWords us (Number 2 ∷ Number 1 ∷ []) vs →
-      two_at vs ≡ Err e → Met ts (two_left vs) here e
+  two_read : (vs : List (List ℕ)) → SpellWords us (Number 2 ∷ Number 1 ∷ []) vs →
+      Outcome ts here (two_left vs) (two_at vs) Spelled
   unfolding two_at two_left
-  two_fault vs e s h =
-      bind_fails (number_at vs) _ e h
-      (λ bad. rw bad
-      (in_gate (2 ∷ 1 ∷ []) vs e (wire_number 2 [] (inr refl) (omega arith)) s bad))
-      (λ a ha h1.
-      let s1 = more (Number 2 ∷ Number 1 ∷ []) vs a s ha in
-      bind_fails (number_at a.1) _ e h1
-      (λ bad. rw (ha, bad)
-      (in_gate (2 ∷ 1 ∷ a.0 ∷ []) a.1 e (wire_number 2 (a.0 ∷ []) (inr refl) (omega arith)) s1 bad))
-      (λ b hb h2.
-      let s2 = more (Number 2 ∷ Number 1 ∷ Number a.0 ∷ []) a.1 b s1 hb in
-      bind_fails (number_at b.1) _ e h2
-      (λ bad. rw (ha, hb, bad) (in_gate (2 ∷ 1 ∷ a.0 ∷ b.0 ∷ []) b.1 e
-      (wire_number 2 (a.0 ∷ b.0 ∷ []) (inr refl) (omega arith)) s2 bad))
-      (λ w hw h3.
-      let s3 = more (Number 2 ∷ Number 1 ∷ Number a.0 ∷ Number b.0 ∷ []) b.1 w s2 hw in
-      let numbers : List ℕ = a.0 ∷ b.0 ∷ w.0 ∷ [] in
-      bind_fails (token_at w.1) _ e h3
-      (λ bad. rw (ha, hb, hw, bad) (no_name_fault 2 numbers (inr refl) refl w.1 s3 e bad))
-      (λ n hn h4.
-      bind_fails (operation_of_two n.0 a.0 b.0) _ e h4
-      (λ bad. rw (ha, hb, hw, hn) (elim (two_refused n.0 a.0 b.0 e bad) [
-        | inl p ↦ rw p.0 (is_other 2 numbers (inr refl) refl w.1 s3 n hn 1 p.1 (omega arith))
-        | inr p ↦ rw p.0 (is_unknown 2 numbers (inr refl) refl w.1 s3 n hn p.1)
-      ]))
-      (λ op ho h5. cc)))))
+  two_read vs s =
+      number (2 ∷ 1 ∷ []) vs _ _ (wire_number 2 [] (inr refl) (omega arith)) s (λ a s1.
+      number (2 ∷ 1 ∷ a.0 ∷ []) a.1 _ _ (wire_number 2 (a.0 ∷ []) (inr refl) (omega arith)) s1
+      (λ b s2. number (2 ∷ 1 ∷ a.0 ∷ b.0 ∷ []) b.1 _ _
+      (wire_number 2 (a.0 ∷ b.0 ∷ []) (inr refl) (omega arith)) s2 (λ w s3.
+      name_read 2 (a.0 ∷ b.0 ∷ w.0 ∷ []) a.0 w.0 (inr refl) refl
+      (λ name. operation_of_two name a.0 b.0) w.1
+      (λ name. two_named a.0 b.0 w.0 name (operation_of_two name a.0 b.0) refl) s3)))
 
-  one_fault : (vs : List (List ℕ)) (e : ReadFault) → SpellWords us (Number 1 ∷ Number 1 ∷ []) vs →
-      one_at vs ≡ Err e → Met ts (one_left vs) here e
+  one_read : (vs : List (List ℕ)) → SpellWords us (Number 1 ∷ Number 1 ∷ []) vs →
+      Outcome ts here (one_left vs) (one_at vs) Spelled
   unfolding one_at one_left
-  one_fault vs e s h =
-      bind_fails (number_at vs) _ e h
-      (λ bad. rw bad
-      (in_gate (1 ∷ 1 ∷ []) vs e (wire_number 1 [] (inl refl) (omega arith)) s bad))
-      (λ a ha h1.
-      let s1 = more (Number 1 ∷ Number 1 ∷ []) vs a s ha in
-      bind_fails (number_at a.1) _ e h1
-      (λ bad. rw (ha, bad)
-      (in_gate (1 ∷ 1 ∷ a.0 ∷ []) a.1 e (wire_number 1 (a.0 ∷ []) (inl refl) (omega arith)) s1 bad))
-      (λ w hw h2.
-      let s2 = more (Number 1 ∷ Number 1 ∷ Number a.0 ∷ []) a.1 w s1 hw in
-      let numbers : List ℕ = a.0 ∷ w.0 ∷ [] in
-      bind_fails (token_at w.1) _ e h2
-      (λ bad. rw (ha, hw, bad) (no_name_fault 1 numbers (inl refl) refl w.1 s2 e bad))
-      (λ n hn h3.
-      bind_fails (operation_of_one n.0 a.0) _ e h3
-      (λ bad. rw (ha, hw, hn) (elim (one_refused n.0 a.0 e bad) [
-        | inl p ↦ rw p.0 (is_other 1 numbers (inl refl) refl w.1 s2 n hn 2 p.1 (omega arith))
-        | inr (inl p) ↦ rw p.0 (is_unknown 1 numbers (inl refl) refl w.1 s2 n hn p.1)
-        | inr (inr p) ↦
-            let gate : List Word =
-            Number 1 ∷ Number 1 ∷ Number a.0 ∷ Number w.0 ∷ Name (codes "EQ") ∷ [] in
-            let spelled : SpellWords us gate n.1 = rw p.1 (Spell-append us w.1 n.1
-            (map Number (1 ∷ 1 ∷ numbers)) (Name n.0 ∷ []) s2 (Spell-name w.1 n.1 [] n hn refl)) in
-            let all = after gate n.1 spelled in
-            rw p.0 (met (bad_constant c words a.0 w.0 n.1 due all p.2) tt
-            (omega (arith, Spell-lengths ts n.1 words gate all)))
-      ]))
-      (λ op ho h4. cc))))
+  one_read vs s =
+      number (1 ∷ 1 ∷ []) vs _ _ (wire_number 1 [] (inl refl) (omega arith)) s (λ a s1.
+      number (1 ∷ 1 ∷ a.0 ∷ []) a.1 _ _ (wire_number 1 (a.0 ∷ []) (inl refl) (omega arith)) s1
+      (λ w s2. name_read 1 (a.0 ∷ w.0 ∷ []) a.0 w.0 (inl refl) refl
+      (λ name. operation_of_one name a.0) w.1
+      (λ name. one_named a.0 w.0 name (operation_of_one name a.0) refl) s2))
 
-  -- the two counts of a gate
-  counts : (n r s : ℕ) (vs : List (List ℕ)) → (r == n && s == 1) ≡ true →
-      SpellWords us (Number r ∷ Number s ∷ []) vs → SpellWords us (Number n ∷ Number 1 ∷ []) vs
-  counts n r s vs is spelled = grind (arith, nat_tests)
-
-  -- What is no gate by its words has its first fault there.
-  pub gate_fault : (e : ReadFault) → gate_at us ≡ Err e → Met ts (gate_left us) here e
+  -- A gate that is due.
+  pub gate_read : Outcome ts here (gate_left us) (gate_at us) Spelled
   unfolding gate_at gate_left
-  gate_fault e h =
-      bind_fails (number_at us) _ e h
-      (λ bad. rw bad (in_gate [] us e first_count refl bad))
-      (λ r hr h1.
-      let s1 : SpellWords us (Number r.0 ∷ []) r.1 = more [] us r refl hr in
-      bind_fails (number_at r.1) _ e h1
-      (λ bad. rw (hr, bad) (in_gate (r.0 ∷ []) r.1 e (second_count r.0) s1 bad))
-      (λ s hs h2.
-      let s2 = more (Number r.0 ∷ []) r.1 s s1 hs in
+  gate_read =
+      number [] us _ _ first_count refl (λ r s1.
+      number (r.0 ∷ []) r.1 _ _ (second_count r.0) s1 (λ s s2.
       elim (cases_Bool (r.0 == 2 && s.0 == 1)) [
-        | inl is ↦ rw (hr, hs, is) (two_fault s.1 e (counts 2 r.0 s.0 s.1 is s2) (rw is at h2))
+        | inl is ↦ rw is (two_read s.1 (grind (arith, nat_tests)))
         | inr not_two ↦ elim (cases_Bool (r.0 == 1 && s.0 == 1)) [
-          | inl is ↦ rw (hr, hs, not_two, is)
-              (one_fault s.1 e (counts 1 r.0 s.0 s.1 is s2) (rw (not_two, is) at h2))
+          | inl is ↦ rw (not_two, is) (one_read s.1 (grind (arith, nat_tests)))
           | inr not_one ↦
-              let same : e ≡ BadShape = grind (arith, nat_tests) in
               let bad : IsCount r.0 × (s.0 ≡ 1) → ⊥ = λ p. grind (arith, nat_tests) in
-              rw (hr, hs, not_two, not_one, same)
-              (met (bad_counts c words r.0 s.0 s.1 due
-              (after (Number r.0 ∷ Number s.0 ∷ []) s.1 s2) bad) tt (omega (
-                arith,
-                Spell-lengths ts r.1 words (Number r.0 ∷ []) (after (Number r.0 ∷ []) r.1 s1),
-              )))
+              let all = after (Number r.0 ∷ Number s.0 ∷ []) s.1 s2 in
+              let first = Spell-length ts r.1 (words ++ Number r.0 ∷ [])
+              (after (Number r.0 ∷ []) r.1 s1) in
+              rw (not_two, not_one) (record {
+                is = met (bad_counts c words r.0 s.0 s.1 due all bad) tt
+                    (omega (arith, first, length-append words (Number r.0 ∷ [])));
+              })
         ]
       ]))
+
+-- where the first or the second step met a fault
+bind_fails : {A B C : Type 0} (r : Result A ReadFault) (f : A → Result B ReadFault)
+    (e : ReadFault) → (r >>= f) ≡ Err e →
+    (r ≡ Err e → C) → ((x : A) → r ≡ Ok x → f x ≡ Err e → C) → C
+bind_fails (Ok x) f e h k l = l x refl h
+bind_fails (Err d) f e h k l = k (cc)
+
+-- Which fault an unset wire that is read is: there is no such wire, or there is one.
+abbrev pub UnsetFault : Netlist → ℕ → ReadFault → Type 0
+UnsetFault c w e = ((c.wires ≤ w) × (e ≡ NoSuchWire)) ⊎ ((w < c.wires) × (e ≡ Unset))
+
+module _ (c : Netlist) (lawful : IsLawful (without_outputs c)) where
+  abbrev set : ℕ → Bool
+  set = is_set (input_wires c) c.gates
+
+  read_fault : (w : ℕ) (e : ReadFault) → check_read c.wires set w ≡ Err e →
+      (IsSet c w → ⊥) × UnsetFault c w e
+  unfolding check_read
+  read_fault w e h = (λ is. let ok = set_read c lawful w is in cc, grind (arith, nat_tests))
+
+  read_passes : (w : ℕ) (u : Unit {0}) → check_read c.wires set w ≡ Ok u → IsSet c w
+  unfolding check_read
+  read_passes w u h = tested_set c w (grind (arith, nat_tests))
+
+  -- The first wire at fault that a gate of so many words reads, and how far from its end it stands.
+  abbrev ReadsFault : List ℕ → WireBack → ℕ → ReadFault → Type 0
+  ReadsFault wires at words e = (w : ℕ) × (back : ℕ) × (first : IsFirstUnset c wires w)
+      × UnsetFault c w e × (at ≡ (w, back)) × (2 + before_unset c wires w first + back ≡ words)
+
+  one_fault : (a sets : ℕ) (e : ReadFault) → check_read c.wires set a ≡ Err e →
+      ReadsFault (a ∷ []) (wire_of_one c.wires set a sets) 5 e
+  one_fault a sets e bad =
+      let (free, kind) = read_fault a e bad in (a, 3, inl (refl, free), kind, rw bad refl, refl)
+
+  two_faults : (a b sets : ℕ) (e : ReadFault) → check_reads c.wires set (And a b) ≡ Err e →
+      ReadsFault (a ∷ b ∷ []) (wire_of_two c.wires set a b sets) 6 e
+  unfolding check_reads
+  two_faults a b sets e h =
+      bind_fails (check_read c.wires set a) _ e h
+      (λ bad.
+      let (free, kind) = read_fault a e bad in (a, 4, inl (refl, free), kind, rw bad refl, refl))
+      (λ u hu bad.
+      let (free, kind) = read_fault b e bad in
+      (b, 3, inr (read_passes a u hu, inl (refl, free)), kind, rw (hu, bad) refl, refl))
+
+  reads_fault : (op : Operation) (sets : ℕ) (e : ReadFault) → check_reads c.wires set op ≡ Err e →
+      ReadsFault (wires_read op) (wire_at_fault c.wires set sets op)
+      (length (words_of_operation sets op)) e
+  unfolding check_reads
+  reads_fault (Xor a b) sets e h = two_faults a b sets e h
+  reads_fault (And a b) sets e h = two_faults a b sets e h
+  reads_fault (Inv a) sets e h = one_fault a sets e h
+  reads_fault (Eq v) sets e h = cc
+  reads_fault (Eqw a) sets e h = one_fault a sets e h
+
+  -- Where the wires that a gate reads are in order, it is the wire that it sets.
+  reads_pass : (op : Operation) (sets : ℕ) (u : Unit {0}) → check_reads c.wires set op ≡ Ok u →
+      (wire_at_fault c.wires set sets op ≡ (sets, 2)) × EachRead (IsSet c) op
+  unfolding check_reads check_read
+  reads_pass op sets u h = grind (arith, nat_tests, tested_set c)
+
+-- A gate has four words besides the wires that it reads.
+pub has_reads : (sets : ℕ) (op : Operation) →
+    length (wires_read op) + 4 ≤ length (words_of_operation sets op)
+has_reads sets op = grind arith
+
+-- What fails the check has its first fault there.
+module _ (ts : List (List ℕ)) (c : Netlist) (words : List Word) (g : Gate) (rest : List (List ℕ))
+    (lawful : IsLawful (without_outputs c)) (due : GateDue c words)
+    (s : SpellWords ts (words ++ words_of_gate g) rest) where
+  -- the wire at fault, and how far back it stands
+  abbrev at_fault : WireBack
+  at_fault = wire_at_fault c.wires (is_set (input_wires c) c.gates) g.set g.operation
+
+  set_place : length words + (length (words_of_gate g) - 2) + 2 + length rest ≡ length ts
+  set_place =
+      omega (arith, has_reads g.set g.operation, Spell-lengths ts rest words (words_of_gate g) s)
+
+  pub check_fault : (e : ReadFault) →
+      check_gate c.wires (is_set (input_wires c) c.gates) g ≡ Err e →
+      IsMet ts e rest at_fault.1 (Some (length c.gates)) (Some at_fault.0)
+  unfolding check_gate check_set
+  check_fault e h =
+      bind_fails (check_reads c.wires (is_set (input_wires c) c.gates) g.operation) _ e h
+      (λ bad.
+      let (w, back, first, kind, found, place) = reads_fault c lawful g.operation g.set e bad in
+      let all = Spell-lengths ts rest words (words_of_gate g) s in
+      elim kind [
+        | inl p ↦ rw (p.1, found)
+            (met (no_wire_to_read c words g w rest due s first p.0) tt (omega arith))
+        | inr p ↦ rw (p.1, found) (met (unset c words g w rest due s first p.0) tt (omega arith))
+      ])
+      (λ u hu h1.
+      let (found, reads) = reads_pass c lawful g.operation g.set u hu in
+      let why : ((is_set (input_wires c) c.gates g.set ≡ true) × (e ≡ SetTwice))
+      ⊎ ((c.wires ≤ g.set) × (e ≡ NoSuchWire)) = grind (arith, nat_tests) in
+      elim why [
+        | inl p ↦ rw (found, p.1)
+            (met (set_twice c words g rest due s reads (tested_set c g.set p.0)) tt set_place)
+        | inr p ↦ rw (found, p.1)
+            (met (no_wire_to_set c words g rest due s reads p.0) tt set_place)
+      ])

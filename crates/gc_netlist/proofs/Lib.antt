@@ -1,15 +1,12 @@
 pub mod SolutionLemmas
 pub mod Tables
-pub mod StepLemmas
 pub mod SpellingLemmas
 pub mod LawfulLemmas
 pub mod ReadingBack
 pub mod FaultLemmas
 pub mod GateFaults
-pub mod CheckFaults
 pub mod CircuitFaults
 pub mod PlaceLemmas
-pub mod GateFaultsBack
 pub mod CircuitFaultsBack
 pub mod ReadingLaws
 pub mod CanonLemmas

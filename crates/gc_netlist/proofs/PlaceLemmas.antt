@@ -1,16 +1,14 @@
 -- Which kind of place a fault has.
-use Rattle.std.proofs.Common.{◌≡◌, ◌≢◌, ℕ, ◌+◌, ◌-◌, ◌<◌, ◌≤◌, ◌++◌, inl, inr, List, [], ◌∷◌, length, codes, refl, arith}
+use Rattle.std.proofs.Common.{◌≡◌, ◌≢◌, ℕ, ◌+◌, ◌<◌, ◌++◌, inl, inr, List, [], ◌∷◌, length, refl, arith}
 use Rattle.std.proofs.lemmas.List.{length-map}
 use Rattle.gc_netlist.specs.declared.fault.ReadFault.{ReadFault}
 use Rattle.gc_netlist.specs.declared.fault.ReadFault.TheVariants.{Truncated, OutputUnset}
-use Rattle.gc_netlist.specs.declared.gate.Operation.{Operation}
-use Rattle.gc_netlist.specs.declared.gate.Gate.{Gate}
 use Rattle.gc_netlist.specs.Circuit.{Netlist}
-use Rattle.gc_netlist.specs.Spelling.{Word, Number, Name, SpellWords, words_of_operation, words_of_gate, words_of_widths, words_of_circuit}
+use Rattle.gc_netlist.specs.Spelling.{Word, Number, Name, SpellWords, words_of_gate, words_of_widths, words_of_circuit}
 use Rattle.gc_netlist.specs.FirstFault.{wires_read, IsFirstUnset, FirstFault, no_number, no_name, bad_number, too_large, widths_exceed, bad_counts, unknown, other_counts, bad_constant, no_wire_to_read, unset, no_wire_to_set, set_twice, output_unset, trailing}
 use Rattle.gc_netlist.specs.Place.{Spot, Token, Behind, End, before_unset, place_of}
-use Rattle.gc_netlist.proofs.FaultLemmas.{Spell-length, Spell-lengths}
-use Rattle.gc_netlist.proofs.CheckFaults.{has_two_words}
+use Rattle.gc_netlist.proofs.SpellingLemmas.{Spell-length, Spell-lengths}
+use Rattle.gc_netlist.proofs.GateFaults.{words_of_constant, has_reads}
 
 -- The end of the text, the end of a token, or a token of the text.
 abbrev IsKind : ReadFault → Spot → ℕ → Type 0
@@ -24,31 +22,11 @@ few_before c [] w h = absurd h
 few_before c (a ∷ more) w (inl here) = omega arith
 few_before c (a ∷ more) w (inr later) = omega (arith, few_before c more w later.1)
 
-has_reads : (sets : ℕ) (op : Operation) →
-    length (wires_read op) + 4 ≤ length (words_of_operation sets op)
-has_reads sets op = grind arith
-
-read_token : (ts rest : List (List ℕ)) (c : Netlist) (words : List Word) (g : Gate) (w : ℕ)
-    (first : IsFirstUnset c (wires_read g.operation) w) →
-    SpellWords ts (words ++ words_of_gate g) rest →
-    length words + 2 + before_unset c (wires_read g.operation) w first < length ts
-read_token ts rest c words g w first s =
-    omega (
-      arith,
-      few_before c (wires_read g.operation) w first,
-      has_reads g.set g.operation,
-      Spell-lengths ts rest words (words_of_gate g) s,
-    )
-
-set_within : (ts rest : List (List ℕ)) (words : List Word) (g : Gate) →
-    SpellWords ts (words ++ words_of_gate g) rest →
-    length words + (length (words_of_gate g) - 2) < length ts
-set_within ts rest words g s =
-    omega (
-      arith,
-      has_two_words g.set g.operation,
-      Spell-lengths ts rest words (words_of_gate g) s,
-    )
+-- A token of words that are spelled is a token of the text.
+inside : {k : ℕ} (ts rest : List (List ℕ)) (words ws : List Word) →
+    SpellWords ts (words ++ ws) rest → k < length words + length ws →
+    (j : ℕ) × (Token k ≡ Token j) × (j < length ts)
+inside {k = k} ts rest words ws s below = (k, refl, omega (arith, Spell-lengths ts rest words ws s))
 
 kind_of : (ts : List (List ℕ)) (e : ReadFault) (first : FirstFault ts e) →
     IsKind e (place_of first).spot (length ts)
@@ -56,42 +34,27 @@ kind_of ts e (no_number words due s) = refl
 kind_of ts e (no_name r words due s) = refl
 kind_of ts e (bad_number words t rest due s none) =
     (length words, refl, omega (arith, Spell-length ts (t ∷ rest) words s))
-kind_of ts e (too_large words limit n rest due s above) =
-    (length words, refl, omega (arith, Spell-lengths ts rest words (Number n ∷ []) s))
-kind_of ts e (widths_exceed wires words widths rest side few s above) = (
-  length words + length widths,
-  refl,
-  omega (arith, Spell-lengths ts rest words (words_of_widths widths) s, length-map widths Number),
-)
+kind_of ts e (too_large words _ n rest _ s _) = inside ts rest words (Number n ∷ []) s (omega arith)
+kind_of ts e (widths_exceed wires words widths rest side few s above) =
+    inside ts rest words (words_of_widths widths) s (omega (arith, length-map widths Number))
 kind_of ts e (bad_counts c words r k rest due s neither) =
-    (length words, refl, omega (arith, Spell-lengths ts rest words (Number r ∷ Number k ∷ []) s))
+    inside ts rest words (Number r ∷ Number k ∷ []) s (omega arith)
 kind_of ts e (unknown r words name rest due s none) =
-    (length words, refl, omega (arith, Spell-lengths ts rest words (Name name ∷ []) s))
+    inside ts rest words (Name name ∷ []) s (omega arith)
 kind_of ts e (other_counts r k words name rest due s named other) =
-    (length words, refl, omega (arith, Spell-lengths ts rest words (Name name ∷ []) s))
-kind_of ts e (bad_constant c words v w rest due s above) = (
-  length words + 2,
-  refl,
-  omega (
-    arith,
-    Spell-lengths ts rest words
-        (Number 1 ∷ Number 1 ∷ Number v ∷ Number w ∷ Name (codes "EQ") ∷ []) s,
-  ),
-)
-kind_of ts e (no_wire_to_read c words g w rest due s first above) = (
-  length words + 2 + before_unset c (wires_read g.operation) w first,
-  refl,
-  read_token ts rest c words g w first s,
-)
-kind_of ts e (unset c words g w rest due s first below) = (
-  length words + 2 + before_unset c (wires_read g.operation) w first,
-  refl,
-  read_token ts rest c words g w first s,
-)
+    inside ts rest words (Name name ∷ []) s (omega arith)
+kind_of ts e (bad_constant c words v w rest due s above) =
+    inside ts rest words (words_of_constant v w) s (omega arith)
+kind_of ts e (no_wire_to_read c words g w rest due s first above) =
+    inside ts rest words (words_of_gate g) s
+    (omega (arith, few_before c (wires_read g.operation) w first, has_reads g.set g.operation))
+kind_of ts e (unset c words g w rest due s first below) =
+    inside ts rest words (words_of_gate g) s
+    (omega (arith, few_before c (wires_read g.operation) w first, has_reads g.set g.operation))
 kind_of ts e (no_wire_to_set c words g rest due s reads above) =
-    (length words + (length (words_of_gate g) - 2), refl, set_within ts rest words g s)
+    inside ts rest words (words_of_gate g) s (omega (arith, has_reads g.set g.operation))
 kind_of ts e (set_twice c words g rest due s reads set) =
-    (length words + (length (words_of_gate g) - 2), refl, set_within ts rest words g s)
+    inside ts rest words (words_of_gate g) s (omega (arith, has_reads g.set g.operation))
 kind_of ts e (output_unset c w rest whole s last below free) =
     (length (words_of_circuit c), refl, omega arith)
 kind_of ts e (trailing c t rest lawful s) =
@@ -111,10 +74,4 @@ spot_behind ts e first is = let kind = kind_of ts e first in grind arith
 -- or one begins there.
 pub spot_token : (ts : List (List ℕ)) (e : ReadFault) (first : FirstFault ts e) → e ≢ Truncated →
     e ≢ OutputUnset → (k : ℕ) × ((place_of first).spot ≡ Token k) × (k < length ts)
-spot_token ts e first more whole = go e (place_of first).spot (kind_of ts e first) more whole
-  where
-    go : (d : ReadFault) (spot : Spot) → IsKind d spot (length ts) → d ≢ Truncated →
-        d ≢ OutputUnset → (k : ℕ) × (spot ≡ Token k) × (k < length ts)
-    go Truncated spot h p q = absurd (p refl)
-    go OutputUnset spot h p q = absurd (q refl)
-    go _ spot h p q = h
+spot_token ts e first more whole = let kind = kind_of ts e first in grind arith

@@ -1,5 +1,5 @@
 -- Each text spells one lawful circuit or has one first fault.
-use Rattle.std.proofs.Common.{◌≢◌, MatchResult, ◌≡◌, ℕ, ◌⊎◌, inl, inr, List, Result, Ok, Err, refl, arith}
+use Rattle.std.proofs.Common.{◌≢◌, MatchResult, ◌≡◌, ℕ, ◌⊎◌, inl, inr, List, [], Result, Ok, Err, arith}
 use Rattle.gc_netlist.specs.declared.fault.ReadFault.{ReadFault}
 use Rattle.gc_netlist.specs.declared.fault.ReadFault.TheVariants.{Memory}
 use Rattle.gc_netlist.specs.Circuit.{Netlist, IsLawful}
@@ -7,44 +7,36 @@ use Rattle.gc_netlist.specs.Text.{tokens}
 use Rattle.gc_netlist.specs.Spelling.{Spells}
 use Rattle.gc_netlist.specs.Reading.{circuit_of}
 use Rattle.gc_netlist.specs.FirstFault.{FirstFault, ReadingLaw}
-use Rattle.gc_netlist.proofs.SpellingLemmas.{circuit_of-spelled}
-use Rattle.gc_netlist.proofs.LawfulLemmas.{circuit_of-lawful}
-use Rattle.gc_netlist.proofs.ReadingBack.{circuit_of-back}
-use Rattle.gc_netlist.proofs.CircuitFaults.{circuit_of-fault}
+use Rattle.gc_netlist.proofs.ReadingBack.{lawful_back}
+use Rattle.gc_netlist.proofs.CircuitFaults.{IsAnswer, circuit_of-read}
 use Rattle.gc_netlist.proofs.CircuitFaultsBack.{first_fault-met}
 
 -- Reading gives a circuit or a fault.
-given : (text : List ℕ) (r : Result Netlist ReadFault) → circuit_of (tokens text) ≡ r →
+given : (text : List ℕ) (r : Result Netlist ReadFault) → IsAnswer (tokens text) r →
     ((c : Netlist) × IsLawful c × Spells text c) ⊎ ((e : ReadFault) × FirstFault (tokens text) e)
-given text (Ok c) h =
-    inl (c, circuit_of-lawful (tokens text) c h, circuit_of-spelled (tokens text) c h)
-given text (Err e) h = inr (e, circuit_of-fault (tokens text) e h)
+given text (Ok c) is = inl (c, is.0, is.1)
+given text (Err e) is = inr (e, is)
 
 pub reading_law : (text : List ℕ) → ReadingLaw text
 reading_law text =
-    let back = circuit_of-back (tokens text) in
+    let read = circuit_of-read (tokens text) in
+    let back = lawful_back (tokens text) [] in
     let first = first_fault-met (tokens text) in
     record {
-      either = given text (circuit_of (tokens text)) refl;
+      either = given text (circuit_of (tokens text)) read;
       not_both = λ c e lawful spelled fault.
           let p = back c lawful spelled in let q = first e fault in cc;
       one_circuit = λ c d lawful_c spelled_c lawful_d spelled_d.
           let p = back c lawful_c spelled_c in let q = back d lawful_d spelled_d in cc;
       one_fault = λ e f fault_e fault_f. let p = first e fault_e in let q = first f fault_f in cc;
-      reads = λ c. (
-        λ h. (circuit_of-lawful (tokens text) c h, circuit_of-spelled (tokens text) c h),
-        λ p. back c p.0 p.1,
-      );
-      faults = λ e. (circuit_of-fault (tokens text) e, first e);
+      reads = λ c. (λ h. rw h at read, λ p. back c p.0 p.1);
+      faults = λ e. (λ h. rw h at read, first e);
     }
 
--- What reading gives, memory aside.
-abbrev pub IsRead : List ℕ → Result Netlist ReadFault → Type 0
-IsRead text r = MatchResult r (λ c. circuit_of (tokens text) ≡ Ok c)
-    (λ e. e ≢ Memory → circuit_of (tokens text) ≡ Err e)
-
 -- A lawful circuit that the text spells is read, memory aside.
-pub read_exactly : (text : List ℕ) (r : Result Netlist ReadFault) → IsRead text r → (c : Netlist) →
-    IsLawful c → Spells text c → MatchResult r (λ d. d ≡ c) (λ e. e ≡ Memory)
+pub read_exactly : (text : List ℕ) (r : Result Netlist ReadFault) →
+    MatchResult r (λ c. circuit_of (tokens text) ≡ Ok c)
+    (λ e. e ≢ Memory → circuit_of (tokens text) ≡ Err e) →
+    (c : Netlist) → IsLawful c → Spells text c → MatchResult r (λ d. d ≡ c) (λ e. e ≡ Memory)
 read_exactly text r read c lawful spelled =
-    let back = circuit_of-back (tokens text) c lawful spelled in grind arith
+    let back = lawful_back (tokens text) [] c lawful spelled in grind arith

@@ -37,12 +37,10 @@ module _ {A : Type 0} (rule : (ℕ → A) → ℕ → Gate → A) (local : IsLoc
 
 module _ {A : Type 0} (rule : (ℕ → A) → ℕ → Gate → A) (local : IsLocal rule) (c : Netlist)
     (lawful : IsLawful c) (given : ℕ → A) where
-  put_gate-keeps : (n w : ℕ) (v : ℕ → A) (o : Option Gate) → slice_get c.gates n ≡ o
-      → IsSetBefore c n w → put_gate rule v n o w ≡ v w
-  put_gate-keeps n w v None at set = refl
-  put_gate-keeps n w v (Some g) at set =
-      let other : w ≢ g.set = λ same. lawful.sets_once n g at (rw (← same) set) in
-      grind (arith, nat_tests)
+  put_gate-other : (n w : ℕ) (v : ℕ → A) (o : Option Gate) →
+      ((g : Gate) → o ≡ Some g → w ≢ g.set) → put_gate rule v n o w ≡ v w
+  put_gate-other n w v None other = refl
+  put_gate-other n w v (Some g) other = let ne = other g refl in grind (arith, nat_tests)
 
   -- a wire that is set keeps its value
   pub after-keeps : (m n w : ℕ) → m ≤ n → IsSetBefore c m w
@@ -52,30 +50,20 @@ module _ {A : Type 0} (rule : (ℕ → A) → ℕ → Gate → A) (local : IsLoc
   after-keeps m (suc n) w below set =
       elim (cases_lt n m) [
         | inl above ↦ let e : m ≡ suc n = omega arith in rw e refl
-        | inr h ↦ put_gate-keeps n w (values_after rule c given n) (slice_get c.gates n) refl
-            (IsSetBefore-more c m n w h set) ∙ after-keeps m n w h set
+        | inr h ↦
+            let before = IsSetBefore-more c m n w h set in
+            put_gate-other n w (values_after rule c given n) (slice_get c.gates n)
+            (λ g at same. lawful.sets_once n g at (rw (← same) before)) ∙ after-keeps m n w h set
       ]
-
-  put_gate-passes : (n w : ℕ) (v : ℕ → A) (o : Option Gate) → slice_get c.gates n ≡ o
-      → (IsSetBefore c (suc n) w → ⊥) → put_gate rule v n o w ≡ v w
-  put_gate-passes n w v None at unset = refl
-  put_gate-passes n w v (Some g) at unset =
-      let other : w ≢ g.set =
-      λ same. unset (inr (n, omega arith, record { gate = g; at = at; wire = sym same })) in
-      grind (arith, nat_tests)
 
   -- a wire that is not set keeps what is given
   pub after-unset : (n w : ℕ) → (IsSetBefore c n w → ⊥) → values_after rule c given n w ≡ given w
   unfolding values_after
   after-unset zero w unset = refl
   after-unset (suc n) w unset =
-      put_gate-passes n w (values_after rule c given n) (slice_get c.gates n) refl unset
+      put_gate-other n w (values_after rule c given n) (slice_get c.gates n) (λ g at same.
+      unset (inr (n, omega arith, record { gate = g; at = at; wire = sym same })))
       ∙ after-unset n w (λ set. unset (IsSetBefore-more c n (suc n) w (omega arith) set))
-
-  after_at : (i : ℕ) (g : Gate) → slice_get c.gates i ≡ Some g
-      → values_after rule c given (suc i) g.set ≡ rule (values_after rule c given i) i g
-  unfolding values_after
-  after_at i g at = rw at (grind (arith, nat_tests))
 
   -- what is computed gate by gate meets the rule at all gates at once
   pub solution_solves : Solves rule c given (values_after rule c given (length c.gates))
@@ -83,13 +71,11 @@ module _ {A : Type 0} (rule : (ℕ → A) → ℕ → Gate → A) (local : IsLoc
   solution_solves = record {
     inputs = λ w h. after-keeps zero (length c.gates) w (omega arith) (inl h);
     gates = λ i g at.
-        let before : ℕ → A = values_after rule c given i in
-        let last : ℕ → A = values_after rule c given (length c.gates) in
         let within = slice_get_within c.gates i g at in
-        let same : EachRead (λ w. before w ≡ last w) g.operation =
-        EachRead-map (IsSetBefore c i) (λ w. before w ≡ last w) g.operation
-        (λ w set. sym (after-keeps i (length c.gates) w (omega arith) set)) (lawful.reads i g at) in
+        let here : values_after rule c given (suc i) g.set
+        ≡ rule (values_after rule c given i) i g = rw at (grind (arith, nat_tests)) in
         after-keeps (suc i) (length c.gates) g.set (omega arith)
         (inr (i, omega arith, record { gate = g; at = at; wire = refl }))
-        ∙ after_at i g at ∙ local before last i g same;
+        ∙ here ∙ local _ _ i g (EachRead-map (IsSetBefore c i) _ g.operation
+        (λ w set. sym (after-keeps i (length c.gates) w (omega arith) set)) (lawful.reads i g at));
   }

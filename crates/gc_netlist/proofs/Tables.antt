@@ -1,7 +1,8 @@
 -- Tables of values on the wires, as lists.
-use Rattle.std.proofs.Common.{◌≡◌, ℕ, zero, suc, ◌+◌, ◌-◌, ◌<◌, ◌≤◌, inl, inr, List, [], ◌∷◌, length, length-set, map, set, drop, get_or, slice_get, add-one, Some, refl, ap, ◌∙◌, arith, replicate, ◌++◌}
+use Rattle.std.proofs.Common.{◌≡◌, ℕ, zero, suc, ◌+◌, ◌-◌, ◌<◌, ◌≤◌, inl, inr, List, length, length-set, map, set, drop, get_or, slice_get, add-one, Some, refl, sym, ap, ◌∙◌, arith, replicate, ◌++◌}
 use Rattle.std.proofs.lemmas.Bool.Decides.{nat_tests}
-use Rattle.std.proofs.lemmas.List.{get_or-set_same, get_or-set_other}
+use Rattle.std.proofs.lemmas.Bool.{cases_lt}
+use Rattle.std.proofs.lemmas.List.{get_or-set_same, get_or-set_other, get_or_append_left, get_or-append_right, get_or-replicate, get_or_past}
 use Rattle.std.proofs.lemmas.List.FromFn.{length-map-range_with_len, get_or-map-range_with_len, fill_by_all}
 use Rattle.std.specs.List.{range_with_len}
 use Rattle.std.proofs.lemmas.Grind.{common_steps}
@@ -18,15 +19,11 @@ read-table f n k d h = get_or-map-range_with_len f 0 n k k d h (omega arith)
 -- a table with one value changed
 pub set-table : {A : Type 0} (f : ℕ → A) (n s : ℕ) (x : A) → s < n →
     set (map f (range_with_len 0 n)) s x ≡ map (put f s x) (range_with_len 0 n)
-set-table {A = A} f n s x h =
+set-table f n s x h =
+    let long = length-map-range_with_len f 0 n in
     fill_by_all (put f s x) (set (map f (range_with_len 0 n)) s x) n x
-    (length-set (map f (range_with_len 0 n)) s x ∙ length-map-range_with_len f 0 n) at_each
-  where
-    at_each : (k : ℕ) → k < n → get_or (set (map f (range_with_len 0 n)) s x) k x ≡ put f s x k
-    at_each k below =
-        let inside : s < length (map f (range_with_len 0 n)) =
-        rw (length-map-range_with_len f 0 n) h in
-        grind (arith, nat_tests, read-table, get_or-set_same, get_or-set_other)
+    (length-set (map f (range_with_len 0 n)) s x ∙ long)
+    (λ k below. grind (arith, nat_tests, read-table, get_or-set_same, get_or-set_other, long))
 
 -- a wire that is set is a wire
 pub IsSetBefore-below : (c : Netlist) → IsLawful c → (n w : ℕ) → IsSetBefore c n w → w < c.wires
@@ -41,12 +38,6 @@ EachRead-below c lawful i g at = EachRead-map (IsSetBefore c i) (λ w. w < c.wir
     (λ w h. IsSetBefore-below c lawful i w h) (lawful.reads i g at)
 
 module _ {A : Type 0} (rule : (ℕ → A) → ℕ → Gate → A) (c : Netlist) (given : ℕ → A) where
-  after-next : (i : ℕ) (g : Gate) → slice_get c.gates i ≡ Some g →
-      values_after rule c given (i + 1)
-      ≡ put (values_after rule c given i) g.set (rule (values_after rule c given i) i g)
-  unfolding values_after
-  after-next i g at = rw (add-one, at) refl
-
   pub after-zero : values_after rule c given 0 ≡ given
   unfolding values_after
   after-zero = refl
@@ -71,15 +62,14 @@ pub table_step : {A : Type 0} (rule : (ℕ → A) → ℕ → Gate → A) → Is
     slice_get c.gates i ≡ Some g →
     x ≡ rule (λ w. get_or table w d) i g →
     set table g.set x ≡ map (values_after rule c given (i + 1)) (range_with_len 0 c.wires)
+unfolding values_after
 table_step {A = A} rule local c lawful given table i g d x is at value =
     let v : ℕ → A = values_after rule c given i in
-    let read : EachRead (λ w. get_or table w d ≡ v w) g.operation =
-    EachRead-map (λ w. w < c.wires) (λ w. get_or table w d ≡ v w) g.operation
+    let same : x ≡ rule v i g = value ∙ local _ v i g (EachRead-map (λ w. w < c.wires) _ g.operation
     (λ w below. ap (λ l. get_or l w d) is ∙ read-table v c.wires w d below)
-    (EachRead-below c lawful i g at) in
-    let same : x ≡ rule v i g = value ∙ local (λ w. get_or table w d) v i g read in
-    rw (is, same, after-next rule c given i g at)
-    (set-table v c.wires g.set (rule v i g) (lawful.sets i g at))
+    (EachRead-below c lawful i g at)) in
+    rw (is, same, add-one, at) (set-table v c.wires g.set (rule v i g)
+    (lawful.sets i g at))
 
 -- how long a table is
 pub length-table : {A : Type 0} (f : ℕ → A) (n : ℕ) (table : List A) →
@@ -90,15 +80,15 @@ length-table f n table is = ap length is ∙ length-map-range_with_len f 0 n
 pub table_padded : {A : Type 0} (xs : List A) (n : ℕ) (d : A) → length xs ≤ n →
     xs ++ replicate (n - length xs) d ≡ map (λ w. get_or xs w d) (range_with_len 0 n)
 table_padded {A = A} xs n d fits =
-    fill_by_all (λ w. get_or xs w d) (xs ++ replicate (n - length xs) d) n d
-    (grind (arith, common_steps)) (λ k below. padded xs (n - length xs) k)
+    fill_by_all (λ w. get_or xs w d) (xs ++ rest) n d (grind (arith, common_steps)) at_each
   where
-    past : (k w : ℕ) → get_or (replicate k d) w d ≡ d
-    past zero w = refl
-    past (suc k) zero = refl
-    past (suc k) (suc w) = past k w
+    rest : List A
+    rest = replicate (n - length xs) d
 
-    padded : (ys : List A) (k w : ℕ) → get_or (ys ++ replicate k d) w d ≡ get_or ys w d
-    padded [] k w = past k w
-    padded (y ∷ ys) k zero = refl
-    padded (y ∷ ys) k (suc w) = padded ys k w
+    at_each : (k : ℕ) → k < n → get_or (xs ++ rest) k d ≡ get_or xs k d
+    at_each k below = elim (cases_lt k (length xs)) [
+      | inl inside ↦ get_or_append_left xs rest d k inside
+      | inr past ↦ get_or-append_right xs rest (length xs) k d refl past
+          ∙ get_or-replicate (n - length xs) (k - length xs) d d (omega arith)
+          ∙ sym (get_or_past xs k d past)
+    ]

@@ -7,9 +7,7 @@ use Rattle.gc_netlist.specs.Reading.{is_set, check_outputs, check_end, circuit_o
 use Rattle.gc_circuit.proofs.CheckLemmas.{marks_len}
 use Rattle.gc_circuit.proofs.ReadLemmas.{ReadSteps, last_steps, outputs_found}
 use Rattle.gc_circuit.proofs.MetLemmas.{gates_met, unset_met_by, end_met_by}
-use Rattle.gc_netlist.proofs.CircuitFaults.{count_met, wires_met, inputs_met, outputs_due_met}
-use Rattle.gc_netlist.proofs.LawfulLemmas.{circuit_of-lawful}
-use Rattle.gc_netlist.proofs.SpellingLemmas.{circuit_of-spelled}
+use Rattle.gc_netlist.proofs.CircuitFaults.{count_met, wires_met, inputs_met, outputs_due_met, circuit_of-lawful, circuit_of-spelled}
 use Rattle.gc_circuit.proofs.circuit.Circuit.read_in_order.Given.{Over}
 use Rattle.gc_circuit.proofs.circuit.Circuit.read_in_order.Goals.{After-deref}
 use Rattle.gc_circuit.proofs.circuit.Circuit.read_in_order.Goals as goal
