@@ -1,6 +1,4 @@
 pub mod Bits
-pub mod CaseByCase
-pub mod LabelWords
 pub mod OneBlock
 pub mod Rotations
 pub mod Turning

@@ -1,60 +1,59 @@
--- A message of 24 bytes has one block, whose words are those of the label, the tweak and the padding.
-use Rattle.std.proofs.Common.{◌≡◌, ℕ, ◌+◌, ◌*◌, ◌<◌, ◌≤◌, List, ◌∷◌, ◌++◌, length, take, replicate, refl, sym, ap, ◌∙◌, arith, length-append}
-use Rattle.std.proofs.lemmas.List.{get_or-append_right, get_or_append_left, take_all}
-use Rattle.std.specs.Int.{w32, w64, to_be_bytes}
-use Rattle.std.specs.Prelude.{slice_index}
-use Rattle.sha2.specs.Sha256.{compress, digest_bytes, hash_after, initial_hash_256, sha256, word_at}
-use Rattle.gc_lanes.specs.Hash.{padded_words}
-use Rattle.gc_lanes.proofs.CaseByCase.{below_sixteen}
+-- A label and its tweak are a message of one block. A label is seen as the number that its 16 bytes spell.
+use Rattle.std.proofs.Common.{◌≡◌, ℕ, ◌^◌, ◌<◌, List, [], ◌∷◌, ◌++◌, length, get_or, replicate, slice_index, take, arith, refl, sym}
+use Rattle.std.proofs.lemmas.List.{get_or-map}
+use Rattle.std.specs.Int.{w64, w128, from_be_bytes, to_be_bytes, to_le_bytes}
+use Rattle.sha2.specs.Sha256.{IsWindow, compress, digest_bytes, first_words, hash_after, initial_hash_256, schedule, sha256}
+use Rattle.sha2.proofs.Schedule256.{IsWindow_first, slice_index-first_words}
+use Rattle.gc_lanes.specs.Hash.{padded_words, tweaked_hash}
+use Rattle.gc_lanes.specs.Lanes.{label_of_low_words, last_words, low_words, words_of_lane}
 
--- These are the sixteen words of a block (FIPS 180-4, 5.2.1).
-abbrev pub IsBlockOf : List ℕ → List ℕ → Type 0
-IsBlockOf block words = (k : ℕ) → k < 16 → slice_index words k ≡ word_at block (4 * k)
+-- the block of a label and a tweak, with the padding of their 24 bytes
+abbrev pub block : ℕ → ℕ → List ℕ
+block label tweak =
+    (to_be_bytes w128 label ++ to_le_bytes w64 tweak)
+    ++ 0x80 ∷ replicate 31 0 ++ to_be_bytes w64 192
 
--- The first 16 bytes of a digest, from the words of the hash value (FIPS 180-4, 6.2.2).
-abbrev pub front_of_digest : List ℕ → List ℕ
-front_of_digest h = to_be_bytes w32 (slice_index h 0) ++ to_be_bytes w32 (slice_index h 1)
-    ++ to_be_bytes w32 (slice_index h 2) ++ to_be_bytes w32 (slice_index h 3)
+-- The words of a label are those of its bytes.
+pub last_words-label : (label : ℕ) → low_words label ≡ last_words (to_be_bytes w128 label)
+last_words-label label = search arith
 
--- the padding of 24 bytes
-abbrev pub ending : List ℕ
-ending = 0x80 ∷ replicate 31 0 ++ to_be_bytes w64 192
+-- The words of the label, the tweak and the padding are the window that the rounds begin with.
+pub IsWindow-padded_words : (label tweak : ℕ) (words : List ℕ)
+    → words ≡ padded_words (to_be_bytes w128 label) (to_le_bytes w64 tweak)
+    → IsWindow words (schedule (block label tweak) 48) 16
+unfolding first_words
+IsWindow-padded_words label tweak words filled =
+    let b = block label tweak in
+    rw filled (IsWindow_first b (first_words b 16) refl (slice_index-first_words b 16))
 
-sha256-one_block : (m : List ℕ) → length m ≡ 24
-    → sha256 m ≡ digest_bytes (compress initial_hash_256 (m ++ ending)) 8
-unfolding sha256 hash_after
-sha256-one_block m long =
-    let whole : length (m ++ ending) ≡ 64 = length-append m ending ∙ ap (λ (n : ℕ). n + 40) long in
-    rw (long, whole, take_all 64 (m ++ ending) (omega arith)) refl
-
--- a word in the first of two lists
-word_at-append_left : (a b : List ℕ) (i : ℕ) → i + 4 ≤ length a → word_at (a ++ b) i ≡ word_at a i
-word_at-append_left a b i le = grind (arith, get_or_append_left)
-
--- a word in the second of two lists
-word_at-append_right : (a b : List ℕ) (n i : ℕ) → length a ≡ n → word_at (a ++ b) (n + i) ≡ word_at b i
-word_at-append_right a b n i e = grind (arith, get_or-append_right)
-
-pub IsBlockOf_words : (l t : List ℕ) → length l ≡ 16 → length t ≡ 8
-    → IsBlockOf ((l ++ t) ++ ending) (padded_words l t)
-IsBlockOf_words l t el et =
-    let long : length (l ++ t) ≡ 24 = omega (arith, length-append l t) in
-    let label : (i : ℕ) → i + 4 ≤ 16 → word_at l i ≡ word_at ((l ++ t) ++ ending) i = λ i le.
-    sym (word_at-append_left (l ++ t) ending i (omega arith) ∙ word_at-append_left l t i (omega arith)) in
-    let tweak : (i : ℕ) → i + 4 ≤ 8 → word_at t i ≡ word_at ((l ++ t) ++ ending) (16 + i) = λ i le.
-    sym (word_at-append_left (l ++ t) ending (16 + i) (omega arith) ∙ word_at-append_right l t 16 i el) in
-    let after : (i : ℕ) → word_at ending i ≡ word_at ((l ++ t) ++ ending) (24 + i) = λ i.
-    sym (word_at-append_right (l ++ t) ending 24 i long) in
-    below_sixteen _
-    (label 0 (omega arith)) (label 4 (omega arith)) (label 8 (omega arith)) (label 12 (omega arith))
-    (tweak 0 (omega arith)) (tweak 4 (omega arith)) (after 0) (after 4)
-    (after 8) (after 12) (after 16) (after 20) (after 24) (after 28) (after 32) (after 36)
-
--- the first half of the digest, from the words of the compressed state
-pub take-sha256 : (l t h : List ℕ) → length l ≡ 16 → length t ≡ 8
-    → h ≡ compress initial_hash_256 ((l ++ t) ++ ending)
-    → front_of_digest h ≡ take 16 (sha256 (l ++ t))
+-- The label of the first four words of a digest is what their bytes spell.
+label-digest : (h : List ℕ) → slice_index h 0 < 2 ^ 32 → slice_index h 1 < 2 ^ 32
+    → slice_index h 2 < 2 ^ 32 → slice_index h 3 < 2 ^ 32
+    → label_of_low_words
+    (slice_index h 3 ∷ slice_index h 2 ∷ slice_index h 1 ∷ slice_index h 0 ∷ [])
+    ≡ from_be_bytes w128 (take 16 (digest_bytes h 8))
 unfolding digest_bytes
-take-sha256 l t h el et eh =
-    let long : length (l ++ t) ≡ 24 = omega (arith, length-append l t) in
-    rw (sha256-one_block (l ++ t) long, ← eh) refl
+label-digest h a b c d = omega arith
+
+-- a word of a lane
+pub lane_at : {V : Type 0} (lane : V → ℕ → ℕ) (j : ℕ) (row : List V) (k : ℕ) (d : V)
+    → k < length row → lane (get_or row k d) j ≡ slice_index (words_of_lane lane j row) k
+lane_at lane j row k d lt = sym (get_or-map (λ v. lane v j) row k d 0 lt)
+
+-- The first four words of the hash value in a lane, lowest first, are those of the tweaked hash.
+pub label-hash : {V : Type 0} (lane : V → ℕ → ℕ) (j : ℕ) (state : List V) (a b c d : V)
+    (label tweak : ℕ) → length state ≡ 8
+    → words_of_lane lane j state ≡ compress initial_hash_256 (block label tweak)
+    → label_of_low_words (words_of_lane lane j
+    (get_or state 3 d ∷ get_or state 2 c ∷ get_or state 1 b ∷ get_or state 0 a ∷ []))
+    ≡ tweaked_hash label tweak
+unfolding compress tweaked_hash sha256 hash_after
+label-hash lane j state a b c d label tweak long hashed =
+    let at = lane_at lane j state in
+    rw (
+      at 0 a (omega arith),
+      at 1 b (omega arith),
+      at 2 c (omega arith),
+      at 3 d (omega arith),
+      hashed,
+    ) (label-digest _ (omega arith) (omega arith) (omega arith) (omega arith))

@@ -1,15 +1,13 @@
-use Rattle.std.proofs.Common.{◌≡◌, ℕ, length, ap, ◌∙◌, rules}
+use Rattle.std.proofs.Common.{ℕ, ap, ◌∙◌, rules}
 use Rattle.gc_lanes.specs.Lanes.{label_of_low_words, lane}
-use Rattle.gc_lanes.proofs.CaseByCase.{below_eight}
-use Rattle.gc_lanes.proofs.Turning.{column-is}
+use Rattle.gc_lanes.proofs.Turning.{below_eight, column-is}
 use Rattle.gc_lanes.proofs.labels.labels_of_eight.Goals as goal
 
 pub returns : goal.returns
 returns c =
-    let words = c.args.words in
-    let count : length words ≡ 4 = search rules in
     let turned = c.turned_eight.ensures in
-    let at = λ (j : ℕ). ap label_of_low_words (column-is (λ v. lane v j) words count) in
+    let at = λ (j : ℕ). ap label_of_low_words
+    (column-is (λ v. lane v j) c.args.words (search rules)) in
     below_eight _
     (c.labels_of_two-a.ensures.one ∙ rw turned (at 0))
     (c.labels_of_two-b.ensures.one ∙ rw turned (at 1))

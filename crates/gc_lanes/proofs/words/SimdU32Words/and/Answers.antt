@@ -1,10 +1,7 @@
-use Rattle.std.proofs.Common.{bit_and, arith}
-use Rattle.std.proofs.lemmas.Nat.{and_le_l}
-use Rattle.gc_lanes.proofs.WordLanes.{GivesWord, lane-zip2}
+use Rattle.std.proofs.Common.{bit_and}
+use Rattle.std.proofs.lemmas.Nat.{and_mod}
+use Rattle.gc_lanes.proofs.WordLanes.{lane-zip2}
 use Rattle.gc_lanes.proofs.words.SimdU32Words.and.Goals as goal
 
-and-gives : GivesWord bit_and
-and-gives x y fx fy = omega (arith, and_le_l x y)
-
 pub returns : goal.returns
-returns g c = lane-zip2 bit_and and-gives g.row.N c.args.self c.args.other c.fits-self c.fits-other
+returns g c = lane-zip2 bit_and (λ x y. and_mod x y 32) _ _ _ c.fits-self.0 c.fits-other.0

@@ -1,14 +1,21 @@
-use Rattle.std.proofs.Common.{◌-◌, arith}
-use Rattle.std.proofs.lemmas.Simd.{shifts_fit_splat}
-use Rattle.gc_lanes.proofs.WordLanes.{lane-rotated}
+use Rattle.std.proofs.Common.{◌≡◌, ◌%◌, ◌-◌, arith}
+use Rattle.std.proofs.lemmas.Simd.{shifts_fit_splat, zip2-map, zip2_splat}
+use Rattle.gc_lanes.proofs.Rotations.{rotated, rotated-lt}
+use Rattle.gc_lanes.proofs.WordLanes.{lane-map}
 use Rattle.gc_lanes.proofs.words.SimdU32Words.rotate_right.Goals as goal
 
 pub overflow_shr-result : goal.overflow_shr-result
-overflow_shr-result g c = shifts_fit_splat 32 c.args.self g.row.N c.args.count c.requires.below
+overflow_shr-result g c = shifts_fit_splat 32 _ _ _ c.requires.below
 
 pub overflow_shl-result : goal.overflow_shl-result
-overflow_shl-result g c = shifts_fit_splat 32 c.args.self g.row.N (32 - c.args.count) (omega (arith, c.requires.above))
+overflow_shl-result g c = shifts_fit_splat 32 _ _ _ (omega (arith, c.requires.above))
 
+-- two shifts rotate
 pub returns : goal.returns
 returns g c =
-    lane-rotated g.row.N c.args.self c.fits-self c.args.count c.requires.above c.requires.below
+    let k = c.args.count in
+    let long = c.fits-self.0 in
+    let down : k % 32 ≡ k = omega arith in
+    let up : (32 - k) % 32 ≡ 32 - k = omega arith in
+    rw (zip2_splat, zip2_splat, zip2-map, down, up)
+    (lane-map (λ x. rotated x k) (λ x. rotated-lt x k) _ _ c.fits-self)
