@@ -1,34 +1,23 @@
 -- The garbling of a circuit under a seed, as functions: it is one, and there is no other.
-use Rattle.std.proofs.Common.{◌≡◌, ℕ, ◌<◌, inl, inr, Bool, List, length, map, get_or, slice_get, slice_index, Some, refl, sym, ap, ◌∙◌, arith}
-use Rattle.std.specs.List.{range_with_len}
-use Rattle.std.proofs.lemmas.Bool.Decides.{nat_tests}
+use Rattle.gc_half.proofs.Names.{◌≡◌, ℕ, ◌<◌, inl, ⊎_elim, Bool, List, length, map, slice_get, slice_index, Some, refl, sym, ap, ◌∙◌, arith, nat_tests, And, Gate, Netlist, input_wires, output_wires, IsLawful, IsSet, and_number, and_count, Solves, solution_solves, colour, offset_of, input_label_of, RowPair, zero_of, zero_rule, rows_of, IsGarbling, GarblingParts, decode_bits_of, IsGarbled, input_zero, garbling_of}
 use Rattle.std.proofs.lemmas.List.FromFn.{fill_by_all, length-map-range_with_len}
-use Rattle.gc_netlist.specs.declared.gate.Operation.TheVariants.{And}
-use Rattle.gc_netlist.specs.declared.gate.Gate.{Gate}
-use Rattle.gc_netlist.specs.Circuit.{Netlist, input_wires, output_wires, IsLawful, IsSet, and_number, and_count}
-use Rattle.gc_netlist.specs.Solution.{Solves}
-use Rattle.gc_netlist.proofs.SolutionLemmas.{solution_solves}
 use Rattle.gc_circuit.specs.Meaning.{IsAssignment}
 use Rattle.gc_netlist.proofs.Tables.{read-table, table_end, IsSetBefore-below}
-use Rattle.gc_label.specs.Label.{colour}
-use Rattle.gc_label.specs.Seed.{offset_of, input_label_of}
 use Rattle.gc_label.proofs.SeedLemmas.{colour-offset_of}
-use Rattle.gc_half.specs.declared.garbling.RowPair.{RowPair}
 use Rattle.gc_half.specs.Hash.{hash}
-use Rattle.gc_half.specs.Garbling.{zero_of, zero_rule, rows_of, IsGarbling, GarblingParts, decode_bits_of, IsGarbled}
-use Rattle.gc_half.specs.Evaluation.{IsEvaluation, active_rule, encode, decode_bits}
-use Rattle.gc_half.specs.Canonical.{input_zero, zero_label_of, row_pairs_of, garbling_of, active_label_of}
-use Rattle.gc_half.specs.Law.{HasOneGarbling, HasOneGarbled, Decodes}
+use Rattle.gc_half.specs.Evaluation.{IsEvaluation, encode, decode_bits}
+use Rattle.gc_half.specs.Canonical.{zero_label_of, row_pairs_of, active_label_of}
+use Rattle.gc_half.specs.Law.{HasOneGarbled, Decodes}
 use Rattle.gc_half.proofs.CircuitLaw.{active_local, garbling-decodes}
-use Rattle.gc_half.proofs.SetWires.{set_or_not, solution-not_set}
+use Rattle.gc_half.proofs.SetWires.{set_or_not, not_set_before}
 use Rattle.gc_half.proofs.GarblingLemmas.{zero_local, IsGarbling-same, rows-garbling, one_garbling}
 
 -- Parts are equal where each part is.
 pub parts-same : (g : GarblingParts) (zero_labels : List ℕ) (rows : List RowPair) (outputs : ℕ)
     → g.zero_labels ≡ zero_labels → g.rows ≡ rows
     → g.outputs ≡ outputs → g ≡ record { zero_labels = zero_labels; rows = rows; outputs = outputs }
-parts-same g zero_labels rows outputs p q o =
-    λ t. record { zero_labels = p t; rows = q t; outputs = o t }
+parts-same g zero_labels rows outputs p q o = λ t.
+    record { zero_labels = p t; rows = q t; outputs = o t }
 
 module _ (c : Netlist) (seed : List ℕ) where
   pub input_zero-input : (w : ℕ) → w < input_wires c → input_zero c seed w ≡ input_label_of seed w
@@ -41,23 +30,23 @@ module _ (c : Netlist) (seed : List ℕ) where
   pub zero_label_of-not_set : (w : ℕ) → ¬ IsSet c w → zero_label_of c seed w ≡ 0
   unfolding zero_label_of
   zero_label_of-not_set w unset =
-      solution-not_set (zero_rule hash (offset_of seed) c) c (input_zero c seed) w unset
+      not_set_before _ c _ w (length c.gates) unset
       ∙ input_zero-other w (λ input. unset (inl input))
 
   module _ (lawful : IsLawful c) where
     solves : Solves (zero_rule hash (offset_of seed) c) c (input_zero c seed) (zero_label_of c seed)
     unfolding zero_label_of
-    solves = solution_solves (zero_rule hash (offset_of seed) c)
-        (zero_local hash (offset_of seed) c) c lawful (input_zero c seed)
+    solves = solution_solves _ (zero_local hash (offset_of seed) c) c lawful (input_zero c seed)
 
     -- An input wire has its input label,
-    pub zero_label_of-input : (w : ℕ) → w < input_wires c → zero_label_of c seed w ≡ input_label_of seed w
+    pub zero_label_of-input : (w : ℕ) → w < input_wires c
+        → zero_label_of c seed w ≡ input_label_of seed w
     zero_label_of-input w input = solves.inputs w input ∙ input_zero-input w input
 
     -- and the wire that a gate sets has the label that the gate's equation says.
-    pub zero_label_of-gate : (i : ℕ) (g : Gate) → slice_get c.gates i ≡ Some g →
-        zero_label_of c seed g.set ≡ zero_of hash (offset_of seed) (zero_label_of c seed) (and_number c i)
-        g.operation
+    pub zero_label_of-gate : (i : ℕ) (g : Gate) → slice_get c.gates i ≡ Some g
+        → zero_label_of c seed g.set
+        ≡ zero_of hash (offset_of seed) (zero_label_of c seed) (and_number c i) g.operation
     zero_label_of-gate = solves.gates
 
     -- So these labels and rows are a garbling.
@@ -65,14 +54,13 @@ module _ (c : Netlist) (seed : List ℕ) where
         (zero_label_of c seed) (row_pairs_of c seed)
     unfolding row_pairs_of
     canonical-garbling =
-        rows-garbling hash (offset_of seed) c lawful (input_label_of seed) (zero_label_of c seed)
+        rows-garbling hash (offset_of seed) c lawful _ _
         (record { inputs = zero_label_of-input; gates = zero_label_of-gate })
 
     -- An AND gate's row pair stands at its AND number,
     pub row_pairs_of-at : (i : ℕ) (g : Gate) (a b : ℕ) → slice_get c.gates i ≡ Some g
-        → g.operation ≡ And a b →
-        slice_get (row_pairs_of c seed) (and_number c i) ≡ Some
-        (rows_of hash (offset_of seed) (zero_label_of c seed) (and_number c i) a b)
+        → g.operation ≡ And a b → slice_get (row_pairs_of c seed) (and_number c i)
+        ≡ Some (rows_of hash (offset_of seed) (zero_label_of c seed) (and_number c i) a b)
     row_pairs_of-at = canonical-garbling.and_gates
 
     -- and there are no others.
@@ -81,38 +69,27 @@ module _ (c : Netlist) (seed : List ℕ) where
 
     -- The garbling, whole, is the garbling of the circuit under the seed,
     pub garbling_of-IsGarbled : IsGarbled c seed (garbling_of c seed)
-    garbling_of-IsGarbled = record {
-      garbling =
-          IsGarbling-same hash (offset_of seed) c lawful (input_label_of seed) (zero_label_of c seed) _
-          (row_pairs_of c seed)
-          (λ w set. sym (read-table (zero_label_of c seed) c.wires w 0
-          (IsSetBefore-below c lawful (length c.gates) w set))) canonical-garbling;
-      wires = length-map-range_with_len (zero_label_of c seed) 0 c.wires;
-      not_set = λ w below unset. read-table (zero_label_of c seed) c.wires w 0 below
-          ∙ zero_label_of-not_set w unset;
-      outputs = refl;
-    }
+    garbling_of-IsGarbled =
+        let read = read-table (zero_label_of c seed) c.wires in
+        record {
+          garbling =
+              IsGarbling-same hash (offset_of seed) c lawful _ _ _ _
+              (λ w set. sym (read w 0 (IsSetBefore-below c lawful _ w set))) canonical-garbling;
+          wires = length-map-range_with_len (zero_label_of c seed) 0 c.wires;
+          not_set = λ w below unset. read w 0 below ∙ zero_label_of-not_set w unset;
+          outputs = refl;
+        }
 
     -- and it is the only one.
     pub IsGarbled-same : (g : GarblingParts) → IsGarbled c seed g → g ≡ garbling_of c seed
     IsGarbled-same g garbled =
-        parts-same g _ _ _ zero_labels rows garbled.outputs
-      where
-        only : HasOneGarbling hash (offset_of seed) c (input_label_of seed)
-        only = one_garbling hash (offset_of seed) c lawful (input_label_of seed)
-
-        rows : g.rows ≡ row_pairs_of c seed
-        rows = only.same_rows _ _ _ _ garbled.garbling canonical-garbling
-
-        label_at : (w : ℕ) → w < c.wires → get_or g.zero_labels w 0 ≡ zero_label_of c seed w
-        label_at w below = elim (set_or_not c w) [
-          | inl set ↦ only.same_labels _ _ _ _ garbled.garbling canonical-garbling w set
-          | inr unset ↦ garbled.not_set w below unset ∙ sym (zero_label_of-not_set w unset)
-        ]
-
-        zero_labels : g.zero_labels ≡ map (zero_label_of c seed) (range_with_len 0 c.wires)
-        zero_labels =
-            fill_by_all (zero_label_of c seed) g.zero_labels c.wires 0 garbled.wires label_at
+        let only = one_garbling hash (offset_of seed) c lawful (input_label_of seed) in
+        parts-same g _ _ _
+        (fill_by_all (zero_label_of c seed) g.zero_labels c.wires 0 garbled.wires
+        (λ w below. ⊎_elim (only.same_labels _ _ _ _ garbled.garbling canonical-garbling w)
+        (λ unset. garbled.not_set w below unset ∙ sym (zero_label_of-not_set w unset))
+        (set_or_not c w)))
+        (only.same_rows _ _ _ _ garbled.garbling canonical-garbling) garbled.outputs
 
     -- Its decode bits are the colours of the output wires' zero labels,
     pub IsGarbled-decode_bits : (g : GarblingParts) → IsGarbled c seed g
@@ -123,13 +100,12 @@ module _ (c : Netlist) (seed : List ℕ) where
         (ap (map colour) (table_end label c.wires (output_wires c) lawful.outputs_fit))
 
     -- and what its rows evaluate to, on labels that stand for input bits, decodes to the output bits.
-    pub canonical-decodes : (input_bits bits : ℕ → Bool) → IsAssignment c input_bits bits → (active : ℕ → ℕ) →
-        IsEvaluation hash c (row_pairs_of c seed) (λ w. encode (offset_of seed) (input_label_of seed w)
-        (input_bits w)) active →
-        Decodes c (offset_of seed) (zero_label_of c seed) bits active
+    pub canonical-decodes : (input_bits bits : ℕ → Bool) → IsAssignment c input_bits bits
+        → (active : ℕ → ℕ) → IsEvaluation hash c (row_pairs_of c seed)
+        (λ w. encode (offset_of seed) (input_label_of seed w) (input_bits w)) active
+        → Decodes c (offset_of seed) (zero_label_of c seed) bits active
     canonical-decodes =
-        garbling-decodes hash (offset_of seed) (colour-offset_of seed) c lawful (input_label_of seed)
-        (zero_label_of c seed) (row_pairs_of c seed) canonical-garbling
+        garbling-decodes hash _ (colour-offset_of seed) c lawful _ _ _ canonical-garbling
 
     pub one_garbled : HasOneGarbled c seed
     one_garbled = record { computed = garbling_of-IsGarbled; no_other = IsGarbled-same }
@@ -138,5 +114,4 @@ module _ (c : Netlist) (seed : List ℕ) where
 pub active_labels-solve : (c : Netlist) (rows : List RowPair) (inputs : List ℕ) → IsLawful c
     → IsEvaluation hash c rows (slice_index inputs) (active_label_of c rows inputs)
 unfolding active_label_of
-active_labels-solve c rows inputs lawful =
-    solution_solves (active_rule hash c rows) (active_local hash c rows) c lawful (slice_index inputs)
+active_labels-solve c rows inputs lawful = solution_solves _ (active_local hash c rows) c lawful _

@@ -1,43 +1,29 @@
 -- The law of a garbled circuit: on each wire that is set the active label stands for the wire's bit, and the outputs
 -- decode to the bits of the output wires.
-use Rattle.std.proofs.Common.{◌≡◌, ℕ, zero, suc, ◌+◌, ◌-◌, ◌<◌, ◌≤◌, Bool, true, List, ◌∷◌, map, refl, sym, ap, ◌∙◌, arith}
+use Rattle.gc_half.proofs.Names.{◌≡◌, ℕ, zero, suc, ◌+◌, ◌-◌, ◌<◌, ◌≤◌, Bool, true, List, map, refl, sym, arith, get_or_from_slice_get, Operation, And, Netlist, output_wires, IsLawful, and_number, IsLocal, agree, colour, RowPair, zero_of, rows_of, IsGarbling}
 use Rattle.std.specs.List.{range_with_len}
-use Rattle.std.proofs.lemmas.Option.{get_or_from_slice_get}
-use Rattle.gc_netlist.specs.declared.gate.Operation.{Operation}
-use Rattle.gc_netlist.specs.declared.gate.Operation.TheVariants.{Xor, And, Inv, Eq, Eqw}
-use Rattle.gc_netlist.specs.Circuit.{Netlist, output_wires, IsSet, IsLawful, and_number}
-use Rattle.gc_netlist.specs.Solution.{IsLocal}
-use Rattle.gc_circuit.specs.Meaning.{bit_of, xor, IsAssignment}
-use Rattle.gc_netlist.proofs.SolutionLemmas.{agree}
-use Rattle.gc_label.specs.Label.{colour}
-use Rattle.gc_half.specs.declared.garbling.RowPair.{RowPair}
-use Rattle.gc_half.specs.HalfGate.{and_active}
-use Rattle.gc_half.specs.OneGate.{gate_active}
-use Rattle.gc_half.specs.Garbling.{zero_of, rows_of, IsGarbling}
-use Rattle.gc_half.specs.Evaluation.{row_at, active_of, active_rule, IsEvaluation, encode, decode}
+use Rattle.gc_circuit.specs.Meaning.{bit_of, IsAssignment}
+use Rattle.gc_half.specs.Evaluation.{active_of, active_rule, IsEvaluation, encode, decode}
 use Rattle.gc_half.specs.Law.{Decodes}
 use Rattle.gc_half.proofs.OneGateLemmas.{first_read-local, second_read-local}
 use Rattle.gc_half.proofs.HalfGateLaw.{and_law, colour-encode, sums}
 
 -- The active label of the wire that a gate sets looks at the wires that it reads alone.
-pub active_local : (hash : ℕ → ℕ → ℕ) (c : Netlist) (rows : List RowPair) → IsLocal (active_rule hash c rows)
+pub active_local : (hash : ℕ → ℕ → ℕ) (c : Netlist) (rows : List RowPair)
+    → IsLocal (active_rule hash c rows)
 active_local hash c rows u v i g h =
-    λ t. gate_active hash (and_number c i) (row_at rows (and_number c i)) g.operation
-    (first_read-local u v g.operation h t) (second_read-local u v g.operation h t)
+    rw (first_read-local u v g.operation h, second_read-local u v g.operation h) refl
 
 -- A decode bit and the colour of the label that stands for a bit give the bit, and so for wires in a row.
-decode-wires : (r : ℕ) → colour r ≡ true → (label active : ℕ → ℕ) (bits : ℕ → Bool) (first count : ℕ) →
-    ((w : ℕ) → first ≤ w → w < first + count → active w ≡ encode r (label w) (bits w)) →
-    decode (map colour (map label (range_with_len first count))) (map active (range_with_len first count))
-    ≡ map bits (range_with_len first count)
+decode-wires : (r : ℕ) → colour r ≡ true → (label active : ℕ → ℕ) (bits : ℕ → Bool)
+    (first count : ℕ) → ((w : ℕ) → first ≤ w → w < first + count
+    → active w ≡ encode r (label w) (bits w)) → let wires = range_with_len first count in
+    decode (map colour (map label wires)) (map active wires) ≡ map bits wires
 decode-wires r odd label active bits first zero h = refl
 decode-wires r odd label active bits first (suc count) h =
-    let here : xor (colour (label first)) (colour (active first)) ≡ bits first =
-    rw (h first (omega arith) (omega arith), colour-encode r (label first) (bits first) odd)
-    (grind arith) in
     let rest = decode-wires r odd label active bits (first + 1) count
     (λ w low high. h w (omega arith) (omega arith)) in
-    λ t. here t ∷ rest t
+    grind (arith, colour-encode r (label first), h first, rest)
 
 module _ (hash : ℕ → ℕ → ℕ) (r : ℕ) (odd : colour r ≡ true) where
   -- The labels that stand for the bits meet the active-label equation of each operation.
@@ -45,14 +31,9 @@ module _ (hash : ℕ → ℕ → ℕ) (r : ℕ) (odd : colour r ≡ true) where
       ((a b : ℕ) → op ≡ And a b → row ≡ rows_of hash r label k a b) →
       encode r (zero_of hash r label k op) (bit_of bits op) ≡ active_of hash
       (λ w. encode r (label w) (bits w)) k row op
-  encode-operation label bits k row (Xor a b) h = grind sums
   encode-operation label bits k row (And a b) h =
-      sym (and_law hash k r (label a) (label b) (bits a) (bits b) odd)
-      ∙ ap (λ (w : RowPair). and_active hash k w.generator w.evaluator (encode r (label a) (bits a))
-      (encode r (label b) (bits b))) (sym (h a b refl))
-  encode-operation label bits k row (Inv a) h = grind sums
-  encode-operation label bits k row (Eq b) h = grind sums
-  encode-operation label bits k row (Eqw a) h = refl
+      rw (h a b refl) (sym (and_law hash k r (label a) (label b) (bits a) (bits b) odd))
+  encode-operation label bits k row op h = grind sums
 
   module _ (c : Netlist) (lawful : IsLawful c) (given label : ℕ → ℕ) (rows : List RowPair)
       (garbling : IsGarbling hash r c given label rows)
@@ -63,26 +44,22 @@ module _ (hash : ℕ → ℕ → ℕ) (r : ℕ) (odd : colour r ≡ true) where
     encode-evaluation = record {
       inputs = λ w h. rw (garbling.labels.inputs w h, assignment.inputs w h) refl;
       gates = λ i g at.
-          ap (λ l. encode r l (bits g.set)) (garbling.labels.gates i g at)
-          ∙ ap (encode r (zero_of hash r label (and_number c i) g.operation)) (assignment.gates i g at)
-          ∙ encode-operation label bits (and_number c i) _ g.operation
-          (λ a b is. get_or_from_slice_get rows (and_number c i) _ _ (garbling.and_gates i g a b at is));
+          rw (garbling.labels.gates i g at, assignment.gates i g at)
+          (encode-operation label bits (and_number c i) _ g.operation
+          (λ a b is. get_or_from_slice_get rows _ _ _ (garbling.and_gates i g a b at is)));
     }
 
     -- and any other agrees with it.
     pub garbling-decodes : (active : ℕ → ℕ)
         → IsEvaluation hash c rows (λ w. encode r (given w) (input_bits w)) active →
         Decodes c r label bits active
-    garbling-decodes active evaluation = record {
-      labels = labels;
-      outputs =
-          decode-wires r odd label active bits (c.wires - output_wires c) (output_wires c)
-          (λ w low high. let fit = lawful.outputs_fit in
-          labels w (lawful.outputs_set w (omega arith) (omega arith)));
-    }
-      where
-        labels : (w : ℕ) → IsSet c w → active w ≡ encode r (label w) (bits w)
-        labels w set =
-            agree (active_rule hash c rows) (active_local hash c rows) c lawful
-            (λ w. encode r (given w) (input_bits w)) active
-            (λ w. encode r (label w) (bits w)) evaluation encode-evaluation w set
+    garbling-decodes active evaluation =
+        let local = active_local hash c rows in
+        let labels = agree _ local c lawful _ _ _ evaluation encode-evaluation in
+        record {
+          labels = labels;
+          outputs =
+              decode-wires r odd label active bits (c.wires - output_wires c) (output_wires c)
+              (λ w low high. let fit = lawful.outputs_fit in
+              labels w (lawful.outputs_set w (omega arith) (omega arith)));
+        }

@@ -12,8 +12,8 @@ unfolding hash tweak_bytes tweaked_hash label_of_bytes bytes_of_label
 hash-is label tweak from hashes of = from ∙ hashes ∙ ap (λ n. hash n tweak) of
 
 -- what is mapped over a list of four, element by element
-pub map-four : {A : Type 0} (f : A → ℕ) (inputs : List A) (u v w x : A) {e g h i : ℕ} → length inputs ≡ 4
-    → e ≡ f (slice_index_or inputs 0 u) → g ≡ f (slice_index_or inputs 1 v)
+pub map-four : {A : Type 0} (f : A → ℕ) (inputs : List A) (u v w x : A) {e g h i : ℕ}
+    → length inputs ≡ 4 → e ≡ f (slice_index_or inputs 0 u) → g ≡ f (slice_index_or inputs 1 v)
     → h ≡ f (slice_index_or inputs 2 w) → i ≡ f (slice_index_or inputs 3 x)
     → e ∷ g ∷ h ∷ i ∷ [] ≡ map f inputs
 map-four f inputs u v w x n p q r s = grind (arith, common_steps)

@@ -90,7 +90,7 @@ impl<A: Allocator> Garbling<A> {
         &self.rows
     }
 
-    /// The zero label of each wire. The row pairs are let go.
+    /// The zero label of each wire. The row pairs are dropped.
     pub fn into_zero_labels(self) -> Vec<Label, A>
         ensures { result.items ≡ self.zero_labels }
     {

@@ -132,7 +132,7 @@ pub fn eval_and(k: u32, generator: Label, evaluator: Label, a: Label, b: Label) 
     };
     let step = AndStep { k, rows, a, b };
     let ((_, first), (_, second)) = step.hashed();
-    // Four hashes take less time than two that are computed one after the other, so that two lanes are spare.
+    // Four hashes take less time than two that are computed one after the other, so two of the four lanes are unused.
     let [hash_a, hash_b, _, _] = tweak_hash_four([
         (a, first),
         (b, second),

@@ -79,7 +79,7 @@ impl<A: Allocator> RowTable<A> {
         self.made = place + 1;
     }
 
-    /// The pairs, and the first mismatch. Given ones that are left are let go.
+    /// The pairs, and the first mismatch. Given ones that are left are dropped.
     pub(crate) fn finish(mut self) -> (Vec<RowPair, A>, Option<Mismatch>)
         ensures made { result.0.items ≡ self.made }
         ensures first { result.1 ≡ self.first }

@@ -11,7 +11,7 @@ use gc_circuit::{Circuit, Memory};
 use gc_label::{Label, Seed, fill_input_labels};
 use std::alloc::Allocator;
 
-/// How many entries of a table are written at once: they take no more memory than the C library writes by plain stores.
+/// How many entries of a table are written at once: few enough for the C library to write them by plain stores.
 const STRETCH: u32 = 64;
 
 /// The zero labels of the input wires under a seed, and 16 zero bytes for each other wire: the table that garbling
@@ -44,7 +44,7 @@ pub(crate) fn labels_of_inputs<A: Allocator + Copy, C: Allocator>(
     Ok(labels)
 }
 
-/// Lengthens a table, which is written as it is needed, to a wire that is behind its end, and somewhat further: each
+/// Lengthens a table, which is written as it is needed, to a wire that is beyond its end, and somewhat further: each
 /// new entry is 16 zero bytes. Most circuits set their wires in order, so that an entry is zeroed shortly before it
 /// is set, and is still in the cache then.
 #[inline(never)]
