@@ -2,8 +2,6 @@
 use Rattle.std.proofs.Common.{◌≡◌, ℕ, zero, suc, ◌+◌, ◌*◌, ◌<◌, List, [], ◌∷◌, ◌++◌, set, get_or, sym, refl, ap, ◌∙◌, arith, replicate}
 use mathlib.Core.Option.{some}
 use lib.ListN.{get_elem?}
-use mathlib.Core.Logic.{dite}
-use native.Mathlib.Decide.{dec_le}
 use Rattle.std.proofs.lemmas.List.{length-replicate}
 use Rattle.atomic_table.specs.Table.{State, Splits, Joins, Final, Seen}
 use Rattle.atomic_table.proofs.Lists.{set_else}
@@ -13,7 +11,7 @@ use Rattle.gc_board.specs.Steps.{one_less, newcomer, note_of, merged}
 use Rattle.gc_board.specs.declared.rule.View.{View}
 use Rattle.gc_board.specs.declared.rule.Hand.TheVariants.{Empty}
 use Rattle.gc_board.proofs.Sums.{total-append, total-dealt, total-joined, each-one, each-dealt, each-joined, only_other}
-use Rattle.gc_board.proofs.Keeps.{sees_all}
+use Rattle.gc_board.proofs.Keeps.{open_cell, sees_all}
 
 -- a word of a list of zeros is 0, and past the end too
 pub zeros : (n i : ℕ) → get_or {A = ℕ} (replicate n 0) i 0 ≡ 0
@@ -39,11 +37,7 @@ module _ {J : Type 0} (gates : J → ℕ) (right : J → ℕ → ℕ → ℕ →
   opens n is some_seat =
       let free : (g : ℕ) → state_of (replicate n 0) g ≡ 0 = λ g. zeros n (3 * g) in record {
         long = length-replicate n 0 ∙ is;
-        cells = λ g. record {
-          state = omega (arith, free g);
-          low = λ e. absurd (omega (arith, free g));
-          high = λ e. absurd (omega (arith, free g));
-        };
+        cells = λ g. open_cell gates right job seats _ g (omega (arith, free g));
         hands = λ g. omega (arith, free g, only_other);
         mades = λ g. omega (arith, free g, only_other);
         dealt = omega arith;
@@ -99,8 +93,8 @@ module _ {J : Type 0} (gates : J → ℕ) (right : J → ℕ → ℕ → ℕ →
           fits = each-joined _ s.views id other both nobody o.fits
               (record {
                 holding = f.holding;
-                knows = λ g k. dite (dec_le 1 (times g v.known)) (λ y. f.knows g y)
-                    (λ n. theirs.knows g (omega (arith, total-append (only g) v.known w.known)));
+                knows = λ g k. let adds = total-append (only g) v.known w.known in
+                    let mine = f.knows g in let known = theirs.knows g in grind arith;
                 spent = λ z. let a = f.spent (omega arith) in let b = theirs.spent (omega arith) in
                     (a.0, λ i. a.1 i ++ b.1 i);
               })

@@ -1,9 +1,8 @@
 -- Sums over lists: of two lists joined, of a list with one item changed, and single terms of them.
 -- And what holds of each item of a list in which items change.
-use Rattle.std.proofs.Common.{◌≡◌, ◌≢◌, ℕ, zero, suc, ◌+◌, ◌<◌, ◌≤◌, List, [], ◌∷◌, ◌++◌, set, refl, sym, ap, arith, cond, eq-eqb, ne_eqb, inl, inr}
-use mathlib.Core.Logic.{dite}
+use Rattle.std.proofs.Common.{◌≡◌, ◌≢◌, ℕ, zero, suc, ◌+◌, ◌<◌, ◌≤◌, List, [], ◌∷◌, ◌++◌, set, refl, sym, ap, arith, inl, inr}
 use mathlib.Core.Option.{some, some-injective, some-ne-none}
-use native.Mathlib.Decide.{ℕ_discrete}
+use Rattle.std.proofs.lemmas.Bool.Decides.{nat_tests}
 use lib.ListN.{get_elem?}
 use Rattle.atomic_table.proofs.Lists.{at_set, at_snoc}
 use Rattle.gc_board.specs.Counts.{total, only}
@@ -102,14 +101,13 @@ module _ {A : Type 0} (P : A → Type 0) where
       each-set (set xs i y) k z (λ j u _. each-set xs i y (λ l w _. all l w) p j u) q
 
 pub only_same : (x y : ℕ) → x ≡ y → only x y ≡ 1
-only_same x y e = ap (λ b. cond b 1 0) (eq-eqb x y e)
+only_same x y e = grind (arith, nat_tests)
 
 pub only_other : (x y : ℕ) → x ≢ y → only x y ≡ 0
-only_other x y ne = ap (λ b. cond b 1 0) (ne_eqb x y ne)
+only_other x y ne = grind (arith, nat_tests)
 
 pub only_le : (x y : ℕ) → only x y ≤ 1
-only_le x y =
-    dite (ℕ_discrete x y) (λ e. omega (arith, only_same)) (λ ne. omega (arith, only_other))
+only_le x y = grind (arith, nat_tests)
 
 pub only_is : (x y : ℕ) → 0 < only x y → x ≡ y
-only_is x y more = dite (ℕ_discrete x y) (λ e. e) (λ ne. absurd (omega (arith, only_other x y ne)))
+only_is x y more = grind (arith, nat_tests)

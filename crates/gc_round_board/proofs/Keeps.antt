@@ -1,5 +1,7 @@
 -- Each kind of step keeps the rule.
-use Rattle.std.proofs.Common.{◌≡◌, ℕ, ◌+◌, ◌<◌, ◌≤◌, ◌≢◌, ◌⊎◌, List, [], ◌∷◌, ◌++◌, length, set, get_or, sym, refl, ap, ◌∙◌, inl, inr, ⊎_elim, arith, eqb, eq-eqb, ne_eqb, length-set, get_or-set_other, get_or-set_same}
+use Rattle.std.proofs.Common.{◌≡◌, ℕ, ◌+◌, ◌<◌, ◌≤◌, ◌≢◌, ◌⊎◌, List, [], ◌∷◌, ◌++◌, zero, suc, length, set, get_or, sym, refl, ap, ◌∙◌, inl, inr, ⊎_elim, arith, eqb, eq-eqb, ne_eqb, length-set, get_or-set_other, get_or-set_same}
+use Rattle.std.proofs.lemmas.Bool.Decides.{nat_tests}
+use Rattle.std.proofs.lemmas.Grind.{common_steps}
 use mathlib.Core.Logic.{dite}
 use native.Mathlib.Decide.{ℕ_discrete, dec_le}
 use mathlib.Core.Option.{none, some}
@@ -20,9 +22,9 @@ use Rattle.gc_rounds.specs.declared.view.Step.{Step}
 use Rattle.gc_rounds.specs.declared.view.Step.TheVariants.{Load, Store, Claim}
 use Rattle.gc_board.proofs.Sums.{total-append, total-set, term_le, terms_le, sole, each-set, only_same, only_other, only_le, only_is}
 use Rattle.gc_rounds.proofs.Keeps.{beside, bank_small, inside_is}
-use Rattle.gc_round_board.specs.Pairs.{is_pair, pairs, is_look, looked}
+use Rattle.gc_round_board.specs.Pairs.{is_pair, pairs, looked}
 use Rattle.gc_round_board.specs.Board.{at, stamp, state_of, low_of, high_of, round_now, in_hand, IsHandRight, Cell, Fits, Sound}
-use Rattle.gc_round_board.specs.Steps.{Finds, changed, learnt, after_state, after_half, after_stored, after_done, state_loaded, low_loaded, high_loaded, claimed, half_stored, done_stored, settled}
+use Rattle.gc_round_board.specs.Steps.{Finds, changed, learnt, after_state, after_half, after_stored, after_done, state_loaded, claimed, half_stored, done_stored, settled}
 use Rattle.gc_round_board.specs.Places.{IsPlaceAt}
 use Rattle.gc_round_board.specs.declared.view.BoardView.{BoardView}
 use Rattle.gc_round_board.specs.declared.view.Hand.{Hand}
@@ -49,30 +51,25 @@ Lasting words looks = (k h n : ℕ) → 0 < looked k h n looks
 -- No bank's round changes, and a state that changes goes up, to a round that its bank has reached.
 record Up (before now : List ℕ) : Type 0 where
   pub rounds : (k : ℕ) → round_now now k ≡ round_now before k
-  pub le : (k h : ℕ) → state_of before k h ≤ state_of now k h
-  pub reach : (k h : ℕ) → k ≤ round_now before k
-      → (state_of now k h ≡ state_of before k h) ⊎ (stamp k 0 < state_of now k h)
+  pub moves : (k h : ℕ) → (state_of before k h ≤ state_of now k h) × (k ≤ round_now before k
+      → (state_of now k h ≡ state_of before k h) ⊎ (stamp k 0 < state_of now k h))
 
 looks_last : (before now : List ℕ) (looks : List (ℕ × ℕ × ℕ)) → Up before now → Lasting before looks
     → Lasting now looks
-looks_last before now looks up f k h n more = let was = f k h n more in (
-  omega (arith, was.0, up.rounds k),
-  ⊎_elim (λ stays. ⊎_elim (λ a. inl (stays ∙ a)) (λ a. inr (omega (arith, stays, a))) was.1)
-      (λ later. inr later) (up.reach k h was.0),
-)
+looks_last before now looks up f k h n more =
+    let was = f k h n more in let goes = up.moves k h in let same = up.rounds k in grind arith
 
 -- one more gate is known that is done
 knows_too : (words : List ℕ) (known : List (ℕ × ℕ)) (r g : ℕ) → stamp r 2 ≤ state_of words r g
     → Known words known → Known words ((r, g) ∷ known)
-knows_too words known r g done f k h more = dite (dec_le 1 (is_pair k h (r, g)))
-    (λ y. let p = pair_is k h (r, g) y in rw (p.0, p.1) done) (λ n. f k h (omega arith))
+knows_too words known r g done f k h more =
+    let old = f k h in let same = pair_is k h (r, g) in grind arith
 
 -- what is known once a state was found
 learns : (words : List ℕ) (known : List (ℕ × ℕ)) (r g : ℕ) → Known words known
     → Known words (learnt known r g (state_of words r g))
-learns words known r g f = let found = state_of words r g in dite (ℕ_discrete found (stamp r 2))
-    (λ two. rw (eq-eqb found (stamp r 2) two) (knows_too words known r g (omega arith) f))
-    (λ ne. rw (ne_eqb found (stamp r 2) ne) f)
+learns words known r g f k h more =
+    let old = f k h in let same = pair_is k h (r, g) in grind (arith, nat_tests)
 
 -- a step whose number is a seat's own matter, and no bank's
 abbrev IsBeside : Step → Type 0
@@ -107,7 +104,7 @@ module _ {J : Type 0} (gates : J → ℕ) (right : J → ℕ → ℕ → ℕ →
   fits_lasts before now u up halves f = record {
     holding = hand_moves before now u.inner.hand halves f.holding;
     inside = f.inside;
-    knows = λ k h more. omega (arith, f.knows k h more, up.le k h);
+    knows = λ k h more. omega (arith, f.knows k h more, (up.moves k h).0);
     looks = looks_last before now u.inner.looks up f.looks;
     spent = f.spent;
   }
@@ -134,28 +131,28 @@ module _ {J : Type 0} (gates : J → ℕ) (right : J → ℕ → ℕ → ℕ →
       → Sound gates right job before views → get_elem? views id ≡ some v
       → length now ≡ length before → ((k h : ℕ) → state_of before k h ≤ state_of now k h)
       → ((k h : ℕ) → Cell gates right job now k h)
-      → ((k h : ℕ) → in_hand k h w.inner.hand + only (stamp k 1) (state_of before k h)
+      → ((k h : ℕ) → (in_hand k h w.inner.hand + only (stamp k 1) (state_of before k h)
       ≡ in_hand k h v.inner.hand + only (stamp k 1) (state_of now k h))
-      → ((k h : ℕ) → state_of now k h < stamp (k + 1) 0
+      × (state_of now k h < stamp (k + 1) 0
       → pairs k h w.inner.made + only (stamp k 2) (state_of before k h)
       ≡ pairs k h v.inner.made + only (stamp k 2) (state_of now k h))
-      → ((k h : ℕ) → (pairs k h w.inner.made ≡ pairs k h v.inner.made)
-      ⊎ (state_of now k h < stamp (k + 1) 0))
+      × ((pairs k h w.inner.made ≡ pairs k h v.inner.made) ⊎ (state_of now k h < stamp (k + 1) 0)))
       → ((j : ℕ) (u : SeatView J) → j ≢ id → get_elem? views j ≡ some u
       → Fits gates right job now u)
       → Fits gates right job now w → Sound gates right job now (set views id w)
-  turned before now views id v w o at_id long le cells hand made single others mine =
+  turned before now views id v w o at_id long le cells counts others mine =
       let totals = λ (m : SeatView J → ℕ). total-set m views id v w at_id in
       let makes = λ (k h : ℕ). totals (λ u. pairs k h u.inner.made) in
       let mades : (k h : ℕ) → state_of now k h < stamp (k + 1) 0
       → total (λ (u : SeatView J). pairs k h u.inner.made) (set views id w)
       ≡ only (stamp k 2) (state_of now k h) = λ k h l.
-      omega (arith, makes k h, o.mades k h (omega (arith, le k h)), made k h l) in record {
+      omega (arith, makes k h, o.mades k h (omega (arith, le k h)), (counts k h).1 l) in record {
         long = long ∙ o.long;
         cells = cells;
-        hands = λ k h. omega (arith, totals (λ u. in_hand k h u.inner.hand), o.hands k h, hand k h);
+        hands = λ k h.
+            omega (arith, totals (λ u. in_hand k h u.inner.hand), o.hands k h, (counts k h).0);
         once = λ k h. ⊎_elim (λ same. omega (arith, makes k h, o.once k h))
-            (λ l. omega (arith, mades k h l, only_le)) (single k h);
+            (λ l. omega (arith, mades k h l, only_le)) (counts k h).2;
         mades = mades;
         fits = each-set _ views id w others mine;
       }
@@ -184,8 +181,8 @@ module _ {J : Type 0} (gates : J → ℕ) (right : J → ℕ → ℕ → ℕ →
       rw (set-get_or words i 0) (
         beside jobs seats words words views id v w e o.0 at_id o.0.wide (λ b l. refl)
             refl refl refl refl idle.0 idle.1 idle.2,
-        turned words words views id v w o.1 at_id refl (λ k h. omega arith) o.1.cells (λ k h. refl)
-            (λ k h l. refl) (λ k h. inl refl) (λ j u ne there. o.1.fits j u there)
+        turned words words views id v w o.1 at_id refl (λ k h. omega arith) o.1.cells
+            (λ k h. (refl, (λ l. refl), inl refl)) (λ j u ne there. o.1.fits j u there)
             (record {
               holding = f.holding;
               inside = f.inside;
@@ -195,7 +192,7 @@ module _ {J : Type 0} (gates : J → ℕ) (right : J → ℕ → ℕ → ℕ →
             }),
       )
 
-  module _ {S : Type 0} (table : TableId) (seat : Seat S (SeatView J)) (r g : ℕ) (p : IsPlaceAt
+  module _ {S : Type 0} {table : TableId} {seat : Seat S (SeatView J)} {r g : ℕ} (p : IsPlaceAt
       gates table (record { jobs = jobs; seats = seats; about = job }) seat r g) where
     abbrev v : SeatView J
     v = seat.me.0
@@ -208,9 +205,9 @@ module _ {J : Type 0} (gates : J → ℕ) (right : J → ℕ → ℕ → ℕ →
     Owes i f then = (seat.table_id ≡ table) × (i < table.words)
         × Allows Holds table.slots seat.id seat.me i f then
 
-    owed : (i : ℕ) (f : ℕ → ℕ) (then : ℕ → Me S (SeatView J) → Type 0) → i < at r g + 3
-        → Allows Holds table.slots seat.id seat.me i f then → Owes i f then
-    owed i f then below allowed = (p.place.seated.table_id, omega arith, allowed)
+    owed : {i : ℕ} {A : Type 0} → i < at r g + 3 → A
+        → (seat.table_id ≡ table) × (i < table.words) × A
+    owed below allowed = (p.place.seated.table_id, omega arith, allowed)
 
     -- the word says which gate it is, and the seat in which round
     here : (k h i : ℕ) → v.stand ≡ Inside k → at r g + i ≡ at k h + i → (k ≡ r) × (h ≡ g)
@@ -238,8 +235,7 @@ module _ {J : Type 0} (gates : J → ℕ) (right : J → ℕ → ℕ → ℕ →
 
     pub loads_state : Owes (at r g) (λ n. n)
         (state_loaded (step table.slots (at r g) 0 0 none) seat.me)
-    loads_state = owed _ (λ n. n) (state_loaded (step table.slots (at r g) 0 0 none) seat.me)
-        (omega arith) (λ s o wide at_id small.
+    loads_state = owed (omega arith) (λ s o wide at_id small.
         let found : ℕ = state_of s.words r g in let f = o.1.fits seat.id v at_id in (
           after_state v r g found,
           keeps,
@@ -247,10 +243,8 @@ module _ {J : Type 0} (gates : J → ℕ) (right : J → ℕ → ℕ → ℕ →
           loaded s.words s.views (at r g) seat.id v (learnt v.inner.known r g found)
               ((r, g, found) ∷ v.inner.looks) (Load (at r g) found)
               ((λ b. refl), (λ k. refl), refl) o at_id (learns s.words v.inner.known r g f.knows)
-              (λ k h n more. dite (dec_le 1 (is_look k h n (r, g, found)))
-              (λ y. let p = look_is k h n (r, g, found) y in
-              rw (p.0, p.1, p.2) (omega (arith, now_is s o at_id), inl refl))
-              (λ ne. f.looks k h n (omega arith))),
+              (λ k h n more. let old = f.looks k h n in let it = look_is k h n (r, g, found) in
+              let here = now_is s o at_id in grind arith),
           (
             refl,
             λ k h stand e. let it = here k h 0 stand (omega arith) in
@@ -258,53 +252,30 @@ module _ {J : Type 0} (gates : J → ℕ) (right : J → ℕ → ℕ → ℕ →
           ),
         ))
 
-    half_loads : (s : State S (SeatView J)) (i : ℕ) → Holds s → get_elem? s.views seat.id ≡ some v
-        → Rule (set s.words i (get_or s.words i 0))
-        (set s.views seat.id (after_half v i (get_or s.words i 0)))
-    half_loads s i o at_id = let f = o.1.fits seat.id v at_id in
-        loaded s.words s.views i seat.id v v.inner.known v.inner.looks (Load i (get_or s.words i 0))
-        ((λ b. refl), (λ k. refl), refl) o at_id f.knows f.looks
-
-    -- what is right as half i of the gate where a word is, is so of the known gate whose word it is
-    half_is : (s : State S (SeatView J)) (k h i found : ℕ) → Holds s
-        → get_elem? s.views seat.id ≡ some v
-        → (state_of s.words r g ≡ stamp r 2 → right job r g i found) → (k ≡ r) × (h ≡ g)
-        → 0 < pairs k h v.inner.known → (j : J) → v.inner.job ≡ Some j → right j k h i found
-    half_is s k h i found o at_id is same known j its =
-        let one : Some job ≡ Some j = sym p.place.about ∙ its in let ours : job ≡ j = cc in
-        rw (same.0, same.1, ← ours) (is ((finds s o at_id).known (rw (same.0, same.1) at known)))
-
-    pub loads_low : Owes (at r g + 1) (λ n. n)
-        (low_loaded right (step table.slots (at r g + 1) 0 0 none) seat.me)
-    loads_low = owed _ (λ n. n)
-        (low_loaded right (step table.slots (at r g + 1) 0 0 none) seat.me)
-        (omega arith) (λ s o wide at_id small. (
-          after_half v (at r g + 1) (low_of s.words r g),
+    -- a load of half i of the gate, where this is right if the gate is done in the round
+    pub loads_half : (i : ℕ) → i < 2 → ((s : State S (SeatView J)) → Holds s
+        → state_of s.words r g ≡ stamp r 2 → right job r g i (get_or s.words (at r g + suc i) 0))
+        → Owes (at r g + suc i) (λ n. n)
+        (λ n m. (m.1 ≡ seat.me.1) × (m.0 ≡ after_half v (at r g + suc i) n)
+        × ((k h : ℕ) → v.stand ≡ Inside k → at r g + suc i ≡ at k h + suc i
+        → 0 < pairs k h v.inner.known → (j : J) → v.inner.job ≡ Some j → right j k h i n))
+    loads_half i two is = owed (omega arith) (λ s o wide at_id small.
+        let word : ℕ = at r g + suc i in let found : ℕ = get_or s.words word 0 in
+        let f = o.1.fits seat.id v at_id in (
+          after_half v word found,
           keeps,
           tt,
-          half_loads s (at r g + 1) o at_id,
+          loaded s.words s.views word seat.id v v.inner.known v.inner.looks (Load word found)
+              ((λ b. refl), (λ k. refl), refl) o at_id f.knows f.looks,
           (
             refl,
             refl,
-            λ k h stand e. half_is s k h 0 (low_of s.words r g) o at_id
-                (o.1.cells r g).low (here k h 1 stand e),
-          ),
-        ))
-
-    pub loads_high : Owes (at r g + 2) (λ n. n)
-        (high_loaded right (step table.slots (at r g + 2) 0 0 none) seat.me)
-    loads_high = owed _ (λ n. n)
-        (high_loaded right (step table.slots (at r g + 2) 0 0 none) seat.me)
-        (omega arith) (λ s o wide at_id small. (
-          after_half v (at r g + 2) (high_of s.words r g),
-          keeps,
-          tt,
-          half_loads s (at r g + 2) o at_id,
-          (
-            refl,
-            refl,
-            λ k h stand e. half_is s k h 1 (high_of s.words r g) o at_id
-                (o.1.cells r g).high (here k h 2 stand e),
+            λ k h stand e known j its.
+                let it = here k h (suc i) stand e in
+                let one : Some job ≡ Some j = sym p.place.about ∙ its in
+                let ours : job ≡ j = cc in
+                rw (it.0, it.1, ← ours)
+                (is s o ((finds s o at_id).known (rw (it.0, it.1) at known))),
           ),
         ))
 
@@ -350,17 +321,11 @@ module _ {J : Type 0} (gates : J → ℕ) (right : J → ℕ → ℕ → ℕ →
         get_or-set_same words (at r g) n 0 (omega (arith, o.1.long, p.exists)) in
         let stay : (k h : ℕ) → at k h ≢ at r g → state_of now k h ≡ state_of words k h =
         λ k h ne. get_or-set_other words (at r g) (at k h) n 0 ne in
-        let halves : (k h : ℕ) → SameHalves words now k h = λ k h. (
-          get_or-set_other words (at r g) (at k h + 1) n 0 (λ e. omega arith),
-          get_or-set_other words (at r g) (at k h + 2) n 0 (λ e. omega arith),
-        ) in
+        let halves : (k h : ℕ) → SameHalves words now k h =
+        λ k h. grind (arith, common_steps) in
         let up : Up words now = record {
           rounds = rounds_stay words (at r g) n (omega arith);
-          le = λ k h. dite (ℕ_discrete (at k h) (at r g)) (λ is. rw (is, set_to) (omega arith))
-              (λ ne. omega (arith, stay k h ne));
-          reach = λ k h le. dite (ℕ_discrete (at k h) (at r g))
-              (λ is. inr (rw (is, set_to) (omega (arith, round_here s k h o at_id is))))
-              (λ ne. inl (stay k h ne));
+          moves = λ k h. let off = stay k h in let here = round_here s k h o at_id in grind arith;
         } in
         let other_counts : (k h y : ℕ) → is_pair k h (r, g) ≡ 0 → y < 3
         → (at k h ≡ at r g → state_of words k h ≡ stamp k y → k ≡ r)
@@ -372,7 +337,8 @@ module _ {J : Type 0} (gates : J → ℕ) (right : J → ℕ → ℕ → ℕ →
         ∙ sym (only_other (stamp k y) (state_of words k h) (λ d. ne (was is (sym d)))))
         (λ ne. ap (only (stamp k y)) (stay k h ne)) in (
           banks_hold s (at r g) n hand made known e idle o at_id (omega arith),
-          turned words now s.views seat.id v w o.1 at_id (length-set words (at r g) n) up.le
+          turned words now s.views seat.id v w o.1 at_id (length-set words (at r g) n)
+              (λ k h. (up.moves k h).0)
               (λ k h. dite (ℕ_discrete (at k h) (at r g))
               (λ is. let same = (same_place r g k h is).0 in record {
                 state = rw (is, set_to) (omega arith);
@@ -385,26 +351,24 @@ module _ {J : Type 0} (gates : J → ℕ) (right : J → ℕ → ℕ → ℕ →
               (λ ne. cell_moves words now k h (stay k h ne) (halves k h) (up.rounds k)
               (o.1.cells k h)))
               (λ k h. dite (dec_le 1 (is_pair k h (r, g)))
-              (λ y. let p = pair_is k h (r, g) y in rw (p.0, p.1, set_to) hand_here)
+              (λ y. let p = pair_is k h (r, g) y in
+              rw (p.0, p.1, set_to) (hand_here, (λ l. made_here), inr (omega arith)))
               (λ no. let apart : is_pair k h (r, g) ≡ 0 = omega arith in
-              let same = other_counts k h 1 apart (omega arith)
-              (λ is d. sym (one_round words s.views k h o d) ∙ round_here s k h o at_id is) in
-              omega (arith, (elsewhere k h apart).0)))
-              (λ k h l. dite (dec_le 1 (is_pair k h (r, g)))
-              (λ y. let p = pair_is k h (r, g) y in rw (p.0, p.1, set_to) made_here)
-              (λ no. let apart : is_pair k h (r, g) ≡ 0 = omega arith in
-              let same = other_counts k h 2 apart (omega arith)
-              (λ is d. let below = rw (is, set_to) at l in let two = rw is at d in omega arith) in
-              omega (arith, (elsewhere k h apart).1)))
-              (λ k h. dite (dec_le 1 (is_pair k h (r, g)))
-              (λ y. let p = pair_is k h (r, g) y in inr (rw (p.0, p.1, set_to) (omega arith)))
-              (λ no. inl (elsewhere k h (omega arith)).1))
+              let else = elsewhere k h apart in
+              let ones = other_counts k h 1 apart (omega arith)
+              (λ is d. sym (one_round words s.views k h o d) ∙ round_here s k h o at_id is) in (
+                omega (arith, else.0),
+                (λ l. let twos = other_counts k h 2 apart (omega arith)
+                    (λ is d. let l = rw (is, set_to) at l in let d = rw is at d in omega arith) in
+                    omega (arith, else.1)),
+                inl else.1,
+              )))
               (λ j u ne there. fits_lasts words now u up (λ k h _ _. halves k h)
               (o.1.fits j u there))
               (record {
                 holding = holding;
                 inside = λ k h phase has. p.inside ∙ ap Inside (sym (in_it k h phase has));
-                knows = knows (λ k h more. omega (arith, f.knows k h more, up.le k h));
+                knows = knows (λ k h more. omega (arith, f.knows k h more, (up.moves k h).0));
                 looks = looks_last words now v.inner.looks up f.looks;
                 spent = λ none_left. absurd (real none_left);
               }),
@@ -413,9 +377,7 @@ module _ {J : Type 0} (gates : J → ℕ) (right : J → ℕ → ℕ → ℕ →
     pub claims : (old : ℕ) → v.inner.hand ≡ Empty → 0 < v.seats → 0 < looked r g old v.inner.looks
         → old ≤ stamp r 0 → Owes (at r g) (λ n. either (eqb n old) (stamp r 1) n)
         (claimed (step table.slots (at r g) old (stamp r 1) none) seat.me)
-    claims old empty seated look free = owed _ (λ n. either (eqb n old) (stamp r 1) n)
-        (claimed (step table.slots (at r g) old (stamp r 1) none) seat.me)
-        (omega arith) (λ s o wide at_id small.
+    claims old empty seated look free = owed (omega arith) (λ s o wide at_id small.
         let f = o.1.fits seat.id v at_id in let found : ℕ = state_of s.words r g in
         dite (ℕ_discrete found old)
         (λ hit. rw (eq-eqb found old hit) (
@@ -438,8 +400,7 @@ module _ {J : Type 0} (gates : J → ℕ) (right : J → ℕ → ℕ → ℕ →
                 rw (it.0, it.1) (finds s o at_id, inl hit, refl),
           ),
         ))
-        (λ ne. let later : stamp r 0 < found =
-        ⊎_elim (λ same. absurd (ne same)) (λ l. l) (f.looks r g old look).1 in
+        (λ ne. let later : stamp r 0 < found = omega (arith, f.looks r g old look) in
         rw (ne_eqb found old ne) (
           changed v v.inner.hand v.inner.made (learnt v.inner.known r g found) v.inner.looks
               (Claim (at r g) found),
@@ -455,36 +416,45 @@ module _ {J : Type 0} (gates : J → ℕ) (right : J → ℕ → ℕ → ℕ →
           ),
         )))
 
-    -- a half of the gate in hand is stored, and what is stored of it is right
-    half_stores : (phase i n : ℕ) → v.inner.hand ≡ Has r g phase → at r g < i → i < at r g + 3
-        → ((s : State S (SeatView J)) → Holds s
-        → IsHandRight gates right job s.words (Has r g phase)
-        → IsHandRight gates right job (set s.words i n) (Has r g (phase + 1)))
-        → Owes i (λ _. n) (λ _. half_stored (step table.slots i n 0 none) seat.me n)
-    half_stores phase i n has from below is_right = owed _ (λ _. n)
-        (λ _. half_stored (step table.slots i n 0 none) seat.me n) below (λ s o wide at_id small.
-        let f = o.1.fits seat.id v at_id in let words = s.words in let now = set words i n in
-        let w = after_stored v r g (phase + 1) i n in
+    half_right : (words : List ℕ) (i n : ℕ) → i < 2 → at r g + 2 < length words
+        → right job r g i n → IsHandRight gates right job words (Has r g i)
+        → IsHandRight gates right job (set words (at r g + suc i) n) (Has r g (i + 1))
+    half_right words zero n two room is held =
+        let stored = get_or-set_same words (at r g + 1) n 0 (omega arith) in
+        (λ l. rw stored is, λ l. absurd (omega arith))
+    half_right words (suc zero) n two room is held = (
+      λ l. rw (get_or-set_other words (at r g + 2) (at r g + 1) n 0 (λ e. omega arith))
+          (held.0 (omega arith)),
+      λ l. rw (get_or-set_same words (at r g + 2) n 0 room) is,
+    )
+    half_right words (suc (suc i)) n two room is held = absurd (omega arith)
+
+    -- half i of the gate in hand is stored, and is right
+    pub stores_half : (i n : ℕ) → i < 2 → v.inner.hand ≡ Has r g i → right job r g i n
+        → Owes (at r g + suc i) (λ _. n)
+        (λ _. half_stored (step table.slots (at r g + suc i) n 0 none) seat.me n)
+    stores_half i n two has is = owed (omega arith) (λ s o wide at_id small.
+        let f = o.1.fits seat.id v at_id in let words = s.words in
+        let word : ℕ = at r g + suc i in let now = set words word n in
+        let w = after_stored v r g (i + 1) word n in
         let own : in_hand r g v.inner.hand ≡ 1 = ap (in_hand r g) has ∙ pair_same r g in
         let one = taken words s.views seat.id r g v o at_id own in
         let states : (k h : ℕ) → state_of now k h ≡ state_of words k h =
-        λ k h. get_or-set_other words i (at k h) n 0 (λ e. omega arith) in
-        let halves : (k h : ℕ) → at k h ≢ at r g → SameHalves words now k h = λ k h ne. (
-          get_or-set_other words i (at k h + 1) n 0 (λ e. ne (omega arith)),
-          get_or-set_other words i (at k h + 2) n 0 (λ e. ne (omega arith)),
-        ) in
+        λ k h. get_or-set_other words word (at k h) n 0 (λ e. omega arith) in
+        let halves : (k h : ℕ) → at k h ≢ at r g → SameHalves words now k h =
+        λ k h ne. grind (arith, common_steps) in
         let up : Up words now = record {
-          rounds = rounds_stay words i n (omega arith);
-          le = λ k h. omega (arith, states k h);
-          reach = λ k h le. inl (states k h);
+          rounds = rounds_stay words word n (omega arith);
+          moves = λ k h. (omega (arith, states k h), λ le. inl (states k h));
         } in (
           w,
           keeps,
           tt,
           (
-            banks_hold s i n (Has r g (phase + 1)) v.inner.made v.inner.known (Store i n)
+            banks_hold s word n (Has r g (i + 1)) v.inner.made v.inner.known (Store word n)
                 ((λ b. refl), (λ k. refl), refl) o at_id (omega arith),
-            turned words now s.views seat.id v w o.1 at_id (length-set words i n) up.le
+            turned words now s.views seat.id v w o.1 at_id (length-set words word n)
+                (λ k h. (up.moves k h).0)
                 (λ k h. dite (ℕ_discrete (at k h) (at r g))
                 (λ is. let e : state_of now k h ≡ stamp r 1 = rw is (states r g ∙ one) in record {
                   state = omega (arith, e);
@@ -494,9 +464,11 @@ module _ {J : Type 0} (gates : J → ℕ) (right : J → ℕ → ℕ → ℕ →
                 })
                 (λ ne. cell_moves words now k h (states k h) (halves k h ne) (up.rounds k)
                 (o.1.cells k h)))
-                (λ k h. omega (arith, ap (in_hand k h) has, ap (only (stamp k 1)) (states k h)))
-                (λ k h l. omega (arith, ap (only (stamp k 2)) (states k h)))
-                (λ k h. inl refl)
+                (λ k h. (
+                  omega (arith, ap (in_hand k h) has, ap (only (stamp k 1)) (states k h)),
+                  (λ l. omega (arith, ap (only (stamp k 2)) (states k h))),
+                  inl refl,
+                ))
                 (λ j u ne there. let theirs = o.1.fits j u there in
                 fits_lasts words now u up (λ k h ph e. halves k h (λ is.
                 let kr : k ≡ r = sym ((o.0.fits j u there).sees k (theirs.inside k h ph e)).0
@@ -506,9 +478,10 @@ module _ {J : Type 0} (gates : J → ℕ) (right : J → ℕ → ℕ → ℕ →
                 let two = terms_le (λ (x : SeatView J). in_hand r g x.inner.hand) s.views seat.id j
                 v u ne at_id there in omega (arith, o.1.hands r g, only_le))) theirs)
                 (record {
-                  holding = is_right s o (rw has at f.holding);
+                  holding = half_right words i n two (omega (arith, o.1.long, p.exists)) is
+                      (rw has at f.holding);
                   inside = λ k h ph e. let same : r ≡ k = cc in p.inside ∙ ap Inside same;
-                  knows = λ k h more. omega (arith, f.knows k h more, up.le k h);
+                  knows = λ k h more. omega (arith, f.knows k h more, (up.moves k h).0);
                   looks = looks_last words now v.inner.looks up f.looks;
                   spent = λ none_left. let gone = (f.spent none_left).0 in absurd (cc);
                 }),
@@ -516,32 +489,9 @@ module _ {J : Type 0} (gates : J → ℕ) (right : J → ℕ → ℕ → ℕ →
           (refl, λ k h ph e. cc),
         ))
 
-    pub stores_low : (n : ℕ) → v.inner.hand ≡ Has r g 0 → right job r g 0 n
-        → Owes (at r g + 1) (λ _. n)
-        (λ _. half_stored (step table.slots (at r g + 1) n 0 none) seat.me n)
-    stores_low n has is =
-        half_stores 0 (at r g + 1) n has (omega arith) (omega arith) (λ s o held. (
-          (λ l. rw (get_or-set_same s.words (at r g + 1) n 0 (omega (arith, o.1.long, p.exists)))
-              is),
-          (λ l. absurd (omega arith)),
-        ))
-
-    pub stores_high : (n : ℕ) → v.inner.hand ≡ Has r g 1 → right job r g 1 n
-        → Owes (at r g + 2) (λ _. n)
-        (λ _. half_stored (step table.slots (at r g + 2) n 0 none) seat.me n)
-    stores_high n has is =
-        half_stores 1 (at r g + 2) n has (omega arith) (omega arith) (λ s o held. (
-          (λ l. rw (get_or-set_other s.words (at r g + 2) (at r g + 1) n 0 (λ e. omega arith))
-              (held.0 (omega arith))),
-          (λ l. rw (get_or-set_same s.words (at r g + 2) n 0 (omega (arith, o.1.long, p.exists)))
-              is),
-        ))
-
     pub stores_done : v.inner.hand ≡ Has r g 2 → Owes (at r g) (λ _. stamp r 2)
         (λ _. done_stored (step table.slots (at r g) (stamp r 2) 0 none) seat.me (stamp r 2))
-    stores_done has = owed _ (λ _. stamp r 2)
-        (λ _. done_stored (step table.slots (at r g) (stamp r 2) 0 none) seat.me (stamp r 2))
-        (omega arith) (λ s o wide at_id small.
+    stores_done has = owed (omega arith) (λ s o wide at_id small.
         let f = o.1.fits seat.id v at_id in let now = set s.words (at r g) (stamp r 2) in
         let two : state_of now r g ≡ stamp r 2 = get_or-set_same s.words (at r g) (stamp r 2) 0
         (omega (arith, o.1.long, p.exists)) in

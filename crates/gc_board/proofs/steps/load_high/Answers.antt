@@ -1,5 +1,7 @@
-use Rattle.gc_board.proofs.Keeps.{loads_high}
+use Rattle.std.proofs.Common.{arith}
+use Rattle.gc_board.proofs.Keeps.{loads_half}
 use Rattle.gc_board.proofs.steps.load_high.Goals as goal
 
 pub load-requires : goal.load-requires
-load-requires g c = loads_high _ _ _ _ _ _ _ c.requires.place
+load-requires g c =
+    loads_half _ _ _ _ c.requires.place 1 (omega arith) (λ s o. (o.cells c.args.gate).high)

@@ -1,5 +1,7 @@
-use Rattle.gc_board.proofs.Keeps.{stores_low}
+use Rattle.std.proofs.Common.{arith}
+use Rattle.gc_board.proofs.Keeps.{stores_half}
 use Rattle.gc_board.proofs.steps.store_low.Goals as goal
 
 pub store-requires : goal.store-requires
-store-requires g c = stores_low _ _ _ _ _ _ _ c.requires.place _ c.requires.has c.requires.right
+store-requires g c =
+    stores_half _ _ _ _ c.requires.place 0 _ (omega arith) c.requires.has c.requires.right

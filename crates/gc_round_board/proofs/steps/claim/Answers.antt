@@ -3,7 +3,7 @@ use Rattle.gc_round_board.proofs.steps.claim.Goals as goal
 
 pub compare_exchange-requires : goal.compare_exchange-requires
 compare_exchange-requires g c = let w = c.requires in rw (c.index.ensures, c.state_word.ensures)
-    (claims _ _ _ _ _ _ _ _ _ w.place _ w.empty w.seated w.looked w.free)
+    (claims _ _ _ _ _ w.place _ w.empty w.seated w.looked w.free)
 
 pub returns-clause-finds : goal.returns-clause-finds
 returns-clause-finds g c = (c.compare_exchange.ensures.2.1 c.args.round c.args.gate

@@ -2,7 +2,7 @@ use Rattle.gc_round_board.proofs.Keeps.{loads_state}
 use Rattle.gc_round_board.proofs.steps.load_state.Goals as goal
 
 pub load-requires : goal.load-requires
-load-requires g c = rw c.index.ensures (loads_state _ _ _ _ _ _ _ _ _ c.requires)
+load-requires g c = rw c.index.ensures (loads_state _ _ _ _ _ c.requires)
 
 pub returns-clause-finds : goal.returns-clause-finds
 returns-clause-finds g c =
