@@ -6,6 +6,9 @@ use Rattle.std.proofs.lemmas.Nat.Bits.{bit_at-zero, bit_at_set_same, bit_at_set_
 use Rattle.std.proofs.lemmas.List.{get_or-set_same, get_or-set_other, get_or_read, get_or_past}
 use Rattle.gc_queue.specs.GateSet.{Has, Adds, Removes, IsGateSet}
 
+-- what words of which one is set have, for `grind`
+ruleset one_word = (cases_eq, length-set, get_or-set_same, get_or-set_other)
+
 -- a word that is not 0 is one of the words
 some_word : (words : List ℕ) (k : ℕ) → 0 < get_or words k 0 → k < length words
 some_word words k some = grind (arith, get_or_past words k 0)
@@ -14,37 +17,25 @@ some_word words k some = grind (arith, get_or_past words k 0)
 pub adds : (words : List ℕ) (i old : ℕ) → i / 64 < length words → old ≡ get_or words (i / 64) old
     → Adds words i (set words (i / 64) (bit_or old (1 * 2 ^ (i % 64) % 2 ^ 64)))
 adds words i old within read =
-    let was = get_or_read words (i / 64) old within read 0 in record {
-      count = length-set words (i / 64) _;
-      here = grind (arith, get_or-set_same, bit_at_set_same w64);
-      others = λ j other.
-          let cases = cases_eq (j / 64) (i / 64) in
-          grind (arith, get_or-set_same, get_or-set_other, bit_at_set_other w64);
-    }
+    let was = get_or_read words (i / 64) old within read 0 in
+    grind (arith, one_word, bit_at_set_same w64, bit_at_set_other w64)
 
 -- clearing bit b of word k, which is of the gate
 pub removes : (words : List ℕ) (i k b old : ℕ) → i / 64 ≡ k → i % 64 ≡ b → k < length words
     → old ≡ get_or words k old → Has words i
     → Removes words i (set words k (bit_and old (bit_not w64 (1 * 2 ^ b % 2 ^ 64))))
 removes words i k b old word place within read has =
-    let was = get_or_read words k old within read 0 in record {
-      count = length-set words k _;
-      here = has;
-      gone = grind (arith, get_or-set_same, bit_at_clear_same w64);
-      others = λ j other.
-          let cases = cases_eq (j / 64) k in
-          grind (arith, get_or-set_same, get_or-set_other, bit_at_clear_other w64);
-    }
+    let was = get_or_read words k old within read 0 in
+    grind (arith, one_word, bit_at_clear_same w64, bit_at_clear_other w64)
 
-module _ (words filled : List ℕ) (start : ℕ) (s : IsGateSet words filled start) where
+module _ {words filled : List ℕ} {start : ℕ} (s : IsGateSet words filled start) where
   -- Of the words only word k changes, and the bits above follow it.
   follows : (k word : ℕ) (over : List ℕ) (first : ℕ) → k < length words
       → length over ≡ length filled → Has over k ↔ (0 < word)
       → ((j : ℕ) → j ≢ k → Has over j ↔ Has filled j)
       → ((j : ℕ) → j < first → get_or over j 0 ≡ 0)
       → IsGateSet (set words k word) over first
-  follows k word over first within count here others passed =
-      grind (arith, cases_eq, length-set, get_or-set_same, get_or-set_other)
+  follows k word over first within count here others passed = grind (arith, one_word)
 
   -- ---- putting a gate in
 
@@ -62,19 +53,15 @@ module _ (words filled : List ℕ) (start : ℕ) (s : IsGateSet words filled sta
 
   -- ---- the first word that has a gate
 
-  -- A word has a gate where one of the bits above it is its own,
+  -- A word has a gate where one of the bits above it is its own, and it is one of the words.
   pub found_word : (block bits b : ℕ) → block < length filled → bits ≡ get_or filled block bits
-      → (b < 64) × (bit_at bits b ≡ 1) → 0 < get_or words (block * 64 + b) 0
+      → (b < 64) × (bit_at bits b ≡ 1)
+      → (0 < get_or words (block * 64 + b) 0) × (block * 64 + b < 2 ^ 26)
   found_word block bits b within read is =
       let was = get_or_read filled block bits within read 0 in
-      grind (arith, s.filled_at (block * 64 + b))
-
-  -- and is one of the words.
-  pub found_fits : (block bits b : ℕ) → block < length filled → bits ≡ get_or filled block bits
-      → (b < 64) × (bit_at bits b ≡ 1) → block * 64 + b < 2 ^ 26
-  found_fits block bits b within read is =
-      let below = some_word words (block * 64 + b) (found_word block bits b within read is) in
-      omega (arith, s.few)
+      let some : 0 < get_or words (block * 64 + b) 0 =
+      grind (arith, s.filled_at (block * 64 + b)) in
+      (some, omega (arith, some_word words _ some, s.few))
 
   -- ---- the first gate of a word
 

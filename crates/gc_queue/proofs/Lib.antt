@@ -2,5 +2,3 @@ pub mod ListLemmas
 pub mod GateSetLemmas
 pub mod QueueLemmas
 pub mod ReadersLemmas
-pub mod WalkLemmas
-pub mod FreedLemmas

@@ -1,21 +1,22 @@
 -- Lists with one place set, counts, and tables over the numbers below n.
-use Rattle.std.proofs.Common.{◌≡◌, ◌≢◌, ℕ, zero, suc, ◌+◌, ◌<◌, List, [], ◌∷◌, length, length-set, map, set, get_or, slice_get, Some, Bool, true, false, cond, count_by, replicate, refl, arith}
-use Rattle.std.specs.List.{range_with_len}
-use Rattle.std.proofs.lemmas.Bool.{cases_eq}
+use Rattle.std.proofs.Common.{inl, inr, ◌≡◌, ◌≢◌, ℕ, zero, suc, ◌+◌, ◌<◌, List, [], ◌∷◌, length, length-set, map, set, slice_get, Some, Bool, true, false, cond, count_by, replicate, refl, arith}
+use Rattle.std.specs.List.{range_with_len, position_or_len}
+use Rattle.std.proofs.lemmas.Bool.{cases_eq, cases_lt}
 use Rattle.std.proofs.lemmas.Grind.{common_steps}
-use Rattle.std.proofs.lemmas.List.{get_or-set_same, get_or-set_other, get_or-replicate}
-use Rattle.std.proofs.lemmas.List.FromFn.{length-map-range_with_len, get_or-map-range_with_len, fill_by_all}
-use Rattle.std.proofs.lemmas.List.Sums.{sum_by-set, sum_by-cons, get_or-le-sum_by, count_by-le-length}
+use Rattle.std.proofs.lemmas.List.{get_or-replicate}
+use Rattle.std.proofs.lemmas.List.FromFn.{length-map-range_with_len, get_or-map-range_with_len}
+use Rattle.std.proofs.lemmas.List.Sums.{sum_by-set, sum_by-cons, sum_by-le, get_or-le-sum_by, count_by-le-length, fails_before_first}
 use Rattle.std.proofs.lemmas.List.Folds.{sum_by-replicate}
 use Rattle.std.proofs.lemmas.Option.{slice_get_within, get_or_from_slice_get, gets}
 
 -- ---- one place set
 
-pub slice_get-set_other : {X : Type 0} (xs : List X) (i j : ℕ) (y : X) → j ≢ i → slice_get (set xs i y) j ≡ slice_get xs j
-slice_get-set_other xs i j y h = grind (arith, common_steps, gets)
+module _ {X : Type 0} (xs : List X) (i : ℕ) where
+  pub slice_get-set_other : (j : ℕ) (y : X) → j ≢ i → slice_get (set xs i y) j ≡ slice_get xs j
+  slice_get-set_other j y h = grind (arith, common_steps, gets)
 
-pub slice_get-set_same : {X : Type 0} (xs : List X) (i : ℕ) (y : X) → i < length xs → slice_get (set xs i y) i ≡ Some y
-slice_get-set_same xs i y h = grind (arith, common_steps, gets)
+  pub slice_get-set_same : (y : X) → i < length xs → slice_get (set xs i y) i ≡ Some y
+  slice_get-set_same y h = grind (arith, common_steps, gets)
 
 -- what a list with one place set has at each place, for `grind`
 pub ruleset one_place =
@@ -26,79 +27,68 @@ abbrev one_if : Bool → ℕ
 one_if b = cond b 1 0
 
 -- a count where a place is set
-count_by-set_at : {X : Type 0} (p : X → Bool) (xs : List X) (i : ℕ) (x y : X)
-    → slice_get xs i ≡ Some x
-    → count_by p (set xs i y) + one_if (p x) ≡ count_by p xs + one_if (p y)
-count_by-set_at p xs i x y at =
-    grind (arith, sum_by-set (λ z. one_if (p z)) xs i y x, slice_get_within, get_or_from_slice_get)
+module _ {X : Type 0} (p : X → Bool) (xs : List X) (i : ℕ) (x y : X)
+    (at : slice_get xs i ≡ Some x) where
+  count_by-set_at : count_by p (set xs i y) + one_if (p x) ≡ count_by p xs + one_if (p y)
+  count_by-set_at =
+      let sum = sum_by-set (λ z. one_if (p z)) xs i y x in
+      grind (arith, slice_get_within, get_or_from_slice_get)
 
--- where the old element passed as the new one does,
-pub count_by-set : {X : Type 0} (p : X → Bool) (xs : List X) (i : ℕ) (x y : X) → slice_get xs i ≡ Some x → p x ≡ p y
-    → count_by p (set xs i y) ≡ count_by p xs
-count_by-set p xs i x y at same = grind (arith, count_by-set_at p xs i x y at)
+  -- where the old element passed as the new one does,
+  pub count_by-set : p x ≡ p y → count_by p (set xs i y) ≡ count_by p xs
+  count_by-set same = grind (arith, count_by-set_at)
 
--- where the old one did not pass and the new one does,
-pub count_by-set_more : {X : Type 0} (p : X → Bool) (xs : List X) (i : ℕ) (x y : X)
-    → slice_get xs i ≡ Some x → p x ≡ false
-    → p y ≡ true → count_by p (set xs i y) ≡ count_by p xs + 1
-count_by-set_more p xs i x y at fails passes = grind (arith, count_by-set_at p xs i x y at)
+  -- where the old one did not pass and the new one does,
+  pub count_by-set_more : p x ≡ false → p y ≡ true → count_by p (set xs i y) ≡ count_by p xs + 1
+  count_by-set_more fails passes = grind (arith, count_by-set_at)
 
--- and where the old one passed and the new one does not
-pub count_by-set_less : {X : Type 0} (p : X → Bool) (xs : List X) (i : ℕ) (x y : X)
-    → slice_get xs i ≡ Some x → p x ≡ true
-    → p y ≡ false → count_by p (set xs i y) + 1 ≡ count_by p xs
-count_by-set_less p xs i x y at passes fails = grind (arith, count_by-set_at p xs i x y at)
+  -- and where the old one passed and the new one does not
+  pub count_by-set_less : p x ≡ true → p y ≡ false → count_by p (set xs i y) + 1 ≡ count_by p xs
+  count_by-set_less passes fails = grind (arith, count_by-set_at)
 
 -- ---- counts
 
--- a count of one element more
-count_by-cons : {X : Type 0} (p : X → Bool) (x : X) (xs : List X)
-    → count_by p (x ∷ xs) ≡ one_if (p x) + count_by p xs
-count_by-cons p = sum_by-cons (λ x. one_if (p x))
+module _ {X : Type 0} (p : X → Bool) where
+  -- a count of one element more
+  count_by-cons : (x : X) (xs : List X) → count_by p (x ∷ xs) ≡ one_if (p x) + count_by p xs
+  count_by-cons = sum_by-cons (λ x. one_if (p x))
 
--- some pass where one does
-pub count_by-some : {X : Type 0} (p : X → Bool) (xs : List X) (i : ℕ) (x : X) → slice_get xs i ≡ Some x → p x ≡ true
-    → 0 < count_by p xs
-count_by-some p xs i x at passes =
-    let least = get_or-le-sum_by (λ z. one_if (p z)) xs i x in
-    grind (arith, slice_get_within, get_or_from_slice_get)
+  -- some pass where one does
+  pub count_by-some : (xs : List X) (i : ℕ) (x : X) → slice_get xs i ≡ Some x → p x ≡ true
+      → 0 < count_by p xs
+  count_by-some xs i x at passes =
+      let least = get_or-le-sum_by (λ z. one_if (p z)) xs i x in
+      grind (arith, slice_get_within, get_or_from_slice_get)
 
--- as many pass as there are where each passes,
-pub count_by-all : {X : Type 0} (p : X → Bool) (xs : List X) → ((i : ℕ) (x : X) → slice_get xs i ≡ Some x → p x ≡ true)
-    → count_by p xs ≡ length xs
-count_by-all p [] h = refl
-count_by-all p (x ∷ xs) h =
-    grind (arith, count_by-cons p x xs, h 0 x refl, count_by-all p xs (λ i. h (suc i)))
+  -- as many pass as there are where each passes,
+  pub count_by-all : (xs : List X) → ((i : ℕ) (x : X) → slice_get xs i ≡ Some x → p x ≡ true)
+      → count_by p xs ≡ length xs
+  count_by-all [] h = refl
+  count_by-all (x ∷ xs) h =
+      grind (arith, count_by-cons x xs, h 0 x refl, count_by-all xs (λ i. h (suc i)))
 
--- and only there
-pub count_by-all_back : {X : Type 0} (p : X → Bool) (xs : List X) → count_by p xs ≡ length xs → (i : ℕ) (x : X)
-    → slice_get xs i ≡ Some x → p x ≡ true
-count_by-all_back p [] h i x at = cc
-count_by-all_back p (y ∷ ys) h zero x at =
-    grind (arith, count_by-cons p y ys, count_by-le-length p ys)
-count_by-all_back p (y ∷ ys) h (suc i) x at =
-    grind (arith, count_by-cons p y ys, count_by-le-length p ys, count_by-all_back p ys)
+  -- and only there
+  pub count_by-all_back : (xs : List X) → count_by p xs ≡ length xs → (i : ℕ) (x : X)
+      → slice_get xs i ≡ Some x → p x ≡ true
+  count_by-all_back [] h i x at = cc
+  count_by-all_back (y ∷ ys) h zero x at =
+      grind (arith, count_by-cons y ys, count_by-le-length p ys)
+  count_by-all_back (y ∷ ys) h (suc i) x at =
+      grind (arith, count_by-cons y ys, count_by-le-length p ys, count_by-all_back ys)
 
--- none pass of copies of one that does not
-pub count_by-replicate : {X : Type 0} (p : X → Bool) (n : ℕ) (x : X) → p x ≡ false → count_by p (replicate n x) ≡ 0
-count_by-replicate p n x fails = grind (arith, sum_by-replicate (λ y. one_if (p y)) n x)
+  -- none pass of copies of one that does not
+  pub count_by-replicate : (n : ℕ) (x : X) → p x ≡ false → count_by p (replicate n x) ≡ 0
+  count_by-replicate n x fails = grind (arith, sum_by-replicate (λ y. one_if (p y)) n x)
 
--- an element that passes, where some do
-pub record Found {X : Type 0} (p : X → Bool) (xs : List X) : Type 0 where
-  pub place : ℕ
-  pub element : X
-  pub at : slice_get xs place ≡ Some element
-  pub passes : p element ≡ true
-
-pub count_by-found : {X : Type 0} (p : X → Bool) (xs : List X) → 0 < count_by p xs → Found p xs
-count_by-found p [] some = absurd (omega arith)
-count_by-found {X = X} p (x ∷ xs) some = by_first (p x) refl (count_by-found p xs)
-  where
-    by_first : (b : Bool) → p x ≡ b → (0 < count_by p xs → Found p xs) → Found p (x ∷ xs)
-    by_first true is rest = record { place = 0; element = x; at = refl; passes = is }
-    by_first false is rest =
-        let found = rest (grind (arith, count_by-cons p x xs)) in
-        record { place = suc found.place; element = found.element; at = found.at; passes = found.passes }
+  -- the first element that passes is there, where some do
+  pub count_by-found : (xs : List X) → 0 < count_by p xs → position_or_len p xs < length xs
+  count_by-found xs some = elim (cases_lt (position_or_len p xs) (length xs)) [
+    | inl found ↦ found
+    | inr past ↦
+        let none = sum_by-le (λ x. one_if (p x)) 0 xs
+        (λ k d within. grind (arith, fails_before_first p xs k)) in
+        absurd (omega (arith, none))
+  ]
 
 -- a count of a mapped list
 pub count_by-map : {X Y : Type 0} (p : Y → Bool) (q : X → Bool) (f : X → Y) (xs : List X)
@@ -124,19 +114,11 @@ count_by-both p q r (x ∷ xs) (y ∷ ys) count each =
 
 -- ---- tables
 
-pub slice_get-table : {X : Type 0} (f : ℕ → X) (n i : ℕ) → i < n → slice_get (map f (range_with_len 0 n)) i ≡ Some (f i)
+pub slice_get-table : {X : Type 0} (f : ℕ → X) (n i : ℕ) → i < n
+    → slice_get (map f (range_with_len 0 n)) i ≡ Some (f i)
 slice_get-table f n i h =
     grind (arith, common_steps, gets, length-map-range_with_len, get_or-map-range_with_len)
 
--- a table with one place set
-pub set-table_is : {X : Type 0} (f g : ℕ → X) (n i : ℕ) (x : X) → i < n → g i ≡ x → ((k : ℕ) → k < n → k ≢ i → f k ≡ g k)
-    → set (map f (range_with_len 0 n)) i x ≡ map g (range_with_len 0 n)
-set-table_is f g n i x within here others =
-    fill_by_all g (set (map f (range_with_len 0 n)) i x) n x
-    (simp (length-set, length-map-range_with_len)) (λ k below.
-    let count = length-map-range_with_len f 0 n in
-    let was = get_or-map-range_with_len f 0 n k k x below (omega arith) in
-    grind (arith, cases_eq k i, others k, get_or-set_same, get_or-set_other))
-
-pub slice_get-replicate : {X : Type 0} (n i : ℕ) (x y : X) → slice_get (replicate n x) i ≡ Some y → y ≡ x
+pub slice_get-replicate : {X : Type 0} (n i : ℕ) (x y : X) → slice_get (replicate n x) i ≡ Some y
+    → y ≡ x
 slice_get-replicate n i x y at = grind (arith, common_steps, gets, get_or-replicate)

@@ -1,26 +1,23 @@
--- What taking, finishing, counting down and putting back a gate keep of a queue.
-use Rattle.std.proofs.Common.{◌≡◌, ◌≢◌, ℕ, ◌+◌, ◌-◌, ◌*◌, ◌^◌, ◌<◌, ◌≤◌, List, length, set, get_or, slice_get, Some, replicate, arith}
+-- What taking, finishing, counting down, putting back and freeing gates keep of a queue.
+use Rattle.std.proofs.Common.{◌≡◌, ◌≢◌, ℕ, ◌+◌, ◌-◌, ◌*◌, ◌^◌, ◌<◌, ◌≤◌, List, length, map, set, get_or, slice_get, Some, replicate, sym, ◌∙◌, arith}
 use Rattle.std.proofs.lemmas.Grind.{common_steps}
-use Rattle.std.proofs.lemmas.Option.{slice_get_within, slice_get-get_or, gets}
+use Rattle.std.proofs.lemmas.List.{same_lists, length-map, get_or-map}
+use Rattle.std.proofs.lemmas.Option.{slice_get_within, slice_get-get_or, get_or_from_slice_get, gets}
 use Rattle.std.proofs.lemmas.List.Sums.{count_by-le-length}
 use Rattle.std.proofs.Math.ListN.{length-replicate}
+use Rattle.gc_queue.specs.declared.mark.Mark.{Mark}
 use Rattle.gc_queue.specs.declared.mark.Mark.TheVariants as mark
 use Rattle.gc_queue.specs.GateSet.{Has, Adds, Removes}
-use Rattle.gc_queue.specs.Queue.{Standing, is_busy, with_mark, IsQueue}
+use Rattle.gc_queue.specs.Queue.{Standing, is_busy, freed, with_mark, IsQueue}
 use Rattle.gc_queue.proofs.ListLemmas.{one_place, slice_get-replicate, count_by-set, count_by-set_more, count_by-set_less, count_by-replicate, count_by-some}
 
-module _ (s : Standing) (queued : List ℕ) (busy : ℕ) (q : IsQueue s queued busy) where
+module _ {s : Standing} {queued : List ℕ} {busy : ℕ} (q : IsQueue s queued busy) where
   -- ---- counting down: what is read of a countdown that is not 0 is n
 
   module _ (i n : ℕ) (positive : 0 < get_or s.countdowns i 0)
       (read : n ≡ get_or s.countdowns i n) where
     counted : slice_get s.countdowns i ≡ Some (n - 1 + 1)
     counted = grind (arith, common_steps, gets)
-
-    free_at : slice_get s.marks i ≡ Some mark.Free
-    free_at =
-        let mark_at = slice_get-get_or s.marks i mark.Free in
-        grind (arith, counted, q.known i, q.marks, slice_get_within)
 
     -- a gate that isn't ready yet
     pub count_down_rest : n - 1 ≢ 0
@@ -30,7 +27,8 @@ module _ (s : Standing) (queued : List ℕ) (busy : ℕ) (q : IsQueue s queued b
     -- a gate that is ready now
     pub count_down_last : n - 1 ≡ 0 → (more : List ℕ) → Adds queued i more
         → IsQueue (record s { countdowns = set s.countdowns i (n - 1) }) more busy
-    count_down_last none more added = grind (arith, counted, free_at, one_place)
+    count_down_last none more added =
+        let mark_at = slice_get-get_or s.marks i mark.Free in grind (arith, counted, one_place)
 
   -- ---- taking
 
@@ -47,7 +45,8 @@ module _ (s : Standing) (queued : List ℕ) (busy : ℕ) (q : IsQueue s queued b
     pub finish_keeps : IsQueue (with_mark s i mark.Finished) queued busy
     finish_keeps = grind (arith, one_place, count_by-set)
 
-    pub put_back_keeps : (more : List ℕ) → Adds queued i more → IsQueue (with_mark s i mark.Free) more (busy - 1)
+    pub put_back_keeps : (more : List ℕ) → Adds queued i more
+        → IsQueue (with_mark s i mark.Free) more (busy - 1)
     put_back_keeps more added = grind (arith, one_place, count_by-set_less)
 
     pub some_busy : 0 < busy
@@ -60,3 +59,20 @@ pub unopened : (n : ℕ) (countdowns queued : List ℕ) → n ≡ length countdo
     → IsQueue (record { marks = replicate n mark.Free; countdowns = countdowns }) queued 0
 unopened n countdowns queued count few positive room empty =
     grind (arith, length-replicate, gets, slice_get_within, slice_get-replicate, count_by-replicate)
+
+-- ---- freeing all claimed gates
+
+-- from gate n on the claimed gates are free again
+pub record IsFreedFrom (n : ℕ) (was now : List Mark) : Type 0 where
+  pub count : length now ≡ length was
+  pub before : (k : ℕ) → k < n → slice_get now k ≡ slice_get was k
+  pub after : (k : ℕ) (m : Mark) → n ≤ k → slice_get was k ≡ Some m
+      → slice_get now k ≡ Some (freed m)
+
+pub freed_all : (n : ℕ) (was now : List Mark) → n ≡ 0 → IsFreedFrom n was now → now ≡ map freed was
+freed_all n was now end h =
+    same_lists now (map freed was) (grind (arith, length-map, h.count)) (λ k d within.
+    let inside : k < length was = omega (arith, within, h.count) in
+    get_or_from_slice_get now k _ d
+    (h.after k _ (omega (arith, end)) (slice_get-get_or was k d inside))
+    ∙ sym (get_or-map freed was k d d inside))

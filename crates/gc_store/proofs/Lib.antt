@@ -1,13 +1,6 @@
+pub mod Names
 pub mod BatchLemmas
-pub mod CircuitLemmas
 pub mod StepLemmas
 pub mod TableLemmas
 pub mod StoreLemmas
-pub mod OpenLemmas
-pub mod GarblingLemmas
 pub mod CountLemmas
-pub mod ReopenLemmas
-pub mod AwaitedLemmas
-pub mod ClaimLemmas
-pub mod HandInLemmas
-pub mod StoredLemmas

@@ -1,148 +1,173 @@
--- What claiming and finishing a gate keeps, on contents.
-use Rattle.std.proofs.Common.{◌≡◌, ◌≢◌, ℕ, inl, inr, List, length, length-set, set, get_or, slice_get, Option, Some, true, count_by, refl, sym, ◌∙◌, arith}
-use Rattle.std.proofs.lemmas.Bool.{cases_eq}
-use Rattle.std.proofs.lemmas.Option.{slice_get_within, slice_get-get_or}
-use Rattle.gc_netlist.specs.declared.gate.Operation.{Operation}
-use Rattle.gc_netlist.specs.declared.gate.Gate.{Gate}
-use Rattle.gc_netlist.specs.Circuit.{Netlist, EachRead, IsLawful, is_and}
-use Rattle.gc_netlist.proofs.SolutionLemmas.{EachRead-map}
-use Rattle.gc_half.specs.declared.garbling.RowPair.{RowPair}
-use Rattle.gc_half.specs.Hash.{hash}
-use Rattle.gc_half.specs.Canonical.{zero_label_of}
-use Rattle.gc_half.proofs.CanonicalLemmas.{zero_label_of-gate}
-use Rattle.gc_half.specs.OneGate.{gate_rows}
-use Rattle.gc_store.specs.Task.{task_of, sealed_zero_label, sealed_rows}
-use Rattle.gc_store.specs.Content.{State, Free, Claimed, Finished, Content, is_finished, has_rows, IsClaimed, IsFinished, IsKnown, IsReady, AllFinished, IsLawfulContent}
-use Rattle.gc_store.specs.Step.{with_state, with_sealed}
-use Rattle.gc_queue.proofs.ListLemmas.{one_place, slice_get-set_same, count_by-set, count_by-set_more, count_by-all, count_by-all_back}
+-- What claiming, finishing and reopening gates keep, on contents.
+use Rattle.gc_store.proofs.Names.{◌≡◌, ◌≢◌, ℕ, suc, ◌*◌, ◌<◌, ◌↔◌, ◌⊎◌, inl, inr, List, length, length-set, map, set, slice_get, take, Option, Some, cond, true, count_by, refl, sym, ap, ◌∙◌, arith, position_or_len, cases_eq, cases_lt, length-map, take-take, slice_get_within, slice_get-get_or, slice_get-map, Gate, Netlist, EachRead, IsLawful, is_and, and_number, EachRead-map, RowPair, and_number-and, zero_label_of-gate, Task, task_of, sealed_zero_label, sealed_rows, State, Free, Claimed, Finished, Content, is_claimed, is_finished, has_rows, IsClaimed, IsFinished, IsKnown, IsReady, AllFinished, IsLawfulContent, reopened, with_sealed, one_place, slice_get-set_same, count_by-set, count_by-set_more, count_by-all, count_by-all_back, count_by-map, count_by-found, count_by-some}
+use Rattle.std.proofs.lemmas.List.Sums.{sum_by-take-le, passes_at_first}
+use Rattle.gc_store.proofs.CountLemmas.{reopened-count}
 
--- ---- what sealing a store's task gives
+-- ---- two gates
 
--- sealing the task of a gate gives the garbling's zero label of the wire that it sets
-pub sealed_zero_label_is : (c : Netlist) → IsLawful c → (seed : List ℕ) (i : ℕ) (g : Gate) → slice_get c.gates i ≡ Some g
-    → sealed_zero_label (task_of c seed i g) ≡ zero_label_of c seed g.set
-sealed_zero_label_is c lawful seed i g at = sym (zero_label_of-gate c seed lawful i g at)
+-- Gates at two places set two wires.
+pub set-apart : (c : Netlist) → IsLawful c → (i j : ℕ) (g h : Gate) → slice_get c.gates i ≡ Some g
+    → slice_get c.gates j ≡ Some h → i ≢ j → g.set ≢ h.set
+set-apart c lawful i j g h at_i at_j apart same = elim (cases_lt i j) [
+  | inl below ↦
+      lawful.sets_once j h at_j (inr (i, below, record { gate = g; at = at_i; wire = same }))
+  | inr past ↦ lawful.sets_once i g at_i
+      (inr (j, omega arith, record { gate = h; at = at_j; wire = sym same }))
+]
 
--- an operation has rows where it is AND
-has_rows-gate_rows : (r k a b label : ℕ) (op : Operation)
-    → has_rows (Finished label (gate_rows hash r k op a b)) ≡ is_and op
-has_rows-gate_rows r k a b label op = grind arith
+-- A gate after an AND gate has a higher AND number,
+and_number-after : (c : Netlist) (i j : ℕ) (g : Gate) → slice_get c.gates i ≡ Some g
+    → is_and g.operation ≡ true → i < j → and_number c i < and_number c j
+and_number-after c i j g at is below =
+    let front = take-take (suc i) j c.gates (omega arith) in
+    let rest = rw front at
+    (sum_by-take-le (λ (x : Gate). cond (is_and x.operation) 1 0) (take j c.gates) (suc i)) in
+    omega (arith, and_number-and c i g at is, rest)
 
--- ---- a gate in another state
+-- so AND gates at two places have two AND numbers.
+pub and_number-apart : (c : Netlist) (i j : ℕ) (g h : Gate) → slice_get c.gates i ≡ Some g
+    → slice_get c.gates j ≡ Some h → is_and g.operation ≡ true → is_and h.operation ≡ true
+    → i ≢ j → and_number c i ≢ and_number c j
+and_number-apart c i j g h at_i at_j and_i and_j apart same =
+    grind (arith, and_number-after c i j g at_i and_i, and_number-after c j i h at_j and_j)
 
--- what is known of states xs is known of ys, where a gate that is finished in xs is so in ys
-pub IsKnown-map : (s : Content) (xs ys : List State) (m n : ℕ)
-    → ((j label : ℕ) (rows : Option RowPair) → slice_get xs j ≡ Some (Finished label rows)
-    → slice_get ys j ≡ Some (Finished label rows))
-    → (w : ℕ) → IsKnown (record s { states = xs; rows = m }) w
+-- ---- gates in other states
+
+-- Each gate that is finished in the first states is finished so in the second.
+abbrev pub Stays : List State → List State → Type 0
+Stays xs ys = (i label : ℕ) (rows : Option RowPair)
+    → slice_get xs i ≡ Some (Finished label rows) → slice_get ys i ≡ Some (Finished label rows)
+
+-- So what is known stays known.
+known-stays : (s : Content) (xs ys : List State) (m n : ℕ) → Stays xs ys → (w : ℕ)
+    → IsKnown (record s { states = xs; rows = m }) w
     → IsKnown (record s { states = ys; rows = n }) w
-IsKnown-map s xs ys m n stays w (inl input) = inl input
-IsKnown-map s xs ys m n stays w (inr (j, by, f)) =
-    inr (j, by, record { label = f.label; rows = f.rows; at = stays j f.label f.rows f.at })
+known-stays s xs ys m n stays w (inl input) = inl input
+known-stays s xs ys m n stays w (inr (i, by, f)) =
+    inr (i, by, record { label = f.label; rows = f.rows; at = stays i f.label f.rows f.at })
 
--- ---- claiming
+-- States where the same gates are finished, and each gate that is not free reads known wires alone.
+pub record AreSame (s : Content) (states : List State) : Type 0 where
+  pub count : length states ≡ length s.states
+  pub stays : Stays s.states states
+  pub back : Stays states s.states
+  pub reads : (i : ℕ) (g : Gate) (state : State) → slice_get s.circuit.gates i ≡ Some g
+      → slice_get states i ≡ Some state → state ≢ Free → EachRead (IsKnown s) g.operation
+  pub rows : count_by has_rows states ≡ count_by has_rows s.states
+  pub finished : count_by is_finished states ≡ count_by is_finished s.states
 
-module _ (s : Content) (i : ℕ) (next : IsReady s i) where
-  finished_before : (j label : ℕ) (rows : Option RowPair)
-      → slice_get (set s.states i Claimed) j ≡ Some (Finished label rows)
-      → slice_get s.states j ≡ Some (Finished label rows)
-  finished_before j label rows at = grind (arith, next.free, one_place)
+module _ {s : Content} {states : List State} (same : AreSame s states) where
+  -- The same wires are known,
+  pub known-same : (w : ℕ) → IsKnown s w ↔ IsKnown (record s { states = states }) w
+  known-same w = (
+    known-stays s s.states states s.rows s.rows same.stays w,
+    known-stays s states s.states s.rows s.rows same.back w,
+  )
 
-  pub known-claim : (w : ℕ) → IsKnown s w → IsKnown (with_state s i Claimed) w
-  known-claim = IsKnown-map s s.states (set s.states i Claimed) s.rows s.rows
-      (λ j label rows at. grind (arith, next.free, one_place))
-
-  pub known-claim_back : (w : ℕ) → IsKnown (with_state s i Claimed) w → IsKnown s w
-  known-claim_back = IsKnown-map s (set s.states i Claimed) s.states s.rows s.rows finished_before
-
-  -- claiming a ready gate keeps a content lawful
-  pub claim_lawful : IsLawfulContent s → IsLawfulContent (with_state s i Claimed)
-  claim_lawful lawful = record {
+  -- and a lawful content stays lawful.
+  pub lawful-same : IsLawfulContent s → IsLawfulContent (record s { states = states })
+  lawful-same lawful = record {
     circuit = lawful.circuit;
-    states = length-set s.states i Claimed ∙ lawful.states;
-    finished = λ j g label rows at has. lawful.finished j g label rows at
-        (finished_before j label rows has);
-    reads = λ j g state at has busy.
-        let reads : EachRead (IsKnown s) g.operation =
-        grind (arith, next.at, next.reads, lawful.reads j g state at, one_place) in
-        EachRead-map (IsKnown s) (IsKnown (with_state s i Claimed)) g.operation known-claim reads;
-    rows = grind (arith, lawful.rows, next.free, count_by-set);
+    states = same.count ∙ lawful.states;
+    finished = λ i g label rows at has.
+        lawful.finished i g label rows at (same.back i label rows has);
+    reads = λ i g state at has busy.
+        EachRead-map (IsKnown s) (IsKnown (record s { states = states })) g.operation
+        (λ w. (known-same w).0) (same.reads i g state at has busy);
+    rows = lawful.rows ∙ ap (λ n. 2 * n) (sym same.rows);
   }
+
+module _ {s : Content} (lawful : IsLawfulContent s) where
+  -- The same gates are finished once a ready gate is claimed,
+  pub claim-same : (i : ℕ) → IsReady s i → AreSame s (set s.states i Claimed)
+  claim-same i next =
+      grind (arith, next.at, next.free, next.reads, lawful.reads, one_place, count_by-set)
+
+  -- and once the claimed gates are free again.
+  pub reopen-same : AreSame s (map reopened s.states)
+  reopen-same =
+      let rows = count_by-map has_rows has_rows reopened s.states (λ state. grind arith) in
+      grind (arith, slice_get-map reopened s.states, length-map, lawful.reads, reopened-count)
 
 -- ---- finishing
 
-module _ (s : Content) (lawful : IsLawfulContent s) (i : ℕ) (g : Gate)
+module _ {s : Content} (lawful : IsLawfulContent s) (i : ℕ) (g : Gate)
     (at : slice_get s.circuit.gates i ≡ Some g) (claimed : IsClaimed s i) where
+  abbrev pub own : Task
+  own = task_of s.circuit s.seed i g
+
   abbrev done : State
-  done = Finished (sealed_zero_label (task_of s.circuit s.seed i g)) (sealed_rows (task_of s.circuit s.seed i g))
+  done = Finished (sealed_zero_label own) (sealed_rows own)
 
   here : slice_get (set s.states i done) i ≡ Some done
   here = slice_get-set_same s.states i done (slice_get_within s.states i Claimed claimed)
 
-  pub known-finish : (w : ℕ) → IsKnown s w → IsKnown (with_sealed s (task_of s.circuit s.seed i g)) w
-  known-finish = IsKnown-map s s.states (set s.states i done) s.rows
-      (with_sealed s (task_of s.circuit s.seed i g)).rows
-      (λ j label rows has. grind (arith, claimed, one_place))
+  -- What was known is known then, and the wire that the gate sets is, too.
+  pub known-finish : (w : ℕ) → (IsKnown s w ⊎ (w ≡ g.set)) ↔ IsKnown (with_sealed s own) w
+  known-finish w = (to, back)
+    where
+      to : IsKnown s w ⊎ (w ≡ g.set) → IsKnown (with_sealed s own) w
+      to (inl known) = known-stays s s.states (set s.states i done) s.rows (with_sealed s own).rows
+          (λ j label rows has. grind (arith, claimed, one_place)) w known
+      to (inr same) =
+          let f : IsFinished (with_sealed s own) i = record { label = _; rows = _; at = here } in
+          inr (i, record { gate = g; at = at; wire = sym same }, f)
 
-  pub known-finish_set : IsKnown (with_sealed s (task_of s.circuit s.seed i g)) g.set
-  known-finish_set = inr (i, record { gate = g; at = at; wire = refl }, record { label = _; rows = _; at = here })
-
-  pub known-finish_back : (w : ℕ) → w ≢ g.set → IsKnown (with_sealed s (task_of s.circuit s.seed i g)) w → IsKnown s w
-  known-finish_back w other (inl input) = inl input
-  known-finish_back w other (inr (j, by, f)) =
-      let apart : j ≢ i = λ e. grind (arith, at, by.at, by.wire) in
-      inr (j, by, record { label = f.label; rows = f.rows; at = grind (arith, f.at, one_place) })
-
-  finished-finish : (j : ℕ) (h : Gate) (label : ℕ) (rows : Option RowPair) → slice_get s.circuit.gates j ≡ Some h
-      → slice_get (set s.states i done) j ≡ Some (Finished label rows)
-      → (label ≡ zero_label_of s.circuit s.seed h.set) × (rows ≡ sealed_rows (task_of s.circuit s.seed j h))
-  finished-finish j h label rows at_j has =
-      let zero = sealed_zero_label_is s.circuit lawful.circuit s.seed i g at in
-      elim (cases_eq j i) [
-        | inl e ↦
-            let gates : h ≡ g = grind arith in
-            let same : slice_get (set s.states i done) i ≡ Some (Finished label rows) =
-            rw e at has in
-            let z = here in
-            let first : label ≡ sealed_zero_label (task_of s.circuit s.seed i g) = cc in
-            rw (e, gates) (first ∙ zero, cc)
-        | inr apart ↦ lawful.finished j h label rows at_j (grind (arith, one_place))
+      back : IsKnown (with_sealed s own) w → IsKnown s w ⊎ (w ≡ g.set)
+      back (inl input) = inl (inl input)
+      back (inr (j, by, f)) = elim (cases_eq j i) [
+        | inl same ↦ inr (grind (arith, at, by.at, by.wire))
+        | inr apart ↦
+            let was : slice_get s.states j ≡ Some (Finished f.label f.rows) =
+            grind (arith, f.at, one_place) in
+            inl (inr (j, by, record { label = f.label; rows = f.rows; at = was }))
       ]
 
-  -- finishing a claimed gate with what sealing its task gives keeps a content lawful
-  pub finish_lawful : IsLawfulContent (with_sealed s (task_of s.circuit s.seed i g))
+  -- Finishing a claimed gate with what sealing its task gives keeps a content lawful.
+  pub finish_lawful : IsLawfulContent (with_sealed s own)
   finish_lawful = record {
     circuit = lawful.circuit;
     states = length-set s.states i done ∙ lawful.states;
-    finished = finished-finish;
+    finished = λ j h label rows at_j has.
+        let zero = zero_label_of-gate s.circuit s.seed lawful.circuit i g at in
+        grind (arith, here, lawful.finished j h label rows at_j, one_place);
     reads = λ j h state at_j has busy.
-        let reads : EachRead (IsKnown s) h.operation =
-        grind (arith, claimed, lawful.reads j h, one_place) in
-        EachRead-map (IsKnown s) (IsKnown (with_sealed s (task_of s.circuit s.seed i g)))
-        h.operation known-finish reads;
-    rows = grind (arith, claimed, lawful.rows, count_by-set, count_by-set_more, has_rows-gate_rows);
+        EachRead-map (IsKnown s) (IsKnown (with_sealed s own)) h.operation
+        (λ w known. (known-finish w).0 (inl known))
+        (grind (arith, claimed, lawful.reads j h, one_place));
+    rows = grind (arith, claimed, lawful.rows, count_by-set, count_by-set_more);
   }
 
--- ---- every gate finished
+-- ---- counts of gates
 
+-- A gate is finished where its state passes.
 finished_from : (s : Content) (i : ℕ) (state : State) → slice_get s.states i ≡ Some state
     → is_finished state ≡ true → IsFinished s i
 finished_from s i Free at is = cc
 finished_from s i Claimed at is = cc
 finished_from s i (Finished label rows) at is = record { label = label; rows = rows; at = at }
 
--- every gate is finished where as many are as there are gates
+-- As many gates are finished as there are gates exactly where every gate is.
 pub all_finished : (s : Content) → IsLawfulContent s
-    → count_by is_finished s.states ≡ length s.circuit.gates → AllFinished s
-all_finished s lawful count i within =
-    let at = slice_get-get_or s.states i Free (omega (arith, lawful.states)) in
-    finished_from s i (get_or s.states i Free) at
-    (count_by-all_back is_finished s.states (count ∙ sym lawful.states) i (get_or s.states i Free) at)
+    → (count_by is_finished s.states ≡ length s.circuit.gates) ↔ AllFinished s
+all_finished s lawful = (
+  λ count i within.
+      let at = slice_get-get_or s.states i Free (omega (arith, lawful.states)) in
+      finished_from s i _ at
+      (count_by-all_back is_finished s.states (count ∙ sym lawful.states) i _ at),
+  λ all.
+      count_by-all is_finished s.states (λ i state at.
+      let f = all i (grind (arith, slice_get_within, lawful.states)) in
+      grind (arith, f.at)) ∙ lawful.states,
+)
 
-pub all_finished_back : (s : Content) → IsLawfulContent s → AllFinished s
-    → count_by is_finished s.states ≡ length s.circuit.gates
-all_finished_back s lawful all =
-    count_by-all is_finished s.states
-    (λ i state at. let f = all i (grind (arith, slice_get_within, lawful.states)) in
-    grind (arith, f.at))
-    ∙ lawful.states
+-- Some gates are claimed exactly where one is.
+pub some_claimed : (s : Content) → (0 < count_by is_claimed s.states) ↔ ((i : ℕ) × IsClaimed s i)
+some_claimed s = (
+  λ some.
+      let found = count_by-found is_claimed s.states some in
+      let at = slice_get-get_or s.states _ Free found in
+      let passes = passes_at_first is_claimed s.states Free found in
+      (position_or_len is_claimed s.states, grind arith),
+  λ claimed. count_by-some is_claimed s.states claimed.0 Claimed claimed.1 refl,
+)

@@ -20,7 +20,7 @@ pub(crate) struct Beginning<A: Allocator> {
     pub tables: LabelTables<A>,
 }
 
-/// Those among them that aren't the queue's.
+/// The tables that aren't the queue's.
 #[derive(Drop)]
 pub(crate) struct LabelTables<A: Allocator> {
     // By gate.
@@ -74,7 +74,7 @@ fn opening_queue<A: Allocator + Copy, C: Allocator>(
 ) -> Result<Queue<A>, Memory>
     ensures { IfOk result (λ q. Queues circuit.now q.marks q.countdowns) }
 {
-    // They fit in a u32.
+    // The gates fit in a u32.
     let _gates = circuit.gates();
     let queue = Queue::open(alloc, opening_countdowns(alloc, circuit)?)?;
     Ok(queue)

@@ -20,7 +20,7 @@ const TRIES: u32 = 200;
 /// How long a thread pauses between two tries, in turns of a loop: less than a section takes.
 const PAUSE: u32 = 10;
 
-/// What the lock is round: a store, whether it was stopped, and how many threads sleep because no task is ready and were
+/// What the lock guards: a store, whether it was stopped, and how many threads sleep because no task is ready and were
 /// not woken yet.
 #[derive(Drop)]
 struct Desk<L: Ledger, A: Allocator> {

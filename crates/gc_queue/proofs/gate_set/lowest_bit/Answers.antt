@@ -4,4 +4,5 @@ use Rattle.gc_queue.proofs.gate_set.lowest_bit.Goals as goal
 
 pub returns : goal.returns
 returns g =
-    let lowest = bit_at-trailing_zeros w64 g.args.word g.requires g.ranges.word.fits in (lowest.0, lowest.1)
+    let lowest = bit_at-trailing_zeros w64 g.args.word g.requires g.ranges.word.fits in
+    (lowest.0, lowest.1)

@@ -6,6 +6,5 @@ use Rattle.gc_queue.proofs.tables.opening_countdowns.Goals as goal
 
 pub loop-i-preserved : goal.loop-i-preserved
 loop-i-preserved g c =
-    let i = c.loop-i.i in
-    let more = map-range_with_len_more (opening_countdown c.args.circuit.now) 0 i i (omega arith) in
-    grind (arith, common_steps)
+    let more = map-range_with_len_more (opening_countdown c.args.circuit.now) 0 c.loop-i.i in
+    grind (arith, common_steps, more)

@@ -5,27 +5,23 @@ use Rattle.gc_queue.proofs.gate_set.GateSet.take.Goals.{then-others-eq0, else-ot
 
 pub invariant_of-self : goal.invariant_of-self
 invariant_of-self g c =
-    last_keeps _ _ _ c.self.invariant c.in_ok-word.word c.index-gates.result.now
-    c.lowest_bit-bit.result
+    last_keeps c.self.invariant _ _ _
     (rw (← (c.self.view_is ∙ c.in_ok-word.ensures.same)) at c.in_ok-word.ensures.found)
-    c.index-gates.ensures c.lowest_bit-bit.ensures c.index_mut-then-others-eq0.result.now
-    c.index_mut-then-others-eq0.ensures.value c.if-others-eq0.true
+    c.index-gates.ensures c.lowest_bit-bit.ensures _ c.index_mut-then-others-eq0.ensures.value
+    c.if-others-eq0.true
 
 pub overflow_cast-result : goal.overflow_cast-result
 overflow_cast-result g c =
-    let fits = gate_fits _ _ _ c.self.invariant c.in_ok-word.word c.index-gates.result.now
-    c.lowest_bit-bit.result
+    let fits = gate_fits c.self.invariant _ _ _
     (rw (← (c.self.view_is ∙ c.in_ok-word.ensures.same)) at c.in_ok-word.ensures.found)
-    c.index-gates.ensures
-    c.lowest_bit-bit.ensures in
+    c.index-gates.ensures c.lowest_bit-bit.ensures in
     omega (arith, fits)
 
 pub returns : goal.returns
 returns g c =
     let view = c.self.view_is ∙ c.in_ok-word.ensures.same in
-    let gone = taken _ _ _ c.self.invariant c.in_ok-word.word c.index-gates.result.now
-    c.lowest_bit-bit.result
-    (rw (← view) at c.in_ok-word.ensures.found) c.index-gates.ensures c.lowest_bit-bit.ensures in
+    let gone = taken c.self.invariant _ _ _ (rw (← view) at c.in_ok-word.ensures.found)
+    c.index-gates.ensures c.lowest_bit-bit.ensures in
     elim c.if-others-eq0.branch [
       | then-others-eq0 w ↦ rw (← view, w.self-is) gone
       | else-others-eq0 w ↦ rw (← view, w.self-is) gone

@@ -5,8 +5,7 @@ use Rattle.gc_queue.proofs.queue.Queue.put_back.Goals as goal
 
 pub overflow_sub-self : goal.overflow_sub-self
 overflow_sub-self g c =
-    let some = some_busy _ _ _ c.self.invariant c.args.gate (rw (← c.self.view_is) at c.requires) in
-    omega arith
+    omega (arith, some_busy c.self.invariant _ (rw (← c.self.view_is) at c.requires))
 
 pub index_mut-requires : goal.index_mut-requires
 index_mut-requires g c = grind (arith, slice_get_within)
@@ -16,5 +15,4 @@ insert-requires g c = grind (arith, slice_get_within)
 
 pub invariant_of-self : goal.invariant_of-self
 invariant_of-self g c =
-    put_back_keeps _ _ _ c.self.invariant c.args.gate (rw (← c.self.view_is) at c.requires)
-    c.insert.new.self c.insert.ensures
+    put_back_keeps c.self.invariant _ (rw (← c.self.view_is) at c.requires) _ c.insert.ensures

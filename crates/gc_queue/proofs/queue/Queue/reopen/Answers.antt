@@ -1,8 +1,7 @@
 use Rattle.std.proofs.Common.{arith}
-use Rattle.gc_queue.proofs.FreedLemmas.{freed_all}
+use Rattle.gc_queue.proofs.QueueLemmas.{freed_all}
 use Rattle.gc_queue.proofs.queue.Queue.reopen.Goals as goal
 
 pub returns-clause-marks : goal.returns-clause-marks
 returns-clause-marks g c =
-    freed_all c.loop-gate.gate c.args.self.now.marks c.loop-gate.self.marks (omega (arith, c.loop-gate-test.false))
-    c.loop-gate.invariant.freed
+    freed_all _ _ _ (omega (arith, c.loop-gate-test.false)) c.loop-gate.invariant.freed

@@ -1,5 +1,5 @@
 use Rattle.std.proofs.Common.{◌≡◌, ◌≤◌, length}
-use Rattle.gc_queue.proofs.FreedLemmas.{IsFreedFrom}
+use Rattle.gc_queue.proofs.QueueLemmas.{IsFreedFrom}
 use Rattle.gc_queue.proofs.queue.Queue.reopen.Given as goal
 
 -- the gates gone through are not claimed

@@ -1,5 +1,5 @@
 use Rattle.std.proofs.Common.{◌≡◌, ◌-◌, length}
-use Rattle.gc_queue.proofs.WalkLemmas.{IsCounted}
+use Rattle.gc_queue.proofs.ReadersLemmas.{IsCounted}
 use Rattle.gc_queue.proofs.readers.Readers.count_down.Given as goal
 
 -- the reads before have been counted down

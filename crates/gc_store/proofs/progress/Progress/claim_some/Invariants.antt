@@ -1,6 +1,6 @@
 use Rattle.std.proofs.Common.{◌-◌, length}
 use Rattle.gc_store.specs.declared.batch.TheConstants.{BATCH_SIZE}
-use Rattle.gc_store.proofs.ClaimLemmas.{HasClaimed}
+use Rattle.gc_store.proofs.BatchLemmas.{HasClaimed}
 use Rattle.gc_store.proofs.progress.Progress.claim_some.Given as goal
 
 abbrev pub invariant-loop-self : goal.invariant-loop-self

@@ -1,13 +1,15 @@
-use Rattle.gc_store.proofs.OpenLemmas.{opened_kept, opened_content}
-use Rattle.gc_store.proofs.StoredLemmas.{stored}
+use Rattle.std.proofs.Common.{refl}
+use Rattle.gc_store.proofs.TableLemmas.{opened_kept, opened_content}
+use Rattle.gc_store.proofs.StoreLemmas.{stored}
 use Rattle.gc_store.proofs.progress.Progress.of.Goals as goal
 
 pub invariant_of-result : goal.invariant_of-result
 invariant_of-result g c =
-    stored _ _ _ _ (opened_kept _ c.args.seed _ _ c.requires.readers _
-    (rw (← c.tables.view_is) at c.requires.tables) c.offset.result c.offset.ensures)
+    let begins = rw (← c.tables.view_is) at c.requires.tables in
+    stored (opened_kept _ c.args.seed _ c.requires.readers begins.queue begins.tables refl
+    refl _ c.offset.ensures)
 
 pub returns : goal.returns
 returns g c =
-    opened_content _ c.args.seed _ _ c.requires.readers _
-    (rw (← c.tables.view_is) at c.requires.tables)
+    let begins = rw (← c.tables.view_is) at c.requires.tables in
+    opened_content _ c.args.seed _ c.requires.readers begins.queue begins.tables refl refl

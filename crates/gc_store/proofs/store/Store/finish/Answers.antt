@@ -6,9 +6,6 @@ pub raise-requires : goal.raise-requires
 raise-requires g c = omega (arith, c.self.invariant, c.finished-finished.ensures.count)
 
 pub invariant_of-self-2 : goal.invariant_of-self-2
-invariant_of-self-2 g c = (
-  omega (arith, c.self.invariant, c.raise.ensures.total, finishes-count _ _ _ _ c.in_ok-complete.ensures),
-  c.self.invariant.1,
-  c.self.invariant.2,
-  c.self.invariant.3,
-)
+invariant_of-self-2 g c =
+    let count = finishes-count _ _ _ _ c.in_ok-complete.ensures in
+    omega (arith, c.self.invariant, c.raise.ensures.total, count)

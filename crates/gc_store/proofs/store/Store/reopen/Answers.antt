@@ -1,7 +1,8 @@
-use Rattle.std.proofs.Common.{sym, ◌∙◌}
-use Rattle.gc_store.proofs.CountLemmas.{reopens-count}
+use Rattle.std.proofs.Common.{arith}
+use Rattle.gc_store.proofs.CountLemmas.{reopened-count}
 use Rattle.gc_store.proofs.store.Store.reopen.Goals as goal
 
 pub invariant_of-self : goal.invariant_of-self
 invariant_of-self g c =
-    (c.self.invariant.0 ∙ sym (reopens-count _ _ _ c.reopen.ensures), c.self.invariant.1, c.self.invariant.2, c.self.invariant.3)
+    rw c.reopen.ensures.1
+    (omega (arith, c.self.invariant, reopened-count c.self.inside.progress.states))
