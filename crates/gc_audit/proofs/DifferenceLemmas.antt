@@ -1,8 +1,5 @@
 -- Two lists that are gone through place by place until they differ.
-use Rattle.std.proofs.Common.{◌≡◌, ◌≢◌, ℕ, ◌+◌, List, length, take, slice_get, Option, Some, None, MatchOption, refl, sym, ap, ◌∙◌, arith}
-use Rattle.std.proofs.lemmas.List.{take_all, take_more_same}
-use Rattle.std.proofs.lemmas.Option.{slice_get_within, get_or_from_slice_get}
-use Rattle.gc_audit.specs.Difference.{DifferFirstAt}
+use Rattle.gc_audit.proofs.Names.{◌≡◌, ◌≢◌, ℕ, ◌+◌, List, length, take, slice_get, Option, Some, None, MatchOption, refl, sym, ap, ◌∙◌, arith, take_all, take_more_same, slice_get_within, get_or_from_slice_get, DifferFirstAt}
 
 module _ {X : Type 0} (xs ys : List X) where
   -- They first differ where they are the same before, and their elements differ.

@@ -1,30 +1,12 @@
 -- What an audit of a garbled file finds, from what it finds of each part.
-use Rattle.std.proofs.Common.{◌≡◌, ◌≢◌, ◌↔◌, ℕ, ◌+◌, ◌-◌, ◌<◌, Bool, true, false, List, length, map, take, slice_get, slice_index, get_or, Option, Some, None, MatchOption, refl, sym, ap, subst, ◌∙◌, arith}
+use Rattle.gc_audit.proofs.Names.{◌≡◌, ◌≢◌, ◌↔◌, ℕ, ◌+◌, ◌-◌, ◌<◌, Bool, true, false, List, length, map, take, slice_get, slice_index, get_or, Option, Some, None, MatchOption, refl, sym, ap, subst, ◌∙◌, arith, get_or_from_slice_get, slice_get-get_or, sha256, Netlist, IsLawful, canonical_text, offset_of, GarblingParts, FitsCircuit, decode_bits_of, garbling_of, row_pairs_of, HasLabels, length-row_pairs_of, parts-same, Version, One, Two, GarbledParts, entry_count, entry_pair_of, entry_pairs_of, length-decode_bits, length-entry_pairs, entry_pairs-at, version_entries, honest_parts, DifferFirstAt, IsRowDifference, named, DifferFirstIn, IsEntryDifference}
 use Rattle.std.specs.List.{range_with_len}
 use Rattle.std.proofs.lemmas.List.FromFn.{get_or-map-range_with_len}
-use Rattle.std.proofs.lemmas.Option.{get_or_from_slice_get, slice_get-get_or}
-use Rattle.sha2.specs.Sha256.{sha256}
-use Rattle.gc_netlist.specs.Circuit.{Netlist, IsLawful}
-use Rattle.gc_netlist.specs.Canon.{canonical_text}
-use Rattle.gc_label.specs.Seed.{offset_of}
-use Rattle.gc_half.specs.Garbling.{GarblingParts, FitsCircuit, decode_bits_of}
-use Rattle.gc_half.specs.Canonical.{garbling_of, row_pairs_of}
-use Rattle.gc_half.specs.Comparing.{HasLabels}
 use Rattle.gc_half.specs.Entry.{entry_of, entries_of, label_of_colour, output_tweak}
 use Rattle.gc_half.specs.Hash.{hash}
-use Rattle.gc_half.proofs.CanonicalLemmas.{length-row_pairs_of, parts-same}
 use Rattle.gc_format.specs.declared.parts.EntryPair.{EntryPair}
-use Rattle.gc_format.specs.declared.parts.Version.{Version}
-use Rattle.gc_format.specs.declared.parts.Version.TheVariants.{One, Two}
-use Rattle.gc_format.specs.GarbledFile.{GarbledParts, entry_count}
-use Rattle.gc_write.specs.Written.{entry_pair_of, entry_pairs_of}
-use Rattle.gc_write.proofs.ByteLemmas.{length-decode_bits, length-entry_pairs, entry_pairs-at}
-use Rattle.gc_file.specs.Honest.{version_entries, honest_parts}
 use Rattle.gc_audit.specs.declared.garbled.GarbledAudit.{GarbledAudit}
 use Rattle.gc_audit.specs.declared.garbled.PartsAudit.{PartsAudit}
-use Rattle.gc_audit.specs.Difference.{DifferFirstAt}
-use Rattle.gc_audit.specs.Rows.{IsRowDifference}
-use Rattle.gc_audit.specs.Entries.{named, DifferFirstIn, IsEntryDifference}
 use Rattle.gc_audit.specs.Garbled.{AreCountsRight, IsPartsAudit, IsGarbledAudit, honest_audit}
 use Rattle.gc_audit.proofs.DifferenceLemmas.{differ_first, none_found}
 

@@ -1,23 +1,13 @@
 -- What an audit of a label file finds, from what it finds of the labels.
-use Rattle.std.proofs.Common.{◌≡◌, ◌≢◌, ◌↔◌, ℕ, zero, suc, ◌+◌, ◌<◌, Bool, true, false, List, [], ◌∷◌, ◌++◌, length, length-append, take, slice_get, get_or, ltb, Some, refl, sym, ap, subst, ◌∙◌, arith}
-use Rattle.std.proofs.lemmas.List.{take_more}
-use Rattle.std.proofs.lemmas.Option.{slice_get_within, slice_get_read, get_or_from_slice_get}
+use Rattle.gc_audit.proofs.Names.{◌≡◌, ◌≢◌, ◌↔◌, ℕ, zero, suc, ◌+◌, ◌<◌, Bool, true, false, List, [], ◌∷◌, ◌++◌, length, length-append, take, slice_get, get_or, ltb, Some, refl, sym, ap, subst, ◌∙◌, arith, take_more, slice_get_within, slice_get_read, get_or_from_slice_get, Netlist, IsLawful, input_wires, offset_of, input_label_of, encode, GarblingParts, HasLabels, LabelFileParts, encoded_from, Bits, WrongLabel, WrongWidth, NoValue, first_wire_of, IsDealt, IsFirstWrong, IsLabelsVerdict, AreCompared, HasBits}
 use borrow.Author.Tests.{ltb-true}
-use Rattle.gc_netlist.specs.Circuit.{Netlist, IsLawful, input_wires}
 use Rattle.gc_circuit.specs.Meaning.{xor}
 use Rattle.gc_label.specs.Label.{colour}
-use Rattle.gc_label.specs.Seed.{offset_of, input_label_of}
 use Rattle.gc_label.proofs.SeedLemmas.{colour-offset_of}
-use Rattle.gc_half.specs.Evaluation.{encode}
-use Rattle.gc_half.specs.Garbling.{GarblingParts}
-use Rattle.gc_half.specs.Comparing.{HasLabels}
 use Rattle.gc_half.proofs.ComparingLemmas.{HasLabels-input}
 use Rattle.gc_half.proofs.HalfGateLaw.{colour-encode}
-use Rattle.gc_format.specs.LabelFile.{LabelFileParts, encoded_from}
 use Rattle.gc_write.proofs.DealLemmas.{encoded_from-append, length-encoded_from}
 use Rattle.gc_audit.specs.declared.labels.LabelsVerdict.{LabelsVerdict}
-use Rattle.gc_audit.specs.declared.labels.LabelsVerdict.TheVariants.{Bits, WrongLabel, WrongWidth, NoValue}
-use Rattle.gc_audit.specs.Labels.{first_wire_of, IsDealt, IsFirstWrong, IsLabelsVerdict, AreCompared, HasBits}
 
 -- A label stands for one bit: the two labels of a wire have different colours.
 encode-same : (offset label : ℕ) (x y : Bool) → colour offset ≡ true

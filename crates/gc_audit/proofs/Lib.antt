@@ -1,3 +1,4 @@
+pub mod Names
 pub mod DifferenceLemmas
 pub mod RowLemmas
 pub mod GarbledLemmas

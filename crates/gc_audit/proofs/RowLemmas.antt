@@ -1,13 +1,7 @@
 -- The first row pair that differs, from the first mismatch.
-use Rattle.std.proofs.Common.{◌≡◌, List, slice_get, Some}
-use Rattle.std.proofs.lemmas.Option.{get_or_from_slice_get}
-use Rattle.gc_netlist.specs.Circuit.{Netlist}
+use Rattle.gc_audit.proofs.Names.{◌≡◌, List, slice_get, Some, get_or_from_slice_get, Netlist, Mismatch, IsFirstMismatch, row_at, DifferIn, IsAndGate, IsRowDifference}
 use Rattle.gc_half.specs.declared.garbling.RowPair.{RowPair}
-use Rattle.gc_half.specs.declared.garbling.Mismatch.{Mismatch}
-use Rattle.gc_half.specs.Comparing.{IsFirstMismatch}
-use Rattle.gc_half.specs.Evaluation.{row_at}
 use Rattle.gc_audit.specs.declared.rows.RowDifference.{RowDifference}
-use Rattle.gc_audit.specs.Rows.{DifferIn, IsAndGate, IsRowDifference}
 use Rattle.gc_audit.proofs.DifferenceLemmas.{differ_first}
 
 module _ (c : Netlist) (filed garbled : List RowPair) (m : Mismatch)

@@ -149,17 +149,7 @@ pub fn are_counts_right<A: Allocator, B: Allocator>(circuit: &Circuit<A>, file: 
 {
     file.rows().len() == circuit.and_count() as usize
         && file.decode_bits().len() == circuit.output_wires() as usize
-        && file.entries().len() == entry_count(file.version(), circuit.output_wires()) as usize
-}
-
-/// How many entry pairs a file of a version has, where there are as many output wires.
-fn entry_count(version: Version, outputs: u32) -> u32
-    ensures { result ≡ entry_count version outputs }
-{
-    match version {
-        Version::One => 0,
-        Version::Two => outputs,
-    }
+        && file.entries().len() == file.version().entry_count(circuit.output_wires()) as usize
 }
 
 /// The first output whose decode bit is not the garbling's. That there are as many is the caller's condition.

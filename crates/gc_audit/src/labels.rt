@@ -1,13 +1,13 @@
 //! Comparing label files with the labels of a circuit's input wires.
 
-ghost use Rattle.std.specs.Prelude.{◌≡◌, ◌≢◌, ◌<◌, ◌≤◌, ◌+◌, ◌^◌, ◌↔◌, Bool, List, MatchOption, IfOk, length, sum};
+ghost use Rattle.std.specs.Prelude.{◌≡◌, ◌≢◌, ◌≤◌, ◌+◌, ◌↔◌, Bool, List, MatchOption, IfOk, length};
 ghost use Rattle.gc_netlist.specs.Circuit.{input_wires};
 ghost use Rattle.gc_half.specs.Evaluation.{encode};
 ghost use Rattle.gc_half.specs.Comparing.{HasLabels};
-ghost use Rattle.gc_audit.specs.Labels.{IsLabelsVerdict, IsDealt, HasBits, AreCompared, first_wire_of};
+ghost use Rattle.gc_audit.specs.Labels.{IsLabelsVerdict, IsDealt, HasBits, AreCompared};
 
 use gc_circuit::{Circuit, Memory};
-use gc_file::LabelFile;
+use gc_file::{LabelFile, first_wire};
 use gc_half::Garbling;
 use gc_label::{Label, Offset, Seed, offset};
 use std::alloc::{Allocator, Global};
@@ -54,23 +54,6 @@ pub fn audit_labels<A: Allocator, B: Allocator, C: Allocator, D: Allocator>(
     }
     let first = first_wire(circuit, index);
     compare(alloc, circuit, labels, seed, first, filed)
-}
-
-/// The first wire of the input value with this index. That there is one is the caller's condition.
-fn first_wire<A: Allocator>(circuit: &Circuit<A>, index: usize) -> u32
-    requires { index < length circuit.now.input_widths }
-    ensures { result ≡ first_wire_of circuit.now index }
-{
-    circuit.law_lawful();
-    sum_of(&circuit.input_widths()[..index])
-}
-
-/// The sum of these widths.
-fn sum_of(widths: &[u32]) -> u32
-    requires { sum widths.now < 2 ^ 32 }
-    ensures { result ≡ sum widths.now }
-{
-    widths.iter().sum()
 }
 
 /// The bits that the filed labels stand for on the input wires from the first one on, or the first wire whose label

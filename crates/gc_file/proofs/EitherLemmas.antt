@@ -1,22 +1,9 @@
 -- Bytes are a garbled file or have a first fault.
-use Rattle.std.proofs.Common.{◌≡◌, ℕ, ◌-◌, ◌*◌, ◌%◌, ◌^◌, ◌≤◌, ◌⊎◌, inl, inr, List, ◌++◌, length, take, drop, Bool, true, false, bytes_eq, slice_index, refl, sym, ap, ◌∙◌, append_assoc, arith}
+use Rattle.gc_file.proofs.Names.{◌≡◌, ℕ, ◌-◌, ◌*◌, ◌%◌, ◌^◌, ◌≤◌, ◌⊎◌, inl, inr, List, ◌++◌, length, take, drop, Bool, true, false, bytes_eq, slice_index, refl, sym, ap, ◌∙◌, append_assoc, arith, cases_lt, take-append-drop, take-take, take_all, length-take, length-drop, length-take-le, MAX_GATES, MAX_WIRES, FileFault, BadMagic, Truncated, Trailing, CountTooLarge, SpareBits, BadTrailer, Version, bytes_for, GarbledParts, magic, entry_count, IsGarbledFile, IsBegun, row_count, output_count, decode_end, trailer_end, IsTrailerRight, HasHeader, HasSpareBit, HasDecodeBits, LastingFault, bad_magic, too_many_rows, too_many_outputs, spare_bits, bad_trailer, trailing, IsHeaderInOrder, IsInOrder, FirstFault, lasting, truncated, version_of, row_size, decode_size, entry_size, AreBytes, number_at-append, version_of-begun}
 use Rattle.std.specs.Bool.{Decides}
-use Rattle.std.proofs.lemmas.List.{take-append-drop, take-take, take_all, length-take, length-drop, length-take-le}
 use Rattle.std.proofs.lemmas.Slice.Eq.{bytes_eq-Decides}
-use Rattle.gc_netlist.specs.declared.limits.TheConstants.{MAX_GATES, MAX_WIRES}
-use Rattle.gc_half.proofs.SetWires.{lt_or_le}
-use Rattle.gc_read.specs.declared.fault.FileFault.{FileFault}
-use Rattle.gc_read.specs.declared.fault.FileFault.TheVariants.{BadMagic, Truncated, Trailing, CountTooLarge, SpareBits, BadTrailer}
-use Rattle.gc_format.specs.declared.parts.Version.{Version}
 use Rattle.gc_format.specs.declared.parts.Version.TheVariants.{One, Two}
-use Rattle.gc_format.specs.DecodeBits.{bytes_for}
-use Rattle.gc_format.specs.GarbledFile.{GarbledParts, magic, entry_count, IsGarbledFile}
-use Rattle.gc_read.specs.FileFault.{IsBegun, row_count, output_count, decode_end, trailer_end, IsTrailerRight, HasHeader, HasSpareBit, HasDecodeBits, LastingFault, bad_magic, too_many_rows, too_many_outputs, spare_bits, bad_trailer, trailing, IsHeaderInOrder, IsInOrder, FirstFault, lasting, truncated}
-use Rattle.gc_read.specs.Body.{version_of, row_size, decode_size, entry_size}
-use Rattle.gc_file.specs.FileLaw.{AreBytes}
-use Rattle.gc_format.proofs.NumberLemmas.{number_at-append}
 use Rattle.gc_read.proofs.PlaceLemmas.{begins, begun, spare, is_right}
-use Rattle.gc_read.proofs.StepLemmas.{version_of-begun}
 use Rattle.gc_read.proofs.FileLemmas.{file_is}
 use Rattle.gc_file.proofs.ItemLemmas.{small, AreBytes-take, AreBytes-drop, items_spelled, row_spelling, entry_spelling}
 use Rattle.gc_file.proofs.OneFile.{header_in, after_rows, after_decode, parts_in}
@@ -117,15 +104,15 @@ other_or_same xs ys = decided (bytes_eq xs ys) (bytes_eq-Decides xs ys)
 reached : {Bad Good : Type 0} (end long : ℕ) → Bad ⊎ Good
     → ((end ≤ long) × Bad) ⊎ (end ≤ long → Good)
 reached end long (inr good) = inr (λ far. good)
-reached end long (inl bad) = elim (lt_or_le long end) [
+reached end long (inl bad) = elim (cases_lt long end) [
   | inl short ↦ inr (λ far. absurd (omega arith))
   | inr far ↦ inl (far, bad)
 ]
 
 spare_or_not : (b : List ℕ) → HasSpareBit b ⊎ (HasSpareBit b → ⊥)
-spare_or_not b = elim (lt_or_le 0 (output_count b % 8)) [
+spare_or_not b = elim (cases_lt 0 (output_count b % 8)) [
   | inr full ↦ inr (λ is. let part = is.not_full in omega arith)
-  | inl part ↦ elim (lt_or_le (slice_index b (decode_end b - 1)) (2 ^ (output_count b % 8))) [
+  | inl part ↦ elim (cases_lt (slice_index b (decode_end b - 1)) (2 ^ (output_count b % 8))) [
     | inl low ↦ inr (λ is. let bit = is.bit in omega arith)
     | inr high ↦ inl (record { not_full = part; bit = high })
   ]
@@ -142,7 +129,7 @@ fault e is = inr (e, lasting e is)
 
 module _ (v : Version) (b : List ℕ) (are : AreBytes b) where
   judged_order : IsInOrder v b → Judged b
-  judged_order in_order = elim (lt_or_le (length b) (trailer_end v b)) [
+  judged_order in_order = elim (cases_lt (length b) (trailer_end v b)) [
     | inl less ↦ inr (Truncated, truncated v in_order less)
     | inr reaches ↦ inl (parts_in b, whole_file v b are in_order (omega (arith, in_order.ends)))
   ]
@@ -153,7 +140,7 @@ module _ (v : Version) (b : List ℕ) (are : AreBytes b) where
     | inr no_spare ↦ elim (reached (trailer_end v b) (length b) (right_or_not v b)) [
       | inl wrong ↦ fault BadTrailer
           (bad_trailer v (decoded no_spare (omega (arith, wrong.0))) wrong.0 wrong.1)
-      | inr right ↦ elim (lt_or_le (trailer_end v b) (length b)) [
+      | inr right ↦ elim (cases_lt (trailer_end v b) (length b)) [
         | inl more ↦ fault Trailing
             (trailing v (decoded no_spare (omega arith)) more (right (omega arith)))
         | inr within ↦ judged_order (record {
@@ -180,10 +167,10 @@ module _ (v : Version) (b : List ℕ) (are : AreBytes b) where
           record { header = has (omega arith); whole = reaches; no_spare_bit = none reaches }
 
   judged_begun : IsBegun (magic v) b → Judged b
-  judged_begun begun = elim (reached 44 (length b) (lt_or_le MAX_GATES (row_count b))) [
+  judged_begun begun = elim (reached 44 (length b) (cases_lt MAX_GATES (row_count b))) [
     | inl many ↦ fault CountTooLarge
         (too_many_rows v (begins v b (omega (arith, many.0)) begun) many.0 many.1)
-    | inr few_rows ↦ elim (reached 48 (length b) (lt_or_le MAX_WIRES (output_count b))) [
+    | inr few_rows ↦ elim (reached 48 (length b) (cases_lt MAX_WIRES (output_count b))) [
       | inl many ↦ fault CountTooLarge
           (too_many_outputs v (begins v b (omega (arith, many.0)) begun) many.0 many.1)
       | inr few_outputs ↦ judged_header

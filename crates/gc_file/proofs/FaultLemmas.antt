@@ -1,13 +1,6 @@
 -- Bytes are one garbled file or have one first fault.
-use Rattle.std.proofs.Common.{◌≡◌, ℕ, ◌<◌, ◌≤◌, ◌⊎◌, inl, inr, List, length, take, refl, sym, ◌∙◌, arith}
-use Rattle.gc_netlist.specs.declared.limits.TheConstants.{MAX_GATES, MAX_WIRES}
-use Rattle.gc_read.specs.declared.fault.FileFault.{FileFault}
-use Rattle.gc_read.specs.declared.fault.FileFault.TheVariants.{BadMagic, Trailing, CountTooLarge, SpareBits, BadTrailer}
-use Rattle.gc_format.specs.declared.parts.Version.{Version}
-use Rattle.gc_format.specs.GarbledFile.{magic}
-use Rattle.gc_read.specs.FileFault.{IsBegun, row_count, output_count, HasHeader, HasSpareBit, HasDecodeBits, IsTrailerRight, LastingFault, bad_magic, too_many_rows, too_many_outputs, spare_bits, bad_trailer, trailing, IsInOrder, FirstFault, lasting, truncated}
+use Rattle.gc_file.proofs.Names.{◌≡◌, ℕ, ◌<◌, ◌≤◌, ◌⊎◌, inl, inr, List, length, take, refl, sym, ◌∙◌, arith, MAX_GATES, MAX_WIRES, FileFault, BadMagic, Trailing, CountTooLarge, SpareBits, BadTrailer, Version, magic, IsBegun, row_count, output_count, HasHeader, HasSpareBit, HasDecodeBits, IsTrailerRight, LastingFault, bad_magic, too_many_rows, too_many_outputs, spare_bits, bad_trailer, trailing, IsInOrder, FirstFault, lasting, truncated, version_of-begun}
 use Rattle.gc_read.proofs.PlaceLemmas.{begins, begun}
-use Rattle.gc_read.proofs.StepLemmas.{version_of-begun}
 
 -- The first eight bytes give the version.
 pub one_version : (v w : Version) (b : List ℕ) → take 8 b ≡ magic v → take 8 b ≡ magic w → v ≡ w

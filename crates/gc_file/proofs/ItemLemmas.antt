@@ -1,20 +1,13 @@
 -- Items of one size: labels, row pairs and entry pairs, and their bytes.
-use Rattle.std.proofs.Common.{◌≡◌, ℕ, zero, suc, ◌+◌, ◌*◌, ◌<◌, inl, inr, List, [], ◌∷◌, ◌++◌, length, take, drop, flat_map, get_or, All, refl, ap, ◌∙◌, arith}
+use Rattle.gc_file.proofs.Names.{◌≡◌, ℕ, zero, suc, ◌+◌, ◌*◌, ◌<◌, inl, inr, List, [], ◌∷◌, ◌++◌, length, take, drop, flat_map, get_or, All, refl, ap, ◌∙◌, arith, cases_lt, take-append-drop, take_at, drop_at, get_or_past, length-drop, length-take-le, bytes_of_label, label_of_bytes, length-bytes_of_label, label_of_bytes-bytes_of_label, bytes_of_label-label_of_bytes, label_of_bytes-lt, length-row_bytes, length-entry_bytes, row_bytes, entry_bytes, IsLabel, AreBytes}
 use Rattle.std.proofs.Math.Nat.{mul-suc}
-use Rattle.std.proofs.lemmas.List.{take-append-drop, take_at, drop_at, get_or_past, length-drop, length-take-le}
 use Rattle.std.proofs.lemmas.List.Elements.{All-cons, All-take, All-drop}
-use Rattle.gc_label.specs.Label.{bytes_of_label, label_of_bytes}
-use Rattle.gc_label.proofs.LabelLemmas.{length-bytes_of_label, label_of_bytes-bytes_of_label, bytes_of_label-label_of_bytes, label_of_bytes-lt}
 use Rattle.gc_half.specs.declared.garbling.RowPair.{RowPair}
-use Rattle.gc_half.proofs.SetWires.{lt_or_le}
 use Rattle.gc_format.specs.declared.parts.EntryPair.{EntryPair}
-use Rattle.gc_format.specs.LabelBytes.{length-row_bytes, length-entry_bytes}
-use Rattle.gc_format.specs.GarbledFile.{row_bytes, entry_bytes, IsLabel}
-use Rattle.gc_file.specs.FileLaw.{AreBytes}
 
 -- Each place of bytes has a byte, or is past their end.
 pub small : (bytes : List ℕ) → AreBytes bytes → (i : ℕ) → get_or bytes i 0 < 256
-small bytes are i = elim (lt_or_le i (length bytes)) [
+small bytes are i = elim (cases_lt i (length bytes)) [
   | inl within ↦ are i 0 within
   | inr past ↦ rw (get_or_past bytes i 0 past) (omega arith)
 ]

@@ -1,18 +1,6 @@
 -- Label files.
-use Rattle.std.proofs.Common.{◌≡◌, ◌≢◌, ℕ, ◌+◌, ◌*◌, ◌≤◌, ◌⊎◌, inl, inr, List, ◌++◌, length, take, drop, flat_map, refl, sym, ap, ◌∙◌, append_assoc, length-append, arith}
-use Rattle.std.proofs.lemmas.List.{take-append-le, drop_at, take_all, length-drop}
-use Rattle.gc_netlist.specs.declared.limits.TheConstants.{MAX_WIRES}
-use Rattle.gc_label.specs.Label.{bytes_of_label, label_of_bytes}
-use Rattle.gc_label.proofs.LabelLemmas.{length-bytes_of_label}
-use Rattle.gc_half.proofs.SetWires.{lt_or_le}
-use Rattle.gc_read.specs.declared.fault.FileFault.{FileFault}
-use Rattle.gc_read.specs.declared.fault.FileFault.TheVariants.{BadMagic, Truncated, Trailing, CountTooLarge}
-use Rattle.gc_format.specs.Number.{number_bytes, number_at}
+use Rattle.gc_file.proofs.Names.{◌≡◌, ◌≢◌, ℕ, ◌+◌, ◌*◌, ◌≤◌, ◌⊎◌, inl, inr, List, ◌++◌, length, take, drop, flat_map, refl, sym, ap, ◌∙◌, append_assoc, length-append, arith, cases_lt, take-append-le, drop_at, take_all, length-drop, MAX_WIRES, bytes_of_label, label_of_bytes, length-bytes_of_label, FileFault, BadMagic, Truncated, Trailing, CountTooLarge, number_bytes, number_at, IsBegun, label_count, labels_end, FirstLabelFault, bad_label_magic, too_many_labels, labels_trailing, header_truncated, labels_truncated, AreBytes, length-number_bytes, number_at-append, number_at-number_bytes, length-items}
 use Rattle.gc_format.specs.LabelFile.{LabelFileParts, label_magic, label_file, IsLabelFile}
-use Rattle.gc_read.specs.FileFault.{IsBegun, label_count, labels_end, FirstLabelFault, bad_label_magic, too_many_labels, labels_trailing, header_truncated, labels_truncated}
-use Rattle.gc_file.specs.FileLaw.{AreBytes}
-use Rattle.gc_format.proofs.NumberLemmas.{length-number_bytes, number_at-append, number_at-number_bytes}
-use Rattle.gc_read.proofs.PairLemmas.{length-items}
 use Rattle.gc_read.proofs.HeaderLemmas.{begun_before}
 use Rattle.gc_read.proofs.FormLemmas.{begins, label_file_is}
 use Rattle.gc_file.proofs.ItemLemmas.{small, AreBytes-drop, items_from, items_back, items_spelled, label_spelling}
@@ -99,13 +87,13 @@ pub judged : (b : List ℕ) → AreBytes b
     → ((p : LabelFileParts) × IsLabelFile b p) ⊎ ((e : FileFault) × FirstLabelFault b e)
 judged b are = elim (other_or_same (take 8 b) (take (length b) label_magic)) [
   | inl other ↦ inr (BadMagic, bad_label_magic other)
-  | inr begun ↦ elim (lt_or_le (length b) 16) [
+  | inr begun ↦ elim (cases_lt (length b) 16) [
     | inl short ↦ inr (Truncated, header_truncated begun short)
-    | inr long ↦ elim (lt_or_le MAX_WIRES (label_count b)) [
+    | inr long ↦ elim (cases_lt MAX_WIRES (label_count b)) [
       | inl many ↦ inr (CountTooLarge, too_many_labels begun long many)
-      | inr few ↦ elim (lt_or_le (length b) (labels_end b)) [
+      | inr few ↦ elim (cases_lt (length b) (labels_end b)) [
         | inl less ↦ inr (Truncated, labels_truncated begun long few less)
-        | inr reaches ↦ elim (lt_or_le (labels_end b) (length b)) [
+        | inr reaches ↦ elim (cases_lt (labels_end b) (length b)) [
           | inl more ↦ inr (Trailing, labels_trailing begun long few more)
           | inr exact ↦
               let labels = items_spelled label_spelling (label_count b) (drop 16 b)

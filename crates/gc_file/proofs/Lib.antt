@@ -1,3 +1,4 @@
+pub mod Names
 pub mod FaultLemmas
 pub mod ItemLemmas
 pub mod OneFile

@@ -1,21 +1,10 @@
 -- The parts of a garbled file are determined by its bytes.
-use Rattle.std.proofs.Common.{◌≡◌, ℕ, List, [], ◌++◌, length, take, drop, map, flat_map, refl, sym, ap, ◌∙◌, append_assoc, length-append, arith}
+use Rattle.gc_file.proofs.Names.{◌≡◌, ℕ, List, [], ◌++◌, length, take, drop, map, flat_map, refl, sym, ap, ◌∙◌, append_assoc, length-append, arith, append-nil, take_at, drop_at, length-row_bytes, length-entry_bytes, number_bytes, packed, bit_in, GarbledParts, magic, row_bytes, entry_bytes, header, body, garbled_file, entry_count, IsGarbledFile, row_count, output_count, trailer_end, IsInOrder, FirstFault, lasting, truncated, FileFault, version_of, row_size, decode_size, entry_size, length-number_bytes, number_at-number_bytes, length-pairs, version_of-begun}
 use Rattle.std.specs.List.{range_with_len}
-use Rattle.std.proofs.lemmas.List.{append-nil, take_at, drop_at}
 use Rattle.sha2.specs.Sha256.{sha256}
 use Rattle.sha2.proofs.Facts256.{length-sha256}
-use Rattle.gc_format.specs.LabelBytes.{length-row_bytes, length-entry_bytes}
-use Rattle.gc_format.specs.Number.{number_bytes}
-use Rattle.gc_format.specs.DecodeBits.{packed, bit_in}
-use Rattle.gc_format.specs.GarbledFile.{GarbledParts, magic, row_bytes, entry_bytes, header, body, garbled_file, entry_count, IsGarbledFile}
-use Rattle.gc_read.specs.FileFault.{row_count, output_count, trailer_end, IsInOrder, FirstFault, lasting, truncated}
-use Rattle.gc_read.specs.declared.fault.FileFault.{FileFault}
-use Rattle.gc_read.specs.Body.{version_of, row_size, decode_size, entry_size}
-use Rattle.gc_format.proofs.NumberLemmas.{length-number_bytes, number_at-number_bytes}
-use Rattle.gc_read.proofs.PairLemmas.{length-pairs}
 use Rattle.gc_format.proofs.PackLemmas.{length-packed, packed-not_spare, unpacked-packed}
 use Rattle.gc_read.proofs.PlaceLemmas.{length-magic, begins, begun, parts_in_order, entries_end_is, length_is}
-use Rattle.gc_read.proofs.StepLemmas.{version_of-begun}
 use Rattle.gc_file.proofs.ItemLemmas.{items_from, items_back, row_of, row_spelling, entry_of, entry_spelling}
 use Rattle.gc_file.proofs.FaultLemmas.{one_version, no_lasting}
 

@@ -23,7 +23,7 @@ pub use gc_read::{
     read_labels,
 };
 pub use gc_write::{
-    WriteFault, law_written_files, write_garbled, write_garbled_by_digest, write_garbled2,
-    write_garbled2_by_digest, write_labels,
+    WriteFault, first_wire, law_written_files, write_garbled, write_garbled_by_digest,
+    write_garbled2, write_garbled2_by_digest, write_labels,
 };
 pub use laws::{law_garbled_file, law_label_file};

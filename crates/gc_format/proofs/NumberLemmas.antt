@@ -1,11 +1,11 @@
 -- Whole numbers in files.
 use Rattle.std.proofs.Common.{◌≡◌, ℕ, ◌+◌, ◌^◌, ◌<◌, ◌≤◌, inl, inr, List, ◌++◌, length, take, drop, get_or, ap, ◌∙◌, length-drop, arith}
+use Rattle.std.proofs.lemmas.Bool.{cases_lt}
 use Rattle.std.proofs.lemmas.List.{drop-append-le, drop_at, get_or-take, get_or-drop, get_or_past, length-take-le}
 use Rattle.std.specs.Int.{w32, from_le_bytes}
 use Rattle.std.proofs.lemmas.Nat.{le_bytes_4}
 use Rattle.byteorder.specs.Endian.{little_bytes, little_number}
 use Rattle.byteorder.specs.Numbers.{little_number-reads_back, little_from-append, little_from-lt, length-bytes_low_first}
-use Rattle.gc_half.proofs.SetWires.{lt_or_le}
 use Rattle.gc_format.specs.Number.{number_bytes, number_at}
 
 -- A number stays the same whatever follows.
@@ -44,7 +44,7 @@ number_bytes-number_at place bytes within small =
       get_or-take 4 xs 3 0 (omega arith),
     ) in
     le_bytes_4 (take 4 xs) (little_number 4 xs) (length-take-le 4 xs (omega (arith, length-drop place bytes)))
-    (λ i. elim (lt_or_le i 4) [
+    (λ i. elim (cases_lt i 4) [
       | inl below ↦ rw (get_or-take 4 xs i 0 below, get_or-drop place bytes i 0) (small (place + i))
       | inr past ↦ rw (get_or_past (take 4 xs) i 0
           (omega (arith, length-take-le 4 xs (omega (arith, length-drop place bytes))))) (omega arith)

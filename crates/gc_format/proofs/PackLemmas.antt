@@ -1,12 +1,12 @@
 -- Decode bits and the bytes that they are packed into.
 use Rattle.std.proofs.Common.{◌≡◌, ℕ, zero, suc, ◌+◌, ◌-◌, ◌*◌, ◌/◌, ◌%◌, ◌^◌, ◌<◌, ◌≤◌, inl, inr, Bool, true, false, if◌then◌else◌, nat_eq, List, [], ◌∷◌, length, take, drop, map, get_or, refl, sym, ap, ◌∙◌, arith}
+use Rattle.std.proofs.lemmas.Bool.{cases_lt}
 use Rattle.std.specs.Int.{bit_at}
 use Rattle.std.specs.List.{range_with_len}
 use Rattle.std.proofs.Math.Nat.{pow-suc}
 use Rattle.std.proofs.lemmas.List.{get_or-take, get_or-drop, get_or_past, length-take, length-drop}
 use Rattle.std.proofs.lemmas.List.FromFn.{fill_by_all, get_or-map-range_with_len, length-map-range_with_len}
 use Rattle.std.proofs.lemmas.Nat.Bits.{bit_at_lowest, bit_at-suc, bit_at-zero, bit_at-lt, bit_at_above, same_from_bits_below}
-use Rattle.gc_half.proofs.SetWires.{lt_or_le}
 use Rattle.gc_format.specs.DecodeBits.{bits_number, bytes_for, packed, bit_in, IsSpare}
 
 bits_number-lt : (bits : List Bool) → bits_number bits < 2 ^ length bits
@@ -78,7 +78,7 @@ packed-unpacked bytes outputs len small none =
     bit : (k i : ℕ) → k < bytes_for outputs → i < 8
         → bit_at (get_or bytes k 0) i ≡ (if get_or (map (bit_in bytes) (range_with_len 0 outputs))
         (8 * k + i) false then 1 else 0)
-    bit k i within below = elim (lt_or_le (8 * k + i) outputs) [
+    bit k i within below = elim (cases_lt (8 * k + i) outputs) [
       | inl there ↦ (
           let at : get_or (map (bit_in bytes) (range_with_len 0 outputs)) (8 * k + i) false ≡ bit_in bytes
           (8 * k + i) =
@@ -93,7 +93,7 @@ packed-unpacked bytes outputs len small none =
           get_or_past (map (bit_in bytes) (range_with_len 0 outputs)) (8 * k + i) false
           (omega (arith, length-map-range_with_len (bit_in bytes) 0 outputs)) in
           let last : k ≡ length bytes - 1 = omega arith in
-          rw at (elim (lt_or_le (get_or bytes k 0) (2 ^ (outputs % 8))) [
+          rw at (elim (cases_lt (get_or bytes k 0) (2 ^ (outputs % 8))) [
             | inl low ↦ bit_at_above (get_or bytes k 0) (outputs % 8) i low (omega arith)
             | inr high ↦ absurd (none (record { not_full = omega arith; bit = rw (← last) high }))
           ]))

@@ -24,6 +24,16 @@ impl Version {
             Version::Two => *b"HGARBLE2",
         }
     }
+
+    /// How many entry pairs a garbled file of this version has, for this number of output wires.
+    pub fn entry_count(self, outputs: u32) -> u32
+        ensures { result ≡ files.entry_count self outputs }
+    {
+        match self {
+            Version::One => 0,
+            Version::Two => outputs,
+        }
+    }
 }
 
 /// The entries of an output wire, by which its two labels are recognised: each is the hash of the label of its colour.

@@ -1,17 +1,7 @@
 -- Parts that are whole are a garbled file.
-use Rattle.std.proofs.Common.{◌≡◌, ℕ, ◌+◌, ◌<◌, List, ◌++◌, length, take, drop, map, flat_map, get_or, All, refl, sym, ap, arith}
-use Rattle.std.specs.List.{range_with_len}
-use Rattle.std.proofs.Math.Seq.{take-add}
+use Rattle.gc_read.proofs.Names.{◌≡◌, ℕ, ◌+◌, ◌<◌, List, ◌++◌, length, take, drop, map, flat_map, get_or, All, refl, sym, ap, arith, range_with_len, take-add, length-map-range_with_len, sha256, bit_in, IsSpare, number_bytes, GarbledParts, magic, row_bytes, entry_bytes, body, garbled_file, entry_count, IsLabel, IsGarbledFile, row_count, output_count, IsHeaderInOrder, version_of, row_size, decode_size, entry_size, number_bytes-number_at}
 use Rattle.std.proofs.lemmas.List.{take_all, length-take-le, length-drop}
-use Rattle.std.proofs.lemmas.List.FromFn.{length-map-range_with_len}
-use Rattle.sha2.specs.Sha256.{sha256}
 use Rattle.gc_format.specs.LabelBytes.{length-row_bytes, length-entry_bytes}
-use Rattle.gc_format.specs.DecodeBits.{bit_in, IsSpare}
-use Rattle.gc_format.specs.Number.{number_bytes}
-use Rattle.gc_format.specs.GarbledFile.{GarbledParts, magic, row_bytes, entry_bytes, body, garbled_file, entry_count, IsLabel, IsGarbledFile}
-use Rattle.gc_read.specs.FileFault.{row_count, output_count, IsHeaderInOrder}
-use Rattle.gc_read.specs.Body.{version_of, row_size, decode_size, entry_size}
-use Rattle.gc_format.proofs.NumberLemmas.{number_bytes-number_at}
 use Rattle.gc_read.proofs.PairLemmas.{length-pairs}
 use Rattle.gc_read.proofs.PlaceLemmas.{begins}
 use Rattle.gc_format.proofs.PackLemmas.{packed-unpacked}

@@ -1,14 +1,7 @@
 -- Bytes of the form of a label file.
-use Rattle.std.proofs.Common.{◌≡◌, ℕ, ◌<◌, ◌≤◌, List, ◌++◌, length, take, drop, flat_map, get_or, All, sym, ap, ◌∙◌, arith}
+use Rattle.gc_read.proofs.Names.{◌≡◌, ℕ, ◌<◌, ◌≤◌, List, ◌++◌, length, take, drop, flat_map, get_or, All, sym, ap, ◌∙◌, arith, bytes_of_label, length-bytes_of_label, number_bytes, number_at, IsLabel, number_at-lt, number_bytes-number_at, IsBegun, label_count, IsLabelForm}
 use Rattle.std.proofs.lemmas.List.{take-append-drop, take_all, length-drop}
-use Rattle.gc_label.specs.Label.{bytes_of_label}
-use Rattle.gc_label.proofs.LabelLemmas.{length-bytes_of_label}
-use Rattle.gc_format.specs.Number.{number_bytes, number_at}
-use Rattle.gc_format.specs.GarbledFile.{IsLabel}
 use Rattle.gc_format.specs.LabelFile.{label_magic, label_file, IsLabelFile}
-use Rattle.gc_format.proofs.NumberLemmas.{number_at-lt, number_bytes-number_at}
-use Rattle.gc_read.specs.FileFault.{IsBegun, label_count}
-use Rattle.gc_read.specs.Reading.{IsLabelForm}
 use Rattle.gc_read.proofs.PairLemmas.{length-items}
 use Rattle.gc_read.proofs.FileLemmas.{take_plus}
 

@@ -1,11 +1,6 @@
 -- The header of a garbled file.
-use Rattle.std.proofs.Common.{◌≡◌, ℕ, ◌-◌, ◌<◌, ◌≤◌, List, ◌++◌, length, take, drop, slice_index, refl, sym, ap, ◌∙◌, append_assoc, length-append, arith}
+use Rattle.gc_read.proofs.Names.{◌≡◌, ℕ, ◌-◌, ◌<◌, ◌≤◌, List, ◌++◌, length, take, drop, slice_index, refl, sym, ap, ◌∙◌, append_assoc, length-append, arith, FileFault, Version, magic, IsBegun, row_count, output_count, decode_end, entries_end, trailer_end, IsTrailerRight, HasHeader, HasSpareBit, HasDecodeBits, LastingFault, bad_magic, too_many_rows, too_many_outputs, spare_bits, bad_trailer, trailing, IsHeaderInOrder, IsInOrder, number_at-append}
 use Rattle.std.proofs.lemmas.List.{take_at, take_all, length-take, take-append-le, take-take, take-append-drop, drop-append-le, get_or_append_left, length-drop}
-use Rattle.gc_read.specs.declared.fault.FileFault.{FileFault}
-use Rattle.gc_format.specs.declared.parts.Version.{Version}
-use Rattle.gc_format.specs.GarbledFile.{magic}
-use Rattle.gc_read.specs.FileFault.{IsBegun, row_count, output_count, decode_end, entries_end, trailer_end, IsTrailerRight, HasHeader, HasSpareBit, HasDecodeBits, LastingFault, bad_magic, too_many_rows, too_many_outputs, spare_bits, bad_trailer, trailing, IsHeaderInOrder, IsInOrder}
-use Rattle.gc_format.proofs.NumberLemmas.{number_at-append}
 
 take_both : (n m : ℕ) (xs : List ℕ) → take n (take m xs) ≡ take m (take n xs)
 take_both n m xs = grind (arith, take-take {A = ℕ}, take_all {A = ℕ}, length-take {A = ℕ})

@@ -1,3 +1,4 @@
+pub mod Names
 pub mod PieceLemmas
 pub mod PlaceLemmas
 pub mod PairLemmas

@@ -1,6 +1,5 @@
 -- Pairs of labels and their bytes.
-use Rattle.std.proofs.Common.{◌≡◌, ℕ, ◌+◌, ◌-◌, ◌*◌, ◌%◌, ◌<◌, List, [], ◌∷◌, ◌++◌, length, take, drop, flat_map, append-nil, length-append, refl, arith}
-use Rattle.std.proofs.Math.Seq.{take-add}
+use Rattle.gc_read.proofs.Names.{◌≡◌, ℕ, ◌+◌, ◌-◌, ◌*◌, ◌%◌, ◌<◌, List, [], ◌∷◌, ◌++◌, length, take, drop, flat_map, append-nil, length-append, refl, arith, take-add}
 use Rattle.gc_read.proofs.PieceLemmas.{empty_list}
 
 -- The bytes of items, the same number for each.

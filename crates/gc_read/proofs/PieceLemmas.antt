@@ -1,7 +1,6 @@
 -- Bytes that are put behind the parts of a file, each part to its size.
-use Rattle.std.proofs.Common.{◌≡◌, ℕ, ◌+◌, ◌-◌, ◌<◌, ◌≤◌, List, [], ◌∷◌, ◌++◌, length, take, drop, refl, ◌∙◌, append_assoc, length-append, arith}
+use Rattle.gc_read.proofs.Names.{◌≡◌, ℕ, ◌+◌, ◌-◌, ◌<◌, ◌≤◌, List, [], ◌∷◌, ◌++◌, length, take, drop, refl, ◌∙◌, append_assoc, length-append, arith, IsFilled, IsCutUp}
 use Rattle.std.proofs.lemmas.List.{take-append-drop, length-take, length-drop}
-use Rattle.gc_read.specs.Body.{IsFilled, IsCutUp}
 
 -- A list of no elements is empty.
 pub empty_list : {X : Type 0} (xs : List X) → length xs ≡ 0 → xs ≡ []

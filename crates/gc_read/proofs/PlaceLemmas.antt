@@ -1,16 +1,6 @@
 -- Where the parts of a garbled file stand, and what is wrong with them.
-use Rattle.std.proofs.Common.{◌≡◌, ℕ, ◌+◌, ◌-◌, ◌%◌, ◌<◌, ◌≤◌, List, ◌++◌, length, take, slice_index, refl, sym, ◌∙◌, append_assoc, length-append, arith}
+use Rattle.gc_read.proofs.Names.{◌≡◌, ℕ, ◌+◌, ◌-◌, ◌%◌, ◌<◌, ◌≤◌, List, ◌++◌, length, take, slice_index, refl, sym, ◌∙◌, append_assoc, length-append, arith, Sha256, sha256, SpareBits, BadTrailer, Trailing, Version, One, Two, IsSpare, magic, IsBegun, row_count, output_count, decode_end, entries_end, trailer_end, IsTrailerRight, HasHeader, HasSpareBit, HasDecodeBits, LastingFault, spare_bits, bad_trailer, trailing, IsHeaderInOrder, IsInOrder, version_of, row_size, decode_size, entry_size, IsFilled, IsBody, number_at-append}
 use Rattle.std.proofs.lemmas.List.{take-append-le, take_at, drop_at, take_all, get_or-append-add, get_or_append_left}
-use Rattle.sha2.specs.declared.Sha256.{Sha256}
-use Rattle.sha2.specs.Sha256.{sha256}
-use Rattle.gc_read.specs.declared.fault.FileFault.TheVariants.{SpareBits, BadTrailer, Trailing}
-use Rattle.gc_format.specs.declared.parts.Version.{Version}
-use Rattle.gc_format.specs.declared.parts.Version.TheVariants.{One, Two}
-use Rattle.gc_format.specs.DecodeBits.{IsSpare}
-use Rattle.gc_format.specs.GarbledFile.{magic}
-use Rattle.gc_read.specs.FileFault.{IsBegun, row_count, output_count, decode_end, entries_end, trailer_end, IsTrailerRight, HasHeader, HasSpareBit, HasDecodeBits, LastingFault, spare_bits, bad_trailer, trailing, IsHeaderInOrder, IsInOrder}
-use Rattle.gc_read.specs.Body.{version_of, row_size, decode_size, entry_size, IsFilled, IsBody}
-use Rattle.gc_format.proofs.NumberLemmas.{number_at-append}
 
 pub length-magic : (v : Version) → length (magic v) ≡ 8
 length-magic One = refl

@@ -1,16 +1,7 @@
 -- A piece that comes after the header of a garbled file.
-use Rattle.std.proofs.Common.{◌≡◌, ℕ, ◌-◌, ◌<◌, List, [], ◌++◌, length, take, refl, append_assoc, append-nil, rules, arith}
+use Rattle.gc_read.proofs.Names.{◌≡◌, ℕ, ◌-◌, ◌<◌, List, [], ◌++◌, length, take, refl, append_assoc, append-nil, rules, arith, Sha256, sha256, SpareBits, BadTrailer, Trailing, Version, One, Two, magic, output_count, LastingFault, IsHeaderInOrder, IsSpare, version_of, row_size, decode_size, entry_size, IsHashed, IsBody, IsCutUp}
 use Rattle.std.proofs.lemmas.List.{get_or-take}
-use Rattle.sha2.specs.declared.Sha256.{Sha256}
 use Rattle.sha2.specs.Hashers.{Holds256}
-use Rattle.sha2.specs.Sha256.{sha256}
-use Rattle.gc_read.specs.declared.fault.FileFault.TheVariants.{SpareBits, BadTrailer, Trailing}
-use Rattle.gc_format.specs.declared.parts.Version.{Version}
-use Rattle.gc_format.specs.declared.parts.Version.TheVariants.{One, Two}
-use Rattle.gc_format.specs.GarbledFile.{magic}
-use Rattle.gc_read.specs.FileFault.{output_count, LastingFault, IsHeaderInOrder}
-use Rattle.gc_format.specs.DecodeBits.{IsSpare}
-use Rattle.gc_read.specs.Body.{version_of, row_size, decode_size, entry_size, IsHashed, IsBody, IsCutUp}
 use Rattle.gc_read.proofs.PieceLemmas.{empty_list, takes_rows, takes_decode, takes_entries, filled_more, left_over, whole_more, message_more}
 use Rattle.gc_read.proofs.PlaceLemmas.{begins, spare_fault, bad_trailer_fault, more_fault}
 

@@ -1,17 +1,12 @@
 -- A garbled file that is taken from a source.
-use Rattle.std.proofs.Common.{◌≡◌, ℕ, ◌+◌, ◌*◌, inl, inr, List, ◌++◌, length, Option, Some, None, Result, Ok, Err, refl, ap, length-append, arith}
+use Rattle.gc_read.proofs.Names.{◌≡◌, ℕ, ◌+◌, ◌*◌, inl, inr, List, ◌++◌, length, Option, Some, None, Result, Ok, Err, refl, ap, length-append, arith, FileFault, GarbledParts, lasting, Fed, IsFed, IsAnswer, IsTaken, IsAnswerOfAll, IsTaking}
 use Rattle.std.proofs.lemmas.List.{append-nil}
 use Rattle.std.proofs.KnownBytes.{Consumes-trans}
 use Rattle.std.specs.Io.KnownBytes.{Consumes}
 use Rattle.gc_netlist.specs.declared.limits.TheConstants.{MAX_GATES, MAX_WIRES}
-use Rattle.gc_read.specs.declared.fault.FileFault.{FileFault}
 use Rattle.gc_read.specs.declared.take.TakeFault.{TakeFault}
 use Rattle.gc_read.specs.declared.take.TakeFault.TheVariants.{File, ReadFault}
-use Rattle.gc_format.specs.GarbledFile.{GarbledParts}
-use Rattle.gc_read.specs.FileFault.{lasting}
-use Rattle.gc_read.specs.Reading.{Fed, IsFed}
 use Rattle.gc_format.specs.Counted.{counted}
-use Rattle.gc_read.specs.Taking.{IsAnswer, IsTaken, IsAnswerOfAll, IsTaking}
 use Rattle.gc_read.proofs.HeaderLemmas.{lasts}
 
 -- More bytes than any file has.

@@ -11,18 +11,16 @@ ghost use Rattle.gc_read.specs.Reading.{IsRead};
 
 use crate::fault::FileFault;
 use crate::garbled::Garbled;
-use crate::header::{Counts, DIGEST, HEADER};
+use crate::header::{Counts, DIGEST};
 use crate::pairs::Pairs;
 use crate::piece::{append, cut, make_room};
 use arrayvec::ArrayVec;
 use gc_format::EntryPair;
+use gc_format::sizes::{HEADER, PAIR, TRAILER};
 use gc_half::RowPair;
 use sha2::{Digest, Sha256};
 use std::alloc::Allocator;
 use std::marker::Model;
-
-/// The bytes of a trailer.
-const TRAILER: usize = 32;
 
 /// A garbled file whose header is there, as far as its bytes have come.
 #[derive(Drop)]
@@ -209,9 +207,9 @@ impl<A: Allocator + Copy> Body<A> {
         let counts = Counts::of(header.as_slice());
         let cuts = cut_up(
             piece,
-            32 * counts.rows - rows.len(),
+            PAIR * counts.rows - rows.len(),
             counts.decode_bytes - decode_bytes.len(),
-            32 * counts.entries - entries.len(),
+            PAIR * counts.entries - entries.len(),
             TRAILER - trailer.len(),
         );
         hasher.update(cuts.rows);

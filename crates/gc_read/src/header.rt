@@ -12,10 +12,8 @@ ghost use Rattle.gc_read.specs.FileFault.{IsBegun, row_count, output_count, IsHe
 use crate::fault::FileFault;
 use crate::piece::cut;
 use gc_circuit::{MAX_GATES, MAX_WIRES};
+use gc_format::sizes::HEADER;
 use gc_format::{Version, number_at};
-
-/// The bytes of a header: magic, digest and two counts.
-pub(crate) const HEADER: usize = 48;
 
 /// The place of the digest in the header.
 pub(crate) const DIGEST: usize = 8;
@@ -111,16 +109,13 @@ impl Counts {
         } else {
             Version::One
         };
-        let outputs = number_at(OUTPUTS, header) as usize;
+        let outputs = number_at(OUTPUTS, header);
         Counts {
             version,
             rows: number_at(ROWS, header) as usize,
-            outputs,
-            decode_bytes: outputs.div_ceil(8),
-            entries: match version {
-                Version::One => 0,
-                Version::Two => outputs,
-            },
+            outputs: outputs as usize,
+            decode_bytes: outputs.div_ceil(8) as usize,
+            entries: version.entry_count(outputs) as usize,
         }
     }
 }

@@ -10,21 +10,16 @@ use crate::header::is_begun;
 use crate::pairs::label_from_bytes;
 use gc_circuit::MAX_WIRES;
 use gc_format::number_at;
+use gc_format::sizes::{LABEL, LABEL_HEADER};
 use gc_label::Label;
 use std::alloc::{Allocator, Global};
 use std::marker::Model;
-
-/// The bytes of a header: magic, index and count.
-const HEADER: usize = 16;
 
 /// The place of the index in the header.
 const INDEX: usize = 8;
 
 /// The place of the number of labels in the header.
 const COUNT: usize = 12;
-
-/// The bytes of a label.
-const LABEL: usize = 16;
 
 /// What a label file holds: the labels of one input value.
 #[derive(Drop)]
@@ -78,14 +73,14 @@ fn check_labels(bytes: &[u8]) -> Result<(), FileFault>
     if !is_begun(bytes, *b"HLABELS1") {
         return Err(FileFault::BadMagic);
     }
-    if bytes.len() < HEADER {
+    if bytes.len() < LABEL_HEADER {
         return Err(FileFault::Truncated);
     }
     let count = number_at(COUNT, bytes);
     if count > MAX_WIRES {
         return Err(FileFault::CountTooLarge);
     }
-    let end = HEADER + LABEL * count as usize;
+    let end = LABEL_HEADER + LABEL * count as usize;
     if bytes.len() < end {
         Err(FileFault::Truncated)
     } else if bytes.len() > end {
@@ -102,7 +97,7 @@ pub fn read_labels<A: Allocator>(alloc: A, bytes: &[u8]) -> Result<LabelFile<A>,
     ensures { IsLabelsRead bytes.now result }
 {
     check_labels(bytes)?;
-    let labels = labels_from_bytes(alloc, &bytes[HEADER..])?;
+    let labels = labels_from_bytes(alloc, &bytes[LABEL_HEADER..])?;
     Ok(LabelFile {
         index: number_at(INDEX, bytes),
         labels,

@@ -8,13 +8,11 @@ use crate::fault::FileFault;
 use crate::piece::{append, cut, make_room};
 use arrayvec::ArrayVec;
 use gc_format::EntryPair;
+use gc_format::sizes::PAIR;
 use gc_half::RowPair;
 use gc_label::Label;
 use std::alloc::Allocator;
 use std::marker::Model;
-
-/// The bytes of a pair.
-const PAIR: usize = 32;
 
 /// Two labels that stand one after the other in a file.
 pub(crate) trait LabelPair: Copy {

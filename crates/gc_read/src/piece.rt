@@ -15,7 +15,7 @@ pub(crate) fn cut(bytes: &[u8], at: usize) -> (&[u8], &[u8])
     bytes.split_at(at.min(bytes.len()))
 }
 
-/// Puts bytes for which there is room behind the others.
+/// Puts bytes for which there is room after the others.
 #[inline]
 pub(crate) fn append<const N: usize>(room: &mut ArrayVec<u8, N>, bytes: &[u8])
     requires { array_vec_len room.old + length bytes.now ≤ N }

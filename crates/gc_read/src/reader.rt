@@ -8,9 +8,10 @@ ghost use Rattle.gc_read.specs.Reading.{IsRead, IsFed, IsEnded};
 use crate::body::Body;
 use crate::fault::FileFault;
 use crate::garbled::Garbled;
-use crate::header::{HEADER, check_header};
+use crate::header::check_header;
 use crate::piece::{append, cut};
 use arrayvec::ArrayVec;
+use gc_format::sizes::HEADER;
 use std::alloc::{Allocator, Global};
 use std::marker::Model;
 use std::mem;
@@ -45,7 +46,7 @@ impl<A: Allocator> Model for GarbledReader<A> {
     ghost invariant = { λ r. IsState r.state };
 }
 
-/// A header with these bytes more, and behind it what follows, or the fault that comes with them.
+/// A header with these bytes more, and after it what follows, or the fault that comes with them.
 fn advance_header<A: Allocator + Copy>(
     alloc: A,
     mut header: ArrayVec<u8, HEADER>,

@@ -1,20 +1,10 @@
 -- Bits on their way into bytes.
-use Rattle.std.proofs.Common.{◌≡◌, ℕ, zero, suc, ◌+◌, ◌*◌, ◌^◌, ◌<◌, ◌≤◌, min, nat_cmp, Bool, true, false, List, [], ◌∷◌, ◌++◌, length, length-take, length-drop, take, drop, flat_map, get_or, slice_get, Some, append-nil, refl, arith}
+use Rattle.gc_write.proofs.Names.{◌≡◌, ℕ, zero, suc, ◌+◌, ◌*◌, ◌^◌, ◌<◌, ◌≤◌, min, nat_cmp, Bool, true, false, List, [], ◌∷◌, ◌++◌, length, length-take, length-drop, take, drop, flat_map, get_or, slice_get, Some, append-nil, refl, arith, drop-cons, length-map, get_or-drop, get_or-take, length-map-range_with_len, get_or-map-range_with_len, slice_get_within, get_or_from_slice_get, bytes_of_label, GarblingParts, decode_bits_of, EntryPair, bits_number, bytes_for, packed, entry_bytes, entry_pair_of, entry_pairs_from, entry_pairs_of}
 use mir.Val.{bool_byte}
 use Rattle.std.specs.Ordering.{ord_min}
 use Rattle.std.proofs.lemmas.Bool.Decides.{nat_tests}
 use Rattle.std.proofs.Math.Nat.{pow-suc}
-use Rattle.std.proofs.Math.Seq.{drop-cons}
-use Rattle.std.proofs.lemmas.List.{length-map, get_or-drop, get_or-take}
-use Rattle.std.proofs.lemmas.List.FromFn.{length-map-range_with_len, get_or-map-range_with_len}
-use Rattle.std.proofs.lemmas.Option.{slice_get_within, get_or_from_slice_get}
-use Rattle.gc_label.specs.Label.{bytes_of_label}
-use Rattle.gc_half.specs.Garbling.{GarblingParts, decode_bits_of}
 use Rattle.gc_half.specs.Entry.{entry_of}
-use Rattle.gc_format.specs.declared.parts.EntryPair.{EntryPair}
-use Rattle.gc_format.specs.DecodeBits.{bits_number, bytes_for, packed}
-use Rattle.gc_format.specs.GarbledFile.{entry_bytes}
-use Rattle.gc_write.specs.Written.{entry_pair_of, entry_pairs_from, entry_pairs_of}
 use Rattle.gc_write.proofs.ListLemmas.{flat_map-ranges}
 
 -- The lesser of two numbers, as code takes it.

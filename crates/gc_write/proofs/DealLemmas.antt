@@ -1,18 +1,9 @@
 -- The labels of a label file.
-use Rattle.std.proofs.Common.{◌≡◌, ℕ, suc, ◌+◌, ◌-◌, ◌*◌, ◌≤◌, slice_get, Some, sum, length-append, Bool, List, [], ◌∷◌, ◌++◌, length, flat_map, take, drop, refl, sym, ap, ◌∙◌, arith}
-use Rattle.std.proofs.Math.Seq.{take-add}
-use Rattle.std.proofs.lemmas.List.{take-append-drop, length-take-le}
-use Rattle.std.proofs.lemmas.Grind.{flat_map-append}
-use Rattle.std.proofs.lemmas.List.Sums.{sum_by_more_le}
-use Rattle.std.proofs.lemmas.Option.{slice_get_within, get_or_from_slice_get}
-use Rattle.gc_netlist.specs.Circuit.{Netlist, IsLawful}
+use Rattle.gc_write.proofs.Names.{◌≡◌, ℕ, suc, ◌+◌, ◌-◌, ◌*◌, ◌≤◌, slice_get, Some, sum, length-append, Bool, List, [], ◌∷◌, ◌++◌, length, flat_map, take, drop, refl, sym, ap, ◌∙◌, arith, take-add, take-append-drop, length-take-le, flat_map-append, sum_by_more_le, slice_get_within, get_or_from_slice_get, Netlist, IsLawful, bytes_of_label, label_magic, label_file, label_parts_of, encoded_from, length-number_bytes}
 use Rattle.gc_netlist.specs.declared.limits.TheConstants.{MAX_WIRES}
-use Rattle.gc_label.specs.Label.{bytes_of_label}
 use Rattle.gc_label.proofs.LabelLemmas.{length-bytes_of_label}
 use Rattle.gc_format.specs.Number.{number_bytes}
-use Rattle.gc_format.specs.LabelFile.{label_magic, label_file, label_parts_of, encoded_from}
 use Rattle.gc_write.proofs.SizeLemmas.{length-flat_map}
-use Rattle.gc_format.proofs.NumberLemmas.{length-number_bytes}
 
 module _ (seed : List ℕ) where
   -- the bytes of the labels that stand for bits on the wires from the first one on

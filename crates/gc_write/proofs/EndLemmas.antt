@@ -1,15 +1,6 @@
 -- The ends of files on their way to a sink.
-use Rattle.std.proofs.Common.{◌≡◌, ℕ, ◌^◌, ◌<◌, List, [], ◌++◌, length, length-append, append_assoc, append-nil, Option, Result, Ok, Err, sym, ap, ◌∙◌, arith}
-use Rattle.std.proofs.Math.Seq.{take-append_seam}
-use Rattle.std.proofs.lemmas.Result.{err_from_is_err_and}
-use Rattle.std.specs.Result.{IsErrAnd}
+use Rattle.gc_write.proofs.Names.{◌≡◌, ℕ, ◌^◌, ◌<◌, List, [], ◌++◌, length, length-append, append_assoc, append-nil, Option, Result, Ok, Err, sym, ap, ◌∙◌, arith, take-append_seam, err_from_is_err_and, IsErrAnd, Holds256, sha256, FileWriter, WriteFault, IsUnderWay, IsStopped, Proceeds, Ends, IsWritten}
 use Rattle.sha2.specs.declared.Sha256.{Sha256}
-use Rattle.sha2.specs.Hashers.{Holds256}
-use Rattle.sha2.specs.Sha256.{sha256}
-use Rattle.gc_write.specs.declared.writer.FileWriter.{FileWriter}
-use Rattle.gc_write.specs.declared.writer.WriteFault.{WriteFault}
-use Rattle.gc_write.specs.Writing.{IsUnderWay, IsStopped, Proceeds, Ends}
-use Rattle.gc_write.specs.Written.{IsWritten}
 use Rattle.gc_write.proofs.WritingLemmas.{IsStopped-more}
 
 -- Where nothing is held, the sink took the file.

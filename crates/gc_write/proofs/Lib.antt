@@ -1,3 +1,4 @@
+pub mod Names
 pub mod WritingLemmas
 pub mod EndLemmas
 pub mod ListLemmas

@@ -1,20 +1,8 @@
 -- How many bytes the files have.
-use Rattle.std.proofs.Common.{◌≡◌, ℕ, ◌+◌, ◌*◌, ◌^◌, ◌<◌, ◌≤◌, List, [], ◌∷◌, ◌++◌, length, length-append, append_assoc, append-nil, flat_map, refl, sym, ap, arith}
-use Rattle.sha2.specs.Sha256.{sha256}
-use Rattle.sha2.proofs.Facts256.{length-sha256}
-use Rattle.gc_netlist.specs.Circuit.{Netlist}
-use Rattle.gc_netlist.specs.Canon.{canonical_text}
-use Rattle.gc_half.specs.Garbling.{GarblingParts}
+use Rattle.gc_write.proofs.Names.{◌≡◌, ℕ, ◌+◌, ◌*◌, ◌^◌, ◌<◌, ◌≤◌, List, [], ◌∷◌, ◌++◌, length, length-append, append_assoc, append-nil, flat_map, refl, sym, ap, arith, sha256, length-sha256, Netlist, canonical_text, GarblingParts, One, Two, EntryPair, bytes_for, GarbledParts, magic, body, row_bytes, entry_bytes, garbled_file, parts_of, length-number_bytes, length-packed, front, IsSmall, parts_one}
 use Rattle.gc_format.specs.declared.parts.Version.{Version}
-use Rattle.gc_format.specs.declared.parts.Version.TheVariants.{One, Two}
-use Rattle.gc_format.specs.declared.parts.EntryPair.{EntryPair}
-use Rattle.gc_format.specs.DecodeBits.{bytes_for}
-use Rattle.gc_format.specs.GarbledFile.{GarbledParts, magic, body, row_bytes, entry_bytes, garbled_file, parts_of}
 use Rattle.gc_write.proofs.ByteLemmas.{length-decode_bits}
 use Rattle.gc_format.specs.LabelBytes.{length-row_bytes, length-entry_bytes}
-use Rattle.gc_format.proofs.NumberLemmas.{length-number_bytes}
-use Rattle.gc_format.proofs.PackLemmas.{length-packed}
-use Rattle.gc_write.specs.Written.{front, IsSmall, parts_one}
 
 pub length-flat_map : {X A : Type 0} (f : X → List A) (n : ℕ) → ((x : X) → length (f x) ≡ n)
     → (xs : List X) → length (flat_map f xs) ≡ n * length xs

@@ -1,14 +1,6 @@
 -- Files on their way to a sink.
-use Rattle.std.proofs.Common.{◌≡◌, ℕ, ◌+◌, ◌<◌, List, [], ◌++◌, length, take, drop, length-append, length-take, length-drop, append_assoc, append-nil, Option, Result, Ok, Err, ◌∙◌, arith}
-use Rattle.std.proofs.KnownBytes.{Appends-trans}
-use Rattle.std.proofs.lemmas.List.{take-append-drop}
-use Rattle.std.proofs.lemmas.Result.{err_from_is_err_and}
-use Rattle.std.specs.Io.KnownBytes.{Appends}
-use Rattle.std.specs.Result.{IsErrAnd}
-use Rattle.gc_write.specs.declared.writer.FileWriter.{FileWriter}
-use Rattle.gc_write.specs.declared.writer.WriteFault.{WriteFault}
+use Rattle.gc_write.proofs.Names.{◌≡◌, ℕ, ◌+◌, ◌<◌, List, [], ◌++◌, length, take, drop, length-append, length-take, length-drop, append_assoc, append-nil, Option, Result, Ok, Err, ◌∙◌, arith, Appends-trans, take-append-drop, err_from_is_err_and, Appends, IsErrAnd, FileWriter, WriteFault, IsStopped, Proceeds}
 use Rattle.gc_format.specs.Counted.{counted}
-use Rattle.gc_write.specs.Writing.{IsStopped, Proceeds}
 
 -- A sink that stopped in a file stopped in each longer one.
 pub IsStopped-more : {before now : Option (List ℕ)} {file : List ℕ} {sent : ℕ} (more : List ℕ)

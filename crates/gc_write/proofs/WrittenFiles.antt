@@ -1,19 +1,10 @@
 -- What the writers write are files.
-use Rattle.std.proofs.Common.{ℕ, List, length, sum, take, get_or, All, refl, sym, ◌∙◌, arith}
-use Rattle.std.specs.List.{range_with_len, zip}
-use Rattle.std.proofs.lemmas.List.Sums.{count_by-le-length}
+use Rattle.gc_write.proofs.Names.{ℕ, List, length, sum, take, get_or, All, refl, sym, ◌∙◌, arith, range_with_len, zip, count_by-le-length, slice_get-get_or, length-sha256, Netlist, IsLawful, is_and, canonical_text, offset_of, IsLabel, entry_pair_of}
 use Rattle.std.proofs.lemmas.List.Elements.{All-map}
-use Rattle.std.proofs.lemmas.Option.{slice_get-get_or}
-use Rattle.sha2.proofs.Facts256.{length-sha256}
-use Rattle.gc_netlist.specs.Circuit.{Netlist, IsLawful, is_and}
-use Rattle.gc_netlist.specs.Canon.{canonical_text}
-use Rattle.gc_label.specs.Seed.{offset_of}
 use Rattle.gc_label.proofs.SeedLemmas.{offset_of-lt, input_label_of-lt}
 use Rattle.gc_half.specs.Canonical.{garbling_of}
 use Rattle.gc_half.proofs.Bounds.{IsSmall-hash, IsSmall-⊕, IsSmall-times, IsSmall-row_pairs_of}
 use Rattle.gc_half.proofs.CanonicalLemmas.{garbling_of-IsGarbled}
-use Rattle.gc_format.specs.GarbledFile.{IsLabel}
-use Rattle.gc_write.specs.Written.{entry_pair_of}
 use Rattle.gc_write.specs.WrittenLaw.{AreFiles}
 use Rattle.gc_write.proofs.ByteLemmas.{length-decode_bits, length-entry_pairs}
 use Rattle.gc_write.proofs.DealLemmas.{length-encoded_from, first_wire-room}

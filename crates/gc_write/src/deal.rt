@@ -1,7 +1,6 @@
 //! Writing label files.
 
 ghost use Rattle.std.specs.Prelude.{◌≡◌, ◌<◌, ◌≤◌, ◌+◌, ◌^◌, length, slice_get, Some, flat_map, sum, take};
-ghost use Rattle.gc_netlist.specs.Circuit.{IsLawful};
 ghost use Rattle.gc_label.specs.Label.{bytes_of_label};
 ghost use Rattle.gc_format.specs.Counted.{CountsFailure};
 ghost use Rattle.gc_format.specs.LabelFile.{label_file, label_parts_of, encoded_from};
@@ -68,14 +67,13 @@ impl FileWriter<Unobserved> {
     }
 }
 
-/// The first wire of the input value with this index.
-fn first_wire<A: Allocator>(circuit: &Circuit<A>, index: usize) -> u32
+/// The first wire of the input value with this index: the sum of the widths of the values before it. That there are at
+/// least as many values is the caller's condition.
+pub fn first_wire<A: Allocator>(circuit: &Circuit<A>, index: usize) -> u32
     requires { index ≤ length circuit.now.input_widths }
-    ensures sum { result ≡ sum (take index circuit.now.input_widths) }
-    ensures lawful { IsLawful circuit.now }
+    ensures { result ≡ sum (take index circuit.now.input_widths) }
 {
-    // No effect at run time. The proof reads from it that the circuit is lawful.
-    let _wires = circuit.wires();
+    circuit.law_lawful();
     sum_of(&circuit.input_widths()[..index])
 }
 
@@ -105,6 +103,7 @@ pub fn write_labels<S: Sink, A: Allocator>(
         result (S.taken sink.old) (S.taken sink.new) }
     ensures counted { CountsFailure result (S.failures sink.old) (S.failures sink.new) }
 {
+    circuit.law_lawful();
     let first = first_wire(circuit, index as usize);
     let mut file = FileWriter::new(Unobserved);
     file.write(sink, label_header(index, bits.len() as u32).as_slice())?;

@@ -9,16 +9,11 @@ ghost use Rattle.gc_format.specs.GarbledFile as files;
 ghost use Rattle.gc_format.specs.LabelFile.{label_magic};
 
 use arrayvec::ArrayVec;
+use gc_format::sizes::{HEADER, LABEL_HEADER};
 use gc_format::{Version, number_bytes};
 use gc_half::Garbling;
 use gc_label::Label;
 use std::alloc::Allocator;
-
-/// The bytes of a garbled file's header: magic, digest and two counts.
-const HEADER: usize = 48;
-
-/// The bytes of a label file's header: magic, index and width.
-const LABEL_HEADER: usize = 16;
 
 /// The header of a garbled file with this digest and these counts.
 pub(crate) fn header(

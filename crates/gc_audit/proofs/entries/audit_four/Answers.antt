@@ -1,7 +1,4 @@
-use Rattle.std.proofs.Common.{◌≡◌, ◌+◌, length, take, refl, subst, ◌∙◌, arith}
-use Rattle.std.proofs.lemmas.Option.{slice_get_read}
-use Rattle.gc_write.specs.Written.{entry_pair_of, entry_pairs_of}
-use Rattle.gc_audit.specs.Entries.{DifferFirstIn}
+use Rattle.gc_audit.proofs.Names.{◌≡◌, ◌+◌, length, take, refl, subst, ◌∙◌, arith, slice_get_read, entry_pair_of, entry_pairs_of, DifferFirstIn}
 use Rattle.gc_audit.proofs.DifferenceLemmas.{same_more}
 use Rattle.gc_audit.proofs.GarbledLemmas.{entry_difference, pair_at_output, named_at}
 use Rattle.gc_audit.proofs.entries.audit_four.Goals as goal

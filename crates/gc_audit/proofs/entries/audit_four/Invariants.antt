@@ -1,5 +1,4 @@
-use Rattle.std.proofs.Common.{◌≡◌, ◌+◌, take}
-use Rattle.gc_write.specs.Written.{entry_pairs_of}
+use Rattle.gc_audit.proofs.Names.{◌≡◌, ◌+◌, take, entry_pairs_of}
 use Rattle.gc_audit.proofs.entries.audit_four.Given as goal
 
 abbrev pub invariant-loop-i : goal.invariant-loop-i

@@ -1,8 +1,4 @@
-use Rattle.std.proofs.Common.{length, refl, subst, ◌∙◌, arith}
-use Rattle.std.proofs.lemmas.Option.{slice_get_read}
-use Rattle.gc_write.specs.Written.{entry_pair_of, entry_pairs_of}
-use Rattle.gc_write.proofs.ByteLemmas.{length-entry_pairs}
-use Rattle.gc_audit.specs.Entries.{DifferFirstIn}
+use Rattle.gc_audit.proofs.Names.{length, refl, subst, ◌∙◌, arith, slice_get_read, entry_pair_of, entry_pairs_of, length-entry_pairs, DifferFirstIn}
 use Rattle.gc_audit.proofs.DifferenceLemmas.{same_more, same_all}
 use Rattle.gc_audit.proofs.GarbledLemmas.{entry_difference, pair_at_output, named_of}
 use Rattle.gc_audit.proofs.entries.audit_last.Goals as goal

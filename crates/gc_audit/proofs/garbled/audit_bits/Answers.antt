@@ -1,6 +1,4 @@
-use Rattle.std.proofs.Common.{◌<◌, false, length, get_or, arith, rules}
-use Rattle.std.proofs.lemmas.Option.{slice_get-get_or}
-use Rattle.gc_half.specs.Garbling.{decode_bits_of}
+use Rattle.gc_audit.proofs.Names.{◌<◌, false, length, get_or, arith, rules, slice_get-get_or, decode_bits_of}
 use Rattle.gc_audit.proofs.DifferenceLemmas.{same_more}
 use Rattle.gc_audit.proofs.garbled.audit_bits.Goals as goal
 

@@ -1,5 +1,4 @@
-use Rattle.std.proofs.Common.{◌≡◌, take}
-use Rattle.gc_half.specs.Garbling.{decode_bits_of}
+use Rattle.gc_audit.proofs.Names.{◌≡◌, take, decode_bits_of}
 use Rattle.gc_audit.proofs.garbled.audit_bits.Given as goal
 
 abbrev pub invariant-loop-i : goal.invariant-loop-i

@@ -1,12 +1,4 @@
-use Rattle.std.proofs.Common.{◌≡◌, ◌<◌, Option, None, Some, IfSome, MatchOption, sym, subst, arith}
-use Rattle.std.proofs.lemmas.Option.{slice_get_within}
-use Rattle.gc_netlist.specs.Circuit.{and_count}
-use Rattle.gc_half.specs.declared.garbling.Mismatch.{Mismatch}
-use Rattle.gc_half.specs.Canonical.{row_pairs_of}
-use Rattle.gc_half.specs.Garbling.{decode_bits_of}
-use Rattle.gc_half.specs.Comparing.{IsComparison}
-use Rattle.gc_half.proofs.CanonicalLemmas.{length-row_pairs_of}
-use Rattle.gc_audit.specs.Difference.{DifferFirstAt}
+use Rattle.gc_audit.proofs.Names.{◌≡◌, ◌<◌, Option, None, Some, IfSome, MatchOption, sym, subst, arith, slice_get_within, and_count, Mismatch, row_pairs_of, decode_bits_of, IsComparison, length-row_pairs_of, DifferFirstAt}
 use Rattle.gc_audit.proofs.GarbledLemmas.{compared-audit}
 use Rattle.gc_audit.proofs.garbled.audit_compared.Goals as goal
 

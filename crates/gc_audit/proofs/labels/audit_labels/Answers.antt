@@ -1,8 +1,6 @@
-use Rattle.std.proofs.Common.{ℕ, length, refl, sym, ap, subst, ◌∙◌}
+use Rattle.gc_audit.proofs.Names.{ℕ, length, refl, sym, ap, subst, ◌∙◌, WrongWidth, IsLabelsVerdict, AreCompared}
 use Rattle.std.specs.Result.{IfOk}
 use Rattle.std.proofs.lemmas.Result.{IfOk-weaker}
-use Rattle.gc_audit.specs.declared.labels.LabelsVerdict.TheVariants.{WrongWidth}
-use Rattle.gc_audit.specs.Labels.{IsLabelsVerdict, AreCompared}
 use Rattle.gc_audit.proofs.LabelsLemmas.{found_at, verdict-dealt, compared-verdict}
 use Rattle.gc_audit.proofs.labels.audit_labels.Given.{Over}
 use Rattle.gc_audit.proofs.labels.audit_labels.Goals.{After-compare}

@@ -1,5 +1,4 @@
-use Rattle.std.proofs.Common.{◌+◌, length, refl, arith}
-use Rattle.std.proofs.lemmas.Option.{slice_get_read}
+use Rattle.gc_audit.proofs.Names.{◌+◌, length, refl, arith, slice_get_read}
 use Rattle.gc_audit.proofs.LabelsLemmas.{encoded_from-more, by_seed, none_by_seed}
 use Rattle.gc_audit.proofs.labels.compare.Goals as goal
 

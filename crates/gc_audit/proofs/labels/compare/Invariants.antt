@@ -1,5 +1,4 @@
-use Rattle.std.proofs.Common.{◌≡◌, length, take}
-use Rattle.gc_format.specs.LabelFile.{encoded_from}
+use Rattle.gc_audit.proofs.Names.{◌≡◌, length, take, encoded_from}
 use Rattle.gc_audit.proofs.labels.compare.Given as goal
 
 abbrev pub invariant-loop-i : goal.invariant-loop-i

@@ -1,6 +1,4 @@
-use Rattle.std.proofs.Common.{◌≡◌, suc, ◌+◌, sym, ap, ◌∙◌, arith}
-use Rattle.gc_netlist.specs.Circuit.{and_number}
-use Rattle.gc_half.proofs.AndNumbers.{and_number-and, and_number-other}
+use Rattle.gc_audit.proofs.Names.{◌≡◌, suc, ◌+◌, sym, ap, ◌∙◌, arith, and_number, and_number-and, and_number-other}
 use Rattle.gc_audit.proofs.rows.and_gate.Goals as goal
 use Rattle.gc_audit.proofs.rows.and_gate.Goals.{then-is_and+else-ands-number, else-is_and}
 

@@ -1,9 +1,4 @@
-use Rattle.std.proofs.Common.{◌≡◌, ◌<◌, length, IfSome, MatchOption, subst, sym, arith}
-use Rattle.gc_netlist.specs.Circuit.{and_count}
-use Rattle.gc_half.specs.declared.garbling.Mismatch.{Mismatch}
-use Rattle.gc_half.specs.Comparing.{IsFirstMismatch}
-use Rattle.gc_half.proofs.AndNumbers.{and_number-le, and_number-end}
-use Rattle.gc_audit.specs.Rows.{DifferIn}
+use Rattle.gc_audit.proofs.Names.{◌≡◌, ◌<◌, length, IfSome, MatchOption, subst, sym, arith, and_count, Mismatch, IsFirstMismatch, and_number-le, and_number-end, DifferIn}
 use Rattle.gc_audit.proofs.RowLemmas.{row_found}
 use Rattle.gc_audit.proofs.rows.row_difference.Goals as goal
 

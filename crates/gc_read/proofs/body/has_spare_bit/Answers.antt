@@ -1,5 +1,4 @@
-use Rattle.std.proofs.Common.{◌-◌, ◌%◌, ◌^◌, ◌<◌, length, slice_index, arith}
-use Rattle.std.proofs.lemmas.Bool.Decides.{nat_tests}
+use Rattle.gc_read.proofs.Names.{◌-◌, ◌%◌, ◌^◌, ◌<◌, length, slice_index, arith, nat_tests}
 use Rattle.std.proofs.Math.Nat.{div-eq_of_lt, div-add-mod', mod-lt, one-le-pow}
 use Rattle.gc_read.proofs.body.has_spare_bit.Goals as goal
 

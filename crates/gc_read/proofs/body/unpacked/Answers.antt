@@ -1,7 +1,5 @@
-use Rattle.std.proofs.Common.{◌/◌, ◌%◌, slice_index, refl, arith}
+use Rattle.gc_read.proofs.Names.{◌/◌, ◌%◌, slice_index, refl, arith, map-range_with_len_more, bit_in}
 use Rattle.std.proofs.lemmas.Nat.Bits.{shr_and_one}
-use Rattle.std.proofs.lemmas.List.FromFn.{map-range_with_len_more}
-use Rattle.gc_format.specs.DecodeBits.{bit_in}
 use Rattle.gc_read.proofs.body.unpacked.Goals as goal
 
 pub loop-i-preserved : goal.loop-i-preserved

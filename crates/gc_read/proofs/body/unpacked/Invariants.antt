@@ -1,6 +1,4 @@
-use Rattle.std.proofs.Common.{◌≡◌, map}
-use Rattle.std.specs.List.{range_with_len}
-use Rattle.gc_format.specs.DecodeBits.{bit_in}
+use Rattle.gc_read.proofs.Names.{◌≡◌, map, range_with_len, bit_in}
 use Rattle.gc_read.proofs.body.unpacked.Given as goal
 
 abbrev pub invariant-loop-i : goal.invariant-loop-i

@@ -1,5 +1,4 @@
-use Rattle.std.proofs.Common.{arith}
-use Rattle.gc_read.specs.FileFault.{bad_magic, too_many_rows, too_many_outputs}
+use Rattle.gc_read.proofs.Names.{arith, bad_magic, too_many_rows, too_many_outputs}
 use Rattle.gc_read.proofs.PlaceLemmas.{begins}
 use Rattle.gc_read.proofs.header.check_header.Goals as goal
 

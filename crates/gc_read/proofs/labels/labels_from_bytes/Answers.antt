@@ -1,7 +1,4 @@
-use Rattle.std.proofs.Common.{◌+◌, ◌*◌, append-nil, refl, arith}
-use Rattle.std.proofs.lemmas.Grind.{flat_map-append}
-use Rattle.gc_format.specs.GarbledFile.{IsLabel}
-use Rattle.std.proofs.lemmas.List.Elements.{All-push}
+use Rattle.gc_read.proofs.Names.{◌+◌, ◌*◌, append-nil, refl, arith, flat_map-append, IsLabel, All-push}
 use Rattle.gc_read.proofs.PairLemmas.{take_item}
 use Rattle.gc_read.proofs.labels.labels_from_bytes.Goals as goal
 

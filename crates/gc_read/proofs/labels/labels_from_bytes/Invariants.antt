@@ -1,6 +1,4 @@
-use Rattle.std.proofs.Common.{◌≡◌, ◌*◌, take, flat_map, All}
-use Rattle.gc_label.specs.Label.{bytes_of_label}
-use Rattle.gc_format.specs.GarbledFile.{IsLabel}
+use Rattle.gc_read.proofs.Names.{◌≡◌, ◌*◌, take, flat_map, All, bytes_of_label, IsLabel}
 use Rattle.gc_read.proofs.labels.labels_from_bytes.Given as goal
 
 abbrev pub invariant-loop-i : goal.invariant-loop-i

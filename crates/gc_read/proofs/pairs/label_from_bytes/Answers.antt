@@ -1,5 +1,4 @@
-use Rattle.std.proofs.Common.{arith}
-use Rattle.gc_label.proofs.LabelLemmas.{bytes_of_label-label_of_bytes}
+use Rattle.gc_read.proofs.Names.{arith, bytes_of_label-label_of_bytes}
 use Rattle.gc_read.proofs.pairs.label_from_bytes.Goals as goal
 
 pub returns-clause-bytes : goal.returns-clause-bytes

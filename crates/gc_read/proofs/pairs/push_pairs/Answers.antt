@@ -1,6 +1,4 @@
-use Rattle.std.proofs.Common.{◌+◌, ◌*◌, append-nil, append_assoc, refl, arith}
-use Rattle.std.proofs.lemmas.Grind.{flat_map-append}
-use Rattle.std.proofs.lemmas.List.Elements.{All-push}
+use Rattle.gc_read.proofs.Names.{◌+◌, ◌*◌, append-nil, append_assoc, refl, arith, flat_map-append, All-push}
 use Rattle.gc_read.proofs.PairLemmas.{take_item}
 use Rattle.gc_read.proofs.pairs.push_pairs.Goals as goal
 

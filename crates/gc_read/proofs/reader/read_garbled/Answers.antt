@@ -1,5 +1,4 @@
-use Rattle.std.proofs.lemmas.Result.{err_from_is_err_and}
-use Rattle.gc_read.specs.FileFault.{lasting}
+use Rattle.gc_read.proofs.Names.{err_from_is_err_and, lasting}
 use Rattle.gc_read.proofs.reader.read_garbled.Goals as goal
 
 pub returns-in_err-feed : goal.returns-in_err-feed

@@ -1,5 +1,4 @@
-use Rattle.std.proofs.Common.{◌≡◌, ◌-◌}
-use Rattle.gc_read.specs.Taking.{IsTaking}
+use Rattle.gc_read.proofs.Names.{◌≡◌, ◌-◌, IsTaking}
 use Rattle.gc_read.proofs.TakeLemmas.{most_bytes, fed_length}
 use Rattle.gc_read.proofs.take.read_garbled_from.Given as goal
 

@@ -7,16 +7,13 @@ use Rattle.gc_stats.proofs.sizes.garbled_size.Goals as goal
 pub returns : goal.returns
 returns g c = λ seed garbling garbled.
     let circuit = c.args.circuit.now in
-    let entries : c.entry_pairs.result ≡ entry_count c.args.version (output_wires circuit) =
-    c.entry_pairs.ensures ∙ ap (entry_count c.args.version) c.output_wires-outputs.ensures in
+    let entries : c.entry_count.result ≡ entry_count c.args.version (output_wires circuit) =
+    c.entry_count.ensures ∙ ap (entry_count c.args.version) c.output_wires-outputs.ensures in
     omega (
       arith,
-      c.from-rows.ensures,
-      c.from-decode_bytes.ensures,
-      c.from-entries.ensures,
       c.and_count.ensures,
       entries,
-      c.div_ceil.ensures,
+      c.div_ceil-decode_bytes.ensures,
       ap (λ n. n / 8) c.output_wires-outputs.ensures,
       ap (λ n. n % 8) c.output_wires-outputs.ensures,
       length-honest c.args.version circuit c.law_lawful.ensures seed garbling garbled,

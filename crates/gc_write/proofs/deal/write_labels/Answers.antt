@@ -1,23 +1,22 @@
-use Rattle.std.proofs.Common.{◌≡◌, ◌<◌, ◌^◌, ◌++◌, [], length, append-nil, refl, ◌∙◌, arith}
-use Rattle.gc_format.specs.LabelFile.{label_file, label_parts_of}
+use Rattle.gc_write.proofs.Names.{◌≡◌, ◌<◌, ◌^◌, ◌++◌, [], length, append-nil, refl, ◌∙◌, arith, label_file, label_parts_of}
 use Rattle.gc_write.proofs.DealLemmas.{label_bytes, label_file-is, length-label_file, first_wire-room}
 use Rattle.gc_write.proofs.WritingLemmas.{Proceeds-step}
 use Rattle.gc_write.proofs.EndLemmas.{Ends-exit, Ends-step, IsWritten-whole}
 use Rattle.gc_write.proofs.deal.write_labels.Given.{Over}
-use Rattle.gc_write.proofs.deal.write_labels.Goals.{After-first_wire-first, After-as_slice}
+use Rattle.gc_write.proofs.deal.write_labels.Goals.{After-as_slice}
 use Rattle.gc_write.proofs.deal.write_labels.Goals as goal
 
 pub overflow_cast-bits : goal.overflow_cast-bits
 overflow_cast-bits g c =
-    let lawful = c.first_wire-first.ensures.lawful in
+    let lawful = c.law_lawful.ensures in
     let room = first_wire-room c.args.circuit.now lawful c.args.index _ c.requires in
     record { fits = omega arith }
 
 pub write_labels-requires : goal.write_labels-requires
 write_labels-requires g c = omega (
   arith,
-  first_wire-room c.args.circuit.now c.first_wire-first.ensures.lawful c.args.index _ c.requires,
-  c.first_wire-first.ensures.sum,
+  first_wire-room c.args.circuit.now c.law_lawful.ensures c.args.index _ c.requires,
+  c.first_wire-first.ensures,
 )
 
 -- The file is the header and the labels,
@@ -28,13 +27,13 @@ whole g c =
     let a = c.args in
     rw (c.as_slice.ensures.value, c.label_header.ensures)
     (label_file-is a.circuit.now a.seed.now a.index a.bits.now c.first_wire-first.result
-    c.first_wire-first.ensures.sum)
+    c.first_wire-first.ensures)
 
 -- and its bytes can be counted.
 size : (g : Over) (c : After-as_slice g) → let a = c.args in
     length (label_file (label_parts_of a.circuit.now a.seed.now a.index a.bits.now)) < 2 ^ 64
 size g c =
-    let a = c.args in let lawful = c.first_wire-first.ensures.lawful in
+    let a = c.args in let lawful = c.law_lawful.ensures in
     omega (
       arith,
       length-label_file a.circuit.now a.seed.now a.index a.bits.now,

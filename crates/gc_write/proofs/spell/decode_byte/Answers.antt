@@ -1,7 +1,4 @@
-use Rattle.std.proofs.Common.{◌≡◌, suc, ◌<◌, ◌-◌, ◌*◌, length-take, length-drop, take, drop, ap, sym, arith}
-use Rattle.std.proofs.lemmas.List.{drop_all}
-use Rattle.gc_half.specs.Garbling.{decode_bits_of}
-use Rattle.gc_format.specs.DecodeBits.{bits_number}
+use Rattle.gc_write.proofs.Names.{◌≡◌, suc, ◌<◌, ◌-◌, ◌*◌, length-take, length-drop, take, drop, ap, sym, arith, drop_all, decode_bits_of, bits_number}
 use Rattle.gc_write.proofs.ByteLemmas.{bool_byte-le, ord_min-nat, bits_number-later, bits_number-last, length-decode_bits}
 use Rattle.gc_write.proofs.spell.decode_byte.Goals as goal
 

@@ -1,6 +1,4 @@
-use Rattle.std.proofs.Common.{◌≡◌, ◌≤◌, drop, take}
-use Rattle.gc_half.specs.Garbling.{decode_bits_of}
-use Rattle.gc_format.specs.DecodeBits.{bits_number}
+use Rattle.gc_write.proofs.Names.{◌≡◌, ◌≤◌, drop, take, decode_bits_of, bits_number}
 use Rattle.gc_write.proofs.spell.decode_byte.Given as goal
 
 abbrev pub invariant-loop-i : goal.invariant-loop-i

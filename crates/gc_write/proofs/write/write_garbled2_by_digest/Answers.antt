@@ -1,9 +1,4 @@
-use Rattle.std.proofs.Common.{◌++◌, flat_map, refl, arith}
-use Rattle.sha2.specs.Sha256.{sha256}
-use Rattle.gc_label.specs.Seed.{offset_of}
-use Rattle.gc_format.specs.declared.parts.Version.TheVariants.{Two}
-use Rattle.gc_format.specs.GarbledFile.{body, entry_bytes, garbled_file}
-use Rattle.gc_write.specs.Written.{parts_two}
+use Rattle.gc_write.proofs.Names.{◌++◌, flat_map, refl, arith, sha256, offset_of, Two, body, entry_bytes, garbled_file, parts_two}
 use Rattle.gc_write.proofs.ByteLemmas.{length-entry_pairs}
 use Rattle.gc_write.proofs.SizeLemmas.{garbled_file-front, garbled_file-size}
 use Rattle.gc_write.proofs.WritingLemmas.{Proceeds-step}

@@ -1,7 +1,4 @@
-use Rattle.std.proofs.Common.{◌++◌, flat_map, arith}
-use Rattle.sha2.specs.Sha256.{sha256}
-use Rattle.gc_format.specs.GarbledFile.{body, entry_bytes}
-use Rattle.gc_write.specs.Written.{parts_one}
+use Rattle.gc_write.proofs.Names.{◌++◌, flat_map, arith, sha256, body, entry_bytes, parts_one}
 use Rattle.gc_write.proofs.SizeLemmas.{garbled_file-front, garbled_file-one, garbled_file-size}
 use Rattle.gc_write.proofs.EndLemmas.{Ends-exit, Ends-step, IsWritten-whole}
 use Rattle.gc_write.proofs.write.write_garbled_by_digest.Goals as goal

@@ -1,7 +1,4 @@
-use Rattle.std.proofs.Common.{◌∙◌, arith}
-use Rattle.std.proofs.KnownBytes.{Appends-trans}
-use Rattle.std.proofs.Math.Seq.{take-add}
-use Rattle.std.proofs.lemmas.List.{take_rest}
+use Rattle.gc_write.proofs.Names.{◌∙◌, arith, Appends-trans, take-add, take_rest}
 use Rattle.gc_write.proofs.writer.put_all.Goals as goal
 
 pub loop-done-preserved : goal.loop-done-preserved

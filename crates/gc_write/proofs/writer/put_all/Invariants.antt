@@ -1,5 +1,4 @@
-use Rattle.std.proofs.Common.{◌≡◌, ◌≤◌, ◌-◌, length, take}
-use Rattle.std.specs.Io.KnownBytes.{Appends}
+use Rattle.gc_write.proofs.Names.{◌≡◌, ◌≤◌, ◌-◌, length, take, Appends}
 use Rattle.gc_write.proofs.writer.put_all.Given as goal
 
 abbrev pub invariant-loop-done : goal.invariant-loop-done

@@ -1,8 +1,4 @@
-use Rattle.std.proofs.Common.{◌≡◌, ◌<◌, length, arith}
-use Rattle.std.proofs.lemmas.Bool.Decides.{nat_tests}
-use Rattle.gc_read.specs.FileFault.{truncated}
-use Rattle.gc_format.specs.GarbledFile.{GarbledParts}
-use Rattle.gc_read.specs.Body.{version_of}
+use Rattle.gc_read.proofs.Names.{◌≡◌, ◌<◌, length, arith, nat_tests, truncated, GarbledParts, version_of}
 use Rattle.gc_read.proofs.PlaceLemmas.{in_order, ends_early}
 use Rattle.gc_read.proofs.FileLemmas.{file_is}
 use Rattle.gc_read.proofs.body.Body.end.Goals as goal

@@ -1,9 +1,4 @@
-use Rattle.std.proofs.Common.{rules, ◌≡◌, ◌-◌, ◌<◌, ◌++◌, length, arith}
-use Rattle.std.proofs.lemmas.Result.{err_from_is_err_and}
-use Rattle.std.proofs.lemmas.Bool.Decides.{nat_tests}
-use Rattle.gc_read.specs.FileFault.{output_count}
-use Rattle.gc_format.specs.DecodeBits.{IsSpare}
-use Rattle.gc_read.specs.Body.{version_of, row_size, decode_size, entry_size, IsCutUp, IsHashed}
+use Rattle.gc_read.proofs.Names.{rules, ◌≡◌, ◌-◌, ◌<◌, ◌++◌, length, arith, err_from_is_err_and, nat_tests, output_count, IsSpare, version_of, row_size, decode_size, entry_size, IsCutUp, IsHashed}
 use Rattle.gc_read.proofs.PlaceLemmas.{in_order}
 use Rattle.gc_read.proofs.StepLemmas.{spare_step, bad_trailer_step, more_step, body_step, view_step, hashed_step}
 use Rattle.gc_read.proofs.body.Body.with.Given.{Over}

@@ -1,5 +1,4 @@
-use Rattle.std.proofs.Common.{arith}
-use Rattle.gc_read.specs.FileFault.{truncated}
+use Rattle.gc_read.proofs.Names.{arith, truncated}
 use Rattle.gc_read.proofs.HeaderLemmas.{header_in_order}
 use Rattle.gc_read.proofs.reader.GarbledReader.end.Goals as goal
 

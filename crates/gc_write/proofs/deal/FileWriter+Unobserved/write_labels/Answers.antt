@@ -1,5 +1,4 @@
-use Rattle.std.proofs.Common.{◌+◌, length, arith}
-use Rattle.std.proofs.lemmas.List.{take_all}
+use Rattle.gc_write.proofs.Names.{◌+◌, length, arith, take_all}
 use Rattle.gc_write.proofs.ByteLemmas.{ord_min-nat}
 use Rattle.gc_write.proofs.DealLemmas.{label_bytes-next, label_bytes-rest}
 use Rattle.gc_write.proofs.WritingLemmas.{Wrote-more, Wrote-exit}

@@ -1,7 +1,4 @@
-use Rattle.std.proofs.Common.{◌≡◌, ◌+◌, ◌∷◌, [], ◌++◌, take, get_or, false, append-nil, refl, sym, arith}
-use Rattle.std.proofs.lemmas.List.{take_all, take_more, length-take-le}
-use Rattle.std.proofs.lemmas.List.FromFn.{get_or-map-range_with_len}
-use Rattle.gc_label.specs.Seed.{input_label_of}
+use Rattle.gc_write.proofs.Names.{◌≡◌, ◌+◌, ◌∷◌, [], ◌++◌, take, get_or, false, append-nil, refl, sym, arith, take_all, take_more, length-take-le, get_or-map-range_with_len, input_label_of}
 use Rattle.gc_write.proofs.DealLemmas.{label_bytes, label_bytes-append, label_bytes-rest}
 use Rattle.gc_write.proofs.WritingLemmas.{Wrote-more, Wrote-exit}
 use Rattle.gc_write.proofs.deal.FileWriter+Unobserved.write_some_labels.Given.{Over}

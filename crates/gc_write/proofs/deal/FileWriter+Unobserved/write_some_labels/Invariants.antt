@@ -1,5 +1,4 @@
-use Rattle.std.proofs.Common.{take}
-use Rattle.gc_write.specs.Writing.{Unseen}
+use Rattle.gc_write.proofs.Names.{take, Unseen}
 use Rattle.gc_write.proofs.WritingLemmas.{Wrote}
 use Rattle.gc_write.proofs.DealLemmas.{label_bytes}
 use Rattle.gc_write.proofs.deal.FileWriter+Unobserved.write_some_labels.Given as goal

@@ -1,8 +1,4 @@
-use Rattle.std.proofs.Common.{◌≡◌, ◌<◌, ◌+◌, ◌++◌, ◌∷◌, [], length, take, refl, arith}
-use Rattle.std.proofs.lemmas.List.{take_more, take_all, take-append-drop}
-use Rattle.gc_half.specs.Garbling.{decode_bits_of}
-use Rattle.gc_format.specs.DecodeBits.{packed}
-use Rattle.gc_format.proofs.PackLemmas.{length-packed}
+use Rattle.gc_write.proofs.Names.{◌≡◌, ◌<◌, ◌+◌, ◌++◌, ◌∷◌, [], length, take, refl, arith, take_more, take_all, take-append-drop, decode_bits_of, packed, length-packed}
 use Rattle.gc_write.proofs.ByteLemmas.{packed-at, length-decode_bits}
 use Rattle.gc_write.proofs.WritingLemmas.{Wrote-more, Wrote-exit}
 use Rattle.gc_write.proofs.write.FileWriter+Sha256.write_decode_bits.Given.{Over}

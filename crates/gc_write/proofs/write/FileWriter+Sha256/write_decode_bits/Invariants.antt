@@ -1,7 +1,4 @@
-use Rattle.std.proofs.Common.{take}
-use Rattle.sha2.specs.Hashers.{Holds256}
-use Rattle.gc_half.specs.Garbling.{decode_bits_of}
-use Rattle.gc_format.specs.DecodeBits.{packed}
+use Rattle.gc_write.proofs.Names.{take, Holds256, decode_bits_of, packed}
 use Rattle.gc_write.proofs.WritingLemmas.{Wrote}
 use Rattle.gc_write.proofs.write.FileWriter+Sha256.write_decode_bits.Given as goal
 

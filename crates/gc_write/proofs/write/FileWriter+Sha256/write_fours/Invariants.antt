@@ -1,8 +1,5 @@
-use Rattle.std.proofs.Common.{◌*◌, flat_map}
-use Rattle.sha2.specs.Hashers.{Holds256}
-use Rattle.gc_format.specs.GarbledFile.{entry_bytes}
+use Rattle.gc_write.proofs.Names.{◌*◌, flat_map, Holds256, entry_bytes, entry_pairs_from}
 use Rattle.gc_write.proofs.WritingLemmas.{Wrote}
-use Rattle.gc_write.specs.Written.{entry_pairs_from}
 use Rattle.gc_write.proofs.write.FileWriter+Sha256.write_fours.Given as goal
 
 abbrev pub invariant-loop-k : goal.invariant-loop-k

@@ -1,6 +1,4 @@
-use Rattle.std.proofs.Common.{◌≡◌, [], flat_map, append_assoc, refl, sym}
-use Rattle.gc_format.specs.DecodeBits.{packed}
-use Rattle.gc_format.specs.GarbledFile.{header, row_bytes, parts_of}
+use Rattle.gc_write.proofs.Names.{◌≡◌, [], flat_map, append_assoc, refl, sym, packed, header, row_bytes, parts_of}
 use Rattle.gc_write.proofs.ByteLemmas.{length-decode_bits}
 use Rattle.gc_write.proofs.WritingLemmas.{Proceeds-step, Proceeds-exit}
 use Rattle.gc_write.proofs.write.FileWriter+Sha256.write_front.Given.{Over}

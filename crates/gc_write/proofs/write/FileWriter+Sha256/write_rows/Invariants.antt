@@ -1,6 +1,4 @@
-use Rattle.std.proofs.Common.{flat_map, take}
-use Rattle.sha2.specs.Hashers.{Holds256}
-use Rattle.gc_format.specs.GarbledFile.{row_bytes}
+use Rattle.gc_write.proofs.Names.{flat_map, take, Holds256, row_bytes}
 use Rattle.gc_write.proofs.WritingLemmas.{Wrote}
 use Rattle.gc_write.proofs.write.FileWriter+Sha256.write_rows.Given as goal
 

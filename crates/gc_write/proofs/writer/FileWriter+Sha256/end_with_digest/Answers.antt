@@ -1,5 +1,4 @@
-use Rattle.std.proofs.Common.{[], refl}
-use Rattle.sha2.specs.Sha256.{sha256}
+use Rattle.gc_write.proofs.Names.{[], refl, sha256}
 use Rattle.gc_write.proofs.EndLemmas.{Ends-exit, Ends-step, Ends-digest}
 use Rattle.gc_write.proofs.writer.FileWriter+Sha256.end_with_digest.Goals as goal
 
