@@ -12,7 +12,7 @@ AreMade {P} {M} made_of gates made =
     → slice_index_or made i d ≡ made_of gate
 
 -- A table is right as far as it is there: a place that isn't blank has what belongs there, and so has each place of
--- which IsThere holds. A place behind its end is blank.
+-- which IsThere holds. A place beyond its end is blank.
 pub record IsPartly {A : Type 0} (whole : ℕ → A) (none : A) (IsBlank : A → Type 0)
     (IsThere : ℕ → Type 0) (table : List A) : Type 0 where
   pub right : (i : ℕ) → ¬ IsBlank (slice_index_or table i none)

@@ -10,7 +10,7 @@ use gc_gatehouse::Gatehouse;
 use std::alloc::Allocator;
 use std::marker::{Model, PhantomData};
 
-/// How many gates a block is opened for, and how many it has at the most when it is handed on.
+/// How many gates a block is opened for, and how many it has at most when it is handed on.
 pub(crate) const BLOCK: usize = 64;
 
 /// AND gates of one origin that are made together, and room for what making them gives.
@@ -70,7 +70,7 @@ impl<P: Pending, O: Origin<P>, A: Allocator> Block<P, O, A> {
         self.gates.clear();
     }
 
-    /// Puts a gate behind the others.
+    /// Puts a gate after the others.
     #[inline]
     pub(crate) fn push(&mut self, gate: P) -> Result<(), Memory>
         requires { O.is_pending gate }

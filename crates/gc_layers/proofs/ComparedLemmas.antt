@@ -1,16 +1,8 @@
 -- Given row pairs that are compared with those of a garbling.
-use Rattle.std.proofs.Common.{◌≡◌, ◌≢◌, ℕ, ◌<◌, ◌⊎◌, Bool, true, false, List, length-set, take, set, get_or, slice_get, Option, Some, None, inl, inr, sym, ap, ◌∙◌, arith}
-use Rattle.std.proofs.lemmas.Bool.{cases_eq}
-use Rattle.std.proofs.lemmas.List.{ext_get_or, get_or-set_other, get_or-take, length-take-le}
-use Rattle.std.proofs.lemmas.Option.{get_or_from_slice_get, slice_get-get_or}
-use Rattle.gc_netlist.specs.Circuit.{Netlist, IsLawful, and_count}
-use Rattle.gc_half.specs.declared.garbling.RowPair.{RowPair}
+use Rattle.gc_layers.proofs.Names.{◌≡◌, ◌≢◌, ℕ, ◌<◌, ◌⊎◌, Bool, true, false, List, length-set, take, set, get_or, slice_get, Option, Some, None, inl, inr, sym, ap, ◌∙◌, arith, cases_eq, ext_get_or, get_or-set_other, get_or-take, length-take-le, get_or_from_slice_get, slice_get-get_or, Netlist, IsLawful, and_count, RowPair, row_pairs_of, length-row_pairs_of, no_rows, row_of}
 use Rattle.gc_half.specs.declared.garbling.Mismatch.{Mismatch}
-use Rattle.gc_half.specs.Canonical.{row_pairs_of}
 use Rattle.gc_half.specs.Comparing.{IsComparison}
-use Rattle.gc_half.proofs.CanonicalLemmas.{length-row_pairs_of}
 use Rattle.gc_layers.specs.Compared.{AreComparedTo, IsBefore, IsEarlierMismatch, IsMismatch}
-use Rattle.gc_layers.specs.Garbler.{no_rows, row_of}
 
 -- What is before a place that is before the first mismatch is before it too.
 before-less : (first : Option Mismatch) (j k : ℕ) → j < k → IsBefore first k → IsBefore first j

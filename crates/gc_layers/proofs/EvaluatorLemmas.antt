@@ -1,23 +1,7 @@
 -- An evaluation that is partly there.
-use Rattle.std.proofs.Common.{◌≡◌, ℕ, ◌+◌, ◌-◌, ◌<◌, true, List, length, map, drop, get_or, slice_index, slice_get, Some, sym, ◌∙◌, arith}
-use Rattle.std.specs.List.{range_with_len}
-use Rattle.std.proofs.lemmas.List.{ext_get_or, get_or-drop, length-drop, get_or_past}
-use Rattle.std.proofs.lemmas.List.FromFn.{length-map-range_with_len, get_or-map-range_with_len}
-use Rattle.gc_netlist.specs.declared.gate.Operation.{Operation}
-use Rattle.gc_netlist.specs.declared.gate.Gate.{Gate}
-use Rattle.gc_netlist.specs.Circuit.{Netlist, IsLawful, is_and, and_number, input_wires, output_wires}
+use Rattle.gc_layers.proofs.Names.{◌≡◌, ℕ, ◌+◌, ◌-◌, ◌<◌, true, List, length, map, drop, get_or, slice_index, slice_get, Some, sym, ◌∙◌, arith, range_with_len, ext_get_or, get_or-drop, length-drop, get_or_past, length-map-range_with_len, get_or-map-range_with_len, Operation, Gate, Netlist, IsLawful, is_and, and_number, input_wires, output_wires, RowPair, hash, and_active, first_read, second_read, gate_active, active_label_of, active_labels-solve, Mark, Absent, There, AreLabels, IsLabelled, AreOutputLabels}
 use Rattle.gc_netlist.specs.Solution.{on_outputs}
-use Rattle.gc_half.specs.declared.garbling.RowPair.{RowPair}
-use Rattle.gc_half.specs.Hash.{hash}
-use Rattle.gc_half.specs.HalfGate.{and_active}
-use Rattle.gc_half.specs.OneGate.{first_read, second_read, gate_active}
 use Rattle.gc_half.specs.Evaluation.{IsEvaluation, row_at}
-use Rattle.gc_half.specs.Canonical.{active_label_of}
-use Rattle.gc_half.proofs.CanonicalLemmas.{active_labels-solve}
-use Rattle.gc_labelling.specs.declared.mark.Mark.{Mark}
-use Rattle.gc_labelling.specs.declared.mark.Mark.TheVariants.{Absent, There}
-use Rattle.gc_labelling.specs.Layer.{AreLabels, IsLabelled}
-use Rattle.gc_layers.specs.Evaluator.{AreOutputLabels}
 use Rattle.gc_layers.proofs.PartlyLemmas.{labels-start}
 
 -- An AND gate's evaluation is what evaluating a gate gives.

@@ -1,28 +1,11 @@
 -- A garbling that is partly there.
-use Rattle.std.proofs.Common.{◌≡◌, ◌≢◌, count_by, ℕ, ◌+◌, ◌-◌, ◌<◌, ◌≤◌, inl, inr, true, false, List, length, length-set, map, set, get_or, slice_index, slice_get, Some, sym, ◌∙◌, arith}
-use Rattle.std.specs.List.{range_with_len}
+use Rattle.gc_layers.proofs.Names.{◌≡◌, ◌≢◌, count_by, ℕ, ◌+◌, ◌-◌, ◌<◌, ◌≤◌, inl, inr, true, false, List, length, length-set, map, set, get_or, slice_index, slice_get, Some, sym, ◌∙◌, arith, range_with_len, get_or-set_same, ext_get_or, fill_by_all, get_or_from_slice_get, slice_get-get_or, slice_get_within, Operation, Gate, Netlist, IsLawful, IsSetBefore, EachRead, is_and, and_number, and_count, output_wires, RowPair, hash, and_zero, first_read, second_read, gate_zero, row_pair, input_zero, zero_label_of, row_pairs_of, garbling_of, input_zero-input, input_zero-other, zero_label_of-input, zero_label_of-gate, zero_label_of-not_set, row_pairs_of-at, length-row_pairs_of, garbling_of-IsGarbled, and_or_other, and_number-below, set_or_not, AreLabels, AreKept, AreRows, IsGate, IsNumberFor, is_present, no_rows, row_of}
 use Rattle.std.proofs.lemmas.Bool.Decides.{nat_tests}
-use Rattle.std.proofs.lemmas.List.{get_or-set_same, ext_get_or}
 use Rattle.std.proofs.lemmas.List.Sums.{count_by-le-length}
-use Rattle.std.proofs.lemmas.List.FromFn.{fill_by_all}
-use Rattle.std.proofs.lemmas.Option.{get_or_from_slice_get, slice_get-get_or, slice_get_within}
-use Rattle.gc_netlist.specs.declared.gate.Operation.{Operation}
-use Rattle.gc_netlist.specs.declared.gate.Gate.{Gate}
-use Rattle.gc_netlist.specs.Circuit.{Netlist, IsLawful, IsSetBefore, EachRead, is_and, and_number, and_count, output_wires}
 use Rattle.gc_netlist.proofs.SolutionLemmas.{EachRead-map}
 use Rattle.gc_label.specs.Seed.{offset_of}
-use Rattle.gc_half.specs.declared.garbling.RowPair.{RowPair}
-use Rattle.gc_half.specs.Hash.{hash}
-use Rattle.gc_half.specs.HalfGate.{and_zero}
-use Rattle.gc_half.specs.OneGate.{first_read, second_read, gate_zero, row_pair}
 use Rattle.gc_half.specs.Garbling.{IsGarbled}
-use Rattle.gc_half.specs.Canonical.{input_zero, zero_label_of, row_pairs_of, garbling_of}
-use Rattle.gc_half.proofs.CanonicalLemmas.{input_zero-input, input_zero-other, zero_label_of-input, zero_label_of-gate, zero_label_of-not_set, row_pairs_of-at, length-row_pairs_of, garbling_of-IsGarbled}
-use Rattle.gc_half.proofs.AndNumbers.{and_or_other, and_number-below}
-use Rattle.gc_half.proofs.SetWires.{set_or_not}
-use Rattle.gc_labelling.specs.Layer.{AreLabels}
 use Rattle.gc_queue.proofs.ListLemmas.{count_by-all_back, count_by-set_more}
-use Rattle.gc_layers.specs.Garbler.{AreKept, AreRows, IsGate, IsNumberFor, is_present, no_rows, row_of}
 use Rattle.gc_layers.proofs.PartlyLemmas.{labels-start, partly-put, partly-more}
 
 module _ (c : Netlist) (seed : List ℕ) where

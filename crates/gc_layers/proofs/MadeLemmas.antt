@@ -1,9 +1,5 @@
 -- Gates that are made, one after another.
-use Rattle.std.proofs.Common.{◌≡◌, ◌≢◌, ℕ, ◌<◌, inl, inr, List, length, set, get_or, refl, ◌∙◌}
-use Rattle.std.proofs.lemmas.Bool.{cases_eq}
-use Rattle.std.proofs.lemmas.List.{get_or-set_same, get_or-set_other}
-use Rattle.std.proofs.lemmas.Option.{get_or_from_slice_get}
-use Rattle.gc_layers.specs.Made.{IsMadeAt}
+use Rattle.gc_layers.proofs.Names.{◌≡◌, ◌≢◌, ℕ, ◌<◌, inl, inr, List, length, set, get_or, refl, ◌∙◌, cases_eq, get_or-set_same, get_or-set_other, get_or_from_slice_get, IsMadeAt}
 
 -- What making the gate at place p gives may be put there: it stands there, and the others stay.
 module _ {P M : Type 0} (made_of : P → M) (gates : List P) where

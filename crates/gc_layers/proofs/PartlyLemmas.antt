@@ -1,15 +1,6 @@
 -- A table that is partly there, and a place of it that is set.
-use Rattle.std.proofs.Common.{◌≡◌, ℕ, ◌+◌, ◌<◌, ◌⊎◌, ⊎_elim, inl, inr, add-one, List, length, length-set, map, set, get_or, slice_get, slice_index, Some, ◌∙◌, arith}
-use Rattle.std.specs.List.{range_with_len}
-use Rattle.std.proofs.lemmas.Bool.{cases_eq}
-use Rattle.std.proofs.lemmas.List.{get_or-set_same, get_or-set_other, get_or_past}
-use Rattle.std.proofs.lemmas.List.FromFn.{length-map-range_with_len}
-use Rattle.gc_netlist.specs.declared.gate.Gate.{Gate}
-use Rattle.gc_netlist.specs.Circuit.{Netlist, IsLawful, IsSetBefore, input_wires}
+use Rattle.gc_layers.proofs.Names.{◌≡◌, ℕ, ◌+◌, ◌<◌, ◌⊎◌, ⊎_elim, inl, inr, add-one, List, length, length-set, map, set, get_or, slice_get, slice_index, Some, ◌∙◌, arith, range_with_len, cases_eq, get_or-set_same, get_or-set_other, get_or_past, length-map-range_with_len, Gate, Netlist, IsLawful, IsSetBefore, input_wires, last_or_before, Mark, IsPartly, AreLabels, AreMarked}
 use Rattle.gc_netlist.proofs.Tables.{read-table}
-use Rattle.gc_half.proofs.SetWires.{last_or_before}
-use Rattle.gc_labelling.specs.declared.mark.Mark.{Mark}
-use Rattle.gc_labelling.specs.Layer.{IsPartly, AreLabels, AreMarked}
 
 module _ {A : Type 0} (whole : ℕ → A) (none : A) where
   -- Where what belongs at a place is put there, each place has what belongs there or what it had.

@@ -16,8 +16,7 @@ active_by gate =
     let step = gate.waits.gate in
     and_active hash step.k step.rows.generator step.rows.evaluator step.a step.b
 
--- The gate that waits is one of the circuit's AND gates, with its row pair and the active labels of the wires that it
--- reads.
+-- The gate that waits sets a wire of the circuit, and the label that follows from it is the wire's active label.
 pub record IsToEvaluate (c : Netlist) (rows : List RowPair) (inputs : List ℕ)
     (gate : PlacedGate AndStep) : Type 0 where
   pub set : gate.waits.set < c.wires

@@ -48,7 +48,8 @@ module _ (c : Netlist) (seed : List ℕ) where
     pub are_rows : AreRows n rows
     pub counted : missing + count_by is_present rows ≡ length rows
 
-  -- The gate that waits is one of the circuit's AND gates, with the zero labels of the wires that it reads.
+  -- The gate that waits sets a wire of the circuit and has the number of an AND gate. The label that follows from it is
+  -- the wire's zero label, and the row pair is that of its number.
   pub record IsGate (w : PlacedGate AndGate) : Type 0 where
     pub set : w.waits.set < c.wires
     pub label : zero_by w ≡ zero_label_of c seed w.waits.set

@@ -4,7 +4,7 @@ ghost use Rattle.std.specs.Prelude.{ℕ, List};
 ghost use Rattle.gc_rounds.specs.declared.view.View.{View};
 ghost use Rattle.gc_rounds.specs.Laws.{Opens, Moves, Deals, Joins};
 
-/// What a seat knows besides where it is, and a rule about that and about the words behind the banks' two.
+/// What a seat knows besides where it is, and a rule about that and about the words after the banks' two.
 pub trait Inner<T> {
     /// How many of these words there are.
     ghost size: { T → ℕ };

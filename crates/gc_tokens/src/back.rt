@@ -111,7 +111,7 @@ fn line_start(text: &[u8]) -> usize
     0
 }
 
-/// The column of what comes after these bytes, counted from 1. Each byte takes a column, and behind byte 10 the columns
+/// The column of what comes after these bytes, counted from 1. Each byte takes a column, and after byte 10 the columns
 /// begin anew.
 pub fn column_after(before: &[u8]) -> u64
     ensures { result ≡ column_after before.now }

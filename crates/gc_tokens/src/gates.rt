@@ -103,8 +103,8 @@ fn read_any_gate(tokens: &mut Tokens<'_>) -> Result<Gate, ReadFault>
 /// no number below 2 ^ 32, as `BadShape` for counts that no gate has or that its operation doesn't have, as
 /// `UnknownOperation`, as `BadConstant` for an EQ of neither 0 nor 1, or as `Truncated` where the text ends in it.
 ///
-/// A refusal leaves the token that is no number and those behind it, no token where the text ends, those behind the
-/// first of two counts that no gate has, and else those behind the gate.
+/// A refusal leaves the token that is no number and those after it, no token where the text ends, those after the
+/// first of two counts that no gate has, and else those after the gate.
 #[inline(always)]
 pub fn read_gate(tokens: &mut Tokens<'_>) -> Result<Gate, ReadFault>
     ensures read { MatchResult result (λ g. gate_at tokens.old.left ≡ Ok (g, tokens.new.left))

@@ -6,7 +6,7 @@ ghost use Rattle.gc_tokens.specs.Cursor.{KeepsCuts};
 use crate::number::short_number;
 use gc_netlist::{Gate, Operation};
 
-/// The text after a line feed, where it begins with one, as it does behind a gate that was read by tokens.
+/// The text after a line feed, where it begins with one, as it does after a gate that was read by tokens.
 #[inline(always)]
 pub(crate) fn behind_feed(text: &[u8]) -> &[u8]
     ensures same { tokens result.now ≡ tokens text.now }

@@ -11,7 +11,7 @@ use crate::number::{is_blank, leading_number, short_number};
 use gc_netlist::{Gate, ReadFault};
 use std::marker::Model;
 
-/// A cursor in a text, seen as the text and the tokens that are left. To take a token is to leave those behind it. The
+/// A cursor in a text, seen as the text and the tokens that are left. To take a token is to leave those after it. The
 /// calls that read gates are inlined, so that what is left stays in registers.
 #[derive(Drop)]
 pub struct Tokens<'a> {

@@ -1,14 +1,8 @@
 -- What is left of a gathered pool, and one task that is taken from it.
-use Rattle.std.proofs.Common.{◌≡◌, ℕ, ◌+◌, ◌<◌, Bool, true, false, cond, List, [], ◌∷◌, ◌++◌, length, Option, Some, None, MatchOption, sym, refl, ap, ◌∙◌, append_assoc, rules, arith}
+use Rattle.gc_work.proofs.Names.{◌≡◌, ℕ, ◌+◌, ◌<◌, Bool, true, false, cond, List, [], ◌∷◌, ◌++◌, length, Option, Some, None, MatchOption, sym, refl, ap, ◌∙◌, append_assoc, rules, arith, sum_by-cons, sum_by-append, sum_by_push, Task, PoolAccount, IsTaken, weigh, account, all_parts, Knows, KnowsSome, IsGathered}
 use Rattle.std.specs.Bool.{Decides}
 use Rattle.std.proofs.lemmas.Bool.Decides.{Decides-and, Decides-like, Decides-eqb}
 use Rattle.std.specs.Set.{remove_key}
-use Rattle.std.proofs.lemmas.List.Sums.{sum_by-cons, sum_by-append, sum_by_push}
-use Rattle.gc_store.specs.declared.task.Task.{Task}
-use Rattle.gc_work.specs.declared.account.PoolAccount.{PoolAccount}
-use Rattle.gc_work.specs.Pool.{IsTaken, weigh}
-use Rattle.gc_work.specs.PoolRule.{account, all_parts, Knows, KnowsSome}
-use Rattle.gc_work.specs.Kept.{IsGathered}
 use Rattle.gc_work.specs.Left.{same_task, without, left_of}
 
 -- `==` of two tasks holds exactly where they are the same

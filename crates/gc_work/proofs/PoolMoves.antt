@@ -1,17 +1,10 @@
 -- Each move keeps the rule of a pool.
-use Rattle.std.proofs.Common.{◌≡◌, ℕ, zero, suc, ◌+◌, ◌-◌, ◌^◌, ◌<◌, ◌≤◌, List, [], ◌∷◌, ◌++◌, append_assoc, append-nil, set, inl, inr, sym, refl, ap, ◌∙◌, subst, arith}
-use Rattle.std.proofs.lemmas.List.Sums.{sum_by-cons, sum_by-append, sum_by_push}
+use Rattle.gc_work.proofs.Names.{◌≡◌, ℕ, zero, suc, ◌+◌, ◌-◌, ◌^◌, ◌<◌, ◌≤◌, List, [], ◌∷◌, ◌++◌, append_assoc, append-nil, set, inl, inr, sym, refl, ap, ◌∙◌, subst, arith, sum_by-cons, sum_by-append, sum_by_push, Task, PoolAccount, RowsId, ThiefParts, AllOf, stolen_by, weigh, IsOwning, account, all_parts, total, gone, IsIdle, IdleIsEmpty, IsBalanced, Knows, KnowsSome}
 use mathlib.Core.Option.{some, some-ne-none, some-injective}
 use lib.ListN.{get_elem?}
 use Rattle.crossbeam_deque.specs.Tasks.{Pushes, Takes, Pops, Finds, Forks, Merges, Learns}
 use Rattle.crossbeam_deque.proofs.Lists.{at_set, at_snoc, set_here}
 use Rattle.crossbeam_deque.proofs.Phases.{at_lt}
-use Rattle.gc_store.specs.declared.task.Task.{Task}
-use Rattle.gc_work.specs.declared.account.PoolAccount.{PoolAccount}
-use Rattle.atomic_blocks.specs.Lent.{RowsId}
-use Rattle.gc_work.specs.Pool.{ThiefParts, AllOf, stolen_by, weigh}
-use Rattle.gc_work.specs.Kept.{IsOwning}
-use Rattle.gc_work.specs.PoolRule.{account, all_parts, total, gone, IsIdle, IdleIsEmpty, IsBalanced, Knows, KnowsSome}
 
 -- a holder with no part
 abbrev idle : PoolAccount

@@ -1,7 +1,5 @@
 -- A gate that is claimed and then finished leaves one fewer to be finished.
-use Rattle.std.proofs.Common.{ℕ, ◌-◌, ◌<◌, Bool, Some, Ok, length, count_by, arith, length-set, ap}
-use Rattle.std.proofs.lemmas.List.Sums.{count_by-le-length}
-use Rattle.gc_store.specs.declared.task.Task.{Task}
+use Rattle.gc_work.proofs.Names.{ℕ, ◌-◌, ◌<◌, Bool, Some, Ok, length, count_by, arith, length-set, ap, count_by-le-length, Task}
 use Rattle.gc_store.specs.Content.{Content, State, is_finished}
 use Rattle.gc_store.specs.Step.{Claims, Finishes}
 use Rattle.gc_store.proofs.CountLemmas.{claims-count, finishes-count}

@@ -1,6 +1,4 @@
-use Rattle.std.proofs.Common.{length, ap, ◌∙◌, arith}
-use Rattle.std.proofs.lemmas.List.FromFn.{length-map-range_with_len}
-use Rattle.gc_half.specs.Canonical.{zero_label_of}
+use Rattle.gc_layers.proofs.Names.{length, ap, ◌∙◌, arith, length-map-range_with_len, zero_label_of}
 use Rattle.gc_layers.proofs.garble.garble_and_compare_by_layers.Goals as goal
 
 pub from_parts-requires : goal.from_parts-requires

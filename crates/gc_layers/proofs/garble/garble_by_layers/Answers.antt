@@ -1,6 +1,4 @@
-use Rattle.std.proofs.Common.{arith}
-use Rattle.std.proofs.lemmas.List.FromFn.{length-map-range_with_len}
-use Rattle.gc_half.specs.Canonical.{zero_label_of}
+use Rattle.gc_layers.proofs.Names.{arith, length-map-range_with_len, zero_label_of}
 use Rattle.gc_layers.proofs.GarblerLemmas.{garbled-end}
 use Rattle.gc_layers.proofs.garble.garble_by_layers.Goals as goal
 

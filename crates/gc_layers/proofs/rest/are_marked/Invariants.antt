@@ -1,5 +1,4 @@
-use Rattle.std.proofs.Common.{◌≡◌, ℕ, ◌<◌, slice_index_or}
-use Rattle.gc_labelling.specs.declared.mark.Mark.TheVariants.{Absent, There}
+use Rattle.gc_layers.proofs.Names.{◌≡◌, ℕ, ◌<◌, slice_index_or, Absent, There}
 use Rattle.gc_layers.proofs.rest.are_marked.Given as goal
 
 abbrev pub invariant-loop-i : goal.invariant-loop-i

@@ -1,10 +1,5 @@
-use Rattle.std.proofs.Common.{◌≡◌, ◌+◌, add-one, ℕ, true, false, slice_index, sym, ap, ◌∙◌, arith}
-use Rattle.std.proofs.lemmas.List.{get_or-set_same}
-use Rattle.gc_netlist.specs.Circuit.{is_and}
-use Rattle.gc_half.proofs.AndNumbers.{and_number-and, and_number-other}
-use Rattle.gc_half.specs.Canonical.{zero_label_of}
+use Rattle.gc_layers.proofs.Names.{◌≡◌, ◌+◌, add-one, ℕ, true, false, slice_index, sym, ap, ◌∙◌, arith, get_or-set_same, is_and, and_number-and, and_number-other, zero_label_of, AreLabels, AreMarked}
 use Rattle.gc_half.proofs.OneGateLemmas.{first_read-local, second_read-local}
-use Rattle.gc_labelling.specs.Layer.{AreLabels, AreMarked}
 use Rattle.gc_layers.proofs.PartlyLemmas.{labels-next, labels-put, marked-label}
 use Rattle.gc_layers.proofs.GarblerLemmas.{is-number, reads-there, gate-label, gate-row}
 use Rattle.gc_layers.proofs.rest.garble_rest.Goals as goal

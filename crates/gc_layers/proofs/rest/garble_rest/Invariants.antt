@@ -1,7 +1,4 @@
-use Rattle.std.proofs.Common.{◌≡◌}
-use Rattle.gc_netlist.specs.Circuit.{and_number}
-use Rattle.gc_half.specs.Canonical.{zero_label_of}
-use Rattle.gc_labelling.specs.Layer.{AreLabels, AreMarked}
+use Rattle.gc_layers.proofs.Names.{◌≡◌, and_number, zero_label_of, AreLabels, AreMarked}
 use Rattle.gc_layers.proofs.rest.garble_rest.Given as goal
 
 abbrev pub invariant-loop-i : goal.invariant-loop-i

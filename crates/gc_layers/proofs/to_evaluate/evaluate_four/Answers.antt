@@ -1,6 +1,4 @@
-use Rattle.std.proofs.Common.{ℕ, ◌*◌, get_or, length-set, ap, arith}
-use Rattle.std.proofs.lemmas.Option.{slice_get_within}
-use Rattle.gc_layers.specs.Evaluator.{active_by}
+use Rattle.gc_layers.proofs.Names.{ℕ, ◌*◌, get_or, length-set, ap, arith, slice_get_within, active_by}
 use Rattle.gc_layers.proofs.MadeLemmas.{made-put}
 use Rattle.gc_layers.proofs.to_evaluate.evaluate_four.Goals as goal
 

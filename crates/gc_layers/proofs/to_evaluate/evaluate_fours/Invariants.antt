@@ -1,6 +1,4 @@
-use Rattle.std.proofs.Common.{ℕ, ◌<◌, ◌≤◌, ◌*◌, length}
-use Rattle.gc_layers.specs.Evaluator.{active_by}
-use Rattle.gc_layers.specs.Made.{IsMadeAt}
+use Rattle.gc_layers.proofs.Names.{ℕ, ◌<◌, ◌≤◌, ◌*◌, length, active_by, IsMadeAt}
 use Rattle.gc_layers.proofs.to_evaluate.evaluate_fours.Given as goal
 
 abbrev pub invariant-loop-i : goal.invariant-loop-i

@@ -1,6 +1,4 @@
-use Rattle.std.proofs.Common.{◌≡◌, ◌*◌, set, length-set, ap, ◌∙◌, arith, rules}
-use Rattle.std.proofs.lemmas.Option.{slice_get_within}
-use Rattle.gc_layers.specs.Garbler.{garbled_of}
+use Rattle.gc_layers.proofs.Names.{◌≡◌, ◌*◌, set, length-set, ap, ◌∙◌, arith, rules, slice_get_within, garbled_of}
 use Rattle.gc_layers.proofs.MadeLemmas.{made-put}
 use Rattle.gc_layers.proofs.to_garble.garble_pair.Goals as goal
 

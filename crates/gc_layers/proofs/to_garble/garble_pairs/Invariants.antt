@@ -1,6 +1,4 @@
-use Rattle.std.proofs.Common.{ℕ, ◌<◌, ◌≤◌, ◌*◌, length}
-use Rattle.gc_layers.specs.Garbler.{garbled_of}
-use Rattle.gc_layers.specs.Made.{IsMadeAt}
+use Rattle.gc_layers.proofs.Names.{ℕ, ◌<◌, ◌≤◌, ◌*◌, length, garbled_of, IsMadeAt}
 use Rattle.gc_layers.proofs.to_garble.garble_pairs.Given as goal
 
 abbrev pub invariant-loop-i : goal.invariant-loop-i

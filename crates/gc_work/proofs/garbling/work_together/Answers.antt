@@ -1,5 +1,4 @@
-use Rattle.std.proofs.Common.{◌≡◌, ◌∙◌, length, ap, rules}
-use Rattle.gc_gatehouse.proofs.Whole.{whole_back}
+use Rattle.gc_work.proofs.Names.{◌≡◌, ◌∙◌, length, ap, rules, whole_back}
 use Rattle.gc_work.proofs.garbling.work_together.Goals as goal
 
 pub gather-requires : goal.gather-requires

@@ -1,5 +1,4 @@
-use Rattle.std.proofs.Common.{◌≡◌}
-use Rattle.gc_work.specs.Ready.{IsReady}
+use Rattle.gc_work.proofs.Names.{◌≡◌, IsReady}
 use Rattle.gc_work.proofs.worker.work.Given as goal
 
 abbrev pub invariant-loop : goal.invariant-loop

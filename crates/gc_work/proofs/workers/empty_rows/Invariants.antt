@@ -1,5 +1,4 @@
-use Rattle.std.proofs.Common.{[]}
-use Rattle.gc_work.specs.Places.{AreRows}
+use Rattle.gc_work.proofs.Names.{[], AreRows}
 use Rattle.gc_work.proofs.workers.empty_rows.Given as goal
 
 abbrev pub invariant-loop-i : goal.invariant-loop-i

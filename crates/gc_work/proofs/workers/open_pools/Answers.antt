@@ -1,7 +1,4 @@
-use Rattle.std.proofs.Common.{◌≡◌, ◌∙◌, ◌∷◌, [], ◌++◌, Some, length, slice_get, ap, rules}
-use Rattle.std.proofs.lemmas.List.Elements.{All-push}
-use Rattle.gc_gatehouse.proofs.Whole.{whole_back}
-use Rattle.gc_half.proofs.RowLemmas.{slice_get-push, slice_get-append}
+use Rattle.gc_work.proofs.Names.{◌≡◌, ◌∙◌, ◌∷◌, [], ◌++◌, Some, length, slice_get, ap, rules, All-push, whole_back, slice_get-push, slice_get-append}
 use Rattle.gc_work.proofs.workers.open_pools.Goals as goal
 
 pub loop-i-preserved : goal.loop-i-preserved

@@ -1,5 +1,4 @@
-use Rattle.gc_work.specs.Places.{AreRows}
-use Rattle.gc_work.specs.Seats.{AreHeld}
+use Rattle.gc_work.proofs.Names.{AreRows, AreHeld}
 use Rattle.gc_work.proofs.workers.open_pools.Given as goal
 
 abbrev pub invariant-loop-i : goal.invariant-loop-i

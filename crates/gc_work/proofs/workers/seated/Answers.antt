@@ -1,7 +1,4 @@
-use Rattle.std.proofs.Common.{◌≡◌, Some, slice_get}
-use Rattle.std.proofs.lemmas.List.Elements.{All-pop, All-push}
-use Rattle.gc_work.specs.Places.{ArePlaced}
-use Rattle.gc_work.specs.Ready.{IsReady}
+use Rattle.gc_work.proofs.Names.{◌≡◌, Some, slice_get, All-pop, All-push, ArePlaced, IsReady}
 use Rattle.gc_work.proofs.workers.seated.Goals as goal
 
 pub loop-seat-preserved : goal.loop-seat-preserved

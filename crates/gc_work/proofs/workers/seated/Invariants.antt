@@ -1,7 +1,4 @@
-use Rattle.std.proofs.Common.{All, length}
-use Rattle.gc_work.specs.Places.{AreRows}
-use Rattle.gc_work.specs.Ready.{IsReady}
-use Rattle.gc_work.specs.Seats.{AreHeld}
+use Rattle.gc_work.proofs.Names.{All, length, AreRows, IsReady, AreHeld}
 use Rattle.gc_work.proofs.workers.seated.Given as goal
 
 abbrev pub invariant-loop-seat : goal.invariant-loop-seat

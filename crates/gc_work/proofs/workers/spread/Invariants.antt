@@ -1,7 +1,4 @@
-use Rattle.std.proofs.Common.{[], ◌∷◌, ◌++◌}
-use Rattle.std.specs.Vec.Iter.{into_iter_items}
-use Rattle.gc_work.specs.Pool.{AllOf}
-use Rattle.gc_work.specs.Places.{AreRows}
+use Rattle.gc_work.proofs.Names.{[], ◌∷◌, ◌++◌, into_iter_items, AllOf, AreRows}
 use Rattle.gc_work.proofs.workers.spread.Given as goal
 
 abbrev pub invariant-loop-thief : goal.invariant-loop-thief

@@ -1,5 +1,4 @@
-use Rattle.std.proofs.Common.{◌+◌, inl, arith}
-use Rattle.std.proofs.lemmas.Option.{slice_get-get_or}
+use Rattle.gc_layers.proofs.Names.{◌+◌, inl, arith, slice_get-get_or}
 use Rattle.gc_layers.proofs.ComparedLemmas.{compared-next}
 use Rattle.gc_layers.proofs.compared_rows.ComparedRowsRowKeeper.keep.Goals as goal
 

@@ -1,6 +1,4 @@
-use Rattle.std.proofs.Common.{◌≡◌, ◌-◌, refl, ap, subst}
-use Rattle.gc_netlist.specs.Circuit.{output_wires}
-use Rattle.gc_layers.specs.Evaluator.{EvaluatorParts, IsEvaluator}
+use Rattle.gc_layers.proofs.Names.{◌≡◌, ◌-◌, refl, ap, subst, output_wires, EvaluatorParts, IsEvaluator}
 use Rattle.gc_layers.proofs.EvaluatorLemmas.{outputs-end}
 use Rattle.gc_layers.proofs.evaluator.Evaluator.outputs.Goals as goal
 

@@ -1,5 +1,4 @@
-use Rattle.std.proofs.Common.{ap, subst}
-use Rattle.gc_layers.specs.Evaluator.{EvaluatorParts, IsEvaluator}
+use Rattle.gc_layers.proofs.Names.{ap, subst, EvaluatorParts, IsEvaluator}
 use Rattle.gc_layers.proofs.EvaluatorLemmas.{active-gate}
 use Rattle.gc_layers.proofs.evaluator.EvaluatorLabellingPlacedGateAndStep.free.Goals as goal
 

@@ -1,8 +1,4 @@
-use Rattle.std.proofs.Common.{◌<◌, length, ap, subst, ◌∙◌, arith}
-use Rattle.std.proofs.lemmas.List.{get_or_default}
-use Rattle.gc_half.proofs.AndNumbers.{and_number-below}
-use Rattle.gc_layers.specs.Garbler.{no_rows}
-use Rattle.gc_layers.specs.Evaluator.{EvaluatorParts, IsEvaluator}
+use Rattle.gc_layers.proofs.Names.{◌<◌, length, ap, subst, ◌∙◌, arith, get_or_default, and_number-below, no_rows, EvaluatorParts, IsEvaluator}
 use Rattle.gc_layers.proofs.EvaluatorLemmas.{active-gate, of-and}
 use Rattle.gc_layers.proofs.evaluator.EvaluatorLabellingPlacedGateAndStep.pending.Goals as goal
 

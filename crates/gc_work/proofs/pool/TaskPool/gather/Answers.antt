@@ -1,5 +1,4 @@
-use Rattle.std.proofs.Common.{rules}
-use Rattle.crossbeam_deque.specs.Handles.{worker_view}
+use Rattle.gc_work.proofs.Names.{rules, worker_view}
 use Rattle.gc_work.proofs.PoolMoves.{merges, learns}
 use Rattle.gc_work.proofs.LeftLemmas.{counted}
 use Rattle.gc_work.proofs.pool.TaskPool.gather.Goals as goal

@@ -1,7 +1,4 @@
-use Rattle.std.proofs.Common.{◌≡◌, ◌+◌, ◌<◌, ◌++◌, length}
-use Rattle.std.specs.Vec.Iter.{into_iter_items}
-use Rattle.crossbeam_deque.specs.Handles.{worker_deque, worker_view}
-use Rattle.gc_work.specs.Pool.{stolen_by, AllOf}
+use Rattle.gc_work.proofs.Names.{◌≡◌, ◌+◌, ◌<◌, ◌++◌, length, into_iter_items, worker_deque, worker_view, stolen_by, AllOf}
 use Rattle.gc_work.proofs.pool.TaskPool.gather.Given as goal
 
 abbrev pub invariant-loop-thief : goal.invariant-loop-thief

@@ -1,7 +1,4 @@
-use Rattle.std.proofs.Common.{◌≡◌, [], length}
-use Rattle.crossbeam_deque.specs.Handles.{worker_deque, stealer_deque, worker_view, worker_capacity, worker_index}
-use Rattle.gc_work.specs.Pool.{stolen_by, AllOf}
-use Rattle.gc_work.specs.Kept.{IsOwning}
+use Rattle.gc_work.proofs.Names.{◌≡◌, [], length, worker_deque, stealer_deque, worker_view, worker_capacity, worker_index, stolen_by, AllOf, IsOwning}
 use Rattle.gc_work.proofs.pool.TaskPool.open.Given as goal
 
 abbrev pub invariant-loop-i : goal.invariant-loop-i
