@@ -1,16 +1,9 @@
 -- Label files in turn, and the places where they stand.
-use Rattle.std.proofs.Common.{◌≡◌, ◌≢◌, ℕ, ◌+◌, ◌<◌, ◌≤◌, Bool, true, false, inl, inr, List, [], length, take, set, get_or, slice_get, Option, Some, None, is_some, MatchOption, not, eqb, ltb, refl, sym, ◌∙◌, arith}
-use Rattle.std.proofs.lemmas.Option.{slice_get_within, slice_get_read}
-use Rattle.std.proofs.lemmas.Bool.{cases_eq}
+use Rattle.gc_job.proofs.Names.{◌≡◌, ◌≢◌, ℕ, ◌+◌, ◌<◌, ◌≤◌, Bool, true, false, inl, inr, List, [], length, take, set, get_or, slice_get, Option, Some, None, is_some, MatchOption, not, eqb, ltb, refl, sym, ◌∙◌, arith, slice_get_within, slice_get_read, cases_eq, Decides-eqb, LabelFileParts, DoubleValue, HasFile, IsInOrder, AreInOrder, LabelsFault, double_value, IsFileAt, ArePlaces}
 use Rattle.std.proofs.lemmas.List.{get_or-set_same, get_or-set_other, length-set}
-use Rattle.std.proofs.lemmas.Bool.Decides.{Decides-eqb}
 use Rattle.std.proofs.lemmas.Slice.Eq.{slice_eq-Decides}
 use lib.Pointwise.{pointwise}
 use borrow.Author.Tests.{ltb-true}
-use Rattle.gc_format.specs.LabelFile.{LabelFileParts}
-use Rattle.gc_job.specs.declared.fault.BindFault.TheVariants.{DoubleValue}
-use Rattle.gc_job.specs.Binding.{HasFile, IsInOrder, AreInOrder, LabelsFault, double_value}
-use Rattle.gc_job.specs.Places.{IsFileAt, ArePlaces}
 use Rattle.gc_job.proofs.TakeLemmas.{slice_get-take, slice_get_taken}
 
 -- What `get` found at an index.

@@ -1,16 +1,8 @@
 -- Decoding, one label after another, and recognising labels.
-use Rattle.std.proofs.Common.{◌≡◌, ℕ, ◌+◌, ◌-◌, ◌<◌, ◌≤◌, ◌++◌, List, [], ◌∷◌, Bool, false, not, length, length-take, length-drop, take, drop, get_or, slice_get, slice_index, Some, inl, inr, refl, sym, ap, ◌∙◌, arith}
+use Rattle.gc_job.proofs.Names.{◌≡◌, ℕ, ◌+◌, ◌-◌, ◌<◌, ◌≤◌, ◌++◌, List, [], ◌∷◌, Bool, false, not, length, length-take, length-drop, take, drop, get_or, slice_get, slice_index, Some, inl, inr, refl, sym, ap, ◌∙◌, arith, cases_eq, slice_get_read, xor, colour, hash, output_tweak, decode, IsRecognised, AreRecognised}
 use Rattle.std.proofs.Math.Bool.{beq}
-use Rattle.std.proofs.lemmas.Bool.{cases_eq}
 use Rattle.std.proofs.lemmas.List.{take_more, length-take-le, get_or_default, get_or-take, get_or-drop}
-use Rattle.std.proofs.lemmas.Option.{slice_get_read}
-use Rattle.gc_circuit.specs.Meaning.{xor}
-use Rattle.gc_label.specs.Label.{colour}
-use Rattle.gc_half.specs.Hash.{hash}
-use Rattle.gc_half.specs.Entry.{output_tweak}
-use Rattle.gc_half.specs.Evaluation.{decode}
 use Rattle.gc_format.specs.declared.parts.EntryPair.{EntryPair}
-use Rattle.gc_job.specs.Evaluate.{IsRecognised, AreRecognised}
 
 decode-push : (bits : List Bool) (labels : List ℕ) (b : Bool) (l : ℕ)
     → length bits ≡ length labels

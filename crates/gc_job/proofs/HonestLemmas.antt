@@ -1,36 +1,17 @@
 -- An honest job evaluates to the outputs of its circuit.
-use Rattle.std.proofs.Common.{◌≡◌, ℕ, ◌+◌, ◌-◌, ◌<◌, Bool, true, false, List, length, get_or, slice_get, Some, Result, Ok, Err, MatchResult, refl, sym, ap, ◌∙◌, arith}
-use Rattle.std.specs.List.{range_with_len, zip}
+use Rattle.gc_job.proofs.Names.{◌≡◌, ℕ, ◌+◌, ◌-◌, ◌<◌, Bool, true, false, List, length, get_or, slice_get, Some, Result, Ok, Err, MatchResult, refl, sym, ap, ◌∙◌, arith, range_with_len, zip, length-range_with_len, get_or-range_with_len, length-map-range_with_len, slice_get_read, length-zip, get_or-zip, output_wires, and_count, solution, on_outputs, xor, bits_of, bit_rule, IsAssignment, AreOutputs, solution_solves, read-table, colour, hash, label_of_colour, output_tweak, entry_of, IsEvaluation, encode, decode, encoded_from, EvalFault, BadWorkers, UnknownOutputLabel, Memory, JobParts, IsWhole, labels_of, entry, IsRecognised, IsEvaluated, IsHonest}
 use Rattle.std.specs.Result.{result_map_both}
 use Rattle.std.proofs.lemmas.List.{get_or-map}
-use Rattle.std.proofs.lemmas.List.FromFn.{length-range_with_len, get_or-range_with_len, length-map-range_with_len}
-use Rattle.std.proofs.lemmas.Option.{slice_get_read}
-use Rattle.std.proofs.lemmas.Slice.Zip.{length-zip, get_or-zip}
-use Rattle.gc_netlist.specs.Circuit.{output_wires, and_count}
-use Rattle.gc_netlist.specs.Solution.{solution, on_outputs}
-use Rattle.gc_circuit.specs.Meaning.{xor, bits_of, bit_rule, IsAssignment, AreOutputs}
-use Rattle.gc_netlist.proofs.SolutionLemmas.{solution_solves}
-use Rattle.gc_netlist.proofs.Tables.{read-table}
 use Rattle.gc_circuit.proofs.BitLemmas.{bit_local}
-use Rattle.gc_label.specs.Label.{colour}
 use Rattle.gc_label.specs.Seed.{offset_of, input_label_of}
 use Rattle.gc_label.proofs.SeedLemmas.{colour-offset_of}
-use Rattle.gc_half.specs.Hash.{hash}
 use Rattle.gc_half.specs.Garbling.{GarblingParts}
-use Rattle.gc_half.specs.Entry.{label_of_colour, output_tweak, entry_of}
-use Rattle.gc_half.specs.Evaluation.{IsEvaluation, encode, decode}
 use Rattle.gc_half.specs.Canonical.{zero_label_of, row_pairs_of, garbling_of}
 use Rattle.gc_half.specs.Law.{Decodes}
 use Rattle.gc_half.proofs.HalfGateLaw.{colour-encode}
 use Rattle.gc_half.proofs.CanonicalLemmas.{IsGarbled-same, IsGarbled-decode_bits, length-row_pairs_of, canonical-decodes}
 use Rattle.gc_format.specs.declared.parts.Version.TheVariants.{Two}
-use Rattle.gc_format.specs.LabelFile.{encoded_from}
 use Rattle.gc_write.specs.Written.{entry_pair_of, entry_pairs_of}
-use Rattle.gc_job.specs.declared.fault.EvalFault.{EvalFault}
-use Rattle.gc_job.specs.declared.fault.EvalFault.TheVariants.{BadWorkers, UnknownOutputLabel, Memory}
-use Rattle.gc_job.specs.Job.{JobParts, IsWhole}
-use Rattle.gc_job.specs.Evaluate.{labels_of, entry, IsRecognised, IsEvaluated}
-use Rattle.gc_job.specs.Honest.{IsHonest}
 use Rattle.gc_job.proofs.OutputLemmas.{output-at}
 
 -- The label that stands for a bit on an input wire.

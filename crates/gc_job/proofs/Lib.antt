@@ -1,3 +1,4 @@
+pub mod Names
 pub mod BindLemmas
 pub mod DecodeLemmas
 pub mod HonestLemmas

@@ -1,25 +1,7 @@
 -- The labels of the output wires.
-use Rattle.std.proofs.Common.{◌≡◌, ℕ, ◌+◌, ◌-◌, ◌<◌, List, length, map, drop, slice_get, Some, Bool, Result, Ok, Err, refl, sym, ap, ◌∙◌, arith}
-use Rattle.std.specs.List.{range_with_len}
-use Rattle.std.proofs.lemmas.List.FromFn.{length-map-range_with_len, get_or-map-range_with_len}
+use Rattle.gc_job.proofs.Names.{◌≡◌, ℕ, ◌+◌, ◌-◌, ◌<◌, List, length, map, drop, slice_get, Some, Bool, Result, Ok, Err, refl, sym, ap, ◌∙◌, arith, range_with_len, length-map-range_with_len, get_or-map-range_with_len, length-zip, slice_get_within, get_or_from_slice_get, Netlist, output_wires, IsLawful, solution, on_outputs, solution_solves, table_end, hash, active_rule, active_local, EvalFault, Memory, GarbledParts, LabelFileParts, JobParts, IsWhole, IsBound, labels_of, AreActive, IsDecodingOf, IsEvaluated}
 use Rattle.std.proofs.lemmas.List.{length-map}
-use Rattle.std.proofs.lemmas.Slice.Zip.{length-zip}
-use Rattle.std.proofs.lemmas.Option.{slice_get_within, get_or_from_slice_get}
-use Rattle.gc_netlist.specs.Circuit.{Netlist, output_wires, IsLawful}
-use Rattle.gc_netlist.specs.Solution.{solution, on_outputs}
-use Rattle.gc_netlist.proofs.SolutionLemmas.{solution_solves}
-use Rattle.gc_netlist.proofs.Tables.{table_end}
 use Rattle.gc_half.specs.declared.garbling.RowPair.{RowPair}
-use Rattle.gc_half.specs.Hash.{hash}
-use Rattle.gc_half.specs.Evaluation.{active_rule}
-use Rattle.gc_half.proofs.CircuitLaw.{active_local}
-use Rattle.gc_job.specs.declared.fault.EvalFault.{EvalFault}
-use Rattle.gc_job.specs.declared.fault.EvalFault.TheVariants.{Memory}
-use Rattle.gc_format.specs.GarbledFile.{GarbledParts}
-use Rattle.gc_format.specs.LabelFile.{LabelFileParts}
-use Rattle.gc_job.specs.Job.{JobParts, IsWhole}
-use Rattle.gc_job.specs.Binding.{IsBound}
-use Rattle.gc_job.specs.Evaluate.{labels_of, AreActive, IsDecodingOf, IsEvaluated}
 
 module _ (c : Netlist) (lawful : IsLawful c) (values : ℕ → ℕ) where
   -- They are the last ones of a table.

@@ -1,9 +1,6 @@
 -- The gate that sets a wire, in a table.
-use Rattle.std.proofs.Common.{◌≡◌, ◌≢◌, refl, ℕ, ◌+◌, ◌<◌, ◌≤◌, inl, inr, List, set, length, length-set, get_or-set_same, get_or-set_other, slice_get, Some, sym, ◌∙◌, arith}
-use Rattle.std.proofs.lemmas.Option.{slice_get_within}
-use Rattle.std.proofs.lemmas.Bool.{cases_eq}
+use Rattle.gc_job.proofs.Names.{◌≡◌, ◌≢◌, refl, ℕ, ◌+◌, ◌<◌, ◌≤◌, inl, inr, List, set, length, length-set, get_or-set_same, get_or-set_other, slice_get, Some, sym, ◌∙◌, arith, slice_get_within, cases_eq, Netlist, IsSetBy, IsLawful, input_wires}
 use Rattle.gc_netlist.specs.declared.gate.Gate.{Gate}
-use Rattle.gc_netlist.specs.Circuit.{Netlist, IsSetBy, IsLawful, input_wires}
 use Rattle.gc_job.specs.Wiring.{AreSetters}
 
 -- A gate sets one wire.

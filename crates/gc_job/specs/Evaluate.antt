@@ -24,14 +24,6 @@ pub record AreActive (c : Netlist) (rows : List RowPair) (inputs labels : List �
   pub evaluation : IsEvaluation hash c rows (labels_of inputs) active
   pub table : labels ≡ map active (range_with_len 0 c.wires)
 
--- The bits are what the active labels on the output wires decode to, in an evaluation of the rows on these labels of
--- the input wires.
-pub record IsDecoded (c : Netlist) (rows : List RowPair) (decode_bits : List Bool) (inputs : List ℕ)
-    (bits : List Bool) : Type 0 where
-  pub active : ℕ → ℕ
-  pub evaluation : IsEvaluation hash c rows (labels_of inputs) active
-  pub decoded : bits ≡ decode decode_bits (on_outputs c active)
-
 -- Entry s of a pair.
 abbrev pub entry : EntryPair → Bool → ℕ
 entry pair false = pair.entry_zero

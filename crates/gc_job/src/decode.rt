@@ -40,7 +40,7 @@ pub(crate) fn decoding<A: Allocator, B: Allocator + Copy, C: Allocator>(
 }
 
 /// The bits that these labels decode to: each is the decode bit xor the colour of the label.
-pub(crate) fn decoded<A: Allocator + Copy>(
+fn decoded<A: Allocator + Copy>(
     alloc: A,
     decode_bits: &[bool],
     labels: &[Label],

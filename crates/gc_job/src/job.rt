@@ -98,7 +98,7 @@ impl<'c, A: Allocator, C: Allocator> Job<'c, A, C> {
 
     /// The law of the type: the job is whole. A call of it does nothing.
     #[inline(always)]
-    pub(crate) fn law_whole(&self)
+    pub fn law_whole(&self)
         ensures { IsWhole self.now }
     {
         let _ = &self.circuit;

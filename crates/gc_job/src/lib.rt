@@ -21,6 +21,6 @@ pub use facts::Facts;
 pub use fault::{BindFault, EvalFault};
 pub use job::Job;
 pub use laws::law_honest_files;
-pub use one_thread::{evaluate, evaluate_detached, evaluate_labels};
+pub use one_thread::{evaluate, evaluate_detached};
 pub use readers::ReadGate;
 pub use wiring::Wiring;

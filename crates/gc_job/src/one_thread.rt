@@ -5,10 +5,10 @@ ghost use Rattle.gc_netlist.specs.Circuit.{and_count, input_wires, output_wires}
 ghost use Rattle.gc_netlist.specs.Solution.{on_outputs};
 ghost use Rattle.gc_circuit.specs.Meaning.{AreOutputs};
 ghost use Rattle.gc_job.specs.Job.{IsWhole, job_of};
-ghost use Rattle.gc_job.specs.Evaluate.{AreActive, IsDecoded, IsEvaluated};
+ghost use Rattle.gc_job.specs.Evaluate.{AreActive, IsEvaluated};
 ghost use Rattle.gc_job.specs.Honest.{IsHonest};
 
-use crate::decode::{decoded, decoding};
+use crate::decode::decoding;
 use crate::detached::DetachedJob;
 use crate::fault::EvalFault;
 use crate::job::Job;
@@ -51,29 +51,6 @@ fn output_labels<'l, C: Allocator>(circuit: &Circuit<C>, labels: &'l [Label]) ->
     let first = circuit.wires() - circuit.output_wires();
     let (_, last) = labels.split_at(first as usize);
     last
-}
-
-/// Evaluates a garbled circuit on one thread: the output bits, in wire order, that the active labels on the
-/// output wires decode to. It is given the row pair of each AND gate in file order, a decode bit for each output
-/// wire and the active label of each input wire, and trusts none of them: the answer is what an evaluation of
-/// these very rows and labels decodes to ("Two Halves Make a Whole", the procedures Ev and De).
-///
-/// That there are as many row pairs, decode bits and labels as the circuit has AND gates, output wires and
-/// input wires is the caller's condition.
-pub fn evaluate_labels<A: Allocator + Copy, C: Allocator>(
-    alloc: A,
-    circuit: &Circuit<C>,
-    rows: &[RowPair],
-    decode_bits: &[bool],
-    inputs: &[Label],
-) -> Result<Vec<bool, A>, Memory>
-    requires rows { length rows.now ≡ and_count circuit.now }
-    requires decode_bits { length decode_bits.now ≡ output_wires circuit.now }
-    requires inputs { length inputs.now ≡ input_wires circuit.now }
-    ensures { IfOk result (λ v. IsDecoded circuit.now rows.now decode_bits.now inputs.now v.items) }
-{
-    let active = active_labels(alloc, circuit, rows, inputs)?;
-    decoded(alloc, decode_bits, output_labels(circuit, &active))
 }
 
 /// Evaluates a job on one thread: the output bits, in wire order. Nothing of the job is trusted: the answer is what

@@ -1,5 +1,4 @@
-use Rattle.std.proofs.Common.{◌∙◌, sym}
-use Rattle.gc_job.specs.Places.{ArePlaces}
+use Rattle.gc_job.proofs.Names.{◌∙◌, sym, ArePlaces}
 use Rattle.gc_job.proofs.JoinLemmas.{places_front, missing_file, joined-bound, places-inside}
 use Rattle.gc_job.proofs.bind.bound_labels.Goals as goal
 

@@ -1,5 +1,4 @@
-use Rattle.std.proofs.Common.{◌∙◌, length, rules, refl, arith}
-use Rattle.std.proofs.lemmas.Option.{slice_get_read}
+use Rattle.gc_job.proofs.Names.{◌∙◌, length, rules, refl, arith, slice_get_read}
 use Rattle.gc_job.proofs.JoinLemmas.{joined_more}
 use Rattle.gc_job.proofs.bind.joined_labels.Goals as goal
 

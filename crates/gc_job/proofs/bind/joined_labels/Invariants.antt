@@ -1,5 +1,4 @@
-use Rattle.std.proofs.Common.{◌≡◌, take, flat_map}
-use Rattle.gc_job.specs.Places.{labels_at}
+use Rattle.gc_job.proofs.Names.{◌≡◌, take, flat_map, labels_at}
 use Rattle.gc_job.proofs.bind.joined_labels.Given as goal
 
 abbrev pub invariant-loop-place : goal.invariant-loop-place

@@ -1,6 +1,4 @@
-use Rattle.std.proofs.Common.{take}
-use Rattle.gc_job.specs.Binding.{AreInOrder}
-use Rattle.gc_job.specs.Places.{ArePlaces}
+use Rattle.gc_job.proofs.Names.{take, AreInOrder, ArePlaces}
 use Rattle.gc_job.proofs.bind.places_of.Given as goal
 
 abbrev pub invariant-loop-i : goal.invariant-loop-i

@@ -1,6 +1,4 @@
-use Rattle.std.proofs.Common.{length, sym, ap, ◌∙◌, arith, refl}
-use Rattle.std.proofs.lemmas.Bool.Decides.{nat_tests}
-use Rattle.gc_job.specs.Binding.{no_such_value, wrong_width}
+use Rattle.gc_job.proofs.Names.{length, sym, ap, ◌∙◌, arith, refl, nat_tests, no_such_value, wrong_width}
 use Rattle.gc_job.proofs.BindLemmas.{read_at, double_value_at, in_order_at}
 use Rattle.gc_job.proofs.bind.value_of.Goals as goal
 

@@ -1,5 +1,4 @@
-use Rattle.std.proofs.Common.{◌≡◌, take}
-use Rattle.gc_half.specs.Evaluation.{decode}
+use Rattle.gc_job.proofs.Names.{◌≡◌, take, decode}
 use Rattle.gc_job.proofs.decode.decoded.Given as goal
 
 abbrev pub invariant-loop-i : goal.invariant-loop-i

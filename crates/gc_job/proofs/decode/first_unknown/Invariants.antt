@@ -1,5 +1,4 @@
-use Rattle.std.proofs.Common.{◌-◌, ◌≤◌, length}
-use Rattle.gc_job.specs.Evaluate.{AreRecognised}
+use Rattle.gc_job.proofs.Names.{◌-◌, ◌≤◌, length, AreRecognised}
 use Rattle.gc_job.proofs.decode.first_unknown.Given as goal
 
 abbrev pub invariant-loop-first : goal.invariant-loop-first

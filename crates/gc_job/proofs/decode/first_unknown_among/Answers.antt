@@ -1,6 +1,4 @@
-use Rattle.std.proofs.Common.{◌≡◌, ◌↔◌, length, IsTrue, refl, sym, ◌∙◌, arith, rules}
-use Rattle.std.proofs.lemmas.Option.{slice_get_read}
-use Rattle.gc_job.specs.Evaluate.{IsRecognised}
+use Rattle.gc_job.proofs.Names.{◌≡◌, ◌↔◌, length, IsTrue, refl, sym, ◌∙◌, arith, rules, slice_get_read, IsRecognised}
 use Rattle.gc_job.proofs.DecodeLemmas.{hash_in_part, recognised_more}
 use Rattle.gc_job.proofs.decode.first_unknown_among.Goals.{After-is_entry}
 use Rattle.gc_job.proofs.decode.first_unknown_among.Goals as goal

@@ -1,12 +1,4 @@
-use Rattle.std.proofs.Common.{◌≡◌, ◌<◌, ◌+◌, inr, add-one, length, sym, ◌∙◌, ap, arith, refl}
-use Rattle.gc_netlist.proofs.SolutionLemmas.{EachRead-map, IsSetBefore-more, solution_solves}
-use Rattle.gc_netlist.proofs.Tables.{table_step, length-table, EachRead-below, after-zero}
-use Rattle.gc_netlist.specs.Solution.{solution}
-use Rattle.gc_half.specs.Hash.{hash}
-use Rattle.gc_half.specs.Evaluation.{active_rule}
-use Rattle.gc_half.proofs.CircuitLaw.{active_local}
-use Rattle.gc_half.proofs.AndNumbers.{and_number-and, and_number-other, and_number-below}
-use Rattle.gc_job.specs.Evaluate.{labels_of}
+use Rattle.gc_job.proofs.Names.{◌≡◌, ◌<◌, ◌+◌, inr, add-one, length, sym, ◌∙◌, ap, arith, refl, EachRead-map, IsSetBefore-more, solution_solves, table_step, length-table, EachRead-below, after-zero, solution, hash, active_rule, active_local, and_number-and, and_number-other, and_number-below, labels_of}
 use Rattle.gc_job.proofs.one_thread.active_labels.Goals as goal
 use Rattle.gc_job.proofs.one_thread.active_labels.Goals.{then-is_and, else-is_and}
 

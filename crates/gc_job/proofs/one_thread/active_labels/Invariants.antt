@@ -1,11 +1,4 @@
-use Rattle.std.proofs.Common.{◌≡◌, ℕ, map}
-use Rattle.std.specs.List.{range_with_len}
-use Rattle.gc_netlist.specs.Circuit.{and_number, IsSetBefore}
-use Rattle.gc_netlist.specs.Solution.{values_after}
-use Rattle.gc_half.specs.Hash.{hash}
-use Rattle.gc_half.specs.Evaluation.{active_rule}
-use Rattle.gc_half.specs.Waiting.{NoneSets}
-use Rattle.gc_job.specs.Evaluate.{labels_of}
+use Rattle.gc_job.proofs.Names.{◌≡◌, ℕ, map, range_with_len, and_number, IsSetBefore, values_after, hash, active_rule, NoneSets, labels_of}
 use Rattle.gc_job.proofs.one_thread.active_labels.Given as goal
 
 abbrev pub invariant-loop-i : goal.invariant-loop-i

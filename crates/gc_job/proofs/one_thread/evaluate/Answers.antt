@@ -1,6 +1,4 @@
-use Rattle.std.proofs.Common.{◌∙◌, length, ap}
-use Rattle.std.proofs.lemmas.Result.{err_from_is_err_and}
-use Rattle.gc_netlist.proofs.Tables.{length-table}
+use Rattle.gc_job.proofs.Names.{◌∙◌, length, ap, err_from_is_err_and, length-table}
 use Rattle.gc_job.proofs.OutputLemmas.{decoded-job, no_memory}
 use Rattle.gc_job.proofs.HonestLemmas.{honest-result}
 use Rattle.gc_job.proofs.one_thread.evaluate.Goals as goal

@@ -1,7 +1,4 @@
-use Rattle.std.proofs.Common.{◌∙◌, refl, ap, length}
-use Rattle.std.proofs.lemmas.Result.{err_from_is_err_and}
-use Rattle.gc_job.specs.Job.{job_of}
-use Rattle.gc_netlist.proofs.Tables.{length-table}
+use Rattle.gc_job.proofs.Names.{◌∙◌, refl, ap, length, err_from_is_err_and, job_of, length-table}
 use Rattle.gc_job.proofs.OutputLemmas.{decoded-job, no_memory}
 use Rattle.gc_job.proofs.HonestLemmas.{honest-result}
 use Rattle.gc_job.proofs.one_thread.evaluate_detached.Goals as goal

@@ -1,5 +1,4 @@
-use Rattle.std.proofs.Common.{◌≡◌, length, slice_get, Some, ap, arith}
-use Rattle.gc_half.proofs.AndNumbers.{and_number-below}
+use Rattle.gc_job.proofs.Names.{◌≡◌, length, slice_get, Some, ap, arith, and_number-below}
 use Rattle.gc_job.proofs.job.Job.active_at.Goals as goal
 
 pub evaluate_gate-requires : goal.evaluate_gate-requires

@@ -1,5 +1,4 @@
-use Rattle.std.proofs.Common.{◌+◌, sym, ap, ◌∙◌, add-one}
-use Rattle.gc_half.proofs.AndNumbers.{and_number-and, and_number-other}
+use Rattle.gc_job.proofs.Names.{◌+◌, sym, ap, ◌∙◌, add-one, and_number-and, and_number-other}
 use Rattle.gc_job.proofs.job.Job.and_number.Goals as goal
 use Rattle.gc_job.proofs.job.Job.and_number.Goals.{then-is_and, else-is_and}
 

@@ -1,5 +1,4 @@
-use Rattle.std.proofs.Common.{◌≡◌}
-use Rattle.gc_netlist.specs.Circuit.{and_number}
+use Rattle.gc_job.proofs.Names.{◌≡◌, and_number}
 use Rattle.gc_job.proofs.job.Job.and_number.Given as goal
 
 abbrev pub invariant-loop-i : goal.invariant-loop-i

@@ -1,8 +1,5 @@
-use Rattle.std.proofs.Common.{◌≡◌, length, slice_get, Some, refl, ap, arith}
+use Rattle.gc_job.proofs.Names.{◌≡◌, length, slice_get, Some, refl, ap, arith, and_number, is_and, row_at, and_number-below}
 use Rattle.std.proofs.lemmas.List.{get_or_read}
-use Rattle.gc_netlist.specs.Circuit.{and_number, is_and}
-use Rattle.gc_half.specs.Evaluation.{row_at}
-use Rattle.gc_half.proofs.AndNumbers.{and_number-below}
 use Rattle.gc_job.proofs.job.Job.and_step.Goals as goal
 
 pub bounds-rows-k : goal.bounds-rows-k

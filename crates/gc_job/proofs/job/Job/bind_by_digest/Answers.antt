@@ -1,6 +1,4 @@
-use Rattle.std.proofs.Common.{◌∙◌, sym, refl}
-use Rattle.std.proofs.lemmas.Result.{err_from_is_err_and}
-use Rattle.gc_job.specs.Binding.{other_circuit, other_counts, of_labels}
+use Rattle.gc_job.proofs.Names.{◌∙◌, sym, refl, err_from_is_err_and, other_circuit, other_counts, of_labels}
 use Rattle.gc_job.proofs.BindLemmas.{other_digest, same_digest}
 use Rattle.gc_job.proofs.job.Job.bind_by_digest.Goals as goal
 

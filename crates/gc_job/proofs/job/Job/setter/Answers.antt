@@ -1,5 +1,4 @@
-use Rattle.std.proofs.Common.{arith}
-use Rattle.gc_netlist.specs.Circuit.{IsSetBy}
+use Rattle.gc_job.proofs.Names.{arith, IsSetBy}
 use Rattle.gc_job.proofs.WiringLemmas.{not_set_below_more, set_within}
 use Rattle.gc_job.proofs.job.Job.setter.Goals as goal
 

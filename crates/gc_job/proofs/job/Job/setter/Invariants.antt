@@ -1,5 +1,4 @@
-use Rattle.std.proofs.Common.{ℕ, ◌<◌}
-use Rattle.gc_netlist.specs.Circuit.{IsSetBy}
+use Rattle.gc_job.proofs.Names.{ℕ, ◌<◌, IsSetBy}
 use Rattle.gc_job.proofs.job.Job.setter.Given as goal
 
 abbrev pub invariant-loop-gate : goal.invariant-loop-gate

@@ -1,6 +1,4 @@
-use Rattle.gc_half.specs.Waiting.{gates_in}
-use Rattle.gc_half.proofs.WaitingLemmas.{settled-put}
-use Rattle.gc_job.specs.ActiveTable.{label_of_step}
+use Rattle.gc_job.proofs.Names.{gates_in, settled-put, label_of_step}
 use Rattle.gc_job.proofs.table.LabelTable.put.Goals as goal
 
 pub returns-clause-labels : goal.returns-clause-labels

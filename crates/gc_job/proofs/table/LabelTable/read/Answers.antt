@@ -1,7 +1,4 @@
-use Rattle.std.proofs.Common.{◌∙◌}
-use Rattle.gc_half.specs.Waiting.{gates_in}
-use Rattle.gc_half.proofs.WaitingLemmas.{first_read-settled, second_read-settled}
-use Rattle.gc_job.specs.ActiveTable.{label_of_step}
+use Rattle.gc_job.proofs.Names.{◌∙◌, gates_in, first_read-settled, second_read-settled, label_of_step}
 use Rattle.gc_job.proofs.table.LabelTable.read.Goals as goal
 
 pub returns-clause-first : goal.returns-clause-first

@@ -1,7 +1,4 @@
-use Rattle.std.proofs.Common.{length, ◌<◌, get_or, arith, ap, ◌∙◌}
-use Rattle.std.proofs.lemmas.List.FromFn.{length-map-range_with_len}
-use Rattle.gc_netlist.specs.Circuit.{and_number}
-use Rattle.gc_netlist.proofs.Tables.{read-table}
+use Rattle.gc_job.proofs.Names.{length, ◌<◌, get_or, arith, ap, ◌∙◌, length-map-range_with_len, and_number, read-table}
 use Rattle.gc_job.proofs.wiring.Wiring.and_number.Goals as goal
 
 pub index-requires : goal.index-requires
