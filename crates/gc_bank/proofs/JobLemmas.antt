@@ -1,13 +1,8 @@
 -- Jobs of a list, one after another.
-use Rattle.std.proofs.Common.{◌≡◌, ℕ, zero, suc, ◌+◌, ◌⊎◌, inl, ⊎_elim, Bool, List, [], ◌∷◌, ◌++◌, length, slice_get, get_or, Option, Some, None, IfSome, Ok, Err, arith}
+use Rattle.gc_bank.proofs.Names.{◌≡◌, ℕ, zero, suc, ◌+◌, ◌⊎◌, inl, ⊎_elim, Bool, List, [], ◌∷◌, ◌++◌, length, slice_get, get_or, Option, Some, None, IfSome, Ok, Err, arith, slice_get-get_or, Netlist, JobParts, IsEvaluated, AreBitsOf}
 use Rattle.std.proofs.lemmas.List.{length-append}
-use Rattle.std.proofs.lemmas.Option.{slice_get-get_or}
-use Rattle.gc_netlist.specs.Circuit.{Netlist}
 use Rattle.gc_job.specs.declared.fault.EvalFault.{EvalFault}
 use Rattle.gc_job.specs.declared.fault.EvalFault.TheVariants.{BadWorkers, UnknownOutputLabel, Memory}
-use Rattle.gc_job.specs.Job.{JobParts}
-use Rattle.gc_job.specs.Evaluate.{IsEvaluated}
-use Rattle.gc_bank.specs.Workers.{AreBitsOf}
 use Rattle.gc_bank.specs.Jobs.{AreOn, EvaluateTo}
 
 -- one job more on the circuit

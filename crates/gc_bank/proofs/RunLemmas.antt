@@ -1,36 +1,22 @@
 -- Calls one after another, inside a round.
-use Rattle.std.proofs.Common.{◌≡◌, ◌≢◌, ℕ, ◌+◌, ◌*◌, ◌%◌, ◌<◌, ◌≤◌, List, [], ◌∷◌, ◌++◌, refl, ap, ◌∙◌, subst, arith, rules, append_assoc, length-append, sym, slice_get, get_or, length, Some, inr, ⊎_elim, MatchOption, take}
+use Rattle.gc_bank.proofs.Names.{◌≡◌, ◌≢◌, ℕ, ◌+◌, ◌*◌, ◌%◌, ◌<◌, ◌≤◌, List, [], ◌∷◌, ◌++◌, refl, ap, ◌∙◌, subst, arith, rules, append_assoc, length-append, sym, slice_get, get_or, length, Some, inl, inr, ⊎_elim, MatchOption, take, Netlist, IsSetBy, IsLawful, input_wires, first_wire, second_wire, total, only, total-append, only_same, only_other, Key, Inside, is_pair, pairs, IsBoardPlace, JobParts, labels_of, input_not_set, set_within, gates_of, IsRound, InRound, round_in, made_now, made_after, IsAlone, SetsMade, ReadsMade, FirstLacking, AnswersAlone, sighting, sightings, Seen, Ran, Got, Lacks, Says, Answers, AnswersTwo, IsReady}
 use Rattle.std.proofs.lemmas.List.{take_more}
 use Rattle.std.proofs.lemmas.Bool.Decides.{nat_tests}
 use Rattle.atomic_table.specs.Seated.{TableId}
 use Rattle.atomic_table.specs.declared.shared.Seat.{Seat}
-use Rattle.gc_netlist.specs.Circuit.{Netlist, IsSetBy, IsLawful, input_wires, first_wire, second_wire}
 use Rattle.gc_netlist.specs.declared.gate.Gate.{Gate}
-use Rattle.gc_board.specs.Counts.{total, only}
-use Rattle.gc_board.proofs.Sums.{total-append, only_same, only_other}
 use Rattle.gc_rounds.specs.Words.{round_of}
 use Rattle.gc_rounds.specs.Steps.{merged}
 use Rattle.gc_rounds.specs.Places.{IsSamePlace}
-use Rattle.gc_rounds.specs.declared.view.Key.{Key}
-use Rattle.gc_rounds.specs.declared.view.Stand.TheVariants.{Inside}
 use Rattle.gc_rounds.specs.declared.view.Step.{Step}
 use Rattle.gc_rounds.specs.declared.view.Step.TheVariants.{Store, Claim}
-use Rattle.gc_round_board.specs.Pairs.{is_pair, pairs}
 use Rattle.gc_round_board.specs.Board.{at, stamp}
 use Rattle.gc_round_board.specs.Steps.{learnt, joined, after_claim, after_stored, after_done}
 use Rattle.gc_round_board.specs.declared.view.Hand.TheVariants.{Empty}
-use Rattle.gc_round_board.specs.Places.{IsBoardPlace}
-use Rattle.gc_job.specs.Job.{JobParts}
-use Rattle.gc_job.specs.Evaluate.{labels_of}
 use Rattle.gc_eval.specs.Views.{IsMadeNow}
 use Rattle.gc_walk.specs.declared.answer.Answer.{Answer}
 use Rattle.gc_walk.specs.declared.answer.Answer.TheVariants.{Made, Done, Taken, NotYet}
 use Rattle.gc_eval.proofs.BoardLabels.{active_solves}
-use Rattle.gc_job.proofs.WiringLemmas.{input_not_set, set_within}
-use Rattle.gc_bank.specs.Rounds.{gates_of, IsRound}
-use Rattle.gc_bank.specs.Seats.{InRound, round_in}
-use Rattle.gc_walk.specs.Walks.{made_now}
-use Rattle.gc_bank.specs.Views.{made_after, IsAlone, SetsMade, ReadsMade, FirstLacking, AnswersAlone, sighting, sightings, Seen, Ran, Got, Lacks, Says, Answers, AnswersTwo, IsReady}
 use Rattle.gc_bank.specs.declared.step.Ready.{Ready}
 
 -- What was known is known, and what was sighted is.
@@ -210,6 +196,7 @@ pub got_input : {job : JobParts} {r w label : ℕ} {v : Seen} → IsLawful job.c
     → w < input_wires job.circuit
     → label ≡ labels_of job.inputs w → Got job r w v label
 got_input {job = job} {w = w} lawful input is = record {
+  set = inl input;
   right = is ∙ sym ((active_solves job lawful).inputs w input);
   known = λ h set. absurd (input_not_set job.circuit w h lawful input set);
 }

@@ -2,7 +2,7 @@
 -- speak of gates, these speak of rounds with gates.
 use Rattle.std.specs.Prelude.{◌≡◌, ◌≢◌, ℕ, ◌*◌, ◌<◌, ◌≤◌, ◌⊎◌, List, [], ◌∷◌, ◌++◌, length, slice_get, Some}
 use Rattle.gc_netlist.specs.declared.gate.Gate.{Gate}
-use Rattle.gc_netlist.specs.Circuit.{IsSetBy, input_wires, first_wire, second_wire}
+use Rattle.gc_netlist.specs.Circuit.{IsSetBy, IsSet, input_wires, first_wire, second_wire}
 use Rattle.gc_board.specs.Counts.{total, only}
 use Rattle.gc_rounds.specs.declared.view.View.{View}
 use Rattle.gc_rounds.specs.declared.view.Step.{Step}
@@ -73,8 +73,10 @@ SawUndone old new r g = (found : ℕ) × (found < stamp r 2) × Saw old new (at 
 abbrev pub Knows : Seen → ℕ → ℕ → Type 0
 Knows v r g = 0 < pairs r g v.inner.known
 
--- An answered label is the active label of wire w in the round's job, and the gate that sets w is known in the round.
+-- An answered label is the active label of wire w in the round's job. The wire is set, and the gate that sets it is known
+-- in the round.
 pub record Got (job : JobParts) (r w : ℕ) (new : Seen) (label : ℕ) : Type 0 where
+  pub set : IsSet job.circuit w
   pub right : label ≡ active job w
   pub known : (h : ℕ) → IsSetBy job.circuit w h → Knows new r h
 

@@ -15,11 +15,8 @@ use gc_layers::{Way, way_of};
 use std::alloc::Allocator;
 use std::thread::Threads;
 
-/// The most jobs of a list.
-pub const MAX_JOBS: usize = 65_536;
-
-// Each has a round.
-const _: () = prove!(MAX_JOBS == gc_rounds::MAX_JOBS);
+/// The most jobs of a list: each has a round.
+pub const MAX_JOBS: usize = gc_rounds::MAX_JOBS;
 
 /// The output bits of each job, in order, by this number of workers: what [`evaluate`] answers for it, honest job or
 /// not. One worker evaluates one job after another. Where there are no fewer jobs than workers, or a job's gates would

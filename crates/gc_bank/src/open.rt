@@ -14,7 +14,7 @@ use crate::series::Series;
 use gc_board::OpenFault;
 use gc_eval::{Job, MAX_SEATS, Wiring};
 use gc_round_board::{BoardTable, Place, Words, open_board, settle};
-use gc_rounds::{Key, deal_place, join_place};
+use gc_rounds::{Key, MAX_JOBS, deal_place, join_place};
 use std::alloc::{AllocError, Allocator, Global};
 
 /// A seat was missing or inside a round, so the banks were not closed. They come back with all seats that were
@@ -98,14 +98,14 @@ impl<'j, 'c, B: Allocator + Copy, A: Allocator, C: Allocator> Banks<'j, 'c, B, A
     /// Banks for a list of jobs, bank 0 open in round 0 and bank 1 open in round 1 (sealed where there is one job),
     /// and their seats, which are outside and have done nothing. It takes all the memory that the banks need: 46
     /// where there is none for the seats and the tables of the circuit, 49 where there is none for the table of the
-    /// shared words. That there are 1 to 65,536 jobs, all on one circuit ([`one_circuit`](crate::one_circuit) is the
-    /// test), and 1 to 64 seats, is the caller's condition.
+    /// shared words. That there are 1 to [`MAX_JOBS`] jobs, all on one circuit ([`one_circuit`](crate::one_circuit) is
+    /// the test), and 1 to [`MAX_SEATS`] seats, is the caller's condition.
     pub fn open(
         alloc: B,
         jobs: &'j [Job<'c, A, C>],
         seats: u32,
     ) -> Result<(Banks<'j, 'c, B, A, C>, Vec<BankSeat<B, A, C>, B>), OpenFault>
-        requires jobs { (0 < length jobs.now) × (length jobs.now ≤ 65536) }
+        requires jobs { (0 < length jobs.now) × (length jobs.now ≤ MAX_JOBS) }
         requires circuit { AreOnOneCircuit jobs.now }
         requires seats { (0 < seats) × (seats ≤ MAX_SEATS) }
         ensures jobs { IfOk result (λ b. jobs_on b.0 ≡ jobs.now) }

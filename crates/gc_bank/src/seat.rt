@@ -1,6 +1,7 @@
 //! Banks and their seats.
 
 ghost use Rattle.std.specs.Prelude.{◌≡◌, ℕ, ◌<◌, ◌≤◌, ◌-◌, ◌^◌, [], length, min, slice_get, Some, None};
+ghost use Rattle.gc_rounds.specs.declared.words.TheConstants.{MAX_JOBS};
 ghost use Rattle.gc_rounds.specs.declared.view.Stand.TheVariants.{Outside, Inside};
 ghost use Rattle.gc_round_board.specs.declared.view.Hand.TheVariants.{Empty};
 ghost use Rattle.gc_round_board.specs.Places.{IsBoard};
@@ -41,5 +42,5 @@ pub struct Banks<'j, 'c, B: Allocator = Global, A: Allocator = Global, C: Alloca
         → job.circuit ≡ wiring },
     ghost count: { (seats ≡ board.table.shared.key.seats) × (0 < seats) },
     ghost few: { (board.table.shared.key.jobs ≡ length jobs.now)
-        × (0 < length jobs.now) × (length jobs.now ≤ 65536) },
+        × (0 < length jobs.now) × (length jobs.now ≤ MAX_JOBS) },
 }

@@ -1,6 +1,7 @@
 //! Workers that evaluate a list of jobs together.
 
 ghost use Rattle.std.specs.Prelude.{◌≡◌, ◌<◌, ◌≤◌, length, IfOk, List};
+ghost use Rattle.gc_gatehouse.specs.Workers.{AreFew};
 ghost use Rattle.gc_job.specs.Job.{JobParts};
 ghost use Rattle.gc_bank.specs.Jobs.{AreOnOneCircuit};
 ghost use Rattle.gc_bank.specs.Seats.{jobs_on};
@@ -10,6 +11,7 @@ use crate::seat::Banks;
 use crate::worker::{Outputs, Worker, workers_of};
 use gc_eval::Job;
 use gc_gatehouse::Gatehouse;
+use gc_rounds::MAX_JOBS;
 use std::alloc::{AllocError, Allocator};
 use std::thread;
 use std::thread::Threads;
@@ -29,9 +31,9 @@ pub(crate) fn evaluate_together<
     workers: u32,
     observer: &H,
 ) -> Vec<Option<Vec<bool, B>>, B>
-    requires count { (0 < length jobs.now) × (length jobs.now ≤ 65536) }
+    requires count { (0 < length jobs.now) × (length jobs.now ≤ MAX_JOBS) }
     requires one { AreOnOneCircuit jobs.now }
-    requires workers { (0 < workers) × (workers ≤ 64) }
+    requires workers { AreFew workers }
     ensures { AreKnown jobs.now result.items }
 {
     let Ok(slots) = none_known(alloc, jobs.len()) else {
@@ -50,14 +52,12 @@ pub(crate) fn evaluate_together<
 /// Lets the workers go through all rounds, the last one on the calling thread and each other in a thread of its own,
 /// where one can be started.
 fn work_together<
-    'j,
-    'c,
     A: Allocator + Send + Sync,
     B: Allocator + Copy + Send + Sync,
     C: Allocator + Send + Sync,
     H: Gatehouse + Sync,
     R: Threads + Sync,
->(rt: &R, alloc: B, banks: &Banks<'j, 'c, B, A, C>, workers: &mut [Worker<B, A, C>], observer: &H)
+>(rt: &R, alloc: B, banks: &Banks<'_, '_, B, A, C>, workers: &mut [Worker<B, A, C>], observer: &H)
     requires { AreWorkersOf banks.now workers.old }
     ensures { AreWorkersOf banks.now workers.new }
 {
@@ -89,8 +89,8 @@ pub(crate) fn none_known<B: Allocator + Copy>(
 }
 
 /// What all workers kept, at the places of the jobs.
-fn all_kept<'j, 'c, B: Allocator, A: Allocator, C: Allocator>(
-    banks: &Banks<'j, 'c, B, A, C>,
+fn all_kept<B: Allocator, A: Allocator, C: Allocator>(
+    banks: &Banks<'_, '_, B, A, C>,
     mut slots: Vec<Option<Vec<bool, B>>, B>,
     mut workers: Vec<Worker<B, A, C>, B>,
 ) -> Vec<Option<Vec<bool, B>>, B>
@@ -105,8 +105,8 @@ fn all_kept<'j, 'c, B: Allocator, A: Allocator, C: Allocator>(
 }
 
 /// What a worker kept, at the places of the jobs.
-fn kept_by<'j, 'c, B: Allocator, A: Allocator, C: Allocator>(
-    banks: &Banks<'j, 'c, B, A, C>,
+fn kept_by<B: Allocator, A: Allocator, C: Allocator>(
+    banks: &Banks<'_, '_, B, A, C>,
     mut slots: Vec<Option<Vec<bool, B>>, B>,
     worker: Worker<B, A, C>,
 ) -> Vec<Option<Vec<bool, B>>, B>

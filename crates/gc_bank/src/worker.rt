@@ -39,9 +39,9 @@ pub(crate) struct Worker<B: Allocator, A: Allocator, C: Allocator> {
 }
 
 /// The labels of the output wires of the round, in order, where each has one.
-fn output_labels<'j, 'c, B: Allocator + Copy, A: Allocator, C: Allocator>(
+fn output_labels<B: Allocator + Copy, A: Allocator, C: Allocator>(
     alloc: B,
-    banks: &Banks<'j, 'c, B, A, C>,
+    banks: &Banks<'_, '_, B, A, C>,
     seat: &mut BankSeat<B, A, C>,
     round: u32,
 ) -> Result<Option<Vec<Label, B>>, AllocError>
@@ -67,9 +67,9 @@ fn output_labels<'j, 'c, B: Allocator + Copy, A: Allocator, C: Allocator>(
 }
 
 /// The output bits that these active labels of the output wires of a round decode to, where they are recognised.
-fn bits_of_round<'j, 'c, B: Allocator + Copy, A: Allocator, C: Allocator>(
+fn bits_of_round<B: Allocator + Copy, A: Allocator, C: Allocator>(
     alloc: B,
-    banks: &Banks<'j, 'c, B, A, C>,
+    banks: &Banks<'_, '_, B, A, C>,
     round: u32,
     labels: &[Label],
 ) -> Option<Vec<bool, B>>
@@ -78,8 +78,7 @@ fn bits_of_round<'j, 'c, B: Allocator + Copy, A: Allocator, C: Allocator>(
     ensures { IfSome result (λ v. AreBitsOf (jobs_on banks.now) round v.items) }
 {
     let job = banks.job(round);
-    // `circuit` also says that the job is whole.
-    let _ = job.circuit();
+    job.law_whole();
     match job.decode(alloc, labels) {
         Ok(bits) => Some(bits),
         Err(_) => None,
@@ -87,8 +86,8 @@ fn bits_of_round<'j, 'c, B: Allocator + Copy, A: Allocator, C: Allocator>(
 }
 
 /// Gives the bank of a round on, once all have left the round. The answer is whether it was given on.
-fn await_bank<'j, 'c, B: Allocator, A: Allocator, C: Allocator>(
-    banks: &Banks<'j, 'c, B, A, C>,
+fn await_bank<B: Allocator, A: Allocator, C: Allocator>(
+    banks: &Banks<'_, '_, B, A, C>,
     seat: &mut BankSeat<B, A, C>,
     round: u32,
 ) -> bool
@@ -109,13 +108,7 @@ fn await_bank<'j, 'c, B: Allocator, A: Allocator, C: Allocator>(
 
 impl<B: Allocator, A: Allocator, C: Allocator> Worker<B, A, C> {
     /// Steps two gates of the round at once, and notes the answers.
-    fn step_two<'j, 'c>(
-        &mut self,
-        banks: &Banks<'j, 'c, B, A, C>,
-        round: u32,
-        first: u32,
-        second: u32,
-    )
+    fn step_two(&mut self, banks: &Banks<'_, '_, B, A, C>, round: u32, first: u32, second: u32)
         requires worker { IsWorkerAt banks.now (Inside round) self.old }
         requires round { round < length (jobs_on banks.now) }
         requires first { first < gates_of (jobs_on banks.now) }
@@ -131,9 +124,9 @@ impl<B: Allocator, A: Allocator, C: Allocator> Worker<B, A, C> {
     }
 
     /// Steps the gates of a batch in the round: four as two pairs.
-    fn step<'j, 'c, H: Gatehouse>(
+    fn step<H: Gatehouse>(
         &mut self,
-        banks: &Banks<'j, 'c, B, A, C>,
+        banks: &Banks<'_, '_, B, A, C>,
         observer: &H,
         round: u32,
         batch: Batch,
@@ -162,9 +155,9 @@ impl<B: Allocator, A: Allocator, C: Allocator> Worker<B, A, C> {
 
     /// One pass over all gates that the worker doesn't know to be done in the round, from its share on and then round
     /// from the first. The answer is whether it made a gate, or learnt of one.
-    fn pass<'j, 'c, H: Gatehouse>(
+    fn pass<H: Gatehouse>(
         &mut self,
-        banks: &Banks<'j, 'c, B, A, C>,
+        banks: &Banks<'_, '_, B, A, C>,
         observer: &H,
         round: u32,
     ) -> bool
@@ -184,10 +177,10 @@ impl<B: Allocator, A: Allocator, C: Allocator> Worker<B, A, C> {
 impl<B: Allocator + Copy, A: Allocator, C: Allocator> Worker<B, A, C> {
     /// Passes over the gates of the round, of which the worker knows none, again as long as a pass made a gate or
     /// learnt of one, until each output wire has a label. These labels are the answer.
-    fn labels_of_round<'j, 'c, H: Gatehouse>(
+    fn labels_of_round<H: Gatehouse>(
         &mut self,
         alloc: B,
-        banks: &Banks<'j, 'c, B, A, C>,
+        banks: &Banks<'_, '_, B, A, C>,
         observer: &H,
         round: u32,
     ) -> Option<Vec<Label, B>>
@@ -212,10 +205,10 @@ impl<B: Allocator + Copy, A: Allocator, C: Allocator> Worker<B, A, C> {
 
     /// Goes through one round: it enters, works, and leaves. Where it saw the labels of all output wires, it seals
     /// the round and keeps the output bits.
-    fn serve<'j, 'c, H: Gatehouse>(
+    fn serve<H: Gatehouse>(
         &mut self,
         alloc: B,
-        banks: &Banks<'j, 'c, B, A, C>,
+        banks: &Banks<'_, '_, B, A, C>,
         observer: &H,
         round: u32,
     )
@@ -234,13 +227,7 @@ impl<B: Allocator + Copy, A: Allocator, C: Allocator> Worker<B, A, C> {
 
     /// Seals the round and keeps the output bits of these labels, where no worker did so yet. The labels are decoded
     /// outside of the round, which nobody waits for.
-    fn keep<'j, 'c>(
-        &mut self,
-        alloc: B,
-        banks: &Banks<'j, 'c, B, A, C>,
-        round: u32,
-        labels: &[Label],
-    )
+    fn keep(&mut self, alloc: B, banks: &Banks<'_, '_, B, A, C>, round: u32, labels: &[Label])
         requires worker { IsWorkerOf banks.now self.old }
         requires round { round < length (jobs_on banks.now) }
         requires labels { AreLabelsOf (jobs_on banks.now) round labels.now }
@@ -257,10 +244,10 @@ impl<B: Allocator + Copy, A: Allocator, C: Allocator> Worker<B, A, C> {
     }
 
     /// Goes through all rounds, in order.
-    pub(crate) fn work<'j, 'c, H: Gatehouse>(
+    pub(crate) fn work<H: Gatehouse>(
         &mut self,
         alloc: B,
-        banks: &Banks<'j, 'c, B, A, C>,
+        banks: &Banks<'_, '_, B, A, C>,
         observer: &H,
     )
         requires { IsWorkerOf banks.now self.old }
@@ -276,9 +263,9 @@ impl<B: Allocator + Copy, A: Allocator, C: Allocator> Worker<B, A, C> {
 }
 
 /// The worker of a new seat, which keeps nothing yet.
-fn worker_of<'j, 'c, B: Allocator + Copy, A: Allocator, C: Allocator>(
+fn worker_of<B: Allocator + Copy, A: Allocator, C: Allocator>(
     alloc: B,
-    banks: &Banks<'j, 'c, B, A, C>,
+    banks: &Banks<'_, '_, B, A, C>,
     seat: BankSeat<B, A, C>,
     number: u32,
 ) -> Result<Worker<B, A, C>, AllocError>
@@ -298,9 +285,9 @@ fn worker_of<'j, 'c, B: Allocator + Copy, A: Allocator, C: Allocator>(
 
 /// A worker for each seat, from the last to worker 0. That the seats are these banks' and new is the caller's
 /// condition.
-pub(crate) fn workers_of<'j, 'c, B: Allocator + Copy, A: Allocator, C: Allocator>(
+pub(crate) fn workers_of<B: Allocator + Copy, A: Allocator, C: Allocator>(
     alloc: B,
-    banks: &Banks<'j, 'c, B, A, C>,
+    banks: &Banks<'_, '_, B, A, C>,
     mut seats: Vec<BankSeat<B, A, C>, B>,
 ) -> Result<Vec<Worker<B, A, C>, B>, AllocError>
     requires { All (λ s. IsSeatOf banks.now s × IsNew (view s)) seats.items }

@@ -1,11 +1,9 @@
 -- The active labels of a job meet the equations of the gates, as do the labels of a board.
-use Rattle.std.proofs.Common.{◌≡◌, ℕ, zero, suc, ◌*◌, ◌+◌, ◌<◌, List, [], ◌∷◌, slice_get, get_or, Some, refl, sym, ◌∙◌}
+use Rattle.gc_eval.proofs.Names.{◌≡◌, ℕ, zero, suc, ◌*◌, ◌+◌, ◌<◌, List, [], ◌∷◌, slice_get, get_or, Some, inl, refl, sym, ◌∙◌, Gate, input_wires, IsSetBy, IsLawful, and_number, first_wire, second_wire, Cell, View, JobParts, labels_of, active, gates_of, set_of, active_from, IsRightHalf, input_not_set, Got}
 use mathlib.Core.Option.{some, some-injective, some-ne-none}
 use lib.ListN.{get_elem?}
 use Rattle.gc_netlist.specs.declared.gate.Operation.{Operation}
 use Rattle.gc_netlist.specs.declared.gate.Operation.TheVariants.{Xor, And, Inv, Eq, Eqw}
-use Rattle.gc_netlist.specs.declared.gate.Gate.{Gate}
-use Rattle.gc_netlist.specs.Circuit.{input_wires, IsSetBy, IsLawful, and_number, first_wire, second_wire}
 use Rattle.gc_label.specs.Label.{label_of_halves}
 use Rattle.gc_label.proofs.HalvesLemmas.{label_of_halves-halves}
 use Rattle.gc_half.specs.Hash.{hash}
@@ -13,13 +11,6 @@ use Rattle.gc_half.specs.OneGate.{gate_active}
 use Rattle.gc_half.specs.declared.garbling.RowPair.{RowPair}
 use Rattle.gc_half.specs.Evaluation.{active_of, row_at, IsEvaluation}
 use Rattle.gc_half.proofs.CanonicalLemmas.{active_labels-solve}
-use Rattle.gc_board.specs.Board.{Cell}
-use Rattle.gc_board.specs.declared.rule.View.{View}
-use Rattle.gc_job.specs.Job.{JobParts}
-use Rattle.gc_job.specs.Evaluate.{labels_of}
-use Rattle.gc_job.specs.ActiveLabels.{active, gates_of, set_of, active_from, IsRightHalf}
-use Rattle.gc_job.proofs.WiringLemmas.{input_not_set}
-use Rattle.gc_eval.specs.Views.{Got}
 
 -- They are an evaluation.
 pub active_solves : (job : JobParts) → IsLawful job.circuit
@@ -51,6 +42,7 @@ pub got_input : (job : JobParts) (w label : ℕ) (v : View JobParts) → IsLawfu
     → w < input_wires job.circuit
     → label ≡ labels_of job.inputs w → Got job w v label
 got_input job w label v lawful input is = record {
+  set = inl input;
   right = is ∙ sym ((active_solves job lawful).inputs w input);
   known = λ h set. absurd (input_not_set job.circuit w h lawful input set);
 }

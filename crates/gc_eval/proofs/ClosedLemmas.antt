@@ -1,12 +1,7 @@
 -- What is known of the gates and the output wires of a closed board.
-use Rattle.std.proofs.Common.{◌≡◌, ℕ, zero, suc, ◌+◌, List, Bool, Result, arith, add-one}
-use Rattle.std.specs.List.{range_with_len}
+use Rattle.gc_eval.proofs.Names.{◌≡◌, ℕ, zero, suc, ◌+◌, List, Bool, Result, arith, add-one, range_with_len, total, JobParts, IsWhole, IsDecodingOf, IsEvaluated, active}
 use Rattle.gc_netlist.specs.Solution.{on_outputs}
-use Rattle.gc_board.specs.Counts.{total}
 use Rattle.gc_job.specs.declared.fault.EvalFault.{EvalFault}
-use Rattle.gc_job.specs.Job.{JobParts, IsWhole}
-use Rattle.gc_job.specs.Evaluate.{IsDecodingOf, IsEvaluated}
-use Rattle.gc_job.specs.ActiveLabels.{active}
 use Rattle.gc_eval.proofs.BoardLabels.{active_solves}
 
 -- one number more

@@ -1,11 +1,6 @@
 -- All seats of a list joined in one.
-use Rattle.std.proofs.Common.{◌≡◌, ℕ, ◌+◌, List, [], ◌∷◌, ◌++◌, length, Some, arith, All}
+use Rattle.gc_eval.proofs.Names.{◌≡◌, ℕ, ◌+◌, List, [], ◌∷◌, ◌++◌, length, Some, arith, All, All-pop, total, only, times, View, total-append, merged}
 use Rattle.std.proofs.lemmas.List.{length-append}
-use Rattle.std.proofs.lemmas.List.Elements.{All-pop}
-use Rattle.gc_board.specs.Counts.{total, only, times}
-use Rattle.gc_board.specs.declared.rule.View.{View}
-use Rattle.gc_board.proofs.Sums.{total-append}
-use Rattle.gc_board.specs.Steps.{merged}
 
 module _ {X : Type 0} (old new : List X) (x : X) (is : old ≡ new ++ x ∷ []) where
   pub all_but_last : (P : X → Type 0) → All P old → All P new

@@ -1,3 +1,4 @@
+pub mod Names
 pub mod BoardLabels
 pub mod ClosedLemmas
 pub mod GatherLemmas

@@ -1,20 +1,11 @@
 -- Calls one after another.
-use Rattle.std.proofs.Common.{◌≡◌, ◌≢◌, ℕ, ◌+◌, ◌*◌, ◌<◌, ◌≤◌, inl, inr, List, [], ◌∷◌, ◌++◌, zero, suc, refl, ap, ◌∙◌, arith, rules, ⊎_elim, append_assoc, length-append, sym, slice_get, Some}
+use Rattle.gc_eval.proofs.Names.{◌≡◌, ◌≢◌, ℕ, ◌+◌, ◌*◌, ◌<◌, ◌≤◌, inl, inr, List, [], ◌∷◌, ◌++◌, zero, suc, refl, ap, ◌∙◌, arith, rules, ⊎_elim, append_assoc, length-append, sym, slice_get, Some, only, times, changed, after_state, IsPlaceOf, IsSamePlace, View, total-append, only_same, only_other, JobParts, first_wire, second_wire, Gate, IsAlone, IsMadeNow, SetsMade, ReadsMade, FirstLacking, AnswersAlone, AnswersTwo, AnswersFour, sightings, made_after, Ran, Saw, SawUndone, Lacks, Says, Answers}
 use Rattle.atomic_table.specs.Seated.{TableId}
 use Rattle.atomic_table.specs.declared.shared.Seat.{Seat}
-use Rattle.gc_board.specs.Counts.{only, times}
-use Rattle.gc_board.specs.Steps.{changed, after_state}
 use Rattle.gc_board.specs.declared.rule.Hand.{Hand}
-use Rattle.gc_board.specs.Places.{IsPlaceOf, IsSamePlace}
-use Rattle.gc_board.specs.declared.rule.View.{View}
 use Rattle.gc_board.specs.declared.rule.Key.{Key}
-use Rattle.gc_board.proofs.Sums.{total-append, only_same, only_other}
-use Rattle.gc_job.specs.Job.{JobParts}
 use Rattle.gc_walk.specs.declared.answer.Answer.{Answer}
 use Rattle.gc_walk.specs.declared.answer.Answer.TheVariants.{Made, Done, Taken, NotYet}
-use Rattle.gc_netlist.specs.Circuit.{first_wire, second_wire}
-use Rattle.gc_netlist.specs.declared.gate.Gate.{Gate}
-use Rattle.gc_eval.specs.Views.{IsAlone, IsMadeNow, SetsMade, ReadsMade, FirstLacking, AnswersAlone, AnswersTwo, AnswersFour, sightings, made_after, Ran, Saw, SawUndone, Lacks, Says, Answers}
 
 -- What was known is known, and what was sighted is.
 pub record Grown (old new : View JobParts) : Type 0 where

@@ -5,7 +5,7 @@ use Rattle.gc_board.specs.declared.rule.TheConstants.{FREE, IN_HAND}
 use Rattle.gc_board.specs.declared.rule.Hand.TheVariants.{Empty}
 use Rattle.gc_board.specs.declared.rule.View.{View}
 use Rattle.gc_netlist.specs.declared.gate.Gate.{Gate}
-use Rattle.gc_netlist.specs.Circuit.{Netlist, IsSetBy, input_wires, first_wire, second_wire}
+use Rattle.gc_netlist.specs.Circuit.{Netlist, IsSetBy, IsSet, input_wires, first_wire, second_wire}
 use Rattle.gc_job.specs.Job.{JobParts}
 use Rattle.gc_job.specs.ActiveLabels.{active, active_from, set_of}
 use Rattle.gc_walk.specs.declared.answer.Answer.{Answer}
@@ -47,8 +47,9 @@ pub record Reads (c : Netlist) (g w : ℕ) : Type 0 where
   pub at : slice_get c.gates g ≡ Some gate
   pub reads : (first_wire gate.operation ≡ Some w) ⊎ (second_wire gate.operation ≡ Some w)
 
--- An answered label is the active label of wire w, and the gate that sets w is known.
+-- An answered label is the active label of wire w, which is set, and the gate that sets w is known.
 pub record Got (job : JobParts) (w : ℕ) (new : View JobParts) (label : ℕ) : Type 0 where
+  pub set : IsSet job.circuit w
   pub right : label ≡ active job w
   pub known : (h : ℕ) → IsSetBy job.circuit w h → Knows new h
 

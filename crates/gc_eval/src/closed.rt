@@ -82,8 +82,7 @@ impl<'j, 'c, B: Allocator, A: Allocator, C: Allocator> Active<'j, 'c, B, A, C> {
         ensures recognised { IfErr result (λ fault. fault ≢ EvalFault.Memory
             → HasOutputs self.now) }
     {
-        // `circuit` also says that the job is whole.
-        let _ = self.job.circuit();
+        self.job.law_whole();
         let Some(labels) = self.output_labels(alloc)? else {
             return Ok(None);
         };

@@ -16,9 +16,7 @@ mod worker;
 
 pub use active::Active;
 pub use gc_board::{MAX_SEATS, OpenFault};
-pub use gc_job::{
-    BindFault, EvalFault, Facts, Job, Wiring, evaluate, evaluate_labels, law_honest_files,
-};
+pub use gc_job::{BindFault, EvalFault, Facts, Job, Wiring, evaluate, law_honest_files};
 pub use gc_walk::{Answer, Batch, Walk};
 pub use many::evaluate_many;
 pub use open::CloseRefused;

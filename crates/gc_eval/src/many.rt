@@ -52,8 +52,7 @@ pub fn evaluate_many<
     if workers == 0 || workers > MAX_WORKERS {
         return Err(EvalFault::BadWorkers);
     }
-    // `circuit` also says that the job is whole.
-    let _ = job.circuit();
+    job.law_whole();
     match evaluate_by_many(rt, alloc, job, workers, observer)? {
         Some(bits) => Ok(bits),
         None => {
@@ -158,37 +157,15 @@ fn evaluate_together<
     }
 }
 
-/// Lets the workers make what they can. When all have ended, the last one learns what the others know and makes one
-/// further pass.
+/// Lets the workers make what they can, the last one on the calling thread and each other in a thread of its own, where
+/// one can be started. When all have ended, the last one learns what the others know and makes one further pass.
 fn work_together<
-    'j,
-    'c,
     A: Allocator + Send + Sync,
     B: Allocator + Send + Sync,
     C: Allocator + Send + Sync,
     H: Gatehouse + Sync,
     R: Threads + Sync,
->(rt: &R, board: &EvalBoard<'j, 'c, B, A, C>, workers: &mut [Worker<B, A, C>], observer: &H)
-    requires { AreWorkersOf board.now workers.old }
-    ensures { AreWorkersOf board.now workers.new }
-{
-    run_all(rt, board, workers, observer);
-    if let Some((last, others)) = workers.split_last_mut() {
-        last.finish(board, observer, others);
-    }
-}
-
-/// Runs all workers, the last one on the calling thread and each other in a thread of its own, where one can be
-/// started.
-fn run_all<
-    'j,
-    'c,
-    A: Allocator + Send + Sync,
-    B: Allocator + Send + Sync,
-    C: Allocator + Send + Sync,
-    H: Gatehouse + Sync,
-    R: Threads + Sync,
->(rt: &R, board: &EvalBoard<'j, 'c, B, A, C>, workers: &mut [Worker<B, A, C>], observer: &H)
+>(rt: &R, board: &EvalBoard<'_, '_, B, A, C>, workers: &mut [Worker<B, A, C>], observer: &H)
     requires { AreWorkersOf board.now workers.old }
     ensures { AreWorkersOf board.now workers.new }
 {
@@ -202,4 +179,7 @@ fn run_all<
             ensures { IsWorkerOf board.entry.now worker.exit.now }
         { worker.work(board, observer) },
     );
+    if let Some((last, others)) = workers.split_last_mut() {
+        last.finish(board, observer, others);
+    }
 }

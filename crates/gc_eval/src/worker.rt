@@ -24,12 +24,7 @@ pub(crate) struct Worker<B: Allocator, A: Allocator, C: Allocator> {
 
 impl<B: Allocator, A: Allocator, C: Allocator> Worker<B, A, C> {
     /// Steps gates at once, and notes what each was answered.
-    fn step<'j, 'c, H: Gatehouse>(
-        &mut self,
-        board: &EvalBoard<'j, 'c, B, A, C>,
-        observer: &H,
-        batch: Batch,
-    )
+    fn step<H: Gatehouse>(&mut self, board: &EvalBoard<'_, '_, B, A, C>, observer: &H, batch: Batch)
         requires worker { IsWorkerOf board.now self.old }
         requires batch { IsWithin (gates_of (job_on board.now)) batch }
         ensures worker { IsWorkerOf board.now self.new }
@@ -58,9 +53,9 @@ impl<B: Allocator, A: Allocator, C: Allocator> Worker<B, A, C> {
 
     /// One pass over all gates that the worker doesn't know to be done, from this gate on and then round from the
     /// first. The answer is whether it made a gate, or learnt of one.
-    fn pass<'j, 'c, H: Gatehouse>(
+    fn pass<H: Gatehouse>(
         &mut self,
-        board: &EvalBoard<'j, 'c, B, A, C>,
+        board: &EvalBoard<'_, '_, B, A, C>,
         observer: &H,
         first: u32,
     ) -> bool
@@ -75,11 +70,7 @@ impl<B: Allocator, A: Allocator, C: Allocator> Worker<B, A, C> {
     }
 
     /// Passes over the gates from its share on, again as long as a pass made a gate or learnt of one.
-    pub(crate) fn work<'j, 'c, H: Gatehouse>(
-        &mut self,
-        board: &EvalBoard<'j, 'c, B, A, C>,
-        observer: &H,
-    )
+    pub(crate) fn work<H: Gatehouse>(&mut self, board: &EvalBoard<'_, '_, B, A, C>, observer: &H)
         requires { IsWorkerOf board.now self.old }
         ensures { IsWorkerOf board.now self.new }
     {
@@ -92,9 +83,9 @@ impl<B: Allocator, A: Allocator, C: Allocator> Worker<B, A, C> {
 
     /// One further pass in file order over the gates that none of the workers knows to be done, when the others have
     /// ended.
-    pub(crate) fn finish<'j, 'c, H: Gatehouse>(
+    pub(crate) fn finish<H: Gatehouse>(
         &mut self,
-        board: &EvalBoard<'j, 'c, B, A, C>,
+        board: &EvalBoard<'_, '_, B, A, C>,
         observer: &H,
         others: &mut [Worker<B, A, C>],
     )
@@ -110,11 +101,7 @@ impl<B: Allocator, A: Allocator, C: Allocator> Worker<B, A, C> {
     }
 
     /// Learns what another worker knows.
-    fn learn_from<'j, 'c>(
-        &mut self,
-        board: &EvalBoard<'j, 'c, B, A, C>,
-        other: &mut Worker<B, A, C>,
-    )
+    fn learn_from(&mut self, board: &EvalBoard<'_, '_, B, A, C>, other: &mut Worker<B, A, C>)
         requires own { IsWorkerOf board.now self.old }
         requires other { IsWorkerOf board.now other.old }
         ensures own { IsWorkerOf board.now self.new }
@@ -136,9 +123,9 @@ impl<'j, 'c, B: Allocator, A: Allocator, C: Allocator> EvalBoard<'j, 'c, B, A, C
 }
 
 /// A worker for each seat, from the last to worker 0. That the seats are this board's is the caller's condition.
-pub(crate) fn workers_of<'j, 'c, B: Allocator + Copy, A: Allocator, C: Allocator>(
+pub(crate) fn workers_of<B: Allocator + Copy, A: Allocator, C: Allocator>(
     alloc: B,
-    board: &EvalBoard<'j, 'c, B, A, C>,
+    board: &EvalBoard<'_, '_, B, A, C>,
     mut seats: Vec<EvalSeat<A, C>, B>,
 ) -> Result<Vec<Worker<B, A, C>, B>, AllocError>
     requires { All (IsSeatOf board.now) seats.items }
@@ -160,9 +147,9 @@ pub(crate) fn workers_of<'j, 'c, B: Allocator + Copy, A: Allocator, C: Allocator
 }
 
 /// The seats of workers that have ended.
-pub(crate) fn seats_of<'j, 'c, B: Allocator + Copy, A: Allocator, C: Allocator>(
+pub(crate) fn seats_of<B: Allocator + Copy, A: Allocator, C: Allocator>(
     alloc: B,
-    board: &EvalBoard<'j, 'c, B, A, C>,
+    board: &EvalBoard<'_, '_, B, A, C>,
     workers: Vec<Worker<B, A, C>, B>,
 ) -> Result<Vec<EvalSeat<A, C>, B>, AllocError>
     requires { AreWorkersOf board.now workers.items }

@@ -1,8 +1,6 @@
-use Rattle.std.proofs.Common.{Bool, Vec, Ok, map, refl, ap, ◌∙◌, arith}
-use Rattle.std.proofs.lemmas.Option.{slice_get_read}
+use Rattle.gc_bank.proofs.Names.{Bool, Vec, Ok, map, refl, ap, ◌∙◌, arith, slice_get_read, IsEvaluated}
 use Rattle.std.proofs.lemmas.List.{map-append}
 use Rattle.std.proofs.lemmas.Result.{err_from_is_err_and}
-use Rattle.gc_job.specs.Evaluate.{IsEvaluated}
 use Rattle.gc_bank.proofs.JobLemmas.{evaluated_more, job_fault, if_some}
 use Rattle.gc_bank.proofs.jobs.evaluate_rest.Goals as goal
 

@@ -1,5 +1,4 @@
-use Rattle.std.proofs.Common.{map}
-use Rattle.gc_bank.specs.Workers.{AreKnown}
+use Rattle.gc_bank.proofs.Names.{map, AreKnown}
 use Rattle.gc_bank.proofs.JobLemmas.{AreEvaluatedBefore}
 use Rattle.gc_bank.proofs.jobs.evaluate_rest.Given as goal
 

@@ -1,6 +1,4 @@
-use Rattle.std.proofs.Common.{◌≡◌, ℕ, ◌<◌, get_or}
-use Rattle.gc_rounds.specs.declared.view.Stand.TheVariants.{Outside}
-use Rattle.gc_bank.specs.declared.seat.BankSeat.{BankSeat}
+use Rattle.gc_bank.proofs.Names.{◌≡◌, ℕ, ◌<◌, get_or, Outside, BankSeat}
 use Rattle.gc_bank.proofs.open.are_outside.Given as goal
 
 abbrev pub invariant-loop-seat : goal.invariant-loop-seat

@@ -1,8 +1,4 @@
-use Rattle.std.proofs.Common.{◌-◌, ◌≡◌, ◌+◌, ◌<◌, [], length, All}
-use Rattle.gc_round_board.specs.Places.{IsBoardPlace}
-use Rattle.gc_bank.specs.Rounds.{gates_of}
-use Rattle.gc_bank.specs.Seats.{IsNew}
-use Rattle.gc_bank.specs.declared.seat.BankSeat.{BankSeat}
+use Rattle.gc_bank.proofs.Names.{◌-◌, ◌≡◌, ◌+◌, ◌<◌, [], length, All, IsBoardPlace, gates_of, IsNew, BankSeat}
 use Rattle.gc_bank.proofs.open.deal_all.Given as goal
 
 abbrev pub invariant-loop-left : goal.invariant-loop-left

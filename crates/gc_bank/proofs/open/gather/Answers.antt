@@ -1,11 +1,4 @@
-use Rattle.std.proofs.Common.{◌≡◌, arith, ap}
-use Rattle.gc_rounds.specs.declared.view.Stand.TheVariants.{Outside}
-use Rattle.gc_round_board.specs.Pairs.{pairs}
-use Rattle.gc_round_board.specs.Places.{IsBoardPlace}
-use Rattle.gc_eval.proofs.GatherLemmas.{all_but_last, all_last, total_last, length_last}
-use Rattle.gc_bank.specs.Rounds.{gates_of}
-use Rattle.gc_bank.specs.Views.{Seen}
-use Rattle.gc_bank.specs.declared.seat.BankSeat.{BankSeat}
+use Rattle.gc_bank.proofs.Names.{◌≡◌, arith, ap, Outside, pairs, IsBoardPlace, all_but_last, all_last, total_last, length_last, gates_of, Seen, BankSeat}
 use Rattle.gc_bank.proofs.RunLemmas.{still_in, pairs_merged}
 use Rattle.gc_bank.proofs.open.gather.Goals as goal
 

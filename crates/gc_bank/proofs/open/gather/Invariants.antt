@@ -1,10 +1,4 @@
-use Rattle.std.proofs.Common.{◌≡◌, ℕ, ◌+◌, length, All}
-use Rattle.gc_board.specs.Counts.{total}
-use Rattle.gc_rounds.specs.declared.view.Stand.TheVariants.{Outside}
-use Rattle.gc_round_board.specs.Pairs.{pairs}
-use Rattle.gc_round_board.specs.Places.{IsBoardPlace}
-use Rattle.gc_bank.specs.Rounds.{gates_of}
-use Rattle.gc_bank.specs.declared.seat.BankSeat.{BankSeat}
+use Rattle.gc_bank.proofs.Names.{◌≡◌, ℕ, ◌+◌, length, All, total, Outside, pairs, IsBoardPlace, gates_of, BankSeat}
 use Rattle.gc_bank.proofs.open.gather.Given as goal
 
 abbrev pub invariant-loop-seat : goal.invariant-loop-seat

@@ -1,5 +1,4 @@
-use Rattle.std.proofs.Common.{arith, ap, length}
-use Rattle.gc_bank.specs.declared.seat.BankSeat.{BankSeat}
+use Rattle.gc_bank.proofs.Names.{arith, ap, length, BankSeat}
 use Rattle.gc_bank.proofs.RunLemmas.{total_taken}
 use Rattle.gc_bank.proofs.open.made_by.Goals as goal
 

@@ -1,6 +1,4 @@
-use Rattle.std.proofs.Common.{◌≡◌, ◌-◌, ◌^◌, length, min, take}
-use Rattle.gc_board.specs.Counts.{total}
-use Rattle.gc_bank.specs.declared.seat.BankSeat.{BankSeat}
+use Rattle.gc_bank.proofs.Names.{◌≡◌, ◌-◌, ◌^◌, length, min, take, total, BankSeat}
 use Rattle.gc_bank.proofs.open.made_by.Given as goal
 
 abbrev pub invariant-loop-seat : goal.invariant-loop-seat

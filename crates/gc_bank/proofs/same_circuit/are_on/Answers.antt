@@ -1,5 +1,4 @@
-use Rattle.std.proofs.Common.{◌≡◌, length, refl, sym, ◌∙◌, arith}
-use Rattle.std.proofs.lemmas.Option.{slice_get_read}
+use Rattle.gc_bank.proofs.Names.{◌≡◌, length, refl, sym, ◌∙◌, arith, slice_get_read}
 use Rattle.gc_bank.proofs.JobLemmas.{on_more}
 use Rattle.gc_bank.proofs.same_circuit.are_on.Goals as goal
 

@@ -1,5 +1,4 @@
-use Rattle.std.proofs.Common.{◌∙◌, sym, ap, option_copied}
-use Rattle.std.proofs.lemmas.Option.{slice_get_within}
+use Rattle.gc_bank.proofs.Names.{◌∙◌, sym, ap, option_copied, slice_get_within}
 use Rattle.gc_bank.proofs.same_circuit.one_circuit.Goals as goal
 
 pub returns-in-Some : goal.returns-in-Some

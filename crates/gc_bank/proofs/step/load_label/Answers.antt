@@ -1,6 +1,5 @@
-use Rattle.std.proofs.Common.{◌∙◌, subst}
+use Rattle.gc_bank.proofs.Names.{◌∙◌, subst, IsRightBy}
 use Rattle.gc_eval.proofs.BoardLabels.{joined}
-use Rattle.gc_bank.specs.Rounds.{IsRightBy}
 use Rattle.gc_bank.proofs.step.load_label.Goals as goal
 
 pub returns-clause-right : goal.returns-clause-right

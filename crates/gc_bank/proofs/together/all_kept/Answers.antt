@@ -1,5 +1,4 @@
-use Rattle.gc_eval.proofs.GatherLemmas.{all_but_last, all_last}
-use Rattle.gc_bank.specs.Workers.{IsWorkerOf}
+use Rattle.gc_bank.proofs.Names.{all_but_last, all_last, IsWorkerOf}
 use Rattle.gc_bank.proofs.together.all_kept.Goals as goal
 
 pub kept_by-slots-requires-clause-worker : goal.kept_by-slots-requires-clause-worker

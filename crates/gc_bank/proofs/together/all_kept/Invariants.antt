@@ -1,6 +1,4 @@
-use Rattle.std.proofs.Common.{length}
-use Rattle.gc_bank.specs.Seats.{jobs_on}
-use Rattle.gc_bank.specs.Workers.{AreKnown, AreWorkersOf}
+use Rattle.gc_bank.proofs.Names.{length, jobs_on, AreKnown, AreWorkersOf}
 use Rattle.gc_bank.proofs.together.all_kept.Given as goal
 
 abbrev pub invariant-loop-worker : goal.invariant-loop-worker

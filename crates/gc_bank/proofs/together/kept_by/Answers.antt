@@ -1,6 +1,4 @@
-use Rattle.gc_eval.proofs.GatherLemmas.{all_but_last, all_last}
-use Rattle.gc_bank.specs.Seats.{jobs_on}
-use Rattle.gc_bank.specs.Workers.{IsKept}
+use Rattle.gc_bank.proofs.Names.{all_but_last, all_last, jobs_on, IsKept}
 use Rattle.gc_bank.proofs.together.kept_by.Goals as goal
 
 pub loop-round-preserved : goal.loop-round-preserved

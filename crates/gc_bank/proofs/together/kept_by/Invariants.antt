@@ -1,6 +1,4 @@
-use Rattle.std.proofs.Common.{All, length}
-use Rattle.gc_bank.specs.Seats.{jobs_on}
-use Rattle.gc_bank.specs.Workers.{AreKnown, IsKept}
+use Rattle.gc_bank.proofs.Names.{All, length, jobs_on, AreKnown, IsKept}
 use Rattle.gc_bank.proofs.together.kept_by.Given as goal
 
 abbrev pub invariant-loop-round : goal.invariant-loop-round

@@ -1,6 +1,5 @@
-use Rattle.std.proofs.Common.{arith, sym, ◌∙◌}
+use Rattle.gc_bank.proofs.Names.{arith, sym, ◌∙◌, active}
 use Rattle.std.proofs.lemmas.List.FromFn.{map-range_with_len_more}
-use Rattle.gc_job.specs.ActiveLabels.{active}
 use Rattle.gc_bank.proofs.worker.output_labels.Goals as goal
 
 pub loop-i-preserved : goal.loop-i-preserved

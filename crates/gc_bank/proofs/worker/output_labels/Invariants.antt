@@ -1,9 +1,5 @@
-use Rattle.std.proofs.Common.{◌≡◌, Some, map, slice_get}
+use Rattle.gc_bank.proofs.Names.{◌≡◌, Some, map, slice_get, Inside, JobParts, active, IsSeatOf, view, jobs_on}
 use Rattle.std.specs.List.{range_with_len}
-use Rattle.gc_rounds.specs.declared.view.Stand.TheVariants.{Inside}
-use Rattle.gc_job.specs.Job.{JobParts}
-use Rattle.gc_job.specs.ActiveLabels.{active}
-use Rattle.gc_bank.specs.Seats.{IsSeatOf, view, jobs_on}
 use Rattle.gc_bank.proofs.worker.output_labels.Given as goal
 
 abbrev pub invariant-loop-i : goal.invariant-loop-i

@@ -1,8 +1,5 @@
 use Rattle.std.proofs.lemmas.List.Elements.{All-push}
-use Rattle.gc_eval.proofs.GatherLemmas.{all_but_last, all_last}
-use Rattle.gc_bank.specs.Seats.{IsSeatOf, IsNew, view}
-use Rattle.gc_bank.specs.Workers.{IsWorkerOf}
-use Rattle.gc_bank.specs.declared.seat.BankSeat.{BankSeat}
+use Rattle.gc_bank.proofs.Names.{all_but_last, all_last, IsSeatOf, IsNew, view, IsWorkerOf, BankSeat}
 use Rattle.gc_bank.proofs.worker.workers_of.Goals as goal
 
 pub loop-seat-preserved : goal.loop-seat-preserved

@@ -1,7 +1,4 @@
-use Rattle.std.proofs.Common.{length, All}
-use Rattle.gc_bank.specs.Seats.{IsSeatOf, IsNew, view}
-use Rattle.gc_bank.specs.Workers.{AreWorkersOf}
-use Rattle.gc_bank.specs.declared.seat.BankSeat.{BankSeat}
+use Rattle.gc_bank.proofs.Names.{length, All, IsSeatOf, IsNew, view, AreWorkersOf, BankSeat}
 use Rattle.gc_bank.proofs.worker.workers_of.Given as goal
 
 abbrev pub invariant-loop-seat : goal.invariant-loop-seat

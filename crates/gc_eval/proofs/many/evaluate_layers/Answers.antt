@@ -1,5 +1,4 @@
-use Rattle.std.proofs.Common.{length, ap, ◌∙◌}
-use Rattle.std.proofs.lemmas.List.FromFn.{length-map-range_with_len}
+use Rattle.gc_eval.proofs.Names.{length, ap, ◌∙◌, length-map-range_with_len}
 use Rattle.gc_eval.proofs.many.evaluate_layers.Goals as goal
 
 pub decode-requires : goal.decode-requires

@@ -1,8 +1,4 @@
-use Rattle.std.proofs.Common.{◌-◌, ◌≡◌, ◌+◌, ◌<◌, [], length, All}
-use Rattle.gc_board.specs.Places.{IsPlaceOf}
-use Rattle.gc_job.specs.ActiveLabels.{gates_of}
-use Rattle.gc_eval.specs.Seats.{IsNew}
-use Rattle.gc_eval.specs.declared.seat.EvalSeat.{EvalSeat}
+use Rattle.gc_eval.proofs.Names.{◌-◌, ◌≡◌, ◌+◌, ◌<◌, [], length, All, IsPlaceOf, gates_of, IsNew, EvalSeat}
 use Rattle.gc_eval.proofs.open.deal_all.Given as goal
 
 abbrev pub invariant-loop-left : goal.invariant-loop-left

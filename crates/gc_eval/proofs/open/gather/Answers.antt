@@ -1,10 +1,4 @@
-use Rattle.std.proofs.Common.{arith, ap}
-use Rattle.gc_board.specs.Counts.{times}
-use Rattle.gc_board.specs.declared.rule.View.{View}
-use Rattle.gc_board.specs.Places.{IsPlaceOf}
-use Rattle.gc_job.specs.ActiveLabels.{gates_of}
-use Rattle.gc_job.specs.Job.{JobParts}
-use Rattle.gc_eval.specs.declared.seat.EvalSeat.{EvalSeat}
+use Rattle.gc_eval.proofs.Names.{arith, ap, times, View, IsPlaceOf, gates_of, JobParts, EvalSeat}
 use Rattle.gc_eval.proofs.GatherLemmas.{all_but_last, all_last, total_last, length_last, times_merged}
 use Rattle.gc_eval.proofs.RunLemmas.{moved_at}
 use Rattle.gc_eval.proofs.open.gather.Goals as goal

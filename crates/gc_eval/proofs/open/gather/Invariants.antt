@@ -1,8 +1,4 @@
-use Rattle.std.proofs.Common.{◌≡◌, ℕ, ◌+◌, length, All}
-use Rattle.gc_board.specs.Counts.{total, times}
-use Rattle.gc_board.specs.Places.{IsPlaceOf}
-use Rattle.gc_job.specs.ActiveLabels.{gates_of}
-use Rattle.gc_eval.specs.declared.seat.EvalSeat.{EvalSeat}
+use Rattle.gc_eval.proofs.Names.{◌≡◌, ℕ, ◌+◌, length, All, total, times, IsPlaceOf, gates_of, EvalSeat}
 use Rattle.gc_eval.proofs.open.gather.Given as goal
 
 abbrev pub invariant-loop-place : goal.invariant-loop-place

@@ -1,6 +1,4 @@
-use Rattle.std.proofs.lemmas.List.Elements.{All-head, All-push, All-tail}
-use Rattle.gc_eval.specs.Seats.{IsSeatOf}
-use Rattle.gc_eval.specs.Workers.{IsWorkerOf}
+use Rattle.gc_eval.proofs.Names.{All-head, All-push, All-tail, IsSeatOf, IsWorkerOf}
 use Rattle.gc_eval.proofs.worker.seats_of.Goals as goal
 
 pub loop-worker-preserved : goal.loop-worker-preserved

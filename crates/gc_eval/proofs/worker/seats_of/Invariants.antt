@@ -1,7 +1,5 @@
-use Rattle.std.proofs.Common.{All}
+use Rattle.gc_eval.proofs.Names.{All, IsSeatOf, AreWorkersOf}
 use Rattle.std.specs.Vec.Iter.{into_iter_items}
-use Rattle.gc_eval.specs.Seats.{IsSeatOf}
-use Rattle.gc_eval.specs.Workers.{AreWorkersOf}
 use Rattle.gc_eval.proofs.worker.seats_of.Given as goal
 
 abbrev pub invariant-loop-worker : goal.invariant-loop-worker

@@ -1,8 +1,4 @@
-use Rattle.std.proofs.Common.{length, ap, ◌∙◌}
-use Rattle.std.proofs.lemmas.List.Elements.{All-push}
-use Rattle.gc_netlist.specs.Circuit.{Netlist}
-use Rattle.gc_eval.specs.Seats.{IsSeatOf}
-use Rattle.gc_eval.specs.Workers.{IsWorkerOf}
+use Rattle.gc_eval.proofs.Names.{length, ap, ◌∙◌, All-push, Netlist, IsSeatOf, IsWorkerOf}
 use Rattle.gc_eval.proofs.GatherLemmas.{all_but_last, all_last}
 use Rattle.gc_eval.proofs.worker.workers_of.Goals as goal
 

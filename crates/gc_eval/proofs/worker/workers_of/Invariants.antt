@@ -1,6 +1,4 @@
-use Rattle.std.proofs.Common.{length, All}
-use Rattle.gc_eval.specs.Seats.{IsSeatOf}
-use Rattle.gc_eval.specs.Workers.{AreWorkersOf}
+use Rattle.gc_eval.proofs.Names.{length, All, IsSeatOf, AreWorkersOf}
 use Rattle.gc_eval.proofs.worker.workers_of.Given as goal
 
 abbrev pub invariant-loop-seat : goal.invariant-loop-seat

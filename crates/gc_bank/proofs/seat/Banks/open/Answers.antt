@@ -1,7 +1,4 @@
-use Rattle.std.proofs.Common.{List, ap, ◌∙◌, sym, arith}
-use Rattle.std.proofs.lemmas.Option.{slice_get-get_or}
-use Rattle.gc_rounds.specs.declared.view.Key.{Key}
-use Rattle.gc_job.specs.Job.{JobParts}
+use Rattle.gc_bank.proofs.Names.{List, ap, ◌∙◌, sym, arith, slice_get-get_or, Key, JobParts}
 use Rattle.gc_bank.proofs.seat.Banks.open.Goals as goal
 
 pub invariant_of-banks-clause-about : goal.invariant_of-banks-clause-about

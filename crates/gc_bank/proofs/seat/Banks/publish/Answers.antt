@@ -1,5 +1,4 @@
-use Rattle.std.proofs.Common.{rules, refl}
-use Rattle.gc_bank.specs.Views.{Knows}
+use Rattle.gc_bank.proofs.Names.{rules, refl, Knows}
 use Rattle.gc_bank.proofs.RunLemmas.{unknown, saw_step, made_ran}
 use Rattle.gc_bank.proofs.seat.Banks.publish.Goals as goal
 

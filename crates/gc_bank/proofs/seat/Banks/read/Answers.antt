@@ -1,8 +1,4 @@
-use Rattle.std.proofs.Common.{arith, ap, sym, ◌∙◌, refl, ◌<◌}
-use Rattle.gc_board.proofs.Sums.{only_other}
-use Rattle.gc_job.proofs.WiringLemmas.{set_once}
-use Rattle.gc_bank.specs.Rounds.{gates_of}
-use Rattle.gc_bank.specs.Views.{Seen}
+use Rattle.gc_bank.proofs.Names.{arith, ap, sym, ◌∙◌, refl, ◌<◌, only_other, set_once, gates_of, Seen}
 use Rattle.gc_bank.proofs.RunLemmas.{got_input, unknown, undone, saw_step, still_in, gate_there}
 use Rattle.gc_bank.proofs.seat.Banks.read.Given.{Over}
 use Rattle.gc_bank.proofs.seat.Banks.read.Goals.{In-Some}

@@ -1,6 +1,4 @@
-use Rattle.std.proofs.Common.{rules, ◌∙◌, refl, sym}
-use Rattle.gc_board.proofs.Sums.{only_other}
-use Rattle.gc_bank.specs.Views.{Ran}
+use Rattle.gc_bank.proofs.Names.{rules, ◌∙◌, refl, sym, only_other, Ran}
 use Rattle.gc_bank.proofs.RunLemmas.{unknown, saw_step, ran_then, grown, still, lacks_within, alone_later}
 use Rattle.gc_bank.proofs.seat.Banks.ready.Given.{Over}
 use Rattle.gc_bank.proofs.seat.Banks.ready.Goals.{After-load_state-free}

@@ -1,7 +1,4 @@
-use Rattle.std.proofs.Common.{◌≡◌}
-use Rattle.gc_rounds.specs.declared.view.Stand.TheVariants.{Inside}
-use Rattle.gc_bank.specs.Seats.{view, jobs_on}
-use Rattle.gc_bank.specs.Views.{Answers}
+use Rattle.gc_bank.proofs.Names.{◌≡◌, Inside, view, jobs_on, Answers}
 use Rattle.gc_bank.proofs.RunLemmas.{in_round}
 use Rattle.gc_bank.proofs.seat.Banks.step.Goals as goal
 

@@ -1,6 +1,4 @@
-use Rattle.gc_rounds.specs.declared.view.Stand.TheVariants.{Inside}
-use Rattle.gc_walk.specs.Walks.{batches_left}
-use Rattle.gc_bank.specs.Workers.{IsWorkerAt}
+use Rattle.gc_bank.proofs.Names.{Inside, batches_left, IsWorkerAt}
 use Rattle.gc_bank.proofs.worker.Worker.pass.Given as goal
 
 abbrev pub invariant-loop-batch : goal.invariant-loop-batch

@@ -1,5 +1,4 @@
-use Rattle.std.proofs.Common.{◌∙◌, Ok, Err}
-use Rattle.std.proofs.lemmas.Result.{err_from_is_err_and}
+use Rattle.gc_eval.proofs.Names.{◌∙◌, Ok, Err, err_from_is_err_and}
 use Rattle.gc_eval.proofs.ClosedLemmas.{evaluated_outputs}
 use Rattle.gc_job.proofs.OutputLemmas.{length-outputs, no_memory}
 use Rattle.gc_eval.proofs.active.Active.decode.Goals as goal
@@ -7,17 +6,17 @@ use Rattle.gc_eval.proofs.active.Active.decode.Goals as goal
 pub returns-in_err-labels-clause-err : goal.returns-in_err-labels-clause-err
 returns-in_err-labels-clause-err g c =
     let p = err_from_is_err_and c.from_residual.result c.from_residual.ensures.1 in
-    rw (p.1, p.2) (no_memory c.args.self.now.job.now c.circuit.ensures.whole)
+    rw (p.1, p.2) (no_memory c.args.self.now.job.now c.law_whole.ensures)
 
 pub decode-requires : goal.decode-requires
 decode-requires g c =
     let right = rw c.in-Some.is at c.in_ok-labels.ensures in
-    length-outputs _ c.circuit.ensures.whole.lawful _ _ (c.deref.ensures.value ∙ right.0)
+    length-outputs _ c.law_whole.ensures.lawful _ _ (c.deref.ensures.value ∙ right.0)
 
 pub returns-in-Ok-clause-ok : goal.returns-in-Ok-clause-ok
 returns-in-Ok-clause-ok g c =
     let right = rw c.in-Some.is at c.in_ok-labels.ensures in (
-      evaluated_outputs _ _ (Ok _) c.circuit.ensures.whole (c.deref.ensures.value ∙ right.0)
+      evaluated_outputs _ _ (Ok _) c.law_whole.ensures (c.deref.ensures.value ∙ right.0)
           c.in-Ok.ensures,
       right.1,
     )
@@ -25,7 +24,7 @@ returns-in-Ok-clause-ok g c =
 pub returns-clause-err : goal.returns-clause-err
 returns-clause-err g c =
     let right = rw c.in-Some.is at c.in_ok-labels.ensures in
-    evaluated_outputs _ _ (Err _) c.circuit.ensures.whole (c.deref.ensures.value ∙ right.0)
+    evaluated_outputs _ _ (Err _) c.law_whole.ensures (c.deref.ensures.value ∙ right.0)
     c.in-Err.ensures
 
 pub returns-clause-recognised : goal.returns-clause-recognised

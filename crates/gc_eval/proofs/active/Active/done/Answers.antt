@@ -1,8 +1,4 @@
-use Rattle.std.proofs.Common.{◌*◌, arith, sym}
-use Rattle.std.specs.Slots.{slots_items}
-use Rattle.gc_board.specs.Board.{state_of}
-use Rattle.gc_board.specs.Counts.{only}
-use Rattle.gc_board.proofs.Sums.{only_same, only_other}
+use Rattle.gc_eval.proofs.Names.{◌*◌, arith, sym, slots_items, state_of, only, only_same, only_other}
 use Rattle.gc_eval.proofs.BoardLabels.{word_is}
 use Rattle.gc_eval.proofs.ClosedLemmas.{total-range}
 use Rattle.gc_eval.proofs.active.Active.done.Goals as goal

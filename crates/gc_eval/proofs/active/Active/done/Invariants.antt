@@ -1,5 +1,4 @@
-use Rattle.std.proofs.Common.{◌≡◌, ◌≤◌}
-use Rattle.gc_eval.specs.Done.{done_of}
+use Rattle.gc_eval.proofs.Names.{◌≡◌, ◌≤◌, done_of}
 use Rattle.gc_eval.proofs.active.Active.done.Given as goal
 
 abbrev pub invariant-loop-gate : goal.invariant-loop-gate

@@ -1,7 +1,4 @@
-use Rattle.std.proofs.Common.{◌+◌, ◌*◌, ◌<◌, inl, inr, ⊎_elim, arith, sym, ◌∙◌}
-use Rattle.std.specs.Slots.{slots_items, slots_len}
-use Rattle.gc_netlist.specs.Circuit.{input_wires}
-use Rattle.gc_job.proofs.WiringLemmas.{set_once, set_within}
+use Rattle.gc_eval.proofs.Names.{◌+◌, ◌*◌, ◌<◌, inl, inr, ⊎_elim, arith, sym, ◌∙◌, slots_items, slots_len, input_wires, set_once, set_within}
 use Rattle.gc_eval.proofs.BoardLabels.{active_solves, label_in, word_is}
 use Rattle.gc_eval.proofs.active.Active.label.Given.{Over}
 use Rattle.gc_eval.proofs.active.Active.label.Goals.{In-Some}

@@ -1,10 +1,6 @@
-use Rattle.std.proofs.Common.{◌≡◌, ◌+◌, ◌-◌, map, arith, sym, ◌∙◌}
+use Rattle.gc_eval.proofs.Names.{◌≡◌, ◌+◌, ◌-◌, map, arith, sym, ◌∙◌, range_with_len, map-range_with_len_more, output_wires, active}
 use mathlib.Core.Logic.{dite}
 use native.Mathlib.Decide.{ℕ_discrete}
-use Rattle.std.specs.List.{range_with_len}
-use Rattle.std.proofs.lemmas.List.FromFn.{map-range_with_len_more}
-use Rattle.gc_netlist.specs.Circuit.{output_wires}
-use Rattle.gc_job.specs.ActiveLabels.{active}
 use Rattle.gc_eval.proofs.active.Active.output_labels.Goals as goal
 
 pub returns-in_default : goal.returns-in_default

@@ -1,7 +1,4 @@
-use Rattle.std.proofs.Common.{◌≡◌, ◌+◌, ◌<◌, ℕ, map}
-use Rattle.std.specs.List.{range_with_len}
-use Rattle.gc_job.specs.ActiveLabels.{active}
-use Rattle.gc_eval.specs.Done.{HasLabel}
+use Rattle.gc_eval.proofs.Names.{◌≡◌, ◌+◌, ◌<◌, ℕ, map, range_with_len, active, HasLabel}
 use Rattle.gc_eval.proofs.active.Active.output_labels.Given as goal
 
 abbrev pub invariant-loop-i : goal.invariant-loop-i

@@ -1,5 +1,4 @@
-use Rattle.gc_board.specs.Counts.{only}
-use Rattle.gc_board.proofs.Sums.{total-append}
+use Rattle.gc_eval.proofs.Names.{only, total-append}
 use Rattle.gc_eval.proofs.seat.EvalBoard.copy_known.Goals as goal
 
 pub returns-clause-known : goal.returns-clause-known

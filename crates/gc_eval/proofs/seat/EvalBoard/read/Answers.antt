@@ -1,11 +1,4 @@
-use Rattle.std.proofs.Common.{◌<◌, arith, refl, sym, ap, ◌∙◌}
-use Rattle.gc_netlist.specs.Circuit.{IsSetBy}
-use Rattle.gc_board.specs.declared.rule.View.{View}
-use Rattle.gc_board.proofs.Sums.{only_other}
-use Rattle.gc_job.specs.ActiveLabels.{gates_of}
-use Rattle.gc_job.specs.Job.{JobParts}
-use Rattle.gc_job.proofs.WiringLemmas.{set_within, set_once}
-use Rattle.gc_eval.specs.Seats.{job_on}
+use Rattle.gc_eval.proofs.Names.{◌<◌, arith, refl, sym, ap, ◌∙◌, IsSetBy, View, only_other, gates_of, JobParts, set_within, set_once, job_on}
 use Rattle.gc_eval.proofs.BoardLabels.{got_input}
 use Rattle.gc_eval.proofs.RunLemmas.{saw_undone, unknown, moved_at}
 use Rattle.gc_eval.proofs.seat.EvalBoard.read.Given.{Over}

@@ -1,5 +1,4 @@
-use Rattle.std.proofs.Common.{inr, sym, ◌∙◌}
-use Rattle.gc_eval.specs.Seats.{job_on}
+use Rattle.gc_eval.proofs.Names.{inr, sym, ◌∙◌, job_on}
 use Rattle.gc_eval.proofs.BoardLabels.{active_step}
 use Rattle.gc_eval.proofs.RunLemmas.{grown, still, lacks_within, second_lacking, both_made, alone_later}
 use Rattle.gc_eval.proofs.seat.EvalBoard.read_both.Goals as goal

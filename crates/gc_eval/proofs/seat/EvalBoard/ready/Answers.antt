@@ -1,8 +1,4 @@
-use Rattle.std.proofs.Common.{rules, arith, refl, ap, sym, ◌∙◌}
-use Rattle.gc_board.specs.Counts.{only}
-use Rattle.gc_board.specs.Board.{in_hand}
-use Rattle.gc_board.proofs.Sums.{only_same, only_other}
-use Rattle.gc_eval.specs.Views.{Ran}
+use Rattle.gc_eval.proofs.Names.{rules, arith, refl, ap, sym, ◌∙◌, only, in_hand, only_same, only_other, Ran}
 use Rattle.gc_eval.proofs.RunLemmas.{saw_step, unknown, ran_then, grown, still, lacks_within, alone_later}
 use Rattle.gc_eval.proofs.seat.EvalBoard.ready.Given.{Over}
 use Rattle.gc_eval.proofs.seat.EvalBoard.ready.Goals.{After-load_state-found}

@@ -1,5 +1,4 @@
-use Rattle.std.proofs.Common.{arith}
-use Rattle.gc_eval.specs.Seats.{job_on}
+use Rattle.gc_eval.proofs.Names.{arith, job_on}
 use Rattle.gc_eval.proofs.RunLemmas.{alone_made, alone_later, answers_found, answers_later}
 use Rattle.gc_eval.proofs.seat.EvalBoard.step_at.Goals as goal
 

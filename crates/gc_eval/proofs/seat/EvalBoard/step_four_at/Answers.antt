@@ -1,5 +1,4 @@
-use Rattle.std.proofs.Common.{arith}
-use Rattle.gc_eval.specs.Views.{Ran}
+use Rattle.gc_eval.proofs.Names.{arith, Ran}
 use Rattle.gc_eval.proofs.RunLemmas.{ran_then, four_made, four_later}
 use Rattle.gc_eval.proofs.seat.EvalBoard.step_four_at.Given.{Over}
 use Rattle.gc_eval.proofs.seat.EvalBoard.step_four_at.Goals.{After-ready-d_found}

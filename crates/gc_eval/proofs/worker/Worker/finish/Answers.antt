@@ -1,5 +1,4 @@
-use Rattle.std.proofs.lemmas.List.Elements.{All-set}
-use Rattle.gc_eval.specs.Workers.{IsWorkerOf}
+use Rattle.gc_eval.proofs.Names.{All-set, IsWorkerOf}
 use Rattle.gc_eval.proofs.worker.Worker.finish.Goals as goal
 
 pub loop-k-preserved : goal.loop-k-preserved
