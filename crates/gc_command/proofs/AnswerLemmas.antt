@@ -1,15 +1,8 @@
 -- What the steps of a command hand on to the next.
-use Rattle.std.proofs.Common.{◌≡◌, Bool, List, length, Option, Result, Ok, Err, is_ok, sum, sym, ap, ◌∙◌}
+use Rattle.gc_command.proofs.Names.{◌≡◌, Bool, List, length, Option, Result, Ok, Err, is_ok, sum, sym, ap, ◌∙◌, length-map-range_with_len, IfSome_then, Netlist, IsLawful, output_wires, AreOutputs, GarbledParts, LabelFileParts, DecodeTo}
 use Rattle.std.specs.Prelude.{IfOk, IfSome, MatchResult}
-use Rattle.std.proofs.lemmas.List.FromFn.{length-map-range_with_len}
-use Rattle.std.proofs.lemmas.Option.{IfSome_then}
-use Rattle.gc_netlist.specs.Circuit.{Netlist, IsLawful, output_wires}
-use Rattle.gc_circuit.specs.Meaning.{AreOutputs}
-use Rattle.gc_format.specs.GarbledFile.{GarbledParts}
-use Rattle.gc_format.specs.LabelFile.{LabelFileParts}
 use Rattle.gc_job.specs.Job.{JobParts}
 use Rattle.gc_job.proofs.OutputLemmas.{bound-whole, length-evaluated}
-use Rattle.gc_command.specs.Job.{DecodeTo}
 
 -- what holds of an answer holds of it where `map_err` passes it on
 pub map_err-ok : {T E D : Type 0} (r : Result T E) (s : Result T D) (Q : E → Type 0)

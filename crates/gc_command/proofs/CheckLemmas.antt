@@ -1,9 +1,6 @@
 -- Lines of `check`, as they are written.
-use Rattle.std.proofs.Common.{◌≡◌, ℕ, ◌≤◌, ◌++◌, List, [], ◌∷◌, length, take, append_assoc, decimal, sym, ap}
-use Rattle.std.proofs.lemmas.List.{take_all}
+use Rattle.gc_command.proofs.Names.{◌≡◌, ℕ, ◌≤◌, ◌++◌, List, [], ◌∷◌, length, take, append_assoc, decimal, sym, ap, take_all, line, numbers_after, line-widths}
 use Rattle.gc_netlist.specs.Spelling.{Name, words_of_widths}
-use Rattle.gc_netlist.specs.Canon.{line}
-use Rattle.gc_canon.proofs.LineLemmas.{numbers_after, line-widths}
 
 -- the last piece of a side's line
 pub widths_done : (text name widths : List ℕ) (i : ℕ) → length widths ≤ i

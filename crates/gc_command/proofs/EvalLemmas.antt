@@ -1,15 +1,6 @@
 -- From what each step of `eval` answers to what it answers as a whole.
-use Rattle.std.proofs.Common.{◌≡◌, ℕ, List, [], ◌∷◌, IfSome, inl, inr, refl, arith}
-use mathlib.Core.Path.{fun_ext}
-use Rattle.gc_netlist.specs.Circuit.{Netlist}
-use Rattle.gc_format.specs.GarbledFile.{GarbledParts, IsGarbledFile}
-use Rattle.gc_format.specs.LabelFile.{LabelFileParts}
-use Rattle.gc_files.specs.Files.{FileBytes}
-use Rattle.gc_command.specs.declared.fault.Fault.{Fault}
+use Rattle.gc_command.proofs.Names.{◌≡◌, ℕ, List, [], ◌∷◌, IfSome, inl, inr, refl, arith, fun_ext, Netlist, GarbledParts, IsGarbledFile, LabelFileParts, FileBytes, Fault, IsCircuit, HasReadingFault, HasJobFault, AreLabelFiles, HasGarbledFault, HasLabelFault, HasLabelsFault, HasFilesFault, AreEvalFiles, HasEvalFault}
 use Rattle.gc_command.specs.declared.fault.Fault.TheVariants as faults
-use Rattle.gc_command.specs.CircuitFile.{IsCircuit, HasReadingFault}
-use Rattle.gc_command.specs.Job.{HasJobFault}
-use Rattle.gc_command.specs.Eval.{AreLabelFiles, HasGarbledFault, HasLabelFault, HasLabelsFault, HasFilesFault, AreEvalFiles, HasEvalFault}
 
 -- The faults of the files of an evaluation: that one can't be read, that one is not well formed, or
 -- want of memory.

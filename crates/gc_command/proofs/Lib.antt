@@ -1,3 +1,4 @@
+pub mod Names
 pub mod WroteLemmas
 pub mod ValuesLemmas
 pub mod AnswerLemmas

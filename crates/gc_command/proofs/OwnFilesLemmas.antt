@@ -1,23 +1,11 @@
 -- The files that a run makes for itself are honest.
-use Rattle.std.proofs.Common.{◌≡◌, ℕ, ◌+◌, ◌<◌, ◌^◌, ◌++◌, ◌∙◌, Bool, List, [], ◌∷◌, length, map, take, get_or, slice_get, Some, inl, inr, length-append, refl, arith}
+use Rattle.gc_command.proofs.Names.{◌≡◌, ℕ, ◌+◌, ◌<◌, ◌^◌, ◌++◌, ◌∙◌, Bool, List, [], ◌∷◌, length, map, take, get_or, slice_get, Some, inl, inr, length-append, refl, arith, common_steps, length-take-le, slice_get-map, slice_get_within, slice_get-get_or, slice_get_read, gets, Netlist, IsLawful, canonical_text, Fits, GarbledParts, IsGarbledFile, LabelFileParts, IsLabelFile, label_file, label_parts_of, honest_parts, one_file, IsHonestGarbled, AreHonestFiles, AreGarbledBytes, AreLabelsOf}
 use Rattle.std.proofs.lemmas.Bool.{cases_eq}
-use Rattle.std.proofs.lemmas.Grind.{common_steps}
-use Rattle.std.proofs.lemmas.List.{length-take-le}
-use Rattle.std.proofs.lemmas.Option.{slice_get-map, slice_get_within, slice_get-get_or, slice_get_read, gets}
 use Rattle.sha2.specs.Sha256.{sha256}
-use Rattle.gc_netlist.specs.Circuit.{Netlist, IsLawful}
-use Rattle.gc_netlist.specs.Canon.{canonical_text}
-use Rattle.gc_circuit.specs.Meaning.{Fits}
 use Rattle.gc_half.proofs.CanonicalLemmas.{IsGarbled-same}
 use Rattle.gc_format.specs.declared.parts.Version.TheVariants.{Two}
-use Rattle.gc_format.specs.GarbledFile.{GarbledParts, IsGarbledFile}
-use Rattle.gc_format.specs.LabelFile.{LabelFileParts, IsLabelFile, label_file, label_parts_of}
-use Rattle.gc_file.specs.Honest.{honest_parts}
-use Rattle.gc_file.proofs.OneFile.{one_file}
 use Rattle.gc_write.proofs.WrittenFiles.{are_files}
-use Rattle.gc_job.specs.Honest.{IsHonestGarbled, AreHonestFiles}
 use Rattle.gc_job.proofs.TakeLemmas.{slice_get-take, slice_get_taken}
-use Rattle.gc_command.specs.OwnFiles.{AreGarbledBytes, AreLabelsOf}
 
 -- The bytes of the garbled file are a garbled file,
 pub own-garbled : (c : Netlist) (seed bytes : List ℕ) → IsLawful c

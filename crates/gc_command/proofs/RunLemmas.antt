@@ -1,17 +1,8 @@
 -- From what each step of a run answers to what it answers as a whole.
-use Rattle.std.proofs.Common.{ℕ, List, Bool, Ok, Err, flat_map, refl, arith}
-use Rattle.gc_netlist.specs.Circuit.{Netlist, IsLawful}
-use Rattle.gc_circuit.specs.Meaning.{AreOutputs}
-use Rattle.gc_format.specs.GarbledFile.{GarbledParts}
-use Rattle.gc_format.specs.LabelFile.{LabelFileParts}
+use Rattle.gc_command.proofs.Names.{ℕ, List, Bool, Ok, Err, flat_map, refl, arith, Netlist, IsLawful, AreOutputs, GarbledParts, LabelFileParts, FirstBindFault, AreHonestFiles, HonestFilesLaw, Fault, DecodeTo, HasJobFault, AreFew}
 use Rattle.gc_job.specs.declared.fault.EvalFault.TheVariants as eval
-use Rattle.gc_job.specs.Binding.{FirstBindFault}
-use Rattle.gc_job.specs.Honest.{AreHonestFiles, HonestFilesLaw}
 use Rattle.gc_job.proofs.HonestFiles.{honest-files}
-use Rattle.gc_command.specs.declared.fault.Fault.{Fault}
 use Rattle.gc_command.specs.declared.fault.Fault.TheVariants as faults
-use Rattle.gc_command.specs.Job.{DecodeTo, HasJobFault}
-use Rattle.gc_gatehouse.specs.Workers.{AreFew}
 use Rattle.gc_command.specs.Run.{HasRunInput, IsWantOfMemory, HasRunFault}
 use Rattle.gc_command.proofs.FaultLemmas.{bind-memory}
 

@@ -1,8 +1,5 @@
 -- Values that texts spell have their widths.
-use Rattle.std.proofs.Common.{◌≡◌, ℕ, Bool, List, [], ◌∷◌, length, map, refl, ap, ap₂, ◌∙◌}
-use Rattle.std.proofs.lemmas.List.FromFn.{length-map-range_with_len}
-use Rattle.gc_value.proofs.ValueLemmas.{value_text_law}
-use Rattle.gc_command.specs.Values.{SpellValues}
+use Rattle.gc_command.proofs.Names.{◌≡◌, ℕ, Bool, List, [], ◌∷◌, length, map, refl, ap, ap₂, ◌∙◌, length-map-range_with_len, value_text_law, SpellValues}
 
 pub SpellValues-widths : (widths : List ℕ) (texts : List (List ℕ)) (values : List (List Bool))
     → SpellValues widths texts values → map length values ≡ widths

@@ -1,15 +1,9 @@
 -- What a command answers where its file is written, and where it can't be.
-use Rattle.std.proofs.Common.{◌≡◌, ℕ, Bool, List, Option, Some, None, length, sym, ap, ◌∙◌}
+use Rattle.gc_command.proofs.Names.{◌≡◌, ℕ, Bool, List, Option, Some, None, length, sym, ap, ◌∙◌, length-map-range_with_len, Netlist, value_text_law, Fault, IsInputValue, AreFew}
 use Rattle.std.specs.Prelude.{IfSome}
 use Rattle.std.specs.List.{slice_get}
-use Rattle.std.proofs.lemmas.List.FromFn.{length-map-range_with_len}
-use Rattle.gc_netlist.specs.Circuit.{Netlist}
-use Rattle.gc_value.proofs.ValueLemmas.{value_text_law}
 use Rattle.gc_half.specs.Garbling.{GarblingParts, IsGarbled, FitsCircuit}
-use Rattle.gc_command.specs.declared.fault.Fault.{Fault}
 use Rattle.gc_command.specs.declared.fault.Fault.TheVariants as faults
-use Rattle.gc_command.specs.Values.{IsInputValue}
-use Rattle.gc_gatehouse.specs.Workers.{AreFew}
 use Rattle.gc_command.specs.Wrote.{IsUnwritten}
 use Rattle.gc_command.specs.Deal.{IsDealInput, HasDealFault}
 use Rattle.gc_command.specs.Garble.{IsGarbleInput, HasGarbleFault}

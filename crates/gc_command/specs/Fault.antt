@@ -10,6 +10,7 @@ use Rattle.gc_work.specs.WorkFault as work
 use Rattle.gc_job.specs.Fault.{bind_code_of, bind_name_of, eval_code_of, eval_name_of}
 use Rattle.gc_files.specs.declared.files.FileError.{FileError}
 use Rattle.gc_files.specs.declared.files.FileError.TheVariants as file
+use Rattle.gc_files.specs.Files.{FailedFiles, HasFailed}
 use Rattle.gc_command.specs.declared.fault.Fault.{Fault}
 use Rattle.gc_command.specs.declared.fault.Fault.TheVariants.{Circuit, WrongCount, Value, BadSeed, NoSuchValue, Garbling, File, Binding, Evaluation, BadList, CannotRead, CannotWrite, Memory}
 
@@ -63,3 +64,11 @@ abbrev pub HasCause : Fault → Type 0 → Type 0 → Type 0
 HasCause CannotRead Reading Writing = Reading
 HasCause CannotWrite Reading Writing = Writing
 HasCause fault Reading Writing = Unit {0}
+
+-- The same where the file of this name is read, and none is written,
+abbrev pub HasReadCause : FailedFiles → FailedFiles → List ℕ → Fault → Type 0
+HasReadCause old new name fault = HasCause fault (HasFailed old new name) ⊥
+
+-- or where the file of this name is written, and none is read.
+abbrev pub HasWriteCause : FailedFiles → FailedFiles → List ℕ → Fault → Type 0
+HasWriteCause old new name fault = HasCause fault ⊥ (HasFailed old new name)

@@ -5,9 +5,8 @@ ghost use Rattle.hex.specs.Hex.{encode_lower};
 ghost use Rattle.gc_netlist.specs.Spelling.{Name, words_of_widths};
 ghost use Rattle.sha2.specs.Sha256.{sha256};
 ghost use Rattle.gc_netlist.specs.Canon.{canonical_text, line};
-ghost use Rattle.gc_files.specs.Files.{HasFailed};
 ghost use Rattle.gc_command.specs.Check.{AnswersCheck, HasCheckFault, check_lines};
-ghost use Rattle.gc_command.specs.Fault.{HasCause};
+ghost use Rattle.gc_command.specs.Fault.{HasReadCause};
 
 use crate::circuit_file::read_circuit_and_digest;
 use crate::fault::Fault;
@@ -30,8 +29,8 @@ pub fn check<R: Threads, A: Allocator + Copy + Send + Sync, F: Files, P: Progres
         (λ bytes. AnswersCheck bytes lines.items)) }
     ensures fault { IfErr result (λ fault. IfSome (F.bytes files.old circuit.now)
         (λ bytes. HasCheckFault bytes fault)) }
-    ensures cause { IfErr result (λ fault. HasCause fault
-        (HasFailed (F.failures files.old) (F.failures files.new) circuit.now) ⊥) }
+    ensures cause { IfErr result
+        (HasReadCause (F.failures files.old) (F.failures files.new) circuit.now) }
     ensures same { (name : List ℕ) → F.bytes files.new name ≡ F.bytes files.old name }
 {
     progress.begin(1, 1, Work::ReadingCircuit);

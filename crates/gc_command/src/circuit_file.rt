@@ -19,7 +19,7 @@ use std::alloc::Allocator;
 use std::thread;
 use std::thread::Threads;
 
-/// The circuit of a file. The file's bytes are let go.
+/// The circuit of a file. The file's bytes are dropped.
 pub fn read_circuit<A: Allocator + Copy, F: Files>(
     alloc: A,
     name: &str,
@@ -59,7 +59,7 @@ impl HashedPart {
     }
 }
 
-/// The circuit of a file, and the digest of its canonical text. The file's bytes are let go. A thread of its own takes
+/// The circuit of a file, and the digest of its canonical text. The file's bytes are dropped. A thread of its own takes
 /// SHA-256 of them while the circuit is read, where one can be started: mostly they are the canonical text.
 pub fn read_circuit_and_digest<R: Threads, A: Allocator + Copy + Send + Sync, F: Files>(
     rt: &R,

@@ -4,8 +4,8 @@ ghost use Rattle.std.specs.Prelude.{◌≡◌, ◌≢◌, ℕ, List, Some, lengt
 ghost use Rattle.gc_format.specs.LabelFile.{label_file, label_parts_of};
 ghost use Rattle.gc_files.specs.Files.{HasFailed};
 ghost use Rattle.gc_command.specs.Deal.{AnswersDeal, HasDealFault};
-ghost use Rattle.gc_command.specs.Wrote.{HasWritten, IsUnwritten};
-ghost use Rattle.gc_command.specs.Fault.{HasCause};
+ghost use Rattle.gc_command.specs.Wrote.{HasWritten, IsUnwritten, KeepsFiles};
+ghost use Rattle.gc_command.specs.Fault.{HasCause, HasWriteCause};
 
 use crate::circuit_file::read_circuit;
 use crate::fault::Fault;
@@ -37,8 +37,7 @@ pub fn deal<A: Allocator + Copy, F: Files>(
         (HasFailed (F.failures files.old) (F.failures files.new) circuit.now)
         (HasFailed (F.failures files.old) (F.failures files.new) out.now)) }
     ensures others { (n : List ℕ) → n ≢ out.now → F.bytes files.new n ≡ F.bytes files.old n }
-    ensures unwritten { IfErr result (λ fault. fault ≢ Fault.CannotWrite
-        → (n : List ℕ) → F.bytes files.new n ≡ F.bytes files.old n) }
+    ensures unwritten { IfErr result (KeepsFiles (F.bytes files.old) (F.bytes files.new)) }
 {
     let circuit = read_circuit(alloc, circuit, files)?;
     let seed = Seed::from_hex(seed)?;
@@ -62,11 +61,10 @@ fn write_value<A: Allocator + Copy, F: Files>(
         (λ _. HasWritten (label_file (label_parts_of circuit.now seed.now index bits.now))
         (F.bytes files.new out.now) lines.items)) }
     ensures fault { IfErr result IsUnwritten }
-    ensures cause { IfErr result (λ fault. HasCause fault ⊥
-        (HasFailed (F.failures files.old) (F.failures files.new) out.now)) }
+    ensures cause { IfErr result
+        (HasWriteCause (F.failures files.old) (F.failures files.new) out.now) }
     ensures others { (n : List ℕ) → n ≢ out.now → F.bytes files.new n ≡ F.bytes files.old n }
-    ensures unwritten { IfErr result (λ fault. fault ≢ Fault.CannotWrite
-        → (n : List ℕ) → F.bytes files.new n ≡ F.bytes files.old n) }
+    ensures unwritten { IfErr result (KeepsFiles (F.bytes files.old) (F.bytes files.new)) }
 {
     let room = Vec::with_capacity(alloc, ROOM)?;
     let mut sink = create_file(files, out)?;

@@ -51,7 +51,7 @@ pub fn read_label_files<N: AsStr, A: Allocator + Copy, F: Files>(
     Ok(labels)
 }
 
-/// The label file of this name. Its bytes are let go.
+/// The label file of this name. Its bytes are dropped.
 fn read_label_file<A: Allocator + Copy, F: Files>(
     alloc: A,
     name: &str,

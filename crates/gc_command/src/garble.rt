@@ -10,8 +10,8 @@ ghost use Rattle.gc_file.specs.Honest.{honest_parts};
 ghost use Rattle.gc_write.specs.Written.{IsWritten};
 ghost use Rattle.gc_files.specs.Files.{HasFailed};
 ghost use Rattle.gc_command.specs.Garble.{AnswersGarble, HasGarbleFault};
-ghost use Rattle.gc_command.specs.Wrote.{HasWritten, IsUnwritten};
-ghost use Rattle.gc_command.specs.Fault.{HasCause};
+ghost use Rattle.gc_command.specs.Wrote.{HasWritten, IsUnwritten, KeepsFiles};
+ghost use Rattle.gc_command.specs.Fault.{HasCause, HasWriteCause};
 
 use crate::circuit_file::{HashedPart, read_and_begin_digest};
 use crate::fault::Fault;
@@ -49,8 +49,7 @@ pub fn garble<R: Threads + Wait + Sync, A: Allocator + Copy + Send + Sync, F: Fi
         (HasFailed (F.failures files.old) (F.failures files.new) circuit.now)
         (HasFailed (F.failures files.old) (F.failures files.new) out.now)) }
     ensures others { (n : List ℕ) → n ≢ out.now → F.bytes files.new n ≡ F.bytes files.old n }
-    ensures unwritten { IfErr result (λ fault. fault ≢ Fault.CannotWrite
-        → (n : List ℕ) → F.bytes files.new n ≡ F.bytes files.old n) }
+    ensures unwritten { IfErr result (KeepsFiles (F.bytes files.old) (F.bytes files.new)) }
 {
     progress.begin(1, 3, Work::ReadingCircuit);
     let (circuit, begun) = read_and_begin_digest(rt, alloc, circuit, files, HashedPart::Beginning)?;
@@ -82,11 +81,10 @@ fn write_garbling<A: Allocator + Copy, F: Files>(
         (λ _. HasWritten (garbled_file (honest_parts version circuit.now garbling.now seed.now))
         (F.bytes files.new out.now) lines.items)) }
     ensures fault { IfErr result IsUnwritten }
-    ensures cause { IfErr result (λ fault. HasCause fault ⊥
-        (HasFailed (F.failures files.old) (F.failures files.new) out.now)) }
+    ensures cause { IfErr result
+        (HasWriteCause (F.failures files.old) (F.failures files.new) out.now) }
     ensures others { (n : List ℕ) → n ≢ out.now → F.bytes files.new n ≡ F.bytes files.old n }
-    ensures unwritten { IfErr result (λ fault. fault ≢ Fault.CannotWrite
-        → (n : List ℕ) → F.bytes files.new n ≡ F.bytes files.old n) }
+    ensures unwritten { IfErr result (KeepsFiles (F.bytes files.old) (F.bytes files.new)) }
 {
     let room = Vec::with_capacity(alloc, ROOM)?;
     let mut sink = create_file(files, out)?;

@@ -4,7 +4,7 @@ ghost use Rattle.std.specs.Prelude.{◌≡◌, Some, length, map, slice_get, IfO
 ghost use Rattle.gc_netlist.specs.Circuit.{IsLawful};
 ghost use Rattle.gc_circuit.specs.Digest.{IsBegun};
 ghost use Rattle.gc_circuit.specs.Meaning.{Fits};
-ghost use Rattle.gc_format.specs.LabelFile.{label_file, label_parts_of};
+ghost use Rattle.gc_format.specs.LabelFile.{label_parts_of};
 ghost use Rattle.gc_job.specs.Honest.{IsHonestGarbled};
 ghost use Rattle.gc_command.specs.OwnFiles.{AreGarbledBytes, AreLabelsOf};
 ghost use Rattle.gc_gatehouse.specs.Workers.{AreFew};
@@ -40,7 +40,7 @@ pub fn own_garbled<R: Threads + Wait + Sync, A: Allocator + Copy + Send + Sync>(
     Ok(read_garbled(alloc, &bytes)?)
 }
 
-/// The bytes of the garbled file. The garbling itself is let go.
+/// The bytes of the garbled file. The garbling itself is dropped.
 fn garbled_bytes<R: Threads + Wait + Sync, A: Allocator + Copy + Send + Sync>(
     rt: &R,
     alloc: A,
@@ -97,24 +97,7 @@ fn own_label_file<A: Allocator + Copy>(
         (λ file. file ≡ label_parts_of circuit.now seed.now index bits.now) }
     ensures fault { IfErr result IsWantOfMemory }
 {
-    let bytes = label_bytes(alloc, circuit, seed, index, bits)?;
-    Ok(read_labels(alloc, &bytes)?)
-}
-
-/// The bytes of the label file of the input value of this index.
-fn label_bytes<A: Allocator + Copy>(
-    alloc: A,
-    circuit: &Circuit<A>,
-    seed: &Seed,
-    index: u32,
-    bits: &[bool],
-) -> Result<Vec<u8, A>, Fault>
-    requires { slice_get circuit.now.input_widths index ≡ Some (length bits.now) }
-    ensures file { IfOk result (λ bytes.
-        bytes.items ≡ label_file (label_parts_of circuit.now seed.now index bits.now)) }
-    ensures fault { IfErr result IsWantOfMemory }
-{
     let mut sink = MemSink::new(alloc, None);
     write_labels(&mut sink, circuit, seed, index, bits).map_err(|_| Fault::Memory)?;
-    Ok(sink.into_bytes())
+    Ok(read_labels(alloc, sink.bytes())?)
 }

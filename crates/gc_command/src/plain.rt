@@ -1,9 +1,8 @@
 //! The command `plain`: evaluating a circuit as it stands, without garbling.
 
 ghost use Rattle.std.specs.Prelude.{◌≡◌, ℕ, List, map, IfOk, IfErr, IfSome, string_bytes};
-ghost use Rattle.gc_files.specs.Files.{HasFailed};
 ghost use Rattle.gc_command.specs.Plain.{AnswersPlain, HasPlainFault};
-ghost use Rattle.gc_command.specs.Fault.{HasCause};
+ghost use Rattle.gc_command.specs.Fault.{HasReadCause};
 
 use crate::circuit_file::read_circuit;
 use crate::fault::Fault;
@@ -24,8 +23,8 @@ pub fn plain<A: Allocator + Copy, F: Files>(
         (λ bytes. AnswersPlain bytes (map string_bytes values.now) lines.items)) }
     ensures fault { IfErr result (λ fault. IfSome (F.bytes files.old circuit.now)
         (λ bytes. HasPlainFault bytes (map string_bytes values.now) fault)) }
-    ensures cause { IfErr result (λ fault. HasCause fault
-        (HasFailed (F.failures files.old) (F.failures files.new) circuit.now) ⊥) }
+    ensures cause { IfErr result
+        (HasReadCause (F.failures files.old) (F.failures files.new) circuit.now) }
     ensures same { (name : List ℕ) → F.bytes files.new name ≡ F.bytes files.old name }
 {
     let circuit = read_circuit(alloc, circuit, files)?;

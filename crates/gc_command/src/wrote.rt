@@ -3,8 +3,8 @@
 ghost use Rattle.std.specs.Prelude.{◌≡◌, ◌<◌, ◌≤◌, ◌+◌, ◌≢◌, ℕ, List, [], Some, IfOk, IfErr, IfSome, OnOk, OnErr, vec_capacity};
 ghost use Rattle.gc_write.specs.Written.{IsWritten};
 ghost use Rattle.gc_files.specs.Files.{HasFailed};
-ghost use Rattle.gc_command.specs.Wrote.{HasWritten, IsUnwritten, wrote_line};
-ghost use Rattle.gc_command.specs.Fault.{HasCause};
+ghost use Rattle.gc_command.specs.Wrote.{HasWritten, IsUnwritten, KeepsFiles, wrote_line};
+ghost use Rattle.gc_command.specs.Fault.{HasWriteCause};
 
 use crate::fault::Fault;
 use gc_file::WriteFault;
@@ -21,11 +21,10 @@ pub fn create_file<F: Files>(files: &mut F, name: &str) -> Result<F::Sink, Fault
         (λ _. F.Sink.taken sink ≡ Some [])) }
     ensures counted { OnOk result (F.failures files.new ≡ F.failures files.old) }
     ensures fault { IfErr result IsUnwritten }
-    ensures cause { IfErr result (λ fault. HasCause fault ⊥
-        (HasFailed (F.failures files.old) (F.failures files.new) name.now)) }
+    ensures cause { IfErr result
+        (HasWriteCause (F.failures files.old) (F.failures files.new) name.now) }
     ensures others { (n : List ℕ) → n ≢ name.now → F.bytes files.new n ≡ F.bytes files.old n }
-    ensures unwritten { IfErr result (λ fault. fault ≢ Fault.CannotWrite
-        → (n : List ℕ) → F.bytes files.new n ≡ F.bytes files.old n) }
+    ensures unwritten { IfErr result (KeepsFiles (F.bytes files.old) (F.bytes files.new)) }
 {
     match files.create(name) {
         Ok(sink) => Ok(sink),

@@ -1,20 +1,13 @@
 -- The lines and the words of a list of jobs.
-use Rattle.std.proofs.Common.{◌≡◌, ℕ, zero, suc, ◌+◌, ◌<◌, ◌≤◌, ◌==◌, ◌++◌, Bool, true, false, cond, not, List, [], ◌∷◌, All, length, map, filter, take, drop, drop-cons, get_or, slice_get, Some, refl, sym, ap, arith}
-use Rattle.std.specs.List.{slice_split, position_or_len}
+use Rattle.gc_jobs.proofs.Names.{◌≡◌, ℕ, zero, suc, ◌+◌, ◌<◌, ◌≤◌, ◌==◌, ◌++◌, Bool, true, false, cond, not, List, [], ◌∷◌, All, length, map, filter, take, drop, drop-cons, get_or, slice_get, Some, refl, sym, ap, arith, slice_split, position_or_len, get_or-map, drop_all, length-drop, length-map, map-append, take_more, slice_get-get_or, is_blank, is_some_run, tokens, tokens-nil, tokens_begin, has_words}
 use Rattle.std.specs.Str.{IsUtf8, IsCharBoundary}
-use Rattle.std.proofs.Math.ListN.{get_or-map}
 use Rattle.std.proofs.lemmas.Bool.Decides.{nat_tests}
-use Rattle.std.proofs.lemmas.List.{drop_all, length-drop, length-map, map-append, take_more}
 use Rattle.std.proofs.lemmas.List.Elements.{All-filter, All-push}
 use Rattle.std.proofs.lemmas.List.Splits.{slice_split_first, slice_split_none}
 use Rattle.std.proofs.lemmas.List.Sums.{passes_at_first, fails_before_first}
-use Rattle.std.proofs.lemmas.Option.{slice_get-get_or}
 use Rattle.std.proofs.lemmas.Str.{IsUtf8-take, IsUtf8-drop, IsCharBoundary-after_ascii}
 use mathlib.Core.Logic.{dite}
 use native.Mathlib.Decide.{dec_le}
-use Rattle.gc_netlist.specs.Text.{is_blank, is_some_run, tokens}
-use Rattle.gc_tokens.proofs.TokenLemmas.{tokens-nil, tokens_begin}
-use Rattle.gc_jobs.specs.JobList.{has_words}
 
 -- A byte that is no blank is in a token,
 first_word : (b : ℕ) (rest : List ℕ) → is_blank b ≡ false → has_words (tokens (b ∷ rest)) ≡ true

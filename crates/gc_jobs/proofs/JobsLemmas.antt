@@ -1,19 +1,11 @@
 -- From what each step of `jobs` answers to what it answers as a whole.
-use Rattle.std.proofs.Common.{◌≡◌, ℕ, ◌+◌, ◌<◌, map, drop, drop-cons, get_or, Bool, List, [], ◌∷◌, IfSome, sum, inl, inr, length, slice_get, Some, sym, ap, ◌∙◌, zero, suc, refl, add-one, arith}
-use mathlib.Core.Path.{fun_ext}
-use Rattle.std.proofs.lemmas.Option.{slice_get_within, slice_get_cases}
+use Rattle.gc_jobs.proofs.Names.{◌≡◌, ℕ, ◌+◌, ◌<◌, map, drop, drop-cons, get_or, Bool, List, [], ◌∷◌, IfSome, sum, inl, inr, length, slice_get, Some, sym, ap, ◌∙◌, zero, suc, refl, add-one, arith, fun_ext, slice_get_within, slice_get_cases, JobParts, AreEvaluated, AreOnOneCircuit, FileBytes, GivesFile, Fault, IsJobList, listed, NameFiles, NameJob, HasNamedFault, NameJobs, FirstBadJob, HasLinesFault, HasListFault, HasJobsFault}
 use Rattle.gc_netlist.specs.Circuit.{Netlist, IsLawful}
 use Rattle.gc_format.specs.GarbledFile.{GarbledParts, IsGarbledFile}
 use Rattle.gc_format.specs.LabelFile.{LabelFileParts}
-use Rattle.gc_job.specs.Job.{JobParts}
-use Rattle.gc_bank.specs.Jobs.{AreEvaluated, AreOnOneCircuit}
-use Rattle.gc_files.specs.Files.{FileBytes, GivesFile}
-use Rattle.gc_command.specs.declared.fault.Fault.{Fault}
 use Rattle.gc_command.specs.declared.fault.Fault.TheVariants as faults
 use Rattle.gc_command.specs.CircuitFile.{IsCircuit, HasReadingFault}
 use Rattle.gc_command.specs.Eval.{AreLabelFiles, HasLabelsFault}
-use Rattle.gc_jobs.specs.JobList.{IsJobList, listed}
-use Rattle.gc_jobs.specs.Jobs.{NameFiles, NameJob, HasNamedFault, NameJobs, FirstBadJob, HasLinesFault, HasListFault, HasJobsFault}
 use Rattle.gc_command.proofs.AnswerLemmas.{length-decoded}
 use Rattle.gc_command.proofs.EvalLemmas.{labels-kind}
 

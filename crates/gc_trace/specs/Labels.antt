@@ -40,7 +40,7 @@ abbrev pub line_of_wire : ℕ → List ℕ → List Bool → ℕ → List ℕ
 line_of_wire r zero_labels bits w =
     wire_line r w (slice_index zero_labels w) (slice_index_or bits w false)
 
--- The wires of a circuit that are set, from one on, by ascending number, as many as asked for at the most.
+-- The wires of a circuit that are set, from one on, by ascending number, at most as many as asked for.
 abbrev pub set_from : Netlist → ℕ → ℕ → List ℕ
 set_from c from count =
     take count (filter (is_set (input_wires c) c.gates) (range_with_len from (c.wires - from)))

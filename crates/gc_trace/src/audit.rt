@@ -108,7 +108,7 @@ fn labels_and_audit<R: Threads + Wait + Sync, A: Allocator + Copy + Send + Sync>
 }
 
 /// The same without the digest. Where the file's counts are right, its row pairs are compared with the garbling's as
-/// these are made, so that both together take hardly more memory than one of them. Else the file is let go before.
+/// these are made, so that both together take hardly more memory than one of them. Else the file is dropped before.
 fn labels_and_parts<R: Threads + Wait + Sync, A: Allocator + Copy + Send + Sync>(
     rt: &R,
     alloc: A,
@@ -279,22 +279,10 @@ fn push_entries<A: Allocator>(
 ) -> Result<(), AllocError>
     ensures { OnOk result (lines.new.items ≡ lines.old.items ++ entries_line version found) }
 {
-    match version {
-        Version::One => Ok(()),
-        Version::Two => push_second_entries(lines, found),
-    }
-}
-
-/// Adds the line of the entries of version 2.
-fn push_second_entries<A: Allocator>(
-    lines: &mut Vec<u8, A>,
-    found: Option<EntryDifference>,
-) -> Result<(), AllocError>
-    ensures { OnOk result (lines.new.items ≡ lines.old.items ++ entries_line Two found) }
-{
-    match found {
-        None => lines.extend_from_slice(b"entries right\n"),
-        Some(difference) => push_entry_difference(lines, difference),
+    match (version, found) {
+        (Version::One, _) => Ok(()),
+        (Version::Two, None) => lines.extend_from_slice(b"entries right\n"),
+        (Version::Two, Some(difference)) => push_entry_difference(lines, difference),
     }
 }
 

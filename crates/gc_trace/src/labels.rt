@@ -2,8 +2,7 @@
 
 ghost use Rattle.std.specs.Prelude.{◌≡◌, ◌<◌, ◌++◌, ◌∷◌, ℕ, List, [], length, map, IfOk, IfErr, IfSome, MatchOption, string_bytes};
 ghost use Rattle.gc_circuit.specs.Meaning.{Fits};
-ghost use Rattle.gc_files.specs.Files.{HasFailed};
-ghost use Rattle.gc_command.specs.Fault.{HasCause};
+ghost use Rattle.gc_command.specs.Fault.{HasReadCause};
 ghost use Rattle.gc_trace.specs.Labels.{AnswersLabels, AreLabelLines, HasLabelsFault, IsWantOfMemory};
 ghost use Rattle.gc_trace.specs.Labels.{label_digits, wire_line};
 
@@ -52,7 +51,7 @@ impl<A: Allocator> Model for LabelLines<A> {
 }
 
 /// Reads the circuit of a file, the seed and the values, garbles the circuit on one thread, and answers the lines of
-/// its set wires from `from` on, `count` at the most: each wire's number, its zero label, its active label for the
+/// its set wires from `from` on, at most `count`: each wire's number, its zero label, its active label for the
 /// values, and its bit.
 pub fn labels<A: Allocator + Copy, F: Files>(
     alloc: A,
@@ -67,8 +66,8 @@ pub fn labels<A: Allocator + Copy, F: Files>(
         (λ bytes. AnswersLabels bytes seed.now from count (map string_bytes values.now) lines)) }
     ensures fault { IfErr result (λ fault. IfSome (F.bytes files.old circuit.now)
         (λ bytes. HasLabelsFault bytes seed.now (map string_bytes values.now) fault)) }
-    ensures cause { IfErr result (λ fault. HasCause fault
-        (HasFailed (F.failures files.old) (F.failures files.new) circuit.now) ⊥) }
+    ensures cause { IfErr result
+        (HasReadCause (F.failures files.old) (F.failures files.new) circuit.now) }
     ensures same { (name : List ℕ) → F.bytes files.new name ≡ F.bytes files.old name }
 {
     let circuit = read_circuit(alloc, circuit, files)?;
@@ -77,7 +76,7 @@ pub fn labels<A: Allocator + Copy, F: Files>(
     lines_of(alloc, &circuit, &seed, &values, from, count)
 }
 
-/// The lines of the circuit's wires under a seed for these values. The row pairs are let go before the bits are made.
+/// The lines of the circuit's wires under a seed for these values. The row pairs are dropped before the bits are made.
 /// That the values fit the circuit is the caller's condition.
 fn lines_of<A: Allocator + Copy>(
     alloc: A,

@@ -1,8 +1,7 @@
 //! The command `locate`: where the first fault of a circuit's text is.
 
 ghost use Rattle.std.specs.Prelude.{◌≡◌, ◌++◌, ℕ, List, Option, IfOk, IfErr, IfSome, OnOk};
-ghost use Rattle.gc_files.specs.Files.{HasFailed};
-ghost use Rattle.gc_command.specs.Fault.{HasCause};
+ghost use Rattle.gc_command.specs.Fault.{HasReadCause};
 ghost use Rattle.gc_trace.specs.Locate.{AnswersLocate, HasLocateFault, fault_line, located_lines, optional_line};
 
 use crate::lines::push_word;
@@ -21,8 +20,8 @@ pub fn locate<A: Allocator + Copy, F: Files>(
         (λ bytes. AnswersLocate bytes lines.items)) }
     ensures fault { IfErr result (λ fault. IfSome (F.bytes files.old circuit.now)
         (λ bytes. HasLocateFault bytes fault)) }
-    ensures cause { IfErr result (λ fault. HasCause fault
-        (HasFailed (F.failures files.old) (F.failures files.new) circuit.now) ⊥) }
+    ensures cause { IfErr result
+        (HasReadCause (F.failures files.old) (F.failures files.new) circuit.now) }
     ensures same { (name : List ℕ) → F.bytes files.new name ≡ F.bytes files.old name }
 {
     let text = files.read(alloc, circuit)?;

@@ -10,7 +10,7 @@ use gc_circuit::{Circuit, Memory};
 use std::alloc::{Allocator, Global};
 use std::marker::Model;
 
-/// The wires of a circuit that are set, one after another, from one on and as many as asked for at the most.
+/// The wires of a circuit that are set, one after another, from one on and at most as many as asked for.
 #[derive(Drop)]
 pub(crate) struct SetWires<A: Allocator = Global> {
     is_set: Vec<bool, A>,
@@ -35,7 +35,7 @@ impl<A: Allocator> Model for SetWires<A> {
 }
 
 impl<A: Allocator> SetWires<A> {
-    /// The wires that are set from `from` on, `count` at the most. It takes memory once, a flag for each wire.
+    /// The wires that are set from `from` on, at most `count`. It takes memory once, a flag for each wire.
     pub(crate) fn new<C: Allocator>(
         alloc: A,
         circuit: &Circuit<C>,

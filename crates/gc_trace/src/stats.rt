@@ -1,8 +1,7 @@
 //! The command `stats`: the numbers of a circuit's gates, its depths, and the bytes of its garbled files.
 
 ghost use Rattle.std.specs.Prelude.{◌≡◌, ℕ, List, IfOk, IfErr, IfSome};
-ghost use Rattle.gc_files.specs.Files.{HasFailed};
-ghost use Rattle.gc_command.specs.Fault.{HasCause};
+ghost use Rattle.gc_command.specs.Fault.{HasReadCause};
 ghost use Rattle.gc_trace.specs.Stats.{AnswersStats, HasStatsFault, stats_lines};
 
 use gc_circuit::ReadFault;
@@ -21,8 +20,8 @@ pub fn stats<A: Allocator + Copy, F: Files>(
         (λ bytes. AnswersStats bytes lines.items)) }
     ensures fault { IfErr result (λ fault. IfSome (F.bytes files.old circuit.now)
         (λ bytes. HasStatsFault bytes fault)) }
-    ensures cause { IfErr result (λ fault. HasCause fault
-        (HasFailed (F.failures files.old) (F.failures files.new) circuit.now) ⊥) }
+    ensures cause { IfErr result
+        (HasReadCause (F.failures files.old) (F.failures files.new) circuit.now) }
     ensures same { (name : List ℕ) → F.bytes files.new name ≡ F.bytes files.old name }
 {
     let circuit = read_circuit(alloc, circuit, files)?;

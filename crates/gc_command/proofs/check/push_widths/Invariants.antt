@@ -1,5 +1,4 @@
-use Rattle.std.proofs.Common.{◌≡◌, ◌++◌, ◌∷◌, length, decimal, take}
-use Rattle.gc_canon.proofs.LineLemmas.{numbers_after}
+use Rattle.gc_command.proofs.Names.{◌≡◌, ◌++◌, ◌∷◌, length, decimal, take, numbers_after}
 use Rattle.gc_command.proofs.check.push_widths.Given as goal
 
 abbrev pub invariant-loop-width : goal.invariant-loop-width

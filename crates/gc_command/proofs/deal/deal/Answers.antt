@@ -1,6 +1,4 @@
-use Rattle.std.proofs.Common.{◌∙◌, refl}
-use Rattle.std.proofs.lemmas.Option.{IfSome_then}
-use Rattle.std.proofs.lemmas.Result.{IfOk-weaker, IfErr-weaker}
+use Rattle.gc_command.proofs.Names.{◌∙◌, refl, IfSome_then, IfOk-weaker, IfErr-weaker}
 use Rattle.gc_command.proofs.CauseLemmas.{cause-writing}
 use Rattle.gc_command.proofs.WroteLemmas.{IfSome-both, input_value-width, deal-unwritten}
 use Rattle.gc_command.proofs.deal.deal.Goals as goal

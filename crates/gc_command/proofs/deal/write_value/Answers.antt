@@ -1,5 +1,4 @@
-use Rattle.std.proofs.lemmas.Option.{IfSome_then}
-use Rattle.std.proofs.lemmas.Result.{IfOk-weaker}
+use Rattle.gc_command.proofs.Names.{IfSome_then, IfOk-weaker}
 use Rattle.gc_command.proofs.deal.write_value.Goals as goal
 
 pub returns-clause-written : goal.returns-clause-written

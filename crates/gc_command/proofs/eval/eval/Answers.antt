@@ -1,8 +1,4 @@
-use Rattle.std.proofs.Common.{map, string_bytes, inl, inr, ap₂, ◌∙◌}
-use mathlib.Core.Path.{fun_ext}
-use Rattle.std.proofs.lemmas.Result.{err_from_is_err_and}
-use Rattle.gc_files.specs.Files.{HasFailed}
-use Rattle.gc_command.specs.Lines.{output_lines}
+use Rattle.gc_command.proofs.Names.{map, string_bytes, inl, inr, ap₂, ◌∙◌, fun_ext, err_from_is_err_and, HasFailed, output_lines}
 use Rattle.gc_command.proofs.AnswerLemmas.{length-decoded}
 use Rattle.gc_command.proofs.EvalLemmas.{eval-files, circuit-fault, files-fault, job-fault}
 use Rattle.gc_command.proofs.eval.eval.Goals as goal

@@ -1,6 +1,4 @@
-use Rattle.std.proofs.Common.{◌≡◌, [], drop, arith}
-use Rattle.std.proofs.lemmas.List.{append-nil, drop_all}
-use Rattle.std.proofs.lemmas.Result.{err_from_is_err_and}
+use Rattle.gc_command.proofs.Names.{◌≡◌, [], drop, arith, append-nil, drop_all, err_from_is_err_and}
 use Rattle.gc_command.proofs.EvalLemmas.{labels-memory}
 use Rattle.gc_command.proofs.evaluated_files.read_label_files.Goals as goal
 

@@ -1,8 +1,4 @@
-use Rattle.std.proofs.Common.{◌≡◌, ℕ, ◌++◌, List, drop, map}
-use Rattle.gc_format.specs.LabelFile.{LabelFileParts}
-use Rattle.gc_files.specs.Files.{FailedFiles, HasFailed}
-use Rattle.gc_command.specs.declared.fault.Fault.{Fault}
-use Rattle.gc_command.specs.Eval.{AreLabelFiles, HasLabelsFault}
+use Rattle.gc_command.proofs.Names.{◌≡◌, ℕ, ◌++◌, List, drop, map, LabelFileParts, FailedFiles, HasFailed, Fault, AreLabelFiles, HasLabelsFault}
 use Rattle.gc_command.proofs.evaluated_files.read_label_files.Given as goal
 
 -- What holds of the files that are left holds of all.

@@ -1,6 +1,4 @@
-use Rattle.std.proofs.Common.{◌∙◌, refl}
-use Rattle.std.proofs.lemmas.Result.{IfOk-weaker, IfErr-weaker}
-use Rattle.gc_command.specs.CircuitFile.{IsCircuit}
+use Rattle.gc_command.proofs.Names.{◌∙◌, refl, IfOk-weaker, IfErr-weaker, IsCircuit}
 use Rattle.gc_command.proofs.AnswerLemmas.{IfSome-map}
 use Rattle.gc_command.proofs.CauseLemmas.{cause-writing}
 use Rattle.gc_command.proofs.WroteLemmas.{IfSome-both, garble-unwritten, garbled-fits}

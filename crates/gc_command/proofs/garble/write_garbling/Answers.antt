@@ -1,6 +1,4 @@
-use Rattle.std.proofs.lemmas.Result.{IfOk-weaker}
-use Rattle.gc_format.specs.GarbledFile.{garbled_file}
-use Rattle.gc_file.specs.Honest.{honest_parts}
+use Rattle.gc_command.proofs.Names.{IfOk-weaker, garbled_file, honest_parts}
 use Rattle.gc_command.proofs.AnswerLemmas.{IfSome-map}
 use Rattle.gc_command.proofs.garble.write_garbling.Goals as goal
 

@@ -1,5 +1,4 @@
-use Rattle.std.proofs.Common.{sym, ◌∙◌}
-use Rattle.gc_job.specs.Binding.{other_circuit}
+use Rattle.gc_command.proofs.Names.{sym, ◌∙◌, other_circuit}
 use Rattle.gc_job.proofs.BindLemmas.{other_digest}
 use Rattle.gc_command.proofs.job.finish_digest_and_evaluate.Goals as goal
 

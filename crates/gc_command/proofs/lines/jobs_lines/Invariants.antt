@@ -1,5 +1,4 @@
-use Rattle.std.proofs.Common.{◌≡◌, ◌++◌, drop, map}
-use Rattle.gc_command.specs.Lines.{jobs_lines}
+use Rattle.gc_command.proofs.Names.{◌≡◌, ◌++◌, drop, map, jobs_lines}
 use Rattle.gc_command.proofs.lines.jobs_lines.Given as goal
 
 -- The lines so far and those of what is left are the lines of all.

@@ -1,5 +1,4 @@
-use Rattle.std.proofs.Common.{◌≡◌, ◌++◌, drop, length, sum}
-use Rattle.gc_command.specs.Lines.{output_lines}
+use Rattle.gc_command.proofs.Names.{◌≡◌, ◌++◌, drop, length, sum, output_lines}
 use Rattle.gc_command.proofs.lines.push_output_lines.Given as goal
 
 -- The lines so far and those of what is left are the lines of all.

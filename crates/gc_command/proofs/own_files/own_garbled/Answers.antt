@@ -1,6 +1,4 @@
-use Rattle.std.proofs.lemmas.Result.{err_from_is_err_and}
-use Rattle.gc_read.specs.FileFault.{FirstFault}
-use Rattle.gc_file.proofs.OneFile.{file_not_fault}
+use Rattle.gc_command.proofs.Names.{err_from_is_err_and, FirstFault, file_not_fault}
 use Rattle.gc_command.proofs.FaultLemmas.{file-memory}
 use Rattle.gc_command.proofs.OwnFilesLemmas.{own-garbled, own-parts}
 use Rattle.gc_command.proofs.own_files.own_garbled.Goals as goal

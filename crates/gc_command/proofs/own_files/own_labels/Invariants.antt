@@ -1,5 +1,4 @@
-use Rattle.std.proofs.Common.{take, map}
-use Rattle.gc_command.specs.OwnFiles.{AreLabelsOf}
+use Rattle.gc_command.proofs.Names.{take, map, AreLabelsOf}
 use Rattle.gc_command.proofs.own_files.own_labels.Given as goal
 
 abbrev pub invariant-loop-i : goal.invariant-loop-i

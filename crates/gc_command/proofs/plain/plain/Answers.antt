@@ -1,7 +1,5 @@
-use Rattle.std.proofs.Common.{map, ap₂, ◌∙◌}
+use Rattle.gc_command.proofs.Names.{map, ap₂, ◌∙◌, IsCircuit, output_lines}
 use Rattle.std.proofs.lemmas.List.Folds.{flat_map-map}
-use Rattle.gc_command.specs.CircuitFile.{IsCircuit}
-use Rattle.gc_command.specs.Lines.{output_lines}
 use Rattle.gc_command.proofs.AnswerLemmas.{IfSome-map, map_err-ok, length-outputs}
 use Rattle.gc_command.proofs.ValuesLemmas.{SpellValues-widths}
 use Rattle.gc_command.proofs.plain.plain.Goals as goal

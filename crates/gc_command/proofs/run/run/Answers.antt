@@ -1,8 +1,4 @@
-use Rattle.std.proofs.Common.{map, refl, ap₂, ◌∙◌}
-use Rattle.std.proofs.lemmas.Option.{IfSome_then}
-use Rattle.std.proofs.lemmas.Result.{err_from_is_err_and}
-use Rattle.gc_command.specs.CircuitFile.{IsCircuit}
-use Rattle.gc_command.specs.Lines.{output_lines}
+use Rattle.gc_command.proofs.Names.{map, refl, ap₂, ◌∙◌, IfSome_then, err_from_is_err_and, IsCircuit, output_lines}
 use Rattle.gc_command.proofs.AnswerLemmas.{IfSome-map, length-decoded}
 use Rattle.gc_command.proofs.ValuesLemmas.{SpellValues-widths}
 use Rattle.gc_command.proofs.OwnFilesLemmas.{own-digest, own-honest}

@@ -1,5 +1,4 @@
-use Rattle.std.proofs.Common.{◌≡◌, [], drop, arith}
-use Rattle.std.proofs.lemmas.List.{append-nil, drop_all}
+use Rattle.gc_command.proofs.Names.{◌≡◌, [], drop, arith, append-nil, drop_all}
 use Rattle.gc_command.proofs.values.read_values.Goals as goal
 
 pub returns-clause-spelled : goal.returns-clause-spelled

@@ -1,6 +1,5 @@
-use Rattle.std.proofs.Common.{◌++◌, List, Bool, drop, map, string_bytes}
+use Rattle.gc_command.proofs.Names.{◌++◌, List, Bool, drop, map, string_bytes, SpellValues, FirstBadValue}
 use Rattle.gc_value.specs.declared.value.ValueFault.{ValueFault}
-use Rattle.gc_command.specs.Values.{SpellValues, FirstBadValue}
 use Rattle.gc_command.proofs.values.read_values.Given as goal
 
 -- What the texts that are left spell is part of what all spell.

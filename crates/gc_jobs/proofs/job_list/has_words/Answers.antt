@@ -1,7 +1,4 @@
-use Rattle.std.proofs.Common.{sym, ap, ◌∙◌}
-use Rattle.gc_netlist.specs.Text.{tokens}
-use Rattle.gc_tokens.proofs.TokenLemmas.{blank_passed}
-use Rattle.gc_jobs.specs.JobList.{has_words}
+use Rattle.gc_jobs.proofs.Names.{sym, ap, ◌∙◌, tokens, blank_passed, has_words}
 use Rattle.gc_jobs.proofs.JobListLemmas.{some_word, no_word}
 use Rattle.gc_jobs.proofs.job_list.has_words.Goals as goal
 

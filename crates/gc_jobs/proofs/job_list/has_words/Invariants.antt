@@ -1,5 +1,4 @@
-use Rattle.std.proofs.Common.{◌≡◌, drop}
-use Rattle.gc_netlist.specs.Text.{tokens}
+use Rattle.gc_jobs.proofs.Names.{◌≡◌, drop, tokens}
 use Rattle.gc_jobs.proofs.job_list.has_words.Given as goal
 
 -- No blank is in a token.

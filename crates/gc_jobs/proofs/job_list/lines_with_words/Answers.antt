@@ -1,9 +1,4 @@
-use Rattle.std.proofs.Common.{rules, tests, map, ap, ◌∙◌, lit<}
-use Rattle.std.proofs.lemmas.Iterator.Consumers.{YieldsList-at, YieldsList-from_filter, map_from_collect}
-use Rattle.std.proofs.lemmas.Iterator.Splits.{YieldsList-from_str_split}
-use Rattle.std.proofs.lemmas.Result.{IfOk-weaker}
-use Rattle.gc_netlist.specs.Text.{tokens}
-use Rattle.gc_jobs.specs.JobList.{has_words}
+use Rattle.gc_jobs.proofs.Names.{rules, tests, map, ap, ◌∙◌, lit<, YieldsList-at, YieldsList-from_filter, map_from_collect, YieldsList-from_str_split, IfOk-weaker, tokens, has_words}
 use Rattle.gc_jobs.proofs.JobListLemmas.{map-shown}
 use Rattle.gc_jobs.proofs.job_list.lines_with_words.Goals as goal
 

@@ -1,7 +1,4 @@
-use Rattle.std.proofs.Common.{rules, tests}
-use Rattle.std.proofs.lemmas.Iterator.Consumers.{YieldsList-at, YieldsList-from_filter, map_from_collect}
-use Rattle.std.proofs.lemmas.Iterator.Splits.{YieldsList-from_slice_split}
-use Rattle.gc_netlist.specs.Text.{is_blank, is_some_run, tokens}
+use Rattle.gc_jobs.proofs.Names.{rules, tests, YieldsList-at, YieldsList-from_filter, map_from_collect, YieldsList-from_slice_split, is_blank, is_some_run, tokens}
 use Rattle.gc_jobs.proofs.JobListLemmas.{is_run}
 use Rattle.gc_jobs.proofs.job_list.tokens_of.Goals as goal
 

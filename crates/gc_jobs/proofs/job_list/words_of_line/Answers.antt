@@ -1,6 +1,4 @@
-use Rattle.std.proofs.Common.{List, map, arith, ap, ◌∙◌}
-use Rattle.std.proofs.lemmas.List.{length-map, take_all}
-use Rattle.gc_netlist.specs.Text.{tokens}
+use Rattle.gc_jobs.proofs.Names.{List, map, arith, ap, ◌∙◌, length-map, take_all, tokens}
 use Rattle.gc_jobs.proofs.JobListLemmas.{utf8_token, word_more}
 use Rattle.gc_jobs.proofs.job_list.words_of_line.Goals as goal
 

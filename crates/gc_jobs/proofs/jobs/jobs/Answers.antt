@@ -1,9 +1,4 @@
-use Rattle.std.proofs.Common.{map, length, option_map, Err, ap, ap₂, ◌∙◌, sym, subst, arith}
-use mathlib.Core.Path.{fun_ext}
-use Rattle.std.proofs.lemmas.Option.{slice_get-get_or, slice_get-map}
-use Rattle.std.proofs.lemmas.Result.{err_from_is_err_and}
-use Rattle.gc_bank.specs.Jobs.{AreEvaluatedBy, AreOnOneCircuit}
-use Rattle.gc_files.specs.Files.{HasFailed}
+use Rattle.gc_jobs.proofs.Names.{map, length, option_map, Err, ap, ap₂, ◌∙◌, sym, subst, arith, fun_ext, slice_get-get_or, slice_get-map, err_from_is_err_and, AreEvaluatedBy, AreOnOneCircuit, HasFailed}
 use Rattle.gc_command.specs.Lines.{jobs_lines}
 use Rattle.gc_jobs.proofs.JobsLemmas.{jobs-circuit-fault, jobs-list-fault, length-listed, named_count, named_on_one}
 use Rattle.gc_jobs.proofs.jobs.jobs.Goals as goal

@@ -1,5 +1,4 @@
-use mathlib.Core.Path.{fun_ext}
-use Rattle.std.proofs.lemmas.Result.{err_from_is_err_and}
+use Rattle.gc_jobs.proofs.Names.{fun_ext, err_from_is_err_and}
 use Rattle.gc_jobs.proofs.JobsLemmas.{parted, name-files, labels-named}
 use Rattle.gc_jobs.proofs.listed_job.read_job.Goals as goal
 

@@ -1,9 +1,4 @@
-use Rattle.std.proofs.Common.{◌≡◌, ◌+◌, [], ◌∷◌, inr, drop, map, ◌∙◌, arith, append_assoc}
-use Rattle.std.proofs.Math.ListN.{get_or-map}
-use mathlib.Core.Path.{fun_ext}
-use Rattle.std.proofs.lemmas.List.{append-nil, drop_all, length-map}
-use Rattle.std.proofs.lemmas.Result.{err_from_is_err_and}
-use Rattle.gc_netlist.specs.Text.{tokens}
+use Rattle.gc_jobs.proofs.Names.{◌≡◌, ◌+◌, [], ◌∷◌, inr, drop, map, ◌∙◌, arith, append_assoc, get_or-map, fun_ext, append-nil, drop_all, length-map, err_from_is_err_and, tokens}
 use Rattle.gc_jobs.proofs.JobsLemmas.{line-next, lines-fault}
 use Rattle.gc_jobs.proofs.listed_job.read_jobs.Goals as goal
 

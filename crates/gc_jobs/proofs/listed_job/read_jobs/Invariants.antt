@@ -1,9 +1,4 @@
-use Rattle.std.proofs.Common.{◌≡◌, ℕ, ◌++◌, List, drop, map}
-use Rattle.gc_netlist.specs.Text.{tokens}
-use Rattle.gc_job.specs.Job.{JobParts}
-use Rattle.gc_files.specs.Files.{FailedFiles, HasFailed}
-use Rattle.gc_command.specs.declared.fault.Fault.{Fault}
-use Rattle.gc_jobs.specs.Jobs.{NameJobs, FirstBadJob}
+use Rattle.gc_jobs.proofs.Names.{◌≡◌, ℕ, ◌++◌, List, drop, map, tokens, JobParts, FailedFiles, HasFailed, Fault, NameJobs, FirstBadJob}
 use Rattle.gc_jobs.proofs.listed_job.read_jobs.Given as goal
 
 -- What the lines that are left name, all of them name.

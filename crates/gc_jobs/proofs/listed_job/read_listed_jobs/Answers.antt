@@ -1,7 +1,4 @@
-use Rattle.std.proofs.Common.{◌==◌}
-use mathlib.Core.Path.{fun_ext}
-use Rattle.std.specs.List.{slice_split}
-use Rattle.std.proofs.lemmas.Result.{IfOk-weaker, IfErr-weaker}
+use Rattle.gc_jobs.proofs.Names.{◌==◌, fun_ext, slice_split, IfOk-weaker, IfErr-weaker}
 use Rattle.gc_jobs.proofs.JobListLemmas.{all_have_words}
 use Rattle.gc_jobs.proofs.JobsLemmas.{list-fault}
 use Rattle.gc_jobs.proofs.listed_job.read_listed_jobs.Goals as goal
