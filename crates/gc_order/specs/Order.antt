@@ -41,14 +41,6 @@ number_option id low high default =
 abbrev pub workers_option : Rule
 workers_option = number_option (codes "workers") 0 4294967295 (codes "1")
 
--- the option `--from FROM`
-abbrev pub from_option : Rule
-from_option = number_option (codes "from") 0 4294967295 (codes "0")
-
--- the option `--count COUNT`: no circuit has as many wires as its default
-abbrev pub count_option : Rule
-count_option = number_option (codes "count") 0 4294967295 (codes "4294967295")
-
 -- a command whose first word is a circuit's file
 abbrev pub command_on_circuit : List ℕ → App
 command_on_circuit name = with_rule (new_app name) (required_word (codes "circuit"))
@@ -108,11 +100,13 @@ jobs_command =
     let with_list = with_rule (command_on_circuit (codes "jobs")) (required_word (codes "list")) in
     with_rule with_list workers_option
 
--- `labels CIRCUIT SEED [--from FROM] [--count COUNT] [VALUES]...`
+-- `labels CIRCUIT SEED [--from FROM] [--count COUNT] [VALUES]...`: no circuit has as many wires as COUNT is by default
 abbrev pub labels_command : App
 labels_command =
-    let with_from = with_rule (command_with_seed (codes "labels")) from_option in
-    let with_count = with_rule with_from count_option in
+    let from = number_option (codes "from") 0 4294967295 (codes "0") in
+    let with_from = with_rule (command_with_seed (codes "labels")) from in
+    let count = number_option (codes "count") 0 4294967295 (codes "4294967295") in
+    let with_count = with_rule with_from count in
     with_rule with_count (more_words (codes "values"))
 
 -- `audit CIRCUIT SEED GARBLED [--workers WORKERS] [LABELS]...`

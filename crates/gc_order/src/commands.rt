@@ -4,18 +4,20 @@ ghost use Rattle.std.specs.Prelude.{IfOk, codes};
 ghost use Rattle.clap.specs.Words.{App, Rule, new_rule, with_rule, with_subcommand};
 ghost use Rattle.gc_order.specs.Order.{HasRule, HasShape, audit_command, check_command};
 ghost use Rattle.gc_order.specs.Order.{circuit_program, command_on_circuit, command_with_seed};
-ghost use Rattle.gc_order.specs.Order.{count_option, deal_command, eval_command, file_program};
-ghost use Rattle.gc_order.specs.Order.{from_option, garble_command, jobs_command, labels_command};
-ghost use Rattle.gc_order.specs.Order.{locate_command, more_words, named_program, number_option};
-ghost use Rattle.gc_order.specs.Order.{number_word, plain_command, program, required_word};
-ghost use Rattle.gc_order.specs.Order.{run_command, stats_command, workers_option};
+ghost use Rattle.gc_order.specs.Order.{deal_command, eval_command, file_program, garble_command};
+ghost use Rattle.gc_order.specs.Order.{jobs_command, labels_command, locate_command, more_words};
+ghost use Rattle.gc_order.specs.Order.{named_program, number_option, plain_command, program};
+ghost use Rattle.gc_order.specs.Order.{required_word, run_command, stats_command, workers_option};
 
 use clap::builder::ValueParser;
 use clap::{Arg, ArgAction, Command};
 use std::alloc::{AllocError, Global};
 
 /// The version of the program.
-const VERSION: &str = "0.5.1";
+const VERSION: &str = "0.5.2";
+
+/// The greatest number that a word or an option takes. No circuit has as many wires.
+const MOST: u64 = 4_294_967_295;
 
 const RUN_HELP: &str = "\
 Prints the output values, one per line: a character 0 or 1 for each wire, in wire order.
@@ -33,10 +35,9 @@ Example:
   halfgates check adder.txt";
 
 const LOCATE_HELP: &str = "\
-Prints `no fault` where the text spells a circuit. Elsewhere it prints `fault` with the code and \
-the name of the first fault, `line` and `column` with its place, `gate` with the gate that it is \
-in, if it is in one, and `wire` with the wire that it is about, if it is about one. Lines and \
-columns are counted from 1, and gates from 0. A column is a byte.
+Prints `no fault` where the text spells a circuit. Otherwise it prints `fault` with the code and \
+the name of the first fault, `line` and `column` with its place and, where they apply, `gate` and \
+`wire`. Lines and columns are counted from 1, and gates from 0. A column is a byte.
 
 Example:
   halfgates locate adder.txt";
@@ -92,8 +93,8 @@ Example, with a full adder in adder.txt that reads three bits, and the line \
 
 const LABELS_HELP: &str = "\
 Prints a line for each wire that is set, in wire order: the wire, its zero label, its active label \
-for these values, and its bit. A label has 32 hexadecimal digits. These lines tell the values and \
-the labels: keep them as secret as the seed.
+for these values, and its bit. A label has 32 hexadecimal digits. These lines reveal the values \
+and the labels: keep them as secret as the seed.
 
 Example, with a full adder in adder.txt that reads three bits, for the two wires from wire 6 on:
   halfgates labels adder.txt 0000000000000000000000000000000000000000000000000000000000000000 \
@@ -111,11 +112,17 @@ Example, with a full adder in adder.txt and the label file of its first input va
   halfgates audit adder.txt 0000000000000000000000000000000000000000000000000000000000000000 \
 adder.garbled first.labels";
 
+const CIRCUIT_HELP: &str = "The file of the circuit, in Bristol Fashion";
+
+const LIST_HELP: &str = "The file with the list of jobs";
+
 const LABEL_FILES_HELP: &str = "A label file for each input value of the circuit, in any order";
 
 const AUDITED_HELP: &str = "Label files of the circuit, any number of them, in any order";
 
 const SEED_HELP: &str = "The seed of the garbling: 64 hexadecimal digits";
+
+const INDEX_HELP: &str = "The index of the input value, counted from 0";
 
 const VALUE_HELP: &str = "\
 The input value: a character 0 or 1 for each wire, in wire order, or x and two hexadecimal digits \
@@ -124,6 +131,13 @@ for each 8 wires, of which the first wire is the lowest bit";
 const VALUES_HELP: &str = "\
 A value for each input value of the circuit: a character 0 or 1 for each wire, in wire order, or x \
 and two hexadecimal digits for each 8 wires, of which the first wire is the lowest bit";
+
+const FORMAT_HELP: &str = "\
+The version of the garbled file, 1 or 2: with version 2 `eval` detects wrong output labels";
+
+const FROM_HELP: &str = "The first wire to print, counted from 0";
+
+const COUNT_HELP: &str = "How many lines to print at most, by default all";
 
 /// The program, with its commands.
 pub(crate) fn halfgates<'a>(alloc: Global) -> Result<Command<'a>, AllocError>
@@ -233,7 +247,8 @@ fn garble<'a>(alloc: Global) -> Result<Command<'a>, AllocError>
     let about = "Garbles a circuit into a file";
     let command = command_with_seed(alloc, "garble", about, GARBLE_HELP);
     let command = with_arg(command, out_arg(alloc, "The garbled file to write"));
-    let command = with_arg(command, format_arg(alloc));
+    let format = number_arg(alloc, "format", "FORMAT", FORMAT_HELP, 1, 2, "2");
+    let command = with_arg(command, format);
     with_arg(command, workers_arg(alloc))
 }
 
@@ -243,8 +258,9 @@ fn deal<'a>(alloc: Global) -> Result<Command<'a>, AllocError>
 {
     let about = "Writes the labels of an input value into a file";
     let command = command_with_seed(alloc, "deal", about, DEAL_HELP);
-    let command = with_arg(command, index_arg(alloc));
-    let command = with_arg(command, value_arg(alloc));
+    let index = word_arg(alloc, "index", "INDEX", INDEX_HELP);
+    let command = with_arg(command, index.value_parser(ValueParser::unsigned(0, MOST)));
+    let command = with_arg(command, word_arg(alloc, "value", "VALUE", VALUE_HELP));
     with_arg(command, out_arg(alloc, "The label file to write"))
 }
 
@@ -265,7 +281,7 @@ fn jobs<'a>(alloc: Global) -> Result<Command<'a>, AllocError>
 {
     let about = "Evaluates a list of garbled files of one circuit";
     let command = command_on_circuit(alloc, "jobs", about, JOBS_HELP);
-    let command = with_arg(command, list_arg(alloc));
+    let command = with_arg(command, word_arg(alloc, "list", "LIST", LIST_HELP));
     with_arg(command, workers_arg(alloc))
 }
 
@@ -275,8 +291,10 @@ fn labels<'a>(alloc: Global) -> Result<Command<'a>, AllocError>
 {
     let about = "Prints the labels and the bits of a circuit's wires for the given values";
     let command = command_with_seed(alloc, "labels", about, LABELS_HELP);
-    let command = with_arg(command, from_arg(alloc));
-    let command = with_arg(command, count_arg(alloc));
+    let from = number_arg(alloc, "from", "FROM", FROM_HELP, 0, MOST, "0");
+    let command = with_arg(command, from);
+    let count = number_arg(alloc, "count", "COUNT", COUNT_HELP, 0, MOST, "4294967295");
+    let command = with_arg(command, count);
     with_arg(command, values_arg(alloc))
 }
 
@@ -303,7 +321,7 @@ fn command_on_circuit<'a>(
     Command::new(alloc, name)
         .about(about)
         .after_help(help)
-        .arg(circuit_arg(alloc))
+        .arg(word_arg(alloc, "circuit", "CIRCUIT", CIRCUIT_HELP))
 }
 
 /// A command that garbles a circuit: its second word is the seed.
@@ -340,13 +358,6 @@ fn out_arg<'a>(alloc: Global, help: &'a str) -> Arg<'a>
     word_arg(alloc, "out", "OUT", help)
 }
 
-/// The word for an input value.
-fn value_arg<'a>(alloc: Global) -> Arg<'a>
-    ensures { HasRule (required_word (codes "value")) result }
-{
-    word_arg(alloc, "value", "VALUE", VALUE_HELP)
-}
-
 /// The word for a garbled file.
 fn garbled_arg<'a>(alloc: Global) -> Arg<'a>
     ensures { HasRule (required_word (codes "garbled")) result }
@@ -359,13 +370,6 @@ fn garbled_arg<'a>(alloc: Global) -> Arg<'a>
     )
 }
 
-/// The word for a list of jobs.
-fn list_arg<'a>(alloc: Global) -> Arg<'a>
-    ensures { HasRule (required_word (codes "list")) result }
-{
-    word_arg(alloc, "list", "LIST", "The file with the list of jobs")
-}
-
 /// A word that has to be there.
 fn word_arg<'a>(alloc: Global, id: &'a str, name: &'a str, help: &'a str) -> Arg<'a>
     ensures { HasRule (required_word id.entry.now) result }
@@ -373,52 +377,12 @@ fn word_arg<'a>(alloc: Global, id: &'a str, name: &'a str, help: &'a str) -> Arg
     named_arg(alloc, id, name, help).required(true)
 }
 
-/// The word for the index of an input value.
-fn index_arg<'a>(alloc: Global) -> Arg<'a>
-    ensures { HasRule (number_word (codes "index") 0 4294967295) result }
-{
-    let help = "The index of the input value, counted from 0";
-    word_arg(alloc, "index", "INDEX", help).value_parser(ValueParser::unsigned(0, 4_294_967_295))
-}
-
-/// The option for the format of a garbled file.
-fn format_arg<'a>(alloc: Global) -> Arg<'a>
-    ensures { HasRule (number_option (codes "format") 1 2 (codes "2")) result }
-{
-    let help = "The version of the garbled file, 1 or 2: version 2 recognises output labels";
-    number_arg(alloc, "format", "FORMAT", help, 1, 2, "2")
-}
-
 /// The option for the number of workers.
 fn workers_arg<'a>(alloc: Global) -> Arg<'a>
     ensures { HasRule workers_option result }
 {
     let help = "How many threads may work, from 1 to 64; the result is the same";
-    number_arg(alloc, "workers", "WORKERS", help, 0, 4_294_967_295, "1")
-}
-
-/// The option for the first wire to print.
-fn from_arg<'a>(alloc: Global) -> Arg<'a>
-    ensures { HasRule from_option result }
-{
-    let help = "The first wire to print, counted from 0";
-    number_arg(alloc, "from", "FROM", help, 0, 4_294_967_295, "0")
-}
-
-/// The option for the greatest number of lines. No circuit has as many wires as the default.
-fn count_arg<'a>(alloc: Global) -> Arg<'a>
-    ensures { HasRule count_option result }
-{
-    let help = "How many lines to print at most, by default all";
-    number_arg(
-        alloc,
-        "count",
-        "COUNT",
-        help,
-        0,
-        4_294_967_295,
-        "4294967295",
-    )
+    number_arg(alloc, "workers", "WORKERS", help, 0, MOST, "1")
 }
 
 /// An option that is a number from `low` to `high`, and is `default` where it isn't given.
@@ -437,14 +401,6 @@ fn number_arg<'a>(
         .long(id)
         .value_parser(ValueParser::unsigned(low, high))
         .default_value(default)
-}
-
-/// The word for the circuit.
-fn circuit_arg<'a>(alloc: Global) -> Arg<'a>
-    ensures { HasRule (required_word (codes "circuit")) result }
-{
-    let help = "The file of the circuit, in Bristol Fashion";
-    word_arg(alloc, "circuit", "CIRCUIT", help)
 }
 
 /// The words for the input values.

@@ -1,8 +1,12 @@
+use Rattle.std.proofs.Common.{rules}
+use Rattle.std.specs.Prelude.{codes}
+use Rattle.gc_order.specs.Order.{HasRule, number_word}
 use Rattle.gc_order.proofs.commands.deal.Goals as goal
 
 pub returns : goal.returns
 returns c =
-    let one = c.with_arg-command.ensures _ _
-    c.command_with_seed-command.ensures c.index_arg.ensures in
-    let two = c.with_arg-command-2.ensures _ _ one c.value_arg.ensures in
+    let index : HasRule (number_word (codes "index") 0 4294967295) c.value_parser.result =
+    search rules in
+    let one = c.with_arg-command.ensures _ _ c.command_with_seed-command.ensures index in
+    let two = c.with_arg-command-2.ensures _ _ one c.word_arg.ensures in
     c.with_arg.ensures _ _ two c.out_arg.ensures
