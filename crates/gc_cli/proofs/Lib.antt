@@ -1,2 +1,1 @@
 pub mod MistakeLemmas
-pub mod ServeLemmas

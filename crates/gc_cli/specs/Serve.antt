@@ -8,16 +8,10 @@ use Rattle.gc_files.specs.Files.{FileBytes}
 use Rattle.gc_command.specs.declared.fault.Fault.{Fault}
 use Rattle.gc_command.specs.declared.fault.Fault.TheVariants.{CannotWrite}
 use Rattle.gc_command.specs.Fault.{text_of}
-use Rattle.gc_cli.specs.CarryOut.{Answers, HasFault}
+use Rattle.gc_command.specs.Wrote.{KeepsFiles}
+use Rattle.gc_cli.specs.CarryOut.{Answers, HasFault, Writes}
 use Rattle.gc_cli.specs.CommandLine.{IsOrder, AsksForText}
 use Rattle.gc_cli.specs.Output.{Printed}
-
--- The run has something to print: what answers its order, of which this holds, or a text that its words ask for.
-abbrev pub HasAnswer : FileBytes → FileBytes → List (List ℕ) → (List ℕ → Type 0) → Type 0
-HasAnswer old new words Holds =
-    ((order : OrderText) × IsOrder words order
-    × ((out : List ℕ) × Answers old new order out × Holds out))
-    ⊎ AsksForText words
 
 -- What answers an order is printed, and no call to print failed. `before` and `after` are of standard output.
 abbrev pub PrintsAnswer : FileBytes → FileBytes → OrderText → Printed → Printed → Type 0
@@ -25,39 +19,48 @@ PrintsAnswer old new order before after =
     ((out : List ℕ) × Answers old new order out × Appends before.contents after.contents out)
     × (after.failures ≡ before.failures)
 
--- A fault that an order has ends it, and nothing is printed; or a call to print its answer failed. `Failed` says of a
--- name that its file has failed.
+-- A call to print failed, and that is the fault.
+abbrev pub FailsToPrint : Printed → Printed → Fault → Type 0
+FailsToPrint before after fault =
+    (fault ≡ CannotWrite) × (after.failures ≡ before.failures + 1)
+
+-- A fault that an order has ends it: nothing is printed, and every file is as it was, unless the fault is that one
+-- can't be written. Or a call to print its answer failed. `Failed` says of a name that its file has failed.
 abbrev pub FailsToAnswer : FileBytes → FileBytes → (List ℕ → Type 0) → OrderText → Printed → Printed
     → Fault → Type 0
 FailsToAnswer old new Failed order before after fault =
-    (HasFault old Failed order fault × (after ≡ before))
-    ⊎ (((out : List ℕ) × Answers old new order out) × (fault ≡ CannotWrite)
-    × (after.failures ≡ before.failures + 1))
+    (HasFault old Failed order fault × (after ≡ before)
+    × KeepsFiles old new fault)
+    ⊎ (((out : List ℕ) × Answers old new order out) × FailsToPrint before after fault)
 
--- A run that is done has printed its answer, and no call to print failed.
+-- A run that is done has printed what answers its order, or a text that its words ask for, and no call to print
+-- failed.
 abbrev pub IsDone : FileBytes → FileBytes → List (List ℕ) → Printed → Printed → Type 0
 IsDone old new words before after =
-    HasAnswer old new words (Appends before.contents after.contents)
-    × (after.failures ≡ before.failures)
+    ((order : OrderText) × IsOrder words order × PrintsAnswer old new order before after)
+    ⊎ (AsksForText words × (after.failures ≡ before.failures))
 
--- A fault that ends a run is one that its order has, and nothing was printed; or it is that a call to print failed.
+-- A fault that ends a run ends its order; or a call to print a text that its words ask for failed.
 abbrev pub IsFaulty : FileBytes → FileBytes → (List ℕ → Type 0) → List (List ℕ) → Printed → Printed
     → Fault → Type 0
 IsFaulty old new Failed words before after fault =
-    ((order : OrderText) × IsOrder words order × HasFault old Failed order fault
-    × (after ≡ before))
-    ⊎ (HasAnswer old new words (λ _. Unit {0}) × (fault ≡ CannotWrite)
-    × (after.failures ≡ before.failures + 1))
+    ((order : OrderText) × IsOrder words order
+    × FailsToAnswer old new Failed order before after fault)
+    ⊎ (AsksForText words × FailsToPrint before after fault)
+
+-- The words are an order that writes the file of this name.
+abbrev pub AskToWrite : List (List ℕ) → List ℕ → Type 0
+AskToWrite words name = (order : OrderText) × IsOrder words order × Writes order name
 
 -- the line of a fault on standard error
 abbrev pub fault_line : Fault → List ℕ
 fault_line fault = codes "halfgates: " ++ text_of fault ++ 10 ∷ []
 
--- why the words of a command line can't be had, by the kind of the error that asking for them gave
+-- why the words of a command line can't be read, by the kind of the error that asking for them gave
 abbrev pub reason_of : ErrorKind → List ℕ
 reason_of InvalidData = codes "a word is not UTF-8"
 reason_of OutOfMemory = codes "out of memory"
-reason_of _ = codes "its words can't be had"
+reason_of _ = codes "its words can't be read"
 
 -- the line on standard error that says it
 abbrev pub refusal_line : ErrorKind → List ℕ
@@ -80,6 +83,6 @@ EndsByFault old new Failed words out out_after err err_after =
     × (IsFaulty old new Failed words out out_after fault
     × PrintsFault err err_after fault)
 
--- It has the line that says why the words of a command line can't be had.
+-- It has the line that says why the words of a command line can't be read.
 abbrev pub PrintsRefusal : Printed → Printed → ErrorKind → Type 0
 PrintsRefusal before after kind = PrintsLine before after (refusal_line kind)

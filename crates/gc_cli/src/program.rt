@@ -1,14 +1,15 @@
 //! A whole run of the program, from the words of its command line to its status.
 
-ghost use Rattle.std.specs.Prelude.{◌≡◌, ◌+◌, ◌<◌, ◌≤◌, ◌⊎◌, map, string_bytes, IfErr, OnOk};
+ghost use Rattle.std.specs.Prelude.{◌≡◌, ◌+◌, ◌<◌, ◌≤◌, ◌⊎◌, ℕ, List, map, string_bytes, IfErr, OnOk};
 ghost use Rattle.std.specs.Io.KnownBytes.{Appends};
 ghost use Rattle.std.specs.IoError.{error_kind};
 ghost use Rattle.gc_format.specs.Counted.{CountsFailure};
 ghost use Rattle.gc_order.specs.Order.{text_of};
 ghost use Rattle.gc_files.specs.Files.{HasFailed};
+ghost use Rattle.gc_cli.specs.CarryOut.{Writes};
 ghost use Rattle.gc_cli.specs.CommandLine.{IsMistaken};
-ghost use Rattle.gc_cli.specs.Serve.{EndsByFault, FailsToAnswer, IsDone, PrintsAnswer, PrintsFault, PrintsRefusal};
-ghost use Rattle.gc_cli.specs.Serve.{fault_line, reason_of, refusal_line};
+ghost use Rattle.gc_cli.specs.Serve.{AskToWrite, EndsByFault, FailsToAnswer, IsDone, PrintsAnswer, PrintsFault};
+ghost use Rattle.gc_cli.specs.Serve.{PrintsRefusal, fault_line, reason_of, refusal_line};
 
 use crate::command_line::Heap;
 use crate::output::Output;
@@ -36,8 +37,10 @@ pub const USAGE: u8 = 2;
 ///
 /// - [`DONE`]: the lines of the order, or the help or the version that was asked for, are on `out`.
 /// - [`FAULT`]: the line `halfgates: fault CODE NAME` is on `err`, unless `err` can't be written. Nothing is on `out`,
-///   but where `out` can't be written, which is the fault 51: it may then have the beginning of the answer.
+///   unless printing on it failed, which is the fault 51. At another fault every file is as it was.
 /// - [`USAGE`]: what clap says of words that are no order is on `err`. So is what it says where memory ran out.
+///
+/// No file changes but the one that the order writes.
 pub fn serve<R: Threads + Wait + Sync, F: Files, O: Write, E: Write, P: Progress>(
     rt: &R,
     heap: &mut Heap,
@@ -63,6 +66,12 @@ pub fn serve<R: Threads + Wait + Sync, F: Files, O: Write, E: Write, P: Progress
         → IsMistaken (map string_bytes words.now) ⊎ (heap.old < heap.new) }
     ensures mistaken { IsMistaken (map string_bytes words.now) → result ≡ USAGE }
     ensures no_output { result ≡ USAGE → out.new ≡ out.old }
+
+    // A file changes only where the words are an order that writes it. `fault` says at which faults it is as it was.
+    ensures others { (name : List ℕ) → ¬ AskToWrite (map string_bytes words.now) name
+        → F.bytes files.new name ≡ F.bytes files.old name }
+    ensures unwritten { result ≡ USAGE
+        → (name : List ℕ) → F.bytes files.new name ≡ F.bytes files.old name }
 {
     match heap.order(words) {
         Ok(order) => match print_answer(rt, heap.alloc(), &order, files, out, progress) {
@@ -95,6 +104,8 @@ fn print_answer<R: Threads + Wait + Sync, F: Files, O: Write, P: Progress>(
     ensures fault { IfErr result (λ fault. FailsToAnswer (F.bytes files.old) (F.bytes files.new)
         (HasFailed (F.failures files.old) (F.failures files.new))
         (text_of order.now) out.old out.new fault) }
+    ensures others { (name : List ℕ) → ¬ Writes (text_of order.now) name
+        → F.bytes files.new name ≡ F.bytes files.old name }
 {
     if let Order::Labels { .. } = order {
         let lines = label_lines(alloc, order, files);
@@ -130,8 +141,8 @@ fn print_lines<A: Allocator, O: Write>(
     }
 }
 
-/// Says on `err` why the words of a command line can't be had, as where one is not UTF-8. Where that fails, nothing can
-/// be said. The status is that of a run whose words are no order.
+/// Says on `err` why the words of a command line can't be read, as where one is not UTF-8. Where that fails, nothing
+/// can be said. The status is that of a run whose words are no order.
 pub fn refuse_line<E: Write>(error: &io::Error, err: &mut Output<E>) -> u8
     ensures status { result ≡ USAGE }
     ensures printed { PrintsRefusal err.old err.new (error_kind error.now) }
@@ -140,7 +151,7 @@ pub fn refuse_line<E: Write>(error: &io::Error, err: &mut Output<E>) -> u8
     USAGE
 }
 
-/// Writes the line that says why the words of a command line can't be had.
+/// Writes the line that says why the words of a command line can't be read.
 fn write_refusal<E: Write>(kind: ErrorKind, err: &mut Output<E>) -> io::Result<()>
     ensures printed { OnOk result (Appends err.old.contents err.new.contents (refusal_line kind)) }
     ensures counted { CountsFailure result err.old.failures err.new.failures }
@@ -152,14 +163,14 @@ fn write_refusal<E: Write>(kind: ErrorKind, err: &mut Output<E>) -> io::Result<(
     )
 }
 
-/// Why the words of a command line can't be had.
+/// Why the words of a command line can't be read.
 fn reason_of(kind: ErrorKind) -> &'static str
     ensures { result.now ≡ reason_of kind }
 {
     match kind {
         ErrorKind::InvalidData => "a word is not UTF-8",
         ErrorKind::OutOfMemory => "out of memory",
-        _ => "its words can't be had",
+        _ => "its words can't be read",
     }
 }
 

@@ -1,8 +1,9 @@
 //! Carrying out orders.
 
-ghost use Rattle.std.specs.Prelude.{◌≡◌, ◌≢◌, ℕ, List, IfOk, IfErr};
+ghost use Rattle.std.specs.Prelude.{◌≡◌, ℕ, List, IfOk, IfErr};
 ghost use Rattle.gc_order.specs.Order.{text_of};
 ghost use Rattle.gc_files.specs.Files.{HasFailed};
+ghost use Rattle.gc_command.specs.Wrote.{KeepsFiles};
 ghost use Rattle.gc_cli.specs.CarryOut.{Answers, HasFault, IsLabels, Writes};
 
 use gc_command::check::check;
@@ -38,8 +39,7 @@ pub fn carry_out<
     // A file changes only where the order writes it, and is as it was after any fault but that it can't be written.
     ensures others { (name : List ℕ) → ¬ Writes (text_of order.now) name
         → F.bytes files.new name ≡ F.bytes files.old name }
-    ensures unwritten { IfErr result (λ fault. fault ≢ Fault.CannotWrite
-        → (name : List ℕ) → F.bytes files.new name ≡ F.bytes files.old name) }
+    ensures unwritten { IfErr result (KeepsFiles (F.bytes files.old) (F.bytes files.new)) }
 {
     match order {
         Order::Run {
@@ -47,16 +47,10 @@ pub fn carry_out<
             seed,
             workers,
             values,
-        } => run(
-            rt,
-            alloc,
-            circuit.as_str(),
-            seed.as_str(),
-            *workers,
-            values,
-            files,
-            progress,
-        ),
+        } => {
+            let (circuit, seed) = (circuit.as_str(), seed.as_str());
+            run(rt, alloc, circuit, seed, *workers, values, files, progress)
+        }
         Order::Check { circuit } => check(rt, alloc, circuit.as_str(), files, progress),
         Order::Plain { circuit, values } => plain(alloc, circuit.as_str(), values, files),
         Order::Garble {
@@ -82,15 +76,11 @@ pub fn carry_out<
             index,
             value,
             out,
-        } => deal(
-            alloc,
-            circuit.as_str(),
-            seed.as_str(),
-            *index,
-            value.as_str(),
-            out.as_str(),
-            files,
-        ),
+        } => {
+            let (circuit, seed) = (circuit.as_str(), seed.as_str());
+            let (value, out) = (value.as_str(), out.as_str());
+            deal(alloc, circuit, seed, *index, value, out, files)
+        }
         Order::Eval {
             circuit,
             garbled,
@@ -110,15 +100,10 @@ pub fn carry_out<
             circuit,
             list,
             workers,
-        } => jobs(
-            rt,
-            alloc,
-            circuit.as_str(),
-            list.as_str(),
-            *workers,
-            files,
-            progress,
-        ),
+        } => {
+            let (circuit, list) = (circuit.as_str(), list.as_str());
+            jobs(rt, alloc, circuit, list, *workers, files, progress)
+        }
         Order::Locate { circuit } => locate(alloc, circuit.as_str(), files),
         Order::Stats { circuit } => stats(alloc, circuit.as_str(), files),
         Order::Labels { .. } => {
@@ -131,16 +116,11 @@ pub fn carry_out<
             garbled,
             workers,
             labels,
-        } => audit(
-            rt,
-            alloc,
-            circuit.as_str(),
-            seed.as_str(),
-            garbled.as_str(),
-            *workers,
-            labels,
-            files,
-        ),
+        } => {
+            let (circuit, seed) = (circuit.as_str(), seed.as_str());
+            let garbled = garbled.as_str();
+            audit(rt, alloc, circuit, seed, garbled, *workers, labels, files)
+        }
     }
 }
 
@@ -167,15 +147,8 @@ pub(crate) fn label_lines<A: Allocator + Copy, F: Files>(
     else {
         unreachable!()
     };
-    labels(
-        alloc,
-        circuit.as_str(),
-        seed.as_str(),
-        *from,
-        *count,
-        values,
-        files,
-    )
+    let (circuit, seed) = (circuit.as_str(), seed.as_str());
+    labels(alloc, circuit, seed, *from, *count, values, files)
 }
 
 /// The lines that are left, all at once.

@@ -1,15 +1,15 @@
 use Rattle.std.proofs.Common.{rules, map, string_bytes, ⊎_elim, inl, inr, arith}
 use Rattle.clap.specs.Words.{kind_of}
+use Rattle.gc_order.specs.Order.{text_of}
 use Rattle.gc_command.specs.declared.fault.Fault.TheVariants.{CannotWrite}
 use Rattle.gc_cli.proofs.MistakeLemmas.{IsMistaken-other_kind}
-use Rattle.gc_cli.proofs.ServeLemmas.{faulty}
 use Rattle.gc_cli.proofs.program.serve.Goals as goal
 
 pub returns-in-Ok-clause-fault : goal.returns-in-Ok-clause-fault
 returns-in-Ok-clause-fault g c = λ _. (
   c.in-Err-print_answer.fault,
   (
-    faulty _ _ _ _ _ _ (map string_bytes c.args.words.now) _ c.in-Ok.ensures.ok c.in-Err-print_answer.ensures.fault,
+    inl (text_of c.in-Ok.order, c.in-Ok.ensures.ok, c.in-Err-print_answer.ensures.fault),
     c.report.ensures.printed,
   ),
 )
