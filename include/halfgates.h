@@ -113,7 +113,7 @@ typedef struct halfgates_name {
  */
 halfgates_name halfgates_fault_name(int32_t code);
 
-/* The version of the library, such as "0.5.1". */
+/* The version of the library, such as "0.5.2". */
 halfgates_name halfgates_version(void);
 
 /* ---------------------------------------------------------------------------------------------------- circuits -- */
@@ -248,9 +248,10 @@ typedef struct halfgates_job halfgates_job;
 
 /*
  * Binds a garbled file, `length` bytes, and label files to a job. `labels` are `count` label files, in any order and
- * one after another, `labels_size` bytes in all, and `lengths` the number of bytes of each. Where these don't add up to
- * `labels_size`, the code is HALFGATES_BAD_ARGUMENT. Nothing of the files is trusted. Codes: 30 to 36, the first fault
- * of the garbled file, then of each label file in turn; 40 to 46, the first fault of the binding; HALFGATES_MEMORY.
+ * one after another, `labels_size` bytes in all, and `lengths` the number of bytes of each. Nothing of the files is
+ * trusted. Codes: 30 to 36, the first fault of the garbled file; HALFGATES_BAD_ARGUMENT where the lengths don't add up
+ * to `labels_size`; 30 to 36, the first fault of each label file in turn; 40 to 46, the first fault of the binding;
+ * HALFGATES_MEMORY.
  */
 int32_t halfgates_job_bind(halfgates_circuit *circuit, const uint8_t *garbled, size_t length, const uint8_t *labels,
                            size_t labels_size, const size_t *lengths, size_t count, halfgates_job **job);
@@ -271,8 +272,8 @@ typedef struct halfgates_audit_report {
     uint8_t honest;  /* 1 where nothing differs: it is the file of its version that halfgates_garbling_write writes */
     uint8_t version; /* the version of the file, 1 or 2 */
     uint8_t digest;  /* 1 where the digest is the circuit's */
-    uint8_t counts;  /* 1 where it has a row pair for each AND gate and a decode bit for each output wire; else the
-                        fields below are HALFGATES_NONE, and 0 */
+    uint8_t counts;  /* 1 where it has a row pair for each AND gate and a decode bit for each output wire; else each
+                        field below is HALFGATES_NONE, or 0 where it has 8 bits */
     uint8_t generator;    /* 1 where the generator's row of that pair differs */
     uint8_t evaluator;    /* 1 where the evaluator's row of that pair differs */
     uint8_t entry_colour; /* the colour, 0 or 1, of the first entry that differs */

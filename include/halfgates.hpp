@@ -184,7 +184,11 @@ public:
         return found;
     }
 
-    std::uint64_t garbled_size(std::uint32_t version = 2) { return halfgates_garbled_size(get(), version); }
+    std::uint64_t garbled_size(std::uint32_t version = 2) {
+        const std::uint64_t size = halfgates_garbled_size(get(), version);
+        check(size != 0 ? HALFGATES_OK : HALFGATES_BAD_ARGUMENT);
+        return size;
+    }
 
     halfgates::garbling garble(const seed &key) {
         halfgates_garbling *at = nullptr;

@@ -268,7 +268,8 @@ class Refusals(LibraryTest):
         self.assert_fault("60 BadArgument", garbling.decode_bit, 2)
         self.assert_fault("60 BadArgument", garbling.labels, [1, 0, 1], 9)
         self.assert_fault("60 BadArgument", garbling.labels, [1, 0, 1], 7, 2)
-        self.assertEqual(self.circuit.garbled_size(3), 0)
+        for version in (0, 3, 2**32 - 1):
+            self.assert_fault("60 BadArgument", self.circuit.garbled_size, version)
 
     def test_numbers_of_more_bits(self):
         calls = [self.garbling.zero_label, self.garbling.decode_bit, self.garbling.write]

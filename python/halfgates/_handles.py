@@ -10,7 +10,7 @@ from typing import Callable, ClassVar, Iterator, List, Optional, Sequence, Tuple
 
 from . import _library
 from ._buffers import Lent
-from ._library import SMALL_BUFFER, check, library
+from ._library import BAD_ARGUMENT, OK, SMALL_BUFFER, check, library
 from ._reports import GarbledReport, LabelsReport, Place, WireLabels
 
 #: What lends its bytes. Other objects that do so serve as well.
@@ -102,9 +102,11 @@ class Circuit(_Handle):
         return cls(at)
 
     def garbled_size(self, version: int = 2) -> int:
-        """How many bytes a garbled file of this version has, 1 or 2."""
+        """How many bytes a garbled file of this version has, 1 or 2. Fault 60: there is no such version."""
         with self._used() as at:
-            return library.halfgates_garbled_size(at, _u32(version))
+            size = library.halfgates_garbled_size(at, _u32(version))
+        check(OK if size else BAD_ARGUMENT)
+        return size
 
     def garble(self, seed: Buffer) -> "Garbling":
         """Garbles under a seed of 32 bytes: take `secrets.token_bytes(32)` for each garbling. Faults: 23, 62."""
@@ -156,7 +158,7 @@ class Garbling(_Handle):
         self._wires = wires
 
     def write(self, version: int = 2) -> bytearray:
-        """The garbled file of a version, 1 or 2."""
+        """The garbled file of a version, 1 or 2. Faults: 60 where there is no such version, 62."""
         file = bytearray(self._size(version))
         self.write_into(file, version)
         return file
@@ -164,7 +166,7 @@ class Garbling(_Handle):
     def write_into(self, buffer: object, version: int = 2) -> int:
         """Writes the garbled file of a version, 1 or 2, to a writable buffer, and answers the number of its bytes.
 
-        Fault 61: the buffer has too little room, and stays as it is.
+        Faults: 60 where there is no such version, 61 where the buffer has too little room and stays as it is, 62.
         """
         written = c_size_t()
         with self._used() as at, Lent(buffer, is_written=True) as out:
@@ -180,14 +182,14 @@ class Garbling(_Handle):
         return written.value
 
     def zero_label(self, wire: int) -> bytes:
-        """The zero label of a wire, 16 bytes; they are zeros for a wire that isn't set."""
+        """The zero label of a wire, 16 bytes, zeros for a wire that isn't set. Fault 60: there is no such wire."""
         label = (c_uint8 * 16)()
         with self._used() as at:
             check(library.halfgates_zero_label(at, _u32(wire), label))
         return bytes(label)
 
     def decode_bit(self, output: int) -> int:
-        """The decode bit of an output wire, counted from 0 among the output wires."""
+        """The decode bit of an output wire, counted from 0 among these. Fault 60: there is no such output."""
         bit = c_uint8()
         with self._used() as at:
             check(library.halfgates_decode_bit(at, _u32(output), byref(bit)))
@@ -196,7 +198,7 @@ class Garbling(_Handle):
     def labels(self, bits: Bits, start: int = 0, count: Optional[int] = None) -> List[WireLabels]:
         """The labels of `count` wires from `start` on, or of all from there, for the bits of all input wires.
 
-        Faults: 13, 15, 16.
+        Faults: 13, 15, 16, 60 where there are no such wires.
         """
         found = (_library.WireLabels * (max(self._wires - start, 0) if count is None else count))()
         with self._used() as at, _lent_bits(bits) as lent:

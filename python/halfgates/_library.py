@@ -5,7 +5,7 @@ import os
 from ctypes import POINTER, c_char, c_int32, c_size_t, c_uint8, c_uint32, c_uint64, c_void_p
 from pathlib import Path
 
-OK, SMALL_BUFFER = 0, 61
+OK, BAD_ARGUMENT, SMALL_BUFFER = 0, 60, 61
 
 # NoSuchWire, Unset, SetTwice and OutputUnset.
 FAULTS_OF_WIRES = 7, 8, 9, 10

@@ -123,7 +123,7 @@ static void wire_labels(halfgates_garbling *garbling) {
 }
 
 static void jobs(halfgates_circuit *circuit, halfgates_job *job) {
-    const size_t more[3] = {32, 32, 33}, wrapping[3] = {32, SIZE_MAX, 65};
+    const size_t more[3] = {32, 32, 33}, wrapping[3] = {32, SIZE_MAX, 65}, late[2] = {1, 100};
     halfgates_job *made = NULL;
     CHECK_CODE(BAD, halfgates_job_bind(NULL, garbled, 177, labels, 96, SIZES, 3, &made));
     CHECK_CODE(BAD, halfgates_job_bind(circuit, garbled, 177, labels, 96, SIZES, 3, NULL));
@@ -131,6 +131,7 @@ static void jobs(halfgates_circuit *circuit, halfgates_job *job) {
     CHECK_CODE(BAD, halfgates_job_bind(circuit, garbled, 177, labels, 96, wrapping, 3, &made));
     CHECK_CODE(BAD, halfgates_job_bind(circuit, garbled, 177, labels, 96, SIZES, 2, &made));
     CHECK_CODE(BAD, halfgates_job_bind(circuit, garbled, 177, labels, 96, NULL, 0, &made));
+    CHECK_CODE(BAD, halfgates_job_bind(circuit, garbled, 177, labels, 32, late, 2, &made));
     CHECK_CODE(HALFGATES_FILE_TRUNCATED, halfgates_job_bind(circuit, NULL, 0, labels, 96, SIZES, 3, &made));
     CHECK_CODE(HALFGATES_FILE_TRUNCATED, halfgates_job_bind(circuit, garbled, 176, labels, 96, SIZES, 3, &made));
     CHECK_CODE(HALFGATES_MISSING_VALUE, halfgates_job_bind(circuit, garbled, 177, labels, 64, SIZES, 2, &made));
@@ -155,6 +156,25 @@ static void audits(halfgates_garbling *garbling) {
     CHECK_CODE(HALFGATES_SMALL_BUFFER, halfgates_audit_labels(garbling, labels, 32, NULL, 0, &labels_report));
     CHECK(labels_report.count == 1);
     check_untouched();
+}
+
+/* What stood in the place of a new handle is overwritten, and never read: here it is no address. */
+static void places_of_handles(void) {
+    halfgates_circuit *circuit = (halfgates_circuit *)1;
+    halfgates_garbling *garbling = (halfgates_garbling *)1;
+    halfgates_job *job = (halfgates_job *)1;
+    CHECK_CODE(HALFGATES_CIRCUIT_TRUNCATED, halfgates_circuit_read(NULL, 0, &circuit));
+    CHECK(circuit == (halfgates_circuit *)1);
+    CHECK_CODE(HALFGATES_OK, halfgates_circuit_read((const uint8_t *)FULL_ADDER, strlen(FULL_ADDER), &circuit));
+    CHECK_CODE(BAD, halfgates_garble(circuit, NULL, &garbling));
+    CHECK(garbling == (halfgates_garbling *)1);
+    CHECK_CODE(HALFGATES_OK, halfgates_garble(circuit, SEED, &garbling));
+    CHECK_CODE(HALFGATES_FILE_TRUNCATED, halfgates_job_bind(circuit, garbled, 176, labels, 96, SIZES, 3, &job));
+    CHECK(job == (halfgates_job *)1);
+    CHECK_CODE(HALFGATES_OK, halfgates_job_bind(circuit, garbled, 177, labels, 96, SIZES, 3, &job));
+    halfgates_job_free(job);
+    halfgates_garbling_free(garbling);
+    halfgates_circuit_free(circuit);
 }
 
 static void names(void) {
@@ -188,6 +208,7 @@ int main(void) {
     wire_labels(garbling);
     jobs(circuit, job);
     audits(garbling);
+    places_of_handles();
     names();
 
     /* After all of these, the handles still work. */

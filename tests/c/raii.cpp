@@ -58,6 +58,7 @@ void check_faults() {
     throws(42, "fault 42 NoSuchValue", [&] { circuit.deal(halfgates::seed(), 3, halfgates::bytes{1}); });
     throws(45, "fault 45 MissingValue", [&] { circuit.bind(garbling.write(), {}); });
     throws(60, "fault 60 BadArgument", [&] { garbling.write(3); });
+    throws(60, "fault 60 BadArgument", [&] { circuit.garbled_size(3); });
 }
 
 void check_moves() {

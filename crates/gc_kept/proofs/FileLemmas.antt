@@ -1,10 +1,10 @@
 -- Label files that stand one after another.
-use Rattle.std.proofs.Common.{◌≡◌, ◌≢◌, ℕ, ◌+◌, ◌<◌, ◌≤◌, List, [], ◌∷◌, ◌++◌, length, map, take, sym, ap, subst, ◌∙◌, append_assoc, append-nil, arith}
+use Rattle.std.proofs.Common.{◌≡◌, ◌≢◌, ℕ, ◌+◌, ◌-◌, ◌<◌, ◌≤◌, List, [], ◌∷◌, ◌++◌, length, map, take, sym, ap, ◌∙◌, append_assoc, append-nil, arith}
 use Rattle.std.specs.List.{flat_map, sum, sum_by, slice_index, All}
 use Rattle.std.proofs.lemmas.Grind.{flat_map-append}
-use Rattle.std.proofs.lemmas.List.{take_more, take_all, length-append, length-map, length-take-le, map-append, map-id}
+use Rattle.std.proofs.lemmas.List.{take_more, take_all, length-append, length-map, length-take-le, map-append, map-id, nil_from_length}
 use Rattle.std.proofs.lemmas.List.Concat.{length-flat_map}
-use Rattle.std.proofs.lemmas.List.Sums.{sum-map, sum_by-take-drop, sum_by-drop_more}
+use Rattle.std.proofs.lemmas.List.Sums.{sum-map, sum_by_more, sum_by-take-drop, sum_by-drop_more}
 use Rattle.std.proofs.lemmas.List.Elements.{All-push}
 use Rattle.gc_read.specs.declared.fault.FileFault.{FileFault}
 use Rattle.gc_read.specs.FileFault.{FirstLabelFault}
@@ -21,6 +21,20 @@ pub sum-within : (xs : List ℕ) (i : ℕ) → i < length xs → sum (take i xs)
 sum-within xs i within =
     omega (arith, sum-as-sum_by xs, sum-as-sum_by (take i xs), sum_by-take-drop (λ (x : ℕ). x) xs i, sum_by-drop_more (λ (x : ℕ). x) xs i 0 within)
 
+module _ (lengths : List ℕ) (i left total : ℕ) (within : i < length lengths)
+    (so : sum (take i lengths) + left ≡ total) where
+  -- The next length is more than what is left of the total,
+  pub exceeds : left < slice_index lengths i → sum lengths ≢ total
+  exceeds less same = let bound = sum-within lengths i within in omega (arith, bound, so, less, same)
+
+  -- or is taken from it.
+  pub next_left : slice_index lengths i ≤ left → sum (take (i + 1) lengths) + (left - slice_index lengths i) ≡ total
+  next_left fits =
+      let next : sum (take (i + 1) lengths) ≡ sum (take i lengths) + slice_index lengths i =
+      sum-as-sum_by (take (i + 1) lengths) ∙ sum_by_more (λ (x : ℕ). x) lengths i 0 within
+      ∙ ap (λ n. n + slice_index lengths i) (sym (sum-as-sum_by (take i lengths))) in
+      omega (arith, next, so, fits)
+
 -- After the files so far come these bytes.
 module _ (bytes lengths : List ℕ) (files : List LabelFileParts) (rest : List ℕ) (i : ℕ)
     (spelled : bytes ≡ flat_map label_file files ++ rest) (lengths_of : take i lengths ≡ map file_length files)
@@ -30,14 +44,18 @@ module _ (bytes lengths : List ℕ) (files : List LabelFileParts) (rest : List �
       ap length spelled ∙ length-append (flat_map label_file files) rest
       ∙ ap (λ n. n + length rest) (length-files files ∙ ap sum (sym lengths_of))
 
-  -- They are fewer than the next file has,
-  pub too_few : i < length lengths → length rest < slice_index lengths i → length bytes ≢ sum lengths
-  too_few within less same = let bound = sum-within lengths i within in omega (arith, counted, bound, less, same)
+  module _ (all : length bytes ≡ sum lengths) where
+    -- They are enough for the next file,
+    pub enough : i < length lengths → slice_index lengths i ≤ length rest
+    enough within = let bound = sum-within lengths i within in omega (arith, counted, bound, all)
 
-  -- or there is no next file.
-  pub too_many : length lengths ≤ i → 0 < length rest → length bytes ≢ sum lengths
-  too_many none some same =
-      omega (arith, rw (take_all i lengths none) at counted, some, same)
+    -- or there is no next file, and none is left.
+    pub ended : length lengths ≤ i → bytes ≡ flat_map label_file files
+    ended none =
+        spelled
+        ∙ ap (λ l. flat_map label_file files ++ l)
+        (nil_from_length rest (omega (arith, rw (take_all i lengths none) at counted, all)))
+        ∙ append-nil (flat_map label_file files)
 
   module _ (front back : List ℕ) (split : rest ≡ front ++ back) (within : i < length lengths)
       (long : length front ≡ slice_index lengths i) where

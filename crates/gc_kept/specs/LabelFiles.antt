@@ -29,12 +29,12 @@ pub record HasFaultyFile (bytes lengths : List ℕ) (fault : FileFault) : Type 0
   pub whole : All IsOwnFile files
   pub first : FirstLabelFault piece fault
 
--- The fault of such bytes: the lengths don't add up to theirs, or the first fault of a file. Memory may be missing
+-- The fault of such bytes: the lengths don't add up to theirs, else the first fault of a file. Memory may be missing
 -- instead.
 abbrev pub HasLabelFilesFault : List ℕ → List ℕ → KeptFault → Type 0
 HasLabelFilesFault bytes lengths BadArgument = length bytes ≢ sum lengths
 HasLabelFilesFault bytes lengths (File fault) =
-    fault ≢ file.Memory → HasFaultyFile bytes lengths fault
+    (length bytes ≡ sum lengths) × (fault ≢ file.Memory → HasFaultyFile bytes lengths fault)
 HasLabelFilesFault bytes lengths Memory = Unit {0}
 HasLabelFilesFault bytes lengths (Circuit fault) = ⊥
 HasLabelFilesFault bytes lengths BadDigit = ⊥

@@ -1,5 +1,5 @@
 -- Evaluation in the clear, of bits as bytes.
-use Rattle.std.specs.Prelude.{◌≡◌, ◌≢◌, ℕ, Bool, List, map}
+use Rattle.std.specs.Prelude.{◌≡◌, ◌≢◌, ℕ, Bool, List, length, map}
 use Rattle.gc_netlist.specs.Circuit.{Netlist, input_wires, output_wires}
 use Rattle.gc_circuit.specs.Meaning.{AreOutputs}
 use Rattle.gc_kept.specs.declared.fault.KeptFault.{KeptFault}
@@ -9,6 +9,7 @@ use Rattle.gc_kept.specs.Bits.{bit_byte, HasBitsFault}
 -- The bytes are the circuit's outputs for the input bits that these bytes are.
 pub record ArePlainOutputs (c : Netlist) (inputs outputs : List ℕ) : Type 0 where
   pub bits : List Bool
+  pub count : length bits ≡ input_wires c
   pub inputs_are : inputs ≡ map bit_byte bits
   pub found : List Bool
   pub outputs_are : outputs ≡ map bit_byte found
@@ -18,9 +19,12 @@ pub record ArePlainOutputs (c : Netlist) (inputs outputs : List ℕ) : Type 0 wh
 -- input bits. Memory may be missing instead.
 abbrev pub HasPlainFault : Netlist → List ℕ → ℕ → KeptFault → Type 0
 HasPlainFault c inputs room BadArgument = room ≢ output_wires c
-HasPlainFault c inputs room (Circuit fault) = HasBitsFault inputs (input_wires c) (Circuit fault)
-HasPlainFault c inputs room BadDigit = HasBitsFault inputs (input_wires c) BadDigit
-HasPlainFault c inputs room WrongLength = HasBitsFault inputs (input_wires c) WrongLength
+HasPlainFault c inputs room (Circuit fault) =
+    (room ≡ output_wires c) × HasBitsFault inputs (input_wires c) (Circuit fault)
+HasPlainFault c inputs room BadDigit =
+    (room ≡ output_wires c) × HasBitsFault inputs (input_wires c) BadDigit
+HasPlainFault c inputs room WrongLength =
+    (room ≡ output_wires c) × HasBitsFault inputs (input_wires c) WrongLength
 HasPlainFault c inputs room Garbling = ⊥
 HasPlainFault c inputs room (File fault) = ⊥
 HasPlainFault c inputs room (Binding fault) = ⊥

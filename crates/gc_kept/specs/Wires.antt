@@ -1,6 +1,6 @@
 -- What a garbling has for a wire.
-use Rattle.std.specs.Prelude.{◌≡◌, ℕ, Bool, List, map, slice_get, Some}
-use Rattle.gc_netlist.specs.Circuit.{Netlist}
+use Rattle.std.specs.Prelude.{◌≡◌, ℕ, Bool, List, length, map, slice_get, Some}
+use Rattle.gc_netlist.specs.Circuit.{Netlist, input_wires}
 use Rattle.gc_circuit.specs.Meaning.{AreWireBits}
 use Rattle.gc_label.specs.Label.{bytes_of_label}
 use Rattle.gc_half.specs.Garbling.{decode_bits_of}
@@ -22,5 +22,6 @@ pub record IsDecodeBit (g : SeededGarbling) (output byte : ℕ) : Type 0 where
 -- The bits on all wires, for the input bits that these bytes are.
 pub record AreBitsOn (c : Netlist) (inputs : List ℕ) (all : List Bool) : Type 0 where
   pub bits : List Bool
+  pub count : length bits ≡ input_wires c
   pub inputs_are : inputs ≡ map bit_byte bits
   pub meaning : AreWireBits c bits all

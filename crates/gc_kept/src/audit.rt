@@ -5,7 +5,7 @@ ghost use Rattle.gc_kept.specs.Audit.{IsAuditOf, HasGarbledFault, IsLabelsAuditO
 
 use crate::fault::KeptFault;
 use crate::garbling::KeptGarbling;
-use gc_audit::{GarbledAudit, LabelsVerdict};
+use gc_audit::{GarbledAudit, LabelsVerdict, audit_garbled, audit_labels};
 use gc_file::{Version, read_garbled, read_labels};
 use gc_job::EvalFault;
 use std::alloc::Global;
@@ -18,7 +18,10 @@ impl KeptGarbling {
         ensures fault { IfErr result (HasGarbledFault file.now) }
     {
         let file = read_garbled(alloc, file)?;
-        Ok((file.version(), self.audit_parts(&file)))
+        let circuit = self.circuit.circuit();
+        let digest = self.circuit.digest();
+        let found = audit_garbled(circuit, digest, &self.garbling, &self.seed, &file);
+        Ok((file.version(), found))
     }
 
     /// Compares a label file with the garbling, as [`gc_audit::audit_labels`] does: the index that stands in the file,
@@ -32,7 +35,8 @@ impl KeptGarbling {
         ensures fault { IfErr result (HasLabelsFault file.now) }
     {
         let file = read_labels(alloc, file)?;
-        match self.audit_label_file(alloc, &file) {
+        let circuit = self.circuit.circuit();
+        match audit_labels(alloc, circuit, &self.garbling, &self.seed, &file) {
             Ok(verdict) => Ok((file.index(), verdict)),
             Err(_) => Err(KeptFault::Evaluation(EvalFault::Memory)),
         }

@@ -58,7 +58,7 @@ impl Digested {
     }
 }
 
-/// A circuit with its digest. Garblings and jobs hold it with others, and it is let go with the last of them.
+/// A circuit with its digest. Garblings and jobs hold it with others, and it is dropped with the last of them.
 #[derive(Drop)]
 pub struct KeptCircuit {
     shared: Arc<Digested, Global>,

@@ -8,7 +8,8 @@ use gc_file::FileFault;
 use gc_job::{BindFault, EvalFault};
 use std::alloc::{AllocError, AllocFailed};
 
-/// Why a call has no answer: a fault of the layers below, or one of the five that only callers in other languages meet.
+/// Why a call has no answer: a fault of the layers below, one that has the number of such a fault, or one of the three,
+/// from 60 on, that only callers in other languages meet.
 #[derive(Clone, Copy, Debug, PartialEq, Eq)]
 pub enum KeptFault {
     /// A text is no circuit; or there is no memory for bits.

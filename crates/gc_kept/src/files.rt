@@ -1,6 +1,6 @@
 //! Writing files to the buffers of callers.
 
-ghost use Rattle.std.specs.Prelude.{◌≡◌, ◌≤◌, Some, length, slice_get, IfErr, OnOk, OnErr};
+ghost use Rattle.std.specs.Prelude.{◌≡◌, ◌≢◌, ◌≤◌, Some, length, slice_get, IfErr, OnOk, OnErr};
 ghost use Rattle.gc_format.specs.GarbledFile.{garbled_file};
 ghost use Rattle.gc_format.specs.LabelFile.{label_file, label_parts_of};
 ghost use Rattle.gc_file.specs.Honest.{honest_parts};
@@ -12,19 +12,18 @@ use crate::circuit::KeptCircuit;
 use crate::fault::KeptFault;
 use crate::garbling::KeptGarbling;
 use gc_file::{MemSink, Version, write_labels};
+use gc_format::sizes::{LABEL, LABEL_HEADER};
 use gc_job::BindFault;
 use gc_label::Seed;
 use gc_stats::garbled_size;
 use std::alloc::Global;
 
-/// The bytes of a label file's header, and of each label.
-const PART: usize = 16;
-
-/// Checks that a buffer has room for a file of this size. Where it hasn't, reports the size.
+/// Checks that a buffer has room for a file of this size. Only where it hasn't, reports the size.
 fn look_for_room(size: usize, buffer: &[u8], written: &mut usize) -> Result<(), KeptFault>
     ensures ok { OnOk result (size ≤ length buffer.now) }
     ensures fault { IfErr result (HasRoomFault size (length buffer.now)) }
     ensures written { OnErr result (written.new ≡ size) }
+    ensures unreported { OnOk result (written.new ≡ written.old) }
 {
     if buffer.len() < size {
         *written = size;
@@ -59,7 +58,8 @@ impl KeptCircuit {
 
     /// Writes the label file of the input value of this index, for these bits under a seed, and reports the number of
     /// its bytes. It refuses an index without a value (42), a wrong number of bits (16), a byte other than 0 and 1 (15),
-    /// and a buffer that is too small (61): then no file is made, and `written` is the size that is needed.
+    /// and a buffer that is too small (61): then no file is made, and `written` is the size that is needed. After another
+    /// fault it is as it was.
     pub fn deal(
         &self,
         alloc: Global,
@@ -74,6 +74,8 @@ impl KeptCircuit {
         ensures fault { IfErr result
             (HasDealFault self.now seed.now index bits.now (length buffer.old) written.new) }
         ensures unwritten { OnErr result (buffer.new ≡ buffer.old) }
+        ensures unreported { IfErr result (λ fault.
+            fault ≢ KeptFault.SmallBuffer → written.new ≡ written.old) }
     {
         let circuit = self.circuit();
         let Some(width) = circuit.input_widths().get(index as usize) else {
@@ -81,7 +83,7 @@ impl KeptCircuit {
         };
         let width = *width as usize;
         let bits = read_bits(alloc, bits, width)?;
-        look_for_room(PART + PART * width, buffer, written)?;
+        look_for_room(LABEL_HEADER + LABEL * width, buffer, written)?;
         self.write_dealt(alloc, seed, index, &bits, buffer, written)
     }
 
@@ -105,6 +107,8 @@ impl KeptCircuit {
             (label_file (label_parts_of self.now seed.now index bits.now))
             (length buffer.old) written.new) }
         ensures unwritten { OnErr result (buffer.new ≡ buffer.old) }
+        ensures unreported { IfErr result (λ fault.
+            fault ≢ KeptFault.SmallBuffer → written.new ≡ written.old) }
     {
         let mut sink = MemSink::new(alloc, None);
         let seed = Seed::from_bytes(*seed);
@@ -116,8 +120,8 @@ impl KeptCircuit {
 }
 
 impl KeptGarbling {
-    /// Writes the garbled file of a version, and reports the number of its bytes. Where the buffer is too small, no
-    /// file is made.
+    /// Writes the garbled file of a version, and reports the number of its bytes. Where the buffer is too small (61), no
+    /// file is made, and `written` is the size that is needed. After another fault it is as it was.
     pub fn write(
         &self,
         alloc: Global,
@@ -135,6 +139,8 @@ impl KeptGarbling {
             (garbled_file (honest_parts version self.now.circuit self.now.garbling self.now.seed))
             (length buffer.old) written.new) }
         ensures unwritten { OnErr result (buffer.new ≡ buffer.old) }
+        ensures unreported { IfErr result (λ fault.
+            fault ≢ KeptFault.SmallBuffer → written.new ≡ written.old) }
     {
         self.law_garbled();
         let size = self.circuit().garbled_size(version);

@@ -1,17 +1,12 @@
 //! Garblings that hold their circuit.
 
-ghost use Rattle.std.specs.Prelude.{◌≡◌, ◌↔◌, ◌≤◌, ◌<◌, Some, length, slice_get, IfOk, IfErr, OnOk, OnErr};
+ghost use Rattle.std.specs.Prelude.{◌≡◌, ◌≤◌, ◌<◌, Some, length, slice_get, IfOk, IfErr, OnOk, OnErr};
 ghost use Rattle.gc_kept.specs.Garbling.{IsWantOfMemory};
 
 use crate::bits::bit_byte;
 use crate::circuit::KeptCircuit;
 use crate::fault::KeptFault;
-use gc_audit::{GarbledAudit, LabelsVerdict, audit_garbled, audit_labels};
-use gc_circuit::Memory;
-use gc_file::{
-    Garbled, LabelFile, MemSink, Version, WriteFault, write_garbled_by_digest,
-    write_garbled2_by_digest,
-};
+use gc_file::{MemSink, Version, WriteFault, write_garbled_by_digest, write_garbled2_by_digest};
 use gc_half::{Garbling, garble_one_thread};
 use gc_label::{Label, Seed, offset};
 use std::alloc::Global;
@@ -20,9 +15,9 @@ use std::marker::Model;
 /// The garbling of a circuit under a seed, with both.
 #[derive(Drop)]
 pub struct KeptGarbling {
-    circuit: KeptCircuit,
-    seed: Seed,
-    garbling: Garbling<Global>,
+    pub(crate) circuit: KeptCircuit,
+    pub(crate) seed: Seed,
+    pub(crate) garbling: Garbling<Global>,
 }
 
 impl Model for KeptGarbling {
@@ -62,8 +57,6 @@ impl KeptGarbling {
     ghost use Rattle.gc_format.specs.GarbledFile.{garbled_file};
     ghost use Rattle.gc_file.specs.Honest.{honest_parts};
     ghost use Rattle.gc_write.specs.Written.{IsWritten};
-    ghost use Rattle.gc_audit.specs.Garbled.{IsGarbledAudit, honest_audit};
-    ghost use Rattle.gc_audit.specs.Labels.{IsLabelsVerdict};
     ghost use Rattle.gc_kept.specs.Wires.{IsZeroLabel, IsDecodeBit};
 
     /// The law of the type: it is the garbling of the circuit under the seed. A call of it does nothing.
@@ -138,29 +131,5 @@ impl KeptGarbling {
         let zero_label = self.garbling.zero_label(wire);
         let offset = offset(&self.seed).label();
         (zero_label, zero_label.xor(offset.times(bit)))
-    }
-
-    /// What an audit finds of a garbled file.
-    pub(crate) fn audit_parts(&self, file: &Garbled<Global>) -> GarbledAudit
-        ensures audit { IsGarbledAudit self.now.circuit self.now.garbling self.now.seed file.now
-            result }
-        ensures honest { (result ≡ honest_audit) ↔ (file.now
-            ≡ honest_parts file.now.version self.now.circuit self.now.garbling self.now.seed) }
-    {
-        let circuit = self.circuit.circuit();
-        let digest = self.circuit.digest();
-        audit_garbled(circuit, digest, &self.garbling, &self.seed, file)
-    }
-
-    /// What an audit finds of a label file.
-    pub(crate) fn audit_label_file(
-        &self,
-        alloc: Global,
-        file: &LabelFile<Global>,
-    ) -> Result<LabelsVerdict<Global>, Memory>
-        ensures { IfOk result (IsLabelsVerdict self.now.circuit self.now.seed file.now) }
-    {
-        let circuit = self.circuit.circuit();
-        audit_labels(alloc, circuit, &self.garbling, &self.seed, file)
     }
 }

@@ -1,13 +1,28 @@
 //! Label files that stand one after another.
 
-ghost use Rattle.std.specs.Prelude.{IfOk, IfErr};
+ghost use Rattle.std.specs.Prelude.{◌≡◌, ◌↔◌, IfOk, IfErr, IsTrue, sum};
 ghost use Rattle.gc_kept.specs.LabelFiles.{AreLabelFiles, HasLabelFilesFault};
 
 use crate::fault::KeptFault;
 use gc_file::{LabelFile, read_labels};
 use std::alloc::Global;
 
-/// Reads label files that stand one after another, by the number of bytes of each.
+/// Whether these lengths add up to a total.
+fn add_up(lengths: &[usize], total: usize) -> bool
+    ensures { IsTrue result ↔ (sum lengths.now ≡ total) }
+{
+    let mut left = total;
+    for length in lengths {
+        if left < *length {
+            return false;
+        }
+        left -= *length;
+    }
+    left == 0
+}
+
+/// Reads label files that stand one after another, by the number of bytes of each. It first refuses numbers that don't
+/// add up to that of all bytes (60).
 pub(crate) fn read_label_files(
     alloc: Global,
     bytes: &[u8],
@@ -16,18 +31,15 @@ pub(crate) fn read_label_files(
     ensures ok { IfOk result (λ files. AreLabelFiles bytes.now lengths.now files.items) }
     ensures fault { IfErr result (HasLabelFilesFault bytes.now lengths.now) }
 {
+    if !add_up(lengths, bytes.len()) {
+        return Err(KeptFault::BadArgument);
+    }
     let mut files = Vec::with_capacity(alloc, lengths.len())?;
     let mut rest = bytes;
     for length in lengths {
-        if rest.len() < *length {
-            return Err(KeptFault::BadArgument);
-        }
         let (file, others) = rest.split_at(*length);
         files.push(read_labels(alloc, file)?)?;
         rest = others;
-    }
-    if rest.len() > 0 {
-        return Err(KeptFault::BadArgument);
     }
     Ok(files)
 }

@@ -13,7 +13,8 @@ use Rattle.halfgates_c.specs.declared.locate.Place.{Place}
 
 -- The place says what is found: no fault, or the fault with its line, column, gate and wire.
 abbrev pub IsPlaceOf : Option Located → Place → Type 0
-IsPlaceOf None p = p.fault ≡ pos 0
+IsPlaceOf None p =
+    (p.fault ≡ pos 0) × (p.line ≡ 0) × (p.column ≡ 0) × (p.gate ≡ NONE) × (p.wire ≡ NONE)
 IsPlaceOf (Some l) p =
     (p.fault ≡ pos (code_of l.fault)) × (p.line ≡ l.line) × (p.column ≡ l.column)
     × (p.gate ≡ unwrap_or l.gate NONE) × (p.wire ≡ unwrap_or l.wire NONE)

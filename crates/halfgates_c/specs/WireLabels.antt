@@ -1,5 +1,5 @@
 -- The labels of a wire.
-use Rattle.std.specs.Prelude.{◌≡◌, ◌+◌, ◌<◌, ℕ, Bool, List, slice_get, Some}
+use Rattle.std.specs.Prelude.{◌≡◌, ◌+◌, ◌<◌, ◌≤◌, ℕ, Bool, List, length, slice_get, Some}
 use Rattle.gc_label.specs.Label.{bytes_of_label}
 use Rattle.gc_label.specs.Seed.{offset_of}
 use Rattle.gc_netlist.specs.Circuit.{input_wires}
@@ -29,11 +29,13 @@ AreLabelsFrom g all from labels = (i : ℕ) (l : WireLabels) → slice_get label
 -- They are the labels of the wires from one on, in order, for the input bits that these bytes are.
 pub record AreLabelsOn (g : SeededGarbling) (inputs : List ℕ) (from : ℕ) (labels : List WireLabels)
     : Type 0 where
+  pub within : from + length labels ≤ g.circuit.wires
   pub all : List Bool
   pub bits : AreBitsOn g.circuit inputs all
   pub each : AreLabelsFrom g all from labels
 
--- There are no such wires, or the bytes are no bits of all input wires.
+-- There are no such wires, else the bytes are no bits of all input wires.
 abbrev pub HasWiresFault : SeededGarbling → List ℕ → (from count : ℕ) → KeptFault → Type 0
 HasWiresFault g inputs from count BadArgument = g.circuit.wires < from + count
-HasWiresFault g inputs from count fault = HasBitsFault inputs (input_wires g.circuit) fault
+HasWiresFault g inputs from count fault =
+    (from + count ≤ g.circuit.wires) × HasBitsFault inputs (input_wires g.circuit) fault

@@ -9,7 +9,7 @@ ghost use Rattle.halfgates_c.specs.Holding.{garbling_of};
 ghost use Rattle.halfgates_c.specs.Reports.{AreRowFlags, IsReport, IsReportOn, version_number};
 
 use crate::code::{BAD_ARGUMENT, code_of};
-use crate::handle::Handle;
+use crate::handle::{Handle, on_held};
 use crate::locate::NONE;
 use crate::null::is_null;
 use gc_audit::{DifferingRows, GarbledAudit, RowDifference};
@@ -117,11 +117,7 @@ pub extern "C" fn halfgates_audit(
     if is_null(garbling) || is_null(report) {
         return BAD_ARGUMENT;
     }
-    let held = garbling.take(alloc);
-    let code = match held.as_deref() {
-        Some(Held::Garbling(garbling)) => code_of(audit(alloc, garbling, file, report)),
-        _ => BAD_ARGUMENT,
-    };
-    garbling.put(alloc, held);
-    code
+    on_held!(alloc, garbling, Garbling(garbling) => {
+        code_of(audit(alloc, garbling, file, report))
+    }, else BAD_ARGUMENT)
 }

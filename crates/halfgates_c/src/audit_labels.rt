@@ -8,7 +8,7 @@ ghost use Rattle.halfgates_c.specs.Answers.{Answers};
 ghost use Rattle.halfgates_c.specs.LabelsReports.{AreFoundAt, HasNoRoomFor, HasReportFault, IsLabelsReportOn, SaysVerdict};
 
 use crate::code::{BAD_ARGUMENT, code_of};
-use crate::handle::Handle;
+use crate::handle::{Handle, on_held};
 use crate::locate::NONE;
 use crate::null::is_null;
 use gc_audit::LabelsVerdict;
@@ -74,6 +74,8 @@ fn audit(
     ensures fault { IfErr result
         (HasReportFault garbling.now file.now (length bits.old) report.old report.new) }
     ensures unwritten { OnErr result (bits.new ≡ bits.old) }
+    ensures unreported { IfErr result (λ fault.
+        fault ≢ KeptFault.SmallBuffer → report.new ≡ report.old) }
 {
     let (index, found) = garbling.audit_labels(alloc, file)?;
     *report = report_of(index, &found);
@@ -95,16 +97,13 @@ pub extern "C" fn halfgates_audit_labels(
         (λ g. Answers result (IsLabelsReportOn g file.now bits.old bits.new report.new)
         (HasReportFault g file.now (length bits.old) report.old report.new)) }
     ensures kept { result ≢ pos 0 → bits.new ≡ bits.old }
+    ensures unreported { result ≢ pos 0 → result ≢ pos 61 → report.new ≡ report.old }
     ensures held { garbling.new.held ≡ garbling.old.held }
 {
     if is_null(garbling) || is_null(report) {
         return BAD_ARGUMENT;
     }
-    let held = garbling.take(alloc);
-    let code = match held.as_deref() {
-        Some(Held::Garbling(garbling)) => code_of(audit(alloc, garbling, file, bits, report)),
-        _ => BAD_ARGUMENT,
-    };
-    garbling.put(alloc, held);
-    code
+    on_held!(alloc, garbling, Garbling(garbling) => {
+        code_of(audit(alloc, garbling, file, bits, report))
+    }, else BAD_ARGUMENT)
 }

@@ -13,7 +13,7 @@ ghost use Rattle.halfgates_c.specs.Reading.{HoldsCircuit};
 ghost use Rattle.halfgates_c.specs.Numbers.{AreNumbers, Copies};
 
 use crate::code::{BAD_ARGUMENT, OK, code_of};
-use crate::handle::Handle;
+use crate::handle::{Handle, on_held};
 use crate::null::is_null;
 use crate::slot::Slot;
 use gc_kept::{Held, KeptCircuit, KeptFault};
@@ -95,16 +95,10 @@ pub extern "C" fn halfgates_circuit_numbers(
     if is_null(circuit) || is_null(numbers) {
         return BAD_ARGUMENT;
     }
-    let held = circuit.take(alloc);
-    let code = match held.as_deref() {
-        Some(Held::Circuit(circuit)) => {
-            *numbers = numbers_of(circuit);
-            OK
-        }
-        _ => BAD_ARGUMENT,
-    };
-    circuit.put(alloc, held);
-    code
+    on_held!(alloc, circuit, Circuit(circuit) => {
+        *numbers = numbers_of(circuit);
+        OK
+    }, else BAD_ARGUMENT)
 }
 
 /// Copies a circuit's widths, where there are as many as given.
@@ -134,13 +128,9 @@ pub extern "C" fn halfgates_circuit_input_widths(
     if is_null(circuit) {
         return BAD_ARGUMENT;
     }
-    let held = circuit.take(alloc);
-    let code = match held.as_deref() {
-        Some(Held::Circuit(circuit)) => copy_widths(circuit.circuit().input_widths(), widths),
-        _ => BAD_ARGUMENT,
-    };
-    circuit.put(alloc, held);
-    code
+    on_held!(alloc, circuit, Circuit(circuit) => {
+        copy_widths(circuit.circuit().input_widths(), widths)
+    }, else BAD_ARGUMENT)
 }
 
 /// Writes the number of wires of each output value.
@@ -159,13 +149,9 @@ pub extern "C" fn halfgates_circuit_output_widths(
     if is_null(circuit) {
         return BAD_ARGUMENT;
     }
-    let held = circuit.take(alloc);
-    let code = match held.as_deref() {
-        Some(Held::Circuit(circuit)) => copy_widths(circuit.circuit().output_widths(), widths),
-        _ => BAD_ARGUMENT,
-    };
-    circuit.put(alloc, held);
-    code
+    on_held!(alloc, circuit, Circuit(circuit) => {
+        copy_widths(circuit.circuit().output_widths(), widths)
+    }, else BAD_ARGUMENT)
 }
 
 /// Writes the digest of a circuit.
@@ -185,16 +171,10 @@ pub extern "C" fn halfgates_circuit_digest(
     if is_null(circuit) || is_null(digest) {
         return BAD_ARGUMENT;
     }
-    let held = circuit.take(alloc);
-    let code = match held.as_deref() {
-        Some(Held::Circuit(circuit)) => {
-            *digest = *circuit.digest();
-            OK
-        }
-        _ => BAD_ARGUMENT,
-    };
-    circuit.put(alloc, held);
-    code
+    on_held!(alloc, circuit, Circuit(circuit) => {
+        *digest = *circuit.digest();
+        OK
+    }, else BAD_ARGUMENT)
 }
 
 /// Evaluates a circuit in the clear.
@@ -215,11 +195,7 @@ pub extern "C" fn halfgates_plain(
     if is_null(circuit) {
         return BAD_ARGUMENT;
     }
-    let held = circuit.take(alloc);
-    let code = match held.as_deref() {
-        Some(Held::Circuit(circuit)) => code_of(circuit.plain(alloc, bits, outputs)),
-        _ => BAD_ARGUMENT,
-    };
-    circuit.put(alloc, held);
-    code
+    on_held!(alloc, circuit, Circuit(circuit) => {
+        code_of(circuit.plain(alloc, bits, outputs))
+    }, else BAD_ARGUMENT)
 }

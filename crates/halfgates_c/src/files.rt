@@ -11,7 +11,7 @@ ghost use Rattle.halfgates_c.specs.Holding.{circuit_of, garbling_of};
 ghost use Rattle.halfgates_c.specs.Files.{IsGarbledAt, HasNoRoom};
 
 use crate::code::{BAD_ARGUMENT, code_of};
-use crate::handle::Handle;
+use crate::handle::{Handle, on_held};
 use crate::null::is_null;
 use gc_kept::{Held, version_of};
 use std::alloc::Global;
@@ -27,13 +27,10 @@ pub extern "C" fn halfgates_garbled_size(alloc: Global, circuit: &mut Handle, ve
     if is_null(circuit) {
         return 0;
     }
-    let held = circuit.take(alloc);
-    let size = match (held.as_deref(), version_of(version)) {
-        (Some(Held::Circuit(circuit)), Some(version)) => circuit.garbled_size(version),
-        _ => 0,
-    };
-    circuit.put(alloc, held);
-    size
+    on_held!(alloc, circuit, Circuit(circuit) => match version_of(version) {
+        Some(version) => circuit.garbled_size(version),
+        None => 0,
+    }, else 0)
 }
 
 /// Writes the garbled file of a version.
@@ -53,19 +50,15 @@ pub extern "C" fn halfgates_garbling_write(
         (HasNoRoom g v (length buffer.old) written.new))) }
     ensures held { garbling.new.held ≡ garbling.old.held }
     ensures kept { result ≢ pos 0 → buffer.new ≡ buffer.old }
+    ensures unreported { result ≢ pos 0 → result ≢ pos 61 → written.new ≡ written.old }
 {
     if is_null(garbling) || is_null(written) {
         return BAD_ARGUMENT;
     }
-    let held = garbling.take(alloc);
-    let code = match (held.as_deref(), version_of(version)) {
-        (Some(Held::Garbling(garbling)), Some(version)) => {
-            code_of(garbling.write(alloc, version, buffer, written))
-        }
-        _ => BAD_ARGUMENT,
-    };
-    garbling.put(alloc, held);
-    code
+    on_held!(alloc, garbling, Garbling(garbling) => match version_of(version) {
+        Some(version) => code_of(garbling.write(alloc, version, buffer, written)),
+        None => BAD_ARGUMENT,
+    }, else BAD_ARGUMENT)
 }
 
 /// Writes the label file of an input value.
@@ -87,17 +80,12 @@ pub extern "C" fn halfgates_deal(
         (HasDealFault c seed.now index bits.now (length buffer.old) written.new)) }
     ensures held { circuit.new.held ≡ circuit.old.held }
     ensures kept { result ≢ pos 0 → buffer.new ≡ buffer.old }
+    ensures unreported { result ≢ pos 0 → result ≢ pos 61 → written.new ≡ written.old }
 {
     if is_null(circuit) || is_null(seed) || is_null(written) {
         return BAD_ARGUMENT;
     }
-    let held = circuit.take(alloc);
-    let code = match held.as_deref() {
-        Some(Held::Circuit(circuit)) => code_of(circuit.deal(
-            alloc, seed, index, bits, buffer, written,
-        )),
-        _ => BAD_ARGUMENT,
-    };
-    circuit.put(alloc, held);
-    code
+    on_held!(alloc, circuit, Circuit(circuit) => {
+        code_of(circuit.deal(alloc, seed, index, bits, buffer, written))
+    }, else BAD_ARGUMENT)
 }

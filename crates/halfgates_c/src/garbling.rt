@@ -10,7 +10,7 @@ ghost use Rattle.halfgates_c.specs.Holding.{circuit_of, garbling_of};
 ghost use Rattle.halfgates_c.specs.Reading.{HoldsGarbling};
 
 use crate::code::{BAD_ARGUMENT, code_of};
-use crate::handle::Handle;
+use crate::handle::{Handle, on_held};
 use crate::null::is_null;
 use crate::slot::Slot;
 use gc_kept::{Held, KeptCircuit, KeptFault};
@@ -51,13 +51,9 @@ pub extern "C" fn halfgates_garble(
     if is_null(circuit) || is_null(seed) || is_null(garbling) {
         return BAD_ARGUMENT;
     }
-    let held = circuit.take(alloc);
-    let code = match held.as_deref() {
-        Some(Held::Circuit(circuit)) => code_of(garble(alloc, circuit, seed, garbling)),
-        _ => BAD_ARGUMENT,
-    };
-    circuit.put(alloc, held);
-    code
+    on_held!(alloc, circuit, Circuit(circuit) => {
+        code_of(garble(alloc, circuit, seed, garbling))
+    }, else BAD_ARGUMENT)
 }
 
 /// Frees a garbling. Null is allowed.
@@ -85,13 +81,9 @@ pub extern "C" fn halfgates_zero_label(
     if is_null(garbling) || is_null(label) {
         return BAD_ARGUMENT;
     }
-    let held = garbling.take(alloc);
-    let code = match held.as_deref() {
-        Some(Held::Garbling(garbling)) => code_of(garbling.zero_label(wire, label)),
-        _ => BAD_ARGUMENT,
-    };
-    garbling.put(alloc, held);
-    code
+    on_held!(alloc, garbling, Garbling(garbling) => {
+        code_of(garbling.zero_label(wire, label))
+    }, else BAD_ARGUMENT)
 }
 
 /// Writes the decode bit of an output wire.
@@ -113,11 +105,7 @@ pub extern "C" fn halfgates_decode_bit(
     if is_null(garbling) || is_null(bit) {
         return BAD_ARGUMENT;
     }
-    let held = garbling.take(alloc);
-    let code = match held.as_deref() {
-        Some(Held::Garbling(garbling)) => code_of(garbling.decode_bit(output, bit)),
-        _ => BAD_ARGUMENT,
-    };
-    garbling.put(alloc, held);
-    code
+    on_held!(alloc, garbling, Garbling(garbling) => {
+        code_of(garbling.decode_bit(output, bit))
+    }, else BAD_ARGUMENT)
 }

@@ -84,3 +84,18 @@ impl Drop for Handle {
         let _freed = self.into_box();
     }
 }
+
+/// What is computed of what a handle holds, where this is of a kind; else another value. The handle holds it again then.
+macro_rules! on_held {
+    ($alloc:ident, $handle:ident, $kind:ident($it:ident) => $of_it:expr, else $other:expr) => {{
+        let held = $handle.take($alloc);
+        let answer = match held.as_deref() {
+            Some(Held::$kind($it)) => $of_it,
+            _ => $other,
+        };
+        $handle.put($alloc, held);
+        answer
+    }};
+}
+
+pub(crate) use on_held;

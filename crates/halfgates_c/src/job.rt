@@ -9,7 +9,7 @@ ghost use Rattle.halfgates_c.specs.Holding.{circuit_of, job_of};
 ghost use Rattle.halfgates_c.specs.Reading.{HoldsJob};
 
 use crate::code::{BAD_ARGUMENT, code_of};
-use crate::handle::Handle;
+use crate::handle::{Handle, on_held};
 use crate::null::is_null;
 use crate::slot::Slot;
 use gc_kept::{Held, KeptCircuit, KeptFault};
@@ -54,15 +54,9 @@ pub extern "C" fn halfgates_job_bind(
     if is_null(circuit) || is_null(job) {
         return BAD_ARGUMENT;
     }
-    let held = circuit.take(alloc);
-    let code = match held.as_deref() {
-        Some(Held::Circuit(circuit)) => code_of(bind(
-            alloc, circuit, garbled, labels, lengths, job,
-        )),
-        _ => BAD_ARGUMENT,
-    };
-    circuit.put(alloc, held);
-    code
+    on_held!(alloc, circuit, Circuit(circuit) => {
+        code_of(bind(alloc, circuit, garbled, labels, lengths, job))
+    }, else BAD_ARGUMENT)
 }
 
 /// Frees a job. Null is allowed.
@@ -83,11 +77,5 @@ pub extern "C" fn halfgates_evaluate(alloc: Global, job: &mut Handle, bits: &mut
     if is_null(job) {
         return BAD_ARGUMENT;
     }
-    let held = job.take(alloc);
-    let code = match held.as_deref() {
-        Some(Held::Job(job)) => code_of(job.evaluate(alloc, bits)),
-        _ => BAD_ARGUMENT,
-    };
-    job.put(alloc, held);
-    code
+    on_held!(alloc, job, Job(job) => code_of(job.evaluate(alloc, bits)), else BAD_ARGUMENT)
 }

@@ -8,7 +8,7 @@ ghost use Rattle.halfgates_c.specs.Answers.{Answers};
 ghost use Rattle.halfgates_c.specs.WireLabels.{AreLabelsFrom, AreLabelsOn, AreWireLabels, HasWiresFault};
 
 use crate::code::{BAD_ARGUMENT, code_of};
-use crate::handle::Handle;
+use crate::handle::{Handle, on_held};
 use crate::null::is_null;
 use gc_kept::{Held, KeptFault, KeptGarbling};
 use std::alloc::Global;
@@ -95,11 +95,7 @@ pub extern "C" fn halfgates_labels(
     if is_null(garbling) {
         return BAD_ARGUMENT;
     }
-    let held = garbling.take(alloc);
-    let code = match held.as_deref() {
-        Some(Held::Garbling(garbling)) => code_of(write(alloc, garbling, bits, from, labels)),
-        _ => BAD_ARGUMENT,
-    };
-    garbling.put(alloc, held);
-    code
+    on_held!(alloc, garbling, Garbling(garbling) => {
+        code_of(write(alloc, garbling, bits, from, labels))
+    }, else BAD_ARGUMENT)
 }
