@@ -1,11 +1,11 @@
 //! Tests of banks: the answers of two seats that take turns, steps of two gates, and closing.
 
-ghost use Rattle.std.specs.Prelude.{◌≡◌, length, All, IfOk};
-ghost use Rattle.gc_bank.specs.Seats.{IsSeatOf, jobs_on};
+ghost use Rattle.std.specs.Prelude.{◌≡◌, ◌<◌, length, All, IfOk};
+ghost use Rattle.gc_bank.specs.Seats.{IsSeatOf, IsInside, view, round_of, jobs_on};
 ghost use Rattle.gc_eval.specs.Seats.{IsSeatOf as IsBoardSeat, job_on};
 
 use crate::jobs::job_of;
-use gc_bank::{BankSeat, Banks, CloseRefused, Entry, Reopening, one_circuit};
+use gc_bank::{BankSeat, Banks, CloseRefused, Entry, MAX_JOBS, Reopening, one_circuit};
 use gc_circuit::Circuit;
 use gc_eval::{Answer, EvalBoard, EvalSeat, Job};
 use gc_file::Version;
@@ -31,10 +31,7 @@ enum Call {
 #[derive(Clone, Copy, PartialEq, Eq, Debug)]
 enum Reply {
     Entry(Entry),
-    Made(Label),
-    Done(Label),
-    Taken,
-    NotYet(u32),
+    Answer(Answer),
     Label(Option<Label>),
     Nothing,
     Reopening(Reopening),
@@ -42,21 +39,40 @@ enum Reply {
     Barred,
 }
 
-impl From<Answer> for Reply {
-    fn from(answer: Answer) -> Reply {
-        match answer {
-            Answer::Made(label) => Reply::Made(label),
-            Answer::Done(label) => Reply::Done(label),
-            Answer::Taken => Reply::Taken,
-            Answer::NotYet(wire) => Reply::NotYet(wire),
+/// Makes a call of a seat that is inside this round.
+fn called_inside<B: Allocator>(
+    banks: &Banks<'_, '_, B>,
+    jobs: &[Job],
+    seat: &mut BankSeat<B>,
+    round: u32,
+    call: Call,
+) -> Reply
+    requires own { IsSeatOf banks.now seat.old }
+    requires inside { IsInside (view seat.old) × (round_of (view seat.old) ≡ round) }
+    requires jobs { jobs_on banks.now ≡ jobs.now }
+    requires round { round < length jobs.now }
+    ensures { IsSeatOf banks.now seat.new }
+{
+    let circuit = jobs[round as usize].circuit();
+    match call {
+        Call::Step(gate) if gate < circuit.gates() => Reply::Answer(banks.step(seat, gate)),
+        Call::Label(wire) if wire < circuit.wires() => Reply::Label(banks.label(seat, wire)),
+        Call::Leave => {
+            banks.leave(seat);
+            Reply::Nothing
         }
+        Call::Seal => {
+            banks.seal(seat);
+            Reply::Nothing
+        }
+        _ => Reply::Barred,
     }
 }
 
 /// Makes a call of a seat.
-fn called<'j, 'c, B: Allocator>(
-    banks: &Banks<'j, 'c, B>,
-    jobs: &[Job<'c>],
+fn called<B: Allocator>(
+    banks: &Banks<'_, '_, B>,
+    jobs: &[Job],
     seat: &mut BankSeat<B>,
     call: Call,
 ) -> Reply
@@ -65,31 +81,14 @@ fn called<'j, 'c, B: Allocator>(
     ensures { IsSeatOf banks.now seat.new }
 {
     match (seat.inside(), call) {
+        (Some(round), _) if (round as usize) < jobs.len() => {
+            called_inside(banks, jobs, seat, round, call)
+        }
         (None, Call::Enter(round)) if (round as usize) < jobs.len() => {
             Reply::Entry(banks.enter(seat, round))
         }
         (None, Call::Reopen(round)) if (round as usize) + 2 < jobs.len() => {
             Reply::Reopening(banks.reopen(seat, round))
-        }
-        (Some(round), Call::Step(gate)) if (round as usize) < jobs.len() => {
-            if jobs[round as usize].circuit().gates() <= gate {
-                return Reply::Barred;
-            }
-            Reply::from(banks.step(seat, gate))
-        }
-        (Some(round), Call::Label(wire)) if (round as usize) < jobs.len() => {
-            if jobs[round as usize].circuit().wires() <= wire {
-                return Reply::Barred;
-            }
-            Reply::Label(banks.label(seat, wire))
-        }
-        (Some(_), Call::Leave) => {
-            banks.leave(seat);
-            Reply::Nothing
-        }
-        (Some(_), Call::Seal) => {
-            banks.seal(seat);
-            Reply::Nothing
         }
         _ => Reply::Barred,
     }
@@ -114,7 +113,7 @@ fn two_seats<'j, 'c, B: Allocator + Copy>(
     ensures jobs { IfOk result (λ b. jobs_on b.0 ≡ jobs.now) }
     ensures seats { IfOk result (λ b. IsSeatOf b.0 b.1 × IsSeatOf b.0 b.2) }
 {
-    if jobs.is_empty() || jobs.len() > 65_536 || !one_circuit(jobs) {
+    if jobs.is_empty() || jobs.len() > MAX_JOBS || !one_circuit(jobs) {
         return Err(Fail::new("the jobs are on one circuit"));
     }
     let (banks, mut seats) = Banks::open(alloc, jobs, 2)?;
@@ -151,81 +150,103 @@ fn first_gate(alloc: Global, job: &Job) -> Result<Label, Fail> {
     Ok(label)
 }
 
-/// The replies of the two seats, who make these calls in turn.
-fn replies<'j, 'c, B: Allocator>(
-    banks: &Banks<'j, 'c, B>,
-    jobs: &[Job<'c>],
+/// Which of two seats makes a call.
+#[derive(Clone, Copy)]
+enum Who {
+    One,
+    Two,
+}
+
+/// The calls that two seats make in turn at banks for these three jobs, and the replies. A bank goes to its next round
+/// when its round is sealed and nobody is inside.
+fn script(alloc: Global, jobs: &[Job]) -> Result<[(Who, Call, Reply); 18], Fail>
+    requires { length jobs.now ≡ 3 }
+{
+    let early = first_gate(alloc, &jobs[0])?;
+    let late = first_gate(alloc, &jobs[2])?;
+    Ok([
+        (Who::One, Call::Enter(0), Reply::Entry(Entry::Inside)),
+        (Who::One, Call::Step(0), Reply::Answer(Answer::Made(early))),
+        (Who::One, Call::Step(0), Reply::Answer(Answer::Done(early))),
+        (Who::One, Call::Label(3), Reply::Label(Some(early))),
+        (Who::One, Call::Label(4), Reply::Label(None)),
+        (Who::Two, Call::Enter(2), Reply::Entry(Entry::OtherRound(0))),
+        (
+            Who::Two,
+            Call::Reopen(0),
+            Reply::Reopening(Reopening::NotSealed),
+        ),
+        (Who::One, Call::Seal, Reply::Nothing),
+        (Who::Two, Call::Enter(0), Reply::Entry(Entry::Shut)),
+        (Who::Two, Call::Reopen(0), Reply::Reopening(Reopening::Busy)),
+        (Who::One, Call::Leave, Reply::Nothing),
+        (
+            Who::Two,
+            Call::Reopen(0),
+            Reply::Reopening(Reopening::Given),
+        ),
+        (Who::One, Call::Enter(0), Reply::Entry(Entry::OtherRound(2))),
+        (Who::One, Call::Enter(2), Reply::Entry(Entry::Inside)),
+        (Who::One, Call::Step(0), Reply::Answer(Answer::Made(late))),
+        (Who::One, Call::Seal, Reply::Nothing),
+        (Who::One, Call::Leave, Reply::Nothing),
+        (
+            Who::Two,
+            Call::Reopen(0),
+            Reply::Reopening(Reopening::OtherRound(2)),
+        ),
+    ])
+}
+
+/// Makes the calls of a script. The answer is the first call that has another reply than the script's, with the reply.
+fn first_other<B: Allocator>(
+    banks: &Banks<'_, '_, B>,
+    jobs: &[Job],
     one: &mut BankSeat<B>,
     two: &mut BankSeat<B>,
-) -> [Reply; 18]
+    script: &[(Who, Call, Reply)],
+) -> Option<(Call, Reply)>
     requires one { IsSeatOf banks.now one.old }
     requires two { IsSeatOf banks.now two.old }
     requires jobs { jobs_on banks.now ≡ jobs.now }
     ensures { IsSeatOf banks.now one.new × IsSeatOf banks.now two.new }
 {
-    [
-        called(banks, jobs, one, Call::Enter(0)),
-        called(banks, jobs, one, Call::Step(0)),
-        called(banks, jobs, one, Call::Step(0)),
-        called(banks, jobs, one, Call::Label(3)),
-        called(banks, jobs, one, Call::Label(4)),
-        called(banks, jobs, two, Call::Enter(2)),
-        called(banks, jobs, two, Call::Reopen(0)),
-        called(banks, jobs, one, Call::Seal),
-        called(banks, jobs, two, Call::Enter(0)),
-        called(banks, jobs, two, Call::Reopen(0)),
-        called(banks, jobs, one, Call::Leave),
-        called(banks, jobs, two, Call::Reopen(0)),
-        called(banks, jobs, one, Call::Enter(0)),
-        called(banks, jobs, one, Call::Enter(2)),
-        called(banks, jobs, one, Call::Step(0)),
-        called(banks, jobs, one, Call::Seal),
-        called(banks, jobs, one, Call::Leave),
-        called(banks, jobs, two, Call::Reopen(0)),
-    ]
+    for (who, call, wanted) in script {
+        let found = match who {
+            Who::One => called(banks, jobs, one, *call),
+            Who::Two => called(banks, jobs, two, *call),
+        };
+        if found != *wanted {
+            return Some((*call, found));
+        }
+    }
+    None
 }
 
-/// A bank goes to its next round when its round is sealed and nobody is inside.
+/// The replies are those of the script.
 #[test]
 fn two_seats_take_turns(rt: HostRuntime) -> Result<(), Fail> {
     let alloc = rt.alloc();
     let circuit = Circuit::read(alloc, FULL_ADDER.as_bytes())?;
     let jobs = three_jobs(alloc, &circuit)?;
-    let early = first_gate(alloc, &jobs[0])?;
-    let late = first_gate(alloc, &jobs[2])?;
-    let wanted = [
-        Reply::Entry(Entry::Inside),
-        Reply::Made(early),
-        Reply::Done(early),
-        Reply::Label(Some(early)),
-        Reply::Label(None),
-        Reply::Entry(Entry::OtherRound(0)),
-        Reply::Reopening(Reopening::NotSealed),
-        Reply::Nothing,
-        Reply::Entry(Entry::Shut),
-        Reply::Reopening(Reopening::Busy),
-        Reply::Nothing,
-        Reply::Reopening(Reopening::Given),
-        Reply::Entry(Entry::OtherRound(2)),
-        Reply::Entry(Entry::Inside),
-        Reply::Made(late),
-        Reply::Nothing,
-        Reply::Nothing,
-        Reply::Reopening(Reopening::OtherRound(2)),
-    ];
+    let script = script(alloc, &jobs)?;
     let (banks, mut one, mut two) = two_seats(alloc, &jobs)?;
-    let found = replies(&banks, &jobs, &mut one, &mut two);
-    assert_eq!(rt; found.as_slice(), wanted.as_slice());
+    let other = first_other(&banks, &jobs, &mut one, &mut two, &script);
+    assert_eq!(rt; other, None);
     Ok(())
 }
 
-/// Opens banks over this memory, has two seats take turns at them, and closes them. The answer is how many gates were
-/// made, where no memory was asked for after the opening.
-fn works_without_memory(heap: &Refusing<Global>, jobs: &[Job]) -> Result<u64, Fail> {
+/// Opens banks over this memory, has two seats make the calls of a script, and closes them. The answer is how many gates
+/// were made, where no memory was asked for after the opening.
+fn works_without_memory(
+    heap: &Refusing<Global>,
+    jobs: &[Job],
+    script: &[(Who, Call, Reply)],
+) -> Result<u64, Fail> {
     let mut seats = Vec::with_capacity(heap, 2)?;
     let (banks, mut one, mut two) = two_seats(heap, jobs)?;
     let opened = heap.growths();
-    replies(&banks, jobs, &mut one, &mut two);
+    first_other(&banks, jobs, &mut one, &mut two, script);
     if one.inside().is_some() || two.inside().is_some() {
         return Err(Fail::new("both seats are outside"));
     }
@@ -246,14 +267,16 @@ fn opened_banks_grow_nothing(rt: HostRuntime) -> Result<(), Fail> {
     let alloc = rt.alloc();
     let circuit = Circuit::read(alloc, FULL_ADDER.as_bytes())?;
     let jobs = three_jobs(alloc, &circuit)?;
-    assert_eq!(rt; works_without_memory(&Refusing::never(alloc), &jobs)?, 2);
+    let script = script(alloc, &jobs)?;
+    let made = works_without_memory(&Refusing::never(alloc), &jobs, &script)?;
+    assert_eq!(rt; made, 2);
     Ok(())
 }
 
 /// The replies to a step of two gates.
-fn two_replies<'j, 'c>(
-    banks: &Banks<'j, 'c>,
-    jobs: &[Job<'c>],
+fn two_replies(
+    banks: &Banks,
+    jobs: &[Job],
     seat: &mut BankSeat,
     first: u32,
     second: u32,
@@ -269,7 +292,7 @@ fn two_replies<'j, 'c>(
                 return (Reply::Barred, Reply::Barred);
             }
             let (answer, next_answer) = banks.step_two(seat, first, second);
-            (Reply::from(answer), Reply::from(next_answer))
+            (Reply::Answer(answer), Reply::Answer(next_answer))
         }
         _ => (Reply::Barred, Reply::Barred),
     }
@@ -277,10 +300,10 @@ fn two_replies<'j, 'c>(
 
 /// Seat one makes the gates of the full adder one by one, and seat two those of an equal job two at a time. Gates 0
 /// and 1 read input wires alone, gates 2 and 3 read wire 3, which gate 0 sets, and gate 4 reads what gate 2 sets.
-fn step_pairs<'j, 'c>(
+fn step_pairs(
     rt: &impl Abort,
-    banks: &Banks<'j, 'c>,
-    jobs: &[Job<'c>],
+    banks: &Banks,
+    jobs: &[Job],
     one: &mut BankSeat,
     two: &mut BankSeat,
 ) -> Result<(), Fail>
@@ -303,7 +326,7 @@ fn step_pairs<'j, 'c>(
     ];
     assert_eq!(rt;
         two_replies(banks, jobs, two, 2, 1),
-        (Reply::NotYet(3), made[1])
+        (Reply::Answer(Answer::NotYet(3)), made[1])
     );
     assert_eq!(rt; two_replies(banks, jobs, two, 0, 0), (made[0], done[0]));
     assert_eq!(rt; two_replies(banks, jobs, two, 2, 3), (made[2], made[3]));

@@ -2,12 +2,13 @@
 
 use crate::banks::three_jobs;
 use crate::jobs::{evaluated, one_after_another, one_of_each_version};
-use gc_bank::{Banks, OpenFault, one_circuit};
+use gc_bank::{Banks, MAX_JOBS, OpenFault, one_circuit};
 use gc_circuit::Circuit;
 use gc_eval::{EvalFault, Job};
 use gc_gatehouse::Open;
 use gc_refusing::Refusing;
 use gc_worked::circuits::{FULL_ADDER, many_ands};
+use gc_worked::growths::refusals_met;
 use std::alloc::Global;
 use std::sync::Wait;
 use std::test::Fail;
@@ -16,7 +17,7 @@ use std::thread::Threads;
 /// The fault of opening banks with two seats when the growth n is refused, or how many seats there are.
 fn opened(alloc: Global, jobs: &[Job], n: u64) -> Result<usize, OpenFault> {
     let heap = Refusing::nth(alloc, n);
-    if jobs.is_empty() || jobs.len() > 65_536 || !one_circuit(jobs) {
+    if jobs.is_empty() || jobs.len() > MAX_JOBS || !one_circuit(jobs) {
         return Ok(0);
     }
     let (_, seats) = Banks::open(&heap, jobs, 2)?;
@@ -57,8 +58,8 @@ fn same(one: &[Vec<bool, &Refusing<Global>>], other: &[Vec<bool>]) -> bool {
             .all(|(a, b)| a.as_slice() == b.as_slice())
 }
 
-/// With growth 1, 2, 3, .. refused, this many workers give the answer of one thread, or the fault for memory. The
-/// answer is how many runs met a refusal.
+/// How many runs of this many workers meet a refused growth. Each gives the answer of one thread, or the fault for
+/// memory.
 fn refused_runs<R: Threads + Wait + Sync>(
     rt: &R,
     alloc: Global,
@@ -66,18 +67,16 @@ fn refused_runs<R: Threads + Wait + Sync>(
     workers: u32,
 ) -> Result<u64, Fail> {
     let plain = one_after_another(alloc, jobs)?;
-    for n in 1..1000 {
-        let heap = Refusing::nth(alloc, n);
-        match evaluated(rt, &heap, jobs, workers, &Open)? {
-            Ok(all) if same(&all, &plain) => {}
-            Err(EvalFault::Memory) if heap.refused() == 1 => {}
-            _ => return Err(Fail::new("neither the answer nor the fault for memory")),
-        }
-        if heap.refused() == 0 {
-            return Ok(n - 1);
-        }
+    let refused = refusals_met(alloc, |heap| {
+        Some(match evaluated(rt, heap, jobs, workers, &Open)? {
+            Ok(all) => same(&all, &plain),
+            Err(fault) => fault == EvalFault::Memory && heap.refused() == 1,
+        })
+    });
+    match refused {
+        Some(runs) => Ok(runs),
+        None => Err(Fail::new("neither the answer nor the fault for memory")),
     }
-    Err(Fail::new("each run met a refusal"))
 }
 
 /// Fewer jobs than workers, on a wide circuit, are shared at the banks. These take memory seven times, the workers

@@ -1,7 +1,7 @@
 //! Tests of the evaluation of lists of jobs: the answers are those of one thread, and the threads are really
 //! at work.
 
-use gc_bank::{evaluate_jobs, one_circuit};
+use gc_bank::{MAX_JOBS, evaluate_jobs, one_circuit};
 use gc_circuit::{Circuit, read_value};
 use gc_eval::{EvalFault, Job, evaluate};
 use gc_file::{Version, read_garbled, read_labels};
@@ -31,7 +31,7 @@ pub(crate) fn job_of<'c>(
     Ok(Job::bind(alloc, circuit, garbled, &labels)?)
 }
 
-/// What this many workers answer, where the jobs may be evaluated together.
+/// What this many workers answer; None where the jobs can't be evaluated together.
 pub(crate) fn evaluated<
     B: Allocator + Copy + Send + Sync,
     H: Gatehouse + Sync,
@@ -42,11 +42,11 @@ pub(crate) fn evaluated<
     jobs: &[Job],
     workers: u32,
     observer: &H,
-) -> Result<Result<Vec<Vec<bool, B>, B>, EvalFault>, Fail> {
-    if jobs.is_empty() || jobs.len() > 65_536 || !one_circuit(jobs) {
-        return Err(Fail::new("the jobs are on one circuit"));
+) -> Option<Result<Vec<Vec<bool, B>, B>, EvalFault>> {
+    if jobs.is_empty() || jobs.len() > MAX_JOBS || !one_circuit(jobs) {
+        return None;
     }
-    Ok(evaluate_jobs(rt, alloc, jobs, workers, observer))
+    Some(evaluate_jobs(rt, alloc, jobs, workers, observer))
 }
 
 /// What one thread answers for each job, one after another.
@@ -109,16 +109,11 @@ pub(crate) fn one_of_each_version<'c>(
 
 /// Whether two of this many workers meet as they evaluate jobs together, each by its own number, and the answers are
 /// those of one thread.
-fn meet<R: Threads + Wait + Sync>(
-    rt: &R,
-    alloc: Global,
-    jobs: &[Job],
-    workers: u32,
-) -> Result<bool, Fail> {
+fn meet<R: Threads + Wait + Sync>(rt: &R, alloc: Global, jobs: &[Job], workers: u32) -> bool {
     let observer = Meeting::new();
-    let found = evaluated(rt, alloc, jobs, workers, &observer)?;
-    let is_right = found == one_after_another(alloc, jobs);
-    Ok(observer.has_met() && observer.are_below(workers) && is_right)
+    let found = evaluated(rt, alloc, jobs, workers, &observer);
+    let is_right = found == Some(one_after_another(alloc, jobs));
+    observer.has_met() && observer.are_below(workers) && is_right
 }
 
 /// Two of three workers step the gates of two jobs on 2,000 independent AND gates, and two workers those of one job.
@@ -130,8 +125,8 @@ fn two_job_workers_meet(rt: HostRuntime) -> Result<(), Fail> {
     let zeros = "0".repeat(alloc, 2000)?;
     let values = [zeros.as_str(), zeros.as_str()];
     let mut jobs = one_of_each_version(alloc, &circuit, text.as_str(), &values)?;
-    assert!(rt; meet(&rt, alloc, &jobs, 3)?);
+    assert!(rt; meet(&rt, alloc, &jobs, 3));
     drop(jobs.pop());
-    assert!(rt; jobs.len() == 1 && meet(&rt, alloc, &jobs, 2)?);
+    assert!(rt; jobs.len() == 1 && meet(&rt, alloc, &jobs, 2));
     Ok(())
 }

@@ -15,31 +15,15 @@ use std::alloc::Global;
 use std::sync::Wait;
 use std::thread::Threads;
 
-/// A circuit, and all that its parts take.
+/// A circuit, and all that its parts take, with zeros as inputs.
 #[derive(Drop)]
 pub struct Subject {
     pub circuit: Circuit,
     seed: Seed,
     garbling: Garbling,
-    materials: Materials,
-}
-
-/// What parts take beside the circuit and its garbling, with zeros as inputs.
-#[derive(Drop)]
-struct Materials {
     values: Vec<Vec<bool>>,
     canonical_text: Vec<u8>,
     garbled_file: Vec<u8>,
-}
-
-impl Materials {
-    fn of(alloc: Global, circuit: &Circuit, garbling: &Garbling, seed: &Seed) -> Result<Materials> {
-        Ok(Materials {
-            values: values_of(alloc, circuit)?,
-            canonical_text: circuit.canon(alloc)?,
-            garbled_file: file_of(alloc, circuit, garbling, seed)?,
-        })
-    }
 }
 
 /// Input values of zeros.
@@ -72,12 +56,13 @@ impl Subject {
         let circuit = Circuit::read(alloc, text)?;
         let seed = Seed::from_bytes([0; 32]);
         let garbling = garble_one_thread(alloc, &circuit, &seed)?;
-        let materials = Materials::of(alloc, &circuit, &garbling, &seed)?;
         Ok(Subject {
+            values: values_of(alloc, &circuit)?,
+            canonical_text: circuit.canon(alloc)?,
+            garbled_file: file_of(alloc, &circuit, &garbling, &seed)?,
             circuit,
             seed,
             garbling,
-            materials,
         })
     }
 
@@ -86,9 +71,9 @@ impl Subject {
         job_of(
             alloc,
             &self.circuit,
-            &self.materials.garbled_file,
+            &self.garbled_file,
             &self.seed,
-            &self.materials.values,
+            &self.values,
         )
     }
 
@@ -123,19 +108,19 @@ impl Subject {
             Part::List => one_after_another(alloc, jobs),
             Part::ListBy(workers) => together(rt, alloc, jobs, workers),
             Part::Digest => self.digest(),
-            Part::Sha => sha(&self.materials.canonical_text),
+            Part::Sha => sha(&self.canonical_text),
             Part::Write => write(&mut Nowhere, &self.circuit, &self.garbling, &self.seed),
             Part::ReadFile => self.read_file(alloc),
             Part::Pieces => self.pieces(alloc),
-            Part::FileSha => sha(&self.materials.garbled_file),
+            Part::FileSha => sha(&self.garbled_file),
         }
     }
 
     fn plain(&self, alloc: Global) -> Result<()> {
-        if !fits(&self.circuit, &self.materials.values) {
+        if !fits(&self.circuit, &self.values) {
             return Err(anyhow!("the values do not fit"));
         }
-        plain_eval(alloc, &self.circuit, &self.materials.values)?;
+        plain_eval(alloc, &self.circuit, &self.values)?;
         Ok(())
     }
 
@@ -151,7 +136,7 @@ impl Subject {
         Ok(())
     }
 
-    /// The same number of hashes, in eight lanes.
+    /// As many hashes as [`Subject::lanes`] takes, in eight lanes.
     fn eight_lanes(&self) -> Result<()> {
         let mut labels = [0; 8];
         for k in 0..u64::from(self.circuit.and_count().div_ceil(2)) {
@@ -181,12 +166,12 @@ impl Subject {
     }
 
     fn read_file(&self, alloc: Global) -> Result<()> {
-        not_zeros(read_garbled(alloc, &self.materials.garbled_file)?.digest())
+        not_zeros(read_garbled(alloc, &self.garbled_file)?.digest())
     }
 
     fn pieces(&self, alloc: Global) -> Result<()> {
         let mut reader = GarbledReader::new(alloc);
-        for piece in self.materials.garbled_file.chunks(4096) {
+        for piece in self.garbled_file.chunks(4096) {
             reader.feed(piece)?;
         }
         not_zeros(reader.end()?.digest())

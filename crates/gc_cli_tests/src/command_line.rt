@@ -21,9 +21,9 @@ impl Write for Closed {
     }
 }
 
-/// A line whose words can't be had is a line that can't be read, whether or not that can be said.
+/// A line whose words can't be read is refused, whether or not that can be said.
 #[test]
-fn refuses_words_that_cannot_be_had(rt: HostRuntime) {
+fn refuses_words_that_cannot_be_read(rt: HostRuntime) {
     let rows = [
         (
             ErrorKind::InvalidData,
@@ -35,7 +35,7 @@ fn refuses_words_that_cannot_be_had(rt: HostRuntime) {
         ),
         (
             ErrorKind::Other,
-            "error: the command line can't be read: its words can't be had\n",
+            "error: the command line can't be read: its words can't be read\n",
         ),
     ];
     for (kind, errors) in rows {

@@ -19,9 +19,10 @@ const FILE: Part = (52, 1);
 /// The widths of either side, the gates, and which wires are set.
 const CIRCUIT: Part = (13, 4);
 
-const LIST_OF_VALUES: Part = (52, 1);
+const FIRST: [Part; 2] = [FILE, CIRCUIT];
 
-const THREE_VALUES: Part = (13, 3);
+/// The list of values, and three values.
+const VALUES: [Part; 2] = [(52, 1), (13, 3)];
 
 const ONE_VALUE: Part = (13, 1);
 
@@ -45,10 +46,10 @@ const LABELS: Part = (36, 1);
 
 const THREE_LABEL_FILES: [Part; 7] = [LIST_OF_LABELS, FILE, LABELS, FILE, LABELS, FILE, LABELS];
 
-/// The input labels, the labels of all wires, and the output bits.
-const EVALUATION: Part = (46, 3);
-
 const OUTPUT_LINE: Part = (52, 1);
+
+/// The input labels, the labels of all wires, and the output bits; and the output line.
+const EVALUATION: [Part; 2] = [(46, 3), OUTPUT_LINE];
 
 /// 121 bytes, in room for 8, 16, 32, 64 and 128.
 const CHECK_LINES: Part = (52, 5);
@@ -87,101 +88,61 @@ static ORDERS: [(&[&str], &str, &[&[Part]]); 11] = [
         &["run", "c.txt", SEED, "1", "0", "1"],
         "01\n",
         &[
-            &[
-                FILE,
-                CIRCUIT,
-                LIST_OF_VALUES,
-                THREE_VALUES,
-                GARBLING,
-                GARBLED_FILE,
-                GARBLED,
-            ],
+            &FIRST,
+            &VALUES,
+            &[GARBLING, GARBLED_FILE, GARBLED],
             &THREE_LABEL_FILES,
-            &[EVALUATION, OUTPUT_LINE],
+            &EVALUATION,
         ],
     ),
     (
         &["plain", "c.txt", "1", "0", "1"],
         "01\n",
-        &[&[
-            FILE,
-            CIRCUIT,
-            LIST_OF_VALUES,
-            THREE_VALUES,
-            PLAIN_EVALUATION,
-            OUTPUT_LINE,
-        ]],
+        &[&FIRST, &VALUES, &[PLAIN_EVALUATION, OUTPUT_LINE]],
     ),
-    (
-        &["check", "c.txt"],
-        ADDER_LINES,
-        &[&[FILE, CIRCUIT, CHECK_LINES]],
-    ),
+    (&["check", "c.txt"], ADDER_LINES, &[&FIRST, &[CHECK_LINES]]),
     (
         &["garble", "c.txt", SEED, "out"],
         "wrote 177\n",
-        &[&[FILE, CIRCUIT, GARBLING, OUTPUT_LINE]],
+        &[&FIRST, &[GARBLING, OUTPUT_LINE]],
     ),
     (
         &["deal", "c.txt", SEED, "2", "1", "out"],
         "wrote 32\n",
-        &[&[FILE, CIRCUIT, ONE_VALUE, OUTPUT_LINE]],
+        &[&FIRST, &[ONE_VALUE, OUTPUT_LINE]],
     ),
     (
         &["eval", "c.txt", "g", "0", "1", "2"],
         "01\n",
-        &[
-            &[FILE, CIRCUIT, GARBLED],
-            &THREE_LABEL_FILES,
-            &[EVALUATION, OUTPUT_LINE],
-        ],
+        &[&FIRST, &[GARBLED], &THREE_LABEL_FILES, &EVALUATION],
     ),
     (
         &["jobs", "c.txt", "list"],
         "01\n\n",
         &[
-            &[
-                FILE,
-                CIRCUIT,
-                FILE,
-                PARTS,
-                LIST_OF_JOBS,
-                PARTS,
-                WORDS,
-                GARBLED,
-            ],
+            &FIRST,
+            &[FILE, PARTS, LIST_OF_JOBS, PARTS, WORDS, GARBLED],
             &THREE_LABEL_FILES,
             &[JOBS_EVALUATION, OUTPUT_LINE],
         ],
     ),
-    (
-        &["locate", "c.txt"],
-        "no fault\n",
-        &[&[FILE, CIRCUIT, NO_FAULT]],
-    ),
+    (&["locate", "c.txt"], "no fault\n", &[&FIRST, &[NO_FAULT]]),
     (
         &["stats", "c.txt"],
         ADDER_STATS,
-        &[&[FILE, CIRCUIT, STATS, STATS_LINES]],
+        &[&FIRST, &[STATS, STATS_LINES]],
     ),
     (
         &["labels", "c.txt", SEED, "--from", "7", "1", "0", "1"],
         SUM_LINE,
-        &[&[
-            FILE,
-            CIRCUIT,
-            LIST_OF_VALUES,
-            THREE_VALUES,
-            GARBLING,
-            WIRE_BITS,
-            LABEL_LINES,
-        ]],
+        &[&FIRST, &VALUES, &[GARBLING, WIRE_BITS, LABEL_LINES]],
     ),
     (
         &["audit", "c.txt", SEED, "g", "0", "1", "2"],
         ADDER_AUDIT,
         &[
-            &[FILE, CIRCUIT, GARBLED],
+            &FIRST,
+            &[GARBLED],
             &THREE_LABEL_FILES,
             &[GARBLING_IN_PLACE, AUDIT_LINES],
         ],

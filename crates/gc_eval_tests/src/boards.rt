@@ -281,7 +281,7 @@ fn an_opened_board_grows_nothing(rt: HostRuntime) -> Result<(), Fail> {
     Ok(())
 }
 
-/// Lets each seat step all gates, in this many threads at the most.
+/// Lets each seat step all gates, in at most this many threads.
 fn step_together<'j, 'c, R: Threads + Sync>(
     rt: &R,
     threads: usize,

@@ -1,45 +1,19 @@
 //! Each growth refused in turn of the calls that bind jobs and evaluate them.
 
-use crate::jobs::job_files;
-use gc_circuit::{Circuit, Memory};
-use gc_eval::{BindFault, EvalFault, Job, evaluate, evaluate_labels};
+use crate::jobs::{job_files, job_of};
+use gc_circuit::Circuit;
+use gc_eval::{BindFault, EvalFault, Job, evaluate};
 use gc_file::{Version, read_garbled};
-use gc_half::garble_one_thread;
-use gc_label::{Label, Seed, fill_input_labels};
 use gc_refusing::Refusing;
-use gc_worked::circuits::{AND, FULL_ADDER};
+use gc_worked::circuits::AND;
 use gc_worked::files::and_file;
 use gc_worked::growths::{Answer, plain_if, runs_refused};
+use std::alloc::Global;
 use std::test::Fail;
 
-/// The evaluation of the full adder on input labels that stand for zeros.
+/// The growths of reading the garbled file come first, and then the one of binding.
 #[test]
-fn evaluation(rt: HostRuntime) -> Result<(), Fail> {
-    let circuit = Circuit::read(rt.alloc(), FULL_ADDER.as_bytes())?;
-    let seed = Seed::from_bytes([0; 32]);
-    let garbling = garble_one_thread(rt.alloc(), &circuit, &seed)?;
-    let mut labels = [Label::ZERO; 3];
-    fill_input_labels(&seed, 0, &mut labels);
-    assert!(rt; garbling.fits(&circuit) && garbling.outputs() == 2);
-    assert_eq!(rt; circuit.input_wires(), 3);
-    let decode_bits = [garbling.decode_bit(0), garbling.decode_bit(1)];
-    let refused = runs_refused(rt.alloc(), |heap| {
-        if !garbling.fits(&circuit) || circuit.input_wires() != 3 || circuit.output_wires() != 2 {
-            return Answer::Other;
-        }
-        match evaluate_labels(heap, &circuit, garbling.rows(), &decode_bits, &labels) {
-            Ok(bits) => plain_if(bits.as_slice() == [false, false].as_slice()),
-            Err(Memory) => Answer::Memory,
-        }
-    });
-    assert_eq!(rt; refused, Ok(2));
-    Ok(())
-}
-
-/// The growths of reading the garbled file come first, and then the one of binding; evaluating has two, and decoding
-/// the second of these alone.
-#[test]
-fn binding_and_evaluating(rt: HostRuntime) -> Result<(), Fail> {
+fn binding(rt: HostRuntime) -> Result<(), Fail> {
     let alloc = rt.alloc();
     let circuit = Circuit::read(alloc, AND.as_bytes())?;
     let file = and_file(alloc, Version::Two)?;
@@ -55,24 +29,40 @@ fn binding_and_evaluating(rt: HostRuntime) -> Result<(), Fail> {
         }
     });
     assert_eq!(rt; refused, Ok(5));
-    let job = Job::bind(alloc, &circuit, read_garbled(alloc, &file)?, &labels)?;
-    let refused = runs_refused(alloc, |heap| match evaluate(heap, &job) {
+    Ok(())
+}
+
+/// What an evaluation answered whose output bit is 1.
+fn shown(found: Result<Vec<bool, &Refusing<Global>>, EvalFault>) -> Answer {
+    match found {
         Ok(bits) => plain_if(bits.as_slice() == [true].as_slice()),
         Err(EvalFault::Memory) => Answer::Memory,
         Err(_) => Answer::Other,
-    });
+    }
+}
+
+/// One growth for the labels, and one for the output bits.
+#[test]
+fn evaluating(rt: HostRuntime) -> Result<(), Fail> {
+    let circuit = Circuit::read(rt.alloc(), AND.as_bytes())?;
+    let job = job_of(rt.alloc(), &circuit, AND, &["1", "1"])?;
+    let refused = runs_refused(rt.alloc(), |heap| shown(evaluate(heap, &job)));
     assert_eq!(rt; refused, Ok(2));
+    Ok(())
+}
+
+/// One growth for the output bits.
+#[test]
+fn decoding(rt: HostRuntime) -> Result<(), Fail> {
+    let circuit = Circuit::read(rt.alloc(), AND.as_bytes())?;
+    let job = job_of(rt.alloc(), &circuit, AND, &["1", "1"])?;
     assert!(rt; job.circuit().gates() == 1 && job.circuit().input_wires() == 2);
     let label = job.active(0, job.input(0), job.input(1));
-    let refused = runs_refused(alloc, |heap| {
+    let refused = runs_refused(rt.alloc(), |heap| {
         if job.circuit().output_wires() != 1 {
             return Answer::Other;
         }
-        match job.decode(heap, &[label]) {
-            Ok(bits) => plain_if(bits.as_slice() == [true].as_slice()),
-            Err(EvalFault::Memory) => Answer::Memory,
-            Err(_) => Answer::Other,
-        }
+        shown(job.decode(heap, &[label]))
     });
     assert_eq!(rt; refused, Ok(1));
     Ok(())

@@ -1,28 +1,23 @@
 //! Tests of evaluation on many threads: the answer is that of one thread, and the threads are really at work.
 
+use crate::jobs::job_of;
 use gc_circuit::Circuit;
 use gc_eval::{EvalFault, Job, evaluate, evaluate_many};
-use gc_file::{Version, read_garbled, read_labels};
 use gc_gatehouse::Open;
-use gc_refusing::Refusing;
 use gc_worked::circuits::{FULL_ADDER, and_chains, many_ands, mixed_layers};
 use gc_worked::counting::Counting;
-use gc_worked::files::{label_file, write};
+use gc_worked::growths::refusals_met;
 use gc_worked::meeting::Meeting;
 use std::alloc::Global;
 use std::sync::Wait;
 use std::test::Fail;
 use std::thread::Threads;
 
-/// The job of a circuit's file in version 2 on zeros.
+/// The job of a circuit's file on zeros. The circuit has at most three input values, of one width.
 fn job_on_zeros<'c>(alloc: Global, circuit: &'c Circuit, text: &str) -> Result<Job<'c>, Fail> {
-    let garbled = read_garbled(alloc, &write(alloc, text, Version::Two, None)?.bytes)?;
-    let mut labels = Vec::new(alloc);
-    for (index, width) in (0..).zip(circuit.input_widths()) {
-        let zeros = vec![in alloc; false; *width as usize]?;
-        labels.push(read_labels(alloc, &label_file(alloc, circuit, index, &zeros)?)?)?;
-    }
-    Ok(Job::bind(alloc, circuit, garbled, &labels)?)
+    let width = circuit.input_widths().first().copied().unwrap_or(0);
+    let zeros = "0".repeat(alloc, width as usize)?;
+    job_of(alloc, circuit, text, &[zeros.as_str(); 3])
 }
 
 /// Whether the workers 0 and 1 meet as they evaluate a circuit, and answer what one thread answers.
@@ -91,8 +86,8 @@ fn each_gate_is_reported(rt: HostRuntime) -> Result<(), Fail> {
     Ok(())
 }
 
-/// With growth 1, 2, 3, .. refused, this many workers give the answer of one thread, or the fault for memory. The
-/// answer is how many runs met a refusal.
+/// How many runs of this many workers meet a refused growth. Each gives the answer of one thread, or the fault for
+/// memory.
 fn refused_runs<R: Threads + Wait + Sync>(
     rt: &R,
     alloc: Global,
@@ -100,18 +95,16 @@ fn refused_runs<R: Threads + Wait + Sync>(
     workers: u32,
 ) -> Result<u64, Fail> {
     let plain = evaluate(alloc, job)?;
-    for n in 1..1000 {
-        let heap = Refusing::nth(alloc, n);
-        match evaluate_many(rt, &heap, job, workers, &Open) {
-            Ok(bits) if bits.as_slice() == plain.as_slice() => {}
-            Err(EvalFault::Memory) if heap.refused() == 1 => {}
-            _ => return Err(Fail::new("neither the answer nor the fault for memory")),
-        }
-        if heap.refused() == 0 {
-            return Ok(n - 1);
-        }
+    let refused = refusals_met(alloc, |heap| {
+        Some(match evaluate_many(rt, heap, job, workers, &Open) {
+            Ok(bits) => bits.as_slice() == plain.as_slice(),
+            Err(fault) => fault == EvalFault::Memory && heap.refused() == 1,
+        })
+    });
+    match refused {
+        Some(runs) => Ok(runs),
+        None => Err(Fail::new("neither the answer nor the fault for memory")),
     }
-    Err(Fail::new("each run met a refusal"))
 }
 
 /// Which way to go takes memory twice where there are several threads; the board six times, the workers once each and

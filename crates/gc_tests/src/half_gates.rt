@@ -44,127 +44,136 @@ fn hashes(rt: HostRuntime) {
     }
 }
 
-/// The zero label of the first AND gate's wire where it reads the input wires 0 and 1, and its rows.
-const FIRST_AND: (u128, u128, u128) = (
-    0x4da3522f101cbfa705f185f57f1b9538,
-    0xdd11d0a73fd8455816559c223b1bca52,
-    0x7a962e6d92d4a4db49c46e62392ddf4e,
-);
+/// An AND gate: its number, the zero labels that it reads, and what they give.
+#[derive(Clone, Copy)]
+struct WorkedAnd {
+    k: u32,
+    a: u128,
+    b: u128,
+    zero: u128,
+    generator: u128,
+    evaluator: u128,
+}
 
-/// The number of an AND gate, the zero labels that it reads, and what they give. They have both colours, and the gates
-/// are the first and the last that have a number.
-static AND_GATES: [(u32, u128, u128, (u128, u128, u128)); 4] = [
-    (0, A, B, FIRST_AND),
-    (
-        0,
-        B,
-        A,
-        (
-            0xf4f64ce145290daac0e2062f3fa1f0e7,
-            0x04892532a3fd5817fe0107eaed42ca17,
-            0x1d6a50b8b2a30b3bdb65767f3ca460eb,
-        ),
-    ),
-    (
-        0,
-        B,
-        B ^ R,
-        (
-            0x8580354950faf8ecd07058c319a063bb,
-            0x04892532a3fd5817fe0107eaed42ca17,
-            0x1d056ea9630e014c96d661910a8298be,
-        ),
-    ),
-    (
-        u32::MAX,
-        A ^ R,
-        B,
-        (
-            0x25eb6478bc5ca3dc61a65a3988feaae4,
-            0xb558cc438b74ce8f252a1a716273f552,
-            0x738ed97f714af708f7cae09ee5fd9f60,
-        ),
-    ),
+/// The first AND gate, where it reads the input wires 0 and 1.
+const FIRST_AND: WorkedAnd = WorkedAnd {
+    k: 0,
+    a: A,
+    b: B,
+    zero: 0x4da3522f101cbfa705f185f57f1b9538,
+    generator: 0xdd11d0a73fd8455816559c223b1bca52,
+    evaluator: 0x7a962e6d92d4a4db49c46e62392ddf4e,
+};
+
+/// AND gates that read labels of both colours, the first and the last that have a number among them.
+static AND_GATES: [WorkedAnd; 4] = [
+    FIRST_AND,
+    WorkedAnd {
+        k: 0,
+        a: B,
+        b: A,
+        zero: 0xf4f64ce145290daac0e2062f3fa1f0e7,
+        generator: 0x04892532a3fd5817fe0107eaed42ca17,
+        evaluator: 0x1d6a50b8b2a30b3bdb65767f3ca460eb,
+    },
+    WorkedAnd {
+        k: 0,
+        a: B,
+        b: B ^ R,
+        zero: 0x8580354950faf8ecd07058c319a063bb,
+        generator: 0x04892532a3fd5817fe0107eaed42ca17,
+        evaluator: 0x1d056ea9630e014c96d661910a8298be,
+    },
+    WorkedAnd {
+        k: u32::MAX,
+        a: A ^ R,
+        b: B,
+        zero: 0x25eb6478bc5ca3dc61a65a3988feaae4,
+        generator: 0xb558cc438b74ce8f252a1a716273f552,
+        evaluator: 0x738ed97f714af708f7cae09ee5fd9f60,
+    },
 ];
+
+impl WorkedAnd {
+    fn rows(&self) -> RowPair {
+        RowPair {
+            generator: label(self.generator),
+            evaluator: label(self.evaluator),
+        }
+    }
+
+    /// Its evaluation on the zero labels that it reads.
+    fn step(&self) -> AndStep {
+        AndStep {
+            k: self.k,
+            rows: self.rows(),
+            a: label(self.a),
+            b: label(self.b),
+        }
+    }
+
+    /// It as a gate to be garbled, under the offset of the seed of 32 zero bytes.
+    fn gate(&self) -> AndGate {
+        AndGate {
+            k: self.k,
+            offset: offset(&zero_seed()),
+            a: label(self.a),
+            b: label(self.b),
+        }
+    }
+
+    /// What garbling it gives.
+    fn garbled(&self) -> (Label, Label, Label) {
+        (
+            label(self.zero),
+            label(self.generator),
+            label(self.evaluator),
+        )
+    }
+}
 
 /// The rows take the labels of two bits to the label of their conjunction.
 #[test]
 fn and_gates(rt: HostRuntime) {
     let offset = offset(&zero_seed());
-    for (k, a, b, (zero, generator, evaluator)) in AND_GATES {
-        let rows = (label(generator), label(evaluator));
-        let garbled = garble_and(k, offset, label(a), label(b));
-        assert!(rt; garbled == (label(zero), rows.0, rows.1));
+    for gate in &AND_GATES {
+        let WorkedAnd { k, a, b, zero, .. } = *gate;
+        let rows = gate.rows();
+        assert!(rt; garble_and(k, offset, label(a), label(b)) == gate.garbled());
         for (x, y, active) in [
             (a, b, zero),
             (a ^ R, b, zero),
             (a, b ^ R, zero),
             (a ^ R, b ^ R, zero ^ R),
         ] {
-            assert!(rt; eval_and(k, rows.0, rows.1, label(x), label(y)) == label(active));
+            let found = eval_and(k, rows.generator, rows.evaluator, label(x), label(y));
+            assert!(rt; found == label(active));
         }
     }
-}
-
-/// The rows of an AND gate.
-fn row_of((_, generator, evaluator): (u128, u128, u128)) -> RowPair {
-    RowPair {
-        generator: label(generator),
-        evaluator: label(evaluator),
-    }
-}
-
-/// The evaluation of an AND gate on the zero labels that it reads.
-fn step_of((k, a, b, garbled): (u32, u128, u128, (u128, u128, u128))) -> AndStep {
-    AndStep {
-        k,
-        rows: row_of(garbled),
-        a: label(a),
-        b: label(b),
-    }
-}
-
-/// An AND gate to be garbled, under the offset of the seed of 32 zero bytes.
-fn gate_of((k, a, b, _): (u32, u128, u128, (u128, u128, u128))) -> AndGate {
-    AndGate {
-        k,
-        offset: offset(&zero_seed()),
-        a: label(a),
-        b: label(b),
-    }
-}
-
-/// What garbling it gives.
-fn garbled_of(
-    (_, _, _, (zero, generator, evaluator)): (u32, u128, u128, (u128, u128, u128)),
-) -> (Label, Label, Label) {
-    (label(zero), label(generator), label(evaluator))
 }
 
 #[test]
 fn two_and_four_and_gates_at_once(rt: HostRuntime) {
     for (one, other) in AND_GATES.iter().zip(AND_GATES.iter().rev()) {
-        let found = eval_two_ands(step_of(*one), step_of(*other));
-        assert!(rt; found == (label(one.3.0), label(other.3.0)));
-        let found = garble_two_ands(gate_of(*one), gate_of(*other));
-        assert!(rt; found == (garbled_of(*one), garbled_of(*other)));
-        let found = eval_four_ands([
-            step_of(*one),
-            step_of(*other),
-            step_of(AND_GATES[1]),
-            step_of(*one),
-        ]);
-        let wanted = [one.3.0, other.3.0, AND_GATES[1].3.0, one.3.0];
-        assert!(rt; are_labels(&found, &wanted));
+        let found = eval_two_ands(one.step(), other.step());
+        assert!(rt; found == (label(one.zero), label(other.zero)));
+        let found = garble_two_ands(one.gate(), other.gate());
+        assert!(rt; found == (one.garbled(), other.garbled()));
+        let third = &AND_GATES[1];
+        let found = eval_four_ands([one.step(), other.step(), third.step(), one.step()]);
+        assert!(rt; are_labels(&found, &[one.zero, other.zero, third.zero, one.zero]));
     }
 }
 
-/// Of two AND gates, the second reads the negation of the first.
-const SECOND_AND: (u128, u128, u128) = (
-    0xac8baad75250441b55d9dcef8de4d978,
-    0x7c91c10f0f06f82fa77ce8a4a76f1353,
-    0x7cc5cc60c5dc38e3f18ba8c6cccbf215,
-);
+/// Of two AND gates, the second reads the negation of the first, and wire 0.
+const SECOND_AND: WorkedAnd = WorkedAnd {
+    k: 1,
+    a: FIRST_AND.zero ^ R,
+    b: A,
+    zero: 0xac8baad75250441b55d9dcef8de4d978,
+    generator: 0x7c91c10f0f06f82fa77ce8a4a76f1353,
+    evaluator: 0x7cc5cc60c5dc38e3f18ba8c6cccbf215,
+};
 
 /// Whether the garbling has these zero labels, one for each wire.
 fn has_zero_labels(garbling: &Garbling, circuit: &Circuit, numbers: &[u128]) -> bool {
@@ -183,9 +192,9 @@ fn has_zero_labels(garbling: &Garbling, circuit: &Circuit, numbers: &[u128]) -> 
 fn a_circuit(rt: HostRuntime) -> Result<(), Fail> {
     let circuit = Circuit::read(rt.alloc(), AND_INV_AND.as_bytes())?;
     let garbling = garble_one_thread(rt.alloc(), &circuit, &zero_seed())?;
-    let zero_labels = [A, B, FIRST_AND.0, FIRST_AND.0 ^ R, SECOND_AND.0];
+    let zero_labels = [A, B, FIRST_AND.zero, FIRST_AND.zero ^ R, SECOND_AND.zero];
     assert!(rt; has_zero_labels(&garbling, &circuit, &zero_labels));
-    let rows = [row_of(FIRST_AND), row_of(SECOND_AND)];
+    let rows = [FIRST_AND.rows(), SECOND_AND.rows()];
     assert!(rt; garbling.rows() == rows.as_slice() && garbling.outputs() == 2);
     assert!(rt; !garbling.decode_bit(0) && !garbling.decode_bit(1));
     Ok(())

@@ -1,11 +1,12 @@
 //! Tests of row pairs that are compared with those of a garbling by many threads.
 
-use crate::fixtures::{has_labels, read, refused_runs, seed_of};
+use crate::fixtures::{has_labels, read, seed_of};
 use gc_circuit::Circuit;
 use gc_half::{Garbling, Mismatch, RowPair, garble_one_thread};
 use gc_refusing::Refusing;
 use gc_work::{Open, WorkFault, garble_and_compare};
 use gc_worked::circuits::{NO_GATES, and_chains, many_ands};
+use gc_worked::growths::refusals_met;
 use std::alloc::{Allocator, Global};
 use std::sync::Wait;
 use std::test::Fail;
@@ -123,7 +124,7 @@ fn are_refused<R: Threads + Wait + Sync>(
 ) -> Option<bool> {
     let circuit = read(alloc, text)?;
     let garbling = garble_one_thread(alloc, &circuit, &seed_of(0)).ok()?;
-    let refused = refused_runs(
+    let refused = refusals_met(
         alloc,
         |heap| is_found_or_refused(rt, heap, &circuit, &garbling),
     )?;

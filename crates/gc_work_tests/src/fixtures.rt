@@ -7,7 +7,6 @@ ghost use Rattle.gc_store.specs.declared.tally.TheConstants.{MAX_TALLIES};
 use gc_circuit::Circuit;
 use gc_half::Garbling;
 use gc_label::Seed;
-use gc_refusing::Refusing;
 use gc_store::{MAX_TALLIES, Sealed, Store, Tally, Task};
 use gc_worked::circuits::FULL_ADDER;
 use std::alloc::{Allocator, Global};
@@ -21,26 +20,6 @@ pub(crate) fn seed_of(byte: u8) -> Seed {
 /// The circuit of this text.
 pub(crate) fn read<A: Allocator + Copy>(alloc: A, text: &str) -> Option<Circuit<A>> {
     Circuit::read(alloc, text.as_bytes()).ok()
-}
-
-/// Makes a run with growth 1, 2, 3, .. refused, until one meets no refusal; `is_right` says whether a run answers as it
-/// should. The answer is how many runs met a refusal; None where one answered something else, or each met one.
-pub(crate) fn refused_runs<F: Fn(&Refusing<Global>) -> Option<bool>>(
-    alloc: Global,
-    is_right: F,
-) -> Option<u64>
-    requires { F.IsAlwaysCallable is_right }
-{
-    for n in 1..10_000 {
-        let heap = Refusing::nth(alloc, n);
-        if !is_right(&heap)? {
-            return None;
-        }
-        if heap.refused() == 0 {
-            return Some(n - 1);
-        }
-    }
-    None
 }
 
 /// What begins the ledger of a store.
@@ -85,7 +64,7 @@ pub(crate) fn claim_gate<L: Ledger>(store: &mut Store<L>) -> Option<u32> {
     Some(store.claim()?.gate)
 }
 
-/// Finishes ready gates, this many at the most. The answer is how many were finished.
+/// Finishes ready gates, at most this many. The answer is how many were finished.
 pub(crate) fn finish_gates<L: Ledger, A: Allocator>(
     store: &mut Store<L, A>,
     tally: &mut Tally<L>,

@@ -1,11 +1,12 @@
 //! Tests of garbling on many threads: the answer is that of one thread, and the threads are really at work.
 
-use crate::fixtures::{has_labels, read, refused_runs, seed_of};
+use crate::fixtures::{has_labels, read, seed_of};
 use gc_circuit::Circuit;
 use gc_half::{Garbling, garble_one_thread};
 use gc_work::{Open, WorkFault, garble};
 use gc_worked::circuits::{FULL_ADDER, NO_GATES, and_chains, many_ands, mixed_layers};
 use gc_worked::counting::Counting;
+use gc_worked::growths::refusals_met;
 use gc_worked::meeting::Meeting;
 use std::alloc::{Allocator, Global};
 use std::sync::Wait;
@@ -91,7 +92,7 @@ fn are_refused<R: Threads + Wait + Sync>(
     let circuit = read(alloc, text)?;
     let seed = seed_of(0);
     let one_thread = garble_one_thread(alloc, &circuit, &seed).ok()?;
-    let refused = refused_runs(alloc, |heap| {
+    let refused = refusals_met(alloc, |heap| {
         Some(match garble(rt, heap, &circuit, &seed, workers, &Open) {
             Ok(garbling) => are_same(&circuit, &garbling, &one_thread),
             Err(fault) => fault == WorkFault::Memory && heap.refused() == 1,

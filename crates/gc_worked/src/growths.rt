@@ -1,5 +1,5 @@
 //! Each growth of a call refused in turn: the call answers its Memory fault exactly where a growth was refused, and the
-//! plain answer where none was, also after a refusal.
+//! plain answer where none was, also after a refusal. [`refusals_met`] leaves it to its caller what a run may answer.
 
 use gc_refusing::Refusing;
 use std::alloc::Global;
@@ -57,4 +57,24 @@ pub fn runs_refused<F: Fn(&Refusing<Global>) -> Answer>(
         }
     }
     Err(Stray::Endless)
+}
+
+/// Makes a run with growth 1, 2, 3, .. refused, until one meets no refusal; `is_right` says whether a run answers as it
+/// should. The answer is how many runs met a refusal; None where one answered something else, or each met one.
+pub fn refusals_met<F: Fn(&Refusing<Global>) -> Option<bool>>(
+    alloc: Global,
+    is_right: F,
+) -> Option<u64>
+    requires { F.IsAlwaysCallable is_right }
+{
+    for n in 1..10_000 {
+        let heap = Refusing::nth(alloc, n);
+        if !is_right(&heap)? {
+            return None;
+        }
+        if heap.refused() == 0 {
+            return Some(n - 1);
+        }
+    }
+    None
 }
