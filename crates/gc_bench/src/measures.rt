@@ -97,14 +97,14 @@ impl Subject {
         jobs: &[Job],
     ) -> Result<()> {
         match part {
-            Part::Read => read(alloc, text),
+            Part::Read => Ok(Circuit::read(alloc, text).map(drop)?),
             Part::Plain => self.plain(alloc),
             Part::Lanes => self.lanes(),
             Part::EightLanes => self.eight_lanes(),
-            Part::Garble => self.garble_alone(alloc),
+            Part::Garble => Ok(garble_one_thread(alloc, &self.circuit, &self.seed).map(drop)?),
             Part::GarbleBy(workers) => self.garble(rt, alloc, workers),
-            Part::Job => evaluate_alone(alloc, job),
-            Part::JobBy(workers) => evaluate_by(rt, alloc, job, workers),
+            Part::Job => Ok(evaluate(alloc, job).map(drop)?),
+            Part::JobBy(workers) => Ok(evaluate_many(rt, alloc, job, workers, &Open).map(drop)?),
             Part::List => one_after_another(alloc, jobs),
             Part::ListBy(workers) => together(rt, alloc, jobs, workers),
             Part::Digest => self.digest(),
@@ -148,11 +148,6 @@ impl Subject {
         Ok(())
     }
 
-    fn garble_alone(&self, alloc: Global) -> Result<()> {
-        garble_one_thread(alloc, &self.circuit, &self.seed)?;
-        Ok(())
-    }
-
     /// Garbles by this many workers.
     fn garble<R: Threads + Wait + Sync>(&self, rt: &R, alloc: Global, workers: u32) -> Result<()> {
         garble(rt, alloc, &self.circuit, &self.seed, workers, &Open).map_err(|_| anyhow!(
@@ -176,29 +171,6 @@ impl Subject {
         }
         not_zeros(reader.end()?.digest())
     }
-}
-
-/// Evaluates a job on one thread.
-fn evaluate_alone(alloc: Global, job: &Job) -> Result<()> {
-    evaluate(alloc, job)?;
-    Ok(())
-}
-
-/// Evaluates a job by this many workers.
-fn evaluate_by<R: Threads + Wait + Sync>(
-    rt: &R,
-    alloc: Global,
-    job: &Job,
-    workers: u32,
-) -> Result<()> {
-    evaluate_many(rt, alloc, job, workers, &Open)?;
-    Ok(())
-}
-
-/// Reads a circuit.
-fn read(alloc: Global, text: &[u8]) -> Result<()> {
-    Circuit::read(alloc, text)?;
-    Ok(())
 }
 
 /// Writes the garbled file of version 2.

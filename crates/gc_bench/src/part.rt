@@ -65,12 +65,8 @@ static PARTS: [(&str, Part); 21] = [
 impl Part {
     /// The part of this name, where there is one.
     pub fn named(name: &str) -> Option<Part> {
-        for (known, part) in &PARTS {
-            if *known == name {
-                return Some(*part);
-            }
-        }
-        None
+        let named = PARTS.iter().find(|(known, _)| *known == name);
+        named.map(|(_, part)| *part)
     }
 
     /// How many jobs the list has that it takes, if it takes one.

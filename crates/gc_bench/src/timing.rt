@@ -41,20 +41,12 @@ pub fn time_parts<R: Threads + Wait + Clock + Sync>(
     timings: &mut [Timing],
 ) -> Result<()> {
     let job = subject.job(alloc)?;
-    let jobs = subject.jobs(alloc, jobs_listed(timings))?;
+    let listed = timings.iter().map(|it| it.part.jobs_listed());
+    let jobs = subject.jobs(alloc, listed.max().unwrap_or(0))?;
     for _ in 0..repeats {
         time_once(rt, alloc, subject, text, &job, &jobs, timings)?;
     }
     Ok(())
-}
-
-/// How many jobs the list has that the parts take, if one of them takes one.
-fn jobs_listed(timings: &[Timing]) -> u32 {
-    let mut listed = 0;
-    for timing in timings {
-        listed = timing.part.jobs_listed().max(listed);
-    }
-    listed
 }
 
 /// Runs each part once.
