@@ -190,7 +190,8 @@ module _ (c : Netlist) (lawful : IsLawful (without_outputs c)) where
   unfolding check_read
   read_passes w u h = tested_set c w (grind (arith, nat_tests))
 
-  -- The first wire at fault that a gate of so many words reads, and how far from its end it stands.
+  -- The first wire at fault that a gate of this number of words reads, and how far before the
+  -- end of the gate it stands.
   abbrev ReadsFault : List ℕ → WireBack → ℕ → ReadFault → Type 0
   ReadsFault wires at words e = (w : ℕ) × (back : ℕ) × (first : IsFirstUnset c wires w)
       × UnsetFault c w e × (at ≡ (w, back)) × (2 + before_unset c wires w first + back ≡ words)
