@@ -49,15 +49,16 @@ def layered(draw, groups):
     return text_of([64], [len(gates)], gates)
 
 
-# The first three go by layers. The others go through a store or a board, but for the last one by
-# 64 workers; by one worker they run on one thread.
+# All but the last two go by layers. These go through a store or a board by a few workers, and by one
+# worker all run on one thread.
 LAYERED = [
     [20 * [100]],
     [[1, 2, 3, 16, 17, 63, 64, 65, 1023, 1024, 1025]],
     [3 * [1500]],
-    64 * [8 * [1]],
     64 * [4 * [8]],
     30 * [10 * [10]],
+    16 * [50 * [4]],
+    8 * [400 * [1]],
 ]
 
 

@@ -23,4 +23,5 @@ pub use labelling::Labelling;
 pub use mark::Mark;
 pub use pending::Pending;
 pub use place::Place;
+pub use postponed::MOST_POSTPONED;
 pub use threads::{GATES_FOR_THREAD, label_by_layers};

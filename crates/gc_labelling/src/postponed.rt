@@ -10,7 +10,7 @@ use std::alloc::Allocator;
 use std::marker::Model;
 
 /// The most gates that are postponed.
-const MOST_POSTPONED: usize = 512;
+pub const MOST_POSTPONED: usize = 4096;
 
 /// A gate that is postponed, and the mark that the wire had which it waits for: so the gates that wait for one wire are
 /// a list, which the wire's mark begins.

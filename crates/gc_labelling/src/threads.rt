@@ -29,7 +29,7 @@ pub const GATES_FOR_THREAD: u32 = 1024;
 /// goes from gate to gate in file order. AND gates wait to be made in blocks, by all threads; a gate that reads a label
 /// which isn't there yet is postponed until it is. A thread is started for each [`GATES_FOR_THREAD`] AND gates, at
 /// most; where none can be started the calling thread makes all. It takes memory for the marks and for the gates that
-/// wait or are postponed: up to 66 blocks of 64 gates, and 512 gates. Each worker reports each gate to the observer
+/// wait or are postponed: up to 66 blocks of 64 gates, and 4,096 gates. Each worker reports each gate to the observer
 /// before it makes it; the calling thread is worker 0.
 ///
 /// Where a block was lost there are wires without a mark, and their labels are zero or right. The labels must be those

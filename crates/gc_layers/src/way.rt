@@ -6,21 +6,24 @@ ghost use Rattle.gc_labelling.specs.declared.threads.TheConstants.{GATES_FOR_THR
 ghost use Rattle.gc_layers.specs.Way.{HasFewAnds};
 ghost use Rattle.gc_layers.specs.declared.way.Way.TheVariants.{Alone, Together};
 
-use gc_circuit::{Circuit, Memory, Operation};
-use gc_labelling::GATES_FOR_THREAD;
+use gc_circuit::{Circuit, Gate, Memory, Operation};
+use gc_labelling::{GATES_FOR_THREAD, MOST_POSTPONED};
 use std::alloc::Allocator;
 
 /// A circuit in which fewer than one gate in this many is AND is left to one thread.
 const GATES_FOR_THREADS: u32 = 64;
 
-/// A circuit whose layers have about this many AND gates, or more, goes by layers.
-const WIDE_LAYER: u32 = 16;
+/// A circuit whose layers have more than about this many AND gates goes by layers.
+const WIDE_LAYER: u32 = 64;
 
 /// In another one that all threads go through at least one gate in this many is AND.
 const GATES_FOR_AND: u32 = 2;
 
-/// This many gates at the front of a circuit are looked at for its layers, and there are as many marks.
-const LOOKED_AT: u32 = 16_384;
+/// Any other one whose layers have about this many AND gates, or more, goes by layers too.
+const NARROW_LAYER: u32 = 16;
+
+/// This many gates at the front of a circuit are looked at for its layers: as many as are postponed at the most.
+const LOOKED_AT: u32 = MOST_POSTPONED as u32;
 
 /// How threads garble or evaluate a circuit in the least time. Whatever the way, the answer is the same.
 #[derive(Clone, Copy, PartialEq, Eq, Debug)]
@@ -34,8 +37,8 @@ pub enum Way {
 }
 
 /// The way that takes this many threads the least time. [`Way::Alone`] takes no memory for one thread, and for a
-/// circuit with few AND gates. Else it takes memory for a mark for each of 16,384 gates and, where layers are narrow,
-/// for each wire.
+/// circuit with few AND gates. Else it takes memory for the depths of 4,096 gates and, where layers aren't wide, for a
+/// number for each wire.
 ///
 /// No clause says which of the three ways it is otherwise, but that all go from gate to gate only where half of the
 /// gates are AND.
@@ -54,13 +57,18 @@ pub fn way_of<A: Allocator + Copy, C: Allocator>(
     {
         return Ok(Way::Alone);
     }
-    if layer_width(alloc, circuit)? >= WIDE_LAYER {
+    let width = layer_width(alloc, circuit)?;
+    if width > WIDE_LAYER {
         return Ok(Way::Layers);
     }
     if !has_few_ands(circuit, GATES_FOR_AND) && has_free_shares(alloc, circuit, threads)? {
         return Ok(Way::Together);
     }
-    Ok(Way::Alone)
+    Ok(if width >= NARROW_LAYER {
+        Way::Layers
+    } else {
+        Way::Alone
+    })
 }
 
 /// Whether fewer than one gate in this many is AND.
@@ -70,56 +78,52 @@ fn has_few_ands<C: Allocator>(circuit: &Circuit<C>, gates_for_and: u32) -> bool
     u64::from(gates_for_and) * u64::from(circuit.and_count()) < u64::from(circuit.gates())
 }
 
-/// Which wires the AND gates of the present layer set. A mark serves all wires whose numbers are equal modulo
-/// [`LOOKED_AT`], so a layer may seem to end too early.
+/// The AND depths of wires, as far as the front of a circuit sets them: the most AND gates on a path to the wire. Wires
+/// whose numbers are equal modulo [`LOOKED_AT`] share one, so a wire may seem deeper than it is.
 #[derive(Drop)]
-struct Marks<A: Allocator> {
-    // Layers are counted from 1.
-    layer: u32,
-    // By mark, the last layer in which it was set.
-    last_set: Vec<u32, A>,
+struct Depths<A: Allocator> {
+    inputs: u32,
+    by_number: Vec<u32, A>,
 }
 
-impl<A: Allocator> Marks<A> {
-    /// Whether the present layer ends before an operation, which reads a wire that the layer sets.
-    fn end_before(&self, operation: Operation) -> bool {
-        self.is_set(operation.first_wire()) || self.is_set(operation.second_wire())
+impl<A: Allocator> Depths<A> {
+    /// The depth of a wire that an operation reads, if it reads one. Input wires have depth 0.
+    fn of(&self, wire: Option<u32>) -> u32 {
+        let set = wire.filter(|wire| *wire >= self.inputs);
+        let depth = set.and_then(|wire| self.by_number.get((wire % LOOKED_AT) as usize));
+        depth.copied().unwrap_or(0)
     }
 
-    fn is_set(&self, wire: Option<u32>) -> bool {
-        let mark = wire.and_then(|wire| self.last_set.get((wire % LOOKED_AT) as usize));
-        mark == Some(&self.layer)
-    }
-
-    fn set(&mut self, wire: u32) {
-        if let Some(last_set) = self.last_set.get_mut((wire % LOOKED_AT) as usize) {
-            *last_set = self.layer;
+    /// Puts down the depth of the wire that a gate sets, and answers it.
+    fn put(&mut self, gate: Gate) -> u32 {
+        let operation = gate.operation;
+        let read = self
+            .of(operation.first_wire())
+            .max(self.of(operation.second_wire()));
+        let depth = read.saturating_add(u32::from(operation.is_and()));
+        if let Some(of_wire) = self.by_number.get_mut((gate.set % LOOKED_AT) as usize) {
+            *of_wire = depth;
         }
+        depth
     }
 }
 
-/// About how many AND gates a layer has, by the front of the circuit: they follow each other in the file, other gates
-/// between them, and no gate reads what one of them sets before the last has come.
+/// About how many AND gates a layer has, by the front of the circuit: those of one depth are a layer.
 fn layer_width<A: Allocator + Copy, C: Allocator>(
     alloc: A,
     circuit: &Circuit<C>,
 ) -> Result<u32, Memory> {
-    let mut marks = Marks {
-        layer: 1,
-        last_set: Vec::from_elem(alloc, 0, LOOKED_AT as usize)?,
+    let mut depths = Depths {
+        inputs: circuit.input_wires(),
+        by_number: Vec::from_elem(alloc, 0, LOOKED_AT as usize)?,
     };
-    let mut ands = 0u32;
+    let (mut ands, mut layers) = (0u32, 0);
     for i in 0..circuit.gates().min(LOOKED_AT) {
         let gate = circuit.gate(i);
-        if marks.end_before(gate.operation) {
-            marks.layer = marks.layer.saturating_add(1);
-        }
-        if gate.operation.is_and() {
-            marks.set(gate.set);
-            ands = ands.saturating_add(1);
-        }
+        layers = depths.put(gate).max(layers);
+        ands = ands.saturating_add(u32::from(gate.operation.is_and()));
     }
-    Ok(ands.checked_div(marks.layer).unwrap_or(0))
+    Ok(ands.checked_div(layers).unwrap_or(0))
 }
 
 /// Where each wire's value comes from, as far as shares of the file go: by wire, [`INPUT`], the share that gives it
