@@ -70,6 +70,8 @@ def main():
                 return (took["sha"] + took["file_sha"]) / 1e9
             labels = " ".join(f"labels{index}" for index in range(len(input_widths(circuit))))
             words = command.replace("CIRCUIT", "circuit").replace("SEED", SEED)
+            # Each run writes a new file. The system takes ten milliseconds to cut off the one before.
+            Path(folder, "made").unlink(missing_ok=True)
             how = {"cwd": folder, "stdout": subprocess.DEVNULL, "check": True}
             begun = time.monotonic()
             subprocess.run([program, *words.replace("LABELS", labels).split()], **how)
