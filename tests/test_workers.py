@@ -49,8 +49,8 @@ def layered(draw, groups):
     return text_of([64], [len(gates)], gates)
 
 
-# All but the last two go by layers. These go through a store or a board by a few workers, and by one
-# worker all run on one thread.
+# The first four go by layers. The others go through a store or a board by a few workers, and by one
+# worker all go on one thread.
 LAYERED = [
     [20 * [100]],
     [[1, 2, 3, 16, 17, 63, 64, 65, 1023, 1024, 1025]],

@@ -14,13 +14,16 @@ use std::alloc::Allocator;
 const GATES_FOR_THREADS: u32 = 64;
 
 /// A circuit whose layers have more than about this many AND gates goes by layers.
-const WIDE_LAYER: u32 = 64;
+const WIDE_LAYER: u32 = 256;
 
 /// In another one that all threads go through at least one gate in this many is AND.
 const GATES_FOR_AND: u32 = 2;
 
-/// Any other one whose layers have about this many AND gates, or more, goes by layers too.
+/// Any other one goes by layers where these have about this many AND gates or more,
 const NARROW_LAYER: u32 = 16;
+
+/// and at least one gate in this many is AND: most of its gates are postponed.
+const GATES_FOR_NARROW: u32 = 3;
 
 /// This many gates at the front of a circuit are looked at for its layers: as many as are postponed at the most.
 const LOOKED_AT: u32 = MOST_POSTPONED as u32;
@@ -64,11 +67,10 @@ pub fn way_of<A: Allocator + Copy, C: Allocator>(
     if !has_few_ands(circuit, GATES_FOR_AND) && has_free_shares(alloc, circuit, threads)? {
         return Ok(Way::Together);
     }
-    Ok(if width >= NARROW_LAYER {
-        Way::Layers
-    } else {
-        Way::Alone
-    })
+    if width >= NARROW_LAYER && !has_few_ands(circuit, GATES_FOR_NARROW) {
+        return Ok(Way::Layers);
+    }
+    Ok(Way::Alone)
 }
 
 /// Whether fewer than one gate in this many is AND.
