@@ -1,4 +1,3 @@
-pub mod ListLemmas
 pub mod GateSetLemmas
 pub mod QueueLemmas
 pub mod ReadersLemmas

@@ -9,7 +9,7 @@ use Rattle.gc_queue.specs.declared.mark.Mark.{Mark}
 use Rattle.gc_queue.specs.declared.mark.Mark.TheVariants as mark
 use Rattle.gc_queue.specs.GateSet.{Has, Adds, Removes}
 use Rattle.gc_queue.specs.Queue.{Standing, is_busy, freed, with_mark, IsQueue}
-use Rattle.gc_queue.proofs.ListLemmas.{one_place, slice_get-replicate, count_by-set, count_by-set_more, count_by-set_less, count_by-replicate, count_by-some}
+use Rattle.gc_table.proofs.ListLemmas.{one_place, slice_get-replicate, count_by-set, count_by-set_more, count_by-set_less, count_by-replicate, count_by-some}
 
 module _ {s : Standing} {queued : List ℕ} {busy : ℕ} (q : IsQueue s queued busy) where
   -- ---- counting down: what is read of a countdown that is not 0 is n

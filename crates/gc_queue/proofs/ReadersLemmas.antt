@@ -1,5 +1,5 @@
 -- The reads of a circuit: linking them, and counting down the gates that read a wire.
-use Rattle.std.proofs.Common.{◌≡◌, ℕ, ◌+◌, ◌<◌, inl, inr, List, length, length-set, set, get_or, replicate, ◌∙◌, arith, ◌≢◌, ◌-◌, ◌*◌, ◌/◌, ◌≤◌, slice_get, Option, Some, ltb, if◌then◌else◌, refl}
+use Rattle.std.proofs.Common.{◌≡◌, ℕ, ◌+◌, ◌<◌, inl, inr, List, length, length-set, set, get_or, replicate, ◌∙◌, arith, ◌≢◌, ◌-◌, ◌*◌, ◌/◌, ◌≤◌, slice_get, Option, Some, ltb, ◌==◌, if◌then◌else◌, refl}
 use Rattle.std.proofs.Math.ListN.{length-replicate}
 use Rattle.std.proofs.lemmas.Bool.{cases_eq}
 use Rattle.std.proofs.lemmas.List.{get_or-set_same, get_or-set_other, get_or-replicate, get_or_read, get_or_past}
@@ -9,7 +9,7 @@ use Rattle.gc_netlist.specs.Circuit.{Netlist, IsLawful, first_wire, second_wire}
 use Rattle.gc_netlist.proofs.Tables.{EachRead-below}
 use Rattle.gc_netlist.specs.declared.gate.Operation.{Operation}
 use Rattle.gc_netlist.specs.declared.gate.Gate.{Gate}
-use Rattle.gc_queue.specs.Readers.{read_count, IsRead, IsNextRead, IsLinkedFrom, is_wire, reads_of}
+use Rattle.gc_queue.specs.Readers.{read_count, IsRead, IsNextRead, IsLinkedFrom, picked, reads_of}
 
 -- a read is one of a circuit's reads,
 IsRead-within : (c : Netlist) (r w : ℕ) → IsRead c r w → r < read_count c
@@ -82,14 +82,14 @@ module _ (c : Netlist) (lawful : IsLawful c) (m n : ℕ) (firsts nexts : List �
 
 -- whether read k, of wire o, is of wire w and before read r, as 1 or 0
 abbrev pub passed_read : ℕ → ℕ → ℕ → Option ℕ → ℕ
-passed_read w r k o = if ltb k r then is_wire w o else 0
+passed_read w r k o = if ltb k r then picked (λ v. v == w) o else 0
 
 -- how many of the reads of gate i are of wire w and before read r
 abbrev pub passed_reads : ℕ → ℕ → ℕ → Operation → ℕ
 passed_reads w r i op =
     passed_read w r (2 * i) (first_wire op) + passed_read w r (2 * i + 1) (second_wire op)
 
-passed_most : (w r k : ℕ) (o : Option ℕ) → passed_read w r k o ≤ is_wire w o
+passed_most : (w r k : ℕ) (o : Option ℕ) → passed_read w r k o ≤ picked (λ v. v == w) o
 passed_most w r k o = grind (arith, nat_tests)
 
 -- the next read of the wire passes no other read of it,

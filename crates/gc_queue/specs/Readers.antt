@@ -1,5 +1,5 @@
 -- The reads of a circuit's gates, and the list of those of each wire.
-use Rattle.std.specs.Prelude.{◌≡◌, ℕ, ◌+◌, ◌*◌, ◌<◌, ◌≤◌, ◌⊎◌, ◌==◌, if◌then◌else◌, Bool, List, length, Option, Some, None, slice_get, slice_index}
+use Rattle.std.specs.Prelude.{◌≡◌, ℕ, ◌+◌, ◌*◌, ◌<◌, ◌≤◌, ◌⊎◌, ◌==◌, if◌then◌else◌, Bool, not, List, length, Option, Some, None, slice_get, slice_index}
 use Rattle.gc_netlist.specs.declared.gate.Operation.{Operation}
 use Rattle.gc_netlist.specs.declared.gate.Gate.{Gate}
 use Rattle.gc_netlist.specs.Circuit.{Netlist, first_wire, second_wire}
@@ -9,22 +9,22 @@ pub record Links : Type 0 where
   pub firsts : List ℕ
   pub nexts : List ℕ
 
--- whether a read of an operation is of wire w, as 1 or 0
-abbrev pub is_wire : ℕ → Option ℕ → ℕ
-is_wire w None = 0
-is_wire w (Some v) = if v == w then 1 else 0
+-- whether a read is of a wire that a test picks, as 1 or 0
+abbrev pub picked : (ℕ → Bool) → Option ℕ → ℕ
+picked test None = 0
+picked test (Some w) = if test w then 1 else 0
 
--- How many reads of an operation are of wire w.
+-- How many reads of an operation are of wires that a test picks,
+abbrev pub picked_reads : (ℕ → Bool) → Operation → ℕ
+picked_reads test op = picked test (first_wire op) + picked test (second_wire op)
+
+-- how many of wire w,
 abbrev pub reads_of : ℕ → Operation → ℕ
-reads_of w op = is_wire w (first_wire op) + is_wire w (second_wire op)
+reads_of w = picked_reads (λ v. v == w)
 
--- How many reads of an operation are of wires that are not known.
-abbrev pub unknown : (ℕ → Bool) → Option ℕ → ℕ
-unknown known None = 0
-unknown known (Some w) = if known w then 0 else 1
-
+-- and how many of wires that are not known.
 abbrev pub unknown_reads : (ℕ → Bool) → Operation → ℕ
-unknown_reads known op = unknown known (first_wire op) + unknown known (second_wire op)
+unknown_reads known = picked_reads (λ w. not (known w))
 
 -- How many reads there may be. Gate i has reads 2 * i and 2 * i + 1, if it reads a wire first and second.
 abbrev pub read_count : Netlist → ℕ

@@ -1,9 +1,9 @@
 -- How the tables of a store hold its content.
-use Rattle.std.specs.Prelude.{◌≡◌, ℕ, ◌+◌, ◌*◌, ◌↔◌, Bool, IsTrue, if◌then◌else◌, List, length, map, Option, Some, None, slice_get, slice_index, slice_index_or, count_by}
+use Rattle.std.specs.Prelude.{◌≡◌, ℕ, ◌*◌, ◌↔◌, Bool, IsTrue, if◌then◌else◌, List, length, map, Option, Some, None, slice_get, slice_index, slice_index_or, count_by}
 use Rattle.std.specs.List.{range_with_len}
 use Rattle.gc_netlist.specs.declared.gate.Operation.{Operation}
 use Rattle.gc_netlist.specs.declared.gate.Gate.{Gate}
-use Rattle.gc_netlist.specs.Circuit.{Netlist, EachRead, IsSetBy, first_wire, second_wire, is_and, and_number, and_count}
+use Rattle.gc_netlist.specs.Circuit.{Netlist, EachRead, IsSetBy, is_and, and_number, and_count}
 use Rattle.gc_label.specs.Seed.{offset_of}
 use Rattle.gc_half.specs.declared.garbling.RowPair.{RowPair}
 use Rattle.gc_half.specs.Canonical.{zero_label_of}
@@ -11,7 +11,7 @@ use Rattle.gc_queue.specs.declared.mark.Mark.{Mark}
 use Rattle.gc_queue.specs.declared.mark.Mark.TheVariants as mark
 use Rattle.gc_queue.specs.Queue as queue
 use Rattle.gc_queue.specs.Queue.{Standing}
-use Rattle.gc_queue.specs.Readers.{unknown_reads, IsLinked}
+use Rattle.gc_queue.specs.Readers.{picked_reads, unknown_reads, IsLinked}
 use Rattle.gc_store.specs.Content.{State, Free, Claimed, Finished, Content, is_finished, IsFinished, IsKnown, IsReady, IsLawfulContent}
 
 -- The tables: a mark and a countdown for each gate, the first read of each wire and the next read after each, a zero
@@ -66,15 +66,6 @@ content_of c seed t = record {
 -- An unfinished gate sets wire w. Of the wires that a gate reads these are the ones that are not known.
 abbrev pub IsAwaited : Content → ℕ → Type 0
 IsAwaited s w = (i : ℕ) × IsSetBy s.circuit w i × (¬ IsFinished s i)
-
--- whether a read is of a wire that a test picks, as 1 or 0
-abbrev pub picked : (ℕ → Bool) → Option ℕ → ℕ
-picked test None = 0
-picked test (Some w) = if test w then 1 else 0
-
--- How many reads of an operation are of wires that a test picks.
-abbrev pub picked_reads : (ℕ → Bool) → Operation → ℕ
-picked_reads test op = picked test (first_wire op) + picked test (second_wire op)
 
 -- What the tables keep.
 pub record IsKept (c : Netlist) (seed : List ℕ) (offset : ℕ) (t : Tables) : Type 0 where
