@@ -75,7 +75,7 @@ fn opening_queue<A: Allocator + Copy, C: Allocator>(
     ensures { IfOk result (λ q. Queues circuit.now q.marks q.countdowns) }
 {
     // The gates fit in a u32.
-    let _gates = circuit.gates();
+    circuit.law_lawful();
     let queue = Queue::open(alloc, opening_countdowns(alloc, circuit)?)?;
     Ok(queue)
 }

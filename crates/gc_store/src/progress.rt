@@ -1,6 +1,6 @@
 //! How far each gate of a circuit is under a seed.
 
-ghost use Rattle.std.specs.Prelude.{◌≡◌, ◌↔◌, ℕ, IsTrue, IfOk, IfErr, count_by};
+ghost use Rattle.std.specs.Prelude.{◌≡◌, ◌↔◌, ◌<◌, ◌^◌, ℕ, IsTrue, IfOk, IfErr, count_by};
 ghost use Rattle.gc_half.specs.Garbling.{IsGarbled};
 ghost use Rattle.gc_store.specs.Content.{is_claimed, is_finished, IsClaimed, AllFinished, IsLawfulContent, opened};
 ghost use Rattle.gc_store.specs.Step.{IsOwnTask, with_sealed, Claims, ClaimsSome, Finishes, Reopens};
@@ -45,6 +45,13 @@ pub(crate) struct Progress<A: Allocator = Global> {
     rows: Table<RowPair, A>,
     finished: u32,
     finished_ands: u32,
+}
+
+/// A circuit, and the readers of its wires.
+#[derive(Drop)]
+struct LinkedCircuit<A: Allocator> {
+    circuit: Circuit<A>,
+    readers: Readers<A>,
 }
 
 impl<A: Allocator> Model for Progress<A> {
@@ -111,12 +118,13 @@ impl<A: Allocator + Copy + Send + Sync> Progress<A> {
     ) -> Result<Progress<A>, Memory>
         ensures { IfOk result (λ s. s ≡ opened circuit.now seed) }
     {
-        let ((readers, copy), tables) = thread::join(
+        let (linked, tables) = thread::join(
             rt,
-            || -> (Result<Readers<A>, Memory>, Result<Circuit<A>, Memory>)
-                ensures readers { IfOk result.0 (λ r. IsLinked circuit.entry.now r.firsts r.nexts) }
-                ensures copy { IfOk result.1 (λ c. c ≡ circuit.entry.now) }
-            { readers_and_copy(rt, alloc, circuit, threads) },
+            || -> Result<LinkedCircuit<A>, Memory>
+                ensures copy { IfOk result (λ l. l.circuit ≡ circuit.entry.now) }
+                ensures readers { IfOk result (λ l.
+                    IsLinked l.circuit l.readers.firsts l.readers.nexts) }
+            { linked_copy(rt, alloc, circuit, threads) },
             || -> Result<Beginning<A>, Memory>
                 ensures { IfOk result (Begins circuit.entry.now seed) }
             {
@@ -127,24 +135,28 @@ impl<A: Allocator + Copy + Send + Sync> Progress<A> {
                 }
             },
         );
-        Ok(Progress::of(copy?, seed, readers?, tables?))
+        let LinkedCircuit { circuit, readers } = linked?;
+        Ok(Progress::of(circuit, seed, readers, tables?))
     }
 }
 
-/// The readers of a circuit's wires and a copy of the circuit, by two threads where there are to be four.
-fn readers_and_copy<A: Allocator + Copy + Send + Sync, C: Allocator + Sync, R: Threads>(
+/// A copy of a circuit, and the readers of its wires, by two threads where there are to be four.
+fn linked_copy<A: Allocator + Copy + Send + Sync, C: Allocator + Sync, R: Threads>(
     rt: &R,
     alloc: A,
     circuit: &Circuit<C>,
     threads: u32,
-) -> (Result<Readers<A>, Memory>, Result<Circuit<A>, Memory>)
-    ensures readers { IfOk result.0 (λ r. IsLinked circuit.now r.firsts r.nexts) }
-    ensures copy { IfOk result.1 (λ c. c ≡ circuit.now) }
+) -> Result<LinkedCircuit<A>, Memory>
+    ensures copy { IfOk result (λ l. l.circuit ≡ circuit.now) }
+    ensures readers { IfOk result (λ l. IsLinked l.circuit l.readers.firsts l.readers.nexts) }
 {
     if threads < FOUR {
-        return (Readers::of(alloc, circuit), circuit.try_clone(alloc));
+        return Ok(LinkedCircuit {
+            circuit: circuit.try_clone(alloc)?,
+            readers: Readers::of(alloc, circuit)?,
+        });
     }
-    thread::join(
+    let (readers, copy) = thread::join(
         rt,
         || -> Result<Readers<A>, Memory>
             ensures { IfOk result (λ r. IsLinked circuit.entry.now r.firsts r.nexts) }
@@ -152,7 +164,11 @@ fn readers_and_copy<A: Allocator + Copy + Send + Sync, C: Allocator + Sync, R: T
         || -> Result<Circuit<A>, Memory>
             ensures { IfOk result (λ c. c ≡ circuit.entry.now) }
         { circuit.try_clone(alloc) },
-    )
+    );
+    Ok(LinkedCircuit {
+        circuit: copy?,
+        readers: readers?,
+    })
 }
 
 impl<A: Allocator> Progress<A> {
@@ -162,6 +178,14 @@ impl<A: Allocator> Progress<A> {
         ensures lawful { IsLawfulContent self.now }
     {
         self.finished
+    }
+
+    /// The law of a count: the finished gates fit in a u32. A call of it does nothing.
+    #[inline(always)]
+    pub(crate) fn law_few_finished(&self)
+        ensures { count_by is_finished self.now.states < 2 ^ 32 }
+    {
+        let _finished = self.finished();
     }
 
     /// Whether every gate is finished.

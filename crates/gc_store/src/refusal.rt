@@ -18,8 +18,8 @@ pub enum Refused {
 
 impl Refused {
     /// The number of the refusal: 20 or 21.
-    pub fn code(&self) -> u32
-        ensures { result ≡ code_of self.now }
+    pub fn code(self) -> u32
+        ensures { result ≡ code_of self }
     {
         match self {
             Refused::NotClaimed(_) => 20,
@@ -28,8 +28,8 @@ impl Refused {
     }
 
     /// The name of the refusal.
-    pub fn name(&self) -> &'static str
-        ensures { result.now ≡ name_of self.now }
+    pub fn name(self) -> &'static str
+        ensures { result.now ≡ name_of self }
     {
         match self {
             Refused::NotClaimed(_) => "NotClaimed",
@@ -38,12 +38,12 @@ impl Refused {
     }
 
     /// The sealed task that was refused.
-    pub fn sealed(&self) -> Sealed
-        ensures { result ≡ sealed_of self.now }
+    pub fn sealed(self) -> Sealed
+        ensures { result ≡ sealed_of self }
     {
         match self {
-            Refused::NotClaimed(sealed) => *sealed,
-            Refused::OtherInputs(sealed) => *sealed,
+            Refused::NotClaimed(sealed) => sealed,
+            Refused::OtherInputs(sealed) => sealed,
         }
     }
 }

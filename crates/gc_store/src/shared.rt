@@ -23,7 +23,7 @@ const PAUSE: u32 = 10;
 /// What the lock guards: a store, whether it was stopped, and how many threads sleep because no task is ready and were
 /// not woken yet.
 #[derive(Drop)]
-struct Desk<L: Ledger, A: Allocator> {
+struct LockedStore<L: Ledger, A: Allocator> {
     store: Store<L, A>,
     stopped: bool,
     sleeping: u32,
@@ -36,7 +36,7 @@ struct Desk<L: Ledger, A: Allocator> {
 #[derive(Drop)]
 pub struct SharedStore<L: Ledger, A: Allocator = Global> {
     // Padded, so that threads that try for the lock leave the store's own cache lines alone.
-    desk: Mutex<CachePadded<Desk<L, A>>>,
+    locked: Mutex<CachePadded<LockedStore<L, A>>>,
     moved: Condvar,
 }
 
@@ -51,7 +51,7 @@ enum Finding {
 }
 
 /// Whom a hand-in wakes.
-enum Call {
+enum Woken {
     /// A gate may be ready, so one thread that sleeps.
     One,
     /// No gate is claimed, so all threads that sleep.
@@ -60,7 +60,7 @@ enum Call {
     Nobody,
 }
 
-impl<L: Ledger, A: Allocator> Desk<L, A> {
+impl<L: Ledger, A: Allocator> LockedStore<L, A> {
     /// Looks for a task.
     fn look(&mut self) -> Finding
         ensures looks { Looks self.old.stopped self.old.store.content result
@@ -117,7 +117,7 @@ impl<L: Ledger, A: Allocator> Desk<L, A> {
         sealed: &[Sealed],
         tally: &mut Tally<L>,
         batch: &mut Batch,
-    ) -> (Result<bool, Refused>, Call)
+    ) -> (Result<bool, Refused>, Woken)
         ensures lent { HandsInAll sealed.now tally.old batch.old result.0 tally.new batch.new }
         ensures content { HandsOver self.old.stopped self.old.store.content sealed.now
             batch.old result.0
@@ -126,30 +126,30 @@ impl<L: Ledger, A: Allocator> Desk<L, A> {
         ensures stopped { self.new.stopped ≡ self.old.stopped }
     {
         if let Err(refused) = self.finish_all(sealed, tally) {
-            return (Err(refused), self.call(true));
+            return (Err(refused), self.to_wake(true));
         }
         let from = sealed.first().map_or(0, |first| first.task().gate);
         let may_be_ready = self.claim_from(from, batch);
-        (Ok(self.store.is_complete()), self.call(may_be_ready))
+        (Ok(self.store.is_complete()), self.to_wake(may_be_ready))
     }
 
     /// Whom to wake, and counts them as awake.
-    fn call(&mut self, may_be_ready: bool) -> Call
+    fn to_wake(&mut self, may_be_ready: bool) -> Woken
         requires { IsFalse may_be_ready → NoneReady self.old.store.content }
         ensures wakes { Wakes self.new.store.content self.old.sleeping result self.new.sleeping }
         ensures same { self.new.store ≡ self.old.store }
         ensures stopped { self.new.stopped ≡ self.old.stopped }
     {
         if self.sleeping == 0 {
-            Call::Nobody
+            Woken::Nobody
         } else if !self.store.has_claimed() {
             self.sleeping = 0;
-            Call::All
+            Woken::All
         } else if may_be_ready {
             self.sleeping -= 1;
-            Call::One
+            Woken::One
         } else {
-            Call::Nobody
+            Woken::Nobody
         }
     }
 }
@@ -158,7 +158,7 @@ impl<L: Ledger, A: Allocator> SharedStore<L, A> {
     /// Shares a store.
     pub fn new(store: Store<L, A>) -> SharedStore<L, A> {
         SharedStore {
-            desk: Mutex::new(CachePadded::new(Desk {
+            locked: Mutex::new(CachePadded::new(LockedStore {
                 store,
                 stopped: false,
                 sleeping: 0,
@@ -168,40 +168,40 @@ impl<L: Ledger, A: Allocator> SharedStore<L, A> {
     }
 
     /// Takes the lock: it tries for a while before it sleeps.
-    fn enter<R: Wait>(&self, rt: &R) -> MutexGuard<'_, CachePadded<Desk<L, A>>> {
+    fn enter<R: Wait>(&self, rt: &R) -> MutexGuard<'_, CachePadded<LockedStore<L, A>>> {
         for _try in 0..TRIES {
-            if let Some(desk) = self.desk.try_lock() {
-                return desk;
+            if let Some(locked) = self.locked.try_lock() {
+                return locked;
             }
             for _turn in 0..PAUSE {
                 spin_loop();
             }
         }
-        self.desk.lock(rt)
+        self.locked.lock(rt)
     }
 
     /// Wakes threads that sleep because no task is ready.
-    fn wake(&self, call: Call) {
-        match call {
-            Call::One => self.moved.notify_one(),
-            Call::All => self.moved.notify_all(),
-            Call::Nobody => {}
+    fn wake(&self, woken: Woken) {
+        match woken {
+            Woken::One => self.moved.notify_one(),
+            Woken::All => self.moved.notify_all(),
+            Woken::Nobody => {}
         }
     }
 
     /// Claims a ready gate, and answers its task. It waits while no gate is ready and some gate is claimed. None says
     /// that nothing is left to do, or that the store was stopped.
     pub fn take<R: Wait>(&self, rt: &R) -> Option<Task> {
-        let mut desk = self.enter(rt);
+        let mut locked = self.enter(rt);
         for _ in rt.forever() {
-            match desk.look() {
+            match locked.look() {
                 Finding::Task(task) => return Some(task),
                 Finding::Nothing => return None,
                 Finding::Later => {}
             }
             // The thread that wakes it takes it from the count.
-            desk.sleeping = desk.sleeping.saturating_add(1);
-            desk = self.moved.wait(rt, desk);
+            locked.sleeping = locked.sleeping.saturating_add(1);
+            locked = self.moved.wait(rt, locked);
         }
         unreachable!()
     }
@@ -236,30 +236,30 @@ impl<L: Ledger, A: Allocator> SharedStore<L, A> {
     ) -> Result<bool, Refused>
         ensures { HandsInAll sealed.now tally.old batch.old result tally.new batch.new }
     {
-        let mut desk = self.enter(rt);
-        let (handed_in, call) = desk.hand_in_all(sealed, tally, batch);
-        drop(desk);
-        self.wake(call);
+        let mut locked = self.enter(rt);
+        let (handed_in, woken) = locked.hand_in_all(sealed, tally, batch);
+        drop(locked);
+        self.wake(woken);
         handed_in
     }
 
     /// Ends the work: from now on no task is given out, and what is sealed is still taken back.
     pub fn stop(&self, rt: &impl Wait) {
-        let mut desk = self.enter(rt);
-        desk.stopped = true;
-        desk.sleeping = 0;
-        drop(desk);
+        let mut locked = self.enter(rt);
+        locked.stopped = true;
+        locked.sleeping = 0;
+        drop(locked);
         self.moved.notify_all();
     }
 
     /// The store, which no thread shares any more.
     pub fn into_store(self) -> Store<L, A> {
-        let SharedStore { desk, moved: _ } = self;
-        let Desk {
+        let SharedStore { locked, moved: _ } = self;
+        let LockedStore {
             store,
             stopped: _,
             sleeping: _,
-        } = desk.into_inner().into_inner();
+        } = locked.into_inner().into_inner();
         store
     }
 }

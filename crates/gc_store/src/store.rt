@@ -193,8 +193,8 @@ impl<L: Ledger, A: Allocator> Store<L, A> {
         ensures raised { OnOk result (tally.new ≡ tally.old + 1) }
         ensures kept { OnErr result (tally.new ≡ tally.old) }
     {
-        // It fits in a u32, so there is room for one more.
-        let _finished = self.progress.finished();
+        // The finished gates fit in a u32, so there is room for one more.
+        self.progress.law_few_finished();
         let complete = self.progress.finish(sealed)?;
         tally.raise(&mut self.book);
         Ok(complete)
@@ -212,8 +212,8 @@ impl<L: Ledger, A: Allocator> Store<L, A> {
         if tallies.len() < self.tallies as usize {
             return Err(TallyMissing);
         }
-        // It fits in a u32, and so does what the tallies add up to.
-        let _finished = self.progress.finished();
+        // The finished gates fit in a u32, and the tallies add up to them.
+        self.progress.law_few_finished();
         let sum = add_up(&mut self.book, &mut self.rest, tallies.as_mut_slice(), 0);
         Ok(sum)
     }

@@ -63,14 +63,14 @@ pub struct TallyMissing;
 
 impl TallyMissing {
     /// The number of the refusal.
-    pub fn code(&self) -> u32
+    pub fn code(self) -> u32
         ensures { result ≡ 27 }
     {
         27
     }
 
     /// Its name.
-    pub fn name(&self) -> &'static str
+    pub fn name(self) -> &'static str
         ensures { result.now ≡ codes "TallyMissing" }
     {
         "TallyMissing"

@@ -3,7 +3,7 @@ use Rattle.gc_store.proofs.CountLemmas.{finishes-count}
 use Rattle.gc_store.proofs.store.Store.finish.Goals as goal
 
 pub raise-requires : goal.raise-requires
-raise-requires g c = omega (arith, c.self.invariant, c.finished-finished.ensures.count)
+raise-requires g c = omega (arith, c.self.invariant, c.law_few_finished.ensures)
 
 pub invariant_of-self-2 : goal.invariant_of-self-2
 invariant_of-self-2 g c =

@@ -1,6 +1,6 @@
 use Rattle.gc_store.proofs.Names.{refl, ◌∙◌, arith, slice_get_read}
 use Rattle.gc_store.proofs.BatchLemmas.{finishes_next}
-use Rattle.gc_store.proofs.shared.Desk.finish_all.Goals as goal
+use Rattle.gc_store.proofs.shared.LockedStore.finish_all.Goals as goal
 
 pub loop-task-preserved : goal.loop-task-preserved
 loop-task-preserved g c =

@@ -1,5 +1,5 @@
 use Rattle.std.proofs.Common.{IsTrue, inr, refl}
-use Rattle.gc_store.proofs.shared.Desk.call.Goals as goal
+use Rattle.gc_store.proofs.shared.LockedStore.to_wake.Goals as goal
 
 pub returns-else-may_be_ready-clause-wakes : goal.returns-else-may_be_ready-clause-wakes
 returns-else-may_be_ready-clause-wakes g c =

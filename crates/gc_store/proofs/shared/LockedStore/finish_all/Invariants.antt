@@ -1,5 +1,5 @@
 use Rattle.gc_store.proofs.Names.{◌≡◌, ◌+◌, take, FinishesEach}
-use Rattle.gc_store.proofs.shared.Desk.finish_all.Given as goal
+use Rattle.gc_store.proofs.shared.LockedStore.finish_all.Given as goal
 
 abbrev pub invariant-loop-task : goal.invariant-loop-task
 invariant-loop-task g l = record {

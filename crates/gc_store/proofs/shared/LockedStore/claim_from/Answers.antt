@@ -1,5 +1,5 @@
 use Rattle.std.proofs.Common.{inl, inr}
-use Rattle.gc_store.proofs.shared.Desk.claim_from.Goals as goal
+use Rattle.gc_store.proofs.shared.LockedStore.claim_from.Goals as goal
 
 pub returns-clause-none : goal.returns-clause-none
 returns-clause-none g c = λ not_full. elim c.claim_from.ensures.step.ends [
