@@ -5,8 +5,8 @@ use gc_bank::{MAX_JOBS, evaluate_jobs, one_circuit};
 use gc_circuit::Circuit;
 use gc_eval::{Job, evaluate};
 use gc_file::{LabelFile, MemSink, read_garbled, read_labels, write_labels};
+use gc_gatehouse::Open;
 use gc_label::Seed;
-use gc_work::Open;
 use std::alloc::Global;
 use std::thread::Threads;
 

@@ -1,5 +1,5 @@
-//! The tests of stores, of stores that threads share, of pools of tasks, and of garbling on many threads, where row pairs
-//! may be compared meanwhile.
+//! The tests of stores, of stores that threads share, of pools of tasks, and of garbling on many threads, where row
+//! pairs may be compared meanwhile.
 #![tactic(auto)]
 
 #[cfg(test)]

@@ -251,8 +251,8 @@ fn exchange<L: Ledger>(
     batch.pop()
 }
 
-/// Hands in all gates of the full adder, of which the first two are held, and says so before the last one. The answer is
-/// whether that one completes the store.
+/// Hands in all gates of the full adder, of which the first two are held, and says so before the last one. The answer
+/// is whether that one completes the store.
 fn hand_in_all_gates<L: Ledger>(
     rt: &impl Wait,
     shared: &SharedStore<L>,
