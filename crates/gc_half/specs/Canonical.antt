@@ -22,6 +22,10 @@ input_zero c seed w = if nat_lt w (input_wires c) then input_label_of seed w els
 unfoldable pub zero_label_of : Netlist → List ℕ → ℕ → ℕ
 zero_label_of c seed = solution (zero_rule hash (offset_of seed) c) c (input_zero c seed)
 
+-- a row pair of zeros, which stands for one that isn't there
+abbrev pub no_rows : RowPair
+no_rows = record { generator = 0; evaluator = 0 }
+
 -- the row pairs, with one more where there is one
 abbrev pub with_row_pair : List RowPair → Option RowPair → List RowPair
 with_row_pair rows None = rows

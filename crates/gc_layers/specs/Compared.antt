@@ -3,7 +3,8 @@ use Rattle.std.specs.Prelude.{◌≡◌, ◌≢◌, ℕ, ◌<◌, ◌⊎◌, Boo
 use Rattle.gc_netlist.specs.Circuit.{Netlist, and_count}
 use Rattle.gc_half.specs.declared.garbling.RowPair.{RowPair}
 use Rattle.gc_half.specs.declared.garbling.Mismatch.{Mismatch}
-use Rattle.gc_layers.specs.Garbler.{row_of, no_rows}
+use Rattle.gc_half.specs.Canonical.{no_rows}
+use Rattle.gc_layers.specs.Garbler.{row_of}
 
 -- A place is before that of the first mismatch, where there is one.
 abbrev pub IsBefore : Option Mismatch → ℕ → Type 0

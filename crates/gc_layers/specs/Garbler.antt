@@ -8,7 +8,7 @@ use Rattle.gc_half.specs.declared.half_gate.AndGate.{AndGate}
 use Rattle.gc_half.specs.Hash.{hash}
 use Rattle.gc_half.specs.HalfGate.{and_zero}
 use Rattle.gc_half.specs.OneGate.{row_pair}
-use Rattle.gc_half.specs.Canonical.{zero_label_of, row_pairs_of}
+use Rattle.gc_half.specs.Canonical.{no_rows, zero_label_of, row_pairs_of}
 use Rattle.gc_layers.specs.declared.placed.PlacedGate.{PlacedGate}
 use Rattle.gc_layers.specs.declared.to_garble.Garbled.{Garbled}
 use Rattle.gc_labelling.specs.Layer.{IsPartly}
@@ -23,10 +23,6 @@ rows_by w = row_pair hash w.waits.gate.offset w.waits.gate.k w.waits.gate.a w.wa
 
 abbrev pub garbled_of : PlacedGate AndGate → Garbled
 garbled_of w = record { zero_label = zero_by w; rows = rows_by w }
-
--- a row pair of zeros
-abbrev pub no_rows : RowPair
-no_rows = record { generator = 0; evaluator = 0 }
 
 -- A row pair is there unless the evaluator's row is zero.
 abbrev pub is_present : RowPair → Bool

@@ -4,11 +4,12 @@ use Rattle.std.proofs.Math.ListN.{get_or-map, length-replicate}
 use Rattle.std.proofs.lemmas.List.FromFn.{fill_by_all}
 use mathlib.Core.Logic.Iff
 use mathlib.Core.Path.{fun_ext}
+use Rattle.gc_half.specs.Canonical.{no_rows}
 use Rattle.gc_queue.specs.declared.mark.Mark.{Mark}
 use Rattle.gc_queue.specs.declared.mark.Mark.TheVariants as mark
 use Rattle.gc_queue.specs.Opening.{is_below, opening_countdown}
 use Rattle.gc_store.proofs.StepLemmas.{set-apart, and_number-apart, AreSame, known-same, lawful-same, claim-same, reopen-same, known-finish, finish_lawful}
-use Rattle.gc_store.specs.Beginning.{no_rows, Queues, Tabulates}
+use Rattle.gc_store.specs.Beginning.{Queues, Tabulates}
 
 -- what a list with one place set has at each place, for `grind`
 ruleset place_set = (one_place, get_or-set_same, get_or-set_other)

@@ -3,7 +3,7 @@ use Rattle.std.specs.Prelude.{◌≡◌, ℕ, ◌+◌, List, length, map, replic
 use Rattle.std.specs.List.{range_with_len}
 use Rattle.gc_netlist.specs.Circuit.{Netlist, IsLawful, and_number, and_count}
 use Rattle.gc_half.specs.declared.garbling.RowPair.{RowPair}
-use Rattle.gc_half.specs.Canonical.{input_zero}
+use Rattle.gc_half.specs.Canonical.{no_rows, input_zero}
 use Rattle.gc_queue.specs.declared.mark.Mark.{Mark}
 use Rattle.gc_queue.specs.declared.mark.Mark.TheVariants as mark
 use Rattle.gc_queue.specs.Opening.{opening_countdown}
@@ -14,10 +14,6 @@ pub record FirstTables : Type 0 where
   pub and_numbers : List ℕ
   pub zero_labels : List ℕ
   pub rows : List RowPair
-
--- the row pair of an AND gate that is not finished: zeros
-abbrev pub no_rows : RowPair
-no_rows = record { generator = 0; evaluator = 0 }
 
 -- A countdown for each gate, one less than the countdown that the opening begins with.
 pub record AreCounted (c : Netlist) (countdowns : List ℕ) : Type 0 where
