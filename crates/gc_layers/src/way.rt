@@ -4,6 +4,7 @@ ghost use Rattle.std.specs.Prelude.{◌≡◌, ◌≢◌, ◌↔◌, ◌<◌, �
 ghost use Rattle.gc_netlist.specs.Circuit.{and_count};
 ghost use Rattle.gc_labelling.specs.declared.threads.TheConstants.{GATES_FOR_THREAD};
 ghost use Rattle.gc_layers.specs.Way.{HasFewAnds};
+ghost use Rattle.gc_layers.specs.declared.way.TheConstants.{GATES_FOR_AND, GATES_FOR_THREADS};
 ghost use Rattle.gc_layers.specs.declared.way.Way.TheVariants.{Alone, Together};
 
 use gc_circuit::{Circuit, Gate, Memory, Operation};
@@ -51,8 +52,8 @@ pub fn way_of<A: Allocator + Copy, C: Allocator>(
     threads: u32,
 ) -> Result<Way, Memory>
     ensures alone { (threads ≤ 1) ⊎ (and_count circuit.now < GATES_FOR_THREAD)
-        ⊎ HasFewAnds circuit.now 64 → result ≡ Ok Alone }
-    ensures together { HasFewAnds circuit.now 2 → result ≢ Ok Together }
+        ⊎ HasFewAnds circuit.now GATES_FOR_THREADS → result ≡ Ok Alone }
+    ensures together { HasFewAnds circuit.now GATES_FOR_AND → result ≢ Ok Together }
 {
     if threads <= 1
         || circuit.and_count() < GATES_FOR_THREAD
