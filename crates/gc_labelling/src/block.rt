@@ -84,7 +84,7 @@ impl<P: Pending, O: Origin<P>, A: Allocator> Block<P, O, A> {
     }
 
     /// Makes its gates, as this worker, which reports each to the observer first.
-    pub(crate) fn seal<H: Gatehouse>(self, observer: &H, worker: u32) -> Sealed<P, O, A>
+    pub(crate) fn make<H: Gatehouse>(self, observer: &H, worker: u32) -> MadeBlock<P, O, A>
         ensures { result ≡ self }
     {
         let Block {
@@ -96,7 +96,7 @@ impl<P: Pending, O: Origin<P>, A: Allocator> Block<P, O, A> {
             observer.before(worker, gate.place());
         }
         P::make_all(&gates, &mut made);
-        Sealed {
+        MadeBlock {
             gates,
             made,
             origin,
@@ -106,13 +106,13 @@ impl<P: Pending, O: Origin<P>, A: Allocator> Block<P, O, A> {
 
 /// A block whose gates are made. A contract sees the gates, which the rest follows from.
 #[derive(Drop)]
-pub(crate) struct Sealed<P: Pending, O: Origin<P>, A: Allocator> {
+pub(crate) struct MadeBlock<P: Pending, O: Origin<P>, A: Allocator> {
     gates: Vec<P, A>,
     made: Vec<P::Made, A>,
     origin: PhantomData<O>,
 }
 
-impl<P: Pending, O: Origin<P>, A: Allocator> Model for Sealed<P, O, A> {
+impl<P: Pending, O: Origin<P>, A: Allocator> Model for MadeBlock<P, O, A> {
     ghost use Rattle.std.specs.Prelude.{List, All, ◌≤◌, length};
     ghost use Rattle.gc_labelling.specs.Layer.{AreMade};
 
@@ -125,7 +125,7 @@ impl<P: Pending, O: Origin<P>, A: Allocator> Model for Sealed<P, O, A> {
         × AreMade P.made_of t.gates.items t.made.items };
 }
 
-impl<P: Pending, O: Origin<P>, A: Allocator> Sealed<P, O, A> {
+impl<P: Pending, O: Origin<P>, A: Allocator> MadeBlock<P, O, A> {
     /// Its gates.
     pub(crate) fn gates(&self) -> &[P]
         ensures gates { result.now ≡ self.now }
@@ -146,7 +146,7 @@ impl<P: Pending, O: Origin<P>, A: Allocator> Sealed<P, O, A> {
     pub(crate) fn into_block(self) -> Block<P, O, A>
         ensures { result ≡ self }
     {
-        let Sealed {
+        let MadeBlock {
             gates,
             made,
             origin,

@@ -2,7 +2,7 @@
 
 ghost use Rattle.std.specs.Prelude.{◌≡◌, IfSome};
 
-use crate::block::{Block, Sealed};
+use crate::block::{Block, MadeBlock};
 use crate::origin::Origin;
 use crate::pending::Pending;
 use crossbeam_queue::ArrayQueue;
@@ -49,18 +49,18 @@ struct Returns {
 #[derive(Drop)]
 pub(crate) struct Exchange<P: Pending, O: Origin<P>, A: Allocator> {
     offered: ArrayQueue<Block<P, O, A>, A>,
-    sealed: ArrayQueue<Sealed<P, O, A>, A>,
+    made: ArrayQueue<MadeBlock<P, O, A>, A>,
     offers: Mutex<Offers>,
     returns: Mutex<Returns>,
     has_offered: Condvar,
-    has_sealed: Condvar,
+    has_made: Condvar,
 }
 
 /// What a thread finds.
 #[derive(Drop)]
 pub(crate) enum Finding<P: Pending, O: Origin<P>, A: Allocator> {
     /// A block that is made.
-    Sealed(Sealed<P, O, A>),
+    Made(MadeBlock<P, O, A>),
     /// A block to be made.
     Offered(Block<P, O, A>),
 }
@@ -77,7 +77,7 @@ impl<P: Pending, O: Origin<P>, A: Allocator + Copy> Exchange<P, O, A> {
     pub(crate) fn open(alloc: A, helpers: usize) -> Result<Exchange<P, O, A>, Memory> {
         Ok(Exchange {
             offered: ArrayQueue::new(alloc, MOST_OUT)?,
-            sealed: ArrayQueue::new(alloc, MOST_OUT)?,
+            made: ArrayQueue::new(alloc, MOST_OUT)?,
             offers: Mutex::new(Offers {
                 closed: false,
                 absent: helpers,
@@ -88,7 +88,7 @@ impl<P: Pending, O: Origin<P>, A: Allocator + Copy> Exchange<P, O, A> {
                 is_awaited: false,
             }),
             has_offered: Condvar::new(),
-            has_sealed: Condvar::new(),
+            has_made: Condvar::new(),
         })
     }
 }
@@ -107,8 +107,8 @@ impl<P: Pending, O: Origin<P>, A: Allocator> Exchange<P, O, A> {
     }
 
     /// Hands a block in that is made.
-    fn hand_in(&self, rt: &impl Wait, sealed: Sealed<P, O, A>) {
-        let has_room = self.sealed.push(rt, sealed).is_ok();
+    fn hand_in(&self, rt: &impl Wait, made: MadeBlock<P, O, A>) {
+        let has_room = self.made.push(rt, made).is_ok();
         let mut returns = self.returns.lock(rt);
         if !has_room {
             returns.lost = true;
@@ -116,13 +116,13 @@ impl<P: Pending, O: Origin<P>, A: Allocator> Exchange<P, O, A> {
         let is_awaited = returns.is_awaited;
         drop(returns);
         if is_awaited {
-            self.has_sealed.notify_one();
+            self.has_made.notify_one();
         }
     }
 
     /// A block that is made, if there is one.
-    pub(crate) fn returned<R: Wait>(&self, rt: &R) -> Option<Sealed<P, O, A>> {
-        self.sealed.pop(rt)
+    pub(crate) fn returned<R: Wait>(&self, rt: &R) -> Option<MadeBlock<P, O, A>> {
+        self.made.pop(rt)
     }
 
     /// A block to be made, if there is one.
@@ -132,8 +132,8 @@ impl<P: Pending, O: Origin<P>, A: Allocator> Exchange<P, O, A> {
 
     /// A block that is made, or else one to be made.
     fn find<R: Wait>(&self, rt: &R) -> Option<Finding<P, O, A>> {
-        if let Some(sealed) = self.sealed.pop(rt) {
-            return Some(Finding::Sealed(sealed));
+        if let Some(made) = self.made.pop(rt) {
+            return Some(Finding::Made(made));
         }
         let block = self.offered.pop(rt)?;
         Some(Finding::Offered(block))
@@ -160,7 +160,7 @@ impl<P: Pending, O: Origin<P>, A: Allocator> Exchange<P, O, A> {
                 return finding;
             }
             returns.is_awaited = true;
-            returns = self.has_sealed.wait(rt, returns);
+            returns = self.has_made.wait(rt, returns);
             returns.is_awaited = false;
         }
         unreachable!()
@@ -227,7 +227,7 @@ impl<P: Pending, O: Origin<P>, A: Allocator> Exchange<P, O, A> {
             let Some(block) = self.take(rt) else {
                 return;
             };
-            self.hand_in(rt, block.seal(observer, worker));
+            self.hand_in(rt, block.make(observer, worker));
         }
     }
 

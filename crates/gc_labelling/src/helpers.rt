@@ -2,7 +2,7 @@
 
 ghost use Rattle.std.specs.Prelude.{◌≡◌, IfOk, IfSome, []};
 
-use crate::block::{BLOCK, Block, Sealed};
+use crate::block::{BLOCK, Block, MadeBlock};
 use crate::exchange::{Exchange, Finding, MOST_OUT};
 use crate::origin::Origin;
 use crate::pending::Pending;
@@ -95,29 +95,29 @@ impl<'e, P: Pending, O: Origin<P>, A: Allocator + Copy, H: Gatehouse> Helpers<'e
     }
 
     /// A block, made by the calling thread.
-    pub(crate) fn seal(&self, block: Block<P, O, A>) -> Sealed<P, O, A>
+    pub(crate) fn make(&self, block: Block<P, O, A>) -> MadeBlock<P, O, A>
         ensures { result ≡ block }
     {
-        block.seal(self.observer, 0)
+        block.make(self.observer, 0)
     }
 
     /// A block that a helper made, if one is back.
-    pub(crate) fn returned<R: Wait>(&mut self, rt: &R) -> Option<Sealed<P, O, A>> {
-        let sealed = self.exchange.returned(rt)?;
+    pub(crate) fn returned<R: Wait>(&mut self, rt: &R) -> Option<MadeBlock<P, O, A>> {
+        let made = self.exchange.returned(rt)?;
         self.out = self.out.saturating_sub(1);
-        Some(sealed)
+        Some(made)
     }
 
     /// A block that was offered and that no helper took, made by the calling thread.
-    pub(crate) fn taken_back<R: Wait>(&mut self, rt: &R) -> Option<Sealed<P, O, A>> {
+    pub(crate) fn taken_back<R: Wait>(&mut self, rt: &R) -> Option<MadeBlock<P, O, A>> {
         let block = self.exchange.taken(rt)?;
         self.out = self.out.saturating_sub(1);
-        Some(self.seal(block))
+        Some(self.make(block))
     }
 
     /// Waits for the next block that a helper made, or makes one that no helper took. None says that all blocks are
     /// back, or that one was lost.
-    pub(crate) fn awaited<R: Wait>(&mut self, rt: &R) -> Option<Sealed<P, O, A>> {
+    pub(crate) fn awaited<R: Wait>(&mut self, rt: &R) -> Option<MadeBlock<P, O, A>> {
         if self.out == 0 {
             return None;
         }
@@ -127,13 +127,13 @@ impl<'e, P: Pending, O: Origin<P>, A: Allocator + Copy, H: Gatehouse> Helpers<'e
         };
         self.out = self.out.saturating_sub(1);
         match finding {
-            Finding::Sealed(sealed) => Some(sealed),
-            Finding::Offered(block) => Some(self.seal(block)),
+            Finding::Made(made) => Some(made),
+            Finding::Offered(block) => Some(self.make(block)),
         }
     }
 
     /// Keeps a block to be filled anew, when what was made isn't needed any more.
-    pub(crate) fn release(&mut self, sealed: Sealed<P, O, A>) {
-        let _ = self.free.push(sealed.into_block());
+    pub(crate) fn release(&mut self, block: MadeBlock<P, O, A>) {
+        let _ = self.free.push(block.into_block());
     }
 }

@@ -5,7 +5,7 @@ ghost use Rattle.gc_netlist.specs.Circuit.{EachRead, IsLawful, input_wires};
 ghost use Rattle.gc_labelling.specs.declared.mark.Mark.TheVariants.{Absent, There};
 ghost use Rattle.gc_labelling.specs.Layer.{AreLabels, IsLabelled, IsOriginOf, IsPlace};
 
-use crate::block::{Block, Sealed};
+use crate::block::{Block, MadeBlock};
 use crate::exchange::MOST_OUT;
 use crate::helpers::Helpers;
 use crate::labelled::Labelled;
@@ -263,8 +263,8 @@ impl<
     fn make(&mut self, block: Block<P, O, A>)
         ensures { self.new ≡ self.old }
     {
-        let sealed = self.helpers.seal(block);
-        self.land(sealed);
+        let made = self.helpers.make(block);
+        self.land(made);
     }
 
     /// Takes the blocks that came back. The answer is whether there were any.
@@ -273,25 +273,25 @@ impl<
     {
         let mut is_any = false;
         for _i in 0..MOST_OUT {
-            let Some(sealed) = self.helpers.returned(rt) else {
+            let Some(made) = self.helpers.returned(rt) else {
                 return is_any;
             };
-            self.land(sealed);
+            self.land(made);
             is_any = true;
         }
         is_any
     }
 
     /// Takes a block that is made: what making its gates gave goes where it belongs.
-    fn land(&mut self, sealed: Sealed<P, O, A>)
+    fn land(&mut self, block: MadeBlock<P, O, A>)
         ensures { self.new ≡ self.old }
     {
-        let gates = sealed.gates();
-        let made = sealed.made();
+        let gates = block.gates();
+        let made = block.made();
         for i in 0..gates.len() {
             self.put(&gates[i], &made[i]);
         }
-        self.helpers.release(sealed);
+        self.helpers.release(block);
     }
 
     /// Gets a block made, by a helper or here, and visits the gates that waited for its labels.
@@ -308,13 +308,13 @@ impl<
     fn make_one<R: Wait>(&mut self, rt: &R) -> Result<(), Memory>
         ensures { self.new ≡ self.old }
     {
-        if let Some(sealed) = self.helpers.taken_back(rt) {
-            self.land(sealed);
+        if let Some(made) = self.helpers.taken_back(rt) {
+            self.land(made);
         } else if !self.waiting.is_empty() {
             let block = self.take_waiting()?;
             self.make(block);
-        } else if let Some(sealed) = self.helpers.awaited(rt) {
-            self.land(sealed);
+        } else if let Some(made) = self.helpers.awaited(rt) {
+            self.land(made);
         }
         Ok(())
     }
