@@ -1,5 +1,5 @@
 -- Each move keeps the rule of a pool.
-use Rattle.gc_work.proofs.Names.{◌≡◌, ℕ, zero, suc, ◌+◌, ◌-◌, ◌^◌, ◌<◌, ◌≤◌, List, [], ◌∷◌, ◌++◌, append_assoc, append-nil, set, inl, inr, sym, refl, ap, ◌∙◌, subst, arith, sum_by-cons, sum_by-append, sum_by_push, Task, PoolAccount, RowsId, ThiefParts, AllOf, stolen_by, weigh, IsOwning, account, all_parts, total, gone, IsIdle, IdleIsEmpty, IsBalanced, Knows, KnowsSome}
+use Rattle.gc_work.proofs.Names.{◌≡◌, ℕ, zero, suc, ◌+◌, ◌-◌, ◌^◌, ◌<◌, ◌≤◌, List, [], ◌∷◌, ◌++◌, append_assoc, append-nil, set, inl, inr, sym, refl, ap, ◌∙◌, subst, arith, sum_by-cons, sum_by-append, sum_by_push, Task, PoolAccount, RowsId, ThiefParts, AllOf, stolen_by, weigh, IsOwning, account, total, gone, IsIdle, IdleIsEmpty, IsBalanced, Knows, KnowsSome}
 use mathlib.Core.Option.{some, some-ne-none, some-injective}
 use lib.ListN.{get_elem?}
 use Rattle.crossbeam_deque.specs.Tasks.{Pushes, Takes, Pops, Finds, Forks, Merges, Learns}
@@ -57,14 +57,6 @@ all_done f none views port v at whole empty =
     let others = none_done f none (set views port idle) (omega arith)
     (idle_set views port idle (λ _. refl) empty) in
     omega (arith, total_set f views port v idle at)
-
-pub begins : IsBalanced [] (account all_parts [] [] [] ∷ [])
-begins = (
-  refl,
-  λ h. refl,
-  idle_push [] (account all_parts [] [] []) (λ none. absurd (omega arith))
-      (λ port v e. absurd (some-ne-none v (sym e))),
-)
 
 -- A view with a part may add tasks to one of its lists: what was pushed joins the pool, and what
 -- was taken leaves it.

@@ -4,5 +4,5 @@ pub mod Left
 pub mod Kept
 pub mod Places
 pub mod Ready
-pub mod Seats
+pub mod Owners
 pub mod WorkFault

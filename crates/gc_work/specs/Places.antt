@@ -17,7 +17,7 @@ module _ {A : Type 0} where
   abbrev pub AreRows : List (RowsId × A) → List (Vec (PlacedThief A) A) → Type 0
   AreRows pools rows = All (λ row. ArePlaced pools row.items) rows
 
-  -- each deck has thieves of the pool of its place
-  abbrev pub AreDecks : List (RowsId × A) → List (Vec (ThiefParts A) A) → Type 0
-  AreDecks pools decks = (j : ℕ) (p : RowsId × A) (deck : Vec (ThiefParts A) A)
-      → slice_get pools j ≡ Some p → slice_get decks j ≡ Some deck → AllOf p deck.items
+  -- each list has thieves of the pool of its place
+  abbrev pub AreByPool : List (RowsId × A) → List (Vec (ThiefParts A) A) → Type 0
+  AreByPool pools by_pool = (j : ℕ) (p : RowsId × A) (thieves : Vec (ThiefParts A) A)
+      → slice_get pools j ≡ Some p → slice_get by_pool j ≡ Some thieves → AllOf p thieves.items

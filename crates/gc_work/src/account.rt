@@ -4,8 +4,8 @@ use crossbeam_deque::protocol::{Join, Lesson, Outcome, Protocol, Split};
 use gc_store::Task;
 use std::collections::LinkedList;
 
-/// What the owner or a thief of a pool has done with it: the tasks that it pushed, popped and stole. `parts` is its share
-/// of the right to see the whole account.
+/// What the owner or a thief of a pool has done with it: the tasks that it pushed, popped and stole. `parts` is its
+/// share of the right to see the whole account.
 ///
 /// Contracts alone see it; no value of it is made.
 pub struct PoolAccount {

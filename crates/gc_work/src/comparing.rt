@@ -15,10 +15,9 @@ use std::alloc::Allocator;
 use std::sync::Wait;
 use std::thread::Threads;
 
-/// Garbles a circuit under a seed by this number of workers, and compares the given row pairs with those that it makes:
-/// these are not kept beside the given ones. The answer has the garbling's zero labels, and the first of the given row
-/// pairs that isn't the garbling's; of the row pairs in the answer only their number is known. The calling thread is
-/// worker 0.
+/// Garbles a circuit under a seed by this number of workers, and compares the given row pairs with those that it makes,
+/// which it doesn't keep. The answer has the garbling's zero labels, and the first of the given row pairs that isn't
+/// the garbling's; of the row pairs in the answer only their number is known. The calling thread is worker 0.
 ///
 /// [`Way::Layers`] is as in [`garble`](crate::garble). In any other way worker 0 goes on alone: a store keeps the row
 /// pairs that it is given back. Each gate is reported to the observer before it is garbled.

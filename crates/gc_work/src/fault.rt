@@ -12,7 +12,7 @@ use std::fmt;
 /// Why there is no garbling.
 #[derive(Clone, Copy, PartialEq, Eq, Debug)]
 pub enum WorkFault {
-    /// The number of workers is 0 or above [`MAX_WORKERS`](crate::MAX_WORKERS).
+    /// The number of workers is 0 or above [`MAX_WORKERS`].
     BadWorkers,
     /// Memory ran out.
     Memory,
@@ -20,8 +20,8 @@ pub enum WorkFault {
 
 impl WorkFault {
     /// The number of the fault: 22 or 23.
-    pub fn code(&self) -> u32
-        ensures { result ≡ code_of self.now }
+    pub fn code(self) -> u32
+        ensures { result ≡ code_of self }
     {
         match self {
             WorkFault::BadWorkers => 22,
@@ -30,8 +30,8 @@ impl WorkFault {
     }
 
     /// The name of the fault.
-    pub fn name(&self) -> &'static str
-        ensures { result.now ≡ name_of self.now }
+    pub fn name(self) -> &'static str
+        ensures { result.now ≡ name_of self }
     {
         match self {
             WorkFault::BadWorkers => "BadWorkers",
@@ -66,9 +66,9 @@ impl Error for WorkFault {}
 
 impl From<Memory> for WorkFault {
     ghost use Rattle.std.specs.Prelude.{◌≡◌};
-    ghost use Rattle.gc_work.specs.declared.fault.WorkFault.TheVariants as fault;
+    ghost use Rattle.gc_work.specs.declared.fault.WorkFault.TheVariants as faults;
 
-    ghost from_gives = { λ _ made. made ≡ fault.Memory };
+    ghost from_gives = { λ _ e. e ≡ faults.Memory };
 
     fn from(_e: Memory) -> WorkFault {
         WorkFault::Memory

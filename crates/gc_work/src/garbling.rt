@@ -10,7 +10,7 @@ use crate::fault::{WorkFault, check_workers};
 use crate::gather::gather;
 use crate::pool::TaskPool;
 use crate::sweep::sweep;
-use crate::worker::{Member, work};
+use crate::worker::{Worker, work};
 use crate::workers::{Workers, open_workers};
 use gc_circuit::{Circuit, Memory};
 use gc_gatehouse::{Gatehouse, MAX_WORKERS, report_all};
@@ -132,8 +132,8 @@ fn garble_alone<A: Allocator + Copy, C: Allocator, H: Gatehouse>(
     garble_one_thread(alloc, circuit, seed)
 }
 
-/// Lets the workers finish what they can, each with a pool of this capacity. The answer is the store and worker 0's
-/// tally.
+/// Lets this many workers finish what they can, each with a pool of this capacity. The answer is the store and worker
+/// 0's tally.
 fn work_together<
     L: Ledger + Send + Sync,
     A: Allocator + Copy + Send + Sync,
@@ -143,20 +143,20 @@ fn work_together<
     rt: &R,
     alloc: A,
     mut store: Store<L, A>,
-    workers: u32,
+    count: u32,
     capacity: u32,
     observer: &H,
 ) -> Result<(Store<L, A>, Option<Tally<L>>), Memory> {
-    let Workers { pools, mut members } = open_workers(alloc, &mut store, workers, capacity)?;
+    let Workers { pools, mut workers } = open_workers(alloc, &mut store, count, capacity)?;
     let shared = SharedStore::new(store);
     run_all(
         rt,
         &shared,
         pools.as_slice(),
-        members.as_mut_slice(),
+        workers.as_mut_slice(),
         observer,
     );
-    let tally = gather(alloc, pools, members)?;
+    let tally = gather(alloc, pools, workers)?;
     Ok((shared.into_store(), tally))
 }
 
@@ -171,20 +171,20 @@ fn run_all<
     rt: &R,
     shared: &SharedStore<L, A>,
     pools: &[TaskPool<A>],
-    members: &mut [Member<L, A>],
+    workers: &mut [Worker<L, A>],
     observer: &H,
 )
-    requires { All (λ m. IsReady pools.now m) members.old }
-    ensures { All (λ m. IsReady pools.now m) members.new }
+    requires { All (λ w. IsReady pools.now w) workers.old }
+    ensures { All (λ w. IsReady pools.now w) workers.new }
 {
-    let count = members.len().max(1);
+    let count = workers.len().max(1);
     thread::for_each_mut(
         rt,
-        members,
+        workers,
         count,
-        &|_i: usize, member: &mut Member<L, A>|
-            requires { IsReady pools.now member.now }
-            ensures { IsReady pools.entry.now member.exit.now }
-        { work(rt, shared, pools, member, observer) },
+        &|_i: usize, worker: &mut Worker<L, A>|
+            requires { IsReady pools.now worker.now }
+            ensures { IsReady pools.entry.now worker.exit.now }
+        { work(rt, shared, pools, worker, observer) },
     );
 }

@@ -24,5 +24,4 @@ pub use account::{PoolAccount, PoolRule};
 pub use comparing::garble_and_compare;
 pub use fault::WorkFault;
 pub use garbling::garble;
-pub use gc_gatehouse::{Gatehouse, MAX_WORKERS, Open};
 pub use pool::{Gathered, NoRoom, Owner, TaskPool, Thief};

@@ -107,14 +107,14 @@ pub struct NoRoom {
 
 impl NoRoom {
     /// The number of the refusal.
-    pub fn code(&self) -> u32
+    pub fn code(self) -> u32
         ensures { result ≡ 24 }
     {
         24
     }
 
     /// Its name.
-    pub fn name(&self) -> &'static str
+    pub fn name(self) -> &'static str
         ensures { result.now ≡ codes "NoRoom" }
     {
         "NoRoom"
@@ -170,8 +170,8 @@ impl<A: Allocator + Copy> TaskPool<A> {
 }
 
 impl<A: Allocator> TaskPool<A> {
-    /// Pushes a task. Where the pool has no room and can't grow it gives the task back, and nothing changes; it
-    /// never does so at the first `capacity` pushes, which take no memory. That the owner is this pool's is the caller's
+    /// Pushes a task. Where the pool has no room and can't grow it gives the task back, and nothing changes; it never
+    /// does so at the first `capacity` pushes, which take no memory. That the owner is this pool's is the caller's
     /// condition.
     pub fn push(&self, owner: &mut Owner<A>, task: Task) -> Result<(), NoRoom>
         requires { owner.old.pool ≡ self.now }
@@ -198,8 +198,8 @@ impl<A: Allocator> TaskPool<A> {
         owner.worker.pop_as::<Pops>()
     }
 
-    /// The task that was pushed first of those that are left, where this attempt took one. That the thief is this pool's
-    /// is the caller's condition. It takes no memory.
+    /// The task that was pushed first of those that are left, where this attempt took one. That the thief is this
+    /// pool's is the caller's condition. It takes no memory.
     pub fn steal(&self, thief: &mut Thief<A>) -> Option<Task>
         requires { thief.old.pool ≡ self.now }
         ensures { MatchOption result (thief.new ≡ thief.old)

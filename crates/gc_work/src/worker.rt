@@ -14,7 +14,7 @@ use std::sync::ledger::Ledger;
 /// What a worker has of its own: the place of its pool among all pools, its number, its tally, its pool's owner, a
 /// thief at each other pool, and room for the tasks that it has sealed and not handed in.
 #[derive(Drop)]
-pub(crate) struct Member<L: Ledger, A: Allocator> {
+pub(crate) struct Worker<L: Ledger, A: Allocator> {
     pub place: usize,
     pub number: u32,
     pub tally: Tally<L>,
@@ -65,18 +65,18 @@ fn next_task<L: Ledger, A: Allocator, R: Wait>(
     shared: &SharedStore<L, A>,
     pool: &TaskPool<A>,
     pools: &[TaskPool<A>],
-    member: &mut Member<L, A>,
+    worker: &mut Worker<L, A>,
     batch: &mut Batch,
 ) -> Option<Task>
-    requires ready { IsReady pools.now member.old }
-    requires own { member.old.owner.pool ≡ pool.now }
-    ensures ready { IsReady pools.now member.new }
-    ensures own { member.new.owner.pool ≡ member.old.owner.pool }
+    requires ready { IsReady pools.now worker.old }
+    requires own { worker.old.owner.pool ≡ pool.now }
+    ensures ready { IsReady pools.now worker.new }
+    ensures own { worker.new.owner.pool ≡ worker.old.owner.pool }
 {
-    if let Some(task) = own_task(pool, &mut member.owner, batch) {
+    if let Some(task) = own_task(pool, &mut worker.owner, batch) {
         return Some(task);
     }
-    if let Some(task) = steal_any(pools, member.thieves.as_mut_slice()) {
+    if let Some(task) = steal_any(pools, worker.thieves.as_mut_slice()) {
         return Some(task);
     }
     shared.take(rt)
@@ -112,15 +112,15 @@ fn seal<A: Allocator>(sealed: &mut Vec<Sealed, A>, kept: &mut Option<Task>, task
 /// for them.
 fn seal_some<L: Ledger, A: Allocator, H: Gatehouse>(
     pool: &TaskPool<A>,
-    member: &mut Member<L, A>,
+    worker: &mut Worker<L, A>,
     batch: &mut Batch,
     observer: &H,
     task: Task,
 ) -> bool
-    requires { member.old.owner.pool ≡ pool.now }
-    ensures same { member.new.place ≡ member.old.place }
-    ensures pool { member.new.owner.pool ≡ member.old.owner.pool }
-    ensures thieves { member.new.thieves ≡ member.old.thieves }
+    requires { worker.old.owner.pool ≡ pool.now }
+    ensures same { worker.new.place ≡ worker.old.place }
+    ensures pool { worker.new.owner.pool ≡ worker.old.owner.pool }
+    ensures thieves { worker.new.thieves ≡ worker.old.thieves }
 {
     let mut kept = None;
     let mut next = Some(task);
@@ -128,18 +128,18 @@ fn seal_some<L: Ledger, A: Allocator, H: Gatehouse>(
         let Some(task) = next else {
             break;
         };
-        observer.before(member.number, task.gate);
-        if !seal(&mut member.sealed, &mut kept, task) {
+        observer.before(worker.number, task.gate);
+        if !seal(&mut worker.sealed, &mut kept, task) {
             return false;
         }
         next = if i < MAX_SEALED {
-            own_task(pool, &mut member.owner, batch)
+            own_task(pool, &mut worker.owner, batch)
         } else {
             None
         };
     }
     match kept {
-        Some(task) => member.sealed.push(Sealed::make(task)).is_ok(),
+        Some(task) => worker.sealed.push(Sealed::make(task)).is_ok(),
         None => true,
     }
 }
@@ -150,37 +150,37 @@ pub(crate) fn work<L: Ledger, A: Allocator, H: Gatehouse, R: Wait>(
     rt: &R,
     shared: &SharedStore<L, A>,
     pools: &[TaskPool<A>],
-    member: &mut Member<L, A>,
+    worker: &mut Worker<L, A>,
     observer: &H,
 )
-    requires { IsReady pools.now member.old }
-    ensures { IsReady pools.now member.new }
+    requires { IsReady pools.now worker.old }
+    ensures { IsReady pools.now worker.new }
 {
-    let Some(pool) = pools.get(member.place) else {
+    let Some(pool) = pools.get(worker.place) else {
         return;
     };
     let mut batch = Batch::new();
     let mut kept: Option<Task> = None;
     for _ in rt.forever() {
         if kept.is_none() {
-            kept = next_task(rt, shared, pool, pools, member, &mut batch);
+            kept = next_task(rt, shared, pool, pools, worker, &mut batch);
         }
         let Some(task) = kept else {
             return;
         };
-        member.sealed.clear();
-        if !seal_some(pool, member, &mut batch, observer, task) {
+        worker.sealed.clear();
+        if !seal_some(pool, worker, &mut batch, observer, task) {
             shared.stop(rt);
             return;
         }
-        let sealed = member.sealed.as_slice();
+        let sealed = worker.sealed.as_slice();
         if shared
-            .hand_in_all(rt, sealed, &mut member.tally, &mut batch)
+            .hand_in_all(rt, sealed, &mut worker.tally, &mut batch)
             .is_err()
         {
             shared.stop(rt);
             return;
         }
-        kept = share(pool, &mut member.owner, &mut batch);
+        kept = share(pool, &mut worker.owner, &mut batch);
     }
 }

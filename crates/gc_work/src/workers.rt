@@ -4,11 +4,11 @@ ghost use Rattle.std.specs.Prelude.{◌≡◌, ◌++◌, ◌∷◌, [], All, IfO
 ghost use Rattle.gc_work.specs.Pool.{AllOf};
 ghost use Rattle.gc_work.specs.Places.{AreRows};
 ghost use Rattle.gc_work.specs.Ready.{IsReady};
-ghost use Rattle.gc_work.specs.Seats.{AreHeld};
+ghost use Rattle.gc_work.specs.Owners.{AreOwners};
 
 use crate::pool::{Owner, TaskPool, Thief};
 use crate::steal::PlacedThief;
-use crate::worker::{MAX_SEALED, Member};
+use crate::worker::{MAX_SEALED, Worker};
 use gc_circuit::Memory;
 use gc_store::Store;
 use std::alloc::Allocator;
@@ -16,7 +16,7 @@ use std::sync::ledger::Ledger;
 
 /// An owner, and the place of its pool among all pools.
 #[derive(Drop)]
-pub(crate) struct Seat<A: Allocator> {
+pub(crate) struct PlacedOwner<A: Allocator> {
     pub place: usize,
     pub owner: Owner<A>,
 }
@@ -25,7 +25,7 @@ pub(crate) struct Seat<A: Allocator> {
 #[derive(Drop)]
 struct Opened<A: Allocator> {
     pools: Vec<TaskPool<A>, A>,
-    seats: Vec<Seat<A>, A>,
+    owners: Vec<PlacedOwner<A>, A>,
     rows: Vec<Vec<PlacedThief<A>, A>, A>,
 }
 
@@ -33,7 +33,7 @@ struct Opened<A: Allocator> {
 #[derive(Drop)]
 pub(crate) struct Workers<L: Ledger, A: Allocator> {
     pub pools: Vec<TaskPool<A>, A>,
-    pub members: Vec<Member<L, A>, A>,
+    pub workers: Vec<Worker<L, A>, A>,
 }
 
 /// Deals the thieves of the pool that comes after `pools`, to all workers but its own.
@@ -81,38 +81,43 @@ fn open_pools<A: Allocator + Copy>(
     workers: u32,
     capacity: u32,
 ) -> Result<Opened<A>, Memory>
-    ensures seats { IfOk result (λ o. AreHeld o.pools.items o.seats.items) }
+    ensures owners { IfOk result (λ o. AreOwners o.pools.items o.owners.items) }
     ensures rows { IfOk result (λ o. AreRows o.pools.items o.rows.items) }
 {
     let mut pools = Vec::with_capacity(alloc, workers as usize)?;
-    let mut seats = Vec::with_capacity(alloc, workers as usize)?;
+    let mut owners = Vec::with_capacity(alloc, workers as usize)?;
     let mut rows = empty_rows(alloc, workers)?;
     for _i in 0..workers {
         let (pool, owner, thieves) = TaskPool::open(alloc, capacity, workers - 1)?;
         let place = pools.len();
         spread(rows.as_mut_slice(), thieves, &pool, pools.as_slice())?;
         pools.push(pool)?;
-        seats.push(Seat { place, owner })?;
+        owners.push(PlacedOwner { place, owner })?;
     }
-    Ok(Opened { pools, seats, rows })
+    Ok(Opened {
+        pools,
+        owners,
+        rows,
+    })
 }
 
-/// The workers at these seats, from the last to worker 0. They are fewer where the store has no more tallies.
-fn seated<L: Ledger, A: Allocator + Copy>(
+/// The workers with these owners and thieves, from the last to worker 0. They are fewer where the store has no more
+/// tallies.
+fn workers_of<L: Ledger, A: Allocator + Copy>(
     alloc: A,
     store: &mut Store<L, A>,
     pools: &[TaskPool<A>],
-    mut seats: Vec<Seat<A>, A>,
+    mut owners: Vec<PlacedOwner<A>, A>,
     mut rows: Vec<Vec<PlacedThief<A>, A>, A>,
-) -> Result<Vec<Member<L, A>, A>, Memory>
-    requires seats { AreHeld pools.now seats.items }
+) -> Result<Vec<Worker<L, A>, A>, Memory>
+    requires owners { AreOwners pools.now owners.items }
     requires rows { AreRows pools.now rows.items }
-    ensures { IfOk result (λ v. All (λ m. IsReady pools.now m) v.items) }
+    ensures { IfOk result (λ v. All (λ w. IsReady pools.now w) v.items) }
 {
-    let mut members = Vec::with_capacity(alloc, seats.len())?;
-    while let Some(seat) = seats.pop() {
-        let Seat { place, owner } = seat;
-        let number = u32::try_from(seats.len()).unwrap_or(0);
+    let mut workers = Vec::with_capacity(alloc, owners.len())?;
+    while let Some(placed) = owners.pop() {
+        let PlacedOwner { place, owner } = placed;
+        let number = u32::try_from(owners.len()).unwrap_or(0);
         let Some(thieves) = rows.pop() else {
             break;
         };
@@ -120,7 +125,7 @@ fn seated<L: Ledger, A: Allocator + Copy>(
             break;
         };
         let sealed = Vec::with_capacity(alloc, MAX_SEALED)?;
-        members.push(Member {
+        workers.push(Worker {
             place,
             number,
             tally,
@@ -129,20 +134,24 @@ fn seated<L: Ledger, A: Allocator + Copy>(
             sealed,
         })?;
     }
-    Ok(members)
+    Ok(workers)
 }
 
-/// A pool of this capacity for each worker, and the workers, from the last to worker 0. They are fewer where the store
-/// has no more tallies.
+/// This many workers, from the last to worker 0, and a pool of this capacity for each. The workers are fewer where the
+/// store has no more tallies.
 pub(crate) fn open_workers<L: Ledger, A: Allocator + Copy>(
     alloc: A,
     store: &mut Store<L, A>,
-    workers: u32,
+    count: u32,
     capacity: u32,
 ) -> Result<Workers<L, A>, Memory>
-    ensures { IfOk result (λ w. All (λ m. IsReady w.pools.items m) w.members.items) }
+    ensures { IfOk result (λ r. All (λ w. IsReady r.pools.items w) r.workers.items) }
 {
-    let Opened { pools, seats, rows } = open_pools(alloc, workers, capacity)?;
-    let members = seated(alloc, store, pools.as_slice(), seats, rows)?;
-    Ok(Workers { pools, members })
+    let Opened {
+        pools,
+        owners,
+        rows,
+    } = open_pools(alloc, count, capacity)?;
+    let workers = workers_of(alloc, store, pools.as_slice(), owners, rows)?;
+    Ok(Workers { pools, workers })
 }

@@ -11,10 +11,10 @@ loop-i-preserved g c =
     let back = whole_back _ _ _ (c.spread.auto.rows ∙ ap length c.as_mut_slice.ensures.value)
     count in
     record {
-      seats = rw (c.in_ok-push-2.ensures.items, c.in_ok-push.ensures.items)
-          (All-push (λ s. slice_get (pools ++ pool ∷ []) s.place ≡ Some s.owner.pool)
-          c.loop-i.seats.items _
-          (λ k d h. slice_get-append pools (pool ∷ []) _ _ (c.loop-i.invariant.seats k d h))
+      owners = rw (c.in_ok-push-2.ensures.items, c.in_ok-push.ensures.items)
+          (All-push (λ o. slice_get (pools ++ pool ∷ []) o.place ≡ Some o.owner.pool)
+          c.loop-i.owners.items _
+          (λ k d h. slice_get-append pools (pool ∷ []) _ _ (c.loop-i.invariant.owners k d h))
           (rw (← place, own) (slice_get-push pools pool)));
       rows = rw (back, c.in_ok-push.ensures.items)
           (rw c.as_slice.ensures.value at c.in_ok-spread.ensures);

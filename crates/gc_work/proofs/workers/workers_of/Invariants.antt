@@ -1,0 +1,12 @@
+use Rattle.gc_work.proofs.Names.{All, length, AreRows, IsReady, AreOwners}
+use Rattle.gc_work.proofs.workers.workers_of.Given as goal
+
+abbrev pub invariant-loop-placed : goal.invariant-loop-placed
+invariant-loop-placed g l = record {
+  owners : AreOwners l.pools l.owners.items;
+  rows : AreRows l.pools l.rows.items;
+  workers : All (λ w. IsReady l.pools w) l.workers.items;
+}
+
+abbrev pub decreases-loop-placed : goal.decreases-loop-placed
+decreases-loop-placed g l = length l.owners.items
