@@ -13,4 +13,5 @@ mod tokens;
 
 pub use back::{column_after, line_after};
 pub use gates::read_gate;
+pub use number::is_blank;
 pub use tokens::Tokens;

@@ -7,7 +7,7 @@ use gc_netlist::ReadFault;
 /// Whether the byte stands between tokens: a tab, a line feed, a carriage return or a space. Nearly all other bytes are
 /// above a space, so that one comparison suffices for them.
 #[inline]
-pub(crate) fn is_blank(byte: u8) -> bool
+pub fn is_blank(byte: u8) -> bool
     ensures { result ≡ is_blank byte }
 {
     byte <= b' ' && matches!(byte, b'\t' | b'\n' | b'\r' | b' ')
