@@ -1,5 +1,5 @@
 -- Which wires are set, and the values of those that are not.
-use Rattle.gc_half.proofs.Names.{◌≡◌, ◌≢◌, ℕ, zero, suc, ◌<◌, ◌≤◌, ◌⊎◌, inl, inr, ⊎_elim, length, slice_get, Some, refl, sym, subst, arith, nat_tests, gets, slice_get_cases, Gate, Netlist, IsSetBy, IsSetBefore, IsSet, IsSetBefore-more}
+use Rattle.gc_half.proofs.Names.{◌≡◌, ◌≢◌, ℕ, zero, suc, ◌⊎◌, inl, inr, ⊎_elim, length, slice_get, Some, refl, sym, subst, arith, nat_tests, gets, slice_get_cases, Gate, Netlist, IsSetBy, IsSetBefore, IsSet, IsSetBefore-more}
 use Rattle.std.proofs.lemmas.Bool.{cases_eq}
 use Rattle.gc_netlist.specs.Solution.{values_after}
 

@@ -1,6 +1,6 @@
 -- What it is to evaluate garbled rows, and how bits are encoded as labels and decoded.
-use Rattle.std.specs.Prelude.{ℕ, Bool, List, map, slice_index_or}
-use Rattle.std.specs.List.{zip}
+use Rattle.std.specs.Prelude.{◌≡◌, ℕ, Bool, List, map, slice_index, slice_index_or}
+use Rattle.std.specs.List.{range_with_len, zip}
 use Rattle.gc_netlist.specs.declared.gate.Operation.{Operation}
 use Rattle.gc_netlist.specs.declared.gate.Gate.{Gate}
 use Rattle.gc_netlist.specs.Circuit.{Netlist, and_number}
@@ -8,6 +8,7 @@ use Rattle.gc_netlist.specs.Solution.{Solves, on_outputs}
 use Rattle.gc_circuit.specs.Meaning.{xor}
 use Rattle.gc_label.specs.Label.{◌⊕◌, colour, times}
 use Rattle.gc_half.specs.declared.garbling.RowPair.{RowPair}
+use Rattle.gc_half.specs.Hash.{hash}
 use Rattle.gc_half.specs.OneGate.{first_read, second_read, gate_active}
 
 -- The row pair at a gate's AND number, or zeros where there is none.
@@ -29,6 +30,12 @@ module _ (hash : ℕ → ℕ → ℕ) where
   -- equation.
   abbrev pub IsEvaluation : Netlist → List RowPair → (ℕ → ℕ) → (ℕ → ℕ) → Type 0
   IsEvaluation c rows given active = Solves (active_rule c rows) c given active
+
+-- The labels of all wires are active ones: those of an evaluation of the rows on these labels of the input wires.
+pub record AreActive (c : Netlist) (rows : List RowPair) (inputs labels : List ℕ) : Type 0 where
+  pub active : ℕ → ℕ
+  pub evaluation : IsEvaluation hash c rows (slice_index inputs) active
+  pub table : labels ≡ map active (range_with_len 0 c.wires)
 
 -- The label that stands for a bit on a wire with this zero label.
 abbrev pub encode : ℕ → ℕ → Bool → ℕ

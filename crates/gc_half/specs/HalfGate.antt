@@ -2,6 +2,7 @@
 -- a Whole" (Zahur, Rosulek and Evans, 2015).
 use Rattle.std.specs.Prelude.{ℕ, ◌+◌, ◌*◌, List, [], ◌∷◌}
 use Rattle.gc_label.specs.Label.{◌⊕◌, colour, times}
+use Rattle.gc_half.specs.declared.garbling.GarbledAnd.{GarbledAnd}
 
 -- The gate is the k-th AND gate in file order, counted from 0. Its tweaks are 2 * k and 2 * k + 1.
 module _ (hash : ℕ → ℕ → ℕ) (k : ℕ) where
@@ -25,9 +26,12 @@ module _ (hash : ℕ → ℕ → ℕ) (k : ℕ) where
   abbrev pub and_zero : ℕ → ℕ → ℕ → ℕ
   and_zero r a b = generator_half r a b ⊕ evaluator_half r a b
 
-  -- What garbling gives, together: this label, the generator's row and the evaluator's row.
-  abbrev pub and_garbled : ℕ → ℕ → ℕ → ℕ × ℕ × ℕ
-  and_garbled r a b = (and_zero r a b, generator_row r a b, evaluator_row r a b)
+  -- What garbling gives, together: this label and the two rows.
+  abbrev pub and_garbled : ℕ → ℕ → ℕ → GarbledAnd
+  and_garbled r a b = record {
+    zero_label = and_zero r a b;
+    rows = record { generator = generator_row r a b; evaluator = evaluator_row r a b };
+  }
 
   -- The four hashes that it takes.
   abbrev pub and_hashes : ℕ → ℕ → ℕ → List ℕ

@@ -3,9 +3,10 @@ use Rattle.std.specs.Prelude.{◌≢◌, ℕ, List, [], ◌∷◌, slice_set, Op
 use Rattle.gc_half.specs.declared.waiting.WaitingGate.{WaitingGate}
 use Rattle.gc_half.specs.declared.waiting.WaitingGates.{WaitingGates}
 use Rattle.gc_half.specs.declared.half_gate.AndGate.{AndGate}
+use Rattle.gc_half.specs.declared.half_gate.AndStep.{AndStep}
 use Rattle.gc_half.specs.declared.garbling.RowPair.{RowPair}
 use Rattle.gc_half.specs.Hash.{hash}
-use Rattle.gc_half.specs.HalfGate.{and_zero}
+use Rattle.gc_half.specs.HalfGate.{and_zero, and_active}
 use Rattle.gc_half.specs.OneGate.{row_pair}
 use Rattle.gc_half.specs.Comparing.{RowTableParts}
 
@@ -41,10 +42,19 @@ zero_label_of_gate g = and_zero hash g.k g.offset g.a g.b
 abbrev pub row_pair_of_gate : AndGate → RowPair
 row_pair_of_gate g = row_pair hash g.offset g.k g.a g.b
 
+-- The active label of the wire that an AND gate sets.
+abbrev pub active_label_of_step : AndStep → ℕ
+active_label_of_step s = and_active hash s.k s.rows.generator s.rows.evaluator s.a s.b
+
 -- A circuit that is garbled gate after gate: the labels of its wires and the row pairs so far, as if no gate waited,
 -- the row pairs that are made and compared, and the gates that wait.
-pub record TableParts : Type 0 where
+pub record GarblingTableParts : Type 0 where
   pub labels : List ℕ
   pub rows : List RowPair
   pub compared : RowTableParts
   pub waiting : List (WaitingGate AndGate)
+
+-- A circuit that is evaluated gate after gate: the labels of its wires, as if no gate waited, and the gates that wait.
+pub record ActiveTableParts : Type 0 where
+  pub labels : List ℕ
+  pub waiting : List (WaitingGate AndStep)

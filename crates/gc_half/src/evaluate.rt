@@ -1,24 +1,37 @@
-//! The table of labels that evaluation begins with.
+//! Evaluating a whole circuit on one thread.
 
-ghost use Rattle.std.specs.Prelude.{◌≡◌, ◌≤◌, IfOk, length, map, slice_index};
-ghost use Rattle.std.specs.List.{range_with_len};
+ghost use Rattle.std.specs.Prelude.{◌≡◌, length, IfOk};
+ghost use Rattle.gc_netlist.specs.Circuit.{and_count, input_wires};
+ghost use Rattle.gc_half.specs.Evaluation.{AreActive};
 
-use gc_circuit::Memory;
+use crate::active_labels::input_active_labels;
+use crate::active_table::ActiveTable;
+use crate::garbling::RowPair;
+use gc_circuit::{Circuit, Memory};
 use gc_label::Label;
 use std::alloc::Allocator;
 
-/// The active labels of the input wires, and 16 zero bytes for each other wire: the table that evaluation begins
-/// with. It takes memory once, for all wires. That there are no more labels than wires is the caller's condition.
-pub fn input_active_labels<A: Allocator + Copy>(
+/// The active labels of all wires, evaluated from row pairs and active labels of the input wires, gate after gate in
+/// file order: 16 zero bytes for a wire that is not set. It takes memory once, for the labels. That there are as many
+/// row pairs as AND gates, and as many labels as input wires, are the caller's conditions.
+pub fn evaluate_one_thread<A: Allocator + Copy, C: Allocator>(
     alloc: A,
-    wires: u32,
+    circuit: &Circuit<C>,
+    rows: &[RowPair],
     inputs: &[Label],
 ) -> Result<Vec<Label, A>, Memory>
-    requires { length inputs.now ≤ wires }
-    ensures { IfOk result (λ v. v.items ≡ map (slice_index inputs.now) (range_with_len 0 wires)) }
+    requires rows { length rows.now ≡ and_count circuit.now }
+    requires inputs { length inputs.now ≡ input_wires circuit.now }
+    ensures { IfOk result (λ v. AreActive circuit.now rows.now inputs.now v.items) }
 {
-    let mut labels = Vec::with_capacity(alloc, wires as usize)?;
-    labels.extend_from_slice(inputs)?;
-    labels.resize(wires as usize, Label::ZERO)?;
-    Ok(labels)
+    let mut active = ActiveTable::new(input_active_labels(alloc, circuit.wires(), inputs)?);
+    let mut and_number = 0;
+    for i in 0..circuit.gates() {
+        let gate = circuit.gate(i);
+        active.step(and_number, rows, gate);
+        if gate.operation.is_and() {
+            and_number += 1;
+        }
+    }
+    Ok(active.into_labels())
 }

@@ -6,8 +6,8 @@ ghost use Rattle.gc_half.specs.Comparing.{IsFirstMismatch, KeepsCompared};
 ghost use Rattle.gc_half.specs.Garbling.{IsGarbled};
 
 use crate::garbling::{Garbling, Mismatch, RowPair};
+use crate::garbling_table::GarblingTable;
 use crate::row_table::RowTable;
-use crate::table::GarblingTable;
 use crate::zero_labels::labels_of_inputs;
 use gc_circuit::{Circuit, Memory};
 use gc_label::{Label, Seed, offset};

@@ -17,6 +17,15 @@ pub struct RowPair {
     pub evaluator: Label,
 }
 
+/// What garbling an AND gate gives.
+#[derive(Clone, Copy, PartialEq, Eq, Debug)]
+pub struct GarbledAnd {
+    /// The zero label of the wire that it sets.
+    pub zero_label: Label,
+    /// Its row pair.
+    pub rows: RowPair,
+}
+
 /// A given row pair that is not the one that was made.
 #[derive(Clone, Copy, PartialEq, Eq, Debug)]
 pub struct Mismatch {

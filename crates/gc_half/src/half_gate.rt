@@ -5,7 +5,7 @@ ghost use Rattle.std.specs.Prelude.{◌≡◌, ◌+◌, ◌*◌, map};
 ghost use Rattle.gc_half.specs.Hash.{hash};
 ghost use Rattle.gc_half.specs.HalfGate.{and_active, and_garbled, and_hashes, and_zero, evaluator_row, generator_row};
 
-use crate::garbling::RowPair;
+use crate::garbling::{GarbledAnd, RowPair};
 use crate::hash::{tweak_hash_eight, tweak_hash_four};
 use gc_label::{Label, Offset};
 
@@ -41,9 +41,9 @@ impl AndGate {
         ]
     }
 
-    /// The zero label of the wire that it sets, the generator's row and the evaluator's row, from these hashes.
+    /// What its garbling gives, from these hashes.
     #[inline]
-    fn garbled(&self, hashes: [Label; 4]) -> (Label, Label, Label)
+    fn garbled(&self, hashes: [Label; 4]) -> GarbledAnd
         requires { hashes ≡ and_hashes hash self.now.k self.now.offset self.now.a self.now.b }
         ensures { result ≡ and_garbled hash self.now.k self.now.offset self.now.a self.now.b }
     {
@@ -54,28 +54,30 @@ impl AndGate {
         let evaluator = hash_b.xor(hash_other_b).xor(self.a);
         let generator_half = hash_a.xor(generator.times(self.a.colour()));
         let evaluator_half = hash_b.xor(evaluator.xor(self.a).times(self.b.colour()));
-        (generator_half.xor(evaluator_half), generator, evaluator)
+        GarbledAnd {
+            zero_label: generator_half.xor(evaluator_half),
+            rows: RowPair {
+                generator,
+                evaluator,
+            },
+        }
     }
 }
 
-/// Garbles the k-th AND gate, counted from 0, from the zero labels `a` and `b` of the wires that it reads. The answer
-/// is the zero label of the wire that it sets, the generator's row and the evaluator's row. It is not inlined: its
-/// many variables would push those of the loops that call it out of the registers.
+/// Garbles the k-th AND gate, counted from 0, from the zero labels `a` and `b` of the wires that it reads. It is not
+/// inlined: its many variables would push those of the loops that call it out of the registers.
 #[inline(never)]
-pub fn garble_and(k: u32, offset: Offset, a: Label, b: Label) -> (Label, Label, Label)
-    ensures zero_label { result.0 ≡ and_zero hash k offset a b }
-    ensures generator { result.1 ≡ generator_row hash k offset a b }
-    ensures evaluator { result.2 ≡ evaluator_row hash k offset a b }
+pub fn garble_and(k: u32, offset: Offset, a: Label, b: Label) -> GarbledAnd
+    ensures zero_label { result.zero_label ≡ and_zero hash k offset a b }
+    ensures generator { result.rows.generator ≡ generator_row hash k offset a b }
+    ensures evaluator { result.rows.evaluator ≡ evaluator_row hash k offset a b }
 {
     let gate = AndGate { k, offset, a, b };
     gate.garbled(tweak_hash_four(gate.hashed()))
 }
 
 /// Garbles two AND gates at once, each as [`garble_and`] does.
-pub fn garble_two_ands(
-    one: AndGate,
-    other: AndGate,
-) -> ((Label, Label, Label), (Label, Label, Label))
+pub fn garble_two_ands(one: AndGate, other: AndGate) -> (GarbledAnd, GarbledAnd)
     ensures one { result.0 ≡ and_garbled hash one.k one.offset one.a one.b }
     ensures other { result.1 ≡ and_garbled hash other.k other.offset other.a other.b }
 {

@@ -4,30 +4,34 @@
 //!
 //! [`garble_one_thread`] makes the [`Garbling`] of a circuit under a seed: a zero label for each wire and a
 //! [`RowPair`] for each AND gate. The other label of a wire is its zero label plus the offset. Evaluation
-//! follows one label of each wire, the active one, through the gates: [`eval_and`] is its step at an AND gate.
+//! ([`evaluate_one_thread`]) follows one label of each wire, the active one, through the gates: [`eval_and`] is
+//! its step at an AND gate.
 //!
 //! [`law_half_gates`] says that evaluation decodes to the output bits, and [`law_garblings`] that each circuit
 //! has one garbling under a seed.
 #![tactic(auto)]
 
+mod active_labels;
+mod active_table;
 mod entry;
 mod evaluate;
 mod garble;
 mod garbling;
+mod garbling_table;
 mod half_gate;
 mod hash;
 mod laws;
 mod numbers;
 mod one_gate;
 mod row_table;
-mod table;
 mod waiting;
 mod zero_labels;
 
+pub use active_labels::input_active_labels;
 pub use entry::{four_output_entries, output_entry};
-pub use evaluate::input_active_labels;
+pub use evaluate::evaluate_one_thread;
 pub use garble::{garble_and_compare, garble_one_thread};
-pub use garbling::{Garbling, Mismatch, RowPair};
+pub use garbling::{GarbledAnd, Garbling, Mismatch, RowPair};
 pub use half_gate::{
     AndGate, AndStep, eval_and, eval_four_ands, eval_two_ands, garble_and, garble_two_ands,
 };

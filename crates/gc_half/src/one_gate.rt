@@ -45,12 +45,8 @@ pub fn garble_gate(
     match operation {
         Operation::Xor(_, _) => (first.xor(second), None),
         Operation::And(_, _) => {
-            let (zero_label, generator, evaluator) = garble_and(k, offset, first, second);
-            let rows = RowPair {
-                generator,
-                evaluator,
-            };
-            (zero_label, Some(rows))
+            let garbled = garble_and(k, offset, first, second);
+            (garbled.zero_label, Some(garbled.rows))
         }
         Operation::Inv(_) => (first.xor(offset.label()), None),
         Operation::Eq(constant) => (offset.label().times(constant), None),

@@ -1,7 +1,7 @@
 use Rattle.gc_half.proofs.Names.{◌≡◌, ◌∙◌, ◌<◌, ℕ, List, length, set, get_or-set_same, get_or-set_other, arith, rules, slice_index, nat_tests, Operation, And, put, RowPair, gate_zero, gate_rows, with_row_pair}
 use Rattle.std.proofs.lemmas.Result.{on_ok_weaker}
 use Rattle.gc_half.specs.Hash.{hash}
-use Rattle.gc_half.proofs.table.GarblingTable.step.Goals as goal
+use Rattle.gc_half.proofs.garbling_table.GarblingTable.step.Goals as goal
 
 -- A label that is set in a table is put over what the wires have.
 set-put : (labels : List ℕ) (values : ℕ → ℕ) (s x y : ℕ) → s < length labels

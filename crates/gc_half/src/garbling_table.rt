@@ -12,7 +12,6 @@ ghost use Rattle.gc_half.specs.Canonical.{with_row_pair};
 ghost use Rattle.gc_half.specs.Comparing.{KeepsCompared};
 ghost use Rattle.gc_half.specs.Waiting.{NoneSets};
 
-use crate::garbling::RowPair;
 use crate::half_gate::{AndGate, garble_and, garble_two_ands};
 use crate::one_gate::{garble_gate, labels_read};
 use crate::row_table::RowTable;
@@ -36,9 +35,9 @@ pub(crate) struct GarblingTable<A: Allocator = Global> {
 impl<A: Allocator> Model for GarblingTable<A> {
     ghost use Rattle.std.specs.Prelude.{◌<◌, ◌++◌, length, map};
     ghost use Rattle.std.specs.Option.{option_to_list};
-    ghost use Rattle.gc_half.specs.Waiting.{TableParts, EachSets, settled, zero_label_of_gate, row_pair_of_gate};
+    ghost use Rattle.gc_half.specs.Waiting.{GarblingTableParts, EachSets, settled, zero_label_of_gate, row_pair_of_gate};
 
-    ghost Value = { TableParts };
+    ghost Value = { GarblingTableParts };
 
     ghost view = { λ t. record {
       labels = settled zero_label_of_gate t.labels.items (option_to_list t.waiting);
@@ -185,10 +184,10 @@ impl<A: Allocator> GarblingTable<A> {
             b,
         };
         let (one, other) = garble_two_ands(waits.gate, gate);
-        self.labels[waits.set as usize] = one.0;
-        self.labels[set as usize] = other.0;
-        self.rows.put(named(one))?;
-        self.rows.put(named(other))?;
+        self.labels[waits.set as usize] = one.zero_label;
+        self.labels[set as usize] = other.zero_label;
+        self.rows.put(one.rows)?;
+        self.rows.put(other.rows)?;
         Ok(())
     }
 
@@ -219,8 +218,8 @@ impl<A: Allocator> GarblingTable<A> {
         self.waiting = None;
         let AndGate { k, offset, a, b } = waits.gate;
         let garbled = garble_and(k, offset, a, b);
-        self.labels[waits.set as usize] = garbled.0;
-        self.rows.put(named(garbled))?;
+        self.labels[waits.set as usize] = garbled.zero_label;
+        self.rows.put(garbled.rows)?;
         Ok(())
     }
 
@@ -237,17 +236,5 @@ impl<A: Allocator> GarblingTable<A> {
             waiting: _,
         } = self;
         Ok((labels, rows))
-    }
-}
-
-/// The generator's row and the evaluator's row, by names.
-#[inline]
-fn named(garbled: (Label, Label, Label)) -> RowPair
-    ensures { result ≡ record { generator = garbled.1; evaluator = garbled.2 } }
-{
-    let (_, generator, evaluator) = garbled;
-    RowPair {
-        generator,
-        evaluator,
     }
 }

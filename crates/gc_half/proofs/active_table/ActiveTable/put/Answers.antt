@@ -1,0 +1,9 @@
+use Rattle.gc_half.specs.Waiting.{gates_in, active_label_of_step}
+use Rattle.gc_half.proofs.WaitingLemmas.{settled-put}
+use Rattle.gc_half.proofs.active_table.ActiveTable.put.Goals as goal
+
+pub returns-clause-labels : goal.returns-clause-labels
+returns-clause-labels g c =
+    rw (← c.self.view_is) (settled-put active_label_of_step c.self.inside.labels.items
+    (gates_in c.self.inside.waiting) c.args.wire c.args.label
+    (rw (← c.self.view_is) at c.requires.once))
