@@ -14,14 +14,11 @@ pub use Rattle.gc_format.specs.GarbledFile.{GarbledParts}
 pub use Rattle.gc_format.specs.LabelFile.{LabelFileParts, encoded_from}
 pub use Rattle.gc_half.proofs.AndNumbers.{and_number-below, and_number-and, and_number-other}
 pub use Rattle.gc_half.proofs.CircuitLaw.{active_local}
-pub use Rattle.gc_half.proofs.WaitingLemmas.{settled-put, first_read-settled, second_read-settled}
 pub use Rattle.gc_half.specs.Entry.{output_tweak, label_of_colour, entry_of}
-pub use Rattle.gc_half.specs.Evaluation.{decode, IsEvaluation, encode, active_rule, row_at}
+pub use Rattle.gc_half.specs.Evaluation.{decode, IsEvaluation, AreActive, encode, active_rule, row_at}
 pub use Rattle.gc_half.specs.Hash.{hash}
-pub use Rattle.gc_half.specs.Waiting.{NoneSets, gates_in}
-pub use Rattle.gc_job.specs.ActiveTable.{label_of_step}
 pub use Rattle.gc_job.specs.Binding.{HasFile, IsInOrder, AreInOrder, LabelsFault, double_value, HasCounts, no_such_value, wrong_width, of_file, missing_value, FirstBindFault, other_circuit, other_counts, of_labels, IsBound, FirstLabelsFault, AreBound}
-pub use Rattle.gc_job.specs.Evaluate.{IsRecognised, AreRecognised, IsEvaluated, labels_of, entry, AreActive, IsDecodingOf}
+pub use Rattle.gc_job.specs.Evaluate.{IsRecognised, AreRecognised, IsEvaluated, labels_of, entry, IsDecodingOf}
 pub use Rattle.gc_job.specs.Honest.{IsHonest, AreHonestFiles, HonestFilesLaw}
 pub use Rattle.gc_job.specs.Job.{JobParts, IsWhole, job_of}
 pub use Rattle.gc_job.specs.Places.{IsFileAt, ArePlaces, labels_at}
@@ -29,7 +26,7 @@ pub use Rattle.gc_job.specs.declared.fault.BindFault.TheVariants.{DoubleValue, M
 pub use Rattle.gc_job.specs.declared.fault.EvalFault.{EvalFault}
 pub use Rattle.gc_job.specs.declared.fault.EvalFault.TheVariants.{Memory, BadWorkers, UnknownOutputLabel}
 pub use Rattle.gc_label.specs.Label.{colour}
-pub use Rattle.gc_netlist.proofs.SolutionLemmas.{solution_solves, EachRead-map, IsSetBefore-more}
-pub use Rattle.gc_netlist.proofs.Tables.{read-table, table_end, table_step, length-table, EachRead-below, after-zero}
-pub use Rattle.gc_netlist.specs.Circuit.{Netlist, IsLawful, output_wires, and_count, IsSetBy, input_wires, and_number, is_and, IsSetBefore}
-pub use Rattle.gc_netlist.specs.Solution.{solution, on_outputs, values_after}
+pub use Rattle.gc_netlist.proofs.SolutionLemmas.{solution_solves}
+pub use Rattle.gc_netlist.proofs.Tables.{read-table, table_end, length-table}
+pub use Rattle.gc_netlist.specs.Circuit.{Netlist, IsLawful, output_wires, and_count, IsSetBy, input_wires, and_number, is_and}
+pub use Rattle.gc_netlist.specs.Solution.{solution, on_outputs}

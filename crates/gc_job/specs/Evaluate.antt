@@ -1,10 +1,8 @@
 -- What evaluating a garbled circuit answers, honest rows and labels or not.
-use Rattle.std.specs.Prelude.{◌≡◌, ℕ, ◌<◌, Bool, true, false, List, length, map, slice_get, slice_index, Some, Result, Ok, Err}
-use Rattle.std.specs.List.{range_with_len}
-use Rattle.gc_netlist.specs.Circuit.{Netlist, and_count}
+use Rattle.std.specs.Prelude.{◌≡◌, ℕ, ◌<◌, Bool, true, false, List, length, slice_get, slice_index, Some, Result, Ok, Err}
+use Rattle.gc_netlist.specs.Circuit.{and_count}
 use Rattle.gc_netlist.specs.Solution.{on_outputs}
 use Rattle.gc_label.specs.Label.{colour}
-use Rattle.gc_half.specs.declared.garbling.RowPair.{RowPair}
 use Rattle.gc_half.specs.Hash.{hash}
 use Rattle.gc_half.specs.Entry.{output_tweak}
 use Rattle.gc_half.specs.Evaluation.{IsEvaluation, decode}
@@ -17,12 +15,6 @@ use Rattle.gc_job.specs.Job.{JobParts}
 -- the labels of a list, by place
 abbrev pub labels_of : List ℕ → ℕ → ℕ
 labels_of labels w = slice_index labels w
-
--- The labels of all wires are active ones: those of an evaluation of the rows on these labels of the input wires.
-pub record AreActive (c : Netlist) (rows : List RowPair) (inputs labels : List ℕ) : Type 0 where
-  pub active : ℕ → ℕ
-  pub evaluation : IsEvaluation hash c rows (labels_of inputs) active
-  pub table : labels ≡ map active (range_with_len 0 c.wires)
 
 -- Entry s of a pair.
 abbrev pub entry : EntryPair → Bool → ℕ

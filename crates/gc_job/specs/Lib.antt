@@ -6,4 +6,3 @@ pub mod Evaluate
 pub mod Honest
 pub mod Wiring
 pub mod ActiveLabels
-pub mod ActiveTable

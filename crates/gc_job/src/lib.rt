@@ -13,7 +13,6 @@ mod job;
 mod laws;
 mod one_thread;
 mod readers;
-mod table;
 mod wiring;
 
 pub use detached::DetachedJob;

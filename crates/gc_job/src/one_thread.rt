@@ -1,45 +1,23 @@
-ghost use Rattle.std.specs.Prelude.{◌≡◌, ℕ, Bool, List, length, map, IfOk, MatchResult};
+//! Evaluating a job on one thread.
+
+ghost use Rattle.std.specs.Prelude.{◌≡◌, ℕ, Bool, List, length, map, MatchResult};
 ghost use Rattle.std.specs.Result.{result_map_both};
 ghost use Rattle.std.specs.List.{range_with_len};
-ghost use Rattle.gc_netlist.specs.Circuit.{and_count, input_wires, output_wires};
+ghost use Rattle.gc_netlist.specs.Circuit.{output_wires};
 ghost use Rattle.gc_netlist.specs.Solution.{on_outputs};
 ghost use Rattle.gc_circuit.specs.Meaning.{AreOutputs};
 ghost use Rattle.gc_job.specs.Job.{IsWhole, job_of};
-ghost use Rattle.gc_job.specs.Evaluate.{AreActive, IsEvaluated};
+ghost use Rattle.gc_job.specs.Evaluate.{IsEvaluated};
 ghost use Rattle.gc_job.specs.Honest.{IsHonest};
 
 use crate::decode::decoding;
 use crate::detached::DetachedJob;
 use crate::fault::EvalFault;
 use crate::job::Job;
-use crate::table::LabelTable;
-use gc_circuit::{Circuit, Memory};
-use gc_half::{RowPair, input_active_labels};
+use gc_circuit::Circuit;
+use gc_half::evaluate_one_thread;
 use gc_label::Label;
 use std::alloc::Allocator;
-
-/// The active labels on all wires, from those on the input wires: zero on a wire that is not set.
-fn active_labels<A: Allocator + Copy, C: Allocator>(
-    alloc: A,
-    circuit: &Circuit<C>,
-    rows: &[RowPair],
-    inputs: &[Label],
-) -> Result<Vec<Label, A>, Memory>
-    requires rows { length rows.now ≡ and_count circuit.now }
-    requires inputs { length inputs.now ≡ input_wires circuit.now }
-    ensures { IfOk result (λ v. AreActive circuit.now rows.now inputs.now v.items) }
-{
-    let mut active = LabelTable::new(input_active_labels(alloc, circuit.wires(), inputs)?);
-    let mut and_number = 0;
-    for i in 0..circuit.gates() {
-        let gate = circuit.gate(i);
-        active.step(and_number, rows, gate);
-        if gate.operation.is_and() {
-            and_number += 1;
-        }
-    }
-    Ok(active.into_labels())
-}
 
 /// The labels of the output wires, the last ones, out of a label for each wire.
 fn output_labels<'l, C: Allocator>(circuit: &Circuit<C>, labels: &'l [Label]) -> &'l [Label]
@@ -68,7 +46,7 @@ pub fn evaluate<A: Allocator, B: Allocator + Copy, C: Allocator>(
         (λ fault. fault ≡ EvalFault.Memory) }
 {
     let circuit = job.circuit();
-    let active = active_labels(alloc, circuit, job.rows(), job.inputs())?;
+    let active = evaluate_one_thread(alloc, circuit, job.rows(), job.inputs())?;
     job.decode(alloc, output_labels(circuit, &active))
 }
 
@@ -87,7 +65,7 @@ pub fn evaluate_detached<A: Allocator, B: Allocator + Copy, C: Allocator>(
         MatchResult result (λ outputs. AreOutputs circuit.now bits outputs.items)
         (λ fault. fault ≡ EvalFault.Memory) }
 {
-    let active = active_labels(alloc, circuit, job.garbled().rows(), job.inputs())?;
+    let active = evaluate_one_thread(alloc, circuit, job.garbled().rows(), job.inputs())?;
     decoding(
         alloc,
         circuit,

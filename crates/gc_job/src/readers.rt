@@ -2,8 +2,8 @@
 
 ghost use Rattle.std.specs.Prelude.{◌≡◌, ℕ, ◌<◌, All, IfSome, IfNone, map, slice_index};
 ghost use Rattle.gc_netlist.specs.Circuit.{IsSetBy, and_number, input_wires};
+ghost use Rattle.gc_half.specs.Waiting.{active_label_of_step};
 ghost use Rattle.gc_job.specs.ActiveLabels.{gates_of, active_from};
-ghost use Rattle.gc_job.specs.ActiveTable.{label_of_step};
 
 use crate::job::Job;
 use crate::wiring::Wiring;
@@ -159,7 +159,7 @@ impl<'c, A: Allocator, C: Allocator> Job<'c, A, C> {
     ) -> Option<AndStep>
         requires gate { gate < gates_of self.now }
         requires wiring { wiring.now ≡ self.now.circuit }
-        ensures { IfSome result (λ step. label_of_step step ≡ active_from self.now gate a b) }
+        ensures { IfSome result (λ step. active_label_of_step step ≡ active_from self.now gate a b) }
     {
         let k = wiring.and_number(gate);
         match self.circuit().gate(gate).operation {
