@@ -7,7 +7,7 @@ ghost use Rattle.gc_half.specs.HalfGate.{and_garbled};
 ghost use Rattle.gc_store.specs.Task.{sealed_zero_label, sealed_rows};
 
 use gc_circuit::Operation;
-use gc_half::{AndGate, RowPair, garble_gate, garble_two_ands};
+use gc_half::{AndGate, GarbledAnd, RowPair, garble_gate, garble_two_ands};
 use gc_label::{Label, Offset};
 use std::marker::Model;
 
@@ -109,24 +109,18 @@ impl Sealed {
         }
     }
 
-    /// A task whose gate is AND, with what garbling it gave: the zero label of the wire that it sets, the generator's
-    /// row and the evaluator's row.
+    /// A task whose gate is AND, with what garbling it gave.
     #[inline]
-    fn of_and(task: Task, garbled: (Label, Label, Label)) -> Sealed
+    fn of_and(task: Task, garbled: GarbledAnd) -> Sealed
         requires and { IsTrue (is_and task.operation) }
         requires garbled { garbled ≡ and_garbled hash task.and_number task.offset
             task.first task.second }
         ensures { result ≡ task }
     {
-        let (zero_label, generator, evaluator) = garbled;
-        let rows = RowPair {
-            generator,
-            evaluator,
-        };
         Sealed {
             task,
-            zero_label,
-            rows: Some(rows),
+            zero_label: garbled.zero_label,
+            rows: Some(garbled.rows),
         }
     }
 
