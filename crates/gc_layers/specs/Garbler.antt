@@ -4,13 +4,13 @@ use Rattle.gc_netlist.specs.declared.gate.Operation.{Operation}
 use Rattle.gc_netlist.specs.Circuit.{Netlist, IsLawful, and_count, is_and}
 use Rattle.gc_label.specs.Seed.{offset_of}
 use Rattle.gc_half.specs.declared.garbling.RowPair.{RowPair}
+use Rattle.gc_half.specs.declared.garbling.GarbledAnd.{GarbledAnd}
 use Rattle.gc_half.specs.declared.half_gate.AndGate.{AndGate}
 use Rattle.gc_half.specs.Hash.{hash}
 use Rattle.gc_half.specs.HalfGate.{and_zero}
 use Rattle.gc_half.specs.OneGate.{row_pair}
 use Rattle.gc_half.specs.Canonical.{no_rows, zero_label_of, row_pairs_of}
 use Rattle.gc_layers.specs.declared.placed.PlacedGate.{PlacedGate}
-use Rattle.gc_layers.specs.declared.to_garble.Garbled.{Garbled}
 use Rattle.gc_labelling.specs.Layer.{IsPartly}
 
 -- What garbling a gate that waits gives: the zero label of the wire that it sets,
@@ -21,7 +21,7 @@ zero_by w = and_zero hash w.waits.gate.k w.waits.gate.offset w.waits.gate.a w.wa
 abbrev pub rows_by : PlacedGate AndGate → RowPair
 rows_by w = row_pair hash w.waits.gate.offset w.waits.gate.k w.waits.gate.a w.waits.gate.b
 
-abbrev pub garbled_of : PlacedGate AndGate → Garbled
+abbrev pub garbled_of : PlacedGate AndGate → GarbledAnd
 garbled_of w = record { zero_label = zero_by w; rows = rows_by w }
 
 -- A row pair is there unless the evaluator's row is zero.

@@ -4,9 +4,8 @@ ghost use Rattle.std.specs.Prelude.{◌≡◌};
 
 use crate::placed::PlacedGate;
 use crate::row_keeper::RowKeeper;
-use crate::to_garble::Garbled;
 use gc_circuit::{Circuit, Gate};
-use gc_half::{AndGate, WaitingGate, garble_gate};
+use gc_half::{AndGate, GarbledAnd, WaitingGate, garble_gate};
 use gc_label::{Label, Offset, Seed, offset};
 use gc_labelling::{Labelling, Place};
 use std::alloc::Allocator;
@@ -104,7 +103,7 @@ impl<'c, K: RowKeeper, C: Allocator> Labelling<PlacedGate<AndGate>> for Garbler<
     }
 
     #[inline]
-    fn keep(&mut self, gate: &PlacedGate<AndGate>, made: &Garbled) -> (u32, Label) {
+    fn keep(&mut self, gate: &PlacedGate<AndGate>, made: &GarbledAnd) -> (u32, Label) {
         self.keeper.keep(gate.waits.gate.k, made.rows);
         (gate.waits.set, made.zero_label)
     }

@@ -5,7 +5,7 @@ ghost use Rattle.gc_netlist.specs.Circuit.{and_count};
 ghost use Rattle.gc_layers.specs.Garbler.{AreKept, is_present};
 
 use crate::row_keeper::RowKeeper;
-use crate::to_garble::Garbled;
+use crate::to_garble::NOT_GARBLED;
 use gc_circuit::{Circuit, Memory};
 use gc_half::RowPair;
 use gc_label::Label;
@@ -36,7 +36,7 @@ impl<A: Allocator> MadeRows<A> {
     {
         let missing = circuit.and_count();
         Ok(MadeRows {
-            rows: Table::open(alloc, Garbled::NONE.rows, missing)?,
+            rows: Table::open(alloc, NOT_GARBLED.rows, missing)?,
             missing,
         })
     }
