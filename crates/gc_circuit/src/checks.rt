@@ -97,10 +97,10 @@ pub(crate) fn wire_at_fault(is_set: &[bool], gate: Gate) -> WireBack
     ensures { (result.wire, result.back) ≡ wire_at_fault (length is_set.now)
         (λ w. slice_index_or is_set.now w false) gate.set gate.operation }
 {
-    match gate.operation {
-        Operation::Xor(a, b) | Operation::And(a, b) => wire_of_two(is_set, a, b, gate.set),
-        Operation::Inv(a) | Operation::Eqw(a) => wire_of_one(is_set, a, gate.set),
-        Operation::Eq(_) => WireBack {
+    match (gate.operation.first_wire(), gate.operation.second_wire()) {
+        (Some(first), Some(second)) => wire_of_two(is_set, first, second, gate.set),
+        (Some(read), None) => wire_of_one(is_set, read, gate.set),
+        _ => WireBack {
             wire: gate.set,
             back: 2,
         },

@@ -1,14 +1,23 @@
-use Rattle.std.proofs.Common.{inl, inr}
+use Rattle.std.proofs.Common.{◌≡◌, ℕ, Bool, Some, None, rules, sym, ◌∙◌}
+use Rattle.gc_netlist.specs.declared.gate.Operation.{Operation}
+use Rattle.gc_netlist.specs.Circuit.{first_wire, second_wire}
+use Rattle.gc_netlist.specs.Met.{wire_of_one, wire_of_two, wire_at_fault}
 use Rattle.gc_circuit.proofs.checks.wire_at_fault.Goals as goal
 
-pub returns-in-Inv : goal.returns-in-Inv
-returns-in-Inv c = elim c.in-Inv.is [
-  | inl inv ↦ rw inv c.wire_of_one.ensures
-  | inr eqw ↦ rw eqw c.wire_of_one.ensures
-]
+reads_two : (n : ℕ) (is_set : ℕ → Bool) (set a b : ℕ) (op : Operation) → first_wire op ≡ Some a
+    → second_wire op ≡ Some b → wire_of_two n is_set a b set ≡ wire_at_fault n is_set set op
+reads_two n is_set set a b op first second = search rules
 
-pub returns-in-Xor : goal.returns-in-Xor
-returns-in-Xor c = elim c.in-Xor.is [
-  | inl xor ↦ rw xor c.wire_of_two.ensures
-  | inr and ↦ rw and c.wire_of_two.ensures
-]
+reads_one : (n : ℕ) (is_set : ℕ → Bool) (set a : ℕ) (op : Operation) → first_wire op ≡ Some a
+    → second_wire op ≡ None → wire_of_one n is_set a set ≡ wire_at_fault n is_set set op
+reads_one n is_set set a op first second = search rules
+
+pub returns-in-Some-Some : goal.returns-in-Some-Some
+returns-in-Some-Some c =
+    c.wire_of_two.ensures ∙ reads_two _ _ _ _ _ c.args.gate.operation
+    (sym c.first_wire.ensures ∙ c.in-Some-Some.is-0) (sym c.second_wire.ensures ∙ c.in-Some-Some.is-1)
+
+pub returns-in-Some-None : goal.returns-in-Some-None
+returns-in-Some-None c =
+    c.wire_of_one.ensures ∙ reads_one _ _ _ _ c.args.gate.operation
+    (sym c.first_wire.ensures ∙ c.in-Some-None.is-0) (sym c.second_wire.ensures ∙ c.in-Some-None.is-1)
