@@ -61,13 +61,11 @@ fn mark_read(read: &mut [bool], operation: Operation)
     ensures { (w : ℕ) → w < length read.old
         → slice_index_or read.new w false ≡ (slice_index_or read.old w false || reads operation w) }
 {
-    match operation {
-        Operation::Xor(a, b) | Operation::And(a, b) => {
-            read[a as usize] = true;
-            read[b as usize] = true;
-        }
-        Operation::Inv(a) | Operation::Eqw(a) => read[a as usize] = true,
-        Operation::Eq(_) => {}
+    if let Some(first) = operation.first_wire() {
+        read[first as usize] = true;
+    }
+    if let Some(second) = operation.second_wire() {
+        read[second as usize] = true;
     }
 }
 
