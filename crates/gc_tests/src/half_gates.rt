@@ -22,8 +22,8 @@
 use crate::labels::{A, B, R, are_labels, label, zero_seed};
 use gc_circuit::Circuit;
 use gc_half::{
-    AndGate, AndStep, Garbling, RowPair, eval_and, eval_four_ands, eval_two_ands, garble_and,
-    garble_one_thread, garble_two_ands, tweak_hash,
+    AndGate, AndStep, GarbledAnd, Garbling, RowPair, eval_and, eval_four_ands, eval_two_ands,
+    garble_and, garble_one_thread, garble_two_ands, tweak_hash,
 };
 use gc_label::{Label, offset};
 use gc_worked::circuits::{AND, AND_INV_AND};
@@ -123,12 +123,11 @@ impl WorkedAnd {
     }
 
     /// What garbling it gives.
-    fn garbled(&self) -> (Label, Label, Label) {
-        (
-            label(self.zero),
-            label(self.generator),
-            label(self.evaluator),
-        )
+    fn garbled(&self) -> GarbledAnd {
+        GarbledAnd {
+            zero_label: label(self.zero),
+            rows: self.rows(),
+        }
     }
 }
 
