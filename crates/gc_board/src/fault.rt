@@ -1,6 +1,6 @@
-//! Why a board can't be opened.
+//! Why a board can't be opened, or closed.
 
-ghost use Rattle.std.specs.Prelude.{◌≡◌};
+ghost use Rattle.std.specs.Prelude.{◌≡◌, codes};
 ghost use Rattle.gc_board.specs.Fault.{code_of, name_of};
 
 use std::alloc::{AllocError, AllocFailed};
@@ -72,3 +72,52 @@ impl<T: Drop> From<AllocFailed<T>> for OpenFault {
         OpenFault::Memory
     }
 }
+
+/// Why a board, or banks, can't be closed: a seat is missing, or inside a round. They come back with all seats that were
+/// passed.
+#[derive(Drop)]
+pub struct CloseRefused<B, S> {
+    /// What was to be closed.
+    pub board: B,
+    pub seats: S,
+}
+
+impl<B, S> CloseRefused<B, S> {
+    /// The number of the refusal: 47.
+    pub fn code(&self) -> u32
+        ensures { result ≡ 47 }
+    {
+        47
+    }
+
+    /// The name of the refusal, as users see it.
+    pub fn name(&self) -> &'static str
+        ensures { result.now ≡ codes "SeatMissing" }
+    {
+        "SeatMissing"
+    }
+}
+
+/// Writes the name, and neither the board nor the seats.
+impl<B, S> fmt::Debug for CloseRefused<B, S> {
+    ghost use Rattle.std.specs.Prelude.{Some};
+
+    ghost debug_output = { λ _. Some (codes "SeatMissing") };
+
+    fn fmt<W: fmt::Write>(&self, f: &mut fmt::Formatter<W>) -> fmt::Result {
+        f.write_str(self.name())
+    }
+}
+
+/// Writes the name.
+impl<B, S> fmt::Display for CloseRefused<B, S> {
+    ghost use Rattle.std.specs.Prelude.{Some};
+
+    ghost output = { λ _. Some (codes "SeatMissing") };
+
+    fn fmt<W: fmt::Write>(&self, f: &mut fmt::Formatter<W>) -> fmt::Result {
+        f.write_str(self.name())
+    }
+}
+
+impl<B: Drop, S: Drop> Error for CloseRefused<B, S> {}

@@ -11,7 +11,7 @@ mod rule;
 mod seats;
 mod steps;
 
-pub use fault::OpenFault;
+pub use fault::{CloseRefused, OpenFault};
 pub use rule::{DONE, FREE, Hand, IN_HAND, Key, MAX_SEATS, Rule, View, Work};
 pub use seats::{
     WordTable, close_table, copy_known, deal_place, free_words, join_place, open_table,
