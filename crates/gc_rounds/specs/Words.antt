@@ -19,10 +19,14 @@ round_of n = n / ROUND
 abbrev pub bank_of : ℕ → ℕ
 bank_of r = r % 2
 
+-- the word with this number in bits 0 to 31, and round r above
+abbrev pub stamp : ℕ → ℕ → ℕ
+stamp r n = ROUND * r + n
+
 -- the word of a bank that is open in round r, with nobody inside
 abbrev pub open_word : ℕ → ℕ
-open_word r = ROUND * r
+open_word r = stamp r 0
 
 -- the word of a bank that is sealed in round r, with nobody inside
 abbrev pub shut_word : ℕ → ℕ
-shut_word r = ROUND * r + MARK
+shut_word r = stamp r MARK

@@ -12,7 +12,7 @@ use crate::inner::KeptInner;
 use crate::kinds::{Asked, CountIn, CountOut, GiveOn, MarkSealed};
 use crate::rule::Rule;
 use crate::view::{Key, View};
-use crate::words::{MARK, MAX_JOBS, ROUND};
+use crate::words::{MARK, MAX_JOBS, stamped};
 use atomic_table::{Seat, Shared};
 
 /// The words of the banks, as many threads share them.
@@ -86,7 +86,7 @@ pub(crate) fn give_on<T, I: KeptInner<T>>(
         ≡ recorded place.old.me.0 Outside
         (Reopen (bank_of round) result (result == shut_word round)) }
 {
-    let sealed = ROUND * round as u64 + MARK;
-    let open = ROUND * (round + 2) as u64;
+    let sealed = stamped(round, MARK);
+    let open = stamped(round + 2, 0);
     words.compare_exchange::<GiveOn>(place, (round % 2) as usize, sealed, open)
 }

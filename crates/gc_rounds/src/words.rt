@@ -1,5 +1,8 @@
 //! The word of a bank: how many seats are counted in, the mark of a sealed bank, and the round.
 
+ghost use Rattle.std.specs.Prelude.{◌≡◌, ◌<◌};
+ghost use Rattle.gc_rounds.specs.Words.{stamp};
+
 /// The most rounds, each of which has a job.
 pub const MAX_JOBS: usize = 65_536;
 
@@ -8,3 +11,12 @@ pub const MARK: u64 = 0x1_0000;
 
 /// The lowest bit of the round.
 pub const ROUND: u64 = 0x1_0000_0000;
+
+/// The word with this number below the round.
+#[inline]
+pub fn stamped(round: u32, number: u64) -> u64
+    requires { number < ROUND }
+    ensures { result ≡ stamp round number }
+{
+    ROUND * round as u64 + number
+}
