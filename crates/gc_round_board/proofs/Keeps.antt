@@ -13,7 +13,7 @@ use Rattle.atomic_table.specs.Table.{State, Me, step, keeps, Allows}
 use Rattle.atomic_table.specs.Seated.{TableId}
 use Rattle.atomic_table.specs.declared.shared.Seat.{Seat}
 use Rattle.gc_board.specs.Counts.{total, only}
-use Rattle.gc_rounds.specs.Words.{round_of, bank_of}
+use Rattle.gc_rounds.specs.Words.{round_of, bank_of, stamp}
 use Rattle.gc_rounds.specs.Views.{gives, unfair, seals_in}
 use Rattle.gc_rounds.specs.Banks.{BanksSound}
 use Rattle.gc_rounds.specs.declared.view.View.{View}
@@ -21,9 +21,9 @@ use Rattle.gc_rounds.specs.declared.view.Stand.TheVariants.{Inside}
 use Rattle.gc_rounds.specs.declared.view.Step.{Step}
 use Rattle.gc_rounds.specs.declared.view.Step.TheVariants.{Load, Store, Claim}
 use Rattle.gc_board.proofs.Sums.{total-append, total-set, term_le, terms_le, sole, each-set, only_same, only_other, only_le, only_is}
-use Rattle.gc_rounds.proofs.Keeps.{beside, bank_small, inside_is}
+use Rattle.gc_rounds.proofs.Keeps.{step_on_another_word, bank_small, inside_is}
 use Rattle.gc_round_board.specs.Pairs.{is_pair, pairs, looked}
-use Rattle.gc_round_board.specs.Board.{at, stamp, state_of, low_of, high_of, round_now, in_hand, IsHandRight, Cell, Fits, Sound}
+use Rattle.gc_round_board.specs.Board.{at, state_of, low_of, high_of, round_now, in_hand, IsHandRight, Cell, Fits, Sound}
 use Rattle.gc_round_board.specs.Steps.{Finds, changed, learnt, after_state, after_half, after_stored, after_done, state_loaded, claimed, half_stored, done_stored, settled}
 use Rattle.gc_round_board.specs.Places.{IsPlaceAt}
 use Rattle.gc_round_board.specs.declared.view.BoardView.{BoardView}
@@ -179,7 +179,7 @@ module _ {J : Type 0} (gates : J → ℕ) (right : J → ℕ → ℕ → ℕ →
   loaded words views i id v known looks e idle o at_id knows lasting =
       let f = o.1.fits id v at_id in let w = changed v v.inner.hand v.inner.made known looks e in
       rw (set-get_or words i 0) (
-        beside jobs seats words words views id v w e o.0 at_id o.0.wide (λ b l. refl)
+        step_on_another_word jobs seats words words views id v w e o.0 at_id o.0.wide (λ b l. refl)
             refl refl refl refl idle.0 idle.1 idle.2,
         turned words words views id v w o.1 at_id refl (λ k h. omega arith) o.1.cells
             (λ k h. (refl, (λ l. refl), inl refl)) (λ j u ne there. o.1.fits j u there)
@@ -290,7 +290,7 @@ module _ {J : Type 0} (gates : J → ℕ) (right : J → ℕ → ℕ → ℕ →
         → BanksSound jobs seats (set s.words i n)
         (set s.views seat.id (changed v hand made known v.inner.looks e))
     banks_hold s i n hand made known e idle o at_id high =
-        beside jobs seats s.words (set s.words i n) s.views seat.id v
+        step_on_another_word jobs seats s.words (set s.words i n) s.views seat.id v
         (changed v hand made known v.inner.looks e) e o.0 at_id
         (omega (arith, o.0.wide, length-set s.words i n))
         (λ b l. get_or-set_other s.words i b n 0 (λ e. omega arith))

@@ -1,13 +1,13 @@
 -- The words of two banks' boards, used again round after round. In bank b gate g has word 2 + 6 g + 3 b, its state
--- word, and the two words that follow: the low and the high half of what is found out of it. A state word is a state
--- (FREE, IN_HAND or DONE) in a round, and one of an earlier round than its bank's counts as free.
+-- word, and the two words that follow: the low and the high half of what is found out of it. A state word is the stamp of
+-- a state (FREE, IN_HAND or DONE) in a round, and one of an earlier round than its bank's counts as free.
 use Rattle.std.specs.Prelude.{◌≡◌, ℕ, ◌+◌, ◌*◌, ◌%◌, ◌<◌, ◌≤◌, ◌⊎◌, List, [], length, slice_index, Some, None}
 use mathlib.Core.Option.{some}
 use lib.ListN.{get_elem?}
 use Rattle.gc_board.specs.declared.rule.TheConstants.{DONE, FREE, IN_HAND}
 use Rattle.gc_rounds.specs.declared.words.TheConstants.{ROUND}
 use Rattle.gc_board.specs.Counts.{total, only}
-use Rattle.gc_rounds.specs.Words.{round_of, bank_of}
+use Rattle.gc_rounds.specs.Words.{round_of, bank_of, stamp}
 use Rattle.gc_rounds.specs.declared.view.View.{View}
 use Rattle.gc_rounds.specs.declared.view.Stand.TheVariants.{Inside}
 use Rattle.gc_round_board.specs.Pairs.{is_pair, pairs, looked}
@@ -18,10 +18,6 @@ use Rattle.gc_round_board.specs.declared.view.Hand.TheVariants.{Empty, Has}
 -- where the state word of gate g stands in round r
 abbrev pub at : ℕ → ℕ → ℕ
 at r g = 2 + 6 * g + 3 * bank_of r
-
--- the state word of state s in round r: the state in bits 0 to 31, and the round above
-abbrev pub stamp : ℕ → ℕ → ℕ
-stamp r s = ROUND * r + s
 
 -- the state word of gate g in the bank of round r
 abbrev pub state_of : List ℕ → ℕ → ℕ → ℕ
@@ -69,8 +65,8 @@ module _ {J : Type 0} (gates : J → ℕ) (right : J → ℕ → ℕ → ℕ →
     pub inside : (r g phase : ℕ) → v.inner.hand ≡ Has r g phase → v.stand ≡ Inside r
     -- A gate that is known to be done in a round is so, or its words are of a later round.
     pub knows : (r g : ℕ) → 0 < pairs r g v.inner.known → stamp r DONE ≤ state_of words r g
-    -- A state word that a load found in a round is there still, or has gone on to state 1 or 2 of that round, or to a
-    -- later one.
+    -- A state word that a load found in a round is there still, or has gone on to IN_HAND or DONE in that round, or
+    -- to a later one.
     pub looks : (r g n : ℕ) → 0 < looked r g n v.inner.looks
         → (r ≤ round_now words r) × ((state_of words r g ≡ n) ⊎ (stamp r FREE < state_of words r g))
     -- A view that stands for no seat has nothing in hand and made nothing.
@@ -82,14 +78,14 @@ module _ {J : Type 0} (gates : J → ℕ) (right : J → ℕ → ℕ → ℕ →
     pub long : length words ≡ 2 + 6 * gates job
     -- The words of each gate are right.
     pub cells : (r g : ℕ) → Cell job words r g
-    -- A gate is at state 1 of a round where exactly one seat has it in hand in that round, and else none has.
+    -- A gate is IN_HAND in a round where exactly one seat has it in hand in that round, and else none has.
     pub hands : (r g : ℕ)
         → total (λ v. in_hand r g v.inner.hand) views ≡ only (stamp r IN_HAND) (state_of words r g)
     -- A round with a gate stands at most once in all made lists together.
     pub once : (r g : ℕ) → total (λ v. pairs r g v.inner.made) views ≤ 1
-    -- As long as the state word of a gate is of no later round, the gate is at state 2 of the round where the pair
-    -- stands in a made list, and else the pair stands in none.
-    pub mades : (r g : ℕ) → state_of words r g < stamp (r + 1) 0
+    -- As long as the state word of a gate is of no later round, the gate is DONE in the round where the pair stands
+    -- in a made list, and else the pair stands in none.
+    pub mades : (r g : ℕ) → state_of words r g < stamp (r + 1) FREE
         → total (λ v. pairs r g v.inner.made) views ≡ only (stamp r DONE) (state_of words r g)
     -- What each view says is so.
     pub fits : (id : ℕ) (v : View (BoardView J)) → get_elem? views id ≡ some v → Fits job words v

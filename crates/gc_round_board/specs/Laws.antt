@@ -6,13 +6,13 @@ use mathlib.Core.Option.{some, some-injective, some-ne-none}
 use lib.ListN.{get_elem?}
 use Rattle.atomic_table.proofs.Lists.{at_set, at_snoc}
 use Rattle.gc_board.specs.Counts.{total, only}
-use Rattle.gc_rounds.specs.Words.{round_of, bank_of}
+use Rattle.gc_rounds.specs.Words.{round_of, bank_of, stamp}
 use Rattle.gc_rounds.specs.Steps.{recorded, one_less, newcomer, merged, nobody, starting}
 use Rattle.gc_rounds.specs.Laws.{Opens, Moves, Deals, Joins}
 use Rattle.gc_rounds.specs.declared.view.View.{View}
 use Rattle.gc_board.proofs.Sums.{total-append, total-set, only_other}
 use Rattle.gc_round_board.specs.Pairs.{is_pair, pairs, is_look, looked}
-use Rattle.gc_round_board.specs.Board.{at, stamp, state_of, low_of, high_of, round_now, in_hand, IsHandRight, Fits, Sound, first_view, fresh_view, no_view}
+use Rattle.gc_round_board.specs.Board.{at, state_of, low_of, high_of, round_now, in_hand, IsHandRight, Fits, Sound, first_view, fresh_view, no_view}
 use Rattle.gc_round_board.specs.Steps.{joined}
 use Rattle.gc_round_board.specs.declared.view.BoardView.{BoardView}
 use Rattle.gc_round_board.specs.declared.view.Hand.TheVariants.{Empty, Has}

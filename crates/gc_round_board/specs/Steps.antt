@@ -4,13 +4,13 @@ use Rattle.atomic_table.specs.Table.{Me, Step}
 use Rattle.gc_board.specs.declared.rule.TheConstants.{DONE, FREE, IN_HAND}
 use Rattle.gc_rounds.specs.declared.words.TheConstants.{ROUND}
 use Rattle.gc_board.specs.Counts.{only}
-use Rattle.gc_rounds.specs.Words.{round_of}
+use Rattle.gc_rounds.specs.Words.{round_of, stamp}
 use Rattle.gc_rounds.specs.declared.view.View.{View}
 use Rattle.gc_rounds.specs.declared.view.Stand.TheVariants.{Inside}
 use Rattle.gc_rounds.specs.declared.view.Step.TheVariants.{Load, Store, Claim}
 use Rattle.gc_rounds.specs.declared.view.Step as record_step
 use Rattle.gc_round_board.specs.Pairs.{pairs}
-use Rattle.gc_round_board.specs.Board.{at, stamp, in_hand, IsOnce}
+use Rattle.gc_round_board.specs.Board.{at, in_hand, IsOnce}
 use Rattle.gc_round_board.specs.declared.view.BoardView.{BoardView}
 use Rattle.gc_round_board.specs.declared.view.Hand.{Hand}
 use Rattle.gc_round_board.specs.declared.view.Hand.TheVariants.{Empty, Has}

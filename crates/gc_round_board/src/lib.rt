@@ -15,7 +15,6 @@ mod view;
 
 pub use seats::{BoardTable, WordTable, open_board, settle};
 pub use steps::{
-    Place, Words, claim, load_high, load_low, load_state, state_word, store_done, store_high,
-    store_low,
+    Place, Words, claim, load_high, load_low, load_state, store_done, store_high, store_low,
 };
 pub use view::{BoardView, Hand, Work};

@@ -2,17 +2,18 @@
 //! with a call for each half.
 
 ghost use Rattle.std.specs.Prelude.{◌≡◌, ℕ, ◌+◌, ◌*◌, ◌<◌, ◌≤◌, ◌⊎◌};
+ghost use Rattle.gc_rounds.specs.Words.{stamp};
 ghost use Rattle.gc_rounds.specs.Places.{IsSamePlace};
 ghost use Rattle.gc_round_board.specs.declared.view.Hand.TheVariants.{Empty, Has};
 ghost use Rattle.gc_round_board.specs.Pairs.{pairs, looked};
-ghost use Rattle.gc_round_board.specs.Board.{at, stamp};
+ghost use Rattle.gc_round_board.specs.Board.{at};
 ghost use Rattle.gc_round_board.specs.Steps.{Finds, after_state, after_half, after_claim, after_stored, after_done};
 ghost use Rattle.gc_round_board.specs.Places.{IsPlaceAt};
 
 use crate::kinds::{Claim, LoadHigh, LoadLow, LoadState, StoreDone, StoreHalf};
 use crate::view::{BoardView, Work};
 use gc_board::{DONE, FREE, IN_HAND};
-use gc_rounds::ROUND;
+use gc_rounds::stamped;
 
 /// The words of the banks, as many threads share them.
 pub type Words<J> = gc_rounds::Words<J, BoardView<J>>;
@@ -26,15 +27,6 @@ fn index(round: u32, gate: u32) -> usize
     ensures { result ≡ at round gate }
 {
     2 + 6 * gate as usize + 3 * (round % 2) as usize
-}
-
-/// The state word of this state in a round.
-#[inline]
-pub fn state_word(round: u32, state: u64) -> u64
-    requires { state < ROUND }
-    ensures { result ≡ stamp round state }
-{
-    ROUND * round as u64 + state
 }
 
 /// Loads the state word of a gate.
@@ -92,7 +84,7 @@ pub fn claim<J: Work>(
     ensures finds { Finds place.old.me.0 round gate result }
     ensures found { (result ≡ old) ⊎ (stamp round FREE < result) }
 {
-    words.compare_exchange::<Claim>(place, index(round, gate), old, state_word(round, IN_HAND))
+    words.compare_exchange::<Claim>(place, index(round, gate), old, stamped(round, IN_HAND))
 }
 
 /// Stores the low half of the gate in hand.
@@ -129,5 +121,5 @@ pub fn store_done<J: Work>(words: &Words<J>, place: &mut Place<J>, round: u32, g
     ensures same { IsSamePlace place.old place.new }
     ensures view { place.new.me.0 ≡ after_done place.old.me.0 round gate }
 {
-    words.store::<StoreDone>(place, index(round, gate), state_word(round, DONE));
+    words.store::<StoreDone>(place, index(round, gate), stamped(round, DONE));
 }

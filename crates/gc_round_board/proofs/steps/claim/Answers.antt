@@ -2,7 +2,7 @@ use Rattle.gc_round_board.proofs.Keeps.{claims}
 use Rattle.gc_round_board.proofs.steps.claim.Goals as goal
 
 pub compare_exchange-requires : goal.compare_exchange-requires
-compare_exchange-requires g c = let w = c.requires in rw (c.index.ensures, c.state_word.ensures)
+compare_exchange-requires g c = let w = c.requires in rw (c.index.ensures, c.stamped.ensures)
     (claims _ _ _ _ _ w.place _ w.empty w.seated w.looked w.free)
 
 pub returns-clause-finds : goal.returns-clause-finds
