@@ -193,5 +193,6 @@ module _ (f : JobParts) (g : ℕ) (x : Gate) (at : slice_get f.circuit.gates g �
 
   -- or it is.
   pub both_made : ((u : ℕ) → second_wire x.operation ≡ Some u → SetsMade f u a 1) → ReadsMade f g a
-  both_made second_made gate w at' =
-      let same : gate ≡ x = cc in rw same (⊎_elim (first_made w) (second_made w))
+  both_made second_made w r =
+      let same : r.gate ≡ x = cc in
+      let reads = rw same at r.reads in ⊎_elim (first_made w) (second_made w) reads

@@ -1,5 +1,5 @@
 -- What a closed board says.
-use Rattle.std.specs.Prelude.{◌≡◌, ℕ, ◌+◌, ◌<◌, ◌≤◌, ◌⊎◌}
+use Rattle.std.specs.Prelude.{◌≡◌, ℕ, ◌+◌, ◌<◌, ◌≤◌, ◌⊎◌, List}
 use Rattle.std.specs.Slots.{slots_items}
 use Rattle.std.specs.List.{range_with_len}
 use Rattle.gc_netlist.specs.Circuit.{IsSetBy, input_wires, output_wires}
@@ -9,19 +9,27 @@ use Rattle.gc_board.specs.Counts.{total, only}
 use Rattle.gc_job.specs.Job.{JobParts}
 use Rattle.gc_eval.specs.declared.active.Active.{Active}
 
+-- the job of a closed board
+abbrev pub job_in : {A B C : Type 0} → Active B A C → JobParts
+job_in active = active.job.now
+
+-- its words, as on a board
+abbrev pub words_of : {A B C : Type 0} → Active B A C → List ℕ
+words_of active = slots_items active.closed.words
+
 -- Gate g is done.
 abbrev pub IsDone : {A B C : Type 0} → Active B A C → ℕ → Type 0
-IsDone active g = state_of (slots_items active.closed.words) g ≡ DONE
+IsDone active g = state_of (words_of active) g ≡ DONE
 
 -- how many of the first n gates are done
 abbrev pub done_of : {A B C : Type 0} → Active B A C → ℕ → ℕ
 done_of active n =
-    total (λ g. only DONE (state_of (slots_items active.closed.words) g)) (range_with_len 0 n)
+    total (λ g. only DONE (state_of (words_of active) g)) (range_with_len 0 n)
 
 -- A wire has a label: it is an input wire, or a gate that is done sets it.
 abbrev pub HasLabel : {A B C : Type 0} → Active B A C → ℕ → Type 0
 HasLabel active w =
-    (w < input_wires active.job.now.circuit) ⊎ ((g : ℕ) × IsSetBy active.job.now.circuit w g
+    (w < input_wires (job_in active).circuit) ⊎ ((g : ℕ) × IsSetBy (job_in active).circuit w g
     × IsDone active g)
 
 -- Wire w is an output wire.
@@ -30,8 +38,8 @@ IsOutput job w = (job.circuit.wires ≤ w + output_wires job.circuit) × (w < jo
 
 -- Each output wire has a label.
 abbrev pub HasOutputs : {A B C : Type 0} → Active B A C → Type 0
-HasOutputs active = (w : ℕ) → IsOutput active.job.now w → HasLabel active w
+HasOutputs active = (w : ℕ) → IsOutput (job_in active) w → HasLabel active w
 
 -- An output wire has none.
 abbrev pub LacksOutput : {A B C : Type 0} → Active B A C → Type 0
-LacksOutput active = (w : ℕ) × IsOutput active.job.now w × (HasLabel active w → ⊥)
+LacksOutput active = (w : ℕ) × IsOutput (job_in active) w × (HasLabel active w → ⊥)

@@ -17,6 +17,10 @@ view seat = seat.place.me.0
 abbrev pub job_on : {A B C : Type 0} → EvalBoard B A C → JobParts
 job_on board = board.table.shared.key.work
 
+-- how many seats it has
+abbrev pub seats_on : {A B C : Type 0} → EvalBoard B A C → ℕ
+seats_on board = board.seats
+
 module _ {A B C S : Type 0} (board : EvalBoard B A C) where
   -- The place is one of the board's table,
   abbrev pub IsPlaceOn : Seat S (View JobParts) → Type 0

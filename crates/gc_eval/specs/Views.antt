@@ -123,10 +123,7 @@ SetsMade job w v n = (h : ℕ) → IsSetBy job.circuit w h → times h v.made �
 
 -- The gates of all wires that gate g reads are made.
 abbrev pub ReadsMade : JobParts → ℕ → View JobParts → Type 0
-ReadsMade job g old =
-    (gate : Gate) (w : ℕ) → slice_get job.circuit.gates g ≡ Some gate
-    → (first_wire gate.operation ≡ Some w) ⊎ (second_wire gate.operation ≡ Some w)
-    → SetsMade job w old 1
+ReadsMade job g old = (w : ℕ) → Reads job.circuit g w → SetsMade job w old 1
 
 -- Wire w is the first that gate g reads whose gate is not made.
 abbrev pub FirstLacking : JobParts → ℕ → View JobParts → ℕ → Type 0

@@ -4,7 +4,7 @@ ghost use Rattle.std.specs.Prelude.{◌≡◌, ◌≢◌, ◌<◌, IfSome, IfNon
 ghost use Rattle.gc_netlist.specs.Solution.{on_outputs};
 ghost use Rattle.gc_job.specs.ActiveLabels.{active, gates_of};
 ghost use Rattle.gc_job.specs.Evaluate.{IsEvaluated};
-ghost use Rattle.gc_eval.specs.Done.{HasLabel, HasOutputs, LacksOutput, done_of};
+ghost use Rattle.gc_eval.specs.Done.{HasLabel, HasOutputs, LacksOutput, done_of, job_in};
 
 use crate::active::Active;
 use gc_board::DONE;
@@ -17,8 +17,8 @@ impl<'j, 'c, B: Allocator, A: Allocator, C: Allocator> Active<'j, 'c, B, A, C> {
     /// The active label of a wire, exactly where it is an input wire or the gate that sets it is done. That there is
     /// such a wire is the caller's condition.
     pub fn label(&self, wire: u32) -> Option<Label>
-        requires { wire < self.now.job.now.circuit.wires }
-        ensures some { IfSome result (λ label. (label ≡ active self.now.job.now wire)
+        requires { wire < (job_in self.now).circuit.wires }
+        ensures some { IfSome result (λ label. (label ≡ active (job_in self.now) wire)
             × HasLabel self.now wire) }
         ensures none { IfNone result (HasLabel self.now wire → ⊥) }
     {
@@ -41,7 +41,7 @@ impl<'j, 'c, B: Allocator, A: Allocator, C: Allocator> Active<'j, 'c, B, A, C> {
 
     /// How many gates are done.
     pub fn done(&self) -> u32
-        ensures { result ≡ done_of self.now (gates_of self.now.job.now) }
+        ensures { result ≡ done_of self.now (gates_of (job_in self.now)) }
     {
         let mut done = 0;
         for gate in 0..self.job.circuit().gates() {
@@ -55,7 +55,7 @@ impl<'j, 'c, B: Allocator, A: Allocator, C: Allocator> Active<'j, 'c, B, A, C> {
     /// The labels of the output wires, in order, where each has one.
     fn output_labels<D: Allocator + Copy>(&self, alloc: D) -> Result<Option<Vec<Label, D>>, Memory>
         ensures { IfOk result (λ o. MatchOption o (LacksOutput self.now)
-            (λ v. (v.items ≡ on_outputs self.now.job.now.circuit (active self.now.job.now))
+            (λ v. (v.items ≡ on_outputs (job_in self.now).circuit (active (job_in self.now)))
             × HasOutputs self.now)) }
     {
         let circuit = self.job.circuit();
@@ -76,8 +76,8 @@ impl<'j, 'c, B: Allocator, A: Allocator, C: Allocator> Active<'j, 'c, B, A, C> {
     /// garbled file doesn't recognise.
     pub fn decode<D: Allocator + Copy>(&self, alloc: D) -> Result<Option<Vec<bool, D>>, EvalFault>
         ensures ok { IfOk result (λ o. MatchOption o (LacksOutput self.now)
-            (λ v. IsEvaluated self.now.job.now (Ok v.items) × HasOutputs self.now)) }
-        ensures err { IfErr result (λ fault. IsEvaluated self.now.job.now (Err fault)) }
+            (λ v. IsEvaluated (job_in self.now) (Ok v.items) × HasOutputs self.now)) }
+        ensures err { IfErr result (λ fault. IsEvaluated (job_in self.now) (Err fault)) }
         // Where an output wire has no label the answer is None, and never 48.
         ensures recognised { IfErr result (λ fault. fault ≢ EvalFault.Memory
             → HasOutputs self.now) }

@@ -1,8 +1,9 @@
-//! Evaluating a garbled circuit on many threads: from its rows, the decode bits and one active label for each input
-//! wire alone.
+//! Evaluating a garbled circuit on many threads. Who evaluates jobs takes the names of `gc_job` from here, and who works
+//! at boards those of `gc_walk` and of `gc_board` too.
 //!
-//! [`evaluate_many`] answers the output bits of a [`Job`], as [`evaluate`] does on one thread. Who has threads of their
-//! own opens an [`EvalBoard`] for them. A [`Walk`] gives them the gates in an order that serves.
+//! An evaluation takes rows, decode bits and one active label for each input wire alone. [`evaluate_many`] answers the
+//! output bits of a [`Job`], as [`evaluate`] does on one thread. Who has threads of their own opens an [`EvalBoard`] for
+//! them. A [`Walk`] gives them the gates in an order that serves.
 #![tactic(auto)]
 
 mod active;
@@ -15,9 +16,8 @@ mod step;
 mod worker;
 
 pub use active::Active;
-pub use gc_board::{MAX_SEATS, OpenFault};
+pub use gc_board::{CloseRefused, MAX_SEATS, OpenFault};
 pub use gc_job::{BindFault, EvalFault, Facts, Job, Wiring, evaluate, law_honest_files};
 pub use gc_walk::{Answer, Batch, Walk};
 pub use many::evaluate_many;
-pub use open::CloseRefused;
 pub use seat::{EvalBoard, EvalSeat};

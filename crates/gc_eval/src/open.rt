@@ -1,52 +1,23 @@
 //! Opening and closing a board.
 
-ghost use Rattle.std.specs.Prelude.{◌≡◌, ℕ, ◌+◌, ◌*◌, ◌<◌, ◌≤◌, ◌↔◌, [], length, replicate, IfOk, IfErr, IsOk, All, codes};
-ghost use Rattle.std.specs.Slots.{slots_items};
+ghost use Rattle.std.specs.Prelude.{◌≡◌, ℕ, ◌+◌, ◌*◌, ◌<◌, ◌≤◌, ◌↔◌, [], length, replicate, IfOk, IfErr, IsOk, All};
 ghost use Rattle.gc_board.specs.Counts.{total, times, only};
 ghost use Rattle.gc_board.specs.Board.{state_of};
 ghost use Rattle.gc_board.specs.Places.{IsPlaceOf};
 ghost use Rattle.gc_job.specs.ActiveLabels.{gates_of};
-ghost use Rattle.gc_eval.specs.Seats.{IsSeatOf, IsNew, view, job_on};
+ghost use Rattle.gc_eval.specs.Seats.{IsSeatOf, IsNew, view, job_on, seats_on};
+ghost use Rattle.gc_eval.specs.Done.{job_in, words_of};
 
 use crate::active::Active;
 use crate::seat::{EvalBoard, EvalSeat};
 use gc_board::{
-    DONE, Key, MAX_SEATS, OpenFault, Place, Words, close_table, deal_place, free_words, join_place,
-    open_table,
+    CloseRefused, DONE, Key, MAX_SEATS, OpenFault, Place, Words, close_table, deal_place,
+    free_words, join_place, open_table,
 };
 use gc_job::{Facts, Job, Wiring};
-use std::alloc::{AllocError, Allocator, Global};
+use std::alloc::{AllocError, Allocator};
 use std::thread;
 use std::thread::Threads;
-
-/// A seat was missing, so the board was not closed. It comes back with all seats that were passed.
-#[derive(Drop)]
-pub struct CloseRefused<
-    'j,
-    'c,
-    B: Allocator = Global,
-    A: Allocator = Global,
-    C: Allocator = Global,
-> {
-    pub board: EvalBoard<'j, 'c, B, A, C>,
-    pub seats: Vec<EvalSeat<A, C>, B>,
-}
-
-impl<'j, 'c, B: Allocator, A: Allocator, C: Allocator> CloseRefused<'j, 'c, B, A, C> {
-    /// The number of the refusal: 47.
-    pub fn code(&self) -> u32
-        ensures { result ≡ 47 }
-    {
-        47
-    }
-
-    /// The name of the refusal.
-    pub fn name(&self) -> &'static str
-        ensures { result.now ≡ codes "SeatMissing" }
-    {
-        "SeatMissing"
-    }
-}
 
 /// This number of new seats, out of a place that stands for them all.
 fn deal_all<A: Allocator, B: Allocator, C: Allocator>(
@@ -88,7 +59,7 @@ impl<'j, 'c, B: Allocator + Copy, A: Allocator, C: Allocator> EvalBoard<'j, 'c, 
     ) -> Result<(EvalBoard<'j, 'c, B, A, C>, Vec<EvalSeat<A, C>, B>), OpenFault>
         requires { (0 < seats) × (seats ≤ MAX_SEATS) }
         ensures job { IfOk result (λ b. job_on b.0 ≡ job.now) }
-        ensures count { IfOk result (λ b. (b.0.seats ≡ seats) × (length b.1.items ≡ seats)) }
+        ensures count { IfOk result (λ b. (seats_on b.0 ≡ seats) × (length b.1.items ≡ seats)) }
         ensures seats { IfOk result (λ b. All (λ s. IsSeatOf b.0 s × IsNew (view s)) b.1.items) }
     {
         let words = free_words(alloc, job.circuit().gates())?;
@@ -108,7 +79,7 @@ impl<'j, 'c, B: Allocator + Copy, A: Allocator, C: Allocator> EvalBoard<'j, 'c, 
         requires words { words.items ≡ replicate (3 * gates_of job.now + 1) 0 }
         requires wiring { wiring ≡ job.now.circuit }
         ensures job { IfOk result (λ b. job_on b.0 ≡ job.now) }
-        ensures count { IfOk result (λ b. (b.0.seats ≡ seats) × (length b.1.items ≡ seats)) }
+        ensures count { IfOk result (λ b. (seats_on b.0 ≡ seats) × (length b.1.items ≡ seats)) }
         ensures seats { IfOk result (λ b. All (λ s. IsSeatOf b.0 s × IsNew (view s)) b.1.items) }
     {
         let key = Key {
@@ -144,7 +115,7 @@ impl<'j, 'c, B: Allocator + Copy + Send + Sync, A: Allocator, C: Allocator + Syn
     ) -> Result<(EvalBoard<'j, 'c, B, A, C>, Vec<EvalSeat<A, C>, B>), OpenFault>
         requires { (0 < seats) × (seats ≤ MAX_SEATS) }
         ensures job { IfOk result (λ b. job_on b.0 ≡ job.now) }
-        ensures count { IfOk result (λ b. (b.0.seats ≡ seats) × (length b.1.items ≡ seats)) }
+        ensures count { IfOk result (λ b. (seats_on b.0 ≡ seats) × (length b.1.items ≡ seats)) }
         ensures seats { IfOk result (λ b. All (λ s. IsSeatOf b.0 s × IsNew (view s)) b.1.items) }
     {
         let circuit = job.circuit();
@@ -169,12 +140,15 @@ impl<'j, 'c, B: Allocator, A: Allocator, C: Allocator> EvalBoard<'j, 'c, B, A, C
     pub fn close(
         self,
         seats: Vec<EvalSeat<A, C>, B>,
-    ) -> Result<Active<'j, 'c, B, A, C>, CloseRefused<'j, 'c, B, A, C>>
+    ) -> Result<
+        Active<'j, 'c, B, A, C>,
+        CloseRefused<EvalBoard<'j, 'c, B, A, C>, Vec<EvalSeat<A, C>, B>>,
+    >
         requires { All (IsSeatOf self) seats.items }
-        ensures exact { IsOk result ↔ (length seats.items ≡ self.entry.seats) }
-        ensures job { IfOk result (λ a. a.job.now ≡ job_on self.entry) }
+        ensures exact { IsOk result ↔ (length seats.items ≡ seats_on self.entry) }
+        ensures job { IfOk result (λ a. job_in a ≡ job_on self.entry) }
         ensures made { IfOk result (λ a. (g : ℕ) → total (λ s. times g (view s).made) seats.items
-            ≡ only DONE (state_of (slots_items a.closed.words) g)) }
+            ≡ only DONE (state_of (words_of a) g)) }
         ensures err { IfErr result (λ r. (r.board ≡ self.entry) × (r.seats ≡ seats)) }
     {
         if seats.len() != self.seats as usize {

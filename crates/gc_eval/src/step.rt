@@ -8,7 +8,7 @@ ghost use Rattle.gc_board.specs.Places.{IsPlaceAt, IsSamePlace};
 ghost use Rattle.gc_label.specs.Label.{low_half, high_half};
 ghost use Rattle.gc_job.specs.ActiveLabels.{gates_of, active, set_of};
 ghost use Rattle.gc_eval.specs.Views.{Ran, Got, Lacks, Says, Answers, AnswersTwo, IsAlone, IsMadeNow, SetsMade, ReadsMade, FirstLacking, AnswersAlone, AnswersTwoAlone, AreReadBy, IsIdle, Knows, Reads};
-ghost use Rattle.gc_eval.specs.Seats.{IsPlaceOn, IsPlaceFor, IsSeatOf, IsSameSeat, view, job_on};
+ghost use Rattle.gc_eval.specs.Seats.{IsPlaceOn, IsPlaceFor, IsSeatOf, IsSameSeat, view, job_on, seats_on};
 
 use crate::seat::{EvalBoard, EvalSeat};
 use gc_board::{
@@ -229,7 +229,7 @@ impl<'j, 'c, B: Allocator, A: Allocator, C: Allocator> EvalBoard<'j, 'c, B, A, C
     }
 
     /// Makes a gate whose labels were read, where no seat has it, and computes the label of another one with it.
-    fn make_beside(
+    fn make_with_one(
         &self,
         place: &mut Place<Facts<A, C>>,
         gate: u32,
@@ -283,7 +283,7 @@ impl<'j, 'c, B: Allocator, A: Allocator, C: Allocator> EvalBoard<'j, 'c, B, A, C
             → IsMadeNow result.1 }
     {
         let (a, b) = other_read;
-        let (answer, label) = self.make_beside(place, one, one_read, other, (a, b));
+        let (answer, label) = self.make_with_one(place, one, one_read, other, (a, b));
         match label {
             Some(label) => (answer, self.publish(place, other, label)),
             None => (answer, self.make(place, other, a, b)),
@@ -341,7 +341,7 @@ impl<'j, 'c, B: Allocator, A: Allocator, C: Allocator> EvalBoard<'j, 'c, B, A, C
         ensures own { IsSeatOf self.now seat.new }
         ensures same { IsSameSeat seat.old seat.new }
         ensures answer { Answers (job_on self.now) gate 11 (view seat.old) (view seat.new) result }
-        ensures alone { self.now.seats ≡ 1
+        ensures alone { seats_on self.now ≡ 1
             → AnswersAlone (job_on self.now) gate (view seat.old) result }
     {
         let answer = self.step_at(&mut seat.place, gate);
@@ -359,7 +359,7 @@ impl<'j, 'c, B: Allocator, A: Allocator, C: Allocator> EvalBoard<'j, 'c, B, A, C
         ensures same { IsSameSeat seat.old seat.new }
         ensures answer { AnswersTwo (job_on self.now) one other 22
             (view seat.old) (view seat.new) result }
-        ensures alone { self.now.seats ≡ 1
+        ensures alone { seats_on self.now ≡ 1
             → AnswersTwoAlone (job_on self.now) one other (view seat.old) result }
     {
         let answers = self.step_two_at(&mut seat.place, one, other);
