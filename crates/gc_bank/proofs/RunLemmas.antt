@@ -1,16 +1,16 @@
 -- Calls one after another, inside a round.
-use Rattle.gc_bank.proofs.Names.{◌≡◌, ◌≢◌, ℕ, ◌+◌, ◌*◌, ◌%◌, ◌<◌, ◌≤◌, List, [], ◌∷◌, ◌++◌, refl, ap, ◌∙◌, subst, arith, rules, append_assoc, length-append, sym, slice_get, get_or, length, Some, inl, inr, ⊎_elim, MatchOption, take, Netlist, IsSetBy, IsLawful, input_wires, first_wire, second_wire, total, only, total-append, only_same, only_other, Key, Inside, is_pair, pairs, IsBoardPlace, JobParts, labels_of, input_not_set, set_within, gates_of, IsRound, InRound, round_in, made_now, made_after, IsAlone, SetsMade, ReadsMade, FirstLacking, AnswersAlone, sighting, sightings, Seen, Ran, Got, Lacks, Says, Answers, AnswersTwo, IsReady}
+use Rattle.gc_bank.proofs.Names.{◌≡◌, ◌≢◌, ℕ, ◌+◌, ◌*◌, ◌%◌, ◌<◌, ◌≤◌, List, [], ◌∷◌, ◌++◌, refl, ap, ◌∙◌, subst, arith, rules, append_assoc, length-append, sym, slice_get, get_or, slice_get-get_or, length, Some, inl, inr, ⊎_elim, MatchOption, take, Netlist, IsSetBy, IsLawful, input_wires, first_wire, second_wire, total, only, total-append, only_same, only_other, Key, Inside, is_pair, pairs, IsBoardPlace, JobParts, labels_of, input_not_set, set_within, gates_of, IsRound, InRound, round_in, made_now, made_after, IsAlone, SetsMade, ReadsMade, FirstLacking, AnswersAlone, sighting, sightings, Seen, Ran, Got, Lacks, Says, Answers, AnswersTwo, IsReady}
 use Rattle.std.proofs.lemmas.List.{take_more}
 use Rattle.std.proofs.lemmas.Bool.Decides.{nat_tests}
 use Rattle.atomic_table.specs.Seated.{TableId}
 use Rattle.atomic_table.specs.declared.shared.Seat.{Seat}
 use Rattle.gc_netlist.specs.declared.gate.Gate.{Gate}
-use Rattle.gc_rounds.specs.Words.{round_of}
+use Rattle.gc_rounds.specs.Words.{round_of, stamp}
 use Rattle.gc_rounds.specs.Steps.{merged}
 use Rattle.gc_rounds.specs.Places.{IsSamePlace}
 use Rattle.gc_rounds.specs.declared.view.Step.{Step}
 use Rattle.gc_rounds.specs.declared.view.Step.TheVariants.{Store, Claim}
-use Rattle.gc_round_board.specs.Board.{at, stamp}
+use Rattle.gc_round_board.specs.Board.{at}
 use Rattle.gc_round_board.specs.Steps.{learnt, joined, after_claim, after_stored, after_done}
 use Rattle.gc_round_board.specs.declared.view.Hand.TheVariants.{Empty}
 use Rattle.gc_eval.specs.Views.{IsMadeNow}
@@ -238,8 +238,9 @@ module _ (job : JobParts) (r g : ℕ) (x : Gate) (there : slice_get job.circuit.
   -- or it is.
   pub both_made : ((u : ℕ) → second_wire x.operation ≡ Some u → SetsMade job r u a 1)
       → ReadsMade job r g a
-  both_made second_made gate w there' =
-      let same : gate ≡ x = cc in rw same (⊎_elim (first_made w) (second_made w))
+  both_made second_made w r =
+      let same : r.gate ≡ x = cc in
+      let reads = rw same at r.reads in ⊎_elim (first_made w) (second_made w) reads
 
 pub alone_made : (job : JobParts) (r g : ℕ) (a : Seen) (x : Answer) → IsMadeNow x
     → (pairs r g a.inner.made ≡ 0) × ReadsMade job r g a → AnswersAlone job r g a x
@@ -296,6 +297,16 @@ is_round (first ∷ rest) c r job on there = record {
   at = there;
   gates = ap (λ (n : Netlist). length n.gates) (on r job there ∙ sym (on 0 first refl));
 }
+
+-- Each round has a job, where all are on one circuit.
+pub has_round : (jobs : List JobParts) (c : Netlist) (r : ℕ)
+    → ((k : ℕ) (other : JobParts) → slice_get jobs k ≡ Some other → other.circuit ≡ c)
+    → r < length jobs → MatchOption (slice_get jobs r) ⊥ (IsRound jobs r)
+has_round [] c r on below = absurd (omega arith)
+has_round (first ∷ rest) c r on below =
+    let jobs = first ∷ rest in
+    let there = slice_get-get_or jobs r first below in
+    subst (λ o. MatchOption o ⊥ (IsRound jobs r)) (sym there) (is_round jobs c r _ on there)
 
 -- The round that a seat is inside, and its job.
 pub in_round : (jobs : List JobParts) (v : Seen) (r : ℕ) (job : JobParts) (P : ℕ → JobParts → Type 0)

@@ -39,6 +39,10 @@ module _ {A B C : Type 0} where
   abbrev pub jobs_on : Banks B A C → List JobParts
   jobs_on banks = banks.jobs.now
 
+  -- how many seats they have
+  abbrev pub seats_on : Banks B A C → ℕ
+  seats_on banks = banks.seats
+
   -- The seat belongs to the banks.
   abbrev pub IsSeatOf : Banks B A C → BankSeat B A C → Type 0
   IsSeatOf banks seat =

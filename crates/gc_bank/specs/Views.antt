@@ -3,12 +3,14 @@
 use Rattle.std.specs.Prelude.{◌≡◌, ◌≢◌, ℕ, ◌*◌, ◌<◌, ◌≤◌, ◌⊎◌, List, [], ◌∷◌, ◌++◌, length, slice_get, Some}
 use Rattle.gc_netlist.specs.declared.gate.Gate.{Gate}
 use Rattle.gc_netlist.specs.Circuit.{IsSetBy, IsSet, input_wires, first_wire, second_wire}
+use Rattle.gc_board.specs.declared.rule.TheConstants.{DONE, FREE, IN_HAND}
 use Rattle.gc_board.specs.Counts.{total, only}
+use Rattle.gc_rounds.specs.Words.{stamp}
 use Rattle.gc_rounds.specs.declared.view.View.{View}
 use Rattle.gc_rounds.specs.declared.view.Step.{Step}
 use Rattle.gc_rounds.specs.declared.view.Step.TheVariants.{Load, Store, Claim, Enter, Leave, Seal, Reopen}
 use Rattle.gc_round_board.specs.Pairs.{pairs, looked}
-use Rattle.gc_round_board.specs.Board.{at, stamp}
+use Rattle.gc_round_board.specs.Board.{at}
 use Rattle.gc_round_board.specs.declared.view.BoardView.{BoardView}
 use Rattle.gc_round_board.specs.declared.view.Hand.TheVariants.{Empty}
 use Rattle.gc_job.specs.Job.{JobParts}
@@ -65,16 +67,16 @@ pub record Stays (old new : Seen) : Type 0 where
 abbrev pub Saw : Seen → Seen → ℕ → ℕ → Type 0
 Saw old new word found = sightings word found old.steps < sightings word found new.steps
 
--- One of them found gate g undone in round r: its state word of an earlier round, or of this one and not at 2.
+-- One of them found gate g undone in round r: its state word of an earlier round, or of this one and not DONE.
 abbrev pub SawUndone : Seen → Seen → ℕ → ℕ → Type 0
-SawUndone old new r g = (found : ℕ) × (found < stamp r 2) × Saw old new (at r g) found
+SawUndone old new r g = (found : ℕ) × (found < stamp r DONE) × Saw old new (at r g) found
 
 -- The seat knows that gate g is done in round r.
 abbrev pub Knows : Seen → ℕ → ℕ → Type 0
 Knows v r g = 0 < pairs r g v.inner.known
 
--- An answered label is the active label of wire w in the round's job. The wire is set, and the gate that sets it is known
--- in the round.
+-- An answered label is the active label of wire w in the round's job. The wire is set, and the gate that sets it is
+-- known in the round.
 pub record Got (job : JobParts) (r w : ℕ) (new : Seen) (label : ℕ) : Type 0 where
   pub set : IsSet job.circuit w
   pub right : label ≡ active job w
@@ -87,13 +89,14 @@ pub record Lacks (job : JobParts) (r w : ℕ) (old new : Seen) : Type 0 where
       → (pairs r h old.inner.known ≡ 0) × SawUndone old new r h
 
 -- What an answer for gate g in round r says. Made: the label is right in the round's job, the gate is known, and it
--- was not known. Done: the label is right, and the gate known. Taken: it was not known, and its state was found at 1
--- of the round. NotYet: it was not known, and it reads the wire, which lacks a label.
+-- was not known. Done: the label is right, and the gate known. Taken: it was not known, and it was found IN_HAND in
+-- the round. NotYet: it was not known, and it reads the wire, which lacks a label.
 abbrev pub Says : JobParts → ℕ → ℕ → Seen → Seen → Answer → Type 0
 Says job r g old new (Made label) =
     (label ≡ active job (set_of job g)) × Knows new r g × (pairs r g old.inner.known ≡ 0)
 Says job r g old new (Done label) = (label ≡ active job (set_of job g)) × Knows new r g
-Says job r g old new Taken = (pairs r g old.inner.known ≡ 0) × Saw old new (at r g) (stamp r 1)
+Says job r g old new Taken =
+    (pairs r g old.inner.known ≡ 0) × Saw old new (at r g) (stamp r IN_HAND)
 Says job r g old new (NotYet w) =
     (pairs r g old.inner.known ≡ 0) × Reads job.circuit g w × Lacks job r w old new
 
@@ -125,7 +128,7 @@ IsIdle v = (v.inner.hand ≡ Empty) × (0 < v.seats)
 pub record IsReady (job : JobParts) (r g : ℕ) (v : Seen) (ready : Ready) : Type 0 where
   pub labels : AreReadBy job g ready.labels
   pub found : 0 < looked r g ready.free v.inner.looks
-  pub free : ready.free ≤ stamp r 0
+  pub free : ready.free ≤ stamp r FREE
 
 -- The seat stands for all seats of its banks. Then the answers follow from its made list alone.
 abbrev pub IsAlone : Seen → Type 0
@@ -137,10 +140,7 @@ SetsMade job r w v n = (h : ℕ) → IsSetBy job.circuit w h → pairs r h v.inn
 
 -- The gates of all wires that gate g reads are made in round r.
 abbrev pub ReadsMade : JobParts → ℕ → ℕ → Seen → Type 0
-ReadsMade job r g old =
-    (gate : Gate) (w : ℕ) → slice_get job.circuit.gates g ≡ Some gate
-    → (first_wire gate.operation ≡ Some w) ⊎ (second_wire gate.operation ≡ Some w)
-    → SetsMade job r w old 1
+ReadsMade job r g old = (w : ℕ) → Reads job.circuit g w → SetsMade job r w old 1
 
 -- Wire w is the first that gate g reads whose gate is not made in round r.
 abbrev pub FirstLacking : JobParts → ℕ → ℕ → Seen → ℕ → Type 0

@@ -6,7 +6,7 @@ ghost use Rattle.gc_rounds.specs.declared.view.Stand.TheVariants.{Outside, Insid
 ghost use Rattle.gc_rounds.specs.Calls.{Enters, EntersAlone, Leaves, Seals, Reopens};
 ghost use Rattle.gc_job.specs.ActiveLabels.{gates_of};
 ghost use Rattle.gc_bank.specs.Views.{Stays, Answers, AnswersTwo, AnswersAlone, AnswersTwoAlone, Ran, Got, Lacks};
-ghost use Rattle.gc_bank.specs.Seats.{IsSeatOf, IsSameSeat, IsInside, InRound, view, round_of, jobs_on};
+ghost use Rattle.gc_bank.specs.Seats.{IsSeatOf, IsSameSeat, IsInside, InRound, view, round_of, jobs_on, seats_on};
 
 use crate::seat::{BankSeat, Banks};
 use gc_eval::Answer;
@@ -43,7 +43,7 @@ impl<'j, 'c, B: Allocator, A: Allocator, C: Allocator> Banks<'j, 'c, B, A, C> {
         ensures own { IsSeatOf self.now seat.new }
         ensures same { IsSameSeat seat.old seat.new }
         ensures found { Enters round (view seat.old) (view seat.new) result }
-        ensures alone { self.now.seats ≡ 1 → EntersAlone round (view seat.old) result }
+        ensures alone { seats_on self.now ≡ 1 → EntersAlone round (view seat.old) result }
     {
         let entry = gc_rounds::enter(&self.board.table.shared, &mut seat.place, round);
         seat.inside = match entry {
@@ -67,7 +67,7 @@ impl<'j, 'c, B: Allocator, A: Allocator, C: Allocator> Banks<'j, 'c, B, A, C> {
         ensures answer { InRound (jobs_on self.now) (view seat.old)
             (λ job. Answers job (round_of (view seat.old)) gate 11 (view seat.old)
             (view seat.new) result) }
-        ensures alone { self.now.seats ≡ 1 → InRound (jobs_on self.now) (view seat.old)
+        ensures alone { seats_on self.now ≡ 1 → InRound (jobs_on self.now) (view seat.old)
             (λ job. AnswersAlone job (round_of (view seat.old)) gate (view seat.old) result) }
     {
         let Some(round) = seat.inside else {
@@ -99,7 +99,7 @@ impl<'j, 'c, B: Allocator, A: Allocator, C: Allocator> Banks<'j, 'c, B, A, C> {
         ensures answers { InRound (jobs_on self.now) (view seat.old)
             (λ job. AnswersTwo job (round_of (view seat.old)) first second 22 (view seat.old)
             (view seat.new) result) }
-        ensures alone { self.now.seats ≡ 1 → InRound (jobs_on self.now) (view seat.old)
+        ensures alone { seats_on self.now ≡ 1 → InRound (jobs_on self.now) (view seat.old)
             (λ job. AnswersTwoAlone job (round_of (view seat.old)) first second
             (view seat.old) result) }
     {

@@ -12,11 +12,9 @@ use crate::together::evaluate_together;
 use gc_eval::{EvalFault, Job, evaluate};
 use gc_gatehouse::{Gatehouse, MAX_WORKERS};
 use gc_layers::{Way, way_of};
+use gc_rounds::MAX_JOBS;
 use std::alloc::Allocator;
 use std::thread::Threads;
-
-/// The most jobs of a list: each has a round.
-pub const MAX_JOBS: usize = gc_rounds::MAX_JOBS;
 
 /// The output bits of each job, in order, by this number of workers: what [`evaluate`] answers for it, honest job or
 /// not. One worker evaluates one job after another. Where there are no fewer jobs than workers, or a job's gates would

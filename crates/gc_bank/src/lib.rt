@@ -1,4 +1,5 @@
-//! Lists of jobs on one circuit.
+//! Lists of jobs on one circuit. Who works at banks takes names of `gc_rounds` and of `gc_board` from here, and those of
+//! jobs, answers and walks from `gc_eval`.
 //!
 //! [`evaluate_jobs`] answers the output bits of each job of a list whose jobs are on [`one_circuit`]. [`Banks`] are
 //! two sets of board words, used again job after job, at which many seats evaluate such a list.
@@ -15,9 +16,8 @@ mod step;
 mod together;
 mod worker;
 
-pub use gc_board::OpenFault;
-pub use gc_rounds::{Entry, Reopening};
-pub use jobs::{MAX_JOBS, evaluate_jobs};
-pub use open::CloseRefused;
+pub use gc_board::{CloseRefused, MAX_SEATS, OpenFault};
+pub use gc_rounds::{Entry, MAX_JOBS, Reopening};
+pub use jobs::evaluate_jobs;
 pub use same_circuit::one_circuit;
 pub use seat::{BankSeat, Banks};

@@ -1,51 +1,21 @@
 //! Opening and closing banks.
 
-ghost use Rattle.std.specs.Prelude.{◌≡◌, ℕ, ◌<◌, ◌≤◌, ◌↔◌, ◌-◌, ◌^◌, [], length, map, min, sum, IfOk, IfErr, IsOk, IsTrue, All, codes};
+ghost use Rattle.std.specs.Prelude.{◌≡◌, ℕ, ◌<◌, ◌≤◌, ◌↔◌, ◌-◌, ◌^◌, [], length, map, min, sum, IfOk, IfErr, IsOk, IsTrue, All};
 ghost use Rattle.gc_board.specs.Counts.{total};
 ghost use Rattle.gc_rounds.specs.declared.view.Stand.TheVariants.{Outside};
 ghost use Rattle.gc_round_board.specs.Pairs.{pairs};
 ghost use Rattle.gc_round_board.specs.Places.{IsBoardPlace};
 ghost use Rattle.gc_bank.specs.Jobs.{AreOnOneCircuit};
 ghost use Rattle.gc_bank.specs.Rounds.{gates_of};
-ghost use Rattle.gc_bank.specs.Seats.{IsSeatOf, IsNew, view, jobs_on};
+ghost use Rattle.gc_bank.specs.Seats.{IsSeatOf, IsNew, view, jobs_on, seats_on};
 
 use crate::seat::{BankSeat, Banks};
 use crate::series::Series;
-use gc_board::OpenFault;
-use gc_eval::{Job, MAX_SEATS, Wiring};
+use gc_board::{CloseRefused, MAX_SEATS, OpenFault};
+use gc_eval::{Job, Wiring};
 use gc_round_board::{BoardTable, Place, Words, open_board, settle};
 use gc_rounds::{Key, MAX_JOBS, deal_place, join_place};
-use std::alloc::{AllocError, Allocator, Global};
-
-/// A seat was missing or inside a round, so the banks were not closed. They come back with all seats that were
-/// passed.
-#[derive(Drop)]
-pub struct CloseRefused<
-    'j,
-    'c,
-    B: Allocator = Global,
-    A: Allocator = Global,
-    C: Allocator = Global,
-> {
-    pub banks: Banks<'j, 'c, B, A, C>,
-    pub seats: Vec<BankSeat<B, A, C>, B>,
-}
-
-impl<'j, 'c, B: Allocator, A: Allocator, C: Allocator> CloseRefused<'j, 'c, B, A, C> {
-    /// The number of the refusal: 47.
-    pub fn code(&self) -> u32
-        ensures { result ≡ 47 }
-    {
-        47
-    }
-
-    /// The name of the refusal.
-    pub fn name(&self) -> &'static str
-        ensures { result.now ≡ codes "SeatMissing" }
-    {
-        "SeatMissing"
-    }
-}
+use std::alloc::{AllocError, Allocator};
 
 /// This number of new seats, out of a place that stands for them all.
 fn deal_all<B: Allocator, A: Allocator, C: Allocator>(
@@ -109,7 +79,7 @@ impl<'j, 'c, B: Allocator + Copy, A: Allocator, C: Allocator> Banks<'j, 'c, B, A
         requires circuit { AreOnOneCircuit jobs.now }
         requires seats { (0 < seats) × (seats ≤ MAX_SEATS) }
         ensures jobs { IfOk result (λ b. jobs_on b.0 ≡ jobs.now) }
-        ensures count { IfOk result (λ b. (b.0.seats ≡ seats) × (length b.1.items ≡ seats)) }
+        ensures count { IfOk result (λ b. (seats_on b.0 ≡ seats) × (length b.1.items ≡ seats)) }
         ensures seats { IfOk result (λ b. All (λ s. IsSeatOf b.0 s × IsNew (view s)) b.1.items) }
     {
         let circuit = jobs[0].circuit();
@@ -137,7 +107,7 @@ impl<'j, 'c, B: Allocator, A: Allocator, C: Allocator> Banks<'j, 'c, B, A, C> {
     fn settle_all(&self, seats: Vec<BankSeat<B, A, C>, B>)
         requires own { All (IsSeatOf self.now) seats.items }
         requires outside { All (λ s. (view s).stand ≡ Outside) seats.items }
-        requires all { length seats.items ≡ self.now.seats }
+        requires all { length seats.items ≡ seats_on self.now }
         ensures { (r g : ℕ) → total (λ s. pairs r g (view s).inner.made) seats.items ≤ 1 }
     {
         let words = &self.board.table.shared;
@@ -152,19 +122,19 @@ impl<'j, 'c, B: Allocator, A: Allocator, C: Allocator> Banks<'j, 'c, B, A, C> {
     pub fn close(
         self,
         seats: Vec<BankSeat<B, A, C>, B>,
-    ) -> Result<u64, CloseRefused<'j, 'c, B, A, C>>
+    ) -> Result<u64, CloseRefused<Banks<'j, 'c, B, A, C>, Vec<BankSeat<B, A, C>, B>>>
         requires { All (IsSeatOf self) seats.items }
         ensures exact { IsOk result
-            ↔ ((length seats.items ≡ self.entry.seats)
+            ↔ ((length seats.items ≡ seats_on self.entry)
             × All (λ s. (view s).stand ≡ Outside) seats.items) }
         ensures count { IfOk result
             (λ n. n ≡ min (total (λ s. length (view s).inner.made) seats.items) (2 ^ 64 - 1)) }
         ensures once { IfOk result
             (λ _. (r g : ℕ) → total (λ s. pairs r g (view s).inner.made) seats.items ≤ 1) }
-        ensures err { IfErr result (λ r. (r.banks ≡ self.entry) × (r.seats ≡ seats)) }
+        ensures err { IfErr result (λ r. (r.board ≡ self.entry) × (r.seats ≡ seats)) }
     {
         if seats.len() != self.seats as usize || !are_outside(&seats) {
-            return Err(CloseRefused { banks: self, seats });
+            return Err(CloseRefused { board: self, seats });
         }
         let made = made_by(&seats);
         self.settle_all(seats);

@@ -1,26 +1,26 @@
 //! What a seat does inside a round: it steps a gate and asks for a label.
 
 ghost use Rattle.std.specs.Prelude.{◌≡◌, ◌≢◌, ℕ, ◌<◌, ◌≤◌, length, slice_get, IfSome, IfNone, IfOk, IfErr, MatchOption, MatchResult, Some, None};
+ghost use Rattle.gc_rounds.specs.Words.{stamp};
 ghost use Rattle.gc_rounds.specs.Places.{IsSamePlace};
 ghost use Rattle.gc_round_board.specs.Pairs.{pairs, looked};
-ghost use Rattle.gc_round_board.specs.Board.{stamp};
 ghost use Rattle.gc_round_board.specs.Places.{IsPlaceAt};
 ghost use Rattle.gc_job.specs.ActiveLabels.{active, set_of};
 ghost use Rattle.gc_eval.specs.Views.{AreReadBy, Reads, IsMadeNow};
 ghost use Rattle.gc_walk.specs.Walks.{made_now};
 ghost use Rattle.gc_bank.specs.Rounds.{gates_of, IsRound};
 ghost use Rattle.gc_bank.specs.Views.{Ran, IsIdle, Got, Lacks, Says, Answers, AnswersTwo, IsReady, Knows, IsAlone, SetsMade, ReadsMade, FirstLacking, AnswersAlone, AnswersTwoAlone};
-ghost use Rattle.gc_bank.specs.Seats.{IsJobOf, IsPlaceFor, IsPlaceIn};
+ghost use Rattle.gc_bank.specs.Seats.{IsJobOf, IsPlaceFor, IsPlaceIn, jobs_on};
 
 use crate::seat::Banks;
 use crate::series::Series;
-use gc_board::{DONE, IN_HAND};
+use gc_board::{DONE, FREE, IN_HAND};
 use gc_eval::{Answer, Job};
 use gc_label::Label;
 use gc_round_board::{
-    Place, Words, claim, load_high, load_low, load_state, state_word, store_done, store_high,
-    store_low,
+    Place, Words, claim, load_high, load_low, load_state, store_done, store_high, store_low,
 };
+use gc_rounds::stamped;
 use std::alloc::Allocator;
 
 /// The label of a gate that is known in the round, in two loads.
@@ -54,13 +54,21 @@ impl<'j, 'c, B: Allocator, A: Allocator, C: Allocator> Banks<'j, 'c, B, A, C> {
     /// The job of a round.
     #[inline]
     pub(crate) fn job(&self, round: u32) -> &'j Job<'c, A, C>
-        requires { round < length self.now.jobs.now }
-        ensures at { slice_get self.now.jobs.now round ≡ Some result.now }
+        requires { round < length (jobs_on self.now) }
+        ensures at { slice_get (jobs_on self.now) round ≡ Some result.now }
         ensures round { IsRound self.now.board.table.shared.key.about round result.now }
         ensures circuit { result.now.circuit ≡ self.now.wiring }
     {
         &self.jobs[round as usize]
     }
+
+    /// The law of rounds: each has a job, on the circuit of all. A call of it does nothing.
+    #[inline(always)]
+    pub(crate) fn law_round(&self, round: u32)
+        requires { round < length (jobs_on self.now) }
+        ensures { MatchOption (slice_get (jobs_on self.now) round) ⊥
+            (IsRound (jobs_on self.now) round) }
+    {}
 
     /// The label of a wire in the round, where it is an input wire or the gate that sets it is found done.
     pub(crate) fn read(
@@ -88,7 +96,7 @@ impl<'j, 'c, B: Allocator, A: Allocator, C: Allocator> Banks<'j, 'c, B, A, C> {
             return None;
         };
         let words = &self.board.table.shared;
-        if load_state(words, place, round, gate) == state_word(round, DONE) {
+        if load_state(words, place, round, gate) == stamped(round, DONE) {
             Some(load_label(words, place, job, round, gate))
         } else {
             None
@@ -180,10 +188,10 @@ impl<'j, 'c, B: Allocator, A: Allocator, C: Allocator> Banks<'j, 'c, B, A, C> {
     {
         let words = &self.board.table.shared;
         let free = load_state(words, place, round, gate);
-        if free == state_word(round, DONE) {
+        if free == stamped(round, DONE) {
             return Err(Answer::Done(load_label(words, place, job, round, gate)));
         }
-        if free == state_word(round, IN_HAND) {
+        if free == stamped(round, IN_HAND) {
             return Err(Answer::Taken);
         }
         match self.read_both(place, job, round, gate) {
@@ -207,7 +215,7 @@ impl<'j, 'c, B: Allocator, A: Allocator, C: Allocator> Banks<'j, 'c, B, A, C> {
         requires job { IsJobOf self.now job.now round }
         requires empty { IsIdle place.old.me.0 }
         requires free { (0 < looked round gate free place.old.me.0.inner.looks)
-            × (free ≤ stamp round 0) }
+            × (free ≤ stamp round FREE) }
         requires label { label ≡ active job.now (set_of job.now gate) }
         ensures same { IsSamePlace place.old place.new }
         ensures answer { Answers job.now round gate 4 place.old.me.0 place.new.me.0 result }
@@ -216,10 +224,10 @@ impl<'j, 'c, B: Allocator, A: Allocator, C: Allocator> Banks<'j, 'c, B, A, C> {
     {
         let words = &self.board.table.shared;
         let found = claim(words, place, round, gate, free);
-        if found == state_word(round, DONE) {
+        if found == stamped(round, DONE) {
             return Answer::Done(load_label(words, place, job, round, gate));
         }
-        if found == state_word(round, IN_HAND) {
+        if found == stamped(round, IN_HAND) {
             return Answer::Taken;
         }
         let (low, high) = label.halves();

@@ -116,8 +116,7 @@ impl<B: Allocator, A: Allocator, C: Allocator> Worker<B, A, C> {
         ensures worker { IsWorkerAt banks.now (Inside round) self.new }
         ensures left { batches_left self.new.walk ≡ batches_left self.old.walk }
     {
-        // `job` also says that the round has the gates of all rounds.
-        let _ = banks.job(round);
+        banks.law_round(round);
         let answers = banks.step_two(&mut self.seat, first, second);
         self.walk.note(first, answers.0);
         self.walk.note(second, answers.1);
@@ -138,8 +137,7 @@ impl<B: Allocator, A: Allocator, C: Allocator> Worker<B, A, C> {
         ensures left { batches_left self.new.walk ≡ batches_left self.old.walk }
     {
         batch.report_to(observer, self.number);
-        // `job` also says that the round has the gates of all rounds.
-        let _ = banks.job(round);
+        banks.law_round(round);
         match batch {
             Batch::One(a) => {
                 let answer = banks.step(&mut self.seat, a);

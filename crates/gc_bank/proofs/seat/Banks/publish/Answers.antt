@@ -2,12 +2,12 @@ use Rattle.gc_bank.proofs.Names.{rules, refl, Knows}
 use Rattle.gc_bank.proofs.RunLemmas.{unknown, saw_step, made_ran}
 use Rattle.gc_bank.proofs.seat.Banks.publish.Goals as goal
 
-pub returns-then-found-state_word-2-clause-answer : goal.returns-then-found-state_word-2-clause-answer
-returns-then-found-state_word-2-clause-answer g c =
+pub returns-then-found-stamped-2-clause-answer : goal.returns-then-found-stamped-2-clause-answer
+returns-then-found-stamped-2-clause-answer g c =
     let e = c.claim-found.ensures in (
       (
-        unknown _ _ _ e.finds.known (rw c.state_word.ensures at c.if-found-state_word.false),
-        rw (e.view, ← c.state_word-2.ensures, ← c.if-found-state_word-2.true)
+        unknown _ _ _ e.finds.known (rw c.stamped.ensures at c.if-found-stamped.false),
+        rw (e.view, ← c.stamped-2.ensures, ← c.if-found-stamped-2.true)
             (saw_step _ _ _ _ refl),
       ),
       search rules,
@@ -20,7 +20,7 @@ returns-clause-answer g c =
       (
         c.requires.label,
         known,
-        unknown _ _ _ e.finds.known (rw c.state_word.ensures at c.if-found-state_word.false),
+        unknown _ _ _ e.finds.known (rw c.stamped.ensures at c.if-found-stamped.false),
       ),
       rw (c.store_done.ensures.view, c.store_high.ensures.view, c.store_low.ensures.view, e.view)
           (made_ran _ _ c.args.free _ _ _ _ _ _ c.requires.empty.0),

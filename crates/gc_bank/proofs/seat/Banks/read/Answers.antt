@@ -44,11 +44,11 @@ load_label-requires-clause-place g c =
       exists = exists g (goal.at.load_label-requires-clause-place g c).In-Some;
     }
 
-pub returns-else-load_state-state_word-clause-none : goal.returns-else-load_state-state_word-clause-none
-returns-else-load_state-state_word-clause-none g c =
+pub returns-else-load_state-stamped-clause-none : goal.returns-else-load_state-stamped-clause-none
+returns-else-load_state-stamped-clause-none g c =
     let by = rw (← c.requires.job.1) at c.in-Some.ensures.some in
     let finds = c.load_state.ensures.finds in
-    let not_two = rw c.state_word.ensures at c.if-load_state-state_word.false in
+    let not_two = rw c.stamped.ensures at c.if-load_state-stamped.false in
     record {
       no_input = λ input.
           absurd (omega (arith, rw c.circuit.ensures.circuit at c.input_wires.ensures));
@@ -62,9 +62,9 @@ returns-else-load_state-state_word-clause-none g c =
       );
     }
 
-pub returns-else-load_state-state_word-clause-alone : goal.returns-else-load_state-state_word-clause-alone
-returns-else-load_state-state_word-clause-alone g c = λ alone h set.
+pub returns-else-load_state-stamped-clause-alone : goal.returns-else-load_state-stamped-clause-alone
+returns-else-load_state-stamped-clause-alone g c = λ alone h set.
     let by = rw (← c.requires.job.1) at c.in-Some.ensures.some in
-    let not_two = rw c.state_word.ensures at c.if-load_state-state_word.false in
+    let not_two = rw c.stamped.ensures at c.if-load_state-stamped.false in
     rw (← set_once _ _ _ h c.circuit.ensures.whole.lawful by set)
     ((c.load_state.ensures.finds.alone alone).1 ∙ only_other _ _ (λ e. not_two (sym e)))

@@ -9,13 +9,13 @@ looked_at : (g : Over) (c : After-load_state-free g)
     → Ran c.args.place.now.me.0 c.load_state-free.new.place.me.0 c.args.place.now.me.0.inner.made 1
 looked_at g c = search rules
 
-pub returns-then-free-state_word-2-clause-err : goal.returns-then-free-state_word-2-clause-err
-returns-then-free-state_word-2-clause-err g c =
+pub returns-then-free-stamped-2-clause-err : goal.returns-then-free-stamped-2-clause-err
+returns-then-free-stamped-2-clause-err g c =
     let e = c.load_state-free.ensures in (
       refl,
       (
-        unknown _ _ _ e.finds.known (rw c.state_word.ensures at c.if-free-state_word.false),
-        rw (e.view, ← c.state_word-2.ensures, ← c.if-free-state_word-2.true)
+        unknown _ _ _ e.finds.known (rw c.stamped.ensures at c.if-free-stamped.false),
+        rw (e.view, ← c.stamped-2.ensures, ← c.if-free-stamped-2.true)
             (saw_step _ _ _ _ refl),
       ),
     )
@@ -37,7 +37,7 @@ returns-in-Err-clause-err g c =
       refl,
       (
         unknown _ _ _ c.load_state-free.ensures.finds.known
-            (rw c.state_word.ensures at c.if-free-state_word.false),
+            (rw c.stamped.ensures at c.if-free-stamped.false),
         err.0,
         lacks_within (grown first) still err.1,
       ),
@@ -46,7 +46,7 @@ returns-in-Err-clause-err g c =
 pub returns-in-Ok-clause-alone : goal.returns-in-Ok-clause-alone
 returns-in-Ok-clause-alone g c = λ alone.
     let first = looked_at g (goal.at.returns-in-Ok-clause-alone g c).After-load_state-free in
-    let undone = rw c.state_word.ensures at c.if-free-state_word.false in (
+    let undone = rw c.stamped.ensures at c.if-free-stamped.false in (
       (c.load_state-free.ensures.finds.alone alone).1 ∙ only_other _ _ (λ e. undone (sym e)),
       rw first.made at (c.in-Ok.ensures.alone (alone_later first alone)),
     )
@@ -54,7 +54,7 @@ returns-in-Ok-clause-alone g c = λ alone.
 pub returns-in-Err-clause-alone : goal.returns-in-Err-clause-alone
 returns-in-Err-clause-alone g c = λ alone.
     let first = looked_at g (goal.at.returns-in-Err-clause-alone g c).After-load_state-free in
-    let undone = rw c.state_word.ensures at c.if-free-state_word.false in (
+    let undone = rw c.stamped.ensures at c.if-free-stamped.false in (
       (c.load_state-free.ensures.finds.alone alone).1 ∙ only_other _ _ (λ e. undone (sym e)),
       rw first.made at (c.in-Err.ensures.alone (alone_later first alone)),
     )
