@@ -3,7 +3,7 @@ use Rattle.std.specs.Prelude.{◌==◌, ℕ, ◌≤◌, Bool, true, false, List,
 use Rattle.std.specs.List.{slice_split}
 use Rattle.std.specs.Str.{IsUtf8}
 use Rattle.gc_netlist.specs.Text.{tokens}
-use Rattle.gc_bank.specs.declared.jobs.TheConstants.{MAX_JOBS}
+use Rattle.gc_rounds.specs.declared.words.TheConstants.{MAX_JOBS}
 use Rattle.gc_command.specs.declared.fault.Fault.{Fault}
 use Rattle.gc_command.specs.declared.fault.Fault.TheVariants.{BadList, Memory}
 

@@ -3,7 +3,7 @@
 ghost use Rattle.std.specs.Prelude.{◌≡◌, ◌<◌, ◌≤◌, ℕ, List, length, map, IfOk, IfErr, Err};
 ghost use Rattle.gc_gatehouse.specs.Workers.{AreFew};
 ghost use Rattle.gc_bank.specs.Jobs.{AreEvaluated, AreEvaluatedBy, AreOnOneCircuit};
-ghost use Rattle.gc_bank.specs.declared.jobs.TheConstants.{MAX_JOBS};
+ghost use Rattle.gc_rounds.specs.declared.words.TheConstants.{MAX_JOBS};
 ghost use Rattle.gc_files.specs.Files.{HasFailed};
 ghost use Rattle.gc_jobs.specs.Jobs.{AnswersJobs, HasJobsFault};
 
