@@ -236,8 +236,8 @@ fn two_seats_take_turns(rt: HostRuntime) -> Result<(), Fail> {
     Ok(())
 }
 
-/// Opens banks over this memory, has two seats make the calls of a script, and closes them. The answer is how many gates
-/// were made, where no memory was asked for after the opening.
+/// Opens banks over this memory, has two seats make the calls of a script, and closes them. The answer is how many
+/// gates were made, where no memory was asked for after the opening.
 fn works_without_memory(
     heap: &Refusing<Global>,
     jobs: &[Job],
@@ -364,7 +364,10 @@ fn given_back<'j, 'c>(
     if (refused.code(), refused.name()) != (47, "SeatMissing") {
         return Err(Fail::new("the refusal is 47"));
     }
-    let CloseRefused { banks, seats } = refused;
+    let CloseRefused {
+        board: banks,
+        seats,
+    } = refused;
     Ok((banks, seats))
 }
 
