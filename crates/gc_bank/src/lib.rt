@@ -1,4 +1,4 @@
-//! Lists of jobs on one circuit. Who works at banks takes names of `gc_rounds` and of `gc_board` from here, and those of
+//! Lists of jobs on one circuit. It passes on names of `gc_rounds` and `gc_board` to users of banks, who take those of
 //! jobs, answers and walks from `gc_eval`.
 //!
 //! [`evaluate_jobs`] answers the output bits of each job of a list whose jobs are on [`one_circuit`]. [`Banks`] are

@@ -1,9 +1,9 @@
-//! Evaluating a garbled circuit on many threads. Who evaluates jobs takes the names of `gc_job` from here, and who works
-//! at boards those of `gc_walk` and of `gc_board` too.
+//! Evaluating a garbled circuit on many threads. It passes on names of `gc_job` to users of jobs, and names of
+//! `gc_walk` and `gc_board` to users of boards.
 //!
 //! An evaluation takes rows, decode bits and one active label for each input wire alone. [`evaluate_many`] answers the
-//! output bits of a [`Job`], as [`evaluate`] does on one thread. Who has threads of their own opens an [`EvalBoard`] for
-//! them. A [`Walk`] gives them the gates in an order that serves.
+//! output bits of a [`Job`], as [`evaluate`] does on one thread. Who has threads of their own opens an [`EvalBoard`]
+//! for them. A [`Walk`] gives them the gates in an order that serves.
 #![tactic(auto)]
 
 mod active;
