@@ -29,7 +29,7 @@ sum_of_sources() {
     (cd "$top" && find $(places_of_sources "$1") -type f | LC_ALL=C sort | xargs sha256sum) | sha256sum | cut -d' ' -f1
 }
 
-# Whether a program was built from sources with this checksum: the file beside it says from which it was.
+# Whether a program was built from sources with this checksum: the file next to it says from which it was.
 is_built_from() {
     [ -x "$2" ] && read -r built_from <"$2.sources" && [ "$built_from" = "$1" ]
 } 2>/dev/null

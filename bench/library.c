@@ -1,6 +1,7 @@
 /*
  * Times the library from C, for library.py: prints the nanoseconds of the fastest of some garblings of a circuit
- * (`garble`), and of garbling it under some seeds and writing each garbled file to memory (`files`), read once (`read`).
+ * (`garble`), and of garbling it under some seeds and writing each garbled file to memory (`files`), read once
+ * (`read`).
  *
  *   library CIRCUIT REPEATS SEEDS
  */

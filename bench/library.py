@@ -1,9 +1,9 @@
 #!/usr/bin/env python3
-"""Times the library from C and from Python, beside the program and its parts.
+"""Times the library from C and from Python, compared with the program and its parts.
 
   library.py PROGRAM BENCH LIBRARY
 
-BENCH is gc_bench, and LIBRARY the shared library, with the archive beside it. What is compared runs in turns, and the
+BENCH is gc_bench, and LIBRARY the shared library, with the archive next to it. What is compared runs in turns, and the
 fastest run counts. A C compiler is needed.
 """
 

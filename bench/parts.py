@@ -1,5 +1,5 @@
 #!/usr/bin/env python3
-"""Times the parts of the program on a circuit, and sets them beside what they are measured by.
+"""Times the parts of the program on a circuit, and compares them with what they are measured by.
 
   parts.py BENCH CIRCUIT [BASELINE]
 
@@ -39,7 +39,7 @@ def main():
 
 
 def print_baseline(program, bench, circuit):
-    """Reading, beside the reading of another program."""
+    """Reading, compared with the reading of another program."""
     words = [program, "garble", circuit, SEED, "-", "--repeat", "1"]
     parses, reads = [], []
     for _ in range(7):
@@ -53,7 +53,7 @@ def print_baseline(program, bench, circuit):
 
 
 def print_files(bench, circuit):
-    """The digest and the garbled file, beside SHA-256 over their bytes."""
+    """The digest and the garbled file, compared with SHA-256 over their bytes."""
     took = times(bench, circuit, 9, "digest", "sha", "file_sha", "write", "read_file", "pieces")
     print(
         f"digest: {took['digest']} ns, {took['digest'] / took['sha']:.2f} times SHA-256 over the"

@@ -149,7 +149,7 @@ def legend(x, y):
 
 
 def bars(rows):
-    """A group of bars for each circuit, garbling beside evaluating."""
+    """A group of bars for each circuit, garbling next to evaluating."""
     left, panel, bar, group = 290, 330, 11, 56
     wide, high = left + len(WORK) * panel, 70 + group * len(rows)
     most = max(max(numbers(row[3:])) for row in rows)
@@ -170,7 +170,7 @@ def bars(rows):
 
 
 def lines(rows):
-    """The time of a gate over the number of gates, garbling beside evaluating."""
+    """The time of a gate over the number of gates, garbling next to evaluating."""
     left, panel, plot, top, tall = 50, 420, 360, 60, 300
     rows = [numbers(row) for row in rows]
     gates = [row[0] for row in rows]

@@ -1,11 +1,11 @@
 #!/usr/bin/env python3
-"""Times the commands of the program on a circuit, beside the sums of the parts of their work.
+"""Times the commands of the program on a circuit, compared with the sums of the parts of their work.
 
   program.py PROGRAM BENCH CIRCUIT
 
 BENCH is gc_bench, which times the parts. Commands and parts run in turns, since the speed of a machine changes while it
-works, and the fastest run of each counts. The peak memory of each command is printed in bytes a gate, beyond the circuit's
-file.
+works, and the fastest run of each counts. The peak memory of each command is printed in bytes a gate, beyond the
+circuit's file.
 """
 
 import os
@@ -69,8 +69,9 @@ def main():
     most = {"garble": 110, "eval": 110, "run": 150}
     for name, sum_of_parts in sums_of_parts(parts).items():
         print(
-            f"{name}: {took[name]} ns, {took[name] / sum_of_parts:.2f} times its parts (at most 1.2); peak memory beyond"
-            f" the circuit's file: {(peaks[name] - beyond) / parts['gates']:.0f} bytes a gate (at most {most[name]})"
+            f"{name}: {took[name]} ns, {took[name] / sum_of_parts:.2f} times its parts (at most 1.2);"
+            f" peak memory beyond the circuit's file: {(peaks[name] - beyond) / parts['gates']:.0f}"
+            f" bytes a gate (at most {most[name]})"
         )
 
 

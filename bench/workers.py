@@ -30,7 +30,7 @@ def main():
         file = f"{folder}/circuit"
         print_targets(print_table(bench, file))
         make(CIRCUITS["independent gates, all AND"], file)
-        print_beside_programs(bench, file)
+        print_against_programs(bench, file)
 
 
 def print_table(bench, file):
@@ -51,8 +51,8 @@ def print_targets(took):
         print(f"{name}: {fast} {ratio:.2f} times as fast as {slow} (at least {least})")
 
 
-def print_beside_programs(bench, circuit):
-    """Four workers, beside four programs that garble by one worker each, at once.
+def print_against_programs(bench, circuit):
+    """Four workers, compared with four programs that garble by one worker each, at once.
 
     So much the machine gives to four, whatever else it does.
     """

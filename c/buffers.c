@@ -1,6 +1,6 @@
 /*
  * The functions of halfgates.h that take buffers. A slice of Rattle is never NULL: where C passes a NULL, the proved
- * export is told another address, and can't look. So each function here refuses a NULL that has a size, and then calls
+ * export sees another address, and can't look. So each function here refuses a NULL that has a size, and then calls
  * the proved export of its name, which the build renames to proved_halfgates_..
  */
 #include <halfgates.h>

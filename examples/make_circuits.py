@@ -1,7 +1,7 @@
 #!/usr/bin/env python3
 """Writes circuits in Bristol Fashion.
 
-Without words it writes full_adder.txt, adder64.txt and less8.txt beside this script. With the name
+Without words it writes full_adder.txt, adder64.txt and less8.txt next to this script. With the name
 of a circuit it writes that circuit to FILE.
 
 Wire 0 of a value is its lowest bit. So a number is typed as x and its bytes in hexadecimal digits,
@@ -14,7 +14,7 @@ hexadecimal digits, in the order in which they are typed:
   ./halfgates plain aes128.txt xKEY xBLOCK |
   python3 -c 'for v in open(0): print(int(v[-2::-1], 2).to_bytes(len(v) // 8, "little").hex())'
 
-answers.json beside this script has values to try, and what the circuits answer.
+answers.json next to this script has values to try, and what the circuits answer.
 """
 
 import sys
@@ -104,7 +104,7 @@ CIRCUITS = {
 }
 
 # What is written where no circuit is named.
-BESIDE = {"full_adder.txt": "full_adder", "adder64.txt": "add64", "less8.txt": "less8"}
+UNNAMED = {"full_adder.txt": "full_adder", "adder64.txt": "add64", "less8.txt": "less8"}
 
 
 def positive(word):
@@ -145,7 +145,7 @@ def write(path, times, name, *numbers):
 def main():
     words = command_line()
     if words.name is None:
-        for file, name in BESIDE.items():
+        for file, name in UNNAMED.items():
             write(Path(__file__).with_name(file), 1, name)
     elif words.name == "chains":
         write(words.file, words.times, words.name, words.count, words.length)

@@ -13,9 +13,9 @@ from pathlib import Path
 PROGRAM = "halfgates"
 CRATES = Path(__file__).resolve().parent.parent / "crates.txt"
 
-# Pixels: the heights of a box and of a row, the widths of a letter and of what a box has beside
+# Pixels: the heights of a box and of a row, the widths of a letter and of the room in a box around
 # its name, and the room between boxes, between the arrows at one side of a box, and at the edge.
-BOX, ROW, LETTER, BESIDE = 30, 74, 9, 20
+BOX, ROW, LETTER, PADDING = 30, 74, 9, 20
 GAP, PORT, MARGIN = 24, 14, 20
 
 # The pull between two bends of an arrow, where all others are 1, and how often places follow it.
@@ -53,7 +53,7 @@ def arrange(uses):
 
 
 def width(place):
-    return LETTER * len(place) + BESIDE if isinstance(place, str) else 0
+    return LETTER * len(place) + PADDING if isinstance(place, str) else 0
 
 
 class Picture:

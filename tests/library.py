@@ -1,7 +1,7 @@
 """The library under test, its package for Python, and programs of C and C++ that are linked with it.
 
 The library is the shared one that the environment variable HALFGATES_LIBRARY names, with the archive
-beside it, or else what `./build` made in out/ from the sources as they stand.
+next to it, or else what `./build` made in out/ from the sources as they stand.
 """
 import os
 import shutil

@@ -17,7 +17,7 @@ from program import PROGRAM, TOP
 
 DOCUMENTS = [*sorted(TOP.glob("*.md")), *sorted(TOP.glob("docs/*.md")), TOP / "vectors/README.md"]
 
-# What the blocks find in the folder that they are run in, beside the program and the library.
+# What the blocks find where they are run, in addition to the program and the library.
 FOLDERS = "bench", "examples", "include", "python", "vectors"
 
 # What is printed after each block, to tell the outputs of blocks from one another.

@@ -13,7 +13,7 @@ from concurrent.futures import ThreadPoolExecutor
 
 from program import FULL_ADDER, PROGRAM, SEED, ProgramTest, fails, prints
 
-# A command is at work for so many seconds before its line is shown.
+# A command is at work for this many seconds before its line is shown.
 PATIENCE = 2
 
 # What wipes the line of the terminal.

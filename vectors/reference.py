@@ -1,5 +1,5 @@
 #!/usr/bin/env python3
-"""A plain reading of the scheme of halfgates, and the maker of the JSON files beside it.
+"""A plain reading of the scheme of halfgates, and the maker of the JSON files next to it.
 
 It follows "Two Halves Make a Whole" (Zahur, Rosulek, Evans, 2015), RFC 8439 (ChaCha20), FIPS 180-4
 (SHA-256, by hashlib) and the project's docs/. bristol.py has what a circuit is. The code goes for

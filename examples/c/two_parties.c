@@ -4,8 +4,9 @@
  *
  *   two_parties CIRCUIT FIRST SECOND
  *
- * CIRCUIT is a file in Bristol Fashion with two input values, such as examples/less8.txt. FIRST is the garbler's number
- * and SECOND the evaluator's, each of up to 64 bits, the lowest bit on the first wire. So is the number that is printed.
+ * CIRCUIT is a file in Bristol Fashion with two input values, such as examples/less8.txt. FIRST is the garbler's
+ * number and SECOND the evaluator's, each of up to 64 bits, the lowest bit on the first wire. So is the number that is
+ * printed.
  */
 #include <errno.h>
 #include <halfgates.h>

@@ -38,8 +38,8 @@ void __wrap_free(void *at) {
     __real_free(at);
 }
 
-/* Makes a call that may be refused memory. Where it is, the code is a Memory code, nothing is left, and it succeeds when
- * it is made again. */
+/* Makes a call that may be refused memory. Where it is, the code is a Memory code, nothing is left, and it succeeds
+ * when it is made again. */
 #define CALL(call) \
     do { \
         const long before = live, refused = refusals; \

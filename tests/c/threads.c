@@ -1,4 +1,4 @@
-/* Eight threads, with a circuit each, beside a garbling and a job that a thread hands to another. */
+/* Eight threads with a circuit each, and a garbling and a job that a thread hands to another. */
 #include "check.h"
 #include <pthread.h>
 
