@@ -2,15 +2,12 @@
 use Rattle.std.specs.Prelude.{ℕ, ◌<◌, ◌≤◌, ◌+◌, ◌-◌, ◌*◌, ◌/◌, ◌%◌, ◌^◌, ◌==◌, Bool, if◌then◌else◌, List, [], ◌∷◌, length, map, take, drop, slice_index}
 use Rattle.std.specs.Int.{bit_at}
 use Rattle.std.specs.List.{range_with_len}
+pub use Rattle.gc_value.specs.Value.{bytes_for}
 
 -- The number with these bits, the first of them lowest.
 abbrev pub bits_number : List Bool → ℕ
 bits_number [] = 0
 bits_number (bit ∷ bits) = (if bit then 1 else 0) + 2 * bits_number bits
-
--- The number of bytes that a given number of bits takes.
-abbrev pub bytes_for : ℕ → ℕ
-bytes_for bits = (bits + 7) / 8
 
 -- The bytes of these bits: bit i stands at place i mod 8, 0 the lowest, of byte i / 8. The places of the last byte that
 -- are left over are 0.

@@ -1,8 +1,8 @@
 //! What garbled files and label files are, and what they are written to and read from.
 //!
 //! The layouts stand in `specs/`. Here are the [`Version`] of a garbled file and the [`EntryPair`]s that it may hold,
-//! whole numbers in files, the [`sizes`] of their parts, a [`Sink`] that takes the bytes of a file, and a [`Source`] that
-//! gives them.
+//! whole numbers in files, the [`sizes`] of their parts, a [`Sink`] that takes the bytes of a file, and a [`Source`]
+//! that gives them.
 #![tactic(auto)]
 
 mod failures;

@@ -15,7 +15,7 @@ use Rattle.hex.specs.Hex.{decode_pairs, decode_sized, digit_or_error, is_hex_dig
 use Rattle.hex.specs.declared.error.FromHexError.{FromHexError}
 use Rattle.gc_value.specs.declared.value.ValueFault.{ValueFault}
 use Rattle.gc_value.specs.declared.value.ValueFault.TheVariants.{Memory, WrongLength, BadDigit, SpareBits}
-use Rattle.gc_value.specs.Value.{ValueText, Binary, Hexadecimal, has_length, has_spare_bit, is_binary_digit, byte_at, byte_count, low_bits, wire_bit, form_of, value_of_form, value_of_text, binary_digit, IsValue, IsFirstFault, ValueTextLaw}
+use Rattle.gc_value.specs.Value.{ValueText, Binary, Hexadecimal, has_length, has_spare_bit, is_binary_digit, byte_at, bytes_for, low_bits, wire_bit, form_of, value_of_form, value_of_text, binary_digit, IsValue, IsFirstFault, ValueTextLaw}
 
 -- ---- a test over a range of places
 
@@ -78,7 +78,7 @@ pub binary_ok : (digits : List ℕ) (n : ℕ) (bits : List Bool) → length digi
     value_of_form (Binary digits) n ≡ Ok bits
 binary_ok digits n bits long all is =
     let test : (length digits == n) ≡ true = grind (arith, nat_tests) in
-    let none = none_in_range (wire_bit (Binary digits)) n (8 * byte_count n - n)
+    let none = none_in_range (wire_bit (Binary digits)) n (8 * bytes_for n - n)
     (λ i from below. binary_past digits i (omega arith)) in
     rw (test, all, none, is) refl
 
@@ -167,28 +167,28 @@ bit_from b u byte some =
     (u + j, omega arith, below, set)
 
 -- a byte with a spare bit is the last
-pub spare_in_byte : (digits : List ℕ) (n k used byte : ℕ) → 8 * k < n → k < byte_count n →
+pub spare_in_byte : (digits : List ℕ) (n k used byte : ℕ) → 8 * k < n → k < bytes_for n →
     used ≡ min (n - 8 * k) 8 → byte ≡ byte_at digits k → byte < 2 ^ 8 →
     (byte / 2 ^ used ≡ 0 → ⊥) →
-    (k + 1 ≡ byte_count n) × (has_spare_bit n (Hexadecimal digits) ≡ true)
+    (k + 1 ≡ bytes_for n) × (has_spare_bit n (Hexadecimal digits) ≡ true)
 spare_in_byte digits n k used byte inside within count is small some =
     let (i, from, below, set) = bit_from byte used small some in (
       omega arith,
-      any_at_place (wire_bit (Hexadecimal digits)) n (8 * byte_count n - n) (8 * k + i)
+      any_at_place (wire_bit (Hexadecimal digits)) n (8 * bytes_for n - n) (8 * k + i)
           (omega arith) (omega arith) (rw (wire_in_byte digits k i below, ← is, set) refl),
     )
 
-module _ (digits : List ℕ) (n : ℕ) (long : length digits ≡ 2 * byte_count n)
+module _ (digits : List ℕ) (n : ℕ) (long : length digits ≡ 2 * bytes_for n)
     (all : list_all is_hex_digit digits ≡ true) where
-  test : (length digits == 2 * byte_count n) ≡ true
+  test : (length digits == 2 * bytes_for n) ≡ true
   test = grind (arith, nat_tests)
 
   pub hexadecimal_ok : (bits : List Bool) →
-      ((i : ℕ) → n ≤ i → i < 8 * byte_count n → wire_bit (Hexadecimal digits) i ≡ false) →
+      ((i : ℕ) → n ≤ i → i < 8 * bytes_for n → wire_bit (Hexadecimal digits) i ≡ false) →
       bits ≡ map (wire_bit (Hexadecimal digits)) (range_with_len 0 n) →
       value_of_form (Hexadecimal digits) n ≡ Ok bits
   hexadecimal_ok bits zero_past is =
-      let none = none_in_range (wire_bit (Hexadecimal digits)) n (8 * byte_count n - n)
+      let none = none_in_range (wire_bit (Hexadecimal digits)) n (8 * bytes_for n - n)
       (λ i from below. zero_past i from (omega arith)) in
       rw (test, all, none, is) refl
 
@@ -207,7 +207,7 @@ hexadecimal_past digits i past =
 
 -- a bit that is 1 past n wires, in a text of the right length, is in the last byte
 within_last : (t : ValueText) (n i : ℕ) → has_length n t ≡ true → n ≤ i → wire_bit t i ≡ true →
-    i < n + (8 * byte_count n - n)
+    i < n + (8 * bytes_for n - n)
 within_last (Binary digits) n i long from set = grind (arith, nat_tests, binary_past)
 within_last (Hexadecimal digits) n i long from set = grind (arith, nat_tests, hexadecimal_past)
 
@@ -215,7 +215,7 @@ no_spare_place : (t : ValueText) (n : ℕ) → has_length n t ≡ true → has_s
     (i : ℕ) → n ≤ i → wire_bit t i ≡ false
 no_spare_place t n long none i from = elim (cases_Bool (wire_bit t i)) [
   | inl set ↦
-      let some = any_at_place (wire_bit t) n (8 * byte_count n - n) i from
+      let some = any_at_place (wire_bit t) n (8 * bytes_for n - n) i from
       (within_last t n i long from set) set in
       cc
   | inr free ↦ free
@@ -231,7 +231,7 @@ value_of t n bits = (
     in_wire_order = grind arith;
   },
   λ v.
-      let spare = none_in_range (wire_bit t) n (8 * byte_count n - n)
+      let spare = none_in_range (wire_bit t) n (8 * bytes_for n - n)
       (λ i from below. v.rest_zero i from) in
       rw (v.right_length, v.all_digits, spare, v.in_wire_order) refl,
 )
@@ -241,9 +241,9 @@ fault_of : (t : ValueText) (n : ℕ) (e : ValueFault) →
 fault_of t n WrongLength = (λ h. grind arith, λ f. grind arith)
 fault_of t n BadDigit = (λ h. grind arith, λ f. grind arith)
 fault_of t n SpareBits = (
-  λ h. (grind arith, grind arith, any_place (wire_bit t) n (8 * byte_count n - n) (grind arith)),
+  λ h. (grind arith, grind arith, any_place (wire_bit t) n (8 * bytes_for n - n) (grind arith)),
   λ f.
-      let spare = any_at_place (wire_bit t) n (8 * byte_count n - n) f.2.0 f.2.1
+      let spare = any_at_place (wire_bit t) n (8 * bytes_for n - n) f.2.0 f.2.1
       (within_last t n f.2.0 f.0 f.2.1 f.2.2) f.2.2 in
       rw (f.0, f.1, spare) refl,
 )

@@ -31,14 +31,14 @@ abbrev pub form_of : List ℕ → ValueText
 form_of text =
     if starts_with nat_eq text (codes "x") then Hexadecimal (drop 1 text) else Binary text
 
--- how many bytes n wires need
-abbrev pub byte_count : ℕ → ℕ
-byte_count n = (n + 7) / 8
+-- the number of bytes that a given number of bits takes
+abbrev pub bytes_for : ℕ → ℕ
+bytes_for bits = (bits + 7) / 8
 
 -- whether the text has as many digits as a value of n wires
 abbrev pub has_length : ℕ → ValueText → Bool
 has_length n (Binary digits) = length digits == n
-has_length n (Hexadecimal digits) = length digits == 2 * byte_count n
+has_length n (Hexadecimal digits) = length digits == 2 * bytes_for n
 
 -- the character of a bit: `0` or `1`
 abbrev pub binary_digit : Bool → ℕ
@@ -74,7 +74,7 @@ wire_bit (Hexadecimal digits) i = bit_at (byte_at digits (i / 8)) (i % 8) == 1
 
 -- whether one of the last byte's bits that no wire uses is 1
 abbrev pub has_spare_bit : ℕ → ValueText → Bool
-has_spare_bit n t = list_any (wire_bit t) (range_with_len n (8 * byte_count n - n))
+has_spare_bit n t = list_any (wire_bit t) (range_with_len n (8 * bytes_for n - n))
 
 -- the bits of n wires, or the first fault
 abbrev pub value_of_form : ValueText → ℕ → Result (List Bool) ValueFault

@@ -66,7 +66,7 @@ impl From<AllocError> for ValueFault {
     ghost use Rattle.std.specs.Prelude.{◌≡◌};
     ghost use Rattle.gc_value.specs.declared.value.ValueFault.TheVariants as faults;
 
-    ghost from_gives = { λ _ fault. fault ≡ faults.Memory };
+    ghost from_gives = { λ _ e. e ≡ faults.Memory };
 
     fn from(_e: AllocError) -> ValueFault {
         ValueFault::Memory
@@ -77,7 +77,7 @@ impl<T: Drop> From<AllocFailed<T>> for ValueFault {
     ghost use Rattle.std.specs.Prelude.{◌≡◌};
     ghost use Rattle.gc_value.specs.declared.value.ValueFault.TheVariants as faults;
 
-    ghost from_gives = { λ _ fault. fault ≡ faults.Memory };
+    ghost from_gives = { λ _ e. e ≡ faults.Memory };
 
     fn from(_e: AllocFailed<T>) -> ValueFault {
         ValueFault::Memory

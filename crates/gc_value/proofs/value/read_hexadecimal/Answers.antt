@@ -1,6 +1,6 @@
 use Rattle.std.proofs.Common.{◌≡◌, ◌+◌, ◌*◌, ◌<◌, length, ◌∙◌, inr, arith, min}
 use Rattle.std.proofs.lemmas.List.{take_all}
-use Rattle.gc_value.specs.Value.{byte_count}
+use Rattle.gc_value.specs.Value.{bytes_for}
 use Rattle.gc_value.proofs.ValueLemmas.{bits_of_byte_more, digits_more, hexadecimal_ok, hexadecimal_spare, rest_zero_more, spare_in_byte}
 use Rattle.gc_value.proofs.value.read_hexadecimal.Goals as goal
 
@@ -10,7 +10,7 @@ returns-then-from-used-ne0-clause-err g c =
     let n = c.args.width in
     let k = c.loop-k.k in
     let byte = c.in_ok-byte.ensures.ok in
-    let long : length digits ≡ 2 * byte_count n = omega arith in
+    let long : length digits ≡ 2 * bytes_for n = omega arith in
     let spare = spare_in_byte digits n k c.min-used.result c.from.result (omega arith) (omega arith)
     c.min-used.ensures (c.from.ensures ∙ byte.1) (omega arith) c.if-from-used-ne0.true in
     let last = spare.0 in
@@ -40,8 +40,8 @@ returns-clause-ok g c =
     let digits = c.args.digits.now in
     let n = c.args.width in
     let k = c.loop-k.k in
-    let done : k ≡ byte_count n = omega arith in
-    let long : length digits ≡ 2 * byte_count n = omega arith in
+    let done : k ≡ bytes_for n = omega arith in
+    let long : length digits ≡ 2 * bytes_for n = omega arith in
     let whole : min (8 * k) n ≡ n = omega arith in
     let all = rw (take_all (2 * k) digits (omega arith)) at c.loop-k.invariant.digits in
     hexadecimal_ok digits n long all _
