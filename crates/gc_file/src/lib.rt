@@ -8,15 +8,13 @@
 //! a label file. Of bytes that are no file they answer the first fault. [`law_garbled_file`] and [`law_label_file`] say
 //! that all bytes are exactly one file or have exactly one first fault.
 //!
-//! The layouts, sinks and sources are those of `gc_format`, the writers those of `gc_write` and the readers those of
-//! `gc_read`, whose names are passed on.
+//! It re-exports names of `gc_format` (layouts, sinks and sources), `gc_write` (writers) and `gc_read` (readers).
 #![tactic(auto)]
 
 mod laws;
 
 pub use gc_format::{
-    EntryPair, FailureCount, InSource, MemSink, MemSource, OutSink, Sink, SinkFault, Source,
-    SourceFault, Version,
+    EntryPair, InSource, MemSink, MemSource, OutSink, Sink, SinkFault, Source, Version,
 };
 pub use gc_read::{
     FileFault, Garbled, GarbledReader, LabelFile, TakeFault, read_garbled, read_garbled_from,
