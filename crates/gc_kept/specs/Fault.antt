@@ -1,19 +1,31 @@
--- The numbers of faults.
-use Rattle.std.specs.Prelude.{ℕ}
-use Rattle.gc_netlist.specs.Fault.{code_of as read_code_of}
-use Rattle.gc_read.specs.Fault.{code_of as file_code_of}
-use Rattle.gc_job.specs.Fault.{bind_code_of, eval_code_of}
+-- The numbers and names of faults.
+use Rattle.std.specs.Prelude.{ℕ, List, codes}
+use Rattle.gc_netlist.specs.Fault as read
+use Rattle.gc_read.specs.Fault as held
+use Rattle.gc_job.specs.Fault.{bind_code_of, bind_name_of, eval_code_of, eval_name_of}
 use Rattle.gc_kept.specs.declared.fault.KeptFault.{KeptFault}
 use Rattle.gc_kept.specs.declared.fault.KeptFault.TheVariants.{Circuit, BadDigit, WrongLength, Garbling, File, Binding, Evaluation, BadArgument, SmallBuffer, Memory}
 
 abbrev pub code_of : KeptFault → ℕ
-code_of (Circuit fault) = read_code_of fault
+code_of (Circuit fault) = read.code_of fault
 code_of BadDigit = 15
 code_of WrongLength = 16
 code_of Garbling = 23
-code_of (File fault) = file_code_of fault
+code_of (File fault) = held.code_of fault
 code_of (Binding fault) = bind_code_of fault
 code_of (Evaluation fault) = eval_code_of fault
 code_of BadArgument = 60
 code_of SmallBuffer = 61
 code_of Memory = 62
+
+abbrev pub name_of : KeptFault → List ℕ
+name_of (Circuit fault) = read.name_of fault
+name_of BadDigit = codes "BadDigit"
+name_of WrongLength = codes "WrongLength"
+name_of Garbling = codes "Memory"
+name_of (File fault) = held.name_of fault
+name_of (Binding fault) = bind_name_of fault
+name_of (Evaluation fault) = eval_name_of fault
+name_of BadArgument = codes "BadArgument"
+name_of SmallBuffer = codes "SmallBuffer"
+name_of Memory = codes "Memory"

@@ -1,11 +1,12 @@
 -- Files in the buffers of callers.
 use Rattle.std.specs.Prelude.{◌≡◌, ℕ, ◌<◌, ◌≤◌, Bool, List, ◌++◌, length, map, drop, slice_get, Some}
 use Rattle.gc_netlist.specs.Circuit.{Netlist}
+use Rattle.gc_netlist.specs.Spelling.{bit_number}
 use Rattle.gc_format.specs.LabelFile.{label_file, label_parts_of}
 use Rattle.gc_job.specs.declared.fault.BindFault.TheVariants as bind
 use Rattle.gc_kept.specs.declared.fault.KeptFault.{KeptFault}
 use Rattle.gc_kept.specs.declared.fault.KeptFault.TheVariants.{Circuit, BadDigit, WrongLength, Garbling, File, Binding, Evaluation, BadArgument, SmallBuffer, Memory}
-use Rattle.gc_kept.specs.Bits.{bit_byte, HasBitsFault}
+use Rattle.gc_kept.specs.Bits.{HasBitsFault}
 
 -- The buffer begins with the file, and is as it was after it.
 abbrev pub IsFileAt : List ℕ → List ℕ → List ℕ → Type 0
@@ -32,7 +33,7 @@ HasWriteFault file room written BadArgument = ⊥
 pub record IsDealtAt (c : Netlist) (seed : List ℕ) (index : ℕ) (bytes old new : List ℕ)
     (written : ℕ) : Type 0 where
   pub bits : List Bool
-  pub bytes_are : bytes ≡ map bit_byte bits
+  pub bytes_are : bytes ≡ map bit_number bits
   pub width : slice_get c.input_widths index ≡ Some (length bits)
   pub file : IsFileAt (label_file (label_parts_of c seed index bits)) old new
   pub count : written ≡ length (label_file (label_parts_of c seed index bits))
@@ -44,7 +45,7 @@ pub data HasDealFault (c : Netlist) (seed : List ℕ) (index : ℕ) (bytes : Lis
       → HasDealFault c seed index bytes room written (Binding bind.NoSuchValue)
   of_bits : (width : ℕ) (fault : KeptFault) → slice_get c.input_widths index ≡ Some width
       → HasBitsFault bytes width fault → HasDealFault c seed index bytes room written fault
-  of_file : (bits : List Bool) (fault : KeptFault) → bytes ≡ map bit_byte bits
+  of_file : (bits : List Bool) (fault : KeptFault) → bytes ≡ map bit_number bits
       → slice_get c.input_widths index ≡ Some (length bits)
       → HasWriteFault (label_file (label_parts_of c seed index bits)) room written fault
       → HasDealFault c seed index bytes room written fault

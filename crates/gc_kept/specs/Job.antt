@@ -1,6 +1,7 @@
 -- Jobs of files in memory.
 use Rattle.std.specs.Prelude.{◌≡◌, ◌≢◌, ℕ, Bool, List, map, Ok, Err}
 use Rattle.gc_netlist.specs.Circuit.{Netlist, output_wires}
+use Rattle.gc_netlist.specs.Spelling.{bit_number}
 use Rattle.gc_format.specs.GarbledFile.{GarbledParts, IsGarbledFile}
 use Rattle.gc_format.specs.LabelFile.{LabelFileParts}
 use Rattle.gc_read.specs.declared.fault.FileFault.{FileFault}
@@ -13,7 +14,6 @@ use Rattle.gc_job.specs.Binding.{FirstBindFault, IsBound}
 use Rattle.gc_job.specs.Evaluate.{IsEvaluated}
 use Rattle.gc_kept.specs.declared.fault.KeptFault.{KeptFault}
 use Rattle.gc_kept.specs.declared.fault.KeptFault.TheVariants.{Circuit, BadDigit, WrongLength, Garbling, File, Binding, Evaluation, BadArgument, SmallBuffer, Memory}
-use Rattle.gc_kept.specs.Bits.{bit_byte}
 use Rattle.gc_kept.specs.LabelFiles.{AreLabelFiles, HasLabelFilesFault}
 
 -- The job is that of the circuit, the garbled file and the label files that these bytes are.
@@ -42,7 +42,7 @@ pub data HasJobFault (c : Netlist) (garbled labels lengths : List ℕ) : KeptFau
 pub record AreEvaluated (job : JobParts) (bytes : List ℕ) : Type 0 where
   pub bits : List Bool
   pub evaluated : IsEvaluated job (Ok bits)
-  pub bytes_of : bytes ≡ map bit_byte bits
+  pub bytes_of : bytes ≡ map bit_number bits
 
 -- The fault of an evaluation that is given room for a number of bits.
 abbrev pub HasEvaluationFault : JobParts → ℕ → KeptFault → Type 0

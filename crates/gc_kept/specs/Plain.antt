@@ -1,18 +1,19 @@
 -- Evaluation in the clear, of bits as bytes.
 use Rattle.std.specs.Prelude.{◌≡◌, ◌≢◌, ℕ, Bool, List, length, map}
 use Rattle.gc_netlist.specs.Circuit.{Netlist, input_wires, output_wires}
+use Rattle.gc_netlist.specs.Spelling.{bit_number}
 use Rattle.gc_circuit.specs.Meaning.{AreOutputs}
 use Rattle.gc_kept.specs.declared.fault.KeptFault.{KeptFault}
 use Rattle.gc_kept.specs.declared.fault.KeptFault.TheVariants.{Circuit, BadDigit, WrongLength, Garbling, File, Binding, Evaluation, BadArgument, SmallBuffer, Memory}
-use Rattle.gc_kept.specs.Bits.{bit_byte, HasBitsFault}
+use Rattle.gc_kept.specs.Bits.{HasBitsFault}
 
 -- The bytes are the circuit's outputs for the input bits that these bytes are.
 pub record ArePlainOutputs (c : Netlist) (inputs outputs : List ℕ) : Type 0 where
   pub bits : List Bool
   pub count : length bits ≡ input_wires c
-  pub inputs_are : inputs ≡ map bit_byte bits
+  pub inputs_are : inputs ≡ map bit_number bits
   pub found : List Bool
-  pub outputs_are : outputs ≡ map bit_byte found
+  pub outputs_are : outputs ≡ map bit_number found
   pub meaning : AreOutputs c bits found
 
 -- The fault of such an evaluation, which is given room for a number of bits: that the room is wrong, then that of the

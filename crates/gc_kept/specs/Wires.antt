@@ -1,10 +1,10 @@
 -- What a garbling has for a wire.
 use Rattle.std.specs.Prelude.{◌≡◌, ℕ, Bool, List, length, map, slice_get, Some}
 use Rattle.gc_netlist.specs.Circuit.{Netlist, input_wires}
+use Rattle.gc_netlist.specs.Spelling.{bit_number}
 use Rattle.gc_circuit.specs.Meaning.{AreWireBits}
 use Rattle.gc_label.specs.Label.{bytes_of_label}
 use Rattle.gc_half.specs.Garbling.{decode_bits_of}
-use Rattle.gc_kept.specs.Bits.{bit_byte}
 use Rattle.gc_kept.specs.Garbling.{SeededGarbling}
 
 -- The bytes are the zero label of a wire.
@@ -17,11 +17,11 @@ pub record IsZeroLabel (g : SeededGarbling) (wire : ℕ) (bytes : List ℕ) : Ty
 pub record IsDecodeBit (g : SeededGarbling) (output byte : ℕ) : Type 0 where
   pub bit : Bool
   pub at : slice_get (decode_bits_of g.garbling) output ≡ Some bit
-  pub byte_is : byte ≡ bit_byte bit
+  pub byte_is : byte ≡ bit_number bit
 
 -- The bits on all wires, for the input bits that these bytes are.
 pub record AreBitsOn (c : Netlist) (inputs : List ℕ) (all : List Bool) : Type 0 where
   pub bits : List Bool
   pub count : length bits ≡ input_wires c
-  pub inputs_are : inputs ≡ map bit_byte bits
+  pub inputs_are : inputs ≡ map bit_number bits
   pub meaning : AreWireBits c bits all

@@ -1,7 +1,8 @@
 //! Bits as bytes.
 
 ghost use Rattle.std.specs.Prelude.{◌≡◌, length, map, IfOk, IfErr};
-ghost use Rattle.gc_kept.specs.Bits.{bit_byte, HasBitsFault};
+ghost use Rattle.gc_netlist.specs.Spelling.{bit_number};
+ghost use Rattle.gc_kept.specs.Bits.{HasBitsFault};
 
 use crate::fault::KeptFault;
 use gc_circuit::ReadFault;
@@ -9,7 +10,7 @@ use std::alloc::Global;
 
 /// The byte of a bit.
 pub(crate) fn bit_byte(bit: bool) -> u8
-    ensures { result ≡ bit_byte bit }
+    ensures { result ≡ bit_number bit }
 {
     u8::from(bit)
 }
@@ -17,7 +18,7 @@ pub(crate) fn bit_byte(bit: bool) -> u8
 /// Writes the byte of each bit. That there is one for each is the caller's condition.
 pub fn write_bits(bits: &[bool], bytes: &mut [u8])
     requires { length bytes.old ≡ length bits.now }
-    ensures { bytes.new ≡ map bit_byte bits.now }
+    ensures { bytes.new ≡ map bit_number bits.now }
 {
     for (i, byte) in bytes.iter_mut().enumerate() {
         *byte = bit_byte(bits[i]);
@@ -31,7 +32,7 @@ pub(crate) fn read_bits(
     count: usize,
 ) -> Result<Vec<bool, Global>, KeptFault>
     ensures count { IfOk result (λ bits. length bits.items ≡ count) }
-    ensures bytes { IfOk result (λ bits. bytes.now ≡ map bit_byte bits.items) }
+    ensures bytes { IfOk result (λ bits. bytes.now ≡ map bit_number bits.items) }
     ensures fault { IfErr result (HasBitsFault bytes.now count) }
 {
     if bytes.len() != count {

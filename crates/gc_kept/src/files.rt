@@ -57,9 +57,9 @@ impl KeptCircuit {
     }
 
     /// Writes the label file of the input value of this index, for these bits under a seed, and reports the number of
-    /// its bytes. It refuses an index without a value (42), a wrong number of bits (16), a byte other than 0 and 1 (15),
-    /// and a buffer that is too small (61): then no file is made, and `written` is the size that is needed. After another
-    /// fault it is as it was.
+    /// its bytes. It refuses an index without a value (42), a wrong number of bits (16), a byte other than 0 and 1
+    /// (15), and a buffer that is too small (61): then no file is made, and `written` is the size that is needed. After
+    /// another fault it is as it was.
     pub fn deal(
         &self,
         alloc: Global,
@@ -120,8 +120,8 @@ impl KeptCircuit {
 }
 
 impl KeptGarbling {
-    /// Writes the garbled file of a version, and reports the number of its bytes. Where the buffer is too small (61), no
-    /// file is made, and `written` is the size that is needed. After another fault it is as it was.
+    /// Writes the garbled file of a version, and reports the number of its bytes. Where the buffer is too small (61),
+    /// no file is made, and `written` is the size that is needed. After another fault it is as it was.
     pub fn write(
         &self,
         alloc: Global,

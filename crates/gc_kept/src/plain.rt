@@ -1,8 +1,6 @@
 //! Evaluation in the clear, of bits as bytes.
 
 ghost use Rattle.std.specs.Prelude.{◌≡◌, length, map, flat_map, sum, IfOk, IfErr, OnOk, OnErr};
-ghost use Rattle.gc_circuit.specs.Meaning.{Fits};
-ghost use Rattle.gc_netlist.specs.Circuit.{input_wires};
 ghost use Rattle.gc_kept.specs.Plain.{ArePlainOutputs, HasPlainFault};
 
 use crate::bits::{read_bits, write_bits};

@@ -1,11 +1,11 @@
 -- Reports on label files.
 use Rattle.std.specs.Prelude.{◌≡◌, ◌<◌, ◌≤◌, ◌++◌, ℕ, List, length, map, drop, min, pos}
+use Rattle.gc_netlist.specs.Spelling.{bit_number}
 use Rattle.std.specs.declared.alloc.Global.{Global}
 use Rattle.gc_audit.specs.declared.labels.LabelsVerdict.{LabelsVerdict}
 use Rattle.gc_audit.specs.declared.labels.LabelsVerdict.TheVariants.{Bits, WrongLabel, WrongWidth, NoValue}
 use Rattle.gc_kept.specs.declared.fault.KeptFault.{KeptFault}
 use Rattle.gc_kept.specs.declared.fault.KeptFault.TheVariants.{SmallBuffer}
-use Rattle.gc_kept.specs.Bits.{bit_byte}
 use Rattle.gc_kept.specs.Garbling.{SeededGarbling}
 use Rattle.gc_kept.specs.Audit.{IsLabelsAuditOf, HasLabelsFault}
 use Rattle.halfgates_c.specs.declared.locate.TheConstants.{NONE}
@@ -27,7 +27,7 @@ SaysVerdict (Bits bits) r = Reports r 0 (min (length bits.items) NONE) NONE
 -- The bits that are found stand at the front of a buffer, as bytes, and the rest of it stays.
 abbrev pub AreFoundAt : {A : Type 0} → LabelsVerdict A → (old new : List ℕ) → Type 0
 AreFoundAt (Bits bits) old new = (length bits.items ≤ length old)
-    × (new ≡ map bit_byte bits.items ++ drop (length bits.items) old)
+    × (new ≡ map bit_number bits.items ++ drop (length bits.items) old)
 AreFoundAt verdict old new = new ≡ old
 
 -- There is no room for the bits that are found.

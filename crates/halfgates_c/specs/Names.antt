@@ -1,5 +1,9 @@
 -- The names of codes, as `docs/FAULTS.md` and `include/halfgates.h` list them.
-use Rattle.std.specs.Prelude.{ℕ, ℤ, pos, negsuc, List, ◌==◌, ◌++◌, ◌-◌, codes, length, replicate, if◌then◌else◌}
+use Rattle.std.specs.Prelude.{◌≡◌, ◌≢◌, ℕ, ℤ, pos, negsuc, List, ◌==◌, ◌++◌, ◌-◌, codes, length, replicate, if◌then◌else◌}
+use Rattle.gc_job.specs.declared.fault.EvalFault.TheVariants.{BadWorkers}
+use Rattle.gc_kept.specs.declared.fault.KeptFault.{KeptFault}
+use Rattle.gc_kept.specs.declared.fault.KeptFault.TheVariants.{Evaluation}
+use Rattle.gc_kept.specs.Fault.{code_of, name_of}
 
 abbrev pub name_at : ℕ → List ℕ
 name_at n =
@@ -48,3 +52,9 @@ name_of_code (negsuc n) = codes "Unknown"
 -- a name of up to 31 bytes, with zeros up to 32
 abbrev pub padded : List ℕ → List ℕ
 padded name = name ++ replicate (32 - length name) 0
+
+-- Where the code is that of a fault, the text is the fault's name. No call here takes a number of workers, so the fault
+-- of such a number has no name.
+abbrev pub NamesFault : ℤ → List ℕ → Type 0
+NamesFault code text = (fault : KeptFault) → fault ≢ Evaluation BadWorkers
+    → code ≡ pos (code_of fault) → text ≡ padded (name_of fault)

@@ -1,5 +1,6 @@
 -- Reports of audits.
 use Rattle.std.specs.Prelude.{◌≡◌, ◌≤◌, ◌↔◌, ℕ, List, Option, Some, None, option_and_then, unwrap_or, is_some}
+use Rattle.gc_netlist.specs.Spelling.{bit_number}
 use Rattle.gc_format.specs.declared.parts.Version.{Version}
 use Rattle.gc_format.specs.declared.parts.Version.TheVariants.{One, Two}
 use Rattle.gc_audit.specs.declared.garbled.GarbledAudit.{GarbledAudit}
@@ -8,7 +9,6 @@ use Rattle.gc_audit.specs.declared.rows.DifferingRows.{DifferingRows}
 use Rattle.gc_audit.specs.declared.rows.DifferingRows.TheVariants.{Generator, Evaluator, Both}
 use Rattle.gc_audit.specs.declared.entries.EntryDifference.{EntryDifference}
 use Rattle.gc_audit.specs.Garbled.{honest_audit}
-use Rattle.gc_kept.specs.Bits.{bit_byte}
 use Rattle.gc_kept.specs.Garbling.{SeededGarbling}
 use Rattle.gc_kept.specs.Audit.{IsAuditOf}
 use Rattle.halfgates_c.specs.declared.locate.TheConstants.{NONE}
@@ -35,15 +35,15 @@ AreRowFields (Some d) r =
 -- and the first entry that does.
 abbrev pub AreEntryFields : Option EntryDifference → Report → Type 0
 AreEntryFields None r = (r.entry ≡ NONE) × (r.entry_colour ≡ 0)
-AreEntryFields (Some d) r = (r.entry ≡ d.output) × (r.entry_colour ≡ bit_byte d.colour)
+AreEntryFields (Some d) r = (r.entry ≡ d.output) × (r.entry_colour ≡ bit_number d.colour)
 
 -- The report says what is found of a garbled file of a version.
 pub record IsReport (version : Version) (audit : GarbledAudit) (r : Report) : Type 0 where
   pub flag : r.honest ≤ 1
   pub honest : (r.honest ≡ 1) ↔ (audit ≡ honest_audit)
   pub version_is : r.version ≡ version_number version
-  pub digest : r.digest ≡ bit_byte audit.digest
-  pub counts : r.counts ≡ bit_byte (is_some audit.parts)
+  pub digest : r.digest ≡ bit_number audit.digest
+  pub counts : r.counts ≡ bit_number (is_some audit.parts)
   pub rows : AreRowFields (option_and_then (λ parts. parts.rows) audit.parts) r
   pub bits : r.decode_bit ≡ unwrap_or (option_and_then (λ parts. parts.bits) audit.parts) NONE
   pub entries : AreEntryFields (option_and_then (λ parts. parts.entries) audit.parts) r

@@ -3,9 +3,10 @@ use Rattle.std.specs.Prelude.{◌≡◌, ◌+◌, ◌<◌, ◌≤◌, ℕ, Bool,
 use Rattle.gc_label.specs.Label.{bytes_of_label}
 use Rattle.gc_label.specs.Seed.{offset_of}
 use Rattle.gc_netlist.specs.Circuit.{input_wires}
+use Rattle.gc_netlist.specs.Spelling.{bit_number}
 use Rattle.gc_circuit.specs.Meaning.{bits_of}
 use Rattle.gc_half.specs.Evaluation.{encode}
-use Rattle.gc_kept.specs.Bits.{bit_byte, HasBitsFault}
+use Rattle.gc_kept.specs.Bits.{HasBitsFault}
 use Rattle.gc_kept.specs.Garbling.{SeededGarbling}
 use Rattle.gc_kept.specs.Wires.{AreBitsOn}
 use Rattle.gc_kept.specs.declared.fault.KeptFault.{KeptFault}
@@ -19,7 +20,7 @@ pub record AreWireLabels (g : SeededGarbling) (wire : ℕ) (bit : Bool) (l : Wir
   pub at : slice_get g.garbling.zero_labels wire ≡ Some label
   pub zero_is : l.zero ≡ bytes_of_label label
   pub active_is : l.active ≡ bytes_of_label (encode (offset_of g.seed) label bit)
-  pub bit_is : l.bit ≡ bit_byte bit
+  pub bit_is : l.bit ≡ bit_number bit
 
 -- They are the labels of the wires from one on, in order, for the bits on all wires.
 abbrev pub AreLabelsFrom : SeededGarbling → List Bool → (from : ℕ) → List WireLabels → Type 0

@@ -85,7 +85,8 @@ impl Drop for Handle {
     }
 }
 
-/// What is computed of what a handle holds, where this is of a kind; else another value. The handle holds it again then.
+/// What is computed of what a handle holds, where this is of a kind; else another value. Then the handle holds it
+/// again.
 macro_rules! on_held {
     ($alloc:ident, $handle:ident, $kind:ident($it:ident) => $of_it:expr, else $other:expr) => {{
         let held = $handle.take($alloc);

@@ -1,7 +1,7 @@
 //! Names of faults, and the version.
 
 ghost use Rattle.std.specs.Prelude.{◌≡◌, ◌≤◌, codes, length};
-ghost use Rattle.halfgates_c.specs.Names.{name_of_code, padded};
+ghost use Rattle.halfgates_c.specs.Names.{name_of_code, padded, NamesFault};
 
 /// The room for a name.
 const ROOM: usize = 32;
@@ -74,7 +74,8 @@ fn code_name(code: i32) -> &'static str
 /// The name of a code, as the program prints it.
 #[unsafe(no_mangle)]
 pub extern "C" fn halfgates_fault_name(code: i32) -> Name
-    ensures { result.text ≡ padded (name_of_code code) }
+    ensures name { result.text ≡ padded (name_of_code code) }
+    ensures fault { NamesFault code result.text }
 {
     name_of(code_name(code).as_bytes())
 }

@@ -1,9 +1,9 @@
 use Rattle.std.proofs.Common.{◌≡◌, ◌∙◌, ◌+◌, ◌*◌, length, map, refl, sym, ap, arith}
 use Rattle.std.proofs.lemmas.Bool.Decides.{nat_tests}
 use Rattle.std.proofs.lemmas.Result.{err_from_is_err_and}
+use Rattle.gc_netlist.specs.Spelling.{bit_number}
 use Rattle.gc_audit.proofs.LabelsLemmas.{found_at}
 use Rattle.gc_format.specs.LabelFile.{label_file, label_parts_of}
-use Rattle.gc_kept.specs.Bits.{bit_byte}
 use Rattle.gc_kept.specs.Files.{no_value, of_bits, of_file}
 use Rattle.gc_kept.proofs.OutcomeLemmas.{OnOk-both, IfErr-map}
 use Rattle.gc_write.proofs.DealLemmas.{length-label_file}
@@ -54,7 +54,7 @@ returns-clause-ok c =
     let found = c.in-Some.ensures.lookup in
     OnOk-both c.write_dealt.result (λ file count. record {
       bits = c.deref.result.now;
-      bytes_are = c.in_ok-bits.ensures.bytes ∙ ap (map bit_byte) (sym c.deref.ensures.value);
+      bytes_are = c.in_ok-bits.ensures.bytes ∙ ap (map bit_number) (sym c.deref.ensures.value);
       width = found_at _ _ c.args.index _ _ _ found.0 found.1
           (rw c.circuit-circuit.ensures.same at c.input_widths.ensures) refl
           (ap length c.deref.ensures.value ∙ c.in_ok-bits.ensures.count);
@@ -66,7 +66,7 @@ pub returns-clause-fault : goal.returns-clause-fault
 returns-clause-fault c =
     let found = c.in-Some.ensures.lookup in
     IfErr-map c.write_dealt.result (λ fault is. of_file c.deref.result.now fault
-    (c.in_ok-bits.ensures.bytes ∙ ap (map bit_byte) (sym c.deref.ensures.value))
+    (c.in_ok-bits.ensures.bytes ∙ ap (map bit_number) (sym c.deref.ensures.value))
     (found_at _ _ c.args.index _ _ _ found.0 found.1
     (rw c.circuit-circuit.ensures.same at c.input_widths.ensures) refl
     (ap length c.deref.ensures.value ∙ c.in_ok-bits.ensures.count)) is) c.write_dealt.ensures.fault
