@@ -18,9 +18,9 @@ pub enum FileError {
 
 impl From<AllocError> for FileError {
     ghost use Rattle.std.specs.Prelude.{◌≡◌};
-    ghost use Rattle.gc_files.specs.declared.files.FileError.TheVariants as errors;
+    ghost use Rattle.gc_files.specs.declared.files.FileError.TheVariants as faults;
 
-    ghost from_gives = { λ _ e. e ≡ errors.Memory };
+    ghost from_gives = { λ _ e. e ≡ faults.Memory };
 
     fn from(_e: AllocError) -> FileError {
         FileError::Memory
