@@ -85,7 +85,7 @@ pub enum Order {
         /// The name of each label file, in the order of the words.
         labels: Vec<String>,
     },
-    /// Evaluate a circuit from each garbled file of a list and the label files that stand beside it.
+    /// Evaluate a circuit from each garbled file of a list and the label files on its line.
     Jobs {
         /// The name of the circuit's file.
         circuit: String,
