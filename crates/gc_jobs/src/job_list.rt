@@ -6,6 +6,7 @@ ghost use Rattle.gc_jobs.specs.JobList.{HasTextFault, IsJobList, has_words, list
 
 use gc_bank::MAX_JOBS;
 use gc_command::Fault;
+use gc_tokens::is_blank;
 use std::alloc::{AllocError, Allocator};
 use std::str;
 
@@ -46,13 +47,6 @@ fn has_words(line: &str) -> bool
         }
     }
     false
-}
-
-/// Whether a byte parts tokens.
-fn is_blank(byte: u8) -> bool
-    ensures { result ≡ is_blank byte }
-{
-    matches!(byte, b'\t' | b'\n' | b'\r' | b' ')
 }
 
 /// The tokens of a line, as texts.
