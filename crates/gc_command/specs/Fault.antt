@@ -24,10 +24,10 @@ code_of (Garbling fault) = work.code_of fault
 code_of (File fault) = held.code_of fault
 code_of (Binding fault) = bind_code_of fault
 code_of (Evaluation fault) = eval_code_of fault
+code_of BadList = 53
 code_of CannotRead = 50
 code_of CannotWrite = 51
 code_of Memory = 52
-code_of BadList = 53
 
 abbrev pub name_of : Fault → List ℕ
 name_of (Circuit fault) = read.name_of fault
@@ -39,10 +39,10 @@ name_of (Garbling fault) = work.name_of fault
 name_of (File fault) = held.name_of fault
 name_of (Binding fault) = bind_name_of fault
 name_of (Evaluation fault) = eval_name_of fault
+name_of BadList = codes "BadList"
 name_of CannotRead = codes "CannotRead"
 name_of CannotWrite = codes "CannotWrite"
 name_of Memory = codes "Memory"
-name_of BadList = codes "BadList"
 
 -- `fault`, the number in decimal digits, and the name
 abbrev pub text_of : Fault → List ℕ

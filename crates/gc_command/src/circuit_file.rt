@@ -40,7 +40,7 @@ pub fn read_circuit<A: Allocator + Copy, F: Files>(
 /// How much of a circuit's file is hashed while the circuit is read.
 #[derive(Clone, Copy)]
 pub enum HashedPart {
-    /// The first two fifths: hashing them takes as long as reading the whole. What is left can be hashed beside other
+    /// The first two fifths: hashing them takes as long as reading the whole. What is left can be hashed during other
     /// work.
     Beginning,
     /// The whole file.
@@ -82,7 +82,7 @@ pub fn read_circuit_and_digest<R: Threads, A: Allocator + Copy + Send + Sync, F:
 }
 
 /// The circuit of a file, and its digest, which a thread of its own begins with this part of the file, as
-/// [`read_circuit_and_digest`] does with the whole. What is left of the digest can be taken beside other work, without
+/// [`read_circuit_and_digest`] does with the whole. What is left of the digest can be taken during other work, without
 /// the file's bytes.
 pub fn read_and_begin_digest<R: Threads, A: Allocator + Copy + Send + Sync, F: Files>(
     rt: &R,

@@ -10,6 +10,7 @@ use gc_files::FileError;
 use gc_label::BadSeed;
 use gc_work::WorkFault;
 use std::alloc::{AllocError, AllocFailed};
+use std::error::Error;
 use std::fmt;
 
 /// Why a command has no answer: the first fault that its work meets.
@@ -53,15 +54,15 @@ impl Fault {
             Fault::WrongCount => 14,
             Fault::Value(fault) => fault.code(),
             Fault::BadSeed => 18,
+            Fault::NoSuchValue => 42,
             Fault::Garbling(fault) => fault.code(),
             Fault::File(fault) => fault.code(),
-            Fault::NoSuchValue => 42,
             Fault::Binding(fault) => fault.code(),
             Fault::Evaluation(fault) => fault.code(),
+            Fault::BadList => 53,
             Fault::CannotRead => 50,
             Fault::CannotWrite => 51,
             Fault::Memory => 52,
-            Fault::BadList => 53,
         }
     }
 
@@ -76,13 +77,13 @@ impl Fault {
             Fault::BadSeed => "BadSeed",
             Fault::NoSuchValue => "NoSuchValue",
             Fault::Garbling(fault) => fault.name(),
-            Fault::Memory => "Memory",
             Fault::File(fault) => fault.name(),
             Fault::Binding(fault) => fault.name(),
             Fault::Evaluation(fault) => fault.name(),
+            Fault::BadList => "BadList",
             Fault::CannotRead => "CannotRead",
             Fault::CannotWrite => "CannotWrite",
-            Fault::BadList => "BadList",
+            Fault::Memory => "Memory",
         }
     }
 }
@@ -97,6 +98,8 @@ impl fmt::Display for Fault {
         write!(f, "fault {code} {name}")
     }
 }
+
+impl Error for Fault {}
 
 impl From<ReadFault> for Fault {
     ghost use Rattle.std.specs.Prelude.{◌≡◌};

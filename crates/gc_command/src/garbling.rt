@@ -17,9 +17,9 @@ use std::sync::Wait;
 use std::thread;
 use std::thread::Threads;
 
-/// The digest of the circuit's canonical text and the garbling of the circuit under a seed by this many workers. A
-/// thread beside these finishes the digest, where one can be started. That the digest begun is the circuit's is the
-/// caller's condition.
+/// The digest of the circuit's canonical text and the garbling of the circuit under a seed by this many workers.
+/// Meanwhile another thread finishes the digest, where one can be started. That the digest begun is the circuit's is
+/// the caller's condition.
 pub(crate) fn digest_and_garbling<R: Threads + Wait + Sync, A: Allocator + Copy + Send + Sync>(
     rt: &R,
     alloc: A,

@@ -17,8 +17,8 @@ use std::sync::Wait;
 use std::thread;
 use std::thread::Threads;
 
-/// The output bits that a garbled file and label files of a circuit decode to, by this many workers. Nothing is known of
-/// the answer where this is not the digest of the circuit's canonical text.
+/// The output bits that a garbled file and label files of a circuit decode to, by this many workers. Nothing is known
+/// of the answer where this is not the digest of the circuit's canonical text.
 pub fn evaluate_files<R: Threads + Wait + Sync, A: Allocator + Copy + Send + Sync>(
     rt: &R,
     alloc: A,
@@ -41,8 +41,8 @@ pub fn evaluate_files<R: Threads + Wait + Sync, A: Allocator + Copy + Send + Syn
     Ok(evaluate_many(rt, alloc, &job, workers, &Open)?)
 }
 
-/// The output bits that a garbled file and label files of a circuit decode to, by this many workers. A thread beside
-/// these finishes the circuit's digest, where one can be started; whether the garbled file has it is judged at the end.
+/// The output bits that a garbled file and label files of a circuit decode to, by this many workers. Meanwhile another
+/// thread finishes the circuit's digest, where one can be started; whether the garbled file has it is judged at the end.
 /// That the digest begun is the circuit's is the caller's condition.
 pub(crate) fn finish_digest_and_evaluate<
     R: Threads + Wait + Sync,

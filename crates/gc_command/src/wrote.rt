@@ -1,6 +1,6 @@
 //! Files that a command has written, and the line that it prints of them.
 
-ghost use Rattle.std.specs.Prelude.{◌≡◌, ◌<◌, ◌≤◌, ◌+◌, ◌≢◌, ℕ, List, [], Some, IfOk, IfErr, IfSome, OnOk, OnErr, vec_capacity};
+ghost use Rattle.std.specs.Prelude.{◌≡◌, ◌<◌, ◌≤◌, ◌≢◌, ℕ, List, [], Some, IfOk, IfErr, IfSome, OnOk, OnErr, vec_capacity};
 ghost use Rattle.gc_write.specs.Written.{IsWritten};
 ghost use Rattle.gc_files.specs.Files.{HasFailed};
 ghost use Rattle.gc_command.specs.Wrote.{HasWritten, IsUnwritten, KeepsFiles, wrote_line};
