@@ -17,7 +17,7 @@ use std::alloc::Allocator;
 use std::thread::Threads;
 
 /// Evaluates the circuit of a file by this many workers from each garbled file that the list of this name has, with the
-/// label files beside it, and answers the lines of the output values that they decode to. Nothing of these files is
+/// label files on its line, and answers the lines of the output values that they decode to. Nothing of these files is
 /// trusted.
 pub fn jobs<R: Threads + Sync, A: Allocator + Copy + Send + Sync, F: Files, P: Progress>(
     rt: &R,

@@ -14,8 +14,8 @@ use gc_eval::Job;
 use gc_files::Files;
 use std::alloc::Allocator;
 
-/// The jobs of the list in the file of this name. The list's bytes are dropped. That this is the digest of the circuit's
-/// canonical text is the caller's condition.
+/// The jobs of the list in the file of this name. The list's bytes are dropped. That this is the digest of the
+/// circuit's canonical text is the caller's condition.
 pub fn read_listed_jobs<'c, A: Allocator + Copy, F: Files, P: Progress>(
     alloc: A,
     circuit: &'c Circuit<A>,

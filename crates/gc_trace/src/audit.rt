@@ -68,7 +68,7 @@ pub fn audit<R: Threads + Wait + Sync, A: Allocator + Copy + Send + Sync, F: Fil
 }
 
 /// The labels of the garbling of the circuit under the seed, by this many workers, and what it finds of a garbled file.
-/// A thread beside these finishes the circuit's digest, where one can be started. That the digest begun is the
+/// Meanwhile another thread finishes the circuit's digest, where one can be started. That the digest begun is the
 /// circuit's is the caller's condition.
 fn labels_and_audit<R: Threads + Wait + Sync, A: Allocator + Copy + Send + Sync>(
     rt: &R,

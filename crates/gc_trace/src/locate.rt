@@ -1,6 +1,6 @@
 //! The command `locate`: where the first fault of a circuit's text is.
 
-ghost use Rattle.std.specs.Prelude.{◌≡◌, ◌++◌, ℕ, List, Option, IfOk, IfErr, IfSome, OnOk};
+ghost use Rattle.std.specs.Prelude.{◌≡◌, ◌++◌, ℕ, List, IfOk, IfErr, IfSome, OnOk};
 ghost use Rattle.gc_command.specs.Fault.{HasReadCause};
 ghost use Rattle.gc_trace.specs.Locate.{AnswersLocate, HasLocateFault, fault_line, located_lines, optional_line};
 
