@@ -1,4 +1,6 @@
 //! The program `halfgates` as a library: its command line, carrying out any order, and what it prints.
+//!
+//! It re-exports names of `gc_command`, `gc_files` and `gc_order`.
 #![tactic(auto)]
 
 mod command_line;
@@ -8,8 +10,8 @@ mod progress_line;
 mod work;
 
 pub use command_line::Heap;
-pub use gc_command::{Fault, Progress, Silent, Work};
-pub use gc_files::{FileError, FileFailures, Files, HostFiles, HostSink, read_all};
+pub use gc_command::{Fault, Silent};
+pub use gc_files::{FileError, Files, HostFiles, read_all};
 pub use gc_order::{Order, order_of};
 pub use output::Output;
 pub use program::{DONE, FAULT, USAGE, refuse_line, serve};

@@ -1,7 +1,5 @@
 //! A line on a terminal that says what a command is at.
 
-ghost use Rattle.std.specs.Prelude.{◌≡◌};
-
 use gc_command::{Progress, Work};
 use std::sync::{Condvar, Mutex, Wait};
 use std::thread::{self, Threads};
@@ -29,7 +27,7 @@ struct State {
     has_ended: bool,
 }
 
-/// A line on standard error that says what a command is at. [`ProgressLine::beside`] shows it, once the command has
+/// A line on standard error that says what a command is at. [`ProgressLine::during`] shows it, once the command has
 /// been at work for two seconds, and it goes away before anything is printed. It is no output of the command, and no
 /// contract speaks of it. That standard error is a terminal is for the caller to see to.
 #[derive(Drop)]
@@ -57,7 +55,7 @@ impl<'r, R: Wait + Clock + Eprint> ProgressLine<'r, R> {
 
     /// Does the work, which reports to this line, while a further thread shows the line. Where none can be started the
     /// line isn't shown.
-    pub fn beside<T, F: FnOnce() -> T>(&self, work: F) -> T
+    pub fn during<T, F: FnOnce() -> T>(&self, work: F) -> T
     where
         R: Threads + Sync,
         requires { F.pre work }
