@@ -57,10 +57,14 @@ find_program() {
 # From now on programs have memory by large pages, where the system gives them to who asks, and keep what they give back
 # for what they take next, all their threads from one heap: much of the time that opening large tables takes is the
 # handing out of their pages. Where the address space is limited, the room that is taken ahead may not fit.
+#
+# glibc 2.36 compares the system's mode for large pages with one byte more than it has read, so that a byte left on the
+# stack decides whether a run has them. With LD_BIND_NOW that byte is zero, as it has to be.
 tune_memory() {
     [ "$(ulimit -v)" = unlimited ] || return 0
     malloc=glibc.malloc
     keeps=$malloc.arena_max=1:$malloc.mmap_threshold=1099511627776:$malloc.trim_threshold=1099511627776
     GLIBC_TUNABLES=${GLIBC_TUNABLES-$malloc.hugetlb=1:$keeps:$malloc.top_pad=268435456}
-    export GLIBC_TUNABLES
+    LD_BIND_NOW=1
+    export GLIBC_TUNABLES LD_BIND_NOW
 }
