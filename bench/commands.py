@@ -6,7 +6,8 @@
 All commands on a circuit run in turns, and the fastest of several runs of each counts, in
 milliseconds. Reading, digests and files are part of these times. BENCH is gc_bench, which takes
 SHA-256 of the circuit's canonical text and of its garbled file in the same turns: no program can
-garble or evaluate faster by this implementation of SHA-256.
+garble or evaluate faster by this implementation of SHA-256. A second table compares the medians of
+commands with the medians of the hashing that they can't do without.
 """
 
 import subprocess
@@ -14,6 +15,7 @@ import sys
 import tempfile
 import time
 from pathlib import Path
+from statistics import median
 
 from measure import CIRCUITS, input_widths, make, times
 
@@ -37,10 +39,22 @@ COMMANDS = [
     ("by 4", "eval CIRCUIT garbled LABELS --workers 4"),
     ("`audit` by 1", "audit CIRCUIT SEED garbled --workers 1"),
     ("by 4", "audit CIRCUIT SEED garbled --workers 4"),
-    ("SHA-256", "SHA-256"),
+    ("SHA-256", "SHA-256 of both"),
 ]
 
-# The columns of the second table.
+# The columns of the table of medians, and what is hashed at the least.
+BOUNDS = {
+    "check CIRCUIT": "SHA-256 of the text",
+    "garble CIRCUIT SEED made --workers 1": "SHA-256 of both",
+    "garble CIRCUIT SEED made --workers 4": "SHA-256 of both",
+    "eval CIRCUIT garbled LABELS --workers 1": "SHA-256 of both",
+    "eval CIRCUIT garbled LABELS --workers 4": "SHA-256 of both",
+}
+
+# What gc_bench hashes: the circuit's canonical text, and then its garbled file.
+HASHED = {"SHA-256 of the text": ["sha"], "SHA-256 of both": ["sha", "file_sha"]}
+
+# The columns of the table of lists of jobs.
 JOBS = [
     ("by 1 worker", "jobs CIRCUIT list --workers 1"),
     ("by 2", "jobs CIRCUIT list --workers 2"),
@@ -63,11 +77,11 @@ def main():
     with tempfile.TemporaryDirectory() as folder:
 
         def run(command):
-            """The seconds that a command takes, or SHA-256 of both texts."""
+            """The seconds that a command takes, or SHA-256."""
             circuit = f"{folder}/circuit"
-            if command == "SHA-256":
-                took = times(bench, circuit, 1, "sha", "file_sha")
-                return (took["sha"] + took["file_sha"]) / 1e9
+            if command in HASHED:
+                took = times(bench, circuit, 1, *HASHED[command])
+                return sum(took[part] for part in HASHED[command]) / 1e9
             labels = " ".join(f"labels{index}" for index in range(len(input_widths(circuit))))
             words = command.replace("CIRCUIT", "circuit").replace("SEED", SEED)
             # Each run writes a new file. The system takes ten milliseconds to cut off the one before.
@@ -77,12 +91,16 @@ def main():
             subprocess.run([program, *words.replace("LABELS", labels).split()], **how)
             return time.monotonic() - begun
 
+        medians = []
         print_head("Circuit", COMMANDS)
         for name in ON:
             make(CIRCUITS[name], f"{folder}/circuit")
             run("garble CIRCUIT SEED garbled")
             deal_zeros(Path(folder), "", run)
-            print_times(name, COMMANDS, run)
+            medians.append(print_times(name, COMMANDS, run, HASHED))
+        print_head("Medians over SHA-256", [it for it in COMMANDS if it[1] in BOUNDS])
+        for name, took in zip(ON, medians):
+            print_row(name, [f"{took[it] / took[hashed]:.2f}" for it, hashed in BOUNDS.items()])
         print_head("`jobs`", JOBS)
         for name, (count, command) in LISTS.items():
             make(command, f"{folder}/circuit")
@@ -113,13 +131,18 @@ def print_head(first, commands):
     print(f"|{(1 + len(commands)) * '---|'}", flush=True)
 
 
-def print_times(name, commands, run):
-    took = {command: [] for _, command in commands}
+def print_row(name, cells):
+    print("|", " | ".join([name, *cells]), "|", flush=True)
+
+
+def print_times(name, commands, run, others=()):
+    """Prints the fastest run of each command, and returns the medians, of other commands too."""
+    took = {command: [] for command in [*[it for _, it in commands], *others]}
     for _ in range(REPEATS):
         for command, seconds in took.items():
             seconds.append(run(command))
-    cells = [f"{1000 * min(seconds):,.0f}" for seconds in took.values()]
-    print("|", " | ".join([name, *cells]), "|", flush=True)
+    print_row(name, [f"{1000 * min(took[command]):,.0f}" for _, command in commands])
+    return {command: median(seconds) for command, seconds in took.items()}
 
 
 main()

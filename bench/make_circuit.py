@@ -1,6 +1,7 @@
 #!/usr/bin/env python3
-"""Writes a random circuit in Bristol Fashion: make_circuit.py GATES AND_SHARE FILE [independent]. The same words give
-the same file.
+"""Writes a random circuit in Bristol Fashion. The same words give the same file.
+
+  make_circuit.py GATES AND_SHARE FILE [independent]
 
 Two inputs and one output of 64 wires. Each gate is AND with the given share, else XOR, and reads wires among the last
 thousand before it; or, where the gates are to be independent, input wires alone.
@@ -12,8 +13,11 @@ INPUTS, OUTPUTS, WINDOW = 128, 64, 1000
 
 
 def main():
-    gates, share, name = int(sys.argv[1]), float(sys.argv[2]), sys.argv[3]
-    independent = sys.argv[4:] == ["independent"]
+    try:
+        gates, share, name, *rest = int(sys.argv[1]), float(sys.argv[2]), *sys.argv[3:]
+    except (IndexError, ValueError):
+        sys.exit(__doc__)
+    independent = rest == ["independent"]
     rng = random.Random(1)
     with open(name, "w") as out:
         out.write(f"{gates} {INPUTS + gates}\n2 64 64\n1 {OUTPUTS}\n\n")
