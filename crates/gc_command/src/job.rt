@@ -3,18 +3,16 @@
 ghost use Rattle.std.specs.Prelude.{◌≡◌, IfOk, IfErr};
 ghost use Rattle.sha2.specs.Sha256.{sha256};
 ghost use Rattle.gc_netlist.specs.Canon.{canonical_text};
-ghost use Rattle.gc_circuit.specs.Digest.{IsBegun};
 ghost use Rattle.gc_gatehouse.specs.Workers.{AreFew};
 ghost use Rattle.gc_command.specs.Job.{DecodeTo, HasJobFault};
 
 use crate::fault::Fault;
-use gc_circuit::{BegunDigest, Circuit};
-use gc_eval::{BindFault, Job, evaluate, evaluate_many};
+use gc_circuit::Circuit;
+use gc_eval::{Job, evaluate, evaluate_many};
 use gc_file::{Garbled, LabelFile};
 use gc_gatehouse::Open;
 use std::alloc::Allocator;
 use std::sync::Wait;
-use std::thread;
 use std::thread::Threads;
 
 /// The output bits that a garbled file and label files of a circuit decode to, by this many workers. Nothing is known
@@ -39,46 +37,4 @@ pub fn evaluate_files<R: Threads + Wait + Sync, A: Allocator + Copy + Send + Syn
         return Ok(evaluate(alloc, &job)?);
     }
     Ok(evaluate_many(rt, alloc, &job, workers, &Open)?)
-}
-
-/// The output bits that a garbled file and label files of a circuit decode to, by this many workers. Meanwhile another
-/// thread finishes the circuit's digest, where one can be started; whether the garbled file has it is judged at the end.
-/// That the digest begun is the circuit's is the caller's condition.
-pub(crate) fn finish_digest_and_evaluate<
-    R: Threads + Wait + Sync,
-    A: Allocator + Copy + Send + Sync,
->(
-    rt: &R,
-    alloc: A,
-    circuit: &Circuit<A>,
-    begun: BegunDigest,
-    garbled: Garbled<A>,
-    labels: &[LabelFile<A>],
-    workers: u32,
-) -> Result<Vec<bool, A>, Fault>
-    requires { IsBegun circuit.now begun }
-    ensures decoded { IfOk result (λ bits. DecodeTo circuit.now garbled labels.now bits.items) }
-    ensures workers { IfOk result (λ _. AreFew workers) }
-    ensures fault { IfErr result (HasJobFault circuit.now garbled labels.now workers) }
-{
-    let named = garbled.digest();
-    let (digest, outputs) = thread::join(
-        rt,
-        || -> [u8; 32]
-            requires { IsBegun circuit.now begun }
-            ensures { result ≡ sha256 (canonical_text circuit.entry.now) }
-        { circuit.finish_digest(begun) },
-        || -> Result<Vec<bool, A>, Fault>
-            ensures decoded { named ≡ sha256 (canonical_text circuit.entry.now)
-                → IfOk result
-                (λ bits. DecodeTo circuit.entry.now garbled labels.entry.now bits.items) }
-            ensures workers { IfOk result (λ _. AreFew workers) }
-            ensures fault { named ≡ sha256 (canonical_text circuit.entry.now)
-                → IfErr result (HasJobFault circuit.entry.now garbled labels.entry.now workers) }
-        { evaluate_files(rt, alloc, circuit, &named, garbled, labels, workers) },
-    );
-    if digest != named {
-        return Err(Fault::Binding(BindFault::OtherCircuit));
-    }
-    outputs
 }
