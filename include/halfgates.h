@@ -113,7 +113,7 @@ typedef struct halfgates_name {
  */
 halfgates_name halfgates_fault_name(int32_t code);
 
-/* The version of the library, such as "0.5.3". */
+/* The version of the library, such as "0.5.4". */
 halfgates_name halfgates_version(void);
 
 /* ---------------------------------------------------------------------------------------------------- circuits -- */

@@ -17,7 +17,7 @@ wire order, or x and two hexadecimal digits for each 8 wires, of which the first
 lowest bit
 
 Options:
-      --workers <WORKERS>  How many threads may work, from 1 to 64; the result is the same \
+      --workers <WORKERS>  How many threads may garble or evaluate, from 1 to 64; the result is the same \
 [default: 1]
   -h, --help               Print help
 
@@ -145,8 +145,8 @@ class CommandLine(ProgramTest):
             (["--help"], HELP),
             (["-h"], HELP),
             (["run", "--help"], RUN_HELP),
-            (["--version"], "halfgates 0.5.3\n"),
-            (["-V"], "halfgates 0.5.3\n"),
+            (["--version"], "halfgates 0.5.4\n"),
+            (["-V"], "halfgates 0.5.4\n"),
         ]:
             self.assert_prints(text, *words)
 

@@ -1,6 +1,6 @@
 """Garbles Boolean circuits with half gates, and evaluates garbled circuits.
 
-A circuit is read once, and garbled under as many seeds as one likes:
+A circuit is read once, and garbled under any number of seeds:
 
     with Circuit.read(text) as circuit, circuit.garble(seed) as garbling:
         garbled = garbling.write()
@@ -8,8 +8,8 @@ A circuit is read once, and garbled under as many seeds as one likes:
     with Circuit.read(text) as circuit, circuit.bind(garbled, labels) as job:
         outputs = job.evaluate()
 
-Texts and files are anything that lends its bytes, and are read where they lie. Bits are bytes 0 and 1 in wire order.
-A call that fails raises a `Fault`, with its `code` and its `name`.
+Texts and files are objects with the buffer protocol. They are read in place, but several label files are joined first.
+Bits are bytes 0 and 1 in wire order. A call that fails raises a `Fault`, with its `code` and its `name`.
 """
 
 from ._handles import Bits, Buffer, Circuit, Garbling, Job, locate

@@ -14,7 +14,7 @@ use clap::{Arg, ArgAction, Command};
 use std::alloc::{AllocError, Global};
 
 /// The version of the program.
-const VERSION: &str = "0.5.3";
+const VERSION: &str = "0.5.4";
 
 /// The greatest number that a word or an option takes. No circuit has as many wires.
 const MOST: u64 = 4_294_967_295;
@@ -381,7 +381,7 @@ fn word_arg<'a>(alloc: Global, id: &'a str, name: &'a str, help: &'a str) -> Arg
 fn workers_arg<'a>(alloc: Global) -> Arg<'a>
     ensures { HasRule workers_option result }
 {
-    let help = "How many threads may work, from 1 to 64; the result is the same";
+    let help = "How many threads may garble or evaluate, from 1 to 64; the result is the same";
     number_arg(alloc, "workers", "WORKERS", help, 0, MOST, "1")
 }
 
