@@ -1,6 +1,6 @@
 //! The lines of a canonical text, written from their ends.
 
-ghost use Rattle.std.specs.Prelude.{◌≡◌, ◌+◌, ◌≤◌, ◌++◌, ℕ, List, [], ◌∷◌, length, drop, decimal, OnOk};
+ghost use Rattle.std.specs.Prelude.{◌≡◌, ◌+◌, ◌≤◌, ◌++◌, ℕ, List, [], ◌∷◌, true, false, codes, length, drop, decimal, OnOk};
 ghost use Rattle.gc_netlist.specs.Spelling.{Number, Name, words_of_gate, words_of_widths};
 ghost use Rattle.gc_netlist.specs.Canon.{line};
 
@@ -9,7 +9,7 @@ use gc_netlist::{Gate, MAX_VALUES, Operation};
 use itoa::write_digits;
 
 /// How many bytes there is room for.
-pub const ROOM: usize = 512;
+pub const ROOM: usize = 4_096;
 
 /// The most bytes in the line of a gate.
 pub const LONGEST: usize = 41;
@@ -99,6 +99,14 @@ fn write_line_of_two(
     write_bytes(room, start, b"2 1 ")
 }
 
+/// The name of an AND gate or of an XOR gate. It is chosen without a branch, which no processor would predict.
+fn name_of_two(is_and: bool) -> &'static [u8]
+    ensures and { is_and ≡ true → result.now ≡ codes "AND" }
+    ensures xor { is_and ≡ false → result.now ≡ codes "XOR" }
+{
+    if is_and { b"AND" } else { b"XOR" }
+}
+
 /// Writes the line of a gate before the place `end`, and returns where it starts.
 pub fn write_gate(room: &mut Room, end: usize, gate: Gate) -> usize
     requires { (LONGEST ≤ end) × (end ≤ ROOM) }
@@ -107,8 +115,9 @@ pub fn write_gate(room: &mut Room, end: usize, gate: Gate) -> usize
 {
     let set = gate.set;
     match gate.operation {
-        Operation::Xor(a, b) => write_line_of_two(room, end, a, b, set, b"XOR"),
-        Operation::And(a, b) => write_line_of_two(room, end, a, b, set, b"AND"),
+        Operation::Xor(a, b) | Operation::And(a, b) => {
+            write_line_of_two(room, end, a, b, set, name_of_two(gate.operation.is_and()))
+        }
         Operation::Inv(a) => write_line_of_one(room, end, a, set, b"INV"),
         Operation::Eq(constant) => write_line_of_one(room, end, u32::from(constant), set, b"EQ"),
         Operation::Eqw(a) => write_line_of_one(room, end, a, set, b"EQW"),

@@ -11,7 +11,7 @@ use gc_value::Memory;
 use std::alloc::Allocator;
 
 /// The number of gates whose lines are given to a sink at once.
-const GATES_AT_ONCE: u32 = 12;
+const GATES_AT_ONCE: u32 = 99;
 
 // The room holds this many of the longest lines.
 const _: () = prove!(GATES_AT_ONCE as usize * LONGEST <= ROOM);

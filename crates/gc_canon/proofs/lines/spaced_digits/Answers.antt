@@ -4,4 +4,4 @@ use Rattle.gc_canon.proofs.LineLemmas.{digits_last}
 use Rattle.gc_canon.proofs.lines.spaced_digits.Goals as goal
 
 pub returns : goal.returns
-returns c = grind (arith, common_steps, digits_last 512 (decimal c.args.number) c.args.room.now)
+returns c = grind (arith, common_steps, digits_last 4096 (decimal c.args.number) c.args.room.now)

@@ -8,7 +8,7 @@ pub loop-i-init : goal.loop-i-init
 loop-i-init g c =
     let none = lines_none c.args.self.now.gates c.args.to in
     record {
-      written = grind (arith, common_steps, none, drop_all 512 c.args.room.now);
+      written = grind (arith, common_steps, none, drop_all 4096 c.args.room.now);
       place = omega arith;
       start = (omega arith, omega arith);
     }
