@@ -91,7 +91,7 @@ impl<B, S> CloseRefused<B, S> {
     }
 
     /// The name of the refusal, as users see it.
-    pub fn name(&self) -> &'static str
+    pub fn name(&self) -> &str
         ensures { result.now ≡ codes "SeatMissing" }
     {
         "SeatMissing"
