@@ -118,7 +118,8 @@ impl<A: Allocator> ActiveTable<A> {
     #[inline(never)]
     fn join(&mut self, step: AndStep, set: u32)
         requires place { set < length self.old.labels }
-        ensures labels { self.new.labels ≡ slice_set self.old.labels set (active_label_of_step step) }
+        ensures labels { self.new.labels
+            ≡ slice_set self.old.labels set (active_label_of_step step) }
         ensures waiting { (w : ℕ) → w ≢ set → NoneSets w self.old.waiting
             → NoneSets w self.new.waiting }
     {

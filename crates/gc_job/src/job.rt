@@ -61,7 +61,7 @@ impl<'c, A: Allocator + Copy, C: Allocator> Job<'c, A, C> {
     }
 
     /// The job as [`Job::bind`] answers it, for a caller that has the digest of the circuit's canonical text: it is not
-    /// taken again. A caller that takes this digest beside other work may give the one that the garbled file has, and
+    /// taken again. A caller that takes this digest during other work may give the one that the garbled file has, and
     /// compare them afterwards: until they are equal nothing is known of the answer.
     pub fn bind_by_digest<B: Allocator>(
         alloc: A,

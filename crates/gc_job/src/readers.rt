@@ -159,7 +159,8 @@ impl<'c, A: Allocator, C: Allocator> Job<'c, A, C> {
     ) -> Option<AndStep>
         requires gate { gate < gates_of self.now }
         requires wiring { wiring.now ≡ self.now.circuit }
-        ensures { IfSome result (λ step. active_label_of_step step ≡ active_from self.now gate a b) }
+        ensures { IfSome result (λ step. active_label_of_step step
+            ≡ active_from self.now gate a b) }
     {
         let k = wiring.and_number(gate);
         match self.circuit().gate(gate).operation {
