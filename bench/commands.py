@@ -29,6 +29,9 @@ ON = (
     "gates that read within a thousand, half AND",
     "64 chains of AND gates",
 )
+# What gc_bench hashes: the circuit's canonical text alone, or its garbled file too.
+TEXT, BOTH = "SHA-256 of the text", "SHA-256 of both"
+HASHED = {TEXT: ["sha"], BOTH: ["sha", "file_sha"]}
 COMMANDS = [
     ("`check`", "check CIRCUIT"),
     ("`locate`", "locate CIRCUIT"),
@@ -39,20 +42,17 @@ COMMANDS = [
     ("by 4", "eval CIRCUIT garbled LABELS --workers 4"),
     ("`audit` by 1", "audit CIRCUIT SEED garbled --workers 1"),
     ("by 4", "audit CIRCUIT SEED garbled --workers 4"),
-    ("SHA-256", "SHA-256 of both"),
+    ("SHA-256", BOTH),
 ]
 
-# The columns of the table of medians, and what is hashed at the least.
+# The columns of the table of medians, and what each command hashes at the least.
 BOUNDS = {
-    "check CIRCUIT": "SHA-256 of the text",
-    "garble CIRCUIT SEED made --workers 1": "SHA-256 of both",
-    "garble CIRCUIT SEED made --workers 4": "SHA-256 of both",
-    "eval CIRCUIT garbled LABELS --workers 1": "SHA-256 of both",
-    "eval CIRCUIT garbled LABELS --workers 4": "SHA-256 of both",
+    "check CIRCUIT": TEXT,
+    "garble CIRCUIT SEED made --workers 1": BOTH,
+    "garble CIRCUIT SEED made --workers 4": BOTH,
+    "eval CIRCUIT garbled LABELS --workers 1": BOTH,
+    "eval CIRCUIT garbled LABELS --workers 4": BOTH,
 }
-
-# What gc_bench hashes: the circuit's canonical text, and then its garbled file.
-HASHED = {"SHA-256 of the text": ["sha"], "SHA-256 of both": ["sha", "file_sha"]}
 
 # The columns of the table of lists of jobs.
 JOBS = [
