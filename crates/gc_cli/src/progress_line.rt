@@ -1,4 +1,4 @@
-//! A line on a terminal that says what a command is at.
+//! A line on a terminal that shows the progress of a command.
 
 use gc_command::{Progress, Work};
 use std::sync::{Condvar, Mutex, Wait};
@@ -27,8 +27,8 @@ struct State {
     has_ended: bool,
 }
 
-/// A line on standard error that says what a command is at. [`ProgressLine::during`] shows it, once the command has
-/// been at work for two seconds, and it goes away before anything is printed. It is no output of the command, and no
+/// A line on standard error that shows the progress of a command. [`ProgressLine::during`] shows it once the command
+/// has been at work for two seconds, and it goes away before anything is printed. It is no output of the command, and no
 /// contract speaks of it. That standard error is a terminal is for the caller to see to.
 #[derive(Drop)]
 pub struct ProgressLine<'r, R> {

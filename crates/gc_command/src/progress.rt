@@ -1,4 +1,4 @@
-//! What a command is at, for those who wait for it.
+//! The progress of a command, for an observer.
 
 use std::fmt::{self, Display, Formatter};
 
