@@ -361,8 +361,8 @@ fn given_back<'j, 'c>(
     let Err(refused) = banks.close(seats) else {
         return Err(Fail::new("a seat is missing or inside"));
     };
-    if refused.code() != 47 {
-        return Err(Fail::new("the refusal is 47"));
+    if refused.code() != 47 || refused.name() != "SeatMissing" {
+        return Err(Fail::new("the refusal is 47, SeatMissing"));
     }
     let CloseRefused {
         board: banks,

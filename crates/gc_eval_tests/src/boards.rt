@@ -146,8 +146,8 @@ fn given_back<'j, 'c>(
     let Err(refused) = board.close(seats) else {
         return Err(Fail::new("a seat is missing"));
     };
-    if refused.code() != 47 {
-        return Err(Fail::new("the refusal is 47"));
+    if refused.code() != 47 || refused.name() != "SeatMissing" {
+        return Err(Fail::new("the refusal is 47, SeatMissing"));
     }
     let CloseRefused { board, seats } = refused;
     Ok((board, seats))
@@ -183,15 +183,6 @@ fn closing(rt: HostRuntime) -> Result<(), Fail> {
     assert_eq!(rt; active.done(), 0);
     assert!(rt; active.decode(alloc)?.is_none());
     Ok(())
-}
-
-#[test]
-fn a_refusal_to_close_has_a_name(rt: HostRuntime) {
-    let refused = CloseRefused {
-        board: (),
-        seats: (),
-    };
-    assert!(rt; refused.name() == "SeatMissing");
 }
 
 /// A board with one seat.
