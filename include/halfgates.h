@@ -113,7 +113,7 @@ typedef struct halfgates_name {
  */
 halfgates_name halfgates_fault_name(int32_t code);
 
-/* The version of the library, such as "0.5.4". */
+/* The version of the library, such as "0.5.5". */
 halfgates_name halfgates_version(void);
 
 /* ---------------------------------------------------------------------------------------------------- circuits -- */
