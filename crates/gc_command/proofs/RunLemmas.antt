@@ -3,7 +3,7 @@ use Rattle.gc_command.proofs.Names.{ℕ, List, Bool, Ok, Err, flat_map, refl, ar
 use Rattle.gc_job.specs.declared.fault.EvalFault.TheVariants as eval
 use Rattle.gc_job.proofs.HonestFiles.{honest-files}
 use Rattle.gc_command.specs.declared.fault.Fault.TheVariants as faults
-use Rattle.gc_command.specs.Run.{HasRunInput, IsWantOfMemory, IsOwnFault, HasRunFault}
+use Rattle.gc_command.specs.Run.{HasRunInput, IsWantOfMemory, HasRunFault}
 use Rattle.gc_command.proofs.FaultLemmas.{bind-memory}
 
 module _ {c : Netlist} (lawful : IsLawful c) {seed : List ℕ} {values : List (List Bool)}
@@ -26,17 +26,6 @@ module _ {c : Netlist} (lawful : IsLawful c) {seed : List ℕ} {values : List (L
   honest-fault (faults.Evaluation (eval.UnknownOutputLabel output)) has =
       law.outputs has.0 has.1 (Err (eval.UnknownOutputLabel output)) has.2.1
   honest-fault fault has = absurd has
-
--- A fault of the garbled file that a run makes for itself is the run's.
-pub own-fault : (bytes seed : List ℕ) (workers : ℕ) (texts : List (List ℕ))
-    → HasRunInput bytes seed texts → (fault : Fault) → IsOwnFault workers fault
-    → HasRunFault bytes seed workers texts fault
-own-fault bytes seed workers texts input (faults.Garbling fault) has = (input, has)
-own-fault bytes seed workers texts input (faults.File fault) want = (want, input)
-own-fault bytes seed workers texts input (faults.Binding fault) want = (want, input)
-own-fault bytes seed workers texts input (faults.Evaluation fault) want = (want, input)
-own-fault bytes seed workers texts input faults.Memory want = tt
-own-fault bytes seed workers texts input fault want = absurd want
 
 -- Where memory is missing, a run has that fault.
 pub want-of-memory : (bytes seed : List ℕ) (workers : ℕ) (texts : List (List ℕ))

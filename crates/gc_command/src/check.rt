@@ -8,9 +8,8 @@ ghost use Rattle.gc_netlist.specs.Canon.{canonical_text, line};
 ghost use Rattle.gc_command.specs.Check.{AnswersCheck, HasCheckFault, check_lines};
 ghost use Rattle.gc_command.specs.Fault.{HasReadCause};
 
-use crate::circuit_file::read_circuit_and_text;
+use crate::circuit_file::read_circuit_and_digest;
 use crate::fault::Fault;
-use crate::hashed_text::HashedPart;
 use crate::lines::{push_count, push_number};
 use crate::progress::{Progress, Work};
 use gc_circuit::Circuit;
@@ -35,8 +34,7 @@ pub fn check<R: Threads, A: Allocator + Copy + Send + Sync, F: Files, P: Progres
     ensures same { (name : List ℕ) → F.bytes files.new name ≡ F.bytes files.old name }
 {
     progress.begin(1, 1, Work::ReadingCircuit);
-    let (circuit, text) = read_circuit_and_text(rt, alloc, circuit, files)?;
-    let digest = text.digest(rt, &circuit, HashedPart::Whole);
+    let (circuit, digest) = read_circuit_and_digest(rt, alloc, circuit, files)?;
     Ok(check_lines(alloc, &circuit, &digest)?)
 }
 

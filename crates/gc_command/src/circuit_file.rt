@@ -2,15 +2,17 @@
 
 ghost use Rattle.std.specs.Prelude.{◌≡◌, ◌≢◌, ◌≤◌, ℕ, List, Err, length, take, IfOk, IfErr, IfSome, OnOk};
 ghost use Rattle.sha2.specs.Hashers.{Holds256};
+ghost use Rattle.sha2.specs.Sha256.{sha256};
+ghost use Rattle.gc_netlist.specs.Canon.{canonical_text};
 ghost use Rattle.gc_netlist.specs.Circuit.{IsLawful};
 ghost use Rattle.gc_netlist.specs.Reading.{circuit_of};
 ghost use Rattle.gc_netlist.specs.Text.{tokens};
+ghost use Rattle.gc_circuit.specs.Digest.{AreCommonLines, IsBegun};
 ghost use Rattle.gc_files.specs.Files.{HasFailed};
 ghost use Rattle.gc_command.specs.CircuitFile.{IsCircuit, HasReadingFault};
 
 use crate::fault::Fault;
-use crate::hashed_text::HashedText;
-use gc_circuit::{Circuit, ReadFault};
+use gc_circuit::{BegunDigest, Circuit, CommonLines, ReadFault};
 use gc_files::Files;
 use sha2::{Digest, Sha256};
 use std::alloc::Allocator;
@@ -35,14 +37,60 @@ pub fn read_circuit<A: Allocator + Copy, F: Files>(
     Ok(Circuit::read(alloc, &bytes)?)
 }
 
-/// The circuit of a file, and the text, by which the digest of the circuit can be taken during other work. A thread of
-/// its own hashes the first third of the text while the circuit is read, which takes as long, where one can be started.
-pub fn read_circuit_and_text<R: Threads, A: Allocator + Copy + Send + Sync, F: Files>(
+/// How much of a circuit's file is hashed while the circuit is read.
+#[derive(Clone, Copy)]
+pub enum HashedPart {
+    /// The first third: hashing it takes as long as reading the whole. What is left can be hashed during other work.
+    Beginning,
+    /// The whole file.
+    Whole,
+}
+
+impl HashedPart {
+    /// How many bytes of a text of this length it is.
+    fn bytes(self, len: usize) -> usize
+        ensures { result ≤ len }
+    {
+        match self {
+            HashedPart::Beginning => len / 3,
+            HashedPart::Whole => len,
+        }
+    }
+}
+
+/// The circuit of a file, and the digest of its canonical text. The file's bytes, which mostly are that text, are
+/// dropped. A thread of its own takes their SHA-256 while the circuit is read, where one can be started.
+pub fn read_circuit_and_digest<R: Threads, A: Allocator + Copy + Send + Sync, F: Files>(
     rt: &R,
     alloc: A,
     name: &str,
     files: &mut F,
-) -> Result<(Circuit<A>, HashedText<A>), Fault>
+) -> Result<(Circuit<A>, [u8; 32]), Fault>
+    ensures digest { IfOk result (λ made. made.1 ≡ sha256 (canonical_text made.0)) }
+    ensures circuit { IfOk result
+        (λ made. IfSome (F.bytes files.old name.now) (λ bytes. IsCircuit bytes made.0)) }
+    ensures lawful { IfOk result (λ made. IsLawful made.0) }
+    ensures fault { IfErr result (HasReadingFault (F.bytes files.old name.now)
+        (HasFailed (F.failures files.old) (F.failures files.new) name.now)) }
+    ensures counted { OnOk result (F.failures files.new ≡ F.failures files.old) }
+    ensures same { (n : List ℕ) → F.bytes files.new n ≡ F.bytes files.old n }
+{
+    let (circuit, begun) = read_and_begin_digest(rt, alloc, name, files, HashedPart::Whole)?;
+    let digest = circuit.finish_digest(begun);
+    Ok((circuit, digest))
+}
+
+/// The circuit of a file, and its digest, which a thread of its own begins with this part of the file, as
+/// [`read_circuit_and_digest`] does with the whole. What is left of the digest can be taken during other work, without
+/// the file's bytes.
+pub fn read_and_begin_digest<R: Threads, A: Allocator + Copy + Send + Sync, F: Files>(
+    rt: &R,
+    alloc: A,
+    name: &str,
+    files: &mut F,
+    part: HashedPart,
+) -> Result<(Circuit<A>, BegunDigest), Fault>
+    ensures begun { IfOk result (λ made. IsBegun made.0 made.1) }
     ensures circuit { IfOk result
         (λ made. IfSome (F.bytes files.old name.now) (λ bytes. IsCircuit bytes made.0)) }
     ensures lawful { IfOk result (λ made. IsLawful made.0) }
@@ -53,18 +101,40 @@ pub fn read_circuit_and_text<R: Threads, A: Allocator + Copy + Send + Sync, F: F
 {
     let text = files.read(alloc, name)?;
     let bytes = text.as_slice();
-    let hashed = bytes.len() / 3;
-    let (hasher, circuit) = thread::join(
+    let count = part.bytes(bytes.len());
+    let (hasher, read) = thread::join(
         rt,
         || -> Sha256
-            requires { hashed ≤ length bytes.now }
-            ensures { Holds256 result (take hashed bytes.entry.now) }
-        { Sha256::new_with_prefix(&bytes[..hashed]) },
-        || -> Result<Circuit<A>, ReadFault>
-            ensures circuit { IfOk result (IsCircuit bytes.entry.now) }
+            requires { count ≤ length bytes.now }
+            ensures { Holds256 result (take count bytes.entry.now) }
+        { Sha256::new_with_prefix(&bytes[..count]) },
+        || -> Result<(Circuit<A>, Option<CommonLines>), ReadFault>
+            ensures circuit { IfOk result (λ read. IsCircuit bytes.entry.now read.0) }
+            ensures common { IfOk result (λ read.
+                IfSome read.1 (AreCommonLines read.0 bytes.entry.now count)) }
             ensures fault { IfErr result (λ fault. fault ≢ ReadFault.Memory
                 → circuit_of (tokens bytes.entry.now) ≡ Err fault) }
-        { Circuit::read(alloc, bytes) },
+        { read_and_compare(alloc, bytes, count) },
     );
-    Ok((circuit?, HashedText::new(text, hashed, hasher)))
+    let (circuit, common) = read?;
+    let begun = circuit.begin_digest_from(bytes, count, hasher, common);
+    Ok((circuit, begun))
+}
+
+/// The circuit of a text, and the lines with which the text and the canonical text both begin, of at least `count`
+/// bytes.
+fn read_and_compare<A: Allocator + Copy>(
+    alloc: A,
+    text: &[u8],
+    count: usize,
+) -> Result<(Circuit<A>, Option<CommonLines>), ReadFault>
+    ensures circuit { IfOk result (λ read. IsCircuit text.now read.0) }
+    ensures common { IfOk result (λ read.
+        IfSome read.1 (AreCommonLines read.0 text.now count)) }
+    ensures fault { IfErr result (λ fault. fault ≢ ReadFault.Memory
+        → circuit_of (tokens text.now) ≡ Err fault) }
+{
+    let circuit = Circuit::read(alloc, text)?;
+    let common = circuit.common_lines(text, count);
+    Ok((circuit, common))
 }

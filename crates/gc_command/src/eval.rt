@@ -7,10 +7,9 @@ ghost use Rattle.gc_circuit.specs.Digest.{IsBegun};
 ghost use Rattle.gc_files.specs.Files.{HasFailed};
 ghost use Rattle.gc_command.specs.Eval.{FilesGive, HasFilesFault, AnswersEval, HasEvalFault};
 
-use crate::circuit_file::read_circuit_and_text;
+use crate::circuit_file::{HashedPart, read_and_begin_digest};
 use crate::evaluated_files::{read_garbled_file, read_label_files};
 use crate::fault::Fault;
-use crate::hashed_text::HashedPart;
 use crate::job::evaluate_files;
 use crate::lines::output_lines;
 use crate::progress::{Progress, Work};
@@ -43,8 +42,7 @@ pub fn eval<R: Threads + Wait + Sync, A: Allocator + Copy + Send + Sync, F: File
     ensures same { (name : List ℕ) → F.bytes files.new name ≡ F.bytes files.old name }
 {
     progress.begin(1, 3, Work::ReadingCircuit);
-    let (circuit, text) = read_circuit_and_text(rt, alloc, circuit, files)?;
-    let begun = text.begin_digest(rt, &circuit, HashedPart::Beginning);
+    let (circuit, begun) = read_and_begin_digest(rt, alloc, circuit, files, HashedPart::Beginning)?;
     let (digest, evaluated) = digest_and_evaluation(
         rt, alloc, &circuit, begun, garbled, workers, labels, files, progress,
     );

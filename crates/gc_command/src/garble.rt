@@ -13,7 +13,7 @@ ghost use Rattle.gc_command.specs.Garble.{AnswersGarble, HasGarbleFault};
 ghost use Rattle.gc_command.specs.Wrote.{HasWritten, IsUnwritten, KeepsFiles};
 ghost use Rattle.gc_command.specs.Fault.{HasCause, HasWriteCause};
 
-use crate::circuit_file::read_circuit_and_text;
+use crate::circuit_file::{HashedPart, read_and_begin_digest};
 use crate::fault::Fault;
 use crate::garbling::digest_and_garbling;
 use crate::progress::{Progress, Work};
@@ -52,11 +52,11 @@ pub fn garble<R: Threads + Wait + Sync, A: Allocator + Copy + Send + Sync, F: Fi
     ensures unwritten { IfErr result (KeepsFiles (F.bytes files.old) (F.bytes files.new)) }
 {
     progress.begin(1, 3, Work::ReadingCircuit);
-    let (circuit, text) = read_circuit_and_text(rt, alloc, circuit, files)?;
+    let (circuit, begun) = read_and_begin_digest(rt, alloc, circuit, files, HashedPart::Beginning)?;
     let seed = Seed::from_hex(seed)?;
     let gates = circuit.gates();
     progress.begin(2, 3, Work::Garbling { gates });
-    let (digest, garbling) = digest_and_garbling(rt, alloc, &circuit, text, &seed, workers)?;
+    let (digest, garbling) = digest_and_garbling(rt, alloc, &circuit, begun, &seed, workers)?;
     progress.begin(3, 3, Work::Writing);
     write_garbling(
         alloc, version, &circuit, &digest, &garbling, &seed, out, files,

@@ -7,8 +7,7 @@ ghost use Rattle.gc_circuit.specs.Digest.{IsBegun};
 ghost use Rattle.gc_half.specs.Garbling.{IsGarbled};
 ghost use Rattle.gc_work.specs.WorkFault.{JudgesWorkers};
 
-use crate::hashed_text::{HashedPart, HashedText};
-use gc_circuit::Circuit;
+use gc_circuit::{BegunDigest, Circuit};
 use gc_gatehouse::Open;
 use gc_half::Garbling;
 use gc_label::Seed;
@@ -18,22 +17,22 @@ use std::sync::Wait;
 use std::thread;
 use std::thread::Threads;
 
-/// The digest of the circuit's canonical text and the garbling of the circuit under a seed by this many workers. The
-/// text, which mostly is the canonical text, is let go before garbling takes memory. Another thread finishes the digest
-/// meanwhile, where one can be started.
+/// The digest of the circuit's canonical text and the garbling of the circuit under a seed by this many workers.
+/// Meanwhile another thread finishes the digest, where one can be started. That the digest begun is the circuit's is
+/// the caller's condition.
 pub(crate) fn digest_and_garbling<R: Threads + Wait + Sync, A: Allocator + Copy + Send + Sync>(
     rt: &R,
     alloc: A,
     circuit: &Circuit<A>,
-    text: HashedText<A>,
+    begun: BegunDigest,
     seed: &Seed,
     workers: u32,
 ) -> Result<([u8; 32], Garbling<A>), WorkFault>
+    requires { IsBegun circuit.now begun }
     ensures digest { IfOk result (λ made. made.0 ≡ sha256 (canonical_text circuit.now)) }
     ensures garbled { IfOk result (λ made. IsGarbled circuit.now seed.now made.1) }
     ensures workers { JudgesWorkers workers result }
 {
-    let begun = text.begin_digest(rt, circuit, HashedPart::Beginning);
     let (digest, garbling) = thread::join(
         rt,
         || -> [u8; 32]

@@ -2,6 +2,7 @@
 
 ghost use Rattle.std.specs.Prelude.{◌≡◌, Some, length, map, slice_get, IfOk, IfErr};
 ghost use Rattle.gc_netlist.specs.Circuit.{IsLawful};
+ghost use Rattle.gc_circuit.specs.Digest.{IsBegun};
 ghost use Rattle.gc_circuit.specs.Meaning.{Fits};
 ghost use Rattle.gc_format.specs.LabelFile.{label_parts_of};
 ghost use Rattle.gc_job.specs.Honest.{IsHonestGarbled};
@@ -11,8 +12,7 @@ ghost use Rattle.gc_command.specs.Run.{IsOwnFault, IsWantOfMemory};
 
 use crate::fault::Fault;
 use crate::garbling::digest_and_garbling;
-use crate::hashed_text::HashedText;
-use gc_circuit::Circuit;
+use gc_circuit::{BegunDigest, Circuit};
 use gc_file::{
     Garbled, LabelFile, MemSink, read_garbled, read_labels, write_garbled2_by_digest, write_labels,
 };
@@ -26,16 +26,17 @@ pub fn own_garbled<R: Threads + Wait + Sync, A: Allocator + Copy + Send + Sync>(
     rt: &R,
     alloc: A,
     circuit: &Circuit<A>,
-    text: HashedText<A>,
+    begun: BegunDigest,
     seed: &Seed,
     workers: u32,
 ) -> Result<Garbled<A>, Fault>
     requires lawful { IsLawful circuit.now }
+    requires begun { IsBegun circuit.now begun }
     ensures honest { IfOk result (IsHonestGarbled circuit.now seed.now) }
     ensures workers { IfOk result (λ _. AreFew workers) }
     ensures fault { IfErr result (IsOwnFault workers) }
 {
-    let bytes = garbled_bytes(rt, alloc, circuit, text, seed, workers)?;
+    let bytes = garbled_bytes(rt, alloc, circuit, begun, seed, workers)?;
     Ok(read_garbled(alloc, &bytes)?)
 }
 
@@ -44,15 +45,16 @@ fn garbled_bytes<R: Threads + Wait + Sync, A: Allocator + Copy + Send + Sync>(
     rt: &R,
     alloc: A,
     circuit: &Circuit<A>,
-    text: HashedText<A>,
+    begun: BegunDigest,
     seed: &Seed,
     workers: u32,
 ) -> Result<Vec<u8, A>, Fault>
+    requires { IsBegun circuit.now begun }
     ensures file { IfOk result (λ bytes. AreGarbledBytes circuit.now seed.now bytes.items) }
     ensures workers { IfOk result (λ _. AreFew workers) }
     ensures fault { IfErr result (IsOwnFault workers) }
 {
-    let (digest, garbling) = digest_and_garbling(rt, alloc, circuit, text, seed, workers)?;
+    let (digest, garbling) = digest_and_garbling(rt, alloc, circuit, begun, seed, workers)?;
     let mut sink = MemSink::new(alloc, None);
     let written = write_garbled2_by_digest(&mut sink, circuit, &digest, &garbling, seed);
     written.map_err(|_| Fault::Memory)?;

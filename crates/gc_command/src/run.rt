@@ -4,7 +4,7 @@ ghost use Rattle.std.specs.Prelude.{◌≡◌, ℕ, List, map, IfOk, IfErr, IfSo
 ghost use Rattle.gc_command.specs.Run.{AnswersRun, HasRunFault};
 ghost use Rattle.gc_command.specs.Fault.{HasReadCause};
 
-use crate::circuit_file::read_circuit_and_text;
+use crate::circuit_file::{HashedPart, read_and_begin_digest};
 use crate::fault::Fault;
 use crate::job::evaluate_files;
 use crate::lines::output_lines;
@@ -38,12 +38,12 @@ pub fn run<R: Threads + Wait + Sync, A: Allocator + Copy + Send + Sync, F: Files
     ensures same { (name : List ℕ) → F.bytes files.new name ≡ F.bytes files.old name }
 {
     progress.begin(1, 3, Work::ReadingCircuit);
-    let (circuit, text) = read_circuit_and_text(rt, alloc, circuit, files)?;
+    let (circuit, begun) = read_and_begin_digest(rt, alloc, circuit, files, HashedPart::Beginning)?;
     let seed = Seed::from_hex(seed)?;
     let values = read_values(alloc, circuit.input_widths(), values)?;
     let gates = circuit.gates();
     progress.begin(2, 3, Work::Garbling { gates });
-    let garbled = own_garbled(rt, alloc, &circuit, text, &seed, workers)?;
+    let garbled = own_garbled(rt, alloc, &circuit, begun, &seed, workers)?;
     let labels = own_labels(alloc, &circuit, &seed, &values)?;
     // Its own garbled file has the circuit's digest.
     let digest = garbled.digest();

@@ -9,7 +9,7 @@ ghost use Rattle.gc_jobs.specs.Jobs.{AnswersJobs, HasJobsFault};
 
 use crate::listed_job::read_listed_jobs;
 use gc_bank::evaluate_jobs;
-use gc_command::{Fault, HashedPart, Progress, Work, jobs_lines, read_circuit_and_text};
+use gc_command::{Fault, Progress, Work, jobs_lines, read_circuit_and_digest};
 use gc_eval::{EvalFault, Job};
 use gc_files::Files;
 use gc_gatehouse::Open;
@@ -35,8 +35,7 @@ pub fn jobs<R: Threads + Sync, A: Allocator + Copy + Send + Sync, F: Files, P: P
     ensures same { (name : List ℕ) → F.bytes files.new name ≡ F.bytes files.old name }
 {
     progress.begin(1, 3, Work::ReadingCircuit);
-    let (circuit, text) = read_circuit_and_text(rt, alloc, circuit, files)?;
-    let digest = text.digest(rt, &circuit, HashedPart::Whole);
+    let (circuit, digest) = read_circuit_and_digest(rt, alloc, circuit, files)?;
     let jobs = read_listed_jobs(alloc, &circuit, &digest, list, files, progress)?;
     progress.begin(3, 3, Work::EvaluatingJobs { jobs: jobs.len() });
     let outputs = evaluate_listed(rt, alloc, &jobs, workers)?;

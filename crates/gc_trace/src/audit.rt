@@ -22,7 +22,7 @@ use gc_audit::{
 };
 use gc_circuit::{BegunDigest, Circuit, Memory};
 use gc_command::{
-    Fault, HashedPart, push_digits, push_number, read_circuit_and_text, read_garbled_file,
+    Fault, HashedPart, push_digits, push_number, read_and_begin_digest, read_garbled_file,
     read_label_files,
 };
 use gc_file::{Garbled, LabelFile, Version};
@@ -55,8 +55,7 @@ pub fn audit<R: Threads + Wait + Sync, A: Allocator + Copy + Send + Sync, F: Fil
         workers (map string_bytes labels.now)) }
     ensures same { (name : List ℕ) → F.bytes files.new name ≡ F.bytes files.old name }
 {
-    let (circuit, text) = read_circuit_and_text(rt, alloc, circuit, files)?;
-    let begun = text.begin_digest(rt, &circuit, HashedPart::Beginning);
+    let (circuit, begun) = read_and_begin_digest(rt, alloc, circuit, files, HashedPart::Beginning)?;
     let seed = Seed::from_hex(seed)?;
     let garbled = read_garbled_file(alloc, garbled, files)?;
     let version = garbled.version();

@@ -8,14 +8,14 @@ pub returns-in_err-circuit-clause-fault : goal.returns-in_err-circuit-clause-fau
 returns-in_err-circuit-clause-fault g c =
     let p = err_from_is_err_and c.from_residual.result c.from_residual.ensures.1 in
     rw (p.1, p.2) (circuit-fault (g.F.Files.bytes c.args.files.now)
-    (HasFailed (g.F.Files.failures c.args.files.now) (g.F.Files.failures c.read_circuit_and_text.new.files))
+    (HasFailed (g.F.Files.failures c.args.files.now) (g.F.Files.failures c.read_and_begin_digest.new.files))
     c.args.circuit.now c.args.garbled.now c.args.workers (map string_bytes c.args.labels.now)
     _ c.in_err-circuit.ensures.fault)
 
 pub returns-in_err-evaluated-clause-fault : goal.returns-in_err-evaluated-clause-fault
 returns-in_err-evaluated-clause-fault g c =
     let p = err_from_is_err_and c.from_residual-in_err-evaluated.result c.from_residual-in_err-evaluated.ensures.1 in
-    let first = fun_ext c.read_circuit_and_text.ensures.same in
+    let first = fun_ext c.read_and_begin_digest.ensures.same in
     rw (p.1, p.2) (files-fault (g.F.Files.bytes c.args.files.now)
     (HasFailed (g.F.Files.failures c.args.files.now) (g.F.Files.failures c.digest_and_evaluation-evaluated.new.files))
     c.args.circuit.now c.args.garbled.now c.args.workers (map string_bytes c.args.labels.now)
@@ -28,7 +28,7 @@ returns-then-ne-clause-fault g c =
     other-fault (g.F.Files.bytes c.args.files.now)
     (HasFailed (g.F.Files.failures c.args.files.now) (g.F.Files.failures c.digest_and_evaluation-evaluated.new.files))
     c.args.circuit.now c.args.garbled.now c.args.workers (map string_bytes c.args.labels.now)
-    _ c.read_circuit_and_text.ensures.same c.in_ok-circuit.ensures.circuit
+    _ c.read_and_begin_digest.ensures.same c.in_ok-circuit.ensures.circuit
     (rw c.in_ok-evaluated.was at c.digest_and_evaluation-evaluated.ensures.evaluated)
     (λ right. other_digest _ _ _ c.ne.ensures c.if-ne.true
     (c.digest_and_evaluation-evaluated.ensures.digest ∙ sym right))
@@ -40,7 +40,7 @@ returns-in_err-outputs-clause-fault g c =
     rw (p.1, p.2) (evaluated-fault (g.F.Files.bytes c.args.files.now)
     (HasFailed (g.F.Files.failures c.args.files.now) (g.F.Files.failures c.digest_and_evaluation-evaluated.new.files))
     c.args.circuit.now c.args.garbled.now c.args.workers (map string_bytes c.args.labels.now)
-    _ c.read_circuit_and_text.ensures.same c.in_ok-circuit.ensures.circuit
+    _ c.read_and_begin_digest.ensures.same c.in_ok-circuit.ensures.circuit
     (rw c.in_ok-evaluated.was at c.digest_and_evaluation-evaluated.ensures.evaluated)
     (sym same ∙ c.digest_and_evaluation-evaluated.ensures.digest) _ c.in_err-outputs.was)
 
@@ -60,7 +60,7 @@ returns-clause-answers g c =
       c = c.in_ok-circuit.circuit;
       g = is.g;
       files = is.files;
-      input = eval-files c.read_circuit_and_text.ensures.same (λ n. refl)
+      input = eval-files c.read_and_begin_digest.ensures.same (λ n. refl)
           c.in_ok-circuit.ensures.circuit is.garbled_read is.labels_read;
       few = rw c.in_ok-outputs.was at is.few;
       outputs = c.in_ok-outputs.outputs.items;

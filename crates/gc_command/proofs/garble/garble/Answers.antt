@@ -25,7 +25,7 @@ returns-clause-answers g c = IfOk-weaker c.write_garbling.result _ _
       written = wrote;
     })
     c.in_ok-circuit.ensures.circuit
-    (rw (c.read_circuit_and_text.ensures.same c.args.circuit.now) at (written c.args.circuit.now)))
+    (rw (c.read_and_begin_digest.ensures.same c.args.circuit.now) at (written c.args.circuit.now)))
     c.write_garbling.ensures.written
 
 pub returns-clause-fault : goal.returns-clause-fault
@@ -46,5 +46,5 @@ returns-clause-cause g c = IfErr-weaker c.write_garbling.result _ _
 
 pub returns-clause-unwritten : goal.returns-clause-unwritten
 returns-clause-unwritten g c = IfErr-weaker c.write_garbling.result _ _
-    (λ fault same other n. same other n ∙ c.read_circuit_and_text.ensures.same n)
+    (λ fault same other n. same other n ∙ c.read_and_begin_digest.ensures.same n)
     c.write_garbling.ensures.unwritten

@@ -2,25 +2,8 @@ use Rattle.gc_command.proofs.Names.{map, refl, ap₂, ◌∙◌, IfSome_then, er
 use Rattle.gc_command.proofs.AnswerLemmas.{IfSome-map, length-decoded}
 use Rattle.gc_command.proofs.ValuesLemmas.{SpellValues-widths}
 use Rattle.gc_command.proofs.OwnFilesLemmas.{own-digest, own-honest}
-use Rattle.gc_command.proofs.RunLemmas.{honest-decode, honest-fault, own-fault, want-of-memory}
+use Rattle.gc_command.proofs.RunLemmas.{honest-decode, honest-fault, want-of-memory}
 use Rattle.gc_command.proofs.run.run.Goals as goal
-
-pub returns-in_err-garbled-clause-fault : goal.returns-in_err-garbled-clause-fault
-returns-in_err-garbled-clause-fault g c =
-    let p = err_from_is_err_and c.from_residual-in_err-garbled.result c.from_residual-in_err-garbled.ensures.1 in
-    rw (p.1, p.2)
-    (IfSome_then _ c.in_ok-circuit.ensures.circuit
-    (λ bytes circuit. own-fault _ _ _ _ (
-      c.in_ok-circuit.circuit,
-      (
-        map (λ value. value.items) c.in_ok-values.values.items,
-        record {
-          circuit = circuit;
-          seed_text = c.in_ok-seed.ensures.accepts.0 refl;
-          input_values = rw c.input_widths.ensures at c.in_ok-values.ensures.spelled;
-        },
-      ),
-    ) _ c.in_err-garbled.ensures.fault))
 
 pub own_labels-requires-clause-fits : goal.own_labels-requires-clause-fits
 own_labels-requires-clause-fits g c =

@@ -7,13 +7,13 @@ pub returns-in_err-circuit-clause-fault : goal.returns-in_err-circuit-clause-fau
 returns-in_err-circuit-clause-fault g c =
     let p = err_from_is_err_and c.from_residual.result c.from_residual.ensures.1 in
     rw (p.1, p.2) (jobs-circuit-fault (g.F.Files.bytes c.args.files.now)
-    (HasFailed (g.F.Files.failures c.args.files.now) (g.F.Files.failures c.read_circuit_and_text.new.files))
+    (HasFailed (g.F.Files.failures c.args.files.now) (g.F.Files.failures c.read_circuit_and_digest.new.files))
     c.args.circuit.now c.args.list.now c.args.workers _ c.in_err-circuit.ensures.fault)
 
 pub returns-in_err-jobs-clause-fault : goal.returns-in_err-jobs-clause-fault
 returns-in_err-jobs-clause-fault g c =
     let p = err_from_is_err_and c.from_residual-in_err-jobs.result c.from_residual-in_err-jobs.ensures.1 in
-    let same = fun_ext c.read_circuit_and_text.ensures.same in
+    let same = fun_ext c.read_circuit_and_digest.ensures.same in
     rw (p.1, p.2) (jobs-list-fault (g.F.Files.bytes c.args.files.now)
     (HasFailed (g.F.Files.failures c.args.files.now) (g.F.Files.failures c.read_listed_jobs.new.files))
     c.args.circuit.now c.args.list.now c.args.workers _ c.in_ok-circuit.ensures.circuit _
@@ -32,7 +32,7 @@ evaluate_listed-requires-clause-one g c = λ κs outlives i k a b.
 pub returns-in_err-outputs-clause-fault : goal.returns-in_err-outputs-clause-fault
 returns-in_err-outputs-clause-fault g c =
     let p = err_from_is_err_and c.from_residual-in_err-outputs.result c.from_residual-in_err-outputs.ensures.1 in
-    let same = fun_ext c.read_circuit_and_text.ensures.same in
+    let same = fun_ext c.read_circuit_and_digest.ensures.same in
     let listed = rw same at c.in_ok-jobs.ensures.listed in
     let fault = c.in_err-outputs.ensures.fault in
     rw (p.1, p.2) (
@@ -59,14 +59,14 @@ jobs_lines-requires g c = λ k d within.
 
 pub returns-in_err-jobs_lines-clause-same : goal.returns-in_err-jobs_lines-clause-same
 returns-in_err-jobs_lines-clause-same g c = λ n.
-    c.read_listed_jobs.ensures.same n ∙ c.read_circuit_and_text.ensures.same n
+    c.read_listed_jobs.ensures.same n ∙ c.read_circuit_and_digest.ensures.same n
 
 pub returns-clause-answers : goal.returns-clause-answers
 returns-clause-answers g c = record {
   c = c.in_ok-circuit.circuit;
   circuit_read = c.in_ok-circuit.ensures.circuit;
   jobs = c.in_ok-jobs.jobs.items;
-  are_listed = rw (fun_ext c.read_circuit_and_text.ensures.same) at c.in_ok-jobs.ensures.listed;
+  are_listed = rw (fun_ext c.read_circuit_and_digest.ensures.same) at c.in_ok-jobs.ensures.listed;
   few = rw c.deref.ensures.value at c.in_ok-outputs.ensures.few;
   outputs = map (λ bits. bits.items) c.in_ok-outputs.outputs.items;
   evaluated = rw c.deref.ensures.value at c.in_ok-outputs.ensures.evaluated;
@@ -77,4 +77,4 @@ returns-clause-answers g c = record {
 
 pub returns-clause-same : goal.returns-clause-same
 returns-clause-same g c = λ n.
-    c.read_listed_jobs.ensures.same n ∙ c.read_circuit_and_text.ensures.same n
+    c.read_listed_jobs.ensures.same n ∙ c.read_circuit_and_digest.ensures.same n

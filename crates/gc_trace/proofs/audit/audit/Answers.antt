@@ -10,14 +10,14 @@ pub returns-in_err-circuit-clause-fault : goal.returns-in_err-circuit-clause-fau
 returns-in_err-circuit-clause-fault g c =
     let p = err_from_is_err_and c.from_residual.result c.from_residual.ensures.1 in
     rw (p.1, p.2) (circuit-fault (g.F.Files.bytes c.args.files.now)
-    (HasFailed (g.F.Files.failures c.args.files.now) (g.F.Files.failures c.read_circuit_and_text.new.files))
+    (HasFailed (g.F.Files.failures c.args.files.now) (g.F.Files.failures c.read_and_begin_digest.new.files))
     c.args.circuit.now c.args.seed.now c.args.garbled.now c.args.workers
     (map string_bytes c.args.labels.now) _ c.in_err-circuit.ensures.fault)
 
 pub returns-in_err-garbled-clause-fault : goal.returns-in_err-garbled-clause-fault
 returns-in_err-garbled-clause-fault g c =
     let p = err_from_is_err_and c.from_residual-in_err-garbled.result c.from_residual-in_err-garbled.ensures.1 in
-    let first = fun_ext c.read_circuit_and_text.ensures.same in
+    let first = fun_ext c.read_and_begin_digest.ensures.same in
     rw (p.1, p.2) (files-fault (g.F.Files.bytes c.args.files.now)
     (HasFailed (g.F.Files.failures c.args.files.now) (g.F.Files.failures c.read_garbled_file.new.files))
     c.args.circuit.now c.args.seed.now c.args.garbled.now c.args.workers
@@ -28,7 +28,7 @@ returns-in_err-garbled-clause-fault g c =
 pub returns-in_err-labels-clause-fault : goal.returns-in_err-labels-clause-fault
 returns-in_err-labels-clause-fault g c =
     let p = err_from_is_err_and c.from_residual-in_err-labels.result c.from_residual-in_err-labels.ensures.1 in
-    let first = fun_ext c.read_circuit_and_text.ensures.same in
+    let first = fun_ext c.read_and_begin_digest.ensures.same in
     let second = fun_ext c.read_garbled_file.ensures.same in
     let fault = rw (second, first, c.in_ok-garbled.ensures.counted, c.in_ok-circuit.ensures.counted)
     at c.in_err-labels.ensures.fault in
@@ -42,7 +42,7 @@ returns-in_err-labels-clause-fault g c =
 pub returns-in_err-labelled-clause-fault : goal.returns-in_err-labelled-clause-fault
 returns-in_err-labelled-clause-fault g c =
     let p = err_from_is_err_and c.from_residual-in_err-labelled.result c.from_residual-in_err-labelled.ensures.1 in
-    let files = eval-files c.read_circuit_and_text.ensures.same c.read_garbled_file.ensures.same
+    let files = eval-files c.read_and_begin_digest.ensures.same c.read_garbled_file.ensures.same
     c.in_ok-circuit.ensures.circuit c.in_ok-garbled.ensures.garbled c.in_ok-labels.ensures.labels in
     let seed = c.in_ok-seed.ensures.accepts.0 refl in
     rw (p.1, p.2)
@@ -51,14 +51,14 @@ returns-in_err-labelled-clause-fault g c =
 pub returns-in_err-labelled-clause-same : goal.returns-in_err-labelled-clause-same
 returns-in_err-labelled-clause-same g c = λ n.
     c.read_label_files.ensures.same n ∙ c.read_garbled_file.ensures.same n
-    ∙ c.read_circuit_and_text.ensures.same n
+    ∙ c.read_and_begin_digest.ensures.same n
 
 pub returns-in-Ok-clause-answers : goal.returns-in-Ok-clause-answers
 returns-in-Ok-clause-answers g c = record {
   c = c.in_ok-circuit.circuit;
   g = c.in_ok-garbled.garbled;
   files = c.in_ok-labels.labels.items;
-  input = eval-files c.read_circuit_and_text.ensures.same c.read_garbled_file.ensures.same
+  input = eval-files c.read_and_begin_digest.ensures.same c.read_garbled_file.ensures.same
       c.in_ok-circuit.ensures.circuit c.in_ok-garbled.ensures.garbled c.in_ok-labels.ensures.labels;
   seed = c.in_ok-seed.seed;
   seed_read = record {
@@ -73,9 +73,9 @@ returns-in-Ok-clause-answers g c = record {
 pub returns-in-Ok-clause-same : goal.returns-in-Ok-clause-same
 returns-in-Ok-clause-same g c = λ n.
     c.read_label_files.ensures.same n ∙ c.read_garbled_file.ensures.same n
-    ∙ c.read_circuit_and_text.ensures.same n
+    ∙ c.read_and_begin_digest.ensures.same n
 
 pub returns-clause-same : goal.returns-clause-same
 returns-clause-same g c = λ n.
     c.read_label_files.ensures.same n ∙ c.read_garbled_file.ensures.same n
-    ∙ c.read_circuit_and_text.ensures.same n
+    ∙ c.read_and_begin_digest.ensures.same n
