@@ -83,6 +83,7 @@ class Progress(ProgramTest):
         self.put("list", files)
         self.put("slow_list", f"{files}\n{' '.join(['slow_job', *labels])}")
         checked, wrote = self.run_program("check", "adder"), prints(f"wrote {len(data)}\n")
+        audited = self.run_program("audit", "adder", SEED, garbled, *labels)
         job, taken = f"{outputs}\n", []
         rows = [
             ("a", CHECKING, checked, FULL_ADDER, "check", "a"),
@@ -91,8 +92,9 @@ class Progress(ProgramTest):
             ("d", READING, prints(outputs), FULL_ADDER, "eval", "d", garbled, *labels),
             ("e", READING, prints(job), FULL_ADDER, "jobs", "e", "list"),
             ("f", READING_FILES, prints(outputs), data, "eval", "adder", "f", *labels),
+            ("g", READING_FILES, audited, data, "audit", "adder", SEED, "g", *labels),
             ("slow_job", READING_JOB, prints(2 * job), data, "jobs", "adder", "slow_list"),
-            ("g", WRITING, wrote, None, "garble", "adder", SEED, "g"),
+            ("h", WRITING, wrote, None, "garble", "adder", SEED, "h"),
         ]
 
         def check(pipe, line, ending, content, *words):

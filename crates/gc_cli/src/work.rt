@@ -119,7 +119,9 @@ pub fn carry_out<
         } => {
             let (circuit, seed) = (circuit.as_str(), seed.as_str());
             let garbled = garbled.as_str();
-            audit(rt, alloc, circuit, seed, garbled, *workers, labels, files)
+            audit(
+                rt, alloc, circuit, seed, garbled, *workers, labels, files, progress,
+            )
         }
     }
 }

@@ -22,8 +22,8 @@ use gc_audit::{
 };
 use gc_circuit::{BegunDigest, Circuit, Memory};
 use gc_command::{
-    Fault, HashedPart, push_digits, push_number, read_and_begin_digest, read_garbled_file,
-    read_label_files,
+    Fault, HashedPart, Progress, Work, push_digits, push_number, read_and_begin_digest,
+    read_garbled_file, read_label_files,
 };
 use gc_file::{Garbled, LabelFile, Version};
 use gc_files::Files;
@@ -38,7 +38,7 @@ use std::thread::Threads;
 
 /// Compares the garbled file and the label files of these names with what garbling the circuit of a file under a seed
 /// gives, by this number of workers, and answers the lines of what it finds. Nothing of these files is trusted.
-pub fn audit<R: Threads + Wait + Sync, A: Allocator + Copy + Send + Sync, F: Files>(
+pub fn audit<R: Threads + Wait + Sync, A: Allocator + Copy + Send + Sync, F: Files, P: Progress>(
     rt: &R,
     alloc: A,
     circuit: &str,
@@ -47,6 +47,7 @@ pub fn audit<R: Threads + Wait + Sync, A: Allocator + Copy + Send + Sync, F: Fil
     workers: u32,
     labels: &[String],
     files: &mut F,
+    progress: &P,
 ) -> Result<Vec<u8, A>, Fault>
     ensures answers { IfOk result (λ lines. AnswersAudit (F.bytes files.old) circuit.now seed.now
         garbled.now workers (map string_bytes labels.now) lines.items) }
@@ -55,11 +56,15 @@ pub fn audit<R: Threads + Wait + Sync, A: Allocator + Copy + Send + Sync, F: Fil
         workers (map string_bytes labels.now)) }
     ensures same { (name : List ℕ) → F.bytes files.new name ≡ F.bytes files.old name }
 {
+    progress.begin(1, 3, Work::ReadingCircuit);
     let (circuit, begun) = read_and_begin_digest(rt, alloc, circuit, files, HashedPart::Beginning)?;
     let seed = Seed::from_hex(seed)?;
+    progress.begin(2, 3, Work::ReadingFiles);
     let garbled = read_garbled_file(alloc, garbled, files)?;
     let version = garbled.version();
     let labels = read_label_files(alloc, labels, files)?;
+    let gates = circuit.gates();
+    progress.begin(3, 3, Work::Garbling { gates });
     let (labelled, found) = labels_and_audit(rt, alloc, &circuit, begun, &seed, garbled, workers)?;
     match audit_lines(alloc, &circuit, version, &found, &labelled, &seed, &labels) {
         Ok(lines) => Ok(lines),
