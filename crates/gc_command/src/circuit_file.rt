@@ -40,7 +40,8 @@ pub fn read_circuit<A: Allocator + Copy, F: Files>(
 /// How much of a circuit's file is hashed while the circuit is read.
 #[derive(Clone, Copy)]
 pub enum HashedPart {
-    /// The first third: hashing it takes as long as reading the whole. What is left can be hashed during other work.
+    /// The first two fifths: hashing them takes as long as reading the whole. What is left can be hashed during other
+    /// work.
     Beginning,
     /// The whole file.
     Whole,
@@ -52,7 +53,7 @@ impl HashedPart {
         ensures { result ≤ len }
     {
         match self {
-            HashedPart::Beginning => len / 3,
+            HashedPart::Beginning => len / 5 * 2,
             HashedPart::Whole => len,
         }
     }
