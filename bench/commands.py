@@ -22,6 +22,10 @@ from measure import CIRCUITS, input_widths, make, times
 SEED = 64 * "0"
 REPEATS = 7
 
+# What gc_bench hashes: the circuit's canonical text alone, or its garbled file too.
+TEXT, BOTH = "SHA-256 of the text", "SHA-256 of both"
+HASHED = {TEXT: ["sha"], BOTH: ["sha", "file_sha"]}
+
 # The circuits of the first table, and its columns.
 ON = (
     "SHA-256's compression, 8 times",
@@ -29,9 +33,6 @@ ON = (
     "gates that read within a thousand, half AND",
     "64 chains of AND gates",
 )
-# What gc_bench hashes: the circuit's canonical text alone, or its garbled file too.
-TEXT, BOTH = "SHA-256 of the text", "SHA-256 of both"
-HASHED = {TEXT: ["sha"], BOTH: ["sha", "file_sha"]}
 COMMANDS = [
     ("`check`", "check CIRCUIT"),
     ("`locate`", "locate CIRCUIT"),
