@@ -14,7 +14,7 @@ places_of_sources() {
             for (i = 1; i <= n; i++) visit(names[i])
             print name
         }
-        END { visit(program) }' "$top/crates.txt")
+        END { visit(program) }' "$top/crates.txt") || return
     of_c=
     [ "$1" = halfgates_c ] && of_c="c include/halfgates.h"
     for name in $names; do
@@ -24,9 +24,11 @@ places_of_sources() {
     done | xargs echo crates.txt $of_c
 }
 
-# The checksum of the sources of a program.
+# The checksum of the sources of a program. It fails where a tool is missing or fails, which then has said so.
 sum_of_sources() {
-    (cd "$top" && find $(places_of_sources "$1") -type f | LC_ALL=C sort | xargs sha256sum) | sha256sum | cut -d' ' -f1
+    places=$(places_of_sources "$1") && files=$(cd "$top" && find $places -type f) &&
+        files=$(echo "$files" | LC_ALL=C sort) && sums=$(cd "$top" && echo "$files" | xargs sha256sum) &&
+        sums=$(echo "$sums" | sha256sum) && echo "${sums%% *}"
 }
 
 # Whether a program was built from sources with this checksum: the file next to it says from which it was.
