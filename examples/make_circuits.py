@@ -116,8 +116,14 @@ def positive(word):
 
 def command_line():
     """The words of the command line."""
-    parser = ArgumentParser(description=__doc__, formatter_class=RawDescriptionHelpFormatter)
-    names = parser.add_subparsers(dest="name", metavar="NAME", title="circuits")
+    parser = ArgumentParser(
+        usage="%(prog)s [-h] [NAME .. FILE]",
+        description=__doc__,
+        formatter_class=RawDescriptionHelpFormatter,
+    )
+    names = parser.add_subparsers(
+        dest="name", metavar="NAME", title="circuits", prog=parser.prog
+    )
     for name, (_, said) in CIRCUITS.items():
         command = names.add_parser(name, help=said, description=said)
         if name == "chains":

@@ -104,7 +104,7 @@ class Netlist:
         connections = self.cells[name]["connections"]
         for port in ports:
             is_bit = len(connections.get(port, [])) == 1
-            demand(is_bit, f"cell {name} has not one bit at port {port}")
+            demand(is_bit, f"cell {name} needs exactly one bit at port {port}")
         return [connections[port][0] for port in ports]
 
     def build(self, last):

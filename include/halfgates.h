@@ -73,7 +73,7 @@ enum {
 
     /* Bits. */
     HALFGATES_BAD_DIGIT = 15,    /* a byte of bits is neither 0 nor 1 */
-    HALFGATES_WRONG_LENGTH = 16, /* not one bit for each wire */
+    HALFGATES_WRONG_LENGTH = 16, /* the number of bits isn't the number of wires */
 
     HALFGATES_GARBLING_MEMORY = 23, /* memory ran out while garbling */
 
@@ -88,7 +88,7 @@ enum {
 
     /* Binding files to a job, and evaluating it. */
     HALFGATES_OTHER_CIRCUIT = 40, /* the garbled file has another circuit's digest */
-    HALFGATES_OTHER_COUNTS = 41,  /* it has not a row pair for each AND gate, or a decode bit for each output wire */
+    HALFGATES_OTHER_COUNTS = 41,  /* it doesn't have one row pair for each AND gate, or one decode bit for each output */
     HALFGATES_NO_SUCH_VALUE = 42, /* the circuit has no input value of this index */
     HALFGATES_WRONG_WIDTH = 43,   /* a label file has another number of labels than the value has wires */
     HALFGATES_DOUBLE_VALUE = 44,  /* two label files are for one value */
@@ -113,7 +113,7 @@ typedef struct halfgates_name {
  */
 halfgates_name halfgates_fault_name(int32_t code);
 
-/* The version of the library, such as "0.5.5". */
+/* The version of the library, such as "0.5.6". */
 halfgates_name halfgates_version(void);
 
 /* ---------------------------------------------------------------------------------------------------- circuits -- */

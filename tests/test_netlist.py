@@ -82,11 +82,11 @@ UNCLEAR = {
     ),
     "a wide cell": (
         module({}, {"type": "$_AND_", "connections": {"A": [2, 3], "B": [4], "Y": [5]}}),
-        "cell c0 has not one bit at port A",
+        "cell c0 needs exactly one bit at port A",
     ),
     "a cell without an output": (
         module({}, {"type": "$_AND_", "connections": {"A": [2], "B": [4]}}),
-        "cell c0 has not one bit at port Y",
+        "cell c0 needs exactly one bit at port Y",
     ),
     "both ways": (module({"a": port("inout", 2)}), "port a is neither an input nor an output"),
 }

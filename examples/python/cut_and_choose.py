@@ -79,6 +79,8 @@ def main():
     parser.add_argument("numbers", type=int, nargs="*", metavar="NUMBER")
     parser.add_argument("--forge", type=int, default=0, metavar="N")
     words = parser.parse_args()
+    if not 0 <= words.forge <= COPIES:
+        parser.error(f"--forge takes a number from 0 to {COPIES}")
     with Circuit.read(words.circuit.read_bytes()) as circuit:
         if len(words.numbers) != len(circuit.input_widths):
             parser.error(f"the circuit has {len(circuit.input_widths)} input values")
@@ -96,4 +98,7 @@ def main():
 
 
 if __name__ == "__main__":
-    main()
+    try:
+        main()
+    except OSError as error:
+        sys.exit(str(error))

@@ -118,7 +118,7 @@ class Circuit(_Handle):
     def deal(self, seed: Buffer, index: int, bits: Bits) -> bytearray:
         """The label file of the input value of this index, which stands for these bits under a seed of 32 bytes.
 
-        Deal each value once for a seed. Faults: 15, 16, 42.
+        Deal each value once for a seed. Faults: 13, 15, 16, 42, 62.
         """
         written = c_size_t()
         with self._used() as at, _lent_seed(seed) as key, _lent_bits(bits) as value:
