@@ -169,18 +169,19 @@ pub record HasShape (app : App) (c : Command) : Type 0 where
 
 -- An order as texts.
 pub data OrderText : Type 0 where
-  run : List ℕ → List ℕ → ℕ → List (List ℕ) → OrderText
-  plain : List ℕ → List (List ℕ) → OrderText
-  check : List ℕ → OrderText
-  locate : List ℕ → OrderText
-  stats : List ℕ → OrderText
-  garble : List ℕ → List ℕ → List ℕ → Version → ℕ → OrderText
-  deal : List ℕ → List ℕ → ℕ → List ℕ → List ℕ → OrderText
-  eval : List ℕ → List ℕ → ℕ → List (List ℕ) → OrderText
-  jobs : List ℕ → List ℕ → ℕ → OrderText
-  list_labels : List ℕ → List ℕ → ℕ → ℕ → List (List ℕ) → OrderText
-  audit : List ℕ → List ℕ → List ℕ → ℕ → List (List ℕ) → OrderText
+  run : (circuit seed : List ℕ) (workers : ℕ) (values : List (List ℕ)) → OrderText
+  plain : (circuit : List ℕ) (values : List (List ℕ)) → OrderText
+  check : (circuit : List ℕ) → OrderText
+  locate : (circuit : List ℕ) → OrderText
+  stats : (circuit : List ℕ) → OrderText
+  garble : (circuit seed out : List ℕ) (version : Version) (workers : ℕ) → OrderText
+  deal : (circuit seed : List ℕ) (index : ℕ) (value out : List ℕ) → OrderText
+  eval : (circuit garbled : List ℕ) (workers : ℕ) (labels : List (List ℕ)) → OrderText
+  jobs : (circuit list : List ℕ) (workers : ℕ) → OrderText
+  list_labels : (circuit seed : List ℕ) (from count : ℕ) (values : List (List ℕ)) → OrderText
+  audit : (circuit seed garbled : List ℕ) (workers : ℕ) (labels : List (List ℕ)) → OrderText
 
+-- The texts of an order.
 abbrev pub text_of : Order → OrderText
 text_of (Run circuit seed workers values) =
     run (string_bytes circuit) (string_bytes seed) workers (map string_bytes values.items)

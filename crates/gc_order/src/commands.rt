@@ -14,7 +14,7 @@ use clap::{Arg, ArgAction, Command};
 use std::alloc::{AllocError, Global};
 
 /// The version of the program.
-const VERSION: &str = "0.5.5";
+const VERSION: &str = "0.5.6";
 
 /// The greatest number that a word or an option takes. No circuit has as many wires.
 const MOST: u64 = 4_294_967_295;
@@ -106,7 +106,7 @@ the garbled file, with `right`, or with `wrong` and where the part first differs
 `counts`, `rows`, `bits`, which are the decode bits, and `entries`, which a file of version 1 \
 doesn't have. Where the counts are wrong, the parts after them are left out. Then it prints a line \
 `labels` for each label file, with the index of its input value and the bits that its labels stand \
-for, or what is wrong with it, and at last `honest` if all is right, or else `dishonest`.
+for, or what is wrong with it, and finally `honest` if all is right, or else `dishonest`.
 
 Example, with a full adder in adder.txt and the label file of its first input value:
   halfgates audit adder.txt 0000000000000000000000000000000000000000000000000000000000000000 \
@@ -179,10 +179,7 @@ fn with_command<'a>(
         (λ made. (app sub : App) → HasShape app program.entry → IfOk command.entry (HasShape sub)
         → HasShape (with_subcommand app sub.top) made) }
 {
-    match command {
-        Ok(command) => program.subcommand(command),
-        Err(error) => Err(error),
-    }
+    program.subcommand(command?)
 }
 
 /// The program, without its commands.
@@ -345,10 +342,7 @@ fn with_arg<'a>(
     ensures { (app : App) (rule : Rule) → IfOk command.entry (HasShape app) → HasRule rule arg.entry
         → IfOk result (HasShape (with_rule app rule)) }
 {
-    match command {
-        Ok(command) => command.arg(arg),
-        Err(error) => Err(error),
-    }
+    command?.arg(arg)
 }
 
 /// The word for the file that is written.

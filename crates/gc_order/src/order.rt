@@ -12,7 +12,7 @@ use clap::{ArgMatches, Error};
 use gc_format::Version;
 use std::alloc::{AllocError, Global};
 
-/// A command with its words. What the words of a command name, as files, is the command's own affair.
+/// A command with its words. Whether the files that these name exist, and what they hold, the command judges.
 #[derive(Drop)]
 pub enum Order {
     /// Garble a circuit and evaluate it on these values.
@@ -102,7 +102,7 @@ pub enum Order {
         seed: String,
         /// The first wire to print.
         from: u32,
-        /// The most lines to print.
+        /// How many lines to print at most.
         count: u32,
         /// The text of each input value, in order.
         values: Vec<String>,
@@ -122,8 +122,8 @@ pub enum Order {
     },
 }
 
-/// The order in the words of a command line, of which the first is the program's name. The words of a line that
-/// clap refuses, or that asks for help or the version, are answered with clap's error, which has the text to show.
+/// The order in the words of a command line, of which the first is the program's name. The error is clap's, with the
+/// text to show: for words that it refuses, for help or the version, and where memory ran out.
 pub fn order_of(alloc: Global, words: &[String]) -> Result<Order, Error>
     ensures order { IfOk result
         (λ order. order_in (map string_bytes words.now) ≡ Some (text_of order)) }
