@@ -10,7 +10,7 @@ mod progress_line;
 mod work;
 
 pub use command_line::Heap;
-pub use gc_command::{Fault, Silent};
+pub use gc_command::{Fault, Progress, Silent, Work};
 pub use gc_files::{FileError, Files, HostFiles, read_all};
 pub use gc_order::{Order, order_of};
 pub use output::Output;

@@ -114,10 +114,7 @@ fn print_answer<R: Threads + Wait + Sync, F: Files, O: Write, P: Progress>(
     }
     let lines = carry_out(rt, alloc, order, files, progress);
     progress.end();
-    match out.write_all(&lines?) {
-        Ok(()) => Ok(()),
-        Err(_) => Err(Fault::CannotWrite),
-    }
+    out.write_all(&lines?).map_err(|_| Fault::CannotWrite)
 }
 
 /// Prints the lines that are left, as they are made.

@@ -1,5 +1,5 @@
 -- From what each step of `eval` answers to what it answers as a whole.
-use Rattle.gc_command.proofs.Names.{◌≡◌, ◌≢◌, ℕ, Bool, List, [], ◌∷◌, Result, Err, IfSome, inl, inr, refl, ◌∙◌, arith, fun_ext, Netlist, canonical_text, GarbledParts, IsGarbledFile, LabelFileParts, FileBytes, Fault, IsCircuit, HasReadingFault, HasJobFault, AreLabelFiles, HasGarbledFault, HasLabelFault, HasLabelsFault, HasFilesFault, AreEvalFiles, FilesGive, HasEvalFault, other_circuit}
+use Rattle.gc_command.proofs.Names.{◌≡◌, ◌≢◌, ℕ, Bool, List, [], ◌∷◌, Result, Err, IfSome, inl, inr, refl, ◌∙◌, arith, fun_ext, Netlist, canonical_text, GarbledParts, IsGarbledFile, LabelFileParts, FileBytes, Fault, IsCircuit, HasReadingFault, HasJobFault, AreLabelFiles, HasGarbledFault, HasLabelFault, HasLabelFilesFault, HasFilesFault, AreEvalFiles, FilesGive, HasEvalFault, other_circuit}
 use Rattle.sha2.specs.Sha256.{sha256}
 use Rattle.gc_job.specs.declared.fault.BindFault.TheVariants.{OtherCircuit}
 use Rattle.gc_command.specs.declared.fault.Fault.TheVariants as faults
@@ -22,7 +22,7 @@ module _ (bytes : FileBytes) (Failed : List ℕ → Type 0) where
   label-kind name fault has = grind arith
 
   pub labels-kind : (names : List (List ℕ)) (fault : Fault)
-      → HasLabelsFault bytes Failed names fault → IsFileFault fault
+      → HasLabelFilesFault bytes Failed names fault → IsFileFault fault
   labels-kind [] fault is = rw is tt
   labels-kind (name ∷ names) fault (inl here) = label-kind name fault here
   labels-kind (name ∷ names) fault (inr later) = labels-kind names fault later.2
@@ -33,7 +33,7 @@ module _ (bytes : FileBytes) (Failed : List ℕ → Type 0) where
   files-kind garbled labels fault (inr later) = labels-kind labels fault later.2
 
   -- Memory may run out at any label file.
-  pub labels-memory : (names : List (List ℕ)) → HasLabelsFault bytes Failed names faults.Memory
+  pub labels-memory : (names : List (List ℕ)) → HasLabelFilesFault bytes Failed names faults.Memory
   labels-memory [] = refl
   labels-memory (name ∷ names) = inl tt
 

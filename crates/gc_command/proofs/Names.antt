@@ -8,9 +8,9 @@ pub use Rattle.std.proofs.lemmas.Result.{IfOk-weaker, IfErr-weaker, err_from_is_
 pub use Rattle.gc_canon.proofs.LineLemmas.{numbers_after, line-widths}
 pub use Rattle.gc_circuit.specs.Meaning.{AreOutputs, Fits}
 pub use Rattle.gc_command.specs.CircuitFile.{IsCircuit, HasReadingFault}
-pub use Rattle.gc_command.specs.Eval.{AreLabelFiles, HasGarbledFault, HasLabelFault, HasLabelsFault, HasFilesFault, AreEvalFiles, FilesGive, HasEvalFault}
+pub use Rattle.gc_command.specs.Eval.{AreLabelFiles, HasGarbledFault, HasLabelFault, HasLabelFilesFault, HasFilesFault, AreEvalFiles, FilesGive, HasEvalFault}
 pub use Rattle.gc_command.specs.Job.{DecodeTo, HasJobFault}
-pub use Rattle.gc_command.specs.Lines.{output_lines, jobs_lines}
+pub use Rattle.gc_command.specs.Lines.{output_lines}
 pub use Rattle.gc_command.specs.OwnFiles.{AreGarbledBytes, AreLabelsOf}
 pub use Rattle.gc_command.specs.Values.{SpellValues, IsInputValue, FirstBadValue}
 pub use Rattle.gc_command.specs.declared.fault.Fault.{Fault}

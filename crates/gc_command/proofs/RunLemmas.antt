@@ -3,7 +3,8 @@ use Rattle.gc_command.proofs.Names.{ℕ, List, Bool, Ok, Err, flat_map, refl, ar
 use Rattle.gc_job.specs.declared.fault.EvalFault.TheVariants as eval
 use Rattle.gc_job.proofs.HonestFiles.{honest-files}
 use Rattle.gc_command.specs.declared.fault.Fault.TheVariants as faults
-use Rattle.gc_command.specs.Run.{HasRunInput, IsWantOfMemory, HasRunFault}
+use Rattle.gc_command.specs.Input.{HasInput}
+use Rattle.gc_command.specs.Run.{IsWantOfMemory, HasRunFault}
 use Rattle.gc_command.proofs.FaultLemmas.{bind-memory}
 
 module _ {c : Netlist} (lawful : IsLawful c) {seed : List ℕ} {values : List (List Bool)}
@@ -29,7 +30,7 @@ module _ {c : Netlist} (lawful : IsLawful c) {seed : List ℕ} {values : List (L
 
 -- Where memory is missing, a run has that fault.
 pub want-of-memory : (bytes seed : List ℕ) (workers : ℕ) (texts : List (List ℕ))
-    → HasRunInput bytes seed texts → AreFew workers → (fault : Fault) → IsWantOfMemory fault
+    → HasInput bytes seed texts → AreFew workers → (fault : Fault) → IsWantOfMemory fault
     → HasRunFault bytes seed workers texts fault
 want-of-memory bytes seed workers texts input few (faults.Garbling fault) want =
     (input, rw want few)

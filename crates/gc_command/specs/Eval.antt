@@ -40,19 +40,19 @@ HasLabelFault bytes Failed name Memory = Unit {0}
 HasLabelFault bytes Failed name _ = ⊥
 
 -- Those of reading label files in turn: one has the fault, and each file before it is a label file.
-abbrev pub HasLabelsFault : FileBytes → (List ℕ → Type 0) → List (List ℕ) → Fault → Type 0
-HasLabelsFault bytes Failed [] fault = fault ≡ Memory
-HasLabelsFault bytes Failed (name ∷ names) fault =
+abbrev pub HasLabelFilesFault : FileBytes → (List ℕ → Type 0) → List (List ℕ) → Fault → Type 0
+HasLabelFilesFault bytes Failed [] fault = fault ≡ Memory
+HasLabelFilesFault bytes Failed (name ∷ names) fault =
     HasLabelFault bytes Failed name fault
     ⊎ ((parts : LabelFileParts) × IfSome (bytes name) (λ held. IsLabelFile held parts)
-    × HasLabelsFault bytes Failed names fault)
+    × HasLabelFilesFault bytes Failed names fault)
 
 -- Those of reading a garbled file and then label files: it has the fault, or it is a garbled file, and these have it.
 abbrev pub HasFilesFault : FileBytes → (List ℕ → Type 0) → List ℕ → List (List ℕ) → Fault → Type 0
 HasFilesFault bytes Failed garbled labels fault =
     HasGarbledFault bytes Failed garbled fault
     ⊎ ((g : GarbledParts) × IfSome (bytes garbled) (λ held. IsGarbledFile held g)
-    × HasLabelsFault bytes Failed labels fault)
+    × HasLabelFilesFault bytes Failed labels fault)
 
 -- The files of these names are a circuit, a garbled file and label files.
 pub record AreEvalFiles (bytes : FileBytes) (circuit garbled : List ℕ) (labels : List (List ℕ))

@@ -2,6 +2,7 @@ pub mod Fault
 pub mod CircuitFile
 pub mod Values
 pub mod Lines
+pub mod Input
 pub mod Run
 pub mod Plain
 pub mod Check

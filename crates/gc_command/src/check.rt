@@ -81,7 +81,7 @@ fn push_digest<A: Allocator>(lines: &mut Vec<u8, A>, digest: &[u8; 32]) -> Resul
         ≡ lines.old.items ++ line (Name (codes "digest") ∷ Name (encode_lower digest.now) ∷ [])) }
 {
     let mut digits = [0; 64];
-    let _ = hex::encode_to_slice(*digest, &mut digits);
+    hex::encode_to_slice(*digest, &mut digits).unwrap();
     lines.extend_from_slice(b"digest ")?;
     lines.extend_from_slice(&digits)?;
     lines.push(b'\n')?;

@@ -59,7 +59,7 @@ impl HashedPart {
     }
 }
 
-/// The circuit of a file, and the digest of its canonical text. The file's bytes, which mostly are that text, are
+/// The circuit of a file, and the digest of its canonical text. The file's bytes, which usually are that text, are
 /// dropped. A thread of its own takes their SHA-256 while the circuit is read, where one can be started.
 pub fn read_circuit_and_digest<R: Threads, A: Allocator + Copy + Send + Sync, F: Files>(
     rt: &R,

@@ -10,7 +10,7 @@ ghost use Rattle.gc_command.specs.Fault.{HasCause, HasWriteCause};
 use crate::circuit_file::read_circuit;
 use crate::fault::Fault;
 use crate::values::read_input_value;
-use crate::wrote::{ROOM, create_file, keep_written};
+use crate::wrote::{ROOM, keep_written};
 use gc_circuit::Circuit;
 use gc_file::write_labels;
 use gc_files::Files;
@@ -67,7 +67,7 @@ fn write_value<A: Allocator + Copy, F: Files>(
     ensures unwritten { IfErr result (KeepsFiles (F.bytes files.old) (F.bytes files.new)) }
 {
     let room = Vec::with_capacity(alloc, ROOM)?;
-    let mut sink = create_file(files, out)?;
+    let mut sink = files.create(out)?;
     let written = write_labels(&mut sink, circuit, seed, index, bits);
     keep_written(files, out, sink, written, room)
 }

@@ -4,7 +4,7 @@ ghost use Rattle.std.specs.Prelude.{◌≡◌, ℕ, List, map, IfOk, IfErr, IfSo
 ghost use Rattle.gc_format.specs.GarbledFile.{IsGarbledFile};
 ghost use Rattle.gc_format.specs.LabelFile.{IsLabelFile};
 ghost use Rattle.gc_files.specs.Files.{HasFailed};
-ghost use Rattle.gc_command.specs.Eval.{HasGarbledFault, HasLabelFault, HasLabelsFault, AreLabelFiles};
+ghost use Rattle.gc_command.specs.Eval.{HasGarbledFault, HasLabelFault, HasLabelFilesFault, AreLabelFiles};
 
 use crate::fault::Fault;
 use gc_file::{Garbled, LabelFile, read_garbled_from, read_labels};
@@ -39,7 +39,7 @@ pub fn read_label_files<N: AsStr, A: Allocator + Copy, F: Files>(
 ) -> Result<Vec<LabelFile<A>, A>, Fault>
     ensures labels { IfOk result (λ labels.
         AreLabelFiles (F.bytes files.old) (map N.text names.now) labels.items) }
-    ensures fault { IfErr result (HasLabelsFault (F.bytes files.old)
+    ensures fault { IfErr result (HasLabelFilesFault (F.bytes files.old)
         (HasFailed (F.failures files.old) (F.failures files.new)) (map N.text names.now)) }
     ensures counted { OnOk result (F.failures files.new ≡ F.failures files.old) }
     ensures same { (n : List ℕ) → F.bytes files.new n ≡ F.bytes files.old n }

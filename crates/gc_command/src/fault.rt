@@ -16,11 +16,11 @@ use std::fmt;
 /// Why a command has no answer: the first fault that its work meets.
 #[derive(Clone, Copy, Debug, PartialEq, Eq)]
 pub enum Fault {
-    /// The file is no circuit.
+    /// The file is no circuit, or there is no memory for reading or evaluating it.
     Circuit(ReadFault),
     /// There are not as many values as the circuit has input values.
     WrongCount,
-    /// A text is no value of its input value's width.
+    /// A text is no value of its input value's width, or there is no memory for its bits.
     Value(ValueFault),
     /// The seed is not 64 hexadecimal digits.
     BadSeed,
@@ -28,11 +28,11 @@ pub enum Fault {
     NoSuchValue,
     /// The number of workers is wrong, or there is no memory for garbling.
     Garbling(WorkFault),
-    /// A file is no garbled file, or no label file.
+    /// A file is no garbled file, or no label file, or there is no memory for its parts.
     File(FileFault),
-    /// The garbled file and the label files are no job for the circuit.
+    /// The garbled file and the label files are no job for the circuit, or there is no memory for the job.
     Binding(BindFault),
-    /// The job has no output bits.
+    /// The number of workers is wrong, an output label isn't recognised, or there is no memory for evaluating.
     Evaluation(EvalFault),
     /// The list of jobs is not UTF-8, or has too many jobs.
     BadList,

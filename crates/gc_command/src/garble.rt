@@ -17,7 +17,7 @@ use crate::circuit_file::{HashedPart, read_and_begin_digest};
 use crate::fault::Fault;
 use crate::garbling::digest_and_garbling;
 use crate::progress::{Progress, Work};
-use crate::wrote::{ROOM, create_file, keep_written};
+use crate::wrote::{ROOM, keep_written};
 use gc_circuit::Circuit;
 use gc_file::{Sink, Version, WriteFault, write_garbled_by_digest, write_garbled2_by_digest};
 use gc_files::Files;
@@ -87,7 +87,7 @@ fn write_garbling<A: Allocator + Copy, F: Files>(
     ensures unwritten { IfErr result (KeepsFiles (F.bytes files.old) (F.bytes files.new)) }
 {
     let room = Vec::with_capacity(alloc, ROOM)?;
-    let mut sink = create_file(files, out)?;
+    let mut sink = files.create(out)?;
     let written = write_version(&mut sink, version, circuit, digest, garbling, seed);
     keep_written(files, out, sink, written, room)
 }

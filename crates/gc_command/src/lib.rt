@@ -21,6 +21,6 @@ mod wrote;
 pub use circuit_file::{HashedPart, read_and_begin_digest, read_circuit, read_circuit_and_digest};
 pub use evaluated_files::{read_garbled_file, read_label_files};
 pub use fault::Fault;
-pub use lines::{jobs_lines, push_count, push_digits, push_number};
+pub use lines::{push_count, push_digits, push_number, push_output_lines};
 pub use progress::{Progress, Silent, Work};
 pub use values::read_values;

@@ -1,10 +1,8 @@
 //! What commands print.
 
-ghost use Rattle.std.specs.Prelude.{◌≡◌, ◌++◌, ◌∷◌, [], decimal, length, map, sum, All, IfOk, OnOk};
-ghost use Rattle.gc_netlist.specs.Spelling.{Number, Name};
-ghost use Rattle.gc_netlist.specs.Canon.{line};
+ghost use Rattle.std.specs.Prelude.{◌≡◌, ◌++◌, ◌∷◌, decimal, length, map, sum, IfOk, OnOk};
 ghost use Rattle.gc_value.specs.Value.{binary_digit};
-ghost use Rattle.gc_command.specs.Lines.{jobs_lines, output_lines};
+ghost use Rattle.gc_command.specs.Lines.{count_line, output_lines};
 
 use itoa::Buffer;
 use std::alloc::{AllocError, Allocator};
@@ -16,7 +14,7 @@ pub fn push_count<A: Allocator>(
     count: u64,
 ) -> Result<(), AllocError>
     ensures { OnOk result (lines.new.items
-        ≡ lines.old.items ++ line (Name name.now ∷ Number count ∷ [])) }
+        ≡ lines.old.items ++ count_line name.now count) }
 {
     lines.extend_from_slice(name.as_bytes())?;
     push_number(lines, count)?;
@@ -48,29 +46,8 @@ pub fn output_lines<A: Allocator>(
     Ok(lines)
 }
 
-/// The output values of each of a list of jobs, each with an empty line after it. That the widths are together as many
-/// as the bits of each is the caller's condition. The room is taken at once.
-pub fn jobs_lines<A: Allocator + Copy>(
-    alloc: A,
-    widths: &[u32],
-    outputs: &[Vec<bool, A>],
-) -> Result<Vec<u8, A>, AllocError>
-    requires { All (λ bits. sum widths.now ≡ length bits.items) outputs.now }
-    ensures { IfOk result
-        (λ lines. lines.items ≡ jobs_lines widths.now (map (λ bits. bits.items) outputs.now)) }
-{
-    let longest = outputs.first().map_or(0, |bits| bits.len());
-    let each = longest.saturating_add(widths.len()).saturating_add(1);
-    let mut lines = Vec::with_capacity(alloc, outputs.len().saturating_mul(each))?;
-    for bits in outputs {
-        push_output_lines(&mut lines, widths, bits)?;
-        lines.push(b'\n')?;
-    }
-    Ok(lines)
-}
-
-/// Adds the lines of output values.
-fn push_output_lines<A: Allocator>(
+/// Adds the lines of output values, under the same condition.
+pub fn push_output_lines<A: Allocator>(
     lines: &mut Vec<u8, A>,
     widths: &[u32],
     bits: &[bool],

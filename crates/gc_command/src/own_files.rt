@@ -1,7 +1,6 @@
 //! The files that `run` makes for itself: written to memory, and read back.
 
 ghost use Rattle.std.specs.Prelude.{◌≡◌, Some, length, map, slice_get, IfOk, IfErr};
-ghost use Rattle.gc_netlist.specs.Circuit.{IsLawful};
 ghost use Rattle.gc_circuit.specs.Digest.{IsBegun};
 ghost use Rattle.gc_circuit.specs.Meaning.{Fits};
 ghost use Rattle.gc_format.specs.LabelFile.{label_parts_of};
@@ -21,7 +20,8 @@ use std::alloc::Allocator;
 use std::sync::Wait;
 use std::thread::Threads;
 
-/// The garbled file of the circuit's garbling under a seed, by this many workers, in version 2.
+/// The garbled file of the circuit's garbling under a seed, by this many workers, in version 2. It refuses 0 workers
+/// and more than 64 (22). That the digest begun is the circuit's is the caller's condition.
 pub fn own_garbled<R: Threads + Wait + Sync, A: Allocator + Copy + Send + Sync>(
     rt: &R,
     alloc: A,
@@ -30,17 +30,17 @@ pub fn own_garbled<R: Threads + Wait + Sync, A: Allocator + Copy + Send + Sync>(
     seed: &Seed,
     workers: u32,
 ) -> Result<Garbled<A>, Fault>
-    requires lawful { IsLawful circuit.now }
-    requires begun { IsBegun circuit.now begun }
+    requires { IsBegun circuit.now begun }
     ensures honest { IfOk result (IsHonestGarbled circuit.now seed.now) }
     ensures workers { IfOk result (λ _. AreFew workers) }
     ensures fault { IfErr result (IsOwnFault workers) }
 {
+    circuit.law_lawful();
     let bytes = garbled_bytes(rt, alloc, circuit, begun, seed, workers)?;
     Ok(read_garbled(alloc, &bytes)?)
 }
 
-/// The bytes of the garbled file. The garbling itself is dropped.
+/// The bytes of the garbled file, under the same condition. The garbling itself is dropped.
 fn garbled_bytes<R: Threads + Wait + Sync, A: Allocator + Copy + Send + Sync>(
     rt: &R,
     alloc: A,
@@ -69,12 +69,12 @@ pub fn own_labels<A: Allocator + Copy>(
     seed: &Seed,
     values: &[Vec<bool, A>],
 ) -> Result<Vec<LabelFile<A>, A>, Fault>
-    requires lawful { IsLawful circuit.now }
-    requires fits { Fits circuit.now (map (λ value. value.items) values.now) }
+    requires { Fits circuit.now (map (λ value. value.items) values.now) }
     ensures labels { IfOk result (λ labels.
         AreLabelsOf circuit.now seed.now (map (λ value. value.items) values.now) labels.items) }
     ensures fault { IfErr result IsWantOfMemory }
 {
+    circuit.law_lawful();
     let mut labels = Vec::with_capacity(alloc, values.len())?;
     for (i, value) in values.iter().enumerate() {
         labels.push(own_label_file(alloc, circuit, seed, i as u32, value)?)?;
@@ -91,12 +91,12 @@ fn own_label_file<A: Allocator + Copy>(
     index: u32,
     bits: &[bool],
 ) -> Result<LabelFile<A>, Fault>
-    requires lawful { IsLawful circuit.now }
-    requires value { slice_get circuit.now.input_widths index ≡ Some (length bits.now) }
+    requires { slice_get circuit.now.input_widths index ≡ Some (length bits.now) }
     ensures parts { IfOk result
         (λ file. file ≡ label_parts_of circuit.now seed.now index bits.now) }
     ensures fault { IfErr result IsWantOfMemory }
 {
+    circuit.law_lawful();
     let mut sink = MemSink::new(alloc, None);
     write_labels(&mut sink, circuit, seed, index, bits).map_err(|_| Fault::Memory)?;
     Ok(read_labels(alloc, sink.bytes())?)

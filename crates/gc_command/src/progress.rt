@@ -9,7 +9,7 @@ pub enum Work {
     ReadingCircuit,
     /// Reading the garbled file and the label files.
     ReadingFiles,
-    /// Reading the files of one of this many jobs, the first of which is job 1.
+    /// Reading the files of job `job` of `jobs`, counted from 1.
     ReadingJob { job: usize, jobs: usize },
     /// Garbling this number of gates.
     Garbling { gates: u32 },
@@ -37,7 +37,7 @@ impl Display for Work {
 
 /// An observer of a command that may take long.
 pub trait Progress {
-    /// The command begins this work, its step `step` of `steps`, the first of which is step 1.
+    /// The command begins this work, which is step `step` of `steps`, counted from 1.
     fn begin(&self, step: u32, steps: u32, work: Work);
 
     /// The command is done, or a fault ended it: what it answers is about to be printed.

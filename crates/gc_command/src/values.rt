@@ -7,7 +7,8 @@ use crate::fault::Fault;
 use gc_circuit::read_value;
 use std::alloc::Allocator;
 
-/// The bits of each value, from one text for each of these widths.
+/// The bits of each value, from one text for each of these widths. It refuses another number of texts than widths (14),
+/// and the first text that is no value of its width (15 to 17).
 pub fn read_values<A: Allocator + Copy>(
     alloc: A,
     widths: &[u32],
@@ -28,7 +29,8 @@ pub fn read_values<A: Allocator + Copy>(
     Ok(values)
 }
 
-/// The bits of the input value of this index, among values of these widths.
+/// The bits that a text spells for the input value of this index, given the widths of all. It refuses an index that no
+/// value has (42), and a text that is no value of its width (15 to 17).
 pub fn read_input_value<A: Allocator + Copy>(
     alloc: A,
     widths: &[u32],

@@ -1,40 +1,22 @@
 //! Files that a command has written, and the line that it prints of them.
 
-ghost use Rattle.std.specs.Prelude.{◌≡◌, ◌<◌, ◌≤◌, ◌≢◌, ℕ, List, [], Some, IfOk, IfErr, IfSome, OnOk, OnErr, vec_capacity};
+ghost use Rattle.std.specs.Prelude.{◌≡◌, ◌<◌, ◌≤◌, ◌≢◌, ℕ, List, [], Some, IfOk, IfErr, OnErr, vec_capacity};
 ghost use Rattle.gc_write.specs.Written.{IsWritten};
 ghost use Rattle.gc_files.specs.Files.{HasFailed};
-ghost use Rattle.gc_command.specs.Wrote.{HasWritten, IsUnwritten, KeepsFiles, wrote_line};
-ghost use Rattle.gc_command.specs.Fault.{HasWriteCause};
+ghost use Rattle.gc_command.specs.Wrote.{HasWritten, wrote_line};
 
 use crate::fault::Fault;
 use gc_file::WriteFault;
-use gc_files::{FileError, Files};
+use gc_files::Files;
 use itoa::Buffer;
 use std::alloc::Allocator;
 
-/// Room for the longest line: `wrote `, the digits of a number of 64 bits, and a line feed.
+/// Room for the longest line: `wrote `, the digits of a 64-bit number, and a line feed.
 pub const ROOM: usize = 27;
 
-/// A sink for the file of this name, as [`Files::create`] gives it.
-pub fn create_file<F: Files>(files: &mut F, name: &str) -> Result<F::Sink, Fault>
-    ensures empty { IfOk result (λ sink. (n : List ℕ) → IfSome (F.bytes files.old n)
-        (λ _. F.Sink.taken sink ≡ Some [])) }
-    ensures counted { OnOk result (F.failures files.new ≡ F.failures files.old) }
-    ensures fault { IfErr result IsUnwritten }
-    ensures cause { IfErr result
-        (HasWriteCause (F.failures files.old) (F.failures files.new) name.now) }
-    ensures others { (n : List ℕ) → n ≢ name.now → F.bytes files.new n ≡ F.bytes files.old n }
-    ensures unwritten { IfErr result (KeepsFiles (F.bytes files.old) (F.bytes files.new)) }
-{
-    match files.create(name) {
-        Ok(sink) => Ok(sink),
-        Err(FileError::Memory) => Err(Fault::Memory),
-        Err(_) => Err(Fault::CannotWrite),
-    }
-}
-
-/// Keeps the sink that a file was written to, and answers the line that states the file's bytes. The line's room was
-/// taken before, so no memory is taken.
+/// Keeps the sink that a file was written to, and answers the line that states the file's bytes. That `room` is empty
+/// and holds [`ROOM`] bytes, so that no memory is taken, and that a sink whose writing failed has counted a failure,
+/// are the caller's conditions.
 pub fn keep_written<A: Allocator, F: Files>(
     files: &mut F,
     name: &str,
@@ -58,7 +40,7 @@ pub fn keep_written<A: Allocator, F: Files>(
     Ok(wrote_line(room, count))
 }
 
-/// The line that states a number of bytes, in its room.
+/// The line that states a number of bytes, in `room`, under the same condition on it.
 fn wrote_line<A: Allocator>(room: Vec<u8, A>, count: u64) -> Vec<u8, A>
     requires empty { room.items ≡ [] }
     requires room { ROOM ≤ vec_capacity room }

@@ -38,7 +38,7 @@ pub trait Files {
     // The bytes of the file of a name, where they are known. `None` claims nothing.
     ghost bytes: { Self → List ℕ → Option (List ℕ) };
 
-    // The files that have failed so far, by calls of the sinks and sources that came back among others.
+    // The files that have failed so far. Failures of sinks that were kept and of sources that were shut count too.
     ghost failures: { Self → FailedFiles };
 
     /// The bytes of the file of this name. A file that can't be read has failed; where memory is refused, it has not.
@@ -48,18 +48,16 @@ pub trait Files {
         ensures same { (n : List ℕ) → bytes self.new n ≡ bytes self.old n };
 
     /// A sink for the file of this name, whose old content is gone. Nothing is known of the file until the sink is
-    /// kept. Where memory is refused, the file has not failed, and the old content stays. Files that have any known
-    /// bytes have what their sinks take.
+    /// kept. Where the bytes of any file are known, what the sink takes is known too.
     fn create(&mut self, name: &str) -> Result<Self::Sink, FileError>
         ensures empty { IfOk result (λ sink. (n : List ℕ) → IfSome (bytes self.old n)
             (λ _. Self.Sink.taken sink ≡ Some [])) }
         ensures unfailed { IfOk result (λ sink. Self.Sink.failures sink ≡ 0) }
         ensures counted { CountsWrite result name.now (failures self.old) (failures self.new) }
-        ensures others { (n : List ℕ) → n ≢ name.now → bytes self.new n ≡ bytes self.old n }
-        ensures memory { IfErr result (λ e. e ≡ FileError.Memory
-            → (n : List ℕ) → bytes self.new n ≡ bytes self.old n) };
+        ensures no_memory { IfErr result (λ e. e ≢ FileError.Memory) }
+        ensures others { (n : List ℕ) → n ≢ name.now → bytes self.new n ≡ bytes self.old n };
 
-    /// The file of this name holds what the sink took, which was created for it, wherever the sink knows that. The
+    /// Keeps a sink that was created for the file of this name: the file holds what it took, where that is known. The
     /// sink's failures are the file's.
     fn keep(&mut self, name: &str, sink: Self::Sink) -> Result<(), FileError>
         ensures held { OnOk result (IfSome (Self.Sink.taken sink)

@@ -5,7 +5,7 @@ use Rattle.gc_format.specs.GarbledFile.{GarbledParts, IsGarbledFile}
 use Rattle.gc_format.specs.LabelFile.{LabelFileParts}
 use Rattle.gc_command.specs.declared.fault.Fault.TheVariants as faults
 use Rattle.gc_command.specs.CircuitFile.{IsCircuit, HasReadingFault}
-use Rattle.gc_command.specs.Eval.{AreLabelFiles, HasLabelsFault}
+use Rattle.gc_command.specs.Eval.{AreLabelFiles, HasLabelFilesFault}
 use Rattle.gc_command.proofs.AnswerLemmas.{length-decoded}
 use Rattle.gc_command.proofs.EvalLemmas.{labels-kind}
 
@@ -34,7 +34,7 @@ module _ (bytes : FileBytes) (Failed : List ℕ → Type 0) where
   pub labels-named : (c : Netlist) {words : List (List ℕ)} {garbled : List ℕ}
       {labels : List (List ℕ)} (g : GarbledParts) → words ≡ garbled ∷ labels
       → IfSome (bytes garbled) (λ held. IsGarbledFile held g) → (fault : Fault)
-      → HasLabelsFault bytes Failed labels fault → HasNamedFault bytes Failed c words fault
+      → HasLabelFilesFault bytes Failed labels fault → HasNamedFault bytes Failed c words fault
   labels-named c g names read (faults.File fault) has = rw names (inr (g, read, has))
   labels-named c g names read faults.CannotRead has = rw names (inr (g, read, has))
   labels-named c g names read faults.Memory has = tt

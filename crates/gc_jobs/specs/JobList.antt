@@ -23,6 +23,6 @@ pub record IsJobList (text : List ℕ) : Type 0 where
 
 -- The faults of a list's text.
 abbrev pub HasTextFault : List ℕ → Fault → Type 0
-HasTextFault text BadList = IsJobList text → ⊥
+HasTextFault text BadList = ¬ IsJobList text
 HasTextFault text Memory = Unit {0}
 HasTextFault text _ = ⊥

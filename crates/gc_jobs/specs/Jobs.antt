@@ -1,6 +1,6 @@
 -- The command `jobs`: what it answers, and which fault it has. What is said of a file is said where its bytes are
 -- known.
-use Rattle.std.specs.Prelude.{◌≡◌, ◌≢◌, ℕ, ◌<◌, ◌⊎◌, Bool, List, [], ◌∷◌, length, IfSome, Err}
+use Rattle.std.specs.Prelude.{◌≡◌, ◌≢◌, ℕ, ◌<◌, ◌⊎◌, Bool, List, [], ◌∷◌, ◌++◌, flat_map, length, IfSome, Err}
 use Rattle.gc_netlist.specs.Circuit.{Netlist}
 use Rattle.gc_format.specs.GarbledFile.{GarbledParts, IsGarbledFile}
 use Rattle.gc_format.specs.LabelFile.{LabelFileParts}
@@ -13,7 +13,7 @@ use Rattle.gc_files.specs.Files.{FileBytes, GivesFile}
 use Rattle.gc_command.specs.declared.fault.Fault.{Fault}
 use Rattle.gc_command.specs.declared.fault.Fault.TheVariants.{Circuit, File, Binding, Evaluation, BadList, CannotRead, Memory}
 use Rattle.gc_command.specs.CircuitFile.{IsCircuit, HasCircuitFault}
-use Rattle.gc_command.specs.Lines.{jobs_lines}
+use Rattle.gc_command.specs.Lines.{output_lines}
 use Rattle.gc_command.specs.Eval.{AreLabelFiles, HasFilesFault}
 use Rattle.gc_jobs.specs.JobList.{IsJobList, listed}
 
@@ -94,12 +94,16 @@ pub record HasBadJob (bytes : FileBytes) (Failed : List ℕ → Type 0) (list : 
 
 -- The faults of a list and of its jobs in turn, memory aside.
 abbrev pub HasListFault : FileBytes → (List ℕ → Type 0) → List ℕ → Netlist → Fault → Type 0
-HasListFault bytes Failed list c BadList = IfSome (bytes list) (λ text. IsJobList text → ⊥)
+HasListFault bytes Failed list c BadList = IfSome (bytes list) (λ text. ¬ IsJobList text)
 HasListFault bytes Failed list c (File fault) = HasBadJob bytes Failed list c (File fault)
 HasListFault bytes Failed list c (Binding fault) = HasBadJob bytes Failed list c (Binding fault)
 HasListFault bytes Failed list c CannotRead = Failed list ⊎ HasBadJob bytes Failed list c CannotRead
 HasListFault bytes Failed list c Memory = Unit {0}
 HasListFault bytes Failed list c _ = ⊥
+
+-- The lines of each job's outputs, with an empty line after them.
+abbrev pub jobs_lines : List ℕ → List (List Bool) → List ℕ
+jobs_lines widths outputs = flat_map (λ bits. output_lines widths bits ++ 10 ∷ []) outputs
 
 -- What `jobs` answers: the lines of what each job decodes to, whatever the number of workers. A list without jobs
 -- answers nothing.

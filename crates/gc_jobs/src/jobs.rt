@@ -1,19 +1,19 @@
 //! The command `jobs`: evaluating a list of garbled files of one circuit.
 
-ghost use Rattle.std.specs.Prelude.{◌≡◌, ◌<◌, ◌≤◌, ℕ, List, length, map, IfOk, IfErr, Err};
+ghost use Rattle.std.specs.Prelude.{◌≡◌, ◌<◌, ◌≤◌, ℕ, List, All, length, map, sum, IfOk, IfErr, Err};
 ghost use Rattle.gc_gatehouse.specs.Workers.{AreFew};
 ghost use Rattle.gc_bank.specs.Jobs.{AreEvaluated, AreEvaluatedBy, AreOnOneCircuit};
 ghost use Rattle.gc_rounds.specs.declared.words.TheConstants.{MAX_JOBS};
 ghost use Rattle.gc_files.specs.Files.{HasFailed};
-ghost use Rattle.gc_jobs.specs.Jobs.{AnswersJobs, HasJobsFault};
+ghost use Rattle.gc_jobs.specs.Jobs.{AnswersJobs, HasJobsFault, jobs_lines};
 
 use crate::listed_job::read_listed_jobs;
 use gc_bank::evaluate_jobs;
-use gc_command::{Fault, Progress, Work, jobs_lines, read_circuit_and_digest};
+use gc_command::{Fault, Progress, Work, push_output_lines, read_circuit_and_digest};
 use gc_eval::{EvalFault, Job};
 use gc_files::Files;
 use gc_gatehouse::Open;
-use std::alloc::Allocator;
+use std::alloc::{AllocError, Allocator};
 use std::thread::Threads;
 
 /// Evaluates the circuit of a file by this many workers from each garbled file that the list of this name has, with the
@@ -62,4 +62,25 @@ fn evaluate_listed<R: Threads + Sync, A: Allocator + Copy + Send + Sync>(
         return Ok(Vec::new(alloc));
     }
     evaluate_jobs(rt, alloc, jobs, workers, &Open)
+}
+
+/// The output values of each of a list of jobs, each with an empty line after it. That the widths are together as many
+/// as the bits of each is the caller's condition. The room is taken at once.
+fn jobs_lines<A: Allocator + Copy>(
+    alloc: A,
+    widths: &[u32],
+    outputs: &[Vec<bool, A>],
+) -> Result<Vec<u8, A>, AllocError>
+    requires { All (λ bits. sum widths.now ≡ length bits.items) outputs.now }
+    ensures { IfOk result
+        (λ lines. lines.items ≡ jobs_lines widths.now (map (λ bits. bits.items) outputs.now)) }
+{
+    let longest = outputs.first().map_or(0, |bits| bits.len());
+    let each = longest.saturating_add(widths.len()).saturating_add(1);
+    let mut lines = Vec::with_capacity(alloc, outputs.len().saturating_mul(each))?;
+    for bits in outputs {
+        push_output_lines(&mut lines, widths, bits)?;
+        lines.push(b'\n')?;
+    }
+    Ok(lines)
 }

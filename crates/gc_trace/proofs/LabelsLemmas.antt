@@ -3,14 +3,15 @@ use Rattle.std.proofs.Common.{ℕ, List}
 use Rattle.gc_command.specs.declared.fault.Fault.{Fault}
 use Rattle.gc_command.specs.declared.fault.Fault.TheVariants as faults
 use Rattle.gc_command.specs.Fault.{HasCause}
+use Rattle.gc_command.specs.Input.{HasInput}
 use Rattle.gc_trace.specs.Labels.{HasLabelsFault, IsWantOfMemory}
 
-pub want-of-memory : (bytes seed : List ℕ) (texts : List (List ℕ)) (fault : Fault)
-    → IsWantOfMemory fault → HasLabelsFault bytes seed texts fault
-want-of-memory bytes seed texts (faults.Circuit fault) want = λ other. absurd (other want)
-want-of-memory bytes seed texts (faults.Garbling fault) want = want
-want-of-memory bytes seed texts faults.Memory want = tt
-want-of-memory bytes seed texts fault want = absurd want
+pub want-of-memory : (bytes seed : List ℕ) (texts : List (List ℕ)) → HasInput bytes seed texts
+    → (fault : Fault) → IsWantOfMemory fault → HasLabelsFault bytes seed texts fault
+want-of-memory bytes seed texts input (faults.Circuit fault) want = λ other. absurd (other want)
+want-of-memory bytes seed texts input (faults.Garbling fault) want = (input, want)
+want-of-memory bytes seed texts input faults.Memory want = tt
+want-of-memory bytes seed texts input fault want = absurd want
 
 pub want-has_cause : (fault : Fault) (Reading Writing : Type 0) → IsWantOfMemory fault
     → HasCause fault Reading Writing

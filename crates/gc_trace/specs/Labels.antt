@@ -9,15 +9,14 @@ use Rattle.gc_netlist.specs.Canon.{line}
 use Rattle.gc_circuit.specs.Meaning.{AreWireBits}
 use Rattle.gc_value.specs.Value.{binary_digit}
 use Rattle.gc_label.specs.Label.{◌⊕◌, times, bytes_of_label}
-use Rattle.gc_label.specs.Seed.{IsSeedText, offset_of}
+use Rattle.gc_label.specs.Seed.{offset_of}
 use Rattle.gc_half.specs.Garbling.{GarblingParts, IsGarbled}
 use Rattle.gc_netlist.specs.declared.fault.ReadFault.TheVariants as read
 use Rattle.gc_work.specs.declared.fault.WorkFault.TheVariants as work
 use Rattle.gc_command.specs.declared.fault.Fault.{Fault}
-use Rattle.gc_command.specs.declared.fault.Fault.TheVariants.{Circuit, WrongCount, Value, BadSeed, Garbling, CannotRead, Memory}
-use Rattle.gc_command.specs.CircuitFile.{IsCircuit, HasCircuitFault}
+use Rattle.gc_command.specs.declared.fault.Fault.TheVariants.{Circuit, Garbling, Memory}
+use Rattle.gc_command.specs.Input.{IsInput, HasInput, HasInputFault}
 use Rattle.gc_command.specs.SeedText.{IsSeed}
-use Rattle.gc_command.specs.Values.{SpellValues, HasValueFault}
 
 -- The wires that are left to go through, and how many wires there are in all.
 pub record WiresLeft : Type 0 where
@@ -45,13 +44,6 @@ abbrev pub set_from : Netlist → ℕ → ℕ → List ℕ
 set_from c from count =
     take count (filter (is_set (input_wires c) c.gates) (range_with_len from (c.wires - from)))
 
--- The bytes are a circuit's, the seed's text is a seed, and the texts spell values of the circuit's input widths.
-pub record IsLabelsInput (bytes seed_text : List ℕ) (texts : List (List ℕ)) (c : Netlist)
-    (seed : List ℕ) (values : List (List Bool)) : Type 0 where
-  pub circuit : IsCircuit bytes c
-  pub seed_read : IsSeed seed_text seed
-  pub input_values : SpellValues c.input_widths texts values
-
 -- The lines are those of the circuit's set wires from one on, for these values, in its garbling under the seed.
 pub record AreLabelLines (c : Netlist) (seed : List ℕ) (values : List (List Bool)) (from count : ℕ)
     (lines : List ℕ) : Type 0 where
@@ -68,7 +60,8 @@ pub record AnswersLabels (bytes seed_text : List ℕ) (from count : ℕ) (texts 
   pub circuit : Netlist
   pub seed : List ℕ
   pub values : List (List Bool)
-  pub input : IsLabelsInput bytes seed_text texts circuit seed values
+  pub input : IsInput bytes seed_text texts circuit values
+  pub seed_read : IsSeed seed_text seed
   pub printed : AreLabelLines circuit seed values from count lines
 
 -- The faults of a command that lacks memory while it garbles, evaluates or makes its lines.
@@ -78,16 +71,8 @@ IsWantOfMemory (Garbling fault) = fault ≡ work.Memory
 IsWantOfMemory Memory = Unit {0}
 IsWantOfMemory _ = ⊥
 
--- When `labels` has which fault: it is the first in the order of the work, but that memory may run out at each step.
--- Where it runs out in the evaluation, that is a fault of the circuit, and in the garbling a fault of garbling.
+-- When `labels` has which fault: those of its input in turn, and then that memory runs out. Where it runs out in the
+-- evaluation, that is a fault of the circuit, and in the garbling a fault of garbling.
 abbrev pub HasLabelsFault : List ℕ → List ℕ → List (List ℕ) → Fault → Type 0
-HasLabelsFault bytes seed texts CannotRead = HasCircuitFault bytes CannotRead
-HasLabelsFault bytes seed texts (Circuit fault) = HasCircuitFault bytes (Circuit fault)
-HasLabelsFault bytes seed texts BadSeed = ((c : Netlist) × IsCircuit bytes c) × ¬ IsSeedText seed
-HasLabelsFault bytes seed texts WrongCount = (c : Netlist) × IsCircuit bytes c × IsSeedText seed
-    × HasValueFault c.input_widths texts WrongCount
-HasLabelsFault bytes seed texts (Value fault) = (c : Netlist) × IsCircuit bytes c × IsSeedText seed
-    × HasValueFault c.input_widths texts (Value fault)
-HasLabelsFault bytes seed texts (Garbling fault) = fault ≡ work.Memory
-HasLabelsFault bytes seed texts Memory = Unit {0}
-HasLabelsFault bytes seed texts _ = ⊥
+HasLabelsFault bytes seed texts (Garbling fault) = HasInput bytes seed texts × (fault ≡ work.Memory)
+HasLabelsFault bytes seed texts fault = HasInputFault bytes seed texts fault

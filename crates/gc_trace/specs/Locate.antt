@@ -11,6 +11,7 @@ use Rattle.gc_circuit.specs.declared.locate.Located.{Located}
 use Rattle.gc_command.specs.declared.fault.Fault.{Fault}
 use Rattle.gc_command.specs.declared.fault.Fault.TheVariants.{Circuit, CannotRead, Memory}
 use Rattle.gc_command.specs.CircuitFile.{IsCircuit}
+use Rattle.gc_command.specs.Lines.{count_line}
 
 -- the line of a fault: its number and its name
 abbrev pub fault_line : ReadFault → List ℕ
@@ -20,14 +21,13 @@ fault_line fault =
 -- the line of a name and a number, if there is one
 abbrev pub optional_line : List ℕ → Option ℕ → List ℕ
 optional_line name None = []
-optional_line name (Some n) = line (Name name ∷ Number n ∷ [])
+optional_line name (Some n) = count_line name n
 
 -- The lines of a fault, its line and column, its gate and its wire.
 abbrev pub located_lines : Located → List ℕ
 located_lines located =
     fault_line located.fault
-    ++ line (Name (codes "line") ∷ Number located.line ∷ [])
-    ++ line (Name (codes "column") ∷ Number located.column ∷ [])
+    ++ count_line (codes "line") located.line ++ count_line (codes "column") located.column
     ++ optional_line (codes "gate") located.gate ++ optional_line (codes "wire") located.wire
 
 -- What `locate` answers: where the first fault is; or that there is none, and then the bytes are a circuit's.

@@ -1,16 +1,11 @@
 -- The command `stats`: what it answers, and which fault it has.
-use Rattle.std.specs.Prelude.{◌≡◌, ℕ, List, [], ◌∷◌, ◌++◌, codes}
+use Rattle.std.specs.Prelude.{◌≡◌, ℕ, List, ◌++◌, codes}
 use Rattle.gc_netlist.specs.Circuit.{Netlist}
-use Rattle.gc_netlist.specs.Spelling.{Number, Name}
-use Rattle.gc_netlist.specs.Canon.{line}
 use Rattle.gc_stats.specs.declared.figures.Stats.{Stats}
 use Rattle.gc_stats.specs.Stats.{IsStats}
 use Rattle.gc_command.specs.declared.fault.Fault.{Fault}
 use Rattle.gc_command.specs.CircuitFile.{IsCircuit, HasCircuitFault}
-
--- the line of a name and a number
-abbrev pub count_line : List ℕ → ℕ → List ℕ
-count_line name n = line (Name name ∷ Number n ∷ [])
+use Rattle.gc_command.specs.Lines.{count_line}
 
 -- The lines of a circuit's statistics.
 abbrev pub stats_lines : Stats → List ℕ

@@ -62,20 +62,30 @@ pub fn audit<R: Threads + Wait + Sync, A: Allocator + Copy + Send + Sync, F: Fil
     progress.begin(2, 3, Work::ReadingFiles);
     let garbled = read_garbled_file(alloc, garbled, files)?;
     let version = garbled.version();
-    let labels = read_label_files(alloc, labels, files)?;
+    let label_files = read_label_files(alloc, labels, files)?;
     let gates = circuit.gates();
     progress.begin(3, 3, Work::Garbling { gates });
-    let (labelled, found) = labels_and_audit(rt, alloc, &circuit, begun, &seed, garbled, workers)?;
-    match audit_lines(alloc, &circuit, version, &found, &labelled, &seed, &labels) {
+    let (garbling, found) = garbling_and_audit(
+        rt, alloc, &circuit, begun, &seed, garbled, workers,
+    )?;
+    match audit_lines(
+        alloc,
+        &circuit,
+        version,
+        &found,
+        &garbling,
+        &seed,
+        &label_files,
+    ) {
         Ok(lines) => Ok(lines),
         Err(_) => Err(Fault::Memory),
     }
 }
 
-/// The labels of the garbling of the circuit under the seed, by this many workers, and what it finds of a garbled file.
-/// Meanwhile another thread finishes the circuit's digest, where one can be started. That the digest begun is the
-/// circuit's is the caller's condition.
-fn labels_and_audit<R: Threads + Wait + Sync, A: Allocator + Copy + Send + Sync>(
+/// Garbles the circuit under the seed by this many workers, compares a garbled file with what that makes, and answers
+/// the zero labels and what was found. Meanwhile another thread finishes the circuit's digest, where one can be
+/// started. That the digest begun is the circuit's is the caller's condition.
+fn garbling_and_audit<R: Threads + Wait + Sync, A: Allocator + Copy + Send + Sync>(
     rt: &R,
     alloc: A,
     circuit: &Circuit<A>,
@@ -105,16 +115,16 @@ fn labels_and_audit<R: Threads + Wait + Sync, A: Allocator + Copy + Send + Sync>
                 (IsPartsAudit circuit.entry.now (garbling_of circuit.entry.now seed.entry.now)
                 seed.entry.now file)) }
             ensures workers { JudgesWorkers workers result }
-        { labels_and_parts(rt, alloc, circuit, seed, file, workers) },
+        { garbling_and_parts(rt, alloc, circuit, seed, file, workers) },
     );
-    let (labels, parts) = made?;
+    let (garbling, parts) = made?;
     let digest = filed == digest;
-    Ok((labels, GarbledAudit { digest, parts }))
+    Ok((garbling, GarbledAudit { digest, parts }))
 }
 
 /// The same without the digest. Where the file's counts are right, its row pairs are compared with the garbling's as
 /// these are made, so that both together take hardly more memory than one of them. Else the file is dropped before.
-fn labels_and_parts<R: Threads + Wait + Sync, A: Allocator + Copy + Send + Sync>(
+fn garbling_and_parts<R: Threads + Wait + Sync, A: Allocator + Copy + Send + Sync>(
     rt: &R,
     alloc: A,
     circuit: &Circuit<A>,
@@ -134,17 +144,17 @@ fn labels_and_parts<R: Threads + Wait + Sync, A: Allocator + Copy + Send + Sync>
     }
     let version = file.version();
     let (rows, decode_bits, entries) = file.into_parts();
-    let (labels, first) = garble_and_compare(rt, alloc, circuit, seed, rows, workers, &Open)?;
+    let (garbling, first) = garble_and_compare(rt, alloc, circuit, seed, rows, workers, &Open)?;
     let parts = audit_compared(
         circuit,
-        &labels,
+        &garbling,
         seed,
         first,
         version,
         &decode_bits,
         &entries,
     );
-    Ok((labels, Some(parts)))
+    Ok((garbling, Some(parts)))
 }
 
 /// The lines of what is found of a garbled file of a version and of label files, by the zero labels of the garbling of
@@ -154,19 +164,19 @@ fn audit_lines<A: Allocator + Copy>(
     circuit: &Circuit<A>,
     version: Version,
     found: &GarbledAudit,
-    labelled: &Garbling<A>,
+    garbling: &Garbling<A>,
     seed: &Seed,
-    labels: &[LabelFile<A>],
+    label_files: &[LabelFile<A>],
 ) -> Result<Vec<u8, A>, Memory>
-    requires { HasLabels circuit.now seed.now labelled.now }
+    requires { HasLabels circuit.now seed.now garbling.now }
     ensures { IfOk result (λ lines. (file : GarbledParts) → file.version ≡ version
         → IsGarbledAudit circuit.now (garbling_of circuit.now seed.now) seed.now file found.now
-        → AreAuditLines circuit.now seed.now file labels.now lines.items) }
+        → AreAuditLines circuit.now seed.now file label_files.now lines.items) }
 {
     circuit.law_lawful();
     let mut lines = Vec::new(alloc);
     push_garbled(&mut lines, version, found)?;
-    let all_dealt = push_label_files(&mut lines, alloc, circuit, labelled, seed, labels)?;
+    let all_dealt = push_label_files(&mut lines, alloc, circuit, garbling, seed, label_files)?;
     push_end(&mut lines, found.is_honest() && all_dealt)?;
     Ok(lines)
 }
@@ -306,23 +316,24 @@ fn push_entry_difference<A: Allocator>(
     Ok(())
 }
 
-/// Adds the line of each label file. The answer is whether all are the dealer's.
+/// Adds the line of each label file. The answer is whether all are the dealer's. That `garbling` has the zero labels of
+/// the circuit's garbling under the seed is the caller's condition.
 fn push_label_files<A: Allocator + Copy>(
     lines: &mut Vec<u8, A>,
     alloc: A,
     circuit: &Circuit<A>,
-    labelled: &Garbling<A>,
+    garbling: &Garbling<A>,
     seed: &Seed,
     files: &[LabelFile<A>],
 ) -> Result<bool, Memory>
-    requires { HasLabels circuit.now seed.now labelled.now }
+    requires { HasLabels circuit.now seed.now garbling.now }
     ensures { IfOk result (λ all_dealt. (added : List ℕ)
         × AreLabelsFound circuit.now seed.now files.now all_dealt added
         × (lines.new.items ≡ lines.old.items ++ added)) }
 {
     let mut all_dealt = true;
     for file in files {
-        let verdict = audit_labels(alloc, circuit, labelled, seed, file)?;
+        let verdict = audit_labels(alloc, circuit, garbling, seed, file)?;
         push_verdict(lines, file.index(), &verdict)?;
         all_dealt &= is_dealt(&verdict);
     }

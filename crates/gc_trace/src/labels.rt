@@ -18,14 +18,14 @@ use itoa::Buffer;
 use std::alloc::{Allocator, Global};
 use std::marker::Model;
 
-/// The bytes of the longest line: a number of 32 bits, two labels and a bit, with a space or a line feed after each.
+/// The bytes of the longest line: a 32-bit number, two labels and a bit, with a space or a line feed after each.
 const LINE: usize = 79;
 
 /// How many lines are given at once.
 const LINES: usize = 48;
 
 /// The bytes of as many lines.
-const PIECE: usize = 3792;
+const PIECE: usize = LINES * LINE;
 
 /// The lines of `labels`, which are made as they are taken: a contract sees the bytes that are left.
 #[derive(Drop)]
@@ -73,7 +73,7 @@ pub fn labels<A: Allocator + Copy, F: Files>(
     let circuit = read_circuit(alloc, circuit, files)?;
     let seed = Seed::from_hex(seed)?;
     let values = read_values(alloc, circuit.input_widths(), values)?;
-    lines_of(alloc, &circuit, &seed, &values, from, count)
+    lines_of(alloc, &circuit, &seed, from, count, &values)
 }
 
 /// The lines of the circuit's wires under a seed for these values. The row pairs are dropped before the bits are made.
@@ -82,9 +82,9 @@ fn lines_of<A: Allocator + Copy>(
     alloc: A,
     circuit: &Circuit<A>,
     seed: &Seed,
-    values: &[Vec<bool, A>],
     from: u32,
     count: u32,
+    values: &[Vec<bool, A>],
 ) -> Result<LabelLines<A>, Fault>
     requires { Fits circuit.now (map (λ v. v.items) values.now) }
     ensures lines { IfOk result (AreLabelLines circuit.now seed.now
@@ -159,6 +159,6 @@ fn label_word(label: Label) -> [u8; 33]
     ensures { result ≡ 32 ∷ label_digits label }
 {
     let mut word = [b' '; 33];
-    let _ = hex::encode_to_slice(label.to_bytes(), &mut word[1..]);
+    hex::encode_to_slice(label.to_bytes(), &mut word[1..]).unwrap();
     word
 }

@@ -25,10 +25,8 @@ pub fn stats<A: Allocator + Copy, F: Files>(
     ensures same { (name : List ℕ) → F.bytes files.new name ≡ F.bytes files.old name }
 {
     let circuit = read_circuit(alloc, circuit, files)?;
-    match stats_of(alloc, &circuit) {
-        Ok(stats) => Ok(stats_lines(alloc, &stats)?),
-        Err(_) => Err(Fault::Circuit(ReadFault::Memory)),
-    }
+    let stats = stats_of(alloc, &circuit).map_err(|_| Fault::Circuit(ReadFault::Memory))?;
+    Ok(stats_lines(alloc, &stats)?)
 }
 
 /// The lines of a circuit's statistics.

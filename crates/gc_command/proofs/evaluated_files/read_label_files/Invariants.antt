@@ -1,4 +1,4 @@
-use Rattle.gc_command.proofs.Names.{◌≡◌, ℕ, ◌++◌, List, drop, map, LabelFileParts, FailedFiles, HasFailed, Fault, AreLabelFiles, HasLabelsFault}
+use Rattle.gc_command.proofs.Names.{◌≡◌, ℕ, ◌++◌, List, drop, map, LabelFileParts, FailedFiles, HasFailed, Fault, AreLabelFiles, HasLabelFilesFault}
 use Rattle.gc_command.proofs.evaluated_files.read_label_files.Given as goal
 
 -- What holds of the files that are left holds of all.
@@ -12,8 +12,8 @@ invariant-loop-name g l =
       files : (left : List LabelFileParts) → AreLabelFiles bytes rest left
           → AreLabelFiles bytes names (l.labels.items ++ left);
       faults : (failed : FailedFiles) (fault : Fault)
-          → HasLabelsFault bytes (HasFailed failures failed) rest fault
-          → HasLabelsFault bytes (HasFailed failures failed) names fault;
+          → HasLabelFilesFault bytes (HasFailed failures failed) rest fault
+          → HasLabelFilesFault bytes (HasFailed failures failed) names fault;
       same : (n : List ℕ) → g.F.Files.bytes l.files n ≡ bytes n;
       counted : g.F.Files.failures l.files ≡ failures;
     }

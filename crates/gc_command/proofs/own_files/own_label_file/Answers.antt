@@ -10,7 +10,7 @@ returns-in_err-read_labels-clause-fault g c =
     let made : c.bytes.result.now ≡ label_file (label_parts_of a.circuit.now a.seed.now a.index a.bits.now) =
     grind (arith, common_steps) in
     let p = err_from_is_err_and c.from_residual-in_err-read_labels.result c.from_residual-in_err-read_labels.ensures.1 in
-    let file = own-label-file _ _ _ _ _ c.requires.lawful c.ranges.index.fits c.requires.value made in
+    let file = own-label-file _ _ _ _ _ c.law_lawful.ensures c.ranges.index.fits c.requires made in
     rw (p.1, p.2) (file-memory (FirstLabelFault c.bytes.result.now) (λ e. not_both _ _ e file) _
     c.in_err-read_labels.ensures)
 
@@ -20,4 +20,4 @@ returns-clause-parts g c =
     let made : c.bytes.result.now ≡ label_file (label_parts_of a.circuit.now a.seed.now a.index a.bits.now) =
     grind (arith, common_steps) in
     one_label_file _ _ _ c.in_ok-read_labels.ensures
-    (own-label-file _ _ _ _ _ c.requires.lawful c.ranges.index.fits c.requires.value made)
+    (own-label-file _ _ _ _ _ c.law_lawful.ensures c.ranges.index.fits c.requires made)

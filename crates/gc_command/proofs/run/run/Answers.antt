@@ -5,8 +5,8 @@ use Rattle.gc_command.proofs.OwnFilesLemmas.{own-digest, own-honest}
 use Rattle.gc_command.proofs.RunLemmas.{honest-decode, honest-fault, want-of-memory}
 use Rattle.gc_command.proofs.run.run.Goals as goal
 
-pub own_labels-requires-clause-fits : goal.own_labels-requires-clause-fits
-own_labels-requires-clause-fits g c =
+pub own_labels-requires : goal.own_labels-requires
+own_labels-requires g c =
     rw (c.deref.ensures.value, ← c.input_widths.ensures)
     (SpellValues-widths _ _ _ c.in_ok-values.ensures.spelled)
 

@@ -1,5 +1,5 @@
 use Rattle.gc_jobs.proofs.Names.{map, length, option_map, Err, ap, ap₂, ◌∙◌, sym, subst, arith, fun_ext, slice_get-get_or, slice_get-map, err_from_is_err_and, AreEvaluatedBy, AreOnOneCircuit, HasFailed}
-use Rattle.gc_command.specs.Lines.{jobs_lines}
+use Rattle.gc_jobs.specs.Jobs.{jobs_lines}
 use Rattle.gc_jobs.proofs.JobsLemmas.{jobs-circuit-fault, jobs-list-fault, length-listed, named_count, named_on_one}
 use Rattle.gc_jobs.proofs.jobs.jobs.Goals as goal
 

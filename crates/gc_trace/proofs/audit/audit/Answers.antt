@@ -25,13 +25,13 @@ returns-in_err-garbled-clause-fault g c =
     (c.in_ok-seed.ensures.accepts.0 refl) _
     (inl (rw (first, c.in_ok-circuit.ensures.counted) at c.in_err-garbled.ensures.fault)))
 
-pub returns-in_err-labels-clause-fault : goal.returns-in_err-labels-clause-fault
-returns-in_err-labels-clause-fault g c =
-    let p = err_from_is_err_and c.from_residual-in_err-labels.result c.from_residual-in_err-labels.ensures.1 in
+pub returns-in_err-label_files-clause-fault : goal.returns-in_err-label_files-clause-fault
+returns-in_err-label_files-clause-fault g c =
+    let p = err_from_is_err_and c.from_residual-in_err-label_files.result c.from_residual-in_err-label_files.ensures.1 in
     let first = fun_ext c.read_and_begin_digest.ensures.same in
     let second = fun_ext c.read_garbled_file.ensures.same in
     let fault = rw (second, first, c.in_ok-garbled.ensures.counted, c.in_ok-circuit.ensures.counted)
-    at c.in_err-labels.ensures.fault in
+    at c.in_err-label_files.ensures.fault in
     rw (p.1, p.2) (files-fault (g.F.Files.bytes c.args.files.now)
     (HasFailed (g.F.Files.failures c.args.files.now) (g.F.Files.failures c.read_label_files.new.files))
     c.args.circuit.now c.args.seed.now c.args.garbled.now c.args.workers
@@ -39,17 +39,17 @@ returns-in_err-labels-clause-fault g c =
     (c.in_ok-seed.ensures.accepts.0 refl) _
     (inr (c.in_ok-garbled.garbled, rw first at c.in_ok-garbled.ensures.garbled, fault)))
 
-pub returns-in_err-labelled-clause-fault : goal.returns-in_err-labelled-clause-fault
-returns-in_err-labelled-clause-fault g c =
-    let p = err_from_is_err_and c.from_residual-in_err-labelled.result c.from_residual-in_err-labelled.ensures.1 in
+pub returns-in_err-garbling-clause-fault : goal.returns-in_err-garbling-clause-fault
+returns-in_err-garbling-clause-fault g c =
+    let p = err_from_is_err_and c.from_residual-in_err-garbling.result c.from_residual-in_err-garbling.ensures.1 in
     let files = eval-files c.read_and_begin_digest.ensures.same c.read_garbled_file.ensures.same
-    c.in_ok-circuit.ensures.circuit c.in_ok-garbled.ensures.garbled c.in_ok-labels.ensures.labels in
+    c.in_ok-circuit.ensures.circuit c.in_ok-garbled.ensures.garbled c.in_ok-label_files.ensures.labels in
     let seed = c.in_ok-seed.ensures.accepts.0 refl in
     rw (p.1, p.2)
-    (c.in_ok-circuit.circuit, (c.in_ok-garbled.garbled, (c.in_ok-labels.labels.items, (files, seed, c.in_err-labelled.ensures.workers))))
+    (c.in_ok-circuit.circuit, (c.in_ok-garbled.garbled, (c.in_ok-label_files.label_files.items, (files, seed, c.in_err-garbling.ensures.workers))))
 
-pub returns-in_err-labelled-clause-same : goal.returns-in_err-labelled-clause-same
-returns-in_err-labelled-clause-same g c = λ n.
+pub returns-in_err-garbling-clause-same : goal.returns-in_err-garbling-clause-same
+returns-in_err-garbling-clause-same g c = λ n.
     c.read_label_files.ensures.same n ∙ c.read_garbled_file.ensures.same n
     ∙ c.read_and_begin_digest.ensures.same n
 
@@ -57,17 +57,17 @@ pub returns-in-Ok-clause-answers : goal.returns-in-Ok-clause-answers
 returns-in-Ok-clause-answers g c = record {
   c = c.in_ok-circuit.circuit;
   g = c.in_ok-garbled.garbled;
-  files = c.in_ok-labels.labels.items;
+  files = c.in_ok-label_files.label_files.items;
   input = eval-files c.read_and_begin_digest.ensures.same c.read_garbled_file.ensures.same
-      c.in_ok-circuit.ensures.circuit c.in_ok-garbled.ensures.garbled c.in_ok-labels.ensures.labels;
+      c.in_ok-circuit.ensures.circuit c.in_ok-garbled.ensures.garbled c.in_ok-label_files.ensures.labels;
   seed = c.in_ok-seed.seed;
   seed_read = record {
     accepted = c.in_ok-seed.ensures.accepts.0 refl;
     spelled = c.in_ok-seed.ensures.bytes;
   };
-  few = c.in_ok-labelled.ensures.workers;
+  few = c.in_ok-garbling.ensures.workers;
   printed = rw c.deref.ensures.value at (c.in-Ok.ensures c.in_ok-garbled.garbled
-      (sym c.version-version.ensures) c.in_ok-labelled.ensures.audit);
+      (sym c.version-version.ensures) c.in_ok-garbling.ensures.audit);
 }
 
 pub returns-in-Ok-clause-same : goal.returns-in-Ok-clause-same

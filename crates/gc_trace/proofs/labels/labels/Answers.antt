@@ -21,11 +21,12 @@ returns-clause-answers g c = IfOk-weaker c.lines_of.result _ _
       values = map (λ value. value.items) c.in_ok-values.values.items;
       input = record {
         circuit = circuit;
-        seed_read = record {
-          accepted = c.in_ok-seed.ensures.accepts.0 refl;
-          spelled = c.in_ok-seed.ensures.bytes;
-        };
+        seed_text = c.in_ok-seed.ensures.accepts.0 refl;
         input_values = rw c.input_widths.ensures at c.in_ok-values.ensures.spelled;
+      };
+      seed_read = record {
+        accepted = c.in_ok-seed.ensures.accepts.0 refl;
+        spelled = c.in_ok-seed.ensures.bytes;
       };
       printed = rw c.deref.ensures.value at are;
     })
@@ -36,7 +37,17 @@ pub returns-clause-fault : goal.returns-clause-fault
 returns-clause-fault g c = IfErr-weaker c.lines_of.result _ _
     (λ fault want. IfSome-map (g.F.Files.bytes c.args.files.now c.args.circuit.now)
     (λ bytes. IsCircuit bytes c.in_ok-circuit.circuit) _
-    (λ bytes circuit. want-of-memory bytes c.args.seed.now (map string_bytes c.args.values.now) fault want)
+    (λ bytes circuit. want-of-memory bytes c.args.seed.now (map string_bytes c.args.values.now) (
+      c.in_ok-circuit.circuit,
+      (
+        map (λ value. value.items) c.in_ok-values.values.items,
+        record {
+          circuit = circuit;
+          seed_text = c.in_ok-seed.ensures.accepts.0 refl;
+          input_values = rw c.input_widths.ensures at c.in_ok-values.ensures.spelled;
+        },
+      ),
+    ) fault want)
     c.in_ok-circuit.ensures.circuit)
     c.lines_of.ensures.fault
 

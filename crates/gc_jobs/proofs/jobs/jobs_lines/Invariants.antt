@@ -1,5 +1,6 @@
-use Rattle.gc_command.proofs.Names.{◌≡◌, ◌++◌, drop, map, jobs_lines}
-use Rattle.gc_command.proofs.lines.jobs_lines.Given as goal
+use Rattle.gc_jobs.proofs.Names.{◌≡◌, ◌++◌, drop, map}
+use Rattle.gc_jobs.specs.Jobs.{jobs_lines}
+use Rattle.gc_jobs.proofs.jobs.jobs_lines.Given as goal
 
 -- The lines so far and those of what is left are the lines of all.
 abbrev pub invariant-loop-bits : goal.invariant-loop-bits

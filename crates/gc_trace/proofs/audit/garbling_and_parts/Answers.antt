@@ -1,5 +1,5 @@
 use Rattle.gc_half.proofs.ComparingLemmas.{garbled-HasLabels}
-use Rattle.gc_trace.proofs.audit.labels_and_parts.Goals as goal
+use Rattle.gc_trace.proofs.audit.garbling_and_parts.Goals as goal
 
 pub returns-then-not-are_counts_right-clause-labels : goal.returns-then-not-are_counts_right-clause-labels
 returns-then-not-are_counts_right-clause-labels g c =
