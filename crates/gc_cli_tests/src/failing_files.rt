@@ -14,10 +14,10 @@ const READ: Fault = Fault::CannotRead;
 
 const WRITE: Fault = Fault::CannotWrite;
 
-/// Orders, what they print where nothing fails, and the fault where each of their calls fails. Those of `garble` and
-/// `deal` are to read the circuit, to create the file and to keep it; those of `eval` to read the circuit, to open
-/// the garbled file and to read each label file; those of `jobs` to read the list after the circuit; and those of
-/// `audit` are those of `eval`.
+/// Orders, what they print where nothing fails, and the fault where each of their calls fails. `no file` isn't there, so
+/// nothing is printed of it. Those of `garble` and `deal` are to read the circuit, to create the file and to keep it;
+/// those of `eval` to read the circuit, to open the garbled file and to read each label file; those of `jobs` to read
+/// the list after the circuit; and those of `audit` are those of `eval`.
 static ORDERS: [(&[&str], &str, &[Fault]); 11] = [
     (&["run", "c.txt", SEED, "1", "1"], "0\n", &[READ]),
     (&["plain", "c.txt", "1", "1"], "0\n", &[READ]),
@@ -44,7 +44,11 @@ static ORDERS: [(&[&str], &str, &[Fault]); 11] = [
     (&["check", "no file"], "", &[READ, READ]),
     (&["locate", "c.txt"], "no fault\n", &[READ]),
     (&["stats", "c.txt"], STATS_LINES, &[READ]),
-    (&["labels", "c.txt", SEED, "0", "1"], "", &[READ]),
+    (
+        &["labels", "c.txt", SEED, "--from", "2", "0", "1"],
+        LABELS_LINE,
+        &[READ],
+    ),
     (
         &["audit", "c.txt", SEED, "g", "0", "1"],
         AUDIT_LINES,
@@ -66,6 +70,9 @@ garbled1 81
 garbled2 113
 ";
 
+/// The line of the output wire.
+const LABELS_LINE: &str = "2 679340c4f1daa597df120ff333af47f0 102ba069512b98079f4f65166029fad8 1\n";
+
 /// What an audit finds of honest files.
 const AUDIT_LINES: &str = "\
 digest right
@@ -78,7 +85,8 @@ labels 1 1
 honest
 ";
 
-/// Carries out an order over files with these limits, which fails, and writes a file only if a sink fails.
+/// Asserts that the order ends by this fault over files with these limits, and writes no file, unless the limits cut
+/// sinks short.
 fn assert_fails<R: Threads + Wait + Sync + Abort>(
     rt: &R,
     alloc: Global,
@@ -93,7 +101,7 @@ fn assert_fails<R: Threads + Wait + Sync + Abort>(
     assert!(rt; limits.taken.is_some() || files.into_written().is_none());
 }
 
-/// Carries out an order over files with these limits, which prints this.
+/// Asserts that the order prints this over files with these limits.
 fn assert_prints<R: Threads + Wait + Sync + Abort>(
     rt: &R,
     alloc: Global,

@@ -1,7 +1,7 @@
 //! Each growth of a command refused in turn: the fault's code says which part of the work lacked memory.
 
-use crate::jobs::{held, job_files, order};
-use gc_cli::{Order, Silent, carry_out};
+use crate::jobs::{held, job_files, order, outcome_of_refusal};
+use gc_cli::Order;
 use gc_refusing::Refusing;
 use gc_serving::MemFiles;
 use gc_worked::circuits::{ADDER_LINES, FULL_ADDER, SEED};
@@ -76,7 +76,7 @@ const WIRE_BITS: Part = (13, 1);
 /// A flag for each wire, and the lines, in room taken at once.
 const LABEL_LINES: Part = (52, 2);
 
-/// 93 bytes, in room for 16, 32, 64 and 128, and the bit of each of three label files.
+/// 102 bytes, in room for 16, 32, 64 and 128, and the bit of each of three label files.
 const AUDIT_LINES: Part = (52, 7);
 
 /// The input labels in binding, the bits of all jobs, the labels of all wires, and the output bits.
@@ -190,15 +190,10 @@ fn code_of_refusal<R: Threads + Wait + Sync + Abort>(
     growth: u64,
 ) -> Option<u32> {
     let heap = Refusing::nth(alloc, growth);
-    match carry_out(rt, &heap, order, &mut MemFiles::new(alloc, files), &Silent) {
-        Ok(lines) => {
-            assert_eq!(rt; lines.as_slice(), printed.as_bytes());
-            (heap.refused() > 0).then_some(0)
-        }
-        Err(fault) => {
-            assert_eq!(rt; heap.refused(), 1);
-            Some(fault.code())
-        }
+    let mut files = MemFiles::new(alloc, files);
+    match outcome_of_refusal(rt, &heap, order, &mut files, printed)? {
+        Ok(()) => Some(0),
+        Err(fault) => Some(fault.code()),
     }
 }
 

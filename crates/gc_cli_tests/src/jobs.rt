@@ -1,11 +1,16 @@
 //! The files of a job and the orders over them.
 
 use gc_circuit::Circuit;
-use gc_cli::{Order, order_of};
+use gc_cli::{Fault, Order, Silent, carry_out, order_of};
 use gc_file::Version;
+use gc_refusing::Refusing;
+use gc_serving::MemFiles;
 use gc_worked::files::{label_file, write};
-use std::alloc::{AllocError, Global};
+use std::alloc::{AllocError, Allocator, Global};
+use std::process::Abort;
+use std::sync::Wait;
 use std::test::Fail;
+use std::thread::Threads;
 
 /// Files, each with its name.
 pub type NamedFiles = Vec<(&'static str, Vec<u8>)>;
@@ -44,4 +49,25 @@ pub fn order(alloc: Global, words: &[&str]) -> Result<Order, Fail> {
         copies.push(String::from_str(alloc, word)?)?;
     }
     Ok(order_of(alloc, &copies)?)
+}
+
+/// Carries out the order with memory of a heap that refuses one growth. The answer is what came of it, where that
+/// growth was refused: the order has printed this, or a fault ended it.
+pub fn outcome_of_refusal<R: Threads + Wait + Sync + Abort, B: Allocator + Copy>(
+    rt: &R,
+    heap: &Refusing<Global>,
+    order: &Order,
+    files: &mut MemFiles<'_, B>,
+    printed: &str,
+) -> Option<Result<(), Fault>> {
+    match carry_out(rt, heap, order, files, &Silent) {
+        Ok(lines) => {
+            assert_eq!(rt; lines.as_slice(), printed.as_bytes());
+            (heap.refused() > 0).then_some(Ok(()))
+        }
+        Err(fault) => {
+            assert_eq!(rt; heap.refused(), 1);
+            Some(Err(fault))
+        }
+    }
 }

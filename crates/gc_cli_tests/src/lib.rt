@@ -1,5 +1,5 @@
 //! The tests of commands that need what no disk gives: files that fail at each call and in mid-stream, each growth
-//! refused in turn, and streams that fail.
+//! refused in turn, streams that fail, and the steps that commands report.
 #![tactic(auto)]
 
 #[cfg(test)]
@@ -12,5 +12,7 @@ mod growth;
 mod host_files;
 #[cfg(test)]
 mod jobs;
+#[cfg(test)]
+mod progress;
 #[cfg(test)]
 mod refusals;

@@ -1,7 +1,7 @@
 //! Each growth of a command of two workers refused in turn, over files whose sinks take the same memory. After a
 //! refusal the same order over the same files has its answer.
 
-use crate::jobs::order;
+use crate::jobs::{order, outcome_of_refusal};
 use gc_circuit::Circuit;
 use gc_cli::{Fault, Order, Silent, carry_out};
 use gc_file::Version;
@@ -45,20 +45,13 @@ fn fault_of_refusal<R: Threads + Wait + Sync + Abort>(
     growth: u64,
 ) -> Option<Result<(), Fault>> {
     let heap = Refusing::nth(alloc, growth);
-    let fault = match carry_out(rt, &heap, order, &mut MemFiles::new(&heap, files), &Silent) {
-        Ok(lines) => {
-            assert_eq!(rt; lines.as_slice(), printed.as_bytes());
-            return (heap.refused() > 0).then_some(Ok(()));
-        }
-        Err(fault) => fault,
-    };
-    assert_eq!(rt; heap.refused(), 1);
-    let is_right = match carry_out(rt, &heap, order, &mut MemFiles::new(&heap, files), &Silent) {
-        Ok(lines) => lines.as_slice() == printed.as_bytes(),
-        Err(_) => false,
-    };
-    assert!(rt; is_right, "after growth {growth} was refused");
-    Some(Err(fault))
+    let outcome = outcome_of_refusal(rt, &heap, order, &mut MemFiles::new(&heap, files), printed)?;
+    if outcome.is_err() {
+        let again = carry_out(rt, &heap, order, &mut MemFiles::new(&heap, files), &Silent);
+        let is_right = again.is_ok_and(|lines| lines.as_slice() == printed.as_bytes());
+        assert!(rt; is_right, "after growth {growth} was refused");
+    }
+    Some(outcome)
 }
 
 /// Carries out the order with growth 1, 2, 3, .. refused, until a run meets no refusal. The answer is how many runs
