@@ -6,21 +6,25 @@ mod measures;
 mod part;
 mod timing;
 
-use anyhow::Result;
+use anyhow::{Result, anyhow};
 use measures::Subject;
 use std::io::Read;
 use std::{env, fs};
 use timing::{Timing, print_times, time_parts};
 
-/// `gc_bench FILE REPEATS PART..` runs the parts on a circuit, one after another and this often, so that each meets
-/// the machine in the same moods. It prints the numbers of gates and AND gates, and each part with its fastest run in
-/// nanoseconds. A part on a list of jobs gets a thousand. Without words it does nothing.
+/// `gc_bench FILE REPEATS PART..` runs the parts on a circuit one after another, and all of them REPEATS times, so that
+/// a slow spell of the machine slows all parts alike. It prints the numbers of gates and AND gates, and each part with
+/// its fastest run in nanoseconds. A part on a list of jobs gets a thousand. Without words it does nothing.
 fn main(rt: HostRuntime) -> Result<()> {
     let mut words = env::args(&rt)?.skip(1);
-    let (Some(file), Some(repeats)) = (words.next(), words.next()) else {
+    let Some(file) = words.next() else {
         return Ok(());
     };
+    let repeats = words.next().ok_or_else(|| anyhow!("REPEATS is missing"))?;
     let repeats = repeats.as_str().parse::<u32>()?;
+    if repeats == 0 {
+        return Err(anyhow!("REPEATS is at least 1"));
+    }
     let mut timings = Vec::new(rt.alloc());
     for name in words {
         timings.push(Timing::of(name)?)?;

@@ -151,9 +151,7 @@ impl Subject {
 
     /// Garbles by this many workers.
     fn garble<R: Threads + Wait + Sync>(&self, rt: &R, alloc: Global, workers: u32) -> Result<()> {
-        garble(rt, alloc, &self.circuit, &self.seed, workers, &Open).map_err(|_| anyhow!(
-            "no garbling"
-        ))?;
+        garble(rt, alloc, &self.circuit, &self.seed, workers, &Open)?;
         Ok(())
     }
 

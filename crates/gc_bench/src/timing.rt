@@ -31,7 +31,7 @@ impl Timing {
     }
 }
 
-/// Runs the parts one after another, this often.
+/// Runs the parts one after another, and all of them this many times.
 pub fn time_parts<R: Threads + Wait + Clock + Sync>(
     rt: &R,
     alloc: Global,
