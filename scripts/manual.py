@@ -14,7 +14,7 @@ HELP = "-h, --help"
 EXIT_STATUS = [
     ("0", "The command succeeded, whatever it found, or the help or the version was printed."),
     ("1", "A fault: a line on standard error says \\(oqhalfgates: fault CODE NAME\\(cq."),
-    ("2", "The command line doesn't parse: a message on standard error says why."),
+    ("2", "The command line doesn\\(aqt parse: a message on standard error says why."),
 ]
 
 
