@@ -1,7 +1,9 @@
 """The package `halfgates` for Python: the same files and answers as the vectors and the program have,
 and each of its exceptions."""
 import array
+import copy
 import mmap
+import pickle
 import re
 import subprocess
 import sys
@@ -17,7 +19,7 @@ from program import EXAMPLES, FULL_ADDER, SEED, TOP, ProgramTest, label_file, se
 import bristol
 
 halfgates = import_package()
-Circuit, Fault = halfgates.Circuit, halfgates.Fault
+Circuit, Garbling, Job, Fault = halfgates.Circuit, halfgates.Garbling, halfgates.Job, halfgates.Fault
 
 ZEROS = bytes(32)
 
@@ -258,6 +260,19 @@ class Refusals(LibraryTest):
         for bits, fault in (([], "16 WrongLength"), ([1, 1], "16 WrongLength"), ([2], "15 BadDigit")):
             self.assert_fault(fault, self.circuit.deal, ZEROS, 2, bits)
 
+    def test_bits_that_are_no_bytes(self):
+        for bits in (array.array("Q", [1]), array.array("i", [1, 0, 1]), range(3), "101"):
+            self.assertRaises(TypeError, self.circuit.plain, bits)
+            self.assertRaises(TypeError, self.circuit.deal, ZEROS, 0, bits)
+        self.assertEqual(self.circuit.plain(array.array("B", [1, 0, 1])), b"\0\1")
+
+    def test_bits_that_use_the_circuit(self):
+        class Bit:
+            def __index__(bit):
+                return self.circuit.plain([1, 0, 0])[0]
+
+        self.assertEqual(self.circuit.plain([Bit(), 0, 1]), b"\0\1")
+
     def test_numbers(self):
         garbling = self.garbling
         self.assert_fault("42 NoSuchValue", self.circuit.deal, ZEROS, 3, [1])
@@ -267,7 +282,8 @@ class Refusals(LibraryTest):
         self.assert_fault("60 BadArgument", garbling.write, 0)
         self.assert_fault("60 BadArgument", garbling.decode_bit, 2)
         self.assert_fault("60 BadArgument", garbling.labels, [1, 0, 1], 9)
-        self.assert_fault("60 BadArgument", garbling.labels, [1, 0, 1], 7, 2)
+        for start, count in ((7, 2), (0, 9), (0, -1), (0, 2**60)):
+            self.assert_fault("60 BadArgument", garbling.labels, [1, 0, 1], start, count)
         for version in (0, 3, 2**32 - 1):
             self.assert_fault("60 BadArgument", self.circuit.garbled_size, version)
 
@@ -424,6 +440,16 @@ class Handles(LibraryTest):
 
     def test_an_object_that_was_never_a_handle(self):
         self.assertRaises(TypeError, Circuit)
+        for make, *words in ((Circuit, FULL_ADDER.encode()), (Circuit, "path"), (Garbling, 5, 3), (Job, 5, 3)):
+            with self.assertRaisesRegex(TypeError, "^a Circuit comes from Circuit.read, "):
+                make(*words)
+
+    def test_handles_have_one_owner(self):
+        with Circuit.read(FULL_ADDER.encode()) as circuit, circuit.garble(ZEROS) as garbling:
+            for handle in (circuit, garbling):
+                for make in (copy.copy, copy.deepcopy, pickle.dumps):
+                    with self.assertRaisesRegex(TypeError, "can't be copied or pickled$"):
+                        make(handle)
 
 
 # Calls the functions of the shared library as ctypes finds them, each with a NULL and a size of 1, and prints what is
@@ -492,10 +518,11 @@ class Package(unittest.TestCase):
                         self.assertIn("return", typing.get_type_hints(call), f"{name}.{method}")
 
     def test_a_library_that_is_not_there(self):
-        environment = {**environment_of_python(), "HALFGATES_LIBRARY": "/nowhere.so"}
-        words = [sys.executable, "-c", "import halfgates"]
-        done = subprocess.run(words, env=environment, capture_output=True, text=True, check=False)
-        self.assertIn("./build halfgates_c makes the library", done.stderr.splitlines()[-1])
+        for path in ("/nowhere.so", "libc.so.6"):
+            environment = {**environment_of_python(), "HALFGATES_LIBRARY": path}
+            words = [sys.executable, "-c", "import halfgates"]
+            done = subprocess.run(words, env=environment, capture_output=True, text=True, check=False)
+            self.assertRegex(done.stderr.splitlines()[-1], "^ImportError: .*./build halfgates_c makes the library")
 
     def test_cut_and_choose(self):
         script = [sys.executable, EXAMPLES / "python/cut_and_choose.py", EXAMPLES / "less8.txt", "7", "9"]

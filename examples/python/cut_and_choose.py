@@ -100,5 +100,5 @@ def main():
 if __name__ == "__main__":
     try:
         main()
-    except OSError as error:
+    except (OSError, Fault) as error:
         sys.exit(str(error))

@@ -32,7 +32,7 @@ _release.restype = None
 
 
 class Lent:
-    """A `with` block in which an object's bytes stay where they are: `size` bytes at the address `at`.
+    """A `with` block in which an object's bytes stay where they are: `size` bytes at the address `at`, in items.
 
     An object that has no bytes is a TypeError. One whose bytes don't lie one after another, or aren't writable where
     they have to be, is a BufferError.
@@ -43,7 +43,7 @@ class Lent:
 
     def __enter__(self) -> "Lent":
         _get(self._data, self._view, self._flags)
-        self.at, self.size = self._view.buf, self._view.len
+        self.at, self.size, self.item_size = self._view.buf, self._view.len, self._view.itemsize
         return self
 
     def __exit__(self, *_: object) -> None:

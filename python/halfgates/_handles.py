@@ -6,18 +6,18 @@ from contextlib import contextmanager
 from ctypes import byref, c_size_t, c_uint8, c_uint32, c_void_p
 from mmap import mmap
 from operator import index as integer
-from typing import Callable, ClassVar, Iterator, List, Optional, Sequence, Tuple, TypeVar, Union
+from typing import Callable, ClassVar, Iterator, List, NoReturn, Optional, Sequence, Tuple, TypeVar, Union
 
 from . import _library
 from ._buffers import Lent
-from ._library import BAD_ARGUMENT, OK, SMALL_BUFFER, check, library
+from ._library import BAD_ARGUMENT, OK, SMALL_BUFFER, Fault, check, library
 from ._reports import GarbledReport, LabelsReport, Place, WireLabels
 
 #: What lends its bytes. Other objects that do so serve as well.
 Buffer = Union[bytes, bytearray, memoryview, mmap, array]
 
 #: Bits in wire order: a buffer of bytes 0 and 1, or a list or tuple of numbers 0 and 1.
-Bits = Union[Buffer, Sequence[int]]
+Bits = Union[Buffer, List[int], Tuple[int, ...]]
 
 H = TypeVar("H", bound="_Handle")
 
@@ -32,6 +32,9 @@ class _Handle:
     _at: Optional[c_void_p] = None
 
     def __init__(self, at: c_void_p) -> None:
+        if not isinstance(at, c_void_p):
+            makers = "a Circuit comes from Circuit.read, a Garbling from Circuit.garble, a Job from Circuit.bind"
+            raise TypeError(makers)
         self._at = at
         self._lock = threading.Lock()
 
@@ -49,6 +52,9 @@ class _Handle:
             at, self._at = self._at, None
         if at is not None:
             self._free(at)
+
+    def __reduce__(self) -> NoReturn:
+        raise TypeError(f"a {type(self).__name__} can't be copied or pickled")
 
     def __enter__(self: H) -> H:
         return self
@@ -111,19 +117,20 @@ class Circuit(_Handle):
     def garble(self, seed: Buffer) -> "Garbling":
         """Garbles under a seed of 32 bytes: take `secrets.token_bytes(32)` for each garbling. Faults: 23, 62."""
         garbling = c_void_p()
-        with self._used() as at, _lent_seed(seed) as lent:
+        with _lent_seed(seed) as lent, self._used() as at:
             check(library.halfgates_garble(at, lent.at, byref(garbling)))
         return Garbling(garbling, self.wires)
 
     def deal(self, seed: Buffer, index: int, bits: Bits) -> bytearray:
         """The label file of the input value of this index, which stands for these bits under a seed of 32 bytes.
 
-        Deal each value once for a seed. Faults: 13, 15, 16, 42, 62.
+        Deal each value once for a seed: two label files of one value for different bits give the offset away, and so
+        both labels of every wire. Faults: 13, 15, 16, 42, 62.
         """
         written = c_size_t()
-        with self._used() as at, _lent_seed(seed) as key, _lent_bits(bits) as value:
+        with _lent_seed(seed) as key, _lent_bits(bits) as value:
             file = bytearray(16 + 16 * value.size)
-            with Lent(file, is_written=True) as out:
+            with Lent(file, is_written=True) as out, self._used() as at:
                 words = key.at, _u32(index), value.at, value.size, out.at, out.size
                 check(library.halfgates_deal(at, *words, byref(written)))
         return file
@@ -135,7 +142,7 @@ class Circuit(_Handle):
         """
         job, sizes = c_void_p(), (c_size_t * len(labels))(*map(_size_of, labels))
         joined = labels[0] if len(labels) == 1 else b"".join(labels)
-        with self._used() as at, Lent(garbled) as file, Lent(joined) as lent:
+        with Lent(garbled) as file, Lent(joined) as lent, self._used() as at:
             words = file.at, file.size, lent.at, lent.size, sizes, len(labels)
             check(library.halfgates_job_bind(at, *words, byref(job)))
         return Job(job, sum(self.output_widths))
@@ -143,7 +150,7 @@ class Circuit(_Handle):
     def plain(self, bits: Bits) -> bytearray:
         """The bits of all output wires for those of all input wires, without garbling. Faults: 13, 15, 16."""
         outputs = bytearray(sum(self.output_widths))
-        with self._used() as at, _lent_bits(bits) as lent, Lent(outputs, is_written=True) as out:
+        with _lent_bits(bits) as lent, Lent(outputs, is_written=True) as out, self._used() as at:
             check(library.halfgates_plain(at, lent.at, lent.size, out.at, out.size))
         return outputs
 
@@ -169,7 +176,7 @@ class Garbling(_Handle):
         Faults: 60 where there is no such version, 61 where the buffer has too little room and stays as it is, 62.
         """
         written = c_size_t()
-        with self._used() as at, Lent(buffer, is_written=True) as out:
+        with Lent(buffer, is_written=True) as out, self._used() as at:
             check(library.halfgates_garbling_write(at, _u32(version), out.at, out.size, byref(written)))
         return written.value
 
@@ -198,26 +205,31 @@ class Garbling(_Handle):
     def labels(self, bits: Bits, start: int = 0, count: Optional[int] = None) -> List[WireLabels]:
         """The labels of `count` wires from `start` on, or of all from there, for the bits of all input wires.
 
+        Where a bit is 1 both labels of its wire stand here, and so the offset: give them to nobody who evaluates.
         Faults: 13, 15, 16, 60 where there are no such wires.
         """
-        found = (_library.WireLabels * (max(self._wires - start, 0) if count is None else count))()
-        with self._used() as at, _lent_bits(bits) as lent:
-            check(library.halfgates_labels(at, lent.at, lent.size, _u32(start), found, len(found)))
+        most = max(self._wires - _u32(start), 0)
+        count = most if count is None else integer(count)
+        if not 0 <= count <= most:
+            raise Fault(BAD_ARGUMENT)
+        found = (_library.WireLabels * count)()
+        with _lent_bits(bits) as lent, self._used() as at:
+            check(library.halfgates_labels(at, lent.at, lent.size, _u32(start), found, count))
         return [WireLabels._of(it) for it in found]
 
     def audit(self, garbled: Buffer) -> GarbledReport:
         """Compares a garbled file of either version with the garbling. Faults: 30 to 36 of the file."""
         report = _library.AuditReport()
-        with self._used() as at, Lent(garbled) as lent:
+        with Lent(garbled) as lent, self._used() as at:
             check(library.halfgates_audit(at, lent.at, lent.size, report))
         return GarbledReport._of(report)
 
     def audit_labels(self, labels: Buffer) -> LabelsReport:
         """Compares a label file with the garbling, and returns the bits that it stands for. Faults: 30 to 36, 46."""
         report = _library.LabelsReport()
-        with self._used() as at, Lent(labels) as lent:
+        with Lent(labels) as lent:
             bits = bytearray(max(lent.size // 16 - 1, 0))
-            with Lent(bits, is_written=True) as out:
+            with Lent(bits, is_written=True) as out, self._used() as at:
                 check(library.halfgates_audit_labels(at, lent.at, lent.size, out.at, out.size, report))
         return LabelsReport._of(report, bits)
 
@@ -234,7 +246,7 @@ class Job(_Handle):
     def evaluate(self) -> bytearray:
         """The bits of all output wires. A job may be evaluated again. Faults: 46, 48."""
         bits = bytearray(self._outputs)
-        with self._used() as at, Lent(bits, is_written=True) as out:
+        with Lent(bits, is_written=True) as out, self._used() as at:
             check(library.halfgates_evaluate(at, out.at, out.size))
         return bits
 
@@ -251,7 +263,7 @@ def _u32(number: int) -> int:
     """The number, where it has 32 bits: ctypes drops bits without a word."""
     if not 0 <= integer(number) < 2**32:
         raise OverflowError(f"{number} is not from 0 to 4,294,967,295")
-    return number
+    return integer(number)
 
 
 def _size_of(data: Buffer) -> int:
@@ -259,8 +271,12 @@ def _size_of(data: Buffer) -> int:
         return lent.size
 
 
-def _lent_bits(bits: Bits) -> Lent:
-    return Lent(bytes(bits) if isinstance(bits, (list, tuple)) else bits)
+@contextmanager
+def _lent_bits(bits: Bits) -> Iterator[Lent]:
+    with Lent(bytes(bits) if isinstance(bits, (list, tuple)) else bits) as lent:
+        if lent.item_size != 1:
+            raise TypeError(f"bits are bytes, and not items of {lent.item_size} bytes")
+        yield lent
 
 
 @contextmanager

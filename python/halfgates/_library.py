@@ -92,12 +92,12 @@ def _path() -> str:
 def _load() -> ctypes.CDLL:
     try:
         library = ctypes.CDLL(_path())
-    except OSError as error:
+        for name, (answers, *takes) in _FUNCTIONS.items():
+            function = getattr(library, f"halfgates_{name}")
+            function.restype, function.argtypes = answers, takes
+    except (OSError, AttributeError) as error:
         hint = "./build halfgates_c makes the library, and HALFGATES_LIBRARY names one that lies elsewhere"
         raise ImportError(f"{error} ({hint})") from None
-    for name, (answers, *takes) in _FUNCTIONS.items():
-        function = getattr(library, f"halfgates_{name}")
-        function.restype, function.argtypes = answers, takes
     return library
 
 
