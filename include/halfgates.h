@@ -36,8 +36,8 @@
  * Another byte is HALFGATES_BAD_DIGIT, and a wrong number of them HALFGATES_WRONG_LENGTH.
  *
  * MEMORY comes from malloc, realloc and free. Where it runs out, the code is one of those that are named "Memory":
- * nothing is leaked, and the call may be made again. No function is called from a signal handler, or in a process that
- * was forked from one with several threads.
+ * nothing is leaked, and the call may be made again. Call no function from a signal handler, nor in a child forked from
+ * a process with several threads.
  *
  * SECRETS. Whoever has a seed or a garbling knows all labels. The library isn't constant-time, and wipes no memory.
  */
@@ -56,7 +56,7 @@ extern "C" {
 enum {
     HALFGATES_OK = 0,
 
-    /* Reading a circuit, in the order in which they are looked for. */
+    /* Reading a circuit. The text is read from left to right, and its first fault is answered. */
     HALFGATES_CIRCUIT_TRUNCATED = 1,    /* the text ends before the circuit does */
     HALFGATES_BAD_NUMBER = 2,           /* a token where a number belongs is none, or is above 4,294,967,295 */
     HALFGATES_TOO_LARGE = 3,            /* more than 16,777,216 gates, 33,554,432 wires or 256 values of a side */
@@ -88,7 +88,7 @@ enum {
 
     /* Binding files to a job, and evaluating it. */
     HALFGATES_OTHER_CIRCUIT = 40, /* the garbled file has another circuit's digest */
-    HALFGATES_OTHER_COUNTS = 41,  /* it doesn't have one row pair for each AND gate, or one decode bit for each output */
+    HALFGATES_OTHER_COUNTS = 41,  /* it doesn't have one row pair for each AND gate, or one decode bit per output */
     HALFGATES_NO_SUCH_VALUE = 42, /* the circuit has no input value of this index */
     HALFGATES_WRONG_WIDTH = 43,   /* a label file has another number of labels than the value has wires */
     HALFGATES_DOUBLE_VALUE = 44,  /* two label files are for one value */
@@ -214,8 +214,8 @@ int32_t halfgates_garbling_write(halfgates_garbling *garbling, uint32_t version,
  * Writes the label file of the input value `index`, counted from 0, which stands for `count` bits under a seed of 32
  * bytes, to `buffer`, and the number of its bytes, 16 + 16 * count, to `written`. It needs no garbling. Codes:
  * HALFGATES_NO_SUCH_VALUE, HALFGATES_WRONG_LENGTH, HALFGATES_BAD_DIGIT, HALFGATES_SMALL_BUFFER as above,
- * HALFGATES_CIRCUIT_MEMORY, HALFGATES_MEMORY. Deal each value once for a seed: two label files of one value give its
- * other labels away.
+ * HALFGATES_CIRCUIT_MEMORY, HALFGATES_MEMORY. Deal each value once for a seed: two label files of one value for
+ * different bits give away the offset, and so both labels of every wire of which one is known.
  */
 int32_t halfgates_deal(halfgates_circuit *circuit, const uint8_t seed[32], uint32_t index, const uint8_t *bits,
                        size_t count, uint8_t *buffer, size_t size, size_t *written);
@@ -236,7 +236,8 @@ typedef struct halfgates_wire_labels {
 /*
  * Writes the labels of the wires from `from` on, `count` of them, for the bits of all input wires, `size` bytes. Codes:
  * HALFGATES_WRONG_LENGTH, HALFGATES_BAD_DIGIT, HALFGATES_BAD_ARGUMENT where there is no such wire,
- * HALFGATES_CIRCUIT_MEMORY.
+ * HALFGATES_CIRCUIT_MEMORY. Where a bit is 1 both labels of the wire stand here, and so the offset: give them to nobody
+ * who evaluates.
  */
 int32_t halfgates_labels(halfgates_garbling *garbling, const uint8_t *bits, size_t size, uint32_t from,
                          halfgates_wire_labels *labels, size_t count);

@@ -18,6 +18,7 @@
 #include <cstdint>
 #include <cstdio>
 #include <exception>
+#include <initializer_list>
 #include <memory>
 #include <vector>
 
@@ -49,10 +50,11 @@ inline void check(std::int32_t code) {
         throw fault(code);
 }
 
-/* Bytes that are read where they lie: those of a vector, a string, an array or a span, or by a pointer. */
+/* Bytes that are read where they lie: those of a vector, a string, an array, a span or a list, or by a pointer. */
 class view {
 public:
     view(const void *data, std::size_t size) : data_(static_cast<const std::uint8_t *>(data)), size_(size) {}
+    view(std::initializer_list<std::uint8_t> list) : view(list.begin(), list.size()) {}
 
     template <class Container>
     view(const Container &container) : view(container.data(), container.size()) {

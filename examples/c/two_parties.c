@@ -75,8 +75,8 @@ static halfgates_circuit *read_circuit(const char *name, uint32_t widths[PARTIES
     return circuit;
 }
 
-/* Deals the label file of a number. Of the evaluator's number the labels come by oblivious transfer, where the garbler
- * mustn't know it; this example hands it over. */
+/* Deals the label file of a number. Where the garbler mustn't learn the evaluator's number, those labels come by
+ * oblivious transfer; this example tells the garbler the number. */
 static size_t deal(halfgates_circuit *circuit, const uint8_t seed[32], uint32_t index, uint64_t number, uint32_t width,
                    uint8_t *file) {
     uint8_t bits[MAX_WIDTH];

@@ -42,6 +42,8 @@ void check_answers() {
     }
     const halfgates::bytes bits = {1, 1, 1};
     CHECK((circuit.plain(bits) == halfgates::bytes{1, 1}));
+    CHECK((circuit.plain({0, 1, 1}) == halfgates::bytes{0, 1}));
+    CHECK(circuit.deal(seed, 0, {0}) == circuit.deal(seed, 0, halfgates::bytes{0}));
     const std::vector<halfgates_wire_labels> labels = garbling.labels(bits, 6, 2);
     CHECK(labels.size() == 2 && labels[0].bit == 1);
     CHECK(garbling.zero_label(7) == garbling.zero_label(7));
