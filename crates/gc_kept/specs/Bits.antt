@@ -3,7 +3,7 @@ use Rattle.std.specs.Prelude.{◌≡◌, ◌≢◌, ℕ, Bool, true, false, List
 use Rattle.gc_netlist.specs.Spelling.{bit_number}
 use Rattle.gc_netlist.specs.declared.fault.ReadFault.TheVariants as read
 use Rattle.gc_kept.specs.declared.fault.KeptFault.{KeptFault}
-use Rattle.gc_kept.specs.declared.fault.KeptFault.TheVariants.{Circuit, BadDigit, WrongLength, Garbling, File, Binding, Evaluation, BadArgument, SmallBuffer, Memory}
+use Rattle.gc_kept.specs.declared.fault.KeptFault.TheVariants.{Circuit, BadDigit, WrongLength}
 
 -- A byte is neither 0 nor 1.
 pub record HasBadDigit (bytes : List ℕ) : Type 0 where
@@ -17,10 +17,4 @@ abbrev pub HasBitsFault : List ℕ → ℕ → KeptFault → Type 0
 HasBitsFault bytes count WrongLength = length bytes ≢ count
 HasBitsFault bytes count BadDigit = (length bytes ≡ count) × HasBadDigit bytes
 HasBitsFault bytes count (Circuit fault) = fault ≡ read.Memory
-HasBitsFault bytes count Garbling = ⊥
-HasBitsFault bytes count (File fault) = ⊥
-HasBitsFault bytes count (Binding fault) = ⊥
-HasBitsFault bytes count (Evaluation fault) = ⊥
-HasBitsFault bytes count BadArgument = ⊥
-HasBitsFault bytes count SmallBuffer = ⊥
-HasBitsFault bytes count Memory = ⊥
+HasBitsFault bytes count _ = ⊥

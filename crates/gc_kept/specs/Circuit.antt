@@ -4,17 +4,10 @@ use Rattle.gc_netlist.specs.declared.fault.ReadFault.TheVariants as read
 use Rattle.gc_netlist.specs.Text.{tokens}
 use Rattle.gc_netlist.specs.FirstFault.{FirstFault}
 use Rattle.gc_kept.specs.declared.fault.KeptFault.{KeptFault}
-use Rattle.gc_kept.specs.declared.fault.KeptFault.TheVariants.{Circuit, BadDigit, WrongLength, Garbling, File, Binding, Evaluation, BadArgument, SmallBuffer, Memory}
+use Rattle.gc_kept.specs.declared.fault.KeptFault.TheVariants.{Circuit, Memory}
 
 -- The fault of a text: its first fault, or memory is missing.
 abbrev pub HasTextFault : List ℕ → KeptFault → Type 0
 HasTextFault text (Circuit fault) = fault ≢ read.Memory → FirstFault (tokens text) fault
 HasTextFault text Memory = Unit {0}
-HasTextFault text BadDigit = ⊥
-HasTextFault text WrongLength = ⊥
-HasTextFault text Garbling = ⊥
-HasTextFault text (File fault) = ⊥
-HasTextFault text (Binding fault) = ⊥
-HasTextFault text (Evaluation fault) = ⊥
-HasTextFault text BadArgument = ⊥
-HasTextFault text SmallBuffer = ⊥
+HasTextFault text _ = ⊥

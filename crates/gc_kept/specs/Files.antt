@@ -5,7 +5,7 @@ use Rattle.gc_netlist.specs.Spelling.{bit_number}
 use Rattle.gc_format.specs.LabelFile.{label_file, label_parts_of}
 use Rattle.gc_job.specs.declared.fault.BindFault.TheVariants as bind
 use Rattle.gc_kept.specs.declared.fault.KeptFault.{KeptFault}
-use Rattle.gc_kept.specs.declared.fault.KeptFault.TheVariants.{Circuit, BadDigit, WrongLength, Garbling, File, Binding, Evaluation, BadArgument, SmallBuffer, Memory}
+use Rattle.gc_kept.specs.declared.fault.KeptFault.TheVariants.{Binding, SmallBuffer, Memory}
 use Rattle.gc_kept.specs.Bits.{HasBitsFault}
 
 -- The buffer begins with the file, and is as it was after it.
@@ -20,14 +20,7 @@ HasRoomFault length_of room fault = (fault ≡ SmallBuffer) × (room < length_of
 abbrev pub HasWriteFault : List ℕ → ℕ → ℕ → KeptFault → Type 0
 HasWriteFault file room written SmallBuffer = (room < length file) × (written ≡ length file)
 HasWriteFault file room written Memory = Unit {0}
-HasWriteFault file room written (Circuit fault) = ⊥
-HasWriteFault file room written BadDigit = ⊥
-HasWriteFault file room written WrongLength = ⊥
-HasWriteFault file room written Garbling = ⊥
-HasWriteFault file room written (File fault) = ⊥
-HasWriteFault file room written (Binding fault) = ⊥
-HasWriteFault file room written (Evaluation fault) = ⊥
-HasWriteFault file room written BadArgument = ⊥
+HasWriteFault file room written _ = ⊥
 
 -- The buffer begins with the label file of the bits that these bytes are, and this is its length.
 pub record IsDealtAt (c : Netlist) (seed : List ℕ) (index : ℕ) (bytes old new : List ℕ)

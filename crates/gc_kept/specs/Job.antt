@@ -13,7 +13,7 @@ use Rattle.gc_job.specs.Job.{JobParts}
 use Rattle.gc_job.specs.Binding.{FirstBindFault, IsBound}
 use Rattle.gc_job.specs.Evaluate.{IsEvaluated}
 use Rattle.gc_kept.specs.declared.fault.KeptFault.{KeptFault}
-use Rattle.gc_kept.specs.declared.fault.KeptFault.TheVariants.{Circuit, BadDigit, WrongLength, Garbling, File, Binding, Evaluation, BadArgument, SmallBuffer, Memory}
+use Rattle.gc_kept.specs.declared.fault.KeptFault.TheVariants.{File, Binding, Evaluation, BadArgument, Memory}
 use Rattle.gc_kept.specs.LabelFiles.{AreLabelFiles, HasLabelFilesFault}
 
 -- The job is that of the circuit, the garbled file and the label files that these bytes are.
@@ -49,11 +49,4 @@ abbrev pub HasEvaluationFault : JobParts → ℕ → KeptFault → Type 0
 HasEvaluationFault job room BadArgument = room ≢ output_wires job.circuit
 HasEvaluationFault job room (Evaluation fault) =
     (room ≡ output_wires job.circuit) × IsEvaluated job (Err fault)
-HasEvaluationFault job room (Circuit fault) = ⊥
-HasEvaluationFault job room BadDigit = ⊥
-HasEvaluationFault job room WrongLength = ⊥
-HasEvaluationFault job room Garbling = ⊥
-HasEvaluationFault job room (File fault) = ⊥
-HasEvaluationFault job room (Binding fault) = ⊥
-HasEvaluationFault job room SmallBuffer = ⊥
-HasEvaluationFault job room Memory = ⊥
+HasEvaluationFault job room _ = ⊥

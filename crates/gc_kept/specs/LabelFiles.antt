@@ -5,7 +5,7 @@ use Rattle.gc_read.specs.declared.fault.FileFault.TheVariants as file
 use Rattle.gc_read.specs.FileFault.{FirstLabelFault}
 use Rattle.gc_format.specs.LabelFile.{LabelFileParts, IsLabelFile, label_file}
 use Rattle.gc_kept.specs.declared.fault.KeptFault.{KeptFault}
-use Rattle.gc_kept.specs.declared.fault.KeptFault.TheVariants.{Circuit, BadDigit, WrongLength, Garbling, File, Binding, Evaluation, BadArgument, SmallBuffer, Memory}
+use Rattle.gc_kept.specs.declared.fault.KeptFault.TheVariants.{File, BadArgument, Memory}
 
 abbrev pub file_length : LabelFileParts → ℕ
 file_length file = length (label_file file)
@@ -36,10 +36,4 @@ HasLabelFilesFault bytes lengths BadArgument = length bytes ≢ sum lengths
 HasLabelFilesFault bytes lengths (File fault) =
     (length bytes ≡ sum lengths) × (fault ≢ file.Memory → HasFaultyFile bytes lengths fault)
 HasLabelFilesFault bytes lengths Memory = Unit {0}
-HasLabelFilesFault bytes lengths (Circuit fault) = ⊥
-HasLabelFilesFault bytes lengths BadDigit = ⊥
-HasLabelFilesFault bytes lengths WrongLength = ⊥
-HasLabelFilesFault bytes lengths Garbling = ⊥
-HasLabelFilesFault bytes lengths (Binding fault) = ⊥
-HasLabelFilesFault bytes lengths (Evaluation fault) = ⊥
-HasLabelFilesFault bytes lengths SmallBuffer = ⊥
+HasLabelFilesFault bytes lengths _ = ⊥

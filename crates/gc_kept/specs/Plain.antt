@@ -4,7 +4,7 @@ use Rattle.gc_netlist.specs.Circuit.{Netlist, input_wires, output_wires}
 use Rattle.gc_netlist.specs.Spelling.{bit_number}
 use Rattle.gc_circuit.specs.Meaning.{AreOutputs}
 use Rattle.gc_kept.specs.declared.fault.KeptFault.{KeptFault}
-use Rattle.gc_kept.specs.declared.fault.KeptFault.TheVariants.{Circuit, BadDigit, WrongLength, Garbling, File, Binding, Evaluation, BadArgument, SmallBuffer, Memory}
+use Rattle.gc_kept.specs.declared.fault.KeptFault.TheVariants.{BadArgument}
 use Rattle.gc_kept.specs.Bits.{HasBitsFault}
 
 -- The bytes are the circuit's outputs for the input bits that these bytes are.
@@ -20,15 +20,5 @@ pub record ArePlainOutputs (c : Netlist) (inputs outputs : List ℕ) : Type 0 wh
 -- input bits. Memory may be missing instead.
 abbrev pub HasPlainFault : Netlist → List ℕ → ℕ → KeptFault → Type 0
 HasPlainFault c inputs room BadArgument = room ≢ output_wires c
-HasPlainFault c inputs room (Circuit fault) =
-    (room ≡ output_wires c) × HasBitsFault inputs (input_wires c) (Circuit fault)
-HasPlainFault c inputs room BadDigit =
-    (room ≡ output_wires c) × HasBitsFault inputs (input_wires c) BadDigit
-HasPlainFault c inputs room WrongLength =
-    (room ≡ output_wires c) × HasBitsFault inputs (input_wires c) WrongLength
-HasPlainFault c inputs room Garbling = ⊥
-HasPlainFault c inputs room (File fault) = ⊥
-HasPlainFault c inputs room (Binding fault) = ⊥
-HasPlainFault c inputs room (Evaluation fault) = ⊥
-HasPlainFault c inputs room SmallBuffer = ⊥
-HasPlainFault c inputs room Memory = ⊥
+HasPlainFault c inputs room fault =
+    (room ≡ output_wires c) × HasBitsFault inputs (input_wires c) fault

@@ -58,7 +58,7 @@ impl Digested {
     }
 }
 
-/// A circuit with its digest. Garblings and jobs hold it with others, and it is dropped with the last of them.
+/// A circuit with its digest. It is shared with its garblings and jobs, and dropped with the last holder.
 #[derive(Drop)]
 pub struct KeptCircuit {
     shared: Arc<Digested, Global>,
@@ -78,14 +78,9 @@ impl KeptCircuit {
         ensures ok { IfOk result (λ c. IsLawful c × Spells text.now c) }
         ensures fault { IfErr result (HasTextFault text.now) }
     {
-        let circuit = match Circuit::read(alloc, text) {
-            Ok(circuit) => circuit,
-            Err(fault) => return Err(KeptFault::Circuit(fault)),
-        };
-        match Arc::new(alloc, Digested::new(circuit)) {
-            Ok(shared) => Ok(KeptCircuit { shared }),
-            Err(_) => Err(KeptFault::Memory),
-        }
+        let circuit = Circuit::read(alloc, text)?;
+        let shared = Arc::new(alloc, Digested::new(circuit))?;
+        Ok(KeptCircuit { shared })
     }
 
     /// The circuit.

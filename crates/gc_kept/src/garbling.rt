@@ -1,6 +1,6 @@
 //! Garblings that hold their circuit.
 
-ghost use Rattle.std.specs.Prelude.{◌≡◌, ◌≤◌, ◌<◌, Some, length, slice_get, IfOk, IfErr, OnOk, OnErr};
+ghost use Rattle.std.specs.Prelude.{◌≡◌, ◌<◌, Some, length, slice_get, IfOk, IfErr, OnOk, OnErr};
 ghost use Rattle.gc_kept.specs.Garbling.{IsWantOfMemory};
 
 use crate::bits::bit_byte;
@@ -57,7 +57,7 @@ impl KeptGarbling {
     ghost use Rattle.gc_format.specs.GarbledFile.{garbled_file};
     ghost use Rattle.gc_file.specs.Honest.{honest_parts};
     ghost use Rattle.gc_write.specs.Written.{IsWritten};
-    ghost use Rattle.gc_kept.specs.Wires.{IsZeroLabel, IsDecodeBit};
+    ghost use Rattle.gc_kept.specs.Wires.{IsZeroLabel, IsDecodeBit, HasNoWire, HasNoOutput};
 
     /// The law of the type: it is the garbling of the circuit under the seed. A call of it does nothing.
     pub fn law_garbled(&self)
@@ -96,8 +96,7 @@ impl KeptGarbling {
     /// Writes the zero label of a wire, if there is such a wire.
     pub fn zero_label(&self, wire: u32, label: &mut [u8; 16]) -> Result<(), KeptFault>
         ensures ok { OnOk result (IsZeroLabel self.now wire label.new) }
-        ensures fault { IfErr result (λ fault.
-            (fault ≡ KeptFault.BadArgument) × (length self.now.garbling.zero_labels ≤ wire)) }
+        ensures fault { IfErr result (HasNoWire self.now wire) }
         ensures unwritten { OnErr result (label.new ≡ label.old) }
     {
         if wire >= self.circuit.circuit().wires() {
@@ -110,8 +109,7 @@ impl KeptGarbling {
     /// Writes the decode bit of an output wire, counted from 0 among the output wires, if there is such a wire.
     pub fn decode_bit(&self, output: u32, bit: &mut u8) -> Result<(), KeptFault>
         ensures ok { OnOk result (IsDecodeBit self.now output bit.new) }
-        ensures fault { IfErr result (λ fault.
-            (fault ≡ KeptFault.BadArgument) × (self.now.garbling.outputs ≤ output)) }
+        ensures fault { IfErr result (HasNoOutput self.now output) }
         ensures unwritten { OnErr result (bit.new ≡ bit.old) }
     {
         if output >= self.garbling.outputs() {

@@ -1,7 +1,7 @@
 //! Circuits, garblings and jobs that own what they stand on, for a caller that keeps them apart and lets them go in any
 //! order: what a library for other languages hands out. Bits are bytes here, 0 and 1, and files are bytes in memory.
 //!
-//! A [`KeptCircuit`] has its digest with it. A [`KeptGarbling`] and a [`KeptJob`] hold their circuit with others.
+//! A [`KeptCircuit`] has its digest with it. A [`KeptGarbling`] and a [`KeptJob`] share their circuit.
 #![tactic(auto)]
 
 mod audit;

@@ -55,8 +55,8 @@ pub record LacksRoom (g : SeededGarbling) (bytes : List ℕ) (room : ℕ) (r : L
   pub report : IsReportOf g bytes verdict r
   pub small : HasNoRoomFor verdict room
 
--- The fault of bytes that are no label file, after which the report is as it was, or of a buffer without room.
-abbrev pub HasReportFault : SeededGarbling → (bytes : List ℕ) → (room : ℕ)
-    → (old new : LabelsReport) → KeptFault → Type 0
-HasReportFault g bytes room old new SmallBuffer = LacksRoom g bytes room new
-HasReportFault g bytes room old new fault = HasLabelsFault bytes fault × (new ≡ old)
+-- The fault of bytes that are no label file, or of a buffer without room.
+abbrev pub HasReportFault : SeededGarbling → (bytes : List ℕ) → (room : ℕ) → LabelsReport → KeptFault
+    → Type 0
+HasReportFault g bytes room report SmallBuffer = LacksRoom g bytes room report
+HasReportFault g bytes room report fault = HasLabelsFault bytes fault

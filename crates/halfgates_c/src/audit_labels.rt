@@ -72,7 +72,7 @@ fn audit(
     ensures ok { OnOk result
         (IsLabelsReportOn garbling.now file.now bits.old bits.new report.new) }
     ensures fault { IfErr result
-        (HasReportFault garbling.now file.now (length bits.old) report.old report.new) }
+        (HasReportFault garbling.now file.now (length bits.old) report.new) }
     ensures unwritten { OnErr result (bits.new ≡ bits.old) }
     ensures unreported { IfErr result (λ fault.
         fault ≢ KeptFault.SmallBuffer → report.new ≡ report.old) }
@@ -95,7 +95,7 @@ pub extern "C" fn halfgates_audit_labels(
     requires report { Testable (as_mut_ptr report) }
     ensures answer { MatchOption (garbling_of garbling.old.held) (result ≡ pos 60)
         (λ g. Answers result (IsLabelsReportOn g file.now bits.old bits.new report.new)
-        (HasReportFault g file.now (length bits.old) report.old report.new)) }
+        (HasReportFault g file.now (length bits.old) report.new)) }
     ensures kept { result ≢ pos 0 → bits.new ≡ bits.old }
     ensures unreported { result ≢ pos 0 → result ≢ pos 61 → report.new ≡ report.old }
     ensures held { garbling.new.held ≡ garbling.old.held }

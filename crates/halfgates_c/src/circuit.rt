@@ -101,7 +101,7 @@ pub extern "C" fn halfgates_circuit_numbers(
     }, else BAD_ARGUMENT)
 }
 
-/// Copies a circuit's widths, where there are as many as given.
+/// Copies the widths, where the buffer has room for exactly as many.
 fn copy_widths(widths: &[u32], copied: &mut [u32]) -> i32
     ensures answer { Copies result widths.now copied.old copied.new }
 {

@@ -1,10 +1,10 @@
 //! Garblings.
 
-ghost use Rattle.std.specs.Prelude.{◌≡◌, ◌≢◌, ◌≤◌, OnOk, OnErr, IfErr, MatchOption, pos, length};
+ghost use Rattle.std.specs.Prelude.{◌≡◌, ◌≢◌, OnOk, OnErr, IfErr, MatchOption, pos};
 ghost use Rattle.core.specs.Ptr.{as_ptr, as_mut_ptr};
 ghost use denote.RawPtr.{Testable};
 ghost use Rattle.gc_kept.specs.Garbling.{IsWantOfMemory};
-ghost use Rattle.gc_kept.specs.Wires.{IsZeroLabel, IsDecodeBit};
+ghost use Rattle.gc_kept.specs.Wires.{IsZeroLabel, IsDecodeBit, HasNoWire, HasNoOutput};
 ghost use Rattle.halfgates_c.specs.Answers.{Answers};
 ghost use Rattle.halfgates_c.specs.Holding.{circuit_of, garbling_of};
 ghost use Rattle.halfgates_c.specs.Reading.{HoldsGarbling};
@@ -73,8 +73,7 @@ pub extern "C" fn halfgates_zero_label(
     requires garbling { Testable (as_mut_ptr garbling) }
     requires label { Testable (as_mut_ptr label) }
     ensures answer { MatchOption (garbling_of garbling.old.held) (result ≡ pos 60) (λ g.
-        Answers result (IsZeroLabel g wire label.new)
-        (λ fault. (fault ≡ KeptFault.BadArgument) × (length g.garbling.zero_labels ≤ wire))) }
+        Answers result (IsZeroLabel g wire label.new) (HasNoWire g wire)) }
     ensures held { garbling.new.held ≡ garbling.old.held }
     ensures kept { result ≢ pos 0 → label.new ≡ label.old }
 {
@@ -97,8 +96,7 @@ pub extern "C" fn halfgates_decode_bit(
     requires garbling { Testable (as_mut_ptr garbling) }
     requires bit { Testable (as_mut_ptr bit) }
     ensures answer { MatchOption (garbling_of garbling.old.held) (result ≡ pos 60) (λ g.
-        Answers result (IsDecodeBit g output bit.new)
-        (λ fault. (fault ≡ KeptFault.BadArgument) × (g.garbling.outputs ≤ output))) }
+        Answers result (IsDecodeBit g output bit.new) (HasNoOutput g output)) }
     ensures held { garbling.new.held ≡ garbling.old.held }
     ensures kept { result ≢ pos 0 → bit.new ≡ bit.old }
 {
