@@ -32,10 +32,10 @@ _release.restype = None
 
 
 class Lent:
-    """A `with` block in which an object's bytes stay where they are: `size` bytes at the address `at`, in items.
+    """A `with` block in which an object's bytes stay where they are: `size` bytes at the address `at`.
 
-    An object that has no bytes is a TypeError. One whose bytes don't lie one after another, or aren't writable where
-    they have to be, is a BufferError.
+    They are items of `item_size` bytes each. An object that has no bytes is a TypeError. One whose bytes don't lie one
+    after another, or aren't writable where they have to be, is a BufferError.
     """
 
     def __init__(self, data: object, is_written: bool = False) -> None:

@@ -56,7 +56,7 @@ pub record LacksRoom (g : SeededGarbling) (bytes : List ℕ) (room : ℕ) (r : L
   pub small : HasNoRoomFor verdict room
 
 -- The fault of bytes that are no label file, or of a buffer without room.
-abbrev pub HasReportFault : SeededGarbling → (bytes : List ℕ) → (room : ℕ) → LabelsReport → KeptFault
-    → Type 0
+abbrev pub HasReportFault : SeededGarbling → (bytes : List ℕ) → (room : ℕ) → LabelsReport
+    → KeptFault → Type 0
 HasReportFault g bytes room report SmallBuffer = LacksRoom g bytes room report
 HasReportFault g bytes room report fault = HasLabelsFault bytes fault
