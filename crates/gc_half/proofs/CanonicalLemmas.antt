@@ -9,6 +9,7 @@ use Rattle.gc_half.specs.Evaluation.{IsEvaluation, encode, decode_bits}
 use Rattle.gc_half.specs.Canonical.{zero_label_of, row_pairs_of, active_label_of}
 use Rattle.gc_half.specs.Law.{HasOneGarbled, Decodes}
 use Rattle.gc_half.proofs.CircuitLaw.{active_local, garbling-decodes}
+use Rattle.gc_half.proofs.NumberedLemmas.{IsGarbling-zero, zero-IsGarbling}
 use Rattle.gc_half.proofs.SetWires.{set_or_not, not_set_before}
 use Rattle.gc_half.proofs.GarblingLemmas.{zero_local, IsGarbling-same, rows-garbling, one_garbling}
 
@@ -73,8 +74,9 @@ module _ (c : Netlist) (seed : List ℕ) where
         let read = read-table (zero_label_of c seed) c.wires in
         record {
           garbling =
-              IsGarbling-same hash (offset_of seed) c lawful _ _ _ _
-              (λ w set. sym (read w 0 (IsSetBefore-below c lawful _ w set))) canonical-garbling;
+              zero-IsGarbling hash (offset_of seed) c _ _ _
+              (IsGarbling-same hash (offset_of seed) c lawful _ _ _ _
+              (λ w set. sym (read w 0 (IsSetBefore-below c lawful _ w set))) canonical-garbling);
           wires = length-map-range_with_len (zero_label_of c seed) 0 c.wires;
           not_set = λ w below unset. read w 0 below ∙ zero_label_of-not_set w unset;
           outputs = refl;
@@ -84,12 +86,13 @@ module _ (c : Netlist) (seed : List ℕ) where
     pub IsGarbled-same : (g : GarblingParts) → IsGarbled c seed g → g ≡ garbling_of c seed
     IsGarbled-same g garbled =
         let only = one_garbling hash (offset_of seed) c lawful (input_label_of seed) in
+        let is = IsGarbling-zero hash (offset_of seed) c _ _ _ garbled.garbling in
         parts-same g _ _ _
         (fill_by_all (zero_label_of c seed) g.zero_labels c.wires 0 garbled.wires
-        (λ w below. ⊎_elim (only.same_labels _ _ _ _ garbled.garbling canonical-garbling w)
+        (λ w below. ⊎_elim (only.same_labels _ _ _ _ is canonical-garbling w)
         (λ unset. garbled.not_set w below unset ∙ sym (zero_label_of-not_set w unset))
         (set_or_not c w)))
-        (only.same_rows _ _ _ _ garbled.garbling canonical-garbling) garbled.outputs
+        (only.same_rows _ _ _ _ is canonical-garbling) garbled.outputs
 
     -- Its decode bits are the colours of the output wires' zero labels,
     pub IsGarbled-decode_bits : (g : GarblingParts) → IsGarbled c seed g

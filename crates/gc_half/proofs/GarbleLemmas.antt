@@ -1,22 +1,29 @@
 -- Garbling in file order: the table of zero labels and the row pairs, gate after gate.
-use Rattle.gc_half.proofs.Names.{◌≡◌, ℕ, add-one, if◌then◌else◌, ◌==◌, ◌+◌, ◌-◌, ◌<◌, ◌≤◌, ◌++◌, ⊎_elim, List, [], length, map, replicate, slice_get, slice_index, Some, take, refl, sym, ◌∙◌, arith, nat_tests, slice_get_within, Gate, Netlist, input_wires, output_wires, IsLawful, IsSetBy, IsSetBefore, EachRead, and_number, put, EachRead-map, after-keeps, offset_of, input_label_of, RowPair, first_read, second_read, gate_rows, zero_of, zero_rule, IsGarbled, input_zero, rows_after, with_row_pair}
+use Rattle.gc_half.proofs.Names.{◌≡◌, ℕ, ap, input_label_of, input_zero, add-one, if◌then◌else◌, ◌==◌, ◌+◌, ◌-◌, ◌<◌, ◌≤◌, ◌++◌, inl, ⊎_elim, List, [], length, map, replicate, slice_get, slice_index, Some, take, refl, sym, ◌∙◌, subst, arith, nat_tests, slice_get_within, Gate, Netlist, input_wires, output_wires, IsLawful, IsSet, IsSetBy, IsSetBefore, EachRead, and_number, put, EachRead-map, after-keeps, solution_solves, RowPair, first_read, second_read, gate_rows, zero_of, zero_rule, IsGarbling, rows_after, with_row_pair}
 use Rattle.std.specs.List.{range_with_len}
+use Rattle.std.proofs.lemmas.Bool.{cases_lt}
 use Rattle.std.proofs.lemmas.List.{get_or_past, take_all}
+use Rattle.std.proofs.lemmas.List.FromFn.{length-map-range_with_len}
 use Rattle.gc_netlist.specs.Solution.{values_after}
-use Rattle.gc_netlist.proofs.Tables.{read-table, length-table, table_padded}
-use Rattle.gc_half.specs.Hash.{hash}
-use Rattle.gc_half.specs.Canonical.{zero_label_of, row_pairs_of}
+use Rattle.gc_netlist.proofs.Tables.{read-table, length-table, table_padded, IsSetBefore-below}
+use Rattle.gc_half.specs.Garbling.{IsGarbledFrom}
+use Rattle.gc_half.specs.Hash.{hash, numbered_from}
+use Rattle.gc_half.specs.SideBySide.{IsOneGateMore}
 use Rattle.gc_half.proofs.AndNumbers.{and_number-le}
 use Rattle.gc_half.proofs.OneGateLemmas.{first_read-local, second_read-local}
-use Rattle.gc_half.proofs.GarblingLemmas.{zero_local}
+use Rattle.gc_half.proofs.GarblingLemmas.{zero_local, IsGarbling-same, rows-garbling}
 use Rattle.gc_half.proofs.RowLemmas.{rows_after-start, rows_after-next, length-rows_after}
-use Rattle.gc_half.proofs.CanonicalLemmas.{garbling_of-IsGarbled}
-use Rattle.gc_half.proofs.SetWires.{last_or_before}
+use Rattle.gc_half.proofs.SetWires.{last_or_before, not_set_before}
 
-module _ (c : Netlist) (seed : List ℕ) where
+-- The hash may be any.
+module _ (h : ℕ → ℕ → ℕ) (r : ℕ) (c : Netlist) (given : List ℕ) where
   -- the zero labels after the first n gates
   abbrev pub labels_after : ℕ → ℕ → ℕ
-  labels_after n = values_after (zero_rule hash (offset_of seed) c) c (input_zero c seed) n
+  labels_after n = values_after (zero_rule h r c) c (slice_index given) n
+
+  -- the zero labels after the last gate
+  unfoldable pub label_of : ℕ → ℕ
+  label_of = labels_after (length c.gates)
 
   -- The first n gates are garbled. The labels of the wires that they leave set stand in a table that may end after the
   -- last of them. Behind it, and where no wire is set, there is 0.
@@ -24,14 +31,19 @@ module _ (c : Netlist) (seed : List ℕ) where
     pub few : length labels ≤ c.wires
     pub there : (w : ℕ) → IsSetBefore c n w → w < length labels
     pub right : (w : ℕ) → slice_index labels w ≡ labels_after n w
-    pub row_pairs : rows ≡ rows_after hash (offset_of seed) c (zero_label_of c seed) n
+    pub row_pairs : rows ≡ rows_after h r c label_of n
 
   -- There are no more row pairs than gates.
   pub few_rows : (n : ℕ) (labels : List ℕ) (rows : List RowPair) → AreGarbled n labels rows
       → length rows ≤ n
   few_rows n labels rows are =
-      let count = length-rows_after hash (offset_of seed) c (zero_label_of c seed) n in
+      let count = length-rows_after h r c label_of n in
       rw are.row_pairs (omega (arith, and_number-le c n))
+
+  -- There are as many row pairs as AND gates among the gates.
+  pub count_rows : (n : ℕ) (labels : List ℕ) (rows : List RowPair) → AreGarbled n labels rows
+      → length rows ≡ and_number c n
+  count_rows n labels rows are = rw are.row_pairs (length-rows_after h r c label_of n)
 
   -- Such a table that is lengthened by zeros has a label for each wire.
   pub labels-padded : (n : ℕ) (labels table : List ℕ) (rows : List RowPair) (count wires : ℕ)
@@ -43,31 +55,17 @@ module _ (c : Netlist) (seed : List ℕ) where
       (simp are.right at (table_padded labels c.wires 0 are.few))
 
   module _ (lawful : IsLawful c) where
-    -- At the start the labels are those of the input wires.
-    pub garbled-start : (labels : List ℕ)
-        → labels ≡ map (input_label_of seed) (range_with_len 0 (input_wires c))
-        → AreGarbled 0 labels []
-    unfolding values_after
-    garbled-start labels is =
-        let count = length-table (input_label_of seed) (input_wires c) labels is in
-        record {
-          few = omega (arith, lawful.inputs_fit);
-          there = λ w set. grind arith;
-          right = λ w. grind (arith, nat_tests, get_or_past, read-table);
-          row_pairs = sym (rows_after-start hash (offset_of seed) c (zero_label_of c seed));
-        }
-
     -- One more gate: its label is put where it belongs, and its row pair is pushed.
     pub garbled-next : (i : ℕ) (g : Gate) → slice_get c.gates i ≡ Some g
         → (labels new : List ℕ) (rows new_rows : List RowPair) → AreGarbled i labels rows
         → ((w : ℕ) → slice_index new w ≡ put (slice_index labels) g.set
-        (zero_of hash (offset_of seed) (slice_index labels) (length rows) g.operation) w)
+        (zero_of h r (slice_index labels) (length rows) g.operation) w)
         → g.set < length new → length labels ≤ length new → length new ≤ c.wires
-        → new_rows ≡ with_row_pair rows (gate_rows hash (offset_of seed) (length rows) g.operation
+        → new_rows ≡ with_row_pair rows (gate_rows h r (length rows) g.operation
         (first_read (slice_index labels) g.operation)
         (second_read (slice_index labels) g.operation))
         → AreGarbled (i + 1) new new_rows
-    unfolding values_after zero_label_of
+    unfolding values_after label_of
     garbled-next i g at labels new rows new_rows are puts set kept few pushed =
         record {
           few = few;
@@ -75,7 +73,7 @@ module _ (c : Netlist) (seed : List ℕ) where
               (λ (by : IsSetBy c w i). let s : g.set ≡ w = cc (by.at, by.wire) in omega arith)
               (last_or_before c w i (rw add-one at before));
           right = λ w. rw (puts w, add-one, at) (λ t. if w == g.set
-              then zero_of hash (offset_of seed) (λ v. are.right v t) (number t) g.operation
+              then zero_of h r (λ v. are.right v t) (number t) g.operation
               else are.right w t);
           row_pairs = rw (
             pushed,
@@ -84,24 +82,105 @@ module _ (c : Netlist) (seed : List ℕ) where
             first_read-local _ _ g.operation same,
             second_read-local _ _ g.operation same,
             add-one,
-            rows_after-next hash (offset_of seed) c (zero_label_of c seed) i g at,
+            rows_after-next h r c label_of i g at,
           ) refl;
         }
       where
         number : length rows ≡ and_number c i
-        number = rw are.row_pairs (length-rows_after hash _ c _ i)
+        number = rw are.row_pairs (length-rows_after h _ c _ i)
 
-        same : EachRead (λ w. slice_index labels w ≡ zero_label_of c seed w) g.operation
+        same : EachRead (λ w. slice_index labels w ≡ label_of w) g.operation
         same = EachRead-map (IsSetBefore c i) _ g.operation (λ w set. are.right w
-            ∙ sym (after-keeps _ (zero_local hash (offset_of seed) c) c lawful _ i _ w
+            ∙ sym (after-keeps _ (zero_local h r c) c lawful _ i _ w
             (omega (arith, slice_get_within c.gates i g at)) set)) (lawful.reads i g at)
 
-    -- After the last gate the table and the row pairs are the garbling.
-    pub garbled-end : (labels table : List ℕ) (count wires outputs : ℕ) (rows : List RowPair)
-        → AreGarbled (length c.gates) labels rows → count ≡ length labels → wires ≡ c.wires
-        → table ≡ take wires labels ++ replicate (wires - count) 0 → outputs ≡ output_wires c
-        → IsGarbled c seed (record { zero_labels = table; rows = rows; outputs = outputs })
-    unfolding zero_label_of row_pairs_of
-    garbled-end labels table count wires outputs rows are count_is wires_is made outputs_are =
-        let padded = labels-padded _ labels table rows count wires are count_is wires_is made in
-        rw (padded, are.row_pairs, outputs_are) (garbling_of-IsGarbled c seed lawful)
+    -- The same, of a step of garblings side by side.
+    pub garbled-step : (i : ℕ) (g : Gate) → slice_get c.gates i ≡ Some g
+        → (labels new : List ℕ) (rows new_rows : List RowPair) (o wires : ℕ)
+        → AreGarbled i labels rows → o ≡ r → wires ≡ c.wires
+        → IsOneGateMore h o wires g labels rows new new_rows → AreGarbled (i + 1) new new_rows
+    garbled-step i g at labels new rows new_rows o wires are same wires_is more =
+        let more = subst (λ (x : ℕ). IsOneGateMore h x wires g labels rows new new_rows) same more in
+        garbled-next i g at labels new rows new_rows are more.label more.there more.kept
+        (omega (arith, more.few, wires_is)) more.row_pairs
+
+    module _ (long : length given ≡ input_wires c) where
+      -- At the start the labels are those of the input wires.
+      pub garbled-start : AreGarbled 0 given []
+      unfolding values_after
+      garbled-start =
+          record {
+            few = omega (arith, lawful.inputs_fit, long);
+            there = λ w set. grind (arith, long);
+            right = λ w. refl;
+            row_pairs = sym (rows_after-start h r c label_of);
+          }
+
+      -- A wire that is not set has the label 0.
+      label_of-not_set : (w : ℕ) → ¬ IsSet c w → label_of w ≡ 0
+      unfolding label_of
+      label_of-not_set w unset =
+          not_set_before _ c (slice_index given) w (length c.gates) unset
+          ∙ ⊎_elim (λ input. absurd (unset (inl (omega (arith, input, long)))))
+          (λ past. get_or_past given w 0 past) (cases_lt w (length given))
+
+      -- The labels on the wires and their rows are a garbling.
+      labels-garbling : IsGarbling h r c (slice_index given) label_of
+          (rows_after h r c label_of (length c.gates))
+      unfolding label_of
+      labels-garbling =
+          rows-garbling h r c lawful (slice_index given) _
+          (solution_solves _ (zero_local h r c) c lawful (slice_index given))
+
+      -- So is what stands in a table of them.
+      pub table-garbling : (table : List ℕ) → table ≡ map label_of (range_with_len 0 c.wires)
+          → IsGarbling h r c (slice_index given) (slice_index table)
+          (rows_after h r c label_of (length c.gates))
+      table-garbling table is =
+          IsGarbling-same h r c lawful (slice_index given) label_of (slice_index table) _
+          (λ w set. rw is (sym (read-table label_of c.wires w 0 (IsSetBefore-below c lawful _ w set))))
+          labels-garbling
+
+      pub table-not_set : (table : List ℕ) → table ≡ map label_of (range_with_len 0 c.wires)
+          → (w : ℕ) → w < c.wires → ¬ IsSet c w → slice_index table w ≡ 0
+      table-not_set table is w below unset =
+          rw is (read-table label_of c.wires w 0 below ∙ label_of-not_set w unset)
+
+-- After the last gate the table and the row pairs are the garbling.
+pub garbled-end : (first r : ℕ) (c : Netlist) (given : List ℕ) → IsLawful c
+    → length given ≡ input_wires c → (labels table : List ℕ) (count wires outputs : ℕ)
+    (rows : List RowPair)
+    → AreGarbled (numbered_from first hash) r c given (length c.gates) labels rows
+    → count ≡ length labels → wires ≡ c.wires
+    → table ≡ take wires labels ++ replicate (wires - count) 0 → outputs ≡ output_wires c
+    → IsGarbledFrom r (slice_index given) first c
+    (record { zero_labels = table; rows = rows; outputs = outputs })
+unfolding label_of
+garbled-end first r c given lawful long labels table count wires outputs rows are count_is wires_is
+    made outputs_are =
+    let h = numbered_from first hash in
+    let padded = labels-padded h r c given _ labels table rows count wires are count_is wires_is made in
+    record {
+      garbling = rw are.row_pairs (table-garbling h r c given lawful long table padded);
+      wires = rw padded (length-map-range_with_len _ 0 c.wires);
+      not_set = table-not_set h r c given lawful long table padded;
+      outputs = outputs_are;
+    }
+
+-- The zero labels of the input wires under a seed, lengthened by zeros.
+pub inputs-padded : (c : Netlist) → IsLawful c → (seed labels table : List ℕ) (count wires : ℕ)
+    → labels ≡ map (input_label_of seed) (range_with_len 0 (input_wires c))
+    → count ≡ length labels → wires ≡ c.wires
+    → table ≡ take wires labels ++ replicate (wires - count) 0
+    → table ≡ map (input_zero c seed) (range_with_len 0 c.wires)
+unfolding values_after
+inputs-padded c lawful seed labels table count wires labels_are count_is wires_is made =
+    let long = length-table (input_label_of seed) (input_wires c) labels labels_are in
+    labels-padded hash 0 c labels 0 labels table [] count wires
+    (garbled-start hash 0 c labels lawful long) count_is wires_is made
+    ∙ ap (λ f. map f (range_with_len 0 c.wires)) (λ t w. same w t)
+  where
+    same : (w : ℕ) → slice_index labels w ≡ input_zero c seed w
+    same w =
+        let long = length-table (input_label_of seed) (input_wires c) labels labels_are in
+        grind (arith, nat_tests, get_or_past, read-table)

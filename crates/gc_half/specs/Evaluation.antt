@@ -8,7 +8,7 @@ use Rattle.gc_netlist.specs.Solution.{Solves, on_outputs}
 use Rattle.gc_circuit.specs.Meaning.{xor}
 use Rattle.gc_label.specs.Label.{◌⊕◌, colour, times}
 use Rattle.gc_half.specs.declared.garbling.RowPair.{RowPair}
-use Rattle.gc_half.specs.Hash.{hash}
+use Rattle.gc_half.specs.Hash.{hash, numbered_from}
 use Rattle.gc_half.specs.OneGate.{first_read, second_read, gate_active}
 
 -- The row pair at a gate's AND number, or zeros where there is none.
@@ -31,11 +31,17 @@ module _ (hash : ℕ → ℕ → ℕ) where
   abbrev pub IsEvaluation : Netlist → List RowPair → (ℕ → ℕ) → (ℕ → ℕ) → Type 0
   IsEvaluation c rows given active = Solves (active_rule c rows) c given active
 
--- The labels of all wires are active ones: those of an evaluation of the rows on these labels of the input wires.
-pub record AreActive (c : Netlist) (rows : List RowPair) (inputs labels : List ℕ) : Type 0 where
+-- The labels of all wires are active ones: those of an evaluation of the rows on these labels of the input wires, where
+-- AND gates are numbered from `first` on.
+pub record AreActiveFrom (first : ℕ) (c : Netlist) (rows : List RowPair) (inputs labels : List ℕ)
+    : Type 0 where
   pub active : ℕ → ℕ
-  pub evaluation : IsEvaluation hash c rows (slice_index inputs) active
+  pub evaluation : IsEvaluation (numbered_from first hash) c rows (slice_index inputs) active
   pub table : labels ≡ map active (range_with_len 0 c.wires)
+
+-- The same, where they are numbered from 0 on.
+abbrev pub AreActive : Netlist → List RowPair → List ℕ → List ℕ → Type 0
+AreActive c rows inputs labels = AreActiveFrom 0 c rows inputs labels
 
 -- The label that stands for a bit on a wire with this zero label.
 abbrev pub encode : ℕ → ℕ → Bool → ℕ

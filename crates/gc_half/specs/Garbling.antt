@@ -9,7 +9,7 @@ use Rattle.gc_netlist.specs.Solution.{Solves}
 use Rattle.gc_label.specs.Label.{colour}
 use Rattle.gc_label.specs.Seed.{offset_of, input_label_of}
 use Rattle.gc_half.specs.declared.garbling.RowPair.{RowPair}
-use Rattle.gc_half.specs.Hash.{hash}
+use Rattle.gc_half.specs.Hash.{hash, numbered_from}
 use Rattle.gc_half.specs.OneGate.{first_read, second_read, row_pair, gate_zero}
 
 module _ (hash : ℕ → ℕ → ℕ) (r : ℕ) where
@@ -47,13 +47,19 @@ pub record GarblingParts : Type 0 where
 abbrev pub decode_bits_of : GarblingParts → List Bool
 decode_bits_of g = map colour (drop (length g.zero_labels - g.outputs) g.zero_labels)
 
--- The parts are the garbling of the circuit under the seed. A wire that is not set has 16 zero bytes.
-pub record IsGarbled (c : Netlist) (seed : List ℕ) (g : GarblingParts) : Type 0 where
-  pub garbling : IsGarbling hash (offset_of seed) c (input_label_of seed)
-      (slice_index g.zero_labels) g.rows
+-- The parts are the garbling of the circuit with the offset r, these zero labels of the input wires, and AND gates that
+-- are numbered from `first` on. A wire that is not set has 16 zero bytes.
+pub record IsGarbledFrom (r : ℕ) (given : ℕ → ℕ) (first : ℕ) (c : Netlist) (g : GarblingParts)
+    : Type 0 where
+  pub garbling : IsGarbling (numbered_from first hash) r c given (slice_index g.zero_labels) g.rows
   pub wires : length g.zero_labels ≡ c.wires
   pub not_set : (w : ℕ) → w < c.wires → ¬ IsSet c w → slice_index g.zero_labels w ≡ 0
   pub outputs : g.outputs ≡ output_wires c
+
+-- The parts are the garbling of the circuit under the seed: that with the seed's offset and zero labels, and AND gates
+-- that are numbered from 0 on.
+abbrev pub IsGarbled : Netlist → List ℕ → GarblingParts → Type 0
+IsGarbled c seed g = IsGarbledFrom (offset_of seed) (input_label_of seed) 0 c g
 
 -- The numbers of wires, AND gates and outputs are the circuit's.
 pub record FitsCircuit (c : Netlist) (g : GarblingParts) : Type 0 where

@@ -8,3 +8,5 @@ pub mod Canonical
 pub mod Law
 pub mod Comparing
 pub mod Waiting
+pub mod Joined
+pub mod SideBySide

@@ -35,26 +35,34 @@ settled label labels [] = labels
 settled label labels (waits ∷ others) =
     settled label (slice_set labels waits.set (label waits.gate)) others
 
--- The zero label of the wire that an AND gate sets, and its row pair.
-abbrev pub zero_label_of_gate : AndGate → ℕ
-zero_label_of_gate g = and_zero hash g.k g.offset g.a g.b
+module _ (hash : ℕ → ℕ → ℕ) where
+  -- The zero label of the wire that an AND gate sets, and its row pair.
+  abbrev pub zero_label_of_gate : AndGate → ℕ
+  zero_label_of_gate g = and_zero hash g.k g.offset g.a g.b
 
-abbrev pub row_pair_of_gate : AndGate → RowPair
-row_pair_of_gate g = row_pair hash g.offset g.k g.a g.b
+  abbrev pub row_pair_of_gate : AndGate → RowPair
+  row_pair_of_gate g = row_pair hash g.offset g.k g.a g.b
 
--- The active label of the wire that an AND gate sets.
+  -- The active label of the wire that an AND gate sets.
+  abbrev pub active_label_by_step : AndStep → ℕ
+  active_label_by_step s = and_active hash s.k s.rows.generator s.rows.evaluator s.a s.b
+
+-- The same, where AND gates are numbered from 0 on.
 abbrev pub active_label_of_step : AndStep → ℕ
-active_label_of_step s = and_active hash s.k s.rows.generator s.rows.evaluator s.a s.b
+active_label_of_step s = active_label_by_step hash s
 
 -- A circuit that is garbled gate after gate: the labels of its wires and the row pairs so far, as if no gate waited,
--- the row pairs that are made and compared, and the gates that wait.
+-- the row pairs that are made and compared, the gates that wait, and the number of the first AND gate.
 pub record GarblingTableParts : Type 0 where
+  pub first : ℕ
   pub labels : List ℕ
   pub rows : List RowPair
   pub compared : RowTableParts
   pub waiting : List (WaitingGate AndGate)
 
--- A circuit that is evaluated gate after gate: the labels of its wires, as if no gate waited, and the gates that wait.
+-- A circuit that is evaluated gate after gate: the labels of its wires, as if no gate waited, the gates that wait,
+-- and the number of the first AND gate.
 pub record ActiveTableParts : Type 0 where
+  pub first : ℕ
   pub labels : List ℕ
   pub waiting : List (WaitingGate AndStep)

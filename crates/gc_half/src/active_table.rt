@@ -3,13 +3,14 @@
 ghost use Rattle.std.specs.Prelude.{◌≡◌, ◌≢◌, ◌<◌, [], ℕ, IsTrue, false, length, slice_index, slice_set};
 ghost use Rattle.std.specs.List.{list_any};
 ghost use Rattle.gc_netlist.specs.Circuit.{EachRead, is_and, reads};
-ghost use Rattle.gc_half.specs.Hash.{hash};
+ghost use Rattle.gc_half.specs.Hash.{hash, numbered_from};
 ghost use Rattle.gc_half.specs.OneGate.{first_read, second_read};
 ghost use Rattle.gc_half.specs.Evaluation.{active_of, row_at};
-ghost use Rattle.gc_half.specs.Waiting.{NoneSets, active_label_of_step};
+ghost use Rattle.gc_half.specs.Waiting.{NoneSets, active_label_by_step};
 
+use crate::first::FirstAnd;
 use crate::garbling::RowPair;
-use crate::half_gate::{AndStep, eval_and, eval_four_ands, eval_two_ands};
+use crate::half_gate::{AndStep, eval_and_from, eval_four_ands_from, eval_two_ands_from};
 use crate::one_gate::{evaluate_gate, labels_read};
 use crate::waiting::WaitingGates;
 use gc_circuit::{Gate, Operation};
@@ -22,18 +23,22 @@ use std::marker::Model;
 /// wire.
 #[derive(Drop)]
 pub(crate) struct ActiveTable<A: Allocator = Global> {
+    first: FirstAnd,
     labels: Vec<Label, A>,
     waiting: WaitingGates<AndStep>,
 }
 
 impl<A: Allocator> Model for ActiveTable<A> {
     ghost use Rattle.std.specs.Prelude.{◌<◌, length};
-    ghost use Rattle.gc_half.specs.Waiting.{ActiveTableParts, EachSets, gates_in, settled, active_label_of_step};
+    ghost use Rattle.gc_half.specs.Hash.{hash, numbered_from};
+    ghost use Rattle.gc_half.specs.Waiting.{ActiveTableParts, EachSets, gates_in, settled, active_label_by_step};
 
     ghost Value = { ActiveTableParts };
 
     ghost view = { λ t. record {
-      labels = settled active_label_of_step t.labels.items (gates_in t.waiting);
+      first = t.first;
+      labels = settled (active_label_by_step (numbered_from t.first hash))
+          t.labels.items (gates_in t.waiting);
       waiting = gates_in t.waiting;
     } };
 
@@ -42,11 +47,13 @@ impl<A: Allocator> Model for ActiveTable<A> {
 
 impl<A: Allocator> ActiveTable<A> {
     /// A table of these labels, where no gate waits.
-    pub(crate) fn new(labels: Vec<Label, A>) -> ActiveTable<A>
+    pub(crate) fn new(first: FirstAnd, labels: Vec<Label, A>) -> ActiveTable<A>
+        ensures numbered { result.first ≡ first }
         ensures labels { result.labels ≡ labels.items }
         ensures waiting { result.waiting ≡ [] }
     {
         ActiveTable {
+            first,
             labels,
             waiting: WaitingGates::new(),
         }
@@ -60,8 +67,10 @@ impl<A: Allocator> ActiveTable<A> {
         requires read { EachRead (λ w. w < length self.old.labels) gate.operation }
         requires place { gate.set < length self.old.labels }
         requires once { NoneSets gate.set self.old.waiting }
+        ensures numbered { self.new.first ≡ self.old.first }
         ensures labels { self.new.labels ≡ slice_set self.old.labels gate.set
-            (active_of hash (slice_index self.old.labels) k (row_at rows.now k) gate.operation) }
+            (active_of (numbered_from self.old.first hash) (slice_index self.old.labels)
+            k (row_at rows.now k) gate.operation) }
         ensures waiting { (w : ℕ) → w ≢ gate.set → NoneSets w self.old.waiting
             → NoneSets w self.new.waiting }
     {
@@ -86,13 +95,18 @@ impl<A: Allocator> ActiveTable<A> {
         ensures { result.items ≡ self.labels }
     {
         self.settle();
-        let ActiveTable { labels, waiting: _ } = self;
+        let ActiveTable {
+            first: _,
+            labels,
+            waiting: _,
+        } = self;
         labels
     }
 
     /// Evaluates the gates that wait where an operation reads a wire that one of them sets.
     #[inline(always)]
     fn settle_read(&mut self, operation: Operation)
+        ensures numbered { self.new.first ≡ self.old.first }
         ensures labels { self.new.labels ≡ self.old.labels }
         ensures waiting { (w : ℕ) → NoneSets w self.old.waiting → NoneSets w self.new.waiting }
         ensures unread { list_any (λ waits. reads operation waits.set) self.new.waiting ≡ false }
@@ -118,8 +132,9 @@ impl<A: Allocator> ActiveTable<A> {
     #[inline(never)]
     fn join(&mut self, step: AndStep, set: u32)
         requires place { set < length self.old.labels }
-        ensures labels { self.new.labels
-            ≡ slice_set self.old.labels set (active_label_of_step step) }
+        ensures numbered { self.new.first ≡ self.old.first }
+        ensures labels { self.new.labels ≡ slice_set self.old.labels set
+            (active_label_by_step (numbered_from self.old.first hash) step) }
         ensures waiting { (w : ℕ) → w ≢ set → NoneSets w self.old.waiting
             → NoneSets w self.new.waiting }
     {
@@ -133,7 +148,10 @@ impl<A: Allocator> ActiveTable<A> {
             return;
         };
         self.waiting = WaitingGates::new();
-        let [first, second, third, last] = eval_four_ands([a.gate, b.gate, c.gate, step]);
+        let [first, second, third, last] = eval_four_ands_from(
+            self.first,
+            [a.gate, b.gate, c.gate, step],
+        );
         self.labels[a.set as usize] = first;
         self.labels[b.set as usize] = second;
         self.labels[c.set as usize] = third;
@@ -145,6 +163,7 @@ impl<A: Allocator> ActiveTable<A> {
     fn put(&mut self, wire: u32, label: Label)
         requires place { wire < length self.old.labels }
         requires once { NoneSets wire self.old.waiting }
+        ensures numbered { self.new.first ≡ self.old.first }
         ensures labels { self.new.labels ≡ slice_set self.old.labels wire label }
         ensures waiting { self.new.waiting ≡ self.old.waiting }
     {
@@ -154,6 +173,7 @@ impl<A: Allocator> ActiveTable<A> {
     /// Evaluates the gates that wait: two at once, and one alone.
     #[inline(never)]
     fn settle(&mut self)
+        ensures numbered { self.new.first ≡ self.old.first }
         ensures labels { self.new.labels ≡ self.old.labels }
         ensures waiting { self.new.waiting ≡ [] }
     {
@@ -167,22 +187,14 @@ impl<A: Allocator> ActiveTable<A> {
             return;
         };
         let Some(b) = second else {
-            self.labels[a.set as usize] = evaluated(a.gate);
+            self.labels[a.set as usize] = eval_and_from(self.first, a.gate);
             return;
         };
-        let (first, second) = eval_two_ands(a.gate, b.gate);
+        let (first, second) = eval_two_ands_from(self.first, a.gate, b.gate);
         self.labels[a.set as usize] = first;
         self.labels[b.set as usize] = second;
         if let Some(c) = third {
-            self.labels[c.set as usize] = evaluated(c.gate);
+            self.labels[c.set as usize] = eval_and_from(self.first, c.gate);
         }
     }
-}
-
-/// The active label of the wire that an AND gate sets.
-fn evaluated(step: AndStep) -> Label
-    ensures { result ≡ active_label_of_step step }
-{
-    let AndStep { k, rows, a, b } = step;
-    eval_and(k, rows.generator, rows.evaluator, a, b)
 }

@@ -1,11 +1,15 @@
 //! Evaluating a whole circuit on one thread.
 
-ghost use Rattle.std.specs.Prelude.{◌≡◌, length, IfOk};
-ghost use Rattle.gc_netlist.specs.Circuit.{and_count, input_wires};
-ghost use Rattle.gc_half.specs.Evaluation.{AreActive};
+ghost use Rattle.std.specs.Prelude.{◌≡◌, ℕ, length, map, IfOk};
+ghost use Rattle.std.specs.List.{range_with_len};
+ghost use Rattle.gc_netlist.specs.Circuit.{and_count, input_wires, output_wires};
+ghost use Rattle.gc_netlist.specs.Solution.{on_outputs};
+ghost use Rattle.gc_half.specs.Evaluation.{AreActive, AreActiveFrom};
+ghost use Rattle.gc_half.specs.Joined.{AreOutputLabels};
 
 use crate::active_labels::input_active_labels;
 use crate::active_table::ActiveTable;
+use crate::first::FirstAnd;
 use crate::garbling::RowPair;
 use gc_circuit::{Circuit, Memory};
 use gc_label::Label;
@@ -24,7 +28,22 @@ pub fn evaluate_one_thread<A: Allocator + Copy, C: Allocator>(
     requires inputs { length inputs.now ≡ input_wires circuit.now }
     ensures { IfOk result (λ v. AreActive circuit.now rows.now inputs.now v.items) }
 {
-    let mut active = ActiveTable::new(input_active_labels(alloc, circuit.wires(), inputs)?);
+    evaluate_from(alloc, circuit, rows, FirstAnd::ZERO, inputs)
+}
+
+/// The same, where AND gates are numbered from `first` on.
+pub fn evaluate_from<A: Allocator + Copy, C: Allocator>(
+    alloc: A,
+    circuit: &Circuit<C>,
+    rows: &[RowPair],
+    first: FirstAnd,
+    inputs: &[Label],
+) -> Result<Vec<Label, A>, Memory>
+    requires rows { length rows.now ≡ and_count circuit.now }
+    requires inputs { length inputs.now ≡ input_wires circuit.now }
+    ensures { IfOk result (λ v. AreActiveFrom first circuit.now rows.now inputs.now v.items) }
+{
+    let mut active = ActiveTable::new(first, input_active_labels(alloc, circuit.wires(), inputs)?);
     let mut and_number = 0;
     for i in 0..circuit.gates() {
         let gate = circuit.gate(i);
@@ -34,4 +53,35 @@ pub fn evaluate_one_thread<A: Allocator + Copy, C: Allocator>(
         }
     }
     Ok(active.into_labels())
+}
+
+/// The active labels of the output wires, in order, evaluated from row pairs and active labels of the input wires, where
+/// AND gates are numbered from `first` on. It takes memory for the labels of all wires, once, and for its answer. That
+/// there are as many row pairs as AND gates, and as many labels as input wires, are the caller's conditions.
+pub fn evaluate_labels<A: Allocator + Copy, C: Allocator>(
+    alloc: A,
+    circuit: &Circuit<C>,
+    rows: &[RowPair],
+    first: FirstAnd,
+    inputs: &[Label],
+) -> Result<Vec<Label, A>, Memory>
+    requires rows { length rows.now ≡ and_count circuit.now }
+    requires inputs { length inputs.now ≡ input_wires circuit.now }
+    ensures { IfOk result (λ v. AreOutputLabels first circuit.now rows.now inputs.now v.items) }
+{
+    circuit.law_lawful();
+    let active = evaluate_from(alloc, circuit, rows, first, inputs)?;
+    Ok(Vec::from_slice(alloc, output_labels(circuit, &active))?)
+}
+
+/// The labels of the output wires, the last ones, out of a label for each wire.
+pub fn output_labels<'l, C: Allocator>(circuit: &Circuit<C>, labels: &'l [Label]) -> &'l [Label]
+    requires { length labels.now ≡ circuit.now.wires }
+    ensures count { length result.now ≡ output_wires circuit.now }
+    ensures last { (values : ℕ → ℕ) → labels.now ≡ map values (range_with_len 0 circuit.now.wires)
+        → result.now ≡ on_outputs circuit.now values }
+{
+    let first = circuit.wires() - circuit.output_wires();
+    let (_, last) = labels.split_at(first as usize);
+    last
 }

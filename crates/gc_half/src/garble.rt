@@ -1,17 +1,39 @@
 //! Garbling a whole circuit on one thread.
 
-ghost use Rattle.std.specs.Prelude.{◌≡◌, length, IfOk, MatchOption};
-ghost use Rattle.gc_netlist.specs.Circuit.{and_count, output_wires};
+ghost use Rattle.std.specs.Prelude.{◌≡◌, length, slice_index, IfOk, MatchOption};
+ghost use Rattle.gc_netlist.specs.Circuit.{and_count, input_wires, output_wires};
 ghost use Rattle.gc_half.specs.Comparing.{IsFirstMismatch, KeepsCompared};
-ghost use Rattle.gc_half.specs.Garbling.{IsGarbled};
+ghost use Rattle.gc_half.specs.Garbling.{IsGarbled, IsGarbledFrom};
 
+use crate::first::FirstAnd;
 use crate::garbling::{Garbling, Mismatch, RowPair};
 use crate::garbling_table::GarblingTable;
 use crate::row_table::RowTable;
 use crate::zero_labels::labels_of_inputs;
 use gc_circuit::{Circuit, Memory};
-use gc_label::{Label, Seed, offset};
+use gc_label::{Label, Offset, Seed, offset};
 use std::alloc::Allocator;
+
+/// The garbling of a circuit with an offset, these zero labels of the input wires, and AND gates that are numbered from
+/// `first` on, gate after gate in file order. It takes memory for the labels and for the rows, each once. That there are
+/// as many zero labels as input wires is the caller's condition.
+pub fn garble_from<A: Allocator + Copy, C: Allocator>(
+    alloc: A,
+    circuit: &Circuit<C>,
+    offset: Offset,
+    zero_labels: &[Label],
+    first: FirstAnd,
+) -> Result<Garbling<A>, Memory>
+    requires { length zero_labels.now ≡ input_wires circuit.now }
+    ensures { IfOk result (λ g.
+        IsGarbledFrom offset (slice_index zero_labels.now) first circuit.now g) }
+{
+    let rows = Vec::with_capacity(alloc, circuit.and_count() as usize)?;
+    let mut labels = Vec::with_capacity(alloc, circuit.wires() as usize)?;
+    labels.extend_from_slice(zero_labels)?;
+    let (garbling, _) = garble_over(circuit, offset, labels, first, rows)?;
+    Ok(garbling)
+}
 
 /// The garbling of a circuit under a seed, gate after gate in file order. It takes memory for the labels and for
 /// the rows, each once.
@@ -23,7 +45,8 @@ pub fn garble_one_thread<A: Allocator + Copy, C: Allocator>(
     ensures { IfOk result (λ g. IsGarbled circuit.now seed.now g) }
 {
     let rows = Vec::with_capacity(alloc, circuit.and_count() as usize)?;
-    let (garbling, _) = garble_over(alloc, circuit, seed, rows)?;
+    let labels = labels_of_inputs(alloc, circuit, seed)?;
+    let (garbling, _) = garble_over(circuit, offset(seed), labels, FirstAnd::ZERO, rows)?;
     Ok(garbling)
 }
 
@@ -41,30 +64,34 @@ pub fn garble_and_compare<A: Allocator + Copy, C: Allocator>(
     ensures compared { IfOk result (λ made. MatchOption made.1 (given.items ≡ made.0.rows)
         (IsFirstMismatch given.items made.0.rows)) }
 {
-    garble_over(alloc, circuit, seed, given)
+    let labels = labels_of_inputs(alloc, circuit, seed)?;
+    garble_over(circuit, offset(seed), labels, FirstAnd::ZERO, given)
 }
 
-/// The same, where any number of row pairs are given: these are compared as far as they go.
-fn garble_over<A: Allocator + Copy, C: Allocator>(
-    alloc: A,
+/// The garbling of a circuit with an offset, these zero labels of the input wires, and AND gates that are numbered from
+/// `first` on. Any number of row pairs are given: these are compared as far as they go. That there are as many zero
+/// labels as input wires is the caller's condition.
+fn garble_over<A: Allocator, C: Allocator>(
     circuit: &Circuit<C>,
-    seed: &Seed,
+    offset: Offset,
+    labels: Vec<Label, A>,
+    first: FirstAnd,
     given: Vec<RowPair, A>,
 ) -> Result<(Garbling<A>, Option<Mismatch>), Memory>
-    ensures garbled { IfOk result (λ made. IsGarbled circuit.now seed.now made.0) }
+    requires { length labels.items ≡ input_wires circuit.now }
+    ensures garbled { IfOk result (λ made.
+        IsGarbledFrom offset (slice_index labels.items) first circuit.now made.0) }
     ensures compared { IfOk result (λ made. length given.items ≡ length made.0.rows
         → MatchOption made.1 (given.items ≡ made.0.rows)
         (IsFirstMismatch given.items made.0.rows)) }
 {
-    let offset = offset(seed);
-    let labels = labels_of_inputs(alloc, circuit, seed)?;
-    let mut table = GarblingTable::new(labels, RowTable::new(given));
+    let mut table = GarblingTable::new(first, labels, RowTable::new(given));
     for i in 0..circuit.gates() {
         table.step(offset, circuit.wires(), circuit.gate(i))?;
     }
     let (mut zero_labels, rows) = table.finish()?;
     zero_labels.resize(circuit.wires() as usize, Label::ZERO)?;
-    let (rows, first) = rows.finish();
+    let (rows, mismatch) = rows.finish();
     let garbling = Garbling::from_parts(zero_labels, rows, circuit.output_wires());
-    Ok((garbling, first))
+    Ok((garbling, mismatch))
 }

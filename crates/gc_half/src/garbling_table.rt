@@ -4,7 +4,7 @@ ghost use Rattle.std.specs.Prelude.{◌≡◌, ◌≢◌, ◌<◌, ◌≤◌, �
 ghost use Rattle.std.specs.List.{list_any};
 ghost use Rattle.gc_netlist.specs.Circuit.{EachRead, reads};
 ghost use Rattle.gc_netlist.specs.Solution.{put};
-ghost use Rattle.gc_half.specs.Hash.{hash};
+ghost use Rattle.gc_half.specs.Hash.{hash, numbered_from};
 ghost use Rattle.gc_half.specs.HalfGate.{and_zero};
 ghost use Rattle.gc_half.specs.OneGate.{first_read, second_read, row_pair, gate_rows};
 ghost use Rattle.gc_half.specs.Garbling.{zero_of};
@@ -12,7 +12,8 @@ ghost use Rattle.gc_half.specs.Canonical.{with_row_pair};
 ghost use Rattle.gc_half.specs.Comparing.{KeepsCompared};
 ghost use Rattle.gc_half.specs.Waiting.{NoneSets};
 
-use crate::half_gate::{AndGate, garble_and, garble_two_ands};
+use crate::first::FirstAnd;
+use crate::half_gate::{AndGate, garble_and_from, garble_two_ands_from};
 use crate::one_gate::{garble_gate, labels_read};
 use crate::row_table::RowTable;
 use crate::waiting::WaitingGate;
@@ -27,6 +28,7 @@ use std::marker::Model;
 /// reads the wire that it sets.
 #[derive(Drop)]
 pub(crate) struct GarblingTable<A: Allocator = Global> {
+    first: FirstAnd,
     labels: Vec<Label, A>,
     rows: RowTable<A>,
     waiting: Option<WaitingGate<AndGate>>,
@@ -35,13 +37,17 @@ pub(crate) struct GarblingTable<A: Allocator = Global> {
 impl<A: Allocator> Model for GarblingTable<A> {
     ghost use Rattle.std.specs.Prelude.{◌<◌, ◌++◌, length, map};
     ghost use Rattle.std.specs.Option.{option_to_list};
+    ghost use Rattle.gc_half.specs.Hash.{hash, numbered_from};
     ghost use Rattle.gc_half.specs.Waiting.{GarblingTableParts, EachSets, settled, zero_label_of_gate, row_pair_of_gate};
 
     ghost Value = { GarblingTableParts };
 
     ghost view = { λ t. record {
-      labels = settled zero_label_of_gate t.labels.items (option_to_list t.waiting);
-      rows = t.rows.made ++ map (λ waits. row_pair_of_gate waits.gate) (option_to_list t.waiting);
+      first = t.first;
+      labels = settled (zero_label_of_gate (numbered_from t.first hash))
+          t.labels.items (option_to_list t.waiting);
+      rows = t.rows.made ++ map (λ waits. row_pair_of_gate (numbered_from t.first hash) waits.gate)
+          (option_to_list t.waiting);
       compared = t.rows;
       waiting = option_to_list t.waiting;
     } };
@@ -51,8 +57,9 @@ impl<A: Allocator> Model for GarblingTable<A> {
 
 impl<A: Allocator> GarblingTable<A> {
     /// A table of these labels and row pairs, where no gate waits.
-    pub(crate) fn new(labels: Vec<Label, A>, rows: RowTable<A>) -> GarblingTable<A>
+    pub(crate) fn new(first: FirstAnd, labels: Vec<Label, A>, rows: RowTable<A>) -> GarblingTable<A>
         ensures { result ≡ record {
+          first = first;
           labels = labels.items;
           rows = rows.made;
           compared = rows;
@@ -60,6 +67,7 @@ impl<A: Allocator> GarblingTable<A> {
         } }
     {
         GarblingTable {
+            first,
             labels,
             rows,
             waiting: None,
@@ -75,14 +83,15 @@ impl<A: Allocator> GarblingTable<A> {
         requires few { length self.old.labels ≤ wires }
         requires number { length self.old.rows < 2 ^ 32 }
         requires once { NoneSets gate.set self.old.waiting }
+        ensures numbered { OnOk result (self.new.first ≡ self.old.first) }
         ensures label { OnOk result ((w : ℕ) → slice_index self.new.labels w
-            ≡ put (slice_index self.old.labels) gate.set (zero_of hash offset
+            ≡ put (slice_index self.old.labels) gate.set (zero_of (numbered_from self.old.first hash) offset
             (slice_index self.old.labels) (length self.old.rows) gate.operation) w) }
         ensures there { OnOk result (gate.set < length self.new.labels) }
         ensures kept { OnOk result (length self.old.labels ≤ length self.new.labels) }
         ensures few { OnOk result (length self.new.labels ≤ wires) }
         ensures rows { OnOk result (self.new.rows ≡ with_row_pair self.old.rows
-            (gate_rows hash offset (length self.old.rows) gate.operation
+            (gate_rows (numbered_from self.old.first hash) offset (length self.old.rows) gate.operation
             (first_read (slice_index self.old.labels) gate.operation)
             (second_read (slice_index self.old.labels) gate.operation))) }
         ensures compared { OnOk result (KeepsCompared self.old.compared self.new.compared) }
@@ -105,6 +114,7 @@ impl<A: Allocator> GarblingTable<A> {
     #[inline(always)]
     fn read(&mut self, operation: Operation) -> Result<(Label, Label), Memory>
         requires { EachRead (λ w. w < length self.old.labels) operation }
+        ensures numbered { OnOk result (self.new.first ≡ self.old.first) }
         ensures labels { OnOk result (self.new.labels ≡ self.old.labels) }
         ensures rows { OnOk result (self.new.rows ≡ self.old.rows) }
         ensures compared { OnOk result (KeepsCompared self.old.compared self.new.compared) }
@@ -122,6 +132,7 @@ impl<A: Allocator> GarblingTable<A> {
     /// Garbles the gate that waits where an operation reads the wire that it sets.
     #[inline(always)]
     fn settle_read(&mut self, operation: Operation) -> Result<(), Memory>
+        ensures numbered { OnOk result (self.new.first ≡ self.old.first) }
         ensures labels { OnOk result (self.new.labels ≡ self.old.labels) }
         ensures rows { OnOk result (self.new.rows ≡ self.old.rows) }
         ensures compared { OnOk result (KeepsCompared self.old.compared self.new.compared) }
@@ -143,6 +154,7 @@ impl<A: Allocator> GarblingTable<A> {
     fn make_room(&mut self, wires: u32, wire: u32) -> Result<(), Memory>
         requires wire { wire < wires }
         requires few { length self.old.labels ≤ wires }
+        ensures numbered { OnOk result (self.new.first ≡ self.old.first) }
         ensures label { OnOk result ((w : ℕ)
             → slice_index self.new.labels w ≡ slice_index self.old.labels w) }
         ensures there { OnOk result (wire < length self.new.labels) }
@@ -163,10 +175,12 @@ impl<A: Allocator> GarblingTable<A> {
     fn pair(&mut self, offset: Offset, a: Label, b: Label, set: u32) -> Result<(), Memory>
         requires place { set < length self.old.labels }
         requires number { length self.old.rows < 2 ^ 32 }
+        ensures numbered { OnOk result (self.new.first ≡ self.old.first) }
         ensures labels { OnOk result (self.new.labels ≡ slice_set self.old.labels set
-            (and_zero hash (length self.old.rows) offset a b)) }
+            (and_zero (numbered_from self.old.first hash) (length self.old.rows) offset a b)) }
         ensures rows { OnOk result (self.new.rows
-            ≡ self.old.rows ++ row_pair hash offset (length self.old.rows) a b ∷ []) }
+            ≡ self.old.rows ++ row_pair (numbered_from self.old.first hash)
+            offset (length self.old.rows) a b ∷ []) }
         ensures compared { OnOk result (KeepsCompared self.old.compared self.new.compared) }
         ensures waiting { OnOk result ((w : ℕ) → w ≢ set → NoneSets w self.new.waiting) }
     {
@@ -183,7 +197,7 @@ impl<A: Allocator> GarblingTable<A> {
             a,
             b,
         };
-        let (one, other) = garble_two_ands(waits.gate, gate);
+        let (one, other) = garble_two_ands_from(self.first, waits.gate, gate);
         self.labels[waits.set as usize] = one.zero_label;
         self.labels[set as usize] = other.zero_label;
         self.rows.put(one.rows)?;
@@ -196,6 +210,7 @@ impl<A: Allocator> GarblingTable<A> {
     fn put(&mut self, wire: u32, label: Label)
         requires place { wire < length self.old.labels }
         requires once { NoneSets wire self.old.waiting }
+        ensures numbered { self.new.first ≡ self.old.first }
         ensures labels { self.new.labels ≡ slice_set self.old.labels wire label }
         ensures rows { self.new.rows ≡ self.old.rows }
         ensures compared { self.new.compared ≡ self.old.compared }
@@ -207,6 +222,7 @@ impl<A: Allocator> GarblingTable<A> {
     /// Garbles the gate that waits alone, if there is one.
     #[inline(never)]
     fn settle(&mut self) -> Result<(), Memory>
+        ensures numbered { OnOk result (self.new.first ≡ self.old.first) }
         ensures labels { OnOk result (self.new.labels ≡ self.old.labels) }
         ensures rows { OnOk result (self.new.rows ≡ self.old.rows) }
         ensures compared { OnOk result (KeepsCompared self.old.compared self.new.compared) }
@@ -216,8 +232,7 @@ impl<A: Allocator> GarblingTable<A> {
             return Ok(());
         };
         self.waiting = None;
-        let AndGate { k, offset, a, b } = waits.gate;
-        let garbled = garble_and(k, offset, a, b);
+        let garbled = garble_and_from(self.first, waits.gate);
         self.labels[waits.set as usize] = garbled.zero_label;
         self.rows.put(garbled.rows)?;
         Ok(())
@@ -231,6 +246,7 @@ impl<A: Allocator> GarblingTable<A> {
     {
         self.settle()?;
         let GarblingTable {
+            first: _,
             labels,
             rows,
             waiting: _,

@@ -3,6 +3,7 @@
 ghost use Rattle.std.specs.Prelude.{ℕ, List};
 ghost use Rattle.gc_netlist.specs.Circuit.{Netlist, IsLawful};
 ghost use Rattle.gc_half.specs.declared.garbling.RowPair.{RowPair};
+ghost use Rattle.gc_half.specs.Joined.{FollowingLaw, JoinedLaw, LabelsLaw, TogetherLaw};
 ghost use Rattle.gc_half.specs.Law.{HalfGatesLaw, HasOneGarbling, HasOneEvaluation, HasOneGarbled};
 
 /// The law of half gates, for every hash: the evaluation of a garbling's rows on labels that stand for input
@@ -20,4 +21,14 @@ pub fn law_garblings()
     ensures evaluations { (hash : ℕ → ℕ → ℕ) (c : Netlist) → IsLawful c → (rows : List RowPair)
         (given : ℕ → ℕ) → HasOneEvaluation hash c rows given }
     ensures under_seed { (c : Netlist) → IsLawful c → (seed : List ℕ) → HasOneGarbled c seed }
+{}
+
+/// The laws of joined circuits, for every hash: where zero labels of input wires of a circuit are zero labels of output
+/// wires of another, under one offset, evaluating the one on active labels that the other gave decodes to the bits of
+/// the one on the bits of the other.
+pub fn law_joined()
+    ensures labels { LabelsLaw }
+    ensures together { TogetherLaw }
+    ensures following { FollowingLaw }
+    ensures joined { JoinedLaw }
 {}

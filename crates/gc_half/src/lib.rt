@@ -15,6 +15,8 @@ mod active_labels;
 mod active_table;
 mod entry;
 mod evaluate;
+mod first;
+mod four;
 mod garble;
 mod garbling;
 mod garbling_table;
@@ -24,20 +26,24 @@ mod laws;
 mod numbers;
 mod one_gate;
 mod row_table;
+mod two;
 mod waiting;
 mod zero_labels;
 
 pub use active_labels::input_active_labels;
-pub use entry::{four_output_entries, output_entry};
-pub use evaluate::evaluate_one_thread;
-pub use garble::{garble_and_compare, garble_one_thread};
+pub use entry::{four_output_entries, output_entry, output_entry_from};
+pub use evaluate::{evaluate_from, evaluate_labels, evaluate_one_thread, output_labels};
+pub use first::FirstAnd;
+pub use four::{Evaluation, evaluate_four_from};
+pub use garble::{garble_and_compare, garble_from, garble_one_thread};
 pub use garbling::{GarbledAnd, Garbling, Mismatch, RowPair};
 pub use half_gate::{
     AndGate, AndStep, eval_and, eval_four_ands, eval_two_ands, garble_and, garble_two_ands,
 };
 pub use hash::{tweak_hash, tweak_hash_series};
-pub use laws::{law_garblings, law_half_gates};
+pub use laws::{law_garblings, law_half_gates, law_joined};
 pub use numbers::and_numbers;
 pub use one_gate::{evaluate_gate, garble_gate, labels_read};
+pub use two::{garble_two, garble_two_from};
 pub use waiting::{WaitingGate, WaitingGates};
 pub use zero_labels::input_zero_labels;

@@ -1,6 +1,7 @@
 -- The labels of the output wires.
 use Rattle.gc_job.proofs.Names.{◌≡◌, ℕ, ◌+◌, ◌-◌, ◌<◌, List, length, map, drop, slice_get, Some, Bool, Result, Ok, Err, refl, sym, ap, ◌∙◌, arith, range_with_len, length-map-range_with_len, get_or-map-range_with_len, length-zip, slice_get_within, get_or_from_slice_get, Netlist, output_wires, IsLawful, solution, on_outputs, solution_solves, table_end, hash, active_rule, active_local, EvalFault, Memory, GarbledParts, LabelFileParts, JobParts, IsWhole, IsBound, labels_of, AreActive, IsDecodingOf, IsEvaluated}
 use Rattle.std.proofs.lemmas.List.{length-map}
+use Rattle.gc_half.proofs.NumberedLemmas.{IsEvaluation-zero}
 use Rattle.gc_half.specs.declared.garbling.RowPair.{RowPair}
 
 module _ (c : Netlist) (lawful : IsLawful c) (values : ℕ → ℕ) where
@@ -36,7 +37,8 @@ decoded-job job c rows inputs labels last result are same_c same_rows same_input
     let outputs : last ≡ on_outputs job.circuit are.active = is ∙ rw same_c refl in
     record {
       active = are.active;
-      evaluation = rw (← same_c, ← same_rows, ← same_inputs) are.evaluation;
+      evaluation = rw (← same_c, ← same_rows, ← same_inputs)
+          (IsEvaluation-zero hash c rows _ are.active are.evaluation);
       decoding = rw (← outputs) decoding;
     }
 

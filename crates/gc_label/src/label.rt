@@ -1,6 +1,6 @@
 //! Labels, and the offset between the two labels of a wire.
 
-ghost use Rattle.std.specs.Prelude.{◌≡◌, ◌<◌, ◌^◌, IsTrue, bit_or};
+ghost use Rattle.std.specs.Prelude.{◌≡◌, ◌<◌, ◌^◌, IsTrue, true, false, MatchOption, bit_or};
 ghost use Rattle.gc_label.specs.Label.{◌⊕◌, colour, times, label_of_bytes, bytes_of_label, low_half, high_half, label_of_halves};
 
 use std::fmt;
@@ -171,6 +171,18 @@ impl Model for Offset {
 }
 
 impl Offset {
+    /// The offset with the bytes of a label, if its colour is 1.
+    pub fn new(label: Label) -> Option<Offset>
+        ensures { MatchOption result (colour label ≡ false)
+            (λ offset. (offset ≡ label) × (colour label ≡ true)) }
+    {
+        if label.colour() {
+            Some(Offset { label })
+        } else {
+            None
+        }
+    }
+
     /// The offset with the bytes of a label, whose colour is set to 1.
     pub(crate) fn from_label(label: Label) -> Offset
         ensures { result ≡ bit_or label (2 ^ 120) }

@@ -1,4 +1,5 @@
 pub mod Bits
+pub mod Chains
 pub mod OneBlock
 pub mod Rotations
 pub mod Turning

@@ -34,7 +34,7 @@ pub(crate) fn initial_state<W: Words>() -> State<W>
 
 // The word that begins at a byte, this byte highest (FIPS 180-4, 5.2.1).
 #[inline(always)]
-fn word_of(bytes: &[u8], start: usize) -> u32
+pub(crate) fn word_of(bytes: &[u8], start: usize) -> u32
     requires { start + 4 ≤ length bytes.now }
     ensures { result ≡ word_at bytes.now start }
 {

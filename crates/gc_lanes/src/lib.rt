@@ -6,11 +6,14 @@
 #![tactic(auto)]
 
 mod block;
+mod chain;
 mod compression;
 mod constants;
 mod functions;
 mod hash;
 mod labels;
+mod scalar;
 mod words;
 
+pub use chain::{compress_blocks, compress_eights};
 pub use hash::{hash_eight, hash_four};

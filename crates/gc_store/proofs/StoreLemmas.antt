@@ -5,6 +5,7 @@ use Rattle.gc_netlist.specs.declared.gate.Operation.TheVariants.{And}
 use Rattle.gc_half.specs.Hash.{hash}
 use Rattle.gc_half.specs.Garbling.{rows_of, IsGarbled}
 use Rattle.gc_half.specs.OneGate.{first_read, second_read}
+use Rattle.gc_half.proofs.NumberedLemmas.{zero-IsGarbling}
 use Rattle.gc_half.proofs.GarblingLemmas.{IsGarbling-same}
 use Rattle.gc_queue.specs.declared.mark.Mark.TheVariants as mark
 use Rattle.gc_queue.specs.Queue as queue
@@ -144,13 +145,14 @@ module _ {c : Netlist} {seed : List ℕ} {r : ℕ} {t : Tables} (kept : IsKept c
   pub garbling_is : AllFinished s → IsGarbled c seed
       (record { zero_labels = t.zero_labels; rows = t.rows; outputs = output_wires c })
   garbling_is all = record {
-    garbling = IsGarbling-same hash (offset_of seed) c kept.lawful.circuit (input_label_of seed)
+    garbling = zero-IsGarbling hash (offset_of seed) c _ _ _
+        (IsGarbling-same hash (offset_of seed) c kept.lawful.circuit (input_label_of seed)
         (zero_label_of c seed) (slice_index t.zero_labels) t.rows
         (λ w set. sym (known_label_is w (known_set w set))) (record {
           labels = (canonical-garbling c seed kept.lawful.circuit).labels;
           and_gates = and_rows;
           row_count = kept.rows;
-        });
+        }));
     wires = label_count kept;
     not_set = λ w below not_set. grind (arith, label_at w below, kept.marks_known w, set_of w);
     outputs = refl;

@@ -2,18 +2,19 @@ use Rattle.gc_half.proofs.Names.{◌≡◌, ◌<◌, ◌+◌, inr, add-one, leng
 use Rattle.gc_netlist.proofs.Tables.{table_step, length-table, EachRead-below, after-zero}
 use Rattle.gc_netlist.specs.Solution.{solution}
 use Rattle.gc_half.specs.Evaluation.{active_rule}
-use Rattle.gc_half.specs.Hash.{hash}
+use Rattle.gc_half.specs.Hash.{hash, numbered_from}
 use Rattle.gc_half.proofs.AndNumbers.{and_number-and, and_number-other, and_number-below}
 use Rattle.gc_half.proofs.CircuitLaw.{active_local}
-use Rattle.gc_half.proofs.evaluate.evaluate_one_thread.Goals as goal
-use Rattle.gc_half.proofs.evaluate.evaluate_one_thread.Goals.{then-is_and, else-is_and}
+use Rattle.gc_half.proofs.evaluate.evaluate_from.Goals as goal
+use Rattle.gc_half.proofs.evaluate.evaluate_from.Goals.{then-is_and, else-is_and}
 
 pub loop-i-init : goal.loop-i-init
 loop-i-init g c = record {
+  first = c.new-active.ensures.numbered;
   labels = c.new-active.ensures.labels ∙ c.in_ok-input_active_labels.ensures
       ∙ rw (
         c.wires.ensures.count,
-        after-zero (active_rule hash c.args.circuit.now c.args.rows.now)
+        after-zero (active_rule (numbered_from c.args.first hash) c.args.circuit.now c.args.rows.now)
             c.args.circuit.now (slice_index c.args.inputs.now),
       ) refl;
   waiting = λ w unset. rw c.new-active.ensures.waiting tt;
@@ -53,12 +54,13 @@ loop-i-preserved g c =
     let netlist = c.args.circuit.now in
     let gate = c.gate-gate.result in
     let i = c.loop-i.i in
-    let rule = active_rule hash netlist c.args.rows.now in
+    let rule = active_rule (numbered_from c.args.first hash) netlist c.args.rows.now in
     record {
+      first = c.step.ensures.numbered ∙ c.loop-i.invariant.first;
       labels = c.step.ensures.labels
-          ∙ table_step rule (active_local hash netlist c.args.rows.now) netlist
+          ∙ table_step rule (active_local (numbered_from c.args.first hash) netlist c.args.rows.now) netlist
           c.wires.ensures.lawful (slice_index c.args.inputs.now) c.loop-i.active.labels i gate 0 _
-          c.loop-i.invariant.labels c.gate-gate.ensures (rw c.loop-i.invariant.numbered refl);
+          c.loop-i.invariant.labels c.gate-gate.ensures (rw (c.loop-i.invariant.numbered, ← c.loop-i.invariant.first) refl);
       waiting = λ w unset. c.step.ensures.waiting w
           (λ same. unset
           (inr (i, omega arith, record { gate = gate; at = c.gate-gate.ensures; wire = sym same })))
@@ -77,12 +79,12 @@ loop-i-preserved g c =
 pub returns : goal.returns
 returns g c =
     let netlist = c.args.circuit.now in
-    let rule = active_rule hash netlist c.args.rows.now in
+    let rule = active_rule (numbered_from c.args.first hash) netlist c.args.rows.now in
     let given = slice_index c.args.inputs.now in
     let whole : c.loop-i.i ≡ length netlist.gates = omega (arith, c.gates-i-end.ensures.count) in
     record {
       active = solution rule netlist given;
-      evaluation = solution_solves rule (active_local hash netlist c.args.rows.now) netlist
+      evaluation = solution_solves rule (active_local (numbered_from c.args.first hash) netlist c.args.rows.now) netlist
           c.wires.ensures.lawful given;
       table = rw (← whole) (c.into_labels.ensures ∙ c.loop-i.invariant.labels);
     }

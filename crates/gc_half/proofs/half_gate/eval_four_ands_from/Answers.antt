@@ -1,6 +1,6 @@
 use Rattle.std.proofs.Common.{rules}
 use Rattle.gc_half.proofs.HashLemmas.{map-four}
-use Rattle.gc_half.proofs.half_gate.eval_four_ands.Goals as goal
+use Rattle.gc_half.proofs.half_gate.eval_four_ands_from.Goals as goal
 
 pub returns : goal.returns
 returns c =

@@ -1,0 +1,54 @@
+//! The number of a circuit's first AND gate.
+
+ghost use Rattle.std.specs.Prelude.{◌≡◌, ◌+◌, ◌*◌, ◌^◌, ◌≤◌, MatchOption};
+
+use std::marker::Model;
+
+/// The largest sum of the number of a first AND gate and the number of AND gates.
+const LIMIT: u64 = 1 << 62;
+
+/// The number of a circuit's first AND gate, which the others follow. It is at most 2^62, so that each tweak is a
+/// number of 64 bits. Under one offset no AND number may be used twice.
+#[derive(Clone, Copy, PartialEq, Eq, Debug)]
+pub struct FirstAnd {
+    number: u64,
+}
+
+impl Model for FirstAnd {
+    ghost use Rattle.std.specs.Prelude.{ℕ, ◌≤◌, ◌^◌};
+
+    ghost Value = { ℕ };
+
+    ghost view = { λ f. f.number };
+
+    ghost invariant = { λ f. f.number ≤ 2 ^ 62 };
+
+    ghost inverse = { λ n. record { number = n } };
+}
+
+impl FirstAnd {
+    /// AND gates are numbered from 0 on, as under a seed.
+    pub const ZERO: FirstAnd = FirstAnd { number: 0 };
+
+    /// The number of the first of these AND gates, if its sum with their number is at most 2^62.
+    pub fn new(number: u64, and_gates: u32) -> Option<FirstAnd>
+        ensures { MatchOption result (¬ (number + and_gates ≤ 2 ^ 62))
+            (λ first. (first ≡ number) × (number + and_gates ≤ 2 ^ 62)) }
+    {
+        let room = LIMIT - u64::from(and_gates);
+        if number <= room {
+            Some(FirstAnd { number })
+        } else {
+            None
+        }
+    }
+
+    /// The first tweak of the k-th AND gate, counted from 0. Its second tweak is the next number.
+    #[inline]
+    pub(crate) fn tweak(self, k: u32) -> u64
+        ensures tweak { result ≡ 2 * self + 2 * k }
+        ensures fits { self + k + 1 ≤ 2 ^ 63 }
+    {
+        2 * self.number + 2 * u64::from(k)
+    }
+}

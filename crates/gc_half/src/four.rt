@@ -1,0 +1,199 @@
+//! Four evaluations of one circuit, side by side: the k-th AND gates of all are evaluated at once, so no gate waits.
+
+ghost use Rattle.std.specs.Prelude.{◌≡◌, ◌<◌, ℕ, IfOk, IsTrue, false, length, map, slice_index, slice_set};
+ghost use Rattle.std.specs.List.{range_with_len};
+ghost use Rattle.gc_netlist.specs.Circuit.{EachRead, and_count, input_wires, is_and};
+ghost use Rattle.gc_half.specs.Hash.{hash, numbered_from};
+ghost use Rattle.gc_half.specs.OneGate.{first_read, second_read};
+ghost use Rattle.gc_half.specs.Evaluation.{AreActiveFrom, row_at};
+ghost use Rattle.gc_half.specs.SideBySide.{CanStep, IsStep};
+
+use crate::active_labels::input_active_labels;
+use crate::first::FirstAnd;
+use crate::garbling::RowPair;
+use crate::half_gate::{AndStep, eval_four_ands_from};
+use crate::one_gate::labels_read;
+use gc_circuit::{Circuit, Gate, Memory, Operation};
+use gc_label::Label;
+use std::alloc::{Allocator, Global};
+
+/// What an evaluation begins with.
+#[derive(Clone, Copy)]
+pub struct Evaluation<'r> {
+    /// The row pair of each AND gate.
+    pub rows: &'r [RowPair],
+    /// The active labels of the input wires.
+    pub inputs: &'r [Label],
+}
+
+/// The active labels of all wires in four evaluations of one circuit, where AND gates are numbered from `first` on. Each
+/// is what [`crate::evaluate_from`] gives. That each has as many row pairs as there are AND gates, and as many labels as
+/// input wires, are the caller's conditions.
+pub fn evaluate_four_from<A: Allocator + Copy, C: Allocator>(
+    alloc: A,
+    circuit: &Circuit<C>,
+    first: FirstAnd,
+    a: Evaluation<'_>,
+    b: Evaluation<'_>,
+    c: Evaluation<'_>,
+    d: Evaluation<'_>,
+) -> Result<(Vec<Label, A>, Vec<Label, A>, Vec<Label, A>, Vec<Label, A>), Memory>
+    requires a { (length a.rows.now ≡ and_count circuit.now) × (length a.inputs.now ≡ input_wires circuit.now) }
+    requires b { (length b.rows.now ≡ and_count circuit.now) × (length b.inputs.now ≡ input_wires circuit.now) }
+    requires c { (length c.rows.now ≡ and_count circuit.now) × (length c.inputs.now ≡ input_wires circuit.now) }
+    requires d { (length d.rows.now ≡ and_count circuit.now) × (length d.inputs.now ≡ input_wires circuit.now) }
+    ensures a { IfOk result (λ all. AreActiveFrom first circuit.now a.entry.rows.now a.entry.inputs.now all.0.items) }
+    ensures b { IfOk result (λ all. AreActiveFrom first circuit.now b.entry.rows.now b.entry.inputs.now all.1.items) }
+    ensures c { IfOk result (λ all. AreActiveFrom first circuit.now c.entry.rows.now c.entry.inputs.now all.2.items) }
+    ensures d { IfOk result (λ all. AreActiveFrom first circuit.now d.entry.rows.now d.entry.inputs.now all.3.items) }
+{
+    circuit.law_lawful();
+    let mut one = Lane::new(alloc, circuit, a)?;
+    let mut two = Lane::new(alloc, circuit, b)?;
+    let mut three = Lane::new(alloc, circuit, c)?;
+    let mut four = Lane::new(alloc, circuit, d)?;
+    let mut k = 0;
+    for i in 0..circuit.gates() {
+        let gate = circuit.gate(i);
+        step(first, k, gate, &mut one, &mut two, &mut three, &mut four);
+        if gate.operation.is_and() {
+            k += 1;
+        }
+    }
+    Ok((
+        one.into_labels(),
+        two.into_labels(),
+        three.into_labels(),
+        four.into_labels(),
+    ))
+}
+
+/// Evaluates one more gate in four evaluations. An AND gate is the k-th, counted from 0. That there are the wires and the
+/// row pairs are the caller's conditions.
+#[inline(always)]
+fn step<A: Allocator>(
+    first: FirstAnd,
+    k: u32,
+    gate: Gate,
+    a: &mut Lane<'_, A>,
+    b: &mut Lane<'_, A>,
+    c: &mut Lane<'_, A>,
+    d: &mut Lane<'_, A>,
+)
+    requires a { CanStep k gate a.old.rows.now a.old.labels.items }
+    requires b { CanStep k gate b.old.rows.now b.old.labels.items }
+    requires c { CanStep k gate c.old.rows.now c.old.labels.items }
+    requires d { CanStep k gate d.old.rows.now d.old.labels.items }
+    ensures a { IsStep (numbered_from first hash) k gate a.old.rows.now a.old.labels.items a.new.rows.now a.new.labels.items }
+    ensures b { IsStep (numbered_from first hash) k gate b.old.rows.now b.old.labels.items b.new.rows.now b.new.labels.items }
+    ensures c { IsStep (numbered_from first hash) k gate c.old.rows.now c.old.labels.items c.new.rows.now c.new.labels.items }
+    ensures d { IsStep (numbered_from first hash) k gate d.old.rows.now d.old.labels.items d.new.rows.now d.new.labels.items }
+{
+    if let Operation::And(_, _) = gate.operation {
+        let [w, x, y, z] = eval_four_ands_from(
+            first,
+            [
+                a.and_step(k, gate.operation),
+                b.and_step(k, gate.operation),
+                c.and_step(k, gate.operation),
+                d.and_step(k, gate.operation),
+            ],
+        );
+        a.set(gate.set, w);
+        b.set(gate.set, x);
+        c.set(gate.set, y);
+        d.set(gate.set, z);
+        return;
+    }
+    a.free(first, k, gate);
+    b.free(first, k, gate);
+    c.free(first, k, gate);
+    d.free(first, k, gate);
+}
+
+/// One evaluation so far: its row pairs, and the active label of each wire.
+#[derive(Drop)]
+pub(crate) struct Lane<'r, A: Allocator = Global> {
+    pub(crate) rows: &'r [RowPair],
+    pub(crate) labels: Vec<Label, A>,
+}
+
+impl<'r, A: Allocator> Lane<'r, A> {
+    /// The labels of the input wires.
+    fn new<C: Allocator>(
+        alloc: A,
+        circuit: &Circuit<C>,
+        given: Evaluation<'r>,
+    ) -> Result<Lane<'r, A>, Memory>
+    where
+        A: Copy,
+        requires { length given.inputs.now ≡ input_wires circuit.now }
+        ensures rows { IfOk result (λ l. l.rows.now ≡ given.entry.rows.now) }
+        ensures labels { IfOk result (λ l. l.labels.items
+            ≡ map (slice_index given.entry.inputs.now) (range_with_len 0 circuit.now.wires)) }
+    {
+        circuit.law_lawful();
+        let labels = input_active_labels(alloc, circuit.wires(), given.inputs)?;
+        Ok(Lane {
+            rows: given.rows,
+            labels,
+        })
+    }
+
+    /// What evaluating the k-th AND gate takes.
+    #[inline(always)]
+    fn and_step(&self, k: u32, operation: Operation) -> AndStep
+        requires row { k < length self.now.rows.now }
+        requires read { EachRead (λ w. w < length self.now.labels.items) operation }
+        ensures { result ≡ record {
+          k = k;
+          rows = row_at self.now.rows.now k;
+          a = first_read (slice_index self.now.labels.items) operation;
+          b = second_read (slice_index self.now.labels.items) operation;
+        } }
+    {
+        let (a, b) = labels_read(&self.labels, operation);
+        AndStep {
+            k,
+            rows: self.rows[k as usize],
+            a,
+            b,
+        }
+    }
+
+    /// Gives a wire its label.
+    #[inline(always)]
+    fn set(&mut self, wire: u32, label: Label)
+        requires { wire < length self.old.labels.items }
+        ensures rows { self.new.rows.now ≡ self.old.rows.now }
+        ensures labels { self.new.labels.items ≡ slice_set self.old.labels.items wire label }
+    {
+        self.labels[wire as usize] = label;
+    }
+
+    /// Evaluates a gate that is no AND gate, which is the caller's condition. The numbers are those of the contract.
+    #[inline(always)]
+    fn free(&mut self, first: FirstAnd, k: u32, gate: Gate)
+        requires free { is_and gate.operation ≡ false }
+        requires read { EachRead (λ w. w < length self.old.labels.items) gate.operation }
+        requires place { gate.set < length self.old.labels.items }
+        ensures { IsStep (numbered_from first hash) k gate
+            self.old.rows.now self.old.labels.items self.new.rows.now self.new.labels.items }
+    {
+        let (a, b) = labels_read(&self.labels, gate.operation);
+        let label = match gate.operation {
+            Operation::Xor(_, _) => a.xor(b),
+            Operation::Eq(_) | Operation::And(_, _) => Label::ZERO,
+            Operation::Inv(_) | Operation::Eqw(_) => a,
+        };
+        self.labels[gate.set as usize] = label;
+    }
+
+    /// The labels of all wires.
+    fn into_labels(self) -> Vec<Label, A>
+        ensures { result.items ≡ self.entry.labels.items }
+    {
+        let Lane { rows: _, labels } = self;
+        labels
+    }
+}

@@ -1,0 +1,8 @@
+use Rattle.std.proofs.Common.{◌≡◌, List, ℕ}
+use Rattle.sha2.specs.Sha256.{hash_after}
+use Rattle.gc_lanes.specs.Chain.{AreSchedules}
+use Rattle.gc_lanes.proofs.chain.compress_each.Given as goal
+
+abbrev pub invariant-chain : goal.invariant-chain
+invariant-chain l = (p : List ℕ) → AreSchedules l.rows p
+    → l.hash ≡ hash_after l.fn.state p l.block

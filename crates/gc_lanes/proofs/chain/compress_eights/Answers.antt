@@ -1,0 +1,26 @@
+use Rattle.std.proofs.Common.{◌≡◌, ◌+◌, ◌-◌, ◌*◌, ◌/◌, List, ℕ, length, take, drop, ap, refl, ◌∙◌, arith}
+use Rattle.sha2.specs.Sha256.{hash_after}
+use Rattle.gc_lanes.proofs.Chains.{hash_after-joined}
+use Rattle.gc_lanes.proofs.chain.compress_eights.Goals as goal
+
+pub parts-init : goal.parts-init
+unfolding hash_after
+parts-init c = refl
+
+pub parts-preserved : goal.parts-preserved
+parts-preserved c =
+    let p = c.args.blocks.now in
+    let n : ℕ = 8 * c.parts.part in
+    let start : n * 64 ≡ 512 * c.parts.part = omega arith in
+    let width : 512 * c.parts.part + 512 - 512 * c.parts.part ≡ 512 = omega arith in
+    let more : n + 8 ≡ 8 * (c.parts.part + 1) = omega arith in
+    let eight : List ℕ = take (512 * c.parts.part + 512 - 512 * c.parts.part) (drop (512 * c.parts.part) p) in
+    c.compress_each-next.ensures eight c.schedules.ensures
+    ∙ ap (λ (h : List ℕ). hash_after h eight 8) c.parts.invariant
+    ∙ hash_after-joined c.args.state p eight n 8 (omega arith) (rw (width, start) refl)
+    ∙ ap (hash_after c.args.state p) more
+
+pub returns : goal.returns
+returns c =
+    let all : 8 * c.parts.part ≡ length c.args.blocks.now / 64 = omega arith in
+    rw all at c.parts.invariant
