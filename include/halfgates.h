@@ -113,7 +113,7 @@ typedef struct halfgates_name {
  */
 halfgates_name halfgates_fault_name(int32_t code);
 
-/* The version of the library, such as "0.5.6". */
+/* The version of the library, such as "0.6.0". */
 halfgates_name halfgates_version(void);
 
 /* ---------------------------------------------------------------------------------------------------- circuits -- */

@@ -7,7 +7,7 @@ ghost use Rattle.halfgates_c.specs.Names.{name_of_code, padded, NamesFault};
 const ROOM: usize = 32;
 
 /// The version of the library.
-const VERSION: &str = "0.5.6";
+const VERSION: &str = "0.6.0";
 
 /// A name that a zero byte ends: `halfgates_name`.
 #[repr(C)]
@@ -83,7 +83,7 @@ pub extern "C" fn halfgates_fault_name(code: i32) -> Name
 /// The version of the library.
 #[unsafe(no_mangle)]
 pub extern "C" fn halfgates_version() -> Name
-    ensures { result.text ≡ padded (codes "0.5.6") }
+    ensures { result.text ≡ padded (codes "0.6.0") }
 {
     name_of(VERSION.as_bytes())
 }
