@@ -16,6 +16,5 @@ mod labels;
 mod scalar;
 mod words;
 
-pub use chain::{compress_blocks, compress_eights};
 pub use hash::{hash_eight, hash_four};
 pub use hasher::LongSha256;

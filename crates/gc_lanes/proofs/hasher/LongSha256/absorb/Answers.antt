@@ -45,8 +45,8 @@ returns c = λ m held.
     ) in
     let middle : length (take (end - room) (drop room d)) ≡ end - room =
     length-take-le (end - room) (drop room d) (omega (arith, length-drop room d)) in
-    let first = rw (filled, wide, held.hashed) at c.compress_eights-filled.ensures in
-    let second = rw (first, middle) at c.compress_eights-self.ensures in
+    let first = rw (filled, wide, held.hashed) at c.compress_eights.ensures in
+    let second = rw (first, middle) at c.compress_eights-2.ensures in
     record {
       counted = total_append s.total _ m d held.counted refl;
       hashed = second ∙ hashed-long m d initial_hash_256 s.buffer room end left_room fits refl held.left;

@@ -12,6 +12,6 @@ returns c = λ m held.
     let is : used ≡ length m % 4096 = omega (arith, held.counted) in
     let width : eights + 512 - eights ≡ 512 = omega arith in
     let long : length (take eights b) ≡ eights = length-take-le eights b (omega arith) in
-    let first = rw (long, held.hashed) at c.compress_eights-hash.ensures in
+    let first = rw (long, held.hashed) at c.compress_eights.ensures in
     rw (width, first) at c.compress_blocks.ensures
     ∙ hashed-left initial_hash_256 m b used eights is refl held.left
