@@ -110,7 +110,10 @@ fn of_each_length(rt: HostRuntime) -> Result<(), Fail> {
         let expected = hex::decode(rt.alloc(), *digest)?;
         assert!(rt; LongSha256::digest(&message).as_slice() == expected.as_slice());
         for size in [1, 7, 64, 500, 512, 4_096, 5_000] {
-            assert!(rt; by_pieces(&message, size).as_slice() == expected.as_slice(), "{length} {size}");
+            assert!(rt;
+                by_pieces(&message, size).as_slice() == expected.as_slice(),
+                "{length} {size}"
+            );
         }
     }
     Ok(())
