@@ -38,7 +38,7 @@ pub use active_labels::input_active_labels;
 pub use entry::{four_output_entries, output_entry, output_entry_from};
 pub use evaluate::{evaluate_from, evaluate_labels, evaluate_one_thread, output_labels};
 pub use first::FirstAnd;
-pub use four::{Evaluation, evaluate_four_from};
+pub use four::{Evaluation, Four, evaluate_four_from};
 pub use garble::{garble_and_compare, garble_from, garble_one_thread};
 pub use garbling::{GarbledAnd, Garbling, Mismatch, RowPair};
 pub use half_gate::{
@@ -48,6 +48,6 @@ pub use hash::{tweak_hash, tweak_hash_series};
 pub use laws::{law_garblings, law_half_gates, law_joined};
 pub use numbers::and_numbers;
 pub use one_gate::{evaluate_gate, garble_gate, labels_read};
-pub use two::{garble_two, garble_two_from};
+pub use two::garble_two;
 pub use waiting::{WaitingGate, WaitingGates};
 pub use zero_labels::input_zero_labels;

@@ -8,6 +8,7 @@ mod bind;
 mod decode;
 mod detached;
 mod facts;
+mod four;
 mod fault;
 mod job;
 mod laws;
@@ -17,6 +18,7 @@ mod wiring;
 
 pub use detached::DetachedJob;
 pub use facts::Facts;
+pub use four::evaluate_four;
 pub use fault::{BindFault, EvalFault};
 pub use job::Job;
 pub use laws::law_honest_files;

@@ -20,7 +20,7 @@ use gc_label::Label;
 use std::alloc::Allocator;
 
 /// The labels of the output wires, the last ones, out of a label for each wire.
-fn output_labels<'l, C: Allocator>(circuit: &Circuit<C>, labels: &'l [Label]) -> &'l [Label]
+pub(crate) fn output_labels<'l, C: Allocator>(circuit: &Circuit<C>, labels: &'l [Label]) -> &'l [Label]
     requires { length labels.now ≡ circuit.now.wires }
     ensures count { length result.now ≡ output_wires circuit.now }
     ensures last { (values : ℕ → ℕ) → labels.now ≡ map values (range_with_len 0 circuit.now.wires)
