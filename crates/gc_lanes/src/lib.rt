@@ -11,9 +11,10 @@ mod compression;
 mod constants;
 mod functions;
 mod hash;
+mod hasher;
 mod labels;
 mod scalar;
 mod words;
 
-pub use chain::{compress_blocks, compress_eights};
 pub use hash::{hash_eight, hash_four};
+pub use hasher::LongSha256;
