@@ -66,6 +66,7 @@ pub fn audit_labels_with_offset<A: Allocator, B: Allocator, C: Allocator, D: All
         → IfOk result (λ verdict. (bits : List Bool) → HasBits verdict bits
         ↔ IsDealtWith circuit.now offset zero_label file.now bits) }
 {
+    let difference = offset.label();
     let index = file.index() as usize;
     let filed = file.labels();
     let Some(width) = circuit.input_widths().get(index) else {
@@ -75,7 +76,7 @@ pub fn audit_labels_with_offset<A: Allocator, B: Allocator, C: Allocator, D: All
         return Ok(LabelsVerdict::WrongWidth);
     }
     let first = first_wire(circuit, index);
-    compare(alloc, circuit, labels, offset, first, filed)
+    compare(alloc, circuit, labels, difference, first, filed)
 }
 
 /// The bits that the filed labels stand for on the input wires from the first one on, or the first wire whose label
@@ -85,7 +86,7 @@ fn compare<A: Allocator, B: Allocator, C: Allocator>(
     alloc: A,
     circuit: &Circuit<B>,
     labels: &Garbling<C>,
-    offset: Offset,
+    offset: Label,
     first: u32,
     filed: &[Label],
 ) -> Result<LabelsVerdict<A>, Memory>
@@ -107,13 +108,13 @@ fn compare<A: Allocator, B: Allocator, C: Allocator>(
 }
 
 /// The bit that a label stands for on a wire with this zero label, if it is one of the wire's two labels.
-fn bit_of(offset: Offset, zero_label: Label, label: Label) -> Option<bool>
+fn bit_of(offset: Label, zero_label: Label, label: Label) -> Option<bool>
     ensures { MatchOption result ((bit : Bool) → label ≢ encode offset zero_label bit)
         (λ bit. label ≡ encode offset zero_label bit) }
 {
     if label == zero_label {
         Some(false)
-    } else if label == zero_label.xor(offset.label()) {
+    } else if label == zero_label.xor(offset) {
         Some(true)
     } else {
         None

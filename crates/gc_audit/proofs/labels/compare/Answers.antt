@@ -1,4 +1,4 @@
-use Rattle.gc_audit.proofs.Names.{◌+◌, length, refl, arith, ap, ◌∙◌, length-append, slice_get_read}
+use Rattle.gc_audit.proofs.Names.{◌+◌, [], ◌∷◌, length, refl, arith, ap, ◌∙◌, length-append, slice_get_read}
 use Rattle.gc_audit.proofs.LabelsLemmas.{encoded-more, by_labels, none_by_labels}
 use Rattle.gc_audit.proofs.labels.compare.Goals as goal
 
@@ -13,7 +13,7 @@ loop-i-preserved g c =
           (by_labels a.circuit.now a.offset zero_label a.labels.now has (a.first + i) _ (omega arith)
           c.zero_label.ensures label _ c.in-Some.ensures) c.in_ok-push.ensures.items).0;
       count = ap length c.in_ok-push.ensures.items
-          ∙ omega (arith, length-append c.loop-i.bits.items _, c.loop-i.invariant.count);
+          ∙ omega (arith, length-append c.loop-i.bits.items (c.in-Some.bit ∷ []), c.loop-i.invariant.count);
     }
 
 pub returns-in_default : goal.returns-in_default
