@@ -1,7 +1,7 @@
-//! The compression of SHA-256 (FIPS 180-4, 6.2.2) of blocks that stand one after another in a message.
+//! The compression of SHA-256 (FIPS 180-4, 6.2.2) of consecutive blocks of a message.
 //!
-//! A message schedule reads its block alone, so that those of eight blocks are worked out at once, one in each lane.
-//! The rounds begin from the hash value of the block before, and go one block after another.
+//! A message schedule depends on its block alone, so the schedules of eight blocks are computed at once, one in each
+//! lane. The rounds of a block start from the hash value of the block before, so they run one block after another.
 
 ghost use Rattle.std.specs.Prelude.{◌≡◌, ◌+◌, ◌*◌, ◌<◌, ◌≤◌, ◌/◌, ◌%◌, [], ℕ, List, get_or, length, slice_index};
 ghost use Rattle.sha2.specs.Sha256.{add32, compress, hash_after, round_constants, rounds, schedule};
@@ -111,7 +111,7 @@ fn four_rounds_of(rows: &Schedules, block: usize, variables: [u32; 8], t: usize)
     round_of(rows, block, variables, t + 3)
 }
 
-/// Takes the hash value past one of the blocks.
+/// Compresses one of the blocks.
 fn compress_one(rows: &Schedules, block: usize, hash: &mut [u32; 8])
     requires { block < 8 }
     ensures { (p : List ℕ) → AreSchedules rows.now p
@@ -136,7 +136,7 @@ fn compress_one(rows: &Schedules, block: usize, hash: &mut [u32; 8])
     *hash = add_state(*hash, variables);
 }
 
-/// Takes the hash value past the first `count` of eight blocks, whose schedules are given.
+/// Compresses the first `count` of eight blocks, given their schedules.
 #[inline(always)]
 fn compress_each(rows: &Schedules, hash: &mut [u32; 8], count: usize)
     requires { count ≤ 8 }
@@ -147,7 +147,7 @@ fn compress_each(rows: &Schedules, hash: &mut [u32; 8], count: usize)
     }
 }
 
-/// Takes the hash value past the first `count` of eight blocks.
+/// Compresses the first `count` of eight blocks.
 pub(crate) fn compress_blocks(hash: &mut [u32; 8], blocks: &[u8], count: usize)
     requires bytes { length blocks.now ≡ 512 }
     requires count { count ≤ 8 }
@@ -159,7 +159,7 @@ pub(crate) fn compress_blocks(hash: &mut [u32; 8], blocks: &[u8], count: usize)
     compress_each(&rows, hash, count);
 }
 
-/// Takes the hash value past all blocks of a text, which are eight, or twice eight, and so on.
+/// Compresses all of the blocks, whose number is a multiple of eight.
 pub(crate) fn compress_eights(hash: &mut [u32; 8], blocks: &[u8])
     requires { length blocks.now % 512 ≡ 0 }
     ensures { hash.new ≡ hash_after hash.old blocks.now (length blocks.now / 64) }
