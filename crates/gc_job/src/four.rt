@@ -5,8 +5,7 @@ ghost use Rattle.gc_half.specs.Evaluation.{AreActive};
 ghost use Rattle.gc_job.specs.Evaluate.{IsEvaluated};
 
 use crate::job::Job;
-use crate::one_thread::output_labels;
-use gc_half::{Evaluation, FirstAnd, Four, evaluate_four_from};
+use gc_half::{Evaluation, FirstAnd, Four, evaluate_four_from, output_labels};
 use gc_label::Label;
 use std::alloc::Allocator;
 
