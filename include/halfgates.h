@@ -48,6 +48,11 @@
 #include <stddef.h>
 #include <stdint.h>
 
+/* The version of this header. That of the library is halfgates_version(). */
+#define HALFGATES_VERSION_MAJOR 0
+#define HALFGATES_VERSION_MINOR 6
+#define HALFGATES_VERSION_PATCH 0
+
 #ifdef __cplusplus
 extern "C" {
 #endif
