@@ -4,28 +4,40 @@
 import os
 import platform
 from pathlib import Path
+from typing import Iterator
 
 NAME = "libhalfgates.so.0"
 
 _PACKAGE = Path(__file__).resolve().parent
 _REPOSITORY = _PACKAGE.parents[1]
 
-# In a wheel, in a repository where ./build has made it, and in one that has it as it was released.
-_FOLDERS = _PACKAGE / "lib", _REPOSITORY / "out/lib", _REPOSITORY / "dist/lib"
-
 # What x86-64-v3 adds, as /proc/cpuinfo names it.
 _V3 = frozenset("avx avx2 bmi1 bmi2 f16c fma abm movbe".split())
 
 
 def library_path() -> str:
-    """The file that HALFGATES_LIBRARY names, or the first library of the folders above, or the system's."""
+    """The file that HALFGATES_LIBRARY names, or the wheel's, or the repository's, or else the system's."""
     named = os.environ.get("HALFGATES_LIBRARY")
     if named:
         return named
-    for folder in map(_folder_of_processor, _FOLDERS):
-        if (folder / NAME).is_file():
-            return str(folder / NAME)
-    return NAME
+    found = filter(Path.is_file, (_folder_of_processor(it) / NAME for it in _folders()))
+    return str(next(found, NAME))
+
+
+def _folders() -> Iterator[Path]:
+    """The folders that may have the library: a wheel's, the one where ./build puts it, and the release's."""
+    yield _PACKAGE / "lib"
+    if _time_of(_REPOSITORY / "out/lib" / NAME) > _time_of(_REPOSITORY / "dist/halfgates.sources"):
+        yield _REPOSITORY / "out/lib"
+    yield _REPOSITORY / "dist/lib"
+
+
+def _time_of(file: Path) -> float:
+    """When a file was written. One that isn't there is older than any."""
+    try:
+        return file.stat().st_mtime
+    except OSError:
+        return 0
 
 
 def _folder_of_processor(folder: Path) -> Path:
