@@ -1,3 +1,4 @@
+# SPDX-License-Identifier: MIT OR Apache-2.0
 # The targets halfgates::halfgates, the shared library, and halfgates::static, the archive.
 if(NOT TARGET halfgates::halfgates)
   get_filename_component(_halfgates_prefix "${CMAKE_CURRENT_LIST_DIR}/../../.." ABSOLUTE)
