@@ -1,3 +1,4 @@
+/* SPDX-License-Identifier: MIT OR Apache-2.0 */
 /*
  * halfgates: garbling Boolean circuits, and evaluating garbled circuits, from C.
  *

@@ -12,7 +12,7 @@ import unittest
 from collections import namedtuple
 from pathlib import Path
 
-from library import LIB_DIR
+from library import INCLUDE, LIB_DIR
 from program import PROGRAM, TOP
 
 DOCUMENTS = [*sorted(TOP.glob("*.md")), *sorted(TOP.glob("docs/*.md")), TOP / "vectors/README.md"]
@@ -83,6 +83,7 @@ class Blocks(unittest.TestCase):
             shutil.copytree(TOP / name, folder / name, ignore=ignored)
         (folder / "halfgates").symlink_to(PROGRAM)
         (folder / "dist").mkdir()
+        (folder / "dist/include").symlink_to(INCLUDE)
         (folder / "dist/lib").symlink_to(LIB_DIR)
 
     def test_each_block_names_its_language(self):
