@@ -51,10 +51,10 @@
 //! # Ok::<(), halfgates::Fault>(())
 //! ```
 //!
-//! # What it doesn't do
+//! # Secrets
 //!
-//! It has no oblivious transfer and no network. It isn't constant-time, and wipes no memory.
-//! Whoever has a seed or a [`Garbling`] knows every label.
+//! Whoever has a seed or a [`Garbling`] knows every label. The vectors that calls return are not
+//! wiped when they are dropped. `SECURITY.md` of the repository says what the library promises.
 
 mod call;
 mod circuit;
