@@ -161,9 +161,11 @@ impl Circuit {
     /// Garbles from an offset, whose colour is 1, and from the zero labels of all input wires.
     ///
     /// `first` is the number of the first AND gate. Under one offset, use no AND number twice:
-    /// `first` of the next circuit is at least `first` and its AND gates together.
+    /// `first` of the next circuit is at least `first` and the AND gates of this one together.
+    /// Where a garbled file of version 2 is written, leave (outputs + 1) / 2 more numbers to its
+    /// decode entries.
     ///
-    /// A garbling whose `first` isn't 0 has rows and labels, and no files.
+    /// A garbling whose `first` isn't 0 has rows and labels, but no garbled file.
     ///
     /// # Errors
     ///
