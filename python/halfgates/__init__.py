@@ -14,8 +14,8 @@ fails raises a `Fault`, with its `code` and its `name`.
 """
 
 from ._bits import Bits, Buffer, from_bits, to_bits
-from ._handles import Circuit, Garbling, Job, locate
-from ._library import Fault, MemoryFault, version
+from ._handles import Circuit, Garbling, Job, decode, locate
+from ._library import Fault, MemoryFault, is_memory, version
 from ._reports import GarbledReport, LabelsReport, Place, WireLabels
 
 __version__ = version()
@@ -32,7 +32,9 @@ __all__ = [
     "MemoryFault",
     "Place",
     "WireLabels",
+    "decode",
     "from_bits",
+    "is_memory",
     "locate",
     "to_bits",
 ]

@@ -56,6 +56,13 @@ class Circuit(Handle):
             raise TypeError(f"a text is a str, and not a {type(text).__name__}: Circuit.read takes bytes")
         return cls.read(text.encode())
 
+    def share(self) -> "Circuit":
+        """One more handle of the same circuit, without a copy: each thread can have its own. Fault: 62."""
+        it = self._empty()
+        check(self._call(library.halfgates_circuit_share, byref(it._at)))
+        it._describe(self._shape, self.digest)
+        return it
+
     def _measure(self) -> None:
         numbers, digest = _library.Numbers(), (c_uint8 * 32)()
         check(library.halfgates_circuit_numbers(self._at, numbers))
@@ -86,6 +93,20 @@ class Circuit(Handle):
             check(self._call(library.halfgates_garble, lent.at, byref(it._at)))
         return it
 
+    def garble_from(self, offset: Buffer, zero_labels: Buffer, first: int = 0) -> "Garbling":
+        """Garbles from an offset of 16 bytes, a zero label for each input wire, and the number of the first AND gate.
+
+        The zero labels are 16 bytes a wire, one after another. Under one offset use no AND number twice, or whoever
+        evaluates can learn labels that it wasn't given: after this garbling go on from `first + and_gates`. Faults: 23,
+        60 where the offset's colour bit is 0, there is another number of labels, or `first + and_gates` is above 2^62,
+        62.
+        """
+        it, first = self._garbling(), _u64(first)
+        with _lent(offset, "an offset", LABEL) as lent, Lent(zero_labels) as labels:
+            words = lent.at, labels.at, labels.size, first, byref(it._at)
+            check(self._call(library.halfgates_garble_from, *words))
+        return it
+
     def _garbling(self) -> "Garbling":
         it = Garbling._empty()
         it._shape = self._shape
@@ -103,6 +124,19 @@ class Circuit(Handle):
             with Lent(file, is_written=True) as out:
                 words = key.at, index, value.at, value.size, out.at, out.size, byref(written)
                 check(self._call(library.halfgates_deal, *words))
+        return file
+
+    def label_file(self, index: int, labels: Buffer) -> bytearray:
+        """The label file of the input value of this index, from labels that were received, 16 bytes a wire.
+
+        Faults: 42, 60 where there is another number of labels, 62.
+        """
+        index, written = _u32(index), c_size_t()
+        with Lent(labels) as lent:
+            file = bytearray(HEAD_OF_LABELS + lent.size)
+            with Lent(file, is_written=True) as out:
+                words = index, lent.at, lent.size, out.at, out.size, byref(written)
+                check(self._call(library.halfgates_label_file, *words))
         return file
 
     def bind(self, garbled: Buffer, labels: Iterable[Buffer]) -> "Job":
@@ -124,6 +158,18 @@ class Circuit(Handle):
         outputs = bytearray(self._shape.output_wires)
         with _lent_bits(bits) as lent, Lent(outputs, is_written=True) as out:
             check(self._call(library.halfgates_plain, lent.at, lent.size, out.at, out.size))
+        return outputs
+
+    def evaluate_labels(self, rows: Buffer, labels: Buffer, first: int = 0) -> bytearray:
+        """The active labels of all output wires, 16 bytes each, from the row pairs and those of all input wires.
+
+        `first` is the number of the first AND gate, as for `garble_from`. Nothing of rows and labels is trusted.
+        Faults: 46, 60 where there is another number of rows or labels, or `first + and_gates` is above 2^62.
+        """
+        first, outputs = _u64(first), bytearray(LABEL * self._shape.output_wires)
+        with Lent(rows) as pairs, Lent(labels) as lent, Lent(outputs, is_written=True) as out:
+            words = pairs.at, pairs.size, first, lent.at, lent.size, out.at, out.size
+            check(self._call(library.halfgates_evaluate_labels, *words))
         return outputs
 
 
@@ -155,6 +201,57 @@ class Garbling(Handle):
         if code != SMALL_BUFFER:
             check(code)
         return written.value
+
+    @property
+    def offset(self) -> bytes:
+        """The offset, 16 bytes: the label of a 1 is the zero label XOR the offset. Give it to nobody who evaluates."""
+        offset = (c_uint8 * LABEL)()
+        check(self._call(library.halfgates_offset, offset))
+        return bytes(offset)
+
+    def input_labels(self, index: int) -> Tuple[bytes, bytes]:
+        """The zero labels and the one labels of the wires of an input value, 16 bytes a wire: what a transfer offers.
+
+        Fault 42: there is no such value.
+        """
+        return self._pairs(library.halfgates_input_labels, self._shape.input_widths, _u32(index))
+
+    def output_labels(self, index: int) -> Tuple[bytes, bytes]:
+        """The zero labels and the one labels of the wires of an output value. Fault 42: there is no such value."""
+        return self._pairs(library.halfgates_output_labels, self._shape.output_widths, _u32(index))
+
+    def _pairs(self, function, widths: Tuple[int, ...], index: int) -> Tuple[bytes, bytes]:
+        size = LABEL * widths[index] if index < len(widths) else 0
+        zero, one = (c_uint8 * size)(), (c_uint8 * size)()
+        check(self._call(function, index, byref(zero), byref(one), size))
+        return bytes(zero), bytes(one)
+
+    def deal(self, index: int, bits: Bits) -> bytearray:
+        """The label file of the input value of this index, which stands for these bits. See `Circuit.deal`.
+
+        Faults: 13, 15, 16, 42, 62.
+        """
+        index, written = _u32(index), c_size_t()
+        with _lent_bits(bits) as value:
+            file = bytearray(HEAD_OF_LABELS + LABEL * value.size)
+            with Lent(file, is_written=True) as out:
+                words = index, value.at, value.size, out.at, out.size, byref(written)
+                check(self._call(library.halfgates_garbling_deal, *words))
+        return file
+
+    def rows(self) -> bytearray:
+        """The row pairs: for each AND gate the generator's row and the evaluator's row, 16 bytes each."""
+        rows = bytearray(ROW_PAIR * self._shape.and_gates)
+        with Lent(rows, is_written=True) as out:
+            check(self._call(library.halfgates_rows, out.at, out.size))
+        return rows
+
+    def decode_bits(self) -> bytearray:
+        """The decode bits of all output wires: `decode` opens the outputs to whoever has those of their wires."""
+        bits = bytearray(self._shape.output_wires)
+        with Lent(bits, is_written=True) as out:
+            check(self._call(library.halfgates_decode_bits, out.at, out.size))
+        return bits
 
     def zero_label(self, wire: int) -> bytes:
         """The zero label of a wire, 16 bytes, zeros for a wire that isn't set. Fault 60: there is no such wire."""
@@ -214,6 +311,25 @@ class Job(Handle):
             check(self._call(library.halfgates_evaluate, out.at, out.size))
         return bits
 
+    def output_labels(self) -> bytearray:
+        """The active labels of all output wires, 16 bytes each. Fault: 46."""
+        labels = bytearray(LABEL * self._shape.output_wires)
+        with Lent(labels, is_written=True) as out:
+            check(self._call(library.halfgates_job_output_labels, out.at, out.size))
+        return labels
+
+
+def decode(labels: Buffer, decode_bits: Bits) -> bytearray:
+    """The bits of active output labels, 16 bytes each, by the decode bits of their wires.
+
+    Faults: 15 where a decode bit is neither 0 nor 1, 60 where there is another number of labels than of bits.
+    """
+    with Lent(labels) as lent, _lent_bits(decode_bits) as decoding:
+        bits = bytearray(decoding.size)
+        with Lent(bits, is_written=True) as out:
+            check(library.halfgates_decode(lent.at, lent.size, decoding.at, decoding.size, out.at, out.size))
+    return bits
+
 
 def locate(text: Buffer) -> Optional[Place]:
     """Where the first fault of a text in Bristol Fashion is: None for a circuit. Fault: 13."""
@@ -224,10 +340,18 @@ def locate(text: Buffer) -> Optional[Place]:
 
 
 def _u32(number: int) -> int:
-    """The number, where it has 32 bits: ctypes drops bits without a word."""
+    return _unsigned(number, 32)
+
+
+def _u64(number: int) -> int:
+    return _unsigned(number, 64)
+
+
+def _unsigned(number: int, width: int) -> int:
+    """The number, where it has this many bits: ctypes drops bits without a word."""
     number = integer(number)
-    if not 0 <= number < 2**32:
-        raise OverflowError(f"{number} is not from 0 to 4,294,967,295")
+    if not 0 <= number < 1 << width:
+        raise OverflowError(f"a number is from 0 to {2**width - 1:,}")
     return number
 
 
