@@ -200,9 +200,10 @@ impl Circuit {
     /// The size of a garbled file in bytes, whatever the seed.
     #[must_use]
     #[doc(alias = "halfgates_garbled_size")]
-    pub fn garbled_size(&self, version: Version) -> u64 {
+    #[allow(clippy::cast_possible_truncation)] // The file has at most some 1.5 GB.
+    pub fn garbled_size(&self, version: Version) -> usize {
         // SAFETY: the handle is the library's.
-        unsafe { sys::halfgates_garbled_size(self.handle.get(), version as u32) }
+        unsafe { sys::halfgates_garbled_size(self.handle.get(), version as u32) as usize }
     }
 
     /// The label file of an input value, counted from 0, for these bits under a seed.
