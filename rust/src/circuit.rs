@@ -200,7 +200,7 @@ impl Circuit {
     /// The size of a garbled file in bytes, whatever the seed.
     #[must_use]
     #[doc(alias = "halfgates_garbled_size")]
-    #[allow(clippy::cast_possible_truncation)] // The file has at most some 1.5 GB.
+    #[allow(clippy::cast_possible_truncation)] // A file has less than 2 GB.
     pub fn garbled_size(&self, version: Version) -> usize {
         // SAFETY: the handle is the library's.
         unsafe { sys::halfgates_garbled_size(self.handle.get(), version as u32) as usize }
