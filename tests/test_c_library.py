@@ -96,6 +96,9 @@ class FromC(LibraryTest):
     def test_null_with_a_size_by_bare_names(self):
         self.run_built(SOURCES / "null.c", LIBRARY)
 
+    def test_null_of_size_0(self):
+        self.run_built(SOURCES / "nothing.c")
+
     def test_refused_memory(self):
         printed = self.run_built(SOURCES / "memory.c", flags=WRAPPED)
         self.assertRegex(printed, r"^\d+ growths refused\n$")
@@ -115,14 +118,43 @@ class FromC(LibraryTest):
         self.assertEqual(self.run_built(example, *words), f"{sum_of_both}\n")
 
 
+# What the C++ header keeps a program from: each would compile with an earlier version of it.
+MISUSES = {
+    "a view of a list": "halfgates::view bits{1, 1};",
+    "a view of a list that begins with 0": "halfgates::view bits{0, 1};",
+    "a view of a temporary": "halfgates::view bits(halfgates::bytes(3));",
+    "a seed of nothing": "halfgates::seed seed{};",
+    "a seed of nothing, as an argument": "auto garbling = circuit.garble({});",
+    "a seed of a list": "auto garbling = circuit.garble({{3}});",
+    "outputs dropped": "circuit.plain({1, 1});",
+    "a garbling dropped": "circuit.garble(halfgates::seed::random());",
+    "a copy of a handle": "halfgates::circuit other = circuit;",
+}
+
+
 class FromCPlusPlus(LibraryTest):
     def test_its_header(self):
-        self.run_built(SOURCES / "raii.cpp")
+        for source in ("raii.cpp", "beside.cpp"):
+            self.run_built(SOURCES / source)
 
     def test_later_standards(self):
         for standard in ("-std=c++17", "-std=c++20"):
             with self.subTest(standard):
                 self.run_built(SOURCES / "raii.cpp", flags=[standard])
+
+    def test_misuses_do_not_compile(self):
+        self.assertEqual(self.compiles("auto bits = circuit.plain({1, 1});"), "")
+        for name, misuse in MISUSES.items():
+            with self.subTest(name):
+                self.assertIn("error: ", self.compiles(misuse))
+
+    def compiles(self, statement):
+        """What the compiler says of a function of this statement."""
+        source = self.folder / "misuse.cpp"
+        source.write_text(f"#include <halfgates.hpp>\nvoid use(halfgates::circuit &circuit) {{ {statement} }}\n")
+        command, standard = compiler(".cpp")
+        words = [command, standard, "-fsyntax-only", "-Werror=unused-result", f"-I{INCLUDE}", source]
+        return subprocess.run(words, capture_output=True, text=True, check=False).stderr
 
     def test_the_c_header_in_c_plus_plus(self):
         source = self.folder / "header.cpp"

@@ -10,28 +10,18 @@
 #include <halfgates.hpp>
 #include <iostream>
 #include <iterator>
-#include <random>
 #include <string>
 #include <vector>
-
-/* 32 bytes that nobody else knows. */
-static halfgates::seed random_seed() {
-    std::random_device random;
-    halfgates::seed seed;
-    for (std::uint8_t &byte : seed)
-        byte = static_cast<std::uint8_t>(random());
-    return seed;
-}
 
 static int run(char **bits) {
     std::ifstream file("examples/full_adder.txt");
     const std::string text{std::istreambuf_iterator<char>(file), {}};
-    const halfgates::seed seed = random_seed();
     halfgates::circuit circuit(text);
+    halfgates::garbling garbling = circuit.garble(halfgates::seed::random());
     std::vector<halfgates::bytes> labels;
     for (std::uint32_t i = 0; i < 3; i++)
-        labels.push_back(circuit.deal(seed, i, {static_cast<std::uint8_t>(bits[i][0] - '0')}));
-    for (int bit : circuit.bind(circuit.garble(seed).write(), labels).evaluate())
+        labels.push_back(garbling.deal(i, {static_cast<std::uint8_t>(bits[i][0] - '0')}));
+    for (int bit : circuit.bind(garbling.write(), labels).evaluate())
         std::cout << bit;
     std::cout << "\n";
     return 0;

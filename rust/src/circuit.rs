@@ -161,9 +161,11 @@ impl Circuit {
     /// Garbles from an offset, whose colour is 1, and from the zero labels of all input wires.
     ///
     /// `first` is the number of the first AND gate. Under one offset, use no AND number twice:
-    /// `first` of the next circuit is at least `first` and its AND gates together.
+    /// `first` of the next circuit is at least `first` and the AND gates of this one together.
+    /// Where a garbled file of version 2 is written, leave (outputs + 1) / 2 more numbers to its
+    /// decode entries.
     ///
-    /// A garbling whose `first` isn't 0 has rows and labels, and no files.
+    /// A garbling whose `first` isn't 0 has rows and labels, but no garbled file.
     ///
     /// # Errors
     ///
@@ -198,9 +200,10 @@ impl Circuit {
     /// The size of a garbled file in bytes, whatever the seed.
     #[must_use]
     #[doc(alias = "halfgates_garbled_size")]
-    pub fn garbled_size(&self, version: Version) -> u64 {
+    #[allow(clippy::cast_possible_truncation)] // A file has less than 2 GB.
+    pub fn garbled_size(&self, version: Version) -> usize {
         // SAFETY: the handle is the library's.
-        unsafe { sys::halfgates_garbled_size(self.handle.get(), version as u32) }
+        unsafe { sys::halfgates_garbled_size(self.handle.get(), version as u32) as usize }
     }
 
     /// The label file of an input value, counted from 0, for these bits under a seed.

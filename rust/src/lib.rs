@@ -3,9 +3,9 @@
 //! Garbles Boolean circuits with half gates, and evaluates garbled circuits.
 //!
 //! This is a safe view of the C library `halfgates`, whose calls are proved to meet their
-//! contracts. The crate itself is tested, not proved. It is Linux's on x86-64, needs no other
-//! crate, and links the library of its repository, or the one in the folder that
-//! `HALFGATES_LIB_DIR` names, or the one that pkg-config finds.
+//! contracts. The crate itself is tested, not proved. It is for Linux on x86-64 and needs no other
+//! crate. It links the library in the folder that `HALFGATES_LIB_DIR` names, or else the one of
+//! its repository, or else the one that pkg-config finds.
 //!
 //! # Two parties
 //!
@@ -51,10 +51,10 @@
 //! # Ok::<(), halfgates::Fault>(())
 //! ```
 //!
-//! # What it doesn't do
+//! # Secrets
 //!
-//! It has no oblivious transfer and no network. It isn't constant-time, and wipes no memory.
-//! Whoever has a seed or a [`Garbling`] knows every label.
+//! Whoever has a seed or a [`Garbling`] knows every label. The vectors that calls return are not
+//! wiped when they are dropped. `SECURITY.md` of the repository says what the library promises.
 
 mod call;
 mod circuit;

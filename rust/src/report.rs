@@ -14,10 +14,10 @@ pub struct Place {
     /// The column, counted from 1 in bytes.
     pub column: u64,
     /// The gate being read, counted from 0.
-    pub gate: Option<u32>,
+    pub gate: Option<usize>,
     /// The wire of [`Fault::NO_SUCH_WIRE`], [`Fault::UNSET`], [`Fault::SET_TWICE`] and
     /// [`Fault::OUTPUT_UNSET`].
-    pub wire: Option<u32>,
+    pub wire: Option<usize>,
 }
 
 impl Place {
@@ -33,7 +33,7 @@ impl Place {
             line: it.line,
             column: it.column,
             gate: some(it.gate),
-            wire: has_wire.then_some(it.wire),
+            wire: has_wire.then_some(it.wire as usize),
         })
     }
 }
@@ -77,7 +77,7 @@ pub struct GarbledReport {
     /// The first row pair that differs.
     pub row: Option<RowDifference>,
     /// The first output, counted from 0, whose decode bit differs.
-    pub decode_bit: Option<u32>,
+    pub decode_bit: Option<usize>,
     /// The first decode entry that differs. Version 1 has none.
     pub entry: Option<EntryDifference>,
 }
@@ -87,11 +87,11 @@ pub struct GarbledReport {
 #[non_exhaustive]
 pub struct RowDifference {
     /// The number of the gate among the AND gates.
-    pub row: u32,
+    pub row: usize,
     /// The number of the gate among all gates.
-    pub gate: u32,
+    pub gate: usize,
     /// The wire that the gate sets.
-    pub wire: u32,
+    pub wire: usize,
     /// Whether the generator's row differs.
     pub generator: bool,
     /// Whether the evaluator's row differs.
@@ -103,7 +103,7 @@ pub struct RowDifference {
 #[non_exhaustive]
 pub struct EntryDifference {
     /// The output, counted from 0.
-    pub output: u32,
+    pub output: usize,
     /// The colour of the entry.
     pub colour: bool,
 }
@@ -117,8 +117,8 @@ impl GarbledReport {
             has_counts: it.counts != 0,
             row: some(it.row).map(|row| RowDifference {
                 row,
-                gate: it.gate,
-                wire: it.wire,
+                gate: it.gate as usize,
+                wire: it.wire as usize,
                 generator: it.generator != 0,
                 evaluator: it.evaluator != 0,
             }),
@@ -136,7 +136,7 @@ impl GarbledReport {
 #[non_exhaustive]
 pub struct LabelsReport {
     /// The index of the input value in the file.
-    pub index: u32,
+    pub index: usize,
     /// What the labels are.
     pub verdict: Verdict,
 }
@@ -154,7 +154,7 @@ pub enum Verdict {
     /// A label is neither of the two labels of this wire, the first such.
     WrongLabel {
         /// The number of the wire.
-        wire: u32,
+        wire: usize,
     },
 }
 
@@ -164,10 +164,12 @@ impl LabelsReport {
             sys::OK => Verdict::Honest(bits),
             sys::NO_SUCH_VALUE => Verdict::NoSuchValue,
             sys::WRONG_WIDTH => Verdict::WrongWidth,
-            _ => Verdict::WrongLabel { wire: it.wire },
+            _ => Verdict::WrongLabel {
+                wire: it.wire as usize,
+            },
         };
         Self {
-            index: it.index,
+            index: it.index as usize,
             verdict,
         }
     }
@@ -183,6 +185,6 @@ impl LabelsReport {
 }
 
 /// A number, unless it stands for none.
-fn some(number: u32) -> Option<u32> {
-    (number != sys::NONE).then_some(number)
+fn some(number: u32) -> Option<usize> {
+    (number != sys::NONE).then_some(number as usize)
 }

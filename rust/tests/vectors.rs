@@ -42,9 +42,22 @@ impl<'a> Vector<'a> {
         bytes_of(&self.strings(key).concat())
     }
 
-    fn evaluations(self) -> impl Iterator<Item = Vector<'a>> {
-        self.0.split("\"values\"").skip(1).map(Vector)
+    /// The parts that each begin with this key.
+    fn parts(self, key: &str) -> Vec<Vector<'a>> {
+        let key = format!("\"{key}\":");
+        let starts: Vec<usize> = self.0.match_indices(&key).map(|(at, _)| at).collect();
+        let ends = starts.iter().skip(1).copied().chain([self.0.len()]);
+        starts
+            .iter()
+            .zip(ends)
+            .map(|(&start, end)| Vector(&self.0[start..end]))
+            .collect()
     }
+}
+
+fn read(name: &str) -> String {
+    let path = format!("{}/../vectors/{name}.json", env!("CARGO_MANIFEST_DIR"));
+    fs::read_to_string(path).expect(name)
 }
 
 fn bytes_of(digits: &str) -> Vec<u8> {
@@ -55,6 +68,10 @@ fn bytes_of(digits: &str) -> Vec<u8> {
 
 fn label_of(digits: &str) -> Label {
     bytes_of(digits).try_into().unwrap()
+}
+
+fn labels_of(digits: &[&str]) -> Vec<Label> {
+    digits.iter().map(|it| label_of(it)).collect()
 }
 
 fn bits_of(digits: &str) -> Vec<bool> {
@@ -90,11 +107,7 @@ fn check_garbling(vector: Vector, garbling: &Garbling) -> Result<(), Fault> {
 }
 
 fn check_evaluation(vector: Vector, circuit: &Circuit, garbling: &Garbling) -> Result<(), Fault> {
-    let values: Vec<Vec<bool>> = Vector(&format!("\"values\"{}", vector.0))
-        .strings("values")
-        .into_iter()
-        .map(bits_of)
-        .collect();
+    let values: Vec<Vec<bool>> = vector.strings("values").into_iter().map(bits_of).collect();
     let files: Vec<Vec<u8>> = vector
         .strings("label_files")
         .into_iter()
@@ -105,8 +118,7 @@ fn check_evaluation(vector: Vector, circuit: &Circuit, garbling: &Garbling) -> R
         .into_iter()
         .flat_map(bits_of)
         .collect();
-    let active = vector.strings("active_output_labels");
-    let active: Vec<Label> = active.into_iter().map(label_of).collect();
+    let active = labels_of(&vector.strings("active_output_labels"));
 
     assert_eq!(circuit.plain(&values.concat())?, outputs);
     let mut inputs = Vec::new();
@@ -133,11 +145,46 @@ fn check_evaluation(vector: Vector, circuit: &Circuit, garbling: &Garbling) -> R
     Ok(())
 }
 
+/// A garbling from given labels, and its evaluation.
+fn check_link(vector: Vector, offset: &Label) -> Result<(), Fault> {
+    let circuit = Circuit::read(vector.strings("circuit").join("\n"))?;
+    let (bits, outputs) = (vector.strings("bits")[0], vector.strings("outputs")[0]);
+    let zero = labels_of(&vector.strings("input_zero_labels"));
+    let first: u64 = vector.strings("first")[0].parse().unwrap();
+    let garbling = circuit.garble_from(offset, &zero, first)?;
+
+    let rows: Vec<u8> = garbling
+        .rows()?
+        .iter()
+        .flat_map(|it| [it.generator, it.evaluator].concat())
+        .collect();
+    assert_eq!(rows, vector.bytes("rows"));
+    assert_eq!(garbling.offset()?, *offset);
+    assert_eq!(
+        garbling.decode_bits()?,
+        bits_of(vector.strings("decode_bits")[0])
+    );
+    let values = 0..circuit.output_widths().len();
+    let pairs: Vec<Vec<[Label; 2]>> = values
+        .map(|index| garbling.output_labels(index))
+        .collect::<Result<_, _>>()?;
+    let (zero, one): (Vec<Label>, Vec<Label>) =
+        pairs.concat().iter().map(|it| (it[0], it[1])).unzip();
+    assert_eq!(zero, labels_of(&vector.strings("output_zero_labels")));
+    assert_eq!(one, labels_of(&vector.strings("output_one_labels")));
+
+    let active = labels_of(&vector.strings("active_input_labels"));
+    let found = circuit.evaluate_labels(&garbling.rows()?, &active, first)?;
+    assert_eq!(found, labels_of(&vector.strings("active_output_labels")));
+    assert_eq!(decode(&found, &garbling.decode_bits()?)?, bits_of(outputs));
+    assert_eq!(circuit.plain(&bits_of(bits))?, bits_of(outputs));
+    Ok(())
+}
+
 #[test]
 fn files_labels_and_outputs_are_those_of_the_vectors() -> Result<(), Fault> {
     for name in NAMES {
-        let path = format!("{}/../vectors/{name}.json", env!("CARGO_MANIFEST_DIR"));
-        let json = fs::read_to_string(path).expect(name);
+        let json = read(name);
         let vector = Vector(&json);
         let circuit = Circuit::read(vector.strings("circuit").join("\n"))?;
         let seed = vector.bytes("seed").try_into().unwrap();
@@ -145,9 +192,26 @@ fn files_labels_and_outputs_are_those_of_the_vectors() -> Result<(), Fault> {
 
         assert_eq!(circuit.digest()[..], vector.bytes("digest"));
         check_garbling(vector, &garbling)?;
-        assert!(vector.evaluations().count() > 0);
-        for evaluation in vector.evaluations() {
+        let evaluations = vector.parts("values");
+        assert!(!evaluations.is_empty());
+        for evaluation in evaluations {
             check_evaluation(evaluation, &circuit, &garbling)?;
+        }
+    }
+    Ok(())
+}
+
+#[test]
+fn joined_circuits_are_those_of_the_vectors() -> Result<(), Fault> {
+    let json = read("joined");
+    let joined = Vector(&json).parts("about");
+    assert!(joined.len() > 10);
+    for vector in joined {
+        let offset = label_of(vector.strings("offset")[0]);
+        let links = vector.parts("circuit");
+        assert!(!links.is_empty());
+        for link in links {
+            check_link(link, &offset)?;
         }
     }
     Ok(())
