@@ -1,3 +1,4 @@
+/* SPDX-License-Identifier: MIT OR Apache-2.0 */
 /*
  * halfgates: the C++ view of halfgates.h, from C++11 on. That header says what each call does.
  *

@@ -1,3 +1,4 @@
+# SPDX-License-Identifier: MIT OR Apache-2.0
 """Garbles Boolean circuits with half gates, and evaluates garbled circuits.
 
 A circuit is read once, and garbled under any number of seeds:

@@ -1,3 +1,4 @@
+# SPDX-License-Identifier: MIT OR Apache-2.0
 """Bytes that are lent to the library where they lie, by CPython's buffer protocol: nothing is copied."""
 
 import ctypes

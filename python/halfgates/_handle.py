@@ -1,3 +1,4 @@
+# SPDX-License-Identifier: MIT OR Apache-2.0
 """What circuits, garblings and jobs have in common: a handle of the library, which one call at a time uses."""
 
 from __future__ import annotations

@@ -1,3 +1,4 @@
+# SPDX-License-Identifier: MIT OR Apache-2.0
 """Circuits, garblings and jobs: the handles of the library."""
 
 from contextlib import contextmanager

@@ -1,9 +1,10 @@
+# SPDX-License-Identifier: MIT OR Apache-2.0
 """The shared library, its functions and its structs, as include/halfgates.h declares them."""
 
 import ctypes
-import os
 from ctypes import POINTER, c_char, c_int32, c_size_t, c_uint8, c_uint32, c_uint64, c_void_p
-from pathlib import Path
+
+from ._path import library_path
 
 OK, BAD_ARGUMENT, SMALL_BUFFER = 0, 60, 61
 
@@ -96,15 +97,9 @@ _FUNCTIONS = {
 }
 
 
-def _path() -> str:
-    """HALFGATES_LIBRARY, or else what ./build made in the folder of this package, or else what the system finds."""
-    built = Path(__file__).resolve().parents[2] / "out/libhalfgates.so"
-    return os.environ.get("HALFGATES_LIBRARY") or (str(built) if built.is_file() else "libhalfgates.so")
-
-
 def _load() -> ctypes.CDLL:
     try:
-        library = ctypes.CDLL(_path())
+        library = ctypes.CDLL(library_path())
         for name, (returns, *takes) in _FUNCTIONS.items():
             function = getattr(library, f"halfgates_{name}")
             function.restype, function.argtypes = returns, takes

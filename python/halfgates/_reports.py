@@ -1,3 +1,4 @@
+# SPDX-License-Identifier: MIT OR Apache-2.0
 """What the calls that trace and compare return. A gate, wire or output that there isn't is None."""
 
 from typing import NamedTuple, Optional
