@@ -15,7 +15,8 @@ from pathlib import Path
 from library import INCLUDE, LIB_DIR
 from program import PROGRAM, TOP
 
-DOCUMENTS = [*sorted(TOP.glob("*.md")), *sorted(TOP.glob("docs/*.md")), TOP / "vectors/README.md"]
+DOCUMENTS = [*sorted(TOP.glob("*.md")), *sorted(TOP.glob("docs/*.md"))]
+DOCUMENTS += [TOP / "examples/README.md", TOP / "vectors/README.md"]
 
 # What the blocks find where they are run, in addition to the program and the library.
 FOLDERS = "bench", "examples", "include", "python", "vectors"
