@@ -17,6 +17,8 @@ mod labels;
 #[cfg(test)]
 mod lanes;
 #[cfg(test)]
+mod long_hash;
+#[cfg(test)]
 mod pieces;
 #[cfg(test)]
 mod reading;

@@ -31,5 +31,5 @@ pub use Rattle.gc_write.specs.Written.{entry_pair_of, entry_pairs_from, entry_pa
 pub use Rattle.gc_write.specs.declared.writer.FileWriter.{FileWriter}
 pub use Rattle.gc_write.specs.declared.writer.WriteFault.{WriteFault}
 pub use Rattle.sha2.proofs.Facts256.{length-sha256}
-pub use Rattle.sha2.specs.Hashers.{Holds256}
+pub use Rattle.gc_lanes.specs.Hasher.{HoldsMessage}
 pub use Rattle.sha2.specs.Sha256.{sha256}

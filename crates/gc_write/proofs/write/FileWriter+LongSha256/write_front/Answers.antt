@@ -1,9 +1,9 @@
 use Rattle.gc_write.proofs.Names.{◌≡◌, [], flat_map, append_assoc, refl, sym, packed, header, row_bytes, parts_of}
 use Rattle.gc_write.proofs.ByteLemmas.{length-decode_bits}
 use Rattle.gc_write.proofs.WritingLemmas.{Proceeds-step, Proceeds-exit}
-use Rattle.gc_write.proofs.write.FileWriter+Sha256.write_front.Given.{Over}
-use Rattle.gc_write.proofs.write.FileWriter+Sha256.write_front.Goals.{After-as_slice}
-use Rattle.gc_write.proofs.write.FileWriter+Sha256.write_front.Goals as goal
+use Rattle.gc_write.proofs.write.FileWriter+LongSha256.write_front.Given.{Over}
+use Rattle.gc_write.proofs.write.FileWriter+LongSha256.write_front.Goals.{After-as_slice}
+use Rattle.gc_write.proofs.write.FileWriter+LongSha256.write_front.Goals as goal
 
 -- What is written first is the header.
 is : (g : Over) (c : After-as_slice g) →

@@ -1,7 +1,7 @@
 use Rattle.gc_format.specs.GarbledFile.{entry_bytes}
 use Rattle.gc_write.proofs.ListLemmas.{flat_map-step, flat_map-rest}
 use Rattle.gc_write.proofs.WritingLemmas.{Wrote-more, Wrote-exit}
-use Rattle.gc_write.proofs.write.FileWriter+Sha256.write_pairs.Goals as goal
+use Rattle.gc_write.proofs.write.FileWriter+LongSha256.write_pairs.Goals as goal
 
 pub returns-in_err-write-clause-bytes : goal.returns-in_err-write-clause-bytes
 returns-in_err-write-clause-bytes g c =

@@ -1,6 +1,6 @@
 use Rattle.gc_write.proofs.Names.{[], refl, sha256}
 use Rattle.gc_write.proofs.EndLemmas.{Ends-exit, Ends-step, Ends-digest}
-use Rattle.gc_write.proofs.writer.FileWriter+Sha256.end_with_digest.Goals as goal
+use Rattle.gc_write.proofs.writer.FileWriter+LongSha256.end_with_digest.Goals as goal
 
 pub returns-in_err-send-clause-bytes : goal.returns-in_err-send-clause-bytes
 returns-in_err-send-clause-bytes g c =
