@@ -40,7 +40,7 @@ struct tried rattle_alloc(size_t size, size_t alignment) {
 
 void rattle_dealloc(void *block) {
     struct head *head = (struct head *)block - 1;
-    wipe(block, head->size);
+    wipe(head, sizeof *head + head->size);
     free(head);
 }
 
