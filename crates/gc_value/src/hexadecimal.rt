@@ -35,5 +35,5 @@ fn digit_of(c: u8) -> (u8, bool)
 fn value_where(is_so: bool, value: u8) -> u8
     ensures { result ≡ if is_so then value else 0 }
 {
-    if is_so { value } else { 0 }
+    u8::from(is_so) * value
 }
