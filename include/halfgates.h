@@ -1,3 +1,4 @@
+/* SPDX-License-Identifier: MIT OR Apache-2.0 */
 /*
  * halfgates: garbling Boolean circuits, and evaluating garbled circuits, from C.
  *
@@ -46,6 +47,11 @@
 
 #include <stddef.h>
 #include <stdint.h>
+
+/* The version of this header. That of the library is halfgates_version(). */
+#define HALFGATES_VERSION_MAJOR 0
+#define HALFGATES_VERSION_MINOR 6
+#define HALFGATES_VERSION_PATCH 0
 
 #ifdef __cplusplus
 extern "C" {

@@ -1,8 +1,10 @@
 //! Two garblings of one circuit, side by side: the k-th AND gates of both are garbled at once, so no gate waits.
 
-ghost use Rattle.std.specs.Prelude.{◌≡◌, ◌<◌, ◌≤◌, ◌^◌, ◌-◌, ◌++◌, ℕ, [], IfOk, OnOk, length, slice_index, take, replicate};
+ghost use Rattle.std.specs.Prelude.{◌≡◌, ◌<◌, ◌≤◌, ◌^◌, ◌-◌, ◌++◌, ℕ, [], IfOk, OnOk, length, map, slice_index, take, replicate};
+ghost use Rattle.std.specs.List.{range_with_len};
 ghost use Rattle.gc_netlist.specs.Circuit.{EachRead, input_wires, output_wires};
 ghost use Rattle.gc_netlist.specs.Solution.{put};
+ghost use Rattle.gc_label.specs.Seed.{input_label_of, offset_of};
 ghost use Rattle.gc_half.specs.Hash.{hash, numbered_from};
 ghost use Rattle.gc_half.specs.HalfGate.{and_garbled};
 ghost use Rattle.gc_half.specs.OneGate.{first_read, second_read, gate_zero, gate_rows};
@@ -19,31 +21,9 @@ use gc_circuit::{Circuit, Gate, Memory, Operation};
 use gc_label::{Label, Offset, Seed, offset};
 use std::alloc::{Allocator, Global};
 
-/// Two garblings of one circuit, each with an offset and zero labels of its own, where the AND gates of both are
-/// numbered from `first` on. Each is what [`crate::garble_from`] gives. It takes memory for the labels and for the rows of
-/// each, once. That there are as many zero labels as input wires is the caller's condition.
-pub fn garble_two_from<A: Allocator + Copy, C: Allocator>(
-    alloc: A,
-    circuit: &Circuit<C>,
-    offset: Offset,
-    zero_labels: &[Label],
-    other_offset: Offset,
-    other_labels: &[Label],
-    first: FirstAnd,
-) -> Result<(Garbling<A>, Garbling<A>), Memory>
-    requires one { length zero_labels.now ≡ input_wires circuit.now }
-    requires other { length other_labels.now ≡ input_wires circuit.now }
-    ensures one { IfOk result (λ made.
-        IsGarbledFrom offset (slice_index zero_labels.now) first circuit.now made.0) }
-    ensures other { IfOk result (λ made.
-        IsGarbledFrom other_offset (slice_index other_labels.now) first circuit.now made.1) }
-{
-    let one = Garbler::new(alloc, circuit, offset, zero_labels)?;
-    let other = Garbler::new(alloc, circuit, other_offset, other_labels)?;
-    garble_both(circuit, first, one, other)
-}
-
-/// The garblings of one circuit under two seeds. Each is what [`crate::garble_one_thread`] gives.
+/// The garblings of one circuit under two seeds, made side by side on one thread ("Two Halves Make a Whole", the
+/// procedure Gb). Each is the one that [`garble_one_thread`](crate::garble_one_thread) returns. It allocates the labels
+/// and the row pairs of each once.
 pub fn garble_two<A: Allocator + Copy, C: Allocator>(
     alloc: A,
     circuit: &Circuit<C>,
@@ -53,16 +33,8 @@ pub fn garble_two<A: Allocator + Copy, C: Allocator>(
     ensures one { IfOk result (λ made. IsGarbled circuit.now seed.now made.0) }
     ensures other { IfOk result (λ made. IsGarbled circuit.now other.now made.1) }
 {
-    let one = Garbler {
-        offset: offset(seed),
-        labels: labels_of_inputs(alloc, circuit, seed)?,
-        rows: Vec::with_capacity(alloc, circuit.and_count() as usize)?,
-    };
-    let other = Garbler {
-        offset: offset(other),
-        labels: labels_of_inputs(alloc, circuit, other)?,
-        rows: Vec::with_capacity(alloc, circuit.and_count() as usize)?,
-    };
+    let one = Garbler::new(alloc, circuit, seed)?;
+    let other = Garbler::new(alloc, circuit, other)?;
     garble_both(circuit, FirstAnd::ZERO, one, other)
 }
 
@@ -143,7 +115,8 @@ fn step<A: Allocator>(
     other.put(wires, gate.set, other_made)
 }
 
-/// Garbles the AND gates of both. It is not inlined: its many variables would push those of the loop out of the registers.
+/// Garbles the AND gates of both. It is not inlined: its many variables would push those of the loop out of the
+/// registers.
 #[inline(never)]
 fn garble_ands(first: FirstAnd, one: AndGate, other: AndGate) -> (GarbledAnd, GarbledAnd)
     ensures one { result.0
@@ -194,33 +167,26 @@ fn garble_gate_of_both(
 
 /// A garbling so far: its offset, the zero label of each wire and the row pair of each AND gate. No gate waits.
 #[derive(Drop)]
-pub(crate) struct Garbler<A: Allocator = Global> {
-    pub(crate) offset: Offset,
-    pub(crate) labels: Vec<Label, A>,
-    pub(crate) rows: Vec<RowPair, A>,
+struct Garbler<A: Allocator = Global> {
+    offset: Offset,
+    labels: Vec<Label, A>,
+    rows: Vec<RowPair, A>,
 }
 
 impl<A: Allocator> Garbler<A> {
-    /// No row pair yet, and the zero labels of the input wires.
-    fn new<C: Allocator>(
-        alloc: A,
-        circuit: &Circuit<C>,
-        offset: Offset,
-        zero_labels: &[Label],
-    ) -> Result<Garbler<A>, Memory>
+    /// The offset and the zero labels of the input wires under a seed, and no row pair yet.
+    fn new<C: Allocator>(alloc: A, circuit: &Circuit<C>, seed: &Seed) -> Result<Garbler<A>, Memory>
     where
         A: Copy,
-        ensures offset { IfOk result (λ g. g.offset ≡ offset) }
-        ensures labels { IfOk result (λ g. g.labels.items ≡ zero_labels.now) }
+        ensures offset { IfOk result (λ g. g.offset ≡ offset_of seed.now) }
+        ensures labels { IfOk result (λ g. g.labels.items
+            ≡ map (input_label_of seed.now) (range_with_len 0 (input_wires circuit.now))) }
         ensures rows { IfOk result (λ g. g.rows.items ≡ []) }
     {
-        let rows = Vec::with_capacity(alloc, circuit.and_count() as usize)?;
-        let mut labels = Vec::with_capacity(alloc, circuit.wires() as usize)?;
-        labels.extend_from_slice(zero_labels)?;
         Ok(Garbler {
-            offset,
-            labels,
-            rows,
+            offset: offset(seed),
+            labels: labels_of_inputs(alloc, circuit, seed)?,
+            rows: Vec::with_capacity(alloc, circuit.and_count() as usize)?,
         })
     }
 
