@@ -17,14 +17,12 @@ from xml.etree import ElementTree
 
 from inputs import text_of
 from library import INCLUDE, LIB_DIR, LIBRARY, SONAME, WARNINGS, build, compiler, demand_library, sanitizers
-from program import EXAMPLES, PROGRAM, SEED, TOP, ProgramTest
+from program import PROGRAM, SEED, TOP, ProgramTest, ask
 
 SOURCES = TOP / "tests/c"
 HAS_VALGRIND = shutil.which("valgrind") and Path("/usr/include/valgrind/memcheck.h").is_file()
+NEEDS_VALGRIND = unittest.skipUnless(HAS_VALGRIND, "without valgrind nothing shows whether a branch depends on a secret")
 VALGRIND = "valgrind", "-q", "--error-limit=no"
-
-if not HAS_VALGRIND:
-    print("valgrind isn't installed: whether a branch or an address depends on a secret isn't tested")
 
 # A gate of each operation, and an output of each kind of label.
 OPERATIONS = text_of([2, 1], [2, 1], [
@@ -40,17 +38,15 @@ KIT = {
 PUBLIC = {"gc_read::body::Body::with", "gc_command::lines::output_lines"}
 
 KEY, BLOCK = "x000102030405060708090a0b0c0d0e0f", "0110" * 32
-NEWER = "v3/halfgates", "glibc-hwcaps/x86-64-v3"
+
+def with_others(tested, *others):
+    """A file under test, and those of the release's files that are there and that this processor runs."""
+    has_v3 = ask("machine.sh", "is_v3")[0] == 0
+    return sorted({tested, *(it for it in others if it.is_file() and (has_v3 or "v3" not in it.parent.name))})
 
 
-def libraries():
-    """The shared libraries under test: those for each kind of processor here that the folder has."""
-    return sorted({LIBRARY, *(it for it in (LIB_DIR / SONAME, LIB_DIR / NEWER[1] / SONAME) if it.is_file())})
-
-
-def programs():
-    """The programs under test: with those of a release both that it has."""
-    return sorted({PROGRAM, *(it for it in [LIB_DIR.parent / NEWER[0]] if it.is_file())})
+LIBRARIES = with_others(LIBRARY, LIB_DIR / SONAME, LIB_DIR / "glibc-hwcaps/x86-64-v3" / SONAME)
+PROGRAMS = with_others(PROGRAM, LIB_DIR.parent / "v3/halfgates")
 
 
 def compile_c(source, made, *words):
@@ -61,13 +57,13 @@ def compile_c(source, made, *words):
     return made
 
 
-@unittest.skipUnless(HAS_VALGRIND, "valgrind isn't installed")
+@NEEDS_VALGRIND
 class OfTheLibrary(ProgramTest):
     def test_calls(self):
         demand_library()
         self.make("aes128")
         self.put("operations", OPERATIONS)
-        for library in libraries():
+        for library in LIBRARIES:
             # The loader takes the library from a folder that has no other.
             loaded = self.folder / library.relative_to("/").parent
             loaded.mkdir(parents=True)
@@ -81,7 +77,7 @@ class OfTheLibrary(ProgramTest):
                     self.assertEqual(done.returncode, 0, done.stderr[-2000:])
 
 
-@unittest.skipUnless(HAS_VALGRIND, "valgrind isn't installed")
+@NEEDS_VALGRIND
 class OfTheProgram(ProgramTest):
     def reports(self, program, words, hidden):
         """How often each function branches or takes an address by a secret. The words at these places are secret."""
@@ -109,7 +105,7 @@ class OfTheProgram(ProgramTest):
     def test_commands(self):
         compile_c("hide.c", self.folder / "hide.so", "-shared", "-fPIC")
         self.make("aes128")
-        for program in programs():
+        for program in PROGRAMS:
             for version in ("1", "2"):
                 words = ["garble", "aes128", SEED, f"garbled{version}", "--format", version, "--workers", version]
                 self.check(program, 1, words, hidden=[3])
