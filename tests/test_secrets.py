@@ -21,7 +21,7 @@ from program import PROGRAM, SEED, TOP, ProgramTest, ask
 
 SOURCES = TOP / "tests/c"
 HAS_VALGRIND = shutil.which("valgrind") and Path("/usr/include/valgrind/memcheck.h").is_file()
-NEEDS_VALGRIND = unittest.skipUnless(HAS_VALGRIND, "without valgrind nothing shows whether a branch depends on a secret")
+NEEDS_VALGRIND = unittest.skipUnless(HAS_VALGRIND, "valgrind isn't installed, which shows what depends on a secret")
 VALGRIND = "valgrind", "-q", "--error-limit=no"
 
 # A gate of each operation, and an output of each kind of label.
@@ -123,7 +123,8 @@ class FreedMemory(ProgramTest):
         demand_library()
         self.make("aes128")
         program = self.folder / "wiped"
-        build(SOURCES / "wiped.c", program, *sanitizers(".c"), *[f"-Wl,--wrap={it}" for it in ("malloc", "realloc", "free")])
+        wrapped = [f"-Wl,--wrap={it}" for it in ("malloc", "realloc", "free")]
+        build(SOURCES / "wiped.c", program, *sanitizers(".c"), *wrapped)
         done = subprocess.run([program, self.folder / "aes128"], capture_output=True, text=True, check=False)
         self.assertEqual((done.returncode, done.stderr), (0, ""))
         self.assertRegex(done.stdout, r"^\d\d+ blocks wiped\n$")

@@ -4,8 +4,8 @@
  *   valgrind --tool=memcheck secrets CIRCUIT
  *
  * Secrets are marked as undefined, and memcheck reports each branch and each address that depends on undefined bytes.
- * Where a call's result depends on them, as whether each byte of a value is 0 or 1, it may decide that once: these calls
- * say so, and all others decide nothing. CIRCUIT is the text of a circuit. The values have ones and zeros in turn.
+ * Where a call's result depends on them, as whether each byte of a value is 0 or 1, it may decide that once: CALL says
+ * so, and all other calls decide nothing. CIRCUIT is the text of a circuit.
  */
 #include "check.h"
 
@@ -27,7 +27,8 @@ static void show(const void *at, size_t size) {
         const unsigned found = VALGRIND_COUNT_ERRORS - before; \
         show(&code, sizeof code); \
         if (found > (decisions)) { \
-            fprintf(stderr, "%s:%d: %s: %u branches or addresses depend on secrets\n", __FILE__, __LINE__, #call, found); \
+            fprintf(stderr, "%s:%d: %s: %u branches or addresses depend on secrets\n", __FILE__, __LINE__, #call, \
+                    found); \
             exit(1); \
         } \
         CHECK_CODE(HALFGATES_OK, code); \
@@ -118,10 +119,10 @@ static uint8_t *deal(halfgates_circuit *circuit, const uint8_t *seed, const stru
 /* The evaluator's calls. What is sent to it is public, but for the labels. */
 static void evaluate(halfgates_circuit *circuit, uint32_t version, const uint8_t *file, size_t file_size,
                      const uint8_t *labels, size_t labels_size, const size_t *sizes, const struct values *values) {
-    const size_t count = values->numbers.output_wires;
+    const size_t count = values->numbers.output_wires, files = values->numbers.input_values;
     uint8_t *outputs = take(count);
     halfgates_job *job = NULL;
-    CALL(0, halfgates_job_bind(circuit, file, file_size, labels, labels_size, sizes, values->numbers.input_values, &job));
+    CALL(0, halfgates_job_bind(circuit, file, file_size, labels, labels_size, sizes, files, &job));
     CALL(version == 2, halfgates_evaluate(job, outputs, count));
     show(outputs, count);
     CHECK(memcmp(outputs, values->outputs, count) == 0);
