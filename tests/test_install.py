@@ -15,6 +15,7 @@ RELEASE = LIB_DIR.parent
 IS_RELEASE = (RELEASE / "SHA256SUMS").is_file()
 EXAMPLE = EXAMPLES / "c/two_parties.c"
 WORDS = EXAMPLES / "less8.txt", "7", "9"
+LICENSES = "LICENSE-MIT", "LICENSE-APACHE", "THIRD-PARTY.md"
 ADD = "plain", EXAMPLES / "full_adder.txt", "1", "0", "1"
 
 CMAKE_LISTS = f"""
@@ -41,7 +42,7 @@ class InstallTest(unittest.TestCase):
         self.folder = Path(folder.name).resolve()
         self.top, self.prefix = self.folder / "top", self.folder / "a prefix"
         self.top.mkdir()
-        for name in ("install", "halfgates", "machine.sh", "sources.sh"):
+        for name in ("install", "halfgates", "machine.sh", "sources.sh", *LICENSES):
             shutil.copy2(TOP / name, self.top)
         shutil.copytree(RELEASE, self.top / "dist")
 
@@ -58,6 +59,8 @@ class InstallTest(unittest.TestCase):
         for name in ("include/halfgates.h", "include/halfgates.hpp", f"lib/{SONAME}", "lib/libhalfgates.a",
                      f"lib/glibc-hwcaps/x86-64-v3/{SONAME}"):
             self.assertEqual(installed[name], (RELEASE / name).read_bytes(), name)
+        for name in LICENSES:
+            self.assertEqual(installed[f"share/doc/halfgates/{name}"], (TOP / name).read_bytes())
         self.assertEqual(os.readlink(self.prefix / "lib/libhalfgates.so"), SONAME)
         self.assertEqual(installed["share/man/man1/halfgates.1"], (RELEASE / "halfgates.1").read_bytes())
 
