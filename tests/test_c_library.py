@@ -14,7 +14,10 @@ from library import (
     INCLUDE, LIB_DIR, LIBRARY, SONAME, build, compiler, demand_library, environment_of_python, sanitizers,
     shared_library, tool,
 )
-from program import EXAMPLES, TOP
+from program import EXAMPLES, TOP, sealed
+
+import bristol
+import reference
 
 SOURCES = TOP / "tests/c"
 
@@ -134,8 +137,15 @@ MISUSES = {
 
 class FromCPlusPlus(LibraryTest):
     def test_its_header(self):
-        for source in ("raii.cpp", "beside.cpp"):
-            self.run_built(SOURCES / source)
+        self.run_built(SOURCES / "raii.cpp")
+
+    def test_beside_the_c_calls(self):
+        circuit, forged = self.folder / "circuit", []
+        circuit.write_text(OF_FORGED_FILES)
+        for number, file in enumerate(forged_files(OF_FORGED_FILES.encode(), bytes([3] * 32))):
+            forged.append(self.folder / f"forged{number}")
+            forged[-1].write_bytes(file)
+        self.run_built(SOURCES / "beside.cpp", circuit, *forged)
 
     def test_later_standards(self):
         for standard in ("-std=c++17", "-std=c++20"):
@@ -255,6 +265,38 @@ int main(void) {
     return 0;
 }
 """
+
+
+# Input values of 1 and 2 wires, output values of 2 and 1, and three AND gates.
+OF_FORGED_FILES = """6 9
+2 1 2
+2 2 1
+
+2 1 0 1 3 AND
+2 1 0 2 4 XOR
+2 1 4 2 5 AND
+1 1 3 6 INV
+2 1 5 1 7 AND
+2 1 4 5 8 XOR
+"""
+
+
+def forged_files(text, seed):
+    """Garbled files of both versions, each with one bit flipped, and sealed again: of the digest, and of each half gate,
+    each decode bit and each decode entry."""
+    circuit = bristol.read_circuit(text)
+    garbling, files = reference.garble(circuit, seed), []
+    rows, outputs = 2 * len(garbling.rows), len(bristol.output_wires(circuit))
+    bits = 48 + 16 * rows
+    for version in (1, 2):
+        file = reference.garbled_file(circuit, garbling, version)
+        places = [(8, 0), *((48 + 16 * row, 3) for row in range(rows)), *((bits, output) for output in range(outputs))]
+        places += [(bits + 1 + 16 * entry, 7) for entry in range(2 * outputs if version == 2 else 0)]
+        for place, bit in places:
+            body = bytearray(file[:-32])
+            body[place] ^= 1 << bit
+            files.append(sealed(bytes(body)))
+    return files
 
 
 def files_of(vector, evaluation):

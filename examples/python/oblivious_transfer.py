@@ -49,7 +49,7 @@ def xor(one, other):
 
 
 class Sender:
-    """Sends `message` to the receiver, and answers its replies by both labels of each pair, hidden."""
+    """Sends `message` to the receiver, and for its replies both labels of each pair, hidden."""
 
     def __init__(self):
         self.secret, self.public = power_of_two()
@@ -81,7 +81,7 @@ class Receiver:
     def open(self, hidden):
         """The chosen labels, 16 bytes each."""
         if len(hidden) != 2 * LABEL * len(self.bits):
-            raise ValueError("the sender answers another number of pairs")
+            raise ValueError("the sender sends another number of pairs")
         labels = []
         for index, (secret, reply, bit) in enumerate(zip(self.secrets, self.elements, self.bits)):
             at = LABEL * (2 * index + bit)

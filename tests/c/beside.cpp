@@ -1,6 +1,15 @@
-/* The C++ view beside the C calls: each method returns what its call writes, for each wire, value and output. */
+/*
+ * The C++ view beside the C calls: each method returns what its call writes, for each wire, value and output.
+ *
+ *   beside CIRCUIT FORGED..
+ *
+ * CIRCUIT has input values of 1 and 2 wires, output values of 2 and 1, and three AND gates. FORGED are garbled files of
+ * it under a seed of bytes 3, each with a part that is wrong.
+ */
 #include "check.h"
+#include <fstream>
 #include <halfgates.hpp>
+#include <iterator>
 #include <string>
 
 namespace {
@@ -8,9 +17,6 @@ namespace {
 using halfgates::bytes;
 using halfgates::label;
 
-/* Input values of 1 and 2 wires, output values of 2 and 1. Two of the wires are of AND gates that nothing else has. */
-const std::string TEXT = "6 9\n2 1 2\n2 2 1\n\n2 1 0 1 3 AND\n2 1 0 2 4 XOR\n2 1 4 2 5 AND\n1 1 3 6 INV\n"
-                         "2 1 5 1 7 AND\n2 1 4 5 8 XOR\n";
 enum { WIRES = 9, INPUTS = 3, OUTPUTS = 3, ANDS = 3 };
 
 const bytes SEED(32, 3), OTHER_SEED(32, 4);
@@ -21,6 +27,12 @@ halfgates::seed seed_of(const bytes &it) {
 
 bool are_same(const void *one, const void *other, std::size_t size) {
     return memcmp(one, other, size) == 0;
+}
+
+std::string read_file(const char *name) {
+    std::ifstream file(name, std::ios::binary);
+    CHECK(file);
+    return {std::istreambuf_iterator<char>(file), std::istreambuf_iterator<char>()};
 }
 
 template <class Call>
@@ -119,31 +131,34 @@ void check_files(halfgates::circuit &circuit, halfgates::garbling &garbling) {
     CHECK(are_same(file.data() + 48, rows.data(), rows.size()));
 }
 
-/* Compares each field of a report with what the C call finds, of honest files and of those of another seed. */
-void check_audits(halfgates::circuit &circuit, halfgates::garbling &garbling) {
-    halfgates::garbling forger = circuit.garble(seed_of(OTHER_SEED));
+/* Each field of a report is what the C call finds. */
+halfgates_audit_report check_audit(halfgates::garbling &garbling, halfgates::view file) {
+    halfgates_audit_report expected;
+    CHECK_CODE(0, halfgates_audit(garbling.get(), file.data(), file.size(), &expected));
+    const halfgates_audit_report found = garbling.audit(file);
+    CHECK(are_same(&found, &expected, sizeof found));
+    return found;
+}
+
+void check_audits(halfgates::circuit &circuit, halfgates::garbling &garbling, int count, char **forged) {
     halfgates::circuit other(std::string("1 3\n2 1 1\n1 1\n\n2 1 0 1 2 AND\n"));
-    const bytes files[] = {garbling.write(1), garbling.write(2), forger.write(1), forger.write(2),
-                           other.garble(seed_of(SEED)).write(2)};
-    int honest = 0;
-    for (const bytes &file : files) {
-        halfgates_audit_report expected;
-        CHECK_CODE(0, halfgates_audit(garbling.get(), file.data(), file.size(), &expected));
-        const halfgates_audit_report found = garbling.audit(file);
-        CHECK(are_same(&found, &expected, sizeof found));
-        honest += found.honest;
-        CHECK(found.honest || found.row != HALFGATES_NONE || !found.counts);
+    const bytes first = garbling.write(1), second = garbling.write(2), another = other.garble(seed_of(SEED)).write();
+    CHECK(check_audit(garbling, first).honest && check_audit(garbling, second).honest);
+    CHECK(!check_audit(garbling, another).counts);
+    CHECK(count > 0);
+    for (int i = 0; i < count; i++) {
+        const std::string file = read_file(forged[i]);
+        CHECK(!check_audit(garbling, file).honest);
     }
-    CHECK(honest == 2);
     for (std::uint32_t index = 0; index < 2; index++) {
         const bytes bits(index + 1, 1), file = circuit.deal(seed_of(SEED), index, bits);
         CHECK(garbling.audit_labels(file).bits == bits && garbling.audit_labels(file).report.verdict == 0);
         CHECK(garbling.deal(index, bits) == file);
-        const bytes forged = circuit.deal(seed_of(OTHER_SEED), index, bits);
+        const bytes wrong = circuit.deal(seed_of(OTHER_SEED), index, bits);
         std::uint8_t room[4];
         halfgates_labels_report expected;
-        CHECK_CODE(0, halfgates_audit_labels(garbling.get(), forged.data(), forged.size(), room, 4, &expected));
-        const halfgates::labels_audit found = garbling.audit_labels(forged);
+        CHECK_CODE(0, halfgates_audit_labels(garbling.get(), wrong.data(), wrong.size(), room, 4, &expected));
+        const halfgates::labels_audit found = garbling.audit_labels(wrong);
         CHECK(are_same(&found.report, &expected, sizeof expected) && found.bits.empty());
         CHECK(found.report.verdict == HALFGATES_WRONG_LABEL && found.report.index == index);
     }
@@ -206,18 +221,20 @@ void check_own_labels(halfgates::circuit &circuit) {
 
 } // namespace
 
-int main() {
-    halfgates::circuit circuit(TEXT);
+int main(int count, char **words) {
+    CHECK(count > 1);
+    const std::string text = read_file(words[1]);
+    halfgates::circuit circuit(text);
     halfgates::garbling garbling = circuit.garble(seed_of(SEED));
     check_circuit(circuit);
     check_wires(garbling);
     check_labels(garbling);
     check_pairs(garbling);
     check_files(circuit, garbling);
-    check_audits(circuit, garbling);
+    check_audits(circuit, garbling, count - 2, words + 2);
     check_jobs(circuit, garbling);
     check_own_labels(circuit);
-    CHECK(halfgates::locate(TEXT).fault == HALFGATES_OK);
+    CHECK(halfgates::locate(text).fault == HALFGATES_OK);
     CHECK(halfgates::locate(std::string("1 5 x")).column == 5);
     return 0;
 }
