@@ -3,6 +3,7 @@ use Rattle.gc_job.proofs.Names.{◌≡◌, ℕ, ◌+◌, ◌-◌, ◌<◌, List,
 use Rattle.std.proofs.lemmas.List.{length-map}
 use Rattle.gc_half.proofs.NumberedLemmas.{IsEvaluation-zero}
 use Rattle.gc_half.specs.Joined.{AreOutputLabels}
+use Rattle.gc_netlist.specs.Circuit.{and_count, input_wires}
 use Rattle.gc_half.specs.declared.garbling.RowPair.{RowPair}
 
 module _ (c : Netlist) (lawful : IsLawful c) (values : ℕ → ℕ) where
@@ -27,6 +28,13 @@ pub length-output_labels : (c : Netlist) (rows : List RowPair) (inputs labels : 
     → AreOutputLabels 0 c rows inputs labels → length labels ≡ output_wires c
 length-output_labels c rows inputs labels are =
     ap length are.last ∙ length-map-range_with_len are.active _ (output_wires c)
+
+-- What a job has is enough to evaluate an equal circuit.
+pub can-evaluate : (job : JobParts) (c : Netlist) (rows : List RowPair) (inputs : List ℕ)
+    → IsWhole job → job.circuit ≡ c → rows ≡ job.rows → inputs ≡ job.inputs
+    → (length rows ≡ and_count c) × (length inputs ≡ input_wires c)
+can-evaluate job c rows inputs whole same rows_are inputs_are =
+    rw (rows_are, inputs_are, ← same) (whole.rows, whole.inputs)
 
 -- A job is evaluated where its output labels are decoded,
 pub decoded-job : (job : JobParts) (labels : List ℕ) (result : Result (List Bool) EvalFault)

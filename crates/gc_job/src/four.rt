@@ -3,6 +3,7 @@
 ghost use Rattle.std.specs.Prelude.{◌≡◌, IfSome, Ok};
 ghost use Rattle.gc_half.specs.Evaluation.{AreActive};
 ghost use Rattle.gc_job.specs.Evaluate.{IsEvaluated};
+ghost use Rattle.gc_job.specs.Job.{IsWhole};
 
 use crate::job::Job;
 use gc_half::{Evaluation, FirstAnd, Four, evaluate_four_from, output_labels};
@@ -58,7 +59,10 @@ fn decoded<A: Allocator, B: Allocator + Copy, C: Allocator>(
     ensures { IfSome result (λ bits. IsEvaluated job.now (Ok bits.items)) }
 {
     let labels = output_labels(job.circuit(), active);
-    job.decode(alloc, labels).ok()
+    match job.decode(alloc, labels) {
+        Ok(bits) => Some(bits),
+        Err(_) => None,
+    }
 }
 
 impl<'c, A: Allocator, C: Allocator> Job<'c, A, C> {
@@ -66,7 +70,9 @@ impl<'c, A: Allocator, C: Allocator> Job<'c, A, C> {
     fn evaluation(&self) -> Evaluation<'_>
         ensures rows { result.rows.now ≡ self.now.rows }
         ensures inputs { result.inputs.now ≡ self.now.inputs }
+        ensures whole { IsWhole self.now }
     {
+        self.law_whole();
         Evaluation {
             rows: self.rows(),
             inputs: self.inputs(),
