@@ -4,7 +4,7 @@ ghost use Rattle.std.specs.Prelude.{◌<◌, ◌≤◌, length, IfSome};
 ghost use Rattle.gc_bank.specs.Workers.{AreBitsOf, AreKnown};
 
 use crate::together::none_known;
-use gc_eval::{Job, evaluate};
+use gc_job::{Job, evaluate};
 use std::alloc::Allocator;
 use std::thread;
 use std::thread::Threads;

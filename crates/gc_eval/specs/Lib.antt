@@ -1,5 +1,1 @@
-pub mod Many
-pub mod Views
-pub mod Seats
-pub mod Done
-pub mod Workers
+pub mod OneJob
