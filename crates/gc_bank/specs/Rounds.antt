@@ -27,9 +27,12 @@ pub record IsRound (jobs : List JobParts) (r : ℕ) (job : JobParts) : Type 0 wh
   pub at : slice_get jobs r ≡ Some job
   pub gates : gates_in job ≡ gates_of jobs
 
-pub series_law : JobsLaw gates_of IsRightIn IsRound
+-- the job of round r
+abbrev pub job_of : List JobParts → ℕ → Option JobParts
+job_of jobs r = slice_get jobs r
+
+pub series_law : JobsLaw IsRightIn job_of
 series_law = record {
-  same = λ w r job is. is.gates;
-  gives = λ w r job is g k n it. subst (λ o. IsRightBy o g k n) is.at it;
-  takes = λ w r job is g k n it. subst (λ o. IsRightBy o g k n) (sym is.at) it;
+  gives = λ w r job is g k n it. subst (λ o. IsRightBy o g k n) is it;
+  takes = λ w r job is g k n it. subst (λ o. IsRightBy o g k n) (sym is) it;
 }

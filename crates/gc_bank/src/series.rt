@@ -30,9 +30,9 @@ impl<B: Allocator, A: Allocator, C: Allocator> Work for Series<B, A, C> {
 }
 
 impl<B: Allocator, A: Allocator, C: Allocator> Jobs for Series<B, A, C> {
-    ghost use Rattle.gc_bank.specs.Rounds.{IsRound, series_law};
+    ghost use Rattle.gc_bank.specs.Rounds.{job_of, series_law};
 
-    ghost job_at = { IsRound };
+    ghost job_at = { job_of };
 
     ghost laws = { series_law };
 }
