@@ -282,8 +282,8 @@ OF_FORGED_FILES = """6 9
 
 
 def forged_files(text, seed):
-    """Garbled files of both versions, each with one bit flipped, and sealed again: of the digest, and of each half gate,
-    each decode bit and each decode entry."""
+    """Garbled files of both versions, each with one bit flipped, and sealed again: of the digest, and of each half
+    gate, each decode bit and each decode entry."""
     circuit = bristol.read_circuit(text)
     garbling, files = reference.garble(circuit, seed), []
     rows, outputs = 2 * len(garbling.rows), len(bristol.output_wires(circuit))
