@@ -119,11 +119,13 @@ pub fn locate(text: impl AsRef<[u8]>) -> Result<Option<Place>, Fault> {
     Ok(Place::of(&place))
 }
 
-/// The bits of active output labels: of each wire the decode bit XOR the colour of the label.
+/// The bits of active output labels: of each wire the decode bit XOR the colour of the label. Any
+/// label decodes.
 ///
 /// # Errors
 ///
-/// [`Fault::BAD_ARGUMENT`] where there isn't one decode bit for each label, [`Fault::MEMORY`].
+/// [`Fault::BAD_ARGUMENT`] where there isn't one decode bit for each label;
+/// [`Fault::CIRCUIT_MEMORY`], [`Fault::JOB_MEMORY`], [`Fault::MEMORY`].
 #[doc(alias = "halfgates_decode")]
 pub fn decode(labels: &[Label], decode_bits: &[bool]) -> Result<Vec<bool>, Fault> {
     let count = decode_bits.len();
