@@ -1,3 +1,3 @@
 pub mod Names
 pub mod JobLemmas
-pub mod RunLemmas
+pub mod RoundLemmas

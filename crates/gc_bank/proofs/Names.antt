@@ -1,21 +1,21 @@
 -- The names that most proofs of this crate cite, passed on from one place. Declares nothing.
 pub use Rattle.std.proofs.Common.{◌≡◌, ℕ, zero, suc, ◌+◌, ◌⊎◌, inl, ⊎_elim, Bool, List, [], ◌∷◌, ◌++◌, length, slice_get, get_or, Option, Some, None, IfSome, Ok, Err, arith, ◌≢◌, ◌*◌, ◌%◌, ◌<◌, ◌≤◌, refl, ap, ◌∙◌, subst, rules, append_assoc, length-append, sym, inr, MatchOption, take, Vec, map, ◌-◌, All, ◌^◌, min, option_copied}
 pub use Rattle.std.proofs.lemmas.Option.{slice_get-get_or, slice_get_read, slice_get_within}
-pub use Rattle.gc_bank.specs.Rounds.{gates_of, IsRound, IsRightBy}
+pub use Rattle.gc_bank.specs.Rounds.{gates_of, IsRound}
 pub use Rattle.gc_bank.specs.Seats.{InRound, round_in, IsNew, view, jobs_on, IsSeatOf}
-pub use Rattle.gc_bank.specs.Views.{made_after, IsAlone, SetsMade, ReadsMade, FirstLacking, AnswersAlone, sighting, sightings, Seen, Ran, Got, Lacks, Says, Answers, AnswersTwo, IsReady, Knows}
+pub use Rattle.gc_bank.specs.Views.{Seen, Answers, AnswersTwo, AnswersFour}
 pub use Rattle.gc_bank.specs.Workers.{AreBitsOf, AreKnown, IsWorkerOf, AreWorkersOf, IsKept, IsWorkerAt}
 pub use Rattle.gc_bank.specs.declared.seat.BankSeat.{BankSeat}
-pub use Rattle.gc_board.proofs.Sums.{total-append, only_same, only_other}
-pub use Rattle.gc_board.specs.Counts.{total, only}
-pub use Rattle.gc_eval.proofs.GatherLemmas.{all_but_last, all_last, total_last, length_last}
-pub use Rattle.gc_job.proofs.WiringLemmas.{input_not_set, set_within, set_once}
+pub use Rattle.gc_board.proofs.Sums.{total-append}
+pub use Rattle.gc_board.specs.Counts.{total}
+pub use Rattle.gc_steps.proofs.GatherLemmas.{all_but_last, all_last, total_last, length_last, pairs_merged}
 pub use Rattle.gc_job.specs.ActiveLabels.{active}
-pub use Rattle.gc_job.specs.Evaluate.{IsEvaluated, labels_of}
+pub use Rattle.gc_job.specs.Evaluate.{IsEvaluated}
 pub use Rattle.gc_job.specs.Job.{JobParts}
-pub use Rattle.gc_netlist.specs.Circuit.{Netlist, IsSetBy, IsLawful, input_wires, first_wire, second_wire}
-pub use Rattle.gc_round_board.specs.Pairs.{is_pair, pairs}
-pub use Rattle.gc_round_board.specs.Places.{IsBoardPlace}
+pub use Rattle.gc_netlist.specs.Circuit.{Netlist}
+pub use Rattle.gc_gates.specs.Pairs.{pairs}
+pub use Rattle.gc_gates.specs.Layout.{two_banks}
+pub use Rattle.gc_gates.specs.Places.{IsGatePlace}
 pub use Rattle.gc_rounds.specs.declared.view.Key.{Key}
 pub use Rattle.gc_rounds.specs.declared.view.Stand.TheVariants.{Inside, Outside}
-pub use Rattle.gc_walk.specs.Walks.{made_now, batches_left}
+pub use Rattle.gc_walk.specs.Walks.{batches_left}

@@ -1,7 +1,9 @@
 -- What the rounds of two banks are about: round r is the job at place r of a list, whose jobs are on one circuit.
 use Rattle.std.specs.Prelude.{◌≡◌, ℕ, List, slice_get, Option, Some, None}
+use Rattle.std.proofs.Common.{subst, sym}
 use Rattle.gc_job.specs.Job.{JobParts}
-use Rattle.gc_job.specs.ActiveLabels.{gates_of as gates_in, IsRightHalf}
+use Rattle.gc_job.specs.ActiveLabels.{gates_of as gates_in}
+use Rattle.gc_steps.specs.Jobs.{IsRightHalf, JobsLaw}
 
 -- how many gates the first job's circuit has, which is that of all
 abbrev pub gates_by : Option JobParts → ℕ
@@ -24,3 +26,13 @@ IsRightIn jobs r g k n = IsRightBy (slice_get jobs r) g k n
 pub record IsRound (jobs : List JobParts) (r : ℕ) (job : JobParts) : Type 0 where
   pub at : slice_get jobs r ≡ Some job
   pub gates : gates_in job ≡ gates_of jobs
+
+-- the job of round r
+abbrev pub job_of : List JobParts → ℕ → Option JobParts
+job_of jobs r = slice_get jobs r
+
+pub series_law : JobsLaw IsRightIn job_of
+series_law = record {
+  gives = λ w r job is g k n it. subst (λ o. IsRightBy o g k n) is it;
+  takes = λ w r job is g k n it. subst (λ o. IsRightBy o g k n) (sym is) it;
+}

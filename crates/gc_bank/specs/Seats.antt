@@ -1,34 +1,16 @@
 -- The seats of banks.
 use Rattle.std.specs.Prelude.{◌≡◌, ℕ, List, [], slice_get, MatchOption}
-use Rattle.atomic_table.specs.declared.shared.Seat.{Seat}
 use Rattle.gc_rounds.specs.declared.view.Stand.{Stand}
 use Rattle.gc_rounds.specs.declared.view.Stand.TheVariants.{Outside, Inside, Passing}
-use Rattle.gc_round_board.specs.declared.view.Hand.TheVariants.{Empty}
-use Rattle.gc_round_board.specs.Places.{IsBoardPlace, IsPlaceInside, IsPlaceAt}
+use Rattle.gc_gates.specs.declared.view.Hand.TheVariants.{Empty}
+use Rattle.gc_gates.specs.Places.{IsGatePlace}
+use Rattle.gc_gates.specs.Layout.{two_banks}
 use Rattle.gc_rounds.specs.Places.{IsSamePlace}
 use Rattle.gc_job.specs.Job.{JobParts}
-use Rattle.gc_bank.specs.Rounds.{gates_of, IsRound}
+use Rattle.gc_bank.specs.Rounds.{gates_of}
 use Rattle.gc_bank.specs.Views.{Seen}
 use Rattle.gc_bank.specs.declared.seat.BankSeat.{BankSeat}
 use Rattle.gc_bank.specs.declared.seat.Banks.{Banks}
-
-module _ {A B C S : Type 0} (banks : Banks B A C) where
-  -- The place is one of the banks' table, inside this round,
-  abbrev pub IsPlaceIn : Seat S Seen → ℕ → Type 0
-  IsPlaceIn place round =
-      IsPlaceInside gates_of banks.board.table.shared.table_id banks.board.table.shared.key
-      place round
-
-  -- and the banks have this gate.
-  abbrev pub IsPlaceFor : Seat S Seen → ℕ → ℕ → Type 0
-  IsPlaceFor place round gate =
-      IsPlaceAt gates_of banks.board.table.shared.table_id banks.board.table.shared.key
-      place round gate
-
--- The job is that of the round, on the circuit of all.
-abbrev pub IsJobOf : {A B C : Type 0} → Banks B A C → JobParts → ℕ → Type 0
-IsJobOf banks job round =
-    IsRound banks.board.table.shared.key.about round job × (job.circuit ≡ banks.wiring)
 
 module _ {A B C : Type 0} where
   -- what a seat knows and has done
@@ -46,7 +28,7 @@ module _ {A B C : Type 0} where
   -- The seat belongs to the banks.
   abbrev pub IsSeatOf : Banks B A C → BankSeat B A C → Type 0
   IsSeatOf banks seat =
-      IsBoardPlace gates_of banks.board.table.shared.table_id banks.board.table.shared.key
+      IsGatePlace two_banks gates_of banks.board.table.shared.table_id banks.board.table.shared.key
       seat.place
 
   -- It is the same seat.

@@ -1,165 +1,39 @@
--- How a seat's view grows in a call inside a round, and what the answers of banks say. Where the answers of a board
--- speak of gates, these speak of rounds with gates.
-use Rattle.std.specs.Prelude.{◌≡◌, ◌≢◌, ℕ, ◌*◌, ◌<◌, ◌≤◌, ◌⊎◌, List, [], ◌∷◌, ◌++◌, length, slice_get, Some}
-use Rattle.gc_netlist.specs.declared.gate.Gate.{Gate}
-use Rattle.gc_netlist.specs.Circuit.{IsSetBy, IsSet, input_wires, first_wire, second_wire}
-use Rattle.gc_board.specs.declared.rule.TheConstants.{DONE, FREE, IN_HAND}
-use Rattle.gc_board.specs.Counts.{total, only}
-use Rattle.gc_rounds.specs.Words.{stamp}
-use Rattle.gc_rounds.specs.declared.view.View.{View}
-use Rattle.gc_rounds.specs.declared.view.Step.{Step}
-use Rattle.gc_rounds.specs.declared.view.Step.TheVariants.{Load, Store, Claim, Enter, Leave, Seal, Reopen}
-use Rattle.gc_round_board.specs.Pairs.{pairs, looked}
-use Rattle.gc_round_board.specs.Board.{at}
-use Rattle.gc_round_board.specs.declared.view.BoardView.{BoardView}
-use Rattle.gc_round_board.specs.declared.view.Hand.TheVariants.{Empty}
+-- What a seat of banks knows and has done, and what the answers of banks say: those of a round, at the words of two banks.
+use Rattle.std.specs.Prelude.{ℕ, List}
+use Rattle.gc_gates.specs.Layout.{two_banks}
 use Rattle.gc_job.specs.Job.{JobParts}
-use Rattle.gc_job.specs.ActiveLabels.{active, set_of}
-use Rattle.gc_eval.specs.Views.{AreReadBy, Reads}
 use Rattle.gc_walk.specs.declared.answer.Answer.{Answer}
-use Rattle.gc_walk.specs.declared.answer.Answer.TheVariants.{Made, Done, Taken, NotYet}
-use Rattle.gc_bank.specs.declared.step.Ready.{Ready}
+use Rattle.gc_steps.specs.Views as steps
 
--- what a seat of banks knows and has done
 abbrev pub Seen : Type 0
-Seen = View (BoardView (List JobParts))
+Seen = steps.Seen (List JobParts)
 
--- 1 where the step is a load or a claim that found this number at this word, and else 0
-abbrev pub sighting : ℕ → ℕ → Step → ℕ
-sighting word found (Load w n) = only word w * only found n
-sighting word found (Store w n) = 0
-sighting word found (Claim w n) = only word w * only found n
-sighting word found (Enter w n) = 0
-sighting word found (Leave w n) = 0
-sighting word found (Seal w n) = 0
-sighting word found (Reopen w n won) = 0
+abbrev pub Ran : Seen → Seen → List (ℕ × ℕ) → ℕ → Type 0
+Ran old new made most = steps.Ran old new made most
 
--- how many of the steps found this number at this word
-abbrev pub sightings : ℕ → ℕ → List Step → ℕ
-sightings word found steps = total (sighting word found) steps
+abbrev pub Stays : Seen → Seen → Type 0
+Stays old new = steps.Stays old new
 
--- A call made the view `new` out of `old`: at most this number of steps were added to the record, the made list is now
--- this list, what was known is known, and the stand and the hand are as before.
-pub record Ran (old new : Seen) (list : List (ℕ × ℕ)) (most : ℕ) : Type 0 where
-  pub jobs : new.jobs ≡ old.jobs
-  pub all : new.all ≡ old.all
-  pub seats : new.seats ≡ old.seats
-  pub stand : new.stand ≡ old.stand
-  pub about : new.inner.job ≡ old.inner.job
-  pub hand : new.inner.hand ≡ old.inner.hand
-  pub made : new.inner.made ≡ list
-  pub known : (r g : ℕ) → pairs r g old.inner.known ≤ pairs r g new.inner.known
-  pub looks : (r g n : ℕ) → looked r g n old.inner.looks ≤ looked r g n new.inner.looks
-  pub added : List Step
-  pub short : length added ≤ most
-  pub steps : new.steps ≡ old.steps ++ added
+abbrev pub Got : JobParts → ℕ → ℕ → Seen → ℕ → Type 0
+Got job r w new label = steps.Got job r w new label
 
--- A call left these as they were: the seat is where it was, and has in hand what it had.
-pub record Stays (old new : Seen) : Type 0 where
-  pub jobs : new.jobs ≡ old.jobs
-  pub all : new.all ≡ old.all
-  pub seats : new.seats ≡ old.seats
-  pub stand : new.stand ≡ old.stand
-  pub about : new.inner.job ≡ old.inner.job
-  pub hand : new.inner.hand ≡ old.inner.hand
+abbrev pub Lacks : JobParts → ℕ → ℕ → Seen → Seen → Type 0
+Lacks job r w old new = steps.Lacks two_banks job r w old new
 
--- One of the steps that the call added found this number at this word.
-abbrev pub Saw : Seen → Seen → ℕ → ℕ → Type 0
-Saw old new word found = sightings word found old.steps < sightings word found new.steps
-
--- One of them found gate g undone in round r: its state word of an earlier round, or of this one and not DONE.
-abbrev pub SawUndone : Seen → Seen → ℕ → ℕ → Type 0
-SawUndone old new r g = (found : ℕ) × (found < stamp r DONE) × Saw old new (at r g) found
-
--- The seat knows that gate g is done in round r.
-abbrev pub Knows : Seen → ℕ → ℕ → Type 0
-Knows v r g = 0 < pairs r g v.inner.known
-
--- An answered label is the active label of wire w in the round's job. The wire is set, and the gate that sets it is
--- known in the round.
-pub record Got (job : JobParts) (r w : ℕ) (new : Seen) (label : ℕ) : Type 0 where
-  pub set : IsSet job.circuit w
-  pub right : label ≡ active job w
-  pub known : (h : ℕ) → IsSetBy job.circuit w h → Knows new r h
-
--- Wire w has no label: it is no input wire, and a gate that sets it was not known, and was found undone in the round.
-pub record Lacks (job : JobParts) (r w : ℕ) (old new : Seen) : Type 0 where
-  pub no_input : w < input_wires job.circuit → ⊥
-  pub unknown : (h : ℕ) → IsSetBy job.circuit w h
-      → (pairs r h old.inner.known ≡ 0) × SawUndone old new r h
-
--- What an answer for gate g in round r says. Made: the label is right in the round's job, the gate is known, and it
--- was not known. Done: the label is right, and the gate known. Taken: it was not known, and it was found IN_HAND in
--- the round. NotYet: it was not known, and it reads the wire, which lacks a label.
-abbrev pub Says : JobParts → ℕ → ℕ → Seen → Seen → Answer → Type 0
-Says job r g old new (Made label) =
-    (label ≡ active job (set_of job g)) × Knows new r g × (pairs r g old.inner.known ≡ 0)
-Says job r g old new (Done label) = (label ≡ active job (set_of job g)) × Knows new r g
-Says job r g old new Taken =
-    (pairs r g old.inner.known ≡ 0) × Saw old new (at r g) (stamp r IN_HAND)
-Says job r g old new (NotYet w) =
-    (pairs r g old.inner.known ≡ 0) × Reads job.circuit g w × Lacks job r w old new
-
--- the made list after an answer for gate g in round r: Made alone appends to it, the gate with the round
-abbrev pub made_after : ℕ → ℕ → List (ℕ × ℕ) → Answer → List (ℕ × ℕ)
-made_after r g made (Made label) = made ++ (r, g) ∷ []
-made_after r g made (Done label) = made
-made_after r g made Taken = made
-made_after r g made (NotYet w) = made
-
--- It was answered after at most this number of steps, which changed the made list by this answer alone.
 abbrev pub Answers : JobParts → ℕ → ℕ → ℕ → Seen → Seen → Answer → Type 0
-Answers job r g most old new answer =
-    Says job r g old new answer × Ran old new (made_after r g old.inner.made answer) most
+Answers job r g most old new answer = steps.Answers two_banks job r g most old new answer
 
--- Two gates were answered at once, after at most this number of steps, which changed the made list by these answers
--- alone, in this order.
 abbrev pub AnswersTwo : JobParts → ℕ → ℕ → ℕ → ℕ → Seen → Seen → Answer × Answer → Type 0
 AnswersTwo job r g h most old new answers =
-    Says job r g old new answers.0 × Says job r h old new answers.1
-    × Ran old new (made_after r h (made_after r g old.inner.made answers.0) answers.1) most
+    steps.AnswersTwo two_banks job r g h most old new answers
 
--- The seat has nothing in hand, and is a seat of the banks still.
-abbrev pub IsIdle : Seen → Type 0
-IsIdle v = (v.inner.hand ≡ Empty) × (0 < v.seats)
+abbrev pub AnswersFour : JobParts → ℕ → ℕ → ℕ → ℕ → ℕ → ℕ → Seen → Seen
+    → Answer × Answer × Answer × Answer → Type 0
+AnswersFour job r a b c d most old new answers =
+    steps.AnswersFour two_banks job r a b c d most old new answers
 
--- What was found of gate g makes it in round r: its active label follows from the labels, and a load found its state
--- word free.
-pub record IsReady (job : JobParts) (r g : ℕ) (v : Seen) (ready : Ready) : Type 0 where
-  pub labels : AreReadBy job g ready.labels
-  pub found : 0 < looked r g ready.free v.inner.looks
-  pub free : ready.free ≤ stamp r FREE
-
--- The seat stands for all seats of its banks. Then the answers follow from its made list alone.
-abbrev pub IsAlone : Seen → Type 0
-IsAlone v = v.seats ≡ v.all
-
--- A gate that sets wire w was made this number of times by the seat in round r.
-abbrev pub SetsMade : JobParts → ℕ → ℕ → Seen → ℕ → Type 0
-SetsMade job r w v n = (h : ℕ) → IsSetBy job.circuit w h → pairs r h v.inner.made ≡ n
-
--- The gates of all wires that gate g reads are made in round r.
-abbrev pub ReadsMade : JobParts → ℕ → ℕ → Seen → Type 0
-ReadsMade job r g old = (w : ℕ) → Reads job.circuit g w → SetsMade job r w old 1
-
--- Wire w is the first that gate g reads whose gate is not made in round r.
-abbrev pub FirstLacking : JobParts → ℕ → ℕ → Seen → ℕ → Type 0
-FirstLacking job r g old w =
-    (gate : Gate) → slice_get job.circuit.gates g ≡ Some gate
-    → ((first_wire gate.operation ≡ Some w) × SetsMade job r w old 0)
-    ⊎ ((second_wire gate.operation ≡ Some w) × SetsMade job r w old 0
-    × ((u : ℕ) → first_wire gate.operation ≡ Some u → SetsMade job r u old 1))
-
--- What the only seat of banks is answered for gate g in round r: Done where it made the gate, else NotYet with the
--- first wire whose gate it hasn't made, else Made; and never Taken.
 abbrev pub AnswersAlone : JobParts → ℕ → ℕ → Seen → Answer → Type 0
-AnswersAlone job r g old (Made label) = (pairs r g old.inner.made ≡ 0) × ReadsMade job r g old
-AnswersAlone job r g old (Done label) = pairs r g old.inner.made ≡ 1
-AnswersAlone job r g old Taken = ⊥
-AnswersAlone job r g old (NotYet w) = (pairs r g old.inner.made ≡ 0) × FirstLacking job r g old w
+AnswersAlone job r g old answer = steps.AnswersAlone job r g old answer
 
--- What it is answered for two gates at once: for each, where they are two, what a step of that gate alone is
--- answered.
 abbrev pub AnswersTwoAlone : JobParts → ℕ → ℕ → ℕ → Seen → Answer × Answer → Type 0
-AnswersTwoAlone job r g h old answers =
-    AnswersAlone job r g old answers.0 × (h ≢ g → AnswersAlone job r h old answers.1)
+AnswersTwoAlone job r g h old answers = steps.AnswersTwoAlone job r g h old answers

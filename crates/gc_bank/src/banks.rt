@@ -5,13 +5,13 @@ ghost use Rattle.std.specs.Prelude.{◌≡◌, ℕ, ◌+◌, ◌*◌, ◌<◌, �
 ghost use Rattle.gc_rounds.specs.declared.view.Stand.TheVariants.{Outside, Inside};
 ghost use Rattle.gc_rounds.specs.Calls.{Enters, EntersAlone, Leaves, Seals, Reopens};
 ghost use Rattle.gc_job.specs.ActiveLabels.{gates_of};
-ghost use Rattle.gc_bank.specs.Views.{Stays, Answers, AnswersTwo, AnswersAlone, AnswersTwoAlone, Ran, Got, Lacks};
+ghost use Rattle.gc_bank.specs.Views.{Stays, Answers, AnswersTwo, AnswersFour, AnswersAlone, AnswersTwoAlone, Ran, Got, Lacks};
 ghost use Rattle.gc_bank.specs.Seats.{IsSeatOf, IsSameSeat, IsInside, InRound, view, round_of, jobs_on, seats_on};
 
 use crate::seat::{BankSeat, Banks};
-use gc_eval::Answer;
 use gc_label::Label;
 use gc_rounds::{Entry, Reopening};
+use gc_walk::Answer;
 use std::alloc::Allocator;
 
 impl<B: Allocator, A: Allocator, C: Allocator> BankSeat<B, A, C> {
@@ -73,7 +73,7 @@ impl<'j, 'c, B: Allocator, A: Allocator, C: Allocator> Banks<'j, 'c, B, A, C> {
         let Some(round) = seat.inside else {
             unreachable!()
         };
-        let answer = self.step_at(&mut seat.place, self.job(round), round, gate);
+        let answer = self.at(round).step(&mut seat.place, gate);
         seat.count = seat.count.saturating_add(answer.made());
         answer
     }
@@ -106,8 +106,41 @@ impl<'j, 'c, B: Allocator, A: Allocator, C: Allocator> Banks<'j, 'c, B, A, C> {
         let Some(round) = seat.inside else {
             unreachable!()
         };
-        let answers = self.step_two_at(&mut seat.place, self.job(round), round, first, second);
+        let answers = self.at(round).step_two(&mut seat.place, first, second);
         let made = answers.0.made() + answers.1.made();
+        seat.count = seat.count.saturating_add(made);
+        answers
+    }
+
+    /// Steps four gates in the seat's round, as [`Banks::step`] steps one, in at most 72 atomic steps. Where each is
+    /// found ready, the labels of four AND gates are computed at once; else it steps two gates and two gates. That the
+    /// seat is these banks' and inside a round, and that there are such gates, is the caller's condition.
+    pub(crate) fn step_four(
+        &self,
+        seat: &mut BankSeat<B, A, C>,
+        a: u32,
+        b: u32,
+        c: u32,
+        d: u32,
+    ) -> (Answer, Answer, Answer, Answer)
+        requires own { IsSeatOf self.now seat.old }
+        requires inside { IsInside (view seat.old) }
+        requires first { InRound (jobs_on self.now) (view seat.old)
+            (λ job. (a < gates_of job) × (b < gates_of job)) }
+        requires last { InRound (jobs_on self.now) (view seat.old)
+            (λ job. (c < gates_of job) × (d < gates_of job)) }
+        ensures own { IsSeatOf self.now seat.new }
+        ensures same { IsSameSeat seat.old seat.new }
+        ensures stays { Stays (view seat.old) (view seat.new) }
+        ensures answers { InRound (jobs_on self.now) (view seat.old)
+            (λ job. AnswersFour job (round_of (view seat.old)) a b c d 72 (view seat.old)
+            (view seat.new) result) }
+    {
+        let Some(round) = seat.inside else {
+            unreachable!()
+        };
+        let answers = self.at(round).step_four(&mut seat.place, a, b, c, d);
+        let made = answers.0.made() + answers.1.made() + answers.2.made() + answers.3.made();
         seat.count = seat.count.saturating_add(made);
         answers
     }
@@ -131,7 +164,7 @@ impl<'j, 'c, B: Allocator, A: Allocator, C: Allocator> Banks<'j, 'c, B, A, C> {
         let Some(round) = seat.inside else {
             unreachable!()
         };
-        self.read(&mut seat.place, self.job(round), round, wire)
+        self.at(round).label(&mut seat.place, wire)
     }
 
     /// Leaves the seat's round. That the seat is these banks' and inside a round is the caller's condition.

@@ -3,8 +3,9 @@
 ghost use Rattle.std.specs.Prelude.{◌≡◌, ℕ, ◌<◌, ◌≤◌, ◌↔◌, ◌-◌, ◌^◌, [], length, map, min, sum, IfOk, IfErr, IsOk, IsTrue, All};
 ghost use Rattle.gc_board.specs.Counts.{total};
 ghost use Rattle.gc_rounds.specs.declared.view.Stand.TheVariants.{Outside};
-ghost use Rattle.gc_round_board.specs.Pairs.{pairs};
-ghost use Rattle.gc_round_board.specs.Places.{IsBoardPlace};
+ghost use Rattle.gc_gates.specs.Pairs.{pairs};
+ghost use Rattle.gc_gates.specs.Layout.{two_banks};
+ghost use Rattle.gc_gates.specs.Places.{IsGatePlace};
 ghost use Rattle.gc_bank.specs.Jobs.{AreOnOneCircuit};
 ghost use Rattle.gc_bank.specs.Rounds.{gates_of};
 ghost use Rattle.gc_bank.specs.Seats.{IsSeatOf, IsNew, view, jobs_on, seats_on};
@@ -12,24 +13,24 @@ ghost use Rattle.gc_bank.specs.Seats.{IsSeatOf, IsNew, view, jobs_on, seats_on};
 use crate::seat::{BankSeat, Banks};
 use crate::series::Series;
 use gc_board::{CloseRefused, MAX_SEATS, OpenFault};
-use gc_eval::{Job, Wiring};
-use gc_round_board::{BoardTable, Place, Words, open_board, settle};
-use gc_rounds::{Key, MAX_JOBS, deal_place, join_place};
+use gc_gates::{BankTable, Place, Words, open_banks, settle};
+use gc_job::{Job, Wiring};
+use gc_rounds::{Key, MAX_JOBS, Rule, deal_place, join_place};
 use std::alloc::{AllocError, Allocator};
 
 /// This number of new seats, out of a place that stands for them all.
 fn deal_all<B: Allocator, A: Allocator, C: Allocator>(
-    words: &Words<Series<B, A, C>>,
+    words: &Words<Series<B, A, C>, Rule>,
     mut first: Place<Series<B, A, C>>,
     count: u32,
     mut seats: Vec<BankSeat<B, A, C>, B>,
 ) -> Result<Vec<BankSeat<B, A, C>, B>, OpenFault>
-    requires first { IsBoardPlace gates_of words.now.table_id words.now.key first
+    requires first { IsGatePlace two_banks gates_of words.now.table_id words.now.key first
         × IsNew first.me.0 × (first.me.1 ≡ []) × (first.me.0.seats ≡ count) }
     requires some { 0 < count }
     requires none { seats.items ≡ [] }
     ensures { IfOk result (λ v. (length v.items ≡ count)
-        × All (λ s. IsBoardPlace gates_of words.now.table_id words.now.key s.place
+        × All (λ s. IsGatePlace two_banks gates_of words.now.table_id words.now.key s.place
         × IsNew s.place.me.0) v.items) }
 {
     let mut left = count;
@@ -90,12 +91,12 @@ impl<'j, 'c, B: Allocator + Copy, A: Allocator, C: Allocator> Banks<'j, 'c, B, A
             seats,
             about: series_of(alloc, jobs)?,
         };
-        let (table, first) = open_board(alloc, &key, circuit.gates())?;
+        let (table, first) = open_banks(alloc, &key, circuit.gates())?;
         let dealt = deal_all(&table.shared, first, seats, room)?;
         let banks = Banks {
             jobs,
             wiring,
-            board: BoardTable { table },
+            board: BankTable { table },
             seats,
         };
         Ok((banks, dealt))
@@ -167,14 +168,14 @@ fn made_by<B: Allocator, A: Allocator, C: Allocator>(seats: &[BankSeat<B, A, C>]
 
 /// All seats joined in one.
 fn gather<B: Allocator, A: Allocator, C: Allocator>(
-    words: &Words<Series<B, A, C>>,
+    words: &Words<Series<B, A, C>, Rule>,
     mut seats: Vec<BankSeat<B, A, C>, B>,
 ) -> Place<Series<B, A, C>>
     requires own { All
-        (λ s. IsBoardPlace gates_of words.now.table_id words.now.key s.place) seats.items }
+        (λ s. IsGatePlace two_banks gates_of words.now.table_id words.now.key s.place) seats.items }
     requires outside { All (λ s. (view s).stand ≡ Outside) seats.items }
     requires some { 0 < length seats.items }
-    ensures at { IsBoardPlace gates_of words.now.table_id words.now.key result }
+    ensures at { IsGatePlace two_banks gates_of words.now.table_id words.now.key result }
     ensures seats { result.me.0.seats ≡ length seats.items }
     ensures made { (r g : ℕ) → pairs r g result.me.0.inner.made
         ≡ total (λ s. pairs r g (view s).inner.made) seats.items }

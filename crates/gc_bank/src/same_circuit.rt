@@ -4,7 +4,7 @@ ghost use Rattle.std.specs.Prelude.{◌↔◌, length, IsTrue};
 ghost use Rattle.gc_bank.specs.Jobs.{AreOnOneCircuit, AreOn};
 
 use gc_circuit::Circuit;
-use gc_eval::Job;
+use gc_job::Job;
 use std::alloc::Allocator;
 
 /// Whether the circuits of these jobs are all equal. It takes no memory.

@@ -3,14 +3,12 @@
 ghost use Rattle.std.specs.Prelude.{◌≡◌, ℕ, ◌<◌, ◌≤◌, ◌-◌, ◌^◌, [], length, min, slice_get, Some, None};
 ghost use Rattle.gc_rounds.specs.declared.words.TheConstants.{MAX_JOBS};
 ghost use Rattle.gc_rounds.specs.declared.view.Stand.TheVariants.{Outside, Inside};
-ghost use Rattle.gc_round_board.specs.declared.view.Hand.TheVariants.{Empty};
-ghost use Rattle.gc_round_board.specs.Places.{IsBoard};
+ghost use Rattle.gc_gates.specs.declared.view.Hand.TheVariants.{Empty};
 ghost use Rattle.gc_job.specs.Job.{JobParts};
-ghost use Rattle.gc_bank.specs.Rounds.{gates_of};
 
 use crate::series::Series;
-use gc_eval::{Job, Wiring};
-use gc_round_board::{BoardTable, Place};
+use gc_gates::{BankTable, Place};
+use gc_job::{Job, Wiring};
 use std::alloc::{Allocator, Global};
 
 /// One evaluator's part of the banks. Contracts see where it is, what it made and knows, and its steps; between two
@@ -34,9 +32,8 @@ pub struct BankSeat<B: Allocator = Global, A: Allocator = Global, C: Allocator =
 pub struct Banks<'j, 'c, B: Allocator = Global, A: Allocator = Global, C: Allocator = Global> {
     pub(crate) jobs: &'j [Job<'c, A, C>],
     pub(crate) wiring: Wiring<'c, B, C>,
-    pub(crate) board: BoardTable<Series<B, A, C>, B>,
+    pub(crate) board: BankTable<Series<B, A, C>, B>,
     pub(crate) seats: u32,
-    ghost words: { IsBoard gates_of board.table.shared.table_id board.table.shared.key },
     ghost about: { board.table.shared.key.about ≡ jobs.now },
     ghost circuit: { (r : ℕ) (job : JobParts) → slice_get jobs.now r ≡ Some job
         → job.circuit ≡ wiring },

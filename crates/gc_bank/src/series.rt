@@ -1,7 +1,8 @@
 //! What the words of two banks are about: a list of jobs, as contracts see it.
 
-use gc_eval::Facts;
-use gc_round_board::Work;
+use gc_gates::Work;
+use gc_job::Facts;
+use gc_steps::Jobs;
 use std::alloc::{Allocator, Global};
 use std::marker::Model;
 
@@ -26,4 +27,12 @@ impl<B: Allocator, A: Allocator, C: Allocator> Work for Series<B, A, C> {
     ghost gates = { gates_of };
 
     ghost right = { IsRightIn };
+}
+
+impl<B: Allocator, A: Allocator, C: Allocator> Jobs for Series<B, A, C> {
+    ghost use Rattle.gc_bank.specs.Rounds.{job_of, series_law};
+
+    ghost job_at = { job_of };
+
+    ghost laws = { series_law };
 }

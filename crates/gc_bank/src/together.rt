@@ -9,8 +9,8 @@ ghost use Rattle.gc_bank.specs.Workers.{AreBitsOf, AreKnown, IsWorkerOf, AreWork
 
 use crate::seat::Banks;
 use crate::worker::{Outputs, Worker, workers_of};
-use gc_eval::Job;
 use gc_gatehouse::Gatehouse;
+use gc_job::Job;
 use gc_rounds::MAX_JOBS;
 use std::alloc::{AllocError, Allocator};
 use std::thread;

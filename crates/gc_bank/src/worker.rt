@@ -9,10 +9,10 @@ ghost use Rattle.gc_bank.specs.Seats.{IsSeatOf, IsNew, view, jobs_on};
 ghost use Rattle.gc_bank.specs.Workers.{AreBitsOf, AreLabelsOf, IsWorkerAt, IsWorkerOf, AreWorkersOf};
 
 use crate::seat::{BankSeat, Banks};
-use gc_eval::{Batch, Walk};
 use gc_gatehouse::Gatehouse;
 use gc_label::Label;
 use gc_rounds::{Entry, Reopening};
+use gc_walk::{Batch, Walk};
 use std::alloc::{AllocError, Allocator};
 use std::thread;
 
@@ -107,22 +107,7 @@ fn await_bank<B: Allocator, A: Allocator, C: Allocator>(
 }
 
 impl<B: Allocator, A: Allocator, C: Allocator> Worker<B, A, C> {
-    /// Steps two gates of the round at once, and notes the answers.
-    fn step_two(&mut self, banks: &Banks<'_, '_, B, A, C>, round: u32, first: u32, second: u32)
-        requires worker { IsWorkerAt banks.now (Inside round) self.old }
-        requires round { round < length (jobs_on banks.now) }
-        requires first { first < gates_of (jobs_on banks.now) }
-        requires second { second < gates_of (jobs_on banks.now) }
-        ensures worker { IsWorkerAt banks.now (Inside round) self.new }
-        ensures left { batches_left self.new.walk ≡ batches_left self.old.walk }
-    {
-        banks.law_round(round);
-        let answers = banks.step_two(&mut self.seat, first, second);
-        self.walk.note(first, answers.0);
-        self.walk.note(second, answers.1);
-    }
-
-    /// Steps the gates of a batch in the round: four as two pairs.
+    /// Steps the gates of a batch in the round, and notes what each was answered.
     fn step<H: Gatehouse>(
         &mut self,
         banks: &Banks<'_, '_, B, A, C>,
@@ -143,10 +128,17 @@ impl<B: Allocator, A: Allocator, C: Allocator> Worker<B, A, C> {
                 let answer = banks.step(&mut self.seat, a);
                 self.walk.note(a, answer);
             }
-            Batch::Two(a, b) => self.step_two(banks, round, a, b),
+            Batch::Two(a, b) => {
+                let answers = banks.step_two(&mut self.seat, a, b);
+                self.walk.note(a, answers.0);
+                self.walk.note(b, answers.1);
+            }
             Batch::Four(a, b, c, d) => {
-                self.step_two(banks, round, a, b);
-                self.step_two(banks, round, c, d);
+                let answers = banks.step_four(&mut self.seat, a, b, c, d);
+                self.walk.note(a, answers.0);
+                self.walk.note(b, answers.1);
+                self.walk.note(c, answers.2);
+                self.walk.note(d, answers.3);
             }
         }
     }

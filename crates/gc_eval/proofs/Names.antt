@@ -5,20 +5,23 @@ pub use Rattle.std.proofs.lemmas.List.FromFn.{map-range_with_len_more, length-ma
 pub use Rattle.std.proofs.lemmas.Result.{err_from_is_err_and}
 pub use Rattle.std.specs.List.{range_with_len}
 pub use Rattle.std.specs.Slots.{slots_items, slots_len}
-pub use Rattle.gc_board.proofs.Sums.{total-append, only_same, only_other}
-pub use Rattle.gc_board.specs.Board.{Cell, state_of, in_hand}
-pub use Rattle.gc_board.specs.Counts.{total, only, times}
-pub use Rattle.gc_board.specs.Places.{IsPlaceOf, IsSamePlace}
-pub use Rattle.gc_board.specs.Steps.{merged, changed, after_state}
-pub use Rattle.gc_board.specs.declared.rule.View.{View}
-pub use Rattle.gc_eval.specs.Done.{done_of, HasLabel}
+pub use Rattle.gc_board.proofs.Sums.{only_same, only_other}
+pub use Rattle.gc_board.specs.Counts.{total, only}
+pub use Rattle.gc_eval.specs.Done.{done_of, HasLabel, state_of}
+pub use Rattle.gc_eval.specs.OneJob.{IsRight}
 pub use Rattle.gc_eval.specs.Seats.{IsNew, job_on, IsSeatOf}
-pub use Rattle.gc_eval.specs.Views.{Got, IsAlone, IsMadeNow, SetsMade, ReadsMade, FirstLacking, AnswersAlone, AnswersTwo, AnswersFour, sightings, made_after, Ran, Saw, SawUndone, Lacks, Says, Answers}
+pub use Rattle.gc_eval.specs.Views.{Seen}
 pub use Rattle.gc_eval.specs.Workers.{IsWorkerOf, AreWorkersOf}
 pub use Rattle.gc_eval.specs.declared.seat.EvalSeat.{EvalSeat}
 pub use Rattle.gc_job.proofs.WiringLemmas.{input_not_set, set_once, set_within}
-pub use Rattle.gc_job.specs.ActiveLabels.{active, gates_of, set_of, active_from, IsRightHalf}
+pub use Rattle.gc_job.specs.ActiveLabels.{active, gates_of}
 pub use Rattle.gc_job.specs.Evaluate.{labels_of, IsDecodingOf, IsEvaluated}
 pub use Rattle.gc_job.specs.Job.{JobParts, IsWhole}
 pub use Rattle.gc_netlist.specs.Circuit.{input_wires, IsSetBy, IsLawful, and_number, first_wire, second_wire, output_wires, Netlist}
 pub use Rattle.gc_netlist.specs.declared.gate.Gate.{Gate}
+pub use Rattle.gc_gates.specs.Layout.{one_round}
+pub use Rattle.gc_gates.specs.Gates.{Cell}
+pub use Rattle.gc_gates.specs.Pairs.{is_pair, pairs}
+pub use Rattle.gc_gates.specs.Places.{IsGatePlace, IsPlaceInside}
+pub use Rattle.gc_steps.proofs.GatherLemmas.{all_but_last, all_last, total_last, length_last, pairs_merged}
+pub use Rattle.gc_steps.proofs.LabelLemmas.{active_solves, word_is, evaluated_outputs}

@@ -4,7 +4,8 @@ use Rattle.std.specs.Slots.{slots_items}
 use Rattle.std.specs.List.{range_with_len}
 use Rattle.gc_netlist.specs.Circuit.{IsSetBy, input_wires, output_wires}
 use Rattle.gc_board.specs.declared.rule.TheConstants.{DONE}
-use Rattle.gc_board.specs.Board.{state_of}
+use Rattle.gc_gates.specs.Layout.{one_round}
+use Rattle.gc_gates.specs.Gates as gates
 use Rattle.gc_board.specs.Counts.{total, only}
 use Rattle.gc_job.specs.Job.{JobParts}
 use Rattle.gc_eval.specs.declared.active.Active.{Active}
@@ -16,6 +17,10 @@ job_in active = active.job.now
 -- its words, as on a board
 abbrev pub words_of : {A B C : Type 0} → Active B A C → List ℕ
 words_of active = slots_items active.closed.words
+
+-- the state word of gate g
+abbrev pub state_of : List ℕ → ℕ → ℕ
+state_of words g = gates.state_of one_round words 0 g
 
 -- Gate g is done.
 abbrev pub IsDone : {A B C : Type 0} → Active B A C → ℕ → Type 0

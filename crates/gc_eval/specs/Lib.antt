@@ -1,3 +1,4 @@
+pub mod OneJob
 pub mod Many
 pub mod Views
 pub mod Seats

@@ -2,8 +2,10 @@
 
 ghost use Rattle.std.specs.Prelude.{◌≡◌, ℕ, ◌+◌, ◌*◌};
 ghost use Rattle.std.specs.Slots.{slots_items, slots_len, IsFull};
-ghost use Rattle.gc_board.specs.Board.{Cell};
-ghost use Rattle.gc_job.specs.ActiveLabels.{gates_of, IsRightHalf};
+ghost use Rattle.gc_gates.specs.Layout.{one_round};
+ghost use Rattle.gc_gates.specs.Gates.{Cell};
+ghost use Rattle.gc_job.specs.ActiveLabels.{gates_of};
+ghost use Rattle.gc_eval.specs.OneJob.{IsRight};
 
 use atomic_table::Closed;
 use gc_job::{Job, Wiring};
@@ -17,7 +19,7 @@ pub struct Active<'j, 'c, B: Allocator = Global, A: Allocator = Global, C: Alloc
     ghost wired: { wiring ≡ job.now.circuit },
     ghost long: { (slots_len closed.words ≡ 3 * gates_of job.now + 1) × (slots_len closed.slots ≡ 0)
         × IsFull closed.words },
-    ghost right: { (g : ℕ) → Cell gates_of IsRightHalf job.now (slots_items closed.words) g },
+    ghost right: { (g : ℕ) → Cell one_round gates_of IsRight job.now (slots_items closed.words) 0 g },
 }
 
 impl<'j, 'c, B: Allocator, A: Allocator, C: Allocator> Drop for Active<'j, 'c, B, A, C> {

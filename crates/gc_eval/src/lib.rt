@@ -8,8 +8,8 @@
 
 mod active;
 mod closed;
-mod four;
 mod many;
+mod one_job;
 mod open;
 mod seat;
 mod step;

@@ -1,43 +1,45 @@
 //! Opening and closing a board.
 
 ghost use Rattle.std.specs.Prelude.{◌≡◌, ℕ, ◌+◌, ◌*◌, ◌<◌, ◌≤◌, ◌↔◌, [], length, replicate, IfOk, IfErr, IsOk, All};
-ghost use Rattle.gc_board.specs.Counts.{total, times, only};
-ghost use Rattle.gc_board.specs.Board.{state_of};
-ghost use Rattle.gc_board.specs.Places.{IsPlaceOf};
+ghost use Rattle.gc_board.specs.Counts.{total, only};
+ghost use Rattle.gc_gates.specs.Layout.{one_round};
+ghost use Rattle.gc_gates.specs.Pairs.{pairs};
+ghost use Rattle.gc_gates.specs.Places.{IsGatePlace, IsPlaceInside};
 ghost use Rattle.gc_job.specs.ActiveLabels.{gates_of};
 ghost use Rattle.gc_eval.specs.Seats.{IsSeatOf, IsNew, view, job_on, seats_on};
-ghost use Rattle.gc_eval.specs.Done.{job_in, words_of};
+ghost use Rattle.gc_eval.specs.Done.{job_in, words_of, state_of};
+ghost use Rattle.gc_eval.specs.Views.{times};
 
 use crate::active::Active;
+use crate::one_job::OneJob;
 use crate::seat::{EvalBoard, EvalSeat};
-use gc_board::{
-    CloseRefused, DONE, Key, MAX_SEATS, OpenFault, Place, Words, close_table, deal_place,
-    free_words, join_place, open_table,
-};
-use gc_job::{Facts, Job, Wiring};
+use gc_board::{CloseRefused, DONE, MAX_SEATS, OpenFault};
+use gc_gates::{OneRound, Place, Words, close_board, deal_seat, free_words, join_seat, open_board};
+use gc_job::{Job, Wiring};
+use gc_rounds::Key;
 use std::alloc::{AllocError, Allocator};
 use std::thread;
 use std::thread::Threads;
 
 /// This number of new seats, out of a place that stands for them all.
 fn deal_all<A: Allocator, B: Allocator, C: Allocator>(
-    words: &Words<Facts<A, C>>,
-    first: Place<Facts<A, C>>,
+    words: &Words<OneJob<A, C>, OneRound>,
+    first: Place<OneJob<A, C>>,
     count: u32,
     mut seats: Vec<EvalSeat<A, C>, B>,
 ) -> Result<Vec<EvalSeat<A, C>, B>, OpenFault>
-    requires first { IsPlaceOf gates_of words.now.table_id words.now.key first
+    requires first { IsPlaceInside one_round gates_of words.now.table_id words.now.key first 0
         × IsNew first.me.0 × (first.me.1 ≡ []) × (first.me.0.seats ≡ count) }
     requires some { 0 < count }
     requires none { seats.items ≡ [] }
     ensures { IfOk result (λ v. (length v.items ≡ count)
-        × All (λ s. IsPlaceOf gates_of words.now.table_id words.now.key s.place
+        × All (λ s. IsPlaceInside one_round gates_of words.now.table_id words.now.key s.place 0
         × IsNew s.place.me.0) v.items) }
 {
     let mut first = first;
     let mut left = count;
     while left > 1 {
-        let place = deal_place(words, &mut first);
+        let place = deal_seat(words, &mut first);
         seats.push(EvalSeat { place, count: 0 })?;
         left -= 1;
     }
@@ -83,11 +85,12 @@ impl<'j, 'c, B: Allocator + Copy, A: Allocator, C: Allocator> EvalBoard<'j, 'c, 
         ensures seats { IfOk result (λ b. All (λ s. IsSeatOf b.0 s × IsNew (view s)) b.1.items) }
     {
         let key = Key {
-            work: job.facts(),
+            jobs: 1,
             seats,
+            about: OneJob { facts: job.facts() },
         };
         let room = Vec::with_capacity(alloc, seats as usize)?;
-        let (table, first) = open_table(alloc, &key, words)?;
+        let (table, first) = open_board(alloc, &key, words)?;
         let dealt = deal_all(&table.shared, first, seats, room)?;
         let board = EvalBoard {
             job,
@@ -147,8 +150,11 @@ impl<'j, 'c, B: Allocator, A: Allocator, C: Allocator> EvalBoard<'j, 'c, B, A, C
         requires { All (IsSeatOf self) seats.items }
         ensures exact { IsOk result ↔ (length seats.items ≡ seats_on self.entry) }
         ensures job { IfOk result (λ a. job_in a ≡ job_on self.entry) }
-        ensures made { IfOk result (λ a. (g : ℕ) → total (λ s. times g (view s).made) seats.items
+        ensures made { IfOk result (λ a. (g : ℕ) → total (λ s. times g (view s).inner.made) seats.items
             ≡ only DONE (state_of (words_of a) g)) }
+        // They made no gate in another round.
+        ensures only_here { IfOk result (λ _. (r g : ℕ) → 0 < r
+            → total (λ s. pairs r g (view s).inner.made) seats.items ≡ 0) }
         ensures err { IfErr result (λ r. (r.board ≡ self.entry) × (r.seats ≡ seats)) }
     {
         if seats.len() != self.seats as usize {
@@ -161,7 +167,7 @@ impl<'j, 'c, B: Allocator, A: Allocator, C: Allocator> EvalBoard<'j, 'c, B, A, C
             seats: _,
         } = self;
         let whole = gather(&table.shared, seats);
-        let closed = close_table(table, whole);
+        let closed = close_board(table, whole);
         Ok(Active {
             job,
             wiring,
@@ -172,16 +178,16 @@ impl<'j, 'c, B: Allocator, A: Allocator, C: Allocator> EvalBoard<'j, 'c, B, A, C
 
 /// All seats joined in one.
 fn gather<A: Allocator, B: Allocator, C: Allocator>(
-    words: &Words<Facts<A, C>>,
+    words: &Words<OneJob<A, C>, OneRound>,
     mut seats: Vec<EvalSeat<A, C>, B>,
-) -> Place<Facts<A, C>>
-    requires own { All
-        (λ s. IsPlaceOf gates_of words.now.table_id words.now.key s.place) seats.items }
+) -> Place<OneJob<A, C>>
+    requires own { All (λ s. IsPlaceInside one_round gates_of words.now.table_id
+        words.now.key s.place 0) seats.items }
     requires some { 0 < length seats.items }
-    ensures at { IsPlaceOf gates_of words.now.table_id words.now.key result }
+    ensures at { IsGatePlace one_round gates_of words.now.table_id words.now.key result }
     ensures seats { result.me.0.seats ≡ length seats.items }
-    ensures made { (g : ℕ) → times g result.me.0.made ≡ total
-        (λ s. times g (view s).made) seats.items }
+    ensures made { (r g : ℕ) → pairs r g result.me.0.inner.made
+        ≡ total (λ s. pairs r g (view s).inner.made) seats.items }
 {
     let Some(
         EvalSeat {
@@ -193,7 +199,7 @@ fn gather<A: Allocator, B: Allocator, C: Allocator>(
         unreachable!()
     };
     while let Some(EvalSeat { place, count: _ }) = seats.pop() {
-        join_place(words, &mut whole, place);
+        join_seat(words, &mut whole, place);
     }
     whole
 }

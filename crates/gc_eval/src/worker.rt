@@ -107,7 +107,7 @@ impl<B: Allocator, A: Allocator, C: Allocator> Worker<B, A, C> {
         ensures own { IsWorkerOf board.now self.new }
         ensures other { IsWorkerOf board.now other.new }
     {
-        board.copy_known(&mut other.seat, &mut self.seat);
+        board.tell(&mut other.seat, &mut self.seat);
         self.walk.learn_from(&other.walk);
     }
 }

@@ -256,7 +256,7 @@ fn works_without_memory(
         return Err(Fail::new("there are two seats"));
     };
     step_all(&board, job, &mut one);
-    board.copy_known(&mut one, &mut two);
+    board.tell(&mut one, &mut two);
     let label = board.label(&mut two, wire);
     seats.push(one)?;
     seats.push(two)?;

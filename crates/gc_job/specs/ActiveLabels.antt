@@ -1,8 +1,7 @@
--- The active labels of a job, and their halves in the words of a board.
-use Rattle.std.specs.Prelude.{◌≡◌, ℕ, zero, suc, ◌<◌, ◌^◌, length, slice_get, Option, Some, None}
+-- The active labels of a job.
+use Rattle.std.specs.Prelude.{ℕ, length, slice_get, Option, Some, None}
 use Rattle.gc_netlist.specs.declared.gate.Gate.{Gate}
 use Rattle.gc_netlist.specs.Circuit.{and_number}
-use Rattle.gc_label.specs.Label.{low_half, high_half}
 use Rattle.gc_half.specs.Hash.{hash}
 use Rattle.gc_half.specs.declared.garbling.RowPair.{RowPair}
 use Rattle.gc_half.specs.OneGate.{gate_active}
@@ -36,13 +35,3 @@ abbrev pub active_from : JobParts → ℕ → ℕ → ℕ → ℕ
 active_from job g a b =
     label_by (and_number job.circuit g) (row_at job.rows (and_number job.circuit g))
     (slice_get job.circuit.gates g) a b
-
--- Half k of a label: half 0 is the low half, and half 1 the high half.
-abbrev pub half_of : ℕ → ℕ → ℕ
-half_of zero label = low_half label
-half_of (suc k) label = high_half label
-
--- The number is half k of the active label of the wire that gate g sets, which is a label of 16 bytes.
-abbrev pub IsRightHalf : JobParts → ℕ → ℕ → ℕ → Type 0
-IsRightHalf job g k n =
-    (active job (set_of job g) < 2 ^ 128) × (n ≡ half_of k (active job (set_of job g)))

@@ -1,6 +1,5 @@
-//! What the words of a board are about: a job, as contracts see it.
+//! A job, as contracts see it.
 
-use gc_board::Work;
 use gc_circuit::Circuit;
 use gc_file::Garbled;
 use gc_label::Label;
@@ -22,12 +21,4 @@ impl<A: Allocator, C: Allocator> Model for Facts<A, C> {
     ghost Value = { JobParts };
 
     ghost view = { λ f. job_of f.circuit.value f.garbled.value f.inputs.value.items };
-}
-
-impl<A: Allocator, C: Allocator> Work for Facts<A, C> {
-    ghost use Rattle.gc_job.specs.ActiveLabels.{gates_of, IsRightHalf};
-
-    ghost gates = { gates_of };
-
-    ghost right = { IsRightHalf };
 }

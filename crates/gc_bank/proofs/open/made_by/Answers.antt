@@ -1,5 +1,5 @@
 use Rattle.gc_bank.proofs.Names.{arith, ap, length, BankSeat}
-use Rattle.gc_bank.proofs.RunLemmas.{total_taken}
+use Rattle.gc_bank.proofs.RoundLemmas.{total_taken}
 use Rattle.gc_bank.proofs.open.made_by.Goals as goal
 
 pub loop-seat-preserved : goal.loop-seat-preserved

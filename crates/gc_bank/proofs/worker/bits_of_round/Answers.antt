@@ -1,6 +1,6 @@
 use Rattle.gc_bank.proofs.Names.{Ok, active, jobs_on}
 use Rattle.gc_job.proofs.OutputLemmas.{length-outputs}
-use Rattle.gc_eval.proofs.ClosedLemmas.{evaluated_outputs}
+use Rattle.gc_steps.proofs.LabelLemmas.{evaluated_outputs}
 use Rattle.gc_bank.proofs.JobLemmas.{bits_at}
 use Rattle.gc_bank.proofs.worker.bits_of_round.Goals as goal
 

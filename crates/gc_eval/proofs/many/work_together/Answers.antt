@@ -1,5 +1,5 @@
 use Rattle.gc_eval.proofs.Names.{All, arith, All-push, IsWorkerOf}
-use Rattle.gc_eval.proofs.GatherLemmas.{all_but_last, all_last}
+use Rattle.gc_steps.proofs.GatherLemmas.{all_but_last, all_last}
 use Rattle.gc_eval.proofs.many.work_together.Given.{Over}
 use Rattle.gc_eval.proofs.many.work_together.Goals.{After-for_each_mut}
 use Rattle.gc_eval.proofs.many.work_together.Goals as goal

@@ -1,5 +1,5 @@
 use Rattle.gc_eval.proofs.Names.{length, ap, ◌∙◌, All-push, Netlist, IsSeatOf, IsWorkerOf}
-use Rattle.gc_eval.proofs.GatherLemmas.{all_but_last, all_last}
+use Rattle.gc_steps.proofs.GatherLemmas.{all_but_last, all_last}
 use Rattle.gc_eval.proofs.worker.workers_of.Goals as goal
 
 pub loop-seat-preserved : goal.loop-seat-preserved

@@ -1,5 +1,5 @@
 use Rattle.std.proofs.lemmas.Option.{slice_get-get_or}
-use Rattle.gc_bank.proofs.RunLemmas.{is_round}
+use Rattle.gc_bank.proofs.RoundLemmas.{is_round}
 use Rattle.gc_bank.proofs.seat.Banks.job.Goals as goal
 
 pub returns-clause-round : goal.returns-clause-round

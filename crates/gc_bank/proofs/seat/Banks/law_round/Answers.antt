@@ -1,4 +1,4 @@
-use Rattle.gc_bank.proofs.RunLemmas.{has_round}
+use Rattle.gc_bank.proofs.RoundLemmas.{has_round}
 use Rattle.gc_bank.proofs.seat.Banks.law_round.Goals as goal
 
 pub returns : goal.returns

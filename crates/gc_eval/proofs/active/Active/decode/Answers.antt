@@ -1,5 +1,4 @@
-use Rattle.gc_eval.proofs.Names.{◌∙◌, Ok, Err, err_from_is_err_and}
-use Rattle.gc_eval.proofs.ClosedLemmas.{evaluated_outputs}
+use Rattle.gc_eval.proofs.Names.{◌∙◌, Ok, Err, err_from_is_err_and, evaluated_outputs}
 use Rattle.gc_job.proofs.OutputLemmas.{length-outputs, no_memory}
 use Rattle.gc_eval.proofs.active.Active.decode.Goals as goal
 

@@ -1,5 +1,4 @@
-use Rattle.gc_eval.proofs.Names.{◌*◌, arith, sym, slots_items, state_of, only, only_same, only_other}
-use Rattle.gc_eval.proofs.BoardLabels.{word_is}
+use Rattle.gc_eval.proofs.Names.{◌*◌, arith, sym, slots_items, state_of, only, only_same, only_other, word_is}
 use Rattle.gc_eval.proofs.ClosedLemmas.{total-range}
 use Rattle.gc_eval.proofs.active.Active.done.Goals as goal
 use Rattle.gc_eval.proofs.active.Active.done.Goals.{then-word-eq-DONE, else-word-eq-DONE}

@@ -1,5 +1,5 @@
-use Rattle.gc_eval.proofs.Names.{◌+◌, ◌*◌, ◌<◌, inl, inr, ⊎_elim, arith, sym, ◌∙◌, slots_items, slots_len, input_wires, set_once, set_within}
-use Rattle.gc_eval.proofs.BoardLabels.{active_solves, label_in, word_is}
+use Rattle.gc_eval.proofs.Names.{◌+◌, ◌*◌, ◌<◌, inl, inr, ⊎_elim, arith, sym, ◌∙◌, slots_items, slots_len, input_wires, set_once, set_within, active_solves, word_is}
+use Rattle.gc_eval.proofs.BoardLabels.{label_in}
 use Rattle.gc_eval.proofs.active.Active.label.Given.{Over}
 use Rattle.gc_eval.proofs.active.Active.label.Goals.{In-Some}
 use Rattle.gc_eval.proofs.active.Active.label.Goals as goal

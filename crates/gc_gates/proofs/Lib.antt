@@ -1,0 +1,3 @@
+pub mod PairLemmas
+pub mod Keeps
+pub mod BoardSeating

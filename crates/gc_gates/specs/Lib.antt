@@ -1,0 +1,9 @@
+pub mod Layout
+pub mod Pairs
+pub mod Gates
+pub mod Steps
+pub mod Frame
+pub mod Places
+pub mod BankLaws
+pub mod Board
+pub mod BoardLaw

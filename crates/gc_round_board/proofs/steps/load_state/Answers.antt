@@ -1,9 +1,0 @@
-use Rattle.gc_round_board.proofs.Keeps.{loads_state}
-use Rattle.gc_round_board.proofs.steps.load_state.Goals as goal
-
-pub load-requires : goal.load-requires
-load-requires g c = rw c.index.ensures (loads_state _ _ _ _ _ c.requires)
-
-pub returns-clause-finds : goal.returns-clause-finds
-returns-clause-finds g c =
-    (c.load.ensures.2.1 c.args.round c.args.gate c.requires.inside c.index.ensures).0

@@ -1,7 +1,0 @@
-use Rattle.std.proofs.Common.{arith}
-use Rattle.gc_round_board.proofs.Keeps.{stores_half}
-use Rattle.gc_round_board.proofs.steps.store_low.Goals as goal
-
-pub store-requires : goal.store-requires
-store-requires g c = let w = c.requires in
-    rw c.index.ensures (stores_half _ _ _ _ _ w.place 0 _ (omega arith) w.has w.right)

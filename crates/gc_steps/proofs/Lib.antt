@@ -1,0 +1,4 @@
+pub mod Names
+pub mod LabelLemmas
+pub mod RunLemmas
+pub mod GatherLemmas

@@ -1,0 +1,71 @@
+use Rattle.gc_steps.proofs.Names.{arith, sym, ◌∙◌, refl, ◌<◌, only_other, set_once, set_within}
+use Rattle.gc_steps.proofs.RunLemmas.{got_input, unknown, undone, saw_step, still_in, jobs_same, all_same, job_same, stand_same}
+use Rattle.gc_steps.proofs.round.Round.label.Given.{Over}
+use Rattle.gc_steps.proofs.round.Round.label.Goals.{In-Some}
+use Rattle.gc_steps.proofs.round.Round.label.Goals as goal
+
+-- There are words for the gate that sets the wire.
+exists : (g : Over) (c : In-Some g) → c.in-Some.gate < g.J.Work.gates c.args.self.now.words.now.key.about
+exists g c = omega (
+  arith,
+  set_within c.args.self.now.job.now.circuit c.args.wire c.in-Some.gate
+      (rw (← c.args.self.now.wired) at c.in-Some.ensures.some),
+  c.args.self.now.gates,
+)
+
+pub returns-then-wire-input_wires-clause-some : goal.returns-then-wire-input_wires-clause-some
+returns-then-wire-input_wires-clause-some g c =
+    got_input c.circuit.ensures.whole.lawful
+    (omega (arith, rw c.circuit.ensures.circuit at c.input_wires.ensures)) c.input.ensures
+
+pub returns-in_default-clause-none : goal.returns-in_default-clause-none
+returns-in_default-clause-none g c = record {
+  no_input = λ input. absurd (omega (arith, rw c.circuit.ensures.circuit at c.input_wires.ensures));
+  unknown = λ h set. absurd (c.in_default.ensures.none h (rw c.args.self.now.wired at set));
+}
+
+pub returns-in_default-clause-alone : goal.returns-in_default-clause-alone
+returns-in_default-clause-alone g c = λ alone h set.
+    absurd (c.in_default.ensures.none h (rw c.args.self.now.wired at set))
+
+pub load_state-requires : goal.load_state-requires
+load_state-requires g c = record {
+  place = c.requires.place.place;
+  inside = c.requires.place.inside;
+  exists = exists g (goal.at.load_state-requires g c).In-Some;
+}
+
+pub load_label-requires-clause-place : goal.load_label-requires-clause-place
+load_label-requires-clause-place g c =
+    let view = c.load_state.ensures.view in
+    record {
+      place = still_in c.requires.place.place c.load_state.ensures.same
+          (jobs_same view) (all_same view) (job_same view);
+      inside = stand_same view ∙ c.requires.place.inside;
+      exists = exists g (goal.at.load_label-requires-clause-place g c).In-Some;
+    }
+
+pub returns-else-load_state-stamped-clause-none : goal.returns-else-load_state-stamped-clause-none
+returns-else-load_state-stamped-clause-none g c =
+    let by = rw (← c.args.self.now.wired) at c.in-Some.ensures.some in
+    let finds = c.load_state.ensures.finds in
+    let not_two = rw c.stamped.ensures at c.if-load_state-stamped.false in
+    record {
+      no_input = λ input.
+          absurd (omega (arith, rw c.circuit.ensures.circuit at c.input_wires.ensures));
+      unknown = λ h set. rw (← set_once _ _ _ h c.circuit.ensures.whole.lawful by set) (
+        unknown _ _ _ finds.known not_two,
+        (
+          c.load_state.result,
+          undone _ _ finds.state not_two finds.round,
+          rw c.load_state.ensures.view (saw_step _ _ _ _ refl),
+        ),
+      );
+    }
+
+pub returns-else-load_state-stamped-clause-alone : goal.returns-else-load_state-stamped-clause-alone
+returns-else-load_state-stamped-clause-alone g c = λ alone h set.
+    let by = rw (← c.args.self.now.wired) at c.in-Some.ensures.some in
+    let not_two = rw c.stamped.ensures at c.if-load_state-stamped.false in
+    rw (← set_once _ _ _ h c.circuit.ensures.whole.lawful by set)
+    ((c.load_state.ensures.finds.alone alone).1 ∙ only_other _ _ (λ e. not_two (sym e)))

@@ -1,0 +1,136 @@
+//! A step of one gate: it is claimed, then its label is computed and published.
+
+ghost use Rattle.std.specs.Prelude.{◌≡◌, ◌+◌, ◌<◌, ◌≤◌, IfSome, IfNone};
+ghost use Rattle.gc_label.specs.Label.{low_half, high_half};
+ghost use Rattle.gc_board.specs.declared.rule.TheConstants.{FREE};
+ghost use Rattle.gc_rounds.specs.Words.{stamp};
+ghost use Rattle.gc_rounds.specs.Places.{IsSamePlace};
+ghost use Rattle.gc_gates.specs.declared.view.Hand.TheVariants.{Has};
+ghost use Rattle.gc_gates.specs.Pairs.{pairs, looked};
+ghost use Rattle.gc_gates.specs.Places.{IsPlaceAt};
+ghost use Rattle.gc_gates.specs.Steps.{after_stored, after_done};
+ghost use Rattle.gc_job.specs.ActiveLabels.{active, set_of};
+ghost use Rattle.gc_steps.specs.Views.{IsMadeNow, IsIdle, Answers, IsReady, IsAlone, AnswersAlone, after_taken};
+
+use crate::jobs::Jobs;
+use crate::round::{Prepared, Round};
+use gc_board::{DONE, IN_HAND};
+use gc_gates::{Frame, Place, claim, store_done, store_high, store_low};
+use gc_label::Label;
+use gc_rounds::stamped;
+use gc_walk::Answer;
+use std::alloc::Allocator;
+
+impl<'w, 'c, J: Jobs, R: Frame<J>, B: Allocator, A: Allocator, C: Allocator> Round<
+    'w,
+    'c,
+    J,
+    R,
+    B,
+    A,
+    C,
+> {
+    /// Takes a gate in hand whose state word was found free, where no seat has it since; else the answer.
+    pub(crate) fn take(&self, place: &mut Place<J>, gate: u32, free: u64) -> Option<Answer>
+        requires place { IsPlaceAt R.layout J.gates self.now.words.now.table_id
+            self.now.words.now.key place.old self.now.number gate }
+        requires empty { IsIdle place.old.me.0 }
+        requires free { (0 < looked self.now.number gate free place.old.me.0.inner.looks)
+            × (free ≤ stamp self.now.number FREE) }
+        ensures same { IsSamePlace place.old place.new }
+        ensures some { IfSome result (Answers R.layout self.now.job.now self.now.number gate 3
+            place.old.me.0 place.new.me.0) }
+        ensures none { IfNone result
+            ((place.new.me.0 ≡ after_taken R.layout place.old.me.0 self.now.number gate free)
+            × (pairs self.now.number gate place.old.me.0.inner.known ≡ 0)) }
+        ensures alone { IsAlone place.old.me.0
+            → pairs self.now.number gate place.old.me.0.inner.made ≡ 0 → IfSome result (λ _. ⊥) }
+    {
+        let found = claim(self.words, place, self.number, gate, free);
+        if found == stamped(self.number, DONE) {
+            return Some(Answer::Done(self.load_label(place, gate)));
+        }
+        if found == stamped(self.number, IN_HAND) {
+            return Some(Answer::Taken);
+        }
+        None
+    }
+
+    /// Publishes the label of the gate in hand, which is done from then on.
+    pub(crate) fn put(&self, place: &mut Place<J>, gate: u32, label: Label)
+        requires place { IsPlaceAt R.layout J.gates self.now.words.now.table_id
+            self.now.words.now.key place.old self.now.number gate }
+        requires has { place.old.me.0.inner.hand ≡ Has self.now.number gate 0 }
+        requires right { label ≡ active self.now.job.now (set_of self.now.job.now gate) }
+        ensures same { IsSamePlace place.old place.new }
+        ensures view { place.new.me.0 ≡ after_done R.layout (after_stored (after_stored place.old.me.0
+            self.now.number gate 1 (R.layout.at self.now.number gate + 1) (low_half label))
+            self.now.number gate 2 (R.layout.at self.now.number gate + 2) (high_half label))
+            self.now.number gate }
+    {
+        let (low, high) = label.halves();
+        store_low(self.words, place, self.number, gate, low);
+        store_high(self.words, place, self.number, gate, high);
+        store_done(self.words, place, self.number, gate);
+    }
+
+    /// Makes a gate whose label is computed, where no seat has it since its state word was found free.
+    pub(crate) fn publish(&self, place: &mut Place<J>, gate: u32, free: u64, label: Label) -> Answer
+        requires place { IsPlaceAt R.layout J.gates self.now.words.now.table_id
+            self.now.words.now.key place.old self.now.number gate }
+        requires empty { IsIdle place.old.me.0 }
+        requires free { (0 < looked self.now.number gate free place.old.me.0.inner.looks)
+            × (free ≤ stamp self.now.number FREE) }
+        requires right { label ≡ active self.now.job.now (set_of self.now.job.now gate) }
+        ensures same { IsSamePlace place.old place.new }
+        ensures answer { Answers R.layout self.now.job.now self.now.number gate 4
+            place.old.me.0 place.new.me.0 result }
+        ensures alone { IsAlone place.old.me.0
+            → pairs self.now.number gate place.old.me.0.inner.made ≡ 0 → IsMadeNow result }
+    {
+        if let Some(answer) = self.take(place, gate, free) {
+            return answer;
+        }
+        self.put(place, gate, label);
+        Answer::Made(label)
+    }
+
+    /// Makes a gate that is prepared, where no seat has it by now.
+    pub(crate) fn make(&self, place: &mut Place<J>, ready: Prepared) -> Answer
+        requires place { IsPlaceAt R.layout J.gates self.now.words.now.table_id
+            self.now.words.now.key place.old self.now.number ready.gate }
+        requires empty { IsIdle place.old.me.0 }
+        requires ready { IsReady self.now.job.now self.now.number place.old.me.0 ready }
+        ensures same { IsSamePlace place.old place.new }
+        ensures answer { Answers R.layout self.now.job.now self.now.number ready.gate 4
+            place.old.me.0 place.new.me.0 result }
+        ensures alone { IsAlone place.old.me.0
+            → pairs self.now.number ready.gate place.old.me.0.inner.made ≡ 0 → IsMadeNow result }
+    {
+        if let Some(answer) = self.take(place, ready.gate, ready.free) {
+            return answer;
+        }
+        let (a, b) = ready.labels;
+        let label = self.job.active_by(self.wiring, ready.gate, a, b);
+        self.put(place, ready.gate, label);
+        Answer::Made(label)
+    }
+
+    /// Makes a gate, or says why not, in at most 11 atomic steps. That the place is inside the round with an empty hand,
+    /// and that there is such a gate, is the caller's condition.
+    pub fn step(&self, place: &mut Place<J>, gate: u32) -> Answer
+        requires place { IsPlaceAt R.layout J.gates self.now.words.now.table_id
+            self.now.words.now.key place.old self.now.number gate }
+        requires empty { IsIdle place.old.me.0 }
+        ensures same { IsSamePlace place.old place.new }
+        ensures answer { Answers R.layout self.now.job.now self.now.number gate 11
+            place.old.me.0 place.new.me.0 result }
+        ensures alone { IsAlone place.old.me.0
+            → AnswersAlone self.now.job.now self.now.number gate place.old.me.0 result }
+    {
+        match self.prepare(place, gate) {
+            Ok(ready) => self.make(place, ready),
+            Err(answer) => answer,
+        }
+    }
+}
