@@ -1,10 +1,14 @@
 -- Rounds with their jobs, and the seats of banks.
-use Rattle.gc_bank.proofs.Names.{◌≡◌, ℕ, ◌+◌, ◌<◌, List, [], ◌∷◌, ap, ◌∙◌, subst, arith, sym, slice_get, get_or, slice_get-get_or, length, Some, MatchOption, take, Netlist, total, total-append, Key, Inside, JobParts, IsRound, InRound, round_in, IsGatePlace, Seen}
+use Rattle.gc_bank.proofs.Names.{◌≡◌, ℕ, ◌+◌, ◌<◌, List, [], ◌∷◌, refl, ap, ◌∙◌, subst, arith, sym, slice_get, get_or, slice_get-get_or, length, length-append, Some, MatchOption, take, Netlist, total, total-append, Key, Inside, JobParts, IsRound, InRound, round_in, IsGatePlace, Seen}
 use Rattle.std.proofs.lemmas.List.{take_more}
 use Rattle.atomic_table.specs.Seated.{TableId}
 use Rattle.atomic_table.specs.declared.shared.Seat.{Seat}
 use Rattle.gc_rounds.specs.Places.{IsPlaceOf}
 use Rattle.gc_gates.specs.Layout.{two_banks}
+use Rattle.gc_walk.specs.declared.answer.Answer.{Answer}
+use Rattle.gc_walk.specs.declared.answer.Answer.TheVariants.{Made, Done, Taken, NotYet}
+use Rattle.gc_walk.specs.Walks.{made_now}
+use Rattle.gc_steps.specs.Views.{made_after}
 use Rattle.gc_bank.specs.Rounds.{gates_of}
 
 -- a seat of the banks is one of their table
@@ -49,3 +53,27 @@ pub in_round : (jobs : List JobParts) (v : Seen) (r : ℕ) (job : JobParts) (P :
 in_round jobs v r job P inside there p =
     subst (λ k. MatchOption (slice_get jobs k) ⊥ (P k)) (sym (ap round_in inside))
     (subst (λ o. MatchOption o ⊥ (P r)) (sym there) p)
+
+-- an answer makes a made list longer by one gate, where it is Made
+length_after : (r g : ℕ) (l : List (ℕ × ℕ)) (x : Answer)
+    → length (made_after r g l x) ≡ length l + made_now x
+length_after r g l (Made label) = length-append l ((r, g) ∷ [])
+length_after r g l (Done label) = omega arith
+length_after r g l Taken = omega arith
+length_after r g l (NotYet w) = omega arith
+
+-- four answers make it longer by the gates that they made
+pub four_counted : (r a b c d : ℕ) (l new : List (ℕ × ℕ)) (x : Answer × Answer × Answer × Answer)
+    → new ≡ made_after r d (made_after r c (made_after r b (made_after r a l x.0) x.1) x.2) x.3
+    → length new ≡ length l + made_now x.0 + made_now x.1 + made_now x.2 + made_now x.3
+four_counted r a b c d l new x is =
+    let first = made_after r a l x.0 in
+    let second = made_after r b first x.1 in
+    let third = made_after r c second x.2 in
+    rw is (omega (
+      arith,
+      length_after r a l x.0,
+      length_after r b first x.1,
+      length_after r c second x.2,
+      length_after r d third x.3,
+    ))

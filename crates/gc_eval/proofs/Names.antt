@@ -9,7 +9,7 @@ pub use Rattle.gc_board.proofs.Sums.{only_same, only_other}
 pub use Rattle.gc_board.specs.Counts.{total, only}
 pub use Rattle.gc_eval.specs.Done.{done_of, HasLabel, state_of}
 pub use Rattle.gc_eval.specs.OneJob.{IsRight}
-pub use Rattle.gc_eval.specs.Seats.{IsNew, job_on, IsSeatOf}
+pub use Rattle.gc_eval.specs.Seats.{IsNew, view, job_on, IsSeatOf}
 pub use Rattle.gc_eval.specs.Views.{Seen}
 pub use Rattle.gc_eval.specs.Workers.{IsWorkerOf, AreWorkersOf}
 pub use Rattle.gc_eval.specs.declared.seat.EvalSeat.{EvalSeat}

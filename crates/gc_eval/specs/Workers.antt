@@ -6,8 +6,9 @@ use Rattle.gc_eval.specs.declared.worker.Worker.{Worker}
 use Rattle.gc_eval.specs.Seats.{IsSeatOf, job_on}
 
 -- The worker has a seat of this board, and walks over its gates.
-abbrev pub IsWorkerOf : {A B C : Type 0} → EvalBoard B A C → Worker B A C → Type 0
-IsWorkerOf board worker = IsSeatOf board worker.seat × (worker.walk.gates ≡ gates_of (job_on board))
+pub record IsWorkerOf {A B C : Type 0} (board : EvalBoard B A C) (worker : Worker B A C) : Type 0 where
+  pub seat_of : IsSeatOf board worker.seat
+  pub gates : worker.walk.gates ≡ gates_of (job_on board)
 
 abbrev pub AreWorkersOf : {A B C : Type 0} → EvalBoard B A C → List (Worker B A C) → Type 0
 AreWorkersOf board workers = All (IsWorkerOf board) workers

@@ -2,7 +2,7 @@
 
 ghost use Rattle.std.specs.Prelude.{◌≡◌, All, IfOk};
 ghost use Rattle.gc_job.specs.ActiveLabels.{gates_of};
-ghost use Rattle.gc_eval.specs.Seats.{IsSeatOf, job_on};
+ghost use Rattle.gc_eval.specs.Seats.{IsSeatOf, IsNew, view, job_on};
 ghost use Rattle.gc_walk.specs.Walks.{IsWithin, batches_left};
 ghost use Rattle.gc_eval.specs.Workers.{AreWorkersOf, IsWorkerOf};
 
@@ -122,13 +122,14 @@ impl<'j, 'c, B: Allocator, A: Allocator, C: Allocator> EvalBoard<'j, 'c, B, A, C
     }
 }
 
-/// A worker for each seat, from the last to worker 0. That the seats are this board's is the caller's condition.
+/// A worker for each seat, from the last to worker 0. That the seats are this board's and new is the caller's
+/// condition.
 pub(crate) fn workers_of<B: Allocator + Copy, A: Allocator, C: Allocator>(
     alloc: B,
     board: &EvalBoard<'_, '_, B, A, C>,
     mut seats: Vec<EvalSeat<A, C>, B>,
 ) -> Result<Vec<Worker<B, A, C>, B>, AllocError>
-    requires { All (IsSeatOf board.now) seats.items }
+    requires { All (λ s. IsSeatOf board.now s × IsNew (view s)) seats.items }
     ensures { IfOk result (λ v. AreWorkersOf board.now v.items) }
 {
     let gates = board.circuit().gates();

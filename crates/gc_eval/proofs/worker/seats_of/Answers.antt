@@ -10,5 +10,5 @@ loop-worker-preserved g c =
       workers = All-tail (IsWorkerOf board) _ _ workers;
       seats = rw c.in_ok-push.ensures.items
           (All-push (IsSeatOf board) _ _ c.loop-worker.invariant.seats
-          (All-head (IsWorkerOf board) _ _ workers).0);
+          (All-head (IsWorkerOf board) _ _ workers).seat_of);
     }

@@ -1,5 +1,5 @@
-use Rattle.gc_bank.proofs.Names.{◌≡◌, Inside, view, jobs_on, AnswersFour}
-use Rattle.gc_bank.proofs.RoundLemmas.{in_round}
+use Rattle.gc_bank.proofs.Names.{◌≡◌, arith, Inside, view, jobs_on, AnswersFour}
+use Rattle.gc_bank.proofs.RoundLemmas.{in_round, four_counted}
 use Rattle.gc_bank.proofs.seat.Banks.step_four.Goals as goal
 
 pub returns-clause-answers : goal.returns-clause-answers
@@ -11,3 +11,16 @@ returns-clause-answers g c =
     (λ r job. AnswersFour job r a.a a.b a.c a.d 72 old c.step_four-answers.new.place.me.0
     c.step_four-answers.result)
     inside c.at.ensures.job (rw c.at.ensures.number at c.step_four-answers.ensures.answers)
+
+pub invariant_of-seat-clause-counted : goal.invariant_of-seat-clause-counted
+invariant_of-seat-clause-counted g c =
+    let ran = c.step_four-answers.ensures.answers.4 in omega (
+      arith,
+      four_counted _ _ _ _ _ _ _ c.step_four-answers.result ran.made,
+      c.args.seat.now.counted,
+      c.made.ensures,
+      c.made-2.ensures,
+      c.made-3.ensures,
+      c.made-4.ensures,
+      c.saturating_add-seat.ensures,
+    )
