@@ -106,6 +106,9 @@ class FromC(LibraryTest):
         printed = self.run_built(SOURCES / "memory.c", flags=WRAPPED)
         self.assertRegex(printed, r"^\d+ growths refused\n$")
 
+    def test_joined_circuits(self):
+        self.run_built(SOURCES / "joined.c")
+
     def test_threads(self):
         self.run_built(SOURCES / "threads.c", flags=["-pthread"])
 

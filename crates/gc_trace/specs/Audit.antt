@@ -5,7 +5,7 @@ use Rattle.gc_netlist.specs.Circuit.{Netlist}
 use Rattle.gc_netlist.specs.Spelling.{Word, Number, Name, bit_number}
 use Rattle.gc_netlist.specs.Canon.{line}
 use Rattle.gc_value.specs.Value.{binary_digit}
-use Rattle.gc_label.specs.Seed.{IsSeedText}
+use Rattle.gc_label.specs.Seed.{IsSeedText, offset_of, input_label_of}
 use Rattle.gc_half.specs.Garbling.{GarblingParts, IsGarbled}
 use Rattle.gc_format.specs.declared.parts.Version.{Version}
 use Rattle.gc_format.specs.declared.parts.Version.TheVariants.{One, Two}
@@ -119,7 +119,7 @@ pub data IsLabelsFound (c : Netlist) (seed : List ℕ) (file : LabelFileParts)
       IsLabelsFound c seed file false (labels_line file.index (Name (codes "width") ∷ []))
   -- or the label of a wire is neither of the two: the first such wire,
   wrong_label : (wire : ℕ) → slice_get c.input_widths file.index ≡ Some (length file.labels) →
-      IsFirstWrong seed (first_wire_of c file.index) file.labels wire →
+      IsFirstWrong (offset_of seed) (input_label_of seed) (first_wire_of c file.index) file.labels wire →
       IsLabelsFound c seed file false
       (labels_line file.index (Name (codes "wrong") ∷ Number wire ∷ []))
   -- or it is the dealer's for these bits.
