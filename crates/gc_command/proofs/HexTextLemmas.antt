@@ -64,9 +64,9 @@ pub first_eight : (bits : List Bool) (n : ℕ) → n ≡ min (length bits) 8
     → (take n bits ≡ take 8 bits) × (drop n bits ≡ drop 8 bits)
 first_eight bits n is = elim (cases_lt (length bits) 8) [
   | inl short ↦ (
-      take_all n bits (omega arith) ∙ sym (take_all 8 bits (omega arith)),
-      drop_all n bits (omega arith) ∙ sym (drop_all 8 bits (omega arith)),
-    )
+    take_all n bits (omega arith) ∙ sym (take_all 8 bits (omega arith)),
+    drop_all n bits (omega arith) ∙ sym (drop_all 8 bits (omega arith)),
+  )
   | inr long ↦ (
       let all : n ≡ 8 = omega arith in
       (ap (λ m. take m bits) all, ap (λ m. drop m bits) all))
@@ -92,7 +92,7 @@ packed-past bits i past = elim (cases_lt (i / 8) (bytes_for (length bits))) [
       ap (λ n. bit_at n (i % 8) == 1) (packed-at bits (i / 8) there) ∙ ap (λ n. n == 1) none)
   | inr beyond ↦
       ap (λ n. bit_at n (i % 8) == 1)
-          (get_or_past (packed bits) (i / 8) 0 (omega (arith, length-packed bits)))
+      (get_or_past (packed bits) (i / 8) 0 (omega (arith, length-packed bits)))
       ∙ ap (λ n. n == 1) (bit_at-zero (i % 8))
 ]
 

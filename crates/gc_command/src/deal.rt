@@ -44,9 +44,7 @@ pub fn deal<A: Allocator + Copy, F: Files>(
     let circuit = read_circuit(alloc, circuit, files)?;
     let seed = Seed::from_hex(seed)?;
     let bits = read_input_value(alloc, circuit.input_widths(), index, value)?;
-    write_value(
-        alloc, &circuit, &seed, index, &bits, out, source, files,
-    )
+    write_value(alloc, &circuit, &seed, index, &bits, out, source, files)
 }
 
 /// Writes the label file of an input value with these bits, which is not `source`. That there is such a value, and that the bits have its
