@@ -1,6 +1,6 @@
 use Rattle.std.proofs.Common.{Result, Ok, Err}
 use Rattle.std.specs.Prelude.{IfErr}
-use Rattle.gc_cli.proofs.work.carry_out.Goals as goal
+use Rattle.gc_cli.proofs.work.answer_lines.Goals as goal
 
 -- two facts of one fault, joined
 IfErr-both : {T E : Type 0} (r : Result T E) (P Q : E → Type 0) → IfErr r P → IfErr r Q
@@ -19,13 +19,3 @@ returns-in-Deal-clause-fault g c =
     ) at c.deal.ensures.fault)
     (rw (c.as_str-circuit-in-Deal.ensures.value, c.as_str-out.ensures.value)
     at c.deal.ensures.cause))
-
-pub returns-in-Audit-clause-fault : goal.returns-in-Audit-clause-fault
-returns-in-Audit-clause-fault g c =
-    rw c.in-Audit.is
-    (rw (
-      c.as_str-circuit-in-Audit.ensures.value,
-      c.as_str-seed-in-Audit.ensures.value,
-      c.as_str-garbled.ensures.value,
-      c.deref-in-Audit.ensures.value,
-    ) at c.audit.ensures.fault)

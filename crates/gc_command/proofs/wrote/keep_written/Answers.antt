@@ -6,4 +6,4 @@ pub returns-in_err-keep-in-Ok-clause-cause : goal.returns-in_err-keep-in-Ok-clau
 returns-in_err-keep-in-Ok-clause-cause g c =
     let p = err_from_is_err_and c.from_residual.result c.from_residual.ensures.1 in
     rw p.1 (keep-failed (g.F.Files.failures c.args.files.now) _ _ _ _
-    c.in_err-keep.ensures.counted c.in_err-keep.ensures.no_memory)
+    c.in_err-keep-in-Ok.ensures.counted c.in_err-keep-in-Ok.ensures.no_memory)
