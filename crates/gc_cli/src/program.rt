@@ -40,6 +40,7 @@ pub const DISHONEST: u8 = 3;
 /// run. `progress` observes each step of a command, and its end before anything is printed.
 ///
 /// - [`DONE`]: the lines of the order, or the help or the version that was asked for, are on `out`.
+/// - [`DISHONEST`]: the lines of an audit are on `out`, of which the last is `dishonest`.
 /// - [`FAULT`]: the line `halfgates: fault CODE NAME` is on `err`, unless `err` can't be written. Nothing is on `out`,
 ///   and every file is as it was, unless printing on `out` failed, which is the fault 51.
 /// - [`USAGE`]: what clap says of words that are no order is on `err`. So is what it says where memory ran out.
@@ -98,9 +99,9 @@ pub fn serve<R: Threads + Wait + Sync, F: Files, O: Write, E: Write, P: Progress
     }
 }
 
-/// Carries out an order, and prints its answer. It returns whether an audit finds its files honest, and true of any other
-/// order. The lines of `labels` are printed as they are made, so that they need not all be in memory: each fault but that
-/// of `out` comes before the first of them.
+/// Carries out an order, and prints its answer. It returns whether an audit finds its files honest, and `true` of any
+/// other order. The lines of `labels` are printed as they are made, so that they need not all be in memory: each fault
+/// but that of `out` comes before the first of them.
 fn print_answer<R: Threads + Wait + Sync, F: Files, O: Write, P: Progress>(
     rt: &R,
     alloc: Global,

@@ -9,9 +9,7 @@ ghost use Rattle.gc_jobs.specs.Jobs.{AnswersJobs, HasJobsFault, jobs_lines};
 
 use crate::listed_job::read_listed_jobs;
 use gc_bank::evaluate_jobs;
-use gc_command::{
-    Fault, Progress, ValueForm, Work, push_output_lines, read_circuit_and_digest,
-};
+use gc_command::{Fault, Progress, ValueForm, Work, push_output_lines, read_circuit_and_digest};
 use gc_eval::{EvalFault, Job};
 use gc_files::Files;
 use gc_gatehouse::Open;
