@@ -140,11 +140,11 @@ abbrev pub end_line : Bool → List ℕ
 end_line true = line (Name (codes "honest") ∷ [])
 end_line false = line (Name (codes "dishonest") ∷ [])
 
--- What is found of a garbled file and label files by the circuit and the seed, in lines. The last one says `honest`
--- exactly where the garbled file is, byte for byte, that of the circuit's garbling under the seed, and each label file
--- is the dealer's.
+-- What is found of a garbled file and label files by the circuit and the seed: whether they are honest, and lines. They
+-- are honest, and the last line says so, exactly where the garbled file is, byte for byte, that of the circuit's
+-- garbling under the seed, and each label file is the dealer's.
 pub record AreAuditLines (c : Netlist) (seed : List ℕ) (g : GarbledParts)
-    (files : List LabelFileParts) (lines : List ℕ) : Type 0 where
+    (files : List LabelFileParts) (honest : Bool) (lines : List ℕ) : Type 0 where
   pub garbling : GarblingParts
   pub garbled : IsGarbled c seed garbling
   pub found : GarbledAudit
@@ -152,14 +152,13 @@ pub record AreAuditLines (c : Netlist) (seed : List ℕ) (g : GarbledParts)
   pub all_dealt : Bool
   pub labels_lines : List ℕ
   pub labels_found : AreLabelsFound c seed files all_dealt labels_lines
-  pub honest : Bool
   pub is_honest : IsTrue honest
       ↔ (g ≡ honest_parts g.version c garbling seed) × IsTrue all_dealt
   pub printed : lines ≡ garbled_lines g.version found ++ labels_lines ++ end_line honest
 
 -- What `audit` answers, whatever the number of workers.
 pub record AnswersAudit (bytes : FileBytes) (circuit seed_text garbled : List ℕ) (workers : ℕ)
-    (labels : List (List ℕ)) (lines : List ℕ) : Type 0 where
+    (labels : List (List ℕ)) (honest : Bool) (lines : List ℕ) : Type 0 where
   pub c : Netlist
   pub g : GarbledParts
   pub files : List LabelFileParts
@@ -167,7 +166,7 @@ pub record AnswersAudit (bytes : FileBytes) (circuit seed_text garbled : List �
   pub seed : List ℕ
   pub seed_read : IsSeed seed_text seed
   pub few : AreFew workers
-  pub printed : AreAuditLines c seed g files lines
+  pub printed : AreAuditLines c seed g files honest lines
 
 -- When `audit` has which fault: it is the first in the order of the work (the circuit, the seed, the garbled file, the
 -- label files in turn, the number of workers, garbling), but that memory may run out at each step. A file that can't be
