@@ -93,6 +93,9 @@ class FromC(LibraryTest):
     def test_bad_arguments(self):
         self.run_built(SOURCES / "arguments.c")
 
+    def test_labels(self):
+        self.run_built(SOURCES / "labels.c")
+
     def test_null_with_a_size(self):
         self.run_built(SOURCES / "null.c")
 
