@@ -7,8 +7,12 @@
 //! ([`evaluate_one_thread`]) follows one label of each wire, the active one, through the gates: [`eval_and`] is
 //! its step at an AND gate.
 //!
-//! [`law_half_gates`] says that evaluation decodes to the output bits, and [`law_garblings`] that each circuit
-//! has one garbling under a seed.
+//! [`garble_from`] garbles from an offset and zero labels of the caller's, its AND gates numbered from any
+//! [`FirstAnd`] on, and [`evaluate_labels`] returns the active labels of the output wires: so labels that come out of
+//! one circuit can go into the next.
+//!
+//! [`law_half_gates`] says that evaluation decodes to the output bits, [`law_garblings`] that each circuit has one
+//! garbling under a seed, and [`law_joined`] what labels that go from circuit to circuit stand for.
 #![tactic(auto)]
 
 mod active_labels;

@@ -39,8 +39,9 @@ pub(crate) fn decoding<A: Allocator, B: Allocator + Copy, C: Allocator>(
     Ok(decoded(alloc, garbled.decode_bits(), labels)?)
 }
 
-/// The bits that these labels decode to: each is the decode bit xor the colour of the label.
-fn decoded<A: Allocator + Copy>(
+/// The bits that these labels decode to: each is the decode bit xor the colour of the label. That there is a decode bit
+/// for each label is the caller's condition.
+pub fn decoded<A: Allocator + Copy>(
     alloc: A,
     decode_bits: &[bool],
     labels: &[Label],

@@ -9,7 +9,7 @@ ghost use Rattle.gc_format.specs.Counted.{CountsFailure};
 ghost use Rattle.gc_format.specs.DecodeBits.{packed};
 ghost use Rattle.gc_format.specs.GarbledFile.{row_bytes, entry_bytes, garbled_file, parts_of};
 ghost use Rattle.gc_write.specs.Writing.{Proceeds};
-ghost use Rattle.gc_write.specs.Written.{IsWritten, entry_pairs_from, entry_pairs_of, front, IsSmall, parts_one, parts_two};
+ghost use Rattle.gc_write.specs.Written.{IsWritten, entry_pairs_from, entry_pairs_of, front, IsSmall, parts_one, parts_two, parts_two_with};
 
 use crate::spell::{decode_byte, header, pair_bytes};
 use crate::writer::{FileWriter, WriteFault};
@@ -248,8 +248,26 @@ pub fn write_garbled2_by_digest<S: Sink, A: Allocator, B: Allocator>(
         result (S.taken sink.old) (S.taken sink.new) }
     ensures counted { CountsFailure result (S.failures sink.old) (S.failures sink.new) }
 {
+    write_garbled2_with_offset(sink, circuit, digest, garbling, offset(seed))
+}
+
+/// Writes the garbled file of version 2, as [`write_garbled2_by_digest`] does, where the caller has the offset of the
+/// garbling. Its AND gates are numbered from 0 on: this is not checked.
+pub fn write_garbled2_with_offset<S: Sink, A: Allocator, B: Allocator>(
+    sink: &mut S,
+    circuit: &Circuit<A>,
+    digest: &[u8; 32],
+    garbling: &Garbling<B>,
+    offset: Offset,
+) -> Result<u64, WriteFault>
+    requires digest { digest.now ≡ sha256 (canonical_text circuit.now) }
+    requires fits { FitsCircuit circuit.now garbling.now }
+    ensures file { IsWritten (garbled_file (parts_two_with circuit.now garbling.now offset))
+        result (S.taken sink.old) (S.taken sink.new) }
+    ensures counted { CountsFailure result (S.failures sink.old) (S.failures sink.new) }
+{
     let mut file = FileWriter::new(Sha256::new());
     file.write_front(sink, Version::Two, circuit, digest, garbling)?;
-    file.write_entries(sink, circuit, garbling, offset(seed))?;
+    file.write_entries(sink, circuit, garbling, offset)?;
     file.end_with_digest(sink)
 }
