@@ -1,7 +1,7 @@
 /* Each call with each bad argument: it is refused by its code, and writes nothing. null.c has NULLs with a size. */
 #include "check.h"
 
-enum { BAD = HALFGATES_BAD_ARGUMENT, SMALL = HALFGATES_SMALL_BUFFER };
+enum { BAD = HALFGATES_BAD_ARGUMENT };
 
 static const uint8_t SEED[32];
 static const uint8_t BITS[3] = {1, 0, 1};
@@ -38,16 +38,16 @@ static void circuits(halfgates_circuit *circuit) {
     CHECK_CODE(BAD, halfgates_circuit_digest(NULL, room));
     CHECK_CODE(BAD, halfgates_circuit_digest(circuit, NULL));
     CHECK_CODE(BAD, halfgates_circuit_input_widths(NULL, widths, 3));
-    CHECK_CODE(SMALL, halfgates_circuit_input_widths(circuit, widths, 2));
-    CHECK_CODE(SMALL, halfgates_circuit_input_widths(circuit, NULL, 0));
+    memset(widths, 0xA5, sizeof widths);
+    CHECK_CODE(HALFGATES_SMALL_BUFFER, halfgates_circuit_input_widths(circuit, widths, 2));
+    CHECK_CODE(HALFGATES_SMALL_BUFFER, halfgates_circuit_input_widths(circuit, NULL, 0));
     CHECK_CODE(BAD, halfgates_circuit_output_widths(NULL, widths, 1));
-    CHECK_CODE(SMALL, halfgates_circuit_output_widths(circuit, widths, 0));
-    widths[3] = 7;
+    CHECK_CODE(HALFGATES_SMALL_BUFFER, halfgates_circuit_output_widths(circuit, widths, 0));
+    CHECK(widths[0] == 0xA5A5A5A5);
     CHECK_CODE(HALFGATES_OK, halfgates_circuit_input_widths(circuit, widths, 4));
-    CHECK(widths[0] == 1 && widths[2] == 1 && widths[3] == 7);
-    CHECK_CODE(BAD, halfgates_circuit_share(NULL, &made));
-    CHECK_CODE(BAD, halfgates_circuit_share(circuit, NULL));
-    CHECK(made == NULL);
+    CHECK(widths[0] == 1 && widths[2] == 1 && widths[3] == 0xA5A5A5A5);
+    CHECK_CODE(HALFGATES_OK, halfgates_circuit_output_widths(circuit, widths, 2));
+    CHECK(widths[0] == 2 && widths[1] == 1);
     CHECK(halfgates_garbled_size(NULL, 2) == 0);
     CHECK(halfgates_garbled_size(circuit, 0) == 0);
     CHECK(halfgates_garbled_size(circuit, 3) == 0);
@@ -58,9 +58,9 @@ static void circuits(halfgates_circuit *circuit) {
 static void plain(halfgates_circuit *circuit) {
     const uint8_t digits[3] = {1, 2, 1};
     CHECK_CODE(BAD, halfgates_plain(NULL, BITS, 3, room, 2));
-    CHECK_CODE(SMALL, halfgates_plain(circuit, BITS, 3, room, 1));
-    CHECK_CODE(SMALL, halfgates_plain(circuit, BITS, 3, NULL, 0));
-    CHECK_CODE(SMALL, halfgates_plain(circuit, BITS, 2, room, 1));
+    CHECK_CODE(HALFGATES_SMALL_BUFFER, halfgates_plain(circuit, BITS, 3, room, 1));
+    CHECK_CODE(HALFGATES_SMALL_BUFFER, halfgates_plain(circuit, BITS, 3, NULL, 0));
+    CHECK_CODE(HALFGATES_SMALL_BUFFER, halfgates_plain(circuit, digits, 2, room, 1));
     CHECK_CODE(HALFGATES_WRONG_LENGTH, halfgates_plain(circuit, BITS, 2, room, 2));
     CHECK_CODE(HALFGATES_WRONG_LENGTH, halfgates_plain(circuit, NULL, 0, room, 2));
     CHECK_CODE(HALFGATES_BAD_DIGIT, halfgates_plain(circuit, digits, 3, room, 2));
@@ -142,11 +142,8 @@ static void jobs(halfgates_circuit *circuit, halfgates_job *job) {
     CHECK_CODE(HALFGATES_MISSING_VALUE, halfgates_job_bind(circuit, garbled, 177, NULL, 0, NULL, 0, &made));
     CHECK(made == NULL);
     CHECK_CODE(BAD, halfgates_evaluate(NULL, room, 2));
-    CHECK_CODE(SMALL, halfgates_evaluate(job, room, 1));
-    CHECK_CODE(SMALL, halfgates_evaluate(job, NULL, 0));
-    CHECK_CODE(BAD, halfgates_job_output_labels(NULL, room, 32));
-    CHECK_CODE(SMALL, halfgates_job_output_labels(job, room, 31));
-    CHECK_CODE(SMALL, halfgates_job_output_labels(job, NULL, 0));
+    CHECK_CODE(HALFGATES_SMALL_BUFFER, halfgates_evaluate(job, room, 1));
+    CHECK_CODE(HALFGATES_SMALL_BUFFER, halfgates_evaluate(job, NULL, 0));
     check_untouched();
 }
 
@@ -161,103 +158,6 @@ static void audits(halfgates_garbling *garbling) {
     CHECK_CODE(HALFGATES_FILE_TRUNCATED, halfgates_audit_labels(garbling, NULL, 0, room, 1, &labels_report));
     CHECK_CODE(HALFGATES_SMALL_BUFFER, halfgates_audit_labels(garbling, labels, 32, NULL, 0, &labels_report));
     CHECK(labels_report.count == 1);
-    check_untouched();
-}
-
-static void from_labels(halfgates_circuit *circuit) {
-    const uint64_t most = (UINT64_C(1) << 62) - 1;
-    uint8_t offset[16] = {1};
-    halfgates_garbling *made = NULL;
-    CHECK_CODE(BAD, halfgates_garble_from(NULL, offset, labels, 48, 0, &made));
-    CHECK_CODE(BAD, halfgates_garble_from(circuit, NULL, labels, 48, 0, &made));
-    CHECK_CODE(BAD, halfgates_garble_from(circuit, offset, labels, 48, 0, NULL));
-    CHECK_CODE(BAD, halfgates_garble_from(circuit, offset, labels, 47, 0, &made));
-    CHECK_CODE(BAD, halfgates_garble_from(circuit, offset, labels, 49, 0, &made));
-    CHECK_CODE(BAD, halfgates_garble_from(circuit, offset, NULL, 0, 0, &made));
-    CHECK_CODE(BAD, halfgates_garble_from(circuit, offset, labels, 48, most + 1, &made));
-    CHECK_CODE(BAD, halfgates_garble_from(circuit, offset, labels, 48, UINT64_MAX, &made));
-    offset[0] = 2;
-    CHECK_CODE(BAD, halfgates_garble_from(circuit, offset, labels, 48, 0, &made));
-    CHECK(made == NULL);
-    offset[0] = 1;
-    CHECK_CODE(HALFGATES_OK, halfgates_garble_from(circuit, offset, labels, 48, most, &made));
-    halfgates_garbling_free(made);
-
-    CHECK_CODE(BAD, halfgates_evaluate_labels(NULL, garbled, 32, 0, labels, 48, room, 32));
-    CHECK_CODE(BAD, halfgates_evaluate_labels(circuit, garbled, 31, 0, labels, 48, room, 32));
-    CHECK_CODE(BAD, halfgates_evaluate_labels(circuit, NULL, 0, 0, labels, 48, room, 32));
-    CHECK_CODE(BAD, halfgates_evaluate_labels(circuit, garbled, 64, 0, labels, 48, room, 32));
-    CHECK_CODE(BAD, halfgates_evaluate_labels(circuit, garbled, 32, most + 1, labels, 48, room, 32));
-    CHECK_CODE(BAD, halfgates_evaluate_labels(circuit, garbled, 32, 0, labels, 32, room, 32));
-    CHECK_CODE(BAD, halfgates_evaluate_labels(circuit, garbled, 32, 0, labels, 64, room, 31));
-    CHECK_CODE(SMALL, halfgates_evaluate_labels(circuit, garbled, 32, 0, labels, 48, room, 31));
-    CHECK_CODE(SMALL, halfgates_evaluate_labels(circuit, garbled, 32, 0, labels, 48, NULL, 0));
-    check_untouched();
-
-    const uint8_t digits[2] = {0, 2};
-    CHECK_CODE(BAD, halfgates_decode(labels, 31, BITS, 2, room, 2));
-    CHECK_CODE(BAD, halfgates_decode(labels, 48, BITS, 2, room, 2));
-    CHECK_CODE(BAD, halfgates_decode(NULL, 0, BITS, 2, room, 2));
-    CHECK_CODE(BAD, halfgates_decode(labels, 16, NULL, 0, room, 2));
-    CHECK_CODE(SMALL, halfgates_decode(labels, 32, digits, 2, room, 1));
-    CHECK_CODE(HALFGATES_BAD_DIGIT, halfgates_decode(labels, 32, digits, 2, room, 2));
-    CHECK_CODE(HALFGATES_OK, halfgates_decode(NULL, 0, NULL, 0, NULL, 0));
-    check_untouched();
-
-    CHECK_CODE(BAD, halfgates_label_file(NULL, 0, labels, 16, room, sizeof room, &written));
-    CHECK_CODE(BAD, halfgates_label_file(circuit, 0, labels, 16, room, sizeof room, NULL));
-    CHECK_CODE(BAD, halfgates_label_file(circuit, 0, labels, 15, room, sizeof room, &written));
-    CHECK_CODE(BAD, halfgates_label_file(circuit, 0, labels, 32, room, 0, &written));
-    CHECK_CODE(HALFGATES_NO_SUCH_VALUE, halfgates_label_file(circuit, 3, labels, 15, room, sizeof room, &written));
-    check_untouched();
-    CHECK_CODE(SMALL, halfgates_label_file(circuit, 0, labels, 16, room, 31, &written));
-    CHECK(written == 32);
-    written = 7;
-    check_untouched();
-}
-
-static void values(halfgates_garbling *garbling) {
-    const uint8_t digit = 2;
-    CHECK_CODE(BAD, halfgates_offset(NULL, room));
-    CHECK_CODE(BAD, halfgates_offset(garbling, NULL));
-    CHECK_CODE(BAD, halfgates_input_labels(NULL, 0, room, room + 16, 16));
-    CHECK_CODE(HALFGATES_NO_SUCH_VALUE, halfgates_input_labels(garbling, 3, room, room + 16, 0));
-    CHECK_CODE(HALFGATES_NO_SUCH_VALUE, halfgates_input_labels(garbling, UINT32_MAX, room, room + 16, 16));
-    CHECK_CODE(SMALL, halfgates_input_labels(garbling, 2, room, room + 16, 15));
-    CHECK_CODE(BAD, halfgates_output_labels(NULL, 0, room, room + 32, 32));
-    CHECK_CODE(HALFGATES_NO_SUCH_VALUE, halfgates_output_labels(garbling, 1, room, room + 32, 32));
-    CHECK_CODE(SMALL, halfgates_output_labels(garbling, 0, room, room + 32, 31));
-    CHECK_CODE(SMALL, halfgates_output_labels(garbling, 0, NULL, NULL, 0));
-    CHECK_CODE(BAD, halfgates_rows(NULL, room, 32));
-    CHECK_CODE(SMALL, halfgates_rows(garbling, room, 31));
-    CHECK_CODE(SMALL, halfgates_rows(garbling, NULL, 0));
-    CHECK_CODE(BAD, halfgates_decode_bits(NULL, room, 2));
-    CHECK_CODE(SMALL, halfgates_decode_bits(garbling, room, 1));
-    CHECK_CODE(BAD, halfgates_garbling_deal(NULL, 0, BITS, 1, room, sizeof room, &written));
-    CHECK_CODE(BAD, halfgates_garbling_deal(garbling, 0, BITS, 1, room, sizeof room, NULL));
-    CHECK_CODE(HALFGATES_NO_SUCH_VALUE, halfgates_garbling_deal(garbling, 3, BITS, 1, room, sizeof room, &written));
-    CHECK_CODE(HALFGATES_WRONG_LENGTH, halfgates_garbling_deal(garbling, 0, BITS, 2, room, sizeof room, &written));
-    CHECK_CODE(HALFGATES_BAD_DIGIT, halfgates_garbling_deal(garbling, 0, &digit, 1, room, 0, &written));
-    check_untouched();
-    CHECK_CODE(SMALL, halfgates_garbling_deal(garbling, 0, BITS, 1, room, 31, &written));
-    CHECK(written == 32);
-    written = 7;
-    check_untouched();
-}
-
-/* A garbling whose first AND number isn't 0 has no files, and none is compared with it. */
-static void no_files(halfgates_circuit *circuit) {
-    const uint8_t offset[16] = {1};
-    halfgates_garbling *garbling = NULL;
-    halfgates_audit_report report;
-    halfgates_labels_report labels_report;
-    CHECK_CODE(HALFGATES_OK, halfgates_garble_from(circuit, offset, labels, 48, 1, &garbling));
-    CHECK_CODE(BAD, halfgates_garbling_write(garbling, 1, room, sizeof room, &written));
-    CHECK_CODE(BAD, halfgates_garbling_write(garbling, 2, room, 0, &written));
-    CHECK_CODE(BAD, halfgates_audit(garbling, garbled, 177, &report));
-    CHECK_CODE(BAD, halfgates_audit(garbling, garbled, 176, &report));
-    CHECK_CODE(BAD, halfgates_audit_labels(garbling, labels, 32, room, 1, &labels_report));
-    halfgates_garbling_free(garbling);
     check_untouched();
 }
 
@@ -287,9 +187,6 @@ static void names(void) {
     CHECK(strcmp(halfgates_fault_name(-1).text, "Unknown") == 0);
     CHECK(strcmp(halfgates_fault_name(INT32_MIN).text, "Unknown") == 0);
     CHECK(strcmp(halfgates_fault_name(INT32_MAX).text, "Unknown") == 0);
-    for (int32_t code = -1; code < 70; code++)
-        CHECK(halfgates_is_memory(code) == (strcmp(halfgates_fault_name(code).text, "Memory") == 0));
-    CHECK(halfgates_is_memory(HALFGATES_JOB_MEMORY) == 1 && halfgates_is_memory(HALFGATES_WRONG_LABEL) == 0);
 }
 
 int main(void) {
@@ -314,9 +211,6 @@ int main(void) {
     wire_labels(garbling);
     jobs(circuit, job);
     audits(garbling);
-    from_labels(circuit);
-    values(garbling);
-    no_files(circuit);
     places_of_handles();
     names();
 
