@@ -8,7 +8,8 @@
  *
  * Handles are moved and not copied, and are freed when their scope ends. A call that fails throws a `fault`, and where
  * memory for a result runs out std::bad_alloc. Methods that use a handle aren't const, since one handle is used by one
- * call at a time; `circuit::share` gives each thread its own. The numbers, widths and digest of a circuit are read once.
+ * call at a time; `circuit::share` gives each thread its own. The numbers, widths and digest of a circuit are read
+ * once.
  *
  * What a call reads is a container of bytes or labels, such as a vector, a string, an array or a span, a `view`, or a
  * list such as {0, 1}. It is read where it is.
@@ -77,8 +78,8 @@ inline void check(std::int32_t code) {
 namespace detail {
 
 template <class T>
-struct is_item : std::integral_constant<bool, sizeof(T) == 1 && (std::is_integral<T>::value || std::is_enum<T>::value)> {
-};
+struct is_item
+    : std::integral_constant<bool, sizeof(T) == 1 && (std::is_integral<T>::value || std::is_enum<T>::value)> {};
 
 template <>
 struct is_item<label> : std::true_type {};

@@ -93,6 +93,9 @@ class FromC(LibraryTest):
     def test_bad_arguments(self):
         self.run_built(SOURCES / "arguments.c")
 
+    def test_labels(self):
+        self.run_built(SOURCES / "labels.c")
+
     def test_null_with_a_size(self):
         self.run_built(SOURCES / "null.c")
 
@@ -282,8 +285,8 @@ OF_FORGED_FILES = """6 9
 
 
 def forged_files(text, seed):
-    """Garbled files of both versions, each with one bit flipped, and sealed again: of the digest, and of each half gate,
-    each decode bit and each decode entry."""
+    """Garbled files of both versions, each with one bit flipped, and sealed again: of the digest, and of each half
+    gate, each decode bit and each decode entry."""
     circuit = bristol.read_circuit(text)
     garbling, files = reference.garble(circuit, seed), []
     rows, outputs = 2 * len(garbling.rows), len(bristol.output_wires(circuit))

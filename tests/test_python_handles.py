@@ -10,7 +10,9 @@ import subprocess
 import sys
 import textwrap
 import threading
+import time
 import unittest
+import weakref
 from unittest import mock
 
 from inputs import many_ands
@@ -210,6 +212,26 @@ class Threads(unittest.TestCase):
             expected = {it: circuit.garble(bytes([it]) * 32).zero_label(2 * WIDTH) for it in range(24)}
         self.assertEqual(found, expected)
 
+    def test_calls_never_overlap(self):
+        """Several calls at once on one handle are undefined, whatever a library makes of them."""
+        at_work, most = [], []
+
+        def slow(real, *words):
+            at_work.append(words)
+            most.append(len(at_work))
+            time.sleep(0.01)
+            at_work.pop()
+            return real(*words)
+
+        with full_adder() as circuit, patched("garble", slow), patched("plain", slow):
+            calls = [lambda: circuit.garble(SEED), lambda: circuit.plain([1, 0, 1])] * 3
+            threads = [threading.Thread(target=call) for call in calls]
+            for thread in threads:
+                thread.start()
+            for thread in threads:
+                thread.join()
+        self.assertEqual(most, [1] * 6)
+
     def test_one_garbling_on_several_threads(self):
         found = []
         with Circuit.read(LARGE) as circuit, circuit.garble(SEED) as garbling:
@@ -230,13 +252,16 @@ class Threads(unittest.TestCase):
             return real(*words)
 
         circuit, found = full_adder(), []
+        owner = weakref.ref(circuit._at)
         with patched("garble", slow):
             thread = threading.Thread(target=lambda: found.append(circuit.garble(SEED).write()))
             thread.start()
             begun.wait(10)
             circuit.close()
+            self.assertIsNotNone(owner())
             closed.set()
             thread.join()
+        self.assertIsNone(owner())
         with full_adder() as other:
             self.assertEqual(found, [other.garble(SEED).write()])
         with self.assertRaisesRegex(ValueError, "is closed$"):

@@ -127,7 +127,7 @@ class Vectors(LabelsTest):
             circuit = bristol.read_circuit(text.encode())
             chain = cases.Chain(name, 0, (text, []))
             first = draw.choice((0, 1, 2**32, LIMIT - bristol.and_count(circuit)))
-            zeros = chain.labels(len(bristol.input_wires(circuit)))
+            zeros = chain.labels(bristol.input_wires(circuit))
             expected = reference.garble_from(circuit, chain.offset, zeros, first)
             values = draw_values(draw, circuit)[0]
             active = [reference.encode(expected, wire, bit) for wire, bit in enumerate(sum(values, []))]

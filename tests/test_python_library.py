@@ -406,6 +406,12 @@ class Buffers(LibraryTest):
         with Circuit.read(text) as circuit:
             text.clear()  # A BufferError where somebody has the bytes.
             self.assertEqual(circuit.plain([1, 1, 1]), b"\1\1")
+            bits = bytearray([1, 1, 2])
+            try:
+                circuit.plain(bits)
+            except Fault:
+                bits.clear()  # while the exception still has the frames of the call
+            self.assertEqual(bits, b"")
 
 
 class Conveniences(LibraryTest):
@@ -482,7 +488,7 @@ garbled = bytes(garbling.write())
 labels = [bytes(circuit.deal(bytes(32), index, [1])) for index in range(3)]
 job = circuit.bind(garbled, labels)
 bits, labels, sizes = bytes([1, 1, 1]), b"".join(labels), (c_size_t * 3)(32, 32, 32)
-room, written, handle = create_string_buffer(512), c_size_t(), c_void_p()
+offset, room, written, handle = bytes([1] * 16), create_string_buffer(512), c_size_t(), c_void_p()
 wires, place = (_library.WireLabels * 8)(), _library.Place()
 report, labels_report = _library.AuditReport(), _library.LabelsReport()
 null = None, 1
@@ -502,6 +508,24 @@ for name, *words in [
     ("job_bind", circuit, garbled, 177, *null, sizes, 3, byref(handle)),
     ("job_bind", circuit, garbled, 177, labels, 96, *null, byref(handle)),
     ("evaluate", job, *null),
+    ("garble_from", circuit, offset, *null, 0, byref(handle)),
+    ("garbling_deal", garbling, 0, *null, room, 32, byref(written)),
+    ("garbling_deal", garbling, 0, bits, 1, *null, byref(written)),
+    ("label_file", circuit, 0, *null, room, 32, byref(written)),
+    ("label_file", circuit, 0, bits, 1, *null, byref(written)),
+    ("input_labels", garbling, 0, None, room, 16),
+    ("input_labels", garbling, 0, room, *null),
+    ("output_labels", garbling, 0, None, room, 32),
+    ("output_labels", garbling, 0, room, *null),
+    ("rows", garbling, *null),
+    ("decode_bits", garbling, *null),
+    ("evaluate_labels", circuit, *null, 0, labels, 48, room, 32),
+    ("evaluate_labels", circuit, room, 32, 0, *null, room, 32),
+    ("evaluate_labels", circuit, room, 32, 0, labels, 48, *null),
+    ("job_output_labels", job, *null),
+    ("decode", *null, bits, 1, room, 1),
+    ("decode", room, 16, *null, room, 1),
+    ("decode", room, 16, bits, 1, *null),
     ("audit", garbling, *null, report),
     ("audit_labels", garbling, *null, room, 1, labels_report),
     ("audit_labels", garbling, labels, 32, *null, labels_report),

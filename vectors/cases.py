@@ -158,11 +158,11 @@ class Chain:
     def label(self):
         return bytes(0 if self.is_zero else self.draws.below(256) for _ in range(16))
 
-    def labels(self, count):
-        return [self.label() for _ in range(count)]
+    def labels(self, wires):
+        return [self.label() for _ in wires]
 
-    def bits(self, count):
-        return [self.draws.below(2) for _ in range(count)]
+    def bits(self, wires):
+        return [self.draws.below(2) for _ in wires]
 
 
 TEXTS = {case.name: case.text for case in CASES}
@@ -180,7 +180,8 @@ CHAINS = [
     Chain("outputs in another order, twice and not at all", 0,
           (TEXTS["two_outputs"], [None] * 3), (FULL_ADDER, [2, 0, 2])),
     Chain("outputs that are constants and ANDs of them", 2**33,
-          (TEXTS["constants"], [None] * 2), (TEXTS["nine_outputs"], [3, 2, 1, 0, None, 3, 2, 1, 0])),
+          (TEXTS["constants"], [None] * 2),
+          (TEXTS["nine_outputs"], [3, 2, 1, 0, None, 3, 2, 1, 0])),
     Chain("an output that is an input wire", 9,
           (TEXTS["output_is_input"], [None] * 2), (TEXTS["and"], [0, 1])),
     Chain("a circuit without input wires", 1,

@@ -376,26 +376,6 @@ def texts_of(labels):
     return [label.hex() for label in labels]
 
 
-def link(circuit, garbling, first, inputs, bits):
-    """What a JSON file has of a garbling from labels, and of its evaluation on these bits."""
-    zeros = [garbling.zero[wire] for wire in input_wires(circuit)]
-    out = [garbling.zero[wire] for wire in output_wires(circuit)]
-    labels = evaluate_labels(circuit, garbling.rows, inputs, first)
-    assert decode(labels, decode_bits(circuit, garbling)) == plain_eval(circuit, split(bits, circuit.input_widths))
-    return {
-        "first": str(first),
-        "input_zero_labels": texts_of(zeros),
-        "rows": ["".join(texts_of(pair)) for pair in garbling.rows],
-        "decode_bits": "".join(map(str, decode_bits(circuit, garbling))),
-        "output_zero_labels": texts_of(out),
-        "output_one_labels": texts_of(xor(label, garbling.offset) for label in out),
-        "bits": "".join(map(str, bits)),
-        "active_input_labels": texts_of(inputs),
-        "active_output_labels": texts_of(labels),
-        "outputs": "".join(map(str, decode(labels, decode_bits(circuit, garbling)))),
-    }
-
-
 def split(items, widths):
     """The items in lists of these lengths."""
     items = iter(items)
@@ -403,34 +383,43 @@ def split(items, widths):
 
 
 def chain(case):
-    """Garblings under one offset, where input wires take over what outputs of the circuit before have.
+    """Garblings under one offset, where input wires take over outputs of the circuit before.
 
     The AND gates of each circuit have the numbers after those of the circuit before.
     """
-    links, first, before = [], case.first, None
+    links, first = [], case.first
+    out_zeros, out_bits, out_actives = [], [], []  # of the circuit before
     for text, joint in zip(case.texts, case.joints):
-        circuit = read_circuit(text.encode())
-        own_labels, own_bits = case.labels(len(joint)), case.bits(len(joint))
-        zeros = taken(joint, own_labels, before and before.zeros)
-        bits = taken(joint, own_bits, before and before.bits)
-        actives = taken(joint, [xor(label, times(bit, case.offset)) for label, bit in zip(own_labels, own_bits)],
-                        before and before.actives)
+        circuit, own, own_bits = read_circuit(text.encode()), case.labels(joint), case.bits(joint)
+        own_actives = [xor(it, times(bit, case.offset)) for it, bit in zip(own, own_bits)]
+        zeros = taken(joint, own, out_zeros)
+        bits = taken(joint, own_bits, out_bits)
+        actives = taken(joint, own_actives, out_actives)
         garbling = garble_from(circuit, case.offset, zeros, first)
-        made = link(circuit, garbling, first, actives, bits)
-        links.append({"circuit": text.split("\n"), "joint": joint, **made})
-        before = Before([garbling.zero[wire] for wire in output_wires(circuit)],
-                        [int(bit) for bit in made["outputs"]],
-                        evaluate_labels(circuit, garbling.rows, actives, first))
+        out_zeros = [garbling.zero[wire] for wire in output_wires(circuit)]
+        out_actives = evaluate_labels(circuit, garbling.rows, actives, first)
+        out_bits = decode(out_actives, decode_bits(circuit, garbling))
+        assert out_bits == plain_eval(circuit, split(bits, circuit.input_widths))
+        links.append({
+            "circuit": text.split("\n"),
+            "joint": joint,
+            "first": str(first),
+            "input_zero_labels": texts_of(zeros),
+            "rows": ["".join(texts_of(pair)) for pair in garbling.rows],
+            "decode_bits": "".join(map(str, decode_bits(circuit, garbling))),
+            "output_zero_labels": texts_of(out_zeros),
+            "output_one_labels": texts_of(xor(it, case.offset) for it in out_zeros),
+            "bits": "".join(map(str, bits)),
+            "active_input_labels": texts_of(actives),
+            "active_output_labels": texts_of(out_actives),
+            "outputs": "".join(map(str, out_bits)),
+        })
         first += and_count(circuit)
     return {"about": case.about, "offset": case.offset.hex(), "links": links}
 
 
-# What the output wires of a circuit hand on: zero labels, bits and active labels.
-Before = namedtuple("Before", "zeros bits actives")
-
-
 def taken(joint, own, before):
-    """What each input wire has: its own, or what the output of the circuit before has that the joint names."""
+    """What each input wire has: its own, or what the output has that the joint names."""
     return [mine if output is None else before[output] for output, mine in zip(joint, own)]
 
 

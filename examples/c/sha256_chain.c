@@ -1,6 +1,6 @@
 /*
- * SHA-256 of a message of any length, by the circuit of its compression: a garbled circuit for each block, all under one
- * offset. The labels of the state that one block gives are the labels that the next block takes.
+ * SHA-256 of a message of any length, by the circuit of its compression: a garbled circuit for each block, all under
+ * one offset. The labels of the state that one block gives are the labels that the next block takes.
  *
  *   sha256_chain CIRCUIT MESSAGE
  *
@@ -31,7 +31,7 @@ struct message {
 
 struct garbler {
     halfgates_circuit *circuit;
-    uint64_t first;                       /* the number of the next AND gate */
+    uint64_t first; /* the number of the next AND gate */
     uint8_t offset[LABEL];
     uint8_t zeros[(BLOCK + STATE) * LABEL]; /* the zero labels of a block, then those of the state */
 };

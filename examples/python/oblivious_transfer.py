@@ -1,9 +1,9 @@
-"""An oblivious transfer of labels by Diffie-Hellman: of each pair the receiver gets the label that it chooses and learns
-nothing of the other, and the sender doesn't learn which one that was.
+"""An oblivious transfer of labels by Diffie-Hellman: of each pair the receiver gets the label that it chooses and
+learns nothing of the other, and the sender doesn't learn which one that was.
 
 It is the protocol of Chou and Orlandi ("The Simplest Protocol for Oblivious Transfer", 2015) for parties that keep to
-it, in the group of 2048 bits of RFC 3526. Nothing here is proved, and the time that Python's arithmetic takes depends on
-the secret numbers.
+it, in the group of 2048 bits of RFC 3526. Nothing here is proved, and the time that Python's arithmetic takes depends
+on the secret numbers.
 """
 
 import secrets

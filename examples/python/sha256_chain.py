@@ -1,11 +1,11 @@
 #!/usr/bin/env python3
-"""SHA-256 of a message of any length, by the circuit of its compression: a garbled circuit for each block, all under one
-offset. The labels of the state that one block gives are the labels that the next block takes.
+"""SHA-256 of a message of any length, by the circuit of its compression: a garbled circuit for each block, all under
+one offset. The labels of the state that one block gives are the labels that the next block takes.
 
   sha256_chain.py CIRCUIT MESSAGE
 
-CIRCUIT is the file that `examples/make_circuits.py sha256 CIRCUIT` writes. MESSAGE is hashed as UTF-8, and its digest is
-printed. Both parties are in this one program.
+CIRCUIT is the file that `examples/make_circuits.py sha256 CIRCUIT` writes. MESSAGE is hashed as UTF-8, and its digest
+is printed. Both parties are in this one program.
 """
 
 import secrets
@@ -53,8 +53,8 @@ class Garbler:
         return garbling
 
     def messages(self, message):
-        """For each block what goes to the evaluator: rows, the labels of the block, and those of the initial state before
-        the first block. Decode bits go along with the last block alone: the states between stay secret."""
+        """For each block what goes to the evaluator: rows, the labels of the block, and those of the initial state
+        before the first block. Decode bits go along with the last block alone: the states between stay secret."""
         blocks = padded(message)
         for at in range(0, len(blocks), 64):
             with self.garble(blocks[at : at + 64]) as garbling:

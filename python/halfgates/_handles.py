@@ -323,7 +323,8 @@ class Job(Handle):
 def decode(labels: Buffer, decode_bits: Bits) -> bytearray:
     """The bits of active output labels, 16 bytes each, by the decode bits of their wires.
 
-    Faults: 15 where a decode bit is neither 0 nor 1, 60 where there is another number of labels than of bits.
+    Any label decodes: that it is one of its wire's two isn't checked. Faults: 13, 46, 15 where a decode bit is neither
+    0 nor 1, 60 where there is another number of labels than of bits.
     """
     with Lent(labels) as lent, _lent_bits(decode_bits) as decoding:
         bits = bytearray(decoding.size)

@@ -25,6 +25,11 @@ halfgates::seed seed_of(const bytes &it) {
     return halfgates::seed::from_bytes(it);
 }
 
+/* The bits of a number, the lowest first. */
+std::array<std::uint8_t, INPUTS> bits_of(std::uint8_t number) {
+    return {{std::uint8_t(number & 1), std::uint8_t(number >> 1 & 1), std::uint8_t(number >> 2 & 1)}};
+}
+
 bool are_same(const void *one, const void *other, std::size_t size) {
     return memcmp(one, other, size) == 0;
 }
@@ -167,11 +172,11 @@ void check_audits(halfgates::circuit &circuit, halfgates::garbling &garbling, in
 /* Label files of different sizes, in both orders; those of another seed are refused. */
 void check_jobs(halfgates::circuit &circuit, halfgates::garbling &garbling) {
     for (std::uint8_t number = 0; number < 8; number++) {
-        const std::uint8_t bits[] = {std::uint8_t(number & 1), std::uint8_t(number >> 1 & 1), std::uint8_t(number >> 2)};
-        const bytes first = garbling.deal(0, {bits, 1}), second = garbling.deal(1, {bits + 1, 2});
+        const std::array<std::uint8_t, INPUTS> bits = bits_of(number);
+        const bytes first = garbling.deal(0, {bits[0]}), second = garbling.deal(1, {bits[1], bits[2]});
         bytes expected(OUTPUTS), joined = second;
-        CHECK_CODE(0, halfgates_plain(circuit.get(), bits, INPUTS, expected.data(), OUTPUTS));
-        CHECK(circuit.plain({bits, INPUTS}) == expected);
+        CHECK_CODE(0, halfgates_plain(circuit.get(), bits.data(), INPUTS, expected.data(), OUTPUTS));
+        CHECK(circuit.plain(bits) == expected);
         joined.insert(joined.end(), first.begin(), first.end());
         for (std::uint32_t version = 1; version <= 2; version++) {
             const bytes garbled = garbling.write(version);
@@ -197,15 +202,15 @@ void check_own_labels(halfgates::circuit &circuit) {
     halfgates::garbling garbling = circuit.garble_from(offset, zeros, first);
     CHECK(garbling.offset() == offset);
     for (std::uint8_t number = 0; number < 8; number++) {
-        const std::uint8_t bits[] = {std::uint8_t(number & 1), std::uint8_t(number >> 1 & 1), std::uint8_t(number >> 2)};
+        const std::array<std::uint8_t, INPUTS> bits = bits_of(number);
         halfgates::label_pairs pairs[] = {garbling.input_labels(0), garbling.input_labels(1)};
         active[0] = bits[0] ? pairs[0].one[0] : pairs[0].zero[0];
         active[1] = bits[1] ? pairs[1].one[0] : pairs[1].zero[0];
         active[2] = bits[2] ? pairs[1].one[1] : pairs[1].zero[1];
         const halfgates::labels outputs = circuit.evaluate_labels(garbling.rows(), active, first);
-        CHECK(halfgates::decode(outputs, garbling.decode_bits()) == circuit.plain({bits, INPUTS}));
+        CHECK(halfgates::decode(outputs, garbling.decode_bits()) == circuit.plain(bits));
         const halfgates::label_pairs last = garbling.output_labels(1);
-        CHECK(outputs[2] == (circuit.plain({bits, INPUTS})[2] ? last.one[0] : last.zero[0]));
+        CHECK(outputs[2] == (circuit.plain(bits)[2] ? last.one[0] : last.zero[0]));
     }
     CHECK(circuit.garble_from(offset, zeros, 0).rows() != garbling.rows());
     CHECK(circuit.label_file(1, halfgates::labels{zeros[1], zeros[2]}) == garbling.deal(1, {0, 0}));

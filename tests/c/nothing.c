@@ -1,4 +1,4 @@
-/* A NULL of size 0 is a buffer without bytes. A circuit without wires, and one with values of width 0, need no others. */
+/* A NULL of size 0 is a buffer without bytes. A circuit without wires, or with values of width 0, needs no others. */
 #include "check.h"
 
 static const uint8_t SEED[32] = {1}, OFFSET[16] = {1};

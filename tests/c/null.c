@@ -45,12 +45,12 @@ static void check_end(const char *what) {
 #define CHECK_DONE(name, ...) CHECK_CODE(HALFGATES_OK, CALLED(name)(__VA_ARGS__))
 
 int main(int count, char **words) {
-    const uint8_t seed[32] = {0}, bits[3] = {1, 0, 1};
+    const uint8_t seed[32] = {0}, offset[16] = {1}, bits[3] = {1, 0, 1};
     const size_t sizes[3] = {32, 32, 32};
     uint8_t garbled[177], labels[96], room[512];
     size_t written;
     halfgates_circuit *circuit = NULL, *made = NULL;
-    halfgates_garbling *garbling = NULL;
+    halfgates_garbling *garbling = NULL, *made_garbling = NULL;
     halfgates_job *job = NULL, *bound = NULL;
     halfgates_place place;
     halfgates_wire_labels found[8];
@@ -93,6 +93,31 @@ int main(int count, char **words) {
     CHECK_REFUSED(halfgates_job_bind, circuit, garbled, 177, labels, 96, NULL, 3, &bound);
     CHECK_REFUSED(halfgates_evaluate, job, NULL, 1);
     CHECK_REFUSED(halfgates_evaluate, job, NULL, 2);
+    CHECK_REFUSED(halfgates_job_output_labels, job, NULL, 1);
+    CHECK_REFUSED(halfgates_job_output_labels, job, NULL, 32);
+    CHECK_REFUSED(halfgates_garble_from, circuit, offset, NULL, 1, 0, &made_garbling);
+    CHECK_REFUSED(halfgates_garble_from, circuit, offset, NULL, 48, 0, &made_garbling);
+    CHECK_REFUSED(halfgates_garbling_deal, garbling, 0, NULL, 1, room, sizeof room, &written);
+    CHECK_REFUSED(halfgates_garbling_deal, garbling, 0, bits, 1, NULL, 1, &written);
+    CHECK_REFUSED(halfgates_garbling_deal, garbling, 0, bits, 1, NULL, 32, &written);
+    CHECK_REFUSED(halfgates_label_file, circuit, 0, NULL, 1, room, sizeof room, &written);
+    CHECK_REFUSED(halfgates_label_file, circuit, 0, NULL, 16, room, sizeof room, &written);
+    CHECK_REFUSED(halfgates_label_file, circuit, 0, labels, 16, NULL, 32, &written);
+    CHECK_REFUSED(halfgates_input_labels, garbling, 0, NULL, room, 1);
+    CHECK_REFUSED(halfgates_input_labels, garbling, 0, NULL, room, 16);
+    CHECK_REFUSED(halfgates_input_labels, garbling, 0, room, NULL, 16);
+    CHECK_REFUSED(halfgates_output_labels, garbling, 0, NULL, room, 32);
+    CHECK_REFUSED(halfgates_output_labels, garbling, 0, room, NULL, 32);
+    CHECK_REFUSED(halfgates_rows, garbling, NULL, 1);
+    CHECK_REFUSED(halfgates_rows, garbling, NULL, 32);
+    CHECK_REFUSED(halfgates_decode_bits, garbling, NULL, 1);
+    CHECK_REFUSED(halfgates_decode_bits, garbling, NULL, 2);
+    CHECK_REFUSED(halfgates_evaluate_labels, circuit, NULL, 32, 0, labels, 48, room, 32);
+    CHECK_REFUSED(halfgates_evaluate_labels, circuit, labels, 32, 0, NULL, 48, room, 32);
+    CHECK_REFUSED(halfgates_evaluate_labels, circuit, labels, 32, 0, labels, 48, NULL, 32);
+    CHECK_REFUSED(halfgates_decode, NULL, 32, bits, 2, room, 2);
+    CHECK_REFUSED(halfgates_decode, labels, 32, NULL, 2, room, 2);
+    CHECK_REFUSED(halfgates_decode, labels, 32, bits, 2, NULL, 2);
     CHECK_REFUSED(halfgates_audit, garbling, NULL, 1, &report);
     CHECK_REFUSED(halfgates_audit, garbling, NULL, 177, &report);
     CHECK_REFUSED(halfgates_audit_labels, garbling, NULL, 1, room, 1, &labels_report);
