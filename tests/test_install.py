@@ -86,6 +86,26 @@ class InstallTest(unittest.TestCase):
         self.prefix.rename(self.folder / "moved")
         self.assertEqual(run(self.folder / "moved/bin/halfgates", *ADD), (0, "01\n", ""))
 
+    def install_on(self, machine):
+        """Installs where uname says so."""
+        (self.folder / "bin").mkdir(exist_ok=True)
+        (self.folder / "bin/uname").write_text(f"#!/bin/sh\necho {machine}\n")
+        (self.folder / "bin/uname").chmod(0o755)
+        environment = {**os.environ, "PATH": f"{self.folder}/bin:{os.environ['PATH']}"}
+        return run(self.top / "install", self.prefix, env=environment)
+
+    def test_arm64(self):
+        """The library alone."""
+        self.assertEqual(self.install_on("aarch64"), (0, "", ""))
+        installed = self.files()
+        for name in (SONAME, "libhalfgates.a"):
+            self.assertEqual(installed[f"lib/{name}"], (RELEASE / "lib/aarch64" / name).read_bytes())
+        self.assertFalse([name for name in installed if name.startswith(("bin/", "libexec/", "lib/glibc-hwcaps/"))])
+
+    def test_other_processors(self):
+        status, _, error = self.install_on("riscv64")
+        self.assertEqual((status, error), (1, "install: dist/ has nothing for this processor\n"))
+
     def test_usage(self):
         for words in ((), ("",), ("--help",), ("a", "b")):
             status, _, error = run(self.top / "install", *words)
