@@ -47,7 +47,7 @@
  * BITS are bytes 0 and 1, one for each wire, in wire order: those of input value 0, then those of value 1, and so on.
  * Another byte is HALFGATES_BAD_DIGIT, and a wrong number of them HALFGATES_WRONG_LENGTH.
  *
- * MEMORY comes from malloc, realloc and free. Where it runs out, the code is one of those that are named "Memory":
+ * MEMORY comes from malloc and free. Where it runs out, the code is one of those that are named "Memory":
  * nothing is leaked, and the call may be made again. Call no function from a signal handler, nor in a child forked from
  * a process with several threads.
  *
@@ -60,8 +60,9 @@
  * behind the AND gates, so leave (output wires + 1) / 2 more numbers free where such a file is sent. The library can't
  * check any of this.
  *
- * SECRETS. Whoever has a seed, an offset or a garbling knows all labels. The library isn't constant-time, and wipes no
- * memory.
+ * SECRETS. Whoever has a seed, an offset or a garbling knows all labels. No branch and no address depends on seeds,
+ * offsets, labels or bits, beyond what codes and outputs say, and memory is wiped before it is freed. This is tested, for
+ * x86-64, and not proved; the audits are left out. The stack and your buffers aren't wiped. SECURITY.md says more.
  */
 #ifndef HALFGATES_H
 #define HALFGATES_H
