@@ -121,8 +121,10 @@ fn print_answer<R: Threads + Wait + Sync, F: Files, O: Write, P: Progress>(
     if let Order::Labels { .. } = order {
         let lines = label_lines(alloc, order, files);
         progress.end();
-        print_lines(lines?, out)?;
-        return Ok(true);
+        return match print_lines(lines?, out) {
+            Ok(()) => Ok(true),
+            Err(_) => Err(Fault::CannotWrite),
+        };
     }
     let answer = carry_out(rt, alloc, order, files, progress);
     progress.end();

@@ -61,12 +61,13 @@ pub fn carry_out<
 }
 
 /// Carries out an audit. That this is the order is the caller's condition.
-fn audit_answer<
-    R: Threads + Wait + Sync,
-    A: Allocator + Copy + Send + Sync,
-    F: Files,
-    P: Progress,
->(rt: &R, alloc: A, order: &Order, files: &mut F, progress: &P) -> Result<Answer<A>, Fault>
+fn audit_answer<R: Threads + Wait + Sync, A: Allocator + Copy + Send + Sync, F: Files, P: Progress>(
+    rt: &R,
+    alloc: A,
+    order: &Order,
+    files: &mut F,
+    progress: &P,
+) -> Result<Answer<A>, Fault>
     requires { IsAudit (text_of order.now) }
     ensures answers { IfOk result (λ answer. Answers (F.bytes files.old) (F.bytes files.new)
         (text_of order.now) answer.is_honest answer.lines.items) }
@@ -96,12 +97,13 @@ fn audit_answer<
 }
 
 /// Carries out an order, and returns the bytes for standard output. That it is no audit is the caller's condition.
-fn answer_lines<
-    R: Threads + Wait + Sync,
-    A: Allocator + Copy + Send + Sync,
-    F: Files,
-    P: Progress,
->(rt: &R, alloc: A, order: &Order, files: &mut F, progress: &P) -> Result<Vec<u8, A>, Fault>
+fn answer_lines<R: Threads + Wait + Sync, A: Allocator + Copy + Send + Sync, F: Files, P: Progress>(
+    rt: &R,
+    alloc: A,
+    order: &Order,
+    files: &mut F,
+    progress: &P,
+) -> Result<Vec<u8, A>, Fault>
     requires { ¬ IsAudit (text_of order.now) }
     ensures answers { IfOk result (λ out.
         AnswersLines (F.bytes files.old) (F.bytes files.new) (text_of order.now) out.items) }
