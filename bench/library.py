@@ -26,7 +26,7 @@ TURNS, SEEDS = 7, 100
 
 
 def build(library, program):
-    archive = Path(library).with_suffix(".a")
+    archive = Path(library).with_name("libhalfgates.a")
     words = [os.environ.get("CC", "cc"), "-O2", f"-I{TOP}/include", TOP / "bench/library.c", archive, "-o", program]
     subprocess.run(words, check=True)
 

@@ -11,6 +11,7 @@
 set -euo pipefail
 top=$(cd "$(dirname "$0")/.." && pwd)
 . "$top/machine.sh"
+. "$top/sources.sh"
 tmp=$(mktemp -d)
 trap 'rm -rf "$tmp"' EXIT
 
@@ -20,7 +21,7 @@ for program in halfgates gc_bench; do
     is_built_from "$(sum_of_sources "$program")" "$top/out/$program" || "$top/build" "$program"
 done
 bench=$top/out/gc_bench
-library=$top/out/libhalfgates.so
+library=$top/out/lib/libhalfgates.so.0
 is_built_from "$(sum_of_sources halfgates_c)" "$library" || "$top/build" halfgates_c
 
 circuit=${1:-$tmp/half.txt}

@@ -19,6 +19,20 @@ PROVED(halfgates_job_bind);
 PROVED(halfgates_evaluate);
 PROVED(halfgates_audit);
 PROVED(halfgates_audit_labels);
+PROVED(halfgates_garble_from);
+PROVED(halfgates_rows);
+PROVED(halfgates_decode_bits);
+PROVED(halfgates_garbling_deal);
+PROVED(halfgates_label_file);
+PROVED(halfgates_evaluate_labels);
+PROVED(halfgates_job_output_labels);
+PROVED(halfgates_decode);
+
+/* These two take the size of each of their buffers. */
+extern int32_t proved_halfgates_input_labels(halfgates_garbling *garbling, uint32_t index, uint8_t *zero,
+                                             size_t zero_size, uint8_t *one, size_t one_size);
+extern int32_t proved_halfgates_output_labels(halfgates_garbling *garbling, uint32_t index, uint8_t *zero,
+                                              size_t zero_size, uint8_t *one, size_t one_size);
 
 /* Whether there is a buffer of this size, or none is asked for. */
 static int is_there(const void *buffer, size_t size) {
@@ -102,4 +116,72 @@ int32_t halfgates_audit_labels(halfgates_garbling *garbling, const uint8_t *labe
     if (!is_there(labels, length) || !is_there(bits, size))
         return HALFGATES_BAD_ARGUMENT;
     return proved_halfgates_audit_labels(garbling, labels, length, bits, size, report);
+}
+
+int32_t halfgates_garble_from(halfgates_circuit *circuit, const uint8_t offset[16], const uint8_t *zero_labels,
+                              size_t size, uint64_t first, halfgates_garbling **garbling) {
+    if (!is_there(zero_labels, size))
+        return HALFGATES_BAD_ARGUMENT;
+    return proved_halfgates_garble_from(circuit, offset, zero_labels, size, first, garbling);
+}
+
+int32_t halfgates_input_labels(halfgates_garbling *garbling, uint32_t index, uint8_t *zero, uint8_t *one,
+                               size_t size) {
+    if (!is_there(zero, size) || !is_there(one, size))
+        return HALFGATES_BAD_ARGUMENT;
+    return proved_halfgates_input_labels(garbling, index, zero, size, one, size);
+}
+
+int32_t halfgates_output_labels(halfgates_garbling *garbling, uint32_t index, uint8_t *zero, uint8_t *one,
+                                size_t size) {
+    if (!is_there(zero, size) || !is_there(one, size))
+        return HALFGATES_BAD_ARGUMENT;
+    return proved_halfgates_output_labels(garbling, index, zero, size, one, size);
+}
+
+int32_t halfgates_rows(halfgates_garbling *garbling, uint8_t *rows, size_t size) {
+    if (!is_there(rows, size))
+        return HALFGATES_BAD_ARGUMENT;
+    return proved_halfgates_rows(garbling, rows, size);
+}
+
+int32_t halfgates_decode_bits(halfgates_garbling *garbling, uint8_t *bits, size_t size) {
+    if (!is_there(bits, size))
+        return HALFGATES_BAD_ARGUMENT;
+    return proved_halfgates_decode_bits(garbling, bits, size);
+}
+
+int32_t halfgates_garbling_deal(halfgates_garbling *garbling, uint32_t index, const uint8_t *bits, size_t count,
+                                uint8_t *buffer, size_t size, size_t *written) {
+    if (!is_there(bits, count) || !is_there(buffer, size))
+        return HALFGATES_BAD_ARGUMENT;
+    return proved_halfgates_garbling_deal(garbling, index, bits, count, buffer, size, written);
+}
+
+int32_t halfgates_label_file(halfgates_circuit *circuit, uint32_t index, const uint8_t *labels, size_t labels_size,
+                             uint8_t *buffer, size_t size, size_t *written) {
+    if (!is_there(labels, labels_size) || !is_there(buffer, size))
+        return HALFGATES_BAD_ARGUMENT;
+    return proved_halfgates_label_file(circuit, index, labels, labels_size, buffer, size, written);
+}
+
+int32_t halfgates_evaluate_labels(halfgates_circuit *circuit, const uint8_t *rows, size_t rows_size, uint64_t first,
+                                  const uint8_t *labels, size_t labels_size, uint8_t *outputs, size_t outputs_size) {
+    if (!is_there(rows, rows_size) || !is_there(labels, labels_size) || !is_there(outputs, outputs_size))
+        return HALFGATES_BAD_ARGUMENT;
+    return proved_halfgates_evaluate_labels(circuit, rows, rows_size, first, labels, labels_size, outputs,
+                                            outputs_size);
+}
+
+int32_t halfgates_job_output_labels(halfgates_job *job, uint8_t *outputs, size_t size) {
+    if (!is_there(outputs, size))
+        return HALFGATES_BAD_ARGUMENT;
+    return proved_halfgates_job_output_labels(job, outputs, size);
+}
+
+int32_t halfgates_decode(const uint8_t *labels, size_t labels_size, const uint8_t *decode_bits, size_t count,
+                         uint8_t *bits, size_t size) {
+    if (!is_there(labels, labels_size) || !is_there(decode_bits, count) || !is_there(bits, size))
+        return HALFGATES_BAD_ARGUMENT;
+    return proved_halfgates_decode(labels, labels_size, decode_bits, count, bits, size);
 }

@@ -1,3 +1,4 @@
+/* SPDX-License-Identifier: MIT OR Apache-2.0 */
 /*
  * halfgates: garbling Boolean circuits, and evaluating garbled circuits, from C.
  *
@@ -15,9 +16,15 @@
  *     halfgates_garbling_free(garbling);
  *     halfgates_circuit_free(circuit);
  *
- * CODES. A function that can fail answers a code: 0 is success, and any other is the number of the fault that the
+ * Circuits that follow one another are garbled under one offset: halfgates_garble_from takes the offset, the zero labels
+ * of the input wires, and the number of the first AND gate, and halfgates_evaluate_labels turns active labels of the
+ * input wires into active labels of the output wires. See LABELS.
+ *
+ * CODES. A function that can fail returns a code: 0 is success, and any other is the number of the fault that the
  * program `halfgates` prints, or one of three codes of this library. A call that fails changes no handle, and writes
- * nothing but what its description says.
+ * nothing but what its description says. A description lists the codes in the order in which they are found: of two
+ * faults the code is that of the first. Wrong pointers and handles come before all others, and memory can run out at any
+ * point: a code that is named "Memory" says nothing about the faults after it.
  *
  * HANDLES. A handle is a pointer that a function of this library has written. Set it to NULL before: a call that fails
  * leaves it so. A function that writes a handle doesn't free the old one. Each handle is freed once, by the function of
@@ -25,12 +32,16 @@
  * in any order.
  *
  * THREADS. No function starts a thread, takes a lock or waits. Several threads may use several handles side by side,
- * garblings and jobs of one circuit too. One handle is used by one call at a time, whatever the call: threads that
- * garble one circuit take turns, by a mutex or the like, or read the circuit once each.
+ * garblings and jobs of one circuit too. One handle is used by one call at a time, whatever the call, so no handle is
+ * const. Threads that use one circuit at once take a handle each, by halfgates_circuit_share, which copies nothing.
+ *
+ * STACK. Most calls need a few kilobytes of stack. halfgates_garbling_write needs some 90 kilobytes.
  *
  * BUFFERS. The library reads and writes buffers within a call and keeps no pointer to them. No alignment is asked for
- * where a buffer is of bytes. A buffer that is written overlaps no other argument. Where a size is 0, the pointer
- * before it may be NULL. A NULL elsewhere is HALFGATES_BAD_ARGUMENT.
+ * where a buffer is of bytes. A buffer that is written overlaps no other argument, and has at least the room that is
+ * needed, else the code is HALFGATES_SMALL_BUFFER; what it has behind that stays. A buffer that is read has exactly the
+ * size that the description names. Where a size is 0, the pointer before it may be NULL. A NULL elsewhere is
+ * HALFGATES_BAD_ARGUMENT.
  *
  * BITS are bytes 0 and 1, one for each wire, in wire order: those of input value 0, then those of value 1, and so on.
  * Another byte is HALFGATES_BAD_DIGIT, and a wrong number of them HALFGATES_WRONG_LENGTH.
@@ -39,13 +50,26 @@
  * nothing is leaked, and the call may be made again. Call no function from a signal handler, nor in a child forked from
  * a process with several threads.
  *
- * SECRETS. Whoever has a seed or a garbling knows all labels. The library isn't constant-time, and wipes no memory.
+ * LABELS are 16 bytes. Each wire of a garbling has two: the zero label, which stands for the bit 0, and the zero label
+ * xor the offset, which stands for 1. The colour of a label is bit 0 of its first byte, and the offset's colour is 1, so
+ * a wire's labels have different colours. AND gates are numbered in file order, from a number `first` on: 0 under a seed.
+ * Under one offset use no AND number twice: the next circuit's `first` is at least this one's `first` plus its number of
+ * AND gates. Two AND gates of one number that read one wire give away the offset: their generator rows differ by it or
+ * by nothing. Garbled files are those of `first` 0. In version 2 their entries use the numbers behind the AND gates, so
+ * leave (output wires + 1) / 2 more numbers free where such a file is sent. The library can't check any of this.
+ *
+ * SECRETS. Whoever has a seed, an offset or a garbling knows all labels. The library isn't constant-time, and wipes no memory.
  */
 #ifndef HALFGATES_H
 #define HALFGATES_H
 
 #include <stddef.h>
 #include <stdint.h>
+
+/* The version of this header. That of the library is halfgates_version(). */
+#define HALFGATES_VERSION_MAJOR 0
+#define HALFGATES_VERSION_MINOR 6
+#define HALFGATES_VERSION_PATCH 0
 
 #ifdef __cplusplus
 extern "C" {
@@ -97,9 +121,14 @@ enum {
     HALFGATES_UNKNOWN_OUTPUT_LABEL = 48, /* an output's label is none that the garbled file recognises (version 2) */
 
     /* Codes of this library alone. */
-    HALFGATES_BAD_ARGUMENT = 60, /* a NULL, a handle of another type, no such version, wire or output, a wrong size */
+    HALFGATES_BAD_ARGUMENT = 60, /* a NULL, a handle of another type or in use, no such version, wire or output, a buffer
+                                    that is read and has a wrong size, an offset of colour 0, an AND number that is too
+                                    large, a file of a garbling whose `first` isn't 0 */
     HALFGATES_SMALL_BUFFER = 61, /* a buffer has too little room */
-    HALFGATES_MEMORY = 62        /* memory ran out for a handle or a file */
+    HALFGATES_MEMORY = 62,       /* memory ran out for a handle or a file */
+
+    /* A verdict of halfgates_audit_labels, and no code: a label is neither of the two labels of its wire. */
+    HALFGATES_WRONG_LABEL = 63
 };
 
 /* A name or a version, ended by a zero byte. */
@@ -112,6 +141,9 @@ typedef struct halfgates_name {
  * none of the codes above. Use it as halfgates_fault_name(code).text, and before C11 through a variable.
  */
 halfgates_name halfgates_fault_name(int32_t code);
+
+/* Whether a code says that memory ran out: 1 for 13, 23, 36, 46 and 62, and else 0. */
+int32_t halfgates_is_memory(int32_t code);
 
 /* The version of the library, such as "0.6.0". */
 halfgates_name halfgates_version(void);
@@ -127,7 +159,13 @@ typedef struct halfgates_circuit halfgates_circuit;
  */
 int32_t halfgates_circuit_read(const uint8_t *text, size_t length, halfgates_circuit **circuit);
 
-/* Frees a circuit. Its garblings and jobs stay as they are. */
+/*
+ * Writes one more handle of the same circuit, without a copy: so several threads can use it at once, each by a handle of
+ * its own. Each handle is freed by halfgates_circuit_free; the circuit goes with the last. Code: HALFGATES_MEMORY.
+ */
+int32_t halfgates_circuit_share(halfgates_circuit *circuit, halfgates_circuit **other);
+
+/* Frees a circuit. Its garblings, its jobs and its other handles stay as they are. */
 void halfgates_circuit_free(halfgates_circuit *circuit);
 
 /* The numbers of a circuit. */
@@ -145,8 +183,8 @@ typedef struct halfgates_numbers {
 int32_t halfgates_circuit_numbers(halfgates_circuit *circuit, halfgates_numbers *numbers);
 
 /*
- * Writes the number of wires of each input value, or of each output value, in order. `count` is `input_values` or
- * `output_values`; another count is HALFGATES_BAD_ARGUMENT.
+ * Writes the number of wires of each input value, or of each output value, in order. `count`, the room in `widths`, is at
+ * least `input_values` or `output_values`. Code: HALFGATES_SMALL_BUFFER.
  */
 int32_t halfgates_circuit_input_widths(halfgates_circuit *circuit, uint32_t *widths, size_t count);
 int32_t halfgates_circuit_output_widths(halfgates_circuit *circuit, uint32_t *widths, size_t count);
@@ -175,15 +213,14 @@ int32_t halfgates_locate(const uint8_t *text, size_t length, halfgates_place *pl
 
 /*
  * Evaluates a circuit in the clear. `bits` are those of all input wires, `size` bytes; `outputs` takes the bits of all
- * output wires, and `outputs_size` is exactly their number, else HALFGATES_BAD_ARGUMENT. Codes: HALFGATES_WRONG_LENGTH,
- * HALFGATES_BAD_DIGIT, HALFGATES_CIRCUIT_MEMORY.
+ * output wires. Codes: HALFGATES_SMALL_BUFFER, HALFGATES_WRONG_LENGTH, HALFGATES_BAD_DIGIT, HALFGATES_CIRCUIT_MEMORY.
  */
 int32_t halfgates_plain(halfgates_circuit *circuit, const uint8_t *bits, size_t size, uint8_t *outputs,
                         size_t outputs_size);
 
 /* --------------------------------------------------------------------------------------------------- garblings -- */
 
-/* The garbling of a circuit under a seed: a zero label for each wire, and a row pair for each AND gate. */
+/* A garbling of a circuit: an offset, a zero label for each wire, and a row pair for each AND gate. */
 typedef struct halfgates_garbling halfgates_garbling;
 
 /*
@@ -191,6 +228,16 @@ typedef struct halfgates_garbling halfgates_garbling;
  * sent to anybody. Codes: HALFGATES_GARBLING_MEMORY, HALFGATES_MEMORY.
  */
 int32_t halfgates_garble(halfgates_circuit *circuit, const uint8_t seed[32], halfgates_garbling **garbling);
+
+/*
+ * Garbles a circuit from an offset of colour 1, 16 bytes, the zero labels of all input wires, one after another, `size`
+ * bytes, which is 16 * input_wires, and the number `first` of its first AND gate; `first` plus the number of AND gates is
+ * at most 2^62. Codes: HALFGATES_BAD_ARGUMENT where one of these isn't so, HALFGATES_GARBLING_MEMORY, HALFGATES_MEMORY.
+ * Take 16 random bytes for an offset and set bit 0 of the first; zero labels are random too, or the zero labels of
+ * output wires of circuits garbled under this offset. See LABELS on `first`.
+ */
+int32_t halfgates_garble_from(halfgates_circuit *circuit, const uint8_t offset[16], const uint8_t *zero_labels,
+                              size_t size, uint64_t first, halfgates_garbling **garbling);
 
 /* Frees a garbling. */
 void halfgates_garbling_free(halfgates_garbling *garbling);
@@ -203,9 +250,8 @@ uint64_t halfgates_garbled_size(halfgates_circuit *circuit, uint32_t version);
 
 /*
  * Writes the garbled file of a garbling in a version, 1 or 2, to `buffer`, and the number of its bytes to `written`.
- * What `buffer` has behind them stays. Where `size` is less, the code is HALFGATES_SMALL_BUFFER: then `written` is the
- * size that is needed, and `buffer` stays as it is. A call with size 0 is a quick way to ask for the size. Other code:
- * HALFGATES_MEMORY.
+ * Codes: HALFGATES_BAD_ARGUMENT for a garbling whose `first` isn't 0; HALFGATES_SMALL_BUFFER, where `written` is the
+ * size that is needed, so that a call with size 0 is a quick way to ask for it; HALFGATES_MEMORY.
  */
 int32_t halfgates_garbling_write(halfgates_garbling *garbling, uint32_t version, uint8_t *buffer, size_t size,
                                  size_t *written);
@@ -219,6 +265,42 @@ int32_t halfgates_garbling_write(halfgates_garbling *garbling, uint32_t version,
  */
 int32_t halfgates_deal(halfgates_circuit *circuit, const uint8_t seed[32], uint32_t index, const uint8_t *bits,
                        size_t count, uint8_t *buffer, size_t size, size_t *written);
+
+/*
+ * Writes the label file of an input value, as halfgates_deal does, from a garbling: so its labels are those of the rows,
+ * whatever the garbling was made from. The codes are the same.
+ */
+int32_t halfgates_garbling_deal(halfgates_garbling *garbling, uint32_t index, const uint8_t *bits, size_t count,
+                                uint8_t *buffer, size_t size, size_t *written);
+
+/*
+ * Writes the label file of the input value `index` with labels that were received, such as by an oblivious transfer:
+ * `labels_size` bytes, 16 for each wire of the value. Codes: HALFGATES_NO_SUCH_VALUE, HALFGATES_BAD_ARGUMENT for another
+ * size, HALFGATES_SMALL_BUFFER with the size that is needed in `written`, HALFGATES_MEMORY.
+ */
+int32_t halfgates_label_file(halfgates_circuit *circuit, uint32_t index, const uint8_t *labels, size_t labels_size,
+                             uint8_t *buffer, size_t size, size_t *written);
+
+/* Writes the offset of a garbling, 16 bytes. Whoever has it knows both labels of every wire of which one is known. */
+int32_t halfgates_offset(halfgates_garbling *garbling, uint8_t offset[16]);
+
+/*
+ * Writes both labels of each wire of the input value `index`, or of the output value, 16 bytes for each wire: the zero
+ * labels to `zero`, and the labels that stand for 1 to `one`. `size` is the room in each of the two. Codes:
+ * HALFGATES_NO_SUCH_VALUE, HALFGATES_SMALL_BUFFER. An oblivious transfer offers these pairs; the zero labels of an output
+ * value can be zero labels of input wires of the next circuit.
+ */
+int32_t halfgates_input_labels(halfgates_garbling *garbling, uint32_t index, uint8_t *zero, uint8_t *one, size_t size);
+int32_t halfgates_output_labels(halfgates_garbling *garbling, uint32_t index, uint8_t *zero, uint8_t *one, size_t size);
+
+/*
+ * Writes the row pairs of a garbling, 32 bytes for each AND gate in file order: the generator's row, and then the
+ * evaluator's. Code: HALFGATES_SMALL_BUFFER.
+ */
+int32_t halfgates_rows(halfgates_garbling *garbling, uint8_t *rows, size_t size);
+
+/* Writes the decode bits of a garbling, a byte 0 or 1 for each output wire in order. Code: HALFGATES_SMALL_BUFFER. */
+int32_t halfgates_decode_bits(halfgates_garbling *garbling, uint8_t *bits, size_t size);
 
 /* Writes the zero label of a wire, 16 bytes: 16 zero bytes for a wire that no gate sets and that is no input wire. */
 int32_t halfgates_zero_label(halfgates_garbling *garbling, uint32_t wire, uint8_t label[16]);
@@ -235,9 +317,9 @@ typedef struct halfgates_wire_labels {
 
 /*
  * Writes the labels of the wires from `from` on, `count` of them, for the bits of all input wires, `size` bytes. Codes:
- * HALFGATES_WRONG_LENGTH, HALFGATES_BAD_DIGIT, HALFGATES_BAD_ARGUMENT where there is no such wire,
- * HALFGATES_CIRCUIT_MEMORY. Where a bit is 1 both labels of the wire stand here, and so the offset: give them to nobody
- * who evaluates.
+ * HALFGATES_BAD_ARGUMENT where there is no such wire, HALFGATES_WRONG_LENGTH, HALFGATES_BAD_DIGIT,
+ * HALFGATES_CIRCUIT_MEMORY. A wire that no gate sets and that is no input wire has the bit 0 and 16 zero bytes for both
+ * labels. Where a bit is 1 both labels of the wire are here, and so the offset: give them to nobody who evaluates.
  */
 int32_t halfgates_labels(halfgates_garbling *garbling, const uint8_t *bits, size_t size, uint32_t from,
                          halfgates_wire_labels *labels, size_t count);
@@ -261,10 +343,37 @@ int32_t halfgates_job_bind(halfgates_circuit *circuit, const uint8_t *garbled, s
 void halfgates_job_free(halfgates_job *job);
 
 /*
- * Evaluates a job on the calling thread, and writes the bits of all output wires. `size` is exactly their number, else
- * HALFGATES_BAD_ARGUMENT. A job may be evaluated again. Codes: HALFGATES_JOB_MEMORY, HALFGATES_UNKNOWN_OUTPUT_LABEL.
+ * Evaluates a job on the calling thread, and writes the bits of all output wires. A job may be evaluated again. Codes:
+ * HALFGATES_SMALL_BUFFER, HALFGATES_JOB_MEMORY, HALFGATES_UNKNOWN_OUTPUT_LABEL.
  */
 int32_t halfgates_evaluate(halfgates_job *job, uint8_t *bits, size_t size);
+
+/*
+ * Evaluates a job on the calling thread, and writes the active labels of all output wires, 16 bytes each. They are not
+ * decoded: in version 2 too, labels that the garbled file doesn't recognise are written. Codes: HALFGATES_SMALL_BUFFER,
+ * HALFGATES_JOB_MEMORY.
+ */
+int32_t halfgates_job_output_labels(halfgates_job *job, uint8_t *outputs, size_t size);
+
+/* ----------------------------------------------------------------------------------------- from labels to labels -- */
+
+/*
+ * Evaluates a garbled circuit on the calling thread: from its rows, 32 bytes for each AND gate, the number `first` of its
+ * first AND gate, and the active labels of all input wires, 16 bytes each, to the active labels of all output wires, 16
+ * bytes each. Nothing of the rows and the labels is trusted: any of them give some labels. Codes: HALFGATES_BAD_ARGUMENT
+ * where a size or `first` is wrong, HALFGATES_SMALL_BUFFER, HALFGATES_JOB_MEMORY.
+ */
+int32_t halfgates_evaluate_labels(halfgates_circuit *circuit, const uint8_t *rows, size_t rows_size, uint64_t first,
+                                  const uint8_t *labels, size_t labels_size, uint8_t *outputs, size_t outputs_size);
+
+/*
+ * Writes the bits that `count` active labels of output wires stand for: each is the decode bit of its wire, 0 or 1, xor
+ * the colour of the label. `labels_size` is 16 * `count`. Any label decodes: that it is one of its wire's two isn't
+ * checked. Codes: HALFGATES_BAD_ARGUMENT for another size, HALFGATES_SMALL_BUFFER, HALFGATES_BAD_DIGIT,
+ * HALFGATES_CIRCUIT_MEMORY, HALFGATES_JOB_MEMORY.
+ */
+int32_t halfgates_decode(const uint8_t *labels, size_t labels_size, const uint8_t *decode_bits, size_t count,
+                         uint8_t *bits, size_t size);
 
 /* ------------------------------------------------------------------------------------------------------- audit -- */
 
@@ -286,14 +395,11 @@ typedef struct halfgates_audit_report {
 } halfgates_audit_report;
 
 /*
- * Compares a garbled file, `length` bytes, with a garbling. Codes: 30 to 36, the first fault of the file. A file that
- * differs is success.
+ * Compares a garbled file, `length` bytes, with a garbling. Codes: HALFGATES_BAD_ARGUMENT for a garbling whose `first`
+ * isn't 0; 30 to 36, the first fault of the file. A file that differs is success.
  */
 int32_t halfgates_audit(halfgates_garbling *garbling, const uint8_t *garbled, size_t length,
                         halfgates_audit_report *report);
-
-/* A verdict, and no code: a label is neither of the two labels of its wire. */
-#define HALFGATES_WRONG_LABEL 63
 
 /* What an audit finds of a label file. */
 typedef struct halfgates_labels_report {
@@ -306,8 +412,10 @@ typedef struct halfgates_labels_report {
 
 /*
  * Compares a label file, `length` bytes, with a garbling, and writes the bits that its labels stand for: they are fewer
- * than `length` / 16. Codes: 30 to 36, the first fault of the file; HALFGATES_JOB_MEMORY; HALFGATES_SMALL_BUFFER where
- * `size` is less than the number of these bits, which the report then has. A file that differs is success.
+ * than `length` / 16. Codes: HALFGATES_BAD_ARGUMENT for a garbling whose `first` isn't 0; 30 to 36, the first fault of
+ * the file: HALFGATES_BAD_MAGIC, HALFGATES_FILE_TRUNCATED, HALFGATES_TRAILING, HALFGATES_COUNT_TOO_LARGE or
+ * HALFGATES_FILE_MEMORY; HALFGATES_JOB_MEMORY; HALFGATES_SMALL_BUFFER where `size` is less than the number of these bits,
+ * which the report then has. A file that differs is success.
  */
 int32_t halfgates_audit_labels(halfgates_garbling *garbling, const uint8_t *labels, size_t length, uint8_t *bits,
                                size_t size, halfgates_labels_report *report);

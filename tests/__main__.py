@@ -10,5 +10,7 @@ result = unittest.TextTestRunner(sys.stdout).run(unittest.defaultTestLoader.disc
 broken = {getattr(it, "test_case", it).id() for it, _ in result.failures + result.errors}
 failed = len(broken) or int(not result.testsRun)
 passed = max(result.testsRun - len(broken) - len(result.skipped), 0)
+for _, reason in result.skipped:
+    print(f"skipped: {reason}")
 print(f"{passed} passed, {failed} failed")
 sys.exit(failed > 0)

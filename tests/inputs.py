@@ -22,7 +22,7 @@ def load(name):
 def worked_circuits():
     """The names of the JSON files of worked circuits, and what they hold."""
     names = sorted(path.stem for path in VECTORS.glob("*.json"))
-    return [(name, load(name)) for name in names if not name.startswith("bad_")]
+    return [(name, load(name)) for name in names if not name.startswith(("bad_", "joined"))]
 
 
 def by_about(items):

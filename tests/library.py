@@ -1,7 +1,7 @@
 """The library under test, its package for Python, and programs of C and C++ that are linked with it.
 
-The library is the shared one that the environment variable HALFGATES_LIBRARY names, with the archive
-next to it, or else what `./build` made in out/ from the sources as they stand.
+The library lies in the folder that the environment variable HALFGATES_LIB_DIR names, or else in out/lib/,
+where ./build made it since the release, or else in dist/lib/. HALFGATES_LIBRARY names another shared one.
 """
 import os
 import shutil
@@ -11,10 +11,10 @@ import tempfile
 from functools import lru_cache
 from pathlib import Path
 
-from program import TOP
+from program import TOP, ask
 
-BUILT = TOP / "out/libhalfgates.so"
-LIBRARY = Path(os.environ.get("HALFGATES_LIBRARY", BUILT)).resolve()
+BUILT = TOP / "out/lib"
+SONAME = "libhalfgates.so.0"
 INCLUDE = TOP / "include"
 WARNINGS = "-Wall", "-Wextra", "-Werror", "-pedantic"
 SANITIZERS = "-g", "-fsanitize=address,undefined", "-fno-sanitize-recover=all"
@@ -27,17 +27,34 @@ class Missing(AssertionError):
     """Something that the tests need isn't there."""
 
 
+def folder_of_library():
+    """Where the libraries lie, by the rule for the program."""
+    named = os.environ.get("HALFGATES_LIB_DIR")
+    is_built = f'[ "$top/out/lib/{SONAME}" -nt "$top/dist/halfgates.sources" ]'
+    return Path(named or (BUILT if ask("machine.sh", is_built)[0] == 0 else TOP / "dist/lib")).resolve()
+
+
+def shared_library(folder):
+    """The shared library of a folder for this processor, as the loader of glibc finds it."""
+    newer = folder / "glibc-hwcaps/x86-64-v3" / SONAME
+    return newer if newer.is_file() and ask("machine.sh", "is_v3")[0] == 0 else folder / SONAME
+
+
+LIB_DIR = folder_of_library()
+LIBRARY = Path(os.environ.get("HALFGATES_LIBRARY") or shared_library(LIB_DIR)).resolve()
+ARCHIVE = LIB_DIR / "libhalfgates.a"
+
+
 @lru_cache(maxsize=None)
 def demand_library():
-    """The library is there, built from the sources as they stand where it is that of out/."""
-    if not LIBRARY.is_file():
-        raise Missing(f"there is no {LIBRARY}: ./build halfgates_c makes the library")
-    if LIBRARY == BUILT:
-        script = 'top=$1; . "$top/machine.sh"; sum_of_sources halfgates_c'
-        done = subprocess.run(["sh", "-c", script, "sh", TOP], capture_output=True, text=True, check=True)
-        stamp = Path(f"{BUILT}.sources")
-        if not stamp.is_file() or stamp.read_text() != done.stdout:
-            raise Missing("out/libhalfgates.so is older than its sources: ./build halfgates_c makes it anew")
+    """The library is there, built from the sources as they stand where it is that of out/lib/."""
+    for file in (LIBRARY, ARCHIVE):
+        if not file.is_file():
+            raise Missing(f"there is no {file}: ./build halfgates_c makes the library")
+    if LIB_DIR == BUILT:
+        stamp, sources = BUILT / f"{SONAME}.sources", ask("sources.sh", "sum_of_sources halfgates_c")[1]
+        if not stamp.is_file() or stamp.read_text().strip() != sources:
+            raise Missing("out/lib/ is older than the sources: ./build halfgates_c makes it anew")
 
 
 def import_package():
@@ -73,7 +90,7 @@ def build(source, program, *flags):
     """Compiles a source and links it with the archive. Warnings are errors."""
     command, standard = compiler(source.suffix)
     words = [command, standard, *WARNINGS, f"-I{INCLUDE}", *flags, "-o", program, source]
-    words.append(LIBRARY.with_suffix(".a"))
+    words.append(ARCHIVE)
     done = subprocess.run(words, capture_output=True, text=True, check=False)
     if done.returncode:
         raise AssertionError(f"{source.relative_to(TOP)} doesn't compile:\n{done.stderr}")

@@ -1,7 +1,7 @@
 """The program under test, and the circuits, files and endings of runs that several tests share.
 
-The program is the one that the environment variable HALFGATES names, or else the one that the test
-command built. What lies in vectors/ and examples/ is imported by its name, after this module.
+The program is the one that the environment variable HALFGATES names, or else the one that ./halfgates
+runs. What lies in vectors/ and examples/ is imported by its name, after this module.
 """
 import os
 import subprocess
@@ -12,7 +12,16 @@ from pathlib import Path
 from unittest import TestCase
 
 TOP = Path(__file__).resolve().parent.parent
-PROGRAM = Path(os.environ.get("HALFGATES", TOP / "crates/halfgates/out/halfgates")).resolve()
+
+
+def ask(file, command):
+    """Runs a command of machine.sh or sources.sh, and returns its status and what it prints."""
+    script = f'top=$1; . "$top/{file}"; {command}'
+    done = subprocess.run(["sh", "-c", script, "sh", TOP], stdout=subprocess.PIPE, text=True, check=False)
+    return done.returncode, done.stdout.rstrip("\n")
+
+
+PROGRAM = Path(os.environ.get("HALFGATES") or ask("machine.sh", "find_program; echo $program")[1]).resolve()
 
 EXAMPLES = TOP / "examples"
 

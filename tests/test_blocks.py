@@ -12,10 +12,11 @@ import unittest
 from collections import namedtuple
 from pathlib import Path
 
-from library import LIBRARY
+from library import INCLUDE, LIB_DIR
 from program import PROGRAM, TOP
 
-DOCUMENTS = [*sorted(TOP.glob("*.md")), *sorted(TOP.glob("docs/*.md")), TOP / "vectors/README.md"]
+DOCUMENTS = [*sorted(TOP.glob("*.md")), *sorted(TOP.glob("docs/*.md"))]
+DOCUMENTS += [TOP / "examples/README.md", TOP / "vectors/README.md"]
 
 # What the blocks find where they are run, in addition to the program and the library.
 FOLDERS = "bench", "examples", "include", "python", "vectors"
@@ -82,7 +83,9 @@ class Blocks(unittest.TestCase):
             ignored = shutil.ignore_patterns("__pycache__")
             shutil.copytree(TOP / name, folder / name, ignore=ignored)
         (folder / "halfgates").symlink_to(PROGRAM)
-        (folder / "out").symlink_to(LIBRARY.parent)
+        (folder / "dist").mkdir()
+        (folder / "dist/include").symlink_to(INCLUDE)
+        (folder / "dist/lib").symlink_to(LIB_DIR)
 
     def test_each_block_names_its_language(self):
         nameless = []

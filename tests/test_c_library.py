@@ -7,24 +7,46 @@ import sys
 import tempfile
 import unittest
 from pathlib import Path
+from shutil import which
 
 from inputs import worked_circuits
 from library import (
-    BUILT, INCLUDE, LIBRARY, build, compiler, demand_library, environment_of_python, sanitizers, tool,
+    INCLUDE, LIB_DIR, LIBRARY, SONAME, build, compiler, demand_library, environment_of_python, sanitizers,
+    shared_library, tool,
 )
-from program import EXAMPLES, TOP
+from program import EXAMPLES, TOP, sealed
+
+import bristol
+import reference
 
 SOURCES = TOP / "tests/c"
+
+# What runs programs for ARM64, and what compiles them.
+EMULATOR, CROSS_COMPILER = "qemu-aarch64", "aarch64-linux-gnu-gcc"
 
 # One refusal of memory for each growth of a round, and the sanitizers have their own malloc.
 WRAPPED = [f"-Wl,--wrap={name}" for name in ("malloc", "realloc", "free")]
 
 
-def built_names():
-    """The names that the shared library shows."""
-    words = [tool("nm"), "-D", "--defined-only", LIBRARY]
-    done = subprocess.run(words, capture_output=True, text=True, check=True)
-    return {line.split()[-1].partition("@")[0] for line in done.stdout.splitlines()}
+# The names that a version script lists, and their version.
+LISTED = re.compile(r"(\w+) \{\s*global:\s*((?:\w+;\s*)*)local:\s*\*;\s*\};")
+
+
+def names_in(*words):
+    """The names that nm prints."""
+    done = subprocess.run([tool("nm"), *words], capture_output=True, text=True, check=True)
+    return {line.split()[-1] for line in done.stdout.splitlines() if line.count(" ") > 1}
+
+
+def shared_libraries():
+    """The shared libraries for each kind of processor that the folder under test has."""
+    return sorted(LIB_DIR.rglob(SONAME))
+
+
+def listed_names():
+    """The names that the library exports by the checked-in list, each with its version."""
+    version, names = LISTED.search((TOP / "c/halfgates.map").read_text()).groups()
+    return {f"{name}@@{version}" for name in re.findall(r"\w+", names)}
 
 
 def declared_names():
@@ -77,6 +99,9 @@ class FromC(LibraryTest):
     def test_null_with_a_size_by_bare_names(self):
         self.run_built(SOURCES / "null.c", LIBRARY)
 
+    def test_null_of_size_0(self):
+        self.run_built(SOURCES / "nothing.c")
+
     def test_refused_memory(self):
         printed = self.run_built(SOURCES / "memory.c", flags=WRAPPED)
         self.assertRegex(printed, r"^\d+ growths refused\n$")
@@ -96,14 +121,50 @@ class FromC(LibraryTest):
         self.assertEqual(self.run_built(example, *words), f"{sum_of_both}\n")
 
 
+# What the C++ header keeps a program from: each would compile with an earlier version of it.
+MISUSES = {
+    "a view of a list": "halfgates::view bits{1, 1};",
+    "a view of a list that begins with 0": "halfgates::view bits{0, 1};",
+    "a view of a temporary": "halfgates::view bits(halfgates::bytes(3));",
+    "a seed of nothing": "halfgates::seed seed{};",
+    "a seed of nothing, as an argument": "auto garbling = circuit.garble({});",
+    "a seed of a list": "auto garbling = circuit.garble({{3}});",
+    "outputs dropped": "circuit.plain({1, 1});",
+    "a garbling dropped": "circuit.garble(halfgates::seed::random());",
+    "a copy of a handle": "halfgates::circuit other = circuit;",
+}
+
+
 class FromCPlusPlus(LibraryTest):
     def test_its_header(self):
         self.run_built(SOURCES / "raii.cpp")
+
+    def test_beside_the_c_calls(self):
+        circuit, forged = self.folder / "circuit", []
+        circuit.write_text(OF_FORGED_FILES)
+        for number, file in enumerate(forged_files(OF_FORGED_FILES.encode(), bytes([3] * 32))):
+            forged.append(self.folder / f"forged{number}")
+            forged[-1].write_bytes(file)
+        self.run_built(SOURCES / "beside.cpp", circuit, *forged)
 
     def test_later_standards(self):
         for standard in ("-std=c++17", "-std=c++20"):
             with self.subTest(standard):
                 self.run_built(SOURCES / "raii.cpp", flags=[standard])
+
+    def test_misuses_do_not_compile(self):
+        self.assertEqual(self.compiles("auto bits = circuit.plain({1, 1});"), "")
+        for name, misuse in MISUSES.items():
+            with self.subTest(name):
+                self.assertIn("error: ", self.compiles(misuse))
+
+    def compiles(self, statement):
+        """What the compiler says of a function of this statement."""
+        source = self.folder / "misuse.cpp"
+        source.write_text(f"#include <halfgates.hpp>\nvoid use(halfgates::circuit &circuit) {{ {statement} }}\n")
+        command, standard = compiler(".cpp")
+        words = [command, standard, "-fsyntax-only", "-Werror=unused-result", f"-I{INCLUDE}", source]
+        return subprocess.run(words, capture_output=True, text=True, check=False).stderr
 
     def test_the_c_header_in_c_plus_plus(self):
         source = self.folder / "header.cpp"
@@ -115,7 +176,31 @@ class Files(LibraryTest):
     """The files that ./build makes."""
 
     def test_names(self):
-        self.assertEqual(built_names(), declared_names())
+        """The header, the checked-in list and the libraries have the same names, of one version."""
+        self.assertEqual(listed_names(), {f"{name}@@HALFGATES_0" for name in declared_names()})
+        for library in shared_libraries():
+            self.assertEqual(names_in("-D", "--defined-only", library), listed_names(), library)
+        for archive in LIB_DIR.rglob("libhalfgates.a"):
+            self.assertEqual(names_in("-g", "--defined-only", archive), declared_names(), archive)
+
+    def test_what_they_need(self):
+        """The C library alone, of glibc 2.17 or earlier."""
+        for library in shared_libraries():
+            words = [tool("readelf"), "-dV", "--wide", library]
+            said = subprocess.run(words, capture_output=True, text=True, check=True).stdout
+            self.assertIn(f"Library soname: [{SONAME}]", said)
+            self.assertEqual(re.findall(r"Shared library: \[(.*)\]", said), ["libc.so.6"], library)
+            for version in re.findall(r"Name: GLIBC_([\d.]+)", said):
+                self.assertLessEqual(tuple(map(int, version.split("."))), (2, 17), library)
+
+    def test_layout(self):
+        self.run_built(SOURCES / "layout.c")
+
+    def test_versions(self):
+        """The version of the header is that of the library."""
+        source = self.folder / "version.c"
+        source.write_text(VERSION)
+        self.assertEqual(self.run_built(source).split(), ["1"])
 
     def test_the_package_for_python_has_each_function(self):
         script = "from halfgates import _library; print(*_library._FUNCTIONS)"
@@ -136,27 +221,40 @@ class Files(LibraryTest):
         self.assertEqual(set(named.values()), {"Unknown"})
 
     def test_linking(self):
-        self.check_linking(INCLUDE, LIBRARY.parent)
-
-    def check_linking(self, include, libraries):
         """Links as a user does, with the shared library."""
         source, program = EXAMPLES / "c/two_parties.c", self.folder / "two_parties"
-        words = [compiler(".c")[0], source, f"-I{include}", f"-L{libraries}", "-lhalfgates", "-o", program]
+        words = [compiler(".c")[0], source, f"-I{INCLUDE}", f"-L{LIB_DIR}", "-lhalfgates", "-o", program]
         subprocess.run(words, check=True)
-        environment = {**os.environ, "LD_LIBRARY_PATH": str(libraries)}
+        environment = {**os.environ, "LD_LIBRARY_PATH": str(LIB_DIR), "LD_DEBUG": "libs"}
         words = [program, EXAMPLES / "less8.txt", "1", "2"]
         done = subprocess.run(words, env=environment, capture_output=True, text=True, check=False)
         self.assertEqual((done.returncode, done.stdout), (0, "1\n"))
+        self.assertIn(f"calling init: {shared_library(LIB_DIR)}\n", done.stderr)
 
-    @unittest.skipUnless(LIBRARY == BUILT, "the library is not that of out/")
-    def test_installing(self):
-        prefix = self.folder / "prefix"
-        done = subprocess.run([TOP / "install", prefix], capture_output=True, text=True, check=False)
-        self.assertEqual((done.returncode, done.stderr), (0, ""))
-        self.check_linking(prefix / "include", prefix / "lib")
-        said = (prefix / "lib/pkgconfig/halfgates.pc").read_text()
-        self.assertIn(f"prefix={prefix}\nincludedir=${{prefix}}/include\nlibdir=${{prefix}}/lib\n", said)
+    def test_arm64(self):
+        """The example runs on the library for ARM64, where there is an emulator."""
+        archive, emulator, cross = LIB_DIR / "aarch64/libhalfgates.a", which(EMULATOR), which(CROSS_COMPILER)
+        if not (archive.is_file() and emulator and cross):
+            self.skipTest(f"the library for ARM64 isn't run: that takes a release's, {EMULATOR} and {CROSS_COMPILER}")
+        source, program = EXAMPLES / "c/two_parties.c", self.folder / "two_parties"
+        subprocess.run([cross, "-static", source, f"-I{INCLUDE}", archive, "-o", program], check=True)
+        words = [emulator, program, EXAMPLES / "adder64.txt", "7", "9"]
+        done = subprocess.run(words, capture_output=True, text=True, check=False)
+        self.assertEqual((done.returncode, done.stdout), (0, "16\n"))
 
+
+VERSION = """
+#include <halfgates.h>
+#include <stdio.h>
+#include <string.h>
+int main(void) {
+    const halfgates_name version = halfgates_version();
+    char text[32];
+    snprintf(text, 32, "%d.%d.%d", HALFGATES_VERSION_MAJOR, HALFGATES_VERSION_MINOR, HALFGATES_VERSION_PATCH);
+    printf("%d\\n", strcmp(text, version.text) == 0);
+    return 0;
+}
+"""
 
 CODES = """
 #include <halfgates.h>
@@ -167,6 +265,38 @@ int main(void) {
     return 0;
 }
 """
+
+
+# Input values of 1 and 2 wires, output values of 2 and 1, and three AND gates.
+OF_FORGED_FILES = """6 9
+2 1 2
+2 2 1
+
+2 1 0 1 3 AND
+2 1 0 2 4 XOR
+2 1 4 2 5 AND
+1 1 3 6 INV
+2 1 5 1 7 AND
+2 1 4 5 8 XOR
+"""
+
+
+def forged_files(text, seed):
+    """Garbled files of both versions, each with one bit flipped, and sealed again: of the digest, and of each half
+    gate, each decode bit and each decode entry."""
+    circuit = bristol.read_circuit(text)
+    garbling, files = reference.garble(circuit, seed), []
+    rows, outputs = 2 * len(garbling.rows), len(bristol.output_wires(circuit))
+    bits = 48 + 16 * rows
+    for version in (1, 2):
+        file = reference.garbled_file(circuit, garbling, version)
+        places = [(8, 0), *((48 + 16 * row, 3) for row in range(rows)), *((bits, output) for output in range(outputs))]
+        places += [(bits + 1 + 16 * entry, 7) for entry in range(2 * outputs if version == 2 else 0)]
+        for place, bit in places:
+            body = bytearray(file[:-32])
+            body[place] ^= 1 << bit
+            files.append(sealed(bytes(body)))
+    return files
 
 
 def files_of(vector, evaluation):

@@ -10,7 +10,7 @@ import unittest
 from program import TOP
 
 DOCUMENTS = [TOP / f"{name}.md" for name in ("README", "CONTRIBUTING", "SECURITY", "CHANGELOG")]
-DOCUMENTS += [*sorted(TOP.glob("docs/*.md")), TOP / "vectors/README.md"]
+DOCUMENTS += [*sorted(TOP.glob("docs/*.md")), TOP / "examples/README.md", TOP / "vectors/README.md"]
 
 # A short page for each crate.
 PAGES = sorted(TOP.glob("crates/*/README.md"))

@@ -1,5 +1,6 @@
 """The launcher, in a copy of the repository that has the program in dist/ and nothing in out/."""
 
+import os
 import shutil
 import subprocess
 import tempfile
@@ -10,31 +11,31 @@ from program import EXAMPLES, PROGRAM, TOP
 
 # Adds three bits: the carry is the last digit.
 ADD = f"plain {EXAMPLES}/full_adder.txt 1 0 1"
-STAMP = "top=. && . ./machine.sh && sum_of_sources halfgates >dist/halfgates.sources"
+SUM = 0, "01\n", ""
+
+# A program that says where it lies.
+STAND_IN = "#!/bin/sh\necho $0\n"
 
 
-class LauncherTest(unittest.TestCase):
+class Copy(unittest.TestCase):
     @classmethod
     def setUpClass(cls):
         cls.top = Path(tempfile.mkdtemp())
         cls.addClassCleanup(shutil.rmtree, cls.top)
-        for name in ("halfgates", "machine.sh", "crates.txt"):
+        for name in ("halfgates", "machine.sh"):
             shutil.copy2(TOP / name, cls.top)
-        for place in TOP.glob("crates/*/s[rp]*/"):
-            shutil.copytree(place, cls.top / place.relative_to(TOP))
         (cls.top / "dist/v3").mkdir(parents=True)
+        (cls.top / "dist/halfgates.sources").write_text("0\n")
         for name in ("dist/halfgates", "dist/v3/halfgates"):
             shutil.copy2(PROGRAM, cls.top / name)
-        subprocess.run(["sh", "-c", STAMP], cwd=cls.top, check=True)
-
-    def setUp(self):
-        shutil.rmtree(self.top / "out", ignore_errors=True)
 
     def run_in_shell(self, command):
         how = {"cwd": self.top, "capture_output": True, "text": True, "check": False, "timeout": 60}
         done = subprocess.run(["sh", "-c", command], **how)
         return done.returncode, done.stdout, done.stderr
 
+
+class LauncherTest(Copy):
     def test_the_name_in_its_help(self):
         status, printed, _ = self.run_in_shell("./halfgates run --help")
         self.assertEqual(status, 0)
@@ -42,61 +43,62 @@ class LauncherTest(unittest.TestCase):
 
     def test_a_link_to_it(self):
         (self.top / "link").symlink_to("halfgates")
-        status, printed, _ = self.run_in_shell(f"cd / && {self.top}/link {ADD}")
-        self.assertEqual((status, printed), (0, "01\n"))
-
-    def test_a_limited_address_space(self):
-        answer = self.run_in_shell(f"ulimit -v 260000 && ./halfgates {ADD}")
-        self.assertEqual(answer, (0, "01\n", ""))
-
-    def test_a_full_disk(self):
-        """What the launcher can't keep doesn't harm the next run."""
-        for limit in ("trap '' XFSZ; ulimit -f 0; ", ""):
-            answer = self.run_in_shell(f"{limit}./halfgates {ADD}")
-            self.assertEqual(answer, (0, "01\n", ""))
+        self.assertEqual(self.run_in_shell(f"cd / && {self.top}/link {ADD}"), SUM)
 
     def test_from_other_folders(self):
-        for command in ("cd crates && ../halfgates", "cd crates/halfgates && ../.././halfgates"):
-            for _ in range(2):
-                self.assertEqual(self.run_in_shell(f"{command} {ADD}"), (0, "01\n", ""))
+        (self.top / "a/b").mkdir(parents=True)
+        for command in ("cd a && ../halfgates", "cd a/b && ../.././halfgates", "PATH=$PWD:$PATH halfgates"):
+            self.assertEqual(self.run_in_shell(f"{command} {ADD}"), SUM, command)
 
-    def test_a_tool_that_is_missing(self):
-        """The program is not taken for an old one where the sources can't be looked at."""
-        for missing in ("awk", "find", "sha256sum", "sort", "xargs"):
-            shutil.rmtree(self.top / "out", ignore_errors=True)
-            tools = Path(tempfile.mkdtemp(dir=self.top))
-            for name in {"awk", "find", "sha256sum", "sort", "xargs", "echo"} - {missing}:
-                (tools / name).symlink_to(shutil.which(name))
-            status, printed, error = self.run_in_shell(f"PATH={tools} ./halfgates {ADD}")
-            self.assertEqual((status, printed), (1, ""), error)
-            self.assertIn(f"{missing}: ", error)
-            self.assertIn("halfgates: can't compare the sources with the program; ", error)
-
-    def test_what_it_keeps_is_spoiled(self):
-        for text in ("sources='x", "x\n", "x\ny\n", ""):
-            (self.top / "out").mkdir(exist_ok=True)
-            (self.top / "out/looked").write_text(text)
-            self.assertEqual(self.run_in_shell(f"./halfgates {ADD}"), (0, "01\n", ""))
+    def test_a_limited_address_space(self):
+        self.assertEqual(self.run_in_shell(f"ulimit -v 260000 && ./halfgates {ADD}"), SUM)
 
     def test_a_limit_on_file_sizes(self):
         command = f"garble {EXAMPLES}/adder64.txt {64 * '0'} /dev/shm/halfgates_limited"
         self.addCleanup(Path("/dev/shm/halfgates_limited").unlink, missing_ok=True)
-        self.run_in_shell("./halfgates --version")
         answer = self.run_in_shell(f"ulimit -f 1; ./halfgates {command}")
         self.assertEqual(answer, (1, "", "halfgates: fault 51 CannotWrite\n"))
 
-    def test_a_source_that_changes(self):
-        """It is seen by its content, also where its time stays as it was."""
-        source = self.top / "crates/halfgates/src/main.rt"
-        shutil.copy2(source, self.top / "kept")
-        self.addCleanup(shutil.copy2, self.top / "kept", source)
-        for keep_time in ("", " && touch -r kept crates/halfgates/src/main.rt"):
-            self.assertEqual(self.run_in_shell("./halfgates --version")[0], 0)
-            self.run_in_shell(f"echo >>crates/halfgates/src/main.rt{keep_time}")
-            status, _, error = self.run_in_shell("./halfgates --version")
-            self.assertNotEqual(status, 0)
-            self.assertTrue(error.startswith("halfgates: the sources have changed: "), error)
-            shutil.copy2(self.top / "kept", source)
+    def test_two_at_once(self):
+        """Runs don't disturb one another: nothing is written."""
+        before = sorted(self.top.rglob("*"))
+        command = f"for i in 1 2 3 4 5 6 7 8; do ./halfgates {ADD} & done; wait"
+        self.assertEqual(self.run_in_shell(command), (0, 8 * "01\n", ""))
+        self.assertEqual(sorted(self.top.rglob("*")), before)
+
+
+class Choice(Copy):
+    """Which program it runs."""
+
+    def setUp(self):
+        self.addCleanup(shutil.rmtree, self.top / "out", ignore_errors=True)
+        for name in ("out/halfgates", "dist/halfgates", "dist/v3/halfgates"):
+            (self.top / name).parent.mkdir(exist_ok=True)
+            (self.top / name).write_text(STAND_IN)
+            (self.top / name).chmod(0o755)
+
+    def chosen(self):
+        status, printed, error = self.run_in_shell("./halfgates")
+        self.assertEqual((status, error), (0, ""))
+        return printed.strip()
+
+    def set_time(self, seconds):
+        """Builds out/halfgates so many seconds after the release."""
+        released = (self.top / "dist/halfgates.sources").stat().st_mtime
+        os.utime(self.top / "out/halfgates", (released + seconds, released + seconds))
+
+    def test_built_since_the_release(self):
+        self.set_time(1)
+        self.assertEqual(self.chosen(), "./out/halfgates")
+
+    def test_built_before_the_release(self):
+        self.set_time(-1)
+        self.assertIn(self.chosen(), ("./dist/halfgates", "./dist/v3/halfgates"))
+
+    def test_not_built(self):
+        (self.top / "out/halfgates").unlink()
+        script = 'top=. && . ./machine.sh && if is_v3; then echo ./dist/v3/halfgates; else echo ./dist/halfgates; fi'
+        self.assertEqual(self.chosen(), self.run_in_shell(script)[1].strip())
 
 
 if __name__ == "__main__":

@@ -1,14 +1,11 @@
 """The package `halfgates` for Python: the same files and answers as the vectors and the program have,
 and each of its exceptions."""
 import array
-import copy
 import mmap
-import pickle
 import re
 import subprocess
 import sys
 import tempfile
-import threading
 import typing
 import unittest
 
@@ -19,7 +16,8 @@ from program import EXAMPLES, FULL_ADDER, SEED, TOP, ProgramTest, label_file, se
 import bristol
 
 halfgates = import_package()
-Circuit, Garbling, Job, Fault = halfgates.Circuit, halfgates.Garbling, halfgates.Job, halfgates.Fault
+Circuit, Fault = halfgates.Circuit, halfgates.Fault
+to_bits, from_bits = halfgates.to_bits, halfgates.from_bits
 
 ZEROS = bytes(32)
 
@@ -408,48 +406,74 @@ class Buffers(LibraryTest):
         with Circuit.read(text) as circuit:
             text.clear()  # A BufferError where somebody has the bytes.
             self.assertEqual(circuit.plain([1, 1, 1]), b"\1\1")
+            bits = bytearray([1, 1, 2])
+            try:
+                circuit.plain(bits)
+            except Fault:
+                bits.clear()  # while the exception still has the frames of the call
+            self.assertEqual(bits, b"")
 
 
-class Handles(LibraryTest):
+class Conveniences(LibraryTest):
+    def test_bits_and_numbers(self):
+        self.assertEqual(to_bits(6, 4), b"\0\1\1\0")
+        self.assertEqual(to_bits(1, 4), b"\1\0\0\0")
+        self.assertEqual(to_bits(1, 4, highest_first=True), b"\0\0\0\1")
+        self.assertEqual((to_bits(0, 0), from_bits(b""), from_bits([])), (b"", 0, 0))
+        for width in (0, 1, 7, 8, 64, 100_000):
+            for number in (0, 1, 5, 2**width - 1, 2**width // 3):
+                if number < 2**width:
+                    for named in ({}, {"highest_first": False}, {"highest_first": True}):
+                        bits = to_bits(number, width, **named)
+                        self.assertEqual((len(bits), from_bits(bits, **named)), (width, number))
+        for kind in (list, tuple, bytearray, memoryview):
+            self.assertEqual(from_bits(kind(b"\1\1\0")), 3)
+            self.assertEqual(from_bits(kind(b"\1\1\0"), highest_first=True), 6)
+
+    def test_bits_and_numbers_that_are_none(self):
+        for number, width in ((-1, 4), (16, 4), (1, 0), (-(2**70), 64)):
+            self.assertRaises(OverflowError, to_bits, number, width)
+        self.assertRaises(ValueError, to_bits, 0, -1)
+        self.assertRaises(TypeError, to_bits, 1.0, 4)
+        self.assertRaises(TypeError, to_bits, 1, 4, True)
+        for bits in (b"\2", b"01", [1, 0, 3], [-1], [256]):
+            self.assertRaises(ValueError, from_bits, bits)
+        self.assertRaises(TypeError, from_bits, "01")
+
+    def test_reading(self):
+        with Circuit.open(EXAMPLES / "full_adder.txt") as circuit:
+            with Circuit.open(str(EXAMPLES / "full_adder.txt")) as same, Circuit.from_text(FULL_ADDER) as other:
+                self.assertEqual((same.digest, other.digest), (circuit.digest, circuit.digest))
+        self.assertRaises(FileNotFoundError, Circuit.open, EXAMPLES / "none.txt")
+        self.assertRaises(TypeError, Circuit.from_text, FULL_ADDER.encode())
+        self.assert_fault("2 BadNumber", Circuit.from_text, "\u0661 5")
+
+    def test_reports_are_true_where_they_are_honest(self):
+        with Circuit.from_text(FULL_ADDER) as circuit:
+            with circuit.garble(ZEROS) as garbling, circuit.garble(b"\1" * 32) as other:
+                self.assertTrue(garbling.audit(garbling.write()))
+                self.assertFalse(garbling.audit(other.write()))
+                self.assertTrue(garbling.audit_labels(circuit.deal(ZEROS, 0, [0])))
+                self.assertFalse(other.audit_labels(circuit.deal(ZEROS, 0, [0])))
+
+    def test_binding_any_iterable(self):
+        with Circuit.from_text(FULL_ADDER) as circuit, circuit.garble(ZEROS) as garbling:
+            garbled, values = garbling.write(), [[1], [0], [1]]
+            files = deal_all(circuit, ZEROS, values)
+            for labels in (files, tuple(files), iter(files), dict.fromkeys(map(bytes, files)),
+                           (circuit.deal(ZEROS, index, bits) for index, bits in enumerate(values))):
+                with circuit.bind(garbled, labels) as job:
+                    self.assertEqual(job.evaluate(), b"\0\1")
+            self.assert_fault("45 MissingValue", circuit.bind, garbled, iter([]))
+            self.assertRaises(TypeError, circuit.bind, garbled, files[0])
+
     def test_garblings_and_jobs_outlive_their_circuit(self):
-        with Circuit.read(FULL_ADDER.encode()) as circuit:
+        with Circuit.from_text(FULL_ADDER) as circuit:
             garbling = circuit.garble(ZEROS)
             job = circuit.bind(garbling.write(), deal_all(circuit, ZEROS, [[1], [1], [0]]))
         with garbling, job:
             self.assertEqual(job.evaluate(), b"\0\1")
             self.assertTrue(garbling.audit(garbling.write()).honest)
-
-    def test_one_circuit_on_several_threads(self):
-        found = []
-        with Circuit.read(FULL_ADDER.encode()) as circuit:
-
-            def work(first):
-                for number in range(first, 40, 8):
-                    with circuit.garble(bytes([number]) * 32) as garbling:
-                        found.append((number, bytes(garbling.write())))
-
-            threads = [threading.Thread(target=work, args=[it]) for it in range(8)]
-            for thread in threads:
-                thread.start()
-            for thread in threads:
-                thread.join()
-            for number, file in found:
-                with circuit.garble(bytes([number]) * 32) as garbling:
-                    self.assertEqual(garbling.write(), file)
-        self.assertEqual(sorted(number for number, _ in found), [*range(40)])
-
-    def test_an_object_that_was_never_a_handle(self):
-        self.assertRaises(TypeError, Circuit)
-        for make, *words in ((Circuit, FULL_ADDER.encode()), (Circuit, "path"), (Garbling, 5, 3), (Job, 5, 3)):
-            with self.assertRaisesRegex(TypeError, "^a Circuit comes from Circuit.read, "):
-                make(*words)
-
-    def test_handles_have_one_owner(self):
-        with Circuit.read(FULL_ADDER.encode()) as circuit, circuit.garble(ZEROS) as garbling:
-            for handle in (circuit, garbling):
-                for make in (copy.copy, copy.deepcopy, pickle.dumps):
-                    with self.assertRaisesRegex(TypeError, "can't be copied or pickled$"):
-                        make(handle)
 
 
 # Calls the functions of the shared library as ctypes finds them, each with a NULL and a size of 1, and prints what is
@@ -464,7 +488,7 @@ garbled = bytes(garbling.write())
 labels = [bytes(circuit.deal(bytes(32), index, [1])) for index in range(3)]
 job = circuit.bind(garbled, labels)
 bits, labels, sizes = bytes([1, 1, 1]), b"".join(labels), (c_size_t * 3)(32, 32, 32)
-room, written, handle = create_string_buffer(512), c_size_t(), c_void_p()
+offset, room, written, handle = bytes([1] * 16), create_string_buffer(512), c_size_t(), c_void_p()
 wires, place = (_library.WireLabels * 8)(), _library.Place()
 report, labels_report = _library.AuditReport(), _library.LabelsReport()
 null = None, 1
@@ -484,6 +508,24 @@ for name, *words in [
     ("job_bind", circuit, garbled, 177, *null, sizes, 3, byref(handle)),
     ("job_bind", circuit, garbled, 177, labels, 96, *null, byref(handle)),
     ("evaluate", job, *null),
+    ("garble_from", circuit, offset, *null, 0, byref(handle)),
+    ("garbling_deal", garbling, 0, *null, room, 32, byref(written)),
+    ("garbling_deal", garbling, 0, bits, 1, *null, byref(written)),
+    ("label_file", circuit, 0, *null, room, 32, byref(written)),
+    ("label_file", circuit, 0, bits, 1, *null, byref(written)),
+    ("input_labels", garbling, 0, None, room, 16),
+    ("input_labels", garbling, 0, room, *null),
+    ("output_labels", garbling, 0, None, room, 32),
+    ("output_labels", garbling, 0, room, *null),
+    ("rows", garbling, *null),
+    ("decode_bits", garbling, *null),
+    ("evaluate_labels", circuit, *null, 0, labels, 48, room, 32),
+    ("evaluate_labels", circuit, room, 32, 0, *null, room, 32),
+    ("evaluate_labels", circuit, room, 32, 0, labels, 48, *null),
+    ("job_output_labels", job, *null),
+    ("decode", *null, bits, 1, room, 1),
+    ("decode", room, 16, *null, room, 1),
+    ("decode", room, 16, bits, 1, *null),
     ("audit", garbling, *null, report),
     ("audit_labels", garbling, *null, room, 1, labels_report),
     ("audit_labels", garbling, labels, 32, *null, labels_report),

@@ -1,6 +1,6 @@
 """Holds the program against vectors/: its JSON files, and the reference that made them.
 
-    HALFGATES=dist/halfgates python3 tests/test_vectors.py
+    python3 tests/test_vectors.py
 """
 import itertools
 import unittest

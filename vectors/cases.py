@@ -138,6 +138,59 @@ CASES = [
          random_circuit(Draws("random_300"), 70, 300, 0)),
 ]
 
+
+
+class Chain:
+    """Circuits that are garbled under one offset, and what they are garbled from.
+
+    Each has a joint: for each of its input wires the output of the circuit before, counted from 0,
+    that the wire takes over, or None where the wire has a label and a bit of its own. `first` is
+    the first AND number.
+    """
+
+    def __init__(self, about, first, *links, is_zero=False):
+        self.about, self.first, self.draws = about, first, Draws(about)
+        self.texts, self.joints = zip(*links)
+        self.is_zero = is_zero
+        offset = self.label()
+        self.offset = bytes([offset[0] | 1]) + offset[1:]
+
+    def label(self):
+        return bytes(0 if self.is_zero else self.draws.below(256) for _ in range(16))
+
+    def labels(self, wires):
+        return [self.label() for _ in wires]
+
+    def bits(self, wires):
+        return [self.draws.below(2) for _ in wires]
+
+
+TEXTS = {case.name: case.text for case in CASES}
+SIXTY = random_circuit(Draws("sixty"), 12, 60, 3)
+
+CHAINS = [
+    *(Chain(f"one AND gate, of the number {first}", first, (TEXTS["and"], [None, None]))
+      for first in (0, 1, 2**31, 2**32, 2**61, 2**62 - 1)),
+    Chain("no AND gate, under the highest first number", 2**62, (TEXTS["xor"], [None, None])),
+    Chain("no wire", 5, (TEXTS["nothing"], [])),
+    Chain("labels of zeros, and the lowest offset", 3, (FULL_ADDER, [None] * 3), is_zero=True),
+    Chain("sixty gates of all operations", 2**40, (SIXTY, [None] * 12)),
+    Chain("three full adders: each carry goes to the next one", 7, (FULL_ADDER, [None] * 3),
+          (FULL_ADDER, [None, None, 1]), (FULL_ADDER, [None, None, 1])),
+    Chain("outputs in another order, twice and not at all", 0,
+          (TEXTS["two_outputs"], [None] * 3), (FULL_ADDER, [2, 0, 2])),
+    Chain("outputs that are constants and ANDs of them", 2**33,
+          (TEXTS["constants"], [None] * 2),
+          (TEXTS["nine_outputs"], [3, 2, 1, 0, None, 3, 2, 1, 0])),
+    Chain("an output that is an input wire", 9,
+          (TEXTS["output_is_input"], [None] * 2), (TEXTS["and"], [0, 1])),
+    Chain("a circuit without input wires", 1,
+          (TEXTS["eq_1"], []), (TEXTS["inv"], [0]), (TEXTS["and"], [0, None])),
+    Chain("all outputs go on, and up to the highest number", 2**62 - 27,
+          (TEXTS["nine_outputs"], [None] * 9), (TEXTS["nine_outputs"], [*range(9)]),
+          (TEXTS["nine_outputs"], [*range(8, -1, -1)])),
+]
+
 OF_BAD_FILES = Case("bad_files", "",
                     "3 6\n2 2 1\n1 2\n\n2 1 0 1 3 AND\n2 1 3 2 4 AND\n2 1 4 0 5 XOR\n")
 

@@ -21,6 +21,9 @@ from bristol import (
 
 ZERO = bytes(16)
 
+# AND numbers are below this, so that twice a number, and one more, has 64 bits.
+MAX_AND_NUMBERS = 2**62
+
 
 # ChaCha20 (RFC 8439), and what the seed stands for.
 
@@ -111,18 +114,25 @@ Garbling = namedtuple("Garbling", "offset zero rows")
 
 def garble(circuit, seed):
     """The garbling of the circuit under the seed. AND gates are numbered from 0, in file order."""
-    offset, rows = offset_of(seed), []
+    inputs = input_zero_labels(seed, len(input_wires(circuit)))
+    return garble_from(circuit, offset_of(seed), inputs, 0)
+
+
+def garble_from(circuit, offset, inputs, first):
+    """The garbling from an offset, the zero labels of the input wires, and the first AND number."""
+    demand(colour(offset) == 1 and len(inputs) == len(input_wires(circuit)), 60, "BadArgument")
+    demand(first + and_count(circuit) <= MAX_AND_NUMBERS, 60, "BadArgument")
+    rows = []
 
     def zero_label(gate, a=ZERO, b=ZERO):
         if gate.operation == "AND":
-            zero, *pair = garble_and(a, b, offset, len(rows))
+            zero, *pair = garble_and(a, b, offset, first + len(rows))
             rows.append(pair)
             return zero
         constant = times(gate.numbers[0], offset)
         zeros = {"XOR": xor(a, b), "INV": xor(a, offset), "EQ": constant, "EQW": a}
         return zeros[gate.operation]
 
-    inputs = input_zero_labels(seed, len(input_wires(circuit)))
     return Garbling(offset, walk(circuit, inputs, zero_label), rows)
 
 
@@ -247,9 +257,9 @@ def bind(circuit, garbled, label_files):
     return [label for index in sorted(values) for label in values[index]]
 
 
-def evaluate(circuit, garbled, inputs):
-    """The active labels of the output wires, and the bits that they decode to."""
-    rows = iter(enumerate(garbled.rows))
+def evaluate_labels(circuit, rows, inputs, first):
+    """The active labels of the output wires, from those of the input wires."""
+    rows = iter(enumerate(rows, first))
 
     def active_label(gate, a=ZERO, b=ZERO):
         if gate.operation == "AND":
@@ -258,11 +268,21 @@ def evaluate(circuit, garbled, inputs):
         return {"XOR": xor(a, b), "INV": a, "EQ": ZERO, "EQW": a}[gate.operation]
 
     active = walk(circuit, inputs, active_label)
-    labels = [active[wire] for wire in output_wires(circuit)]
+    return [active[wire] for wire in output_wires(circuit)]
+
+
+def decode(labels, bits):
+    """The bits of active output labels: each decode bit, changed by the label's colour."""
+    return [bit ^ colour(label) for bit, label in zip(bits, labels)]
+
+
+def evaluate(circuit, garbled, inputs):
+    """The active labels of the output wires, and the bits that they decode to."""
+    labels = evaluate_labels(circuit, garbled.rows, inputs, 0)
     for i, (label, entries) in enumerate(zip(labels, garbled.decode_entries or [])):
         is_known = entries[colour(label)] == tweaked_hash(label, 2 * len(garbled.rows) + i)
         demand(is_known, 48, "UnknownOutputLabel")
-    return labels, [bit ^ colour(label) for bit, label in zip(garbled.decode_bits, labels)]
+    return labels, decode(labels, garbled.decode_bits)
 
 
 # The JSON files.
@@ -351,9 +371,62 @@ def bad_files():
         for about, data, label_data in cases.bad_files(*garbled, labels)]}
 
 
+def texts_of(labels):
+    """The labels in hexadecimal digits."""
+    return [label.hex() for label in labels]
+
+
+def split(items, widths):
+    """The items in lists of these lengths."""
+    items = iter(items)
+    return [[next(items) for _ in range(width)] for width in widths]
+
+
+def chain(case):
+    """Garblings under one offset, where input wires take over outputs of the circuit before.
+
+    The AND gates of each circuit have the numbers after those of the circuit before.
+    """
+    links, first = [], case.first
+    out_zeros, out_bits, out_actives = [], [], []  # of the circuit before
+    for text, joint in zip(case.texts, case.joints):
+        circuit, own, own_bits = read_circuit(text.encode()), case.labels(joint), case.bits(joint)
+        own_actives = [xor(it, times(bit, case.offset)) for it, bit in zip(own, own_bits)]
+        zeros = taken(joint, own, out_zeros)
+        bits = taken(joint, own_bits, out_bits)
+        actives = taken(joint, own_actives, out_actives)
+        garbling = garble_from(circuit, case.offset, zeros, first)
+        out_zeros = [garbling.zero[wire] for wire in output_wires(circuit)]
+        out_actives = evaluate_labels(circuit, garbling.rows, actives, first)
+        out_bits = decode(out_actives, decode_bits(circuit, garbling))
+        assert out_bits == plain_eval(circuit, split(bits, circuit.input_widths))
+        links.append({
+            "circuit": text.split("\n"),
+            "joint": joint,
+            "first": str(first),
+            "input_zero_labels": texts_of(zeros),
+            "rows": ["".join(texts_of(pair)) for pair in garbling.rows],
+            "decode_bits": "".join(map(str, decode_bits(circuit, garbling))),
+            "output_zero_labels": texts_of(out_zeros),
+            "output_one_labels": texts_of(xor(it, case.offset) for it in out_zeros),
+            "bits": "".join(map(str, bits)),
+            "active_input_labels": texts_of(actives),
+            "active_output_labels": texts_of(out_actives),
+            "outputs": "".join(map(str, out_bits)),
+        })
+        first += and_count(circuit)
+    return {"about": case.about, "offset": case.offset.hex(), "links": links}
+
+
+def taken(joint, own, before):
+    """What each input wire has: its own, or what the output has that the joint names."""
+    return [mine if output is None else before[output] for output, mine in zip(joint, own)]
+
+
 def documents():
     """What each JSON file holds, by its name."""
     made = {case.name: vector(case) for case in cases.CASES}
+    made["joined"] = [chain(case) for case in cases.CHAINS]
     made["bad_circuits"] = [
         {"about": about, "text": text, **fault_of(read_circuit, text.encode())}
         for about, text in cases.BAD_CIRCUITS]

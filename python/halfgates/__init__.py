@@ -1,19 +1,22 @@
+# SPDX-License-Identifier: MIT OR Apache-2.0
 """Garbles Boolean circuits with half gates, and evaluates garbled circuits.
 
 A circuit is read once, and garbled under any number of seeds:
 
-    with Circuit.read(text) as circuit, circuit.garble(seed) as garbling:
+    with Circuit.open(path) as circuit, circuit.garble(seed) as garbling:
         garbled = garbling.write()
         labels = [circuit.deal(seed, index, bits) for index, bits in enumerate(values)]
-    with Circuit.read(text) as circuit, circuit.bind(garbled, labels) as job:
+    with Circuit.open(path) as circuit, circuit.bind(garbled, labels) as job:
         outputs = job.evaluate()
 
 Texts and files are objects with the buffer protocol. They are read in place, but several label files are joined first.
-Bits are bytes 0 and 1 in wire order. A call that fails raises a `Fault`, with its `code` and its `name`.
+Bits are bytes 0 and 1 in wire order: `to_bits` makes them of a number, and `from_bits` a number of them. A call that
+fails raises a `Fault`, with its `code` and its `name`.
 """
 
-from ._handles import Bits, Buffer, Circuit, Garbling, Job, locate
-from ._library import Fault, MemoryFault, version
+from ._bits import Bits, Buffer, from_bits, to_bits
+from ._handles import Circuit, Garbling, Job, decode, locate
+from ._library import Fault, MemoryFault, is_memory, version
 from ._reports import GarbledReport, LabelsReport, Place, WireLabels
 
 __version__ = version()
@@ -30,5 +33,9 @@ __all__ = [
     "MemoryFault",
     "Place",
     "WireLabels",
+    "decode",
+    "from_bits",
+    "is_memory",
     "locate",
+    "to_bits",
 ]

@@ -1,80 +1,33 @@
+# SPDX-License-Identifier: MIT OR Apache-2.0
 """Circuits, garblings and jobs: the handles of the library."""
 
-import threading
-from array import array
 from contextlib import contextmanager
-from ctypes import byref, c_size_t, c_uint8, c_uint32, c_void_p
-from mmap import mmap
+from ctypes import byref, c_size_t, c_uint8, c_uint32
 from operator import index as integer
-from typing import Callable, ClassVar, Iterator, List, NoReturn, Optional, Sequence, Tuple, TypeVar, Union
+from os import PathLike
+from pathlib import Path
+from typing import Iterable, Iterator, List, Optional, Tuple, Union
 
 from . import _library
+from ._bits import Bits, Buffer
 from ._buffers import Lent
+from ._handle import Handle, Shape, owner
 from ._library import BAD_ARGUMENT, OK, SMALL_BUFFER, Fault, check, library
 from ._reports import GarbledReport, LabelsReport, Place, WireLabels
 
-#: What lends its bytes. Other objects that do so serve as well.
-Buffer = Union[bytes, bytearray, memoryview, mmap, array]
-
-#: Bits in wire order: a buffer of bytes 0 and 1, or a list or tuple of numbers 0 and 1.
-Bits = Union[Buffer, List[int], Tuple[int, ...]]
-
-H = TypeVar("H", bound="_Handle")
+LABEL = 16  # the bytes of a label
+ROW_PAIR = 32  # those of an AND gate's generator row and evaluator row
+HEAD_OF_LABELS = 16  # those of a label file before its labels
 
 
-class _Handle:
-    """A handle of the library, which one call at a time uses.
-
-    It is freed at the end of its `with` block, by `close`, or with the object. After that its calls raise ValueError.
-    """
-
-    _free: ClassVar[Callable[[c_void_p], None]]
-    _at: Optional[c_void_p] = None
-
-    def __init__(self, at: c_void_p) -> None:
-        if not isinstance(at, c_void_p):
-            makers = "a Circuit comes from Circuit.read, a Garbling from Circuit.garble, a Job from Circuit.bind"
-            raise TypeError(makers)
-        self._at = at
-        self._lock = threading.Lock()
-
-    @contextmanager
-    def _used(self) -> Iterator[c_void_p]:
-        """The handle, which no other call uses meanwhile."""
-        with self._lock:
-            if self._at is None:
-                raise ValueError(f"this {type(self).__name__} is closed")
-            yield self._at
-
-    def close(self) -> None:
-        """Frees the handle. Closing again does nothing."""
-        with self._lock:
-            at, self._at = self._at, None
-        if at is not None:
-            self._free(at)
-
-    def __reduce__(self) -> NoReturn:
-        raise TypeError(f"a {type(self).__name__} can't be copied or pickled")
-
-    def __enter__(self: H) -> H:
-        return self
-
-    def __exit__(self, *_: object) -> None:
-        self.close()
-
-    def __del__(self) -> None:
-        if self._at is not None:
-            self.close()
-
-
-class Circuit(_Handle):
+class Circuit(Handle):
     """A circuit, by `Circuit.read`. Its numbers stay when it is closed, and so do its garblings and jobs.
 
-    Several threads may use one circuit: their calls wait for one another. To garble on several threads at once, read
-    the circuit once for each.
+    Several threads may use one circuit: their calls wait for one another. To garble on several threads at once, give
+    each a handle of its own by `share`.
     """
 
-    _free = library.halfgates_circuit_free
+    _Owner = owner(library.halfgates_circuit_free)
 
     gates: int  #: how many gates there are
     and_gates: int  #: how many of them are AND gates, so how many row pairs a garbling has
@@ -83,43 +36,82 @@ class Circuit(_Handle):
     output_widths: Tuple[int, ...]  #: the number of wires of each output value
     digest: bytes  #: the SHA-256 of the circuit's canonical text
 
-    def __init__(self, at: c_void_p) -> None:
-        super().__init__(at)
-        numbers, digest = _library.Numbers(), bytearray(32)
-        check(library.halfgates_circuit_numbers(at, numbers))
-        with Lent(digest, is_written=True) as lent:
-            check(library.halfgates_circuit_digest(at, lent.at))
-        self.gates, self.and_gates, self.wires = numbers.gates, numbers.and_gates, numbers.wires
-        self.input_widths = self._widths(library.halfgates_circuit_input_widths, numbers.input_values)
-        self.output_widths = self._widths(library.halfgates_circuit_output_widths, numbers.output_values)
-        self.digest = bytes(digest)
+    @classmethod
+    def read(cls, text: Buffer) -> "Circuit":
+        """Reads a circuit from its text in Bristol Fashion, and takes its digest. Faults: 1 to 13, 62."""
+        it = cls._empty()
+        with Lent(text) as lent:
+            check(library.halfgates_circuit_read(lent.at, lent.size, byref(it._at)))
+        it._measure()
+        return it
+
+    @classmethod
+    def open(cls, path: "Union[str, PathLike[str]]") -> "Circuit":
+        """Reads a circuit from a file. A file that can't be read raises OSError. Faults as of `read`."""
+        return cls.read(Path(path).read_bytes())
+
+    @classmethod
+    def from_text(cls, text: str) -> "Circuit":
+        """Reads a circuit from a string. Faults as of `read`."""
+        if not isinstance(text, str):
+            raise TypeError(f"a text is a str, and not a {type(text).__name__}: Circuit.read takes bytes")
+        return cls.read(text.encode())
+
+    def share(self) -> "Circuit":
+        """One more handle of the same circuit, without a copy: each thread can have its own. Fault: 62."""
+        it = self._empty()
+        check(self._call(library.halfgates_circuit_share, byref(it._at)))
+        it._describe(self._shape, self.digest)
+        return it
+
+    def _measure(self) -> None:
+        numbers, digest = _library.Numbers(), (c_uint8 * 32)()
+        check(library.halfgates_circuit_numbers(self._at, numbers))
+        check(library.halfgates_circuit_digest(self._at, digest))
+        inputs = self._widths(library.halfgates_circuit_input_widths, numbers.input_values)
+        outputs = self._widths(library.halfgates_circuit_output_widths, numbers.output_values)
+        self._describe(Shape(numbers.gates, numbers.and_gates, numbers.wires, inputs, outputs), bytes(digest))
 
     def _widths(self, function, count: int) -> Tuple[int, ...]:
         widths = (c_uint32 * count)()
         check(function(self._at, widths, count))
         return tuple(widths)
 
-    @classmethod
-    def read(cls, text: Buffer) -> "Circuit":
-        """Reads a circuit from its text in Bristol Fashion, and takes its digest. Faults: 1 to 13, 62."""
-        at = c_void_p()
-        with Lent(text) as lent:
-            check(library.halfgates_circuit_read(lent.at, lent.size, byref(at)))
-        return cls(at)
+    def _describe(self, shape: Shape, digest: bytes) -> None:
+        self._shape, self.digest = shape, digest
+        self.gates, self.and_gates, self.wires, self.input_widths, self.output_widths = shape
 
     def garbled_size(self, version: int = 2) -> int:
         """How many bytes a garbled file of this version has, 1 or 2. Fault 60: there is no such version."""
-        with self._used() as at:
-            size = library.halfgates_garbled_size(at, _u32(version))
+        size = self._call(library.halfgates_garbled_size, _u32(version))
         check(OK if size else BAD_ARGUMENT)
         return size
 
     def garble(self, seed: Buffer) -> "Garbling":
         """Garbles under a seed of 32 bytes: take `secrets.token_bytes(32)` for each garbling. Faults: 23, 62."""
-        garbling = c_void_p()
-        with _lent_seed(seed) as lent, self._used() as at:
-            check(library.halfgates_garble(at, lent.at, byref(garbling)))
-        return Garbling(garbling, self.wires)
+        it = self._garbling()
+        with _lent(seed, "a seed", 32) as lent:
+            check(self._call(library.halfgates_garble, lent.at, byref(it._at)))
+        return it
+
+    def garble_from(self, offset: Buffer, zero_labels: Buffer, first: int = 0) -> "Garbling":
+        """Garbles from an offset of 16 bytes, a zero label for each input wire, and the number of the first AND gate.
+
+        The zero labels are 16 bytes a wire, one after another. Under one offset use no AND number twice, or whoever
+        evaluates can learn labels that it wasn't given: after this garbling go on from `first + and_gates`. Faults: 23,
+        60 where the offset's colour bit is 0, there is another number of labels, or `first + and_gates` is above 2^62,
+        62.
+        """
+        it, first = self._garbling(), _u64(first)
+        with _lent(offset, "an offset", LABEL) as lent, Lent(zero_labels) as labels:
+            words = lent.at, labels.at, labels.size, first, byref(it._at)
+            check(self._call(library.halfgates_garble_from, *words))
+        return it
+
+    def _garbling(self) -> "Garbling":
+        it = Garbling._empty()
+        it._shape = self._shape
+        return it
 
     def deal(self, seed: Buffer, index: int, bits: Bits) -> bytearray:
         """The label file of the input value of this index, which stands for these bits under a seed of 32 bytes.
@@ -127,128 +119,218 @@ class Circuit(_Handle):
         Deal each value once for a seed: two label files of one value for different bits give the offset away, and so
         both labels of every wire. Faults: 13, 15, 16, 42, 62.
         """
-        written = c_size_t()
-        with _lent_seed(seed) as key, _lent_bits(bits) as value:
-            file = bytearray(16 + 16 * value.size)
-            with Lent(file, is_written=True) as out, self._used() as at:
-                words = key.at, _u32(index), value.at, value.size, out.at, out.size
-                check(library.halfgates_deal(at, *words, byref(written)))
+        index, written = _u32(index), c_size_t()
+        with _lent(seed, "a seed", 32) as key, _lent_bits(bits) as value:
+            file = bytearray(HEAD_OF_LABELS + LABEL * value.size)
+            with Lent(file, is_written=True) as out:
+                words = key.at, index, value.at, value.size, out.at, out.size, byref(written)
+                check(self._call(library.halfgates_deal, *words))
         return file
 
-    def bind(self, garbled: Buffer, labels: Sequence[Buffer]) -> "Job":
+    def label_file(self, index: int, labels: Buffer) -> bytearray:
+        """The label file of the input value of this index, from labels that were received, 16 bytes a wire.
+
+        Faults: 42, 60 where there is another number of labels, 62.
+        """
+        index, written = _u32(index), c_size_t()
+        with Lent(labels) as lent:
+            file = bytearray(HEAD_OF_LABELS + lent.size)
+            with Lent(file, is_written=True) as out:
+                words = index, lent.at, lent.size, out.at, out.size, byref(written)
+                check(self._call(library.halfgates_label_file, *words))
+        return file
+
+    def bind(self, garbled: Buffer, labels: Iterable[Buffer]) -> "Job":
         """Binds a garbled file and a label file for each input value, in any order, to a job.
 
         Nothing of the files is trusted. Faults: 30 to 36 of the files in turn, 40 to 46, 62.
         """
-        job, sizes = c_void_p(), (c_size_t * len(labels))(*map(_size_of, labels))
-        joined = labels[0] if len(labels) == 1 else b"".join(labels)
-        with Lent(garbled) as file, Lent(joined) as lent, self._used() as at:
-            words = file.at, file.size, lent.at, lent.size, sizes, len(labels)
-            check(library.halfgates_job_bind(at, *words, byref(job)))
-        return Job(job, sum(self.output_widths))
+        it, files = Job._empty(), list(labels)
+        it._shape = self._shape
+        sizes = (c_size_t * len(files))(*map(_size_of, files))
+        joined = files[0] if len(files) == 1 else b"".join(files)
+        with Lent(garbled) as file, Lent(joined) as lent:
+            words = file.at, file.size, lent.at, lent.size, sizes, len(files), byref(it._at)
+            check(self._call(library.halfgates_job_bind, *words))
+        return it
 
     def plain(self, bits: Bits) -> bytearray:
         """The bits of all output wires for those of all input wires, without garbling. Faults: 13, 15, 16."""
-        outputs = bytearray(sum(self.output_widths))
-        with _lent_bits(bits) as lent, Lent(outputs, is_written=True) as out, self._used() as at:
-            check(library.halfgates_plain(at, lent.at, lent.size, out.at, out.size))
+        outputs = bytearray(self._shape.output_wires)
+        with _lent_bits(bits) as lent, Lent(outputs, is_written=True) as out:
+            check(self._call(library.halfgates_plain, lent.at, lent.size, out.at, out.size))
+        return outputs
+
+    def evaluate_labels(self, rows: Buffer, labels: Buffer, first: int = 0) -> bytearray:
+        """The active labels of all output wires, 16 bytes each, from the row pairs and those of all input wires.
+
+        `first` is the number of the first AND gate, as for `garble_from`. Nothing of rows and labels is trusted.
+        Faults: 46, 60 where there is another number of rows or labels, or `first + and_gates` is above 2^62.
+        """
+        first, outputs = _u64(first), bytearray(LABEL * self._shape.output_wires)
+        with Lent(rows) as pairs, Lent(labels) as lent, Lent(outputs, is_written=True) as out:
+            words = pairs.at, pairs.size, first, lent.at, lent.size, out.at, out.size
+            check(self._call(library.halfgates_evaluate_labels, *words))
         return outputs
 
 
-class Garbling(_Handle):
-    """The garbling of a circuit under a seed, by `Circuit.garble`. Whoever has it knows all labels."""
+class Garbling(Handle):
+    """The garbling of a circuit, by `Circuit.garble`. Whoever has it knows all labels."""
 
-    _free = library.halfgates_garbling_free
-
-    def __init__(self, at: c_void_p, wires: int) -> None:
-        super().__init__(at)
-        self._wires = wires
+    _Owner = owner(library.halfgates_garbling_free)
 
     def write(self, version: int = 2) -> bytearray:
         """The garbled file of a version, 1 or 2. Faults: 60 where there is no such version, 62."""
+        version = _u32(version)
         file = bytearray(self._size(version))
         self.write_into(file, version)
         return file
 
     def write_into(self, buffer: object, version: int = 2) -> int:
-        """Writes the garbled file of a version, 1 or 2, to a writable buffer, and answers the number of its bytes.
+        """Writes the garbled file of a version, 1 or 2, to a writable buffer, and returns the number of its bytes.
 
         Faults: 60 where there is no such version, 61 where the buffer has too little room and stays as it is, 62.
         """
-        written = c_size_t()
-        with Lent(buffer, is_written=True) as out, self._used() as at:
-            check(library.halfgates_garbling_write(at, _u32(version), out.at, out.size, byref(written)))
+        version, written = _u32(version), c_size_t()
+        with Lent(buffer, is_written=True) as out:
+            check(self._call(library.halfgates_garbling_write, version, out.at, out.size, byref(written)))
         return written.value
 
     def _size(self, version: int) -> int:
         written = c_size_t()
-        with self._used() as at:
-            code = library.halfgates_garbling_write(at, _u32(version), None, 0, byref(written))
+        code = self._call(library.halfgates_garbling_write, version, None, 0, byref(written))
         if code != SMALL_BUFFER:
             check(code)
         return written.value
 
+    @property
+    def offset(self) -> bytes:
+        """The offset, 16 bytes: the label of a 1 is the zero label XOR the offset. Give it to nobody who evaluates."""
+        offset = (c_uint8 * LABEL)()
+        check(self._call(library.halfgates_offset, offset))
+        return bytes(offset)
+
+    def input_labels(self, index: int) -> Tuple[bytes, bytes]:
+        """The zero labels and the one labels of the wires of an input value, 16 bytes a wire: what a transfer offers.
+
+        Fault 42: there is no such value.
+        """
+        return self._pairs(library.halfgates_input_labels, self._shape.input_widths, _u32(index))
+
+    def output_labels(self, index: int) -> Tuple[bytes, bytes]:
+        """The zero labels and the one labels of the wires of an output value. Fault 42: there is no such value."""
+        return self._pairs(library.halfgates_output_labels, self._shape.output_widths, _u32(index))
+
+    def _pairs(self, function, widths: Tuple[int, ...], index: int) -> Tuple[bytes, bytes]:
+        size = LABEL * widths[index] if index < len(widths) else 0
+        zero, one = (c_uint8 * size)(), (c_uint8 * size)()
+        check(self._call(function, index, byref(zero), byref(one), size))
+        return bytes(zero), bytes(one)
+
+    def deal(self, index: int, bits: Bits) -> bytearray:
+        """The label file of the input value of this index, which stands for these bits. See `Circuit.deal`.
+
+        Faults: 13, 15, 16, 42, 62.
+        """
+        index, written = _u32(index), c_size_t()
+        with _lent_bits(bits) as value:
+            file = bytearray(HEAD_OF_LABELS + LABEL * value.size)
+            with Lent(file, is_written=True) as out:
+                words = index, value.at, value.size, out.at, out.size, byref(written)
+                check(self._call(library.halfgates_garbling_deal, *words))
+        return file
+
+    def rows(self) -> bytearray:
+        """The row pairs: for each AND gate the generator's row and the evaluator's row, 16 bytes each."""
+        rows = bytearray(ROW_PAIR * self._shape.and_gates)
+        with Lent(rows, is_written=True) as out:
+            check(self._call(library.halfgates_rows, out.at, out.size))
+        return rows
+
+    def decode_bits(self) -> bytearray:
+        """The decode bits of all output wires: `decode` opens the outputs to whoever has those of their wires."""
+        bits = bytearray(self._shape.output_wires)
+        with Lent(bits, is_written=True) as out:
+            check(self._call(library.halfgates_decode_bits, out.at, out.size))
+        return bits
+
     def zero_label(self, wire: int) -> bytes:
         """The zero label of a wire, 16 bytes, zeros for a wire that isn't set. Fault 60: there is no such wire."""
-        label = (c_uint8 * 16)()
-        with self._used() as at:
-            check(library.halfgates_zero_label(at, _u32(wire), label))
+        label = (c_uint8 * LABEL)()
+        check(self._call(library.halfgates_zero_label, _u32(wire), label))
         return bytes(label)
 
     def decode_bit(self, output: int) -> int:
         """The decode bit of an output wire, counted from 0 among these. Fault 60: there is no such output."""
         bit = c_uint8()
-        with self._used() as at:
-            check(library.halfgates_decode_bit(at, _u32(output), byref(bit)))
+        check(self._call(library.halfgates_decode_bit, _u32(output), byref(bit)))
         return bit.value
 
     def labels(self, bits: Bits, start: int = 0, count: Optional[int] = None) -> List[WireLabels]:
         """The labels of `count` wires from `start` on, or of all from there, for the bits of all input wires.
 
-        Where a bit is 1 both labels of its wire stand here, and so the offset: give them to nobody who evaluates.
+        Where a bit is 1 both labels of its wire are here, and so the offset: give them to nobody who evaluates.
         Faults: 13, 15, 16, 60 where there are no such wires.
         """
-        most = max(self._wires - _u32(start), 0)
+        start = _u32(start)
+        most = max(self._shape.wires - start, 0)
         count = most if count is None else integer(count)
         if not 0 <= count <= most:
             raise Fault(BAD_ARGUMENT)
         found = (_library.WireLabels * count)()
-        with _lent_bits(bits) as lent, self._used() as at:
-            check(library.halfgates_labels(at, lent.at, lent.size, _u32(start), found, count))
+        with _lent_bits(bits) as lent:
+            check(self._call(library.halfgates_labels, lent.at, lent.size, start, found, count))
         return [WireLabels._of(it) for it in found]
 
     def audit(self, garbled: Buffer) -> GarbledReport:
         """Compares a garbled file of either version with the garbling. Faults: 30 to 36 of the file."""
         report = _library.AuditReport()
-        with Lent(garbled) as lent, self._used() as at:
-            check(library.halfgates_audit(at, lent.at, lent.size, report))
+        with Lent(garbled) as lent:
+            check(self._call(library.halfgates_audit, lent.at, lent.size, report))
         return GarbledReport._of(report)
 
     def audit_labels(self, labels: Buffer) -> LabelsReport:
         """Compares a label file with the garbling, and returns the bits that it stands for. Faults: 30 to 36, 46."""
         report = _library.LabelsReport()
         with Lent(labels) as lent:
-            bits = bytearray(max(lent.size // 16 - 1, 0))
-            with Lent(bits, is_written=True) as out, self._used() as at:
-                check(library.halfgates_audit_labels(at, lent.at, lent.size, out.at, out.size, report))
+            bits = bytearray(max(lent.size // LABEL - 1, 0))
+            with Lent(bits, is_written=True) as out:
+                words = lent.at, lent.size, out.at, out.size, report
+                check(self._call(library.halfgates_audit_labels, *words))
         return LabelsReport._of(report, bits)
 
 
-class Job(_Handle):
+class Job(Handle):
     """What an evaluator has, by `Circuit.bind`: a circuit, a garbled file of it, and a label for each input wire."""
 
-    _free = library.halfgates_job_free
-
-    def __init__(self, at: c_void_p, outputs: int) -> None:
-        super().__init__(at)
-        self._outputs = outputs
+    _Owner = owner(library.halfgates_job_free)
 
     def evaluate(self) -> bytearray:
         """The bits of all output wires. A job may be evaluated again. Faults: 46, 48."""
-        bits = bytearray(self._outputs)
-        with Lent(bits, is_written=True) as out, self._used() as at:
-            check(library.halfgates_evaluate(at, out.at, out.size))
+        bits = bytearray(self._shape.output_wires)
+        with Lent(bits, is_written=True) as out:
+            check(self._call(library.halfgates_evaluate, out.at, out.size))
         return bits
+
+    def output_labels(self) -> bytearray:
+        """The active labels of all output wires, 16 bytes each. Fault: 46."""
+        labels = bytearray(LABEL * self._shape.output_wires)
+        with Lent(labels, is_written=True) as out:
+            check(self._call(library.halfgates_job_output_labels, out.at, out.size))
+        return labels
+
+
+def decode(labels: Buffer, decode_bits: Bits) -> bytearray:
+    """The bits of active output labels, 16 bytes each, by the decode bits of their wires.
+
+    Any label decodes: that it is one of its wire's two isn't checked. Faults: 13, 46, 15 where a decode bit is neither
+    0 nor 1, 60 where there is another number of labels than of bits.
+    """
+    with Lent(labels) as lent, _lent_bits(decode_bits) as decoding:
+        bits = bytearray(decoding.size)
+        with Lent(bits, is_written=True) as out:
+            check(library.halfgates_decode(lent.at, lent.size, decoding.at, decoding.size, out.at, out.size))
+    return bits
 
 
 def locate(text: Buffer) -> Optional[Place]:
@@ -260,10 +342,19 @@ def locate(text: Buffer) -> Optional[Place]:
 
 
 def _u32(number: int) -> int:
-    """The number, where it has 32 bits: ctypes drops bits without a word."""
-    if not 0 <= integer(number) < 2**32:
-        raise OverflowError(f"{number} is not from 0 to 4,294,967,295")
-    return integer(number)
+    return _unsigned(number, 32)
+
+
+def _u64(number: int) -> int:
+    return _unsigned(number, 64)
+
+
+def _unsigned(number: int, width: int) -> int:
+    """The number, where it has this many bits: ctypes drops bits without a word."""
+    number = integer(number)
+    if not 0 <= number < 1 << width:
+        raise OverflowError(f"a number is from 0 to {2**width - 1:,}")
+    return number
 
 
 def _size_of(data: Buffer) -> int:
@@ -280,8 +371,9 @@ def _lent_bits(bits: Bits) -> Iterator[Lent]:
 
 
 @contextmanager
-def _lent_seed(seed: Buffer) -> Iterator[Lent]:
-    with Lent(seed) as lent:
-        if lent.size != 32:
-            raise ValueError(f"a seed has 32 bytes, and not {lent.size}")
+def _lent(data: Buffer, what: str, size: int) -> Iterator[Lent]:
+    """The bytes of something that has a fixed number of them."""
+    with Lent(data) as lent:
+        if lent.size != size:
+            raise ValueError(f"{what} has {size} bytes, and not {lent.size}")
         yield lent

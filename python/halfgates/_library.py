@@ -1,9 +1,10 @@
+# SPDX-License-Identifier: MIT OR Apache-2.0
 """The shared library, its functions and its structs, as include/halfgates.h declares them."""
 
 import ctypes
-import os
 from ctypes import POINTER, c_char, c_int32, c_size_t, c_uint8, c_uint32, c_uint64, c_void_p
-from pathlib import Path
+
+from ._path import library_path
 
 OK, BAD_ARGUMENT, SMALL_BUFFER = 0, 60, 61
 
@@ -55,11 +56,13 @@ class LabelsReport(ctypes.Structure):
 
 _BYTES, _HANDLE, _SIZE = c_void_p, c_void_p, POINTER(c_size_t)
 
-# By function what it answers, and what it takes.
+# By function what it returns, and what it takes.
 _FUNCTIONS = {
     "fault_name": (Name, c_int32),
     "version": (Name,),
+    "is_memory": (c_int32, c_int32),
     "circuit_read": (c_int32, _BYTES, c_size_t, POINTER(_HANDLE)),
+    "circuit_share": (c_int32, _HANDLE, POINTER(_HANDLE)),
     "circuit_free": (None, _HANDLE),
     "circuit_numbers": (c_int32, _HANDLE, POINTER(Numbers)),
     "circuit_input_widths": (c_int32, _HANDLE, POINTER(c_uint32), c_size_t),
@@ -68,33 +71,38 @@ _FUNCTIONS = {
     "locate": (c_int32, _BYTES, c_size_t, POINTER(Place)),
     "plain": (c_int32, _HANDLE, _BYTES, c_size_t, _BYTES, c_size_t),
     "garble": (c_int32, _HANDLE, _BYTES, POINTER(_HANDLE)),
+    "garble_from": (c_int32, _HANDLE, _BYTES, _BYTES, c_size_t, c_uint64, POINTER(_HANDLE)),
     "garbling_free": (None, _HANDLE),
     "garbled_size": (c_uint64, _HANDLE, c_uint32),
     "garbling_write": (c_int32, _HANDLE, c_uint32, _BYTES, c_size_t, _SIZE),
     "deal": (c_int32, _HANDLE, _BYTES, c_uint32, _BYTES, c_size_t, _BYTES, c_size_t, _SIZE),
+    "garbling_deal": (c_int32, _HANDLE, c_uint32, _BYTES, c_size_t, _BYTES, c_size_t, _SIZE),
+    "label_file": (c_int32, _HANDLE, c_uint32, _BYTES, c_size_t, _BYTES, c_size_t, _SIZE),
     "zero_label": (c_int32, _HANDLE, c_uint32, c_void_p),
     "decode_bit": (c_int32, _HANDLE, c_uint32, POINTER(c_uint8)),
     "labels": (c_int32, _HANDLE, _BYTES, c_size_t, c_uint32, POINTER(WireLabels), c_size_t),
+    "offset": (c_int32, _HANDLE, c_void_p),
+    "input_labels": (c_int32, _HANDLE, c_uint32, _BYTES, _BYTES, c_size_t),
+    "output_labels": (c_int32, _HANDLE, c_uint32, _BYTES, _BYTES, c_size_t),
+    "rows": (c_int32, _HANDLE, _BYTES, c_size_t),
+    "decode_bits": (c_int32, _HANDLE, _BYTES, c_size_t),
     "job_bind": (c_int32, _HANDLE, _BYTES, c_size_t, _BYTES, c_size_t, _SIZE, c_size_t, POINTER(_HANDLE)),
     "job_free": (None, _HANDLE),
     "evaluate": (c_int32, _HANDLE, _BYTES, c_size_t),
+    "evaluate_labels": (c_int32, _HANDLE, _BYTES, c_size_t, c_uint64, _BYTES, c_size_t, _BYTES, c_size_t),
+    "job_output_labels": (c_int32, _HANDLE, _BYTES, c_size_t),
+    "decode": (c_int32, _BYTES, c_size_t, _BYTES, c_size_t, _BYTES, c_size_t),
     "audit": (c_int32, _HANDLE, _BYTES, c_size_t, POINTER(AuditReport)),
     "audit_labels": (c_int32, _HANDLE, _BYTES, c_size_t, _BYTES, c_size_t, POINTER(LabelsReport)),
 }
 
 
-def _path() -> str:
-    """HALFGATES_LIBRARY, or else what ./build made in the folder of this package, or else what the system finds."""
-    built = Path(__file__).resolve().parents[2] / "out/libhalfgates.so"
-    return os.environ.get("HALFGATES_LIBRARY") or (str(built) if built.is_file() else "libhalfgates.so")
-
-
 def _load() -> ctypes.CDLL:
     try:
-        library = ctypes.CDLL(_path())
-        for name, (answers, *takes) in _FUNCTIONS.items():
+        library = ctypes.CDLL(library_path())
+        for name, (returns, *takes) in _FUNCTIONS.items():
             function = getattr(library, f"halfgates_{name}")
-            function.restype, function.argtypes = answers, takes
+            function.restype, function.argtypes = returns, takes
     except (OSError, AttributeError) as error:
         hint = "./build halfgates_c makes the library, and HALFGATES_LIBRARY names one that lies elsewhere"
         raise ImportError(f"{error} ({hint})") from None
@@ -112,6 +120,11 @@ def name_of(code: int) -> str:
 def version() -> str:
     """The version of the library."""
     return library.halfgates_version().text.decode()
+
+
+def is_memory(code: int) -> bool:
+    """Whether a code is one of those that say that memory ran out: 13, 23, 36, 46 and 62."""
+    return bool(library.halfgates_is_memory(code))
 
 
 class Fault(Exception):
@@ -132,4 +145,4 @@ class MemoryFault(Fault, MemoryError):
 def check(code: int) -> None:
     """Raises the fault of this code, unless it is that of success."""
     if code != OK:
-        raise (MemoryFault if name_of(code) == "Memory" else Fault)(code)
+        raise (MemoryFault if is_memory(code) else Fault)(code)

@@ -1,4 +1,5 @@
-"""What the calls that trace and compare answer. A gate, wire or output that there isn't is None."""
+# SPDX-License-Identifier: MIT OR Apache-2.0
+"""What the calls that trace and compare return. A gate, wire or output that there isn't is None."""
 
 from typing import NamedTuple, Optional
 
@@ -57,6 +58,9 @@ class GarbledReport(NamedTuple):
     entry: Optional[int]  #: the first output of which a decode entry differs; version 1 has no entries
     entry_colour: Optional[int]  #: the colour of that entry, 0 or 1
 
+    def __bool__(self) -> bool:
+        return self.honest
+
     @classmethod
     def _of(cls, it: _library.AuditReport) -> "GarbledReport":
         entry = _or_none(it.entry)
@@ -79,6 +83,9 @@ class LabelsReport(NamedTuple):
     def honest(self) -> bool:
         """Whether the file is the one that `Circuit.deal` makes for these bits."""
         return self.bits is not None
+
+    def __bool__(self) -> bool:
+        return self.honest
 
     @classmethod
     def _of(cls, it: _library.LabelsReport, bits: bytearray) -> "LabelsReport":

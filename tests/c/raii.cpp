@@ -1,10 +1,18 @@
-/* The C++ view: what its calls answer, what they throw, and that handles move. */
+/* The C++ view: handles move and free themselves, what its calls throw, and what its types refuse. */
 #include "check.h"
 #include <halfgates.hpp>
 #include <string>
 #include <type_traits>
 
 namespace {
+
+using halfgates::bytes;
+
+const std::string TEXT = FULL_ADDER;
+
+halfgates::seed seed_of(std::uint8_t byte) {
+    return halfgates::seed::from_bytes(bytes(32, byte));
+}
 
 template <class Call>
 void throws(std::int32_t code, const char *what, Call call) {
@@ -14,69 +22,122 @@ void throws(std::int32_t code, const char *what, Call call) {
         CHECK(fault.code() == code);
         CHECK(std::string(fault.what()) == what);
         CHECK(std::string(what).find(fault.name()) != std::string::npos);
+        CHECK(!fault.is_memory());
         return;
     }
     CHECK(!"it throws");
 }
 
-void check_answers() {
-    const std::string text = FULL_ADDER;
-    const halfgates::seed seed = {{3}};
-    halfgates::circuit circuit(text);
-    CHECK(circuit.numbers().gates == 5);
-    CHECK((circuit.input_widths() == std::vector<std::uint32_t>{1, 1, 1}));
-    CHECK((circuit.output_widths() == std::vector<std::uint32_t>{2}));
-    CHECK(circuit.digest()[0] == 0xc0);
+/* Whether a variable of a type can be made of a list of two bytes, and of nothing. */
+template <class T>
+auto takes_list(int) -> decltype(T{1, 1}, std::true_type());
+template <class T>
+std::false_type takes_list(...);
+template <class T>
+auto takes_nothing(int) -> decltype(T{}, std::true_type());
+template <class T>
+std::false_type takes_nothing(...);
 
-    halfgates::garbling garbling = circuit.garble(seed);
-    for (std::uint32_t version = 1; version <= 2; version++) {
-        const halfgates::bytes garbled = garbling.write(version);
-        CHECK(garbled.size() == circuit.garbled_size(version));
-        CHECK(garbling.audit(garbled).honest);
-        std::vector<halfgates::bytes> files;
-        for (std::uint32_t i = 0; i < 3; i++)
-            files.push_back(circuit.deal(seed, i, halfgates::bytes{1}));
-        CHECK(garbling.audit_labels(files[2]).bits == halfgates::bytes{1});
-        halfgates::job job = circuit.bind(garbled, files);
-        CHECK((job.evaluate() == halfgates::bytes{1, 1}));
-    }
-    const halfgates::bytes bits = {1, 1, 1};
-    CHECK((circuit.plain(bits) == halfgates::bytes{1, 1}));
-    CHECK((circuit.plain({0, 1, 1}) == halfgates::bytes{0, 1}));
-    CHECK(circuit.deal(seed, 0, {0}) == circuit.deal(seed, 0, halfgates::bytes{0}));
-    const std::vector<halfgates_wire_labels> labels = garbling.labels(bits, 6, 2);
-    CHECK(labels.size() == 2 && labels[0].bit == 1);
-    CHECK(garbling.zero_label(7) == garbling.zero_label(7));
-    CHECK(garbling.decode_bit(1) == ((garbling.zero_label(7)[0] & 1) != 0));
-    CHECK(halfgates::locate(text).fault == HALFGATES_OK);
-    CHECK(halfgates::locate(std::string("1 5 x")).column == 5);
+struct not_bytes {
+    int data() const { return 0; }
+    int size() const { return 0; }
+};
+
+void check_types() {
+    using halfgates::circuit;
+    using halfgates::view;
+    static_assert(!decltype(takes_list<view>(0))::value, "the list is gone before the view is");
+    static_assert(!std::is_constructible<view, bytes>::value, "a temporary is gone before the view is");
+    static_assert(!std::is_convertible<bytes, view>::value, "a temporary is gone before the view is");
+    static_assert(std::is_convertible<bytes &, view>::value, "a vector has bytes");
+    static_assert(std::is_convertible<const std::string &, view>::value, "a string has bytes");
+    static_assert(std::is_convertible<halfgates::labels &, view>::value, "labels have bytes");
+    static_assert(!std::is_convertible<int, view>::value, "a number has no bytes");
+    static_assert(!std::is_convertible<std::vector<int> &, view>::value, "items of several bytes aren't bytes");
+    static_assert(!std::is_convertible<not_bytes &, view>::value, "data() isn't a pointer");
+    static_assert(!std::is_constructible<circuit, int>::value, "a number is no text");
+    static_assert(!std::is_constructible<circuit, not_bytes>::value, "data() isn't a pointer");
+    static_assert(!decltype(takes_nothing<halfgates::seed>(0))::value, "no seed is made by accident");
+    static_assert(!std::is_constructible<halfgates::seed, std::array<std::uint8_t, 32>>::value, "by name alone");
+    static_assert(!std::is_copy_constructible<circuit>::value, "handles aren't copied");
+    static_assert(std::is_nothrow_move_constructible<circuit>::value, "handles are moved");
+    static_assert(std::is_nothrow_move_constructible<halfgates::garbling>::value, "handles are moved");
+    static_assert(std::is_nothrow_move_constructible<halfgates::job>::value, "handles are moved");
+}
+
+void check_seeds() {
+    const halfgates::seed first = halfgates::seed::random(), second = halfgates::seed::random();
+    CHECK(memcmp(first.data(), second.data(), 32) != 0);
+    const bytes given(32, 7);
+    CHECK(memcmp(halfgates::seed::from_bytes(given).data(), given.data(), 32) == 0);
+    throws(60, "fault 60 BadArgument", [] { (void)halfgates::seed::from_bytes({}); });
+    throws(60, "fault 60 BadArgument", [] { (void)halfgates::seed::from_bytes(bytes(31)); });
+    throws(60, "fault 60 BadArgument", [] { (void)halfgates::seed::from_bytes(bytes(33)); });
+}
+
+/* What a call reads may be a list, a temporary, a view, or a pointer and a size. */
+void check_inputs() {
+    halfgates::circuit circuit(TEXT);
+    const bytes bits = {0, 1, 1}, expected = {0, 1};
+    const std::array<std::uint8_t, 3> array = {{0, 1, 1}};
+    const halfgates::view view(bits);
+    CHECK(circuit.plain(bits) == expected);
+    CHECK(circuit.plain(array) == expected);
+    CHECK(circuit.plain(view) == expected);
+    CHECK(circuit.plain(bytes{0, 1, 1}) == expected);
+    CHECK(circuit.plain({0, 1, 1}) == expected);
+    CHECK(circuit.plain({bits.data(), bits.size()}) == expected);
+    CHECK(circuit.plain(std::string("\0\1\1", 3)) == expected);
 }
 
 void check_faults() {
-    halfgates::circuit circuit{halfgates::view(FULL_ADDER, sizeof FULL_ADDER - 1)};
-    halfgates::garbling garbling = circuit.garble(halfgates::seed());
-    throws(1, "fault 1 Truncated", [] { halfgates::circuit it(halfgates::bytes{}); });
-    throws(16, "fault 16 WrongLength", [&] { circuit.plain(halfgates::bytes{1}); });
-    throws(42, "fault 42 NoSuchValue", [&] { circuit.deal(halfgates::seed(), 3, halfgates::bytes{1}); });
-    throws(45, "fault 45 MissingValue", [&] { circuit.bind(garbling.write(), {}); });
-    throws(60, "fault 60 BadArgument", [&] { garbling.write(3); });
-    throws(60, "fault 60 BadArgument", [&] { circuit.garbled_size(3); });
+    halfgates::circuit circuit(TEXT);
+    halfgates::garbling garbling = circuit.garble(seed_of(0));
+    throws(1, "fault 1 Truncated", [] { halfgates::circuit it(bytes{}); });
+    throws(16, "fault 16 WrongLength", [&] { (void)circuit.plain({1}); });
+    throws(42, "fault 42 NoSuchValue", [&] { (void)circuit.deal(seed_of(0), 3, {1}); });
+    throws(45, "fault 45 MissingValue", [&] { (void)circuit.bind(garbling.write(), {}); });
+    throws(60, "fault 60 BadArgument", [&] { (void)garbling.write(3); });
+    throws(60, "fault 60 BadArgument", [&] { (void)circuit.garbled_size(3); });
+    throws(60, "fault 60 BadArgument", [&] { (void)garbling.decode_bit(2); });
+    throws(60, "fault 60 BadArgument", [&] { (void)garbling.zero_label(8); });
+    throws(31, "fault 31 Truncated", [&] { (void)garbling.audit(bytes{}); });
+    throws(31, "fault 31 Truncated", [&] { (void)garbling.audit_labels(bytes{}); });
+    std::uint8_t small[176];
+    throws(61, "fault 61 SmallBuffer", [&] { garbling.write_into(small, sizeof small); });
+    for (std::size_t count : {SIZE_MAX, SIZE_MAX / 33, SIZE_MAX / 2, std::size_t(9)}) {
+        throws(60, "fault 60 BadArgument", [&] { (void)garbling.labels({1, 0, 1}, 0, count); });
+        throws(60, "fault 60 BadArgument", [&] { (void)garbling.labels({1, 0, 1}, UINT32_MAX, count); });
+    }
+    throws(60, "fault 60 BadArgument", [&] { (void)garbling.labels({1, 0, 1}, 9, 0); });
+    CHECK(garbling.labels({1, 0, 1}, 8, 0).empty());
+    CHECK(halfgates::fault(HALFGATES_MEMORY).is_memory());
 }
 
 void check_moves() {
-    static_assert(!std::is_copy_constructible<halfgates::circuit>::value, "handles aren't copied");
-    static_assert(std::is_nothrow_move_constructible<halfgates::garbling>::value, "handles are moved");
-    halfgates::circuit first{halfgates::view(FULL_ADDER, sizeof FULL_ADDER - 1)};
+    halfgates::circuit first(TEXT);
     halfgates::circuit second = std::move(first);
-    halfgates::garbling garbling = second.garble(halfgates::seed());
-    garbling = second.garble(halfgates::seed());
+    CHECK(first.get() == nullptr);
+    throws(60, "fault 60 BadArgument", [&] { (void)first.garble(seed_of(0)); });
+    halfgates::garbling garbling = second.garble(seed_of(0));
+    garbling = second.garble(seed_of(1));
     CHECK(garbling.write().size() == 177);
+    halfgates::garbling moved = std::move(garbling);
+    throws(60, "fault 60 BadArgument", [&] { (void)garbling.input_labels(0); });
+    throws(60, "fault 60 BadArgument", [&] { (void)garbling.rows(); });
+    CHECK(moved.write().size() == 177);
+    first = second.share();
+    halfgates::circuit third = first.share();
+    second = std::move(third);
+    CHECK(first.digest() == second.digest() && first.garble(seed_of(1)).write() == moved.write());
 }
 
 } // namespace
 
 int main() {
-    check_answers();
+    check_types();
+    check_seeds();
+    check_inputs();
     check_faults();
     check_moves();
     return 0;

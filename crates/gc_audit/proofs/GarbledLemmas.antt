@@ -1,5 +1,5 @@
 -- What an audit of a garbled file finds, from what it finds of each part.
-use Rattle.gc_audit.proofs.Names.{◌≡◌, ◌≢◌, ◌↔◌, ℕ, ◌+◌, ◌-◌, ◌<◌, Bool, true, false, List, length, map, take, slice_get, slice_index, get_or, Option, Some, None, MatchOption, refl, sym, ap, subst, ◌∙◌, arith, get_or_from_slice_get, slice_get-get_or, sha256, Netlist, IsLawful, canonical_text, offset_of, GarblingParts, FitsCircuit, decode_bits_of, garbling_of, row_pairs_of, HasLabels, length-row_pairs_of, parts-same, Version, One, Two, GarbledParts, entry_count, entry_pair_of, entry_pairs_of, length-decode_bits, length-entry_pairs, entry_pairs-at, version_entries, honest_parts, DifferFirstAt, IsRowDifference, named, DifferFirstIn, IsEntryDifference}
+use Rattle.gc_audit.proofs.Names.{◌≡◌, ◌≢◌, ◌↔◌, ℕ, ◌+◌, ◌-◌, ◌<◌, Bool, true, false, List, length, map, take, slice_get, slice_index, get_or, Option, Some, None, MatchOption, refl, sym, ap, subst, ◌∙◌, arith, get_or_from_slice_get, slice_get-get_or, sha256, Netlist, IsLawful, canonical_text, offset_of, GarblingParts, FitsCircuit, decode_bits_of, garbling_of, row_pairs_of, HasLabels, length-row_pairs_of, parts-same, Version, One, Two, GarbledParts, entry_count, entry_pair_of, entry_pairs_of, length-decode_bits, length-entry_pairs, entry_pairs-at, version_entries, honest_parts_with, DifferFirstAt, IsRowDifference, named, DifferFirstIn, IsEntryDifference}
 use Rattle.std.specs.List.{range_with_len}
 use Rattle.std.proofs.lemmas.List.FromFn.{get_or-map-range_with_len}
 use Rattle.gc_half.specs.Entry.{entry_of, entries_of, label_of_colour, output_tweak}
@@ -7,7 +7,7 @@ use Rattle.gc_half.specs.Hash.{hash}
 use Rattle.gc_format.specs.declared.parts.EntryPair.{EntryPair}
 use Rattle.gc_audit.specs.declared.garbled.GarbledAudit.{GarbledAudit}
 use Rattle.gc_audit.specs.declared.garbled.PartsAudit.{PartsAudit}
-use Rattle.gc_audit.specs.Garbled.{AreCountsRight, IsPartsAudit, IsGarbledAudit, honest_audit}
+use Rattle.gc_audit.specs.Garbled.{AreCountsRight, IsPartsAudit, IsPartsAuditWith, IsGarbledAuditWith, honest_audit}
 use Rattle.gc_audit.proofs.DifferenceLemmas.{differ_first, none_found}
 
 -- The entry pair of an output stands at its place.
@@ -46,14 +46,14 @@ entry_difference entries pairs i p q s before at_p at_q differ = record {
       rw (get_or_from_slice_get entries i p none at_p, get_or_from_slice_get pairs i q none at_q) differ;
 }
 
-module _ (c : Netlist) (g : GarblingParts) (seed : List ℕ) (file : GarbledParts) where
+module _ (c : Netlist) (g : GarblingParts) (offset : ℕ) (file : GarbledParts) where
   abbrev IsHonest : Type 0
-  IsHonest = file ≡ honest_parts file.version c g seed
+  IsHonest = file ≡ honest_parts_with file.version c g offset
 
   -- A file is honest where each part is.
   honest-parts : file.digest ≡ sha256 (canonical_text c) → file.rows ≡ g.rows
       → file.decode_bits ≡ decode_bits_of g
-      → file.entries ≡ version_entries file.version (offset_of seed) g → IsHonest
+      → file.entries ≡ version_entries file.version offset g → IsHonest
   honest-parts digest rows bits entries = rw (← entries, ← bits, ← digest, ← rows)
 
   -- An honest file has the counts of the circuit.
@@ -71,14 +71,14 @@ module _ (c : Netlist) (g : GarblingParts) (seed : List ℕ) (file : GarbledPart
             ∙ counted file.version ∙ ap (entry_count file.version) (sym (bits_same ∙ bits));
       }
     where
-      counted : (v : Version) → length (version_entries v (offset_of seed) g) ≡ entry_count v g.outputs
+      counted : (v : Version) → length (version_entries v offset g) ≡ entry_count v g.outputs
       counted One = refl
-      counted Two = length-entry_pairs (offset_of seed) g
+      counted Two = length-entry_pairs offset g
 
   module _ (lawful : IsLawful c) (fits : FitsCircuit c g) (is : IsHonest) where
     -- In the parts of an honest file no difference is found,
     none-in_parts : (parts : Option PartsAudit)
-        → MatchOption parts (¬ AreCountsRight c file) (IsPartsAudit c g seed file)
+        → MatchOption parts (¬ AreCountsRight c file) (IsPartsAuditWith c g offset file)
         → parts ≡ Some (record { rows = None; bits = None; entries = None })
     none-in_parts None wrong = absurd (wrong (honest-counts lawful fits is))
     none-in_parts (Some p) found =
@@ -91,17 +91,17 @@ module _ (c : Netlist) (g : GarblingParts) (seed : List ℕ) (file : GarbledPart
               (ap (λ (f : GarbledParts). f.entries) is),
         )
 
-    none-in_file : (audit : GarbledAudit) → IsGarbledAudit c g seed file audit → audit ≡ honest_audit
+    none-in_file : (audit : GarbledAudit) → IsGarbledAuditWith c g offset file audit → audit ≡ honest_audit
     none-in_file audit found =
         let digest : audit.digest ≡ true = found.digest.1 (ap (λ (f : GarbledParts). f.digest) is) in
         rw (← none-in_parts audit.parts found.parts, ← digest)
 
   -- and where none is found the file is honest.
   pub finds_none-honest : IsLawful c → FitsCircuit c g → (audit : GarbledAudit)
-      → IsGarbledAudit c g seed file audit → (audit ≡ honest_audit) ↔ IsHonest
+      → IsGarbledAuditWith c g offset file audit → (audit ≡ honest_audit) ↔ IsHonest
   finds_none-honest lawful fits audit found = (
     λ none.
-        let at = subst (IsGarbledAudit c g seed file) none found in
+        let at = subst (IsGarbledAuditWith c g offset file) none found in
         honest-parts (at.digest.0 refl) at.parts.rows at.parts.bits at.parts.entries,
     λ is. none-in_file lawful fits is audit found,
   )

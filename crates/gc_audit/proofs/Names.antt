@@ -4,12 +4,12 @@ pub use Rattle.std.proofs.lemmas.List.{take_all, take_more_same, take_more}
 pub use Rattle.std.proofs.lemmas.Option.{slice_get_within, get_or_from_slice_get, slice_get-get_or, slice_get_read}
 pub use Rattle.gc_audit.specs.Difference.{DifferFirstAt}
 pub use Rattle.gc_audit.specs.Entries.{named, DifferFirstIn, IsEntryDifference}
-pub use Rattle.gc_audit.specs.Labels.{first_wire_of, IsDealt, IsFirstWrong, IsLabelsVerdict, AreCompared, HasBits}
+pub use Rattle.gc_audit.specs.Labels.{first_wire_of, HasInputLabels, IsDealtWith, IsFirstWrong, IsVerdictWith, AreCompared, HasBits}
 pub use Rattle.gc_audit.specs.Rows.{IsRowDifference, DifferIn, IsAndGate}
 pub use Rattle.gc_audit.specs.declared.labels.LabelsVerdict.TheVariants.{Bits, WrongLabel, WrongWidth, NoValue}
-pub use Rattle.gc_file.specs.Honest.{honest_parts, version_entries}
+pub use Rattle.gc_file.specs.Honest.{honest_parts, honest_parts_with, version_entries}
 pub use Rattle.gc_format.specs.GarbledFile.{GarbledParts, IsGarbledFile, garbled_file, entry_count}
-pub use Rattle.gc_format.specs.LabelFile.{label_file, label_parts_of, LabelFileParts, encoded_from}
+pub use Rattle.gc_format.specs.LabelFile.{label_file, label_parts_of, LabelFileParts, encoded_with}
 pub use Rattle.gc_format.specs.declared.parts.Version.{Version}
 pub use Rattle.gc_format.specs.declared.parts.Version.TheVariants.{One, Two}
 pub use Rattle.gc_half.proofs.AndNumbers.{and_number-and, and_number-other, and_number-le, and_number-end}

@@ -20,23 +20,30 @@ pub record AreCountsRight (c : Netlist) (file : GarbledParts) : Type 0 where
   pub decode_bits : length file.decode_bits ≡ output_wires c
   pub entries : length file.entries ≡ entry_count file.version (length file.decode_bits)
 
--- What is found of the parts of a file whose counts are right, by the garbling of the circuit under the seed: of each
+-- What is found of the parts of a file whose counts are right, by a garbling of the circuit with this offset: of each
 -- the first difference, or that there is none. Version 1 has no entries, and so no difference in them.
-pub record IsPartsAudit (c : Netlist) (g : GarblingParts) (seed : List ℕ) (file : GarbledParts)
+pub record IsPartsAuditWith (c : Netlist) (g : GarblingParts) (offset : ℕ) (file : GarbledParts)
     (audit : PartsAudit) : Type 0 where
   pub counts : AreCountsRight c file
   pub rows : MatchOption audit.rows (file.rows ≡ g.rows) (IsRowDifference c file.rows g.rows)
   pub bits : MatchOption audit.bits (file.decode_bits ≡ decode_bits_of g)
       (DifferFirstAt file.decode_bits (decode_bits_of g))
-  pub entries : let entries = version_entries file.version (offset_of seed) g in
+  pub entries : let entries = version_entries file.version offset g in
       MatchOption audit.entries (file.entries ≡ entries) (IsEntryDifference file.entries entries)
 
 -- What is found of a garbled file: whether its digest is the circuit's, the SHA-256 (FIPS 180-4) of its canonical text;
 -- and what is found of the other parts, exactly where their counts are right.
-pub record IsGarbledAudit (c : Netlist) (g : GarblingParts) (seed : List ℕ) (file : GarbledParts)
+pub record IsGarbledAuditWith (c : Netlist) (g : GarblingParts) (offset : ℕ) (file : GarbledParts)
     (audit : GarbledAudit) : Type 0 where
   pub digest : IsTrue audit.digest ↔ (file.digest ≡ sha256 (canonical_text c))
-  pub parts : MatchOption audit.parts (¬ AreCountsRight c file) (IsPartsAudit c g seed file)
+  pub parts : MatchOption audit.parts (¬ AreCountsRight c file) (IsPartsAuditWith c g offset file)
+
+-- The same of the garbling under a seed.
+abbrev pub IsPartsAudit : Netlist → GarblingParts → List ℕ → GarbledParts → PartsAudit → Type 0
+IsPartsAudit c g seed file audit = IsPartsAuditWith c g (offset_of seed) file audit
+
+abbrev pub IsGarbledAudit : Netlist → GarblingParts → List ℕ → GarbledParts → GarbledAudit → Type 0
+IsGarbledAudit c g seed file audit = IsGarbledAuditWith c g (offset_of seed) file audit
 
 -- Nothing differs.
 abbrev pub honest_audit : GarbledAudit

@@ -9,16 +9,16 @@ ghost use Rattle.gc_half.specs.Canonical.{garbling_of};
 ghost use Rattle.gc_half.specs.Comparing.{HasLabels, IsComparison};
 ghost use Rattle.gc_half.specs.Garbling.{decode_bits_of, FitsCircuit};
 ghost use Rattle.gc_format.specs.GarbledFile.{GarbledParts, entry_count};
-ghost use Rattle.gc_file.specs.Honest.{honest_parts};
+ghost use Rattle.gc_file.specs.Honest.{honest_parts_with};
 ghost use Rattle.gc_audit.specs.Difference.{DifferFirstAt};
-ghost use Rattle.gc_audit.specs.Garbled.{AreCountsRight, IsPartsAudit, IsGarbledAudit, honest_audit};
+ghost use Rattle.gc_audit.specs.Garbled.{AreCountsRight, IsPartsAudit, IsPartsAuditWith, IsGarbledAuditWith, honest_audit};
 
 use crate::entries::{EntryDifference, audit_entries};
 use crate::rows::{RowDifference, first_mismatch, row_difference};
 use gc_circuit::Circuit;
 use gc_file::{EntryPair, Garbled, Version};
 use gc_half::{Garbling, Mismatch};
-use gc_label::{Seed, offset};
+use gc_label::{Offset, Seed, offset};
 use std::alloc::Allocator;
 
 /// What an audit finds of a garbled file: in each part the first difference from the circuit's garbling, or none.
@@ -64,24 +64,24 @@ impl GarbledAudit {
 /// where the file holds what the garbled file of its version holds that is written of this garbling.
 ///
 /// The digest is the circuit's, from [`Circuit::digest`], and the garbling fits the circuit: these are the caller's
-/// conditions. The seed is that of the garbling. It takes no memory.
+/// conditions. The offset is that of the garbling, whose AND gates are numbered from 0 on. It allocates nothing.
 pub fn audit_garbled<A: Allocator, B: Allocator, C: Allocator>(
     circuit: &Circuit<A>,
     digest: &[u8; 32],
     garbling: &Garbling<B>,
-    seed: &Seed,
+    offset: Offset,
     file: &Garbled<C>,
 ) -> GarbledAudit
     requires digest { digest.now ≡ sha256 (canonical_text circuit.now) }
     requires fits { FitsCircuit circuit.now garbling.now }
-    ensures audit { IsGarbledAudit circuit.now garbling.now seed.now file.now result }
+    ensures audit { IsGarbledAuditWith circuit.now garbling.now offset file.now result }
     ensures honest { (result ≡ honest_audit)
-        ↔ (file.now ≡ honest_parts file.now.version circuit.now garbling.now seed.now) }
+        ↔ (file.now ≡ honest_parts_with file.now.version circuit.now garbling.now offset) }
 {
     circuit.law_lawful();
     GarbledAudit {
         digest: file.digest() == *digest,
-        parts: audit_parts(circuit, garbling, seed, file),
+        parts: audit_parts(circuit, garbling, offset, file),
     }
 }
 
@@ -89,12 +89,12 @@ pub fn audit_garbled<A: Allocator, B: Allocator, C: Allocator>(
 fn audit_parts<A: Allocator, B: Allocator, C: Allocator>(
     circuit: &Circuit<A>,
     garbling: &Garbling<B>,
-    seed: &Seed,
+    offset: Offset,
     file: &Garbled<C>,
 ) -> Option<PartsAudit>
     requires { FitsCircuit circuit.now garbling.now }
     ensures { MatchOption result (¬ AreCountsRight circuit.now file.now)
-        (IsPartsAudit circuit.now garbling.now seed.now file.now) }
+        (IsPartsAuditWith circuit.now garbling.now offset file.now) }
 {
     if !are_counts_right(circuit, file) {
         return None;
@@ -102,13 +102,7 @@ fn audit_parts<A: Allocator, B: Allocator, C: Allocator>(
     Some(PartsAudit {
         rows: row_difference(circuit, first_mismatch(garbling.rows(), file.rows())),
         bits: audit_bits(garbling, file.decode_bits()),
-        entries: audit_entries(
-            circuit,
-            garbling,
-            offset(seed),
-            file.version(),
-            file.entries(),
-        ),
+        entries: audit_entries(circuit, garbling, offset, file.version(), file.entries()),
     })
 }
 

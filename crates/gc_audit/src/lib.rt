@@ -15,6 +15,6 @@ mod rows;
 
 pub use entries::EntryDifference;
 pub use garbled::{GarbledAudit, PartsAudit, are_counts_right, audit_compared, audit_garbled};
-pub use labels::{LabelsVerdict, audit_labels};
+pub use labels::{LabelsVerdict, audit_labels, audit_labels_with_offset};
 pub use laws::law_audited_files;
 pub use rows::{DifferingRows, RowDifference};

@@ -1,5 +1,5 @@
 -- The workers of an evaluation of a list of jobs.
-use Rattle.std.specs.Prelude.{◌≡◌, ℕ, ◌<◌, Bool, List, All, Option, Some, Vec, IfSome, Ok, length, slice_get, slice_index_or}
+use Rattle.std.specs.Prelude.{◌≡◌, ℕ, ◌+◌, ◌<◌, Bool, List, All, Option, Some, Vec, IfSome, Ok, length, slice_get, slice_index_or}
 use Rattle.gc_rounds.specs.declared.view.Stand.{Stand}
 use Rattle.gc_rounds.specs.declared.view.Stand.TheVariants.{Outside}
 use Rattle.gc_netlist.specs.Solution.{on_outputs}
@@ -41,7 +41,13 @@ module _ {A B C : Type 0} where
   abbrev pub AreWorkersOf : Banks B A C → List (Worker B A C) → Type 0
   AreWorkersOf banks workers = All (IsWorkerOf banks) workers
 
--- The bits at each place of a list, where there are any, are those of the job there.
+-- The bits at each place of a list, where there are any, are those of the job there, counted from this one on.
+abbrev pub AreKnownFrom : {B : Type 0} → List JobParts → ℕ → List (Option (Vec Bool B)) → Type 0
+AreKnownFrom jobs start slots =
+    (k : ℕ) (d : Option (Vec Bool _)) → k < length slots
+    → IfSome (slice_index_or slots k d) (λ bits. AreBitsOf jobs (start + k) bits.items)
+
+-- They are those of the job at the same place.
 abbrev pub AreKnown : {B : Type 0} → List JobParts → List (Option (Vec Bool B)) → Type 0
 AreKnown jobs slots =
     (k : ℕ) (d : Option (Vec Bool _)) → k < length slots

@@ -16,10 +16,10 @@ use gc_rounds::MAX_JOBS;
 use std::alloc::Allocator;
 use std::thread::Threads;
 
-/// The output bits of each job, in order, by this number of workers: what [`evaluate`] answers for it, honest job or
-/// not. One worker evaluates one job after another. Where there are no fewer jobs than workers, or a job's gates would
-/// gain nothing by several threads, each worker evaluates jobs of its own. Otherwise the workers share each job: they
-/// have [`Banks`](crate::Banks), and `observer.before` is called for each gate ahead of each step. A thread is started
+/// The output bits of each job, in order, by this number of workers: what [`evaluate`] returns for it, honest job or
+/// not. Where there are no fewer jobs than workers, or a job's gates would gain nothing by several threads, each worker
+/// evaluates an equal share of the list, four jobs at once. Otherwise the workers share each job: they have
+/// [`Banks`](crate::Banks). A worker calls `observer.before` for each gate before it evaluates it. A thread is started
 /// for each worker but one, and where one can't be started the calling thread does its work too. A job whose bits no
 /// worker has when all have ended is evaluated on one thread, as are all where there is no memory for the banks.
 ///
@@ -47,12 +47,10 @@ pub fn evaluate_jobs<
     if workers == 0 || workers > MAX_WORKERS {
         return Err(EvalFault::BadWorkers);
     }
-    let known = if workers == 1 {
-        Vec::new(alloc)
-    } else if is_shared(alloc, jobs, workers) {
+    let known = if is_shared(alloc, jobs, workers) {
         evaluate_together(rt, alloc, jobs, workers, observer)
     } else {
-        evaluate_apart(rt, alloc, jobs, workers)
+        evaluate_apart(rt, alloc, jobs, workers, observer)
     };
     evaluate_rest(alloc, jobs, known)
 }

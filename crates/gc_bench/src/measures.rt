@@ -9,7 +9,7 @@ use gc_file::{GarbledReader, MemSink, Sink, SinkFault, read_garbled, write_garbl
 use gc_gatehouse::Open;
 use gc_half::{Garbling, garble_one_thread};
 use gc_label::Seed;
-use gc_lanes::{hash_eight, hash_four};
+use gc_lanes::{LongSha256, hash_eight, hash_four};
 use gc_work::garble;
 use sha2::{Digest, Sha256};
 use std::alloc::Global;
@@ -114,6 +114,7 @@ impl Subject {
             Part::ReadFile => self.read_file(alloc),
             Part::Pieces => self.pieces(alloc),
             Part::FileSha => sha(&self.garbled_file),
+            Part::KitSha => not_zeros(Sha256::digest(&self.garbled_file)),
         }
     }
 
@@ -189,7 +190,7 @@ fn file_of(alloc: Global, circuit: &Circuit, garbling: &Garbling, seed: &Seed) -
 }
 
 fn sha(bytes: &[u8]) -> Result<()> {
-    not_zeros(Sha256::digest(bytes))
+    not_zeros(LongSha256::digest(bytes))
 }
 
 /// Uses a digest, so that it has to be computed.

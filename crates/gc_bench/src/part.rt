@@ -35,10 +35,12 @@ pub enum Part {
     Pieces,
     /// SHA-256 over the bytes of the garbled file.
     FileSha,
+    /// The same by the kit's `sha2`.
+    KitSha,
 }
 
 /// All parts, each with its name on the command line.
-static PARTS: [(&str, Part); 21] = [
+static PARTS: [(&str, Part); 22] = [
     ("read", Part::Read),
     ("plain", Part::Plain),
     ("lanes", Part::Lanes),
@@ -60,6 +62,7 @@ static PARTS: [(&str, Part); 21] = [
     ("read_file", Part::ReadFile),
     ("pieces", Part::Pieces),
     ("file_sha", Part::FileSha),
+    ("kit_sha", Part::KitSha),
 ];
 
 impl Part {

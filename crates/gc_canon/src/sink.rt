@@ -1,9 +1,10 @@
 //! What takes a text piece by piece.
 
 ghost use Rattle.std.specs.Prelude.{◌≡◌, ◌++◌, ℕ, List, length, OnOk};
-ghost use Rattle.sha2.specs.Hashers.{Holds256};
+ghost use Rattle.gc_lanes.specs.Hasher.{HoldsMessage};
 
-use sha2::{Digest, Sha256};
+use gc_lanes::LongSha256;
+use sha2::Digest;
 use std::alloc::{AllocError, Allocator};
 use std::convert::Infallible;
 
@@ -30,10 +31,10 @@ impl<B: Allocator> TextSink for Vec<u8, B> {
     }
 }
 
-impl TextSink for Sha256 {
+impl TextSink for LongSha256 {
     type Fault = Infallible;
 
-    ghost holds = { λ s whole text. Holds256 s text };
+    ghost holds = { λ s whole text. HoldsMessage s text };
 
     fn put(&mut self, piece: &[u8]) -> Result<(), Infallible> {
         self.update(piece);

@@ -1,6 +1,6 @@
 -- The digest of a circuit in two parts.
 use Rattle.std.specs.Prelude.{◌≡◌, ℕ, ◌≤◌, ◌+◌, List, length, take, flat_map}
-use Rattle.sha2.specs.Hashers.{Holds256}
+use Rattle.gc_lanes.specs.Hasher.{HoldsMessage}
 use Rattle.gc_netlist.specs.Circuit.{Netlist}
 use Rattle.gc_netlist.specs.Canon.{line, lines_of_circuit}
 use Rattle.gc_circuit.specs.declared.digest.CommonLines.{CommonLines}
@@ -21,4 +21,4 @@ pub record AreCommonLines (c : Netlist) (text : List ℕ) (least : ℕ) (common 
 -- SHA-256 has taken the first lines of the circuit's canonical text.
 pub record IsBegun (c : Netlist) (begun : BegunDigest) : Type 0 where
   pub within : begun.gates ≤ length c.gates
-  pub taken : Holds256 begun.hasher (first_lines c begun.gates)
+  pub taken : HoldsMessage begun.hasher (first_lines c begun.gates)

@@ -1,14 +1,15 @@
 //! The digest of a circuit, which may begin with the bytes of a text that spells it.
 
 ghost use Rattle.std.specs.Prelude.{◌≡◌, take, IfSome};
-ghost use Rattle.sha2.specs.Hashers.{Holds256};
 ghost use Rattle.sha2.specs.Sha256.{sha256};
+ghost use Rattle.gc_lanes.specs.Hasher.{HoldsMessage};
 ghost use Rattle.gc_netlist.specs.Canon.{canonical_text};
 ghost use Rattle.gc_circuit.specs.Digest.{AreCommonLines, IsBegun};
 
 use crate::circuit::Circuit;
 use gc_canon::{Comparison, EMPTY_ROOM};
-use sha2::{Digest, Sha256};
+use gc_lanes::LongSha256;
+use sha2::Digest;
 use std::alloc::Allocator;
 
 /// The lines that a text and the canonical text of a circuit both begin with.
@@ -22,7 +23,7 @@ pub struct CommonLines {
 /// The digest of a circuit that is begun: SHA-256 has taken the first lines of its canonical text.
 #[derive(Drop)]
 pub struct BegunDigest {
-    hasher: Sha256,
+    hasher: LongSha256,
     // The number of gates whose lines are taken.
     gates: u32,
 }
@@ -39,7 +40,7 @@ impl<A: Allocator> Circuit<A> {
     fn begin_digest(&self) -> BegunDigest
         ensures { IsBegun self.now result }
     {
-        let mut hasher = Sha256::new();
+        let mut hasher = LongSha256::new();
         let mut room = EMPTY_ROOM;
         match self.write_header(&mut hasher, &mut room) {
             Ok(()) => BegunDigest { hasher, gates: 0 },
@@ -70,10 +71,10 @@ impl<A: Allocator> Circuit<A> {
         &self,
         text: &[u8],
         count: usize,
-        mut hasher: Sha256,
+        mut hasher: LongSha256,
         common: Option<CommonLines>,
     ) -> BegunDigest
-        requires hashed { Holds256 hasher (take count text.now) }
+        requires hashed { HoldsMessage hasher (take count text.now) }
         requires common { IfSome common (AreCommonLines self.now text.now count) }
         ensures { IsBegun self.now result }
     {

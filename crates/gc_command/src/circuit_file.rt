@@ -1,7 +1,7 @@
 //! The circuit of a file.
 
 ghost use Rattle.std.specs.Prelude.{◌≡◌, ◌≢◌, ◌≤◌, ℕ, List, Err, length, take, IfOk, IfErr, IfSome, OnOk};
-ghost use Rattle.sha2.specs.Hashers.{Holds256};
+ghost use Rattle.gc_lanes.specs.Hasher.{HoldsMessage};
 ghost use Rattle.sha2.specs.Sha256.{sha256};
 ghost use Rattle.gc_netlist.specs.Canon.{canonical_text};
 ghost use Rattle.gc_netlist.specs.Circuit.{IsLawful};
@@ -14,7 +14,8 @@ ghost use Rattle.gc_command.specs.CircuitFile.{IsCircuit, HasReadingFault};
 use crate::fault::Fault;
 use gc_circuit::{BegunDigest, Circuit, CommonLines, ReadFault};
 use gc_files::Files;
-use sha2::{Digest, Sha256};
+use gc_lanes::LongSha256;
+use sha2::Digest;
 use std::alloc::Allocator;
 use std::thread;
 use std::thread::Threads;
@@ -105,10 +106,10 @@ pub fn read_and_begin_digest<R: Threads, A: Allocator + Copy + Send + Sync, F: F
     let count = part.bytes(bytes.len());
     let (hasher, read) = thread::join(
         rt,
-        || -> Sha256
+        || -> LongSha256
             requires { count ≤ length bytes.now }
-            ensures { Holds256 result (take count bytes.entry.now) }
-        { Sha256::new_with_prefix(&bytes[..count]) },
+            ensures { HoldsMessage result (take count bytes.entry.now) }
+        { LongSha256::new_with_prefix(&bytes[..count]) },
         || -> Result<(Circuit<A>, Option<CommonLines>), ReadFault>
             ensures circuit { IfOk result (λ read. IsCircuit bytes.entry.now read.0) }
             ensures common { IfOk result (λ read.

@@ -14,6 +14,10 @@ abbrev pub version_entries : Version → ℕ → GarblingParts → List EntryPai
 version_entries One offset g = []
 version_entries Two offset g = entry_pairs_of offset g
 
--- What the garbled file of a version holds, of a circuit's garbling under a seed.
+-- What the garbled file of a version holds, of a circuit's garbling with an offset,
+abbrev pub honest_parts_with : Version → Netlist → GarblingParts → ℕ → GarbledParts
+honest_parts_with version c g offset = parts_of version c g (version_entries version offset g)
+
+-- and under a seed.
 abbrev pub honest_parts : Version → Netlist → GarblingParts → List ℕ → GarbledParts
-honest_parts version c g seed = parts_of version c g (version_entries version (offset_of seed) g)
+honest_parts version c g seed = honest_parts_with version c g (offset_of seed)

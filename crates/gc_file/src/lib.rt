@@ -22,6 +22,6 @@ pub use gc_read::{
 };
 pub use gc_write::{
     WriteFault, first_wire, law_written_files, write_garbled, write_garbled_by_digest,
-    write_garbled2, write_garbled2_by_digest, write_labels,
+    write_garbled2, write_garbled2_by_digest, write_garbled2_with_offset, write_labels,
 };
 pub use laws::{law_garbled_file, law_label_file};

@@ -59,12 +59,16 @@ entry_count Two outputs = outputs
 abbrev pub IsLabel : ℕ → Type 0
 IsLabel label = label < 2 ^ 128
 
+-- So are those of both rows of a pair.
+abbrev pub IsRowPair : RowPair → Type 0
+IsRowPair row = IsLabel row.generator × IsLabel row.evaluator
+
 -- The bytes are the garbled file with these parts.
 pub record IsGarbledFile (bytes : List ℕ) (p : GarbledParts) : Type 0 where
   pub few_rows : length p.rows ≤ MAX_GATES
   pub few_outputs : length p.decode_bits ≤ MAX_WIRES
   pub digest : length p.digest ≡ 32
-  pub rows : All (λ row. IsLabel row.generator × IsLabel row.evaluator) p.rows
+  pub rows : All IsRowPair p.rows
   pub entries : All (λ pair. IsLabel pair.entry_zero × IsLabel pair.entry_one) p.entries
   pub entry_pairs : length p.entries ≡ entry_count p.version (length p.decode_bits)
   pub spelled : bytes ≡ garbled_file p

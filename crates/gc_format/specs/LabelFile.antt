@@ -29,15 +29,24 @@ pub record IsLabelFile (bytes : List ℕ) (p : LabelFileParts) : Type 0 where
   pub labels : All IsLabel p.labels
   pub spelled : bytes ≡ label_file p
 
--- The labels that stand for these bits on the input wires from the first one on.
-abbrev pub encoded_from : ℕ → List ℕ → List Bool → List ℕ
-encoded_from first seed bits =
-    map (λ (p : ℕ × Bool). encode (offset_of seed) (input_label_of seed p.0) p.1)
+-- The labels that stand for these bits on the wires from the first one on, with an offset and a zero label on each wire.
+abbrev pub encoded_with : ℕ → (ℕ → ℕ) → ℕ → List Bool → List ℕ
+encoded_with offset zero_label first bits =
+    map (λ (p : ℕ × Bool). encode offset (zero_label p.0) p.1)
     (zip (range_with_len first (length bits)) bits)
 
+-- The same on input wires, under a seed.
+abbrev pub encoded_from : ℕ → List ℕ → List Bool → List ℕ
+encoded_from first seed bits = encoded_with (offset_of seed) (input_label_of seed) first bits
+
 -- The parts of the label file of an input value with these bits: the encoded labels of its wires.
-abbrev pub label_parts_of : Netlist → List ℕ → ℕ → List Bool → LabelFileParts
-label_parts_of c seed index bits = record {
+abbrev pub label_parts_with : Netlist → ℕ → (ℕ → ℕ) → ℕ → List Bool → LabelFileParts
+label_parts_with c offset zero_label index bits = record {
   index = index;
-  labels = encoded_from (sum (take index c.input_widths)) seed bits;
+  labels = encoded_with offset zero_label (sum (take index c.input_widths)) bits;
 }
+
+-- The same under a seed.
+abbrev pub label_parts_of : Netlist → List ℕ → ℕ → List Bool → LabelFileParts
+label_parts_of c seed index bits =
+    label_parts_with c (offset_of seed) (input_label_of seed) index bits

@@ -31,7 +31,7 @@ pub fn evaluate_one_thread<A: Allocator + Copy, C: Allocator>(
     evaluate_from(alloc, circuit, rows, FirstAnd::ZERO, inputs)
 }
 
-/// The same, where AND gates are numbered from `first` on.
+/// The active labels of all wires, as [`evaluate_one_thread`] gives them, where AND gates are numbered from `first` on.
 pub fn evaluate_from<A: Allocator + Copy, C: Allocator>(
     alloc: A,
     circuit: &Circuit<C>,
@@ -56,8 +56,9 @@ pub fn evaluate_from<A: Allocator + Copy, C: Allocator>(
 }
 
 /// The active labels of the output wires, in order, evaluated from row pairs and active labels of the input wires, where
-/// AND gates are numbered from `first` on. It takes memory for the labels of all wires, once, and for its answer. That
-/// there are as many row pairs as AND gates, and as many labels as input wires, are the caller's conditions.
+/// AND gates are numbered from `first` on ("Two Halves Make a Whole", the procedure Ev). It allocates once for the labels
+/// of all wires and once for those of the output wires. That there are as many row pairs as AND gates, and as many labels
+/// as input wires, are the caller's conditions.
 pub fn evaluate_labels<A: Allocator + Copy, C: Allocator>(
     alloc: A,
     circuit: &Circuit<C>,
@@ -74,7 +75,8 @@ pub fn evaluate_labels<A: Allocator + Copy, C: Allocator>(
     Ok(Vec::from_slice(alloc, output_labels(circuit, &active))?)
 }
 
-/// The labels of the output wires, the last ones, out of a label for each wire.
+/// The labels of the output wires, which are the last ones, out of a label for each wire. That there is a label for each
+/// wire is the caller's condition.
 pub fn output_labels<'l, C: Allocator>(circuit: &Circuit<C>, labels: &'l [Label]) -> &'l [Label]
     requires { length labels.now ≡ circuit.now.wires }
     ensures count { length result.now ≡ output_wires circuit.now }

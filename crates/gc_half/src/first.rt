@@ -7,8 +7,12 @@ use std::marker::Model;
 /// The largest sum of the number of a first AND gate and the number of AND gates.
 const LIMIT: u64 = 1 << 62;
 
-/// The number of a circuit's first AND gate, which the others follow. It is at most 2^62, so that each tweak is a
-/// number of 64 bits. Under one offset no AND number may be used twice.
+/// The number of a circuit's first AND gate; the others follow it in file order. It is at most 2^62, so that each tweak
+/// is a number of 64 bits. AND gate k has the tweaks 2(first + k) and 2(first + k) + 1.
+///
+/// Under one offset use no AND number twice. Where two AND gates read one wire under one tweak, the sum of their
+/// generator rows is zero or the offset itself, and whoever has the offset has every label. Evaluation is right all the
+/// same, so no contract says it.
 #[derive(Clone, Copy, PartialEq, Eq, Debug)]
 pub struct FirstAnd {
     number: u64,
@@ -30,7 +34,7 @@ impl FirstAnd {
     /// AND gates are numbered from 0 on, as under a seed.
     pub const ZERO: FirstAnd = FirstAnd { number: 0 };
 
-    /// The number of the first of these AND gates, if its sum with their number is at most 2^62.
+    /// This number for the first of so many AND gates; none where their sum is above 2^62.
     pub fn new(number: u64, and_gates: u32) -> Option<FirstAnd>
         ensures { MatchOption result (¬ (number + and_gates ≤ 2 ^ 62))
             (λ first. (first ≡ number) × (number + and_gates ≤ 2 ^ 62)) }

@@ -17,6 +17,19 @@ use gc_circuit::{Circuit, Gate, Memory, Operation};
 use gc_label::Label;
 use std::alloc::{Allocator, Global};
 
+/// Four things of a kind, one for each of four evaluations.
+#[derive(Clone, Copy, Drop)]
+pub struct Four<T> {
+    /// That of the first,
+    pub a: T,
+    /// of the second,
+    pub b: T,
+    /// of the third,
+    pub c: T,
+    /// and of the fourth.
+    pub d: T,
+}
+
 /// What an evaluation begins with.
 #[derive(Clone, Copy)]
 pub struct Evaluation<'r> {
@@ -26,32 +39,38 @@ pub struct Evaluation<'r> {
     pub inputs: &'r [Label],
 }
 
-/// The active labels of all wires in four evaluations of one circuit, where AND gates are numbered from `first` on. Each
-/// is what [`crate::evaluate_from`] gives. That each has as many row pairs as there are AND gates, and as many labels as
-/// input wires, are the caller's conditions.
+/// The active labels of all wires in four evaluations of one circuit, made side by side on one thread ("Two Halves Make
+/// a Whole", the procedure Ev). AND gates are numbered from `first` on. Each is what
+/// [`evaluate_from`](crate::evaluate_from) returns. That each has a row pair for each AND gate, and a label for each
+/// input wire, are the caller's conditions.
 pub fn evaluate_four_from<A: Allocator + Copy, C: Allocator>(
     alloc: A,
     circuit: &Circuit<C>,
     first: FirstAnd,
-    a: Evaluation<'_>,
-    b: Evaluation<'_>,
-    c: Evaluation<'_>,
-    d: Evaluation<'_>,
-) -> Result<(Vec<Label, A>, Vec<Label, A>, Vec<Label, A>, Vec<Label, A>), Memory>
-    requires a { (length a.rows.now ≡ and_count circuit.now) × (length a.inputs.now ≡ input_wires circuit.now) }
-    requires b { (length b.rows.now ≡ and_count circuit.now) × (length b.inputs.now ≡ input_wires circuit.now) }
-    requires c { (length c.rows.now ≡ and_count circuit.now) × (length c.inputs.now ≡ input_wires circuit.now) }
-    requires d { (length d.rows.now ≡ and_count circuit.now) × (length d.inputs.now ≡ input_wires circuit.now) }
-    ensures a { IfOk result (λ all. AreActiveFrom first circuit.now a.entry.rows.now a.entry.inputs.now all.0.items) }
-    ensures b { IfOk result (λ all. AreActiveFrom first circuit.now b.entry.rows.now b.entry.inputs.now all.1.items) }
-    ensures c { IfOk result (λ all. AreActiveFrom first circuit.now c.entry.rows.now c.entry.inputs.now all.2.items) }
-    ensures d { IfOk result (λ all. AreActiveFrom first circuit.now d.entry.rows.now d.entry.inputs.now all.3.items) }
+    given: Four<Evaluation<'_>>,
+) -> Result<Four<Vec<Label, A>>, Memory>
+    requires a { (length given.a.rows.now ≡ and_count circuit.now)
+        × (length given.a.inputs.now ≡ input_wires circuit.now) }
+    requires b { (length given.b.rows.now ≡ and_count circuit.now)
+        × (length given.b.inputs.now ≡ input_wires circuit.now) }
+    requires c { (length given.c.rows.now ≡ and_count circuit.now)
+        × (length given.c.inputs.now ≡ input_wires circuit.now) }
+    requires d { (length given.d.rows.now ≡ and_count circuit.now)
+        × (length given.d.inputs.now ≡ input_wires circuit.now) }
+    ensures a { IfOk result (λ all. AreActiveFrom first circuit.now
+        given.entry.a.rows.now given.entry.a.inputs.now all.a.items) }
+    ensures b { IfOk result (λ all. AreActiveFrom first circuit.now
+        given.entry.b.rows.now given.entry.b.inputs.now all.b.items) }
+    ensures c { IfOk result (λ all. AreActiveFrom first circuit.now
+        given.entry.c.rows.now given.entry.c.inputs.now all.c.items) }
+    ensures d { IfOk result (λ all. AreActiveFrom first circuit.now
+        given.entry.d.rows.now given.entry.d.inputs.now all.d.items) }
 {
     circuit.law_lawful();
-    let mut one = Lane::new(alloc, circuit, a)?;
-    let mut two = Lane::new(alloc, circuit, b)?;
-    let mut three = Lane::new(alloc, circuit, c)?;
-    let mut four = Lane::new(alloc, circuit, d)?;
+    let mut one = Lane::new(alloc, circuit, given.a)?;
+    let mut two = Lane::new(alloc, circuit, given.b)?;
+    let mut three = Lane::new(alloc, circuit, given.c)?;
+    let mut four = Lane::new(alloc, circuit, given.d)?;
     let mut k = 0;
     for i in 0..circuit.gates() {
         let gate = circuit.gate(i);
@@ -60,16 +79,16 @@ pub fn evaluate_four_from<A: Allocator + Copy, C: Allocator>(
             k += 1;
         }
     }
-    Ok((
-        one.into_labels(),
-        two.into_labels(),
-        three.into_labels(),
-        four.into_labels(),
-    ))
+    Ok(Four {
+        a: one.into_labels(),
+        b: two.into_labels(),
+        c: three.into_labels(),
+        d: four.into_labels(),
+    })
 }
 
-/// Evaluates one more gate in four evaluations. An AND gate is the k-th, counted from 0. That there are the wires and the
-/// row pairs are the caller's conditions.
+/// Evaluates one more gate in four evaluations. An AND gate is the k-th, counted from 0. That there are the wires and
+/// the row pairs are the caller's conditions.
 #[inline(always)]
 fn step<A: Allocator>(
     first: FirstAnd,
@@ -84,10 +103,14 @@ fn step<A: Allocator>(
     requires b { CanStep k gate b.old.rows.now b.old.labels.items }
     requires c { CanStep k gate c.old.rows.now c.old.labels.items }
     requires d { CanStep k gate d.old.rows.now d.old.labels.items }
-    ensures a { IsStep (numbered_from first hash) k gate a.old.rows.now a.old.labels.items a.new.rows.now a.new.labels.items }
-    ensures b { IsStep (numbered_from first hash) k gate b.old.rows.now b.old.labels.items b.new.rows.now b.new.labels.items }
-    ensures c { IsStep (numbered_from first hash) k gate c.old.rows.now c.old.labels.items c.new.rows.now c.new.labels.items }
-    ensures d { IsStep (numbered_from first hash) k gate d.old.rows.now d.old.labels.items d.new.rows.now d.new.labels.items }
+    ensures a { IsStep (numbered_from first hash) k gate
+        a.old.rows.now a.old.labels.items a.new.rows.now a.new.labels.items }
+    ensures b { IsStep (numbered_from first hash) k gate
+        b.old.rows.now b.old.labels.items b.new.rows.now b.new.labels.items }
+    ensures c { IsStep (numbered_from first hash) k gate
+        c.old.rows.now c.old.labels.items c.new.rows.now c.new.labels.items }
+    ensures d { IsStep (numbered_from first hash) k gate
+        d.old.rows.now d.old.labels.items d.new.rows.now d.new.labels.items }
 {
     if let Operation::And(_, _) = gate.operation {
         let [w, x, y, z] = eval_four_ands_from(
@@ -113,9 +136,9 @@ fn step<A: Allocator>(
 
 /// One evaluation so far: its row pairs, and the active label of each wire.
 #[derive(Drop)]
-pub(crate) struct Lane<'r, A: Allocator = Global> {
-    pub(crate) rows: &'r [RowPair],
-    pub(crate) labels: Vec<Label, A>,
+struct Lane<'r, A: Allocator = Global> {
+    rows: &'r [RowPair],
+    labels: Vec<Label, A>,
 }
 
 impl<'r, A: Allocator> Lane<'r, A> {

@@ -14,9 +14,9 @@ use gc_circuit::{Circuit, Memory};
 use gc_label::{Label, Offset, Seed, offset};
 use std::alloc::Allocator;
 
-/// The garbling of a circuit with an offset, these zero labels of the input wires, and AND gates that are numbered from
-/// `first` on, gate after gate in file order. It takes memory for the labels and for the rows, each once. That there are
-/// as many zero labels as input wires is the caller's condition.
+/// Garbles a circuit from an offset, a zero label for each input wire, and the number of the first AND gate, gate after
+/// gate in file order ("Two Halves Make a Whole", the procedure Gb). It allocates once for the labels and once for the
+/// rows. That there are as many zero labels as input wires is the caller's condition.
 pub fn garble_from<A: Allocator + Copy, C: Allocator>(
     alloc: A,
     circuit: &Circuit<C>,

@@ -92,6 +92,13 @@ impl<A: Allocator> Garbling<A> {
         self.zero_labels[wire as usize]
     }
 
+    /// The zero label of each wire.
+    pub fn zero_labels(&self) -> &[Label]
+        ensures { result.now ≡ self.now.zero_labels }
+    {
+        &self.zero_labels
+    }
+
     /// The row pair of each AND gate, in file order.
     pub fn rows(&self) -> &[RowPair]
         ensures { result.now ≡ self.now.rows }

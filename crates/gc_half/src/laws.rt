@@ -23,9 +23,10 @@ pub fn law_garblings()
     ensures under_seed { (c : Netlist) → IsLawful c → (seed : List ℕ) → HasOneGarbled c seed }
 {}
 
-/// The laws of joined circuits, for every hash: where zero labels of input wires of a circuit are zero labels of output
-/// wires of another, under one offset, evaluating the one on active labels that the other gave decodes to the bits of
-/// the one on the bits of the other.
+/// The laws of joined circuits. Labels that stand for bits go into a garbled circuit, and the labels that come out stand
+/// for its output bits (`labels`, `together`). Where input wires of a circuit have the zero labels of output wires of
+/// another, under one offset, evaluating it on the active labels that the other gave decodes to its bits on the other's
+/// bits, for every hash (`following`, `joined`).
 pub fn law_joined()
     ensures labels { LabelsLaw }
     ensures together { TogetherLaw }

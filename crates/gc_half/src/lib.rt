@@ -7,8 +7,12 @@
 //! ([`evaluate_one_thread`]) follows one label of each wire, the active one, through the gates: [`eval_and`] is
 //! its step at an AND gate.
 //!
-//! [`law_half_gates`] says that evaluation decodes to the output bits, and [`law_garblings`] that each circuit
-//! has one garbling under a seed.
+//! [`garble_from`] garbles from an offset and zero labels of the caller's, its AND gates numbered from any
+//! [`FirstAnd`] on, and [`evaluate_labels`] returns the active labels of the output wires: so labels that come out of
+//! one circuit can go into the next.
+//!
+//! [`law_half_gates`] says that evaluation decodes to the output bits, [`law_garblings`] that each circuit has one
+//! garbling under a seed, and [`law_joined`] what labels that go from circuit to circuit stand for.
 #![tactic(auto)]
 
 mod active_labels;
@@ -26,7 +30,6 @@ mod laws;
 mod numbers;
 mod one_gate;
 mod row_table;
-mod two;
 mod waiting;
 mod zero_labels;
 
@@ -34,7 +37,7 @@ pub use active_labels::input_active_labels;
 pub use entry::{four_output_entries, output_entry, output_entry_from};
 pub use evaluate::{evaluate_from, evaluate_labels, evaluate_one_thread, output_labels};
 pub use first::FirstAnd;
-pub use four::{Evaluation, evaluate_four_from};
+pub use four::{Evaluation, Four, evaluate_four_from};
 pub use garble::{garble_and_compare, garble_from, garble_one_thread};
 pub use garbling::{GarbledAnd, Garbling, Mismatch, RowPair};
 pub use half_gate::{
@@ -44,6 +47,5 @@ pub use hash::{tweak_hash, tweak_hash_series};
 pub use laws::{law_garblings, law_half_gates, law_joined};
 pub use numbers::and_numbers;
 pub use one_gate::{evaluate_gate, garble_gate, labels_read};
-pub use two::{garble_two, garble_two_from};
 pub use waiting::{WaitingGate, WaitingGates};
 pub use zero_labels::input_zero_labels;

@@ -1,8 +1,12 @@
 -- Decoding, one label after another, and recognising labels.
-use Rattle.gc_job.proofs.Names.{◌≡◌, ℕ, ◌+◌, ◌-◌, ◌<◌, ◌≤◌, ◌++◌, List, [], ◌∷◌, Bool, false, not, length, length-take, length-drop, take, drop, get_or, slice_get, slice_index, Some, inl, inr, refl, sym, ap, ◌∙◌, arith, cases_eq, slice_get_read, xor, colour, hash, output_tweak, decode, IsRecognised, AreRecognised}
+use Rattle.gc_job.proofs.Names.{◌≡◌, ℕ, ◌+◌, ◌-◌, ◌<◌, ◌≤◌, ◌++◌, List, [], ◌∷◌, Bool, false, not, length, length-take, length-drop, take, drop, get_or, slice_get, slice_index, Some, IsTrue, ◌↔◌, eqb, inl, inr, refl, sym, ap, ◌∙◌, arith, cases_eq, nat_tests, slice_get_read, xor, colour, hash, output_tweak, decode, IsRecognised, AreRecognised}
+use Rattle.std.proofs.Common.{◌&&◌}
 use Rattle.std.proofs.Math.Bool.{beq}
+use Rattle.std.proofs.lemmas.Bool.{cases_Bool}
+use Rattle.std.specs.Int.{from_bool}
 use Rattle.std.proofs.lemmas.List.{take_more, length-take-le, get_or_default, get_or-take, get_or-drop}
 use Rattle.gc_format.specs.declared.parts.EntryPair.{EntryPair}
+use Rattle.gc_job.specs.Evaluate.{IsKnownUntil}
 
 decode-push : (bits : List Bool) (labels : List ℕ) (b : Bool) (l : ℕ)
     → length bits ≡ length labels
@@ -61,4 +65,46 @@ recognised_more and_gates entries labels i label at known before k l low got =
     elim (cases_eq k i) [
       | inl same ↦ let is : l ≡ label = cc in rw (same, is) known
       | inr other ↦ before k l (omega arith) got
+    ]
+
+-- The labels are compared as far as the next output.
+pub known_more : (and_gates : ℕ) (entries : List EntryPair) (labels : List ℕ) (i known label : ℕ) (is_known : Bool)
+    → slice_get labels i ≡ Some label
+    → (IsTrue is_known ↔ IsRecognised and_gates entries i label)
+    → IsKnownUntil and_gates entries labels i known
+    → IsKnownUntil and_gates entries labels (i + 1) (known + from_bool (eqb known i && is_known))
+known_more and_gates entries labels i known label is_known at is before =
+    elim (cases_eq known i) [
+      | inl all ↦ elim (cases_Bool is_known) [
+        | inl recognised ↦
+            let one : known + from_bool (eqb known i && is_known) ≡ i + 1 =
+            grind (arith, nat_tests) in
+            rw one (record {
+              within = omega arith;
+              before = recognised_more and_gates entries labels i label at (is.0 recognised)
+                  (rw all at before.before);
+              next = λ past. absurd (omega arith);
+            })
+        | inr unknown ↦
+            let none : known + from_bool (eqb known i && is_known) ≡ i = grind (arith, nat_tests) in
+            rw none (record {
+              within = omega arith;
+              before = rw all at before.before;
+              next = λ below. record {
+                label = label;
+                at = at;
+                unknown = λ is_so. let differs = is.1 is_so in cc;
+                before = rw all at before.before;
+              };
+            })
+      ]
+      | inr some ↦
+          let same : known + from_bool (eqb known i && is_known) ≡ known =
+          grind (arith, nat_tests) in
+          let below : known < i = omega (arith, before.within) in
+          rw same (record {
+            within = omega arith;
+            before = before.before;
+            next = λ within. before.next below;
+          })
     ]

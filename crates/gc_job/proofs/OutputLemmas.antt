@@ -2,16 +2,11 @@
 use Rattle.gc_job.proofs.Names.{◌≡◌, ℕ, ◌+◌, ◌-◌, ◌<◌, List, length, map, drop, slice_get, Some, Bool, Result, Ok, Err, refl, sym, ap, ◌∙◌, arith, range_with_len, length-map-range_with_len, get_or-map-range_with_len, length-zip, slice_get_within, get_or_from_slice_get, Netlist, output_wires, IsLawful, solution, on_outputs, solution_solves, table_end, hash, active_rule, active_local, EvalFault, Memory, GarbledParts, LabelFileParts, JobParts, IsWhole, IsBound, labels_of, AreActive, IsDecodingOf, IsEvaluated}
 use Rattle.std.proofs.lemmas.List.{length-map}
 use Rattle.gc_half.proofs.NumberedLemmas.{IsEvaluation-zero}
+use Rattle.gc_half.specs.Joined.{AreOutputLabels}
+use Rattle.gc_netlist.specs.Circuit.{and_count, input_wires}
 use Rattle.gc_half.specs.declared.garbling.RowPair.{RowPair}
 
 module _ (c : Netlist) (lawful : IsLawful c) (values : ℕ → ℕ) where
-  -- They are the last ones of a table.
-  pub outputs-table : (table last : List ℕ) → table ≡ map values (range_with_len 0 c.wires)
-      → last ≡ drop (c.wires - output_wires c) table → last ≡ on_outputs c values
-  outputs-table table last is end =
-      end ∙ ap (drop (c.wires - output_wires c)) is
-      ∙ table_end values c.wires (output_wires c) lawful.outputs_fit
-
   pub length-outputs : (last : List ℕ) → last ≡ on_outputs c values → length last ≡ output_wires c
   length-outputs last is = ap length is ∙ length-map-range_with_len values _ (output_wires c)
 
@@ -28,19 +23,28 @@ module _ (c : Netlist) (lawful : IsLawful c) (values : ℕ → ℕ) where
             0 inside (omega arith),
       )
 
+-- There is an output label for each output wire.
+pub length-output_labels : (c : Netlist) (rows : List RowPair) (inputs labels : List ℕ)
+    → AreOutputLabels 0 c rows inputs labels → length labels ≡ output_wires c
+length-output_labels c rows inputs labels are =
+    ap length are.last ∙ length-map-range_with_len are.active _ (output_wires c)
+
+-- What a job has is enough to evaluate an equal circuit.
+pub can-evaluate : (job : JobParts) (c : Netlist) (rows : List RowPair) (inputs : List ℕ)
+    → IsWhole job → job.circuit ≡ c → rows ≡ job.rows → inputs ≡ job.inputs
+    → (length rows ≡ and_count c) × (length inputs ≡ input_wires c)
+can-evaluate job c rows inputs whole same rows_are inputs_are =
+    rw (rows_are, inputs_are, ← same) (whole.rows, whole.inputs)
+
 -- A job is evaluated where its output labels are decoded,
-pub decoded-job : (job : JobParts) (c : Netlist) (rows : List RowPair) (inputs labels last : List ℕ)
-    (result : Result (List Bool) EvalFault) (are : AreActive c rows inputs labels)
-    → c ≡ job.circuit → rows ≡ job.rows → inputs ≡ job.inputs → last ≡ on_outputs c are.active
-    → IsDecodingOf job last result → IsEvaluated job result
-decoded-job job c rows inputs labels last result are same_c same_rows same_inputs is decoding =
-    let outputs : last ≡ on_outputs job.circuit are.active = is ∙ rw same_c refl in
-    record {
-      active = are.active;
-      evaluation = rw (← same_c, ← same_rows, ← same_inputs)
-          (IsEvaluation-zero hash c rows _ are.active are.evaluation);
-      decoding = rw (← outputs) decoding;
-    }
+pub decoded-job : (job : JobParts) (labels : List ℕ) (result : Result (List Bool) EvalFault)
+    → AreOutputLabels 0 job.circuit job.rows job.inputs labels
+    → IsDecodingOf job labels result → IsEvaluated job result
+decoded-job job labels result are decoding = record {
+  active = are.active;
+  evaluation = IsEvaluation-zero hash job.circuit job.rows _ are.active are.evaluation;
+  decoding = rw (← are.last) decoding;
+}
 
 -- and where memory is missing.
 pub no_memory : (job : JobParts) → IsWhole job → IsEvaluated job (Err Memory)

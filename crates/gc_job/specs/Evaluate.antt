@@ -1,5 +1,5 @@
 -- What evaluating a garbled circuit answers, honest rows and labels or not.
-use Rattle.std.specs.Prelude.{◌≡◌, ℕ, ◌<◌, Bool, true, false, List, length, slice_get, slice_index, Some, Result, Ok, Err}
+use Rattle.std.specs.Prelude.{◌≡◌, ℕ, ◌<◌, ◌≤◌, Bool, true, false, List, length, slice_get, slice_index, Some, Result, Ok, Err}
 use Rattle.gc_netlist.specs.Circuit.{and_count}
 use Rattle.gc_netlist.specs.Solution.{on_outputs}
 use Rattle.gc_label.specs.Label.{colour}
@@ -39,6 +39,13 @@ pub record IsFirstUnknown (and_gates : ℕ) (entries : List EntryPair) (labels :
   pub at : slice_get labels output ≡ Some label
   pub unknown : IsRecognised and_gates entries output label → ⊥
   pub before : AreRecognised and_gates entries labels output
+
+-- This many of the first n outputs' labels come before the first that they don't recognise, or n where there is none.
+pub record IsKnownUntil (and_gates : ℕ) (entries : List EntryPair) (labels : List ℕ) (n known : ℕ)
+    : Type 0 where
+  pub within : known ≤ n
+  pub before : AreRecognised and_gates entries labels known
+  pub next : known < n → IsFirstUnknown and_gates entries labels known
 
 -- The active labels of a job's output wires are decoded: to bits, or to the first output whose label is unknown. In
 -- version 1 any label decodes. Memory may be missing instead. No number of workers is at fault.

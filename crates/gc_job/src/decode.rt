@@ -7,7 +7,7 @@ ghost use Rattle.gc_half.specs.Hash.{hash as hash_of};
 ghost use Rattle.gc_half.specs.Entry.{output_tweak};
 ghost use Rattle.gc_half.specs.Evaluation.{decode};
 ghost use Rattle.gc_job.specs.Job.{IsWhole, job_of};
-ghost use Rattle.gc_job.specs.Evaluate.{entry, IsRecognised, AreRecognised, IsFirstUnknown, IsDecodingOf};
+ghost use Rattle.gc_job.specs.Evaluate.{IsRecognised, AreRecognised, IsFirstUnknown, IsKnownUntil, IsDecodingOf};
 
 use crate::fault::EvalFault;
 use gc_circuit::{Circuit, Memory};
@@ -39,8 +39,9 @@ pub(crate) fn decoding<A: Allocator, B: Allocator + Copy, C: Allocator>(
     Ok(decoded(alloc, garbled.decode_bits(), labels)?)
 }
 
-/// The bits that these labels decode to: each is the decode bit xor the colour of the label.
-fn decoded<A: Allocator + Copy>(
+/// The bits that these labels decode to: each is the decode bit xor the colour of the label. That there is a decode bit
+/// for each label is the caller's condition.
+pub fn decoded<A: Allocator + Copy>(
     alloc: A,
     decode_bits: &[bool],
     labels: &[Label],
@@ -58,49 +59,52 @@ fn decoded<A: Allocator + Copy>(
 /// The number of labels that are hashed at once.
 const AT_ONCE: usize = 8;
 
-/// The first output whose label the entries do not recognise. The number of AND gates is part of the tweaks.
+/// The first output whose label the entries do not recognise. All labels are compared before that is decided, and no
+/// branch and no address depends on one. The number of AND gates is part of the tweaks.
 pub(crate) fn first_unknown(and_gates: u32, entries: &[EntryPair], labels: &[Label]) -> Option<u32>
     requires { length labels.now < 2 ^ 32 }
     ensures none { IfNone result
         (AreRecognised and_gates entries.now labels.now (length labels.now)) }
     ensures some { IfSome result (IsFirstUnknown and_gates entries.now labels.now) }
 {
-    let mut first = 0;
+    let (mut first, mut known) = (0, 0);
     while first < labels.len() {
         let next = (first + AT_ONCE).min(labels.len());
-        if let Some(output) = first_unknown_among(and_gates, entries, labels, first, next) {
-            return Some(output);
-        }
+        known = known_until(and_gates, entries, labels, first, next, known);
         first = next;
     }
-    None
+    if known == labels.len() {
+        None
+    } else {
+        Some(known as u32)
+    }
 }
 
-/// The first output from `first` on and before `end` whose label the entries do not recognise. There are at most as
-/// many as labels that are hashed at once.
-fn first_unknown_among(
+/// How many labels before output `end` come before the first of them that the entries do not recognise, where `known`
+/// do so before output `first`. From one to the other there are at most as many as labels that are hashed at once.
+fn known_until(
     and_gates: u32,
     entries: &[EntryPair],
     labels: &[Label],
     first: usize,
     end: usize,
-) -> Option<u32>
+    mut known: usize,
+) -> usize
     requires order { first ≤ end }
     requires few { end ≤ first + AT_ONCE }
     requires outputs { end ≤ length labels.now }
     requires labels { length labels.now < 2 ^ 32 }
-    ensures none { IfNone result (AreRecognised and_gates entries.now labels.now first
-        → AreRecognised and_gates entries.now labels.now end) }
-    ensures some { IfSome result (λ output. AreRecognised and_gates entries.now labels.now first
-        → IsFirstUnknown and_gates entries.now labels.now output) }
+    requires known { known ≤ first }
+    ensures known { IsKnownUntil and_gates entries.now labels.now first known
+        → IsKnownUntil and_gates entries.now labels.now end result }
+    ensures within { result ≤ end }
 {
     let hashes = output_hashes(and_gates, first, &labels[first..end]);
     for i in first..end {
-        if !is_entry(entries, i, labels[i], hashes[i - first]) {
-            return Some(i as u32);
-        }
+        let is_known = is_entry(entries, i, labels[i], hashes[i - first]);
+        known += usize::from((known == i) & is_known);
     }
-    None
+    known
 }
 
 /// The hash of each of these labels, which are those of the outputs from `first` on; the others are spare.
@@ -115,7 +119,7 @@ fn output_hashes(and_gates: u32, first: usize, labels: &[Label]) -> [Label; AT_O
     tweak_hash_series(all, 2 * u64::from(and_gates) + first as u64)
 }
 
-/// Whether this hash of a label of an output is the entry of the label's colour.
+/// Whether this hash of a label of an output is the entry of the label's colour. It is compared with both entries.
 fn is_entry(entries: &[EntryPair], output: usize, label: Label, hash: Label) -> bool
     ensures { (and_gates : ℕ) → hash ≡ hash_of label (output_tweak and_gates output)
         → IsTrue result ↔ IsRecognised and_gates entries.now output label }
@@ -123,16 +127,7 @@ fn is_entry(entries: &[EntryPair], output: usize, label: Label, hash: Label) -> 
     let Some(pair) = entries.get(output) else {
         return false;
     };
-    hash == entry(*pair, label.colour())
-}
-
-/// The entry of this colour.
-fn entry(pair: EntryPair, colour: bool) -> Label
-    ensures { result ≡ entry pair colour }
-{
-    if colour {
-        pair.entry_one
-    } else {
-        pair.entry_zero
-    }
+    let (is_zero, is_one) = (hash == pair.entry_zero, hash == pair.entry_one);
+    let colour = label.colour();
+    (is_zero & !colour) | (is_one & colour)
 }

@@ -1,11 +1,9 @@
-//! Evaluating a job on one thread.
+//! Evaluating a job on one thread: first to the active labels of the output wires, and then to bits.
 
-ghost use Rattle.std.specs.Prelude.{◌≡◌, ℕ, Bool, List, length, map, MatchResult};
+ghost use Rattle.std.specs.Prelude.{◌≡◌, ℕ, Bool, List, IfOk, MatchResult};
 ghost use Rattle.std.specs.Result.{result_map_both};
-ghost use Rattle.std.specs.List.{range_with_len};
-ghost use Rattle.gc_netlist.specs.Circuit.{output_wires};
-ghost use Rattle.gc_netlist.specs.Solution.{on_outputs};
 ghost use Rattle.gc_circuit.specs.Meaning.{AreOutputs};
+ghost use Rattle.gc_half.specs.Joined.{AreOutputLabels};
 ghost use Rattle.gc_job.specs.Job.{IsWhole, job_of};
 ghost use Rattle.gc_job.specs.Evaluate.{IsEvaluated};
 ghost use Rattle.gc_job.specs.Honest.{IsHonest};
@@ -14,27 +12,35 @@ use crate::decode::decoding;
 use crate::detached::DetachedJob;
 use crate::fault::EvalFault;
 use crate::job::Job;
-use gc_circuit::Circuit;
-use gc_half::evaluate_one_thread;
+use gc_circuit::{Circuit, Memory};
+use gc_half::{FirstAnd, evaluate_labels};
 use gc_label::Label;
 use std::alloc::Allocator;
 
-/// The labels of the output wires, the last ones, out of a label for each wire.
-fn output_labels<'l, C: Allocator>(circuit: &Circuit<C>, labels: &'l [Label]) -> &'l [Label]
-    requires { length labels.now ≡ circuit.now.wires }
-    ensures count { length result.now ≡ output_wires circuit.now }
-    ensures last { (values : ℕ → ℕ) → labels.now ≡ map values (range_with_len 0 circuit.now.wires)
-        → result.now ≡ on_outputs circuit.now values }
+/// The active labels of a job's output wires, in wire order, on one thread ("Two Halves Make a Whole", the procedure
+/// Ev). Nothing of the job is trusted: they are those of an evaluation of its rows on its input labels, and any labels
+/// are active ones of some rows. [`Job::decode`] gives the bits.
+pub fn output_labels<A: Allocator, B: Allocator + Copy, C: Allocator>(
+    alloc: B,
+    job: &Job<'_, A, C>,
+) -> Result<Vec<Label, B>, Memory>
+    ensures { IfOk result (λ labels.
+        AreOutputLabels 0 job.now.circuit job.now.rows job.now.inputs labels.items) }
 {
-    let first = circuit.wires() - circuit.output_wires();
-    let (_, last) = labels.split_at(first as usize);
-    last
+    job.law_whole();
+    evaluate_labels(
+        alloc,
+        job.circuit(),
+        job.rows(),
+        FirstAnd::ZERO,
+        job.inputs(),
+    )
 }
 
-/// Evaluates a job on one thread: the output bits, in wire order. Nothing of the job is trusted: the answer is what
-/// an evaluation of its rows on its input labels decodes to ("Two Halves Make a Whole", the procedures Ev and De). In
-/// version 2 it is 48 at the first output whose active label the garbled file does not recognise. An honest job gives
-/// the circuit's outputs, and never 48.
+/// Evaluates a job on one thread: the output bits, in wire order, that its [`output_labels`] decode to. Nothing of the
+/// job is trusted: the bits are what an evaluation of its rows on its input labels decodes to ("Two Halves Make a Whole",
+/// the procedures Ev and De). In version 2 the fault is 48 at the first output whose active label the garbled file does
+/// not recognise. An honest job gives the circuit's outputs, and never 48.
 pub fn evaluate<A: Allocator, B: Allocator + Copy, C: Allocator>(
     alloc: B,
     job: &Job<'_, A, C>,
@@ -45,9 +51,29 @@ pub fn evaluate<A: Allocator, B: Allocator + Copy, C: Allocator>(
         MatchResult result (λ outputs. AreOutputs job.now.circuit bits outputs.items)
         (λ fault. fault ≡ EvalFault.Memory) }
 {
-    let circuit = job.circuit();
-    let active = evaluate_one_thread(alloc, circuit, job.rows(), job.inputs())?;
-    job.decode(alloc, output_labels(circuit, &active))
+    job.law_whole();
+    let labels = output_labels(alloc, job)?;
+    job.decode(alloc, &labels)
+}
+
+/// The active labels of the output wires of a job without its circuit, as [`output_labels`] gives them. That it is a job
+/// of this circuit is the caller's condition.
+pub fn output_labels_detached<A: Allocator, B: Allocator + Copy, C: Allocator>(
+    alloc: B,
+    circuit: &Circuit<C>,
+    job: &DetachedJob<A>,
+) -> Result<Vec<Label, B>, Memory>
+    requires { IsWhole (job_of circuit.now job.now.garbled job.now.inputs) }
+    ensures { IfOk result (λ labels.
+        AreOutputLabels 0 circuit.now job.now.garbled.rows job.now.inputs labels.items) }
+{
+    evaluate_labels(
+        alloc,
+        circuit,
+        job.garbled().rows(),
+        FirstAnd::ZERO,
+        job.inputs(),
+    )
 }
 
 /// Evaluates a job without its circuit on one thread, as [`evaluate`] does. That it is a job of this circuit is the
@@ -65,11 +91,7 @@ pub fn evaluate_detached<A: Allocator, B: Allocator + Copy, C: Allocator>(
         MatchResult result (λ outputs. AreOutputs circuit.now bits outputs.items)
         (λ fault. fault ≡ EvalFault.Memory) }
 {
-    let active = evaluate_one_thread(alloc, circuit, job.garbled().rows(), job.inputs())?;
-    decoding(
-        alloc,
-        circuit,
-        job.garbled(),
-        output_labels(circuit, &active),
-    )
+    circuit.law_lawful();
+    let labels = output_labels_detached(alloc, circuit, job)?;
+    decoding(alloc, circuit, job.garbled(), &labels)
 }

@@ -3,3 +3,5 @@ pub mod JobLemmas
 pub mod OutcomeLemmas
 pub mod PlainLemmas
 pub mod RoomLemmas
+mod PieceLemmas
+mod LabelFileLemmas

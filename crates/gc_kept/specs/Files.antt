@@ -1,12 +1,17 @@
 -- Files in the buffers of callers.
-use Rattle.std.specs.Prelude.{◌≡◌, ℕ, ◌<◌, ◌≤◌, Bool, List, ◌++◌, length, map, drop, slice_get, Some}
+use Rattle.std.specs.Prelude.{◌≡◌, ◌≢◌, ℕ, ◌<◌, ◌≤◌, Bool, List, ◌++◌, length, map, drop, slice_get, slice_index, Some}
 use Rattle.gc_netlist.specs.Circuit.{Netlist}
 use Rattle.gc_netlist.specs.Spelling.{bit_number}
-use Rattle.gc_format.specs.LabelFile.{label_file, label_parts_of}
+use Rattle.gc_label.specs.Seed.{offset_of, input_label_of}
+use Rattle.gc_format.specs.declared.parts.Version.{Version}
+use Rattle.gc_format.specs.GarbledFile.{garbled_file}
+use Rattle.gc_format.specs.LabelFile.{label_file, label_parts_with}
+use Rattle.gc_file.specs.Honest.{honest_parts_with}
 use Rattle.gc_job.specs.declared.fault.BindFault.TheVariants as bind
 use Rattle.gc_kept.specs.declared.fault.KeptFault.{KeptFault}
-use Rattle.gc_kept.specs.declared.fault.KeptFault.TheVariants.{Binding, SmallBuffer, Memory}
+use Rattle.gc_kept.specs.declared.fault.KeptFault.TheVariants.{Binding, BadArgument, SmallBuffer, Memory}
 use Rattle.gc_kept.specs.Bits.{HasBitsFault}
+use Rattle.gc_kept.specs.Garbling.{GarblingWith}
 
 -- The buffer begins with the file, and is as it was after it.
 abbrev pub IsFileAt : List ℕ → List ℕ → List ℕ → Type 0
@@ -22,23 +27,61 @@ HasWriteFault file room written SmallBuffer = (room < length file) × (written �
 HasWriteFault file room written Memory = Unit {0}
 HasWriteFault file room written _ = ⊥
 
--- The buffer begins with the label file of the bits that these bytes are, and this is its length.
-pub record IsDealtAt (c : Netlist) (seed : List ℕ) (index : ℕ) (bytes old new : List ℕ)
-    (written : ℕ) : Type 0 where
+-- The garbled file of a garbling.
+abbrev pub file_of : GarblingWith → Version → List ℕ
+file_of g version = garbled_file (honest_parts_with version g.circuit g.garbling g.offset)
+
+-- The AND gates of the garbling are numbered from 0 on, and the buffer begins with its file, which has this length.
+pub record IsGarbledAt (g : GarblingWith) (version : Version) (old new : List ℕ) (written : ℕ)
+    : Type 0 where
+  pub from_zero : g.first ≡ 0
+  pub file : IsFileAt (file_of g version) old new
+  pub count : written ≡ length (file_of g version)
+
+-- The fault of writing it: they are numbered from another number on, else that of writing a file.
+abbrev pub HasFileFault : GarblingWith → Version → ℕ → ℕ → KeptFault → Type 0
+HasFileFault g version room written BadArgument = g.first ≢ 0
+HasFileFault g version room written fault =
+    (g.first ≡ 0) × HasWriteFault (file_of g version) room written fault
+
+-- The buffer begins with the label file of the bits that these bytes are, with an offset and zero labels of the input
+-- wires, and this is its length.
+pub record IsDealtWith (c : Netlist) (offset : ℕ) (zero_label : ℕ → ℕ) (index : ℕ)
+    (bytes old new : List ℕ) (written : ℕ) : Type 0 where
   pub bits : List Bool
   pub bytes_are : bytes ≡ map bit_number bits
   pub width : slice_get c.input_widths index ≡ Some (length bits)
-  pub file : IsFileAt (label_file (label_parts_of c seed index bits)) old new
-  pub count : written ≡ length (label_file (label_parts_of c seed index bits))
+  pub file : IsFileAt (label_file (label_parts_with c offset zero_label index bits)) old new
+  pub count : written ≡ length (label_file (label_parts_with c offset zero_label index bits))
 
 -- The fault of dealing: no such value, then that of the bits, then that of writing the file.
-pub data HasDealFault (c : Netlist) (seed : List ℕ) (index : ℕ) (bytes : List ℕ) (room written : ℕ)
-    : KeptFault → Type 0 where
+pub data HasDealFaultWith (c : Netlist) (offset : ℕ) (zero_label : ℕ → ℕ) (index : ℕ)
+    (bytes : List ℕ) (room written : ℕ) : KeptFault → Type 0 where
   no_value : length c.input_widths ≤ index
-      → HasDealFault c seed index bytes room written (Binding bind.NoSuchValue)
+      → HasDealFaultWith c offset zero_label index bytes room written (Binding bind.NoSuchValue)
   of_bits : (width : ℕ) (fault : KeptFault) → slice_get c.input_widths index ≡ Some width
-      → HasBitsFault bytes width fault → HasDealFault c seed index bytes room written fault
+      → HasBitsFault bytes width fault
+      → HasDealFaultWith c offset zero_label index bytes room written fault
   of_file : (bits : List Bool) (fault : KeptFault) → bytes ≡ map bit_number bits
       → slice_get c.input_widths index ≡ Some (length bits)
-      → HasWriteFault (label_file (label_parts_of c seed index bits)) room written fault
-      → HasDealFault c seed index bytes room written fault
+      → HasWriteFault (label_file (label_parts_with c offset zero_label index bits)) room written fault
+      → HasDealFaultWith c offset zero_label index bytes room written fault
+
+-- The same under a seed,
+abbrev pub IsDealtAt : Netlist → List ℕ → ℕ → List ℕ → List ℕ → List ℕ → ℕ → Type 0
+IsDealtAt c seed index bytes old new written =
+    IsDealtWith c (offset_of seed) (input_label_of seed) index bytes old new written
+
+abbrev pub HasDealFault : Netlist → List ℕ → ℕ → List ℕ → ℕ → ℕ → KeptFault → Type 0
+HasDealFault c seed index bytes room written fault =
+    HasDealFaultWith c (offset_of seed) (input_label_of seed) index bytes room written fault
+
+-- and of a garbling.
+abbrev pub IsDealtFrom : GarblingWith → ℕ → List ℕ → List ℕ → List ℕ → ℕ → Type 0
+IsDealtFrom g index bytes old new written =
+    IsDealtWith g.circuit g.offset (slice_index g.garbling.zero_labels) index bytes old new written
+
+abbrev pub HasDealFaultFrom : GarblingWith → ℕ → List ℕ → ℕ → ℕ → KeptFault → Type 0
+HasDealFaultFrom g index bytes room written fault =
+    HasDealFaultWith g.circuit g.offset (slice_index g.garbling.zero_labels) index bytes room written
+    fault

@@ -1,15 +1,21 @@
--- Garblings with their circuit and their seed.
-use Rattle.std.specs.Prelude.{◌≡◌, ◌⊎◌, ℕ, List}
+-- Garblings with their circuit, their offset, and the number of their first AND gate.
+use Rattle.std.specs.Prelude.{◌≡◌, ◌⊎◌, ℕ, slice_index}
 use Rattle.gc_netlist.specs.Circuit.{Netlist}
-use Rattle.gc_half.specs.Garbling.{GarblingParts}
+use Rattle.gc_half.specs.Garbling.{GarblingParts, IsGarbledFrom}
 use Rattle.gc_kept.specs.declared.fault.KeptFault.{KeptFault}
 use Rattle.gc_kept.specs.declared.fault.KeptFault.TheVariants.{Garbling, Memory}
 
--- The garbling of the circuit under the seed.
-pub record SeededGarbling : Type 0 where
+-- A garbling of the circuit with this offset, its AND gates numbered from `first` on.
+pub record GarblingWith : Type 0 where
   pub circuit : Netlist
-  pub seed : List ℕ
+  pub offset : ℕ
+  pub first : ℕ
   pub garbling : GarblingParts
+
+-- It is one: that from the zero labels that it has on the input wires.
+abbrev pub IsGarblingWith : GarblingWith → Type 0
+IsGarblingWith g =
+    IsGarbledFrom g.offset (slice_index g.garbling.zero_labels) g.first g.circuit g.garbling
 
 -- Memory is missing for a garbling, or for what is kept.
 abbrev pub IsWantOfMemory : KeptFault → Type 0

@@ -1,5 +1,5 @@
 -- Jobs of files in memory.
-use Rattle.std.specs.Prelude.{◌≡◌, ◌≢◌, ℕ, Bool, List, map, Ok, Err}
+use Rattle.std.specs.Prelude.{◌≡◌, ◌≢◌, ◌<◌, ◌≤◌, ℕ, Bool, List, map, Ok, Err}
 use Rattle.gc_netlist.specs.Circuit.{Netlist, output_wires}
 use Rattle.gc_netlist.specs.Spelling.{bit_number}
 use Rattle.gc_format.specs.GarbledFile.{GarbledParts, IsGarbledFile}
@@ -13,7 +13,8 @@ use Rattle.gc_job.specs.Job.{JobParts}
 use Rattle.gc_job.specs.Binding.{FirstBindFault, IsBound}
 use Rattle.gc_job.specs.Evaluate.{IsEvaluated}
 use Rattle.gc_kept.specs.declared.fault.KeptFault.{KeptFault}
-use Rattle.gc_kept.specs.declared.fault.KeptFault.TheVariants.{File, Binding, Evaluation, BadArgument, Memory}
+use Rattle.gc_kept.specs.declared.fault.KeptFault.TheVariants.{File, Binding, Evaluation, SmallBuffer, Memory}
+use Rattle.gc_kept.specs.Files.{IsFileAt}
 use Rattle.gc_kept.specs.LabelFiles.{AreLabelFiles, HasLabelFilesFault}
 
 -- The job is that of the circuit, the garbled file and the label files that these bytes are.
@@ -38,15 +39,15 @@ pub data HasJobFault (c : Netlist) (garbled labels lengths : List ℕ) : KeptFau
       → HasJobFault c garbled labels lengths (Binding fault)
   want : HasJobFault c garbled labels lengths Memory
 
--- The bytes are the output bits that an evaluation of the job decodes to.
-pub record AreEvaluated (job : JobParts) (bytes : List ℕ) : Type 0 where
+-- The buffer begins with the output bits that an evaluation of the job decodes to.
+pub record AreEvaluated (job : JobParts) (old new : List ℕ) : Type 0 where
   pub bits : List Bool
   pub evaluated : IsEvaluated job (Ok bits)
-  pub bytes_of : bytes ≡ map bit_number bits
+  pub buffer : IsFileAt (map bit_number bits) old new
 
--- The fault of an evaluation that is given room for a number of bits.
+-- The fault of an evaluation: the buffer has too little room, then that of the job.
 abbrev pub HasEvaluationFault : JobParts → ℕ → KeptFault → Type 0
-HasEvaluationFault job room BadArgument = room ≢ output_wires job.circuit
+HasEvaluationFault job room SmallBuffer = room < output_wires job.circuit
 HasEvaluationFault job room (Evaluation fault) =
-    (room ≡ output_wires job.circuit) × IsEvaluated job (Err fault)
+    (output_wires job.circuit ≤ room) × IsEvaluated job (Err fault)
 HasEvaluationFault job room _ = ⊥

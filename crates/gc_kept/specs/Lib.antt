@@ -9,3 +9,4 @@ pub mod Version
 pub mod Files
 pub mod Wires
 pub mod Audit
+pub mod Labels

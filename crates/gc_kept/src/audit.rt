@@ -5,38 +5,46 @@ ghost use Rattle.gc_kept.specs.Audit.{IsAuditOf, HasGarbledFault, IsLabelsAuditO
 
 use crate::fault::KeptFault;
 use crate::garbling::KeptGarbling;
-use gc_audit::{GarbledAudit, LabelsVerdict, audit_garbled, audit_labels};
+use gc_audit::{GarbledAudit, LabelsVerdict, audit_garbled, audit_labels_with_offset};
 use gc_file::{Version, read_garbled, read_labels};
 use gc_job::EvalFault;
 use std::alloc::Global;
 
 impl KeptGarbling {
     /// Compares a garbled file with the garbling, as [`gc_audit::audit_garbled`] does: the version of the file, and
-    /// what is found.
+    /// what is found. It refuses a garbling whose AND gates aren't numbered from 0 on (60).
     pub fn audit(&self, alloc: Global, file: &[u8]) -> Result<(Version, GarbledAudit), KeptFault>
         ensures ok { IfOk result (λ found. IsAuditOf self.now file.now found.0 found.1) }
-        ensures fault { IfErr result (HasGarbledFault file.now) }
+        ensures fault { IfErr result (HasGarbledFault self.now file.now) }
     {
+        if !self.is_from_zero() {
+            return Err(KeptFault::BadArgument);
+        }
+        self.law_garbled();
         let file = read_garbled(alloc, file)?;
         let circuit = self.circuit.circuit();
         let digest = self.circuit.digest();
-        let found = audit_garbled(circuit, digest, &self.garbling, &self.seed, &file);
+        let found = audit_garbled(circuit, digest, &self.garbling, self.offset, &file);
         Ok((file.version(), found))
     }
 
-    /// Compares a label file with the garbling, as [`gc_audit::audit_labels`] does: the index that stands in the file,
-    /// and what is found.
+    /// Compares a label file with the garbling, as [`gc_audit::audit_labels_with_offset`] does: the index that stands in
+    /// the file, and what is found. It refuses a garbling whose AND gates aren't numbered from 0 on (60).
     pub fn audit_labels(
         &self,
         alloc: Global,
         file: &[u8],
     ) -> Result<(u32, LabelsVerdict<Global>), KeptFault>
         ensures ok { IfOk result (λ found. IsLabelsAuditOf self.now file.now found.0 found.1) }
-        ensures fault { IfErr result (HasLabelsFault file.now) }
+        ensures fault { IfErr result (HasLabelsFault self.now file.now) }
     {
+        if !self.is_from_zero() {
+            return Err(KeptFault::BadArgument);
+        }
+        self.law_garbled();
         let file = read_labels(alloc, file)?;
         let circuit = self.circuit.circuit();
-        match audit_labels(alloc, circuit, &self.garbling, &self.seed, &file) {
+        match audit_labels_with_offset(alloc, circuit, &self.garbling, self.offset, &file) {
             Ok(verdict) => Ok((file.index(), verdict)),
             Err(_) => Err(KeptFault::Evaluation(EvalFault::Memory)),
         }

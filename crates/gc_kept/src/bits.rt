@@ -25,7 +25,8 @@ pub fn write_bits(bits: &[bool], bytes: &mut [u8])
     }
 }
 
-/// The bits of these bytes, where there are `count` of them and each is 0 or 1.
+/// The bits of these bytes, where there are `count` of them and each is 0 or 1. All of them are read before that is
+/// decided, and no branch and no address depends on one.
 pub(crate) fn read_bits(
     alloc: Global,
     bytes: &[u8],
@@ -41,15 +42,16 @@ pub(crate) fn read_bits(
     let Ok(mut bits) = Vec::with_capacity(alloc, count) else {
         return Err(KeptFault::Circuit(ReadFault::Memory));
     };
+    let mut are_bits = true;
     for byte in bytes {
-        let bit = match *byte {
-            0 => false,
-            1 => true,
-            _ => return Err(KeptFault::BadDigit),
-        };
-        if bits.push(bit).is_err() {
+        are_bits &= *byte < 2;
+        if bits.push(*byte == 1).is_err() {
             return Err(KeptFault::Circuit(ReadFault::Memory));
         }
     }
-    Ok(bits)
+    if are_bits {
+        Ok(bits)
+    } else {
+        Err(KeptFault::BadDigit)
+    }
 }

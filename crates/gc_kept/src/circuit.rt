@@ -98,8 +98,8 @@ impl KeptCircuit {
         self.shared.digest()
     }
 
-    /// The circuit once more, for another to hold.
-    pub(crate) fn again(&self) -> Result<KeptCircuit, AllocError>
+    /// The circuit once more, for another to hold. Nothing is copied.
+    pub fn again(&self) -> Result<KeptCircuit, AllocError>
         ensures { IfOk result (λ c. c ≡ self.now) }
     {
         Ok(KeptCircuit {

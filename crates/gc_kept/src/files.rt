@@ -1,17 +1,19 @@
 //! Writing files to the buffers of callers.
 
 ghost use Rattle.std.specs.Prelude.{◌≡◌, ◌≢◌, ◌≤◌, Some, length, slice_get, IfErr, OnOk, OnErr};
-ghost use Rattle.gc_format.specs.GarbledFile.{garbled_file};
 ghost use Rattle.gc_format.specs.LabelFile.{label_file, label_parts_of};
-ghost use Rattle.gc_file.specs.Honest.{honest_parts};
+ghost use Rattle.gc_write.specs.Written.{IsWritten};
 ghost use Rattle.gc_stats.specs.Stats.{IsFileSize};
 ghost use Rattle.gc_kept.specs.Files.{IsFileAt, HasRoomFault, HasWriteFault, IsDealtAt, HasDealFault};
+ghost use Rattle.gc_kept.specs.Files.{file_of, IsGarbledAt, HasFileFault};
 
 use crate::bits::read_bits;
 use crate::circuit::KeptCircuit;
 use crate::fault::KeptFault;
 use crate::garbling::KeptGarbling;
-use gc_file::{MemSink, Version, write_labels};
+use gc_file::{
+    MemSink, Version, WriteFault, write_garbled_by_digest, write_garbled2_with_offset, write_labels,
+};
 use gc_format::sizes::{LABEL, LABEL_HEADER};
 use gc_job::BindFault;
 use gc_label::Seed;
@@ -19,7 +21,11 @@ use gc_stats::garbled_size;
 use std::alloc::Global;
 
 /// Checks that a buffer has room for a file of this size. Only where it hasn't, reports the size.
-fn look_for_room(size: usize, buffer: &[u8], written: &mut usize) -> Result<(), KeptFault>
+pub(crate) fn look_for_room(
+    size: usize,
+    buffer: &[u8],
+    written: &mut usize,
+) -> Result<(), KeptFault>
     ensures ok { OnOk result (size ≤ length buffer.now) }
     ensures fault { IfErr result (HasRoomFault size (length buffer.now)) }
     ensures written { OnErr result (written.new ≡ size) }
@@ -120,8 +126,9 @@ impl KeptCircuit {
 }
 
 impl KeptGarbling {
-    /// Writes the garbled file of a version, and reports the number of its bytes. Where the buffer is too small (61),
-    /// no file is made, and `written` is the size that is needed. After another fault it is as it was.
+    /// Writes the garbled file of a version, and reports the number of its bytes. It refuses a garbling whose AND gates
+    /// aren't numbered from 0 on (60), and a buffer that is too small (61): then no file is made, and `written` is the
+    /// size that is needed. After another fault it is as it was.
     pub fn write(
         &self,
         alloc: Global,
@@ -129,19 +136,17 @@ impl KeptGarbling {
         buffer: &mut [u8],
         written: &mut usize,
     ) -> Result<(), KeptFault>
-        ensures ok { OnOk result (IsFileAt
-            (garbled_file (honest_parts version self.now.circuit self.now.garbling self.now.seed))
-            buffer.old buffer.new) }
-        ensures written { OnOk result (written.new
-            ≡ length (garbled_file
-            (honest_parts version self.now.circuit self.now.garbling self.now.seed))) }
-        ensures fault { IfErr result (HasWriteFault
-            (garbled_file (honest_parts version self.now.circuit self.now.garbling self.now.seed))
-            (length buffer.old) written.new) }
+        ensures ok { OnOk result
+            (IsGarbledAt self.now version buffer.old buffer.new written.new) }
+        ensures fault { IfErr result
+            (HasFileFault self.now version (length buffer.old) written.new) }
         ensures unwritten { OnErr result (buffer.new ≡ buffer.old) }
         ensures unreported { IfErr result (λ fault.
             fault ≢ KeptFault.SmallBuffer → written.new ≡ written.old) }
     {
+        if !self.is_from_zero() {
+            return Err(KeptFault::BadArgument);
+        }
         self.law_garbled();
         let size = self.circuit().garbled_size(version);
         look_for_room(size as usize, buffer, written)?;
@@ -149,6 +154,23 @@ impl KeptGarbling {
         match self.write_to(&mut sink, version) {
             Ok(_) => copy_file(sink.bytes(), buffer, written),
             Err(_) => Err(KeptFault::Memory),
+        }
+    }
+
+    /// Writes the garbled file of a version to a sink, as the writers of `gc_file` do.
+    fn write_to(&self, sink: &mut MemSink<Global>, version: Version) -> Result<u64, WriteFault>
+        ensures { IsWritten (file_of self.now version)
+            result (Some sink.old.bytes) (Some sink.new.bytes) }
+    {
+        self.law_garbled();
+        let circuit = self.circuit.circuit();
+        let digest = self.circuit.digest();
+        let garbling = &self.garbling;
+        match version {
+            Version::One => write_garbled_by_digest(sink, circuit, digest, garbling),
+            Version::Two => {
+                write_garbled2_with_offset(sink, circuit, digest, garbling, self.offset)
+            }
         }
     }
 }

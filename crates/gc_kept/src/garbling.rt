@@ -1,41 +1,59 @@
 //! Garblings that hold their circuit.
 
-ghost use Rattle.std.specs.Prelude.{◌≡◌, ◌<◌, Some, length, slice_get, IfOk, IfErr, OnOk, OnErr};
+ghost use Rattle.std.specs.Prelude.{◌≡◌, ◌↔◌, ◌<◌, Some, IsTrue, length, slice_get, IfOk, IfErr, OnOk, OnErr};
+ghost use Rattle.gc_label.specs.Label.{bytes_of_label};
+ghost use Rattle.gc_label.specs.Seed.{offset_of};
+ghost use Rattle.gc_half.specs.Garbling.{IsGarbled};
 ghost use Rattle.gc_kept.specs.Garbling.{IsWantOfMemory};
+ghost use Rattle.gc_kept.specs.Labels.{HasGarbleFault, IsFromLabels};
 
 use crate::bits::bit_byte;
 use crate::circuit::KeptCircuit;
 use crate::fault::KeptFault;
-use gc_file::{MemSink, Version, WriteFault, write_garbled_by_digest, write_garbled2_by_digest};
-use gc_half::{Garbling, garble_one_thread};
-use gc_label::{Label, Seed, offset};
+use gc_format::sizes::LABEL;
+use gc_half::{FirstAnd, Garbling, garble_from, garble_one_thread};
+use gc_label::{Label, Offset, Seed, offset};
+use gc_read::labels_from_bytes;
 use std::alloc::Global;
 use std::marker::Model;
 
-/// The garbling of a circuit under a seed, with both.
+/// A garbling of a circuit, with the circuit, the offset, and the number of the first AND gate.
 #[derive(Drop)]
 pub struct KeptGarbling {
     pub(crate) circuit: KeptCircuit,
-    pub(crate) seed: Seed,
+    pub(crate) offset: Offset,
+    pub(crate) first: FirstAnd,
     pub(crate) garbling: Garbling<Global>,
 }
 
 impl Model for KeptGarbling {
-    ghost use Rattle.gc_half.specs.Garbling.{IsGarbled};
-    ghost use Rattle.gc_kept.specs.Garbling.{SeededGarbling};
+    ghost use Rattle.gc_kept.specs.Garbling.{GarblingWith, IsGarblingWith};
 
-    ghost Value = { SeededGarbling };
+    ghost Value = { GarblingWith };
 
-    ghost view = { λ g. record { circuit = g.circuit; seed = g.seed; garbling = g.garbling } };
+    ghost view = { λ g. record {
+      circuit = g.circuit;
+      offset = g.offset;
+      first = g.first;
+      garbling = g.garbling;
+    } };
 
-    ghost invariant = { λ g. IsGarbled g.circuit g.seed g.garbling };
+    ghost invariant = { λ g. IsGarblingWith (record {
+      circuit = g.circuit;
+      offset = g.offset;
+      first = g.first;
+      garbling = g.garbling;
+    }) };
 }
 
 impl KeptCircuit {
-    /// Garbles the circuit under a seed on one thread, as [`garble_one_thread`] does.
+    /// Garbles the circuit under a seed on one thread, as [`garble_one_thread`] does: the offset and the zero labels of
+    /// the input wires are those of the seed, and AND gates are numbered from 0 on.
     pub fn garble(&self, alloc: Global, seed: &[u8; 32]) -> Result<KeptGarbling, KeptFault>
         ensures circuit { IfOk result (λ g. g.circuit ≡ self.now) }
-        ensures seed { IfOk result (λ g. g.seed ≡ seed.now) }
+        ensures offset { IfOk result (λ g. g.offset ≡ offset_of seed.now) }
+        ensures first { IfOk result (λ g. g.first ≡ 0) }
+        ensures garbled { IfOk result (λ g. IsGarbled self.now seed.now g.garbling) }
         ensures fault { IfErr result IsWantOfMemory }
     {
         let seed = Seed::from_bytes(*seed);
@@ -44,46 +62,69 @@ impl KeptCircuit {
         };
         Ok(KeptGarbling {
             circuit: self.again()?,
-            seed,
+            offset: offset(&seed),
+            first: FirstAnd::ZERO,
+            garbling,
+        })
+    }
+
+    /// Garbles the circuit on one thread, as [`garble_from`] does, from an offset, a zero label for each input wire, one
+    /// after another, and the number of the first AND gate. It refuses an offset of colour 0, another number of bytes,
+    /// and a first AND gate whose sum with the number of AND gates is above 2^62 (60).
+    pub fn garble_from(
+        &self,
+        alloc: Global,
+        offset: &[u8; 16],
+        zero_labels: &[u8],
+        first: u64,
+    ) -> Result<KeptGarbling, KeptFault>
+        ensures ok { IfOk result (IsFromLabels self.now offset.now zero_labels.now first) }
+        ensures fault { IfErr result
+            (HasGarbleFault self.now offset.now zero_labels.now first) }
+    {
+        let circuit = self.circuit();
+        if zero_labels.len() != LABEL * circuit.input_wires() as usize {
+            return Err(KeptFault::BadArgument);
+        }
+        let Some(offset) = Offset::new(Label::from_bytes(*offset)) else {
+            return Err(KeptFault::BadArgument);
+        };
+        let Some(first) = FirstAnd::new(first, circuit.and_count()) else {
+            return Err(KeptFault::BadArgument);
+        };
+        let Ok(labels) = labels_from_bytes(alloc, zero_labels) else {
+            return Err(KeptFault::Garbling);
+        };
+        let Ok(garbling) = garble_from(alloc, circuit, offset, &labels, first) else {
+            return Err(KeptFault::Garbling);
+        };
+        Ok(KeptGarbling {
+            circuit: self.again()?,
+            offset,
+            first,
             garbling,
         })
     }
 }
 
 impl KeptGarbling {
-    ghost use Rattle.gc_label.specs.Seed.{offset_of};
     ghost use Rattle.gc_half.specs.Evaluation.{encode};
-    ghost use Rattle.gc_half.specs.Garbling.{IsGarbled};
-    ghost use Rattle.gc_format.specs.GarbledFile.{garbled_file};
-    ghost use Rattle.gc_file.specs.Honest.{honest_parts};
-    ghost use Rattle.gc_write.specs.Written.{IsWritten};
+    ghost use Rattle.gc_kept.specs.Garbling.{IsGarblingWith};
     ghost use Rattle.gc_kept.specs.Wires.{IsZeroLabel, IsDecodeBit, HasNoWire, HasNoOutput};
 
-    /// The law of the type: it is the garbling of the circuit under the seed. A call of it does nothing.
+    /// The law of the type: it is a garbling of the circuit with the offset, its AND gates numbered from `first` on. A
+    /// call of it does nothing.
     pub fn law_garbled(&self)
-        ensures { IsGarbled self.now.circuit self.now.seed self.now.garbling }
+        ensures { IsGarblingWith self.now }
     {
-        let _ = &self.seed;
+        let _ = &self.first;
     }
 
-    /// Writes the garbled file of a version to a sink, as the writers of `gc_file` do.
-    pub(crate) fn write_to(
-        &self,
-        sink: &mut MemSink<Global>,
-        version: Version,
-    ) -> Result<u64, WriteFault>
-        ensures { IsWritten
-            (garbled_file (honest_parts version self.now.circuit self.now.garbling self.now.seed))
-            result (Some sink.old.bytes) (Some sink.new.bytes) }
+    /// Whether AND gates are numbered from 0 on, as in the garbling of a file.
+    pub(crate) fn is_from_zero(&self) -> bool
+        ensures { IsTrue result ↔ (self.now.first ≡ 0) }
     {
-        let circuit = self.circuit.circuit();
-        let digest = self.circuit.digest();
-        match version {
-            Version::One => write_garbled_by_digest(sink, circuit, digest, &self.garbling),
-            Version::Two => {
-                write_garbled2_by_digest(sink, circuit, digest, &self.garbling, &self.seed)
-            }
-        }
+        self.first == FirstAnd::ZERO
     }
 
     /// The circuit.
@@ -91,6 +132,13 @@ impl KeptGarbling {
         ensures { result.now ≡ self.now.circuit }
     {
         &self.circuit
+    }
+
+    /// The bytes of the offset.
+    pub fn offset(&self) -> [u8; 16]
+        ensures { result ≡ bytes_of_label self.now.offset }
+    {
+        self.offset.label().to_bytes()
     }
 
     /// Writes the zero label of a wire, if there is such a wire.
@@ -124,10 +172,9 @@ impl KeptGarbling {
     pub fn labels_of(&self, wire: u32, bit: bool) -> (Label, Label)
         requires { wire < length self.now.garbling.zero_labels }
         ensures zero { slice_get self.now.garbling.zero_labels wire ≡ Some result.0 }
-        ensures active { result.1 ≡ encode (offset_of self.now.seed) result.0 bit }
+        ensures active { result.1 ≡ encode self.now.offset result.0 bit }
     {
         let zero_label = self.garbling.zero_label(wire);
-        let offset = offset(&self.seed).label();
-        (zero_label, zero_label.xor(offset.times(bit)))
+        (zero_label, zero_label.xor(self.offset.label().times(bit)))
     }
 }

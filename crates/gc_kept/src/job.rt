@@ -2,13 +2,16 @@
 
 ghost use Rattle.std.specs.Prelude.{◌≡◌, length, IfOk, IfErr, OnOk, OnErr};
 ghost use Rattle.gc_kept.specs.Job.{IsBoundJob, HasJobFault, AreEvaluated, HasEvaluationFault};
+ghost use Rattle.gc_kept.specs.Labels.{AreJobLabels, HasJobLabelsFault};
 
 use crate::bits::write_bits;
 use crate::circuit::KeptCircuit;
 use crate::fault::KeptFault;
+use crate::label_bytes::{has_room, write_labels};
 use crate::label_files::read_label_files;
 use gc_file::read_garbled;
-use gc_job::{DetachedJob, Job, evaluate_detached};
+use gc_format::sizes::LABEL;
+use gc_job::{DetachedJob, EvalFault, Job, evaluate_detached, output_labels_detached};
 use std::alloc::Global;
 use std::marker::Model;
 
@@ -53,19 +56,35 @@ impl KeptCircuit {
 }
 
 impl KeptJob {
-    /// Evaluates the job, as [`gc_job::evaluate`] does, and writes the bits of the output wires. It refuses a room that
-    /// hasn't one byte for each output wire (60). After a fault `bits` is as it was.
+    /// Evaluates the job, as [`gc_job::evaluate`] does, and writes the bits of the output wires to the front of a buffer.
+    /// It refuses a buffer without a byte for each output wire (61). After a fault the buffer is as it was.
     pub fn evaluate(&self, alloc: Global, bits: &mut [u8]) -> Result<(), KeptFault>
-        ensures ok { OnOk result (AreEvaluated self.now bits.new) }
+        ensures ok { OnOk result (AreEvaluated self.now bits.old bits.new) }
         ensures fault { IfErr result (HasEvaluationFault self.now (length bits.old)) }
         ensures unwritten { OnErr result (bits.new ≡ bits.old) }
     {
         let circuit = self.circuit.circuit();
-        if bits.len() != circuit.output_wires() as usize {
-            return Err(KeptFault::BadArgument);
-        }
-        let outputs = evaluate_detached(alloc, circuit, &self.job)?;
-        write_bits(&outputs, bits);
+        let outputs = circuit.output_wires() as usize;
+        has_room(outputs, bits)?;
+        let found = evaluate_detached(alloc, circuit, &self.job)?;
+        write_bits(&found, &mut bits[..outputs]);
+        Ok(())
+    }
+
+    /// Writes the active labels of the output wires, 16 bytes each, to the front of a buffer, as
+    /// [`gc_job::output_labels`] gives them. It refuses a buffer without room for them (61). After a fault the buffer is
+    /// as it was.
+    pub fn output_labels(&self, alloc: Global, outputs: &mut [u8]) -> Result<(), KeptFault>
+        ensures ok { OnOk result (AreJobLabels self.now outputs.old outputs.new) }
+        ensures fault { IfErr result (HasJobLabelsFault self.now (length outputs.old)) }
+        ensures unwritten { OnErr result (outputs.new ≡ outputs.old) }
+    {
+        let circuit = self.circuit.circuit();
+        has_room(LABEL * circuit.output_wires() as usize, outputs)?;
+        let Ok(labels) = output_labels_detached(alloc, circuit, &self.job) else {
+            return Err(KeptFault::Evaluation(EvalFault::Memory));
+        };
+        write_labels(&labels, outputs);
         Ok(())
     }
 }

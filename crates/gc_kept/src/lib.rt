@@ -1,7 +1,9 @@
 //! Circuits, garblings and jobs that own what they stand on, for a caller that keeps them apart and lets them go in any
 //! order: what a library for other languages hands out. Bits are bytes here, 0 and 1, and files are bytes in memory.
 //!
-//! A [`KeptCircuit`] has its digest with it. A [`KeptGarbling`] and a [`KeptJob`] share their circuit.
+//! A [`KeptCircuit`] has its digest with it. A [`KeptGarbling`] and a [`KeptJob`] share their circuit. A garbling is made
+//! under a seed, or from an offset and labels of the caller's; circuits that follow one another are garbled and evaluated
+//! from labels to labels.
 #![tactic(auto)]
 
 mod audit;
@@ -9,17 +11,22 @@ mod bits;
 mod circuit;
 mod fault;
 mod files;
+mod from_labels;
 mod garbling;
 mod held;
 mod job;
+mod label_bytes;
+mod label_file;
 mod label_files;
 mod plain;
+mod values;
 mod version;
 mod wires;
 
 pub use bits::write_bits;
 pub use circuit::KeptCircuit;
 pub use fault::KeptFault;
+pub use from_labels::decode;
 pub use garbling::KeptGarbling;
 pub use held::Held;
 pub use job::KeptJob;

@@ -6,6 +6,7 @@ ghost use Rattle.gc_kept.specs.Plain.{ArePlainOutputs, HasPlainFault};
 use crate::bits::{read_bits, write_bits};
 use crate::circuit::KeptCircuit;
 use crate::fault::KeptFault;
+use crate::label_bytes::has_room;
 use gc_circuit::{Memory, ReadFault, plain_eval};
 use std::alloc::Global;
 
@@ -32,17 +33,16 @@ pub(crate) fn values_of(
 
 impl KeptCircuit {
     /// Evaluates the circuit in the clear, as [`plain_eval`] does, on the bits of all input wires, and writes the bits
-    /// of the output wires. It refuses a room that hasn't one byte for each output wire (60), a wrong number of bits
-    /// (16), and a byte other than 0 and 1 (15). After a fault `outputs` is as it was.
+    /// of the output wires to the front of a buffer. It refuses a buffer without a byte for each output wire (61), a
+    /// wrong number of bits (16), and a byte other than 0 and 1 (15). After a fault the buffer is as it was.
     pub fn plain(&self, alloc: Global, bits: &[u8], outputs: &mut [u8]) -> Result<(), KeptFault>
-        ensures ok { OnOk result (ArePlainOutputs self.now bits.now outputs.new) }
+        ensures ok { OnOk result (ArePlainOutputs self.now bits.now outputs.old outputs.new) }
         ensures fault { IfErr result (HasPlainFault self.now bits.now (length outputs.old)) }
         ensures unwritten { OnErr result (outputs.new ≡ outputs.old) }
     {
         let circuit = self.circuit();
-        if outputs.len() != circuit.output_wires() as usize {
-            return Err(KeptFault::BadArgument);
-        }
+        let room = circuit.output_wires() as usize;
+        has_room(room, outputs)?;
         let bits = read_bits(alloc, bits, circuit.input_wires() as usize)?;
         let Ok(values) = values_of(alloc, circuit.input_widths(), &bits) else {
             return Err(KeptFault::Circuit(ReadFault::Memory));
@@ -50,7 +50,7 @@ impl KeptCircuit {
         let Ok(found) = plain_eval(alloc, circuit, &values) else {
             return Err(KeptFault::Circuit(ReadFault::Memory));
         };
-        write_bits(&found, outputs);
+        write_bits(&found, &mut outputs[..room]);
         Ok(())
     }
 }

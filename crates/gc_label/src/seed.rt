@@ -4,7 +4,7 @@ ghost use Rattle.std.specs.Prelude.{◌≡◌, ◌↔◌, IsOk, IfOk, Ok, codes}
 ghost use Rattle.hex.specs.Hex.{decode_of};
 ghost use Rattle.gc_label.specs.Seed.{IsSeedText};
 
-use hex::FromHex;
+use gc_value::byte_of;
 use std::error::Error;
 use std::fmt;
 use std::marker::Model;
@@ -33,14 +33,27 @@ impl Seed {
         Seed { bytes }
     }
 
-    /// Reads a seed of 64 hexadecimal digits, in either case, and refuses any other text.
+    /// Reads a seed of 64 hexadecimal digits, in either case, and refuses any other text. All digits are read before that
+    /// is decided, and no branch and no address depends on one.
     pub fn from_hex(text: &str) -> Result<Seed, BadSeed>
         ensures accepts { IsOk result ↔ IsSeedText text.now }
         ensures bytes { IfOk result (λ seed. decode_of text.now ≡ Ok seed) }
     {
-        match <[u8; 32] as FromHex>::from_hex(text) {
-            Ok(bytes) => Ok(Seed::from_bytes(bytes)),
-            Err(_) => Err(BadSeed),
+        let digits = text.as_bytes();
+        if digits.len() != 64 {
+            return Err(BadSeed);
+        }
+        let mut bytes = [0; 32];
+        let mut are_digits = true;
+        for i in 0..32 {
+            let (byte, is_byte) = byte_of(digits[2 * i], digits[2 * i + 1]);
+            bytes[i] = byte;
+            are_digits &= is_byte;
+        }
+        if are_digits {
+            Ok(Seed::from_bytes(bytes))
+        } else {
+            Err(BadSeed)
         }
     }
 

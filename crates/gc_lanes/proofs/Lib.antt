@@ -1,5 +1,6 @@
 pub mod Bits
 pub mod Chains
+pub mod Messages
 pub mod OneBlock
 pub mod Rotations
 pub mod Turning

@@ -1,7 +1,7 @@
-//! The compression of SHA-256 (FIPS 180-4, 6.2.2) of blocks that stand one after another in a message.
+//! The compression of SHA-256 (FIPS 180-4, 6.2.2) of consecutive blocks of a message.
 //!
-//! A message schedule reads its block alone, so that those of eight blocks are worked out at once, one in each lane.
-//! The rounds begin from the hash value of the block before, and go one block after another.
+//! A message schedule depends on its block alone, so the schedules of eight blocks are computed at once, one in each
+//! lane. The rounds of a block start from the hash value of the block before, so they run one block after another.
 
 ghost use Rattle.std.specs.Prelude.{◌≡◌, ◌+◌, ◌*◌, ◌<◌, ◌≤◌, ◌/◌, ◌%◌, [], ℕ, List, get_or, length, slice_index};
 ghost use Rattle.sha2.specs.Sha256.{add32, compress, hash_after, round_constants, rounds, schedule};
@@ -111,12 +111,13 @@ fn four_rounds_of(rows: &Schedules, block: usize, variables: [u32; 8], t: usize)
     round_of(rows, block, variables, t + 3)
 }
 
-/// The hash value after one of the blocks.
-fn compress_one(rows: &Schedules, block: usize, state: [u32; 8]) -> [u32; 8]
+/// Compresses one of the blocks.
+fn compress_one(rows: &Schedules, block: usize, hash: &mut [u32; 8])
     requires { block < 8 }
-    ensures { (p : List ℕ) → AreSchedules rows.now p → result ≡ compress state (block_at p block) }
+    ensures { (p : List ℕ) → AreSchedules rows.now p
+        → hash.new ≡ compress hash.old (block_at p block) }
 {
-    let variables = four_rounds_of(rows, block, state, 0);
+    let variables = four_rounds_of(rows, block, *hash, 0);
     let variables = four_rounds_of(rows, block, variables, 4);
     let variables = four_rounds_of(rows, block, variables, 8);
     let variables = four_rounds_of(rows, block, variables, 12);
@@ -132,49 +133,42 @@ fn compress_one(rows: &Schedules, block: usize, state: [u32; 8]) -> [u32; 8]
     let variables = four_rounds_of(rows, block, variables, 52);
     let variables = four_rounds_of(rows, block, variables, 56);
     let variables = four_rounds_of(rows, block, variables, 60);
-    add_state(state, variables)
+    *hash = add_state(*hash, variables);
 }
 
-/// The hash value after the first `count` of eight blocks, whose schedules are given.
+/// Compresses the first `count` of eight blocks, given their schedules.
 #[inline(always)]
-fn compress_each(rows: &Schedules, state: [u32; 8], count: usize) -> [u32; 8]
+fn compress_each(rows: &Schedules, hash: &mut [u32; 8], count: usize)
     requires { count ≤ 8 }
-    ensures { (p : List ℕ) → AreSchedules rows.now p → result ≡ hash_after state p count }
+    ensures { (p : List ℕ) → AreSchedules rows.now p → hash.new ≡ hash_after hash.old p count }
 {
-    let mut hash = state;
     'chain: for block in 0..count {
-        let next = compress_one(rows, block, hash);
-        hash = next;
+        compress_one(rows, block, hash);
     }
-    hash
 }
 
-/// The hash value after the first `count` of eight blocks.
-pub fn compress_blocks(state: [u32; 8], blocks: &[u8], count: usize) -> [u32; 8]
+/// Compresses the first `count` of eight blocks.
+pub(crate) fn compress_blocks(hash: &mut [u32; 8], blocks: &[u8], count: usize)
     requires bytes { length blocks.now ≡ 512 }
     requires count { count ≤ 8 }
-    ensures { result ≡ hash_after state blocks.now count }
+    ensures { hash.new ≡ hash_after hash.old blocks.now count }
 {
     let mut words: [u32x8; 64] = [Simd::splat(0); 64];
     let mut rows = [[0; 8]; 64];
     schedules(&mut words, &mut rows, blocks);
-    compress_each(&rows, state, count)
+    compress_each(&rows, hash, count);
 }
 
-/// The hash value after all the blocks of a text, which are eight, or twice eight, and so on.
-pub fn compress_eights(state: [u32; 8], blocks: &[u8]) -> [u32; 8]
+/// Compresses all of the blocks, whose number is a multiple of eight.
+pub(crate) fn compress_eights(hash: &mut [u32; 8], blocks: &[u8])
     requires { length blocks.now % 512 ≡ 0 }
-    ensures { result ≡ hash_after state blocks.now (length blocks.now / 64) }
+    ensures { hash.new ≡ hash_after hash.old blocks.now (length blocks.now / 64) }
 {
     let mut words: [u32x8; 64] = [Simd::splat(0); 64];
     let mut rows = [[0; 8]; 64];
-    let mut hash = state;
     'parts: for part in 0..blocks.len() / 512 {
         let start = 512 * part;
-        let eight = &blocks[start..start + 512];
-        schedules(&mut words, &mut rows, eight);
-        let next = compress_each(&rows, hash, 8);
-        hash = next;
+        schedules(&mut words, &mut rows, &blocks[start..start + 512]);
+        compress_each(&rows, hash, 8);
     }
-    hash
 }

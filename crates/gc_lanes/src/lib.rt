@@ -1,8 +1,8 @@
-//! Tweaked hashes, four or eight at once, one in each lane of vectors of words.
+//! SHA-256 (FIPS 180-4) with the words of four or eight blocks side by side in vectors.
 //!
-//! A label of 16 bytes and a tweak of 8 are a message of one block, so that each hash is one compression of
-//! SHA-256 (FIPS 180-4). [`hash_four`] and [`hash_eight`] compress such blocks side by side. They take no
-//! memory.
+//! A label of 16 bytes and a tweak of 8 are a message of one block, so that each hash is one compression.
+//! [`hash_four`] and [`hash_eight`] compress such blocks side by side. [`LongSha256`] digests one long message: it
+//! computes the message schedules of eight blocks side by side. Nothing here allocates.
 #![tactic(auto)]
 
 mod block;
@@ -11,9 +11,10 @@ mod compression;
 mod constants;
 mod functions;
 mod hash;
+mod hasher;
 mod labels;
 mod scalar;
 mod words;
 
-pub use chain::{compress_blocks, compress_eights};
 pub use hash::{hash_eight, hash_four};
+pub use hasher::LongSha256;

@@ -24,4 +24,4 @@ pub use Rattle.gc_read.specs.Taking.{IsAnswer, IsTaken, IsAnswerOfAll, IsTaking}
 pub use Rattle.gc_read.specs.declared.fault.FileFault.{FileFault}
 pub use Rattle.gc_read.specs.declared.fault.FileFault.TheVariants.{SpareBits, BadTrailer, Trailing}
 pub use Rattle.sha2.specs.Sha256.{sha256}
-pub use Rattle.sha2.specs.declared.Sha256.{Sha256}
+pub use Rattle.gc_lanes.specs.declared.hasher.LongSha256.{LongSha256}

@@ -1,5 +1,5 @@
 -- Where the parts of a garbled file stand, and what is wrong with them.
-use Rattle.gc_read.proofs.Names.{◌≡◌, ℕ, ◌+◌, ◌-◌, ◌%◌, ◌<◌, ◌≤◌, List, ◌++◌, length, take, slice_index, refl, sym, ◌∙◌, append_assoc, length-append, arith, Sha256, sha256, SpareBits, BadTrailer, Trailing, Version, One, Two, IsSpare, magic, IsBegun, row_count, output_count, decode_end, entries_end, trailer_end, IsTrailerRight, HasHeader, HasSpareBit, HasDecodeBits, LastingFault, spare_bits, bad_trailer, trailing, IsHeaderInOrder, IsInOrder, version_of, row_size, decode_size, entry_size, IsFilled, IsBody, number_at-append}
+use Rattle.gc_read.proofs.Names.{◌≡◌, ℕ, ◌+◌, ◌-◌, ◌%◌, ◌<◌, ◌≤◌, List, ◌++◌, length, take, slice_index, refl, sym, ◌∙◌, append_assoc, length-append, arith, LongSha256, sha256, SpareBits, BadTrailer, Trailing, Version, One, Two, IsSpare, magic, IsBegun, row_count, output_count, decode_end, entries_end, trailer_end, IsTrailerRight, HasHeader, HasSpareBit, HasDecodeBits, LastingFault, spare_bits, bad_trailer, trailing, IsHeaderInOrder, IsInOrder, version_of, row_size, decode_size, entry_size, IsFilled, IsBody, number_at-append}
 use Rattle.std.proofs.lemmas.List.{take-append-le, take_at, drop_at, take_all, get_or-append-add, get_or_append_left}
 
 pub length-magic : (v : Version) → length (magic v) ≡ 8
@@ -167,13 +167,13 @@ parts_in_order h r d e t whole header f none right =
       ends = λ has_header. omega arith;
     }
 
-pub in_order : {h r d e t : List ℕ} {s : Sha256} → IsBody h r d e t s
+pub in_order : {h r d e t : List ℕ} {s : LongSha256} → IsBody h r d e t s
     → IsInOrder (version_of h) (h ++ r ++ d ++ e ++ t)
 in_order body = parts_in_order _ _ _ _ _ body.whole body.in_order body.filled body.no_spare_bit
     body.hashed.right
 
 -- Where the trailer isn't whole the file isn't.
-pub ends_early : {h r d e t : List ℕ} {s : Sha256} → IsBody h r d e t s → length t < 32
+pub ends_early : {h r d e t : List ℕ} {s : LongSha256} → IsBody h r d e t s → length t < 32
     → length (h ++ r ++ d ++ e ++ t) < trailer_end (version_of h) (h ++ r ++ d ++ e ++ t)
 ends_early {h} {r} {d} {e} {t} body short =
     let f = body.filled in

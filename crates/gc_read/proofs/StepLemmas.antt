@@ -1,7 +1,7 @@
 -- A piece that comes after the header of a garbled file.
-use Rattle.gc_read.proofs.Names.{◌≡◌, ℕ, ◌-◌, ◌<◌, List, [], ◌++◌, length, take, refl, append_assoc, append-nil, rules, arith, Sha256, sha256, SpareBits, BadTrailer, Trailing, Version, One, Two, magic, output_count, LastingFault, IsHeaderInOrder, IsSpare, version_of, row_size, decode_size, entry_size, IsHashed, IsBody, IsCutUp}
+use Rattle.gc_read.proofs.Names.{◌≡◌, ℕ, ◌-◌, ◌<◌, List, [], ◌++◌, length, take, refl, append_assoc, append-nil, rules, arith, LongSha256, sha256, SpareBits, BadTrailer, Trailing, Version, One, Two, magic, output_count, LastingFault, IsHeaderInOrder, IsSpare, version_of, row_size, decode_size, entry_size, IsHashed, IsBody, IsCutUp}
 use Rattle.std.proofs.lemmas.List.{get_or-take}
-use Rattle.sha2.specs.Hashers.{Holds256}
+use Rattle.gc_lanes.specs.Hasher.{HoldsMessage}
 use Rattle.gc_read.proofs.PieceLemmas.{empty_list, takes_rows, takes_decode, takes_entries, filled_more, left_over, whole_more, message_more}
 use Rattle.gc_read.proofs.PlaceLemmas.{begins, spare_fault, bad_trailer_fault, more_fault}
 
@@ -13,9 +13,9 @@ version_of-begun One bytes is = rw (← get_or-take 8 bytes 7 0 (omega arith), i
 version_of-begun Two bytes is = rw (← get_or-take 8 bytes 7 0 (omega arith), is) refl
 
 -- A header that is in order, with nothing behind it.
-pub body_new : (v : Version) (header : List ℕ) (hasher : Sha256) → length header ≡ 48
+pub body_new : (v : Version) (header : List ℕ) (hasher : LongSha256) → length header ≡ 48
     → IsHeaderInOrder v header
-    → Holds256 hasher header → IsBody header [] [] [] [] hasher
+    → HoldsMessage hasher header → IsBody header [] [] [] [] hasher
 body_new v header hasher whole in_order holds = record {
   whole = whole;
   in_order = rw (version_of-begun v header (begins v header (omega arith) in_order.begun)) in_order;
@@ -24,13 +24,13 @@ body_new v header hasher whole in_order holds = record {
   hashed = record { holds = λ short. simp append-nil holds; right = λ full. absurd (omega arith) };
 }
 
-module _ {h r d e t : List ℕ} {hasher : Sha256} (body : IsBody h r d e t hasher)
+module _ {h r d e t : List ℕ} {hasher : LongSha256} (body : IsBody h r d e t hasher)
     {piece q1 q2 q3 q4 left : List ℕ}
     (cuts : IsCutUp (row_size h - length r) (decode_size h - length d) (entry_size h - length e)
     (32 - length t) piece q1 q2 q3 q4 left) where
   -- The hasher has taken the bytes before the trailer.
-  pub hashed_step : {after : Sha256}
-      → ((m : List ℕ) → Holds256 hasher m → Holds256 after (m ++ q1 ++ q2 ++ q3))
+  pub hashed_step : {after : LongSha256}
+      → ((m : List ℕ) → HoldsMessage hasher m → HoldsMessage after (m ++ q1 ++ q2 ++ q3))
       → IsHashed (h ++ (r ++ q1) ++ (d ++ q2) ++ (e ++ q3)) t after
   hashed_step takes =
       let f = body.filled in
@@ -64,7 +64,7 @@ module _ {h r d e t : List ℕ} {hasher : Sha256} (body : IsBody h r d e t hashe
       (no_spare decode_full) wrong)
 
   pub more_step : (length (d ++ q2) ≡ decode_size h → IsSpare (output_count h) (d ++ q2) → ⊥)
-      → {after : Sha256}
+      → {after : LongSha256}
       → IsHashed (h ++ (r ++ q1) ++ (d ++ q2) ++ (e ++ q3)) (t ++ q4) after → 0 < length left
       → LastingFault (h ++ r ++ d ++ e ++ t ++ piece) Trailing
   more_step no_spare hashed some =
@@ -78,7 +78,7 @@ module _ {h r d e t : List ℕ} {hasher : Sha256} (body : IsBody h r d e t hashe
       (hashed.right full) some)
 
   pub body_step : (length (d ++ q2) ≡ decode_size h → IsSpare (output_count h) (d ++ q2) → ⊥)
-      → {after : Sha256}
+      → {after : LongSha256}
       → IsHashed (h ++ (r ++ q1) ++ (d ++ q2) ++ (e ++ q3)) (t ++ q4) after
       → IsBody h (r ++ q1) (d ++ q2) (e ++ q3) (t ++ q4) after
   body_step no_spare hashed = record {

@@ -1,7 +1,7 @@
 -- A garbled file whose header is there, as far as its bytes have come.
 use Rattle.std.specs.Prelude.{◌≡◌, ℕ, ◌<◌, ◌≤◌, ◌+◌, ◌*◌, ◌==◌, if◌then◌else◌, List, ◌++◌, length, take, drop, slice_index}
-use Rattle.sha2.specs.declared.Sha256.{Sha256}
-use Rattle.sha2.specs.Hashers.{Holds256}
+use Rattle.gc_lanes.specs.declared.hasher.LongSha256.{LongSha256}
+use Rattle.gc_lanes.specs.Hasher.{HoldsMessage}
 use Rattle.sha2.specs.Sha256.{sha256}
 use Rattle.gc_format.specs.declared.parts.Version.{Version}
 use Rattle.gc_format.specs.declared.parts.Version.TheVariants.{One, Two}
@@ -36,12 +36,12 @@ pub record IsFilled (row_size decode_size entry_size : ℕ)
   pub entries_first : 0 < length trailer → length entries ≡ entry_size
 
 -- Until the trailer is whole the hasher holds the message before it; then the trailer is the message's digest.
-pub record IsHashed (message trailer : List ℕ) (hasher : Sha256) : Type 0 where
-  pub holds : length trailer < 32 → Holds256 hasher message
+pub record IsHashed (message trailer : List ℕ) (hasher : LongSha256) : Type 0 where
+  pub holds : length trailer < 32 → HoldsMessage hasher message
   pub right : length trailer ≡ 32 → trailer ≡ sha256 message
 
 -- The parts are in order as far as they go.
-pub record IsBody (header rows decode entries trailer : List ℕ) (hasher : Sha256) : Type 0 where
+pub record IsBody (header rows decode entries trailer : List ℕ) (hasher : LongSha256) : Type 0 where
   pub whole : length header ≡ 48
   pub in_order : IsHeaderInOrder (version_of header) header
   pub filled : IsFilled (row_size header) (decode_size header) (entry_size header)

@@ -18,7 +18,8 @@ use arrayvec::ArrayVec;
 use gc_format::EntryPair;
 use gc_format::sizes::{HEADER, PAIR, TRAILER};
 use gc_half::RowPair;
-use sha2::{Digest, Sha256};
+use gc_lanes::LongSha256;
+use sha2::Digest;
 use std::alloc::Allocator;
 use std::marker::Model;
 
@@ -31,7 +32,7 @@ pub(crate) struct Body<A: Allocator> {
     entries: Pairs<EntryPair, A>,
     trailer: ArrayVec<u8, TRAILER>,
     // Holds the bytes before the trailer, until the trailer is whole.
-    hasher: Sha256,
+    hasher: LongSha256,
 }
 
 impl<A: Allocator> Model for Body<A> {
@@ -142,7 +143,7 @@ fn add_decode_bytes<A: Allocator>(
 
 /// Adds bytes of the trailer, and checks it once it is whole.
 fn add_trailer(
-    hasher: &mut Sha256,
+    hasher: &mut LongSha256,
     trailer: &mut ArrayVec<u8, TRAILER>,
     bytes: &[u8],
 ) -> Result<(), FileFault>
@@ -177,7 +178,7 @@ impl<A: Allocator + Copy> Body<A> {
         requires in_order { (v : Version) × IsHeaderInOrder v header.items }
         ensures { result ≡ header.items }
     {
-        let mut hasher = Sha256::new();
+        let mut hasher = LongSha256::new();
         hasher.update(header.as_slice());
         Body {
             header,

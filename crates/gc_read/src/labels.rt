@@ -52,8 +52,9 @@ impl<A: Allocator> LabelFile<A> {
     }
 }
 
-/// The labels whose bytes these are.
-fn labels_from_bytes<A: Allocator>(alloc: A, bytes: &[u8]) -> Result<Vec<Label, A>, FileFault>
+/// The labels whose bytes these are, 16 bytes each. It allocates once. That the bytes are those of whole labels is the
+/// caller's condition.
+pub fn labels_from_bytes<A: Allocator>(alloc: A, bytes: &[u8]) -> Result<Vec<Label, A>, FileFault>
     requires { length bytes.now % 16 ≡ 0 }
     ensures bytes { IfOk result (λ v. flat_map bytes_of_label v.items ≡ bytes.now) }
     ensures labels { IfOk result (λ v. All IsLabel v.items) }

@@ -1,8 +1,8 @@
 //! Pairs of labels, from pieces of their bytes.
 
-ghost use Rattle.std.specs.Prelude.{◌≡◌, ◌+◌, ◌*◌, ◌%◌, ◌<◌, ◌^◌, ℕ, List, [], ◌++◌, length, flat_map, All, OnOk, IfErr};
+ghost use Rattle.std.specs.Prelude.{◌≡◌, ◌+◌, ◌*◌, ◌%◌, ◌<◌, ◌^◌, ℕ, List, [], ◌++◌, length, flat_map, All, OnOk, IfOk, IfErr};
 ghost use Rattle.gc_label.specs.Label.{bytes_of_label};
-ghost use Rattle.gc_format.specs.GarbledFile.{IsLabel};
+ghost use Rattle.gc_format.specs.GarbledFile.{IsLabel, IsRowPair, row_bytes};
 
 use crate::fault::FileFault;
 use crate::piece::{append, cut, make_room};
@@ -85,6 +85,19 @@ fn pair_from_bytes<P: LabelPair>(bytes: &[u8]) -> P
 {
     let (first, second) = bytes.split_at(16);
     P::from_labels(label_from_bytes(first), label_from_bytes(second))
+}
+
+/// The row pairs whose bytes these are, 32 bytes each: the generator's row, and then the evaluator's. It allocates once.
+/// That the bytes are those of whole row pairs is the caller's condition.
+pub fn rows_from_bytes<A: Allocator>(alloc: A, bytes: &[u8]) -> Result<Vec<RowPair, A>, FileFault>
+    requires { length bytes.now % 32 ≡ 0 }
+    ensures bytes { IfOk result (λ v. flat_map row_bytes v.items ≡ bytes.now) }
+    ensures rows { IfOk result (λ v. All IsRowPair v.items) }
+    ensures memory { IfErr result (λ e. e ≡ FileFault.Memory) }
+{
+    let mut rows = Vec::with_capacity(alloc, bytes.len() / PAIR)?;
+    push_pairs(&mut rows, bytes)?;
+    Ok(rows)
 }
 
 /// Pushes the pairs whose bytes these are.

@@ -2,6 +2,8 @@
 
 use gc_label::{BadSeed, Label, Seed, fill_input_labels, input_label, offset};
 use gc_worked::circuits::SEED;
+use rand_chacha::ChaCha20Rng;
+use rand_core::{Rng, SeedableRng};
 use std::test::Fail;
 
 /// The first row of 16 bytes of the keystream of the zero key (RFC 8439, appendix A.1, test vector 1).
@@ -54,6 +56,19 @@ const ONE_LABELS: [u128; 2] = [
 
 /// The first row of block 2^30, by `openssl enc -chacha20`.
 const LAST: u128 = 0x2d7f21b01b50505974f4e879dcf8c377;
+
+/// `rand_chacha` gives the four rows of the keystream's first block. The lowest bit of the first byte, the colour of the
+/// offset, is 0 there.
+#[test]
+fn rows_of_the_keystream(rt: HostRuntime) {
+    let mut keystream = ChaCha20Rng::from_seed([0; 32]);
+    for row in [FIRST_ROW, INPUT_ROWS[0], INPUT_ROWS[1], INPUT_ROWS[2]] {
+        let mut bytes = [0; 16];
+        keystream.fill_bytes(&mut bytes);
+        assert!(rt; bytes == row.to_be_bytes());
+    }
+    assert!(rt; FIRST_ROW.to_be_bytes()[0] == 0x76 && R.to_be_bytes()[0] == 0x77);
+}
 
 #[test]
 fn labels_are_rows_of_the_keystream(rt: HostRuntime) {

@@ -17,6 +17,12 @@ mod labels;
 #[cfg(test)]
 mod lanes;
 #[cfg(test)]
+mod large;
+#[cfg(test)]
+mod long_hash;
+#[cfg(test)]
 mod pieces;
 #[cfg(test)]
 mod reading;
+#[cfg(test)]
+mod values;

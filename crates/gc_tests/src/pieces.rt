@@ -156,26 +156,29 @@ fn from_a_source(rt: HostRuntime) -> Result<(), Fail> {
     Ok(())
 }
 
-/// A reader or a writer whose first call fails for this reason, and whose other calls are those of `inner`.
+/// A reader or a writer whose first calls fail for this reason, and whose other calls are those of `inner`.
 #[derive(Drop)]
 struct FailsFirst<T: Drop> {
     inner: T,
-    reason: Option<ErrorKind>,
+    reason: ErrorKind,
+    failures: u32,
 }
 
 impl<T: Drop> FailsFirst<T> {
-    fn new(inner: T, reason: ErrorKind) -> FailsFirst<T> {
+    fn new(inner: T, reason: ErrorKind, failures: u32) -> FailsFirst<T> {
         FailsFirst {
             inner,
-            reason: Some(reason),
+            reason,
+            failures,
         }
     }
 
     fn call(&mut self) -> io::Result<()> {
-        match self.reason.take() {
-            Some(reason) => Err(reason.into()),
-            None => Ok(()),
+        if self.failures == 0 {
+            return Ok(());
         }
+        self.failures -= 1;
+        Err(self.reason.into())
     }
 }
 
@@ -197,17 +200,17 @@ impl<W: Write + Drop> Write for FailsFirst<W> {
     }
 }
 
-/// A call that is interrupted is tried again; one that fails for another reason is not.
+/// A call that is interrupted hundreds of times is tried again; one that fails once for another reason is not.
 #[test]
 fn interruptions(rt: HostRuntime) {
     let mut room = [0; 6];
-    for (reason, wanted) in [
-        (ErrorKind::Interrupted, Some(6)),
-        (ErrorKind::BrokenPipe, None),
+    for (reason, failures, wanted) in [
+        (ErrorKind::Interrupted, 500, Some(6)),
+        (ErrorKind::BrokenPipe, 1, None),
     ] {
-        let mut sink = OutSink::new(FailsFirst::new(Vec::new(rt.alloc()), reason));
+        let mut sink = OutSink::new(FailsFirst::new(Vec::new(rt.alloc()), reason, failures));
         assert!(rt; sink.put(HALF).ok() == wanted);
-        let mut source = InSource::new(FailsFirst::new(HALF, reason));
+        let mut source = InSource::new(FailsFirst::new(HALF, reason, failures));
         assert!(rt; source.get(&mut room).ok() == wanted);
     }
 }

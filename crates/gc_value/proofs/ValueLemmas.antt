@@ -1,5 +1,5 @@
 -- Bits, digits and bytes of value texts.
-use Rattle.std.proofs.Common.{◌≡◌, ℕ, zero, suc, ◌+◌, ◌-◌, ◌*◌, ◌/◌, ◌%◌, ◌^◌, ◌<◌, ◌≤◌, ◌==◌, ◌&&◌, ◌↔◌, inl, inr, min, Bool, true, false, List, [], ◌∷◌, ◌++◌, length, map, take, get_or, slice_index, is_some, unwrap_or, Option, Result, Ok, Err, refl, sym, ap, ◌∙◌, arith, add-one}
+use Rattle.std.proofs.Common.{◌≡◌, ℕ, zero, suc, ◌+◌, ◌-◌, ◌*◌, ◌/◌, ◌%◌, ◌^◌, ◌<◌, ◌≤◌, ◌==◌, ◌&&◌, ◌↔◌, inl, inr, min, Bool, true, false, List, [], ◌∷◌, ◌++◌, length, map, take, slice_index, Ok, Err, refl, sym, ap, ◌∙◌, arith, add-one}
 use Rattle.std.specs.List.{range_with_len, list_all, list_any}
 use Rattle.std.specs.Int.{bit_at, trailing_zeros, w8}
 use Rattle.std.proofs.lemmas.Bool.{cases_Bool, cases_lt}
@@ -11,8 +11,7 @@ use Rattle.std.proofs.lemmas.List.Folds.{list_all_more, list_any_at}
 use Rattle.std.proofs.lemmas.Nat.{pow-add, pow_pos}
 use Rattle.std.proofs.lemmas.Nat.Bits.{bit_at-zero, bit_at_above, bit_at-trailing_zeros}
 use Rattle.std.proofs.Math.Nat.{div-div-eq-div-mul, div-le_self, lt-div-mul-add}
-use Rattle.hex.specs.Hex.{decode_pairs, decode_sized, digit_or_error, is_hex_digit, ◌>>=◌}
-use Rattle.hex.specs.declared.error.FromHexError.{FromHexError}
+use Rattle.hex.specs.Hex.{is_hex_digit}
 use Rattle.gc_value.specs.declared.value.ValueFault.{ValueFault}
 use Rattle.gc_value.specs.declared.value.ValueFault.TheVariants.{Memory, WrongLength, BadDigit, SpareBits}
 use Rattle.gc_value.specs.Value.{ValueText, Binary, Hexadecimal, has_length, has_spare_bit, is_binary_digit, byte_at, bytes_for, low_bits, wire_bit, form_of, value_of_form, value_of_text, binary_digit, IsValue, IsFirstFault, ValueTextLaw}
@@ -84,26 +83,6 @@ binary_ok digits n bits long all is =
 
 -- ---- the second form
 
--- what two digits decode to, from their values
-abbrev pub two_digits : (high low : ℕ) → Option ℕ → Option ℕ → Result (List ℕ) FromHexError
-two_digits high low o p = do
-  byte ← do
-    h ← digit_or_error high 0 o
-    l ← digit_or_error low 1 p
-    Ok (h * 16 + l)
-  Ok (byte ∷ [])
-
--- two digits that decode
-pub two_ok : (high low : ℕ) (o p : Option ℕ) (bytes : List ℕ) → Ok bytes ≡ two_digits high low o p →
-    (is_some o && is_some p ≡ true) × (get_or bytes 0 0 ≡ 16 * unwrap_or o 0 + unwrap_or p 0)
-two_ok high low o p bytes e = grind arith
-
--- two characters that do not
-pub pair_err : (high low : ℕ) (error : FromHexError) →
-    Err error ≡ decode_sized (high ∷ low ∷ []) 1 → is_hex_digit high && is_hex_digit low ≡ false
-unfolding decode_pairs
-pair_err high low error e = grind arith
-
 -- the bits of a byte
 pub wire_in_byte : (digits : List ℕ) (k j : ℕ) → j < 8 →
     wire_bit (Hexadecimal digits) (8 * k + j) ≡ (bit_at (byte_at digits k) j == 1)
@@ -114,14 +93,17 @@ wire_in_byte digits k j below =
 
 -- two more digits
 pub digits_more : (digits : List ℕ) (k : ℕ) → 2 * k + 1 < length digits →
-    is_hex_digit (slice_index digits (2 * k))
-    && is_hex_digit (slice_index digits (2 * k + 1)) ≡ true →
-    list_all is_hex_digit (take (2 * k) digits) ≡ true →
-    list_all is_hex_digit (take (2 * (k + 1)) digits) ≡ true
-digits_more digits k within pair before =
+    list_all is_hex_digit (take (2 * (k + 1)) digits)
+    ≡ (list_all is_hex_digit (take (2 * k) digits)
+    && (is_hex_digit (slice_index digits (2 * k)) && is_hex_digit (slice_index digits (2 * k + 1))))
+digits_more digits k within =
     let two : 2 * (k + 1) ≡ 2 * k + 1 + 1 = omega arith in
     let more = list_all_more is_hex_digit digits in
-    rw (two, more (2 * k + 1) 0 within, more (2 * k) 0 (omega arith), before) pair
+    rw (two, more (2 * k + 1) 0 within, more (2 * k) 0 (omega arith))
+    (and_assoc (list_all is_hex_digit (take (2 * k) digits)) _ _)
+  where
+    and_assoc : (a b c : Bool) → ((a && b) && c) ≡ (a && (b && c))
+    and_assoc a b c = grind arith
 
 -- the bits of one more byte
 pub bits_of_byte_more : (digits : List ℕ) (n k used byte : ℕ) (bits new : List Bool) → 8 * k < n →
@@ -177,6 +159,13 @@ spare_in_byte digits n k used byte inside within count is small some =
       any_at_place (wire_bit (Hexadecimal digits)) n (8 * bytes_for n - n) (8 * k + i)
           (omega arith) (omega arith) (rw (wire_in_byte digits k i below, ← is, set) refl),
     )
+
+-- a character that is no digit
+pub hexadecimal_bad : (digits : List ℕ) (n : ℕ) → length digits ≡ 2 * bytes_for n →
+    list_all is_hex_digit digits ≡ false → value_of_form (Hexadecimal digits) n ≡ Err BadDigit
+hexadecimal_bad digits n long bad =
+    let test : (length digits == 2 * bytes_for n) ≡ true = grind (arith, nat_tests) in
+    rw (test, bad) refl
 
 module _ (digits : List ℕ) (n : ℕ) (long : length digits ≡ 2 * bytes_for n)
     (all : list_all is_hex_digit digits ≡ true) where

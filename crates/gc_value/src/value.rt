@@ -1,11 +1,10 @@
 //! Value texts: reading the bits of an input value, and writing those of an output value.
 
-ghost use Rattle.std.specs.Prelude.{◌≡◌, ◌+◌, ◌*◌, ◌^◌, ◌⊎◌, ◌<◌, ◌≤◌, ◌&&◌, ◌++◌, ℕ, Bool, List, length, map, IfOk, IfErr, OnOk, IsTrue, IsFalse};
-ghost use Rattle.hex.specs.Hex.{is_hex_digit};
-ghost use Rattle.gc_value.specs.Value.{Binary, Hexadecimal, form_of, has_length, value_of_form, value_of_text, digit_value, low_bits, binary_digit, code_of, name_of, ValueTextLaw};
+ghost use Rattle.std.specs.Prelude.{◌≡◌, ◌^◌, ◌⊎◌, ◌<◌, ◌≤◌, ◌++◌, ℕ, Bool, List, length, map, IfOk, IfErr, OnOk, IsFalse};
+ghost use Rattle.gc_value.specs.Value.{Binary, Hexadecimal, form_of, has_length, value_of_form, value_of_text, low_bits, binary_digit, code_of, name_of, ValueTextLaw};
 
+use crate::hexadecimal::byte_of;
 use crate::memory::Memory;
-use hex::FromHex;
 use std::alloc::{AllocError, AllocFailed, Allocator};
 use std::error::Error;
 use std::fmt;
@@ -146,15 +145,16 @@ fn read_binary<A: Allocator + Copy>(
         return Err(ValueFault::WrongLength);
     }
     let mut bits = Vec::with_capacity(alloc, width)?;
+    let mut are_digits = true;
     for digit in digits {
-        let bit = match *digit {
-            b'0' => false,
-            b'1' => true,
-            _ => return Err(ValueFault::BadDigit),
-        };
-        bits.push(bit)?;
+        are_digits &= (*digit == b'0') | (*digit == b'1');
+        bits.push(*digit == b'1')?;
     }
-    Ok(bits)
+    if are_digits {
+        Ok(bits)
+    } else {
+        Err(ValueFault::BadDigit)
+    }
 }
 
 /// The second form, from its digits.
@@ -175,29 +175,22 @@ fn read_hexadecimal<A: Allocator + Copy>(
         return Err(ValueFault::WrongLength);
     }
     let mut bits = Vec::with_capacity(alloc, width)?;
+    let (mut are_digits, mut has_spare_bit) = (true, false);
     for k in 0..byte_count {
-        let byte = byte_of(digits[2 * k], digits[2 * k + 1])?;
+        let (byte, is_byte) = byte_of(digits[2 * k], digits[2 * k + 1]);
         let used = (width - 8 * k).min(8);
+        are_digits &= is_byte;
 
         // Only the last byte has bits that no wire uses.
-        if u32::from(byte) >> used != 0 {
-            return Err(ValueFault::SpareBits);
-        }
+        has_spare_bit |= u32::from(byte) >> used != 0;
         push_bits(&mut bits, byte, used)?;
     }
-    Ok(bits)
-}
-
-/// The byte of two hexadecimal digits.
-fn byte_of(high: u8, low: u8) -> Result<u8, ValueFault>
-    ensures ok { IfOk result (λ byte. IsTrue (is_hex_digit high && is_hex_digit low)
-        × (byte ≡ 16 * digit_value high + digit_value low)) }
-    ensures err { IfErr result (λ fault. IsFalse (is_hex_digit high && is_hex_digit low)
-        × (fault ≡ ValueFault.BadDigit)) }
-{
-    match <[u8; 1]>::from_hex([high, low]) {
-        Ok(bytes) => Ok(bytes[0]),
-        Err(_) => Err(ValueFault::BadDigit),
+    if !are_digits {
+        Err(ValueFault::BadDigit)
+    } else if has_spare_bit {
+        Err(ValueFault::SpareBits)
+    } else {
+        Ok(bits)
     }
 }
 

@@ -1,9 +1,23 @@
 -- The labels of a label file.
-use Rattle.gc_write.proofs.Names.{◌≡◌, ℕ, suc, ◌+◌, ◌-◌, ◌*◌, ◌≤◌, slice_get, Some, sum, length-append, Bool, List, [], ◌∷◌, ◌++◌, length, flat_map, take, drop, refl, sym, ap, ◌∙◌, arith, take-add, take-append-drop, length-take-le, flat_map-append, sum_by_more_le, slice_get_within, get_or_from_slice_get, Netlist, IsLawful, bytes_of_label, label_magic, label_file, label_parts_of, encoded_from, length-number_bytes}
+use Rattle.gc_write.proofs.Names.{◌≡◌, ℕ, suc, ◌+◌, ◌-◌, ◌*◌, ◌≤◌, slice_get, Some, sum, length-append, Bool, List, [], ◌∷◌, ◌++◌, length, flat_map, take, drop, refl, sym, ap, ◌∙◌, arith, take-add, take-append-drop, length-take-le, flat_map-append, sum_by_more_le, slice_get_within, get_or_from_slice_get, Netlist, IsLawful, bytes_of_label, label_magic, label_file, label_parts_of, encoded_with, encoded_from, offset_of, input_label_of, length-number_bytes}
 use Rattle.gc_netlist.specs.declared.limits.TheConstants.{MAX_WIRES}
 use Rattle.gc_label.proofs.LabelLemmas.{length-bytes_of_label}
 use Rattle.gc_format.specs.Number.{number_bytes}
 use Rattle.gc_write.proofs.SizeLemmas.{length-flat_map}
+
+module _ (offset : ℕ) (zero_label : ℕ → ℕ) where
+  pub encoded_with-append : (first : ℕ) (xs ys : List Bool) →
+      encoded_with offset zero_label first (xs ++ ys)
+      ≡ encoded_with offset zero_label first xs ++ encoded_with offset zero_label (first + length xs) ys
+  encoded_with-append first [] ys = ap (λ n. encoded_with offset zero_label n ys) (omega arith)
+  encoded_with-append first (x ∷ xs) ys =
+      let next : first + suc (length xs) ≡ first + 1 + length xs = omega arith in
+      rw (encoded_with-append (first + 1) xs ys, next) refl
+
+  pub length-encoded_with : (first : ℕ) (bits : List Bool)
+      → length (encoded_with offset zero_label first bits) ≡ length bits
+  length-encoded_with first [] = refl
+  length-encoded_with first (bit ∷ bits) = ap suc (length-encoded_with (first + 1) bits)
 
 module _ (seed : List ℕ) where
   -- the bytes of the labels that stand for bits on the wires from the first one on
@@ -13,10 +27,7 @@ module _ (seed : List ℕ) where
   pub encoded_from-append : (first : ℕ) (xs ys : List Bool) →
       encoded_from first seed (xs ++ ys)
       ≡ encoded_from first seed xs ++ encoded_from (first + length xs) seed ys
-  encoded_from-append first [] ys = ap (λ n. encoded_from n seed ys) (omega arith)
-  encoded_from-append first (x ∷ xs) ys =
-      let next : first + suc (length xs) ≡ first + 1 + length xs = omega arith in
-      rw (encoded_from-append (first + 1) xs ys, next) refl
+  encoded_from-append first xs ys = encoded_with-append (offset_of seed) (input_label_of seed) first xs ys
 
   -- The bytes of some bits, and of those after them.
   pub label_bytes-append : (first : ℕ) (xs ys : List Bool) {at : ℕ} {zs : List Bool}
@@ -45,8 +56,7 @@ module _ (seed : List ℕ) where
 
 pub length-encoded_from : (first : ℕ) (seed : List ℕ) (bits : List Bool)
     → length (encoded_from first seed bits) ≡ length bits
-length-encoded_from first seed [] = refl
-length-encoded_from first seed (bit ∷ bits) = ap suc (length-encoded_from (first + 1) seed bits)
+length-encoded_from first seed bits = length-encoded_with (offset_of seed) (input_label_of seed) first bits
 
 -- A label file is its header and its labels.
 pub label_file-is : (c : Netlist) (seed : List ℕ) (index : ℕ) (bits : List Bool) (first : ℕ) →

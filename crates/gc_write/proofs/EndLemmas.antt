@@ -1,6 +1,6 @@
 -- The ends of files on their way to a sink.
-use Rattle.gc_write.proofs.Names.{◌≡◌, ℕ, ◌^◌, ◌<◌, List, [], ◌++◌, length, length-append, append_assoc, append-nil, Option, Result, Ok, Err, sym, ap, ◌∙◌, arith, take-append_seam, err_from_is_err_and, IsErrAnd, Holds256, sha256, FileWriter, WriteFault, IsUnderWay, IsStopped, Proceeds, Ends, IsWritten}
-use Rattle.sha2.specs.declared.Sha256.{Sha256}
+use Rattle.gc_write.proofs.Names.{◌≡◌, ℕ, ◌^◌, ◌<◌, List, [], ◌++◌, length, length-append, append_assoc, append-nil, Option, Result, Ok, Err, sym, ap, ◌∙◌, arith, take-append_seam, err_from_is_err_and, IsErrAnd, HoldsMessage, sha256, FileWriter, WriteFault, IsUnderWay, IsStopped, Proceeds, Ends, IsWritten}
+use Rattle.gc_lanes.specs.declared.hasher.LongSha256.{LongSha256}
 use Rattle.gc_write.proofs.WritingLemmas.{IsStopped-more}
 
 -- Where nothing is held, the sink took the file.
@@ -42,13 +42,13 @@ module _ {O : Type 0} {Saw : O → List ℕ → Type 0} {w w' : FileWriter O}
   }
 
 -- A file whose bytes are digested is handed over. A writer that is not observed writes the digest.
-pub Ends-digest : {O : Type 0} {Saw : O → List ℕ → Type 0} {w w' : FileWriter Sha256}
+pub Ends-digest : {O : Type 0} {Saw : O → List ℕ → Type 0} {w w' : FileWriter LongSha256}
     {v : FileWriter O} {taken now end : Option (List ℕ)} {r : Result ℕ WriteFault} {digest : List ℕ}
     → ((bytes : List ℕ) → Saw v.observer bytes)
-    → ((bytes : List ℕ) → Holds256 w'.observer bytes → digest ≡ sha256 bytes)
+    → ((bytes : List ℕ) → HoldsMessage w'.observer bytes → digest ≡ sha256 bytes)
     → v.held ≡ w'.held → v.sent ≡ w'.sent → w'.held.items ≡ []
-    → Proceeds Holds256 w w' taken now (Ok tt) [] → Ends Saw v now end r (λ _. digest ++ [])
-    → Ends Holds256 w taken end r sha256
+    → Proceeds HoldsMessage w w' taken now (Ok tt) [] → Ends Saw v now end r (λ _. digest ++ [])
+    → Ends HoldsMessage w taken end r sha256
 Ends-digest {w'} {digest} unseen digested same_held same_sent empty sent ended = record {
   goes = λ before file a.
       let u = sent.goes before file a in

@@ -18,7 +18,7 @@ pub use Rattle.gc_format.specs.DecodeBits.{bits_number, bytes_for}
 unfoldable pub use Rattle.gc_format.specs.GarbledFile.{garbled_file}
 pub use Rattle.gc_format.specs.GarbledFile.{entry_bytes, GarbledParts, magic, body, row_bytes, parts_of, IsLabel, header}
 unfoldable pub use Rattle.gc_format.specs.LabelFile.{label_file}
-pub use Rattle.gc_format.specs.LabelFile.{label_magic, label_parts_of, encoded_from}
+pub use Rattle.gc_format.specs.LabelFile.{label_magic, label_parts_of, encoded_with, encoded_from}
 pub use Rattle.gc_format.specs.declared.parts.EntryPair.{EntryPair}
 pub use Rattle.gc_format.specs.declared.parts.Version.TheVariants.{One, Two}
 pub use Rattle.gc_half.specs.Garbling.{GarblingParts, decode_bits_of}
@@ -27,9 +27,9 @@ pub use Rattle.gc_label.specs.Seed.{offset_of, input_label_of}
 pub use Rattle.gc_netlist.specs.Canon.{canonical_text}
 pub use Rattle.gc_netlist.specs.Circuit.{Netlist, IsLawful, is_and}
 pub use Rattle.gc_write.specs.Writing.{IsUnderWay, IsStopped, Proceeds, Ends, Unseen}
-pub use Rattle.gc_write.specs.Written.{entry_pair_of, entry_pairs_from, entry_pairs_of, IsWritten, front, IsSmall, parts_one, parts_two}
+pub use Rattle.gc_write.specs.Written.{entry_pair_of, entry_pairs_from, entry_pairs_of, IsWritten, front, IsSmall, parts_one, parts_two, parts_two_with}
 pub use Rattle.gc_write.specs.declared.writer.FileWriter.{FileWriter}
 pub use Rattle.gc_write.specs.declared.writer.WriteFault.{WriteFault}
 pub use Rattle.sha2.proofs.Facts256.{length-sha256}
-pub use Rattle.sha2.specs.Hashers.{Holds256}
+pub use Rattle.gc_lanes.specs.Hasher.{HoldsMessage}
 pub use Rattle.sha2.specs.Sha256.{sha256}

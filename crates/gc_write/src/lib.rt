@@ -12,5 +12,9 @@ mod writer;
 
 pub use deal::{first_wire, write_labels};
 pub use laws::law_written_files;
-pub use write::{write_garbled, write_garbled_by_digest, write_garbled2, write_garbled2_by_digest};
+pub use spell::label_header;
+pub use write::{
+    write_garbled, write_garbled_by_digest, write_garbled2, write_garbled2_by_digest,
+    write_garbled2_with_offset,
+};
 pub use writer::WriteFault;

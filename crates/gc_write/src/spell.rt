@@ -36,7 +36,7 @@ pub(crate) fn header(
 }
 
 /// The header of the label file of an input value with this index and width.
-pub(crate) fn label_header(index: u32, width: u32) -> ArrayVec<u8, LABEL_HEADER>
+pub fn label_header(index: u32, width: u32) -> ArrayVec<u8, LABEL_HEADER>
     ensures { result.items ≡ label_magic ++ bytes_of_number index ++ bytes_of_number width }
 {
     let mut header = ArrayVec::new();

@@ -1,7 +1,7 @@
 //! Writing garbled files.
 
 ghost use Rattle.std.specs.Prelude.{◌≡◌, ◌≤◌, ◌+◌, ◌-◌, ◌*◌, flat_map, []};
-ghost use Rattle.sha2.specs.Hashers.{Holds256};
+ghost use Rattle.gc_lanes.specs.Hasher.{HoldsMessage};
 ghost use Rattle.sha2.specs.Sha256.{sha256};
 ghost use Rattle.gc_netlist.specs.Canon.{canonical_text};
 ghost use Rattle.gc_half.specs.Garbling.{decode_bits_of, FitsCircuit};
@@ -9,7 +9,7 @@ ghost use Rattle.gc_format.specs.Counted.{CountsFailure};
 ghost use Rattle.gc_format.specs.DecodeBits.{packed};
 ghost use Rattle.gc_format.specs.GarbledFile.{row_bytes, entry_bytes, garbled_file, parts_of};
 ghost use Rattle.gc_write.specs.Writing.{Proceeds};
-ghost use Rattle.gc_write.specs.Written.{IsWritten, entry_pairs_from, entry_pairs_of, front, IsSmall, parts_one, parts_two};
+ghost use Rattle.gc_write.specs.Written.{IsWritten, entry_pairs_from, entry_pairs_of, front, IsSmall, parts_one, parts_two, parts_two_with};
 
 use crate::spell::{decode_byte, header, pair_bytes};
 use crate::writer::{FileWriter, WriteFault};
@@ -17,10 +17,11 @@ use gc_circuit::Circuit;
 use gc_format::{EntryPair, Sink, Version};
 use gc_half::{Garbling, RowPair, four_output_entries, output_entry};
 use gc_label::{Label, Offset, Seed, offset};
-use sha2::{Digest, Sha256};
+use gc_lanes::LongSha256;
+use sha2::Digest;
 use std::alloc::Allocator;
 
-impl FileWriter<Sha256> {
+impl FileWriter<LongSha256> {
     /// Writes the part before the entries: the header, the row pairs and the decode bits.
     fn write_front<S: Sink, A: Allocator, B: Allocator>(
         &mut self,
@@ -32,7 +33,7 @@ impl FileWriter<Sha256> {
     ) -> Result<(), WriteFault>
         requires digest { digest.now ≡ sha256 (canonical_text circuit.now) }
         requires fits { FitsCircuit circuit.now garbling.now }
-        ensures bytes { Proceeds Holds256 self.old self.new
+        ensures bytes { Proceeds HoldsMessage self.old self.new
             (S.taken sink.old) (S.taken sink.new) result
             (front (parts_of version circuit.now garbling.now [])) }
         ensures small { IsSmall garbling.now }
@@ -46,7 +47,7 @@ impl FileWriter<Sha256> {
 
     /// Writes the row pairs.
     fn write_rows<S: Sink>(&mut self, sink: &mut S, rows: &[RowPair]) -> Result<(), WriteFault>
-        ensures bytes { Proceeds Holds256 self.old self.new
+        ensures bytes { Proceeds HoldsMessage self.old self.new
             (S.taken sink.old) (S.taken sink.new) result (flat_map row_bytes rows.now) }
         ensures counted { CountsFailure result (S.failures sink.old) (S.failures sink.new) }
     {
@@ -62,7 +63,7 @@ impl FileWriter<Sha256> {
         sink: &mut S,
         garbling: &Garbling<A>,
     ) -> Result<(), WriteFault>
-        ensures bytes { Proceeds Holds256 self.old self.new
+        ensures bytes { Proceeds HoldsMessage self.old self.new
             (S.taken sink.old) (S.taken sink.new) result (packed (decode_bits_of garbling.now)) }
         ensures counted { CountsFailure result (S.failures sink.old) (S.failures sink.new) }
     {
@@ -81,7 +82,7 @@ impl FileWriter<Sha256> {
         offset: Offset,
     ) -> Result<(), WriteFault>
         requires { FitsCircuit circuit.now garbling.now }
-        ensures bytes { Proceeds Holds256 self.old self.new
+        ensures bytes { Proceeds HoldsMessage self.old self.new
             (S.taken sink.old) (S.taken sink.new) result
             (flat_map entry_bytes (entry_pairs_of offset garbling.now)) }
         ensures counted { CountsFailure result (S.failures sink.old) (S.failures sink.new) }
@@ -102,7 +103,7 @@ impl FileWriter<Sha256> {
     ) -> Result<(), WriteFault>
         requires fits { FitsCircuit circuit.now garbling.now }
         requires fours { 4 * fours ≤ garbling.now.outputs }
-        ensures bytes { Proceeds Holds256 self.old self.new
+        ensures bytes { Proceeds HoldsMessage self.old self.new
             (S.taken sink.old) (S.taken sink.new) result
             (flat_map entry_bytes (entry_pairs_from offset garbling.now 0 (4 * fours))) }
         ensures counted { CountsFailure result (S.failures sink.old) (S.failures sink.new) }
@@ -126,7 +127,7 @@ impl FileWriter<Sha256> {
     ) -> Result<(), WriteFault>
         requires fits { FitsCircuit circuit.now garbling.now }
         requires first { first ≤ garbling.now.outputs }
-        ensures bytes { Proceeds Holds256 self.old self.new
+        ensures bytes { Proceeds HoldsMessage self.old self.new
             (S.taken sink.old) (S.taken sink.new) result
             (flat_map entry_bytes (entry_pairs_from offset garbling.now first
             (garbling.now.outputs - first))) }
@@ -142,7 +143,7 @@ impl FileWriter<Sha256> {
 
     /// Writes these entry pairs.
     fn write_pairs<S: Sink>(&mut self, sink: &mut S, pairs: &[EntryPair]) -> Result<(), WriteFault>
-        ensures bytes { Proceeds Holds256 self.old self.new
+        ensures bytes { Proceeds HoldsMessage self.old self.new
             (S.taken sink.old) (S.taken sink.new) result (flat_map entry_bytes pairs.now) }
         ensures counted { CountsFailure result (S.failures sink.old) (S.failures sink.new) }
     {
@@ -212,7 +213,7 @@ pub fn write_garbled_by_digest<S: Sink, A: Allocator, B: Allocator>(
         result (S.taken sink.old) (S.taken sink.new) }
     ensures counted { CountsFailure result (S.failures sink.old) (S.failures sink.new) }
 {
-    let mut file = FileWriter::new(Sha256::new());
+    let mut file = FileWriter::new(LongSha256::new());
     file.write_front(sink, Version::One, circuit, digest, garbling)?;
     file.end_with_digest(sink)
 }
@@ -248,8 +249,26 @@ pub fn write_garbled2_by_digest<S: Sink, A: Allocator, B: Allocator>(
         result (S.taken sink.old) (S.taken sink.new) }
     ensures counted { CountsFailure result (S.failures sink.old) (S.failures sink.new) }
 {
-    let mut file = FileWriter::new(Sha256::new());
+    write_garbled2_with_offset(sink, circuit, digest, garbling, offset(seed))
+}
+
+/// Writes the garbled file of version 2, as [`write_garbled2_by_digest`] does, where the caller has the offset of the
+/// garbling. Its AND gates are numbered from 0 on: this is not checked.
+pub fn write_garbled2_with_offset<S: Sink, A: Allocator, B: Allocator>(
+    sink: &mut S,
+    circuit: &Circuit<A>,
+    digest: &[u8; 32],
+    garbling: &Garbling<B>,
+    offset: Offset,
+) -> Result<u64, WriteFault>
+    requires digest { digest.now ≡ sha256 (canonical_text circuit.now) }
+    requires fits { FitsCircuit circuit.now garbling.now }
+    ensures file { IsWritten (garbled_file (parts_two_with circuit.now garbling.now offset))
+        result (S.taken sink.old) (S.taken sink.new) }
+    ensures counted { CountsFailure result (S.failures sink.old) (S.failures sink.new) }
+{
+    let mut file = FileWriter::new(LongSha256::new());
     file.write_front(sink, Version::Two, circuit, digest, garbling)?;
-    file.write_entries(sink, circuit, garbling, offset(seed))?;
+    file.write_entries(sink, circuit, garbling, offset)?;
     file.end_with_digest(sink)
 }

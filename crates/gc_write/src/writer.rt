@@ -2,14 +2,15 @@
 
 ghost use Rattle.std.specs.Prelude.{◌≡◌, ◌<◌, ◌≤◌, ◌++◌, ℕ, List, [], Option, length, take, OnOk, IfErr, MatchResult, codes};
 ghost use Rattle.std.specs.Io.KnownBytes.{Appends};
-ghost use Rattle.sha2.specs.Hashers.{Holds256};
+ghost use Rattle.gc_lanes.specs.Hasher.{HoldsMessage};
 ghost use Rattle.sha2.specs.Sha256.{sha256};
 ghost use Rattle.gc_format.specs.Counted.{CountsFailure};
 ghost use Rattle.gc_write.specs.Writing.{IsUnderWay, Proceeds, Ends};
 
 use arrayvec::ArrayVec;
 use gc_format::Sink;
-use sha2::{Digest, Sha256};
+use gc_lanes::LongSha256;
+use sha2::Digest;
 use std::error::Error;
 use std::fmt;
 
@@ -65,8 +66,8 @@ pub(crate) trait Observer: Drop {
 }
 
 /// Digests the bytes for the trailer of a garbled file.
-impl Observer for Sha256 {
-    ghost saw = { λ s bytes. Holds256 s bytes };
+impl Observer for LongSha256 {
+    ghost saw = { λ s bytes. HoldsMessage s bytes };
 
     fn see(&mut self, piece: &[u8]) {
         self.update(piece);
@@ -151,10 +152,10 @@ impl<O: Observer> FileWriter<O> {
     }
 }
 
-impl FileWriter<Sha256> {
+impl FileWriter<LongSha256> {
     /// Ends a garbled file with its trailer, the digest of the bytes before it, and returns how many bytes it has.
     pub(crate) fn end_with_digest<S: Sink>(mut self, sink: &mut S) -> Result<u64, WriteFault>
-        ensures bytes { Ends Holds256 self (S.taken sink.old) (S.taken sink.new) result sha256 }
+        ensures bytes { Ends HoldsMessage self (S.taken sink.old) (S.taken sink.new) result sha256 }
         ensures counted { CountsFailure result (S.failures sink.old) (S.failures sink.new) }
     {
         self.send(sink)?;

@@ -2,7 +2,7 @@
 use Rattle.std.specs.Prelude.{◌≡◌, Option, Some, None, MatchOption}
 use Rattle.gc_netlist.specs.Circuit.{Netlist}
 use Rattle.gc_job.specs.Job.{JobParts}
-use Rattle.gc_kept.specs.Garbling.{SeededGarbling}
+use Rattle.gc_kept.specs.Garbling.{GarblingWith}
 use Rattle.gc_kept.specs.declared.held.Held.{Held}
 use Rattle.gc_kept.specs.declared.held.Held.TheVariants.{Circuit, Garbling, Job}
 use Rattle.halfgates_c.specs.declared.slot.Slot.{Slot}
@@ -15,7 +15,7 @@ circuit_of (Some (Garbling garbling)) = None
 circuit_of (Some (Job job)) = None
 
 -- the garbling,
-abbrev pub garbling_of : Option Held → Option SeededGarbling
+abbrev pub garbling_of : Option Held → Option GarblingWith
 garbling_of None = None
 garbling_of (Some (Circuit circuit)) = None
 garbling_of (Some (Garbling garbling)) = Some garbling

@@ -6,7 +6,7 @@ use Rattle.gc_audit.specs.declared.labels.LabelsVerdict.{LabelsVerdict}
 use Rattle.gc_audit.specs.declared.labels.LabelsVerdict.TheVariants.{Bits, WrongLabel, WrongWidth, NoValue}
 use Rattle.gc_kept.specs.declared.fault.KeptFault.{KeptFault}
 use Rattle.gc_kept.specs.declared.fault.KeptFault.TheVariants.{SmallBuffer}
-use Rattle.gc_kept.specs.Garbling.{SeededGarbling}
+use Rattle.gc_kept.specs.Garbling.{GarblingWith}
 use Rattle.gc_kept.specs.Audit.{IsLabelsAuditOf, HasLabelsFault}
 use Rattle.halfgates_c.specs.declared.locate.TheConstants.{NONE}
 use Rattle.halfgates_c.specs.declared.audit_labels.LabelsReport.{LabelsReport}
@@ -36,27 +36,27 @@ HasNoRoomFor (Bits bits) room = room < length bits.items
 HasNoRoomFor verdict room = ⊥
 
 -- The report says what is found of the label file that the bytes are.
-pub record IsReportOf (g : SeededGarbling) (bytes : List ℕ) (verdict : LabelsVerdict Global)
+pub record IsReportOf (g : GarblingWith) (bytes : List ℕ) (verdict : LabelsVerdict Global)
     (r : LabelsReport) : Type 0 where
   pub found : IsLabelsAuditOf g bytes r.index verdict
   pub says : SaysVerdict verdict r
 
 -- It does so, and the bits that are found stand in the buffer.
-pub record IsLabelsReportOn (g : SeededGarbling) (bytes old new : List ℕ) (r : LabelsReport)
+pub record IsLabelsReportOn (g : GarblingWith) (bytes old new : List ℕ) (r : LabelsReport)
     : Type 0 where
   pub verdict : LabelsVerdict Global
   pub report : IsReportOf g bytes verdict r
   pub bits : AreFoundAt verdict old new
 
 -- It does so, and the buffer has no room for the bits.
-pub record LacksRoom (g : SeededGarbling) (bytes : List ℕ) (room : ℕ) (r : LabelsReport)
+pub record LacksRoom (g : GarblingWith) (bytes : List ℕ) (room : ℕ) (r : LabelsReport)
     : Type 0 where
   pub verdict : LabelsVerdict Global
   pub report : IsReportOf g bytes verdict r
   pub small : HasNoRoomFor verdict room
 
 -- The fault of bytes that are no label file, or of a buffer without room.
-abbrev pub HasReportFault : SeededGarbling → (bytes : List ℕ) → (room : ℕ) → LabelsReport
+abbrev pub HasReportFault : GarblingWith → (bytes : List ℕ) → (room : ℕ) → LabelsReport
     → KeptFault → Type 0
 HasReportFault g bytes room report SmallBuffer = LacksRoom g bytes room report
-HasReportFault g bytes room report fault = HasLabelsFault bytes fault
+HasReportFault g bytes room report fault = HasLabelsFault g bytes fault

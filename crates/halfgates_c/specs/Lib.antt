@@ -1,5 +1,4 @@
 pub mod Answers
-pub mod Files
 pub mod Holding
 pub mod LabelsReports
 pub mod Numbers

@@ -1,5 +1,5 @@
 -- The names of codes, as `docs/FAULTS.md` and `include/halfgates.h` list them.
-use Rattle.std.specs.Prelude.{◌≡◌, ◌≢◌, ℕ, ℤ, pos, negsuc, List, ◌==◌, ◌++◌, ◌-◌, codes, length, replicate, if◌then◌else◌}
+use Rattle.std.specs.Prelude.{◌≡◌, ◌≢◌, ◌⊎◌, ◌↔◌, ℕ, ℤ, pos, negsuc, List, ◌==◌, ◌++◌, ◌-◌, codes, length, replicate, if◌then◌else◌}
 use Rattle.gc_job.specs.declared.fault.EvalFault.TheVariants.{BadWorkers}
 use Rattle.gc_kept.specs.declared.fault.KeptFault.{KeptFault}
 use Rattle.gc_kept.specs.declared.fault.KeptFault.TheVariants.{Evaluation}
@@ -58,3 +58,8 @@ padded name = name ++ replicate (32 - length name) 0
 abbrev pub NamesFault : ℤ → List ℕ → Type 0
 NamesFault code text = (fault : KeptFault) → fault ≢ Evaluation BadWorkers
     → code ≡ pos (code_of fault) → text ≡ padded (name_of fault)
+
+-- The flag is 1 where the code is that of a fault named Memory, and else 0.
+pub record IsMemoryFlag (code flag : ℤ) : Type 0 where
+  pub either : (flag ≡ pos 0) ⊎ (flag ≡ pos 1)
+  pub memory : (flag ≡ pos 1) ↔ (name_of_code code ≡ codes "Memory")

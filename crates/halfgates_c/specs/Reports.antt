@@ -9,7 +9,7 @@ use Rattle.gc_audit.specs.declared.rows.DifferingRows.{DifferingRows}
 use Rattle.gc_audit.specs.declared.rows.DifferingRows.TheVariants.{Generator, Evaluator, Both}
 use Rattle.gc_audit.specs.declared.entries.EntryDifference.{EntryDifference}
 use Rattle.gc_audit.specs.Garbled.{honest_audit}
-use Rattle.gc_kept.specs.Garbling.{SeededGarbling}
+use Rattle.gc_kept.specs.Garbling.{GarblingWith}
 use Rattle.gc_kept.specs.Audit.{IsAuditOf}
 use Rattle.halfgates_c.specs.declared.locate.TheConstants.{NONE}
 use Rattle.halfgates_c.specs.declared.audit.Report.{Report}
@@ -49,7 +49,7 @@ pub record IsReport (version : Version) (audit : GarbledAudit) (r : Report) : Ty
   pub entries : AreEntryFields (option_and_then (λ parts. parts.entries) audit.parts) r
 
 -- The report says what is found of the garbled file that the bytes are.
-pub record IsReportOn (g : SeededGarbling) (bytes : List ℕ) (r : Report) : Type 0 where
+pub record IsReportOn (g : GarblingWith) (bytes : List ℕ) (r : Report) : Type 0 where
   pub version : Version
   pub audit : GarbledAudit
   pub found : IsAuditOf g bytes version audit

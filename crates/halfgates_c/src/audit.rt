@@ -91,7 +91,7 @@ fn audit(
     report: &mut Report,
 ) -> Result<(), KeptFault>
     ensures ok { OnOk result (IsReportOn garbling.now file.now report.new) }
-    ensures fault { IfErr result (HasGarbledFault file.now) }
+    ensures fault { IfErr result (HasGarbledFault garbling.now file.now) }
     ensures kept { OnErr result (report.new ≡ report.old) }
 {
     let (version, found) = garbling.audit(alloc, file)?;
@@ -110,7 +110,7 @@ pub extern "C" fn halfgates_audit(
     requires garbling { Testable (as_mut_ptr garbling) }
     requires report { Testable (as_mut_ptr report) }
     ensures answer { MatchOption (garbling_of garbling.old.held) (result ≡ pos 60) (λ g.
-        Answers result (IsReportOn g file.now report.new) (HasGarbledFault file.now)) }
+        Answers result (IsReportOn g file.now report.new) (HasGarbledFault g file.now)) }
     ensures held { garbling.new.held ≡ garbling.old.held }
     ensures kept { result ≢ pos 0 → report.new ≡ report.old }
 {

@@ -9,10 +9,10 @@ ghost use Rattle.gc_kept.specs.Circuit.{HasTextFault};
 ghost use Rattle.gc_kept.specs.Plain.{ArePlainOutputs, HasPlainFault};
 ghost use Rattle.halfgates_c.specs.Answers.{Answers};
 ghost use Rattle.halfgates_c.specs.Holding.{circuit_of};
-ghost use Rattle.halfgates_c.specs.Reading.{HoldsCircuit};
+ghost use Rattle.halfgates_c.specs.Reading.{HoldsCircuit, HoldsShared};
 ghost use Rattle.halfgates_c.specs.Numbers.{AreNumbers, Copies};
 
-use crate::code::{BAD_ARGUMENT, OK, code_of};
+use crate::code::{BAD_ARGUMENT, OK, SMALL_BUFFER, code_of};
 use crate::handle::{Handle, on_held};
 use crate::null::is_null;
 use crate::slot::Slot;
@@ -54,6 +54,38 @@ pub extern "C" fn halfgates_circuit_read(alloc: Global, text: &[u8], circuit: &m
         return BAD_ARGUMENT;
     }
     code_of(read(alloc, text, circuit))
+}
+
+/// Hands out one more handle of a circuit.
+fn share(alloc: Global, circuit: &KeptCircuit, slot: &mut Slot) -> Result<(), KeptFault>
+    ensures ok { OnOk result (HoldsShared circuit.now slot.new) }
+    ensures fault { IfErr result (λ fault. fault ≡ KeptFault.Memory) }
+    ensures kept { OnErr result (slot.new ≡ slot.old) }
+{
+    let other = circuit.again()?;
+    slot.hand_out(alloc, Held::Circuit(other))
+}
+
+/// One more handle of a circuit.
+#[unsafe(no_mangle)]
+pub extern "C" fn halfgates_circuit_share(
+    alloc: Global,
+    circuit: &mut Handle,
+    other: &mut Slot,
+) -> i32
+    requires circuit { Testable (as_mut_ptr circuit) }
+    requires other { Testable (as_mut_ptr other) }
+    ensures answer { MatchOption (circuit_of circuit.old.held) (result ≡ pos 60) (λ c.
+        Answers result (HoldsShared c other.new) (λ fault. fault ≡ KeptFault.Memory)) }
+    ensures held { circuit.new.held ≡ circuit.old.held }
+    ensures kept { result ≢ pos 0 → other.new ≡ other.old }
+{
+    if is_null(circuit) || is_null(other) {
+        return BAD_ARGUMENT;
+    }
+    on_held!(alloc, circuit, Circuit(circuit) => {
+        code_of(share(alloc, circuit, other))
+    }, else BAD_ARGUMENT)
 }
 
 /// Frees a circuit. Null is allowed.
@@ -101,14 +133,14 @@ pub extern "C" fn halfgates_circuit_numbers(
     }, else BAD_ARGUMENT)
 }
 
-/// Copies the widths, where the buffer has room for exactly as many.
+/// Copies the widths to the front of a buffer, where it has room for them.
 fn copy_widths(widths: &[u32], copied: &mut [u32]) -> i32
     ensures answer { Copies result widths.now copied.old copied.new }
 {
-    if copied.len() != widths.len() {
-        return BAD_ARGUMENT;
+    if copied.len() < widths.len() {
+        return SMALL_BUFFER;
     }
-    copied.copy_from_slice(widths);
+    copied[..widths.len()].copy_from_slice(widths);
     OK
 }
 
@@ -187,7 +219,7 @@ pub extern "C" fn halfgates_plain(
 ) -> i32
     requires circuit { Testable (as_mut_ptr circuit) }
     ensures answer { MatchOption (circuit_of circuit.old.held) (result ≡ pos 60) (λ c.
-        Answers result (ArePlainOutputs c bits.now outputs.new)
+        Answers result (ArePlainOutputs c bits.now outputs.old outputs.new)
         (HasPlainFault c bits.now (length outputs.old))) }
     ensures held { circuit.new.held ≡ circuit.old.held }
     ensures kept { result ≢ pos 0 → outputs.new ≡ outputs.old }

@@ -11,6 +11,9 @@ pub(crate) const OK: i32 = 0;
 /// The code of an argument that a call doesn't take.
 pub(crate) const BAD_ARGUMENT: i32 = 60;
 
+/// The code of a buffer with too little room.
+pub(crate) const SMALL_BUFFER: i32 = 61;
+
 /// The code of an outcome: 0, or the number of the fault.
 pub(crate) fn code_of(outcome: Result<(), KeptFault>) -> i32
     ensures done { OnOk outcome (result ≡ pos 0) }

@@ -5,10 +5,10 @@ ghost use Rattle.core.specs.Ptr.{as_ptr, as_mut_ptr};
 ghost use denote.RawPtr.{Testable};
 ghost use Rattle.gc_stats.specs.Stats.{IsFileSize};
 ghost use Rattle.gc_kept.specs.Version.{version_of};
-ghost use Rattle.gc_kept.specs.Files.{IsDealtAt, HasDealFault};
+ghost use Rattle.gc_kept.specs.Files.{IsDealtAt, IsDealtFrom, IsGarbledAt, HasDealFault, HasDealFaultFrom, HasFileFault};
+ghost use Rattle.gc_kept.specs.Labels.{IsReceivedAt, HasReceivedFault};
 ghost use Rattle.halfgates_c.specs.Answers.{Answers};
 ghost use Rattle.halfgates_c.specs.Holding.{circuit_of, garbling_of};
-ghost use Rattle.halfgates_c.specs.Files.{IsGarbledAt, HasNoRoom};
 
 use crate::code::{BAD_ARGUMENT, code_of};
 use crate::handle::{Handle, on_held};
@@ -47,7 +47,7 @@ pub extern "C" fn halfgates_garbling_write(
     ensures answer { MatchOption (garbling_of garbling.old.held) (result ≡ pos 60) (λ g.
         MatchOption (version_of version) (result ≡ pos 60) (λ v.
         Answers result (IsGarbledAt g v buffer.old buffer.new written.new)
-        (HasNoRoom g v (length buffer.old) written.new))) }
+        (HasFileFault g v (length buffer.old) written.new))) }
     ensures held { garbling.new.held ≡ garbling.old.held }
     ensures kept { result ≢ pos 0 → buffer.new ≡ buffer.old }
     ensures unreported { result ≢ pos 0 → result ≢ pos 61 → written.new ≡ written.old }
@@ -87,5 +87,59 @@ pub extern "C" fn halfgates_deal(
     }
     on_held!(alloc, circuit, Circuit(circuit) => {
         code_of(circuit.deal(alloc, seed, index, bits, buffer, written))
+    }, else BAD_ARGUMENT)
+}
+
+/// Writes the label file of an input value, from a garbling.
+#[unsafe(no_mangle)]
+pub extern "C" fn halfgates_garbling_deal(
+    alloc: Global,
+    garbling: &mut Handle,
+    index: u32,
+    bits: &[u8],
+    buffer: &mut [u8],
+    written: &mut usize,
+) -> i32
+    requires garbling { Testable (as_mut_ptr garbling) }
+    requires written { Testable (as_mut_ptr written) }
+    ensures answer { MatchOption (garbling_of garbling.old.held) (result ≡ pos 60) (λ g.
+        Answers result (IsDealtFrom g index bits.now buffer.old buffer.new written.new)
+        (HasDealFaultFrom g index bits.now (length buffer.old) written.new)) }
+    ensures held { garbling.new.held ≡ garbling.old.held }
+    ensures kept { result ≢ pos 0 → buffer.new ≡ buffer.old }
+    ensures unreported { result ≢ pos 0 → result ≢ pos 61 → written.new ≡ written.old }
+{
+    if is_null(garbling) || is_null(written) {
+        return BAD_ARGUMENT;
+    }
+    on_held!(alloc, garbling, Garbling(garbling) => {
+        code_of(garbling.deal(alloc, index, bits, buffer, written))
+    }, else BAD_ARGUMENT)
+}
+
+/// Writes the label file of an input value, from labels that were received.
+#[unsafe(no_mangle)]
+pub extern "C" fn halfgates_label_file(
+    alloc: Global,
+    circuit: &mut Handle,
+    index: u32,
+    labels: &[u8],
+    buffer: &mut [u8],
+    written: &mut usize,
+) -> i32
+    requires circuit { Testable (as_mut_ptr circuit) }
+    requires written { Testable (as_mut_ptr written) }
+    ensures answer { MatchOption (circuit_of circuit.old.held) (result ≡ pos 60) (λ c.
+        Answers result (IsReceivedAt c index labels.now buffer.old buffer.new written.new)
+        (HasReceivedFault c index labels.now (length buffer.old) written.new)) }
+    ensures held { circuit.new.held ≡ circuit.old.held }
+    ensures kept { result ≢ pos 0 → buffer.new ≡ buffer.old }
+    ensures unreported { result ≢ pos 0 → result ≢ pos 61 → written.new ≡ written.old }
+{
+    if is_null(circuit) || is_null(written) {
+        return BAD_ARGUMENT;
+    }
+    on_held!(alloc, circuit, Circuit(circuit) => {
+        code_of(circuit.label_file(alloc, index, labels, buffer, written))
     }, else BAD_ARGUMENT)
 }

@@ -4,10 +4,11 @@ ghost use Rattle.std.specs.Prelude.{◌≡◌, ◌≢◌, OnOk, OnErr, IfErr, Ma
 ghost use Rattle.core.specs.Ptr.{as_ptr, as_mut_ptr};
 ghost use denote.RawPtr.{Testable};
 ghost use Rattle.gc_kept.specs.Garbling.{IsWantOfMemory};
+ghost use Rattle.gc_kept.specs.Labels.{HasGarbleFault};
 ghost use Rattle.gc_kept.specs.Wires.{IsZeroLabel, IsDecodeBit, HasNoWire, HasNoOutput};
 ghost use Rattle.halfgates_c.specs.Answers.{Answers};
 ghost use Rattle.halfgates_c.specs.Holding.{circuit_of, garbling_of};
-ghost use Rattle.halfgates_c.specs.Reading.{HoldsGarbling};
+ghost use Rattle.halfgates_c.specs.Reading.{HoldsGarbling, HoldsGarblingFrom};
 
 use crate::code::{BAD_ARGUMENT, code_of};
 use crate::handle::{Handle, on_held};
@@ -53,6 +54,52 @@ pub extern "C" fn halfgates_garble(
     }
     on_held!(alloc, circuit, Circuit(circuit) => {
         code_of(garble(alloc, circuit, seed, garbling))
+    }, else BAD_ARGUMENT)
+}
+
+/// Garbles a circuit from an offset and labels, and hands the garbling out.
+fn garble_from(
+    alloc: Global,
+    circuit: &KeptCircuit,
+    offset: &[u8; 16],
+    zero_labels: &[u8],
+    first: u64,
+    slot: &mut Slot,
+) -> Result<(), KeptFault>
+    ensures ok { OnOk result
+        (HoldsGarblingFrom circuit.now offset.now zero_labels.now first slot.new) }
+    ensures fault { IfErr result
+        (HasGarbleFault circuit.now offset.now zero_labels.now first) }
+    ensures kept { OnErr result (slot.new ≡ slot.old) }
+{
+    let garbling = circuit.garble_from(alloc, offset, zero_labels, first)?;
+    slot.hand_out(alloc, Held::Garbling(garbling))
+}
+
+/// Garbles a circuit from an offset, zero labels of the input wires, and the number of the first AND gate.
+#[unsafe(no_mangle)]
+pub extern "C" fn halfgates_garble_from(
+    alloc: Global,
+    circuit: &mut Handle,
+    offset: &[u8; 16],
+    zero_labels: &[u8],
+    first: u64,
+    garbling: &mut Slot,
+) -> i32
+    requires circuit { Testable (as_mut_ptr circuit) }
+    requires offset { Testable (as_ptr offset) }
+    requires garbling { Testable (as_mut_ptr garbling) }
+    ensures answer { MatchOption (circuit_of circuit.old.held) (result ≡ pos 60) (λ c.
+        Answers result (HoldsGarblingFrom c offset.now zero_labels.now first garbling.new)
+        (HasGarbleFault c offset.now zero_labels.now first)) }
+    ensures held { circuit.new.held ≡ circuit.old.held }
+    ensures kept { result ≢ pos 0 → garbling.new ≡ garbling.old }
+{
+    if is_null(circuit) || is_null(offset) || is_null(garbling) {
+        return BAD_ARGUMENT;
+    }
+    on_held!(alloc, circuit, Circuit(circuit) => {
+        code_of(garble_from(alloc, circuit, offset, zero_labels, first, garbling))
     }, else BAD_ARGUMENT)
 }
 

@@ -4,6 +4,7 @@ ghost use Rattle.std.specs.Prelude.{◌≡◌, ◌≢◌, OnOk, OnErr, IfErr, Ma
 ghost use Rattle.core.specs.Ptr.{as_mut_ptr};
 ghost use denote.RawPtr.{Testable};
 ghost use Rattle.gc_kept.specs.Job.{HasJobFault, AreEvaluated, HasEvaluationFault};
+ghost use Rattle.gc_kept.specs.Labels.{AreJobLabels, HasJobLabelsFault};
 ghost use Rattle.halfgates_c.specs.Answers.{Answers};
 ghost use Rattle.halfgates_c.specs.Holding.{circuit_of, job_of};
 ghost use Rattle.halfgates_c.specs.Reading.{HoldsJob};
@@ -70,7 +71,7 @@ pub extern "C" fn halfgates_job_free(job: Slot) {
 pub extern "C" fn halfgates_evaluate(alloc: Global, job: &mut Handle, bits: &mut [u8]) -> i32
     requires job { Testable (as_mut_ptr job) }
     ensures answer { MatchOption (job_of job.old.held) (result ≡ pos 60) (λ j.
-        Answers result (AreEvaluated j bits.new) (HasEvaluationFault j (length bits.old))) }
+        Answers result (AreEvaluated j bits.old bits.new) (HasEvaluationFault j (length bits.old))) }
     ensures held { job.new.held ≡ job.old.held }
     ensures kept { result ≢ pos 0 → bits.new ≡ bits.old }
 {
@@ -78,4 +79,24 @@ pub extern "C" fn halfgates_evaluate(alloc: Global, job: &mut Handle, bits: &mut
         return BAD_ARGUMENT;
     }
     on_held!(alloc, job, Job(job) => code_of(job.evaluate(alloc, bits)), else BAD_ARGUMENT)
+}
+
+/// Evaluates a job, and writes the active labels of all output wires.
+#[unsafe(no_mangle)]
+pub extern "C" fn halfgates_job_output_labels(
+    alloc: Global,
+    job: &mut Handle,
+    outputs: &mut [u8],
+) -> i32
+    requires job { Testable (as_mut_ptr job) }
+    ensures answer { MatchOption (job_of job.old.held) (result ≡ pos 60) (λ j.
+        Answers result (AreJobLabels j outputs.old outputs.new)
+        (HasJobLabelsFault j (length outputs.old))) }
+    ensures held { job.new.held ≡ job.old.held }
+    ensures kept { result ≢ pos 0 → outputs.new ≡ outputs.old }
+{
+    if is_null(job) {
+        return BAD_ARGUMENT;
+    }
+    on_held!(alloc, job, Job(job) => code_of(job.output_labels(alloc, outputs)), else BAD_ARGUMENT)
 }

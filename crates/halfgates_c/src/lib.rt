@@ -9,6 +9,7 @@ mod audit_labels;
 mod circuit;
 mod code;
 mod files;
+mod from_labels;
 mod garbling;
 mod handle;
 mod job;
@@ -16,6 +17,7 @@ mod locate;
 mod name;
 mod null;
 mod slot;
+mod values;
 mod wires;
 
 pub use audit::Report;

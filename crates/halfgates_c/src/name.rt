@@ -1,7 +1,7 @@
 //! Names of faults, and the version.
 
 ghost use Rattle.std.specs.Prelude.{◌≡◌, ◌≤◌, codes, length};
-ghost use Rattle.halfgates_c.specs.Names.{name_of_code, padded, NamesFault};
+ghost use Rattle.halfgates_c.specs.Names.{name_of_code, padded, NamesFault, IsMemoryFlag};
 
 /// The room for a name.
 const ROOM: usize = 32;
@@ -78,6 +78,14 @@ pub extern "C" fn halfgates_fault_name(code: i32) -> Name
     ensures fault { NamesFault code result.text }
 {
     name_of(code_name(code).as_bytes())
+}
+
+/// Whether a code says that memory ran out: 1 or 0.
+#[unsafe(no_mangle)]
+pub extern "C" fn halfgates_is_memory(code: i32) -> i32
+    ensures { IsMemoryFlag code result }
+{
+    i32::from(code_name(code) == "Memory")
 }
 
 /// The version of the library.

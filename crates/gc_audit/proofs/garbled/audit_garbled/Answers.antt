@@ -6,5 +6,5 @@ pub returns-clause-honest : goal.returns-clause-honest
 returns-clause-honest g c =
     let a = c.args in
     let right : IsTrue c.eq.result ↔ (a.file.now.digest ≡ sha256 (canonical_text a.circuit.now)) = search rules in
-    finds_none-honest a.circuit.now a.garbling.now a.seed.now a.file.now c.law_lawful.ensures c.requires.fits _
+    finds_none-honest a.circuit.now a.garbling.now a.offset a.file.now c.law_lawful.ensures c.requires.fits _
     (record { digest = right; parts = c.audit_parts.ensures })

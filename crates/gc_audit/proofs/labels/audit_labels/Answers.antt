@@ -1,42 +1,18 @@
-use Rattle.gc_audit.proofs.Names.{ℕ, length, refl, sym, ap, subst, ◌∙◌, WrongWidth, IsLabelsVerdict, AreCompared}
-use Rattle.std.specs.Result.{IfOk}
-use Rattle.std.proofs.lemmas.Result.{IfOk-weaker}
-use Rattle.gc_audit.proofs.LabelsLemmas.{found_at, verdict-dealt, compared-verdict}
-use Rattle.gc_audit.proofs.labels.audit_labels.Given.{Over}
-use Rattle.gc_audit.proofs.labels.audit_labels.Goals.{After-compare}
+use Rattle.gc_half.proofs.ComparingLemmas.{HasLabels-input}
+use Rattle.gc_label.specs.Seed.{input_label_of}
 use Rattle.gc_audit.proofs.labels.audit_labels.Goals as goal
 
-pub returns-then-filed-width-clause-dealt : goal.returns-then-filed-width-clause-dealt
-returns-then-filed-width-clause-dealt g c =
-    let a = c.args in let width = c.in-Some.width.now in let found = c.in-Some.ensures.lookup in
-    let at = found_at _ _ c.index-index.result _ width width found.0 found.1 c.input_widths.ensures
-    c.index-index.ensures refl in
-    verdict-dealt a.circuit.now a.seed.now a.file.now {A = ℕ} WrongWidth (
-      width,
-      at,
-      λ e.
-          c.if-filed-width.true (ap length c.labels-filed.ensures ∙ e),
-    )
-
--- The verdict on the labels is that on the file.
-verdict : (g : Over) (c : After-compare g) → IfOk c.compare.result
-    (IsLabelsVerdict c.args.circuit.now c.args.seed.now c.args.file.now)
-verdict g c =
-    let a = c.args in let found = c.in-Some.ensures.lookup in
-    let at = found_at _ _ _ _ _ _ found.0 found.1 c.input_widths.ensures c.index-index.ensures
-    (ap length (sym c.labels-filed.ensures) ∙ c.if-filed-width.false) in
-    let first = c.first_wire-first.result in
-    IfOk-weaker c.compare.result (AreCompared a.seed.now first a.file.now.labels) _
-    (λ v is. compared-verdict a.circuit.now a.seed.now a.file.now v first c.index-index.result at
-    c.first_wire-first.ensures c.index-index.ensures is)
-    (subst (λ l. IfOk c.compare.result (AreCompared a.seed.now first l)) c.labels-filed.ensures
-    c.compare.ensures)
+pub audit_labels_with_offset-requires : goal.audit_labels_with_offset-requires
+audit_labels_with_offset-requires g c = c.requires.fits
 
 pub returns-clause-verdict : goal.returns-clause-verdict
-returns-clause-verdict g c = verdict g c
+returns-clause-verdict g c =
+    let a = c.args in
+    rw c.offset.ensures at (c.audit_labels_with_offset.ensures.verdict (input_label_of a.seed.now)
+    (HasLabels-input a.circuit.now a.seed.now c.law_lawful.ensures a.labels.now c.requires))
 
 pub returns-clause-dealt : goal.returns-clause-dealt
 returns-clause-dealt g c =
     let a = c.args in
-    IfOk-weaker c.compare.result (IsLabelsVerdict a.circuit.now a.seed.now a.file.now) _
-    (λ v is. verdict-dealt a.circuit.now a.seed.now a.file.now v is) (verdict g c)
+    rw c.offset.ensures at (c.audit_labels_with_offset.ensures.dealt (input_label_of a.seed.now)
+    (HasLabels-input a.circuit.now a.seed.now c.law_lawful.ensures a.labels.now c.requires))

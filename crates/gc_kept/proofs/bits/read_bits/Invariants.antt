@@ -1,6 +1,11 @@
-use Rattle.std.proofs.Common.{◌≡◌, map, take}
+use Rattle.std.proofs.Common.{◌≡◌, true, false, length, map, take}
 use Rattle.gc_netlist.specs.Spelling.{bit_number}
+use Rattle.gc_kept.specs.Bits.{HasBadDigit}
 use Rattle.gc_kept.proofs.bits.read_bits.Given as goal
 
 abbrev pub invariant-loop-byte : goal.invariant-loop-byte
-invariant-loop-byte l = take l.byte-index l.bytes ≡ map bit_number l.bits.items
+invariant-loop-byte l = record {
+  count : length l.bits.items ≡ l.byte-index;
+  bits : l.are_bits ≡ true → take l.byte-index l.bytes ≡ map bit_number l.bits.items;
+  bad : l.are_bits ≡ false → HasBadDigit l.bytes;
+}

@@ -11,6 +11,6 @@ chain-init c = λ p are. refl
 pub chain-preserved : goal.chain-preserved
 chain-preserved c = λ p are.
     let k = c.chain.block in
-    c.compress_one-next.ensures p are
+    c.compress_one.ensures p are
     ∙ ap (λ (h : List ℕ). compress h (block_at p k)) (c.chain.invariant p are)
-    ∙ sym (hash_after-more c.args.state p k)
+    ∙ sym (hash_after-more c.args.hash.now p k)

@@ -1,4 +1,5 @@
 use Rattle.std.proofs.Common.{◌≡◌, ◌+◌, ◌-◌, ◌*◌, ◌/◌, List, ℕ, length, take, drop, ap, refl, ◌∙◌, arith}
+use Rattle.std.proofs.lemmas.List.{take-take}
 use Rattle.sha2.specs.Sha256.{hash_after}
 use Rattle.gc_lanes.proofs.Chains.{hash_after-joined}
 use Rattle.gc_lanes.proofs.chain.compress_eights.Goals as goal
@@ -15,10 +16,11 @@ parts-preserved c =
     let width : 512 * c.parts.part + 512 - 512 * c.parts.part ≡ 512 = omega arith in
     let more : n + 8 ≡ 8 * (c.parts.part + 1) = omega arith in
     let eight : List ℕ = take (512 * c.parts.part + 512 - 512 * c.parts.part) (drop (512 * c.parts.part) p) in
-    c.compress_each-next.ensures eight c.schedules.ensures
+    c.compress_each.ensures eight c.schedules.ensures
     ∙ ap (λ (h : List ℕ). hash_after h eight 8) c.parts.invariant
-    ∙ hash_after-joined c.args.state p eight n 8 (omega arith) (rw (width, start) refl)
-    ∙ ap (hash_after c.args.state p) more
+    ∙ hash_after-joined c.args.hash.now p eight n 8
+    (rw (width, start) (take-take 512 512 (drop (512 * c.parts.part) p) (omega arith)))
+    ∙ ap (hash_after c.args.hash.now p) more
 
 pub returns : goal.returns
 returns c =

@@ -3,4 +3,4 @@ use Rattle.sha2.specs.Sha256.{hash_after}
 use Rattle.gc_lanes.proofs.chain.compress_eights.Given as goal
 
 abbrev pub invariant-parts : goal.invariant-parts
-invariant-parts l = l.hash ≡ hash_after l.fn.state l.blocks (8 * l.part)
+invariant-parts l = l.hash ≡ hash_after l.fn.hash l.blocks (8 * l.part)

@@ -5,7 +5,7 @@ use Rattle.gc_lanes.proofs.chain.compress_one.Goals as goal
 pub returns : goal.returns
 unfolding compress rounds
 returns c = λ p are.
-    let h = c.args.state in
+    let h = c.args.hash.now in
     let r4 = c.four_rounds_of-variables.ensures p h are refl in
     let r8 = c.four_rounds_of-variables-2.ensures p h are r4 in
     let r12 = c.four_rounds_of-variables-3.ensures p h are r8 in

@@ -5,7 +5,7 @@ use Rattle.gc_stats.proofs.SizeLemmas.{length-honest}
 use Rattle.gc_stats.proofs.sizes.garbled_size.Goals as goal
 
 pub returns : goal.returns
-returns g c = λ seed garbling garbled.
+returns g c = λ offset garbling fits.
     let circuit = c.args.circuit.now in
     let entries : c.entry_count.result ≡ entry_count c.args.version (output_wires circuit) =
     c.entry_count.ensures ∙ ap (entry_count c.args.version) c.output_wires-outputs.ensures in
@@ -16,5 +16,5 @@ returns g c = λ seed garbling garbled.
       c.div_ceil-decode_bytes.ensures,
       ap (λ n. n / 8) c.output_wires-outputs.ensures,
       ap (λ n. n % 8) c.output_wires-outputs.ensures,
-      length-honest c.args.version circuit c.law_lawful.ensures seed garbling garbled,
+      length-honest c.args.version circuit c.law_lawful.ensures offset garbling fits,
     )

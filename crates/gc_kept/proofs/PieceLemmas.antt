@@ -1,0 +1,154 @@
+-- Pieces of bytes that are written one after another.
+use Rattle.std.proofs.Common.{◌≡◌, ℕ, ◌+◌, ◌*◌, ◌<◌, List, [], ◌∷◌, ◌++◌, Bool, false, length, take, get_or, slice_get, Some, refl, sym, ap, ◌∙◌, append-nil, append_assoc, arith}
+use Rattle.std.specs.List.{flat_map, slice_index}
+use Rattle.std.proofs.lemmas.List.{take_more, length-take-le}
+use Rattle.std.proofs.lemmas.List.Concat.{flat_map-append}
+use Rattle.gc_label.specs.Label.{bytes_of_label}
+use Rattle.gc_half.specs.Evaluation.{encode}
+use Rattle.gc_half.specs.declared.garbling.RowPair.{RowPair}
+use Rattle.gc_format.specs.GarbledFile.{row_bytes}
+use Rattle.gc_format.specs.LabelFile.{encoded_with}
+use Rattle.gc_write.proofs.DealLemmas.{encoded_with-append}
+use Rattle.std.specs.List.{sum}
+use Rattle.std.proofs.Common.{◌≤◌, drop}
+use Rattle.std.proofs.lemmas.List.{length-map}
+use Rattle.std.proofs.lemmas.Option.{slice_get_within, get_or_from_slice_get}
+use Rattle.std.proofs.lemmas.Slice.Zip.{length-zip}
+use Rattle.gc_label.proofs.LabelLemmas.{length-bytes_of_label}
+use Rattle.gc_half.specs.Evaluation.{decode}
+use Rattle.gc_format.specs.LabelBytes.{length-row_bytes}
+use Rattle.gc_format.specs.LabelFile.{label_magic, label_file}
+use Rattle.gc_format.specs.Number.{number_bytes}
+use Rattle.gc_write.proofs.SizeLemmas.{length-flat_map}
+use Rattle.gc_kept.proofs.FileLemmas.{sum-within}
+use borrow.Rule.Slice.PartMut.{put_mid}
+use Rattle.std.proofs.Common.{◌-◌}
+use Rattle.std.proofs.lemmas.List.{drop_all, length-append, length-drop, map-append, take_more_set}
+use Rattle.std.proofs.Common.{map, set}
+use Rattle.gc_netlist.specs.Spelling.{bit_number}
+use Rattle.std.proofs.lemmas.List.FromFn.{length-map-range_with_len}
+use Rattle.gc_netlist.specs.Circuit.{Netlist, output_wires}
+use Rattle.gc_half.specs.Joined.{AreOutputLabels}
+use Rattle.gc_format.proofs.NumberLemmas.{length-number_bytes}
+
+-- One more piece, after those of the first i items.
+pub piece_more : {X : Type 0} (f : X → List ℕ) (size : ℕ) (xs : List X) (i : ℕ) (x : X)
+    (old new : List ℕ) → i < length xs → x ≡ get_or xs i x
+    → take (size * i) old ≡ flat_map f (take i xs)
+    → take (size * i + size) new ≡ take (size * i) old ++ f x
+    → take (size * (i + 1)) new ≡ flat_map f (take (i + 1) xs)
+piece_more f size xs i x old new within at before next =
+    let place : size * (i + 1) ≡ size * i + size = omega arith in
+    rw (place, next, before, take_more xs i x within, ← at, flat_map-append f (take i xs) (x ∷ []), append-nil (f x)) refl
+
+-- One more row pair: its two labels.
+pub row_more : (rows : List RowPair) (i : ℕ) (row : RowPair) (old mid new : List ℕ) → i < length rows
+    → row ≡ get_or rows i row → take (32 * i) old ≡ flat_map row_bytes (take i rows)
+    → take (16 * (2 * i) + 16) mid ≡ take (16 * (2 * i)) old ++ bytes_of_label row.generator
+    → take (16 * (2 * i + 1) + 16) new ≡ take (16 * (2 * i + 1)) mid ++ bytes_of_label row.evaluator
+    → take (32 * (i + 1)) new ≡ flat_map row_bytes (take (i + 1) rows)
+row_more rows i row old mid new within at before one two =
+    let first : 16 * (2 * i) ≡ 32 * i = omega arith in
+    let second : 16 * (2 * i + 1) ≡ 16 * (2 * i) + 16 = omega arith in
+    let third : 32 * i + 32 ≡ 16 * (2 * i + 1) + 16 = omega arith in
+    piece_more row_bytes 32 rows i row old new within at before
+    (rw (third, two, second, one, first) (append_assoc (take (32 * i) old) _ _))
+
+module _ (offset : ℕ) (zero_label : ℕ → ℕ) (first : ℕ) where
+  -- One more label that stands for a bit.
+  pub encoded_more : (bits : List Bool) (i label : ℕ) (old new : List ℕ) → i < length bits
+      → label ≡ encode offset (zero_label (first + i)) (get_or bits i false)
+      → take (16 * i) old ≡ flat_map bytes_of_label (encoded_with offset zero_label first (take i bits))
+      → take (16 * i + 16) new ≡ take (16 * i) old ++ bytes_of_label label
+      → take (16 * (i + 1)) new
+      ≡ flat_map bytes_of_label (encoded_with offset zero_label first (take (i + 1) bits))
+  encoded_more bits i label old new within is before next =
+      let place : 16 * (i + 1) ≡ 16 * i + 16 = omega arith in
+      let count : length (take i bits) ≡ i = length-take-le i bits (omega arith) in
+      let more : encoded_with offset zero_label first (take (i + 1) bits)
+      ≡ encoded_with offset zero_label first (take i bits) ++ label ∷ [] =
+      ap (encoded_with offset zero_label first) (take_more bits i false within)
+      ∙ encoded_with-append offset zero_label first (take i bits) (get_or bits i false ∷ [])
+      ∙ rw (count, ← is) refl in
+      ap (λ n. take n new) place ∙ next ∙ ap (λ l. l ++ bytes_of_label label) before
+      ∙ sym (ap (flat_map bytes_of_label) more
+      ∙ flat_map-append bytes_of_label (encoded_with offset zero_label first (take i bits)) (label ∷ [])
+      ∙ ap (λ l. flat_map bytes_of_label (encoded_with offset zero_label first (take i bits)) ++ l)
+      (append-nil (bytes_of_label label)))
+
+-- Labels that were read are as many as their bytes say,
+pub length-labels : (labels bytes : List ℕ) → flat_map bytes_of_label labels ≡ bytes
+    → 16 * length labels ≡ length bytes
+length-labels labels bytes is =
+    sym (length-flat_map bytes_of_label 16 length-bytes_of_label labels) ∙ ap length is
+
+-- and so are row pairs.
+pub length-rows : (rows : List RowPair) (bytes : List ℕ) → flat_map row_bytes rows ≡ bytes
+    → 32 * length rows ≡ length bytes
+length-rows rows bytes is = sym (length-flat_map row_bytes 32 length-row_bytes rows) ∙ ap length is
+
+-- There is a bit for each label that is decoded.
+pub length-decoded : (bits : List Bool) (labels : List ℕ) → length bits ≡ length labels
+    → length (decode bits labels) ≡ length labels
+length-decoded bits labels same = rw (length-map, length-zip) (omega (arith, same))
+
+-- What stands at the front of a buffer.
+pub at_front : (file part old : List ℕ) (n : ℕ) → part ≡ file → n ≡ length file
+    → part ++ drop n old ≡ file ++ drop (length file) old
+at_front file part old n is count = rw (is, count) refl
+
+-- The wires of a value are some of all.
+pub value-fits : (widths : List ℕ) (index width : ℕ) → slice_get widths index ≡ Some width
+    → sum (take index widths) + width ≤ sum widths
+value-fits widths index width at =
+    let within = sum-within widths index (slice_get_within widths index width at) in
+    let is = get_or_from_slice_get widths index width 0 at in
+    omega (arith, within, is)
+
+-- What is written from byte 16 on, to the end.
+pub put_end : (file part : List ℕ) → 16 ≤ length file
+    → put_mid 16 (length file - 16) file part ≡ take 16 file ++ part
+put_end file part long =
+    ap (λ l. take 16 file ++ (part ++ l))
+    (drop_all (length file - 16) (drop 16 file) (omega (arith, length-drop 16 file)))
+    ∙ ap (λ l. take 16 file ++ l) (append-nil part)
+
+-- A label file is its header and its labels.
+pub label_file-is : (index n : ℕ) (labels front : List ℕ) → n ≡ length labels
+    → front ≡ label_magic ++ number_bytes index ++ number_bytes n
+    → front ++ flat_map bytes_of_label labels ≡ label_file (record { index = index; labels = labels })
+unfolding label_file
+label_file-is index n labels front count is = rw (is, count) refl
+
+-- The header has 16 bytes.
+pub length-header : (index n : ℕ)
+    → length (label_magic ++ number_bytes index ++ number_bytes n) ≡ 16
+length-header index n =
+    omega (
+      arith,
+      length-append (number_bytes index) (number_bytes n),
+      length-number_bytes index,
+      length-number_bytes n,
+    )
+
+-- There is a label for each output wire.
+pub length-outputs-of : (first : ℕ) (c : Netlist) (rows : List RowPair) (inputs labels : List ℕ)
+    → AreOutputLabels first c rows inputs labels → length labels ≡ output_wires c
+length-outputs-of first c rows inputs labels are =
+    ap length are.last
+    ∙ length-map-range_with_len are.active (c.wires - output_wires c) (output_wires c)
+
+-- One more bit is written.
+pub bits_more : (bytes : List ℕ) (bits : List Bool) (i byte : ℕ) (bit : Bool) → i < length bytes
+    → take i bytes ≡ map bit_number (take i bits) → slice_get bits i ≡ Some bit
+    → byte ≡ bit_number bit
+    → take (i + 1) (set bytes i byte) ≡ map bit_number (take (i + 1) bits)
+bits_more bytes bits i byte bit within before at is =
+    take_more_set bytes i byte within
+    ∙ rw (
+      before,
+      is,
+      take_more bits i bit (slice_get_within bits i bit at),
+      get_or_from_slice_get bits i bit bit at,
+      map-append bit_number (take i bits) (bit ∷ []),
+    ) refl

@@ -1,0 +1,10 @@
+use Rattle.std.proofs.Common.{◌≡◌, length, map, take}
+use Rattle.gc_netlist.specs.Spelling.{bit_number}
+use Rattle.gc_half.specs.Garbling.{decode_bits_of}
+use Rattle.gc_kept.proofs.garbling.KeptGarbling.put_decode_bits.Given as goal
+
+abbrev pub invariant-loop-i : goal.invariant-loop-i
+invariant-loop-i l = record {
+  done : take l.i l.bits ≡ map bit_number (take l.i (decode_bits_of l.self.garbling));
+  count : length l.bits ≡ l.self.garbling.outputs;
+}

@@ -1,0 +1,10 @@
+use Rattle.std.proofs.Common.{◌≡◌, ◌*◌, length, take}
+use Rattle.std.specs.List.{flat_map}
+use Rattle.gc_format.specs.GarbledFile.{row_bytes}
+use Rattle.gc_kept.proofs.label_bytes.put_rows.Given as goal
+
+abbrev pub invariant-loop-i : goal.invariant-loop-i
+invariant-loop-i l = record {
+  done : take (32 * l.i) l.bytes ≡ flat_map row_bytes (take l.i l.rows);
+  count : length l.bytes ≡ 32 * length l.rows;
+}

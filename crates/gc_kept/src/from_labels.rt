@@ -1,0 +1,92 @@
+//! Evaluation from labels to labels, and decoding.
+
+ghost use Rattle.std.specs.Prelude.{length, IfErr, OnOk, OnErr, ◌≡◌};
+ghost use Rattle.gc_kept.specs.Labels.{AreEvaluatedTo, HasLabelsEvalFault, AreDecoded, HasDecodeFault};
+
+use crate::bits::{read_bits, write_bits};
+use crate::circuit::KeptCircuit;
+use crate::fault::KeptFault;
+use crate::label_bytes::{has_room, write_labels};
+use gc_format::sizes::{LABEL, PAIR};
+use gc_half::{FirstAnd, evaluate_labels};
+use gc_job::{EvalFault, decoded};
+use gc_read::{labels_from_bytes, rows_from_bytes};
+use std::alloc::Global;
+
+/// There is no memory for an evaluation.
+const NO_MEMORY: KeptFault = KeptFault::Evaluation(EvalFault::Memory);
+
+impl KeptCircuit {
+    /// Evaluates row pairs, 32 bytes for each AND gate, and an active label for each input wire, 16 bytes each, as
+    /// [`evaluate_labels`] does, and writes the active labels of the output wires to the front of a buffer. AND gates are
+    /// numbered from `first` on. Nothing of the rows and the labels is trusted. It refuses other numbers of bytes, and a
+    /// first AND gate whose sum with the number of AND gates is above 2^62 (60), and then a buffer that is too small
+    /// (61).
+    pub fn evaluate_labels(
+        &self,
+        alloc: Global,
+        rows: &[u8],
+        first: u64,
+        labels: &[u8],
+        outputs: &mut [u8],
+    ) -> Result<(), KeptFault>
+        ensures ok { OnOk result
+            (AreEvaluatedTo self.now rows.now first labels.now outputs.old outputs.new) }
+        ensures fault { IfErr result
+            (HasLabelsEvalFault self.now rows.now first labels.now (length outputs.old)) }
+        ensures unwritten { OnErr result (outputs.new ≡ outputs.old) }
+    {
+        let circuit = self.circuit();
+        let and_gates = circuit.and_count();
+        if rows.len() != PAIR * and_gates as usize
+            || labels.len() != LABEL * circuit.input_wires() as usize
+        {
+            return Err(KeptFault::BadArgument);
+        }
+        let Some(first) = FirstAnd::new(first, and_gates) else {
+            return Err(KeptFault::BadArgument);
+        };
+        has_room(LABEL * circuit.output_wires() as usize, outputs)?;
+        let Ok(rows) = rows_from_bytes(alloc, rows) else {
+            return Err(NO_MEMORY);
+        };
+        let Ok(inputs) = labels_from_bytes(alloc, labels) else {
+            return Err(NO_MEMORY);
+        };
+        let Ok(found) = evaluate_labels(alloc, circuit, &rows, first, &inputs) else {
+            return Err(NO_MEMORY);
+        };
+        write_labels(&found, outputs);
+        Ok(())
+    }
+}
+
+/// Writes the bits that active labels of output wires decode to, 16 bytes each, to the front of a buffer: each is the
+/// decode bit xor the label's colour. It refuses other labels than one for each decode bit (60), a buffer that is too
+/// small (61), and a decode bit other than 0 and 1 (15), in this order.
+pub fn decode(
+    alloc: Global,
+    labels: &[u8],
+    decode_bits: &[u8],
+    bits: &mut [u8],
+) -> Result<(), KeptFault>
+    ensures ok { OnOk result (AreDecoded labels.now decode_bits.now bits.old bits.new) }
+    ensures fault { IfErr result
+        (HasDecodeFault labels.now decode_bits.now (length bits.old)) }
+    ensures unwritten { OnErr result (bits.new ≡ bits.old) }
+{
+    let count = decode_bits.len();
+    if labels.len() % LABEL != 0 || labels.len() / LABEL != count {
+        return Err(KeptFault::BadArgument);
+    }
+    has_room(count, bits)?;
+    let decode_bits = read_bits(alloc, decode_bits, count)?;
+    let Ok(labels) = labels_from_bytes(alloc, labels) else {
+        return Err(NO_MEMORY);
+    };
+    let Ok(found) = decoded(alloc, &decode_bits, &labels) else {
+        return Err(NO_MEMORY);
+    };
+    write_bits(&found, &mut bits[..count]);
+    Ok(())
+}

@@ -1,0 +1,115 @@
+//! Labels and row pairs as bytes that stand in no file.
+
+ghost use Rattle.std.specs.Prelude.{◌≡◌, ◌+◌, ◌*◌, ◌++◌, ◌≤◌, ◌<◌, length, flat_map, map, take, slice_index, OnOk, OnErr, IfErr};
+ghost use Rattle.gc_label.specs.Label.{bytes_of_label, ◌⊕◌};
+ghost use Rattle.gc_format.specs.GarbledFile.{row_bytes};
+ghost use Rattle.gc_format.specs.LabelFile.{encoded_with};
+ghost use Rattle.gc_kept.specs.Files.{IsFileAt, HasRoomFault};
+
+use crate::fault::KeptFault;
+use gc_format::sizes::{LABEL, PAIR};
+use gc_half::RowPair;
+use gc_label::{Label, Offset};
+
+/// Checks that a buffer has room for so many bytes.
+pub(crate) fn has_room(size: usize, buffer: &[u8]) -> Result<(), KeptFault>
+    ensures ok { OnOk result (size ≤ length buffer.now) }
+    ensures fault { IfErr result (HasRoomFault size (length buffer.now)) }
+{
+    if buffer.len() < size {
+        return Err(KeptFault::SmallBuffer);
+    }
+    Ok(())
+}
+
+/// Writes a label to its place among labels. That there is such a place is the caller's condition.
+#[inline]
+fn put_label(label: Label, place: usize, bytes: &mut [u8])
+    requires { 16 * place + 16 ≤ length bytes.old }
+    ensures bytes { take (16 * place + 16) bytes.new
+        ≡ take (16 * place) bytes.old ++ bytes_of_label label }
+    ensures count { length bytes.new ≡ length bytes.old }
+{
+    let at = LABEL * place;
+    bytes[at..at + LABEL].copy_from_slice(&label.to_bytes());
+}
+
+/// Writes labels. That there are 16 bytes for each is the caller's condition.
+pub(crate) fn put_labels(labels: &[Label], bytes: &mut [u8])
+    requires { length bytes.old ≡ 16 * length labels.now }
+    ensures { bytes.new ≡ flat_map bytes_of_label labels.now }
+{
+    for i in 0..labels.len() {
+        put_label(labels[i], i, bytes);
+    }
+}
+
+/// Writes the sum of each label and a difference. That there are 16 bytes for each is the caller's condition.
+fn put_sums(labels: &[Label], difference: Label, bytes: &mut [u8])
+    requires { length bytes.old ≡ 16 * length labels.now }
+    ensures { bytes.new ≡ flat_map bytes_of_label (map (λ label. label ⊕ difference) labels.now) }
+{
+    for i in 0..labels.len() {
+        put_label(labels[i].xor(difference), i, bytes);
+    }
+}
+
+/// Writes the labels that stand for bits on the wires from the first one on. That there are zero labels for these wires,
+/// and 16 bytes for each, are the caller's conditions.
+pub(crate) fn put_encoded(
+    zero_labels: &[Label],
+    offset: Offset,
+    first: usize,
+    bits: &[bool],
+    bytes: &mut [u8],
+)
+    requires wires { first + length bits.now ≤ length zero_labels.now }
+    requires bytes { length bytes.old ≡ 16 * length bits.now }
+    ensures { bytes.new ≡ flat_map bytes_of_label
+        (encoded_with offset (slice_index zero_labels.now) first bits.now) }
+{
+    let difference = offset.label();
+    for i in 0..bits.len() {
+        let bit = bits[i];
+        let zero_label = zero_labels[first + i];
+        put_label(zero_label.xor(difference.times(bit)), i, bytes);
+    }
+}
+
+/// Writes row pairs. That there are 32 bytes for each is the caller's condition.
+fn put_rows(rows: &[RowPair], bytes: &mut [u8])
+    requires { length bytes.old ≡ 32 * length rows.now }
+    ensures { bytes.new ≡ flat_map row_bytes rows.now }
+{
+    for i in 0..rows.len() {
+        put_label(rows[i].generator, 2 * i, bytes);
+        put_label(rows[i].evaluator, 2 * i + 1, bytes);
+    }
+}
+
+/// Writes labels to the front of a buffer, whose end stays as it is. That there is room is the caller's condition.
+pub(crate) fn write_labels(labels: &[Label], buffer: &mut [u8])
+    requires { 16 * length labels.now ≤ length buffer.old }
+    ensures { IsFileAt (flat_map bytes_of_label labels.now) buffer.old buffer.new }
+{
+    put_labels(labels, &mut buffer[..LABEL * labels.len()]);
+}
+
+/// Writes the sum of each label and a difference to the front of a buffer, whose end stays as it is. That there is room is
+/// the caller's condition.
+pub(crate) fn write_sums(labels: &[Label], difference: Label, buffer: &mut [u8])
+    requires { 16 * length labels.now ≤ length buffer.old }
+    ensures { IsFileAt
+        (flat_map bytes_of_label (map (λ label. label ⊕ difference) labels.now))
+        buffer.old buffer.new }
+{
+    put_sums(labels, difference, &mut buffer[..LABEL * labels.len()]);
+}
+
+/// Writes row pairs to the front of a buffer, whose end stays as it is. That there is room is the caller's condition.
+pub(crate) fn write_rows(rows: &[RowPair], buffer: &mut [u8])
+    requires { 32 * length rows.now ≤ length buffer.old }
+    ensures { IsFileAt (flat_map row_bytes rows.now) buffer.old buffer.new }
+{
+    put_rows(rows, &mut buffer[..PAIR * rows.len()]);
+}

@@ -1,0 +1,151 @@
+//! What a garbling has for the wires of a value, for its AND gates, and for its output wires.
+
+ghost use Rattle.std.specs.Prelude.{◌≡◌, ◌+◌, ◌-◌, ◌*◌, ◌^◌, ◌<◌, ◌≤◌, ◌⊎◌, length, map, flat_map, take, sum, IfErr, OnOk, OnErr};
+ghost use Rattle.gc_netlist.specs.Circuit.{output_wires};
+ghost use Rattle.gc_netlist.specs.Spelling.{bit_number};
+ghost use Rattle.gc_label.specs.Label.{◌⊕◌, bytes_of_label};
+ghost use Rattle.gc_half.specs.Garbling.{decode_bits_of};
+ghost use Rattle.gc_format.specs.GarbledFile.{row_bytes};
+ghost use Rattle.gc_audit.specs.Labels.{first_wire_of};
+ghost use Rattle.gc_kept.specs.Files.{IsFileAt, HasRoomFault};
+ghost use Rattle.gc_kept.specs.Labels.{AreLabelsOf, HasValueFault, first_output_of, zero_labels_from};
+
+use crate::bits::bit_byte;
+use crate::fault::KeptFault;
+use crate::garbling::KeptGarbling;
+use crate::label_bytes::{has_room, write_labels, write_rows, write_sums};
+use gc_circuit::Circuit;
+use gc_file::first_wire;
+use gc_format::sizes::{LABEL, PAIR};
+use gc_job::BindFault;
+use std::alloc::{Allocator, Global};
+
+/// The first wire of the output value with this index. That there are at least as many values is the caller's condition.
+fn first_output<A: Allocator>(circuit: &Circuit<A>, index: usize) -> u32
+    requires { index ≤ length circuit.now.output_widths }
+    ensures { result ≡ first_output_of circuit.now index }
+{
+    circuit.law_lawful();
+    circuit.wires() - circuit.output_wires() + sum_of(&circuit.output_widths()[..index])
+}
+
+/// The sum of these widths.
+fn sum_of(widths: &[u32]) -> u32
+    requires { sum widths.now < 2 ^ 32 }
+    ensures { result ≡ sum widths.now }
+{
+    widths.iter().sum()
+}
+
+impl KeptGarbling {
+    /// Writes both labels of each wire of the input value with this index, 16 bytes each, to the front of two buffers:
+    /// the zero labels, and the labels that stand for 1. It refuses an index without a value (42), and a buffer that is
+    /// too small (61).
+    pub fn input_labels(&self, index: u32, zero: &mut [u8], one: &mut [u8]) -> Result<(), KeptFault>
+        ensures ok { OnOk result (AreLabelsOf self.now self.now.circuit.input_widths index
+            (first_wire_of self.now.circuit index) zero.old zero.new one.old one.new) }
+        ensures fault { IfErr result (HasValueFault self.now.circuit.input_widths index
+            (length zero.old) (length one.old)) }
+        ensures zero_unwritten { OnErr result (zero.new ≡ zero.old) }
+        ensures one_unwritten { OnErr result (one.new ≡ one.old) }
+    {
+        let circuit = self.circuit.circuit();
+        let Some(width) = circuit.input_widths().get(index as usize) else {
+            return Err(KeptFault::Binding(BindFault::NoSuchValue));
+        };
+        let from = first_wire(circuit, index as usize);
+        self.write_both(from as usize, *width as usize, zero, one)
+    }
+
+    /// Writes both labels of each wire of the output value with this index, as [`KeptGarbling::input_labels`] does those
+    /// of an input value.
+    pub fn output_labels(
+        &self,
+        index: u32,
+        zero: &mut [u8],
+        one: &mut [u8],
+    ) -> Result<(), KeptFault>
+        ensures ok { OnOk result (AreLabelsOf self.now self.now.circuit.output_widths index
+            (first_output_of self.now.circuit index) zero.old zero.new one.old one.new) }
+        ensures fault { IfErr result (HasValueFault self.now.circuit.output_widths index
+            (length zero.old) (length one.old)) }
+        ensures zero_unwritten { OnErr result (zero.new ≡ zero.old) }
+        ensures one_unwritten { OnErr result (one.new ≡ one.old) }
+    {
+        let circuit = self.circuit.circuit();
+        let Some(width) = circuit.output_widths().get(index as usize) else {
+            return Err(KeptFault::Binding(BindFault::NoSuchValue));
+        };
+        let from = first_output(circuit, index as usize);
+        self.write_both(from as usize, *width as usize, zero, one)
+    }
+
+    /// Writes both labels of so many wires, from one on. That there are such wires is the caller's condition.
+    fn write_both(
+        &self,
+        from: usize,
+        count: usize,
+        zero: &mut [u8],
+        one: &mut [u8],
+    ) -> Result<(), KeptFault>
+        requires { from + count ≤ length self.now.garbling.zero_labels }
+        ensures zero { OnOk result
+            (IsFileAt (flat_map bytes_of_label (zero_labels_from self.now from count))
+            zero.old zero.new) }
+        ensures one { OnOk result
+            (IsFileAt (flat_map bytes_of_label
+            (map (λ label. label ⊕ self.now.offset) (zero_labels_from self.now from count)))
+            one.old one.new) }
+        ensures fault { IfErr result (λ fault. (fault ≡ KeptFault.SmallBuffer)
+            × ((length zero.old < 16 * count) ⊎ (length one.old < 16 * count))) }
+        ensures zero_unwritten { OnErr result (zero.new ≡ zero.old) }
+        ensures one_unwritten { OnErr result (one.new ≡ one.old) }
+    {
+        let labels = &self.garbling.zero_labels()[from..from + count];
+        has_room(LABEL * count, zero)?;
+        has_room(LABEL * count, one)?;
+        write_labels(labels, zero);
+        write_sums(labels, self.offset.label(), one);
+        Ok(())
+    }
+
+    /// Writes the row pairs, 32 bytes for each AND gate in file order, to the front of a buffer: the generator's row, and
+    /// then the evaluator's. It refuses a buffer that is too small (61).
+    pub fn rows(&self, buffer: &mut [u8]) -> Result<(), KeptFault>
+        ensures ok { OnOk result
+            (IsFileAt (flat_map row_bytes self.now.garbling.rows) buffer.old buffer.new) }
+        ensures fault { IfErr result
+            (HasRoomFault (32 * length self.now.garbling.rows) (length buffer.old)) }
+        ensures unwritten { OnErr result (buffer.new ≡ buffer.old) }
+    {
+        let rows = self.garbling.rows();
+        has_room(PAIR * rows.len(), buffer)?;
+        write_rows(rows, buffer);
+        Ok(())
+    }
+
+    /// Writes the decode bits, a byte for each output wire in order, to the front of a buffer. It refuses a buffer that is
+    /// too small (61).
+    pub fn decode_bits(&self, bits: &mut [u8]) -> Result<(), KeptFault>
+        ensures ok { OnOk result
+            (IsFileAt (map bit_number (decode_bits_of self.now.garbling)) bits.old bits.new) }
+        ensures fault { IfErr result
+            (HasRoomFault self.now.garbling.outputs (length bits.old)) }
+        ensures unwritten { OnErr result (bits.new ≡ bits.old) }
+    {
+        let outputs = self.garbling.outputs();
+        has_room(outputs as usize, bits)?;
+        self.put_decode_bits(&mut bits[..outputs as usize]);
+        Ok(())
+    }
+
+    /// Writes the decode bit of each output wire. That there is a byte for each is the caller's condition.
+    fn put_decode_bits(&self, bits: &mut [u8])
+        requires { length bits.old ≡ self.now.garbling.outputs }
+        ensures { bits.new ≡ map bit_number (decode_bits_of self.now.garbling) }
+    {
+        for i in 0..self.garbling.outputs() {
+            bits[i as usize] = bit_byte(self.garbling.decode_bit(i));
+        }
+    }
+}

@@ -1,0 +1,54 @@
+//! Evaluation from labels to labels, and decoding.
+
+ghost use Rattle.std.specs.Prelude.{◌≡◌, ◌≢◌, MatchOption, length, pos};
+ghost use Rattle.core.specs.Ptr.{as_mut_ptr};
+ghost use denote.RawPtr.{Testable};
+ghost use Rattle.gc_kept.specs.Labels.{AreDecoded, AreEvaluatedTo, HasDecodeFault, HasLabelsEvalFault};
+ghost use Rattle.halfgates_c.specs.Answers.{Answers};
+ghost use Rattle.halfgates_c.specs.Holding.{circuit_of};
+
+use crate::code::{BAD_ARGUMENT, code_of};
+use crate::handle::{Handle, on_held};
+use crate::null::is_null;
+use gc_kept::{Held, decode};
+use std::alloc::Global;
+
+/// Evaluates row pairs and labels, and writes the active labels of all output wires.
+#[unsafe(no_mangle)]
+pub extern "C" fn halfgates_evaluate_labels(
+    alloc: Global,
+    circuit: &mut Handle,
+    rows: &[u8],
+    first: u64,
+    labels: &[u8],
+    outputs: &mut [u8],
+) -> i32
+    requires circuit { Testable (as_mut_ptr circuit) }
+    ensures answer { MatchOption (circuit_of circuit.old.held) (result ≡ pos 60) (λ c.
+        Answers result (AreEvaluatedTo c rows.now first labels.now outputs.old outputs.new)
+        (HasLabelsEvalFault c rows.now first labels.now (length outputs.old))) }
+    ensures held { circuit.new.held ≡ circuit.old.held }
+    ensures kept { result ≢ pos 0 → outputs.new ≡ outputs.old }
+{
+    if is_null(circuit) {
+        return BAD_ARGUMENT;
+    }
+    on_held!(alloc, circuit, Circuit(circuit) => {
+        code_of(circuit.evaluate_labels(alloc, rows, first, labels, outputs))
+    }, else BAD_ARGUMENT)
+}
+
+/// Decodes active labels of output wires, and writes their bits.
+#[unsafe(no_mangle)]
+pub extern "C" fn halfgates_decode(
+    alloc: Global,
+    labels: &[u8],
+    decode_bits: &[u8],
+    bits: &mut [u8],
+) -> i32
+    ensures answers { Answers result (AreDecoded labels.now decode_bits.now bits.old bits.new)
+        (HasDecodeFault labels.now decode_bits.now (length bits.old)) }
+    ensures kept { result ≢ pos 0 → bits.new ≡ bits.old }
+{
+    code_of(decode(alloc, labels, decode_bits, bits))
+}

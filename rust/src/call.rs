@@ -1,0 +1,103 @@
+// SPDX-License-Identifier: MIT OR Apache-2.0
+//! How calls of the library give handles and fill buffers.
+
+use std::fmt;
+use std::ptr::{self, NonNull};
+
+use crate::fault::Fault;
+use crate::sys;
+
+/// A handle of the library, freed when it is dropped.
+pub struct Handle<T: Free>(NonNull<T>);
+
+/// A type of handles, with the function of the library that frees them.
+pub trait Free {
+    /// # Safety
+    ///
+    /// The library has made the handle, and nothing uses it any more.
+    unsafe fn free(handle: *mut Self);
+}
+
+impl<T: Free> Handle<T> {
+    /// The handle that a call of the library writes.
+    ///
+    /// # Safety
+    ///
+    /// Where `make` returns 0, it has written a new handle.
+    pub unsafe fn new(make: impl FnOnce(*mut *mut T) -> i32) -> Result<Self, Fault> {
+        let mut handle = ptr::null_mut();
+        Fault::check(make(&mut handle))?;
+        NonNull::new(handle).map(Self).ok_or(Fault::MEMORY)
+    }
+
+    pub fn get(&self) -> *mut T {
+        self.0.as_ptr()
+    }
+}
+
+impl<T: Free> Drop for Handle<T> {
+    fn drop(&mut self) {
+        // SAFETY: the handle is the library's, and this is its only owner.
+        unsafe { T::free(self.get()) }
+    }
+}
+
+// SAFETY: a handle belongs to no thread, and handles of one circuit can be used side by side. It
+// isn't `Sync`, since one call at a time uses it.
+unsafe impl<T: Free> Send for Handle<T> {}
+
+macro_rules! free {
+    ($($handle:ident by $function:ident)*) => {
+        $(
+            impl Free for sys::$handle {
+                unsafe fn free(handle: *mut Self) {
+                    // SAFETY: the caller's.
+                    unsafe { sys::$function(handle) }
+                }
+            }
+        )*
+    };
+}
+
+free! {
+    halfgates_circuit by halfgates_circuit_free
+    halfgates_garbling by halfgates_garbling_free
+    halfgates_job by halfgates_job_free
+}
+
+/// An empty vector with room for `count` items.
+pub fn room<T>(count: usize) -> Result<Vec<T>, Fault> {
+    let mut items = Vec::new();
+    items.try_reserve_exact(count).map_err(|_| Fault::MEMORY)?;
+    Ok(items)
+}
+
+/// The `count` items that a call of the library writes.
+///
+/// # Safety
+///
+/// Where `fill` returns 0, it has written `count` items from the pointer on. It writes no more than
+/// these.
+pub unsafe fn filled<T>(count: usize, fill: impl FnOnce(*mut T) -> i32) -> Result<Vec<T>, Fault> {
+    let mut items = room(count)?;
+    Fault::check(fill(items.as_mut_ptr()))?;
+    // SAFETY: there is room for the items, and the caller has them written.
+    unsafe { items.set_len(count) };
+    Ok(items)
+}
+
+/// Bits of bytes 0 and 1, in place.
+pub fn bits_of(bytes: Vec<u8>) -> Vec<bool> {
+    bytes.into_iter().map(|byte| byte != 0).collect()
+}
+
+impl fmt::Display for sys::halfgates_name {
+    fn fmt(&self, f: &mut fmt::Formatter<'_>) -> fmt::Result {
+        let text = self
+            .text
+            .split(|&byte| byte == 0)
+            .next()
+            .unwrap_or_default();
+        f.write_str(&String::from_utf8_lossy(text))
+    }
+}

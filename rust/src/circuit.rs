@@ -1,0 +1,407 @@
+// SPDX-License-Identifier: MIT OR Apache-2.0
+
+use std::fmt;
+use std::mem::{size_of, size_of_val};
+use std::sync::Arc;
+
+use crate::call::{bits_of, filled, room, Handle};
+use crate::fault::Fault;
+use crate::{sys, Garbling, Job, Label, RowPair, Version};
+
+/// A circuit, read from a text in Bristol Fashion.
+///
+/// It is read once and garbled any number of times. Its garblings and jobs outlive it.
+///
+/// A circuit can be sent to another thread, and isn't `Sync`: one call at a time uses it.
+/// [`Circuit::share`] gives each thread a handle of its own, without copying the circuit.
+///
+/// ```compile_fail
+/// fn is_sync<T: Sync>() {}
+/// is_sync::<halfgates::Circuit>();
+/// ```
+pub struct Circuit {
+    handle: Handle<sys::halfgates_circuit>,
+    shape: Arc<Shape>,
+}
+
+/// What a circuit, its garblings and its jobs know of its size.
+pub(crate) struct Shape {
+    pub gates: usize,
+    pub and_gates: usize,
+    pub wires: usize,
+    pub input_wires: usize,
+    pub output_wires: usize,
+    pub input_widths: Vec<usize>,
+    pub output_widths: Vec<usize>,
+    digest: [u8; 32],
+}
+
+impl Circuit {
+    /// Reads a circuit from its text in Bristol Fashion, and takes its digest.
+    ///
+    /// # Errors
+    ///
+    /// The first fault of the text, codes 1 to 13, which [`locate`](crate::locate) places;
+    /// [`Fault::MEMORY`].
+    #[doc(alias = "halfgates_circuit_read")]
+    pub fn read(text: impl AsRef<[u8]>) -> Result<Self, Fault> {
+        let text = text.as_ref();
+        // SAFETY: the call reads the text, and writes a handle.
+        let handle = unsafe {
+            Handle::new(|it| sys::halfgates_circuit_read(text.as_ptr(), text.len(), it))?
+        };
+        let shape = Arc::new(Shape::of(&handle)?);
+        Ok(Self { handle, shape })
+    }
+
+    /// One more handle of this circuit, which another thread can use at the same time. It copies
+    /// nothing.
+    ///
+    /// # Errors
+    ///
+    /// [`Fault::MEMORY`].
+    #[doc(alias = "halfgates_circuit_share")]
+    pub fn share(&self) -> Result<Self, Fault> {
+        // SAFETY: the call writes a handle.
+        let handle =
+            unsafe { Handle::new(|it| sys::halfgates_circuit_share(self.handle.get(), it))? };
+        Ok(Self {
+            handle,
+            shape: Arc::clone(&self.shape),
+        })
+    }
+
+    /// The number of gates.
+    #[must_use]
+    pub fn gates(&self) -> usize {
+        self.shape.gates
+    }
+
+    /// The number of AND gates, which is the number of row pairs of a garbling.
+    #[must_use]
+    pub fn and_gates(&self) -> usize {
+        self.shape.and_gates
+    }
+
+    /// The number of wires. They are numbered from 0.
+    #[must_use]
+    pub fn wires(&self) -> usize {
+        self.shape.wires
+    }
+
+    /// The number of input wires, which are the first wires.
+    #[must_use]
+    pub fn input_wires(&self) -> usize {
+        self.shape.input_wires
+    }
+
+    /// The number of output wires, which are the last wires.
+    #[must_use]
+    pub fn output_wires(&self) -> usize {
+        self.shape.output_wires
+    }
+
+    /// The number of wires of each input value.
+    #[must_use]
+    pub fn input_widths(&self) -> &[usize] {
+        &self.shape.input_widths
+    }
+
+    /// The number of wires of each output value.
+    #[must_use]
+    pub fn output_widths(&self) -> &[usize] {
+        &self.shape.output_widths
+    }
+
+    /// The SHA-256 of the circuit's canonical text.
+    #[must_use]
+    pub fn digest(&self) -> &[u8; 32] {
+        &self.shape.digest
+    }
+
+    /// Evaluates the circuit in the clear: the bits of all output wires, for those of all input
+    /// wires.
+    ///
+    /// # Errors
+    ///
+    /// [`Fault::WRONG_LENGTH`], [`Fault::CIRCUIT_MEMORY`], [`Fault::MEMORY`].
+    #[doc(alias = "halfgates_plain")]
+    pub fn plain(&self, bits: &[bool]) -> Result<Vec<bool>, Fault> {
+        let count = self.output_wires();
+        // SAFETY: a `bool` is a byte 0 or 1, and the call writes `count` bytes.
+        let outputs = unsafe {
+            filled(count, |outputs| {
+                sys::halfgates_plain(
+                    self.handle.get(),
+                    bits.as_ptr().cast(),
+                    bits.len(),
+                    outputs,
+                    count,
+                )
+            })?
+        };
+        Ok(bits_of(outputs))
+    }
+
+    /// Garbles under a seed. Take 32 random bytes for each garbling that is sent to anybody:
+    /// whoever knows the seed knows every label.
+    ///
+    /// # Errors
+    ///
+    /// [`Fault::GARBLING_MEMORY`], [`Fault::MEMORY`].
+    #[doc(alias = "halfgates_garble")]
+    pub fn garble(&self, seed: &[u8; 32]) -> Result<Garbling, Fault> {
+        // SAFETY: the call reads the 32 bytes of the seed, and writes a handle.
+        let handle = unsafe {
+            Handle::new(|it| sys::halfgates_garble(self.handle.get(), seed.as_ptr(), it))?
+        };
+        Ok(Garbling::new(handle, Arc::clone(&self.shape)))
+    }
+
+    /// Garbles from an offset, whose colour is 1, and from the zero labels of all input wires.
+    ///
+    /// `first` is the number of the first AND gate. Under one offset, use no AND number twice:
+    /// `first` of the next circuit is at least `first` and the AND gates of this one together.
+    /// Where a garbled file of version 2 is written, leave (outputs + 1) / 2 more numbers to its
+    /// decode entries.
+    ///
+    /// A garbling whose `first` isn't 0 has rows and labels, but no garbled file.
+    ///
+    /// # Errors
+    ///
+    /// [`Fault::BAD_ARGUMENT`] where the offset has colour 0, where there isn't one label for each
+    /// input wire, or where `first` and the AND gates add up to more than 2^62;
+    /// [`Fault::GARBLING_MEMORY`], [`Fault::MEMORY`].
+    #[doc(alias = "halfgates_garble_from")]
+    pub fn garble_from(
+        &self,
+        offset: &Label,
+        zero_labels: &[Label],
+        first: u64,
+    ) -> Result<Garbling, Fault> {
+        let (labels, size) = (zero_labels.as_ptr().cast(), size_of_val(zero_labels));
+        // SAFETY: the call reads the 16 bytes of the offset and `size` bytes of labels, and writes
+        // a handle.
+        let handle = unsafe {
+            Handle::new(|it| {
+                sys::halfgates_garble_from(
+                    self.handle.get(),
+                    offset.as_ptr(),
+                    labels,
+                    size,
+                    first,
+                    it,
+                )
+            })?
+        };
+        Ok(Garbling::new(handle, Arc::clone(&self.shape)))
+    }
+
+    /// The size of a garbled file in bytes, whatever the seed.
+    #[must_use]
+    #[doc(alias = "halfgates_garbled_size")]
+    #[allow(clippy::cast_possible_truncation)] // A file has less than 2 GB.
+    pub fn garbled_size(&self, version: Version) -> usize {
+        // SAFETY: the handle is the library's.
+        unsafe { sys::halfgates_garbled_size(self.handle.get(), version as u32) as usize }
+    }
+
+    /// The label file of an input value, counted from 0, for these bits under a seed.
+    ///
+    /// Deal each value once for a seed: two label files of one value for different bits give away
+    /// the offset, and so every label.
+    ///
+    /// # Errors
+    ///
+    /// [`Fault::NO_SUCH_VALUE`], [`Fault::WRONG_LENGTH`], [`Fault::CIRCUIT_MEMORY`],
+    /// [`Fault::MEMORY`].
+    #[doc(alias = "halfgates_deal")]
+    pub fn deal(&self, seed: &[u8; 32], index: usize, bits: &[bool]) -> Result<Vec<u8>, Fault> {
+        let index = index_of_value(index)?;
+        let (size, mut written) = (size_of_label_file(bits.len())?, 0);
+        // SAFETY: the call reads the seed's 32 bytes and the bits, and writes the file, which has
+        // `size` bytes.
+        unsafe {
+            filled(size, |file| {
+                let (bits, count) = (bits.as_ptr().cast(), bits.len());
+                sys::halfgates_deal(
+                    self.handle.get(),
+                    seed.as_ptr(),
+                    index,
+                    bits,
+                    count,
+                    file,
+                    size,
+                    &mut written,
+                )
+            })
+        }
+    }
+
+    /// The label file of an input value, counted from 0, with labels that came some other way, as
+    /// by oblivious transfer.
+    ///
+    /// # Errors
+    ///
+    /// [`Fault::NO_SUCH_VALUE`], [`Fault::BAD_ARGUMENT`] where there isn't one label for each wire,
+    /// [`Fault::MEMORY`].
+    #[doc(alias = "halfgates_label_file")]
+    pub fn label_file(&self, index: usize, labels: &[Label]) -> Result<Vec<u8>, Fault> {
+        let index = index_of_value(index)?;
+        let (size, mut written) = (size_of_label_file(labels.len())?, 0);
+        let (labels, labels_size) = (labels.as_ptr().cast(), size_of_val(labels));
+        // SAFETY: the call reads the labels, and writes the file, which has `size` bytes.
+        unsafe {
+            filled(size, |file| {
+                sys::halfgates_label_file(
+                    self.handle.get(),
+                    index,
+                    labels,
+                    labels_size,
+                    file,
+                    size,
+                    &mut written,
+                )
+            })
+        }
+    }
+
+    /// Binds a garbled file and a label file for each input value, in any order, to a job. Nothing
+    /// of the files is trusted.
+    ///
+    /// # Errors
+    ///
+    /// Codes 30 to 36, the first fault of the garbled file, then of each label file in turn; 40 to
+    /// 46, the first fault of the binding; [`Fault::MEMORY`].
+    #[doc(alias = "halfgates_job_bind")]
+    pub fn bind<L: AsRef<[u8]>>(&self, garbled: &[u8], labels: &[L]) -> Result<Job, Fault> {
+        let (joined, lengths) = joined(labels)?;
+        // SAFETY: the call reads these buffers, and writes a handle.
+        let handle = unsafe {
+            Handle::new(|it| {
+                sys::halfgates_job_bind(
+                    self.handle.get(),
+                    garbled.as_ptr(),
+                    garbled.len(),
+                    joined.as_ptr(),
+                    joined.len(),
+                    lengths.as_ptr(),
+                    lengths.len(),
+                    it,
+                )
+            })?
+        };
+        Ok(Job::new(handle, self.output_wires()))
+    }
+
+    /// Evaluates row pairs: the active label of each output wire, from those of all input wires.
+    /// `first` is the number of the first AND gate, as the garbler had it.
+    ///
+    /// Nothing of rows and labels is trusted, and nothing recognises wrong ones: the labels that
+    /// they lead to are returned.
+    ///
+    /// # Errors
+    ///
+    /// [`Fault::BAD_ARGUMENT`] where there isn't one row pair for each AND gate or one label for
+    /// each input wire, or where `first` is too large; [`Fault::JOB_MEMORY`], [`Fault::MEMORY`].
+    #[doc(alias = "halfgates_evaluate_labels")]
+    pub fn evaluate_labels(
+        &self,
+        rows: &[RowPair],
+        labels: &[Label],
+        first: u64,
+    ) -> Result<Vec<Label>, Fault> {
+        let count = self.output_wires();
+        // SAFETY: the call reads the rows and labels, and writes `count` labels.
+        unsafe {
+            filled(count, |outputs: *mut Label| {
+                sys::halfgates_evaluate_labels(
+                    self.handle.get(),
+                    rows.as_ptr().cast(),
+                    size_of_val(rows),
+                    first,
+                    labels.as_ptr().cast(),
+                    size_of_val(labels),
+                    outputs.cast(),
+                    count * size_of::<Label>(),
+                )
+            })
+        }
+    }
+}
+
+impl fmt::Debug for Circuit {
+    fn fmt(&self, f: &mut fmt::Formatter<'_>) -> fmt::Result {
+        f.debug_struct("Circuit")
+            .field("gates", &self.gates())
+            .field("and_gates", &self.and_gates())
+            .field("wires", &self.wires())
+            .field("input_widths", &self.input_widths())
+            .field("output_widths", &self.output_widths())
+            .finish_non_exhaustive()
+    }
+}
+
+impl Shape {
+    fn of(circuit: &Handle<sys::halfgates_circuit>) -> Result<Self, Fault> {
+        let (mut numbers, mut digest) = (sys::halfgates_numbers::default(), [0; 32]);
+        // SAFETY: the calls write the numbers and the 32 bytes of the digest.
+        unsafe {
+            Fault::check(sys::halfgates_circuit_numbers(circuit.get(), &mut numbers))?;
+            Fault::check(sys::halfgates_circuit_digest(
+                circuit.get(),
+                digest.as_mut_ptr(),
+            ))?;
+        }
+        let (inputs, outputs) = (
+            numbers.input_values as usize,
+            numbers.output_values as usize,
+        );
+        // SAFETY: the calls write a width for each input value, and for each output value.
+        let (input_widths, output_widths) = unsafe {
+            let inputs = filled(inputs, |it| {
+                sys::halfgates_circuit_input_widths(circuit.get(), it, inputs)
+            })?;
+            (
+                inputs,
+                filled(outputs, |it| {
+                    sys::halfgates_circuit_output_widths(circuit.get(), it, outputs)
+                })?,
+            )
+        };
+        let counts = |widths: Vec<u32>| widths.into_iter().map(|width| width as usize).collect();
+        Ok(Self {
+            gates: numbers.gates as usize,
+            and_gates: numbers.and_gates as usize,
+            wires: numbers.wires as usize,
+            input_wires: numbers.input_wires as usize,
+            output_wires: numbers.output_wires as usize,
+            input_widths: counts(input_widths),
+            output_widths: counts(output_widths),
+            digest,
+        })
+    }
+}
+
+pub(crate) fn index_of_value(index: usize) -> Result<u32, Fault> {
+    u32::try_from(index).map_err(|_| Fault::NO_SUCH_VALUE)
+}
+
+/// The size of a label file in bytes.
+pub(crate) fn size_of_label_file(labels: usize) -> Result<usize, Fault> {
+    labels
+        .checked_add(1)
+        .and_then(|it| it.checked_mul(16))
+        .ok_or(Fault::MEMORY)
+}
+
+/// Files one after another, and the size of each.
+fn joined<F: AsRef<[u8]>>(files: &[F]) -> Result<(Vec<u8>, Vec<usize>), Fault> {
+    let (mut bytes, mut lengths) = (Vec::new(), room(files.len())?);
+    for file in files.iter().map(AsRef::as_ref) {
+        bytes.try_reserve(file.len()).map_err(|_| Fault::MEMORY)?;
+        bytes.extend_from_slice(file);
+        lengths.push(file.len());
+    }
+    Ok((bytes, lengths))
+}

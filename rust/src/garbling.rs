@@ -1,0 +1,332 @@
+// SPDX-License-Identifier: MIT OR Apache-2.0
+
+use std::fmt;
+use std::mem::size_of;
+use std::ops::Range;
+use std::ptr;
+use std::sync::Arc;
+
+use crate::call::{bits_of, filled, room, Handle};
+use crate::circuit::{index_of_value, size_of_label_file, Shape};
+use crate::fault::Fault;
+use crate::{sys, GarbledReport, Label, LabelsReport, RowPair, Version, WireLabels};
+
+/// The garbling of a circuit: a zero label for each wire, and a row pair for each AND gate. Whoever
+/// has it knows every label.
+///
+/// It comes from [`Circuit::garble`](crate::Circuit::garble) or
+/// [`Circuit::garble_from`](crate::Circuit::garble_from). It can be sent to another thread, and
+/// isn't `Sync`.
+pub struct Garbling {
+    handle: Handle<sys::halfgates_garbling>,
+    shape: Arc<Shape>,
+}
+
+/// A call that writes the zero labels and the one labels of a value.
+type WritePairs =
+    unsafe extern "C" fn(*mut sys::halfgates_garbling, u32, *mut u8, *mut u8, usize) -> i32;
+
+impl Garbling {
+    pub(crate) fn new(handle: Handle<sys::halfgates_garbling>, shape: Arc<Shape>) -> Self {
+        Self { handle, shape }
+    }
+
+    /// The garbled file of a version.
+    ///
+    /// # Errors
+    ///
+    /// [`Fault::BAD_ARGUMENT`] where the garbling's first AND number isn't 0, [`Fault::MEMORY`].
+    #[doc(alias = "halfgates_garbling_write")]
+    pub fn write(&self, version: Version) -> Result<Vec<u8>, Fault> {
+        let mut written = 0;
+        // SAFETY: a buffer of size 0 can be NULL.
+        let asked =
+            Fault::check(unsafe { self.write_to(version, ptr::null_mut(), 0, &mut written) });
+        match asked {
+            Ok(()) | Err(Fault::SMALL_BUFFER) => {}
+            Err(fault) => return Err(fault),
+        }
+        let size = written;
+        // SAFETY: the file has `size` bytes.
+        unsafe {
+            filled(size, |file| {
+                self.write_to(version, file, size, &mut written)
+            })
+        }
+    }
+
+    /// Writes the garbled file of a version to a buffer and returns its size. What the buffer has
+    /// behind it stays.
+    ///
+    /// # Errors
+    ///
+    /// [`Fault::SMALL_BUFFER`] where the file doesn't fit, and the buffer stays as it is;
+    /// [`Fault::BAD_ARGUMENT`] where the garbling's first AND number isn't 0; [`Fault::MEMORY`].
+    #[doc(alias = "halfgates_garbling_write")]
+    pub fn write_into(&self, version: Version, buffer: &mut [u8]) -> Result<usize, Fault> {
+        let mut written = 0;
+        // SAFETY: the buffer is exclusive, and has this size.
+        Fault::check(unsafe {
+            self.write_to(version, buffer.as_mut_ptr(), buffer.len(), &mut written)
+        })?;
+        Ok(written)
+    }
+
+    unsafe fn write_to(
+        &self,
+        version: Version,
+        buffer: *mut u8,
+        size: usize,
+        written: &mut usize,
+    ) -> i32 {
+        // SAFETY: the caller's.
+        unsafe {
+            sys::halfgates_garbling_write(self.handle.get(), version as u32, buffer, size, written)
+        }
+    }
+
+    /// The label file of an input value, counted from 0, for these bits. Deal each value once.
+    ///
+    /// # Errors
+    ///
+    /// [`Fault::NO_SUCH_VALUE`], [`Fault::WRONG_LENGTH`], [`Fault::CIRCUIT_MEMORY`],
+    /// [`Fault::MEMORY`].
+    #[doc(alias = "halfgates_garbling_deal")]
+    pub fn deal(&self, index: usize, bits: &[bool]) -> Result<Vec<u8>, Fault> {
+        let index = index_of_value(index)?;
+        let (size, mut written) = (size_of_label_file(bits.len())?, 0);
+        let (bits, count) = (bits.as_ptr().cast(), bits.len());
+        // SAFETY: a `bool` is a byte 0 or 1, and the call writes the file, which has `size` bytes.
+        unsafe {
+            filled(size, |file| {
+                sys::halfgates_garbling_deal(
+                    self.handle.get(),
+                    index,
+                    bits,
+                    count,
+                    file,
+                    size,
+                    &mut written,
+                )
+            })
+        }
+    }
+
+    /// The offset: the XOR of the two labels of any wire.
+    ///
+    /// # Errors
+    ///
+    /// None with the handles of this crate.
+    #[doc(alias = "halfgates_offset")]
+    pub fn offset(&self) -> Result<Label, Fault> {
+        let mut offset = Label::default();
+        // SAFETY: the call writes 16 bytes.
+        Fault::check(unsafe { sys::halfgates_offset(self.handle.get(), offset.as_mut_ptr()) })?;
+        Ok(offset)
+    }
+
+    /// The zero label and the one label of each wire of an input value, counted from 0: what an
+    /// oblivious transfer offers.
+    ///
+    /// # Errors
+    ///
+    /// [`Fault::NO_SUCH_VALUE`], [`Fault::MEMORY`].
+    #[doc(alias = "halfgates_input_labels")]
+    pub fn input_labels(&self, index: usize) -> Result<Vec<[Label; 2]>, Fault> {
+        self.pairs(index, &self.shape.input_widths, sys::halfgates_input_labels)
+    }
+
+    /// The zero label and the one label of each wire of an output value, counted from 0.
+    ///
+    /// # Errors
+    ///
+    /// [`Fault::NO_SUCH_VALUE`], [`Fault::MEMORY`].
+    #[doc(alias = "halfgates_output_labels")]
+    pub fn output_labels(&self, index: usize) -> Result<Vec<[Label; 2]>, Fault> {
+        self.pairs(
+            index,
+            &self.shape.output_widths,
+            sys::halfgates_output_labels,
+        )
+    }
+
+    fn pairs(
+        &self,
+        index: usize,
+        widths: &[usize],
+        write: WritePairs,
+    ) -> Result<Vec<[Label; 2]>, Fault> {
+        let width = *widths.get(index).ok_or(Fault::NO_SUCH_VALUE)?;
+        let index = index_of_value(index)?;
+        // SAFETY: there is room for `width` labels twice, and the call writes each half.
+        let labels = unsafe {
+            filled(2 * width, |zero: *mut Label| {
+                let one = zero.add(width);
+                write(
+                    self.handle.get(),
+                    index,
+                    zero.cast(),
+                    one.cast(),
+                    width * size_of::<Label>(),
+                )
+            })?
+        };
+        let (zero, one) = labels.split_at(width);
+        let mut pairs = room(width)?;
+        pairs.extend(zero.iter().zip(one).map(|(&zero, &one)| [zero, one]));
+        Ok(pairs)
+    }
+
+    /// The row pair of each AND gate.
+    ///
+    /// # Errors
+    ///
+    /// [`Fault::MEMORY`].
+    #[doc(alias = "halfgates_rows")]
+    pub fn rows(&self) -> Result<Vec<RowPair>, Fault> {
+        let count = self.shape.and_gates;
+        // SAFETY: the call writes `count` row pairs.
+        unsafe {
+            filled(count, |rows: *mut RowPair| {
+                sys::halfgates_rows(self.handle.get(), rows.cast(), count * size_of::<RowPair>())
+            })
+        }
+    }
+
+    /// The decode bit of each output wire.
+    ///
+    /// # Errors
+    ///
+    /// [`Fault::MEMORY`].
+    #[doc(alias = "halfgates_decode_bits")]
+    pub fn decode_bits(&self) -> Result<Vec<bool>, Fault> {
+        let count = self.shape.output_wires;
+        // SAFETY: the call writes `count` bytes.
+        let bits = unsafe {
+            filled(count, |bits| {
+                sys::halfgates_decode_bits(self.handle.get(), bits, count)
+            })?
+        };
+        Ok(bits_of(bits))
+    }
+
+    /// The zero label of a wire: 16 zero bytes for a wire that no gate sets and that is no input
+    /// wire.
+    ///
+    /// # Errors
+    ///
+    /// [`Fault::BAD_ARGUMENT`] where there is no such wire.
+    #[doc(alias = "halfgates_zero_label")]
+    pub fn zero_label(&self, wire: usize) -> Result<Label, Fault> {
+        let mut label = Label::default();
+        let wire = u32::try_from(wire).map_err(|_| Fault::BAD_ARGUMENT)?;
+        // SAFETY: the call writes 16 bytes.
+        Fault::check(unsafe {
+            sys::halfgates_zero_label(self.handle.get(), wire, label.as_mut_ptr())
+        })?;
+        Ok(label)
+    }
+
+    /// The decode bit of an output wire, counted from 0 among the output wires.
+    ///
+    /// # Errors
+    ///
+    /// [`Fault::BAD_ARGUMENT`] where there is no such output.
+    #[doc(alias = "halfgates_decode_bit")]
+    pub fn decode_bit(&self, output: usize) -> Result<bool, Fault> {
+        let mut bit = 0;
+        let output = u32::try_from(output).map_err(|_| Fault::BAD_ARGUMENT)?;
+        // SAFETY: the call writes a byte.
+        Fault::check(unsafe { sys::halfgates_decode_bit(self.handle.get(), output, &mut bit) })?;
+        Ok(bit != 0)
+    }
+
+    /// The labels of these wires, for the bits of all input wires.
+    ///
+    /// Where a bit is 1 both labels of the wire are there, and so the offset: give them to nobody
+    /// who evaluates.
+    ///
+    /// # Errors
+    ///
+    /// [`Fault::WRONG_LENGTH`], [`Fault::BAD_ARGUMENT`] where there are no such wires,
+    /// [`Fault::CIRCUIT_MEMORY`], [`Fault::MEMORY`].
+    #[doc(alias = "halfgates_labels")]
+    pub fn labels(&self, bits: &[bool], wires: Range<usize>) -> Result<Vec<WireLabels>, Fault> {
+        if wires.start > wires.end || wires.end > self.shape.wires {
+            return Err(Fault::BAD_ARGUMENT);
+        }
+        let from = u32::try_from(wires.start).map_err(|_| Fault::BAD_ARGUMENT)?;
+        let count = wires.len();
+        // SAFETY: a `bool` is a byte 0 or 1, and the call writes `count` items.
+        let labels = unsafe {
+            filled(count, |labels| {
+                sys::halfgates_labels(
+                    self.handle.get(),
+                    bits.as_ptr().cast(),
+                    bits.len(),
+                    from,
+                    labels,
+                    count,
+                )
+            })?
+        };
+        Ok(labels.iter().map(WireLabels::of).collect())
+    }
+
+    /// Compares a garbled file of either version with the garbling. A file that differs is `Ok`.
+    ///
+    /// # Errors
+    ///
+    /// Codes 30 to 36, the first fault of the file; [`Fault::BAD_ARGUMENT`] where the garbling's
+    /// first AND number isn't 0.
+    #[doc(alias = "halfgates_audit")]
+    pub fn audit(&self, garbled: &[u8]) -> Result<GarbledReport, Fault> {
+        let mut report = sys::halfgates_audit_report::default();
+        // SAFETY: the call reads the file, and writes the report.
+        Fault::check(unsafe {
+            sys::halfgates_audit(
+                self.handle.get(),
+                garbled.as_ptr(),
+                garbled.len(),
+                &mut report,
+            )
+        })?;
+        Ok(GarbledReport::of(&report))
+    }
+
+    /// Compares a label file with the garbling, and returns the bits that it stands for. A file
+    /// that differs is `Ok`.
+    ///
+    /// # Errors
+    ///
+    /// Codes 30 to 36, the first fault of the file; [`Fault::JOB_MEMORY`], [`Fault::MEMORY`];
+    /// [`Fault::BAD_ARGUMENT`] where the garbling's first AND number isn't 0.
+    #[doc(alias = "halfgates_audit_labels")]
+    pub fn audit_labels(&self, labels: &[u8]) -> Result<LabelsReport, Fault> {
+        let mut report = sys::halfgates_labels_report::default();
+        let most = labels.len() / 16;
+        let mut bits: Vec<u8> = room(most)?;
+        // SAFETY: the call reads the file, and writes the report and at most `most` bytes.
+        Fault::check(unsafe {
+            let (file, length) = (labels.as_ptr(), labels.len());
+            sys::halfgates_audit_labels(
+                self.handle.get(),
+                file,
+                length,
+                bits.as_mut_ptr(),
+                most,
+                &mut report,
+            )
+        })?;
+        // SAFETY: the call, which succeeded, has written as many bytes as the report says.
+        unsafe { bits.set_len(report.count as usize) };
+        Ok(LabelsReport::of(&report, bits_of(bits)))
+    }
+}
+
+/// Shows no label.
+impl fmt::Debug for Garbling {
+    fn fmt(&self, f: &mut fmt::Formatter<'_>) -> fmt::Result {
+        f.debug_struct("Garbling").finish_non_exhaustive()
+    }
+}

@@ -1,0 +1,70 @@
+// SPDX-License-Identifier: MIT OR Apache-2.0
+
+use std::fmt;
+use std::mem::size_of;
+
+use crate::call::{bits_of, filled, Handle};
+use crate::fault::Fault;
+use crate::{sys, Label};
+
+/// What an evaluator has: a circuit, a garbled file of it, and a label for each input wire.
+///
+/// It comes from [`Circuit::bind`](crate::Circuit::bind). It can be sent to another thread, and
+/// isn't `Sync`.
+pub struct Job {
+    handle: Handle<sys::halfgates_job>,
+    output_wires: usize,
+}
+
+impl Job {
+    pub(crate) fn new(handle: Handle<sys::halfgates_job>, output_wires: usize) -> Self {
+        Self {
+            handle,
+            output_wires,
+        }
+    }
+
+    /// The bits of all output wires. A job can be evaluated again.
+    ///
+    /// # Errors
+    ///
+    /// [`Fault::JOB_MEMORY`], [`Fault::UNKNOWN_OUTPUT_LABEL`], [`Fault::MEMORY`].
+    #[doc(alias = "halfgates_evaluate")]
+    pub fn evaluate(&self) -> Result<Vec<bool>, Fault> {
+        let count = self.output_wires;
+        // SAFETY: the call writes `count` bytes.
+        let bits = unsafe {
+            filled(count, |bits| {
+                sys::halfgates_evaluate(self.handle.get(), bits, count)
+            })?
+        };
+        Ok(bits_of(bits))
+    }
+
+    /// The active label of each output wire.
+    ///
+    /// # Errors
+    ///
+    /// [`Fault::JOB_MEMORY`], [`Fault::MEMORY`].
+    #[doc(alias = "halfgates_job_output_labels")]
+    pub fn output_labels(&self) -> Result<Vec<Label>, Fault> {
+        let count = self.output_wires;
+        // SAFETY: the call writes `count` labels.
+        unsafe {
+            filled(count, |labels: *mut Label| {
+                sys::halfgates_job_output_labels(
+                    self.handle.get(),
+                    labels.cast(),
+                    count * size_of::<Label>(),
+                )
+            })
+        }
+    }
+}
+
+/// Shows no label.
+impl fmt::Debug for Job {
+    fn fmt(&self, f: &mut fmt::Formatter<'_>) -> fmt::Result {
+        f.debug_struct("Job").finish_non_exhaustive()
+    }
+}

@@ -1,0 +1,147 @@
+// SPDX-License-Identifier: MIT OR Apache-2.0
+
+//! Garbles Boolean circuits with half gates, and evaluates garbled circuits.
+//!
+//! This is a safe view of the C library `halfgates`, whose calls are proved to meet their
+//! contracts. The crate itself is tested, not proved. It is for Linux on x86-64 and needs no other
+//! crate. It links the library in the folder that `HALFGATES_LIB_DIR` names, or else the one of
+//! its repository, or else the one that pkg-config finds.
+//!
+//! # Two parties
+//!
+//! The garbler reads a circuit in Bristol Fashion, garbles it under a seed, and deals a label file
+//! for each input value. The evaluator binds the garbled file and the label files to a job, and
+//! evaluates it.
+//!
+//! ```
+//! use halfgates::{Circuit, Version};
+//!
+//! let and = "1 3\n2 1 1\n1 1\n2 1 0 1 2 AND";
+//! let seed = [0; 32]; // For this page only: take 32 random bytes.
+//!
+//! let garbling = Circuit::read(and)?.garble(&seed)?;
+//! let garbled = garbling.write(Version::V2)?;
+//! let labels = [garbling.deal(0, &[true])?, garbling.deal(1, &[true])?];
+//!
+//! let outputs = Circuit::read(and)?.bind(&garbled, &labels)?.evaluate()?;
+//! assert_eq!(outputs, [true]);
+//! # Ok::<(), halfgates::Fault>(())
+//! ```
+//!
+//! # Labels, for a protocol of one's own
+//!
+//! [`Garbling::input_labels`] are what an oblivious transfer offers. A garbling can also go on from
+//! labels that another one left, and rows can be evaluated without files:
+//!
+//! ```
+//! use halfgates::{decode, Circuit};
+//!
+//! let and = Circuit::read("1 3\n2 1 1\n1 1\n2 1 0 1 2 AND")?;
+//! let first = and.garble(&[0; 32])?;
+//!
+//! // A second AND gate, of the first one's output and a wire that both have.
+//! let zero_labels = [first.output_labels(0)?[0][0], first.input_labels(1)?[0][0]];
+//! let second = and.garble_from(&first.offset()?, &zero_labels, and.and_gates() as u64)?;
+//!
+//! // The evaluator has rows, decode bits, and one label for each wire: here those of 1 and 1.
+//! let inputs = [first.input_labels(0)?[0][1], first.input_labels(1)?[0][1]];
+//! let between = and.evaluate_labels(&first.rows()?, &inputs, 0)?;
+//! let outputs = and.evaluate_labels(&second.rows()?, &[between[0], inputs[1]], 1)?;
+//! assert_eq!(decode(&outputs, &second.decode_bits()?)?, [true]);
+//! # Ok::<(), halfgates::Fault>(())
+//! ```
+//!
+//! # Secrets
+//!
+//! Whoever has a seed or a [`Garbling`] knows every label. The vectors that calls return are not
+//! wiped when they are dropped. `SECURITY.md` of the repository says what the library promises.
+
+mod call;
+mod circuit;
+mod fault;
+mod garbling;
+mod job;
+mod report;
+mod sys;
+
+use call::{bits_of, filled};
+
+pub use circuit::Circuit;
+pub use fault::Fault;
+pub use garbling::Garbling;
+pub use job::Job;
+pub use report::{
+    EntryDifference, GarbledReport, LabelsReport, Place, RowDifference, Verdict, WireLabels,
+};
+
+/// A label of a wire. Its colour, by which rows are chosen, is the lowest bit of the first byte.
+pub type Label = [u8; 16];
+
+/// The two rows of an AND gate, in the order in which files and networks have them.
+#[repr(C)]
+#[derive(Clone, Copy, Debug, PartialEq, Eq, Hash)]
+pub struct RowPair {
+    /// The row of the generator half gate.
+    pub generator: Label,
+    /// The row of the evaluator half gate.
+    pub evaluator: Label,
+}
+
+/// The version of a garbled file.
+#[derive(Clone, Copy, Debug, PartialEq, Eq, Hash, Default)]
+pub enum Version {
+    /// Rows and decode bits.
+    V1 = 1,
+    /// The evaluator also recognises the labels of the outputs, and refuses others.
+    #[default]
+    V2 = 2,
+}
+
+/// The version of the library, such as `0.6.0`.
+#[must_use]
+#[doc(alias = "halfgates_version")]
+pub fn version() -> String {
+    // SAFETY: the call takes nothing.
+    unsafe { sys::halfgates_version() }.to_string()
+}
+
+/// Where the first fault of a text in Bristol Fashion is. `None` for a circuit.
+///
+/// # Errors
+///
+/// [`Fault::CIRCUIT_MEMORY`].
+#[doc(alias = "halfgates_locate")]
+pub fn locate(text: impl AsRef<[u8]>) -> Result<Option<Place>, Fault> {
+    let text = text.as_ref();
+    let mut place = sys::halfgates_place::default();
+    // SAFETY: the call reads the text, and writes the place.
+    Fault::check(unsafe { sys::halfgates_locate(text.as_ptr(), text.len(), &mut place) })?;
+    Ok(Place::of(&place))
+}
+
+/// The bits of active output labels: of each wire the decode bit XOR the colour of the label. Any
+/// label decodes.
+///
+/// # Errors
+///
+/// [`Fault::BAD_ARGUMENT`] where there isn't one decode bit for each label;
+/// [`Fault::CIRCUIT_MEMORY`], [`Fault::JOB_MEMORY`], [`Fault::MEMORY`].
+#[doc(alias = "halfgates_decode")]
+pub fn decode(labels: &[Label], decode_bits: &[bool]) -> Result<Vec<bool>, Fault> {
+    let count = decode_bits.len();
+    // SAFETY: the call reads the labels and the decode bits, and writes `count` bytes.
+    let bits = unsafe {
+        filled(count, |bits| {
+            let (labels, size) = (labels.as_ptr().cast(), std::mem::size_of_val(labels));
+            sys::halfgates_decode(
+                labels,
+                size,
+                decode_bits.as_ptr().cast(),
+                count,
+                bits,
+                count,
+            )
+        })?
+    };
+    Ok(bits_of(bits))
+}

@@ -1,0 +1,359 @@
+// SPDX-License-Identifier: MIT OR Apache-2.0
+//! What each call returns and refuses, on a full adder: three input values of one bit, and one
+//! output value of two.
+
+use std::thread;
+
+use halfgates::{decode, locate, Circuit, Fault, Garbling, Label, Verdict, Version};
+
+const FULL_ADDER: &str = include_str!("../../examples/full_adder.txt");
+const SEED: [u8; 32] = [7; 32];
+const BITS: [bool; 3] = [true, false, true];
+
+fn adder() -> Circuit {
+    Circuit::read(FULL_ADDER).unwrap()
+}
+
+fn garbling() -> Garbling {
+    adder().garble(&SEED).unwrap()
+}
+
+/// The label files for `BITS`.
+fn label_files(garbling: &Garbling) -> Vec<Vec<u8>> {
+    BITS.iter()
+        .enumerate()
+        .map(|(index, &bit)| garbling.deal(index, &[bit]).unwrap())
+        .collect()
+}
+
+/// The zero labels of all input wires.
+fn zero_labels(garbling: &Garbling) -> Vec<Label> {
+    (0..3)
+        .map(|wire| garbling.zero_label(wire).unwrap())
+        .collect()
+}
+
+/// The active labels of all input wires for `BITS`.
+fn active_labels(garbling: &Garbling) -> Vec<Label> {
+    garbling
+        .labels(&BITS, 0..3)
+        .unwrap()
+        .iter()
+        .map(|it| it.active)
+        .collect()
+}
+
+#[test]
+fn numbers() {
+    let circuit = adder();
+    assert_eq!(
+        (circuit.gates(), circuit.and_gates(), circuit.wires()),
+        (5, 1, 8)
+    );
+    assert_eq!((circuit.input_wires(), circuit.output_wires()), (3, 2));
+    assert_eq!(
+        (circuit.input_widths(), circuit.output_widths()),
+        (&[1, 1, 1][..], &[2][..])
+    );
+    assert_eq!(
+        (
+            circuit.garbled_size(Version::V1),
+            circuit.garbled_size(Version::V2)
+        ),
+        (113, 177)
+    );
+    assert_eq!(halfgates::version(), env!("CARGO_PKG_VERSION"));
+    assert!(format!("{circuit:?}").starts_with("Circuit { gates: 5, and_gates: 1, wires: 8, "));
+}
+
+#[test]
+fn a_garbling_shows_no_label() {
+    let garbling = garbling();
+    let job = adder()
+        .bind(
+            &garbling.write(Version::V2).unwrap(),
+            &label_files(&garbling),
+        )
+        .unwrap();
+    assert_eq!(
+        format!("{garbling:?} {job:?}"),
+        "Garbling { .. } Job { .. }"
+    );
+}
+
+#[test]
+fn the_place_of_a_fault() {
+    let broken = FULL_ADDER.replace("3 4 5 AND", "3 6 5 AND");
+    assert_eq!(Circuit::read(&broken).unwrap_err(), Fault::UNSET);
+    let place = locate(&broken).unwrap().unwrap();
+    assert_eq!(
+        (place.fault, place.line, place.column),
+        (Fault::UNSET, 7, 7)
+    );
+    assert_eq!((place.gate, place.wire), (Some(2), Some(6)));
+    let place = locate("").unwrap().unwrap();
+    assert_eq!(
+        (place.fault, place.line, place.column),
+        (Fault::CIRCUIT_TRUNCATED, 1, 1)
+    );
+    assert_eq!((place.gate, place.wire), (None, None));
+    assert_eq!(locate(FULL_ADDER), Ok(None));
+}
+
+#[test]
+fn how_faults_are_displayed() {
+    let fault = adder().plain(&[true]).unwrap_err();
+    assert_eq!(
+        (fault.code(), fault.name(), fault.is_memory()),
+        (16, "WrongLength", false)
+    );
+    assert_eq!(fault.to_string(), "fault 16 WrongLength");
+    assert_eq!(format!("{fault:?}"), "Fault(16 WrongLength)");
+    assert!(Fault::GARBLING_MEMORY.is_memory());
+}
+
+#[test]
+fn a_garbling_from_its_own_labels() {
+    let (circuit, seeded) = (adder(), garbling());
+    let (offset, zero) = (seeded.offset().unwrap(), zero_labels(&seeded));
+    let again = circuit.garble_from(&offset, &zero, 0).unwrap();
+    for version in [Version::V1, Version::V2] {
+        assert_eq!(again.write(version), seeded.write(version));
+    }
+    let later = circuit.garble_from(&offset, &zero, 5).unwrap();
+    assert_ne!(later.rows(), seeded.rows());
+    assert_eq!(later.write(Version::V2), Err(Fault::BAD_ARGUMENT));
+    assert_eq!(
+        later.audit(&seeded.write(Version::V2).unwrap()),
+        Err(Fault::BAD_ARGUMENT)
+    );
+
+    let outputs = circuit.evaluate_labels(&later.rows().unwrap(), &active_labels(&seeded), 5);
+    let decoded = decode(&outputs.unwrap(), &later.decode_bits().unwrap());
+    assert_eq!(decoded, circuit.plain(&BITS));
+}
+
+#[test]
+fn labels_that_cannot_be_garbled_from() {
+    let (circuit, seeded) = (adder(), garbling());
+    let (offset, zero) = (seeded.offset().unwrap(), zero_labels(&seeded));
+    let mut colourless = offset;
+    colourless[0] &= !1;
+    let refused = |offset, zero, first| circuit.garble_from(offset, zero, first).unwrap_err();
+    assert_eq!(refused(&colourless, &zero, 0), Fault::BAD_ARGUMENT);
+    assert_eq!(refused(&offset, &zero[1..], 0), Fault::BAD_ARGUMENT);
+    assert_eq!(refused(&offset, &zero, 1 << 62), Fault::BAD_ARGUMENT);
+    assert!(circuit.garble_from(&offset, &zero, (1 << 62) - 1).is_ok());
+}
+
+#[test]
+fn both_labels_of_a_value() {
+    let garbling = garbling();
+    let offset = garbling.offset().unwrap();
+    let is_apart = |pair: &[Label; 2]| (0..16).all(|i| pair[0][i] ^ pair[1][i] == offset[i]);
+    let inputs = garbling.input_labels(2).unwrap();
+    assert_eq!(inputs.len(), 1);
+    assert_eq!(inputs[0][0], garbling.zero_label(2).unwrap());
+    let outputs = garbling.output_labels(0).unwrap();
+    assert_eq!(outputs.len(), 2);
+    assert_eq!(outputs[1][0], garbling.zero_label(7).unwrap());
+    assert!(inputs.iter().chain(&outputs).all(is_apart));
+    for index in [3, usize::MAX] {
+        assert_eq!(garbling.input_labels(index), Err(Fault::NO_SUCH_VALUE));
+        assert_eq!(garbling.output_labels(index), Err(Fault::NO_SUCH_VALUE));
+    }
+}
+
+#[test]
+fn numbers_that_nothing_has() {
+    let (circuit, garbling) = (adder(), garbling());
+    for number in [8, 1 << 32, usize::MAX] {
+        assert_eq!(garbling.zero_label(number), Err(Fault::BAD_ARGUMENT));
+        assert_eq!(garbling.decode_bit(number), Err(Fault::BAD_ARGUMENT));
+        assert_eq!(
+            garbling.labels(&BITS, 0..number + usize::from(number == 8)),
+            Err(Fault::BAD_ARGUMENT)
+        );
+        assert_eq!(
+            circuit.deal(&SEED, number, &[true]),
+            Err(Fault::NO_SUCH_VALUE)
+        );
+        assert_eq!(garbling.deal(number, &[true]), Err(Fault::NO_SUCH_VALUE));
+        assert_eq!(
+            circuit.label_file(number, &[Label::default()]),
+            Err(Fault::NO_SUCH_VALUE)
+        );
+    }
+    assert_eq!(garbling.labels(&BITS, 8..8), Ok(Vec::new()));
+    assert_eq!(garbling.labels(&[true], 0..8), Err(Fault::WRONG_LENGTH));
+    assert_eq!(circuit.deal(&SEED, 0, &[]), Err(Fault::WRONG_LENGTH));
+    assert_eq!(garbling.deal(0, &BITS), Err(Fault::WRONG_LENGTH));
+    assert_eq!(circuit.label_file(0, &[]), Err(Fault::BAD_ARGUMENT));
+}
+
+#[test]
+fn buffers_of_each_size() {
+    let garbling = garbling();
+    let file = garbling.write(Version::V2).unwrap();
+    let mut buffer = vec![9; 200];
+    assert_eq!(garbling.write_into(Version::V2, &mut buffer), Ok(177));
+    assert_eq!((&buffer[..177], &buffer[177..]), (&file[..], &[9; 23][..]));
+    let mut short = [9; 176];
+    assert_eq!(
+        garbling.write_into(Version::V2, &mut short),
+        Err(Fault::SMALL_BUFFER)
+    );
+    assert_eq!(short, [9; 176]);
+    assert_eq!(
+        garbling.write_into(Version::V1, &mut []),
+        Err(Fault::SMALL_BUFFER)
+    );
+}
+
+#[test]
+fn files_that_cannot_be_bound() {
+    let (circuit, garbling) = (adder(), garbling());
+    let (garbled, files) = (garbling.write(Version::V2).unwrap(), label_files(&garbling));
+    let refused = |garbled: &[u8], files: &[&[u8]]| circuit.bind(garbled, files).unwrap_err();
+    let files: Vec<&[u8]> = files.iter().map(Vec::as_slice).collect();
+    assert_eq!(refused(b"X", &files), Fault::BAD_MAGIC);
+    assert_eq!(refused(&[], &files), Fault::FILE_TRUNCATED);
+    assert_eq!(refused(&garbled, &files[..2]), Fault::MISSING_VALUE);
+    assert_eq!(refused(&garbled, &[]), Fault::MISSING_VALUE);
+    assert_eq!(
+        refused(&garbled, &[files[0], files[0]]),
+        Fault::DOUBLE_VALUE
+    );
+    assert_eq!(
+        refused(&garbled, &[files[0], &files[1][..31]]),
+        Fault::FILE_TRUNCATED
+    );
+
+    let reversed: Vec<&[u8]> = files.iter().rev().copied().collect();
+    assert_eq!(
+        circuit.bind(&garbled, &reversed).unwrap().evaluate(),
+        circuit.plain(&BITS)
+    );
+}
+
+#[test]
+fn an_output_label_that_nothing_recognises() {
+    let (circuit, garbling) = (adder(), garbling());
+    let mut files = label_files(&garbling);
+    files[1][16..].fill(0xaa);
+    let job = circuit
+        .bind(&garbling.write(Version::V2).unwrap(), &files)
+        .unwrap();
+    assert_eq!(job.evaluate(), Err(Fault::UNKNOWN_OUTPUT_LABEL));
+    assert_eq!(job.output_labels().unwrap().len(), 2);
+}
+
+#[test]
+fn rows_and_labels_of_a_wrong_number() {
+    let (circuit, garbling) = (adder(), garbling());
+    let (rows, labels) = (garbling.rows().unwrap(), active_labels(&garbling));
+    let refused = Err(Fault::BAD_ARGUMENT);
+    assert_eq!(circuit.evaluate_labels(&[], &labels, 0), refused);
+    assert_eq!(circuit.evaluate_labels(&rows, &labels[1..], 0), refused);
+    assert_eq!(circuit.evaluate_labels(&rows, &labels, 1 << 62), refused);
+    assert_eq!(decode(&labels, &[true]), Err(Fault::BAD_ARGUMENT));
+    assert_eq!(decode(&[], &[]), Ok(Vec::new()));
+}
+
+#[test]
+fn audits() {
+    let garbling = garbling();
+    let honest = garbling.write(Version::V2).unwrap();
+    let report = garbling.audit(&honest).unwrap();
+    assert_eq!(
+        (report.is_honest, report.version, report.row),
+        (true, 2, None)
+    );
+    assert_eq!(garbling.audit(&honest[1..]), Err(Fault::BAD_MAGIC));
+
+    let other = adder().garble(&[8; 32]).unwrap();
+    let report = other.audit(&honest).unwrap();
+    let row = report.row.unwrap();
+    assert_eq!(
+        (report.is_honest, report.has_digest, report.has_counts),
+        (false, true, true)
+    );
+    assert_eq!((row.row, row.gate, row.wire), (0, 2, 5));
+    assert!(row.generator || row.evaluator);
+    assert_eq!(report.entry.unwrap().output, 0);
+
+    let and = Circuit::read("1 3\n2 1 1\n1 1\n2 1 0 1 2 AND")
+        .unwrap()
+        .garble(&SEED)
+        .unwrap();
+    let report = and.audit(&honest).unwrap();
+    assert_eq!(
+        (report.has_digest, report.has_counts, report.row),
+        (false, false, None)
+    );
+}
+
+#[test]
+fn audits_of_label_files() {
+    let garbling = garbling();
+    let files = label_files(&garbling);
+    let report = garbling.audit_labels(&files[0]).unwrap();
+    assert_eq!(
+        (report.index, report.verdict),
+        (0, Verdict::Honest(vec![true]))
+    );
+    let mut wrong = files[2].clone();
+    wrong[31] ^= 1;
+    let report = garbling.audit_labels(&wrong).unwrap();
+    assert_eq!((report.index, report.bits()), (2, None));
+    assert_eq!(report.verdict, Verdict::WrongLabel { wire: 2 });
+    wrong[8] = 3;
+    assert_eq!(
+        garbling.audit_labels(&wrong).unwrap().verdict,
+        Verdict::NoSuchValue
+    );
+    assert_eq!(
+        garbling.audit_labels(&wrong[..31]),
+        Err(Fault::FILE_TRUNCATED)
+    );
+    let wide = Circuit::read("0 3\n2 2 1\n0")
+        .unwrap()
+        .garble(&SEED)
+        .unwrap();
+    assert_eq!(
+        wide.audit_labels(&files[0]).unwrap().verdict,
+        Verdict::WrongWidth
+    );
+}
+
+#[test]
+fn shared_circuits_on_threads() {
+    let circuit = adder();
+    let expected = garbling().write(Version::V2);
+    let threads: Vec<_> = (0..4)
+        .map(|_| circuit.share().unwrap())
+        .map(|shared| thread::spawn(move || shared.garble(&SEED)?.write(Version::V2)))
+        .collect();
+    assert_eq!(circuit.garble(&SEED).unwrap().write(Version::V2), expected);
+    for thread in threads {
+        assert_eq!(thread.join().unwrap(), expected);
+    }
+}
+
+#[test]
+fn handles_dropped_in_any_order_and_on_other_threads() {
+    let circuit = adder();
+    let shared = circuit.share().unwrap();
+    let garbling = circuit.garble(&SEED).unwrap();
+    let job = circuit
+        .bind(
+            &garbling.write(Version::V2).unwrap(),
+            &label_files(&garbling),
+        )
+        .unwrap();
+    let plain = circuit.plain(&BITS);
+    drop(circuit);
+    drop(garbling);
+    assert_eq!(thread::spawn(move || job.evaluate()).join().unwrap(), plain);
+    assert_eq!(shared.plain(&BITS), plain);
+}

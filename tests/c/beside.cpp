@@ -1,0 +1,245 @@
+/*
+ * The C++ view beside the C calls: each method returns what its call writes, for each wire, value and output.
+ *
+ *   beside CIRCUIT FORGED..
+ *
+ * CIRCUIT has input values of 1 and 2 wires, output values of 2 and 1, and three AND gates. FORGED are garbled files of
+ * it under a seed of bytes 3, each with a part that is wrong.
+ */
+#include "check.h"
+#include <fstream>
+#include <halfgates.hpp>
+#include <iterator>
+#include <string>
+
+namespace {
+
+using halfgates::bytes;
+using halfgates::label;
+
+enum { WIRES = 9, INPUTS = 3, OUTPUTS = 3, ANDS = 3 };
+
+const bytes SEED(32, 3), OTHER_SEED(32, 4);
+
+halfgates::seed seed_of(const bytes &it) {
+    return halfgates::seed::from_bytes(it);
+}
+
+/* The bits of a number, the lowest first. */
+std::array<std::uint8_t, INPUTS> bits_of(std::uint8_t number) {
+    return {{std::uint8_t(number & 1), std::uint8_t(number >> 1 & 1), std::uint8_t(number >> 2 & 1)}};
+}
+
+bool are_same(const void *one, const void *other, std::size_t size) {
+    return memcmp(one, other, size) == 0;
+}
+
+std::string read_file(const char *name) {
+    std::ifstream file(name, std::ios::binary);
+    CHECK(file);
+    return {std::istreambuf_iterator<char>(file), std::istreambuf_iterator<char>()};
+}
+
+template <class Call>
+void throws(std::int32_t code, Call call) {
+    try {
+        call();
+    } catch (const halfgates::fault &fault) {
+        CHECK(fault.code() == code);
+        return;
+    }
+    CHECK(!"it throws");
+}
+
+void check_circuit(halfgates::circuit &circuit) {
+    halfgates_numbers numbers;
+    std::uint32_t widths[2];
+    std::uint8_t digest[32];
+    CHECK_CODE(0, halfgates_circuit_numbers(circuit.get(), &numbers));
+    CHECK(are_same(&numbers, &circuit.numbers(), sizeof numbers) && numbers.wires == WIRES);
+    CHECK_CODE(0, halfgates_circuit_input_widths(circuit.get(), widths, 2));
+    CHECK(circuit.input_widths() == std::vector<std::uint32_t>(widths, widths + 2) && widths[1] == 2);
+    CHECK_CODE(0, halfgates_circuit_output_widths(circuit.get(), widths, 2));
+    CHECK(circuit.output_widths() == std::vector<std::uint32_t>(widths, widths + 2) && widths[0] == 2);
+    CHECK_CODE(0, halfgates_circuit_digest(circuit.get(), digest));
+    CHECK(are_same(digest, circuit.digest().data(), sizeof digest));
+    for (std::uint32_t version = 1; version <= 2; version++)
+        CHECK(circuit.garbled_size(version) == halfgates_garbled_size(circuit.get(), version));
+    CHECK(circuit.garbled_size() == circuit.garbled_size(2));
+}
+
+void check_wires(halfgates::garbling &garbling) {
+    label expected;
+    for (std::uint32_t wire = 0; wire < WIRES; wire++) {
+        CHECK_CODE(0, halfgates_zero_label(garbling.get(), wire, expected.data()));
+        CHECK(garbling.zero_label(wire) == expected);
+    }
+    CHECK_CODE(0, halfgates_offset(garbling.get(), expected.data()));
+    CHECK(garbling.offset() == expected && (expected[0] & 1) == 1);
+    const bytes bits = garbling.decode_bits();
+    CHECK(bits.size() == OUTPUTS);
+    for (std::uint32_t output = 0; output < OUTPUTS; output++) {
+        std::uint8_t bit;
+        CHECK_CODE(0, halfgates_decode_bit(garbling.get(), output, &bit));
+        CHECK(garbling.decode_bit(output) == (bit != 0) && bits[output] == bit);
+    }
+}
+
+void check_labels(halfgates::garbling &garbling) {
+    const bytes bits = {1, 0, 1};
+    halfgates_wire_labels expected[WIRES];
+    CHECK_CODE(0, halfgates_labels(garbling.get(), bits.data(), bits.size(), 0, expected, WIRES));
+    for (std::uint32_t from = 0; from <= WIRES; from++)
+        for (std::size_t count = 0; count <= WIRES - from; count++) {
+            const std::vector<halfgates_wire_labels> found = garbling.labels(bits, from, count);
+            CHECK(found.size() == count);
+            for (std::size_t i = 0; i < count; i++)
+                CHECK(are_same(&found[i], &expected[from + i], sizeof found[i]));
+        }
+}
+
+void check_pairs(halfgates::garbling &garbling) {
+    std::uint32_t input = 0, output = WIRES - OUTPUTS;
+    for (std::uint32_t index = 0; index < 2; index++) {
+        const halfgates::label_pairs in = garbling.input_labels(index), out = garbling.output_labels(index);
+        CHECK(in.zero.size() == 1 + index && in.one.size() == in.zero.size());
+        CHECK(out.zero.size() == 2 - index && out.one.size() == out.zero.size());
+        const label offset = garbling.offset();
+        for (std::size_t i = 0; i < in.zero.size(); i++) {
+            CHECK(in.zero[i] == garbling.zero_label(input++));
+            for (int byte = 0; byte < 16; byte++)
+                CHECK(in.one[i][byte] == (in.zero[i][byte] ^ offset[byte]));
+        }
+        for (std::size_t i = 0; i < out.zero.size(); i++) {
+            CHECK(out.zero[i] == garbling.zero_label(output++));
+            for (int byte = 0; byte < 16; byte++)
+                CHECK(out.one[i][byte] == (out.zero[i][byte] ^ offset[byte]));
+        }
+    }
+    throws(42, [&] { (void)garbling.input_labels(2); });
+    throws(42, [&] { (void)garbling.output_labels(2); });
+}
+
+void check_files(halfgates::circuit &circuit, halfgates::garbling &garbling) {
+    for (std::uint32_t version = 1; version <= 2; version++) {
+        bytes expected(circuit.garbled_size(version)), room(expected.size() + 1, 0xA5);
+        std::size_t written;
+        CHECK_CODE(0, halfgates_garbling_write(garbling.get(), version, expected.data(), expected.size(), &written));
+        CHECK(garbling.write(version) == expected);
+        CHECK(garbling.write_into(room.data(), room.size(), version) == expected.size());
+        CHECK(are_same(room.data(), expected.data(), expected.size()) && room.back() == 0xA5);
+    }
+    bytes rows(32 * ANDS);
+    CHECK_CODE(0, halfgates_rows(garbling.get(), rows.data(), rows.size()));
+    CHECK(garbling.rows() == rows);
+    const bytes file = garbling.write(1);
+    CHECK(are_same(file.data() + 48, rows.data(), rows.size()));
+}
+
+/* Each field of a report is what the C call finds. */
+halfgates_audit_report check_audit(halfgates::garbling &garbling, halfgates::view file) {
+    halfgates_audit_report expected;
+    CHECK_CODE(0, halfgates_audit(garbling.get(), file.data(), file.size(), &expected));
+    const halfgates_audit_report found = garbling.audit(file);
+    CHECK(are_same(&found, &expected, sizeof found));
+    return found;
+}
+
+void check_audits(halfgates::circuit &circuit, halfgates::garbling &garbling, int count, char **forged) {
+    halfgates::circuit other(std::string("1 3\n2 1 1\n1 1\n\n2 1 0 1 2 AND\n"));
+    const bytes first = garbling.write(1), second = garbling.write(2), another = other.garble(seed_of(SEED)).write();
+    CHECK(check_audit(garbling, first).honest && check_audit(garbling, second).honest);
+    CHECK(!check_audit(garbling, another).counts);
+    CHECK(count > 0);
+    for (int i = 0; i < count; i++) {
+        const std::string file = read_file(forged[i]);
+        CHECK(!check_audit(garbling, file).honest);
+    }
+    for (std::uint32_t index = 0; index < 2; index++) {
+        const bytes bits(index + 1, 1), file = circuit.deal(seed_of(SEED), index, bits);
+        CHECK(garbling.audit_labels(file).bits == bits && garbling.audit_labels(file).report.verdict == 0);
+        CHECK(garbling.deal(index, bits) == file);
+        const bytes wrong = circuit.deal(seed_of(OTHER_SEED), index, bits);
+        std::uint8_t room[4];
+        halfgates_labels_report expected;
+        CHECK_CODE(0, halfgates_audit_labels(garbling.get(), wrong.data(), wrong.size(), room, 4, &expected));
+        const halfgates::labels_audit found = garbling.audit_labels(wrong);
+        CHECK(are_same(&found.report, &expected, sizeof expected) && found.bits.empty());
+        CHECK(found.report.verdict == HALFGATES_WRONG_LABEL && found.report.index == index);
+    }
+}
+
+/* Label files of different sizes, in both orders; those of another seed are refused. */
+void check_jobs(halfgates::circuit &circuit, halfgates::garbling &garbling) {
+    for (std::uint8_t number = 0; number < 8; number++) {
+        const std::array<std::uint8_t, INPUTS> bits = bits_of(number);
+        const bytes first = garbling.deal(0, {bits[0]}), second = garbling.deal(1, {bits[1], bits[2]});
+        bytes expected(OUTPUTS), joined = second;
+        CHECK_CODE(0, halfgates_plain(circuit.get(), bits.data(), INPUTS, expected.data(), OUTPUTS));
+        CHECK(circuit.plain(bits) == expected);
+        joined.insert(joined.end(), first.begin(), first.end());
+        for (std::uint32_t version = 1; version <= 2; version++) {
+            const bytes garbled = garbling.write(version);
+            CHECK(circuit.bind(garbled, {first, second}).evaluate() == expected);
+            CHECK(circuit.bind(garbled, {second, first}).evaluate() == expected);
+            halfgates::job job = circuit.bind(garbled, joined, {second.size(), first.size()});
+            CHECK(job.evaluate() == expected);
+            CHECK(halfgates::decode(job.output_labels(), garbling.decode_bits()) == expected);
+        }
+    }
+    const bytes other[] = {circuit.deal(seed_of(OTHER_SEED), 0, {1}), circuit.deal(seed_of(OTHER_SEED), 1, {1, 1})};
+    halfgates::job job = circuit.bind(garbling.write(2), {other[0], other[1]});
+    throws(48, [&] { (void)job.evaluate(); });
+}
+
+/* From labels of one's own, under a first AND number of one's own. */
+void check_own_labels(halfgates::circuit &circuit) {
+    const std::uint64_t first = (1ULL << 62) - ANDS;
+    const label offset = {{0x35, 1, 2}};
+    halfgates::labels zeros(INPUTS), active(INPUTS);
+    for (std::uint8_t wire = 0; wire < INPUTS; wire++)
+        zeros[wire].fill(wire + 1);
+    halfgates::garbling garbling = circuit.garble_from(offset, zeros, first);
+    CHECK(garbling.offset() == offset);
+    for (std::uint8_t number = 0; number < 8; number++) {
+        const std::array<std::uint8_t, INPUTS> bits = bits_of(number);
+        halfgates::label_pairs pairs[] = {garbling.input_labels(0), garbling.input_labels(1)};
+        active[0] = bits[0] ? pairs[0].one[0] : pairs[0].zero[0];
+        active[1] = bits[1] ? pairs[1].one[0] : pairs[1].zero[0];
+        active[2] = bits[2] ? pairs[1].one[1] : pairs[1].zero[1];
+        const halfgates::labels outputs = circuit.evaluate_labels(garbling.rows(), active, first);
+        CHECK(halfgates::decode(outputs, garbling.decode_bits()) == circuit.plain(bits));
+        const halfgates::label_pairs last = garbling.output_labels(1);
+        CHECK(outputs[2] == (circuit.plain(bits)[2] ? last.one[0] : last.zero[0]));
+    }
+    CHECK(circuit.garble_from(offset, zeros, 0).rows() != garbling.rows());
+    CHECK(circuit.label_file(1, halfgates::labels{zeros[1], zeros[2]}) == garbling.deal(1, {0, 0}));
+    throws(60, [&] { (void)circuit.garble_from(offset, zeros, first + 1); });
+    throws(60, [&] { (void)circuit.garble_from(label(), zeros, first); });
+    throws(60, [&] { (void)circuit.garble_from(offset, bytes(47), first); });
+    throws(60, [&] { (void)garbling.write(); });
+    throws(60, [&] { (void)circuit.evaluate_labels(garbling.rows(), zeros, first + 1); });
+    throws(60, [&] { (void)halfgates::decode(zeros, {1}); });
+    throws(15, [&] { (void)halfgates::decode(zeros, {1, 0, 2}); });
+    throws(42, [&] { (void)circuit.label_file(2, zeros); });
+}
+
+} // namespace
+
+int main(int count, char **words) {
+    CHECK(count > 1);
+    const std::string text = read_file(words[1]);
+    halfgates::circuit circuit(text);
+    halfgates::garbling garbling = circuit.garble(seed_of(SEED));
+    check_circuit(circuit);
+    check_wires(garbling);
+    check_labels(garbling);
+    check_pairs(garbling);
+    check_files(circuit, garbling);
+    check_audits(circuit, garbling, count - 2, words + 2);
+    check_jobs(circuit, garbling);
+    check_own_labels(circuit);
+    CHECK(halfgates::locate(text).fault == HALFGATES_OK);
+    CHECK(halfgates::locate(std::string("1 5 x")).column == 5);
+    return 0;
+}

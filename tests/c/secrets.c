@@ -1,0 +1,183 @@
+/*
+ * No branch and no address depends on a secret: seeds, offsets, labels, and bits of values.
+ *
+ *   valgrind --tool=memcheck secrets CIRCUIT
+ *
+ * Secrets are marked as undefined, and memcheck reports each branch and each address that depends on undefined bytes.
+ * Where a call's result depends on them, as whether each byte of a value is 0 or 1, it may decide that once: CALL says
+ * so, and all other calls decide nothing. CIRCUIT is the text of a circuit.
+ */
+#include "check.h"
+
+#include <valgrind/memcheck.h>
+
+static void hide(const void *at, size_t size) {
+    (void)VALGRIND_MAKE_MEM_UNDEFINED(at, size);
+}
+
+static void show(const void *at, size_t size) {
+    (void)VALGRIND_MAKE_MEM_DEFINED(at, size);
+}
+
+/* Makes a call that succeeds, in which at most this many decisions depend on secrets. */
+#define CALL(decisions, call) \
+    do { \
+        const unsigned before = VALGRIND_COUNT_ERRORS; \
+        int32_t code = (call); \
+        const unsigned found = VALGRIND_COUNT_ERRORS - before; \
+        show(&code, sizeof code); \
+        if (found > (decisions)) { \
+            fprintf(stderr, "%s:%d: %s: %u branches or addresses depend on secrets\n", __FILE__, __LINE__, #call, \
+                    found); \
+            exit(1); \
+        } \
+        CHECK_CODE(HALFGATES_OK, code); \
+    } while (0)
+
+/* What is planted: bits as the library once read them, and a table that is looked up by a secret. */
+static int32_t planted_branches(const uint8_t *bytes, size_t count, uint8_t *bits) {
+    for (size_t i = 0; i < count; i++) {
+        if (bytes[i] > 1)
+            return HALFGATES_BAD_DIGIT;
+        bits[i] = bytes[i];
+    }
+    return HALFGATES_OK;
+}
+
+static int32_t planted_address(const uint8_t *bytes, uint8_t *byte) {
+    static const uint8_t table[256] = {7};
+    *byte = table[bytes[0]];
+    return HALFGATES_OK;
+}
+
+static void check_that_memcheck_reports(void) {
+    uint8_t bytes[8] = {1, 0, 1}, bits[8], byte;
+    unsigned before = VALGRIND_COUNT_ERRORS;
+    hide(bytes, sizeof bytes);
+    CHECK(planted_branches(bytes, sizeof bytes, bits) == HALFGATES_OK);
+    CHECK(VALGRIND_COUNT_ERRORS - before == sizeof bytes);
+    before = VALGRIND_COUNT_ERRORS;
+    hide(bytes, sizeof bytes);
+    CHECK(planted_address(bytes, &byte) == HALFGATES_OK);
+    CHECK(VALGRIND_COUNT_ERRORS - before == 1);
+}
+
+static uint8_t *take(size_t size) {
+    uint8_t *at = malloc(size + 1);
+    CHECK(at != NULL);
+    return at;
+}
+
+static char *read_file(const char *path, size_t *size) {
+    FILE *file = fopen(path, "rb");
+    char *text;
+    CHECK(file != NULL && fseek(file, 0, SEEK_END) == 0);
+    *size = (size_t)ftell(file);
+    rewind(file);
+    text = (char *)take(*size);
+    CHECK(fread(text, 1, *size, file) == *size);
+    fclose(file);
+    return text;
+}
+
+/* The values of a circuit, and what it answers. */
+struct values {
+    halfgates_numbers numbers;
+    uint32_t widths[256];
+    uint8_t *bits, *outputs;
+};
+
+static struct values make_values(halfgates_circuit *circuit) {
+    struct values it;
+    CALL(0, halfgates_circuit_numbers(circuit, &it.numbers));
+    CALL(0, halfgates_circuit_input_widths(circuit, it.widths, it.numbers.input_values));
+    it.bits = take(it.numbers.input_wires);
+    it.outputs = take(it.numbers.output_wires);
+    for (uint32_t i = 0; i < it.numbers.input_wires; i++)
+        it.bits[i] = i % 3 == 1;
+    hide(it.bits, it.numbers.input_wires);
+    CALL(1, halfgates_plain(circuit, it.bits, it.numbers.input_wires, it.outputs, it.numbers.output_wires));
+    return it;
+}
+
+/* Deals a label file for each value, one after another, and writes their sizes. Their labels are secret. */
+static uint8_t *deal(halfgates_circuit *circuit, const uint8_t *seed, const struct values *values, size_t *sizes,
+                     size_t *size) {
+    size_t bit = 0, written;
+    uint8_t *files = take(16 * (size_t)(values->numbers.input_values + values->numbers.input_wires));
+    *size = 0;
+    for (uint32_t i = 0; i < values->numbers.input_values; i++) {
+        const size_t width = values->widths[i];
+        sizes[i] = 16 + 16 * width;
+        CALL(1, halfgates_deal(circuit, seed, i, values->bits + bit, width, files + *size, sizes[i], &written));
+        bit += width;
+        *size += sizes[i];
+    }
+    return files;
+}
+
+/* The evaluator's calls. What is sent to it is public, but for the labels. */
+static void evaluate(halfgates_circuit *circuit, uint32_t version, const uint8_t *file, size_t file_size,
+                     const uint8_t *labels, size_t labels_size, const size_t *sizes, const struct values *values) {
+    const size_t count = values->numbers.output_wires, files = values->numbers.input_values;
+    uint8_t *outputs = take(count);
+    halfgates_job *job = NULL;
+    CALL(0, halfgates_job_bind(circuit, file, file_size, labels, labels_size, sizes, files, &job));
+    CALL(version == 2, halfgates_evaluate(job, outputs, count));
+    show(outputs, count);
+    CHECK(memcmp(outputs, values->outputs, count) == 0);
+    halfgates_job_free(job);
+    free(outputs);
+}
+
+static void check_version(halfgates_circuit *circuit, halfgates_garbling *garbling, uint32_t version,
+                          const uint8_t *labels, size_t labels_size, const size_t *sizes,
+                          const struct values *values) {
+    const size_t size = halfgates_garbled_size(circuit, version);
+    size_t written;
+    uint8_t *file = take(size);
+    CALL(0, halfgates_garbling_write(garbling, version, file, size, &written));
+    show(file, size);
+    evaluate(circuit, version, file, size, labels, labels_size, sizes, values);
+    free(file);
+}
+
+/* The garbler's calls that send nothing. */
+static void look(halfgates_garbling *garbling, const struct values *values) {
+    const size_t wires = values->numbers.wires;
+    halfgates_wire_labels *labels = malloc(wires * sizeof *labels);
+    uint8_t label[16], bit;
+    CHECK(labels != NULL);
+    CALL(0, halfgates_zero_label(garbling, 0, label));
+    CALL(0, halfgates_decode_bit(garbling, 0, &bit));
+    CALL(1, halfgates_labels(garbling, values->bits, values->numbers.input_wires, 0, labels, wires));
+    free(labels);
+}
+
+int main(int count, char **words) {
+    uint8_t seed[32];
+    size_t size, sizes[256], labels_size;
+    CHECK(count == 2 && RUNNING_ON_VALGRIND);
+    check_that_memcheck_reports();
+
+    char *text = read_file(words[1], &size);
+    halfgates_circuit *circuit = NULL;
+    halfgates_garbling *garbling = NULL;
+    CALL(0, halfgates_circuit_read((const uint8_t *)text, size, &circuit));
+    struct values values = make_values(circuit);
+    show(values.outputs, values.numbers.output_wires);
+
+    for (size_t i = 0; i < sizeof seed; i++)
+        seed[i] = (uint8_t)(7 * i + 1);
+    hide(seed, sizeof seed);
+    CALL(0, halfgates_garble(circuit, seed, &garbling));
+    look(garbling, &values);
+    uint8_t *labels = deal(circuit, seed, &values, sizes, &labels_size);
+    for (uint32_t version = 1; version <= 2; version++)
+        check_version(circuit, garbling, version, labels, labels_size, sizes, &values);
+
+    halfgates_garbling_free(garbling);
+    halfgates_circuit_free(circuit);
+    free(values.bits), free(values.outputs), free(labels), free(text);
+    return 0;
+}

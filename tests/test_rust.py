@@ -1,0 +1,117 @@
+"""The crate for Rust in rust/: cargo tests it over the library under test, and its declarations are the header's."""
+import os
+import re
+import shutil
+import subprocess
+import tempfile
+import unittest
+from pathlib import Path
+
+from library import INCLUDE, LIB_DIR, demand_library
+from program import EXAMPLES, TOP
+
+CRATE = TOP / "rust"
+LESS = EXAMPLES / "less8.txt"
+
+# The types of the header's parameters, without pointers.
+TYPES = {
+    "uint8_t": "u8",
+    "uint32_t": "u32",
+    "uint64_t": "u64",
+    "int32_t": "i32",
+    "size_t": "usize",
+}
+
+
+def rust_of(parameter):
+    """The type in Rust of a parameter of C, such as `const uint8_t seed[32]`."""
+    base = re.sub(r"^const ", "", parameter).split()[0]
+    pointers = parameter.count("*") + parameter.count("[")
+    inner = "*const " if parameter.startswith("const ") else "*mut "
+    return "*mut " * (pointers - 1) + inner * bool(pointers) + TYPES.get(base, base)
+
+
+def functions_of_header():
+    text = re.sub(r"/\*.*?\*/", "", (INCLUDE / "halfgates.h").read_text(), flags=re.S)
+    for returned, name, parameters in re.findall(r"^(\w+) (halfgates_\w+)\(([^)]*)\);", text, re.M):
+        found = [rust_of(" ".join(it.split())) for it in parameters.split(",") if it != "void"]
+        yield name, (found, None if returned == "void" else rust_of(returned))
+
+
+def functions_of_crate():
+    text = (CRATE / "src/sys.rs").read_text()
+    for name, parameters, returned in re.findall(r"pub fn (\w+)\(([^)]*)\)(?: -> (\w+))?;", text):
+        yield name, (re.findall(r": ([^,\n]+)", parameters), returned or None)
+
+
+class Declarations(unittest.TestCase):
+    def test_functions(self):
+        found = dict(functions_of_header())
+        self.assertGreater(len(found), 20)
+        self.assertEqual(dict(functions_of_crate()), found)
+
+    def test_codes(self):
+        header = re.findall(r"^ +HALFGATES_(\w+) = (\d+)", (INCLUDE / "halfgates.h").read_text(), re.M)
+        crate = re.findall(r"^ +([A-Z_]+) = (\d+) \"", (CRATE / "src/fault.rs").read_text(), re.M)
+        self.assertEqual([("OK", "0"), *crate, ("WRONG_LABEL", "63")], header)
+
+    def test_version(self):
+        files = CRATE / "Cargo.toml", CRATE / "Cargo.lock", TOP / "python/pyproject.toml"
+        said = {re.search(r'^name = "halfgates"\nversion = "(.*)"$', it.read_text(), re.M)[1] for it in files}
+        self.assertEqual(len(said), 1, said)
+
+
+@unittest.skipUnless(shutil.which("cargo"), "there is no cargo: the crate for Rust is not tested")
+class Cargo(unittest.TestCase):
+    @classmethod
+    def setUpClass(cls):
+        demand_library()
+        folder = tempfile.TemporaryDirectory()
+        cls.addClassCleanup(folder.cleanup)
+        cls.folder = Path(folder.name).resolve()
+
+    def cargo(self, *words, folder=CRATE, **environment):
+        """What cargo prints where it runs with the library under test. Warnings are errors."""
+        environment = {
+            **{name: it for name, it in os.environ.items() if not name.startswith("HALFGATES_")},
+            **{"HALFGATES_LIB_DIR": str(LIB_DIR), "CARGO_TARGET_DIR": str(self.folder / "target")},
+            **{"RUSTDOCFLAGS": "-D warnings", **environment},
+        }
+        how = {"cwd": folder, "env": environment, "capture_output": True, "text": True, "check": False}
+        done = subprocess.run(["cargo", words[0], "--offline", *words[1:]], **how)
+        self.assertEqual(done.returncode, 0, f"{done.stdout}\n{done.stderr}")
+        return done.stdout
+
+    def run_example(self, **how):
+        words = "--quiet", "--example", "two_parties", LESS
+        self.assertEqual(self.cargo("run", *words, "7", "9", **how), "1\n")
+        self.assertEqual(self.cargo("run", *words, "9", "7", **how), "0\n")
+
+    def test_its_tests(self):
+        counts = re.findall(r"^test result: ok\. (\d+) passed; 0 failed; 0 ignored", self.cargo("test"), re.M)
+        self.assertGreater(sum(map(int, counts)), 20)
+
+    def test_its_documents(self):
+        self.cargo("doc", "--no-deps")
+
+    @unittest.skipUnless(shutil.which("cargo-clippy"), "there is no cargo-clippy")
+    def test_clippy(self):
+        self.cargo("clippy", "--all-targets", "--", "-D", "warnings", "-A", "clippy::pedantic")
+
+    def test_the_archive_and_the_shared_library(self):
+        self.run_example()
+        self.run_example(HALFGATES_DYNAMIC="1")
+
+    @unittest.skipUnless(shutil.which("pkg-config"), "there is no pkg-config")
+    def test_what_pkg_config_finds(self):
+        """In a copy of the crate alone."""
+        copy = self.folder / "copy/rust"
+        shutil.copytree(CRATE, copy, ignore=shutil.ignore_patterns("target"))
+        pc_file = f"Name: halfgates\nDescription: under test\nVersion: 0\nLibs: -L{LIB_DIR} -lhalfgates\n"
+        (copy.parent / "halfgates.pc").write_text(pc_file)
+        paths = {"PKG_CONFIG_PATH": str(copy.parent), "LD_LIBRARY_PATH": str(LIB_DIR)}
+        self.run_example(folder=copy, HALFGATES_LIB_DIR="", **paths)
+
+
+if __name__ == "__main__":
+    unittest.main()
