@@ -169,6 +169,23 @@ fn work_together<
     requires { AreWorkersOf board.now workers.old }
     ensures { AreWorkersOf board.now workers.new }
 {
+    all_work(rt, board, workers, observer);
+    if let Some((last, others)) = workers.split_last_mut() {
+        last.finish(board, observer, others);
+    }
+}
+
+/// All workers work, each on a thread.
+fn all_work<
+    A: Allocator + Send + Sync,
+    B: Allocator + Send + Sync,
+    C: Allocator + Send + Sync,
+    H: Gatehouse + Sync,
+    R: Threads + Sync,
+>(rt: &R, board: &EvalBoard<'_, '_, B, A, C>, workers: &mut [Worker<B, A, C>], observer: &H)
+    requires { AreWorkersOf board.now workers.old }
+    ensures { AreWorkersOf board.now workers.new }
+{
     let count = workers.len().max(1);
     thread::for_each_mut(
         rt,
@@ -179,7 +196,4 @@ fn work_together<
             ensures { IsWorkerOf board.entry.now worker.exit.now }
         { worker.work(board, observer) },
     );
-    if let Some((last, others)) = workers.split_last_mut() {
-        last.finish(board, observer, others);
-    }
 }

@@ -151,13 +151,13 @@ pub(crate) fn workers_of<B: Allocator + Copy, A: Allocator, C: Allocator>(
 pub(crate) fn seats_of<B: Allocator + Copy, A: Allocator, C: Allocator>(
     alloc: B,
     board: &EvalBoard<'_, '_, B, A, C>,
-    workers: Vec<Worker<B, A, C>, B>,
+    mut workers: Vec<Worker<B, A, C>, B>,
 ) -> Result<Vec<EvalSeat<A, C>, B>, AllocError>
     requires { AreWorkersOf board.now workers.items }
     ensures { IfOk result (λ v. All (IsSeatOf board.now) v.items) }
 {
     let mut seats = Vec::with_capacity(alloc, workers.len())?;
-    for worker in workers {
+    while let Some(worker) = workers.pop() {
         seats.push(worker.seat)?;
     }
     Ok(seats)
