@@ -16,15 +16,15 @@
  *     halfgates_garbling_free(garbling);
  *     halfgates_circuit_free(circuit);
  *
- * Circuits that follow one another are garbled under one offset: halfgates_garble_from takes the offset, the zero labels
- * of the input wires, and the number of the first AND gate, and halfgates_evaluate_labels turns active labels of the
- * input wires into active labels of the output wires. See LABELS.
+ * Circuits that follow one another are garbled under one offset: halfgates_garble_from takes the offset, the zero
+ * labels of the input wires, and the number of the first AND gate, and halfgates_evaluate_labels turns active labels
+ * of the input wires into active labels of the output wires. See LABELS.
  *
  * CODES. A function that can fail returns a code: 0 is success, and any other is the number of the fault that the
  * program `halfgates` prints, or one of three codes of this library. A call that fails changes no handle, and writes
  * nothing but what its description says. A description lists the codes in the order in which they are found: of two
- * faults the code is that of the first. Wrong pointers and handles come before all others, and memory can run out at any
- * point: a code that is named "Memory" says nothing about the faults after it.
+ * faults the code is that of the first. Wrong pointers and handles come before all others, and memory can run out at
+ * any point: a code that is named "Memory" says nothing about the faults after it.
  *
  * HANDLES. A handle is a pointer that a function of this library has written. Set it to NULL before: a call that fails
  * leaves it so. A function that writes a handle doesn't free the old one. Each handle is freed once, by the function of
@@ -35,7 +35,8 @@
  * garblings and jobs of one circuit too. One handle is used by one call at a time, whatever the call, so no handle is
  * const. Threads that use one circuit at once take a handle each, by halfgates_circuit_share, which copies nothing.
  *
- * STACK. Most calls need a few kilobytes of stack. halfgates_garbling_write needs some 90 kilobytes.
+ * STACK. As measured on x86-64, halfgates_garbling_write uses 87 kilobytes of stack, halfgates_deal 35,
+ * halfgates_job_bind 16, halfgates_circuit_read 9, and every other call less than 4.
  *
  * BUFFERS. The library reads and writes buffers within a call and keeps no pointer to them. No alignment is asked for
  * where a buffer is of bytes. A buffer that is written overlaps no other argument, and has at least the room that is
@@ -46,19 +47,22 @@
  * BITS are bytes 0 and 1, one for each wire, in wire order: those of input value 0, then those of value 1, and so on.
  * Another byte is HALFGATES_BAD_DIGIT, and a wrong number of them HALFGATES_WRONG_LENGTH.
  *
- * MEMORY comes from malloc, realloc and free. Where it runs out, the code is one of those that are named "Memory":
+ * MEMORY comes from malloc and free. Where it runs out, the code is one of those that are named "Memory":
  * nothing is leaked, and the call may be made again. Call no function from a signal handler, nor in a child forked from
  * a process with several threads.
  *
  * LABELS are 16 bytes. Each wire of a garbling has two: the zero label, which stands for the bit 0, and the zero label
- * xor the offset, which stands for 1. The colour of a label is bit 0 of its first byte, and the offset's colour is 1, so
- * a wire's labels have different colours. AND gates are numbered in file order, from a number `first` on: 0 under a seed.
- * Under one offset use no AND number twice: the next circuit's `first` is at least this one's `first` plus its number of
- * AND gates. Two AND gates of one number that read one wire give away the offset: their generator rows differ by it or
- * by nothing. Garbled files are those of `first` 0. In version 2 their entries use the numbers behind the AND gates, so
- * leave (output wires + 1) / 2 more numbers free where such a file is sent. The library can't check any of this.
+ * xor the offset, which stands for 1. The colour of a label is bit 0 of its first byte, and the offset's colour is 1,
+ * so a wire's labels have different colours. AND gates are numbered in file order, from a number `first` on: 0 under a
+ * seed. Under one offset use no AND number twice: the next circuit's `first` is at least this one's `first` plus its
+ * number of AND gates. Two AND gates of one number that read the same wire first give away the offset: their generator
+ * rows differ by it or by nothing. Garbled files are those of `first` 0. In version 2 their entries use the numbers
+ * behind the AND gates, so leave (output wires + 1) / 2 more numbers free where such a file is sent. The library can't
+ * check any of this.
  *
- * SECRETS. Whoever has a seed, an offset or a garbling knows all labels. The library isn't constant-time, and wipes no memory.
+ * SECRETS. Whoever has a seed, an offset or a garbling knows all labels. No branch and no address depends on seeds,
+ * offsets, labels or bits, beyond what codes and outputs say, and memory is wiped before it is freed. This is tested, for
+ * x86-64, and not proved; the audits are left out. The stack and your buffers aren't wiped. SECURITY.md says more.
  */
 #ifndef HALFGATES_H
 #define HALFGATES_H
@@ -121,9 +125,9 @@ enum {
     HALFGATES_UNKNOWN_OUTPUT_LABEL = 48, /* an output's label is none that the garbled file recognises (version 2) */
 
     /* Codes of this library alone. */
-    HALFGATES_BAD_ARGUMENT = 60, /* a NULL, a handle of another type or in use, no such version, wire or output, a buffer
-                                    that is read and has a wrong size, an offset of colour 0, an AND number that is too
-                                    large, a file of a garbling whose `first` isn't 0 */
+    HALFGATES_BAD_ARGUMENT = 60, /* a NULL, a handle of another type, no such version, wire or output, a buffer that is
+                                    read and has a wrong size, an offset of colour 0, an AND number that is too large, a
+                                    file of a garbling whose `first` isn't 0 */
     HALFGATES_SMALL_BUFFER = 61, /* a buffer has too little room */
     HALFGATES_MEMORY = 62,       /* memory ran out for a handle or a file */
 
@@ -160,8 +164,8 @@ typedef struct halfgates_circuit halfgates_circuit;
 int32_t halfgates_circuit_read(const uint8_t *text, size_t length, halfgates_circuit **circuit);
 
 /*
- * Writes one more handle of the same circuit, without a copy: so several threads can use it at once, each by a handle of
- * its own. Each handle is freed by halfgates_circuit_free; the circuit goes with the last. Code: HALFGATES_MEMORY.
+ * Writes one more handle of the same circuit, without a copy: so several threads can use it at once, each by a handle
+ * of its own. Each handle is freed by halfgates_circuit_free; the circuit goes with the last. Code: HALFGATES_MEMORY.
  */
 int32_t halfgates_circuit_share(halfgates_circuit *circuit, halfgates_circuit **other);
 
@@ -183,8 +187,8 @@ typedef struct halfgates_numbers {
 int32_t halfgates_circuit_numbers(halfgates_circuit *circuit, halfgates_numbers *numbers);
 
 /*
- * Writes the number of wires of each input value, or of each output value, in order. `count`, the room in `widths`, is at
- * least `input_values` or `output_values`. Code: HALFGATES_SMALL_BUFFER.
+ * Writes the number of wires of each input value, or of each output value, in order. `count`, the room in `widths`, is
+ * at least `input_values` or `output_values`. Code: HALFGATES_SMALL_BUFFER.
  */
 int32_t halfgates_circuit_input_widths(halfgates_circuit *circuit, uint32_t *widths, size_t count);
 int32_t halfgates_circuit_output_widths(halfgates_circuit *circuit, uint32_t *widths, size_t count);
@@ -230,11 +234,11 @@ typedef struct halfgates_garbling halfgates_garbling;
 int32_t halfgates_garble(halfgates_circuit *circuit, const uint8_t seed[32], halfgates_garbling **garbling);
 
 /*
- * Garbles a circuit from an offset of colour 1, 16 bytes, the zero labels of all input wires, one after another, `size`
- * bytes, which is 16 * input_wires, and the number `first` of its first AND gate; `first` plus the number of AND gates is
- * at most 2^62. Codes: HALFGATES_BAD_ARGUMENT where one of these isn't so, HALFGATES_GARBLING_MEMORY, HALFGATES_MEMORY.
- * Take 16 random bytes for an offset and set bit 0 of the first; zero labels are random too, or the zero labels of
- * output wires of circuits garbled under this offset. See LABELS on `first`.
+ * Garbles a circuit from an offset of colour 1, 16 bytes, the zero labels of all input wires, one after another,
+ * `size` bytes, which is 16 * input_wires, and the number `first` of its first AND gate; `first` plus the number of
+ * AND gates is at most 2^62. Codes: HALFGATES_BAD_ARGUMENT where one of these isn't so, HALFGATES_GARBLING_MEMORY,
+ * HALFGATES_MEMORY. Take 16 random bytes for an offset and set bit 0 of the first; zero labels are random too, or the
+ * zero labels of output wires of circuits garbled under this offset. See LABELS on `first`.
  */
 int32_t halfgates_garble_from(halfgates_circuit *circuit, const uint8_t offset[16], const uint8_t *zero_labels,
                               size_t size, uint64_t first, halfgates_garbling **garbling);
@@ -267,16 +271,16 @@ int32_t halfgates_deal(halfgates_circuit *circuit, const uint8_t seed[32], uint3
                        size_t count, uint8_t *buffer, size_t size, size_t *written);
 
 /*
- * Writes the label file of an input value, as halfgates_deal does, from a garbling: so its labels are those of the rows,
- * whatever the garbling was made from. The codes are the same.
+ * Writes the label file of an input value, as halfgates_deal does, from a garbling: so its labels are those of the
+ * rows, whatever the garbling was made from. The codes are the same.
  */
 int32_t halfgates_garbling_deal(halfgates_garbling *garbling, uint32_t index, const uint8_t *bits, size_t count,
                                 uint8_t *buffer, size_t size, size_t *written);
 
 /*
  * Writes the label file of the input value `index` with labels that were received, such as by an oblivious transfer:
- * `labels_size` bytes, 16 for each wire of the value. Codes: HALFGATES_NO_SUCH_VALUE, HALFGATES_BAD_ARGUMENT for another
- * size, HALFGATES_SMALL_BUFFER with the size that is needed in `written`, HALFGATES_MEMORY.
+ * `labels_size` bytes, 16 for each wire of the value. Codes: HALFGATES_NO_SUCH_VALUE, HALFGATES_BAD_ARGUMENT for
+ * another size, HALFGATES_SMALL_BUFFER with the size that is needed in `written`, HALFGATES_MEMORY.
  */
 int32_t halfgates_label_file(halfgates_circuit *circuit, uint32_t index, const uint8_t *labels, size_t labels_size,
                              uint8_t *buffer, size_t size, size_t *written);
@@ -287,8 +291,8 @@ int32_t halfgates_offset(halfgates_garbling *garbling, uint8_t offset[16]);
 /*
  * Writes both labels of each wire of the input value `index`, or of the output value, 16 bytes for each wire: the zero
  * labels to `zero`, and the labels that stand for 1 to `one`. `size` is the room in each of the two. Codes:
- * HALFGATES_NO_SUCH_VALUE, HALFGATES_SMALL_BUFFER. An oblivious transfer offers these pairs; the zero labels of an output
- * value can be zero labels of input wires of the next circuit.
+ * HALFGATES_NO_SUCH_VALUE, HALFGATES_SMALL_BUFFER. An oblivious transfer offers these pairs; the zero labels of an
+ * output value can be zero labels of input wires of the next circuit.
  */
 int32_t halfgates_input_labels(halfgates_garbling *garbling, uint32_t index, uint8_t *zero, uint8_t *one, size_t size);
 int32_t halfgates_output_labels(halfgates_garbling *garbling, uint32_t index, uint8_t *zero, uint8_t *one, size_t size);
@@ -358,10 +362,10 @@ int32_t halfgates_job_output_labels(halfgates_job *job, uint8_t *outputs, size_t
 /* ----------------------------------------------------------------------------------------- from labels to labels -- */
 
 /*
- * Evaluates a garbled circuit on the calling thread: from its rows, 32 bytes for each AND gate, the number `first` of its
- * first AND gate, and the active labels of all input wires, 16 bytes each, to the active labels of all output wires, 16
- * bytes each. Nothing of the rows and the labels is trusted: any of them give some labels. Codes: HALFGATES_BAD_ARGUMENT
- * where a size or `first` is wrong, HALFGATES_SMALL_BUFFER, HALFGATES_JOB_MEMORY.
+ * Evaluates a garbled circuit on the calling thread: from its rows, 32 bytes for each AND gate, the number `first` of
+ * its first AND gate, and the active labels of all input wires, 16 bytes each, to the active labels of all output
+ * wires, 16 bytes each. Nothing of the rows and the labels is trusted: any of them give some labels. Codes:
+ * HALFGATES_BAD_ARGUMENT where a size or `first` is wrong, HALFGATES_SMALL_BUFFER, HALFGATES_JOB_MEMORY.
  */
 int32_t halfgates_evaluate_labels(halfgates_circuit *circuit, const uint8_t *rows, size_t rows_size, uint64_t first,
                                   const uint8_t *labels, size_t labels_size, uint8_t *outputs, size_t outputs_size);
@@ -411,11 +415,11 @@ typedef struct halfgates_labels_report {
 } halfgates_labels_report;
 
 /*
- * Compares a label file, `length` bytes, with a garbling, and writes the bits that its labels stand for: they are fewer
- * than `length` / 16. Codes: HALFGATES_BAD_ARGUMENT for a garbling whose `first` isn't 0; 30 to 36, the first fault of
- * the file: HALFGATES_BAD_MAGIC, HALFGATES_FILE_TRUNCATED, HALFGATES_TRAILING, HALFGATES_COUNT_TOO_LARGE or
- * HALFGATES_FILE_MEMORY; HALFGATES_JOB_MEMORY; HALFGATES_SMALL_BUFFER where `size` is less than the number of these bits,
- * which the report then has. A file that differs is success.
+ * Compares a label file, `length` bytes, with a garbling, and writes the bits that its labels stand for: they are
+ * fewer than `length` / 16. Codes: HALFGATES_BAD_ARGUMENT for a garbling whose `first` isn't 0; 30 to 36, the first
+ * fault of the file: HALFGATES_BAD_MAGIC, HALFGATES_FILE_TRUNCATED, HALFGATES_TRAILING, HALFGATES_COUNT_TOO_LARGE or
+ * HALFGATES_FILE_MEMORY; HALFGATES_JOB_MEMORY; HALFGATES_SMALL_BUFFER where `size` is less than the number of these
+ * bits, which the report then has. A file that differs is success.
  */
 int32_t halfgates_audit_labels(halfgates_garbling *garbling, const uint8_t *labels, size_t length, uint8_t *bits,
                                size_t size, halfgates_labels_report *report);

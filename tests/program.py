@@ -81,12 +81,23 @@ def fails(fault):
     return 1, "", f"halfgates: fault {fault}\n"
 
 
+def audits(lines):
+    """The ending of a run of `audit` that prints these lines."""
+    return 3 if lines.endswith("\ndishonest\n") else 0, lines, ""
+
+
 def ending_of(work):
     """The ending of a run whose lines, or whose fault, this work of the reference comes to."""
     try:
         return prints(text_of_lines(work()))
     except bristol.Fault as fault:
         return fails(f"{fault.number} {fault.name}")
+
+
+def ending_of_audit(work):
+    """The ending of a run of `audit` whose lines, or whose fault, this work of the reference comes to."""
+    ending = ending_of(work)
+    return audits(ending[1]) if ending[0] == 0 else ending
 
 
 def ending_of_eval(circuit, garbled, labels):

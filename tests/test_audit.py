@@ -3,8 +3,8 @@ import unittest
 
 from inputs import draw_values, draws, load, many_ands, worked_circuits
 from program import (
-    AND, EMPTY, FAR_COPY, FULL_ADDER, INV, NO_GATES, SEED, XOR, ProgramTest, ending_of, label_file,
-    sealed, text_of_lines,
+    AND, EMPTY, FAR_COPY, FULL_ADDER, INV, NO_GATES, SEED, XOR, ProgramTest, audits,
+    ending_of_audit, label_file, sealed, text_of_lines,
 )
 
 import bristol
@@ -271,7 +271,7 @@ class AuditTest(ProgramTest):
         names = self.put_files(garbled, labels)
         for workers in WORKERS:
             words = "audit", "c.txt", SEED, *names, "--workers", workers
-            self.assert_prints(lines, *words)
+            self.assert_ends(audits(lines), *words)
 
 
 class Verdicts(AuditTest):
@@ -300,7 +300,7 @@ class Verdicts(AuditTest):
             at, wire = ((1, 6), (3, 9), (5, 10), (7, 13))[gate]
             rows = f"wrong {gate} gate {at} wire {wire} {'TG' if half < 16 else 'TE'}"
             name = self.put("g", spoiled(GARBLED[1], [(place, 1 << place % 8)]))
-            self.assert_prints(report(rows=rows, entries=None), "audit", "c.txt", SEED, name)
+            self.assert_ends(audits(report(rows=rows, entries=None)), "audit", "c.txt", SEED, name)
 
     def test_counts(self):
         labels = [label_file(1), label_file(3)]
@@ -324,7 +324,7 @@ class Verdicts(AuditTest):
         for files, verdicts in LABEL_FILES:
             name, *labels = self.put_files(garbled, files)
             lines = report(verdicts, bits="wrong 0")
-            self.assert_prints(lines, "audit", "c.txt", SEED, name, *labels)
+            self.assert_ends(audits(lines), "audit", "c.txt", SEED, name, *labels)
 
     def test_files_of_other_circuits(self):
         for text, garbled_text, verdicts in OTHER_CIRCUITS:
@@ -348,7 +348,7 @@ class Verdicts(AuditTest):
         )
         labels = label_file(0, label(0, 0), label(1, 0)), label_file(1)
         files = self.put_files(GARBLED[2], labels)
-        self.assert_prints(lines, "audit", "c.txt", seed, *files)
+        self.assert_ends(audits(lines), "audit", "c.txt", seed, *files)
 
 
 class HonestFiles(AuditTest):
@@ -367,10 +367,10 @@ class HonestFiles(AuditTest):
             self.assertEqual(self.run_program("garble", *words)[0], 0)
             rest = {"entries": None} if version == 1 else {}
             lines = report(labels, **rest)
-            self.assert_prints(lines, "audit", "c.txt", seed, "g", *names)
+            self.assert_ends(audits(lines), "audit", "c.txt", seed, "g", *names)
             lines = report(labels[::-1], **rest)
             words = "--workers", 64, "g", *names[::-1]
-            self.assert_prints(lines, "audit", "c.txt", seed, *words)
+            self.assert_ends(audits(lines), "audit", "c.txt", seed, *words)
 
     def test_worked_circuits(self):
         for name, vector in worked_circuits():
@@ -420,7 +420,7 @@ class HonestFiles(AuditTest):
             self.put("g", spoiled(self.bytes_of("honest"), places))
             for workers in WORKERS:
                 words = "audit", "chains", SEED, "g", "--workers", workers
-                self.assert_prints(report(**verdicts), *words)
+                self.assert_ends(audits(report(**verdicts)), *words)
 
 
 class Agreement(AuditTest):
@@ -460,7 +460,7 @@ class Agreement(AuditTest):
             garbled = reference.garbled_file(circuit, garbling, version)
             garbled, labels = self.draw_garbled(draw, garbled), self.draw_labels(draw, files)
             workers = draw.choice(WORKERS)
-            ending = ending_of(
+            ending = ending_of_audit(
                 lambda: tracing.audit(text.encode(), SEED, garbled, labels, workers))
             honest += ending[1].endswith("\nhonest\n")
             words = "audit", "c.txt", SEED, *self.put_files(garbled, labels), "--workers", workers
@@ -476,9 +476,9 @@ class Agreement(AuditTest):
         audited = 0
         for bad in document["files"]:
             garbled, labels = bytes.fromhex(bad["garbled"]), list(map(bytes.fromhex, bad["labels"]))
-            ending = ending_of(lambda: tracing.audit(text.encode(), seed, garbled, labels))
-            self.assertEqual(ending[0] == 0, bad["fault"] >= 40, bad["about"])
-            audited += ending[0] == 0
+            ending = ending_of_audit(lambda: tracing.audit(text.encode(), seed, garbled, labels))
+            self.assertEqual(ending[0] != 1, bad["fault"] >= 40, bad["about"])
+            audited += ending[0] != 1
             with self.subTest(bad["about"]):
                 self.assert_ends(ending, "audit", "c.txt", seed, *self.put_files(garbled, labels))
         self.assertGreater(audited, 10)

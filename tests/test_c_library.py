@@ -93,6 +93,9 @@ class FromC(LibraryTest):
     def test_bad_arguments(self):
         self.run_built(SOURCES / "arguments.c")
 
+    def test_labels(self):
+        self.run_built(SOURCES / "labels.c")
+
     def test_null_with_a_size(self):
         self.run_built(SOURCES / "null.c")
 
@@ -105,6 +108,9 @@ class FromC(LibraryTest):
     def test_refused_memory(self):
         printed = self.run_built(SOURCES / "memory.c", flags=WRAPPED)
         self.assertRegex(printed, r"^\d+ growths refused\n$")
+
+    def test_joined_circuits(self):
+        self.run_built(SOURCES / "joined.c")
 
     def test_threads(self):
         self.run_built(SOURCES / "threads.c", flags=["-pthread"])
@@ -216,7 +222,9 @@ class Files(LibraryTest):
         source.write_text(CODES)
         printed = self.run_built(source)
         named = {int(code): name for code, name in map(str.split, printed.splitlines())}
-        for name, code in declared_codes().items():
+        codes = declared_codes()
+        self.assertEqual(codes.pop("WRONG_LABEL"), 63)  # a verdict, and no code
+        for name, code in codes.items():
             self.assertEqual(named.pop(code), by_code[str(code)] if code else "Ok", name)
         self.assertEqual(set(named.values()), {"Unknown"})
 

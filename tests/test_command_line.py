@@ -19,9 +19,12 @@ lowest bit
 Options:
       --workers <WORKERS>  How many threads may garble or evaluate, from 1 to 64; the result is the same \
 [default: 1]
+      --hex                Print output values as x and two hexadecimal digits for each 8 wires, of \
+which the first wire is the lowest bit
   -h, --help               Print help
 
-Prints the output values, one per line: a character 0 or 1 for each wire, in wire order.
+Prints the output values, one per line: a character 0 or 1 for each wire, in wire order, or with \
+--hex a text that is read as a value.
 
 Example, with a full adder in adder.txt that reads three bits:
   halfgates run adder.txt 0000000000000000000000000000000000000000000000000000000000000000 1 0 1
@@ -112,9 +115,9 @@ def help_words(text):
     usage = re.search(r"^Usage: halfgates \w+ (.*)$", text, re.M)[1].split()
     arguments = [term for term in help_terms(text) if not term.startswith("-")]
     values = [term.split() for term in help_terms(text) if term.startswith("--")]
-    options = [option for option, _ in values]
-    # A value has the name of its option.
-    assert all(value == f"<{option[2:].upper()}>" for option, value in values), text
+    options = [option for option, *_ in values]
+    # The value of an option that has one has its name.
+    assert all(value in ([], [f"<{option[2:].upper()}>"]) for option, *value in values), text
     # The line of usage and the explanations name the same words.
     assert [word for word in usage if word != "[OPTIONS]"] == arguments, text
     assert ("[OPTIONS]" in usage) == bool(options), text

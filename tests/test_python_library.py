@@ -218,7 +218,7 @@ class BesideTheProgram(ProgramTest):
                     spoiled = sealed(bytes(body))
                     self.put("g", spoiled)
                     status, printed, fault = self.run_program("audit", "c", SEED, "g")
-                    if status:
+                    if status == 1:
                         with self.assertRaises(Fault) as caught:
                             garbling.audit(spoiled)
                         self.assertEqual(f"halfgates: {caught.exception}\n", fault)

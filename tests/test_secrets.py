@@ -36,6 +36,7 @@ PUBLIC = "gc_command::lines::", "gc_command::value_form::", "gc_command::eval::"
 
 KEY, BLOCK = "x000102030405060708090a0b0c0d0e0f", "0110" * 32
 
+
 def with_others(tested, *others):
     """A file under test, and those of the release's files that are there and that this processor runs."""
     has_v3 = ask("machine.sh", "is_v3")[0] == 0

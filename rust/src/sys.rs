@@ -9,6 +9,9 @@ use std::mem::size_of;
 pub const OK: i32 = 0;
 pub const NO_SUCH_VALUE: i32 = 42;
 pub const WRONG_WIDTH: i32 = 43;
+/// A verdict on a label file, and no fault.
+#[cfg(test)]
+pub const WRONG_LABEL: i32 = 63;
 pub const NONE: u32 = u32::MAX;
 
 macro_rules! handles {

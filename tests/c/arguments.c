@@ -38,12 +38,16 @@ static void circuits(halfgates_circuit *circuit) {
     CHECK_CODE(BAD, halfgates_circuit_digest(NULL, room));
     CHECK_CODE(BAD, halfgates_circuit_digest(circuit, NULL));
     CHECK_CODE(BAD, halfgates_circuit_input_widths(NULL, widths, 3));
-    CHECK_CODE(BAD, halfgates_circuit_input_widths(circuit, widths, 2));
-    CHECK_CODE(BAD, halfgates_circuit_input_widths(circuit, widths, 4));
-    CHECK_CODE(BAD, halfgates_circuit_input_widths(circuit, NULL, 0));
+    memset(widths, 0xA5, sizeof widths);
+    CHECK_CODE(HALFGATES_SMALL_BUFFER, halfgates_circuit_input_widths(circuit, widths, 2));
+    CHECK_CODE(HALFGATES_SMALL_BUFFER, halfgates_circuit_input_widths(circuit, NULL, 0));
     CHECK_CODE(BAD, halfgates_circuit_output_widths(NULL, widths, 1));
-    CHECK_CODE(BAD, halfgates_circuit_output_widths(circuit, widths, 0));
-    CHECK_CODE(BAD, halfgates_circuit_output_widths(circuit, widths, 2));
+    CHECK_CODE(HALFGATES_SMALL_BUFFER, halfgates_circuit_output_widths(circuit, widths, 0));
+    CHECK(widths[0] == 0xA5A5A5A5);
+    CHECK_CODE(HALFGATES_OK, halfgates_circuit_input_widths(circuit, widths, 4));
+    CHECK(widths[0] == 1 && widths[2] == 1 && widths[3] == 0xA5A5A5A5);
+    CHECK_CODE(HALFGATES_OK, halfgates_circuit_output_widths(circuit, widths, 2));
+    CHECK(widths[0] == 2 && widths[1] == 1);
     CHECK(halfgates_garbled_size(NULL, 2) == 0);
     CHECK(halfgates_garbled_size(circuit, 0) == 0);
     CHECK(halfgates_garbled_size(circuit, 3) == 0);
@@ -54,9 +58,9 @@ static void circuits(halfgates_circuit *circuit) {
 static void plain(halfgates_circuit *circuit) {
     const uint8_t digits[3] = {1, 2, 1};
     CHECK_CODE(BAD, halfgates_plain(NULL, BITS, 3, room, 2));
-    CHECK_CODE(BAD, halfgates_plain(circuit, BITS, 3, room, 1));
-    CHECK_CODE(BAD, halfgates_plain(circuit, BITS, 3, room, 3));
-    CHECK_CODE(BAD, halfgates_plain(circuit, BITS, 3, NULL, 0));
+    CHECK_CODE(HALFGATES_SMALL_BUFFER, halfgates_plain(circuit, BITS, 3, room, 1));
+    CHECK_CODE(HALFGATES_SMALL_BUFFER, halfgates_plain(circuit, BITS, 3, NULL, 0));
+    CHECK_CODE(HALFGATES_SMALL_BUFFER, halfgates_plain(circuit, digits, 2, room, 1));
     CHECK_CODE(HALFGATES_WRONG_LENGTH, halfgates_plain(circuit, BITS, 2, room, 2));
     CHECK_CODE(HALFGATES_WRONG_LENGTH, halfgates_plain(circuit, NULL, 0, room, 2));
     CHECK_CODE(HALFGATES_BAD_DIGIT, halfgates_plain(circuit, digits, 3, room, 2));
@@ -138,9 +142,8 @@ static void jobs(halfgates_circuit *circuit, halfgates_job *job) {
     CHECK_CODE(HALFGATES_MISSING_VALUE, halfgates_job_bind(circuit, garbled, 177, NULL, 0, NULL, 0, &made));
     CHECK(made == NULL);
     CHECK_CODE(BAD, halfgates_evaluate(NULL, room, 2));
-    CHECK_CODE(BAD, halfgates_evaluate(job, room, 1));
-    CHECK_CODE(BAD, halfgates_evaluate(job, room, 3));
-    CHECK_CODE(BAD, halfgates_evaluate(job, NULL, 0));
+    CHECK_CODE(HALFGATES_SMALL_BUFFER, halfgates_evaluate(job, room, 1));
+    CHECK_CODE(HALFGATES_SMALL_BUFFER, halfgates_evaluate(job, NULL, 0));
     check_untouched();
 }
 

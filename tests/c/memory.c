@@ -63,6 +63,32 @@ static void check_sizes(halfgates_garbling *garbling) {
     }
 }
 
+/* The calls from labels to labels, on the full adder: its outputs for three ones are ones. */
+static void work_on_labels(halfgates_circuit *circuit, halfgates_garbling *garbling, halfgates_job *job) {
+    const uint8_t bit = 1;
+    uint8_t offset[16], zeros[48], ones[48], rows[32], decode_bits[2], outputs[32], file[32], bits[2];
+    size_t written;
+    halfgates_circuit *other = NULL;
+    halfgates_garbling *own = NULL;
+    CALL(halfgates_circuit_share(circuit, &other));
+    CALL(halfgates_offset(garbling, offset));
+    for (uint32_t i = 0; i < 3; i++)
+        CALL(halfgates_input_labels(garbling, i, zeros + 16 * i, ones + 16 * i, 16));
+    CALL(halfgates_garble_from(other, offset, zeros, sizeof zeros, 5, &own));
+    CALL(halfgates_garbling_deal(own, 0, &bit, 1, file, sizeof file, &written));
+    CALL(halfgates_label_file(other, 0, ones, 16, file, sizeof file, &written));
+    CALL(halfgates_rows(own, rows, sizeof rows));
+    CALL(halfgates_decode_bits(own, decode_bits, sizeof decode_bits));
+    CALL(halfgates_evaluate_labels(other, rows, sizeof rows, 5, ones, sizeof ones, outputs, sizeof outputs));
+    CALL(halfgates_decode(outputs, sizeof outputs, decode_bits, 2, bits, sizeof bits));
+    CHECK(bits[0] == 1 && bits[1] == 1);
+    CALL(halfgates_output_labels(own, 0, zeros, ones, 32));
+    CHECK(memcmp(outputs, ones, 32) == 0);
+    CALL(halfgates_job_output_labels(job, outputs, sizeof outputs));
+    halfgates_garbling_free(own);
+    halfgates_circuit_free(other);
+}
+
 /* All calls that take memory. */
 static void work(void) {
     const uint8_t *text = (const uint8_t *)FULL_ADDER, seed[32] = {5}, bits[3] = {1, 0, 1};
@@ -93,6 +119,7 @@ static void work(void) {
     CALL(halfgates_audit_labels(garbling, labels, 32, found_bits, 1, &labels_report));
     CHECK(labels_report.verdict == HALFGATES_OK && found_bits[0] == 1);
     CALL(halfgates_job_bind(circuit, garbled, sizeof garbled, labels, sizeof labels, sizes, 3, &job));
+    work_on_labels(circuit, garbling, job);
     halfgates_circuit_free(circuit);
     outputs[0] = outputs[1] = 2;
     CALL(halfgates_evaluate(job, outputs, 2));

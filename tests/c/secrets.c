@@ -120,14 +120,15 @@ static uint8_t *deal(halfgates_circuit *circuit, const uint8_t *seed, const stru
 static void evaluate(halfgates_circuit *circuit, uint32_t version, const uint8_t *file, size_t file_size,
                      const uint8_t *labels, size_t labels_size, const size_t *sizes, const struct values *values) {
     const size_t count = values->numbers.output_wires, files = values->numbers.input_values;
-    uint8_t *outputs = take(count);
+    uint8_t *outputs = take(count), *output_labels = take(16 * count);
     halfgates_job *job = NULL;
     CALL(0, halfgates_job_bind(circuit, file, file_size, labels, labels_size, sizes, files, &job));
     CALL(version == 2, halfgates_evaluate(job, outputs, count));
     show(outputs, count);
     CHECK(memcmp(outputs, values->outputs, count) == 0);
+    CALL(0, halfgates_job_output_labels(job, output_labels, 16 * count));
     halfgates_job_free(job);
-    free(outputs);
+    free(outputs), free(output_labels);
 }
 
 static void check_version(halfgates_circuit *circuit, halfgates_garbling *garbling, uint32_t version,
@@ -154,6 +155,63 @@ static void look(halfgates_garbling *garbling, const struct values *values) {
     free(labels);
 }
 
+/* The active labels of wires with these zero labels and bits. */
+static uint8_t *choose(const uint8_t *zero, const uint8_t *offset, const uint8_t *bits, size_t wires) {
+    uint8_t *active = take(16 * wires);
+    for (size_t i = 0; i < 16 * wires; i++)
+        active[i] = (uint8_t)(zero[i] ^ (offset[i % 16] & -bits[i / 16]));
+    return active;
+}
+
+/* The evaluator's calls with labels of its own. Rows and decode bits are public. */
+static void evaluate_labels(halfgates_circuit *circuit, halfgates_garbling *garbling, uint64_t first,
+                            const uint8_t *active, const struct values *values) {
+    const size_t count = values->numbers.output_wires, inputs = 16 * (size_t)values->numbers.input_wires;
+    const size_t rows_size = 32 * (size_t)values->numbers.and_gates;
+    uint8_t *rows = take(rows_size), *decode_bits = take(count), *outputs = take(16 * count), *bits = take(count);
+    CALL(0, halfgates_rows(garbling, rows, rows_size));
+    CALL(0, halfgates_decode_bits(garbling, decode_bits, count));
+    show(rows, rows_size), show(decode_bits, count);
+    CALL(0, halfgates_evaluate_labels(circuit, rows, rows_size, first, active, inputs, outputs, 16 * count));
+    CALL(0, halfgates_decode(outputs, 16 * count, decode_bits, count, bits, count));
+    show(bits, count);
+    CHECK(memcmp(bits, values->outputs, count) == 0);
+    free(rows), free(decode_bits), free(outputs), free(bits);
+}
+
+/* Both labels of each wire of the first input value and the first output value, and a label file for the first. */
+static void give_labels(halfgates_circuit *circuit, halfgates_garbling *garbling, const uint8_t *active,
+                        const struct values *values) {
+    const size_t room = 16 * (size_t)values->numbers.wires, width = values->widths[0], size = 16 + 16 * width;
+    uint8_t *zero = take(room), *one = take(room), *file = take(size), offset[16];
+    size_t written;
+    CALL(0, halfgates_offset(garbling, offset));
+    CALL(0, halfgates_input_labels(garbling, 0, zero, one, room));
+    CALL(0, halfgates_output_labels(garbling, 0, zero, one, room));
+    CALL(1, halfgates_garbling_deal(garbling, 0, values->bits, width, file, size, &written));
+    CALL(0, halfgates_label_file(circuit, 0, active, 16 * width, file, size, &written));
+    free(zero), free(one), free(file);
+}
+
+/* Garbles from labels of one's own. That the offset's colour is 1 is decided once. */
+static void garble_from_labels(halfgates_circuit *circuit, const struct values *values) {
+    const size_t wires = values->numbers.input_wires;
+    const uint64_t first = 5;
+    uint8_t *zero = take(16 * wires), offset[16], *active;
+    halfgates_garbling *garbling = NULL;
+    for (size_t i = 0; i < 16 * wires; i++)
+        zero[i] = (uint8_t)(11 * i + i / 16);
+    for (size_t i = 0; i < 16; i++)
+        offset[i] = (uint8_t)(6 * i + 1);
+    hide(zero, 16 * wires), hide(offset, sizeof offset);
+    CALL(1, halfgates_garble_from(circuit, offset, zero, 16 * wires, first, &garbling));
+    active = choose(zero, offset, values->bits, wires);
+    evaluate_labels(circuit, garbling, first, active, values);
+    give_labels(circuit, garbling, active, values);
+    halfgates_garbling_free(garbling);
+    free(zero), free(active);
+}
+
 int main(int count, char **words) {
     uint8_t seed[32];
     size_t size, sizes[256], labels_size;
@@ -175,6 +233,7 @@ int main(int count, char **words) {
     uint8_t *labels = deal(circuit, seed, &values, sizes, &labels_size);
     for (uint32_t version = 1; version <= 2; version++)
         check_version(circuit, garbling, version, labels, labels_size, sizes, &values);
+    garble_from_labels(circuit, &values);
 
     halfgates_garbling_free(garbling);
     halfgates_circuit_free(circuit);

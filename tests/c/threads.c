@@ -1,4 +1,7 @@
-/* Eight threads with a circuit each, and a garbling and a job that a thread hands to another. */
+/*
+ * Eight threads, each with a handle of its own on one circuit, or with a circuit of its own, and a garbling that a thread
+ * hands to another.
+ */
 #include "check.h"
 #include <pthread.h>
 
@@ -6,6 +9,7 @@ enum { THREADS = 8, ROUNDS = 50 };
 
 struct task {
     uint8_t number;
+    halfgates_circuit *circuit;
     uint8_t garbled[177];
 };
 
@@ -24,7 +28,7 @@ static void *work(void *at) {
     uint8_t bits[3], seed[32], labels[96], outputs[2], first[177];
     const size_t sizes[3] = {32, 32, 32};
     size_t written;
-    halfgates_circuit *circuit = read_text(FULL_ADDER);
+    halfgates_circuit *circuit = task->circuit;
     memset(seed, task->number, sizeof seed);
     for (int round = 0; round < ROUNDS; round++) {
         halfgates_job *job = NULL;
@@ -59,6 +63,11 @@ int main(void) {
     halfgates_garbling *garbling = NULL;
     for (uint8_t i = 0; i < THREADS; i++) {
         tasks[i].number = i;
+        tasks[i].circuit = NULL;
+        if (i < THREADS / 2)
+            tasks[i].circuit = read_text(FULL_ADDER);
+        else
+            CHECK_CODE(HALFGATES_OK, halfgates_circuit_share(circuit, &tasks[i].circuit));
         CHECK(pthread_create(&threads[i], NULL, work, &tasks[i]) == 0);
     }
     for (int i = 0; i < THREADS; i++)

@@ -1,1 +1,2 @@
 pub mod MistakeLemmas
+pub mod CarryOutLemmas

@@ -1,5 +1,5 @@
 -- The outcome of a whole run.
-use Rattle.std.specs.Prelude.{◌≡◌, ℕ, ◌+◌, ◌⊎◌, List, [], ◌∷◌, ◌++◌, codes}
+use Rattle.std.specs.Prelude.{◌≡◌, ℕ, ◌+◌, ◌⊎◌, Bool, true, false, List, [], ◌∷◌, ◌++◌, codes}
 use Rattle.std.specs.Io.KnownBytes.{Appends}
 use Rattle.std.specs.declared.io.ErrorKind.{ErrorKind}
 use Rattle.std.specs.declared.io.ErrorKind.TheVariants.{InvalidData, OutOfMemory}
@@ -13,10 +13,12 @@ use Rattle.gc_cli.specs.CarryOut.{Answers, HasFault, Writes}
 use Rattle.gc_cli.specs.CommandLine.{IsOrder, AsksForText}
 use Rattle.gc_cli.specs.Output.{Printed}
 
--- What answers an order is printed, and no call to print failed. `before` and `after` are of standard output.
-abbrev pub PrintsAnswer : FileBytes → FileBytes → OrderText → Printed → Printed → Type 0
-PrintsAnswer old new order before after =
-    ((out : List ℕ) × Answers old new order out × Appends before.contents after.contents out)
+-- What answers an order is printed, and no call to print failed. `honest` is false of an audit that finds its files
+-- dishonest alone. `before` and `after` are of standard output.
+abbrev pub PrintsAnswer : FileBytes → FileBytes → OrderText → Bool → Printed → Printed → Type 0
+PrintsAnswer old new order honest before after =
+    ((out : List ℕ) × Answers old new order honest out
+    × Appends before.contents after.contents out)
     × (after.failures ≡ before.failures)
 
 -- A call to print failed, and that is the fault.
@@ -24,21 +26,27 @@ abbrev pub FailsToPrint : Printed → Printed → Fault → Type 0
 FailsToPrint before after fault =
     (fault ≡ CannotWrite) × (after.failures ≡ before.failures + 1)
 
--- A fault that an order has ends it: nothing is printed, and every file is as it was, unless the fault is that one
--- can't be written. Or a call to print its answer failed. `Failed` says of a name that its file has failed.
+-- A fault that an order has ends it: nothing is printed, and every file is as it was. Or a call to print its answer
+-- failed. `Failed` says of a name that its file has failed.
 abbrev pub FailsToAnswer : FileBytes → FileBytes → (List ℕ → Type 0) → OrderText → Printed → Printed
     → Fault → Type 0
 FailsToAnswer old new Failed order before after fault =
     (HasFault old Failed order fault × (after ≡ before)
-    × KeepsFiles old new fault)
-    ⊎ (((out : List ℕ) × Answers old new order out) × FailsToPrint before after fault)
+    × KeepsFiles old new)
+    ⊎ (((honest : Bool) × ((out : List ℕ) × Answers old new order honest out))
+    × FailsToPrint before after fault)
 
 -- A run that is done has printed what answers its order, or a text that its words ask for, and no call to print
--- failed.
+-- failed. Where the order is an audit, it has found the files honest.
 abbrev pub IsDone : FileBytes → FileBytes → List (List ℕ) → Printed → Printed → Type 0
 IsDone old new words before after =
-    ((order : OrderText) × IsOrder words order × PrintsAnswer old new order before after)
+    ((order : OrderText) × IsOrder words order × PrintsAnswer old new order true before after)
     ⊎ (AsksForText words × (after.failures ≡ before.failures))
+
+-- Or its order is an audit that has found the files dishonest, and what it answers is printed.
+abbrev pub FindsDishonest : FileBytes → FileBytes → List (List ℕ) → Printed → Printed → Type 0
+FindsDishonest old new words before after =
+    (order : OrderText) × IsOrder words order × PrintsAnswer old new order false before after
 
 -- A fault that ends a run ends its order; or a call to print a text that its words ask for failed.
 abbrev pub IsFaulty : FileBytes → FileBytes → (List ℕ → Type 0) → List (List ℕ) → Printed → Printed

@@ -14,6 +14,6 @@ pub use gc_command::{Fault, Progress, Silent, Work};
 pub use gc_files::{FileError, Files, HostFiles, read_all};
 pub use gc_order::{Order, order_of};
 pub use output::Output;
-pub use program::{DONE, FAULT, USAGE, refuse_line, serve};
+pub use program::{DISHONEST, DONE, FAULT, USAGE, refuse_line, serve};
 pub use progress_line::ProgressLine;
-pub use work::carry_out;
+pub use work::{Answer, carry_out};

@@ -1,6 +1,6 @@
 //! A whole run of the program, from the words of its command line to its status.
 
-ghost use Rattle.std.specs.Prelude.{◌≡◌, ◌+◌, ◌<◌, ◌≤◌, ◌⊎◌, ℕ, List, map, string_bytes, IfErr, OnOk};
+ghost use Rattle.std.specs.Prelude.{◌≡◌, ◌+◌, ◌<◌, ◌≤◌, ◌⊎◌, ℕ, List, map, string_bytes, IfErr, IfOk, OnOk};
 ghost use Rattle.std.specs.Io.KnownBytes.{Appends};
 ghost use Rattle.std.specs.IoError.{error_kind};
 ghost use Rattle.gc_format.specs.Counted.{CountsFailure};
@@ -8,7 +8,8 @@ ghost use Rattle.gc_order.specs.Order.{text_of};
 ghost use Rattle.gc_files.specs.Files.{HasFailed};
 ghost use Rattle.gc_cli.specs.CarryOut.{Writes};
 ghost use Rattle.gc_cli.specs.CommandLine.{IsMistaken};
-ghost use Rattle.gc_cli.specs.Serve.{AskToWrite, EndsByFault, FailsToAnswer, IsDone, PrintsAnswer, PrintsFault};
+ghost use Rattle.gc_cli.specs.Serve.{AskToWrite, EndsByFault, FailsToAnswer, FindsDishonest, IsDone};
+ghost use Rattle.gc_cli.specs.Serve.{PrintsAnswer, PrintsFault};
 ghost use Rattle.gc_cli.specs.Serve.{PrintsRefusal, fault_line, reason_of, refusal_line};
 
 use crate::command_line::Heap;
@@ -32,12 +33,16 @@ pub const FAULT: u8 = 1;
 /// The status of a run whose words are no order, or can't be read.
 pub const USAGE: u8 = 2;
 
+/// The status of an audit that has found its files dishonest.
+pub const DISHONEST: u8 = 3;
+
 /// Does what the words of a command line say, of which the first is the program's name, and answers the status of the
 /// run. `progress` observes each step of a command, and its end before anything is printed.
 ///
 /// - [`DONE`]: the lines of the order, or the help or the version that was asked for, are on `out`.
+/// - [`DISHONEST`]: the lines of an audit are on `out`, of which the last is `dishonest`.
 /// - [`FAULT`]: the line `halfgates: fault CODE NAME` is on `err`, unless `err` can't be written. Nothing is on `out`,
-///   unless printing on it failed, which is the fault 51. At another fault every file is as it was.
+///   and every file is as it was, unless printing on `out` failed, which is the fault 51.
 /// - [`USAGE`]: what clap says of words that are no order is on `err`. So is what it says where memory ran out.
 ///
 /// No file changes but the one that the order writes.
@@ -50,11 +55,15 @@ pub fn serve<R: Threads + Wait + Sync, F: Files, O: Write, E: Write, P: Progress
     err: &mut Output<E>,
     progress: &P,
 ) -> u8
-    ensures status { result ≤ USAGE }
+    ensures status { result ≤ DISHONEST }
 
     ensures done { result ≡ DONE → IsDone (F.bytes files.old) (F.bytes files.new)
         (map string_bytes words.now) out.old out.new }
     ensures no_errors { result ≡ DONE → err.new ≡ err.old }
+    ensures dishonest { result ≡ DISHONEST
+        → FindsDishonest (F.bytes files.old) (F.bytes files.new)
+        (map string_bytes words.now) out.old out.new }
+    ensures no_errors_of_audit { result ≡ DISHONEST → err.new ≡ err.old }
 
     ensures fault { result ≡ FAULT → EndsByFault (F.bytes files.old) (F.bytes files.new)
         (HasFailed (F.failures files.old) (F.failures files.new))
@@ -67,7 +76,7 @@ pub fn serve<R: Threads + Wait + Sync, F: Files, O: Write, E: Write, P: Progress
     ensures mistaken { IsMistaken (map string_bytes words.now) → result ≡ USAGE }
     ensures no_output { result ≡ USAGE → out.new ≡ out.old }
 
-    // A file changes only where the words are an order that writes it. `fault` says at which faults it is as it was.
+    // A file changes only where the words are an order that writes it, and by `fault` is as it was at a fault.
     ensures others { (name : List ℕ) → ¬ AskToWrite (map string_bytes words.now) name
         → F.bytes files.new name ≡ F.bytes files.old name }
     ensures unwritten { result ≡ USAGE
@@ -75,7 +84,8 @@ pub fn serve<R: Threads + Wait + Sync, F: Files, O: Write, E: Write, P: Progress
 {
     match heap.order(words) {
         Ok(order) => match print_answer(rt, heap.alloc(), &order, files, out, progress) {
-            Ok(()) => DONE,
+            Ok(true) => DONE,
+            Ok(false) => DISHONEST,
             Err(fault) => report(fault, err),
         },
         Err(help) if !help.use_stderr() => match write!(out, "{help}") {
@@ -89,8 +99,9 @@ pub fn serve<R: Threads + Wait + Sync, F: Files, O: Write, E: Write, P: Progress
     }
 }
 
-/// Carries out an order, and prints its answer. The lines of `labels` are printed as they are made, so that they need
-/// not all be in memory: each fault but that of `out` comes before the first of them.
+/// Carries out an order, and prints its answer. It returns whether an audit finds its files honest, and `true` of any
+/// other order. The lines of `labels` are printed as they are made, so that they need not all be in memory: each fault
+/// but that of `out` comes before the first of them.
 fn print_answer<R: Threads + Wait + Sync, F: Files, O: Write, P: Progress>(
     rt: &R,
     alloc: Global,
@@ -98,9 +109,9 @@ fn print_answer<R: Threads + Wait + Sync, F: Files, O: Write, P: Progress>(
     files: &mut F,
     out: &mut Output<O>,
     progress: &P,
-) -> Result<(), Fault>
-    ensures done { OnOk result (PrintsAnswer (F.bytes files.old) (F.bytes files.new)
-        (text_of order.now) out.old out.new) }
+) -> Result<bool, Fault>
+    ensures done { IfOk result (λ honest. PrintsAnswer (F.bytes files.old) (F.bytes files.new)
+        (text_of order.now) honest out.old out.new) }
     ensures fault { IfErr result (λ fault. FailsToAnswer (F.bytes files.old) (F.bytes files.new)
         (HasFailed (F.failures files.old) (F.failures files.new))
         (text_of order.now) out.old out.new fault) }
@@ -110,11 +121,16 @@ fn print_answer<R: Threads + Wait + Sync, F: Files, O: Write, P: Progress>(
     if let Order::Labels { .. } = order {
         let lines = label_lines(alloc, order, files);
         progress.end();
-        return print_lines(lines?, out);
+        print_lines(lines?, out)?;
+        return Ok(true);
     }
-    let lines = carry_out(rt, alloc, order, files, progress);
+    let answer = carry_out(rt, alloc, order, files, progress);
     progress.end();
-    out.write_all(&lines?).map_err(|_| Fault::CannotWrite)
+    let answer = answer?;
+    match out.write_all(&answer.lines) {
+        Ok(()) => Ok(answer.is_honest),
+        Err(_) => Err(Fault::CannotWrite),
+    }
 }
 
 /// Prints the lines that are left, as they are made.

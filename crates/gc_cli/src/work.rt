@@ -1,10 +1,10 @@
 //! Carrying out orders.
 
-ghost use Rattle.std.specs.Prelude.{◌≡◌, ℕ, List, IfOk, IfErr};
+ghost use Rattle.std.specs.Prelude.{◌≡◌, ℕ, List, IfOk, IfErr, OnErr};
 ghost use Rattle.gc_order.specs.Order.{text_of};
 ghost use Rattle.gc_files.specs.Files.{HasFailed};
 ghost use Rattle.gc_command.specs.Wrote.{KeepsFiles};
-ghost use Rattle.gc_cli.specs.CarryOut.{Answers, HasFault, IsLabels, Writes};
+ghost use Rattle.gc_cli.specs.CarryOut.{Answers, AnswersLines, HasFault, IsAudit, IsLabels, Writes};
 
 use gc_command::check::check;
 use gc_command::deal::deal;
@@ -12,7 +12,7 @@ use gc_command::eval::eval;
 use gc_command::garble::garble;
 use gc_command::plain::plain;
 use gc_command::run::run;
-use gc_command::{Fault, Progress};
+use gc_command::{Fault, Progress, ValueForm};
 use gc_files::Files;
 use gc_jobs::jobs::jobs;
 use gc_order::Order;
@@ -24,35 +24,116 @@ use std::alloc::{AllocError, Allocator};
 use std::sync::Wait;
 use std::thread::Threads;
 
-/// Carries out an order, and answers the bytes for standard output, or the first fault of its work.
+/// What an order answers.
+#[derive(Drop)]
+pub struct Answer<A: Allocator> {
+    /// The bytes for standard output.
+    pub lines: Vec<u8, A>,
+    /// Whether an audit finds the files honest; true of any other order.
+    pub is_honest: bool,
+}
+
+/// Carries out an order, and returns its answer, or the first fault of its work.
 pub fn carry_out<
     R: Threads + Wait + Sync,
     A: Allocator + Copy + Send + Sync,
     F: Files,
     P: Progress,
->(rt: &R, alloc: A, order: &Order, files: &mut F, progress: &P) -> Result<Vec<u8, A>, Fault>
-    ensures answers { IfOk result (λ out.
-        Answers (F.bytes files.old) (F.bytes files.new) (text_of order.now) out.items) }
+>(rt: &R, alloc: A, order: &Order, files: &mut F, progress: &P) -> Result<Answer<A>, Fault>
+    ensures answers { IfOk result (λ answer. Answers (F.bytes files.old) (F.bytes files.new)
+        (text_of order.now) answer.is_honest answer.lines.items) }
     ensures fault { IfErr result (HasFault (F.bytes files.old)
         (HasFailed (F.failures files.old) (F.failures files.new)) (text_of order.now)) }
 
-    // A file changes only where the order writes it, and is as it was after any fault but that it can't be written.
+    // A file changes only where the order writes it, and is as it was after any fault.
     ensures others { (name : List ℕ) → ¬ Writes (text_of order.now) name
         → F.bytes files.new name ≡ F.bytes files.old name }
-    ensures unwritten { IfErr result (KeepsFiles (F.bytes files.old) (F.bytes files.new)) }
+    ensures unwritten { OnErr result (KeepsFiles (F.bytes files.old) (F.bytes files.new)) }
+{
+    if let Order::Audit { .. } = order {
+        return audit_answer(rt, alloc, order, files, progress);
+    }
+    let lines = answer_lines(rt, alloc, order, files, progress)?;
+    Ok(Answer {
+        lines,
+        is_honest: true,
+    })
+}
+
+/// Carries out an audit. That this is the order is the caller's condition.
+fn audit_answer<
+    R: Threads + Wait + Sync,
+    A: Allocator + Copy + Send + Sync,
+    F: Files,
+    P: Progress,
+>(rt: &R, alloc: A, order: &Order, files: &mut F, progress: &P) -> Result<Answer<A>, Fault>
+    requires { IsAudit (text_of order.now) }
+    ensures answers { IfOk result (λ answer. Answers (F.bytes files.old) (F.bytes files.new)
+        (text_of order.now) answer.is_honest answer.lines.items) }
+    ensures fault { IfErr result (HasFault (F.bytes files.old)
+        (HasFailed (F.failures files.old) (F.failures files.new)) (text_of order.now)) }
+    ensures same { (name : List ℕ) → F.bytes files.new name ≡ F.bytes files.old name }
+{
+    let Order::Audit {
+        circuit,
+        seed,
+        garbled,
+        workers,
+        labels,
+    } = order
+    else {
+        unreachable!()
+    };
+    let (circuit, seed) = (circuit.as_str(), seed.as_str());
+    let garbled = garbled.as_str();
+    let found = audit(
+        rt, alloc, circuit, seed, garbled, *workers, labels, files, progress,
+    )?;
+    Ok(Answer {
+        lines: found.lines,
+        is_honest: found.is_honest,
+    })
+}
+
+/// Carries out an order, and returns the bytes for standard output. That it is no audit is the caller's condition.
+fn answer_lines<
+    R: Threads + Wait + Sync,
+    A: Allocator + Copy + Send + Sync,
+    F: Files,
+    P: Progress,
+>(rt: &R, alloc: A, order: &Order, files: &mut F, progress: &P) -> Result<Vec<u8, A>, Fault>
+    requires { ¬ IsAudit (text_of order.now) }
+    ensures answers { IfOk result (λ out.
+        AnswersLines (F.bytes files.old) (F.bytes files.new) (text_of order.now) out.items) }
+    ensures fault { IfErr result (HasFault (F.bytes files.old)
+        (HasFailed (F.failures files.old) (F.failures files.new)) (text_of order.now)) }
+    ensures others { (name : List ℕ) → ¬ Writes (text_of order.now) name
+        → F.bytes files.new name ≡ F.bytes files.old name }
+    ensures unwritten { OnErr result (KeepsFiles (F.bytes files.old) (F.bytes files.new)) }
 {
     match order {
         Order::Run {
             circuit,
             seed,
             workers,
+            hex,
             values,
         } => {
             let (circuit, seed) = (circuit.as_str(), seed.as_str());
-            run(rt, alloc, circuit, seed, *workers, values, files, progress)
+            let form = ValueForm::by_flag(*hex);
+            run(
+                rt, alloc, circuit, seed, *workers, form, values, files, progress,
+            )
         }
         Order::Check { circuit } => check(rt, alloc, circuit.as_str(), files, progress),
-        Order::Plain { circuit, values } => plain(alloc, circuit.as_str(), values, files),
+        Order::Plain {
+            circuit,
+            hex,
+            values,
+        } => {
+            let form = ValueForm::by_flag(*hex);
+            plain(alloc, circuit.as_str(), form, values, files)
+        }
         Order::Garble {
             circuit,
             seed,
@@ -85,24 +166,24 @@ pub fn carry_out<
             circuit,
             garbled,
             workers,
+            hex,
             labels,
-        } => eval(
-            rt,
-            alloc,
-            circuit.as_str(),
-            garbled.as_str(),
-            *workers,
-            labels,
-            files,
-            progress,
-        ),
+        } => {
+            let (circuit, garbled) = (circuit.as_str(), garbled.as_str());
+            let form = ValueForm::by_flag(*hex);
+            eval(
+                rt, alloc, circuit, garbled, *workers, form, labels, files, progress,
+            )
+        }
         Order::Jobs {
             circuit,
             list,
             workers,
+            hex,
         } => {
             let (circuit, list) = (circuit.as_str(), list.as_str());
-            jobs(rt, alloc, circuit, list, *workers, files, progress)
+            let form = ValueForm::by_flag(*hex);
+            jobs(rt, alloc, circuit, list, *workers, form, files, progress)
         }
         Order::Locate { circuit } => locate(alloc, circuit.as_str(), files),
         Order::Stats { circuit } => stats(alloc, circuit.as_str(), files),
@@ -110,19 +191,7 @@ pub fn carry_out<
             let lines = label_lines(alloc, order, files)?;
             Ok(all_lines(alloc, lines)?)
         }
-        Order::Audit {
-            circuit,
-            seed,
-            garbled,
-            workers,
-            labels,
-        } => {
-            let (circuit, seed) = (circuit.as_str(), seed.as_str());
-            let garbled = garbled.as_str();
-            audit(
-                rt, alloc, circuit, seed, garbled, *workers, labels, files, progress,
-            )
-        }
+        Order::Audit { .. } => unreachable!(),
     }
 }
 
@@ -134,7 +203,7 @@ pub(crate) fn label_lines<A: Allocator + Copy, F: Files>(
 ) -> Result<LabelLines<A>, Fault>
     requires { IsLabels (text_of order.now) }
     ensures answers { IfOk result (λ lines.
-        Answers (F.bytes files.old) (F.bytes files.new) (text_of order.now) lines) }
+        AnswersLines (F.bytes files.old) (F.bytes files.new) (text_of order.now) lines) }
     ensures fault { IfErr result (HasFault (F.bytes files.old)
         (HasFailed (F.failures files.old) (F.failures files.new)) (text_of order.now)) }
     ensures same { (name : List ℕ) → F.bytes files.new name ≡ F.bytes files.old name }

@@ -111,8 +111,8 @@ fn assert_prints<R: Threads + Wait + Sync + Abort>(
     printed: &str,
 ) -> Result<(), Fail> {
     let mut files = MemFiles::limited(alloc, files, limits);
-    let lines = carry_out(rt, alloc, order, &mut files, &Silent)?;
-    assert_eq!(rt; lines.as_slice(), printed.as_bytes());
+    let answer = carry_out(rt, alloc, order, &mut files, &Silent)?;
+    assert_eq!(rt; answer.lines.as_slice(), printed.as_bytes());
     Ok(())
 }
 

@@ -61,8 +61,8 @@ pub fn outcome_of_refusal<R: Threads + Wait + Sync + Abort, B: Allocator + Copy>
     printed: &str,
 ) -> Option<Result<(), Fault>> {
     match carry_out(rt, heap, order, files, &Silent) {
-        Ok(lines) => {
-            assert_eq!(rt; lines.as_slice(), printed.as_bytes());
+        Ok(answer) => {
+            assert_eq!(rt; answer.lines.as_slice(), printed.as_bytes());
             (heap.refused() > 0).then_some(Ok(()))
         }
         Err(fault) => {

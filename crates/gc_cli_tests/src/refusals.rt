@@ -48,7 +48,7 @@ fn fault_of_refusal<R: Threads + Wait + Sync + Abort>(
     let outcome = outcome_of_refusal(rt, &heap, order, &mut MemFiles::new(&heap, files), printed)?;
     if outcome.is_err() {
         let again = carry_out(rt, &heap, order, &mut MemFiles::new(&heap, files), &Silent);
-        let is_right = again.is_ok_and(|lines| lines.as_slice() == printed.as_bytes());
+        let is_right = again.is_ok_and(|answer| answer.lines.as_slice() == printed.as_bytes());
         assert!(rt; is_right, "after growth {growth} was refused");
     }
     Some(outcome)

@@ -8,3 +8,4 @@ pub mod FaultLemmas
 pub mod CauseLemmas
 pub mod OwnFilesLemmas
 pub mod CheckLemmas
+pub mod HexTextLemmas

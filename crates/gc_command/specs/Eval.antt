@@ -12,6 +12,7 @@ use Rattle.gc_gatehouse.specs.Workers.{AreFew}
 use Rattle.gc_files.specs.Files.{FileBytes}
 use Rattle.gc_command.specs.declared.fault.Fault.{Fault}
 use Rattle.gc_command.specs.declared.fault.Fault.TheVariants.{Circuit, File, Binding, Evaluation, CannotRead, Memory}
+use Rattle.gc_command.specs.declared.value_form.ValueForm.{ValueForm}
 use Rattle.gc_command.specs.CircuitFile.{IsCircuit, HasCircuitFault}
 use Rattle.gc_command.specs.Lines.{output_lines}
 use Rattle.gc_command.specs.Job.{DecodeTo, HasJobFault}
@@ -78,7 +79,7 @@ pub record FilesGive (bytes : FileBytes) (c : Netlist) (garbled : List ℕ) (wor
 
 -- What `eval` answers: the lines of what the files decode to, whatever the number of workers.
 pub record AnswersEval (bytes : FileBytes) (circuit garbled : List ℕ) (workers : ℕ)
-    (labels : List (List ℕ)) (lines : List ℕ) : Type 0 where
+    (form : ValueForm) (labels : List (List ℕ)) (lines : List ℕ) : Type 0 where
   pub c : Netlist
   pub g : GarbledParts
   pub files : List LabelFileParts
@@ -86,7 +87,7 @@ pub record AnswersEval (bytes : FileBytes) (circuit garbled : List ℕ) (workers
   pub few : AreFew workers
   pub outputs : List Bool
   pub decoded : DecodeTo c g files outputs
-  pub printed : lines ≡ output_lines c.output_widths outputs
+  pub printed : lines ≡ output_lines form c.output_widths outputs
 
 -- When `eval` has which fault: it is the first in the order of the work, in which the number of workers comes after
 -- binding, but that memory may run out at each step. A file that can't be read has failed, and each file before it is

@@ -11,6 +11,7 @@ use Rattle.gc_job.specs.declared.fault.BindFault.TheVariants as bind
 use Rattle.gc_job.specs.declared.fault.EvalFault.TheVariants as eval
 use Rattle.gc_command.specs.declared.fault.Fault.{Fault}
 use Rattle.gc_command.specs.declared.fault.Fault.TheVariants.{Garbling, File, Binding, Evaluation, Memory}
+use Rattle.gc_command.specs.declared.value_form.ValueForm.{ValueForm}
 use Rattle.gc_command.specs.Input.{IsInput, HasInput, HasInputFault}
 use Rattle.gc_command.specs.Lines.{output_lines}
 
@@ -29,15 +30,15 @@ IsOwnFault workers (Garbling fault) = HasWorkFault workers fault
 IsOwnFault workers fault = IsWantOfMemory fault
 
 -- What `run` answers: the lines of the circuit's outputs on the values, whatever the number of workers.
-pub record AnswersRun (bytes seed : List ℕ) (workers : ℕ) (texts : List (List ℕ))
-    (lines : List ℕ) : Type 0 where
+pub record AnswersRun (bytes seed : List ℕ) (workers : ℕ) (form : ValueForm)
+    (texts : List (List ℕ)) (lines : List ℕ) : Type 0 where
   pub circuit : Netlist
   pub values : List (List Bool)
   pub input : IsInput bytes seed texts circuit values
   pub few : AreFew workers
   pub outputs : List Bool
   pub computed : AreOutputs circuit (flat_map (λ value. value) values) outputs
-  pub printed : lines ≡ output_lines circuit.output_widths outputs
+  pub printed : lines ≡ output_lines form circuit.output_widths outputs
 
 -- When `run` has which fault: it is the first in the order of the work, but that memory may run out at each step.
 abbrev pub HasRunFault : List ℕ → List ℕ → ℕ → List (List ℕ) → Fault → Type 0

@@ -1,5 +1,5 @@
 -- A file that a command writes, and what the command prints of it.
-use Rattle.std.specs.Prelude.{◌≡◌, ◌≢◌, ℕ, List, [], ◌∷◌, ◌++◌, length, Option, Some, codes}
+use Rattle.std.specs.Prelude.{◌≡◌, ℕ, List, [], ◌∷◌, ◌++◌, length, Option, Some, codes}
 use Rattle.std.specs.Fmt.{decimal}
 use Rattle.gc_files.specs.Files.{FileBytes}
 use Rattle.gc_command.specs.declared.fault.Fault.{Fault}
@@ -20,6 +20,6 @@ IsUnwritten CannotWrite = Unit {0}
 IsUnwritten Memory = Unit {0}
 IsUnwritten _ = ⊥
 
--- After any fault but that a file can't be written, each file is as it was.
-abbrev pub KeepsFiles : FileBytes → FileBytes → Fault → Type 0
-KeepsFiles old new fault = fault ≢ CannotWrite → (name : List ℕ) → new name ≡ old name
+-- Each file is as it was.
+abbrev pub KeepsFiles : FileBytes → FileBytes → Type 0
+KeepsFiles old new = (name : List ℕ) → new name ≡ old name

@@ -1,6 +1,6 @@
 //! The command `deal`: writing the labels of one input value.
 
-ghost use Rattle.std.specs.Prelude.{◌≡◌, ◌≢◌, ℕ, List, Some, length, slice_get, IfOk, IfErr, IfSome};
+ghost use Rattle.std.specs.Prelude.{◌≡◌, ◌≢◌, ℕ, List, Some, length, slice_get, IfOk, IfErr, OnOk, OnErr, IfSome};
 ghost use Rattle.gc_format.specs.LabelFile.{label_file, label_parts_of};
 ghost use Rattle.gc_files.specs.Files.{HasFailed};
 ghost use Rattle.gc_command.specs.Deal.{AnswersDeal, HasDealFault};
@@ -18,7 +18,7 @@ use gc_label::Seed;
 use std::alloc::Allocator;
 
 /// Writes the label file of the input value of this index, by the circuit of a file and a seed, and answers the line
-/// that states its bytes.
+/// that states its bytes. A file in place of the label file is replaced at once, and stays as it is at a fault.
 pub fn deal<A: Allocator + Copy, F: Files>(
     alloc: A,
     circuit: &str,
@@ -37,15 +37,17 @@ pub fn deal<A: Allocator + Copy, F: Files>(
         (HasFailed (F.failures files.old) (F.failures files.new) circuit.now)
         (HasFailed (F.failures files.old) (F.failures files.new) out.now)) }
     ensures others { (n : List ℕ) → n ≢ out.now → F.bytes files.new n ≡ F.bytes files.old n }
-    ensures unwritten { IfErr result (KeepsFiles (F.bytes files.old) (F.bytes files.new)) }
+    ensures unwritten { OnErr result (KeepsFiles (F.bytes files.old) (F.bytes files.new)) }
+    ensures apart { OnOk result (out.now ≢ circuit.now) }
 {
+    let source = circuit;
     let circuit = read_circuit(alloc, circuit, files)?;
     let seed = Seed::from_hex(seed)?;
     let bits = read_input_value(alloc, circuit.input_widths(), index, value)?;
-    write_value(alloc, &circuit, &seed, index, &bits, out, files)
+    write_value(alloc, &circuit, &seed, index, &bits, out, source, files)
 }
 
-/// Writes the label file of an input value with these bits. That there is such a value, and that the bits have its
+/// Writes the label file of an input value with these bits, which is not `source`. That there is such a value, and that the bits have its
 /// width, are the caller's conditions.
 fn write_value<A: Allocator + Copy, F: Files>(
     alloc: A,
@@ -54,6 +56,7 @@ fn write_value<A: Allocator + Copy, F: Files>(
     index: u32,
     bits: &[bool],
     out: &str,
+    source: &str,
     files: &mut F,
 ) -> Result<Vec<u8, A>, Fault>
     requires { slice_get circuit.now.input_widths index ≡ Some (length bits.now) }
@@ -64,10 +67,11 @@ fn write_value<A: Allocator + Copy, F: Files>(
     ensures cause { IfErr result
         (HasWriteCause (F.failures files.old) (F.failures files.new) out.now) }
     ensures others { (n : List ℕ) → n ≢ out.now → F.bytes files.new n ≡ F.bytes files.old n }
-    ensures unwritten { IfErr result (KeepsFiles (F.bytes files.old) (F.bytes files.new)) }
+    ensures unwritten { OnErr result (KeepsFiles (F.bytes files.old) (F.bytes files.new)) }
+    ensures apart { OnOk result (out.now ≢ source.now) }
 {
     let room = Vec::with_capacity(alloc, ROOM)?;
-    let mut sink = files.create(out)?;
+    let mut sink = files.create(out, source)?;
     let written = write_labels(&mut sink, circuit, seed, index, bits);
     keep_written(files, out, sink, written, room)
 }

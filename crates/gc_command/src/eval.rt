@@ -13,6 +13,7 @@ use crate::fault::Fault;
 use crate::job::evaluate_files;
 use crate::lines::output_lines;
 use crate::progress::{Progress, Work};
+use crate::value_form::ValueForm;
 use gc_circuit::{BegunDigest, Circuit};
 use gc_eval::BindFault;
 use gc_files::Files;
@@ -22,19 +23,20 @@ use std::thread;
 use std::thread::Threads;
 
 /// Evaluates the circuit of a file from the garbled file and the label files of these names, by this many workers, and
-/// answers the lines of the output values that they decode to. Nothing of these files is trusted.
+/// answers the lines of the output values that they decode to, in this form. Nothing of these files is trusted.
 pub fn eval<R: Threads + Wait + Sync, A: Allocator + Copy + Send + Sync, F: Files, P: Progress>(
     rt: &R,
     alloc: A,
     circuit: &str,
     garbled: &str,
     workers: u32,
+    form: ValueForm,
     labels: &[String],
     files: &mut F,
     progress: &P,
 ) -> Result<Vec<u8, A>, Fault>
     ensures answers { IfOk result
-        (λ lines. AnswersEval (F.bytes files.old) circuit.now garbled.now workers
+        (λ lines. AnswersEval (F.bytes files.old) circuit.now garbled.now workers form
         (map string_bytes labels.now) lines.items) }
     ensures fault { IfErr result (HasEvalFault (F.bytes files.old)
         (HasFailed (F.failures files.old) (F.failures files.new)) circuit.now garbled.now workers
@@ -51,7 +53,7 @@ pub fn eval<R: Threads + Wait + Sync, A: Allocator + Copy + Send + Sync, F: File
         return Err(Fault::Binding(BindFault::OtherCircuit));
     }
     let outputs = evaluated.outputs?;
-    Ok(output_lines(alloc, circuit.output_widths(), &outputs)?)
+    Ok(output_lines(alloc, form, circuit.output_widths(), &outputs)?)
 }
 
 /// What the files of an evaluation give, before it is known whether they are of the circuit.

@@ -1,6 +1,6 @@
 //! The command `garble`: writing a garbled file.
 
-ghost use Rattle.std.specs.Prelude.{◌≡◌, ◌≢◌, ℕ, List, IfOk, IfErr, IfSome};
+ghost use Rattle.std.specs.Prelude.{◌≡◌, ◌≢◌, ℕ, List, IfOk, IfErr, OnOk, OnErr, IfSome};
 ghost use Rattle.sha2.specs.Sha256.{sha256};
 ghost use Rattle.gc_netlist.specs.Canon.{canonical_text};
 ghost use Rattle.gc_half.specs.Garbling.{FitsCircuit};
@@ -28,7 +28,7 @@ use std::sync::Wait;
 use std::thread::Threads;
 
 /// Garbles the circuit of a file under a seed by this many workers, writes the garbled file, and answers the line that
-/// states its bytes.
+/// states its bytes. A file in place of the garbled file is replaced at once, and stays as it is at a fault.
 pub fn garble<R: Threads + Wait + Sync, A: Allocator + Copy + Send + Sync, F: Files, P: Progress>(
     rt: &R,
     alloc: A,
@@ -49,9 +49,11 @@ pub fn garble<R: Threads + Wait + Sync, A: Allocator + Copy + Send + Sync, F: Fi
         (HasFailed (F.failures files.old) (F.failures files.new) circuit.now)
         (HasFailed (F.failures files.old) (F.failures files.new) out.now)) }
     ensures others { (n : List ℕ) → n ≢ out.now → F.bytes files.new n ≡ F.bytes files.old n }
-    ensures unwritten { IfErr result (KeepsFiles (F.bytes files.old) (F.bytes files.new)) }
+    ensures unwritten { OnErr result (KeepsFiles (F.bytes files.old) (F.bytes files.new)) }
+    ensures apart { OnOk result (out.now ≢ circuit.now) }
 {
     progress.begin(1, 3, Work::ReadingCircuit);
+    let source = circuit;
     let (circuit, begun) = read_and_begin_digest(rt, alloc, circuit, files, HashedPart::Beginning)?;
     let seed = Seed::from_hex(seed)?;
     let gates = circuit.gates();
@@ -59,11 +61,11 @@ pub fn garble<R: Threads + Wait + Sync, A: Allocator + Copy + Send + Sync, F: Fi
     let (digest, garbling) = digest_and_garbling(rt, alloc, &circuit, begun, &seed, workers)?;
     progress.begin(3, 3, Work::Writing);
     write_garbling(
-        alloc, version, &circuit, &digest, &garbling, &seed, out, files,
+        alloc, version, &circuit, &digest, &garbling, &seed, out, source, files,
     )
 }
 
-/// Writes the garbled file of a garbling. That the digest is the circuit's, and that the garbling fits the circuit, are
+/// Writes the garbled file of a garbling, which is not `source`. That the digest is the circuit's, and that the garbling fits the circuit, are
 /// the caller's conditions.
 fn write_garbling<A: Allocator + Copy, F: Files>(
     alloc: A,
@@ -73,6 +75,7 @@ fn write_garbling<A: Allocator + Copy, F: Files>(
     garbling: &Garbling<A>,
     seed: &Seed,
     out: &str,
+    source: &str,
     files: &mut F,
 ) -> Result<Vec<u8, A>, Fault>
     requires digest { digest.now ≡ sha256 (canonical_text circuit.now) }
@@ -84,10 +87,11 @@ fn write_garbling<A: Allocator + Copy, F: Files>(
     ensures cause { IfErr result
         (HasWriteCause (F.failures files.old) (F.failures files.new) out.now) }
     ensures others { (n : List ℕ) → n ≢ out.now → F.bytes files.new n ≡ F.bytes files.old n }
-    ensures unwritten { IfErr result (KeepsFiles (F.bytes files.old) (F.bytes files.new)) }
+    ensures unwritten { OnErr result (KeepsFiles (F.bytes files.old) (F.bytes files.new)) }
+    ensures apart { OnOk result (out.now ≢ source.now) }
 {
     let room = Vec::with_capacity(alloc, ROOM)?;
-    let mut sink = files.create(out)?;
+    let mut sink = files.create(out, source)?;
     let written = write_version(&mut sink, version, circuit, digest, garbling, seed);
     keep_written(files, out, sink, written, room)
 }

@@ -15,12 +15,14 @@ mod own_files;
 pub mod plain;
 mod progress;
 pub mod run;
+mod value_form;
 mod values;
 mod wrote;
 
 pub use circuit_file::{HashedPart, read_and_begin_digest, read_circuit, read_circuit_and_digest};
 pub use evaluated_files::{read_garbled_file, read_label_files};
 pub use fault::Fault;
-pub use lines::{push_count, push_digits, push_number, push_output_lines};
+pub use lines::{push_count, push_number, push_output_lines};
 pub use progress::{Progress, Silent, Work};
+pub use value_form::{ValueForm, law_output_values, push_digits};
 pub use values::read_values;

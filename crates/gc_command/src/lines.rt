@@ -1,9 +1,9 @@
 //! What commands print.
 
-ghost use Rattle.std.specs.Prelude.{◌≡◌, ◌++◌, ◌∷◌, decimal, length, map, sum, IfOk, OnOk};
-ghost use Rattle.gc_value.specs.Value.{binary_digit};
+ghost use Rattle.std.specs.Prelude.{◌≡◌, ◌++◌, ◌∷◌, decimal, length, sum, IfOk, OnOk};
 ghost use Rattle.gc_command.specs.Lines.{count_line, output_lines};
 
+use crate::value_form::{ValueForm, push_value};
 use itoa::Buffer;
 use std::alloc::{AllocError, Allocator};
 
@@ -31,46 +31,39 @@ pub fn push_number<A: Allocator>(lines: &mut Vec<u8, A>, number: u64) -> Result<
     lines.extend_from_slice(buffer.format(number).as_bytes())
 }
 
-/// The output values, one a line, as characters `0` and `1` in wire order. That the widths are together as many as
-/// the bits is the caller's condition.
+/// The output values, one a line, in this form. That the widths are together as many as the bits is the caller's
+/// condition.
 pub fn output_lines<A: Allocator>(
     alloc: A,
+    form: ValueForm,
     widths: &[u32],
     bits: &[bool],
 ) -> Result<Vec<u8, A>, AllocError>
     requires { sum widths.now ≡ length bits.now }
-    ensures { IfOk result (λ lines. lines.items ≡ output_lines widths.now bits.now) }
+    ensures { IfOk result (λ lines. lines.items ≡ output_lines form widths.now bits.now) }
 {
-    let mut lines = Vec::with_capacity(alloc, widths.len() + bits.len())?;
-    push_output_lines(&mut lines, widths, bits)?;
+    let mut lines = Vec::with_capacity(alloc, form.room(widths.len(), bits.len()))?;
+    push_output_lines(&mut lines, form, widths, bits)?;
     Ok(lines)
 }
 
 /// Adds the lines of output values, under the same condition.
 pub fn push_output_lines<A: Allocator>(
     lines: &mut Vec<u8, A>,
+    form: ValueForm,
     widths: &[u32],
     bits: &[bool],
 ) -> Result<(), AllocError>
     requires { sum widths.now ≡ length bits.now }
-    ensures { OnOk result (lines.new.items ≡ lines.old.items ++ output_lines widths.now bits.now) }
+    ensures { OnOk result
+        (lines.new.items ≡ lines.old.items ++ output_lines form widths.now bits.now) }
 {
     let mut left = bits;
     for width in widths {
         let (value, others) = left.split_at(*width as usize);
-        push_digits(lines, value)?;
+        push_value(lines, form, value)?;
         lines.push(b'\n')?;
         left = others;
-    }
-    Ok(())
-}
-
-/// Adds a character `0` or `1` for each bit.
-pub fn push_digits<A: Allocator>(line: &mut Vec<u8, A>, bits: &[bool]) -> Result<(), AllocError>
-    ensures { OnOk result (line.new.items ≡ line.old.items ++ map binary_digit bits.now) }
-{
-    for bit in bits {
-        line.push(if *bit { b'1' } else { b'0' })?;
     }
     Ok(())
 }

@@ -7,20 +7,22 @@ ghost use Rattle.gc_command.specs.Fault.{HasReadCause};
 use crate::circuit_file::read_circuit;
 use crate::fault::Fault;
 use crate::lines::output_lines;
+use crate::value_form::ValueForm;
 use crate::values::read_values;
 use gc_circuit::{ReadFault, plain_eval};
 use gc_files::Files;
 use std::alloc::Allocator;
 
-/// Evaluates the circuit of a file on the values, and answers the lines of its output values.
+/// Evaluates the circuit of a file on the values, and answers the lines of its output values in this form.
 pub fn plain<A: Allocator + Copy, F: Files>(
     alloc: A,
     circuit: &str,
+    form: ValueForm,
     values: &[String],
     files: &mut F,
 ) -> Result<Vec<u8, A>, Fault>
     ensures answers { IfOk result (λ lines. IfSome (F.bytes files.old circuit.now)
-        (λ bytes. AnswersPlain bytes (map string_bytes values.now) lines.items)) }
+        (λ bytes. AnswersPlain bytes form (map string_bytes values.now) lines.items)) }
     ensures fault { IfErr result (λ fault. IfSome (F.bytes files.old circuit.now)
         (λ bytes. HasPlainFault bytes (map string_bytes values.now) fault)) }
     ensures cause { IfErr result
@@ -32,5 +34,5 @@ pub fn plain<A: Allocator + Copy, F: Files>(
     let outputs = plain_eval(alloc, &circuit, &values).map_err(|_| Fault::Circuit(
         ReadFault::Memory,
     ))?;
-    Ok(output_lines(alloc, circuit.output_widths(), &outputs)?)
+    Ok(output_lines(alloc, form, circuit.output_widths(), &outputs)?)
 }

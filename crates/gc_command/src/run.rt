@@ -10,6 +10,7 @@ use crate::job::evaluate_files;
 use crate::lines::output_lines;
 use crate::own_files::{own_garbled, own_labels};
 use crate::progress::{Progress, Work};
+use crate::value_form::ValueForm;
 use crate::values::read_values;
 use gc_files::Files;
 use gc_label::Seed;
@@ -18,19 +19,21 @@ use std::sync::Wait;
 use std::thread::Threads;
 
 /// Garbles the circuit of a file under a seed by this many workers, deals the values, evaluates the circuit from
-/// the files of these, which it makes in memory, and answers the lines of the output values.
+/// the files of these, which it makes in memory, and answers the lines of the output values in this form.
 pub fn run<R: Threads + Wait + Sync, A: Allocator + Copy + Send + Sync, F: Files, P: Progress>(
     rt: &R,
     alloc: A,
     circuit: &str,
     seed: &str,
     workers: u32,
+    form: ValueForm,
     values: &[String],
     files: &mut F,
     progress: &P,
 ) -> Result<Vec<u8, A>, Fault>
     ensures answers { IfOk result (λ lines. IfSome (F.bytes files.old circuit.now)
-        (λ bytes. AnswersRun bytes seed.now workers (map string_bytes values.now) lines.items)) }
+        (λ bytes. AnswersRun bytes seed.now workers form (map string_bytes values.now)
+        lines.items)) }
     ensures fault { IfErr result (λ fault. IfSome (F.bytes files.old circuit.now)
         (λ bytes. HasRunFault bytes seed.now workers (map string_bytes values.now) fault)) }
     ensures cause { IfErr result
@@ -49,5 +52,5 @@ pub fn run<R: Threads + Wait + Sync, A: Allocator + Copy + Send + Sync, F: Files
     let digest = garbled.digest();
     progress.begin(3, 3, Work::Evaluating { gates });
     let outputs = evaluate_files(rt, alloc, &circuit, &digest, garbled, &labels, 1)?;
-    Ok(output_lines(alloc, circuit.output_widths(), &outputs)?)
+    Ok(output_lines(alloc, form, circuit.output_widths(), &outputs)?)
 }

@@ -3,7 +3,7 @@
 ghost use Rattle.std.specs.Prelude.{◌≡◌, ◌<◌, ◌≤◌, ◌≢◌, ℕ, List, [], Some, IfOk, IfErr, OnErr, vec_capacity};
 ghost use Rattle.gc_write.specs.Written.{IsWritten};
 ghost use Rattle.gc_files.specs.Files.{HasFailed};
-ghost use Rattle.gc_command.specs.Wrote.{HasWritten, wrote_line};
+ghost use Rattle.gc_command.specs.Wrote.{HasWritten, KeepsFiles, wrote_line};
 
 use crate::fault::Fault;
 use gc_file::WriteFault;
@@ -14,8 +14,8 @@ use std::alloc::Allocator;
 /// Room for the longest line: `wrote `, the digits of a 64-bit number, and a line feed.
 pub const ROOM: usize = 27;
 
-/// Keeps the sink that a file was written to, and answers the line that states the file's bytes. That `room` is empty
-/// and holds [`ROOM`] bytes, so that no memory is taken, and that a sink whose writing failed has counted a failure,
+/// Keeps the sink that a file was written to, and returns the line that states the file's bytes. At a fault the file
+/// stays as it is. That `room` is empty and holds [`ROOM`] bytes, so that no memory is taken, and that a sink whose writing failed has counted a failure,
 /// are the caller's conditions.
 pub fn keep_written<A: Allocator, F: Files>(
     files: &mut F,
@@ -34,10 +34,18 @@ pub fn keep_written<A: Allocator, F: Files>(
     ensures cause { OnErr result
         (HasFailed (F.failures files.old) (F.failures files.new) name.now) }
     ensures others { (n : List ℕ) → n ≢ name.now → F.bytes files.new n ≡ F.bytes files.old n }
+    ensures unwritten { OnErr result (KeepsFiles (F.bytes files.old) (F.bytes files.new)) }
 {
-    files.keep(name, sink)?;
-    let count = written?;
-    Ok(wrote_line(room, count))
+    match written {
+        Ok(count) => {
+            files.keep(name, sink)?;
+            Ok(wrote_line(room, count))
+        }
+        Err(_) => {
+            files.discard(name, sink);
+            Err(Fault::CannotWrite)
+        }
+    }
 }
 
 /// The line that states a number of bytes, in `room`, under the same condition on it.

@@ -1,6 +1,6 @@
 //! The files that commands read and write.
 
-ghost use Rattle.std.specs.Prelude.{◌≡◌, ◌≢◌, ◌++◌, ℕ, List, [], replicate, Option, Some, IfOk, IfErr, OnOk, IfSome};
+ghost use Rattle.std.specs.Prelude.{◌≡◌, ◌≢◌, ◌++◌, ℕ, List, [], replicate, Option, Some, IfOk, IfErr, OnOk, OnErr, IfSome};
 ghost use Rattle.gc_files.specs.Files.{GivesFile, FailedFiles, CountsRead, CountsWrite};
 
 use std::alloc::{AllocError, Allocator};
@@ -47,18 +47,19 @@ pub trait Files {
         ensures counted { CountsRead result name.now (failures self.old) (failures self.new) }
         ensures same { (n : List ℕ) → bytes self.new n ≡ bytes self.old n };
 
-    /// A sink for the file of this name, whose old content is gone. Nothing is known of the file until the sink is
-    /// kept. Where the bytes of any file are known, what the sink takes is known too.
-    fn create(&mut self, name: &str) -> Result<Self::Sink, FileError>
+    /// A sink for the file of this name. The file stays as it is until the sink is kept. Where the bytes of any file
+    /// are known, what the sink takes is known too. The name is refused where it is that of `source`, the file that the
+    /// command reads, or another name of it. Where memory is refused, the file has not failed.
+    fn create(&mut self, name: &str, source: &str) -> Result<Self::Sink, FileError>
         ensures empty { IfOk result (λ sink. (n : List ℕ) → IfSome (bytes self.old n)
             (λ _. Self.Sink.taken sink ≡ Some [])) }
         ensures unfailed { IfOk result (λ sink. Self.Sink.failures sink ≡ 0) }
         ensures counted { CountsWrite result name.now (failures self.old) (failures self.new) }
-        ensures no_memory { IfErr result (λ e. e ≢ FileError.Memory) }
-        ensures others { (n : List ℕ) → n ≢ name.now → bytes self.new n ≡ bytes self.old n };
+        ensures apart { IfOk result (λ _. name.now ≢ source.now) }
+        ensures same { (n : List ℕ) → bytes self.new n ≡ bytes self.old n };
 
-    /// Keeps a sink that was created for the file of this name: the file holds what it took, where that is known. The
-    /// sink's failures are the file's.
+    /// Keeps a sink that was created for the file of this name: the file holds what it took, where that is known, or
+    /// stays as it is at an error. The sink's failures are the file's.
     fn keep(&mut self, name: &str, sink: Self::Sink) -> Result<(), FileError>
         ensures held { OnOk result (IfSome (Self.Sink.taken sink)
             (λ taken. bytes self.new name.now ≡ Some taken)) }
@@ -66,7 +67,15 @@ pub trait Files {
             (failures self.old ++ replicate (Self.Sink.failures sink) name.now)
             (failures self.new) }
         ensures no_memory { IfErr result (λ e. e ≢ FileError.Memory) }
-        ensures others { (n : List ℕ) → n ≢ name.now → bytes self.new n ≡ bytes self.old n };
+        ensures others { (n : List ℕ) → n ≢ name.now → bytes self.new n ≡ bytes self.old n }
+        ensures unkept { OnErr result ((n : List ℕ) → bytes self.new n ≡ bytes self.old n) };
+
+    /// Lets a sink go that was created for the file of this name. The file stays as it is. The sink's failures are the
+    /// file's.
+    fn discard(&mut self, name: &str, sink: Self::Sink)
+        ensures counted { failures self.new
+            ≡ failures self.old ++ replicate (Self.Sink.failures sink) name.now }
+        ensures same { (n : List ℕ) → bytes self.new n ≡ bytes self.old n };
 
     /// A source of the file of this name. A file that can't be opened has failed; where memory is refused, it has not.
     fn open(&mut self, name: &str) -> Result<Self::Source, FileError>

@@ -6,6 +6,7 @@ ghost use Rattle.std.specs.IoError.{error_kind};
 
 use crate::file_failures::FileFailures;
 use crate::files::{FileError, Files};
+use crate::replacement::{Replacement, open_out};
 use gc_file::{InSource, OutSink, Sink, SinkFault};
 use std::alloc::Allocator;
 use std::io::{self, ErrorKind, Read, Write};
@@ -13,11 +14,12 @@ use std::{fs, rt};
 
 /// A sink of a file that the system keeps. Nothing is known of what it took.
 #[derive(Drop)]
-pub struct HostSink<W> {
+pub struct HostSink<W, A: Allocator> {
     sink: OutSink<W>,
+    replacement: Option<Replacement<A>>,
 }
 
-impl<W: Write> Sink for HostSink<W> {
+impl<W: Write, A: Allocator> Sink for HostSink<W, A> {
     ghost taken = { λ _. None };
 
     ghost failures = { λ s. s.sink.failures };
@@ -28,13 +30,17 @@ impl<W: Write> Sink for HostSink<W> {
 }
 
 /// The files of a runtime. Nothing is known of their bytes.
+///
+/// A regular file is replaced by a whole new one: its sink writes a file beside it, `.halfgates-N.tmp`, which is renamed
+/// when the sink is kept, and removed otherwise. It has the permissions of the file that it replaces. A FIFO or a device
+/// is written as its sink takes bytes. Each name of standard output is refused.
 #[derive(Drop)]
-pub struct HostFiles<'r, R: rt::Files> {
+pub struct HostFiles<'r, R: rt::Files + Alloc> {
     rt: &'r R,
-    failures: FileFailures<HostSink<R::File>, InSource<R::File>>,
+    failures: FileFailures<HostSink<R::File, R::A>, InSource<R::File>>,
 }
 
-impl<'r, R: rt::Files> HostFiles<'r, R> {
+impl<'r, R: rt::Files + Alloc> HostFiles<'r, R> {
     /// The files of this runtime. None has failed yet.
     pub fn new(rt: &'r R) -> HostFiles<'r, R>
         ensures { result.failures ≡ [] }
@@ -46,8 +52,8 @@ impl<'r, R: rt::Files> HostFiles<'r, R> {
     }
 }
 
-impl<'r, R: rt::Files> Files for HostFiles<'r, R> {
-    type Sink = HostSink<R::File>;
+impl<'r, R: rt::Files + Alloc> Files for HostFiles<'r, R> {
+    type Sink = HostSink<R::File, R::A>;
 
     type Source = InSource<R::File>;
 
@@ -63,11 +69,18 @@ impl<'r, R: rt::Files> Files for HostFiles<'r, R> {
         outcome
     }
 
-    fn create(&mut self, name: &str) -> Result<HostSink<R::File>, FileError> {
-        match fs::create(self.rt, name) {
-            Ok(file) => Ok(HostSink {
-                sink: OutSink::new(file),
-            }),
+    fn create(&mut self, name: &str, source: &str) -> Result<HostSink<R::File, R::A>, FileError> {
+        let outcome = create_sink(self.rt, name, source);
+        if let Err(FileError::CannotWrite) = outcome {
+            self.failures.add_one(name);
+        }
+        outcome
+    }
+
+    fn keep(&mut self, name: &str, sink: HostSink<R::File, R::A>) -> Result<(), FileError> {
+        self.failures.add_sink(name, &sink);
+        match keep_sink(self.rt, sink) {
+            Ok(()) => Ok(()),
             Err(_) => {
                 self.failures.add_one(name);
                 Err(FileError::CannotWrite)
@@ -75,14 +88,12 @@ impl<'r, R: rt::Files> Files for HostFiles<'r, R> {
         }
     }
 
-    fn keep(&mut self, name: &str, sink: HostSink<R::File>) -> Result<(), FileError> {
+    fn discard(&mut self, name: &str, sink: HostSink<R::File, R::A>) {
         self.failures.add_sink(name, &sink);
-        match sink.sink.into_inner().flush() {
-            Ok(()) => Ok(()),
-            Err(_) => {
-                self.failures.add_one(name);
-                Err(FileError::CannotWrite)
-            }
+        let HostSink { sink, replacement } = sink;
+        drop(sink);
+        if let Some(replacement) = replacement {
+            replacement.remove(self.rt);
         }
     }
 
@@ -101,6 +112,45 @@ impl<'r, R: rt::Files> Files for HostFiles<'r, R> {
 
     fn shut(&mut self, name: &str, source: InSource<R::File>) {
         self.failures.add_source(name, &source);
+    }
+}
+
+/// A sink for the file of this name, which is not `source`.
+fn create_sink<R: rt::Files + Alloc>(
+    rt: &R,
+    name: &str,
+    source: &str,
+) -> Result<HostSink<R::File, R::A>, FileError>
+    ensures unfailed { IfOk result (λ sink. sink.sink.failures ≡ 0) }
+    ensures apart { IfOk result (λ _. name.now ≢ source.now) }
+    ensures writing { IfErr result (λ e. e ≢ FileError.CannotRead) }
+{
+    if name == source {
+        return Err(FileError::CannotWrite);
+    }
+    match open_out(rt, name, source) {
+        Ok((file, replacement)) => Ok(HostSink {
+            sink: OutSink::new(file),
+            replacement,
+        }),
+        Err(error) if error.kind() == ErrorKind::OutOfMemory => Err(FileError::Memory),
+        Err(_) => Err(FileError::CannotWrite),
+    }
+}
+
+/// Writes out what a sink holds back, and puts its file in the place of the one that it replaces.
+fn keep_sink<W: Write + Drop, A: Allocator>(
+    files: &impl rt::Files,
+    sink: HostSink<W, A>,
+) -> io::Result<()> {
+    let flushed = sink.sink.into_inner().flush();
+    match (flushed, sink.replacement) {
+        (Ok(()), Some(replacement)) => replacement.finish(files),
+        (Err(error), Some(replacement)) => {
+            replacement.remove(files);
+            Err(error)
+        }
+        (flushed, None) => flushed,
     }
 }
 

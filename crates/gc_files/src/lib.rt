@@ -4,6 +4,7 @@
 mod file_failures;
 mod files;
 mod host_files;
+mod replacement;
 mod seen_name;
 
 pub use file_failures::FileFailures;

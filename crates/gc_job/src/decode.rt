@@ -1,6 +1,6 @@
 //! Decoding the active labels of the output wires.
 
-ghost use Rattle.std.specs.Prelude.{◌≡◌, ◌↔◌, ◌<◌, ◌≤◌, ◌+◌, ◌^◌, ℕ, List, length, slice_get, slice_index, Some, IsTrue, IfOk, IfNone, IfSome};
+ghost use Rattle.std.specs.Prelude.{◌≡◌, ◌↔◌, ◌<◌, ◌≤◌, ◌+◌, ◌^◌, ℕ, List, length, slice_get, slice_index, Some, IsTrue, IfOk, IfNone, IfSome, if◌then◌else◌};
 ghost use Rattle.std.specs.Result.{result_map_both};
 ghost use Rattle.gc_netlist.specs.Circuit.{output_wires};
 ghost use Rattle.gc_half.specs.Hash.{hash as hash_of};
@@ -128,6 +128,14 @@ fn is_entry(entries: &[EntryPair], output: usize, label: Label, hash: Label) -> 
         return false;
     };
     let (is_zero, is_one) = (hash == pair.entry_zero, hash == pair.entry_one);
-    let colour = label.colour();
-    (is_zero & !colour) | (is_one & colour)
+    choose(label.colour(), is_one, is_zero)
+}
+
+/// The first of two answers where this holds, and else the other. It is not inlined: beside the comparisons the compiler
+/// would choose the address of an entry by it, and it is a secret.
+#[inline(never)]
+fn choose(is_so: bool, first: bool, other: bool) -> bool
+    ensures { result ≡ if is_so then first else other }
+{
+    (first & is_so) | (other & !is_so)
 }

@@ -12,6 +12,7 @@ use Rattle.gc_bank.specs.Jobs.{AreEvaluated, AreEvaluatedBy}
 use Rattle.gc_files.specs.Files.{FileBytes, GivesFile}
 use Rattle.gc_command.specs.declared.fault.Fault.{Fault}
 use Rattle.gc_command.specs.declared.fault.Fault.TheVariants.{Circuit, File, Binding, Evaluation, BadList, CannotRead, Memory}
+use Rattle.gc_command.specs.declared.value_form.ValueForm.{ValueForm}
 use Rattle.gc_command.specs.CircuitFile.{IsCircuit, HasCircuitFault}
 use Rattle.gc_command.specs.Lines.{output_lines}
 use Rattle.gc_command.specs.Eval.{AreLabelFiles, HasFilesFault}
@@ -102,13 +103,14 @@ HasListFault bytes Failed list c Memory = Unit {0}
 HasListFault bytes Failed list c _ = ⊥
 
 -- The lines of each job's outputs, with an empty line after them.
-abbrev pub jobs_lines : List ℕ → List (List Bool) → List ℕ
-jobs_lines widths outputs = flat_map (λ bits. output_lines widths bits ++ 10 ∷ []) outputs
+abbrev pub jobs_lines : ValueForm → List ℕ → List (List Bool) → List ℕ
+jobs_lines form widths outputs =
+    flat_map (λ bits. output_lines form widths bits ++ 10 ∷ []) outputs
 
 -- What `jobs` answers: the lines of what each job decodes to, whatever the number of workers. A list without jobs
 -- answers nothing.
-pub record AnswersJobs (bytes : FileBytes) (circuit list : List ℕ) (workers : ℕ) (lines : List ℕ)
-    : Type 0 where
+pub record AnswersJobs (bytes : FileBytes) (circuit list : List ℕ) (workers : ℕ)
+    (form : ValueForm) (lines : List ℕ) : Type 0 where
   pub c : Netlist
   pub circuit_read : IfSome (bytes circuit) (λ held. IsCircuit held c)
   pub jobs : List JobParts
@@ -116,7 +118,7 @@ pub record AnswersJobs (bytes : FileBytes) (circuit list : List ℕ) (workers : 
   pub few : 0 < length jobs → AreFew workers
   pub outputs : List (List Bool)
   pub evaluated : AreEvaluated jobs outputs
-  pub printed : lines ≡ jobs_lines c.output_widths outputs
+  pub printed : lines ≡ jobs_lines form c.output_widths outputs
 
 -- When `jobs` has which fault: it is the first in the order of the work (the circuit, the list, the files and the
 -- binding of each job in turn, the number of workers, evaluation), but that memory may run out at each step. A file

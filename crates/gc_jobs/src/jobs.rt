@@ -9,7 +9,7 @@ ghost use Rattle.gc_jobs.specs.Jobs.{AnswersJobs, HasJobsFault, jobs_lines};
 
 use crate::listed_job::read_listed_jobs;
 use gc_bank::evaluate_jobs;
-use gc_command::{Fault, Progress, Work, push_output_lines, read_circuit_and_digest};
+use gc_command::{Fault, Progress, ValueForm, Work, push_output_lines, read_circuit_and_digest};
 use gc_eval::{EvalFault, Job};
 use gc_files::Files;
 use gc_gatehouse::Open;
@@ -17,19 +17,20 @@ use std::alloc::{AllocError, Allocator};
 use std::thread::Threads;
 
 /// Evaluates the circuit of a file by this many workers from each garbled file that the list of this name has, with the
-/// label files on its line, and answers the lines of the output values that they decode to. Nothing of these files is
-/// trusted.
+/// label files on its line, and answers the lines of the output values that they decode to, in this form. Nothing of
+/// these files is trusted.
 pub fn jobs<R: Threads + Sync, A: Allocator + Copy + Send + Sync, F: Files, P: Progress>(
     rt: &R,
     alloc: A,
     circuit: &str,
     list: &str,
     workers: u32,
+    form: ValueForm,
     files: &mut F,
     progress: &P,
 ) -> Result<Vec<u8, A>, Fault>
     ensures answers { IfOk result
-        (λ lines. AnswersJobs (F.bytes files.old) circuit.now list.now workers lines.items) }
+        (λ lines. AnswersJobs (F.bytes files.old) circuit.now list.now workers form lines.items) }
     ensures fault { IfErr result (HasJobsFault (F.bytes files.old)
         (HasFailed (F.failures files.old) (F.failures files.new)) circuit.now list.now workers) }
     ensures same { (name : List ℕ) → F.bytes files.new name ≡ F.bytes files.old name }
@@ -39,7 +40,7 @@ pub fn jobs<R: Threads + Sync, A: Allocator + Copy + Send + Sync, F: Files, P: P
     let jobs = read_listed_jobs(alloc, &circuit, &digest, list, files, progress)?;
     progress.begin(3, 3, Work::EvaluatingJobs { jobs: jobs.len() });
     let outputs = evaluate_listed(rt, alloc, &jobs, workers)?;
-    Ok(jobs_lines(alloc, circuit.output_widths(), &outputs)?)
+    Ok(jobs_lines(alloc, form, circuit.output_widths(), &outputs)?)
 }
 
 /// The output bits of each job of a list, which may have none. That all are on one circuit, and that they are not too
@@ -64,22 +65,24 @@ fn evaluate_listed<R: Threads + Sync, A: Allocator + Copy + Send + Sync>(
     evaluate_jobs(rt, alloc, jobs, workers, &Open)
 }
 
-/// The output values of each of a list of jobs, each with an empty line after it. That the widths are together as many
+/// The output values of each of a list of jobs, in this form, each with an empty line after it. That the widths are together as many
 /// as the bits of each is the caller's condition. The room is taken at once.
 fn jobs_lines<A: Allocator + Copy>(
     alloc: A,
+    form: ValueForm,
     widths: &[u32],
     outputs: &[Vec<bool, A>],
 ) -> Result<Vec<u8, A>, AllocError>
     requires { All (λ bits. sum widths.now ≡ length bits.items) outputs.now }
     ensures { IfOk result
-        (λ lines. lines.items ≡ jobs_lines widths.now (map (λ bits. bits.items) outputs.now)) }
+        (λ lines. lines.items
+        ≡ jobs_lines form widths.now (map (λ bits. bits.items) outputs.now)) }
 {
     let longest = outputs.first().map_or(0, |bits| bits.len());
-    let each = longest.saturating_add(widths.len()).saturating_add(1);
+    let each = form.room(widths.len(), longest).saturating_add(1);
     let mut lines = Vec::with_capacity(alloc, outputs.len().saturating_mul(each))?;
     for bits in outputs {
-        push_output_lines(&mut lines, widths, bits)?;
+        push_output_lines(&mut lines, form, widths, bits)?;
         lines.push(b'\n')?;
     }
     Ok(lines)

@@ -10,6 +10,7 @@ ghost use Rattle.gc_kept.specs.Labels.{HasGarbleFault, IsFromLabels};
 use crate::bits::bit_byte;
 use crate::circuit::KeptCircuit;
 use crate::fault::KeptFault;
+use crate::label_bytes::times;
 use gc_format::sizes::LABEL;
 use gc_half::{FirstAnd, Garbling, garble_from, garble_one_thread};
 use gc_label::{Label, Offset, Seed, offset};
@@ -175,6 +176,6 @@ impl KeptGarbling {
         ensures active { result.1 ≡ encode self.now.offset result.0 bit }
     {
         let zero_label = self.garbling.zero_label(wire);
-        (zero_label, zero_label.xor(self.offset.label().times(bit)))
+        (zero_label, zero_label.xor(times(self.offset.label(), bit)))
     }
 }

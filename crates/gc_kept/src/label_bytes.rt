@@ -1,7 +1,7 @@
 //! Labels and row pairs as bytes that stand in no file.
 
 ghost use Rattle.std.specs.Prelude.{◌≡◌, ◌+◌, ◌*◌, ◌++◌, ◌≤◌, ◌<◌, length, flat_map, map, take, slice_index, OnOk, OnErr, IfErr};
-ghost use Rattle.gc_label.specs.Label.{bytes_of_label, ◌⊕◌};
+ghost use Rattle.gc_label.specs.Label.{bytes_of_label, times, ◌⊕◌};
 ghost use Rattle.gc_format.specs.GarbledFile.{row_bytes};
 ghost use Rattle.gc_format.specs.LabelFile.{encoded_with};
 ghost use Rattle.gc_kept.specs.Files.{IsFileAt, HasRoomFault};
@@ -54,6 +54,15 @@ fn put_sums(labels: &[Label], difference: Label, bytes: &mut [u8])
     }
 }
 
+/// The label where the bit is 1, and else [`Label::ZERO`]. It is not inlined: in a loop the compiler would make a branch of
+/// it, and the bit is a secret.
+#[inline(never)]
+pub(crate) fn times(label: Label, bit: bool) -> Label
+    ensures { result ≡ times bit label }
+{
+    label.times(bit)
+}
+
 /// Writes the labels that stand for bits on the wires from the first one on. That there are zero labels for these wires,
 /// and 16 bytes for each, are the caller's conditions.
 pub(crate) fn put_encoded(
@@ -72,7 +81,7 @@ pub(crate) fn put_encoded(
     for i in 0..bits.len() {
         let bit = bits[i];
         let zero_label = zero_labels[first + i];
-        put_label(zero_label.xor(difference.times(bit)), i, bytes);
+        put_label(zero_label.xor(times(difference, bit)), i, bytes);
     }
 }
 

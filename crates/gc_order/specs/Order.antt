@@ -1,11 +1,11 @@
 -- The command line, by clap's rules.
-use Rattle.std.specs.Prelude.{◌≡◌, ◌==◌, ℕ, List, [], ◌∷◌, true, false, IsTrue, Option, Some, None, map, option_and_then, unwrap_or, codes, string_bytes, bytes_eq, if◌then◌else◌}
+use Rattle.std.specs.Prelude.{◌≡◌, ◌==◌, ℕ, Bool, List, [], ◌∷◌, true, false, IsTrue, Option, Some, None, map, option_and_then, unwrap_or, codes, string_bytes, bytes_eq, if◌then◌else◌}
 use Rattle.std.specs.List.{list_any}
 use Rattle.clap.specs.Words.{App, Row, Rule, Shape, all_of, app_of, first_of, new_app, new_rule, rule_of, subcommand_of, with_rule, with_subcommand}
 use Rattle.std.specs.Str.Parse.{digits_value, without_leading_plus}
 use Rattle.clap.specs.ValueTests.{accepts}
 use Rattle.clap.specs.declared.builder.value_parser.ValueParser.TheVariants.{Unsigned}
-use Rattle.clap.specs.declared.builder.action.ArgAction.TheVariants.{Append}
+use Rattle.clap.specs.declared.builder.action.ArgAction.TheVariants.{Append, SetTrue}
 use Rattle.clap.specs.declared.builder.arg.Arg.{Arg}
 use Rattle.clap.specs.declared.builder.command.Command.{Command}
 use Rattle.clap.specs.declared.builder.command.Command.TheViews.{out-Command}
@@ -41,6 +41,10 @@ number_option id low high default =
 abbrev pub workers_option : Rule
 workers_option = number_option (codes "workers") 0 4294967295 (codes "1")
 
+-- the flag `--hex`
+abbrev pub hex_flag : Rule
+hex_flag = record (new_rule (codes "hex")) { long = Some (codes "hex"); action = Some SetTrue }
+
 -- a command whose first word is a circuit's file
 abbrev pub command_on_circuit : List ℕ → App
 command_on_circuit name = with_rule (new_app name) (required_word (codes "circuit"))
@@ -49,15 +53,18 @@ command_on_circuit name = with_rule (new_app name) (required_word (codes "circui
 abbrev pub command_with_seed : List ℕ → App
 command_with_seed name = with_rule (command_on_circuit name) (required_word (codes "seed"))
 
--- `run CIRCUIT SEED [--workers WORKERS] [VALUES]...`
+-- `run CIRCUIT SEED [--workers WORKERS] [--hex] [VALUES]...`
 abbrev pub run_command : App
 run_command =
     let with_workers = with_rule (command_with_seed (codes "run")) workers_option in
-    with_rule with_workers (more_words (codes "values"))
+    let with_hex = with_rule with_workers hex_flag in
+    with_rule with_hex (more_words (codes "values"))
 
--- `plain CIRCUIT [VALUES]...`
+-- `plain CIRCUIT [--hex] [VALUES]...`
 abbrev pub plain_command : App
-plain_command = with_rule (command_on_circuit (codes "plain")) (more_words (codes "values"))
+plain_command =
+    let with_hex = with_rule (command_on_circuit (codes "plain")) hex_flag in
+    with_rule with_hex (more_words (codes "values"))
 
 -- `check CIRCUIT`
 abbrev pub check_command : App
@@ -86,19 +93,21 @@ deal_command =
     let with_value = with_rule with_index (required_word (codes "value")) in
     with_rule with_value (required_word (codes "out"))
 
--- `eval CIRCUIT GARBLED [--workers WORKERS] [LABELS]...`
+-- `eval CIRCUIT GARBLED [--workers WORKERS] [--hex] [LABELS]...`
 abbrev pub eval_command : App
 eval_command =
     let garbled = required_word (codes "garbled") in
     let with_garbled = with_rule (command_on_circuit (codes "eval")) garbled in
     let with_workers = with_rule with_garbled workers_option in
-    with_rule with_workers (more_words (codes "labels"))
+    let with_hex = with_rule with_workers hex_flag in
+    with_rule with_hex (more_words (codes "labels"))
 
--- `jobs CIRCUIT LIST [--workers WORKERS]`
+-- `jobs CIRCUIT LIST [--workers WORKERS] [--hex]`
 abbrev pub jobs_command : App
 jobs_command =
     let with_list = with_rule (command_on_circuit (codes "jobs")) (required_word (codes "list")) in
-    with_rule with_list workers_option
+    let with_workers = with_rule with_list workers_option in
+    with_rule with_workers hex_flag
 
 -- `labels CIRCUIT SEED [--from FROM] [--count COUNT] [VALUES]...`: no circuit has as many wires as COUNT is by default
 abbrev pub labels_command : App
@@ -169,23 +178,24 @@ pub record HasShape (app : App) (c : Command) : Type 0 where
 
 -- An order as texts.
 pub data OrderText : Type 0 where
-  run : (circuit seed : List ℕ) (workers : ℕ) (values : List (List ℕ)) → OrderText
-  plain : (circuit : List ℕ) (values : List (List ℕ)) → OrderText
+  run : (circuit seed : List ℕ) (workers : ℕ) (hex : Bool) (values : List (List ℕ)) → OrderText
+  plain : (circuit : List ℕ) (hex : Bool) (values : List (List ℕ)) → OrderText
   check : (circuit : List ℕ) → OrderText
   locate : (circuit : List ℕ) → OrderText
   stats : (circuit : List ℕ) → OrderText
   garble : (circuit seed out : List ℕ) (version : Version) (workers : ℕ) → OrderText
   deal : (circuit seed : List ℕ) (index : ℕ) (value out : List ℕ) → OrderText
-  eval : (circuit garbled : List ℕ) (workers : ℕ) (labels : List (List ℕ)) → OrderText
-  jobs : (circuit list : List ℕ) (workers : ℕ) → OrderText
+  eval : (circuit garbled : List ℕ) (workers : ℕ) (hex : Bool) (labels : List (List ℕ)) → OrderText
+  jobs : (circuit list : List ℕ) (workers : ℕ) (hex : Bool) → OrderText
   list_labels : (circuit seed : List ℕ) (from count : ℕ) (values : List (List ℕ)) → OrderText
   audit : (circuit seed garbled : List ℕ) (workers : ℕ) (labels : List (List ℕ)) → OrderText
 
 -- The texts of an order.
 abbrev pub text_of : Order → OrderText
-text_of (Run circuit seed workers values) =
-    run (string_bytes circuit) (string_bytes seed) workers (map string_bytes values.items)
-text_of (Plain circuit values) = plain (string_bytes circuit) (map string_bytes values.items)
+text_of (Run circuit seed workers hex values) =
+    run (string_bytes circuit) (string_bytes seed) workers hex (map string_bytes values.items)
+text_of (Plain circuit hex values) =
+    plain (string_bytes circuit) hex (map string_bytes values.items)
 text_of (Check circuit) = check (string_bytes circuit)
 text_of (Locate circuit) = locate (string_bytes circuit)
 text_of (Stats circuit) = stats (string_bytes circuit)
@@ -193,9 +203,10 @@ text_of (Garble circuit seed out version workers) =
     garble (string_bytes circuit) (string_bytes seed) (string_bytes out) version workers
 text_of (Deal circuit seed index value out) =
     deal (string_bytes circuit) (string_bytes seed) index (string_bytes value) (string_bytes out)
-text_of (Eval circuit garbled workers labels) =
-    eval (string_bytes circuit) (string_bytes garbled) workers (map string_bytes labels.items)
-text_of (Jobs circuit list workers) = jobs (string_bytes circuit) (string_bytes list) workers
+text_of (Eval circuit garbled workers hex labels) =
+    eval (string_bytes circuit) (string_bytes garbled) workers hex (map string_bytes labels.items)
+text_of (Jobs circuit list workers hex) =
+    jobs (string_bytes circuit) (string_bytes list) workers hex
 text_of (Labels circuit seed from count values) =
     list_labels (string_bytes circuit) (string_bytes seed) from count
     (map string_bytes values.items)
@@ -217,6 +228,10 @@ number_in text =
     if accepts false (Unsigned 0 4294967295) text
     then digits_value 10 (without_leading_plus text) else 0
 
+-- Whether a flag is set, by the word that clap found for it.
+abbrev pub flag_in : List ℕ → Bool
+flag_in word = bytes_eq word (codes "true")
+
 -- The version of garbled files that a number names.
 abbrev pub version_numbered : ℕ → Version
 version_numbered number = if number == 1 then One else Two
@@ -227,11 +242,15 @@ run_in rows = run
     (word_of (codes "circuit") rows)
     (word_of (codes "seed") rows)
     (number_in (word_of (codes "workers") rows))
+    (flag_in (word_of (codes "hex") rows))
     (words_of (codes "values") rows)
 
 -- The order of `plain` in what clap found.
 abbrev pub plain_in : List Row → OrderText
-plain_in rows = plain (word_of (codes "circuit") rows) (words_of (codes "values") rows)
+plain_in rows = plain
+    (word_of (codes "circuit") rows)
+    (flag_in (word_of (codes "hex") rows))
+    (words_of (codes "values") rows)
 
 -- The order of `check` in what clap found.
 abbrev pub check_in : List Row → OrderText
@@ -266,6 +285,7 @@ eval_in rows = eval
     (word_of (codes "circuit") rows)
     (word_of (codes "garbled") rows)
     (number_in (word_of (codes "workers") rows))
+    (flag_in (word_of (codes "hex") rows))
     (words_of (codes "labels") rows)
 
 -- The order of `jobs` in what clap found.
@@ -274,6 +294,7 @@ jobs_in rows = jobs
     (word_of (codes "circuit") rows)
     (word_of (codes "list") rows)
     (number_in (word_of (codes "workers") rows))
+    (flag_in (word_of (codes "hex") rows))
 
 -- The order of `labels` in what clap found.
 abbrev pub labels_in : List Row → OrderText

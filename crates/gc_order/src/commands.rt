@@ -4,7 +4,7 @@ ghost use Rattle.std.specs.Prelude.{IfOk, codes};
 ghost use Rattle.clap.specs.Words.{App, Rule, new_rule, with_rule, with_subcommand};
 ghost use Rattle.gc_order.specs.Order.{HasRule, HasShape, audit_command, check_command};
 ghost use Rattle.gc_order.specs.Order.{circuit_program, command_on_circuit, command_with_seed};
-ghost use Rattle.gc_order.specs.Order.{deal_command, eval_command, file_program, garble_command};
+ghost use Rattle.gc_order.specs.Order.{deal_command, eval_command, file_program, garble_command, hex_flag};
 ghost use Rattle.gc_order.specs.Order.{jobs_command, labels_command, locate_command, more_words};
 ghost use Rattle.gc_order.specs.Order.{named_program, number_option, plain_command, program};
 ghost use Rattle.gc_order.specs.Order.{required_word, run_command, stats_command, workers_option};
@@ -20,7 +20,8 @@ const VERSION: &str = "0.6.0";
 const MOST: u64 = 4_294_967_295;
 
 const RUN_HELP: &str = "\
-Prints the output values, one per line: a character 0 or 1 for each wire, in wire order.
+Prints the output values, one per line: a character 0 or 1 for each wire, in wire order, or with \
+--hex a text that is read as a value.
 
 Example, with a full adder in adder.txt that reads three bits:
   halfgates run adder.txt 0000000000000000000000000000000000000000000000000000000000000000 1 0 1";
@@ -52,7 +53,8 @@ Example:
   halfgates stats adder.txt";
 
 const PLAIN_HELP: &str = "\
-Prints the output values, one per line: a character 0 or 1 for each wire, in wire order.
+Prints the output values, one per line: a character 0 or 1 for each wire, in wire order, or with \
+--hex a text that is read as a value.
 
 Example, with a full adder in adder.txt that reads three bits:
   halfgates plain adder.txt 1 0 1";
@@ -75,9 +77,9 @@ Example, with a full adder in adder.txt that reads three bits, of which the firs
 first.labels";
 
 const EVAL_HELP: &str = "\
-Prints the output values, one per line: a character 0 or 1 for each wire, in wire order. There \
-must be a label file for each input value of the circuit, in any order. Neither the seed nor the \
-values are needed.
+Prints the output values, one per line: a character 0 or 1 for each wire, in wire order, or with \
+--hex a text that is read as a value. There must be a label file for each input value of the \
+circuit, in any order. Neither the seed nor the values are needed.
 
 Example, with a full adder in adder.txt that reads three bits:
   halfgates eval adder.txt adder.garbled first.labels second.labels third.labels";
@@ -136,6 +138,10 @@ const FORMAT_HELP: &str = "\
 The version of the garbled file, 1 or 2: with version 2 `eval` detects wrong output labels";
 
 const FROM_HELP: &str = "The first wire to print, counted from 0";
+
+const HEX_HELP: &str = "\
+Print output values as x and two hexadecimal digits for each 8 wires, of which the first wire is \
+the lowest bit";
 
 const COUNT_HELP: &str = "How many lines to print at most, by default all";
 
@@ -201,6 +207,7 @@ fn run<'a>(alloc: Global) -> Result<Command<'a>, AllocError>
     let about = "Garbles a circuit and evaluates the garbled circuit on the given values";
     let command = command_with_seed(alloc, "run", about, RUN_HELP);
     let command = with_arg(command, workers_arg(alloc));
+    let command = with_arg(command, hex_arg(alloc));
     with_arg(command, values_arg(alloc))
 }
 
@@ -210,6 +217,7 @@ fn plain<'a>(alloc: Global) -> Result<Command<'a>, AllocError>
 {
     let about = "Evaluates a circuit on the given values, without garbling";
     let command = command_on_circuit(alloc, "plain", about, PLAIN_HELP);
+    let command = with_arg(command, hex_arg(alloc));
     with_arg(command, values_arg(alloc))
 }
 
@@ -269,6 +277,7 @@ fn eval<'a>(alloc: Global) -> Result<Command<'a>, AllocError>
     let command = command_on_circuit(alloc, "eval", about, EVAL_HELP);
     let command = with_arg(command, garbled_arg(alloc));
     let command = with_arg(command, workers_arg(alloc));
+    let command = with_arg(command, hex_arg(alloc));
     with_arg(command, labels_arg(alloc, LABEL_FILES_HELP))
 }
 
@@ -279,7 +288,8 @@ fn jobs<'a>(alloc: Global) -> Result<Command<'a>, AllocError>
     let about = "Evaluates a list of garbled files of one circuit";
     let command = command_on_circuit(alloc, "jobs", about, JOBS_HELP);
     let command = with_arg(command, word_arg(alloc, "list", "LIST", LIST_HELP));
-    with_arg(command, workers_arg(alloc))
+    let command = with_arg(command, workers_arg(alloc));
+    with_arg(command, hex_arg(alloc))
 }
 
 /// The command `labels`.
@@ -377,6 +387,16 @@ fn workers_arg<'a>(alloc: Global) -> Arg<'a>
 {
     let help = "How many threads may garble or evaluate, from 1 to 64; the result is the same";
     number_arg(alloc, "workers", "WORKERS", help, 0, MOST, "1")
+}
+
+/// The flag for output values in hexadecimal digits.
+fn hex_arg<'a>(alloc: Global) -> Arg<'a>
+    ensures { HasRule hex_flag result }
+{
+    Arg::new(alloc, "hex")
+        .long("hex")
+        .action(ArgAction::SetTrue)
+        .help(HEX_HELP)
 }
 
 /// An option that is a number from `low` to `high`, and is `default` where it isn't given.

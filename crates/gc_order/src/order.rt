@@ -7,7 +7,7 @@ ghost use Rattle.gc_order.specs.Order.{eval_in, garble_in, jobs_in, labels_in, l
 ghost use Rattle.gc_order.specs.Order.{plain_in, program, run_in, stats_in, text_of};
 
 use crate::commands::halfgates;
-use crate::words::{number_of, version_of, word_of, words_of};
+use crate::words::{is_flagged, number_of, version_of, word_of, words_of};
 use clap::{ArgMatches, Error};
 use gc_format::Version;
 use std::alloc::{AllocError, Global};
@@ -23,6 +23,8 @@ pub enum Order {
         seed: String,
         /// How many workers garble.
         workers: u32,
+        /// Whether output values are printed in hexadecimal digits.
+        hex: bool,
         /// The text of each input value, in order.
         values: Vec<String>,
     },
@@ -45,6 +47,8 @@ pub enum Order {
     Plain {
         /// The name of the circuit's file.
         circuit: String,
+        /// Whether output values are printed in hexadecimal digits.
+        hex: bool,
         /// The text of each input value, in order.
         values: Vec<String>,
     },
@@ -82,6 +86,8 @@ pub enum Order {
         garbled: String,
         /// How many workers evaluate.
         workers: u32,
+        /// Whether output values are printed in hexadecimal digits.
+        hex: bool,
         /// The name of each label file, in the order of the words.
         labels: Vec<String>,
     },
@@ -93,6 +99,8 @@ pub enum Order {
         list: String,
         /// How many workers evaluate.
         workers: u32,
+        /// Whether output values are printed in hexadecimal digits.
+        hex: bool,
     },
     /// Print the labels and the bits of a circuit's wires for these values.
     Labels {
@@ -167,6 +175,7 @@ fn run_order(alloc: Global, found: &ArgMatches<'_>) -> Result<Order, AllocError>
         circuit: word_of(alloc, found, "circuit")?,
         seed: word_of(alloc, found, "seed")?,
         workers: number_of(found, "workers"),
+        hex: is_flagged(found, "hex"),
         values: words_of(alloc, found, "values")?,
     })
 }
@@ -177,6 +186,7 @@ fn plain_order(alloc: Global, found: &ArgMatches<'_>) -> Result<Order, AllocErro
 {
     Ok(Order::Plain {
         circuit: word_of(alloc, found, "circuit")?,
+        hex: is_flagged(found, "hex"),
         values: words_of(alloc, found, "values")?,
     })
 }
@@ -242,6 +252,7 @@ fn eval_order(alloc: Global, found: &ArgMatches<'_>) -> Result<Order, AllocError
         circuit: word_of(alloc, found, "circuit")?,
         garbled: word_of(alloc, found, "garbled")?,
         workers: number_of(found, "workers"),
+        hex: is_flagged(found, "hex"),
         labels: words_of(alloc, found, "labels")?,
     })
 }
@@ -254,6 +265,7 @@ fn jobs_order(alloc: Global, found: &ArgMatches<'_>) -> Result<Order, AllocError
         circuit: word_of(alloc, found, "circuit")?,
         list: word_of(alloc, found, "list")?,
         workers: number_of(found, "workers"),
+        hex: is_flagged(found, "hex"),
     })
 }
 

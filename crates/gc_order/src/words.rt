@@ -2,7 +2,7 @@
 
 ghost use Rattle.std.specs.Prelude.{◌≡◌, map, IfOk, string_bytes};
 ghost use Rattle.clap.specs.Words.{found_of, rows_of};
-ghost use Rattle.gc_order.specs.Order.{number_in, version_numbered, word_of, words_of};
+ghost use Rattle.gc_order.specs.Order.{flag_in, number_in, version_numbered, word_of, words_of};
 
 use clap::ArgMatches;
 use gc_format::Version;
@@ -24,6 +24,20 @@ pub(crate) fn number_of(found: &ArgMatches<'_>, id: &str) -> u32
     ensures { result ≡ number_in (word_of id.now (rows_of (found_of found.now))) }
 {
     number_in(found.get_str(id).unwrap_or(""))
+}
+
+/// Whether the flag of an id is set, by what clap found for it.
+pub(crate) fn is_flagged(found: &ArgMatches<'_>, id: &str) -> bool
+    ensures { result ≡ flag_in (word_of id.now (rows_of (found_of found.now))) }
+{
+    flag_in(found.get_str(id).unwrap_or(""))
+}
+
+/// Whether the word that clap found for a flag says that it is set.
+fn flag_in(word: &str) -> bool
+    ensures { result ≡ flag_in word.now }
+{
+    word == "true"
 }
 
 /// The number that a text spells, or 0 where it spells none below 2^32.

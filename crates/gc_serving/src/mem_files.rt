@@ -150,8 +150,8 @@ impl<'a, B: Allocator + Copy> Files for MemFiles<'a, B> {
         Ok(Vec::from_slice(alloc, bytes)?)
     }
 
-    fn create(&mut self, name: &str) -> Result<MemSink<B>, FileError> {
-        if self.goes_well() {
+    fn create(&mut self, name: &str, source: &str) -> Result<MemSink<B>, FileError> {
+        if self.goes_well() && name != source {
             return Ok(MemSink::new(self.alloc, self.limits.taken));
         }
         self.failures.add_one(name);
@@ -168,6 +168,10 @@ impl<'a, B: Allocator + Copy> Files for MemFiles<'a, B> {
         }
         self.failures.add_one(name);
         Err(FileError::CannotWrite)
+    }
+
+    fn discard(&mut self, name: &str, sink: MemSink<B>) {
+        self.failures.add_sink(name, &sink);
     }
 
     fn open(&mut self, name: &str) -> Result<MemSource<'a>, FileError> {

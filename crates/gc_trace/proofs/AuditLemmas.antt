@@ -4,6 +4,7 @@ use Rattle.std.specs.Int.{from_bool}
 use Rattle.std.proofs.lemmas.List.{take_more}
 use Rattle.gc_netlist.specs.Circuit.{Netlist, IsLawful}
 use Rattle.gc_netlist.specs.Spelling.{bit_number}
+use Rattle.gc_label.specs.Seed.{offset_of}
 use Rattle.gc_half.specs.Garbling.{GarblingParts, IsGarbled}
 use Rattle.gc_file.specs.Honest.{honest_parts}
 use Rattle.gc_format.specs.GarbledFile.{GarbledParts}
@@ -76,7 +77,7 @@ pub honest-where : (c : Netlist) → IsLawful c → (seed : List ℕ) (garbling 
     ↔ (file ≡ honest_parts file.version c garbling seed) × IsTrue all_dealt
 honest-where c lawful seed garbling garbled file found is_found none_differs all_dealt none_is =
     let fits = garbled-fits c seed garbling garbled in
-    let parts = finds_none-honest c garbling seed file lawful fits found is_found in (
+    let parts = finds_none-honest c garbling (offset_of seed) file lawful fits found is_found in (
       λ set.
           let p : IsTrue none_differs × IsTrue all_dealt = grind arith in
           (parts.0 (none_is.0 p.0), p.1),

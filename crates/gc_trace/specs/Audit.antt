@@ -5,7 +5,7 @@ use Rattle.gc_netlist.specs.Circuit.{Netlist}
 use Rattle.gc_netlist.specs.Spelling.{Word, Number, Name, bit_number}
 use Rattle.gc_netlist.specs.Canon.{line}
 use Rattle.gc_value.specs.Value.{binary_digit}
-use Rattle.gc_label.specs.Seed.{IsSeedText}
+use Rattle.gc_label.specs.Seed.{IsSeedText, offset_of, input_label_of}
 use Rattle.gc_half.specs.Garbling.{GarblingParts, IsGarbled}
 use Rattle.gc_format.specs.declared.parts.Version.{Version}
 use Rattle.gc_format.specs.declared.parts.Version.TheVariants.{One, Two}
@@ -119,7 +119,7 @@ pub data IsLabelsFound (c : Netlist) (seed : List ℕ) (file : LabelFileParts)
       IsLabelsFound c seed file false (labels_line file.index (Name (codes "width") ∷ []))
   -- or the label of a wire is neither of the two: the first such wire,
   wrong_label : (wire : ℕ) → slice_get c.input_widths file.index ≡ Some (length file.labels) →
-      IsFirstWrong seed (first_wire_of c file.index) file.labels wire →
+      IsFirstWrong (offset_of seed) (input_label_of seed) (first_wire_of c file.index) file.labels wire →
       IsLabelsFound c seed file false
       (labels_line file.index (Name (codes "wrong") ∷ Number wire ∷ []))
   -- or it is the dealer's for these bits.
@@ -140,11 +140,11 @@ abbrev pub end_line : Bool → List ℕ
 end_line true = line (Name (codes "honest") ∷ [])
 end_line false = line (Name (codes "dishonest") ∷ [])
 
--- What is found of a garbled file and label files by the circuit and the seed, in lines. The last one says `honest`
--- exactly where the garbled file is, byte for byte, that of the circuit's garbling under the seed, and each label file
--- is the dealer's.
+-- What is found of a garbled file and label files by the circuit and the seed: whether they are honest, and lines. They
+-- are honest, and the last line says so, exactly where the garbled file is, byte for byte, that of the circuit's
+-- garbling under the seed, and each label file is the dealer's.
 pub record AreAuditLines (c : Netlist) (seed : List ℕ) (g : GarbledParts)
-    (files : List LabelFileParts) (lines : List ℕ) : Type 0 where
+    (files : List LabelFileParts) (honest : Bool) (lines : List ℕ) : Type 0 where
   pub garbling : GarblingParts
   pub garbled : IsGarbled c seed garbling
   pub found : GarbledAudit
@@ -152,14 +152,13 @@ pub record AreAuditLines (c : Netlist) (seed : List ℕ) (g : GarbledParts)
   pub all_dealt : Bool
   pub labels_lines : List ℕ
   pub labels_found : AreLabelsFound c seed files all_dealt labels_lines
-  pub honest : Bool
   pub is_honest : IsTrue honest
       ↔ (g ≡ honest_parts g.version c garbling seed) × IsTrue all_dealt
   pub printed : lines ≡ garbled_lines g.version found ++ labels_lines ++ end_line honest
 
 -- What `audit` answers, whatever the number of workers.
 pub record AnswersAudit (bytes : FileBytes) (circuit seed_text garbled : List ℕ) (workers : ℕ)
-    (labels : List (List ℕ)) (lines : List ℕ) : Type 0 where
+    (labels : List (List ℕ)) (honest : Bool) (lines : List ℕ) : Type 0 where
   pub c : Netlist
   pub g : GarbledParts
   pub files : List LabelFileParts
@@ -167,7 +166,7 @@ pub record AnswersAudit (bytes : FileBytes) (circuit seed_text garbled : List �
   pub seed : List ℕ
   pub seed_read : IsSeed seed_text seed
   pub few : AreFew workers
-  pub printed : AreAuditLines c seed g files lines
+  pub printed : AreAuditLines c seed g files honest lines
 
 -- When `audit` has which fault: it is the first in the order of the work (the circuit, the seed, the garbled file, the
 -- label files in turn, the number of workers, garbling), but that memory may run out at each step. A file that can't be

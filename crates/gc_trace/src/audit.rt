@@ -36,8 +36,17 @@ use std::sync::Wait;
 use std::thread;
 use std::thread::Threads;
 
+/// What an audit finds.
+#[derive(Drop)]
+pub struct Audited<A: Allocator> {
+    /// Whether the garbled file is that of the circuit's garbling under the seed, and each label file the dealer's.
+    pub is_honest: bool,
+    /// The lines that say what was found.
+    pub lines: Vec<u8, A>,
+}
+
 /// Compares the garbled file and the label files of these names with what garbling the circuit of a file under a seed
-/// gives, by this number of workers, and answers the lines of what it finds. Nothing of these files is trusted.
+/// gives, by this number of workers, and returns what it finds. Nothing of these files is trusted.
 pub fn audit<R: Threads + Wait + Sync, A: Allocator + Copy + Send + Sync, F: Files, P: Progress>(
     rt: &R,
     alloc: A,
@@ -48,9 +57,9 @@ pub fn audit<R: Threads + Wait + Sync, A: Allocator + Copy + Send + Sync, F: Fil
     labels: &[String],
     files: &mut F,
     progress: &P,
-) -> Result<Vec<u8, A>, Fault>
-    ensures answers { IfOk result (λ lines. AnswersAudit (F.bytes files.old) circuit.now seed.now
-        garbled.now workers (map string_bytes labels.now) lines.items) }
+) -> Result<Audited<A>, Fault>
+    ensures answers { IfOk result (λ found. AnswersAudit (F.bytes files.old) circuit.now seed.now
+        garbled.now workers (map string_bytes labels.now) found.is_honest found.lines.items) }
     ensures fault { IfErr result (HasAuditFault (F.bytes files.old)
         (HasFailed (F.failures files.old) (F.failures files.new)) circuit.now seed.now garbled.now
         workers (map string_bytes labels.now)) }
@@ -77,7 +86,7 @@ pub fn audit<R: Threads + Wait + Sync, A: Allocator + Copy + Send + Sync, F: Fil
         &seed,
         &label_files,
     ) {
-        Ok(lines) => Ok(lines),
+        Ok(found) => Ok(found),
         Err(_) => Err(Fault::Memory),
     }
 }
@@ -157,7 +166,7 @@ fn garbling_and_parts<R: Threads + Wait + Sync, A: Allocator + Copy + Send + Syn
     Ok((garbling, Some(parts)))
 }
 
-/// The lines of what is found of a garbled file of a version and of label files, by the zero labels of the garbling of
+/// What is found of a garbled file of a version and of label files, by the zero labels of the garbling of
 /// the circuit under the seed.
 fn audit_lines<A: Allocator + Copy>(
     alloc: A,
@@ -167,18 +176,19 @@ fn audit_lines<A: Allocator + Copy>(
     garbling: &Garbling<A>,
     seed: &Seed,
     label_files: &[LabelFile<A>],
-) -> Result<Vec<u8, A>, Memory>
+) -> Result<Audited<A>, Memory>
     requires { HasLabels circuit.now seed.now garbling.now }
-    ensures { IfOk result (λ lines. (file : GarbledParts) → file.version ≡ version
+    ensures { IfOk result (λ made. (file : GarbledParts) → file.version ≡ version
         → IsGarbledAudit circuit.now (garbling_of circuit.now seed.now) seed.now file found.now
-        → AreAuditLines circuit.now seed.now file label_files.now lines.items) }
+        → AreAuditLines circuit.now seed.now file label_files.now made.is_honest made.lines.items) }
 {
     circuit.law_lawful();
     let mut lines = Vec::new(alloc);
     push_garbled(&mut lines, version, found)?;
     let all_dealt = push_label_files(&mut lines, alloc, circuit, garbling, seed, label_files)?;
-    push_end(&mut lines, found.is_honest() && all_dealt)?;
-    Ok(lines)
+    let is_honest = found.is_honest() && all_dealt;
+    push_end(&mut lines, is_honest)?;
+    Ok(Audited { is_honest, lines })
 }
 
 /// Adds the lines of what is found of a garbled file of a version.

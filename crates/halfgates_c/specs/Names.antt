@@ -42,6 +42,7 @@ name_at n =
     else if n == 60 then codes "BadArgument"
     else if n == 61 then codes "SmallBuffer"
     else if n == 62 then codes "Memory"
+    else if n == 63 then codes "WrongLabel"
     else codes "Unknown"
 
 -- the name of a code; no code is negative

@@ -67,6 +67,7 @@ fn code_name(code: i32) -> &'static str
         60 => "BadArgument",
         61 => "SmallBuffer",
         62 => "Memory",
+        63 => "WrongLabel",
         _ => "Unknown",
     }
 }

@@ -49,5 +49,5 @@ returns-clause-cause g c = IfErr-weaker c.write_value.result _ _
 
 pub returns-clause-unwritten : goal.returns-clause-unwritten
 returns-clause-unwritten g c = IfErr-weaker c.write_value.result _ _
-    (λ fault same other n. same other n ∙ c.read_circuit.ensures.same n)
+    (λ fault same n. same n ∙ c.read_circuit.ensures.same n)
     c.write_value.ensures.unwritten

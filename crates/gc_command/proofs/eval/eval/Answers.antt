@@ -66,5 +66,5 @@ returns-clause-answers g c =
       outputs = c.in_ok-outputs.outputs.items;
       decoded = rw c.in_ok-outputs.was at (is.decoded (sym same ∙ c.digest_and_evaluation-evaluated.ensures.digest));
       printed = c.in_ok-output_lines.ensures
-          ∙ ap₂ output_lines c.output_widths.ensures c.deref.ensures.value;
+          ∙ ap₂ (output_lines c.args.form) c.output_widths.ensures c.deref.ensures.value;
     }

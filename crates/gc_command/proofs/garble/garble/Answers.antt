@@ -46,5 +46,5 @@ returns-clause-cause g c = IfErr-weaker c.write_garbling.result _ _
 
 pub returns-clause-unwritten : goal.returns-clause-unwritten
 returns-clause-unwritten g c = IfErr-weaker c.write_garbling.result _ _
-    (λ fault same other n. same other n ∙ c.read_and_begin_digest.ensures.same n)
+    (λ fault same n. same n ∙ c.read_and_begin_digest.ensures.same n)
     c.write_garbling.ensures.unwritten

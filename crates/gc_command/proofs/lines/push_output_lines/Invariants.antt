@@ -5,6 +5,6 @@ use Rattle.gc_command.proofs.lines.push_output_lines.Given as goal
 abbrev pub invariant-loop-width : goal.invariant-loop-width
 invariant-loop-width g l = record {
   left : sum (drop l.width-index l.widths) ≡ length l.left;
-  lines : l.lines.items ++ output_lines (drop l.width-index l.widths) l.left
-      ≡ l.fn.lines.items ++ output_lines l.widths l.bits;
+  lines : l.lines.items ++ output_lines l.form (drop l.width-index l.widths) l.left
+      ≡ l.fn.lines.items ++ output_lines l.form l.widths l.bits;
 }

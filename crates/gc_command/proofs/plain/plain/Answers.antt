@@ -29,6 +29,6 @@ returns-clause-answers g c =
       outputs = c.in_ok-outputs.outputs.items;
       computed = rw (flat_map-map, ← c.deref.ensures.value) are;
       printed = c.in_ok-output_lines.ensures
-          ∙ ap₂ output_lines c.output_widths.ensures c.deref-2.ensures.value;
+          ∙ ap₂ (output_lines c.args.form) c.output_widths.ensures c.deref-2.ensures.value;
     })
     c.in_ok-circuit.ensures.circuit

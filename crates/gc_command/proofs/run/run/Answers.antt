@@ -76,6 +76,6 @@ returns-clause-answers g c =
       computed = honest-decode c.in_ok-circuit.ensures.lawful honest _
           (rw c.deref-2.ensures.value at (c.in_ok-outputs.ensures.decoded digest));
       printed = c.in_ok-output_lines.ensures
-          ∙ ap₂ output_lines c.output_widths.ensures c.deref-3.ensures.value;
+          ∙ ap₂ (output_lines c.args.form) c.output_widths.ensures c.deref-3.ensures.value;
     })
     c.in_ok-circuit.ensures.circuit

@@ -71,7 +71,7 @@ returns-clause-answers g c = record {
   outputs = map (λ bits. bits.items) c.in_ok-outputs.outputs.items;
   evaluated = rw c.deref.ensures.value at c.in_ok-outputs.ensures.evaluated;
   printed = c.in_ok-jobs_lines.ensures
-      ∙ ap₂ jobs_lines c.output_widths.ensures
+      ∙ ap₂ (jobs_lines c.args.form) c.output_widths.ensures
       (ap (map (λ bits. bits.items)) c.deref-2.ensures.value);
 }
 

@@ -4,4 +4,5 @@ pub returns : goal.returns
 returns c =
     let one = c.with_arg-command.ensures _ _
     c.command_on_circuit-command.ensures c.word_arg.ensures in
-    c.with_arg.ensures _ _ one c.workers_arg.ensures
+    let two = c.with_arg-command-2.ensures _ _ one c.workers_arg.ensures in
+    c.with_arg.ensures _ _ two c.hex_arg.ensures

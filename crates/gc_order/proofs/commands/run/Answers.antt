@@ -4,4 +4,5 @@ pub returns : goal.returns
 returns c =
     let one = c.with_arg-command.ensures _ _
     c.command_with_seed-command.ensures c.workers_arg.ensures in
-    c.with_arg.ensures _ _ one c.values_arg.ensures
+    let two = c.with_arg-command-2.ensures _ _ one c.hex_arg.ensures in
+    c.with_arg.ensures _ _ two c.values_arg.ensures

@@ -11,10 +11,10 @@ returns g c = λ file of_version is_found.
     let all_dealt = c.in_ok-all_dealt.all_dealt in
     let dealt = c.in_ok-all_dealt.ensures in
     let garbled = garbling_of-IsGarbled c.args.circuit.now c.args.seed.now c.law_lawful.ensures in
-    let honest_is : c.if-is_honest.push_end ≡ none_differs && all_dealt =
+    let honest_is : c.if-is_honest.is_honest ≡ none_differs && all_dealt =
     elim c.if-is_honest.branch [
-      | then-is_honest w ↦ w.push_end-is ∙ ap (λ b. b && all_dealt) (sym w.if-is_honest.true)
-      | else-is_honest w ↦ w.push_end-is ∙ w.if-is_honest.false
+      | then-is_honest w ↦ w.is_honest-is ∙ ap (λ b. b && all_dealt) (sym w.if-is_honest.true)
+      | else-is_honest w ↦ w.is_honest-is ∙ w.if-is_honest.false
           ∙ ap (λ b. b && all_dealt) (sym w.if-is_honest.false)
     ] in
     record {
@@ -25,15 +25,13 @@ returns g c = λ file of_version is_found.
       all_dealt = all_dealt;
       labels_lines = dealt.0;
       labels_found = dealt.1;
-      honest = none_differs && all_dealt;
-      is_honest = honest-where _ c.law_lawful.ensures _ _ garbled file _ is_found none_differs
-          all_dealt c.is_honest.ensures;
+      is_honest = rw honest_is (honest-where _ c.law_lawful.ensures _ _ garbled file _ is_found
+          none_differs all_dealt c.is_honest.ensures);
       printed = rw (
         c.in_ok-push_end.ensures,
         dealt.2,
         c.in_ok-push_garbled.ensures,
         c.new-lines.ensures.items,
         of_version,
-        honest_is,
       ) refl;
     }

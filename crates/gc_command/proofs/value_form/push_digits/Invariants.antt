@@ -1,6 +1,6 @@
 use Rattle.std.proofs.Common.{◌≡◌, ◌++◌, map, take}
 use Rattle.gc_value.specs.Value.{binary_digit}
-use Rattle.gc_command.proofs.lines.push_digits.Given as goal
+use Rattle.gc_command.proofs.value_form.push_digits.Given as goal
 
 abbrev pub invariant-loop-bit : goal.invariant-loop-bit
 invariant-loop-bit g l =
