@@ -41,13 +41,13 @@ fn shown(found: Result<Vec<bool, &Refusing<Global>>, EvalFault>) -> Answer {
     }
 }
 
-/// One growth for the labels, and one for the output bits.
+/// One growth for the labels, one for those of the output wires, and one for the output bits.
 #[test]
 fn evaluating(rt: HostRuntime) -> Result<(), Fail> {
     let circuit = Circuit::read(rt.alloc(), AND.as_bytes())?;
     let job = job_of(rt.alloc(), &circuit, AND, &["1", "1"])?;
     let refused = runs_refused(rt.alloc(), |heap| shown(evaluate(heap, &job)));
-    assert_eq!(rt; refused, Ok(2));
+    assert_eq!(rt; refused, Ok(3));
     Ok(())
 }
 
