@@ -11,6 +11,7 @@ use gc_worked::files::{label_file, write};
 use gc_worked::meeting::Meeting;
 use std::alloc::{Allocator, Global};
 use std::sync::Wait;
+use std::sync::atomic::{AtomicU64, Ordering};
 use std::test::Fail;
 use std::thread::Threads;
 
@@ -116,7 +117,65 @@ fn meet<R: Threads + Wait + Sync>(rt: &R, alloc: Global, jobs: &[Job], workers: 
     observer.has_met() && observer.are_below(workers) && is_right
 }
 
-/// Two of three workers step the gates of two jobs on 2,000 independent AND gates, and two workers those of one job.
+/// Counts the calls of each of the first 64 workers, and all calls.
+#[derive(Drop)]
+struct Counting {
+    calls: AtomicU64,
+    // Bit w is set once worker w called.
+    workers: AtomicU64,
+}
+
+impl Gatehouse for Counting {
+    fn before(&self, worker: u32, _gate: u32) {
+        self.calls.fetch_add(1, Ordering::SeqCst);
+        self.workers
+            .fetch_or(1u64.checked_shl(worker).unwrap_or(0), Ordering::SeqCst);
+    }
+}
+
+/// How often the gates of jobs are reported, and by which workers (bit w for worker w), as this many workers evaluate
+/// them; None where the answers are not those of one thread.
+fn reports<R: Threads + Wait + Sync>(
+    rt: &R,
+    alloc: Global,
+    jobs: &[Job],
+    workers: u32,
+) -> Option<(u64, u64)> {
+    let observer = Counting {
+        calls: AtomicU64::new(0),
+        workers: AtomicU64::new(0),
+    };
+    let found = evaluated(rt, alloc, jobs, workers, &observer);
+    if found != Some(one_after_another(alloc, jobs)) {
+        return None;
+    }
+    Some((
+        observer.calls.load(Ordering::SeqCst),
+        observer.workers.load(Ordering::SeqCst),
+    ))
+}
+
+/// Each gate of each job is reported: once by one worker, and once by each of two that evaluate jobs of their own; at
+/// the banks of 64 workers at least once.
+#[test]
+fn gates_of_jobs_are_reported(rt: HostRuntime) -> Result<(), Fail> {
+    let alloc = rt.alloc();
+    let text = many_ands(alloc, 2000)?;
+    let circuit = Circuit::read(alloc, text.as_bytes())?;
+    let zeros = "0".repeat(alloc, 2000)?;
+    let values = [zeros.as_str(), zeros.as_str()];
+    let jobs = one_of_each_version(alloc, &circuit, text.as_str(), &values)?;
+    assert_eq!(rt; reports(&rt, alloc, &jobs, 1), Some((4000, 1)));
+    assert_eq!(rt; reports(&rt, alloc, &jobs, 2), Some((4000, 3)));
+    let Some((calls, _)) = reports(&rt, alloc, &jobs, 64) else {
+        return Err(Fail::new("the answers are those of one thread"));
+    };
+    assert!(rt; calls >= 4000);
+    Ok(())
+}
+
+/// Two workers evaluate a job each, of two on 2,000 independent AND gates; two of three step the gates of both jobs, and
+/// two workers those of one job.
 #[test]
 fn two_job_workers_meet(rt: HostRuntime) -> Result<(), Fail> {
     let alloc = rt.alloc();
@@ -125,6 +184,7 @@ fn two_job_workers_meet(rt: HostRuntime) -> Result<(), Fail> {
     let zeros = "0".repeat(alloc, 2000)?;
     let values = [zeros.as_str(), zeros.as_str()];
     let mut jobs = one_of_each_version(alloc, &circuit, text.as_str(), &values)?;
+    assert!(rt; meet(&rt, alloc, &jobs, 2));
     assert!(rt; meet(&rt, alloc, &jobs, 3));
     drop(jobs.pop());
     assert!(rt; jobs.len() == 1 && meet(&rt, alloc, &jobs, 2));
