@@ -109,12 +109,12 @@ fn refused_runs<R: Threads + Wait + Sync>(
 
 /// Which way to go takes memory twice where there are several threads; the board six times, the workers once each and
 /// once together, the seats that are back once, and the output labels and bits once each. On one thread there are the
-/// labels of all wires, and the bits.
+/// labels of all wires, those of the output wires, and the bits.
 #[test]
 fn each_growth_refused(rt: HostRuntime) -> Result<(), Fail> {
     let circuit = Circuit::read(rt.alloc(), FULL_ADDER.as_bytes())?;
     let job = job_on_zeros(rt.alloc(), &circuit, FULL_ADDER)?;
-    assert_eq!(rt; refused_runs(&rt, rt.alloc(), &job, 1)?, 2);
+    assert_eq!(rt; refused_runs(&rt, rt.alloc(), &job, 1)?, 3);
     let text = and_chains(rt.alloc(), 64, 16)?;
     let circuit = Circuit::read(rt.alloc(), text.as_bytes())?;
     let job = job_on_zeros(rt.alloc(), &circuit, text.as_str())?;
