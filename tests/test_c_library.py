@@ -222,9 +222,7 @@ class Files(LibraryTest):
         source.write_text(CODES)
         printed = self.run_built(source)
         named = {int(code): name for code, name in map(str.split, printed.splitlines())}
-        codes = declared_codes()
-        self.assertEqual(codes.pop("WRONG_LABEL"), 63)  # a verdict, and no code
-        for name, code in codes.items():
+        for name, code in declared_codes().items():
             self.assertEqual(named.pop(code), by_code[str(code)] if code else "Ok", name)
         self.assertEqual(set(named.values()), {"Unknown"})
 
