@@ -1,4 +1,4 @@
-//! Lists of jobs on one circuit. It passes on names of `gc_rounds` and `gc_board` to users of banks, who take jobs from
+//! Lists of jobs on one circuit. It passes on names of `gc_rounds` and `gc_counts` to users of banks, who take jobs from
 //! `gc_job`, and answers and walks from `gc_walk`.
 //!
 //! [`evaluate_jobs`] answers the output bits of each job of a list whose jobs are on [`one_circuit`]. [`Banks`] are
@@ -16,7 +16,7 @@ mod step;
 mod together;
 mod worker;
 
-pub use gc_board::{CloseRefused, MAX_SEATS, OpenFault};
+pub use gc_counts::{CloseRefused, MAX_SEATS, OpenFault};
 pub use gc_rounds::{Entry, MAX_JOBS, Reopening};
 pub use jobs::evaluate_jobs;
 pub use same_circuit::one_circuit;

@@ -1,7 +1,7 @@
 //! Opening and closing banks.
 
 ghost use Rattle.std.specs.Prelude.{◌≡◌, ℕ, ◌<◌, ◌≤◌, ◌↔◌, ◌-◌, ◌^◌, [], length, map, min, sum, IfOk, IfErr, IsOk, IsTrue, All};
-ghost use Rattle.gc_board.specs.Counts.{total};
+ghost use Rattle.gc_counts.specs.Counts.{total};
 ghost use Rattle.gc_rounds.specs.declared.view.Stand.TheVariants.{Outside};
 ghost use Rattle.gc_gates.specs.Pairs.{pairs};
 ghost use Rattle.gc_gates.specs.Layout.{two_banks};
@@ -12,7 +12,7 @@ ghost use Rattle.gc_bank.specs.Seats.{IsSeatOf, IsNew, view, jobs_on, seats_on};
 
 use crate::seat::{BankSeat, Banks};
 use crate::series::Series;
-use gc_board::{CloseRefused, MAX_SEATS, OpenFault};
+use gc_counts::{CloseRefused, MAX_SEATS, OpenFault};
 use gc_gates::{BankTable, Place, Words, open_banks, settle};
 use gc_job::{Job, Wiring};
 use gc_rounds::{Key, MAX_JOBS, Rule, deal_place, join_place};

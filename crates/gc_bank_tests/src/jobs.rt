@@ -155,8 +155,7 @@ fn reports<R: Threads + Wait + Sync>(
     ))
 }
 
-/// Each gate of each job is reported: once by one worker, and once by each of two that evaluate jobs of their own; at
-/// the banks of 64 workers at least once.
+/// Each gate of each job is reported once: by one worker, and by two that evaluate a job each.
 #[test]
 fn gates_of_jobs_are_reported(rt: HostRuntime) -> Result<(), Fail> {
     let alloc = rt.alloc();
@@ -167,10 +166,6 @@ fn gates_of_jobs_are_reported(rt: HostRuntime) -> Result<(), Fail> {
     let jobs = one_of_each_version(alloc, &circuit, text.as_str(), &values)?;
     assert_eq!(rt; reports(&rt, alloc, &jobs, 1), Some((4000, 1)));
     assert_eq!(rt; reports(&rt, alloc, &jobs, 2), Some((4000, 3)));
-    let Some((calls, _)) = reports(&rt, alloc, &jobs, 64) else {
-        return Err(Fail::new("the answers are those of one thread"));
-    };
-    assert!(rt; calls >= 4000);
     Ok(())
 }
 

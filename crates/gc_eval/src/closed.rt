@@ -7,8 +7,8 @@ ghost use Rattle.gc_job.specs.Evaluate.{IsEvaluated};
 ghost use Rattle.gc_eval.specs.Done.{HasLabel, HasOutputs, LacksOutput, done_of, job_in};
 
 use crate::active::Active;
-use gc_board::DONE;
 use gc_circuit::Memory;
+use gc_counts::DONE;
 use gc_job::EvalFault;
 use gc_label::Label;
 use std::alloc::Allocator;

@@ -1,5 +1,5 @@
 //! Evaluating a garbled circuit on many threads. It passes on names of `gc_job` to users of jobs, and names of
-//! `gc_walk` and `gc_board` to users of boards.
+//! `gc_walk` and `gc_counts` to users of boards.
 //!
 //! An evaluation takes rows, decode bits and one active label for each input wire alone. [`evaluate_many`] answers the
 //! output bits of a [`Job`], as [`evaluate`] does on one thread. Who has threads of their own opens an [`EvalBoard`]
@@ -16,7 +16,7 @@ mod step;
 mod worker;
 
 pub use active::Active;
-pub use gc_board::{CloseRefused, MAX_SEATS, OpenFault};
+pub use gc_counts::{CloseRefused, MAX_SEATS, OpenFault};
 pub use gc_job::{BindFault, EvalFault, Facts, Job, Wiring, evaluate, law_honest_files};
 pub use gc_walk::{Answer, Batch, Walk};
 pub use many::evaluate_many;

@@ -1,7 +1,7 @@
 //! Opening and closing a board.
 
 ghost use Rattle.std.specs.Prelude.{◌≡◌, ℕ, ◌+◌, ◌*◌, ◌<◌, ◌≤◌, ◌↔◌, [], length, replicate, IfOk, IfErr, IsOk, All};
-ghost use Rattle.gc_board.specs.Counts.{total, only};
+ghost use Rattle.gc_counts.specs.Counts.{total, only};
 ghost use Rattle.gc_gates.specs.Layout.{one_round};
 ghost use Rattle.gc_gates.specs.Pairs.{pairs};
 ghost use Rattle.gc_gates.specs.Places.{IsGatePlace, IsPlaceInside};
@@ -13,7 +13,7 @@ ghost use Rattle.gc_eval.specs.Views.{times};
 use crate::active::Active;
 use crate::one_job::OneJob;
 use crate::seat::{EvalBoard, EvalSeat};
-use gc_board::{CloseRefused, DONE, MAX_SEATS, OpenFault};
+use gc_counts::{CloseRefused, DONE, MAX_SEATS, OpenFault};
 use gc_gates::{OneRound, Place, Words, close_board, deal_seat, free_words, join_seat, open_board};
 use gc_job::{Job, Wiring};
 use gc_rounds::Key;

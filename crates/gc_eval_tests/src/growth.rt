@@ -41,7 +41,7 @@ fn shown(found: Result<Vec<bool, &Refusing<Global>>, EvalFault>) -> Answer {
     }
 }
 
-/// One growth for the labels, one for those of the outputs, and one for the output bits.
+/// One growth for the labels, one for those of the output wires, and one for the output bits.
 #[test]
 fn evaluating(rt: HostRuntime) -> Result<(), Fail> {
     let circuit = Circuit::read(rt.alloc(), AND.as_bytes())?;

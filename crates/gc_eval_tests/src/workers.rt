@@ -109,7 +109,7 @@ fn refused_runs<R: Threads + Wait + Sync>(
 
 /// Which way to go takes memory twice where there are several threads; the board six times, the workers once each and
 /// once together, the seats that are back once, and the output labels and bits once each. On one thread there are the
-/// labels of all wires, those of the outputs, and the bits.
+/// labels of all wires, those of the output wires, and the bits.
 #[test]
 fn each_growth_refused(rt: HostRuntime) -> Result<(), Fail> {
     let circuit = Circuit::read(rt.alloc(), FULL_ADDER.as_bytes())?;

@@ -10,7 +10,7 @@ ghost use Rattle.gc_gates.specs.Places.{IsGatePlace};
 use crate::kinds::Settle;
 use crate::steps::{Place, Words};
 use crate::view::{GateView, Work};
-use gc_board::{MAX_SEATS, OpenFault};
+use gc_counts::{MAX_SEATS, OpenFault};
 use gc_rounds::{Key, Rule, open_table};
 use std::alloc::{Allocator, Global};
 

@@ -16,7 +16,7 @@ use crate::kinds::{Deal, Merge, Note};
 use crate::steps::{Place, Words};
 use crate::view::{GateView, Work};
 use atomic_table::{Closed, Table};
-use gc_board::OpenFault;
+use gc_counts::OpenFault;
 use gc_rounds::{Key, View};
 use std::alloc::{AllocError, Allocator};
 

@@ -17,7 +17,8 @@ pub trait Frame<J: Work>: TableRule<u8, View<GateView<J>>, Key<J>> {
     ghost layout: { Layout };
 
     /// What holds besides `Sound`.
-    ghost outer: { outer_key.Key J → List ℕ → List (outer_view.View (gate_view.GateView J)) → Type 0 };
+    ghost outer: { outer_key.Key J → List ℕ → List (outer_view.View (gate_view.GateView J))
+        → Type 0 };
 
     /// The place of the state word of a gate in a round; its halves follow it.
     fn index(round: u32, gate: u32) -> usize

@@ -2,12 +2,12 @@
 //!
 //! A gate has three words: its state and two halves of what is found out of it. A state word holds the state (bits 0
 //! and 1: free, in hand or done) and the round that it is of (bits 32 to 63). A state of an earlier round counts as
-//! free, so words that go to a later round have nothing to clear. What holds of these words between any two atomic steps
-//! is `Sound` in `specs/Gates.antt`.
+//! free, so words that go to a later round have nothing to clear. What holds of these words between any two atomic
+//! steps is `Sound` in `specs/Gates.antt`.
 //!
-//! Where the words lie, which round they are in and what else its table keeps is a [`Frame`]'s. There are two: the rule
-//! of a table of two banks (`gc_rounds`), and [`OneRound`], the rule of one board, which is in round 0 for good. Nothing
-//! here knows of circuits: [`Work`] says what the words are about.
+//! Where the words lie, which round they are in and what else its table keeps is a [`Frame`]'s. There are two: the
+//! rule of a table of two banks (`gc_rounds`), and [`OneRound`], the rule of one board, which is in round 0 for good.
+//! Nothing here knows of circuits: [`Work`] says what the words are about.
 #![tactic(auto)]
 
 mod bank_seats;

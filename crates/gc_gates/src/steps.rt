@@ -1,5 +1,5 @@
-//! The six kinds of atomic step on the words of a gate, by a seat that is inside a round. A load of a half is one kind,
-//! with a call for each half.
+//! The six kinds of atomic step on the words of a gate, by a seat that is inside a round. A load of a half is one
+//! kind, with a call for each half.
 
 ghost use Rattle.std.specs.Prelude.{◌≡◌, ℕ, ◌+◌, ◌*◌, ◌<◌, ◌≤◌, ◌⊎◌};
 ghost use Rattle.gc_rounds.specs.Words.{stamp};
@@ -13,7 +13,7 @@ use crate::frame::Frame;
 use crate::kinds::{Claim, LoadHigh, LoadLow, LoadState, StoreDone, StoreHalf};
 use crate::view::{GateView, Work};
 use atomic_table::Shared;
-use gc_board::{DONE, FREE, IN_HAND};
+use gc_counts::{DONE, FREE, IN_HAND};
 use gc_rounds::{Key, View, stamped};
 
 /// The words of the banks, as many threads share them.
@@ -30,7 +30,8 @@ pub fn load_state<J: Work, R: Frame<J>>(
     round: u32,
     gate: u32,
 ) -> u64
-    requires { IsPlaceAt R.layout J.gates words.now.table_id words.now.key place.old round gate }
+    requires { IsPlaceAt R.layout J.gates words.now.table_id words.now.key
+        place.old round gate }
     ensures same { IsSamePlace place.old place.new }
     ensures view { place.new.me.0 ≡ after_state R.layout place.old.me.0 round gate result }
     ensures finds { Finds place.old.me.0 round gate result }
@@ -46,7 +47,8 @@ pub fn load_low<J: Work, R: Frame<J>>(
     round: u32,
     gate: u32,
 ) -> u64
-    requires place { IsPlaceAt R.layout J.gates words.now.table_id words.now.key place.old round gate }
+    requires place { IsPlaceAt R.layout J.gates words.now.table_id words.now.key
+        place.old round gate }
     requires known { 0 < pairs round gate place.old.me.0.inner.known }
     ensures same { IsSamePlace place.old place.new }
     ensures view { place.new.me.0 ≡ after_half place.old.me.0 (R.layout.at round gate + 1) result }
@@ -63,7 +65,8 @@ pub fn load_high<J: Work, R: Frame<J>>(
     round: u32,
     gate: u32,
 ) -> u64
-    requires place { IsPlaceAt R.layout J.gates words.now.table_id words.now.key place.old round gate }
+    requires place { IsPlaceAt R.layout J.gates words.now.table_id words.now.key
+        place.old round gate }
     requires known { 0 < pairs round gate place.old.me.0.inner.known }
     ensures same { IsSamePlace place.old place.new }
     ensures view { place.new.me.0 ≡ after_half place.old.me.0 (R.layout.at round gate + 2) result }
@@ -82,7 +85,8 @@ pub fn claim<J: Work, R: Frame<J>>(
     gate: u32,
     old: u64,
 ) -> u64
-    requires place { IsPlaceAt R.layout J.gates words.now.table_id words.now.key place.old round gate }
+    requires place { IsPlaceAt R.layout J.gates words.now.table_id words.now.key
+        place.old round gate }
     requires empty { place.old.me.0.inner.hand ≡ Empty }
     requires seated { 0 < place.old.me.0.seats }
     requires looked { 0 < looked round gate old place.old.me.0.inner.looks }
@@ -104,7 +108,8 @@ pub fn store_low<J: Work, R: Frame<J>>(
     gate: u32,
     low: u64,
 )
-    requires place { IsPlaceAt R.layout J.gates words.now.table_id words.now.key place.old round gate }
+    requires place { IsPlaceAt R.layout J.gates words.now.table_id words.now.key
+        place.old round gate }
     requires has { place.old.me.0.inner.hand ≡ Has round gate 0 }
     requires right { J.right words.now.key.about round gate 0 low }
     ensures same { IsSamePlace place.old place.new }
@@ -123,7 +128,8 @@ pub fn store_high<J: Work, R: Frame<J>>(
     gate: u32,
     high: u64,
 )
-    requires place { IsPlaceAt R.layout J.gates words.now.table_id words.now.key place.old round gate }
+    requires place { IsPlaceAt R.layout J.gates words.now.table_id words.now.key
+        place.old round gate }
     requires has { place.old.me.0.inner.hand ≡ Has round gate 1 }
     requires right { J.right words.now.key.about round gate 1 high }
     ensures same { IsSamePlace place.old place.new }
@@ -141,7 +147,8 @@ pub fn store_done<J: Work, R: Frame<J>>(
     round: u32,
     gate: u32,
 )
-    requires place { IsPlaceAt R.layout J.gates words.now.table_id words.now.key place.old round gate }
+    requires place { IsPlaceAt R.layout J.gates words.now.table_id words.now.key
+        place.old round gate }
     requires has { place.old.me.0.inner.hand ≡ Has round gate 2 }
     ensures same { IsSamePlace place.old place.new }
     ensures view { place.new.me.0 ≡ after_done R.layout place.old.me.0 round gate }

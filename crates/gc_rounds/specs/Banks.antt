@@ -2,8 +2,8 @@
 use Rattle.std.specs.Prelude.{◌≡◌, ℕ, ◌+◌, ◌*◌, ◌<◌, ◌≤◌, List, length, min, slice_index}
 use mathlib.Core.Option.{some}
 use lib.ListN.{get_elem?}
-use Rattle.gc_board.specs.declared.rule.TheConstants.{MAX_SEATS}
-use Rattle.gc_board.specs.Counts.{total}
+use Rattle.gc_counts.specs.declared.limits.TheConstants.{MAX_SEATS}
+use Rattle.gc_counts.specs.Counts.{total}
 use Rattle.gc_rounds.specs.Words.{count_of, mark_of, round_of, bank_of}
 use Rattle.gc_rounds.specs.Views.{counted, unfair, given, sealed_in}
 use Rattle.gc_rounds.specs.declared.view.Stand.TheVariants.{Inside}

@@ -13,7 +13,7 @@ use crate::steps::{Place, Words};
 use crate::view::{Key, View};
 use crate::words::{MARK, ROUND};
 use atomic_table::Table;
-use gc_board::{MAX_SEATS, OpenFault};
+use gc_counts::{MAX_SEATS, OpenFault};
 use std::alloc::Allocator;
 
 /// The words with their memory.

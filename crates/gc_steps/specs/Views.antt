@@ -2,8 +2,8 @@
 use Rattle.std.specs.Prelude.{◌≡◌, ◌≢◌, ℕ, ◌*◌, ◌<◌, ◌≤◌, ◌⊎◌, List, [], ◌∷◌, ◌++◌, length, slice_get, Some}
 use Rattle.gc_netlist.specs.declared.gate.Gate.{Gate}
 use Rattle.gc_netlist.specs.Circuit.{Netlist, IsSetBy, IsSet, input_wires, first_wire, second_wire}
-use Rattle.gc_board.specs.declared.rule.TheConstants.{DONE, FREE, IN_HAND}
-use Rattle.gc_board.specs.Counts.{total, only}
+use Rattle.gc_counts.specs.declared.limits.TheConstants.{DONE, FREE, IN_HAND}
+use Rattle.gc_counts.specs.Counts.{total, only}
 use Rattle.gc_rounds.specs.Words.{stamp}
 use Rattle.gc_rounds.specs.declared.view.View.{View}
 use Rattle.gc_rounds.specs.declared.view.Step.{Step}

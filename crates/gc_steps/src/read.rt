@@ -10,7 +10,7 @@ ghost use Rattle.gc_steps.specs.Views.{AreReadBy, Reads, Ran, IsIdle, Got, Lacks
 
 use crate::jobs::Jobs;
 use crate::round::{Prepared, Round};
-use gc_board::{DONE, IN_HAND};
+use gc_counts::{DONE, IN_HAND};
 use gc_gates::{Frame, Place, load_high, load_low, load_state};
 use gc_label::Label;
 use gc_rounds::stamped;

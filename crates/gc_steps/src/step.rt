@@ -2,7 +2,7 @@
 
 ghost use Rattle.std.specs.Prelude.{◌≡◌, ◌+◌, ◌<◌, ◌≤◌, IfSome, IfNone};
 ghost use Rattle.gc_label.specs.Label.{low_half, high_half};
-ghost use Rattle.gc_board.specs.declared.rule.TheConstants.{FREE};
+ghost use Rattle.gc_counts.specs.declared.limits.TheConstants.{FREE};
 ghost use Rattle.gc_rounds.specs.Words.{stamp};
 ghost use Rattle.gc_rounds.specs.Places.{IsSamePlace};
 ghost use Rattle.gc_gates.specs.declared.view.Hand.TheVariants.{Has};
@@ -14,7 +14,7 @@ ghost use Rattle.gc_steps.specs.Views.{IsMadeNow, IsIdle, Answers, IsReady, IsAl
 
 use crate::jobs::Jobs;
 use crate::round::{Prepared, Round};
-use gc_board::{DONE, IN_HAND};
+use gc_counts::{DONE, IN_HAND};
 use gc_gates::{Frame, Place, claim, store_done, store_high, store_low};
 use gc_label::Label;
 use gc_rounds::stamped;

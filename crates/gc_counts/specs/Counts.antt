@@ -1,4 +1,4 @@
--- Sums over lists, and how often a number stands in one.
+-- Sums over lists.
 use Rattle.std.specs.Prelude.{ℕ, ◌+◌, List, [], ◌∷◌, ◌==◌, if◌then◌else◌}
 
 -- the sum of a number over a list
@@ -9,7 +9,3 @@ total f (x ∷ xs) = f x + total f xs
 -- 1 where the two numbers are the same, and else 0
 abbrev pub only : ℕ → ℕ → ℕ
 only x y = if x == y then 1 else 0
-
--- how often x stands in the list
-abbrev pub times : ℕ → List ℕ → ℕ
-times x xs = total (only x) xs

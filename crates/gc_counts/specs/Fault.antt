@@ -1,7 +1,7 @@
 -- The numbers and names of the faults of opening a board.
 use Rattle.std.specs.Prelude.{ℕ, List, codes}
-use Rattle.gc_board.specs.declared.fault.OpenFault.{OpenFault}
-use Rattle.gc_board.specs.declared.fault.OpenFault.TheVariants.{Memory, NoTable}
+use Rattle.gc_counts.specs.declared.fault.OpenFault.{OpenFault}
+use Rattle.gc_counts.specs.declared.fault.OpenFault.TheVariants.{Memory, NoTable}
 
 abbrev pub code_of : OpenFault → ℕ
 code_of Memory = 46

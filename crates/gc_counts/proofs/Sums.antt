@@ -1,11 +1,11 @@
 -- Sums over lists: of two lists joined, of a list with one item changed, and single terms of them.
 -- And what holds of each item of a list in which items change.
-use Rattle.std.proofs.Common.{◌≡◌, ◌≢◌, ℕ, zero, suc, ◌+◌, ◌<◌, ◌≤◌, List, [], ◌∷◌, ◌++◌, set, refl, sym, ap, arith, inl, inr}
+use Rattle.std.proofs.Common.{◌≡◌, ◌≢◌, ℕ, zero, suc, ◌+◌, ◌<◌, ◌≤◌, List, [], ◌∷◌, ◌++◌, set, refl, sym, ap, arith, inl, inr, get_or, replicate}
 use mathlib.Core.Option.{some, some-injective, some-ne-none}
 use Rattle.std.proofs.lemmas.Bool.Decides.{nat_tests}
 use lib.ListN.{get_elem?}
 use Rattle.atomic_table.proofs.Lists.{at_set, at_snoc}
-use Rattle.gc_board.specs.Counts.{total, only}
+use Rattle.gc_counts.specs.Counts.{total, only}
 
 module _ {A : Type 0} (f : A → ℕ) where
   pub total-append : (xs ys : List A) → total f (xs ++ ys) ≡ total f xs + total f ys
@@ -111,3 +111,9 @@ only_le x y = grind (arith, nat_tests)
 
 pub only_is : (x y : ℕ) → 0 < only x y → x ≡ y
 only_is x y more = grind (arith, nat_tests)
+
+-- a word of a list of zeros is 0, and past the end too
+pub zeros : (n i : ℕ) → get_or {A = ℕ} (replicate n 0) i 0 ≡ 0
+zeros zero i = refl
+zeros (suc n) zero = refl
+zeros (suc n) (suc i) = zeros n i

@@ -1,7 +1,7 @@
 //! Why a board can't be opened, or closed.
 
 ghost use Rattle.std.specs.Prelude.{◌≡◌, codes};
-ghost use Rattle.gc_board.specs.Fault.{code_of, name_of};
+ghost use Rattle.gc_counts.specs.Fault.{code_of, name_of};
 
 use std::alloc::{AllocError, AllocFailed};
 use std::error::Error;
@@ -53,7 +53,7 @@ impl Error for OpenFault {}
 
 impl From<AllocError> for OpenFault {
     ghost use Rattle.std.specs.Prelude.{◌≡◌};
-    ghost use Rattle.gc_board.specs.declared.fault.OpenFault.TheVariants as faults;
+    ghost use Rattle.gc_counts.specs.declared.fault.OpenFault.TheVariants as faults;
 
     ghost from_gives = { λ _ e. e ≡ faults.Memory };
 
@@ -64,7 +64,7 @@ impl From<AllocError> for OpenFault {
 
 impl<T: Drop> From<AllocFailed<T>> for OpenFault {
     ghost use Rattle.std.specs.Prelude.{◌≡◌};
-    ghost use Rattle.gc_board.specs.declared.fault.OpenFault.TheVariants as faults;
+    ghost use Rattle.gc_counts.specs.declared.fault.OpenFault.TheVariants as faults;
 
     ghost from_gives = { λ _ e. e ≡ faults.Memory };
 

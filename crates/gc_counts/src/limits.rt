@@ -1,0 +1,13 @@
+//! The limit of seats, and the states of a gate.
+
+/// The most seats of a board, or of banks.
+pub const MAX_SEATS: u32 = 64;
+
+/// The state of a gate that no seat has.
+pub const FREE: u64 = 0;
+
+/// The state of a gate that a seat has in hand.
+pub const IN_HAND: u64 = 1;
+
+/// The state of a gate that is made.
+pub const DONE: u64 = 2;
