@@ -62,12 +62,20 @@ class Progress(ProgramTest):
 
     def assert_shows(self, line, ending, go_on, *words):
         """A run shows this line until `go_on` is called, and has this ending when it is gone."""
-        status, printed, shown = self.on_terminal(go_on, *words)
+        begun, times = time.monotonic(), []
+
+        def note_time():
+            times.append(time.monotonic() - begun)
+            go_on()
+
+        status, printed, shown = self.on_terminal(note_time, *words)
         before, *lines, errors = shown.split(WIPED)
         self.assertEqual((status, printed, errors.replace("\r\n", "\n")), ending, words)
         self.assertEqual(before, "", words)
         self.assertTrue(lines, words)
         self.assertRegex(lines[0], f"^halfgates: {re.escape(line)}, [0-9]+ s$", words)
+        self.assertGreaterEqual(times[0], PATIENCE, words)
+        self.assertLess(times[0], 5 * PATIENCE, words)
 
     def make_files(self):
         """The names of a garbled file and label files, and what they evaluate to."""
@@ -118,9 +126,25 @@ class Progress(ProgramTest):
         go_on = lambda: self.put("slow", "5 8")
         self.assert_shows(CHECKING, fails("1 Truncated"), go_on, "check", "slow")
 
+    def run_short(self, go_on, *words):
+        """A run that ends before its line would be shown: the thread of the line keeps nobody waiting."""
+        begun = time.monotonic()
+        ending = self.on_terminal(go_on, *words)
+        self.assertLess(time.monotonic() - begun, PATIENCE, words)
+        return ending
+
     def test_nothing_of_short_commands(self):
-        for words in (["check", "adder"], ["run", "adder", SEED, 1, 1, 1], ["--version"]):
-            self.assertEqual(self.on_terminal(self.fail, *words)[2], "", words)
+        for words in (["check", "adder"], ["run", "adder", SEED, 1, 1, 1], ["--version"], ["--help"], ["run", "--help"]):
+            status, printed, shown = self.run_short(self.fail, *words)
+            self.assertEqual((status, shown), (0, ""), words)
+            self.assertNotEqual(printed, "", words)
+
+    def test_wrong_arguments_end_at_once(self):
+        for words in (["nonsense"], ["check"], ["check", "adder", "more"]):
+            status, printed, shown = self.run_short(lambda: None, *words)
+            self.assertEqual((status, printed), (2, ""), words)
+            self.assertIn("Usage", shown, words)
+            self.assertNotIn(WIPED, shown, words)
 
     def test_nothing_without_a_terminal(self):
         os.mkfifo(self.folder / "slow")
