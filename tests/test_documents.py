@@ -137,7 +137,7 @@ class Documents(unittest.TestCase):
         self.assertTrue(is_same, "scripts/picture.py >docs/crates.svg draws the picture anew")
 
     def test_readme_is_short(self):
-        self.assertLessEqual(len((TOP / "README.md").read_text().split()), 1200)
+        self.assertLessEqual(len((TOP / "README.md").read_text().split()), 1400)
 
     def test_links(self):
         missing = []
