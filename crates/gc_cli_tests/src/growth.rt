@@ -48,8 +48,8 @@ const THREE_LABEL_FILES: [Part; 7] = [LIST_OF_LABELS, FILE, LABELS, FILE, LABELS
 
 const OUTPUT_LINE: Part = (52, 1);
 
-/// The input labels, the labels of all wires, and the output bits; and the output line.
-const EVALUATION: [Part; 2] = [(46, 3), OUTPUT_LINE];
+/// The input labels, the labels of all wires, those of the outputs, and the output bits; and the output line.
+const EVALUATION: [Part; 2] = [(46, 4), OUTPUT_LINE];
 
 /// 121 bytes, in room for 8, 16, 32, 64 and 128.
 const CHECK_LINES: Part = (52, 5);
@@ -79,8 +79,9 @@ const LABEL_LINES: Part = (52, 2);
 /// 102 bytes, in room for 16, 32, 64 and 128, and the bit of each of three label files.
 const AUDIT_LINES: Part = (52, 7);
 
-/// The input labels in binding, the bits of all jobs, the labels of all wires, and the output bits.
-const JOBS_EVALUATION: Part = (46, 4);
+/// The input labels in binding; a place for the bits of each job, and the labels of all wires, those of the outputs and
+/// the output bits, without which the job is evaluated once more; and the bits of all jobs.
+const JOBS_EVALUATION: [Part; 3] = [(46, 1), (0, 4), (46, 1)];
 
 /// Orders over the full adder, what each prints, and the parts of its work. What a sink takes is the files' own memory.
 static ORDERS: [(&[&str], &str, &[&[Part]]); 11] = [
@@ -123,7 +124,8 @@ static ORDERS: [(&[&str], &str, &[&[Part]]); 11] = [
             &FIRST,
             &[FILE, PARTS, LIST_OF_JOBS, PARTS, WORDS, GARBLED],
             &THREE_LABEL_FILES,
-            &[JOBS_EVALUATION, OUTPUT_LINE],
+            &JOBS_EVALUATION,
+            &[OUTPUT_LINE],
         ],
     ),
     (&["locate", "c.txt"], "no fault\n", &[&FIRST, &[NO_FAULT]]),
