@@ -1,0 +1,475 @@
+/* SPDX-License-Identifier: MIT OR Apache-2.0 */
+/*
+ * halfgates: the C++ view of halfgates.h, from C++11 on. That header says what each call does.
+ *
+ *     halfgates::circuit circuit(text);
+ *     halfgates::garbling garbling = circuit.garble(halfgates::seed::random());
+ *     halfgates::bytes garbled = garbling.write();
+ *
+ * Handles are moved and not copied, and are freed when their scope ends. A call that fails throws a `fault`, and where
+ * memory for a result runs out std::bad_alloc. Methods that use a handle aren't const, since one handle is used by one
+ * call at a time; `circuit::share` gives each thread its own. The numbers, widths and digest of a circuit are read
+ * once.
+ *
+ * What a call reads is a container of bytes or labels, such as a vector, a string, an array or a span, a `view`, or a
+ * list such as {0, 1}. It is read where it is.
+ */
+#ifndef HALFGATES_HPP
+#define HALFGATES_HPP
+
+#include "halfgates.h"
+
+#include <array>
+#include <cerrno>
+#include <cstddef>
+#include <cstdint>
+#include <cstdio>
+#include <cstring>
+#include <exception>
+#include <initializer_list>
+#include <memory>
+#include <system_error>
+#include <type_traits>
+#include <utility>
+#include <vector>
+
+#include <sys/random.h>
+
+/* [[nodiscard]] is of C++17. GCC has it before too; there (void) doesn't hush its own attribute, as Clang's. */
+#if __cplusplus >= 201703L || (defined(__GNUC__) && __GNUC__ >= 7 && !defined(__clang__))
+#define HALFGATES_NODISCARD [[nodiscard]]
+#elif defined(__clang__)
+#define HALFGATES_NODISCARD __attribute__((warn_unused_result))
+#else
+#define HALFGATES_NODISCARD
+#endif
+
+namespace halfgates {
+
+using bytes = std::vector<std::uint8_t>;
+using label = std::array<std::uint8_t, 16>;
+using labels = std::vector<label>;
+
+/* A call failed: the code, and its name as the program prints it. */
+class fault : public std::exception {
+public:
+    explicit fault(std::int32_t code) noexcept : code_(code), name_(halfgates_fault_name(code)) {
+        std::snprintf(what_, sizeof what_, "fault %d %s", static_cast<int>(code), name_.text);
+    }
+
+    std::int32_t code() const noexcept { return code_; }
+    const char *name() const noexcept { return name_.text; }
+    const char *what() const noexcept override { return what_; }
+
+    /* Whether memory ran out. */
+    bool is_memory() const noexcept { return halfgates_is_memory(code_) != 0; }
+
+private:
+    std::int32_t code_;
+    halfgates_name name_;
+    char what_[64];
+};
+
+inline void check(std::int32_t code) {
+    if (code != HALFGATES_OK)
+        throw fault(code);
+}
+
+namespace detail {
+
+template <class T>
+struct is_item
+    : std::integral_constant<bool, sizeof(T) == 1 && (std::is_integral<T>::value || std::is_enum<T>::value)> {};
+
+template <>
+struct is_item<label> : std::true_type {};
+
+/* The items of a container, where they are bytes or labels. */
+template <class Container, class Data = decltype(std::declval<const Container &>().data()),
+          class Item = typename std::remove_cv<typename std::remove_pointer<Data>::type>::type>
+using item = typename std::enable_if<
+    std::is_pointer<Data>::value && is_item<Item>::value &&
+        std::is_convertible<decltype(std::declval<const Container &>().size()), std::size_t>::value,
+    Item>::type;
+
+} // namespace detail
+
+/* The bytes of a container that has a name and outlives the view, or of a pointer. */
+class view {
+public:
+    view(const void *data, std::size_t size) noexcept : data_(static_cast<const std::uint8_t *>(data)), size_(size) {}
+
+    template <class Container, class Item = detail::item<Container>>
+    view(const Container &container) noexcept : view(container.data(), container.size() * sizeof(Item)) {}
+
+    /* Of these nothing would be left at the end of the statement. */
+    template <class Container, class Item = detail::item<Container>,
+              class = typename std::enable_if<!std::is_same<Container, view>::value>::type>
+    view(const Container &&container) = delete;
+    view(std::initializer_list<std::uint8_t>) = delete;
+
+    view(const view &) = default;
+    view &operator=(const view &) = default;
+
+    const std::uint8_t *data() const noexcept { return data_; }
+    std::size_t size() const noexcept { return size_; }
+
+private:
+    const std::uint8_t *data_;
+    std::size_t size_;
+};
+
+namespace detail {
+
+/* What a call reads. It is the parameter of a call and no variable, so it may be of a list or of a temporary. */
+class input {
+public:
+    input(const void *data, std::size_t size) noexcept : input_(data, size) {}
+    input(std::initializer_list<std::uint8_t> list) noexcept : input_(list.begin(), list.size()) {}
+
+    template <class Container, class Item = item<Container>>
+    input(const Container &container) noexcept : input_(container.data(), container.size() * sizeof(Item)) {}
+
+    input(const input &) = delete;
+    input &operator=(const input &) = delete;
+
+    const std::uint8_t *data() const noexcept { return input_.data(); }
+    std::size_t size() const noexcept { return input_.size(); }
+
+private:
+    view input_;
+};
+
+template <class T, void (*Free)(T *)>
+struct freeing {
+    void operator()(T *at) const noexcept { Free(at); }
+};
+
+template <class T, void (*Free)(T *)>
+using handle = std::unique_ptr<T, freeing<T, Free>>;
+
+/* The bytes of labels that a call writes. */
+inline std::uint8_t *room(labels &found) noexcept {
+    return found.empty() ? nullptr : found.front().data();
+}
+
+} // namespace detail
+
+/* The 32 bytes that all labels of a garbling come from. Take new random ones for each garbling. */
+class seed {
+public:
+    /* Random bytes of the system. Where it has none, it throws std::system_error. */
+    HALFGATES_NODISCARD static seed random() {
+        seed made;
+        if (getentropy(made.bytes_.data(), made.bytes_.size()) != 0)
+            throw std::system_error(errno, std::generic_category(), "getentropy");
+        return made;
+    }
+
+    /* These bytes. If they aren't 32, it throws HALFGATES_BAD_ARGUMENT. */
+    HALFGATES_NODISCARD static seed from_bytes(const detail::input &given) {
+        seed made;
+        check(given.size() == made.bytes_.size() ? HALFGATES_OK : HALFGATES_BAD_ARGUMENT);
+        std::memcpy(made.bytes_.data(), given.data(), given.size());
+        return made;
+    }
+
+    const std::uint8_t *data() const noexcept { return bytes_.data(); }
+    std::size_t size() const noexcept { return bytes_.size(); }
+
+private:
+    seed() noexcept {}
+
+    std::array<std::uint8_t, 32> bytes_;
+};
+
+/* Both labels of each wire of a value. */
+struct label_pairs {
+    labels zero;
+    labels one;
+};
+
+/* What an audit finds of a label file, and the bits that its labels stand for. */
+struct labels_audit {
+    halfgates_labels_report report;
+    bytes bits;
+};
+
+/* The numbers of a circuit, and how many wires each of its values has. */
+struct shape {
+    halfgates_numbers numbers;
+    std::vector<std::uint32_t> input_widths;
+    std::vector<std::uint32_t> output_widths;
+};
+
+class garbling {
+public:
+    /* Takes over a garbling of a circuit of this shape. */
+    garbling(halfgates_garbling *at, const shape &of) : handle_(at), shape_(of) {}
+
+    HALFGATES_NODISCARD bytes write(std::uint32_t version = 2) {
+        std::size_t size = 0;
+        const std::int32_t code = halfgates_garbling_write(get(), version, nullptr, 0, &size);
+        if (code != HALFGATES_SMALL_BUFFER)
+            check(code);
+        bytes file(size);
+        write_into(file.data(), file.size(), version);
+        return file;
+    }
+
+    /* Writes the garbled file to a buffer with this much room, and returns the number of its bytes. */
+    std::size_t write_into(std::uint8_t *buffer, std::size_t size, std::uint32_t version = 2) {
+        std::size_t written = 0;
+        check(halfgates_garbling_write(get(), version, buffer, size, &written));
+        return written;
+    }
+
+    HALFGATES_NODISCARD label offset() {
+        label found;
+        check(halfgates_offset(get(), found.data()));
+        return found;
+    }
+
+    HALFGATES_NODISCARD label zero_label(std::uint32_t wire) {
+        label found;
+        check(halfgates_zero_label(get(), wire, found.data()));
+        return found;
+    }
+
+    HALFGATES_NODISCARD bool decode_bit(std::uint32_t output) {
+        std::uint8_t bit = 0;
+        check(halfgates_decode_bit(get(), output, &bit));
+        return bit != 0;
+    }
+
+    /* The decode bits of all output wires. */
+    HALFGATES_NODISCARD bytes decode_bits() {
+        bytes bits(shape_.numbers.output_wires);
+        check(halfgates_decode_bits(get(), bits.data(), bits.size()));
+        return bits;
+    }
+
+    /* The row pairs, 32 bytes an AND gate. */
+    HALFGATES_NODISCARD bytes rows() {
+        bytes found(32 * static_cast<std::size_t>(shape_.numbers.and_gates));
+        rows_into(found.data(), found.size());
+        return found;
+    }
+
+    /* Writes the row pairs to a buffer with this much room. */
+    void rows_into(std::uint8_t *buffer, std::size_t size) { check(halfgates_rows(get(), buffer, size)); }
+
+    HALFGATES_NODISCARD label_pairs input_labels(std::uint32_t index) {
+        return pairs(halfgates_input_labels, shape_.input_widths, index);
+    }
+
+    HALFGATES_NODISCARD label_pairs output_labels(std::uint32_t index) {
+        return pairs(halfgates_output_labels, shape_.output_widths, index);
+    }
+
+    HALFGATES_NODISCARD std::vector<halfgates_wire_labels> labels(const detail::input &bits, std::uint32_t from,
+                                                                  std::size_t count) {
+        const std::uint32_t wires = shape_.numbers.wires;
+        check(from <= wires && count <= wires - from ? HALFGATES_OK : HALFGATES_BAD_ARGUMENT);
+        std::vector<halfgates_wire_labels> found(count);
+        check(halfgates_labels(get(), bits.data(), bits.size(), from, found.data(), count));
+        return found;
+    }
+
+    /* The label file of an input value. */
+    HALFGATES_NODISCARD bytes deal(std::uint32_t index, const detail::input &bits) {
+        bytes file(16 + 16 * bits.size());
+        std::size_t written = 0;
+        check(halfgates_garbling_deal(get(), index, bits.data(), bits.size(), file.data(), file.size(), &written));
+        return file;
+    }
+
+    HALFGATES_NODISCARD halfgates_audit_report audit(const detail::input &garbled) {
+        halfgates_audit_report report;
+        check(halfgates_audit(get(), garbled.data(), garbled.size(), &report));
+        return report;
+    }
+
+    HALFGATES_NODISCARD labels_audit audit_labels(const detail::input &file) {
+        labels_audit found{{}, bytes(file.size() / 16)};
+        check(halfgates_audit_labels(get(), file.data(), file.size(), found.bits.data(), found.bits.size(),
+                                     &found.report));
+        found.bits.resize(found.report.count);
+        return found;
+    }
+
+    halfgates_garbling *get() noexcept { return handle_.get(); }
+
+private:
+    template <class Call>
+    label_pairs pairs(Call call, const std::vector<std::uint32_t> &widths, std::uint32_t index) {
+        const std::size_t width = index < widths.size() ? widths[index] : 0;
+        label_pairs found{halfgates::labels(width), halfgates::labels(width)};
+        check(call(get(), index, detail::room(found.zero), detail::room(found.one), 16 * width));
+        return found;
+    }
+
+    detail::handle<halfgates_garbling, halfgates_garbling_free> handle_;
+    shape shape_;
+};
+
+class job {
+public:
+    /* Takes over a job of a circuit of this shape. */
+    job(halfgates_job *at, const shape &of) noexcept : handle_(at), outputs_(of.numbers.output_wires) {}
+
+    /* The bits of all output wires. */
+    HALFGATES_NODISCARD bytes evaluate() {
+        bytes bits(outputs_);
+        check(halfgates_evaluate(get(), bits.data(), bits.size()));
+        return bits;
+    }
+
+    /* The active labels of all output wires. */
+    HALFGATES_NODISCARD labels output_labels() {
+        labels found(outputs_);
+        check(halfgates_job_output_labels(get(), detail::room(found), 16 * found.size()));
+        return found;
+    }
+
+    halfgates_job *get() noexcept { return handle_.get(); }
+
+private:
+    detail::handle<halfgates_job, halfgates_job_free> handle_;
+    std::size_t outputs_;
+};
+
+class circuit {
+public:
+    explicit circuit(const detail::input &text) {
+        halfgates_circuit *at = nullptr;
+        check(halfgates_circuit_read(text.data(), text.size(), &at));
+        take(at);
+    }
+
+    /* One more handle of the same circuit, without a copy, for another thread. */
+    HALFGATES_NODISCARD circuit share() {
+        halfgates_circuit *at = nullptr;
+        check(halfgates_circuit_share(get(), &at));
+        circuit other;
+        other.take(at);
+        return other;
+    }
+
+    const halfgates_numbers &numbers() const noexcept { return shape_.numbers; }
+    const std::vector<std::uint32_t> &input_widths() const noexcept { return shape_.input_widths; }
+    const std::vector<std::uint32_t> &output_widths() const noexcept { return shape_.output_widths; }
+    const std::array<std::uint8_t, 32> &digest() const noexcept { return digest_; }
+
+    HALFGATES_NODISCARD std::uint64_t garbled_size(std::uint32_t version = 2) {
+        const std::uint64_t size = halfgates_garbled_size(get(), version);
+        check(size != 0 ? HALFGATES_OK : HALFGATES_BAD_ARGUMENT);
+        return size;
+    }
+
+    HALFGATES_NODISCARD halfgates::garbling garble(const seed &key) {
+        halfgates_garbling *at = nullptr;
+        check(halfgates_garble(get(), key.data(), &at));
+        return halfgates::garbling(at, shape_);
+    }
+
+    /* Garbles from an offset, zero labels of the input wires, and the first AND number. Under one offset use no AND
+     * number twice. */
+    HALFGATES_NODISCARD halfgates::garbling garble_from(const label &offset, const detail::input &zero_labels,
+                                                        std::uint64_t first) {
+        halfgates_garbling *at = nullptr;
+        check(halfgates_garble_from(get(), offset.data(), zero_labels.data(), zero_labels.size(), first, &at));
+        return halfgates::garbling(at, shape_);
+    }
+
+    /* The label file of an input value. */
+    HALFGATES_NODISCARD bytes deal(const seed &key, std::uint32_t index, const detail::input &bits) {
+        bytes file(16 + 16 * bits.size());
+        std::size_t written = 0;
+        check(halfgates_deal(get(), key.data(), index, bits.data(), bits.size(), file.data(), file.size(), &written));
+        return file;
+    }
+
+    /* The label file of an input value, from labels that were received. */
+    HALFGATES_NODISCARD bytes label_file(std::uint32_t index, const detail::input &received) {
+        bytes file(16 + received.size());
+        std::size_t written = 0;
+        check(halfgates_label_file(get(), index, received.data(), received.size(), file.data(), file.size(), &written));
+        return file;
+    }
+
+    /* The job of a garbled file and of label files, which are joined first. */
+    HALFGATES_NODISCARD halfgates::job bind(const detail::input &garbled, const std::vector<bytes> &files) {
+        bytes joined;
+        std::vector<std::size_t> sizes;
+        for (const bytes &file : files) {
+            joined.insert(joined.end(), file.begin(), file.end());
+            sizes.push_back(file.size());
+        }
+        return bind(garbled, joined, sizes);
+    }
+
+    /* The job of a garbled file and of label files that are one after another, with the number of bytes of each. */
+    HALFGATES_NODISCARD halfgates::job bind(const detail::input &garbled, const detail::input &files,
+                                            const std::vector<std::size_t> &sizes) {
+        halfgates_job *at = nullptr;
+        check(halfgates_job_bind(get(), garbled.data(), garbled.size(), files.data(), files.size(), sizes.data(),
+                                 sizes.size(), &at));
+        return halfgates::job(at, shape_);
+    }
+
+    /* The active labels of all output wires, from row pairs and the active labels of all input wires. */
+    HALFGATES_NODISCARD labels evaluate_labels(const detail::input &rows, const detail::input &active,
+                                               std::uint64_t first) {
+        labels outputs(numbers().output_wires);
+        check(halfgates_evaluate_labels(get(), rows.data(), rows.size(), first, active.data(), active.size(),
+                                        detail::room(outputs), 16 * outputs.size()));
+        return outputs;
+    }
+
+    /* The bits of all output wires for those of all input wires, without garbling. */
+    HALFGATES_NODISCARD bytes plain(const detail::input &bits) {
+        bytes outputs(numbers().output_wires);
+        check(halfgates_plain(get(), bits.data(), bits.size(), outputs.data(), outputs.size()));
+        return outputs;
+    }
+
+    halfgates_circuit *get() noexcept { return handle_.get(); }
+
+private:
+    circuit() noexcept : shape_() {}
+
+    void take(halfgates_circuit *at) {
+        handle_.reset(at);
+        halfgates_numbers &it = shape_.numbers;
+        check(halfgates_circuit_numbers(at, &it));
+        shape_.input_widths.resize(it.input_values);
+        shape_.output_widths.resize(it.output_values);
+        check(halfgates_circuit_input_widths(at, shape_.input_widths.data(), it.input_values));
+        check(halfgates_circuit_output_widths(at, shape_.output_widths.data(), it.output_values));
+        check(halfgates_circuit_digest(at, digest_.data()));
+    }
+
+    detail::handle<halfgates_circuit, halfgates_circuit_free> handle_;
+    shape shape_;
+    std::array<std::uint8_t, 32> digest_;
+};
+
+/* The bits of active output labels, by the decode bits of their wires. */
+HALFGATES_NODISCARD inline bytes decode(const detail::input &active, const detail::input &decode_bits) {
+    bytes bits(decode_bits.size());
+    check(halfgates_decode(active.data(), active.size(), decode_bits.data(), decode_bits.size(), bits.data(),
+                           bits.size()));
+    return bits;
+}
+
+/* Where the first fault of a text is. */
+HALFGATES_NODISCARD inline halfgates_place locate(const detail::input &text) {
+    halfgates_place place;
+    check(halfgates_locate(text.data(), text.size(), &place));
+    return place;
+}
+
+} // namespace halfgates
+
+#endif
