@@ -305,6 +305,21 @@ fn step_together<'j, 'c, R: Threads + Sync>(
     );
 }
 
+/// Lets each seat step all gates, at first each in a thread of its own, and then one after another.
+fn step_twice<'j, 'c, R: Threads + Sync>(
+    rt: &R,
+    board: &EvalBoard<'j, 'c>,
+    job: &Job<'c>,
+    seats: &mut [EvalSeat],
+)
+    requires own { All (IsSeatOf board.now) seats.old }
+    requires job { job_on board.now ≡ job.now }
+    ensures { All (IsSeatOf board.now) seats.new }
+{
+    step_together(rt, 8, board, job, seats);
+    step_together(rt, 1, board, job, seats);
+}
+
 /// What this many seats make, at first each in a thread of its own, and then one after another, decodes to the output
 /// bits.
 fn made_by<R: Threads + Sync>(
@@ -316,8 +331,7 @@ fn made_by<R: Threads + Sync>(
     requires { (0 < seats) × (seats ≤ 8) }
 {
     let (board, mut all) = EvalBoard::open(alloc, job, seats)?;
-    step_together(rt, 8, &board, job, all.as_mut_slice());
-    step_together(rt, 1, &board, job, all.as_mut_slice());
+    step_twice(rt, &board, job, all.as_mut_slice());
     Ok(closed(board, all)?.decode(alloc)?)
 }
 
