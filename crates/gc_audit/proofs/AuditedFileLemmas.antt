@@ -1,6 +1,6 @@
 -- Files that were read are honest in their parts exactly where they are in their bytes.
 use Rattle.gc_audit.proofs.Names.{ℕ, List, ap, ◌∙◌, Netlist, IsLawful, garbling_of, Version, One, Two, GarbledParts, IsGarbledFile, garbled_file, label_file, label_parts_of, honest_parts}
-use Rattle.gc_write.proofs.WrittenFiles.{are_files}
+use Rattle.gc_file.proofs.WrittenFiles.{are_files}
 use Rattle.gc_file.proofs.OneFile.{one_file}
 use Rattle.gc_file.proofs.LabelFileLemmas.{one_label_file}
 use Rattle.gc_audit.specs.AuditedFileLaw.{AuditedFileLaw}

@@ -4,7 +4,7 @@ use Rattle.std.specs.List.{range_with_len}
 use Rattle.std.proofs.lemmas.List.FromFn.{get_or-map-range_with_len}
 use Rattle.gc_half.specs.Entry.{entry_of, entries_of, label_of_colour, output_tweak}
 use Rattle.gc_half.specs.Hash.{hash}
-use Rattle.gc_format.specs.declared.parts.EntryPair.{EntryPair}
+use Rattle.gc_file.specs.declared.parts.EntryPair.{EntryPair}
 use Rattle.gc_audit.specs.declared.garbled.GarbledAudit.{GarbledAudit}
 use Rattle.gc_audit.specs.declared.garbled.PartsAudit.{PartsAudit}
 use Rattle.gc_audit.specs.Garbled.{AreCountsRight, IsPartsAudit, IsPartsAuditWith, IsGarbledAuditWith, honest_audit}

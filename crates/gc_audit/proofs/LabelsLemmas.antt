@@ -4,7 +4,7 @@ use borrow.Author.Tests.{ltb-true}
 use Rattle.gc_circuit.specs.Meaning.{xor}
 use Rattle.gc_label.specs.Label.{colour}
 use Rattle.gc_half.proofs.HalfGateLaw.{colour-encode}
-use Rattle.gc_write.proofs.DealLemmas.{encoded_with-append, length-encoded_with}
+use Rattle.gc_file.proofs.DealLemmas.{encoded_with-append, length-encoded_with}
 use Rattle.gc_audit.specs.declared.labels.LabelsVerdict.{LabelsVerdict}
 
 -- A label stands for one bit: the two labels of a wire have different colours.

@@ -4,3 +4,7 @@ pub mod RowLemmas
 pub mod GarbledLemmas
 pub mod LabelsLemmas
 pub mod AuditedFileLemmas
+pub mod CountLemmas
+pub mod DepthLemmas
+pub mod ReadLemmas
+pub mod SizeLemmas

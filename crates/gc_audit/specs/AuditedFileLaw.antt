@@ -2,8 +2,8 @@
 use Rattle.std.specs.Prelude.{◌≡◌, ◌↔◌, ℕ, Bool, List, length, slice_get, Some}
 use Rattle.gc_netlist.specs.Circuit.{Netlist, output_wires, and_count}
 use Rattle.gc_half.specs.Canonical.{garbling_of}
-use Rattle.gc_format.specs.GarbledFile.{GarbledParts, IsGarbledFile, garbled_file}
-use Rattle.gc_format.specs.LabelFile.{LabelFileParts, IsLabelFile, label_file, label_parts_of}
+use Rattle.gc_file.specs.GarbledFile.{GarbledParts, IsGarbledFile, garbled_file}
+use Rattle.gc_file.specs.LabelFile.{LabelFileParts, IsLabelFile, label_file, label_parts_of}
 use Rattle.gc_file.specs.Honest.{honest_parts}
 use Rattle.gc_audit.specs.Garbled.{AreCountsRight}
 use Rattle.gc_audit.specs.Labels.{IsDealt}

@@ -1,6 +1,6 @@
 -- Which entry of a file is the first that differs from a garbling's.
 use Rattle.std.specs.Prelude.{◌≡◌, ◌≢◌, ℕ, Bool, true, false, List, slice_index_or}
-use Rattle.gc_format.specs.declared.parts.EntryPair.{EntryPair}
+use Rattle.gc_file.specs.declared.parts.EntryPair.{EntryPair}
 use Rattle.gc_audit.specs.declared.entries.EntryDifference.{EntryDifference}
 use Rattle.gc_audit.specs.Difference.{DifferFirstAt}
 

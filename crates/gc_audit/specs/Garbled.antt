@@ -5,7 +5,7 @@ use Rattle.gc_netlist.specs.Circuit.{Netlist, output_wires, and_count}
 use Rattle.gc_netlist.specs.Canon.{canonical_text}
 use Rattle.gc_label.specs.Seed.{offset_of}
 use Rattle.gc_half.specs.Garbling.{GarblingParts, decode_bits_of}
-use Rattle.gc_format.specs.GarbledFile.{GarbledParts, entry_count}
+use Rattle.gc_file.specs.GarbledFile.{GarbledParts, entry_count}
 use Rattle.gc_file.specs.Honest.{version_entries}
 use Rattle.gc_audit.specs.declared.garbled.GarbledAudit.{GarbledAudit}
 use Rattle.gc_audit.specs.declared.garbled.PartsAudit.{PartsAudit}

@@ -4,7 +4,7 @@ use Rattle.gc_netlist.specs.Circuit.{Netlist, input_wires}
 use Rattle.gc_label.specs.Seed.{offset_of, input_label_of}
 use Rattle.gc_half.specs.Evaluation.{encode}
 use Rattle.gc_half.specs.Garbling.{GarblingParts}
-use Rattle.gc_format.specs.LabelFile.{LabelFileParts, encoded_with, label_parts_with}
+use Rattle.gc_file.specs.LabelFile.{LabelFileParts, encoded_with, label_parts_with}
 use Rattle.gc_audit.specs.declared.labels.LabelsVerdict.{LabelsVerdict}
 use Rattle.gc_audit.specs.declared.labels.LabelsVerdict.TheVariants.{Bits, WrongLabel, WrongWidth, NoValue}
 

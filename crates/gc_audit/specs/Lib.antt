@@ -4,3 +4,6 @@ pub mod Entries
 pub mod Garbled
 pub mod Labels
 pub mod AuditedFileLaw
+pub mod Stats
+pub mod Counts
+pub mod Depths

@@ -2,8 +2,8 @@
 
 ghost use Rattle.std.specs.Prelude.{◌≡◌, ◌+◌, ◌≤◌, IfNone, IfSome, MatchOption, length, take};
 ghost use Rattle.gc_half.specs.Garbling.{FitsCircuit};
-ghost use Rattle.gc_format.specs.GarbledFile.{entry_count};
-ghost use Rattle.gc_write.specs.Written.{entry_pairs_of};
+ghost use Rattle.gc_file.specs.GarbledFile.{entry_count};
+ghost use Rattle.gc_file.specs.Written.{entry_pairs_of};
 ghost use Rattle.gc_file.specs.Honest.{version_entries};
 ghost use Rattle.gc_audit.specs.Entries.{DifferFirstIn, IsEntryDifference, named};
 

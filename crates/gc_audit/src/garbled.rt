@@ -8,7 +8,7 @@ ghost use Rattle.gc_half.specs.declared.garbling.RowPair.{RowPair};
 ghost use Rattle.gc_half.specs.Canonical.{garbling_of};
 ghost use Rattle.gc_half.specs.Comparing.{HasLabels, IsComparison};
 ghost use Rattle.gc_half.specs.Garbling.{decode_bits_of, FitsCircuit};
-ghost use Rattle.gc_format.specs.GarbledFile.{GarbledParts, entry_count};
+ghost use Rattle.gc_file.specs.GarbledFile.{GarbledParts, entry_count};
 ghost use Rattle.gc_file.specs.Honest.{honest_parts_with};
 ghost use Rattle.gc_audit.specs.Difference.{DifferFirstAt};
 ghost use Rattle.gc_audit.specs.Garbled.{AreCountsRight, IsPartsAudit, IsPartsAuditWith, IsGarbledAuditWith, honest_audit};

@@ -7,14 +7,22 @@
 //! holds of their bytes.
 #![tactic(auto)]
 
+mod counts;
+mod depths;
 mod entries;
+mod figures;
 mod garbled;
 mod labels;
 mod laws;
 mod rows;
+mod sizes;
+mod survey;
 
 pub use entries::EntryDifference;
+pub use figures::Stats;
 pub use garbled::{GarbledAudit, PartsAudit, are_counts_right, audit_compared, audit_garbled};
 pub use labels::{LabelsVerdict, audit_labels, audit_labels_with_offset};
 pub use laws::law_audited_files;
 pub use rows::{DifferingRows, RowDifference};
+pub use sizes::garbled_size;
+pub use survey::stats;

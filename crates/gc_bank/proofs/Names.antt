@@ -6,8 +6,8 @@ pub use Rattle.gc_bank.specs.Seats.{InRound, round_in, IsNew, view, jobs_on, IsS
 pub use Rattle.gc_bank.specs.Views.{Seen, Answers, AnswersTwo, AnswersFour}
 pub use Rattle.gc_bank.specs.Workers.{AreBitsOf, AreKnown, IsWorkerOf, AreWorkersOf, IsKept, IsWorkerAt}
 pub use Rattle.gc_bank.specs.declared.seat.BankSeat.{BankSeat}
-pub use Rattle.gc_counts.proofs.Sums.{total-append}
-pub use Rattle.gc_counts.specs.Counts.{total}
+pub use Rattle.gc_workers.proofs.Sums.{total-append}
+pub use Rattle.gc_workers.specs.Counts.{total}
 pub use Rattle.gc_steps.proofs.GatherLemmas.{all_but_last, all_last, total_last, length_last, pairs_merged}
 pub use Rattle.gc_job.specs.ActiveLabels.{active}
 pub use Rattle.gc_job.specs.Evaluate.{IsEvaluated}
@@ -18,4 +18,4 @@ pub use Rattle.gc_gates.specs.Layout.{two_banks}
 pub use Rattle.gc_gates.specs.Places.{IsGatePlace}
 pub use Rattle.gc_rounds.specs.declared.view.Key.{Key}
 pub use Rattle.gc_rounds.specs.declared.view.Stand.TheVariants.{Inside, Outside}
-pub use Rattle.gc_walk.specs.Walks.{batches_left}
+pub use Rattle.gc_steps.specs.Walks.{batches_left}

@@ -5,9 +5,9 @@ use Rattle.atomic_table.specs.Seated.{TableId}
 use Rattle.atomic_table.specs.declared.shared.Seat.{Seat}
 use Rattle.gc_rounds.specs.Places.{IsPlaceOf}
 use Rattle.gc_gates.specs.Layout.{two_banks}
-use Rattle.gc_walk.specs.declared.answer.Answer.{Answer}
-use Rattle.gc_walk.specs.declared.answer.Answer.TheVariants.{Made, Done, Taken, NotYet}
-use Rattle.gc_walk.specs.Walks.{made_now}
+use Rattle.gc_steps.specs.declared.answer.Answer.{Answer}
+use Rattle.gc_steps.specs.declared.answer.Answer.TheVariants.{Made, Done, Taken, NotYet}
+use Rattle.gc_steps.specs.Walks.{made_now}
 use Rattle.gc_steps.specs.Views.{made_after}
 use Rattle.gc_bank.specs.Rounds.{gates_of}
 

@@ -1,8 +1,8 @@
 -- Lists of jobs on one circuit, and what evaluating them answers.
 use Rattle.std.specs.Prelude.{◌≡◌, ℕ, ◌<◌, ◌⊎◌, Bool, List, length, slice_get, Some, Result, Ok, Err}
 use Rattle.gc_netlist.specs.Circuit.{Netlist}
-use Rattle.gc_gatehouse.specs.declared.TheConstants.{MAX_WORKERS}
-use Rattle.gc_gatehouse.specs.Workers.{AreFew}
+use Rattle.gc_workers.specs.declared.TheConstants.{MAX_WORKERS}
+use Rattle.gc_workers.specs.Workers.{AreFew}
 use Rattle.gc_job.specs.declared.fault.EvalFault.{EvalFault}
 use Rattle.gc_job.specs.declared.fault.EvalFault.TheVariants.{BadWorkers, UnknownOutputLabel, Memory}
 use Rattle.gc_job.specs.Job.{JobParts}

@@ -2,7 +2,7 @@
 use Rattle.std.specs.Prelude.{ℕ, List}
 use Rattle.gc_gates.specs.Layout.{two_banks}
 use Rattle.gc_job.specs.Job.{JobParts}
-use Rattle.gc_walk.specs.declared.answer.Answer.{Answer}
+use Rattle.gc_steps.specs.declared.answer.Answer.{Answer}
 use Rattle.gc_steps.specs.Views as steps
 
 abbrev pub Seen : Type 0

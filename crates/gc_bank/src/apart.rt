@@ -6,10 +6,10 @@ ghost use Rattle.gc_bank.specs.Jobs.{AreOnOneCircuit};
 ghost use Rattle.gc_bank.specs.Workers.{AreBitsOf, AreKnown, AreKnownFrom};
 
 use crate::together::none_known;
-use gc_gatehouse::Gatehouse;
 use gc_half::Four;
 use gc_job::{Job, evaluate, evaluate_four};
 use gc_rounds::MAX_JOBS;
+use gc_workers::Gatehouse;
 use std::alloc::Allocator;
 use std::thread;
 use std::thread::Threads;

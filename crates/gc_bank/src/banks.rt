@@ -11,7 +11,7 @@ ghost use Rattle.gc_bank.specs.Seats.{IsSeatOf, IsSameSeat, IsInside, InRound, v
 use crate::seat::{BankSeat, Banks};
 use gc_label::Label;
 use gc_rounds::{Entry, Reopening};
-use gc_walk::Answer;
+use gc_steps::Answer;
 use std::alloc::Allocator;
 
 impl<B: Allocator, A: Allocator, C: Allocator> BankSeat<B, A, C> {

@@ -9,10 +9,10 @@ ghost use Rattle.gc_bank.specs.Workers.{AreBitsOf, AreKnown};
 
 use crate::apart::evaluate_apart;
 use crate::together::evaluate_together;
-use gc_gatehouse::{Gatehouse, MAX_WORKERS};
 use gc_job::{EvalFault, Job, evaluate};
 use gc_layers::{Way, way_of};
 use gc_rounds::MAX_JOBS;
+use gc_workers::{Gatehouse, MAX_WORKERS};
 use std::alloc::Allocator;
 use std::thread::Threads;
 

@@ -16,8 +16,8 @@ mod step;
 mod together;
 mod worker;
 
-pub use gc_counts::{CloseRefused, MAX_SEATS, OpenFault};
-pub use gc_rounds::{Entry, MAX_JOBS, Reopening};
+pub use gc_rounds::{Entry, Reopening};
+pub use gc_workers::{CloseRefused, OpenFault};
 pub use jobs::evaluate_jobs;
 pub use same_circuit::one_circuit;
 pub use seat::{BankSeat, Banks};

@@ -1,7 +1,7 @@
 //! Opening and closing banks.
 
 ghost use Rattle.std.specs.Prelude.{◌≡◌, ℕ, ◌<◌, ◌≤◌, ◌↔◌, ◌-◌, ◌^◌, [], length, map, min, sum, IfOk, IfErr, IsOk, IsTrue, All};
-ghost use Rattle.gc_counts.specs.Counts.{total};
+ghost use Rattle.gc_workers.specs.Counts.{total};
 ghost use Rattle.gc_rounds.specs.declared.view.Stand.TheVariants.{Outside};
 ghost use Rattle.gc_gates.specs.Pairs.{pairs};
 ghost use Rattle.gc_gates.specs.Layout.{two_banks};
@@ -12,10 +12,10 @@ ghost use Rattle.gc_bank.specs.Seats.{IsSeatOf, IsNew, view, jobs_on, seats_on};
 
 use crate::seat::{BankSeat, Banks};
 use crate::series::Series;
-use gc_counts::{CloseRefused, MAX_SEATS, OpenFault};
 use gc_gates::{BankTable, Place, Words, open_banks, settle};
 use gc_job::{Job, Wiring};
 use gc_rounds::{Key, MAX_JOBS, Rule, deal_place, join_place};
+use gc_workers::{CloseRefused, MAX_WORKERS, OpenFault};
 use std::alloc::{AllocError, Allocator};
 
 /// This number of new seats, out of a place that stands for them all.
@@ -70,7 +70,7 @@ impl<'j, 'c, B: Allocator + Copy, A: Allocator, C: Allocator> Banks<'j, 'c, B, A
     /// and their seats, which are outside and have done nothing. It takes all the memory that the banks need: 46
     /// where there is none for the seats and the tables of the circuit, 49 where there is none for the table of the
     /// shared words. That there are 1 to [`MAX_JOBS`] jobs, all on one circuit ([`one_circuit`](crate::one_circuit) is
-    /// the test), and 1 to [`MAX_SEATS`] seats, is the caller's condition.
+    /// the test), and 1 to [`MAX_WORKERS`] seats, is the caller's condition.
     pub fn open(
         alloc: B,
         jobs: &'j [Job<'c, A, C>],
@@ -78,7 +78,7 @@ impl<'j, 'c, B: Allocator + Copy, A: Allocator, C: Allocator> Banks<'j, 'c, B, A
     ) -> Result<(Banks<'j, 'c, B, A, C>, Vec<BankSeat<B, A, C>, B>), OpenFault>
         requires jobs { (0 < length jobs.now) × (length jobs.now ≤ MAX_JOBS) }
         requires circuit { AreOnOneCircuit jobs.now }
-        requires seats { (0 < seats) × (seats ≤ MAX_SEATS) }
+        requires seats { (0 < seats) × (seats ≤ MAX_WORKERS) }
         ensures jobs { IfOk result (λ b. jobs_on b.0 ≡ jobs.now) }
         ensures count { IfOk result (λ b. (seats_on b.0 ≡ seats) × (length b.1.items ≡ seats)) }
         ensures seats { IfOk result (λ b. All (λ s. IsSeatOf b.0 s × IsNew (view s)) b.1.items) }

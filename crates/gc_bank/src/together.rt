@@ -1,7 +1,7 @@
 //! Workers that evaluate a list of jobs together.
 
 ghost use Rattle.std.specs.Prelude.{◌≡◌, ◌<◌, ◌≤◌, length, IfOk, List};
-ghost use Rattle.gc_gatehouse.specs.Workers.{AreFew};
+ghost use Rattle.gc_workers.specs.Workers.{AreFew};
 ghost use Rattle.gc_job.specs.Job.{JobParts};
 ghost use Rattle.gc_bank.specs.Jobs.{AreOnOneCircuit};
 ghost use Rattle.gc_bank.specs.Seats.{jobs_on};
@@ -9,9 +9,9 @@ ghost use Rattle.gc_bank.specs.Workers.{AreBitsOf, AreKnown, IsWorkerOf, AreWork
 
 use crate::seat::Banks;
 use crate::worker::{Outputs, Worker, workers_of};
-use gc_gatehouse::Gatehouse;
 use gc_job::Job;
 use gc_rounds::MAX_JOBS;
+use gc_workers::Gatehouse;
 use std::alloc::{AllocError, Allocator};
 use std::thread;
 use std::thread::Threads;

@@ -3,16 +3,16 @@
 
 ghost use Rattle.std.specs.Prelude.{◌≡◌, ◌+◌, ◌<◌, length, All, IfSome, IfOk};
 ghost use Rattle.gc_rounds.specs.declared.view.Stand.TheVariants.{Outside, Inside};
-ghost use Rattle.gc_walk.specs.Walks.{IsWithin, batches_left};
+ghost use Rattle.gc_steps.specs.Walks.{IsWithin, batches_left};
 ghost use Rattle.gc_bank.specs.Rounds.{gates_of};
 ghost use Rattle.gc_bank.specs.Seats.{IsSeatOf, IsNew, view, jobs_on};
 ghost use Rattle.gc_bank.specs.Workers.{AreBitsOf, AreLabelsOf, IsWorkerAt, IsWorkerOf, AreWorkersOf};
 
 use crate::seat::{BankSeat, Banks};
-use gc_gatehouse::Gatehouse;
 use gc_label::Label;
 use gc_rounds::{Entry, Reopening};
-use gc_walk::{Batch, Walk};
+use gc_steps::{Batch, Walk};
+use gc_workers::Gatehouse;
 use std::alloc::{AllocError, Allocator};
 use std::thread;
 

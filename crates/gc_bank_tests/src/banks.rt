@@ -5,13 +5,17 @@ ghost use Rattle.gc_bank.specs.Seats.{IsSeatOf, IsInside, view, round_of, jobs_o
 ghost use Rattle.gc_eval.specs.Seats.{IsSeatOf as IsBoardSeat, job_on};
 
 use crate::jobs::job_of;
-use gc_bank::{BankSeat, Banks, CloseRefused, Entry, MAX_JOBS, Reopening, one_circuit};
+use gc_bank::{BankSeat, Banks, one_circuit};
 use gc_circuit::Circuit;
-use gc_eval::{Answer, EvalBoard, EvalSeat, Job};
+use gc_eval::{EvalBoard, EvalSeat};
 use gc_file::Version;
+use gc_job::Job;
 use gc_label::Label;
 use gc_refusing::Refusing;
+use gc_rounds::{Entry, MAX_JOBS, Reopening};
+use gc_steps::Answer;
 use gc_worked::circuits::FULL_ADDER;
+use gc_workers::CloseRefused;
 use std::alloc::{Allocator, Global};
 use std::process::Abort;
 use std::test::Fail;

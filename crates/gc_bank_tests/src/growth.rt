@@ -2,13 +2,14 @@
 
 use crate::banks::three_jobs;
 use crate::jobs::{evaluated, one_after_another, one_of_each_version};
-use gc_bank::{Banks, MAX_JOBS, OpenFault, one_circuit};
+use gc_bank::{Banks, one_circuit};
 use gc_circuit::Circuit;
-use gc_eval::{EvalFault, Job};
-use gc_gatehouse::Open;
+use gc_job::{EvalFault, Job};
 use gc_refusing::Refusing;
+use gc_rounds::MAX_JOBS;
 use gc_worked::circuits::{FULL_ADDER, many_ands};
 use gc_worked::growths::refusals_met;
+use gc_workers::{Open, OpenFault};
 use std::alloc::Global;
 use std::sync::Wait;
 use std::test::Fail;

@@ -1,14 +1,15 @@
 //! Tests of the evaluation of lists of jobs: the answers are those of one thread, and the threads are really
 //! at work.
 
-use gc_bank::{MAX_JOBS, evaluate_jobs, one_circuit};
+use gc_bank::{evaluate_jobs, one_circuit};
 use gc_circuit::{Circuit, read_value};
-use gc_eval::{EvalFault, Job, evaluate};
 use gc_file::{Version, read_garbled, read_labels};
-use gc_gatehouse::Gatehouse;
+use gc_job::{EvalFault, Job, evaluate};
+use gc_rounds::MAX_JOBS;
 use gc_worked::circuits::{FULL_ADDER, SPACED_ADDER, many_ands};
 use gc_worked::files::{label_file, write};
 use gc_worked::meeting::Meeting;
+use gc_workers::Gatehouse;
 use std::alloc::{Allocator, Global};
 use std::sync::Wait;
 use std::sync::atomic::{AtomicU64, Ordering};

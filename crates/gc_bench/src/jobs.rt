@@ -1,12 +1,13 @@
 //! A job, and the evaluation of a list of jobs on one thread and by workers.
 
 use anyhow::{Result, anyhow};
-use gc_bank::{MAX_JOBS, evaluate_jobs, one_circuit};
+use gc_bank::{evaluate_jobs, one_circuit};
 use gc_circuit::Circuit;
-use gc_eval::{Job, evaluate};
 use gc_file::{LabelFile, MemSink, read_garbled, read_labels, write_labels};
-use gc_gatehouse::Open;
+use gc_job::{Job, evaluate};
 use gc_label::Seed;
+use gc_rounds::MAX_JOBS;
+use gc_workers::Open;
 use std::alloc::Global;
 use std::thread::Threads;
 

@@ -4,7 +4,7 @@ use crate::measures::Subject;
 use crate::part::Part;
 use anyhow::{Result, anyhow};
 use gc_circuit::Circuit;
-use gc_eval::Job;
+use gc_job::Job;
 use std::alloc::Global;
 use std::rt::Clock;
 use std::sync::Wait;

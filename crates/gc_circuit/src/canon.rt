@@ -5,9 +5,12 @@ ghost use Rattle.gc_netlist.specs.Spelling.{words_of_gate};
 ghost use Rattle.gc_netlist.specs.Canon.{line, canonical_text};
 ghost use Rattle.gc_circuit.specs.Digest.{first_lines};
 
+use crate::canonical_lines::{
+    EMPTY_ROOM, LONGEST, ROOM, Room, sizes_line, write_gate, write_widths,
+};
 use crate::circuit::Circuit;
-use gc_canon::{EMPTY_ROOM, LONGEST, ROOM, Room, TextSink, sizes_line, write_gate, write_widths};
-use gc_value::Memory;
+use crate::memory::Memory;
+use crate::text_sink::TextSink;
 use std::alloc::Allocator;
 
 /// The number of gates whose lines are given to a sink at once.

@@ -1,9 +1,9 @@
 ghost use Rattle.std.specs.Prelude.{◌≡◌, ◌<◌, ◌↔◌, length, slice_get, Some, IsTrue, IfOk};
 ghost use Rattle.gc_netlist.specs.Circuit.{netlist_of, is_and, and_count, input_wires, output_wires, IsLawful, IsSummary};
 
+use crate::memory::Memory;
 use crate::read::Widths;
 use gc_netlist::Gate;
-use gc_value::Memory;
 use std::alloc::{Allocator, Global};
 use std::fmt;
 use std::marker::Model;

@@ -6,8 +6,9 @@ ghost use Rattle.gc_lanes.specs.Hasher.{HoldsMessage};
 ghost use Rattle.gc_netlist.specs.Canon.{canonical_text};
 ghost use Rattle.gc_circuit.specs.Digest.{AreCommonLines, IsBegun};
 
+use crate::canonical_lines::EMPTY_ROOM;
 use crate::circuit::Circuit;
-use gc_canon::{Comparison, EMPTY_ROOM};
+use crate::text_sink::Comparison;
 use gc_lanes::LongSha256;
 use sha2::Digest;
 use std::alloc::Allocator;

@@ -3,8 +3,8 @@ ghost use Rattle.gc_netlist.specs.Circuit.{Netlist, EachRead, IsLawful, input_wi
 ghost use Rattle.gc_circuit.specs.Meaning.{bit_of, bits_of, Fits, AreWireBits, AreOutputs, AssignmentLaw};
 
 use crate::circuit::Circuit;
+use crate::memory::Memory;
 use gc_netlist::Operation;
-use gc_value::Memory;
 use std::alloc::Allocator;
 
 /// Whether there are as many values as the circuit has input values, each of that value's width.

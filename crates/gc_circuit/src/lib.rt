@@ -5,19 +5,24 @@
 #![tactic(auto)]
 
 mod canon;
+mod canonical_lines;
 mod checks;
 mod circuit;
 mod digest;
 mod eval;
+mod hexadecimal;
 mod locate;
+mod memory;
 mod read;
 mod stop;
+mod text_sink;
+mod value;
 
 pub use circuit::Circuit;
 pub use digest::{BegunDigest, CommonLines};
 pub use eval::{fits, law_assignments, plain_eval, wire_bits};
-pub use gc_netlist::{
-    Gate, MAX_GATES, MAX_VALUES, MAX_WIRES, Operation, ReadFault, law_canonical_text, law_reading,
-};
-pub use gc_value::{Memory, ValueFault, law_value_texts, read_value, show_value};
+pub use gc_netlist::{Gate, Operation, ReadFault};
+pub use hexadecimal::byte_of;
 pub use locate::Located;
+pub use memory::Memory;
+pub use value::{ValueFault, law_value_texts, read_value, show_value};

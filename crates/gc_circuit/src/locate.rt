@@ -6,10 +6,10 @@ ghost use Rattle.gc_netlist.specs.Place.{place_of, IsSpot, IsLocated};
 ghost use Rattle.gc_netlist.specs.Met.{IsMet};
 
 use crate::circuit::Circuit;
+use crate::memory::Memory;
 use crate::stop::Stop;
 use gc_netlist::ReadFault;
 use gc_tokens::{Tokens, column_after, line_after};
-use gc_value::Memory;
 use std::alloc::Allocator;
 
 /// Where the first fault of a text is.

@@ -1,6 +1,6 @@
 -- An order that is no audit answers its lines.
 use Rattle.std.proofs.Common.{ℕ, true, List, refl}
-use Rattle.gc_files.specs.Files.{FileBytes}
+use Rattle.gc_disk.specs.Files.{FileBytes}
 use Rattle.gc_order.specs.Order.{OrderText, run, plain, check, locate, stats, garble, deal, eval, jobs, list_labels, audit}
 use Rattle.gc_cli.specs.CarryOut.{Answers, AnswersLines}
 

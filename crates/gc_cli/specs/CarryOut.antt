@@ -1,6 +1,6 @@
 -- What a command answers and writes, and which fault it has, where the files' bytes are known.
 use Rattle.std.specs.Prelude.{◌≡◌, ℕ, Bool, true, List, IfSome}
-use Rattle.gc_files.specs.Files.{FileBytes}
+use Rattle.gc_disk.specs.Files.{FileBytes}
 use Rattle.gc_command.specs.declared.fault.Fault.{Fault}
 use Rattle.gc_order.specs.Order.{OrderText, run, plain, check, locate, stats, garble, deal, eval, jobs, list_labels, audit}
 use Rattle.gc_command.specs.Fault.{HasCause}
@@ -15,7 +15,7 @@ use Rattle.gc_trace.specs.Locate.{AnswersLocate, HasLocateFault}
 use Rattle.gc_trace.specs.Stats.{AnswersStats, HasStatsFault}
 use Rattle.gc_trace.specs.Labels.{AnswersLabels, HasLabelsFault}
 use Rattle.gc_trace.specs.Audit.{AnswersAudit, HasAuditFault}
-use Rattle.gc_jobs.specs.Jobs.{AnswersJobs, HasJobsFault}
+use Rattle.gc_command.specs.Jobs.{AnswersJobs, HasJobsFault}
 
 -- The order, which is no audit, is done: the bytes for standard output are its answer, and where it writes a file, that
 -- is written. `old` and `new` are the bytes of the files before and after it.

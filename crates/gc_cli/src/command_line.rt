@@ -6,7 +6,7 @@ ghost use Rattle.gc_cli.specs.CommandLine.{IsOrder, IsRefusal};
 
 use clap::Error;
 use clap::error::ErrorKind;
-use gc_format::FailureCount;
+use gc_file::FailureCount;
 use gc_order::{Order, order_of};
 use std::alloc::Global;
 use std::marker::Model;

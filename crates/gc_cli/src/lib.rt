@@ -10,8 +10,8 @@ mod progress_line;
 mod work;
 
 pub use command_line::Heap;
-pub use gc_command::{Fault, Progress, Silent, Work};
-pub use gc_files::{FileError, Files, HostFiles, read_all};
+pub use gc_command::Fault;
+pub use gc_disk::Files;
 pub use gc_order::{Order, order_of};
 pub use output::Output;
 pub use program::{DISHONEST, DONE, FAULT, USAGE, refuse_line, serve};

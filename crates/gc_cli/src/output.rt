@@ -2,9 +2,9 @@
 
 ghost use Rattle.std.specs.Prelude.{◌≡◌, IfSome, OnOk};
 ghost use Rattle.std.specs.Io.KnownBytes.{Appends};
-ghost use Rattle.gc_format.specs.Counted.{CountsFailure};
+ghost use Rattle.gc_file.specs.Counted.{CountsFailure};
 
-use gc_format::FailureCount;
+use gc_file::FailureCount;
 use std::fmt::Display;
 use std::io::{self, Write};
 use std::marker::Model;

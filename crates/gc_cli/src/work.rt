@@ -2,7 +2,7 @@
 
 ghost use Rattle.std.specs.Prelude.{◌≡◌, ℕ, List, IfOk, IfErr, OnErr};
 ghost use Rattle.gc_order.specs.Order.{text_of};
-ghost use Rattle.gc_files.specs.Files.{HasFailed};
+ghost use Rattle.gc_disk.specs.Files.{HasFailed};
 ghost use Rattle.gc_command.specs.Wrote.{KeepsFiles};
 ghost use Rattle.gc_cli.specs.CarryOut.{Answers, AnswersLines, HasFault, IsAudit, IsLabels, Writes};
 
@@ -10,11 +10,11 @@ use gc_command::check::check;
 use gc_command::deal::deal;
 use gc_command::eval::eval;
 use gc_command::garble::garble;
+use gc_command::jobs::jobs;
 use gc_command::plain::plain;
 use gc_command::run::run;
 use gc_command::{Fault, Progress, ValueForm};
-use gc_files::Files;
-use gc_jobs::jobs::jobs;
+use gc_disk::Files;
 use gc_order::Order;
 use gc_trace::audit::audit;
 use gc_trace::labels::{LabelLines, labels};

@@ -1,9 +1,10 @@
 //! Tests of a command line that can't be read, and of the numbers of faults.
 
 use gc_circuit::{ReadFault, ValueFault};
-use gc_cli::{Fault, Output, USAGE, refuse_line};
-use gc_eval::{BindFault, EvalFault};
+use gc_cli::{Output, USAGE, refuse_line};
+use gc_command::Fault;
 use gc_file::FileFault;
+use gc_job::{BindFault, EvalFault};
 use gc_work::WorkFault;
 use std::io::{self, ErrorKind, Write};
 use std::test::Fail;

@@ -1,9 +1,11 @@
 //! Tests of files that fail: each call of them in turn, and sources and sinks in mid-stream.
 
 use crate::jobs::{held, job_files, order};
-use gc_cli::{Fault, Order, Silent, carry_out};
-use gc_serving::{Limits, MemFiles};
+use gc_cli::carry_out;
+use gc_command::{Fault, Silent};
+use gc_order::Order;
 use gc_worked::circuits::{SEED, XOR};
+use gc_worked::{Limits, MemFiles};
 use std::alloc::Global;
 use std::process::Abort;
 use std::sync::Wait;

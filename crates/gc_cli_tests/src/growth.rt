@@ -1,9 +1,9 @@
 //! Each growth of a command refused in turn: the fault's code says which part of the work lacked memory.
 
 use crate::jobs::{held, job_files, order, outcome_of_refusal};
-use gc_cli::Order;
+use gc_order::Order;
 use gc_refusing::Refusing;
-use gc_serving::MemFiles;
+use gc_worked::MemFiles;
 use gc_worked::circuits::{ADDER_LINES, FULL_ADDER, SEED};
 use std::alloc::{AllocError, Global};
 use std::process::Abort;

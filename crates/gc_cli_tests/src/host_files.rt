@@ -1,6 +1,6 @@
 //! Tests of a reader that fails in mid-stream, and of files on a disk whose growth is refused.
 
-use gc_cli::{FileError, Files, HostFiles, read_all};
+use gc_disk::{FileError, Files, HostFiles, read_all};
 use gc_file::Sink;
 use gc_refusing::Refusing;
 use std::alloc::Global;

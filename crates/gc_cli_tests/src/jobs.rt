@@ -1,10 +1,12 @@
 //! The files of a job and the orders over them.
 
 use gc_circuit::Circuit;
-use gc_cli::{Fault, Order, Silent, carry_out, order_of};
+use gc_cli::carry_out;
+use gc_command::{Fault, Silent};
 use gc_file::Version;
+use gc_order::{Order, order_of};
 use gc_refusing::Refusing;
-use gc_serving::MemFiles;
+use gc_worked::MemFiles;
 use gc_worked::files::{label_file, write};
 use std::alloc::{AllocError, Allocator, Global};
 use std::process::Abort;

@@ -1,8 +1,9 @@
 //! Tests of the steps that commands report to an observer.
 
 use crate::jobs::{held, job_files, order};
-use gc_cli::{Progress, Work, carry_out};
-use gc_serving::MemFiles;
+use gc_cli::carry_out;
+use gc_command::{Progress, Work};
+use gc_worked::MemFiles;
 use gc_worked::circuits::{FULL_ADDER, SEED};
 use std::alloc::Global;
 use std::sync::{Mutex, Wait};

@@ -3,10 +3,12 @@
 
 use crate::jobs::{order, outcome_of_refusal};
 use gc_circuit::Circuit;
-use gc_cli::{Fault, Order, Silent, carry_out};
+use gc_cli::carry_out;
+use gc_command::{Fault, Silent};
 use gc_file::Version;
+use gc_order::Order;
 use gc_refusing::Refusing;
-use gc_serving::MemFiles;
+use gc_worked::MemFiles;
 use gc_worked::circuits::{SEED, and_chains};
 use gc_worked::files::{label_file, write};
 use std::alloc::Global;

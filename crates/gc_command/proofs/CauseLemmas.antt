@@ -1,7 +1,7 @@
 -- Which file has failed, and that a fault has its cause.
 use Rattle.gc_command.proofs.Names.{◌≡◌, ◌≢◌, ℕ, suc, ◌+◌, List, ◌++◌, replicate, Err, refl, ◌∙◌, append_assoc, arith, replicate_more, FailedFiles, HasFailed, CountsWrite, Fault}
-use Rattle.gc_files.specs.declared.files.FileError.{FileError}
-use Rattle.gc_files.specs.declared.files.FileError.TheVariants as file
+use Rattle.gc_disk.specs.declared.files.FileError.{FileError}
+use Rattle.gc_disk.specs.declared.files.FileError.TheVariants as file
 use Rattle.gc_command.specs.declared.fault.Fault.TheVariants as faults
 use Rattle.gc_command.specs.Fault.{HasCause}
 

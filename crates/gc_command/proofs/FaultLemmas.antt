@@ -1,7 +1,7 @@
 -- Faults that can only be that memory is missing.
 use Rattle.std.proofs.Common.{◌≡◌, ◌≢◌, refl}
-use Rattle.gc_read.specs.declared.fault.FileFault.{FileFault}
-use Rattle.gc_read.specs.declared.fault.FileFault.TheVariants as file
+use Rattle.gc_file.specs.declared.fault.FileFault.{FileFault}
+use Rattle.gc_file.specs.declared.fault.FileFault.TheVariants as file
 use Rattle.gc_job.specs.declared.fault.BindFault.{BindFault}
 use Rattle.gc_job.specs.declared.fault.BindFault.TheVariants as bind
 

@@ -11,10 +11,10 @@ use Rattle.std.proofs.lemmas.Nat.{pow_pos}
 use Rattle.std.proofs.lemmas.Nat.Bits.{bit_at-zero, bit_at_above}
 use Rattle.hex.specs.Hex.{IsBytes, encode_lower, encode_with, is_hex_digit, lower_digits}
 use Rattle.hex.proofs.HexLemmas.{IsDigits, IsDigits-lower_digits, length-encode_with}
-use Rattle.gc_value.specs.Value.{Hexadecimal, byte_at, value_of_text, wire_bit}
-use Rattle.gc_value.proofs.ValueLemmas.{value_text_law}
-use Rattle.gc_format.specs.DecodeBits.{bits_number, bytes_for, packed, bit_in}
-use Rattle.gc_format.proofs.PackLemmas.{length-packed, unpacked-packed}
+use Rattle.gc_circuit.specs.Value.{Hexadecimal, byte_at, value_of_text, wire_bit}
+use Rattle.gc_circuit.proofs.ValueLemmas.{value_text_law}
+use Rattle.gc_file.specs.DecodeBits.{bits_number, bytes_for, packed, bit_in}
+use Rattle.gc_file.proofs.PackLemmas.{length-packed, unpacked-packed}
 
 -- ---- bytes of bits
 

@@ -9,3 +9,5 @@ pub mod CauseLemmas
 pub mod OwnFilesLemmas
 pub mod CheckLemmas
 pub mod HexTextLemmas
+pub mod JobListLemmas
+pub mod JobsLemmas

@@ -3,8 +3,8 @@ use Rattle.gc_command.proofs.Names.{◌≡◌, ℕ, ◌+◌, ◌<◌, ◌^◌, �
 use Rattle.std.proofs.lemmas.Bool.{cases_eq}
 use Rattle.sha2.specs.Sha256.{sha256}
 use Rattle.gc_half.proofs.CanonicalLemmas.{IsGarbled-same}
-use Rattle.gc_format.specs.declared.parts.Version.TheVariants.{Two}
-use Rattle.gc_write.proofs.WrittenFiles.{are_files}
+use Rattle.gc_file.specs.declared.parts.Version.TheVariants.{Two}
+use Rattle.gc_file.proofs.WrittenFiles.{are_files}
 use Rattle.gc_job.proofs.TakeLemmas.{slice_get-take, slice_get_taken}
 
 -- The bytes of the garbled file are a garbled file,

@@ -2,7 +2,7 @@
 use Rattle.std.specs.Prelude.{ℕ, Bool, List, Option}
 use Rattle.gc_netlist.specs.Circuit.{Netlist}
 use Rattle.gc_label.specs.Seed.{IsSeedText}
-use Rattle.gc_format.specs.LabelFile.{label_file, label_parts_of}
+use Rattle.gc_file.specs.LabelFile.{label_file, label_parts_of}
 use Rattle.gc_command.specs.declared.fault.Fault.{Fault}
 use Rattle.gc_command.specs.declared.fault.Fault.TheVariants.{Circuit, NoSuchValue, Value, BadSeed, CannotRead, CannotWrite, Memory}
 use Rattle.gc_command.specs.CircuitFile.{IsCircuit, HasCircuitFault}

@@ -4,12 +4,12 @@ use Rattle.std.specs.Prelude.{◌≡◌, ◌≢◌, ℕ, ◌⊎◌, Bool, List, 
 use Rattle.sha2.specs.Sha256.{sha256}
 use Rattle.gc_netlist.specs.Canon.{canonical_text}
 use Rattle.gc_netlist.specs.Circuit.{Netlist}
-use Rattle.gc_read.specs.declared.fault.FileFault.TheVariants as file
-use Rattle.gc_format.specs.GarbledFile.{GarbledParts, IsGarbledFile}
-use Rattle.gc_format.specs.LabelFile.{LabelFileParts, IsLabelFile}
-use Rattle.gc_read.specs.FileFault.{FirstFault, FirstLabelFault}
-use Rattle.gc_gatehouse.specs.Workers.{AreFew}
-use Rattle.gc_files.specs.Files.{FileBytes}
+use Rattle.gc_file.specs.declared.fault.FileFault.TheVariants as file
+use Rattle.gc_file.specs.GarbledFile.{GarbledParts, IsGarbledFile}
+use Rattle.gc_file.specs.LabelFile.{LabelFileParts, IsLabelFile}
+use Rattle.gc_file.specs.FileFault.{FirstFault, FirstLabelFault}
+use Rattle.gc_workers.specs.Workers.{AreFew}
+use Rattle.gc_disk.specs.Files.{FileBytes}
 use Rattle.gc_command.specs.declared.fault.Fault.{Fault}
 use Rattle.gc_command.specs.declared.fault.Fault.TheVariants.{Circuit, File, Binding, Evaluation, CannotRead, Memory}
 use Rattle.gc_command.specs.declared.value_form.ValueForm.{ValueForm}

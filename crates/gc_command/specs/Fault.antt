@@ -2,15 +2,15 @@
 use Rattle.std.specs.Prelude.{◌≡◌, ℕ, List, ◌∷◌, ◌++◌, codes}
 use Rattle.std.specs.Fmt.{decimal}
 use Rattle.gc_netlist.specs.Fault as read
-use Rattle.gc_value.specs.Value as value
-use Rattle.gc_read.specs.Fault as held
-use Rattle.gc_read.specs.declared.take.TakeFault.{TakeFault}
-use Rattle.gc_read.specs.declared.take.TakeFault.TheVariants as take
+use Rattle.gc_circuit.specs.Value as value
+use Rattle.gc_file.specs.Fault as held
+use Rattle.gc_file.specs.declared.take.TakeFault.{TakeFault}
+use Rattle.gc_file.specs.declared.take.TakeFault.TheVariants as take
 use Rattle.gc_work.specs.WorkFault as work
 use Rattle.gc_job.specs.Fault.{bind_code_of, bind_name_of, eval_code_of, eval_name_of}
-use Rattle.gc_files.specs.declared.files.FileError.{FileError}
-use Rattle.gc_files.specs.declared.files.FileError.TheVariants as file
-use Rattle.gc_files.specs.Files.{FailedFiles, HasFailed}
+use Rattle.gc_disk.specs.declared.files.FileError.{FileError}
+use Rattle.gc_disk.specs.declared.files.FileError.TheVariants as file
+use Rattle.gc_disk.specs.Files.{FailedFiles, HasFailed}
 use Rattle.gc_command.specs.declared.fault.Fault.{Fault}
 use Rattle.gc_command.specs.declared.fault.Fault.TheVariants.{Circuit, WrongCount, Value, BadSeed, NoSuchValue, Garbling, File, Binding, Evaluation, BadList, CannotRead, CannotWrite, Memory}
 

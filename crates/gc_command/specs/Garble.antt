@@ -3,10 +3,10 @@ use Rattle.std.specs.Prelude.{ℕ, List, Option}
 use Rattle.gc_netlist.specs.Circuit.{Netlist}
 use Rattle.gc_label.specs.Seed.{IsSeedText}
 use Rattle.gc_half.specs.Garbling.{GarblingParts, IsGarbled}
-use Rattle.gc_gatehouse.specs.Workers.{AreFew}
+use Rattle.gc_workers.specs.Workers.{AreFew}
 use Rattle.gc_work.specs.WorkFault.{HasWorkFault}
-use Rattle.gc_format.specs.declared.parts.Version.{Version}
-use Rattle.gc_format.specs.GarbledFile.{garbled_file}
+use Rattle.gc_file.specs.declared.parts.Version.{Version}
+use Rattle.gc_file.specs.GarbledFile.{garbled_file}
 use Rattle.gc_file.specs.Honest.{honest_parts}
 use Rattle.gc_command.specs.declared.fault.Fault.{Fault}
 use Rattle.gc_command.specs.declared.fault.Fault.TheVariants.{Circuit, BadSeed, Garbling, CannotRead, CannotWrite, Memory}

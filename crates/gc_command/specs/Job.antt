@@ -1,8 +1,8 @@
 -- What a garbled file and label files decode to, and why they don't.
 use Rattle.std.specs.Prelude.{◌≢◌, ℕ, Bool, List, Ok, Err}
 use Rattle.gc_netlist.specs.Circuit.{Netlist}
-use Rattle.gc_format.specs.GarbledFile.{GarbledParts}
-use Rattle.gc_format.specs.LabelFile.{LabelFileParts}
+use Rattle.gc_file.specs.GarbledFile.{GarbledParts}
+use Rattle.gc_file.specs.LabelFile.{LabelFileParts}
 use Rattle.gc_job.specs.declared.fault.BindFault.TheVariants as bind
 use Rattle.gc_job.specs.Job.{JobParts}
 use Rattle.gc_job.specs.Binding.{FirstBindFault, IsBound}

@@ -13,3 +13,5 @@ pub mod Deal
 pub mod Job
 pub mod Eval
 pub mod OwnFiles
+pub mod JobList
+pub mod Jobs

@@ -3,8 +3,8 @@ use Rattle.std.specs.Prelude.{ℕ, Bool, if◌then◌else◌, List, [], ◌∷�
 use Rattle.hex.specs.Hex.{encode_lower}
 use Rattle.gc_netlist.specs.Spelling.{Number, Name}
 use Rattle.gc_netlist.specs.Canon.{line}
-use Rattle.gc_value.specs.Value.{binary_digit}
-use Rattle.gc_format.specs.DecodeBits.{packed}
+use Rattle.gc_circuit.specs.Value.{binary_digit}
+use Rattle.gc_file.specs.DecodeBits.{packed}
 use Rattle.gc_command.specs.declared.value_form.ValueForm.{ValueForm}
 use Rattle.gc_command.specs.declared.value_form.ValueForm.TheVariants.{Binary, Hexadecimal}
 

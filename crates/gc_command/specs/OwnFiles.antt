@@ -2,9 +2,9 @@
 use Rattle.std.specs.Prelude.{◌≡◌, ℕ, Bool, List, length, slice_get, Some}
 use Rattle.gc_netlist.specs.Circuit.{Netlist}
 use Rattle.gc_half.specs.Garbling.{GarblingParts, IsGarbled}
-use Rattle.gc_format.specs.declared.parts.Version.TheVariants.{Two}
-use Rattle.gc_format.specs.GarbledFile.{garbled_file}
-use Rattle.gc_format.specs.LabelFile.{LabelFileParts, label_parts_of}
+use Rattle.gc_file.specs.declared.parts.Version.TheVariants.{Two}
+use Rattle.gc_file.specs.GarbledFile.{garbled_file}
+use Rattle.gc_file.specs.LabelFile.{LabelFileParts, label_parts_of}
 use Rattle.gc_file.specs.Honest.{honest_parts}
 
 -- The bytes are the garbled file, in version 2, of the circuit's garbling under the seed.

@@ -4,9 +4,9 @@ use Rattle.std.specs.List.{flat_map}
 use Rattle.gc_netlist.specs.Circuit.{Netlist}
 use Rattle.gc_circuit.specs.Meaning.{AreOutputs}
 use Rattle.gc_work.specs.declared.fault.WorkFault.TheVariants as work
-use Rattle.gc_gatehouse.specs.Workers.{AreFew}
+use Rattle.gc_workers.specs.Workers.{AreFew}
 use Rattle.gc_work.specs.WorkFault.{HasWorkFault}
-use Rattle.gc_read.specs.declared.fault.FileFault.TheVariants as file
+use Rattle.gc_file.specs.declared.fault.FileFault.TheVariants as file
 use Rattle.gc_job.specs.declared.fault.BindFault.TheVariants as bind
 use Rattle.gc_job.specs.declared.fault.EvalFault.TheVariants as eval
 use Rattle.gc_command.specs.declared.fault.Fault.{Fault}

@@ -1,8 +1,8 @@
 -- The values that texts spell, and the faults that the texts may have.
 use Rattle.std.specs.Prelude.{◌≡◌, ◌≢◌, ℕ, ◌≤◌, ◌⊎◌, Bool, List, [], ◌∷◌, length, slice_get, Some, Ok, Err}
-use Rattle.gc_value.specs.declared.value.ValueFault.{ValueFault}
-use Rattle.gc_value.specs.declared.value.ValueFault.TheVariants as value
-use Rattle.gc_value.specs.Value.{value_of_text}
+use Rattle.gc_circuit.specs.declared.value.ValueFault.{ValueFault}
+use Rattle.gc_circuit.specs.declared.value.ValueFault.TheVariants as value
+use Rattle.gc_circuit.specs.Value.{value_of_text}
 use Rattle.gc_command.specs.declared.fault.Fault.{Fault}
 use Rattle.gc_command.specs.declared.fault.Fault.TheVariants.{WrongCount, NoSuchValue, Value, Memory}
 

@@ -1,7 +1,7 @@
 -- A file that a command writes, and what the command prints of it.
 use Rattle.std.specs.Prelude.{◌≡◌, ℕ, List, [], ◌∷◌, ◌++◌, length, Option, Some, codes}
 use Rattle.std.specs.Fmt.{decimal}
-use Rattle.gc_files.specs.Files.{FileBytes}
+use Rattle.gc_disk.specs.Files.{FileBytes}
 use Rattle.gc_command.specs.declared.fault.Fault.{Fault}
 use Rattle.gc_command.specs.declared.fault.Fault.TheVariants.{CannotWrite, Memory}
 

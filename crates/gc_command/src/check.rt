@@ -13,7 +13,7 @@ use crate::fault::Fault;
 use crate::lines::{push_count, push_number};
 use crate::progress::{Progress, Work};
 use gc_circuit::Circuit;
-use gc_files::Files;
+use gc_disk::Files;
 use std::alloc::{AllocError, Allocator};
 use std::thread::Threads;
 

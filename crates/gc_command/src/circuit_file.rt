@@ -8,12 +8,12 @@ ghost use Rattle.gc_netlist.specs.Circuit.{IsLawful};
 ghost use Rattle.gc_netlist.specs.Reading.{circuit_of};
 ghost use Rattle.gc_netlist.specs.Text.{tokens};
 ghost use Rattle.gc_circuit.specs.Digest.{AreCommonLines, IsBegun};
-ghost use Rattle.gc_files.specs.Files.{HasFailed};
+ghost use Rattle.gc_disk.specs.Files.{HasFailed};
 ghost use Rattle.gc_command.specs.CircuitFile.{IsCircuit, HasReadingFault};
 
 use crate::fault::Fault;
 use gc_circuit::{BegunDigest, Circuit, CommonLines, ReadFault};
-use gc_files::Files;
+use gc_disk::Files;
 use gc_lanes::LongSha256;
 use sha2::Digest;
 use std::alloc::Allocator;

@@ -1,8 +1,8 @@
 //! The command `deal`: writing the labels of one input value.
 
 ghost use Rattle.std.specs.Prelude.{◌≡◌, ◌≢◌, ℕ, List, Some, length, slice_get, IfOk, IfErr, OnOk, OnErr, IfSome};
-ghost use Rattle.gc_format.specs.LabelFile.{label_file, label_parts_of};
-ghost use Rattle.gc_files.specs.Files.{HasFailed};
+ghost use Rattle.gc_file.specs.LabelFile.{label_file, label_parts_of};
+ghost use Rattle.gc_disk.specs.Files.{HasFailed};
 ghost use Rattle.gc_command.specs.Deal.{AnswersDeal, HasDealFault};
 ghost use Rattle.gc_command.specs.Wrote.{HasWritten, IsUnwritten, KeepsFiles};
 ghost use Rattle.gc_command.specs.Fault.{HasCause, HasWriteCause};
@@ -12,8 +12,8 @@ use crate::fault::Fault;
 use crate::values::read_input_value;
 use crate::wrote::{ROOM, keep_written};
 use gc_circuit::Circuit;
+use gc_disk::Files;
 use gc_file::write_labels;
-use gc_files::Files;
 use gc_label::Seed;
 use std::alloc::Allocator;
 

@@ -4,7 +4,7 @@ ghost use Rattle.std.specs.Prelude.{◌≡◌, ℕ, List, map, IfOk, IfErr, IfSo
 ghost use Rattle.sha2.specs.Sha256.{sha256};
 ghost use Rattle.gc_netlist.specs.Canon.{canonical_text};
 ghost use Rattle.gc_circuit.specs.Digest.{IsBegun};
-ghost use Rattle.gc_files.specs.Files.{HasFailed};
+ghost use Rattle.gc_disk.specs.Files.{HasFailed};
 ghost use Rattle.gc_command.specs.Eval.{FilesGive, HasFilesFault, AnswersEval, HasEvalFault};
 
 use crate::circuit_file::{HashedPart, read_and_begin_digest};
@@ -15,8 +15,8 @@ use crate::lines::output_lines;
 use crate::progress::{Progress, Work};
 use crate::value_form::ValueForm;
 use gc_circuit::{BegunDigest, Circuit};
-use gc_eval::BindFault;
-use gc_files::Files;
+use gc_disk::Files;
+use gc_job::BindFault;
 use std::alloc::Allocator;
 use std::sync::Wait;
 use std::thread;

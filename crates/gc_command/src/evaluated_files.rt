@@ -1,14 +1,14 @@
 //! The garbled file and the label files of an evaluation.
 
 ghost use Rattle.std.specs.Prelude.{◌≡◌, ℕ, List, map, IfOk, IfErr, IfSome, OnOk};
-ghost use Rattle.gc_format.specs.GarbledFile.{IsGarbledFile};
-ghost use Rattle.gc_format.specs.LabelFile.{IsLabelFile};
-ghost use Rattle.gc_files.specs.Files.{HasFailed};
+ghost use Rattle.gc_file.specs.GarbledFile.{IsGarbledFile};
+ghost use Rattle.gc_file.specs.LabelFile.{IsLabelFile};
+ghost use Rattle.gc_disk.specs.Files.{HasFailed};
 ghost use Rattle.gc_command.specs.Eval.{HasGarbledFault, HasLabelFault, HasLabelFilesFault, AreLabelFiles};
 
 use crate::fault::Fault;
+use gc_disk::Files;
 use gc_file::{Garbled, LabelFile, read_garbled_from, read_labels};
-use gc_files::Files;
 use std::alloc::Allocator;
 use std::convert::AsStr;
 

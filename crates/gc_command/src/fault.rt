@@ -4,9 +4,9 @@ ghost use Rattle.std.specs.Prelude.{◌≡◌, Some};
 ghost use Rattle.gc_command.specs.Fault.{code_of, name_of, text_of};
 
 use gc_circuit::{ReadFault, ValueFault};
-use gc_eval::{BindFault, EvalFault};
+use gc_disk::FileError;
 use gc_file::{FileFault, TakeFault, WriteFault};
-use gc_files::FileError;
+use gc_job::{BindFault, EvalFault};
 use gc_label::BadSeed;
 use gc_work::WorkFault;
 use std::alloc::{AllocError, AllocFailed};

@@ -8,10 +8,10 @@ ghost use Rattle.gc_half.specs.Garbling.{IsGarbled};
 ghost use Rattle.gc_work.specs.WorkFault.{JudgesWorkers};
 
 use gc_circuit::{BegunDigest, Circuit};
-use gc_gatehouse::Open;
 use gc_half::Garbling;
 use gc_label::Seed;
 use gc_work::{WorkFault, garble};
+use gc_workers::Open;
 use std::alloc::Allocator;
 use std::sync::Wait;
 use std::thread;

@@ -3,14 +3,15 @@
 ghost use Rattle.std.specs.Prelude.{◌≡◌, IfOk, IfErr};
 ghost use Rattle.sha2.specs.Sha256.{sha256};
 ghost use Rattle.gc_netlist.specs.Canon.{canonical_text};
-ghost use Rattle.gc_gatehouse.specs.Workers.{AreFew};
+ghost use Rattle.gc_workers.specs.Workers.{AreFew};
 ghost use Rattle.gc_command.specs.Job.{DecodeTo, HasJobFault};
 
 use crate::fault::Fault;
 use gc_circuit::Circuit;
-use gc_eval::{Job, evaluate, evaluate_many};
+use gc_eval::evaluate_many;
 use gc_file::{Garbled, LabelFile};
-use gc_gatehouse::Open;
+use gc_job::{Job, evaluate};
+use gc_workers::Open;
 use std::alloc::Allocator;
 use std::sync::Wait;
 use std::thread::Threads;

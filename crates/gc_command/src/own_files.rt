@@ -3,10 +3,10 @@
 ghost use Rattle.std.specs.Prelude.{◌≡◌, Some, length, map, slice_get, IfOk, IfErr};
 ghost use Rattle.gc_circuit.specs.Digest.{IsBegun};
 ghost use Rattle.gc_circuit.specs.Meaning.{Fits};
-ghost use Rattle.gc_format.specs.LabelFile.{label_parts_of};
+ghost use Rattle.gc_file.specs.LabelFile.{label_parts_of};
 ghost use Rattle.gc_job.specs.Honest.{IsHonestGarbled};
 ghost use Rattle.gc_command.specs.OwnFiles.{AreGarbledBytes, AreLabelsOf};
-ghost use Rattle.gc_gatehouse.specs.Workers.{AreFew};
+ghost use Rattle.gc_workers.specs.Workers.{AreFew};
 ghost use Rattle.gc_command.specs.Run.{IsOwnFault, IsWantOfMemory};
 
 use crate::fault::Fault;

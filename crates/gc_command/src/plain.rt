@@ -10,7 +10,7 @@ use crate::lines::output_lines;
 use crate::value_form::ValueForm;
 use crate::values::read_values;
 use gc_circuit::{ReadFault, plain_eval};
-use gc_files::Files;
+use gc_disk::Files;
 use std::alloc::Allocator;
 
 /// Evaluates the circuit of a file on the values, and answers the lines of its output values in this form.

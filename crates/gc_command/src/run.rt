@@ -12,7 +12,7 @@ use crate::own_files::{own_garbled, own_labels};
 use crate::progress::{Progress, Work};
 use crate::value_form::ValueForm;
 use crate::values::read_values;
-use gc_files::Files;
+use gc_disk::Files;
 use gc_label::Seed;
 use std::alloc::Allocator;
 use std::sync::Wait;

@@ -2,8 +2,8 @@
 
 ghost use Rattle.std.specs.Prelude.{◌≡◌, ◌≤◌, ◌++◌, ◌∷◌, [], Bool, List, length, map, Ok, OnOk};
 ghost use Rattle.hex.specs.Hex.{encode_lower};
-ghost use Rattle.gc_value.specs.Value.{binary_digit, value_of_text};
-ghost use Rattle.gc_format.specs.DecodeBits.{bits_number, packed};
+ghost use Rattle.gc_circuit.specs.Value.{binary_digit, value_of_text};
+ghost use Rattle.gc_file.specs.DecodeBits.{bits_number, packed};
 ghost use Rattle.gc_command.specs.Lines.{form_by_flag, value_text};
 ghost use Rattle.gc_command.specs.declared.value_form.ValueForm.TheVariants.{Hexadecimal};
 

@@ -1,13 +1,13 @@
 //! Files that a command has written, and the line that it prints of them.
 
 ghost use Rattle.std.specs.Prelude.{◌≡◌, ◌<◌, ◌≤◌, ◌≢◌, ℕ, List, [], Some, IfOk, IfErr, OnErr, vec_capacity};
-ghost use Rattle.gc_write.specs.Written.{IsWritten};
-ghost use Rattle.gc_files.specs.Files.{HasFailed};
+ghost use Rattle.gc_file.specs.Written.{IsWritten};
+ghost use Rattle.gc_disk.specs.Files.{HasFailed};
 ghost use Rattle.gc_command.specs.Wrote.{HasWritten, KeepsFiles, wrote_line};
 
 use crate::fault::Fault;
+use gc_disk::Files;
 use gc_file::WriteFault;
-use gc_files::Files;
 use itoa::Buffer;
 use std::alloc::Allocator;
 

@@ -5,8 +5,8 @@ pub use Rattle.std.proofs.lemmas.List.FromFn.{map-range_with_len_more, length-ma
 pub use Rattle.std.proofs.lemmas.Result.{err_from_is_err_and}
 pub use Rattle.std.specs.List.{range_with_len}
 pub use Rattle.std.specs.Slots.{slots_items, slots_len}
-pub use Rattle.gc_counts.proofs.Sums.{only_same, only_other}
-pub use Rattle.gc_counts.specs.Counts.{total, only}
+pub use Rattle.gc_workers.proofs.Sums.{only_same, only_other}
+pub use Rattle.gc_workers.specs.Counts.{total, only}
 pub use Rattle.gc_eval.specs.Done.{done_of, HasLabel, state_of}
 pub use Rattle.gc_eval.specs.OneJob.{IsRight}
 pub use Rattle.gc_eval.specs.Seats.{IsNew, view, job_on, IsSeatOf}

@@ -3,10 +3,10 @@ use Rattle.std.specs.Prelude.{◌≡◌, ℕ, ◌+◌, ◌<◌, ◌≤◌, ◌�
 use Rattle.std.specs.Slots.{slots_items}
 use Rattle.std.specs.List.{range_with_len}
 use Rattle.gc_netlist.specs.Circuit.{IsSetBy, input_wires, output_wires}
-use Rattle.gc_counts.specs.declared.limits.TheConstants.{DONE}
+use Rattle.gc_workers.specs.declared.states.TheConstants.{DONE}
 use Rattle.gc_gates.specs.Layout.{one_round}
 use Rattle.gc_gates.specs.Gates as gates
-use Rattle.gc_counts.specs.Counts.{total, only}
+use Rattle.gc_workers.specs.Counts.{total, only}
 use Rattle.gc_job.specs.Job.{JobParts}
 use Rattle.gc_eval.specs.declared.active.Active.{Active}
 

@@ -1,7 +1,7 @@
 -- What an evaluation on many threads answers.
 use Rattle.std.specs.Prelude.{◌≡◌, ℕ, ◌<◌, ◌⊎◌, Bool, List, Result, Err}
-use Rattle.gc_gatehouse.specs.declared.TheConstants.{MAX_WORKERS}
-use Rattle.gc_gatehouse.specs.Workers.{AreFew}
+use Rattle.gc_workers.specs.declared.TheConstants.{MAX_WORKERS}
+use Rattle.gc_workers.specs.Workers.{AreFew}
 use Rattle.gc_job.specs.declared.fault.EvalFault.{EvalFault}
 use Rattle.gc_job.specs.declared.fault.EvalFault.TheVariants.{BadWorkers}
 use Rattle.gc_job.specs.Job.{JobParts}

@@ -4,7 +4,7 @@ use Rattle.std.specs.Prelude.{ℕ, List}
 use Rattle.gc_gates.specs.Layout.{one_round}
 use Rattle.gc_gates.specs.Pairs.{pairs}
 use Rattle.gc_job.specs.Job.{JobParts}
-use Rattle.gc_walk.specs.declared.answer.Answer.{Answer}
+use Rattle.gc_steps.specs.declared.answer.Answer.{Answer}
 use Rattle.gc_steps.specs.Views as steps
 
 abbrev pub Seen : Type 0

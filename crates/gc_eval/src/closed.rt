@@ -8,9 +8,9 @@ ghost use Rattle.gc_eval.specs.Done.{HasLabel, HasOutputs, LacksOutput, done_of,
 
 use crate::active::Active;
 use gc_circuit::Memory;
-use gc_counts::DONE;
 use gc_job::EvalFault;
 use gc_label::Label;
+use gc_workers::DONE;
 use std::alloc::Allocator;
 
 impl<'j, 'c, B: Allocator, A: Allocator, C: Allocator> Active<'j, 'c, B, A, C> {

@@ -16,8 +16,8 @@ mod step;
 mod worker;
 
 pub use active::Active;
-pub use gc_counts::{CloseRefused, MAX_SEATS, OpenFault};
-pub use gc_job::{BindFault, EvalFault, Facts, Job, Wiring, evaluate, law_honest_files};
-pub use gc_walk::{Answer, Batch, Walk};
+pub use gc_job::{BindFault, EvalFault, Job, ReadGate, evaluate};
+pub use gc_steps::Answer;
+pub use gc_workers::{CloseRefused, OpenFault};
 pub use many::evaluate_many;
 pub use seat::{EvalBoard, EvalSeat};

@@ -1,7 +1,7 @@
 //! Opening and closing a board.
 
 ghost use Rattle.std.specs.Prelude.{◌≡◌, ℕ, ◌+◌, ◌*◌, ◌<◌, ◌≤◌, ◌↔◌, [], length, replicate, IfOk, IfErr, IsOk, All};
-ghost use Rattle.gc_counts.specs.Counts.{total, only};
+ghost use Rattle.gc_workers.specs.Counts.{total, only};
 ghost use Rattle.gc_gates.specs.Layout.{one_round};
 ghost use Rattle.gc_gates.specs.Pairs.{pairs};
 ghost use Rattle.gc_gates.specs.Places.{IsGatePlace, IsPlaceInside};
@@ -13,10 +13,10 @@ ghost use Rattle.gc_eval.specs.Views.{times};
 use crate::active::Active;
 use crate::one_job::OneJob;
 use crate::seat::{EvalBoard, EvalSeat};
-use gc_counts::{CloseRefused, DONE, MAX_SEATS, OpenFault};
 use gc_gates::{OneRound, Place, Words, close_board, deal_seat, free_words, join_seat, open_board};
 use gc_job::{Job, Wiring};
 use gc_rounds::Key;
+use gc_workers::{CloseRefused, DONE, MAX_WORKERS, OpenFault};
 use std::alloc::{AllocError, Allocator};
 use std::thread;
 use std::thread::Threads;
@@ -53,13 +53,13 @@ fn deal_all<A: Allocator, B: Allocator, C: Allocator>(
 impl<'j, 'c, B: Allocator + Copy, A: Allocator, C: Allocator> EvalBoard<'j, 'c, B, A, C> {
     /// A board for a job, and its seats, which have done nothing. It takes all the memory that the board needs: 46
     /// where there is none for the seats and the tables of the circuit, 49 where there is none for the table of the
-    /// shared words. That there are 1 to [`MAX_SEATS`] seats is the caller's condition.
+    /// shared words. That there are 1 to [`MAX_WORKERS`] seats is the caller's condition.
     pub fn open(
         alloc: B,
         job: &'j Job<'c, A, C>,
         seats: u32,
     ) -> Result<(EvalBoard<'j, 'c, B, A, C>, Vec<EvalSeat<A, C>, B>), OpenFault>
-        requires { (0 < seats) × (seats ≤ MAX_SEATS) }
+        requires { (0 < seats) × (seats ≤ MAX_WORKERS) }
         ensures job { IfOk result (λ b. job_on b.0 ≡ job.now) }
         ensures count { IfOk result (λ b. (seats_on b.0 ≡ seats) × (length b.1.items ≡ seats)) }
         ensures seats { IfOk result (λ b. All (λ s. IsSeatOf b.0 s × IsNew (view s)) b.1.items) }
@@ -77,7 +77,7 @@ impl<'j, 'c, B: Allocator + Copy, A: Allocator, C: Allocator> EvalBoard<'j, 'c, 
         words: Vec<u64, B>,
         wiring: Wiring<'c, B, C>,
     ) -> Result<(EvalBoard<'j, 'c, B, A, C>, Vec<EvalSeat<A, C>, B>), OpenFault>
-        requires few { (0 < seats) × (seats ≤ MAX_SEATS) }
+        requires few { (0 < seats) × (seats ≤ MAX_WORKERS) }
         requires words { words.items ≡ replicate (3 * gates_of job.now + 1) 0 }
         requires wiring { wiring ≡ job.now.circuit }
         ensures job { IfOk result (λ b. job_on b.0 ≡ job.now) }
@@ -116,7 +116,7 @@ impl<'j, 'c, B: Allocator + Copy + Send + Sync, A: Allocator, C: Allocator + Syn
         job: &'j Job<'c, A, C>,
         seats: u32,
     ) -> Result<(EvalBoard<'j, 'c, B, A, C>, Vec<EvalSeat<A, C>, B>), OpenFault>
-        requires { (0 < seats) × (seats ≤ MAX_SEATS) }
+        requires { (0 < seats) × (seats ≤ MAX_WORKERS) }
         ensures job { IfOk result (λ b. job_on b.0 ≡ job.now) }
         ensures count { IfOk result (λ b. (seats_on b.0 ≡ seats) × (length b.1.items ≡ seats)) }
         ensures seats { IfOk result (λ b. All (λ s. IsSeatOf b.0 s × IsNew (view s)) b.1.items) }

@@ -10,8 +10,7 @@ use crate::one_job::OneJob;
 use crate::seat::{EvalBoard, EvalSeat};
 use gc_gates::{OneRound, copy_known};
 use gc_label::Label;
-use gc_steps::Round;
-use gc_walk::Answer;
+use gc_steps::{Answer, Round};
 use std::alloc::Allocator;
 
 impl<A: Allocator, C: Allocator> EvalSeat<A, C> {

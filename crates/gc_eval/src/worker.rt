@@ -3,13 +3,13 @@
 ghost use Rattle.std.specs.Prelude.{◌≡◌, All, IfOk};
 ghost use Rattle.gc_job.specs.ActiveLabels.{gates_of};
 ghost use Rattle.gc_eval.specs.Seats.{IsSeatOf, IsNew, view, job_on};
-ghost use Rattle.gc_walk.specs.Walks.{IsWithin, batches_left};
+ghost use Rattle.gc_steps.specs.Walks.{IsWithin, batches_left};
 ghost use Rattle.gc_eval.specs.Workers.{AreWorkersOf, IsWorkerOf};
 
 use crate::seat::{EvalBoard, EvalSeat};
 use gc_circuit::Circuit;
-use gc_gatehouse::Gatehouse;
-use gc_walk::{Batch, Walk};
+use gc_steps::{Batch, Walk};
+use gc_workers::Gatehouse;
 use std::alloc::{AllocError, Allocator};
 
 /// What a worker has of its own: its number, its seat at the board, the first gate of its share, with which each of its

@@ -5,13 +5,14 @@ ghost use Rattle.gc_eval.specs.Seats.{IsSeatOf, job_on};
 
 use crate::jobs::job_of;
 use gc_circuit::{Circuit, show_value};
-use gc_eval::{
-    Active, Answer, CloseRefused, EvalBoard, EvalFault, EvalSeat, Job, OpenFault, evaluate,
-};
+use gc_eval::{Active, EvalBoard, EvalSeat};
+use gc_job::{EvalFault, Job, evaluate};
 use gc_label::Label;
 use gc_refusing::Refusing;
+use gc_steps::Answer;
 use gc_worked::circuits::{AND_INV_AND, CONSTANT_AND, FULL_ADDER};
 use gc_worked::growths::{Answer as Run, Stray, plain_if, runs_refused};
+use gc_workers::{CloseRefused, OpenFault};
 use std::alloc::{Allocator, Global};
 use std::process::Abort;
 use std::test::Fail;

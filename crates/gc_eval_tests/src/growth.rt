@@ -2,8 +2,8 @@
 
 use crate::jobs::{job_files, job_of};
 use gc_circuit::Circuit;
-use gc_eval::{BindFault, EvalFault, Job, evaluate};
 use gc_file::{Version, read_garbled};
+use gc_job::{BindFault, EvalFault, Job, evaluate};
 use gc_refusing::Refusing;
 use gc_worked::circuits::AND;
 use gc_worked::files::and_file;

@@ -1,8 +1,8 @@
 //! Jobs of circuits, under the seed of 32 zero bytes.
 
 use gc_circuit::{Circuit, read_value};
-use gc_eval::Job;
 use gc_file::{LabelFile, Version, read_garbled, read_labels};
+use gc_job::Job;
 use gc_worked::files::{label_file, write};
 use std::alloc::Global;
 use std::test::Fail;

@@ -2,12 +2,13 @@
 
 use crate::jobs::job_of;
 use gc_circuit::Circuit;
-use gc_eval::{EvalFault, Job, evaluate, evaluate_many};
-use gc_gatehouse::Open;
+use gc_eval::evaluate_many;
+use gc_job::{EvalFault, Job, evaluate};
 use gc_worked::circuits::{FULL_ADDER, and_chains, many_ands, mixed_layers};
 use gc_worked::counting::Counting;
 use gc_worked::growths::refusals_met;
 use gc_worked::meeting::Meeting;
+use gc_workers::Open;
 use std::alloc::Global;
 use std::sync::Wait;
 use std::test::Fail;

@@ -2,9 +2,9 @@
 use Rattle.gc_file.proofs.Names.{◌≡◌, ℕ, ◌-◌, ◌*◌, ◌%◌, ◌^◌, ◌≤◌, ◌⊎◌, inl, inr, List, ◌++◌, length, take, drop, Bool, true, false, bytes_eq, slice_index, refl, sym, ap, ◌∙◌, append_assoc, arith, cases_lt, take-append-drop, take-take, take_all, length-take, length-drop, length-take-le, MAX_GATES, MAX_WIRES, FileFault, BadMagic, Truncated, Trailing, CountTooLarge, SpareBits, BadTrailer, Version, bytes_for, GarbledParts, magic, entry_count, IsGarbledFile, IsBegun, row_count, output_count, decode_end, trailer_end, IsTrailerRight, HasHeader, HasSpareBit, HasDecodeBits, LastingFault, bad_magic, too_many_rows, too_many_outputs, spare_bits, bad_trailer, trailing, IsHeaderInOrder, IsInOrder, FirstFault, lasting, truncated, version_of, row_size, decode_size, entry_size, AreBytes, number_at-append, version_of-begun}
 use Rattle.std.specs.Bool.{Decides}
 use Rattle.std.proofs.lemmas.Slice.Eq.{bytes_eq-Decides}
-use Rattle.gc_format.specs.declared.parts.Version.TheVariants.{One, Two}
-use Rattle.gc_read.proofs.PlaceLemmas.{begins, begun, spare, is_right}
-use Rattle.gc_read.proofs.FileLemmas.{file_is}
+use Rattle.gc_file.specs.declared.parts.Version.TheVariants.{One, Two}
+use Rattle.gc_file.proofs.PlaceLemmas.{begins, begun, spare, is_right}
+use Rattle.gc_file.proofs.FileLemmas.{file_is}
 use Rattle.gc_file.proofs.ItemLemmas.{small, AreBytes-take, AreBytes-drop, items_spelled, row_spelling, entry_spelling}
 use Rattle.gc_file.proofs.OneFile.{header_in, after_rows, after_decode, parts_in}
 

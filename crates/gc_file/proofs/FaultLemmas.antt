@@ -1,6 +1,6 @@
 -- Bytes are one garbled file or have one first fault.
 use Rattle.gc_file.proofs.Names.{◌≡◌, ℕ, ◌<◌, ◌≤◌, ◌⊎◌, inl, inr, List, length, take, refl, sym, ◌∙◌, arith, MAX_GATES, MAX_WIRES, FileFault, BadMagic, Trailing, CountTooLarge, SpareBits, BadTrailer, Version, magic, IsBegun, row_count, output_count, HasHeader, HasSpareBit, HasDecodeBits, IsTrailerRight, LastingFault, bad_magic, too_many_rows, too_many_outputs, spare_bits, bad_trailer, trailing, IsInOrder, FirstFault, lasting, truncated, version_of-begun}
-use Rattle.gc_read.proofs.PlaceLemmas.{begins, begun}
+use Rattle.gc_file.proofs.PlaceLemmas.{begins, begun}
 
 -- The first eight bytes give the version.
 pub one_version : (v w : Version) (b : List ℕ) → take 8 b ≡ magic v → take 8 b ≡ magic w → v ≡ w

@@ -3,7 +3,7 @@ use Rattle.gc_file.proofs.Names.{◌≡◌, ℕ, zero, suc, ◌+◌, ◌*◌, �
 use Rattle.std.proofs.Math.Nat.{mul-suc}
 use Rattle.std.proofs.lemmas.List.Elements.{All-cons, All-take, All-drop}
 use Rattle.gc_half.specs.declared.garbling.RowPair.{RowPair}
-use Rattle.gc_format.specs.declared.parts.EntryPair.{EntryPair}
+use Rattle.gc_file.specs.declared.parts.EntryPair.{EntryPair}
 
 -- Each place of bytes has a byte, or is past their end.
 pub small : (bytes : List ℕ) → AreBytes bytes → (i : ℕ) → get_or bytes i 0 < 256

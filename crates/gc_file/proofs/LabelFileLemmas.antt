@@ -1,8 +1,8 @@
 -- Label files.
 use Rattle.gc_file.proofs.Names.{◌≡◌, ◌≢◌, ℕ, ◌+◌, ◌*◌, ◌≤◌, ◌⊎◌, inl, inr, List, ◌++◌, length, take, drop, flat_map, refl, sym, ap, ◌∙◌, append_assoc, length-append, arith, cases_lt, take-append-le, drop_at, take_all, length-drop, MAX_WIRES, bytes_of_label, label_of_bytes, length-bytes_of_label, FileFault, BadMagic, Truncated, Trailing, CountTooLarge, number_bytes, number_at, IsBegun, label_count, labels_end, FirstLabelFault, bad_label_magic, too_many_labels, labels_trailing, header_truncated, labels_truncated, AreBytes, length-number_bytes, number_at-append, number_at-number_bytes, length-items}
-use Rattle.gc_format.specs.LabelFile.{LabelFileParts, label_magic, label_file, IsLabelFile}
-use Rattle.gc_read.proofs.HeaderLemmas.{begun_before}
-use Rattle.gc_read.proofs.FormLemmas.{begins, label_file_is}
+use Rattle.gc_file.specs.LabelFile.{LabelFileParts, label_magic, label_file, IsLabelFile}
+use Rattle.gc_file.proofs.HeaderLemmas.{begun_before}
+use Rattle.gc_file.proofs.FormLemmas.{begins, label_file_is}
 use Rattle.gc_file.proofs.ItemLemmas.{small, AreBytes-drop, items_from, items_back, items_spelled, label_spelling}
 use Rattle.gc_file.proofs.EitherLemmas.{other_or_same}
 

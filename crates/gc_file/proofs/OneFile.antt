@@ -3,8 +3,8 @@ use Rattle.gc_file.proofs.Names.{◌≡◌, ℕ, List, [], ◌++◌, length, tak
 use Rattle.std.specs.List.{range_with_len}
 use Rattle.sha2.specs.Sha256.{sha256}
 use Rattle.sha2.proofs.Facts256.{length-sha256}
-use Rattle.gc_format.proofs.PackLemmas.{length-packed, packed-not_spare, unpacked-packed}
-use Rattle.gc_read.proofs.PlaceLemmas.{length-magic, begins, begun, parts_in_order, entries_end_is, length_is}
+use Rattle.gc_file.proofs.PackLemmas.{length-packed, packed-not_spare, unpacked-packed}
+use Rattle.gc_file.proofs.PlaceLemmas.{length-magic, begins, begun, parts_in_order, entries_end_is, length_is}
 use Rattle.gc_file.proofs.ItemLemmas.{items_from, items_back, row_of, row_spelling, entry_of, entry_spelling}
 use Rattle.gc_file.proofs.FaultLemmas.{one_version, no_lasting}
 

@@ -1,10 +1,10 @@
 -- The laws of the two files.
 use Rattle.std.specs.Prelude.{◌≡◌, ◌≢◌, ℕ, ◌<◌, ◌⊎◌, List, ◌++◌, All}
-use Rattle.gc_read.specs.declared.fault.FileFault.{FileFault}
-use Rattle.gc_read.specs.declared.fault.FileFault.TheVariants.{Truncated}
-use Rattle.gc_format.specs.GarbledFile.{GarbledParts, IsGarbledFile}
-use Rattle.gc_format.specs.LabelFile.{LabelFileParts, IsLabelFile}
-use Rattle.gc_read.specs.FileFault.{LastingFault, FirstFault, FirstLabelFault}
+use Rattle.gc_file.specs.declared.fault.FileFault.{FileFault}
+use Rattle.gc_file.specs.declared.fault.FileFault.TheVariants.{Truncated}
+use Rattle.gc_file.specs.GarbledFile.{GarbledParts, IsGarbledFile}
+use Rattle.gc_file.specs.LabelFile.{LabelFileParts, IsLabelFile}
+use Rattle.gc_file.specs.FileFault.{LastingFault, FirstFault, FirstLabelFault}
 
 -- Each of these is a byte.
 abbrev pub AreBytes : List ℕ → Type 0

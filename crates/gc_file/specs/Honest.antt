@@ -3,11 +3,11 @@ use Rattle.std.specs.Prelude.{ℕ, List, []}
 use Rattle.gc_netlist.specs.Circuit.{Netlist}
 use Rattle.gc_label.specs.Seed.{offset_of}
 use Rattle.gc_half.specs.Garbling.{GarblingParts}
-use Rattle.gc_format.specs.declared.parts.Version.{Version}
-use Rattle.gc_format.specs.declared.parts.Version.TheVariants.{One, Two}
-use Rattle.gc_format.specs.declared.parts.EntryPair.{EntryPair}
-use Rattle.gc_format.specs.GarbledFile.{GarbledParts, parts_of}
-use Rattle.gc_write.specs.Written.{entry_pairs_of}
+use Rattle.gc_file.specs.declared.parts.Version.{Version}
+use Rattle.gc_file.specs.declared.parts.Version.TheVariants.{One, Two}
+use Rattle.gc_file.specs.declared.parts.EntryPair.{EntryPair}
+use Rattle.gc_file.specs.GarbledFile.{GarbledParts, parts_of}
+use Rattle.gc_file.specs.Written.{entry_pairs_of}
 
 -- The entry pairs of a garbling's file of a version: version 1 has none.
 abbrev pub version_entries : Version → ℕ → GarblingParts → List EntryPair

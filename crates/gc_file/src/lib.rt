@@ -11,17 +11,45 @@
 //! It re-exports names of `gc_format` (layouts, sinks and sources), `gc_write` (writers) and `gc_read` (readers).
 #![tactic(auto)]
 
+mod body;
+mod deal;
+mod failures;
+mod fault;
+mod garbled;
+mod header;
+mod labels;
 mod laws;
+mod number;
+mod pairs;
+mod parts;
+mod piece;
+mod reader;
+mod sink;
+pub mod sizes;
+mod source;
+mod spell;
+mod take;
+mod write;
+mod writer;
+mod written_law;
 
-pub use gc_format::{
-    EntryPair, InSource, MemSink, MemSource, OutSink, Sink, SinkFault, Source, Version,
-};
-pub use gc_read::{
-    FileFault, Garbled, GarbledReader, LabelFile, TakeFault, read_garbled, read_garbled_from,
-    read_labels,
-};
-pub use gc_write::{
-    WriteFault, first_wire, law_written_files, write_garbled, write_garbled_by_digest,
-    write_garbled2, write_garbled2_by_digest, write_garbled2_with_offset, write_labels,
-};
+pub use deal::{first_wire, write_labels};
+pub use failures::FailureCount;
+pub use fault::FileFault;
+pub use garbled::Garbled;
+pub use labels::{LabelFile, labels_from_bytes, read_labels};
 pub use laws::{law_garbled_file, law_label_file};
+pub use number::{number_at, number_bytes};
+pub use pairs::rows_from_bytes;
+pub use parts::{EntryPair, Version};
+pub use reader::{GarbledReader, read_garbled};
+pub use sink::{MemSink, OutSink, Sink, SinkFault};
+pub use source::{InSource, MemSource, Source};
+pub use spell::label_header;
+pub use take::{TakeFault, read_garbled_from};
+pub use write::{
+    write_garbled, write_garbled_by_digest, write_garbled2, write_garbled2_by_digest,
+    write_garbled2_with_offset,
+};
+pub use writer::WriteFault;
+pub use written_law::law_written_files;

@@ -5,9 +5,9 @@ use lib.ListN.{get_elem?}
 use Rattle.std.proofs.lemmas.List.{length-replicate}
 use Rattle.atomic_table.specs.Table.{State, Splits, Joins, Final, Seen}
 use Rattle.atomic_table.proofs.Lists.{set_else}
-use Rattle.gc_counts.specs.Counts.{total, only}
-use Rattle.gc_counts.proofs.Sums.{total-append, total-dealt, total-joined, each-one, each-dealt, each-joined, only_other}
-use Rattle.gc_counts.proofs.Sums.{zeros}
+use Rattle.gc_workers.specs.Counts.{total, only}
+use Rattle.gc_workers.proofs.Sums.{total-append, total-dealt, total-joined, each-one, each-dealt, each-joined, only_other}
+use Rattle.gc_workers.proofs.Sums.{zeros}
 use Rattle.gc_rounds.specs.Words.{stamp}
 use Rattle.gc_rounds.specs.Steps.{one_less, merged, nobody}
 use Rattle.gc_rounds.specs.declared.view.View.{View}

@@ -13,7 +13,7 @@ use Rattle.atomic_table.specs.Table.{State, Me, step, stepped, keeps, Allows}
 use Rattle.atomic_table.specs.Table as table_spec
 use Rattle.atomic_table.specs.Seated.{TableId}
 use Rattle.atomic_table.specs.declared.shared.Seat.{Seat}
-use Rattle.gc_counts.specs.Counts.{total, only}
+use Rattle.gc_workers.specs.Counts.{total, only}
 use Rattle.gc_rounds.specs.Words.{round_of, bank_of, stamp}
 use Rattle.gc_rounds.specs.Views.{gives, unfair, seals_in}
 use Rattle.gc_rounds.specs.declared.view.Key.{Key}
@@ -23,7 +23,7 @@ use Rattle.gc_rounds.specs.declared.view.View.{View}
 use Rattle.gc_rounds.specs.declared.view.Stand.TheVariants.{Inside}
 use Rattle.gc_rounds.specs.declared.view.Step.{Step}
 use Rattle.gc_rounds.specs.declared.view.Step.TheVariants.{Load, Store, Claim}
-use Rattle.gc_counts.proofs.Sums.{total-append, total-set, term_le, terms_le, sole, each-set, only_same, only_other, only_le, only_is}
+use Rattle.gc_workers.proofs.Sums.{total-append, total-set, term_le, terms_le, sole, each-set, only_same, only_other, only_le, only_is}
 use Rattle.gc_rounds.proofs.Keeps.{inside_is}
 use Rattle.gc_gates.specs.Pairs.{is_pair, pairs, looked}
 use Rattle.gc_gates.specs.Gates.{in_hand}

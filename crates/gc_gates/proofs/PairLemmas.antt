@@ -5,7 +5,7 @@ use mathlib.Core.Logic.{dite}
 use native.Mathlib.Decide.{dec_le}
 use mathlib.Core.Option.{some}
 use lib.ListN.{get_elem?}
-use Rattle.gc_counts.specs.Counts.{total}
+use Rattle.gc_workers.specs.Counts.{total}
 use Rattle.gc_gates.specs.Pairs.{is_pair, is_look}
 use Rattle.gc_gates.specs.Gates.{in_hand}
 use Rattle.gc_gates.specs.declared.view.Hand.{Hand}

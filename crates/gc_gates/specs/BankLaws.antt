@@ -5,12 +5,12 @@ use native.Mathlib.Decide.{ℕ_discrete, dec_le}
 use mathlib.Core.Option.{some, some-injective, some-ne-none}
 use lib.ListN.{get_elem?}
 use Rattle.atomic_table.proofs.Lists.{at_set, at_snoc}
-use Rattle.gc_counts.specs.Counts.{total, only}
+use Rattle.gc_workers.specs.Counts.{total, only}
 use Rattle.gc_rounds.specs.Words.{round_of, bank_of, stamp}
 use Rattle.gc_rounds.specs.Steps.{recorded, one_less, newcomer, merged, nobody, starting}
 use Rattle.gc_rounds.specs.Laws.{Opens, Moves, Deals, Joins}
 use Rattle.gc_rounds.specs.declared.view.View.{View}
-use Rattle.gc_counts.proofs.Sums.{total-append, total-set, only_other}
+use Rattle.gc_workers.proofs.Sums.{total-append, total-set, only_other}
 use Rattle.gc_gates.specs.Pairs.{is_pair, pairs, is_look, looked}
 use Rattle.gc_gates.specs.Layout.{two_banks}
 use Rattle.gc_gates.specs.Gates.{state_of, low_of, high_of, in_hand, IsHandRight, Fits, Sound, first_view, fresh_view, no_view}

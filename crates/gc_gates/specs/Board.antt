@@ -2,8 +2,8 @@
 use Rattle.std.specs.Prelude.{◌≡◌, ℕ, ◌<◌, List, [], length}
 use mathlib.Core.Option.{some}
 use lib.ListN.{get_elem?}
-use Rattle.gc_counts.specs.Counts.{total, only}
-use Rattle.gc_counts.specs.declared.limits.TheConstants.{DONE}
+use Rattle.gc_workers.specs.Counts.{total, only}
+use Rattle.gc_workers.specs.declared.states.TheConstants.{DONE}
 use Rattle.gc_rounds.specs.declared.view.View.{View}
 use Rattle.gc_rounds.specs.declared.view.Key.{Key}
 use Rattle.gc_rounds.specs.declared.view.Stand.TheVariants.{Inside, Outside}

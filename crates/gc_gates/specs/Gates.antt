@@ -4,9 +4,9 @@
 use Rattle.std.specs.Prelude.{◌≡◌, ℕ, ◌+◌, ◌*◌, ◌%◌, ◌<◌, ◌≤◌, ◌⊎◌, List, [], length, slice_index, Some, None}
 use mathlib.Core.Option.{some}
 use lib.ListN.{get_elem?}
-use Rattle.gc_counts.specs.declared.limits.TheConstants.{DONE, FREE, IN_HAND}
+use Rattle.gc_workers.specs.declared.states.TheConstants.{DONE, FREE, IN_HAND}
 use Rattle.gc_rounds.specs.declared.words.TheConstants.{ROUND}
-use Rattle.gc_counts.specs.Counts.{total, only}
+use Rattle.gc_workers.specs.Counts.{total, only}
 use Rattle.gc_rounds.specs.Words.{round_of, bank_of, stamp}
 use Rattle.gc_rounds.specs.declared.view.View.{View}
 use Rattle.gc_rounds.specs.declared.view.Stand.TheVariants.{Inside}

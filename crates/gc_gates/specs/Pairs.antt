@@ -1,6 +1,6 @@
 -- How often a round with a gate, or these with a number, stand in a list.
 use Rattle.std.specs.Prelude.{ℕ, ◌*◌, List}
-use Rattle.gc_counts.specs.Counts.{total, only}
+use Rattle.gc_workers.specs.Counts.{total, only}
 
 -- 1 where the pair is round r with gate g, and else 0
 abbrev pub is_pair : ℕ → ℕ → ℕ × ℕ → ℕ

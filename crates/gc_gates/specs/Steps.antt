@@ -1,9 +1,9 @@
 -- What each kind of step does to the view of the seat that steps, and what the seat learns.
 use Rattle.std.specs.Prelude.{◌≡◌, ℕ, ◌+◌, ◌%◌, ◌<◌, ◌≤◌, ◌⊎◌, List, [], ◌∷◌, ◌++◌, ◌==◌, if◌then◌else◌, Some}
 use Rattle.atomic_table.specs.Table.{Me, Step}
-use Rattle.gc_counts.specs.declared.limits.TheConstants.{DONE, FREE, IN_HAND}
+use Rattle.gc_workers.specs.declared.states.TheConstants.{DONE, FREE, IN_HAND}
 use Rattle.gc_rounds.specs.declared.words.TheConstants.{ROUND}
-use Rattle.gc_counts.specs.Counts.{only}
+use Rattle.gc_workers.specs.Counts.{only}
 use Rattle.gc_rounds.specs.Words.{round_of, stamp}
 use Rattle.gc_rounds.specs.declared.view.View.{View}
 use Rattle.gc_rounds.specs.declared.view.Stand.TheVariants.{Inside}

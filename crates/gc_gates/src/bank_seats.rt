@@ -10,8 +10,8 @@ ghost use Rattle.gc_gates.specs.Places.{IsGatePlace};
 use crate::kinds::Settle;
 use crate::steps::{Place, Words};
 use crate::view::{GateView, Work};
-use gc_counts::{MAX_SEATS, OpenFault};
 use gc_rounds::{Key, Rule, open_table};
+use gc_workers::{MAX_WORKERS, OpenFault};
 use std::alloc::{Allocator, Global};
 
 /// The words of two banks with their memory.
@@ -31,7 +31,7 @@ pub fn open_banks<J: Work, A: Allocator + Copy>(
     gates: u32,
 ) -> Result<(BankWords<J, A>, Place<J>), OpenFault>
     requires gates { gates ≡ J.gates key.now.about }
-    requires seats { (0 < key.now.seats) × (key.now.seats ≤ MAX_SEATS) }
+    requires seats { (0 < key.now.seats) × (key.now.seats ≤ MAX_WORKERS) }
     ensures { IfOk result (λ t. (t.0.shared.key ≡ key.now)
         × IsGatePlace two_banks J.gates t.0.shared.table_id key.now t.1
         × (t.1.me ≡ (starting key.now.jobs key.now.seats (first_view key.now.about), []))) }

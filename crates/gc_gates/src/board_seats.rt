@@ -16,8 +16,8 @@ use crate::kinds::{Deal, Merge, Note};
 use crate::steps::{Place, Words};
 use crate::view::{GateView, Work};
 use atomic_table::{Closed, Table};
-use gc_counts::OpenFault;
 use gc_rounds::{Key, View};
+use gc_workers::OpenFault;
 use std::alloc::{AllocError, Allocator};
 
 /// The words of a board with their memory.

@@ -13,8 +13,8 @@ use crate::frame::Frame;
 use crate::kinds::{Claim, LoadHigh, LoadLow, LoadState, StoreDone, StoreHalf};
 use crate::view::{GateView, Work};
 use atomic_table::Shared;
-use gc_counts::{DONE, FREE, IN_HAND};
 use gc_rounds::{Key, View, stamped};
+use gc_workers::{DONE, FREE, IN_HAND};
 
 /// The words of the banks, as many threads share them.
 pub type Words<J, R> = Shared<u8, View<GateView<J>>, Key<J>, R>;

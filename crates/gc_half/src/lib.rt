@@ -30,6 +30,7 @@ mod laws;
 mod numbers;
 mod one_gate;
 mod row_table;
+mod table;
 mod waiting;
 mod zero_labels;
 
@@ -47,5 +48,6 @@ pub use hash::{tweak_hash, tweak_hash_series};
 pub use laws::{law_garblings, law_half_gates, law_joined};
 pub use numbers::and_numbers;
 pub use one_gate::{evaluate_gate, garble_gate, labels_read};
+pub use table::Table;
 pub use waiting::{WaitingGate, WaitingGates};
 pub use zero_labels::input_zero_labels;

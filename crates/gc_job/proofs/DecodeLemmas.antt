@@ -5,7 +5,7 @@ use Rattle.std.proofs.Math.Bool.{beq}
 use Rattle.std.proofs.lemmas.Bool.{cases_Bool}
 use Rattle.std.specs.Int.{from_bool}
 use Rattle.std.proofs.lemmas.List.{take_more, length-take-le, get_or_default, get_or-take, get_or-drop}
-use Rattle.gc_format.specs.declared.parts.EntryPair.{EntryPair}
+use Rattle.gc_file.specs.declared.parts.EntryPair.{EntryPair}
 use Rattle.gc_job.specs.Evaluate.{IsKnownUntil}
 
 decode-push : (bits : List Bool) (labels : List ℕ) (b : Bool) (l : ℕ)

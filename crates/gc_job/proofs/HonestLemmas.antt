@@ -10,8 +10,8 @@ use Rattle.gc_half.specs.Canonical.{zero_label_of, row_pairs_of, garbling_of}
 use Rattle.gc_half.specs.Law.{Decodes}
 use Rattle.gc_half.proofs.HalfGateLaw.{colour-encode}
 use Rattle.gc_half.proofs.CanonicalLemmas.{IsGarbled-same, IsGarbled-decode_bits, length-row_pairs_of, canonical-decodes}
-use Rattle.gc_format.specs.declared.parts.Version.TheVariants.{Two}
-use Rattle.gc_write.specs.Written.{entry_pair_of, entry_pairs_of}
+use Rattle.gc_file.specs.declared.parts.Version.TheVariants.{Two}
+use Rattle.gc_file.specs.Written.{entry_pair_of, entry_pairs_of}
 use Rattle.gc_job.proofs.OutputLemmas.{output-at}
 
 -- The label that stands for a bit on an input wire.

@@ -10,8 +10,8 @@ pub use Rattle.std.proofs.lemmas.Result.{err_from_is_err_and}
 pub use Rattle.std.proofs.lemmas.Slice.Zip.{length-zip, get_or-zip}
 pub use Rattle.std.specs.List.{range_with_len, zip, list_any}
 pub use Rattle.gc_circuit.specs.Meaning.{xor, AreOutputs, bits_of, bit_rule, IsAssignment}
-pub use Rattle.gc_format.specs.GarbledFile.{GarbledParts}
-pub use Rattle.gc_format.specs.LabelFile.{LabelFileParts, encoded_from}
+pub use Rattle.gc_file.specs.GarbledFile.{GarbledParts}
+pub use Rattle.gc_file.specs.LabelFile.{LabelFileParts, encoded_from}
 pub use Rattle.gc_half.proofs.AndNumbers.{and_number-below, and_number-and, and_number-other}
 pub use Rattle.gc_half.proofs.CircuitLaw.{active_local}
 pub use Rattle.gc_half.specs.Entry.{output_tweak, label_of_colour, entry_of}

@@ -3,8 +3,8 @@ use Rattle.std.specs.Prelude.{◌≡◌, ◌≢◌, ℕ, ◌<◌, ◌≤◌, Lis
 use Rattle.sha2.specs.Sha256.{sha256}
 use Rattle.gc_netlist.specs.Circuit.{Netlist, output_wires, and_count}
 use Rattle.gc_netlist.specs.Canon.{canonical_text}
-use Rattle.gc_format.specs.GarbledFile.{GarbledParts}
-use Rattle.gc_format.specs.LabelFile.{LabelFileParts}
+use Rattle.gc_file.specs.GarbledFile.{GarbledParts}
+use Rattle.gc_file.specs.LabelFile.{LabelFileParts}
 use Rattle.gc_job.specs.declared.fault.BindFault.{BindFault}
 use Rattle.gc_job.specs.declared.fault.BindFault.TheVariants.{OtherCircuit, OtherCounts, NoSuchValue, WrongWidth, DoubleValue, MissingValue}
 use Rattle.gc_job.specs.Job.{JobParts, job_of}

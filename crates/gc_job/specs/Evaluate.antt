@@ -6,8 +6,8 @@ use Rattle.gc_label.specs.Label.{colour}
 use Rattle.gc_half.specs.Hash.{hash}
 use Rattle.gc_half.specs.Entry.{output_tweak}
 use Rattle.gc_half.specs.Evaluation.{IsEvaluation, decode}
-use Rattle.gc_format.specs.declared.parts.Version.TheVariants.{Two}
-use Rattle.gc_format.specs.declared.parts.EntryPair.{EntryPair}
+use Rattle.gc_file.specs.declared.parts.Version.TheVariants.{Two}
+use Rattle.gc_file.specs.declared.parts.EntryPair.{EntryPair}
 use Rattle.gc_job.specs.declared.fault.EvalFault.{EvalFault}
 use Rattle.gc_job.specs.declared.fault.EvalFault.TheVariants.{BadWorkers, UnknownOutputLabel, Memory}
 use Rattle.gc_job.specs.Job.{JobParts}

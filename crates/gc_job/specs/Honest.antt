@@ -4,9 +4,9 @@ use Rattle.gc_netlist.specs.Circuit.{Netlist, input_wires}
 use Rattle.gc_circuit.specs.Meaning.{Fits, AreOutputs}
 use Rattle.gc_label.specs.Seed.{offset_of}
 use Rattle.gc_half.specs.Garbling.{GarblingParts, decode_bits_of, IsGarbled}
-use Rattle.gc_format.specs.declared.parts.Version.{Version}
-use Rattle.gc_format.specs.GarbledFile.{GarbledParts}
-use Rattle.gc_format.specs.LabelFile.{LabelFileParts, encoded_from, label_parts_of}
+use Rattle.gc_file.specs.declared.parts.Version.{Version}
+use Rattle.gc_file.specs.GarbledFile.{GarbledParts}
+use Rattle.gc_file.specs.LabelFile.{LabelFileParts, encoded_from, label_parts_of}
 use Rattle.gc_file.specs.Honest.{version_entries, honest_parts}
 use Rattle.gc_job.specs.declared.fault.BindFault.{BindFault}
 use Rattle.gc_job.specs.declared.fault.EvalFault.{EvalFault}

@@ -2,9 +2,9 @@
 use Rattle.std.specs.Prelude.{◌≡◌, ℕ, Bool, List, length}
 use Rattle.gc_netlist.specs.Circuit.{Netlist, input_wires, output_wires, and_count, IsLawful}
 use Rattle.gc_half.specs.declared.garbling.RowPair.{RowPair}
-use Rattle.gc_format.specs.declared.parts.Version.{Version}
-use Rattle.gc_format.specs.declared.parts.EntryPair.{EntryPair}
-use Rattle.gc_format.specs.GarbledFile.{GarbledParts}
+use Rattle.gc_file.specs.declared.parts.Version.{Version}
+use Rattle.gc_file.specs.declared.parts.EntryPair.{EntryPair}
+use Rattle.gc_file.specs.GarbledFile.{GarbledParts}
 
 -- A circuit; the version, rows, decode bits and entries of a garbled file; and a label for each input wire.
 pub record JobParts : Type 0 where

@@ -1,6 +1,6 @@
 -- Where the label file of each input value stands.
 use Rattle.std.specs.Prelude.{◌≡◌, ℕ, ◌<◌, List, [], length, slice_get, slice_index_or, Option, Some, None, MatchOption}
-use Rattle.gc_format.specs.LabelFile.{LabelFileParts}
+use Rattle.gc_file.specs.LabelFile.{LabelFileParts}
 use Rattle.gc_job.specs.Binding.{HasFile}
 
 -- The file at this place is for this input value.

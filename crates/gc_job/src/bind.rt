@@ -3,14 +3,15 @@
 ghost use Rattle.std.specs.Prelude.{◌≡◌, ◌≢◌, ◌↔◌, ◌<◌, ◌≤◌, List, length, is_none, flat_map, All, IsTrue, IsSomeAnd, IfOk, IfErr, OnOk};
 ghost use Rattle.std.specs.List.{list_any};
 ghost use Rattle.gc_netlist.specs.Circuit.{IsLawful};
-ghost use Rattle.gc_format.specs.LabelFile.{LabelFileParts};
+ghost use Rattle.gc_file.specs.LabelFile.{LabelFileParts};
 ghost use Rattle.gc_job.specs.Binding.{HasCounts, AreInOrder, IsInOrder, LabelsFault, FirstLabelsFault, AreBound};
 ghost use Rattle.gc_job.specs.Places.{ArePlaces, labels_at};
 
 use crate::fault::BindFault;
-use gc_circuit::{Circuit, MAX_VALUES};
+use gc_circuit::Circuit;
 use gc_file::{Garbled, LabelFile};
 use gc_label::Label;
+use gc_netlist::MAX_VALUES;
 use std::alloc::{AllocError, Allocator};
 
 /// Whether the garbled file has a row pair for each AND gate and a decode bit for each output wire.

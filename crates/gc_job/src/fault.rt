@@ -88,7 +88,7 @@ impl From<AllocError> for BindFault {
 /// Why a job has no output bits. `Memory` stands in place of the answer only where a growth was refused.
 #[derive(Clone, Copy, Debug, PartialEq, Eq)]
 pub enum EvalFault {
-    /// The number of workers is 0 or above [`MAX_WORKERS`](gc_gatehouse::MAX_WORKERS). Evaluation on one thread never
+    /// The number of workers is 0 or above [`MAX_WORKERS`](gc_workers::MAX_WORKERS). Evaluation on one thread never
     /// gives it.
     BadWorkers,
     /// The garbled file does not recognise the active label of this output wire, counted from 0 among the output wires:

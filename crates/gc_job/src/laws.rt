@@ -2,8 +2,8 @@
 
 ghost use Rattle.std.specs.Prelude.{ℕ, Bool, List};
 ghost use Rattle.gc_netlist.specs.Circuit.{Netlist, IsLawful};
-ghost use Rattle.gc_format.specs.GarbledFile.{GarbledParts};
-ghost use Rattle.gc_format.specs.LabelFile.{LabelFileParts};
+ghost use Rattle.gc_file.specs.GarbledFile.{GarbledParts};
+ghost use Rattle.gc_file.specs.LabelFile.{LabelFileParts};
 ghost use Rattle.gc_job.specs.Honest.{AreHonestFiles, HonestFilesLaw};
 
 /// The law of honest files: the garbled file of a lawful circuit's garbling under a seed, in either version, and one

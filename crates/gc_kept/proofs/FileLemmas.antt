@@ -6,9 +6,9 @@ use Rattle.std.proofs.lemmas.List.{take_more, take_all, length-append, length-ma
 use Rattle.std.proofs.lemmas.List.Concat.{length-flat_map}
 use Rattle.std.proofs.lemmas.List.Sums.{sum-map, sum_by_more, sum_by-take-drop, sum_by-drop_more}
 use Rattle.std.proofs.lemmas.List.Elements.{All-push}
-use Rattle.gc_read.specs.declared.fault.FileFault.{FileFault}
-use Rattle.gc_read.specs.FileFault.{FirstLabelFault}
-use Rattle.gc_format.specs.LabelFile.{LabelFileParts, IsLabelFile, label_file}
+use Rattle.gc_file.specs.declared.fault.FileFault.{FileFault}
+use Rattle.gc_file.specs.FileFault.{FirstLabelFault}
+use Rattle.gc_file.specs.LabelFile.{LabelFileParts, IsLabelFile, label_file}
 use Rattle.gc_kept.specs.LabelFiles.{file_length, IsOwnFile, HasFaultyFile}
 
 length-files : (files : List LabelFileParts) → length (flat_map label_file files) ≡ sum (map file_length files)

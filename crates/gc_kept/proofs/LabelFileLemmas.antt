@@ -6,12 +6,12 @@ use Rattle.gc_label.specs.Label.{bytes_of_label}
 use Rattle.gc_label.proofs.LabelLemmas.{length-bytes_of_label}
 use Rattle.gc_half.specs.Garbling.{GarblingParts}
 use Rattle.gc_netlist.specs.Circuit.{Netlist, IsLawful, output_wires}
-use Rattle.gc_format.specs.Number.{number_bytes}
-use Rattle.gc_format.specs.LabelFile.{label_file, label_parts_with, encoded_with}
-use Rattle.gc_write.proofs.DealLemmas.{length-encoded_with}
-use Rattle.gc_format.specs.declared.parts.Version.{Version}
-use Rattle.gc_format.proofs.NumberLemmas.{length-number_bytes}
-use Rattle.gc_write.proofs.SizeLemmas.{length-flat_map}
+use Rattle.gc_file.specs.Number.{number_bytes}
+use Rattle.gc_file.specs.LabelFile.{label_file, label_parts_with, encoded_with}
+use Rattle.gc_file.proofs.DealLemmas.{length-encoded_with}
+use Rattle.gc_file.specs.declared.parts.Version.{Version}
+use Rattle.gc_file.proofs.NumberLemmas.{length-number_bytes}
+use Rattle.gc_file.proofs.SizeLemmas.{length-flat_map}
 use Rattle.gc_kept.specs.declared.fault.KeptFault.{KeptFault}
 use Rattle.gc_kept.specs.Garbling.{GarblingWith}
 use Rattle.gc_kept.specs.Files.{HasRoomFault, HasFileFault, file_of}

@@ -6,9 +6,9 @@ use Rattle.std.proofs.lemmas.List.Concat.{flat_map-append}
 use Rattle.gc_label.specs.Label.{bytes_of_label}
 use Rattle.gc_half.specs.Evaluation.{encode}
 use Rattle.gc_half.specs.declared.garbling.RowPair.{RowPair}
-use Rattle.gc_format.specs.GarbledFile.{row_bytes}
-use Rattle.gc_format.specs.LabelFile.{encoded_with}
-use Rattle.gc_write.proofs.DealLemmas.{encoded_with-append}
+use Rattle.gc_file.specs.GarbledFile.{row_bytes}
+use Rattle.gc_file.specs.LabelFile.{encoded_with}
+use Rattle.gc_file.proofs.DealLemmas.{encoded_with-append}
 use Rattle.std.specs.List.{sum}
 use Rattle.std.proofs.Common.{◌≤◌, drop}
 use Rattle.std.proofs.lemmas.List.{length-map}
@@ -16,10 +16,10 @@ use Rattle.std.proofs.lemmas.Option.{slice_get_within, get_or_from_slice_get}
 use Rattle.std.proofs.lemmas.Slice.Zip.{length-zip}
 use Rattle.gc_label.proofs.LabelLemmas.{length-bytes_of_label}
 use Rattle.gc_half.specs.Evaluation.{decode}
-use Rattle.gc_format.specs.LabelBytes.{length-row_bytes}
-use Rattle.gc_format.specs.LabelFile.{label_magic, label_file}
-use Rattle.gc_format.specs.Number.{number_bytes}
-use Rattle.gc_write.proofs.SizeLemmas.{length-flat_map}
+use Rattle.gc_file.specs.LabelBytes.{length-row_bytes}
+use Rattle.gc_file.specs.LabelFile.{label_magic, label_file}
+use Rattle.gc_file.specs.Number.{number_bytes}
+use Rattle.gc_file.proofs.SizeLemmas.{length-flat_map}
 use Rattle.gc_kept.proofs.FileLemmas.{sum-within}
 use borrow.Rule.Slice.PartMut.{put_mid}
 use Rattle.std.proofs.Common.{◌-◌}
@@ -29,7 +29,7 @@ use Rattle.gc_netlist.specs.Spelling.{bit_number}
 use Rattle.std.proofs.lemmas.List.FromFn.{length-map-range_with_len}
 use Rattle.gc_netlist.specs.Circuit.{Netlist, output_wires}
 use Rattle.gc_half.specs.Joined.{AreOutputLabels}
-use Rattle.gc_format.proofs.NumberLemmas.{length-number_bytes}
+use Rattle.gc_file.proofs.NumberLemmas.{length-number_bytes}
 
 -- One more piece, after those of the first i items.
 pub piece_more : {X : Type 0} (f : X → List ℕ) (size : ℕ) (xs : List X) (i : ℕ) (x : X)

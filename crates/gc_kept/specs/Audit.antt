@@ -1,10 +1,10 @@
 -- What is found of files in memory.
 use Rattle.std.specs.Prelude.{◌≡◌, ◌≢◌, ◌↔◌, ℕ, List, slice_index}
-use Rattle.gc_format.specs.declared.parts.Version.{Version}
-use Rattle.gc_format.specs.GarbledFile.{GarbledParts, IsGarbledFile}
-use Rattle.gc_format.specs.LabelFile.{LabelFileParts, IsLabelFile}
-use Rattle.gc_read.specs.declared.fault.FileFault.TheVariants as file
-use Rattle.gc_read.specs.FileFault.{FirstFault, FirstLabelFault}
+use Rattle.gc_file.specs.declared.parts.Version.{Version}
+use Rattle.gc_file.specs.GarbledFile.{GarbledParts, IsGarbledFile}
+use Rattle.gc_file.specs.LabelFile.{LabelFileParts, IsLabelFile}
+use Rattle.gc_file.specs.declared.fault.FileFault.TheVariants as file
+use Rattle.gc_file.specs.FileFault.{FirstFault, FirstLabelFault}
 use Rattle.gc_file.specs.Honest.{honest_parts_with}
 use Rattle.gc_job.specs.declared.fault.EvalFault.TheVariants as eval
 use Rattle.gc_audit.specs.declared.garbled.GarbledAudit.{GarbledAudit}

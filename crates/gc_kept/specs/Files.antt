@@ -3,9 +3,9 @@ use Rattle.std.specs.Prelude.{◌≡◌, ◌≢◌, ℕ, ◌<◌, ◌≤◌, Boo
 use Rattle.gc_netlist.specs.Circuit.{Netlist}
 use Rattle.gc_netlist.specs.Spelling.{bit_number}
 use Rattle.gc_label.specs.Seed.{offset_of, input_label_of}
-use Rattle.gc_format.specs.declared.parts.Version.{Version}
-use Rattle.gc_format.specs.GarbledFile.{garbled_file}
-use Rattle.gc_format.specs.LabelFile.{label_file, label_parts_with}
+use Rattle.gc_file.specs.declared.parts.Version.{Version}
+use Rattle.gc_file.specs.GarbledFile.{garbled_file}
+use Rattle.gc_file.specs.LabelFile.{label_file, label_parts_with}
 use Rattle.gc_file.specs.Honest.{honest_parts_with}
 use Rattle.gc_job.specs.declared.fault.BindFault.TheVariants as bind
 use Rattle.gc_kept.specs.declared.fault.KeptFault.{KeptFault}

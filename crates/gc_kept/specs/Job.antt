@@ -2,11 +2,11 @@
 use Rattle.std.specs.Prelude.{◌≡◌, ◌≢◌, ◌<◌, ◌≤◌, ℕ, Bool, List, map, Ok, Err}
 use Rattle.gc_netlist.specs.Circuit.{Netlist, output_wires}
 use Rattle.gc_netlist.specs.Spelling.{bit_number}
-use Rattle.gc_format.specs.GarbledFile.{GarbledParts, IsGarbledFile}
-use Rattle.gc_format.specs.LabelFile.{LabelFileParts}
-use Rattle.gc_read.specs.declared.fault.FileFault.{FileFault}
-use Rattle.gc_read.specs.declared.fault.FileFault.TheVariants as file
-use Rattle.gc_read.specs.FileFault.{FirstFault}
+use Rattle.gc_file.specs.GarbledFile.{GarbledParts, IsGarbledFile}
+use Rattle.gc_file.specs.LabelFile.{LabelFileParts}
+use Rattle.gc_file.specs.declared.fault.FileFault.{FileFault}
+use Rattle.gc_file.specs.declared.fault.FileFault.TheVariants as file
+use Rattle.gc_file.specs.FileFault.{FirstFault}
 use Rattle.gc_job.specs.declared.fault.BindFault.{BindFault}
 use Rattle.gc_job.specs.declared.fault.BindFault.TheVariants as bind
 use Rattle.gc_job.specs.Job.{JobParts}

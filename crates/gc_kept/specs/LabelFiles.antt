@@ -1,9 +1,9 @@
 -- Label files that stand one after another.
 use Rattle.std.specs.Prelude.{◌≡◌, ◌≢◌, ℕ, ◌+◌, List, [], ◌∷◌, ◌++◌, length, map, flat_map, take, sum, All}
-use Rattle.gc_read.specs.declared.fault.FileFault.{FileFault}
-use Rattle.gc_read.specs.declared.fault.FileFault.TheVariants as file
-use Rattle.gc_read.specs.FileFault.{FirstLabelFault}
-use Rattle.gc_format.specs.LabelFile.{LabelFileParts, IsLabelFile, label_file}
+use Rattle.gc_file.specs.declared.fault.FileFault.{FileFault}
+use Rattle.gc_file.specs.declared.fault.FileFault.TheVariants as file
+use Rattle.gc_file.specs.FileFault.{FirstLabelFault}
+use Rattle.gc_file.specs.LabelFile.{LabelFileParts, IsLabelFile, label_file}
 use Rattle.gc_kept.specs.declared.fault.KeptFault.{KeptFault}
 use Rattle.gc_kept.specs.declared.fault.KeptFault.TheVariants.{File, BadArgument, Memory}
 

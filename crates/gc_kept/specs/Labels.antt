@@ -7,8 +7,8 @@ use Rattle.gc_half.specs.declared.garbling.RowPair.{RowPair}
 use Rattle.gc_half.specs.Garbling.{IsGarbledFrom}
 use Rattle.gc_half.specs.Evaluation.{decode}
 use Rattle.gc_half.specs.Joined.{AreOutputLabels}
-use Rattle.gc_format.specs.GarbledFile.{IsLabel, IsRowPair, row_bytes}
-use Rattle.gc_format.specs.LabelFile.{label_file}
+use Rattle.gc_file.specs.GarbledFile.{IsLabel, IsRowPair, row_bytes}
+use Rattle.gc_file.specs.LabelFile.{label_file}
 use Rattle.gc_job.specs.Job.{JobParts}
 use Rattle.gc_job.specs.declared.fault.BindFault.TheVariants as bind
 use Rattle.gc_job.specs.declared.fault.EvalFault.TheVariants as eval

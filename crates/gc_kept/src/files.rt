@@ -1,9 +1,9 @@
 //! Writing files to the buffers of callers.
 
 ghost use Rattle.std.specs.Prelude.{◌≡◌, ◌≢◌, ◌≤◌, Some, length, slice_get, IfErr, OnOk, OnErr};
-ghost use Rattle.gc_format.specs.LabelFile.{label_file, label_parts_of};
-ghost use Rattle.gc_write.specs.Written.{IsWritten};
-ghost use Rattle.gc_stats.specs.Stats.{IsFileSize};
+ghost use Rattle.gc_file.specs.LabelFile.{label_file, label_parts_of};
+ghost use Rattle.gc_file.specs.Written.{IsWritten};
+ghost use Rattle.gc_audit.specs.Stats.{IsFileSize};
 ghost use Rattle.gc_kept.specs.Files.{IsFileAt, HasRoomFault, HasWriteFault, IsDealtAt, HasDealFault};
 ghost use Rattle.gc_kept.specs.Files.{file_of, IsGarbledAt, HasFileFault};
 
@@ -11,13 +11,13 @@ use crate::bits::read_bits;
 use crate::circuit::KeptCircuit;
 use crate::fault::KeptFault;
 use crate::garbling::KeptGarbling;
+use gc_audit::garbled_size;
+use gc_file::sizes::{LABEL, LABEL_HEADER};
 use gc_file::{
     MemSink, Version, WriteFault, write_garbled_by_digest, write_garbled2_with_offset, write_labels,
 };
-use gc_format::sizes::{LABEL, LABEL_HEADER};
 use gc_job::BindFault;
 use gc_label::Seed;
-use gc_stats::garbled_size;
 use std::alloc::Global;
 
 /// Checks that a buffer has room for a file of this size. Only where it hasn't, reports the size.

@@ -7,10 +7,10 @@ use crate::bits::{read_bits, write_bits};
 use crate::circuit::KeptCircuit;
 use crate::fault::KeptFault;
 use crate::label_bytes::{has_room, write_labels};
-use gc_format::sizes::{LABEL, PAIR};
+use gc_file::sizes::{LABEL, PAIR};
+use gc_file::{labels_from_bytes, rows_from_bytes};
 use gc_half::{FirstAnd, evaluate_labels};
 use gc_job::{EvalFault, decoded};
-use gc_read::{labels_from_bytes, rows_from_bytes};
 use std::alloc::Global;
 
 /// There is no memory for an evaluation.

@@ -11,10 +11,10 @@ use crate::bits::bit_byte;
 use crate::circuit::KeptCircuit;
 use crate::fault::KeptFault;
 use crate::label_bytes::times;
-use gc_format::sizes::LABEL;
+use gc_file::labels_from_bytes;
+use gc_file::sizes::LABEL;
 use gc_half::{FirstAnd, Garbling, garble_from, garble_one_thread};
 use gc_label::{Label, Offset, Seed, offset};
-use gc_read::labels_from_bytes;
 use std::alloc::Global;
 use std::marker::Model;
 

@@ -10,7 +10,7 @@ use crate::fault::KeptFault;
 use crate::label_bytes::{has_room, write_labels};
 use crate::label_files::read_label_files;
 use gc_file::read_garbled;
-use gc_format::sizes::LABEL;
+use gc_file::sizes::LABEL;
 use gc_job::{DetachedJob, EvalFault, Job, evaluate_detached, output_labels_detached};
 use std::alloc::Global;
 use std::marker::Model;

@@ -2,12 +2,12 @@
 
 ghost use Rattle.std.specs.Prelude.{◌≡◌, ◌+◌, ◌*◌, ◌++◌, ◌≤◌, ◌<◌, length, flat_map, map, take, slice_index, OnOk, OnErr, IfErr};
 ghost use Rattle.gc_label.specs.Label.{bytes_of_label, times, ◌⊕◌};
-ghost use Rattle.gc_format.specs.GarbledFile.{row_bytes};
-ghost use Rattle.gc_format.specs.LabelFile.{encoded_with};
+ghost use Rattle.gc_file.specs.GarbledFile.{row_bytes};
+ghost use Rattle.gc_file.specs.LabelFile.{encoded_with};
 ghost use Rattle.gc_kept.specs.Files.{IsFileAt, HasRoomFault};
 
 use crate::fault::KeptFault;
-use gc_format::sizes::{LABEL, PAIR};
+use gc_file::sizes::{LABEL, PAIR};
 use gc_half::RowPair;
 use gc_label::{Label, Offset};
 

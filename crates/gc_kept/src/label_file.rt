@@ -1,8 +1,8 @@
 //! Label files of a garbling, and of labels that were received.
 
 ghost use Rattle.std.specs.Prelude.{◌≡◌, ◌≢◌, ◌+◌, ◌*◌, ◌^◌, ◌<◌, ◌≤◌, ◌++◌, take, length, slice_get, slice_index, Some, IfErr, OnOk, OnErr};
-ghost use Rattle.gc_format.specs.LabelFile.{label_file, label_parts_with, label_magic};
-ghost use Rattle.gc_format.specs.Number.{number_bytes};
+ghost use Rattle.gc_file.specs.LabelFile.{label_file, label_parts_with, label_magic};
+ghost use Rattle.gc_file.specs.Number.{number_bytes};
 ghost use Rattle.gc_kept.specs.Files.{IsDealtFrom, HasDealFaultFrom};
 ghost use Rattle.gc_kept.specs.Labels.{IsReceivedAt, HasReceivedFault};
 
@@ -12,12 +12,10 @@ use crate::fault::KeptFault;
 use crate::files::look_for_room;
 use crate::garbling::KeptGarbling;
 use crate::label_bytes::{put_encoded, put_labels};
-use gc_file::first_wire;
-use gc_format::sizes::{LABEL, LABEL_HEADER};
+use gc_file::sizes::{LABEL, LABEL_HEADER};
+use gc_file::{first_wire, label_header, labels_from_bytes};
 use gc_job::BindFault;
 use gc_label::Label;
-use gc_read::labels_from_bytes;
-use gc_write::label_header;
 use std::alloc::Global;
 
 /// Writes the header of a label file. That there is room is the caller's condition.

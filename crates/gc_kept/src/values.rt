@@ -5,7 +5,7 @@ ghost use Rattle.gc_netlist.specs.Circuit.{output_wires};
 ghost use Rattle.gc_netlist.specs.Spelling.{bit_number};
 ghost use Rattle.gc_label.specs.Label.{◌⊕◌, bytes_of_label};
 ghost use Rattle.gc_half.specs.Garbling.{decode_bits_of};
-ghost use Rattle.gc_format.specs.GarbledFile.{row_bytes};
+ghost use Rattle.gc_file.specs.GarbledFile.{row_bytes};
 ghost use Rattle.gc_audit.specs.Labels.{first_wire_of};
 ghost use Rattle.gc_kept.specs.Files.{IsFileAt, HasRoomFault};
 ghost use Rattle.gc_kept.specs.Labels.{AreLabelsOf, HasValueFault, first_output_of, zero_labels_from};
@@ -16,7 +16,7 @@ use crate::garbling::KeptGarbling;
 use crate::label_bytes::{has_room, write_labels, write_rows, write_sums};
 use gc_circuit::Circuit;
 use gc_file::first_wire;
-use gc_format::sizes::{LABEL, PAIR};
+use gc_file::sizes::{LABEL, PAIR};
 use gc_job::BindFault;
 use std::alloc::{Allocator, Global};
 

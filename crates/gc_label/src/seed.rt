@@ -4,7 +4,7 @@ ghost use Rattle.std.specs.Prelude.{◌≡◌, ◌↔◌, IsOk, IfOk, Ok, codes}
 ghost use Rattle.hex.specs.Hex.{decode_of};
 ghost use Rattle.gc_label.specs.Seed.{IsSeedText};
 
-use gc_value::byte_of;
+use gc_circuit::byte_of;
 use std::error::Error;
 use std::fmt;
 use std::marker::Model;

@@ -5,7 +5,7 @@ use Rattle.std.proofs.lemmas.List.Sums.{count_by-le-length}
 use Rattle.gc_netlist.proofs.SolutionLemmas.{EachRead-map}
 use Rattle.gc_label.specs.Seed.{offset_of}
 use Rattle.gc_half.specs.Garbling.{IsGarbled}
-use Rattle.gc_table.proofs.ListLemmas.{count_by-all_back, count_by-set_more}
+use Rattle.gc_half.proofs.ListLemmas.{count_by-all_back, count_by-set_more}
 use Rattle.gc_layers.proofs.PartlyLemmas.{labels-start, partly-put, partly-more}
 
 module _ (c : Netlist) (seed : List ℕ) where

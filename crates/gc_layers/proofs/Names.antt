@@ -13,9 +13,9 @@ pub use Rattle.gc_half.specs.HalfGate.{and_active, and_zero}
 pub use Rattle.gc_half.specs.Hash.{hash}
 pub use Rattle.gc_half.specs.OneGate.{first_read, second_read, gate_active, gate_zero, row_pair}
 pub use Rattle.gc_half.specs.declared.garbling.RowPair.{RowPair}
-pub use Rattle.gc_labelling.specs.Layer.{AreLabels, IsLabelled, IsPartly, AreMarked}
-pub use Rattle.gc_labelling.specs.declared.mark.Mark.{Mark}
-pub use Rattle.gc_labelling.specs.declared.mark.Mark.TheVariants.{Absent, There}
+pub use Rattle.gc_layers.specs.Layer.{AreLabels, IsLabelled, IsPartly, AreMarked}
+pub use Rattle.gc_layers.specs.declared.mark.Mark.{Mark}
+pub use Rattle.gc_layers.specs.declared.mark.Mark.TheVariants.{Absent, There}
 pub use Rattle.gc_layers.specs.Evaluator.{AreOutputLabels, EvaluatorParts, IsEvaluator, active_by}
 pub use Rattle.gc_layers.specs.Garbler.{row_of, AreKept, AreRows, IsGate, IsNumberFor, is_present, garbled_of}
 pub use Rattle.gc_layers.specs.Made.{IsMadeAt}

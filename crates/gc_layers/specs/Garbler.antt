@@ -11,7 +11,7 @@ use Rattle.gc_half.specs.HalfGate.{and_zero}
 use Rattle.gc_half.specs.OneGate.{row_pair}
 use Rattle.gc_half.specs.Canonical.{no_rows, zero_label_of, row_pairs_of}
 use Rattle.gc_layers.specs.declared.placed.PlacedGate.{PlacedGate}
-use Rattle.gc_labelling.specs.Layer.{IsPartly}
+use Rattle.gc_layers.specs.Layer.{IsPartly}
 
 -- What garbling a gate that waits gives: the zero label of the wire that it sets,
 abbrev pub zero_by : PlacedGate AndGate → ℕ

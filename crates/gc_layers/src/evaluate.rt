@@ -5,11 +5,11 @@ ghost use Rattle.gc_netlist.specs.Circuit.{and_count, input_wires};
 ghost use Rattle.gc_layers.specs.Evaluator.{AreOutputLabels};
 
 use crate::evaluator::Evaluator;
+use crate::threads::label_by_layers;
 use gc_circuit::{Circuit, Memory};
-use gc_gatehouse::Gatehouse;
 use gc_half::{RowPair, input_active_labels};
 use gc_label::Label;
-use gc_labelling::label_by_layers;
+use gc_workers::Gatehouse;
 use std::alloc::Allocator;
 use std::sync::Wait;
 use std::thread::Threads;

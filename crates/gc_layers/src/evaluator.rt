@@ -2,16 +2,18 @@
 
 ghost use Rattle.std.specs.Prelude.{◌≡◌, IfSome, length};
 ghost use Rattle.gc_netlist.specs.Circuit.{and_count};
-ghost use Rattle.gc_labelling.specs.Layer.{IsLabelled};
+ghost use Rattle.gc_layers.specs.Layer.{IsLabelled};
 ghost use Rattle.gc_half.specs.Canonical.{active_label_of};
 ghost use Rattle.gc_layers.specs.Evaluator.{AreOutputLabels};
 
+use crate::labelling::Labelling;
+use crate::mark::Mark;
+use crate::place::Place;
 use crate::placed::PlacedGate;
 use crate::rest::are_marked;
 use gc_circuit::{Circuit, Gate};
 use gc_half::{AndStep, RowPair, WaitingGate, evaluate_gate};
 use gc_label::Label;
-use gc_labelling::{Labelling, Mark, Place};
 use std::alloc::Allocator;
 use std::marker::Model;
 

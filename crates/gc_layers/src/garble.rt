@@ -8,21 +8,22 @@ ghost use Rattle.gc_half.specs.Garbling.{IsGarbled};
 
 use crate::compared_rows::ComparedRows;
 use crate::garbler::Garbler;
+use crate::labelled::Labelled;
 use crate::made_rows::MadeRows;
 use crate::rest::garble_rest;
 use crate::row_keeper::RowKeeper;
+use crate::threads::label_by_layers;
 use gc_circuit::{Circuit, Memory};
-use gc_gatehouse::Gatehouse;
 use gc_half::{Garbling, Mismatch, RowPair, input_zero_labels};
 use gc_label::{Label, Seed};
-use gc_labelling::{Labelled, label_by_layers};
+use gc_workers::Gatehouse;
 use std::alloc::Allocator;
 use std::sync::Wait;
 use std::thread::Threads;
 
 /// Garbles a circuit under a seed on up to `threads` threads. The calling thread goes from gate to gate in file order;
 /// AND gates wait to be garbled in blocks, by all threads, and a gate that reads a label which isn't there yet is
-/// postponed until it is. A thread is started for each [`GATES_FOR_THREAD`](gc_labelling::GATES_FOR_THREAD) AND gates,
+/// postponed until it is. A thread is started for each [`GATES_FOR_THREAD`](crate::GATES_FOR_THREAD) AND gates,
 /// at most; where none can be started the calling thread garbles all. It takes memory for the labels and their marks,
 /// for the rows, and for the gates that wait or are postponed: up to 66 blocks of 64 gates, and 4,096 gates. Each
 /// worker reports each gate to the observer before it garbles it; the calling thread is worker 0.

@@ -2,12 +2,13 @@
 
 ghost use Rattle.std.specs.Prelude.{◌≡◌};
 
+use crate::labelling::Labelling;
+use crate::place::Place;
 use crate::placed::PlacedGate;
 use crate::row_keeper::RowKeeper;
 use gc_circuit::{Circuit, Gate};
 use gc_half::{AndGate, GarbledAnd, WaitingGate, garble_gate};
 use gc_label::{Label, Offset, Seed, offset};
-use gc_labelling::{Labelling, Place};
 use std::alloc::Allocator;
 use std::marker::Model;
 

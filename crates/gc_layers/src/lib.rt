@@ -6,15 +6,27 @@
 //! threads the least time.
 #![tactic(auto)]
 
+mod block;
 mod compared_rows;
 mod evaluate;
 mod evaluator;
+mod exchange;
 mod garble;
 mod garbler;
+mod helpers;
+mod labelled;
+mod labelling;
+mod layer;
 mod made_rows;
+mod mark;
+mod origin;
+mod pending;
+mod place;
 mod placed;
+mod postponed;
 mod rest;
 mod row_keeper;
+mod threads;
 mod to_evaluate;
 mod to_garble;
 mod way;

@@ -7,9 +7,8 @@ ghost use Rattle.gc_layers.specs.Garbler.{AreKept, is_present};
 use crate::row_keeper::RowKeeper;
 use crate::to_garble::NOT_GARBLED;
 use gc_circuit::{Circuit, Memory};
-use gc_half::RowPair;
+use gc_half::{RowPair, Table};
 use gc_label::Label;
-use gc_table::Table;
 use std::alloc::Allocator;
 
 /// The row pairs by AND number. An AND gate without a row pair has zeros.

@@ -5,17 +5,17 @@ ghost use Rattle.gc_netlist.specs.Circuit.{Netlist, EachRead, is_and, and_count}
 ghost use Rattle.gc_half.specs.Hash.{hash};
 ghost use Rattle.gc_half.specs.OneGate.{first_read, second_read, row_pair};
 ghost use Rattle.gc_half.specs.Garbling.{zero_of};
-ghost use Rattle.gc_labelling.specs.declared.mark.Mark.TheVariants.{Absent, There};
+ghost use Rattle.gc_layers.specs.declared.mark.Mark.TheVariants.{Absent, There};
 ghost use Rattle.gc_half.specs.Canonical.{zero_label_of};
-ghost use Rattle.gc_labelling.specs.Layer.{AreLabels, AreMarked};
+ghost use Rattle.gc_layers.specs.Layer.{AreLabels, AreMarked};
 ghost use Rattle.gc_layers.specs.Garbler.{IsNumberFor, KeepsGate};
 
+use crate::mark::Mark;
 use crate::row_keeper::RowKeeper;
 use gc_circuit::{Circuit, Gate};
-use gc_gatehouse::Gatehouse;
 use gc_half::{garble_gate, labels_read};
 use gc_label::{Label, Offset, Seed, offset};
-use gc_labelling::Mark;
+use gc_workers::Gatehouse;
 use std::alloc::Allocator;
 
 /// Garbles each gate whose label or row pair isn't there, in file order, as worker 0, which reports it to the observer

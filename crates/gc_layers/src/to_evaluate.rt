@@ -1,14 +1,14 @@
 //! AND gates that wait to be evaluated.
 
 ghost use Rattle.std.specs.Prelude.{◌≡◌, ℕ, ◌<◌, ◌≤◌, ◌+◌, ◌*◌, length};
-ghost use Rattle.gc_labelling.specs.Layer.{AreMade};
+ghost use Rattle.gc_layers.specs.Layer.{AreMade};
 ghost use Rattle.gc_layers.specs.Evaluator.{active_by};
 ghost use Rattle.gc_layers.specs.Made.{IsMadeAt};
 
+use crate::pending::Pending;
 use crate::placed::PlacedGate;
 use gc_half::{AndStep, eval_four_ands};
 use gc_label::Label;
-use gc_labelling::Pending;
 
 /// Evaluates the gates at the four places from 4 * i on, at once. The last gate stands in for those that aren't there.
 fn evaluate_four(gates: &[PlacedGate<AndStep>], made: &mut [Label], i: usize)

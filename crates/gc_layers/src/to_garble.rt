@@ -1,14 +1,14 @@
 //! AND gates that wait to be garbled.
 
 ghost use Rattle.std.specs.Prelude.{◌≡◌, ℕ, ◌<◌, ◌≤◌, ◌+◌, ◌*◌, length};
-ghost use Rattle.gc_labelling.specs.Layer.{AreMade};
+ghost use Rattle.gc_layers.specs.Layer.{AreMade};
 ghost use Rattle.gc_layers.specs.Garbler.{garbled_of};
 ghost use Rattle.gc_layers.specs.Made.{IsMadeAt};
 
+use crate::pending::Pending;
 use crate::placed::PlacedGate;
 use gc_half::{AndGate, GarbledAnd, RowPair, garble_two_ands};
 use gc_label::Label;
-use gc_labelling::Pending;
 
 /// A label and rows of zeros, for a gate that wasn't garbled.
 pub(crate) const NOT_GARBLED: GarbledAnd = GarbledAnd {

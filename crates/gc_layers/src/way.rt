@@ -2,13 +2,14 @@
 
 ghost use Rattle.std.specs.Prelude.{◌≡◌, ◌≢◌, ◌↔◌, ◌<◌, ◌≤◌, ◌⊎◌, IfOk, IsTrue};
 ghost use Rattle.gc_netlist.specs.Circuit.{and_count};
-ghost use Rattle.gc_labelling.specs.declared.threads.TheConstants.{GATES_FOR_THREAD};
+ghost use Rattle.gc_layers.specs.declared.threads.TheConstants.{GATES_FOR_THREAD};
 ghost use Rattle.gc_layers.specs.Way.{HasFewAnds};
 ghost use Rattle.gc_layers.specs.declared.way.TheConstants.{GATES_FOR_AND, GATES_FOR_THREADS};
 ghost use Rattle.gc_layers.specs.declared.way.Way.TheVariants.{Alone, Together};
 
+use crate::postponed::MOST_POSTPONED;
+use crate::threads::GATES_FOR_THREAD;
 use gc_circuit::{Circuit, Gate, Memory, Operation};
-use gc_labelling::{GATES_FOR_THREAD, MOST_POSTPONED};
 use std::alloc::Allocator;
 
 /// A circuit in which fewer than one gate in this many is AND is left to one thread.

@@ -9,8 +9,8 @@ use Rattle.clap.specs.declared.builder.action.ArgAction.TheVariants.{Append, Set
 use Rattle.clap.specs.declared.builder.arg.Arg.{Arg}
 use Rattle.clap.specs.declared.builder.command.Command.{Command}
 use Rattle.clap.specs.declared.builder.command.Command.TheViews.{out-Command}
-use Rattle.gc_format.specs.declared.parts.Version.{Version}
-use Rattle.gc_format.specs.declared.parts.Version.TheVariants.{One, Two}
+use Rattle.gc_file.specs.declared.parts.Version.{Version}
+use Rattle.gc_file.specs.declared.parts.Version.TheVariants.{One, Two}
 use Rattle.gc_order.specs.declared.order.Order.{Order}
 use Rattle.gc_order.specs.declared.order.Order.TheVariants.{Run, Plain, Check, Locate, Stats, Garble, Deal, Eval, Jobs, Labels, Audit}
 

@@ -9,7 +9,7 @@ ghost use Rattle.gc_order.specs.Order.{plain_in, program, run_in, stats_in, text
 use crate::commands::halfgates;
 use crate::words::{is_flagged, number_of, version_of, word_of, words_of};
 use clap::{ArgMatches, Error};
-use gc_format::Version;
+use gc_file::Version;
 use std::alloc::{AllocError, Global};
 
 /// A command with its words. Whether the files that these name exist, and what they hold, the command judges.

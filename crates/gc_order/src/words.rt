@@ -5,7 +5,7 @@ ghost use Rattle.clap.specs.Words.{found_of, rows_of};
 ghost use Rattle.gc_order.specs.Order.{flag_in, number_in, version_numbered, word_of, words_of};
 
 use clap::ArgMatches;
-use gc_format::Version;
+use gc_file::Version;
 use std::alloc::{AllocError, Global};
 
 /// The version of garbled files that a number names.

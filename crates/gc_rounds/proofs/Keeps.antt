@@ -8,7 +8,7 @@ use mathlib.Core.Option.{none, some}
 use lib.ListN.{get_elem?}
 use prog.Atomic.{either}
 use Rattle.atomic_table.specs.Table.{State, Me, step, keeps, stepped, Allows}
-use Rattle.gc_counts.specs.Counts.{total, only}
+use Rattle.gc_workers.specs.Counts.{total, only}
 use Rattle.gc_rounds.specs.Words.{count_of, mark_of, round_of, bank_of, open_word, shut_word}
 use Rattle.gc_rounds.specs.Views.{counted, gives, given, unfair, seals_in, sealed_in}
 use Rattle.gc_rounds.specs.Banks.{StandFits, BanksSound}
@@ -20,7 +20,7 @@ use Rattle.gc_rounds.specs.declared.view.Stand.TheVariants.{Outside, Inside, Pas
 use Rattle.gc_rounds.specs.declared.view.Step.{Step}
 use Rattle.gc_rounds.specs.declared.view.Step.TheVariants.{Enter, Leave, Seal, Reopen}
 use Rattle.gc_rounds.specs.declared.view.View.{View}
-use Rattle.gc_counts.proofs.Sums.{total-append, total-set, term_le, sole, each-set, only_same, only_other}
+use Rattle.gc_workers.proofs.Sums.{total-append, total-set, term_le, sole, each-set, only_same, only_other}
 use Rattle.gc_rounds.proofs.WordLemmas.{added, taken, opened, shut, shut_low, marked}
 
 pub inside_is : (r s : ℕ) → Inside r ≡ Inside s → r ≡ s

@@ -12,8 +12,8 @@ use Rattle.gc_rounds.specs.Laws.{IsFresh}
 use Rattle.gc_rounds.specs.declared.view.Stand.TheVariants.{Outside}
 use Rattle.gc_rounds.specs.declared.view.Step.{Step}
 use Rattle.gc_rounds.specs.declared.view.View.{View}
-use Rattle.gc_counts.proofs.Sums.{total-append, total-dealt, total-joined, each-one, each-dealt, each-joined}
-use Rattle.gc_counts.proofs.Sums.{zeros}
+use Rattle.gc_workers.proofs.Sums.{total-append, total-dealt, total-joined, each-one, each-dealt, each-joined}
+use Rattle.gc_workers.proofs.Sums.{zeros}
 use Rattle.gc_rounds.proofs.Keeps.{bank_small}
 
 -- the words at the start

@@ -2,8 +2,8 @@
 use Rattle.std.specs.Prelude.{◌≡◌, ℕ, ◌+◌, ◌*◌, ◌<◌, ◌≤◌, List, length, min, slice_index}
 use mathlib.Core.Option.{some}
 use lib.ListN.{get_elem?}
-use Rattle.gc_counts.specs.declared.limits.TheConstants.{MAX_SEATS}
-use Rattle.gc_counts.specs.Counts.{total}
+use Rattle.gc_workers.specs.declared.TheConstants.{MAX_WORKERS}
+use Rattle.gc_workers.specs.Counts.{total}
 use Rattle.gc_rounds.specs.Words.{count_of, mark_of, round_of, bank_of}
 use Rattle.gc_rounds.specs.Views.{counted, unfair, given, sealed_in}
 use Rattle.gc_rounds.specs.declared.view.Stand.TheVariants.{Inside}
@@ -41,8 +41,8 @@ module _ {I : Type 0} where
     -- No round is sealed before its bank is in it.
     pub early : (r : ℕ) → round_of (slice_index words (bank_of r)) < r
         → total (λ v. sealed_in r v.steps) views ≡ 0
-    -- The views stand for all seats, which are 1 to MAX_SEATS.
+    -- The views stand for all seats, which are 1 to MAX_WORKERS.
     pub dealt : total (λ v. v.seats) views ≡ seats
-    pub few : (0 < seats) × (seats ≤ MAX_SEATS)
+    pub few : (0 < seats) × (seats ≤ MAX_WORKERS)
     -- What each view says is so.
     pub fits : (id : ℕ) (v : View I) → get_elem? views id ≡ some v → StandFits jobs words v

@@ -13,7 +13,7 @@ use crate::steps::{Place, Words};
 use crate::view::{Key, View};
 use crate::words::{MARK, ROUND};
 use atomic_table::Table;
-use gc_counts::{MAX_SEATS, OpenFault};
+use gc_workers::{MAX_WORKERS, OpenFault};
 use std::alloc::Allocator;
 
 /// The words with their memory.
@@ -37,7 +37,7 @@ pub fn open_table<T, I: KeptInner<T>, A: Allocator + Copy>(
     size: usize,
 ) -> Result<(WordTable<T, I, A>, Place<I>), OpenFault>
     requires size { (size ≡ I.size key.now.about) × (size < 2 ^ 63) }
-    requires seats { (0 < key.now.seats) × (key.now.seats ≤ MAX_SEATS) }
+    requires seats { (0 < key.now.seats) × (key.now.seats ≤ MAX_WORKERS) }
     ensures { IfOk result (λ t. (t.0.shared.key ≡ key.now) × (t.0.shared.table_id.words ≡ 2 + size)
         × IsPlaceOf t.0.shared.table_id key.now t.1
         × (t.1.me ≡ (starting key.now.jobs key.now.seats (I.first key.now.about), []))) }

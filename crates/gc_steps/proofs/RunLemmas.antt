@@ -12,8 +12,8 @@ use Rattle.gc_gates.specs.Steps.{after_claim, after_stored, after_done}
 use Rattle.gc_gates.proofs.PairLemmas.{pair_same}
 use Rattle.std.proofs.Common.{eq-eqb, ne_eqb}
 use Rattle.gc_gates.specs.declared.view.Hand.TheVariants.{Empty}
-use Rattle.gc_walk.specs.declared.answer.Answer.{Answer}
-use Rattle.gc_walk.specs.declared.answer.Answer.TheVariants.{Made, Done, Taken, NotYet}
+use Rattle.gc_steps.specs.declared.answer.Answer.{Answer}
+use Rattle.gc_steps.specs.declared.answer.Answer.TheVariants.{Made, Done, Taken, NotYet}
 use Rattle.gc_steps.proofs.LabelLemmas.{active_solves}
 use Rattle.gc_steps.specs.declared.round.Prepared.{Prepared}
 

@@ -2,8 +2,8 @@
 use Rattle.std.specs.Prelude.{◌≡◌, ◌≢◌, ℕ, ◌*◌, ◌<◌, ◌≤◌, ◌⊎◌, List, [], ◌∷◌, ◌++◌, length, slice_get, Some}
 use Rattle.gc_netlist.specs.declared.gate.Gate.{Gate}
 use Rattle.gc_netlist.specs.Circuit.{Netlist, IsSetBy, IsSet, input_wires, first_wire, second_wire}
-use Rattle.gc_counts.specs.declared.limits.TheConstants.{DONE, FREE, IN_HAND}
-use Rattle.gc_counts.specs.Counts.{total, only}
+use Rattle.gc_workers.specs.declared.states.TheConstants.{DONE, FREE, IN_HAND}
+use Rattle.gc_workers.specs.Counts.{total, only}
 use Rattle.gc_rounds.specs.Words.{stamp}
 use Rattle.gc_rounds.specs.declared.view.View.{View}
 use Rattle.gc_rounds.specs.declared.view.Step.{Step}
@@ -15,8 +15,8 @@ use Rattle.gc_gates.specs.declared.view.GateView.{GateView}
 use Rattle.gc_gates.specs.declared.view.Hand.TheVariants.{Empty, Has}
 use Rattle.gc_job.specs.Job.{JobParts}
 use Rattle.gc_job.specs.ActiveLabels.{active, active_from, set_of}
-use Rattle.gc_walk.specs.declared.answer.Answer.{Answer}
-use Rattle.gc_walk.specs.declared.answer.Answer.TheVariants.{Made, Done, Taken, NotYet}
+use Rattle.gc_steps.specs.declared.answer.Answer.{Answer}
+use Rattle.gc_steps.specs.declared.answer.Answer.TheVariants.{Made, Done, Taken, NotYet}
 use Rattle.gc_steps.specs.declared.round.Prepared.{Prepared}
 
 -- what a seat knows and has done

@@ -6,12 +6,12 @@ ghost use Rattle.gc_gates.specs.Places.{IsPlaceAt};
 ghost use Rattle.gc_job.specs.ActiveLabels.{gates_of, active, set_of};
 ghost use Rattle.gc_steps.specs.Views.{AreReadBy, IsIdle, Answers, AnswersFour, IsReady};
 
+use crate::answer::Answer;
 use crate::jobs::Jobs;
 use crate::round::{Prepared, Round};
 use gc_gates::{Frame, Place};
 use gc_job::ReadGate;
 use gc_label::Label;
-use gc_walk::Answer;
 use std::alloc::Allocator;
 
 /// The labels of four gates.

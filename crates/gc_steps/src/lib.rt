@@ -6,12 +6,17 @@
 //! two banks each job has its round. None of these calls waits or allocates.
 #![tactic(auto)]
 
+mod answer;
 mod four;
 mod jobs;
+mod known;
 mod read;
 mod round;
 mod step;
 mod two;
+mod walk;
 
+pub use answer::Answer;
 pub use jobs::Jobs;
 pub use round::{Prepared, Round};
+pub use walk::{Batch, Walk};

@@ -5,16 +5,16 @@ ghost use Rattle.gc_rounds.specs.Places.{IsSamePlace};
 ghost use Rattle.gc_gates.specs.Pairs.{pairs};
 ghost use Rattle.gc_gates.specs.Places.{IsPlaceAt, IsPlaceInside};
 ghost use Rattle.gc_job.specs.ActiveLabels.{active, set_of};
-ghost use Rattle.gc_walk.specs.Walks.{made_now};
+ghost use Rattle.gc_steps.specs.Walks.{made_now};
 ghost use Rattle.gc_steps.specs.Views.{AreReadBy, Reads, Ran, IsIdle, Got, Lacks, Says, IsReady, Knows, IsAlone, SetsMade, ReadsMade, FirstLacking, AnswersAlone};
 
+use crate::answer::Answer;
 use crate::jobs::Jobs;
 use crate::round::{Prepared, Round};
-use gc_counts::{DONE, IN_HAND};
 use gc_gates::{Frame, Place, load_high, load_low, load_state};
 use gc_label::Label;
 use gc_rounds::stamped;
-use gc_walk::Answer;
+use gc_workers::{DONE, IN_HAND};
 use std::alloc::Allocator;
 
 impl<'w, 'c, J: Jobs, R: Frame<J>, B: Allocator, A: Allocator, C: Allocator> Round<

@@ -2,7 +2,7 @@
 
 ghost use Rattle.std.specs.Prelude.{◌≡◌, ◌+◌, ◌<◌, ◌≤◌, IfSome, IfNone};
 ghost use Rattle.gc_label.specs.Label.{low_half, high_half};
-ghost use Rattle.gc_counts.specs.declared.limits.TheConstants.{FREE};
+ghost use Rattle.gc_workers.specs.declared.states.TheConstants.{FREE};
 ghost use Rattle.gc_rounds.specs.Words.{stamp};
 ghost use Rattle.gc_rounds.specs.Places.{IsSamePlace};
 ghost use Rattle.gc_gates.specs.declared.view.Hand.TheVariants.{Has};
@@ -12,13 +12,13 @@ ghost use Rattle.gc_gates.specs.Steps.{after_stored, after_done};
 ghost use Rattle.gc_job.specs.ActiveLabels.{active, set_of};
 ghost use Rattle.gc_steps.specs.Views.{IsMadeNow, IsIdle, Answers, IsReady, IsAlone, AnswersAlone, after_taken};
 
+use crate::answer::Answer;
 use crate::jobs::Jobs;
 use crate::round::{Prepared, Round};
-use gc_counts::{DONE, IN_HAND};
 use gc_gates::{Frame, Place, claim, store_done, store_high, store_low};
 use gc_label::Label;
 use gc_rounds::stamped;
-use gc_walk::Answer;
+use gc_workers::{DONE, IN_HAND};
 use std::alloc::Allocator;
 
 impl<'w, 'c, J: Jobs, R: Frame<J>, B: Allocator, A: Allocator, C: Allocator> Round<

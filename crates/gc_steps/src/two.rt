@@ -7,11 +7,11 @@ ghost use Rattle.gc_gates.specs.Places.{IsPlaceAt};
 ghost use Rattle.gc_job.specs.ActiveLabels.{active, set_of};
 ghost use Rattle.gc_steps.specs.Views.{IsMadeNow, IsIdle, Answers, AnswersTwo, IsReady, IsAlone, AnswersTwoAlone};
 
+use crate::answer::Answer;
 use crate::jobs::Jobs;
 use crate::round::{Prepared, Round};
 use gc_gates::{Frame, Place};
 use gc_label::Label;
-use gc_walk::Answer;
 use std::alloc::Allocator;
 
 impl<'w, 'c, J: Jobs, R: Frame<J>, B: Allocator, A: Allocator, C: Allocator> Round<

@@ -4,3 +4,6 @@ pub mod StepLemmas
 pub mod TableLemmas
 pub mod StoreLemmas
 pub mod CountLemmas
+pub mod GateSetLemmas
+pub mod QueueLemmas
+pub mod ReadersLemmas

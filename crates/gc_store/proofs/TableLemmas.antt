@@ -5,9 +5,9 @@ use Rattle.std.proofs.lemmas.List.FromFn.{fill_by_all}
 use mathlib.Core.Logic.Iff
 use mathlib.Core.Path.{fun_ext}
 use Rattle.gc_half.specs.Canonical.{no_rows}
-use Rattle.gc_queue.specs.declared.mark.Mark.{Mark}
-use Rattle.gc_queue.specs.declared.mark.Mark.TheVariants as mark
-use Rattle.gc_queue.specs.Opening.{is_below, opening_countdown}
+use Rattle.gc_store.specs.declared.mark.Mark.{Mark}
+use Rattle.gc_store.specs.declared.mark.Mark.TheVariants as mark
+use Rattle.gc_store.specs.Opening.{is_below, opening_countdown}
 use Rattle.gc_store.proofs.StepLemmas.{set-apart, and_number-apart, AreSame, known-same, lawful-same, claim-same, reopen-same, known-finish, finish_lawful}
 use Rattle.gc_store.specs.Beginning.{Queues, Tabulates}
 

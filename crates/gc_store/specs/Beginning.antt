@@ -4,9 +4,9 @@ use Rattle.std.specs.List.{range_with_len}
 use Rattle.gc_netlist.specs.Circuit.{Netlist, IsLawful, and_number, and_count}
 use Rattle.gc_half.specs.declared.garbling.RowPair.{RowPair}
 use Rattle.gc_half.specs.Canonical.{no_rows, input_zero}
-use Rattle.gc_queue.specs.declared.mark.Mark.{Mark}
-use Rattle.gc_queue.specs.declared.mark.Mark.TheVariants as mark
-use Rattle.gc_queue.specs.Opening.{opening_countdown}
+use Rattle.gc_store.specs.declared.mark.Mark.{Mark}
+use Rattle.gc_store.specs.declared.mark.Mark.TheVariants as mark
+use Rattle.gc_store.specs.Opening.{opening_countdown}
 
 pub record FirstTables : Type 0 where
   pub marks : List Mark

@@ -7,11 +7,11 @@ use Rattle.gc_netlist.specs.Circuit.{Netlist, EachRead, IsSetBy, is_and, and_num
 use Rattle.gc_label.specs.Seed.{offset_of}
 use Rattle.gc_half.specs.declared.garbling.RowPair.{RowPair}
 use Rattle.gc_half.specs.Canonical.{zero_label_of}
-use Rattle.gc_queue.specs.declared.mark.Mark.{Mark}
-use Rattle.gc_queue.specs.declared.mark.Mark.TheVariants as mark
-use Rattle.gc_queue.specs.Queue as queue
-use Rattle.gc_queue.specs.Queue.{Standing}
-use Rattle.gc_queue.specs.Readers.{picked_reads, unknown_reads, IsLinked}
+use Rattle.gc_store.specs.declared.mark.Mark.{Mark}
+use Rattle.gc_store.specs.declared.mark.Mark.TheVariants as mark
+use Rattle.gc_store.specs.Queue as queue
+use Rattle.gc_store.specs.Queue.{Standing}
+use Rattle.gc_store.specs.Readers.{picked_reads, unknown_reads, IsLinked}
 use Rattle.gc_store.specs.Content.{State, Free, Claimed, Finished, Content, is_finished, IsFinished, IsKnown, IsReady, IsLawfulContent}
 
 -- The tables: a mark and a countdown for each gate, the first read of each wire and the next read after each, a zero

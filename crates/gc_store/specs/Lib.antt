@@ -8,3 +8,7 @@ pub mod Kept
 pub mod Beginning
 pub mod Fields
 pub mod Shared
+pub mod GateSet
+pub mod Queue
+pub mod Readers
+pub mod Opening

@@ -7,7 +7,7 @@ use Rattle.gc_store.specs.declared.task.Task.{Task}
 use Rattle.gc_store.specs.declared.refusal.Refused.{Refused}
 use Rattle.gc_store.specs.declared.refusal.Refused.TheVariants.{NotClaimed, OtherInputs}
 use Rattle.gc_store.specs.declared.tally.TallyMissing.{TallyMissing}
-use Rattle.gc_store.specs.declared.tally.TheConstants.{MAX_TALLIES}
+use Rattle.gc_workers.specs.declared.TheConstants.{MAX_WORKERS}
 use Rattle.gc_store.specs.Task.{task_of, sealed_zero_label, sealed_rows}
 use Rattle.gc_store.specs.declared.batch.TheConstants.{BATCH_SIZE}
 use Rattle.gc_store.specs.Account.{Account}
@@ -67,9 +67,9 @@ Finishes old task (Err (OtherInputs back)) new =
 
 -- Dealing a tally: a new one is 0, and there is none where all were dealt. The content stays.
 abbrev pub Deals : Account → Option ℕ → Account → Type 0
-Deals old None new = (old.tallies ≡ MAX_TALLIES) × (new ≡ old)
+Deals old None new = (old.tallies ≡ MAX_WORKERS) × (new ≡ old)
 Deals old (Some tally) new =
-    (old.tallies < MAX_TALLIES) × (tally ≡ 0) × (new ≡ record old { tallies = old.tallies + 1 })
+    (old.tallies < MAX_WORKERS) × (tally ≡ 0) × (new ≡ record old { tallies = old.tallies + 1 })
 
 -- Settling: with all the tallies that were dealt the answer is their sum, which is the number of finished gates. Where
 -- one is missing it is refused.

@@ -3,11 +3,11 @@
 ghost use Rattle.std.specs.Prelude.{IfOk};
 ghost use Rattle.gc_store.specs.Beginning.{Begins, Queues, Tabulates};
 
+use crate::queue::Queue;
+use crate::tables::opening_countdowns;
 use gc_circuit::{Circuit, Memory};
-use gc_half::{RowPair, and_numbers, input_zero_labels};
+use gc_half::{RowPair, Table, and_numbers, input_zero_labels};
 use gc_label::{Label, Seed};
-use gc_queue::{Queue, opening_countdowns};
-use gc_table::Table;
 use std::alloc::Allocator;
 use std::marker::Model;
 use std::thread;

@@ -7,10 +7,15 @@
 
 mod batch;
 mod beginning;
+mod gate_set;
+mod mark;
 mod progress;
+mod queue;
+mod readers;
 mod refusal;
 mod shared;
 mod store;
+mod tables;
 mod tally;
 mod task;
 
@@ -18,5 +23,5 @@ pub use batch::{BATCH_SIZE, Batch};
 pub use refusal::Refused;
 pub use shared::SharedStore;
 pub use store::Store;
-pub use tally::{MAX_TALLIES, Tally, TallyMissing};
+pub use tally::{Tally, TallyMissing};
 pub use task::{Sealed, Task};

@@ -4,19 +4,19 @@ ghost use Rattle.std.specs.Prelude.{◌≡◌, ◌↔◌, ◌<◌, ◌^◌, ℕ,
 ghost use Rattle.gc_half.specs.Garbling.{IsGarbled};
 ghost use Rattle.gc_store.specs.Content.{is_claimed, is_finished, IsClaimed, AllFinished, IsLawfulContent, opened};
 ghost use Rattle.gc_store.specs.Step.{IsOwnTask, with_sealed, Claims, ClaimsSome, Finishes, Reopens};
-ghost use Rattle.gc_queue.specs.Readers.{IsLinked};
+ghost use Rattle.gc_store.specs.Readers.{IsLinked};
 ghost use Rattle.gc_store.specs.Beginning.{Begins};
 ghost use Rattle.gc_store.specs.Kept.{ReadsKnown};
 
 use crate::batch::Batch;
 use crate::beginning::{Beginning, LabelTables};
+use crate::queue::Queue;
+use crate::readers::Readers;
 use crate::refusal::Refused;
 use crate::task::{Sealed, Task};
 use gc_circuit::{Circuit, Memory};
-use gc_half::{Garbling, RowPair, labels_read};
+use gc_half::{Garbling, RowPair, Table, labels_read};
 use gc_label::{Label, Offset, Seed, offset};
-use gc_queue::{Queue, Readers};
-use gc_table::Table;
 use std::alloc::{Allocator, Global};
 use std::marker::Model;
 use std::thread;

@@ -4,17 +4,18 @@ ghost use Rattle.std.specs.Prelude.{◌≡◌, ◌↔◌, ◌+◌, ℕ, IsTrue, 
 ghost use Rattle.gc_half.specs.Garbling.{IsGarbled};
 ghost use Rattle.gc_store.specs.Content.{is_finished, AllFinished, IsClaimed};
 ghost use Rattle.gc_store.specs.Account.{IsLawfulAccount, IsForStore, IsOpened};
-ghost use Rattle.gc_store.specs.declared.tally.TheConstants.{MAX_TALLIES};
+ghost use Rattle.gc_workers.specs.declared.TheConstants.{MAX_WORKERS};
 ghost use Rattle.gc_store.specs.Step.{Claims, ClaimsSome, Finishes, Deals, Settles, Reopens};
 
 use crate::batch::Batch;
 use crate::progress::Progress;
 use crate::refusal::Refused;
-use crate::tally::{MAX_TALLIES, Tally, TallyMissing, add_up};
+use crate::tally::{Tally, TallyMissing, add_up};
 use crate::task::{Sealed, Task};
 use gc_circuit::{Circuit, Memory};
 use gc_half::Garbling;
 use gc_label::Seed;
+use gc_workers::MAX_WORKERS;
 use std::alloc::{Allocator, Global};
 use std::marker::Model;
 use std::sync::ledger::{Blank, Book, Ledger, Share};
@@ -40,15 +41,15 @@ impl<L: Ledger, A: Allocator> Model for Store<L, A> {
     ghost use Rattle.std.specs.Prelude.{◌≡◌, ◌+◌, count_by};
     ghost use Rattle.gc_store.specs.Account.{Account};
     ghost use Rattle.gc_store.specs.Content.{is_finished};
-    ghost use Rattle.gc_store.specs.declared.tally.TheConstants.{MAX_TALLIES};
+    ghost use Rattle.gc_workers.specs.declared.TheConstants.{MAX_WORKERS};
 
     ghost Value = { Account };
 
     ghost view = { λ s. record { content = s.progress; tallies = s.tallies } };
 
     ghost invariant = { λ s. (s.book.total ≡ count_by is_finished s.progress.states)
-        × (s.rest.parts + s.tallies ≡ MAX_TALLIES) × (s.rest.amount ≡ 0)
-        × (L.parts ≡ MAX_TALLIES) };
+        × (s.rest.parts + s.tallies ≡ MAX_WORKERS) × (s.rest.amount ≡ 0)
+        × (L.parts ≡ MAX_WORKERS) };
 }
 
 impl<L: Ledger, A: Allocator> Store<L, A> {
@@ -70,7 +71,7 @@ impl<L: Ledger, A: Allocator> Store<L, A> {
 
 impl<L: Ledger, A: Allocator + Copy> Store<L, A> {
     /// A store of this circuit and seed with every gate free, which begins the ledger. It takes all the memory that
-    /// the store needs. That the ledger is that of `L`, with [`MAX_TALLIES`] parts, is the caller's condition.
+    /// the store needs. That the ledger is that of `L`, with [`MAX_WORKERS`] parts, is the caller's condition.
     pub fn open(
         alloc: A,
         ledger: Blank,
@@ -128,11 +129,11 @@ impl<L: Ledger, A: Allocator> Store<L, A> {
         self.progress.is_for(circuit, seed)
     }
 
-    /// Deals a new tally, or None where [`MAX_TALLIES`] were dealt.
+    /// Deals a new tally, or None where [`MAX_WORKERS`] were dealt.
     pub fn tally(&mut self) -> Option<Tally<L>>
         ensures { Deals self.old result self.new }
     {
-        if self.tallies == MAX_TALLIES {
+        if self.tallies == MAX_WORKERS {
             return None;
         }
         let share = self.rest.split_off(1, 0);

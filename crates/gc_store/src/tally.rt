@@ -7,9 +7,6 @@ use std::fmt;
 use std::marker::Model;
 use std::sync::ledger::{Book, Ledger, Share};
 
-/// The most tallies that a store deals.
-pub const MAX_TALLIES: u32 = 64;
-
 /// How many sealed tasks were accepted with this tally. Only a store deals tallies, and the ledger `L` says
 /// whose it is.
 #[derive(Drop)]

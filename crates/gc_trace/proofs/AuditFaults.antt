@@ -2,7 +2,7 @@
 use Rattle.std.proofs.Common.{ℕ, List, IfSome, inl, inr}
 use Rattle.gc_netlist.specs.Circuit.{Netlist}
 use Rattle.gc_label.specs.Seed.{IsSeedText}
-use Rattle.gc_files.specs.Files.{FileBytes}
+use Rattle.gc_disk.specs.Files.{FileBytes}
 use Rattle.gc_command.specs.declared.fault.Fault.{Fault}
 use Rattle.gc_command.specs.declared.fault.Fault.TheVariants as faults
 use Rattle.gc_command.specs.CircuitFile.{IsCircuit, HasReadingFault}

@@ -7,8 +7,8 @@ use Rattle.gc_netlist.specs.Spelling.{bit_number}
 use Rattle.gc_label.specs.Seed.{offset_of}
 use Rattle.gc_half.specs.Garbling.{GarblingParts, IsGarbled}
 use Rattle.gc_file.specs.Honest.{honest_parts}
-use Rattle.gc_format.specs.GarbledFile.{GarbledParts}
-use Rattle.gc_format.specs.LabelFile.{LabelFileParts}
+use Rattle.gc_file.specs.GarbledFile.{GarbledParts}
+use Rattle.gc_file.specs.LabelFile.{LabelFileParts}
 use Rattle.gc_audit.specs.declared.garbled.GarbledAudit.{GarbledAudit}
 use Rattle.gc_audit.specs.Garbled.{IsGarbledAudit, honest_audit}
 use Rattle.gc_audit.proofs.GarbledLemmas.{finds_none-honest}

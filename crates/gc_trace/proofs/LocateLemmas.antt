@@ -3,7 +3,7 @@ use Rattle.std.proofs.Common.{◌≡◌, ℕ, List, Option, Some, None, IfSome, 
 use Rattle.gc_netlist.specs.Circuit.{Netlist, IsLawful}
 use Rattle.gc_netlist.specs.Spelling.{Spells}
 use Rattle.gc_netlist.proofs.ReadingLaws.{reading_law}
-use Rattle.gc_files.specs.Files.{GivesFile}
+use Rattle.gc_disk.specs.Files.{GivesFile}
 use Rattle.gc_trace.specs.Locate.{AnswersLocate}
 
 pub accepted : (known : Option (List ℕ)) (text given lines : List ℕ) → GivesFile known text

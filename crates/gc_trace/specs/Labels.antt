@@ -7,7 +7,7 @@ use Rattle.gc_netlist.specs.Reading.{is_set}
 use Rattle.gc_netlist.specs.Spelling.{Number, Name}
 use Rattle.gc_netlist.specs.Canon.{line}
 use Rattle.gc_circuit.specs.Meaning.{AreWireBits}
-use Rattle.gc_value.specs.Value.{binary_digit}
+use Rattle.gc_circuit.specs.Value.{binary_digit}
 use Rattle.gc_label.specs.Label.{◌⊕◌, times, bytes_of_label}
 use Rattle.gc_label.specs.Seed.{offset_of}
 use Rattle.gc_half.specs.Garbling.{GarblingParts, IsGarbled}

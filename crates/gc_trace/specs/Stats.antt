@@ -1,8 +1,8 @@
 -- The command `stats`: what it answers, and which fault it has.
 use Rattle.std.specs.Prelude.{◌≡◌, ℕ, List, ◌++◌, codes}
 use Rattle.gc_netlist.specs.Circuit.{Netlist}
-use Rattle.gc_stats.specs.declared.figures.Stats.{Stats}
-use Rattle.gc_stats.specs.Stats.{IsStats}
+use Rattle.gc_audit.specs.declared.figures.Stats.{Stats}
+use Rattle.gc_audit.specs.Stats.{IsStats}
 use Rattle.gc_command.specs.declared.fault.Fault.{Fault}
 use Rattle.gc_command.specs.CircuitFile.{IsCircuit, HasCircuitFault}
 use Rattle.gc_command.specs.Lines.{count_line}

@@ -6,12 +6,12 @@ ghost use Rattle.gc_netlist.specs.Canon.{canonical_text};
 ghost use Rattle.gc_circuit.specs.Digest.{IsBegun};
 ghost use Rattle.gc_half.specs.Canonical.{garbling_of};
 ghost use Rattle.gc_half.specs.Comparing.{HasLabels};
-ghost use Rattle.gc_format.specs.GarbledFile.{GarbledParts};
+ghost use Rattle.gc_file.specs.GarbledFile.{GarbledParts};
 ghost use Rattle.gc_work.specs.WorkFault.{JudgesWorkers};
 ghost use Rattle.gc_audit.specs.Garbled.{AreCountsRight, IsGarbledAudit, IsPartsAudit};
-ghost use Rattle.gc_files.specs.Files.{HasFailed};
+ghost use Rattle.gc_disk.specs.Files.{HasFailed};
 ghost use Rattle.gc_trace.specs.Audit.{AnswersAudit, AreAuditLines, AreLabelsFound, HasAuditFault};
-ghost use Rattle.gc_format.specs.declared.parts.Version.TheVariants.{Two};
+ghost use Rattle.gc_file.specs.declared.parts.Version.TheVariants.{Two};
 ghost use Rattle.gc_trace.specs.Audit.{bits_line, digest_line, end_line, entries_line, garbled_lines};
 ghost use Rattle.gc_trace.specs.Audit.{is_dealt, parts_lines, rows_line, rows_name, value_word, verdict_line};
 
@@ -25,12 +25,12 @@ use gc_command::{
     Fault, HashedPart, Progress, Work, push_digits, push_number, read_and_begin_digest,
     read_garbled_file, read_label_files,
 };
+use gc_disk::Files;
 use gc_file::{Garbled, LabelFile, Version};
-use gc_files::Files;
-use gc_gatehouse::Open;
 use gc_half::Garbling;
 use gc_label::Seed;
 use gc_work::{WorkFault, garble, garble_and_compare};
+use gc_workers::Open;
 use std::alloc::{AllocError, Allocator};
 use std::sync::Wait;
 use std::thread;

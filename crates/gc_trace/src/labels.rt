@@ -10,7 +10,7 @@ use crate::set_wires::SetWires;
 use arrayvec::ArrayVec;
 use gc_circuit::{Circuit, ReadFault, wire_bits};
 use gc_command::{Fault, read_circuit, read_values};
-use gc_files::Files;
+use gc_disk::Files;
 use gc_half::garble_one_thread;
 use gc_label::{Label, Offset, Seed, offset};
 use gc_work::WorkFault;

@@ -7,7 +7,7 @@ ghost use Rattle.gc_trace.specs.Locate.{AnswersLocate, HasLocateFault, fault_lin
 use crate::lines::push_word;
 use gc_circuit::{Circuit, Located, ReadFault};
 use gc_command::{Fault, push_count, push_number};
-use gc_files::Files;
+use gc_disk::Files;
 use std::alloc::{AllocError, Allocator};
 
 /// Reads the text of a file, and answers where its first fault is as a circuit, or the line `no fault`.

@@ -4,10 +4,10 @@ ghost use Rattle.std.specs.Prelude.{◌≡◌, ℕ, List, IfOk, IfErr, IfSome};
 ghost use Rattle.gc_command.specs.Fault.{HasReadCause};
 ghost use Rattle.gc_trace.specs.Stats.{AnswersStats, HasStatsFault, stats_lines};
 
+use gc_audit::{Stats, stats as stats_of};
 use gc_circuit::ReadFault;
 use gc_command::{Fault, push_count, read_circuit};
-use gc_files::Files;
-use gc_stats::{Stats, stats as stats_of};
+use gc_disk::Files;
 use std::alloc::{AllocError, Allocator};
 
 /// Reads the circuit of a file, and answers the lines of its statistics.

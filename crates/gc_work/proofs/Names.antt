@@ -5,7 +5,7 @@ pub use Rattle.std.proofs.lemmas.List.Sums.{sum_by-cons, sum_by-append, sum_by_p
 pub use Rattle.std.specs.Vec.Iter.{into_iter_items}
 pub use Rattle.atomic_blocks.specs.Lent.{RowsId}
 pub use Rattle.crossbeam_deque.specs.Handles.{worker_view, worker_deque, stealer_deque, worker_capacity, worker_index}
-pub use Rattle.gc_gatehouse.proofs.Whole.{whole_back}
+pub use Rattle.gc_workers.proofs.Whole.{whole_back}
 pub use Rattle.gc_half.proofs.RowLemmas.{slice_get-append, slice_get-push}
 pub use Rattle.gc_store.specs.declared.task.Task.{Task}
 pub use Rattle.gc_work.specs.Kept.{IsGathered, IsOwning}

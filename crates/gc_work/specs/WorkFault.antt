@@ -2,8 +2,8 @@
 use Rattle.std.specs.Prelude.{◌≡◌, ℕ, ◌<◌, ◌⊎◌, List, Result, Ok, Err, codes}
 use Rattle.gc_work.specs.declared.fault.WorkFault.{WorkFault}
 use Rattle.gc_work.specs.declared.fault.WorkFault.TheVariants.{BadWorkers, Memory}
-use Rattle.gc_gatehouse.specs.declared.TheConstants.{MAX_WORKERS}
-use Rattle.gc_gatehouse.specs.Workers.{AreFew}
+use Rattle.gc_workers.specs.declared.TheConstants.{MAX_WORKERS}
+use Rattle.gc_workers.specs.Workers.{AreFew}
 
 abbrev pub code_of : WorkFault → ℕ
 code_of BadWorkers = 22

@@ -7,10 +7,10 @@ ghost use Rattle.gc_work.specs.WorkFault.{JudgesWorkers};
 
 use crate::fault::{WorkFault, check_workers};
 use gc_circuit::{Circuit, Memory};
-use gc_gatehouse::{Gatehouse, report_all};
 use gc_half::{Garbling, Mismatch, RowPair};
 use gc_label::Seed;
 use gc_layers::{Way, garble_and_compare_by_layers, way_of};
+use gc_workers::{Gatehouse, report_all};
 use std::alloc::Allocator;
 use std::sync::Wait;
 use std::thread::Threads;
@@ -23,7 +23,7 @@ use std::thread::Threads;
 /// pairs that it is given back. Each gate is reported to the observer before it is garbled.
 ///
 /// That a row pair is given for each AND gate is the caller's condition. It refuses 0 workers and more than
-/// [`MAX_WORKERS`](gc_gatehouse::MAX_WORKERS). Memory is the other fault.
+/// [`MAX_WORKERS`](gc_workers::MAX_WORKERS). Memory is the other fault.
 pub fn garble_and_compare<
     A: Allocator + Copy + Send + Sync,
     C: Allocator + Sync,

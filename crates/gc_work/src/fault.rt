@@ -1,11 +1,11 @@
 //! Why there is no garbling.
 
 ghost use Rattle.std.specs.Prelude.{◌≡◌, IfErr, OnOk};
-ghost use Rattle.gc_gatehouse.specs.Workers.{AreFew};
+ghost use Rattle.gc_workers.specs.Workers.{AreFew};
 ghost use Rattle.gc_work.specs.WorkFault.{HasWorkFault, code_of, name_of};
 
 use gc_circuit::Memory;
-use gc_gatehouse::MAX_WORKERS;
+use gc_workers::MAX_WORKERS;
 use std::error::Error;
 use std::fmt;
 

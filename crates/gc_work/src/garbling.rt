@@ -13,11 +13,11 @@ use crate::sweep::sweep;
 use crate::worker::{Worker, work};
 use crate::workers::{Workers, open_workers};
 use gc_circuit::{Circuit, Memory};
-use gc_gatehouse::{Gatehouse, MAX_WORKERS, report_all};
 use gc_half::{Garbling, garble_one_thread};
 use gc_label::Seed;
 use gc_layers::{Way, garble_by_layers, way_of};
-use gc_store::{MAX_TALLIES, SharedStore, Store, Tally};
+use gc_store::{SharedStore, Store, Tally};
+use gc_workers::{Gatehouse, MAX_WORKERS, report_all};
 use std::alloc::Allocator;
 use std::marker::Brand;
 use std::sync::Wait;
@@ -29,8 +29,6 @@ use std::thread::Threads;
 const POOL_CAPACITY: u32 = 1024;
 
 // There is a tally for each worker.
-const _: () = prove!(MAX_WORKERS <= MAX_TALLIES);
-
 /// The garbling of a circuit under a seed, by this number of workers. The calling thread is worker 0.
 ///
 /// [`way_of`] says how it is made. [`Way::Alone`]: worker 0 garbles, and no thread is started. [`Way::Layers`]: worker
@@ -60,7 +58,7 @@ pub fn garble<
         Way::Alone => Ok(garble_alone(alloc, circuit, seed, observer)?),
         Way::Layers => Ok(garble_by_layers(rt, alloc, circuit, seed, workers, observer)?),
         Way::Together => {
-            let ledger = Blank::new(u64::from(MAX_TALLIES));
+            let ledger = Blank::new(u64::from(MAX_WORKERS));
             let garbling = garble_by::<Brand, A, C, H, R>(
                 rt, alloc, ledger, circuit, seed, workers, observer,
             )?;

@@ -24,4 +24,5 @@ pub use account::{PoolAccount, PoolRule};
 pub use comparing::garble_and_compare;
 pub use fault::WorkFault;
 pub use garbling::garble;
+pub use gc_workers::{Gatehouse, Open};
 pub use pool::{Gathered, NoRoom, Owner, TaskPool, Thief};

@@ -1,7 +1,7 @@
 //! What the workers left, finished by one of them.
 
-use gc_gatehouse::Gatehouse;
 use gc_store::{Sealed, Store, Tally};
+use gc_workers::Gatehouse;
 use std::alloc::Allocator;
 use std::sync::ledger::Ledger;
 

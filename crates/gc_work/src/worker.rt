@@ -5,8 +5,8 @@ ghost use Rattle.gc_work.specs.Ready.{IsReady};
 
 use crate::pool::{NoRoom, Owner, TaskPool};
 use crate::steal::{PlacedThief, steal_any};
-use gc_gatehouse::Gatehouse;
 use gc_store::{BATCH_SIZE, Batch, Sealed, SharedStore, Tally, Task};
+use gc_workers::Gatehouse;
 use std::alloc::Allocator;
 use std::sync::Wait;
 use std::sync::ledger::Ledger;

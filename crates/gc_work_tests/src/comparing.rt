@@ -2,12 +2,12 @@
 
 use crate::fixtures::{has_labels, read, seed_of};
 use gc_circuit::Circuit;
-use gc_gatehouse::Open;
 use gc_half::{Garbling, Mismatch, RowPair, garble_one_thread};
 use gc_refusing::Refusing;
 use gc_work::{WorkFault, garble_and_compare};
 use gc_worked::circuits::{NO_GATES, and_chains, many_ands};
 use gc_worked::growths::refusals_met;
+use gc_workers::Open;
 use std::alloc::{Allocator, Global};
 use std::sync::Wait;
 use std::test::Fail;

@@ -2,13 +2,14 @@
 
 ghost use Rattle.std.specs.Prelude.{◌≡◌};
 ghost use Rattle.gc_store.specs.Account.{IsForStore};
-ghost use Rattle.gc_store.specs.declared.tally.TheConstants.{MAX_TALLIES};
+ghost use Rattle.gc_workers.specs.declared.TheConstants.{MAX_WORKERS};
 
 use gc_circuit::Circuit;
 use gc_half::Garbling;
 use gc_label::Seed;
-use gc_store::{MAX_TALLIES, Sealed, Store, Tally, Task};
+use gc_store::{Sealed, Store, Tally, Task};
 use gc_worked::circuits::FULL_ADDER;
+use gc_workers::MAX_WORKERS;
 use std::alloc::{Allocator, Global};
 use std::sync::ledger::{Blank, Ledger};
 
@@ -24,9 +25,9 @@ pub(crate) fn read<A: Allocator + Copy>(alloc: A, text: &str) -> Option<Circuit<
 
 /// What begins the ledger of a store.
 pub(crate) fn ledger() -> Blank
-    ensures { result.parts ≡ MAX_TALLIES }
+    ensures { result.parts ≡ MAX_WORKERS }
 {
-    Blank::new(u64::from(MAX_TALLIES))
+    Blank::new(u64::from(MAX_WORKERS))
 }
 
 /// A store of the full adder.

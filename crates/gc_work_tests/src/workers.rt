@@ -2,13 +2,13 @@
 
 use crate::fixtures::{has_labels, read, seed_of};
 use gc_circuit::Circuit;
-use gc_gatehouse::Open;
 use gc_half::{Garbling, garble_one_thread};
 use gc_work::{WorkFault, garble};
 use gc_worked::circuits::{FULL_ADDER, NO_GATES, and_chains, many_ands, mixed_layers};
 use gc_worked::counting::Counting;
 use gc_worked::growths::refusals_met;
 use gc_worked::meeting::Meeting;
+use gc_workers::Open;
 use std::alloc::{Allocator, Global};
 use std::sync::Wait;
 use std::test::Fail;

@@ -1,6 +1,6 @@
 //! A gatehouse that counts.
 
-use gc_gatehouse::Gatehouse;
+use gc_workers::Gatehouse;
 use std::alloc::{AllocError, Global};
 use std::sync::atomic::{AtomicU64, Ordering};
 

@@ -7,4 +7,7 @@ pub mod counting;
 pub mod files;
 pub mod growths;
 pub mod meeting;
+mod mem_files;
 pub mod worked_files;
+
+pub use mem_files::{Limits, MemFiles};

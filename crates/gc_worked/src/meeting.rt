@@ -1,6 +1,6 @@
 //! A gatehouse that shows that several threads are at work.
 
-use gc_gatehouse::Gatehouse;
+use gc_workers::Gatehouse;
 use std::sync::atomic::{AtomicU64, Ordering};
 
 /// Holds the first worker that comes until another one comes, and counts its calls.

@@ -1,8 +1,8 @@
 -- Reports of audits.
 use Rattle.std.specs.Prelude.{◌≡◌, ◌≤◌, ◌↔◌, ℕ, List, Option, Some, None, option_and_then, unwrap_or, is_some}
 use Rattle.gc_netlist.specs.Spelling.{bit_number}
-use Rattle.gc_format.specs.declared.parts.Version.{Version}
-use Rattle.gc_format.specs.declared.parts.Version.TheVariants.{One, Two}
+use Rattle.gc_file.specs.declared.parts.Version.{Version}
+use Rattle.gc_file.specs.declared.parts.Version.TheVariants.{One, Two}
 use Rattle.gc_audit.specs.declared.garbled.GarbledAudit.{GarbledAudit}
 use Rattle.gc_audit.specs.declared.rows.RowDifference.{RowDifference}
 use Rattle.gc_audit.specs.declared.rows.DifferingRows.{DifferingRows}

@@ -6,7 +6,7 @@ ghost use denote.RawPtr.{Testable};
 ghost use Rattle.gc_netlist.specs.Spelling.{bit_number};
 ghost use Rattle.gc_label.specs.Label.{bytes_of_label};
 ghost use Rattle.gc_half.specs.Garbling.{decode_bits_of};
-ghost use Rattle.gc_format.specs.GarbledFile.{row_bytes};
+ghost use Rattle.gc_file.specs.GarbledFile.{row_bytes};
 ghost use Rattle.gc_audit.specs.Labels.{first_wire_of};
 ghost use Rattle.gc_kept.specs.Files.{IsFileAt, HasRoomFault};
 ghost use Rattle.gc_kept.specs.Labels.{AreLabelsOf, HasValueFault, first_output_of};

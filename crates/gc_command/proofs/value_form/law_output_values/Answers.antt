@@ -1,6 +1,6 @@
 use Rattle.std.proofs.Common.{◌≡◌, Bool, List, length, Ok}
-use Rattle.gc_value.specs.Value.{value_of_text}
-use Rattle.gc_value.proofs.ValueLemmas.{shown_is_read}
+use Rattle.gc_circuit.specs.Value.{value_of_text}
+use Rattle.gc_circuit.proofs.ValueLemmas.{shown_is_read}
 use Rattle.gc_command.specs.Lines.{value_text}
 use Rattle.gc_command.specs.declared.value_form.ValueForm.{ValueForm}
 use Rattle.gc_command.specs.declared.value_form.ValueForm.TheVariants.{Binary, Hexadecimal}

@@ -2,7 +2,7 @@ use Rattle.std.proofs.Common.{◌≡◌, ◌++◌, ◌∷◌, [], sym, ap, ap₂
 use Rattle.std.proofs.lemmas.Bool.Decides.{nat_tests}
 use Rattle.std.proofs.lemmas.List.{append-nil}
 use Rattle.hex.specs.Hex.{encode_lower}
-use Rattle.gc_format.specs.DecodeBits.{bits_number, packed}
+use Rattle.gc_file.specs.DecodeBits.{bits_number, packed}
 use Rattle.gc_command.proofs.HexTextLemmas.{encode_lower-more, encode_lower-none, first_eight, packed-more, packed-none}
 use Rattle.gc_command.proofs.value_form.push_hexadecimal.Goals as goal
 

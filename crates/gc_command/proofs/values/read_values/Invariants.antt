@@ -1,5 +1,5 @@
 use Rattle.gc_command.proofs.Names.{◌++◌, List, Bool, drop, map, string_bytes, SpellValues, FirstBadValue}
-use Rattle.gc_value.specs.declared.value.ValueFault.{ValueFault}
+use Rattle.gc_circuit.specs.declared.value.ValueFault.{ValueFault}
 use Rattle.gc_command.proofs.values.read_values.Given as goal
 
 -- What the texts that are left spell is part of what all spell.

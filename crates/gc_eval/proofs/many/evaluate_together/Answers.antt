@@ -1,5 +1,5 @@
 use Rattle.std.proofs.Common.{◌≡◌, ◌∙◌, length, ap, rules}
-use Rattle.gc_gatehouse.proofs.Whole.{whole_back}
+use Rattle.gc_workers.proofs.Whole.{whole_back}
 use Rattle.gc_eval.proofs.many.evaluate_together.Goals as goal
 
 pub seats_of-requires : goal.seats_of-requires

@@ -1,4 +1,4 @@
-use Rattle.gc_read.proofs.HeaderLemmas.{lasts}
+use Rattle.gc_file.proofs.HeaderLemmas.{lasts}
 use Rattle.gc_file.proofs.FaultLemmas.{one_fault}
 use Rattle.gc_file.proofs.OneFile.{file_not_fault, one_file}
 use Rattle.gc_file.proofs.EitherLemmas.{judged}

@@ -1,7 +1,7 @@
 use Rattle.std.proofs.Common.{◌≡◌, ◌*◌, length, take}
 use Rattle.std.specs.List.{flat_map, slice_index}
 use Rattle.gc_label.specs.Label.{bytes_of_label}
-use Rattle.gc_format.specs.LabelFile.{encoded_with}
+use Rattle.gc_file.specs.LabelFile.{encoded_with}
 use Rattle.gc_kept.proofs.label_bytes.put_encoded.Given as goal
 
 abbrev pub invariant-loop-i : goal.invariant-loop-i

@@ -1,6 +1,6 @@
 use Rattle.std.proofs.Common.{◌≡◌, ◌*◌, length, take}
 use Rattle.std.specs.List.{flat_map}
-use Rattle.gc_format.specs.GarbledFile.{row_bytes}
+use Rattle.gc_file.specs.GarbledFile.{row_bytes}
 use Rattle.gc_kept.proofs.label_bytes.put_rows.Given as goal
 
 abbrev pub invariant-loop-i : goal.invariant-loop-i

@@ -1,6 +1,6 @@
 use Rattle.std.proofs.Common.{◌≡◌, ◌++◌, map, flat_map, take}
 use Rattle.std.specs.List.{All}
-use Rattle.gc_format.specs.LabelFile.{label_file}
+use Rattle.gc_file.specs.LabelFile.{label_file}
 use Rattle.gc_kept.specs.LabelFiles.{file_length, IsOwnFile}
 use Rattle.gc_kept.proofs.label_files.read_label_files.Given as goal
 

@@ -1,5 +1,5 @@
 use Rattle.std.proofs.Common.{◌≡◌, length, ap, ◌∙◌, rules}
-use Rattle.gc_gatehouse.proofs.Whole.{whole_back}
+use Rattle.gc_workers.proofs.Whole.{whole_back}
 use Rattle.gc_layers.proofs.GarblerLemmas.{zeros-start, labels-end}
 use Rattle.gc_layers.proofs.garble.make_by_layers.Goals as goal
 

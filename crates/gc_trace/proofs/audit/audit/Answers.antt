@@ -1,7 +1,7 @@
 use Rattle.std.proofs.Common.{map, string_bytes, inl, inr, refl, sym, ◌∙◌}
 use mathlib.Core.Path.{fun_ext}
 use Rattle.std.proofs.lemmas.Result.{err_from_is_err_and}
-use Rattle.gc_files.specs.Files.{HasFailed}
+use Rattle.gc_disk.specs.Files.{HasFailed}
 use Rattle.gc_command.proofs.EvalLemmas.{eval-files}
 use Rattle.gc_trace.proofs.AuditFaults.{circuit-fault, files-fault}
 use Rattle.gc_trace.proofs.audit.audit.Goals as goal

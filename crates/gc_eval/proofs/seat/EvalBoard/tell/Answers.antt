@@ -1,5 +1,5 @@
 use Rattle.gc_eval.proofs.Names.{is_pair}
-use Rattle.gc_counts.proofs.Sums.{total-append}
+use Rattle.gc_workers.proofs.Sums.{total-append}
 use Rattle.gc_eval.proofs.seat.EvalBoard.tell.Goals as goal
 
 pub returns-clause-known : goal.returns-clause-known

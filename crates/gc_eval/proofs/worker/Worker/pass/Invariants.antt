@@ -1,4 +1,4 @@
-use Rattle.gc_walk.specs.Walks.{batches_left}
+use Rattle.gc_steps.specs.Walks.{batches_left}
 use Rattle.gc_eval.specs.Workers.{IsWorkerOf}
 use Rattle.gc_eval.proofs.worker.Worker.pass.Given as goal
 

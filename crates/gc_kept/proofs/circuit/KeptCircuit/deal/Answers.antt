@@ -3,10 +3,10 @@ use Rattle.std.proofs.lemmas.Bool.Decides.{nat_tests}
 use Rattle.std.proofs.lemmas.Result.{err_from_is_err_and}
 use Rattle.gc_netlist.specs.Spelling.{bit_number}
 use Rattle.gc_audit.proofs.LabelsLemmas.{found_at}
-use Rattle.gc_format.specs.LabelFile.{label_file, label_parts_of}
+use Rattle.gc_file.specs.LabelFile.{label_file, label_parts_of}
 use Rattle.gc_kept.specs.Files.{no_value, of_bits, of_file}
 use Rattle.gc_kept.proofs.OutcomeLemmas.{OnOk-both, IfErr-map}
-use Rattle.gc_write.proofs.DealLemmas.{length-label_file}
+use Rattle.gc_file.proofs.DealLemmas.{length-label_file}
 use Rattle.gc_kept.proofs.RoomLemmas.{lacks_room}
 use Rattle.gc_kept.proofs.circuit.KeptCircuit.deal.Goals as goal
 

@@ -2,7 +2,7 @@ use Rattle.std.proofs.Common.{◌≡◌, ◌∙◌, ◌+◌, ◌*◌, ◌<◌, l
 use Rattle.std.proofs.lemmas.List.{length-take-le}
 use Rattle.gc_audit.proofs.LabelsLemmas.{found_at}
 use Rattle.gc_kept.proofs.PieceLemmas.{length-labels, at_front}
-use Rattle.gc_write.proofs.DealLemmas.{first_wire-room}
+use Rattle.gc_file.proofs.DealLemmas.{first_wire-room}
 use Rattle.gc_kept.proofs.LabelFileLemmas.{length-file}
 use Rattle.gc_kept.proofs.circuit.KeptCircuit.label_file.Goals as goal
 

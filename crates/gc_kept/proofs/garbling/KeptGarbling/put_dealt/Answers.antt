@@ -1,7 +1,7 @@
 use Rattle.std.proofs.Common.{◌≡◌, ◌∙◌, ◌++◌, length, take, refl, sym, ap, arith}
 use Rattle.std.specs.List.{slice_index}
-use Rattle.gc_write.proofs.DealLemmas.{first_wire-room, length-encoded_with}
-use Rattle.gc_format.specs.LabelFile.{encoded_with}
+use Rattle.gc_file.proofs.DealLemmas.{first_wire-room, length-encoded_with}
+use Rattle.gc_file.specs.LabelFile.{encoded_with}
 use Rattle.gc_audit.specs.Labels.{first_wire_of}
 use Rattle.gc_kept.proofs.PieceLemmas.{put_end, label_file-is}
 use Rattle.gc_kept.proofs.LabelFileLemmas.{input-fits}

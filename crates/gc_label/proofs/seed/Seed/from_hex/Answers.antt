@@ -5,8 +5,8 @@ use Rattle.std.proofs.lemmas.List.Sums.{AllPass-from_list_all, list_all-from_All
 use Rattle.hex.specs.Hex.{digit_or_error, is_hex_digit, hex_digit_value, pair_value, ◌>>=◌}
 use Rattle.hex.proofs.HexLemmas.{decode_of-even}
 use Rattle.hex.proofs.Pairs.{decode_start, decode_step, decode_done}
-use Rattle.gc_value.specs.Value.{digit_value}
-use Rattle.gc_value.proofs.ValueLemmas.{digits_more}
+use Rattle.gc_circuit.specs.Value.{digit_value}
+use Rattle.gc_circuit.proofs.ValueLemmas.{digits_more}
 use Rattle.gc_label.proofs.seed.Seed.from_hex.Goals as goal
 
 -- two digits, from their values

@@ -1,0 +1,20 @@
+use Rattle.std.proofs.Common.{◌≡◌, ◌/◌, ◌%◌, ap, ◌∙◌, arith}
+use Rattle.gc_netlist.specs.Circuit.{output_wires}
+use Rattle.gc_file.specs.GarbledFile.{entry_count}
+use Rattle.gc_audit.proofs.SizeLemmas.{length-honest}
+use Rattle.gc_audit.proofs.sizes.garbled_size.Goals as goal
+
+pub returns : goal.returns
+returns g c = λ offset garbling fits.
+    let circuit = c.args.circuit.now in
+    let entries : c.entry_count.result ≡ entry_count c.args.version (output_wires circuit) =
+    c.entry_count.ensures ∙ ap (entry_count c.args.version) c.output_wires-outputs.ensures in
+    omega (
+      arith,
+      c.and_count.ensures,
+      entries,
+      c.div_ceil-decode_bytes.ensures,
+      ap (λ n. n / 8) c.output_wires-outputs.ensures,
+      ap (λ n. n % 8) c.output_wires-outputs.ensures,
+      length-honest c.args.version circuit c.law_lawful.ensures offset garbling fits,
+    )

@@ -1,0 +1,6 @@
+use Rattle.std.proofs.Common.{◌≡◌, count_by, take}
+use Rattle.gc_audit.specs.Stats.{is_unread}
+use Rattle.gc_audit.proofs.survey.unread_gates.Given as goal
+
+abbrev pub invariant-loop-i : goal.invariant-loop-i
+invariant-loop-i g l = l.unread ≡ count_by (is_unread l.circuit) (take l.i l.circuit.gates)

@@ -1,7 +1,0 @@
-use Rattle.std.proofs.Common.{decimal, arith}
-use Rattle.std.proofs.lemmas.Grind.{common_steps}
-use Rattle.gc_canon.proofs.LineLemmas.{digits_last}
-use Rattle.gc_canon.proofs.lines.spaced_digits.Goals as goal
-
-pub returns : goal.returns
-returns c = grind (arith, common_steps, digits_last 4096 (decimal c.args.number) c.args.room.now)

@@ -1,0 +1,7 @@
+use Rattle.std.proofs.Common.{decimal, arith}
+use Rattle.std.proofs.lemmas.Grind.{common_steps}
+use Rattle.gc_circuit.proofs.LineLemmas.{digits_last}
+use Rattle.gc_circuit.proofs.canonical_lines.spaced_digits.Goals as goal
+
+pub returns : goal.returns
+returns c = grind (arith, common_steps, digits_last 4096 (decimal c.args.number) c.args.room.now)

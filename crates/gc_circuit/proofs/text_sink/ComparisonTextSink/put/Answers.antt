@@ -1,0 +1,18 @@
+use Rattle.std.proofs.Common.{◌≡◌, ◌++◌, length, take, drop, append_assoc, take-append-drop, refl, sym, ap, ◌∙◌}
+use lib.Pointwise.{pointwise}
+use Rattle.std.proofs.lemmas.Bool.Decides.{Decides-eqb}
+use Rattle.std.proofs.lemmas.Slice.Eq.{slice_eq-Decides}
+use Rattle.std.proofs.Math.Dec.{eqb}
+use Rattle.gc_circuit.proofs.text_sink.ComparisonTextSink.put.Goals as goal
+
+pub returns : goal.returns
+returns c = λ whole text held.
+    let piece = c.args.piece.now in
+    let left = c.args.self.now.left.now in
+    let n = length piece in
+    let found = c.in-Some.ensures.cases in
+    let begins : take n left ≡ piece =
+    (slice_eq-Decides Decides-eqb (take n left) piece (pointwise eqb (take n left) piece) refl).0 found.0 in
+    let parts : left ≡ piece ++ c.in-Some.left.now =
+    sym (take-append-drop n left) ∙ ap (λ l. l ++ drop n left) begins ∙ ap (λ l. piece ++ l) (sym found.1) in
+    held ∙ ap (λ l. text ++ l) parts ∙ sym (append_assoc text piece c.in-Some.left.now)

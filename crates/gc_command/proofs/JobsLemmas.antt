@@ -1,0 +1,132 @@
+-- From what each step of `jobs` answers to what it answers as a whole.
+use Rattle.gc_command.proofs.JobsNames.{◌≡◌, ℕ, ◌+◌, ◌<◌, map, drop, drop-cons, get_or, Bool, List, [], ◌∷◌, IfSome, sum, inl, inr, length, slice_get, Some, sym, ap, ◌∙◌, zero, suc, refl, add-one, arith, fun_ext, slice_get_within, slice_get_cases, JobParts, AreEvaluated, AreOnOneCircuit, FileBytes, GivesFile, Fault, IsJobList, listed, NameFiles, NameJob, HasNamedFault, NameJobs, FirstBadJob, HasLinesFault, HasListFault, HasJobsFault}
+use Rattle.gc_netlist.specs.Circuit.{Netlist, IsLawful}
+use Rattle.gc_file.specs.GarbledFile.{GarbledParts, IsGarbledFile}
+use Rattle.gc_file.specs.LabelFile.{LabelFileParts}
+use Rattle.gc_command.specs.declared.fault.Fault.TheVariants as faults
+use Rattle.gc_command.specs.CircuitFile.{IsCircuit, HasReadingFault}
+use Rattle.gc_command.specs.Eval.{AreLabelFiles, HasLabelFilesFault}
+use Rattle.gc_command.proofs.AnswerLemmas.{length-decoded}
+use Rattle.gc_command.proofs.EvalLemmas.{labels-kind}
+
+-- The words of a line are the first one and the others.
+pub parted : {X : Type 0} {words shown others : List X} {first : X} → shown ≡ words
+    → shown ≡ first ∷ others → (v : X → List ℕ) {line : List (List ℕ)} → map v words ≡ line
+    → line ≡ v first ∷ map v others
+parted same parts v are = sym are ∙ ap (map v) (sym same ∙ parts)
+
+-- The files that the steps read are those that the words named before: no step changes a file.
+pub name-files : {old new : FileBytes} {words : List (List ℕ)} {garbled : List ℕ}
+    {labels : List (List ℕ)} {g : GarbledParts} {files : List LabelFileParts}
+    → ((n : List ℕ) → new n ≡ old n) → words ≡ garbled ∷ labels
+    → IfSome (old garbled) (λ held. IsGarbledFile held g) → AreLabelFiles new labels files
+    → NameFiles old words g files
+name-files {garbled = garbled} {labels} same names garbled_read labels_read = record {
+  garbled = garbled;
+  labels = labels;
+  names = names;
+  garbled_read = garbled_read;
+  labels_read = rw (fun_ext same) at labels_read;
+}
+
+module _ (bytes : FileBytes) (Failed : List ℕ → Type 0) where
+  -- The fault of the label files is that of the words that name them,
+  pub labels-named : (c : Netlist) {words : List (List ℕ)} {garbled : List ℕ}
+      {labels : List (List ℕ)} (g : GarbledParts) → words ≡ garbled ∷ labels
+      → IfSome (bytes garbled) (λ held. IsGarbledFile held g) → (fault : Fault)
+      → HasLabelFilesFault bytes Failed labels fault → HasNamedFault bytes Failed c words fault
+  labels-named c g names read (faults.File fault) has = rw names (inr (g, read, has))
+  labels-named c g names read faults.CannotRead has = rw names (inr (g, read, has))
+  labels-named c g names read faults.Memory has = tt
+  labels-named c g names read fault has = absurd (labels-kind bytes Failed _ fault has)
+
+  -- that of a line that names no job is that of the lines,
+  pub lines-fault : (c : Netlist) (words : List (List ℕ)) (lines all : List (List (List ℕ)))
+      (fault : Fault)
+      → (FirstBadJob bytes Failed c (words ∷ lines) fault → FirstBadJob bytes Failed c all fault)
+      → HasNamedFault bytes Failed c words fault → HasLinesFault bytes Failed c all fault
+  lines-fault c words lines all (faults.File fault) up has = up (inl has)
+  lines-fault c words lines all (faults.Binding fault) up has = up (inl has)
+  lines-fault c words lines all faults.CannotRead up has = up (inl has)
+  lines-fault c words lines all faults.Memory up has = tt
+  lines-fault c words lines all fault up has = absurd has
+
+  -- that of the lines of a list is the list's,
+  pub list-fault : (list text : List ℕ) (c : Netlist) → GivesFile (bytes list) text → IsJobList text
+      → (fault : Fault) → HasLinesFault bytes Failed c (listed text) fault
+      → HasListFault bytes Failed list c fault
+  list-fault list text c read is (faults.File fault) has =
+      record { text = text; text_read = read; is_list = is; first = has }
+  list-fault list text c read is (faults.Binding fault) has =
+      record { text = text; text_read = read; is_list = is; first = has }
+  list-fault list text c read is faults.CannotRead has =
+      inr record { text = text; text_read = read; is_list = is; first = has }
+  list-fault list text c read is faults.Memory has = tt
+  list-fault list text c read is fault has = absurd has
+
+  module _ (circuit list : List ℕ) (workers : ℕ) where
+    -- and that of a list and its jobs is that of the command,
+    pub jobs-list-fault : (c : Netlist) → IfSome (bytes circuit) (λ held. IsCircuit held c)
+        → (fault : Fault) → HasListFault bytes Failed list c fault
+        → HasJobsFault bytes Failed circuit list workers fault
+    jobs-list-fault c read faults.CannotRead has = inr (c, read, has)
+    jobs-list-fault c read faults.Memory has = tt
+    jobs-list-fault c read (faults.Circuit fault) has = absurd has
+    jobs-list-fault c read (faults.Evaluation fault) has = absurd has
+    jobs-list-fault c read fault has = (c, read, has)
+
+    -- as is that of the circuit's file.
+    pub jobs-circuit-fault : (fault : Fault)
+        → HasReadingFault (bytes circuit) (Failed circuit) fault
+        → HasJobsFault bytes Failed circuit list workers fault
+    jobs-circuit-fault (faults.Circuit fault) has = has.first
+    jobs-circuit-fault faults.CannotRead has = inl has.cause
+    jobs-circuit-fault faults.Memory has = tt
+    jobs-circuit-fault fault has = absurd has.kind
+
+-- What the lines from one on name, it and those after it name.
+pub line-next : {X : Type 0} (v : X → List (List ℕ)) (lines : List X) (i : ℕ) (d : X)
+    → i < length lines → map v (drop i lines) ≡ v (get_or lines i d) ∷ map v (drop (i + 1) lines)
+line-next v lines i d within = rw (drop-cons lines i d within, add-one i) refl
+
+-- Each job is one that its line names.
+named_at : (bytes : FileBytes) (c : Netlist) (lines : List (List (List ℕ))) (jobs : List JobParts)
+    → NameJobs bytes c lines jobs → (k : ℕ) (job : JobParts) → slice_get jobs k ≡ Some job
+    → (words : List (List ℕ)) × NameJob bytes c words job
+named_at bytes c (words ∷ lines) (other ∷ jobs) named zero job at =
+    let same : job ≡ other = cc in (words, rw same named.0)
+named_at bytes c (words ∷ lines) (other ∷ jobs) named (suc k) job at =
+    named_at bytes c lines jobs named.1 k job at
+named_at bytes c [] [] named k job at = absurd cc
+named_at bytes c _ _ named k job at = absurd named
+
+module _ (bytes : FileBytes) (c : Netlist) (lines : List (List (List ℕ))) (jobs : List JobParts)
+    (named : NameJobs bytes c lines jobs) where
+  named_on : (k : ℕ) (job : JobParts) → slice_get jobs k ≡ Some job → job.circuit ≡ c
+  named_on k job at =
+      ap (λ (j : JobParts). j.circuit) (named_at bytes c lines jobs named k job at).1.bound.parts
+
+  -- Jobs that lines name are all on the circuit,
+  pub named_on_one : AreOnOneCircuit jobs
+  named_on_one i k a b a_at b_at = named_on i a a_at ∙ sym (named_on k b b_at)
+
+  -- and the bits of each have the output widths.
+  pub length-listed : IsLawful c → (outputs : List (List Bool)) → AreEvaluated jobs outputs
+      → (k : ℕ) (bits : List Bool) → slice_get outputs k ≡ Some bits
+      → sum c.output_widths ≡ length bits
+  length-listed lawful outputs are k bits at =
+      elim (slice_get_cases jobs k).1 [
+        | inl (job, within, found, same) ↦
+            let is = named_at bytes c lines jobs named k job found in
+            length-decoded c lawful is.1.g is.1.files bits
+            record { job = job; bound = is.1.bound; evaluated = are.each k job bits found at }
+        | inr past ↦ absurd (omega (arith, past.0, slice_get_within outputs k bits at, are.count))
+      ]
+
+-- There are as many jobs as lines.
+pub named_count : (bytes : FileBytes) (c : Netlist) (lines : List (List (List ℕ)))
+    (jobs : List JobParts) → NameJobs bytes c lines jobs → length jobs ≡ length lines
+named_count bytes c [] [] named = refl
+named_count bytes c (words ∷ lines) (job ∷ jobs) named =
+    ap suc (named_count bytes c lines jobs named.1)
+named_count bytes c _ _ named = absurd named

@@ -1,0 +1,19 @@
+use Rattle.gc_command.proofs.JobsNames.{◌≡◌, ℕ, ◌++◌, List, drop, map, tokens, JobParts, FailedFiles, HasFailed, Fault, NameJobs, FirstBadJob}
+use Rattle.gc_command.proofs.listed_job.read_jobs.Given as goal
+
+-- What the lines that are left name, all of them name.
+abbrev pub invariant-loop-line : goal.invariant-loop-line
+invariant-loop-line g l =
+    let bytes = g.F.Files.bytes l.fn.files in
+    let failures = g.F.Files.failures l.fn.files in
+    let all = map (λ line. tokens line.now) l.lines in
+    let rest = map (λ line. tokens line.now) (drop l.line-index l.lines) in
+    record {
+      named : (left : List JobParts) → NameJobs bytes l.circuit rest left
+          → NameJobs bytes l.circuit all (l.jobs.items ++ left);
+      faults : (failed : FailedFiles) (fault : Fault)
+          → FirstBadJob bytes (HasFailed failures failed) l.circuit rest fault
+          → FirstBadJob bytes (HasFailed failures failed) l.circuit all fault;
+      same : (n : List ℕ) → g.F.Files.bytes l.files n ≡ bytes n;
+      counted : g.F.Files.failures l.files ≡ failures;
+    }

@@ -1,0 +1,120 @@
+-- The header of a garbled file.
+use Rattle.gc_file.proofs.ReaderNames.{◌≡◌, ℕ, ◌-◌, ◌<◌, ◌≤◌, List, ◌++◌, length, take, drop, slice_index, refl, sym, ap, ◌∙◌, append_assoc, length-append, arith, FileFault, Version, magic, IsBegun, row_count, output_count, decode_end, entries_end, trailer_end, IsTrailerRight, HasHeader, HasSpareBit, HasDecodeBits, LastingFault, bad_magic, too_many_rows, too_many_outputs, spare_bits, bad_trailer, trailing, IsHeaderInOrder, IsInOrder, number_at-append}
+use Rattle.std.proofs.lemmas.List.{take_at, take_all, length-take, take-append-le, take-take, take-append-drop, drop-append-le, get_or_append_left, length-drop}
+
+take_both : (n m : ℕ) (xs : List ℕ) → take n (take m xs) ≡ take m (take n xs)
+take_both n m xs = grind (arith, take-take {A = ℕ}, take_all {A = ℕ}, length-take {A = ℕ})
+
+-- A beginning of bytes that begin with a magic is one of it too.
+pub begun_before : (m bytes more : List ℕ) → IsBegun m (bytes ++ more) → IsBegun m bytes
+begun_before m bytes more begun =
+    ap (take 8) (sym (take_at bytes more (length bytes) refl))
+    ∙ take_both 8 (length bytes) (bytes ++ more)
+    ∙ ap (take (length bytes)) begun
+    ∙ take-take (length bytes) (length (bytes ++ more)) m (omega (arith, length-append bytes more))
+
+-- A beginning of a header that is in order is a beginning of a file that is.
+pub header_in_order : (v : Version) (bytes : List ℕ) → length bytes < 48 → IsHeaderInOrder v bytes
+    → IsInOrder v bytes
+header_in_order v bytes short header = record {
+  header = header;
+  no_spare_bit = λ reaches. absurd (omega arith);
+  right = λ reaches. absurd (omega arith);
+  ends = λ whole. absurd (omega arith);
+}
+
+-- What holds of bytes stays when more follow.
+module _ (bytes more : List ℕ) where
+  outputs-more : 48 ≤ length bytes → output_count (bytes ++ more) ≡ output_count bytes
+  outputs-more long = number_at-append 44 bytes more (omega arith)
+
+  rows-more : 44 ≤ length bytes → row_count (bytes ++ more) ≡ row_count bytes
+  rows-more long = number_at-append 40 bytes more (omega arith)
+
+  decode_end-more : 48 ≤ length bytes → decode_end (bytes ++ more) ≡ decode_end bytes
+  decode_end-more long = rw (rows-more (omega arith), outputs-more long) refl
+
+  entries_end-more : (v : Version) → 48 ≤ length bytes
+      → entries_end v (bytes ++ more) ≡ entries_end v bytes
+  entries_end-more v long = rw (rows-more (omega arith), outputs-more long) refl
+
+  header-more : (v : Version) → HasHeader v bytes → HasHeader v (bytes ++ more)
+  header-more v has =
+      let long = has.whole in
+      record {
+        begins = rw (take-append-le 8 bytes more (omega arith)) has.begins;
+        whole = omega (arith, length-append bytes more);
+        few_rows = rw (rows-more (omega arith)) has.few_rows;
+        few_outputs = rw (outputs-more long) has.few_outputs;
+      }
+
+  last-more : 48 ≤ length bytes → decode_end bytes ≤ length bytes
+      → slice_index (bytes ++ more) (decode_end (bytes ++ more) - 1)
+      ≡ slice_index bytes (decode_end bytes - 1)
+  last-more long reaches =
+      rw (decode_end-more long)
+      (get_or_append_left bytes more 0 (decode_end bytes - 1) (omega arith))
+
+  spare-more : 48 ≤ length bytes → decode_end bytes ≤ length bytes → HasSpareBit bytes
+      → HasSpareBit (bytes ++ more)
+  spare-more long reaches spare = record {
+    not_full = rw (outputs-more long) spare.not_full;
+    bit = rw (last-more long reaches, outputs-more long) spare.bit;
+  }
+
+  spare-less : 48 ≤ length bytes → decode_end bytes ≤ length bytes → HasSpareBit (bytes ++ more)
+      → HasSpareBit bytes
+  spare-less long reaches spare = record {
+    not_full = rw (outputs-more long) at spare.not_full;
+    bit = rw (last-more long reaches, outputs-more long) at spare.bit;
+  }
+
+  decode_bits-more : (v : Version) → HasDecodeBits v bytes → HasDecodeBits v (bytes ++ more)
+  decode_bits-more v has =
+      let long = has.header.whole in
+      record {
+        header = header-more v has.header;
+        whole = omega (arith, has.whole, decode_end-more long, length-append bytes more);
+        no_spare_bit = λ spare. has.no_spare_bit (spare-less long has.whole spare);
+      }
+
+  right-more : (v : Version) → 48 ≤ length bytes → trailer_end v bytes ≤ length bytes
+      → IsTrailerRight v (bytes ++ more) ≡ IsTrailerRight v bytes
+  right-more v long reaches =
+      let end = entries_end v bytes in
+      rw (
+        entries_end-more v long,
+        drop-append-le end bytes more (omega arith),
+        take-append-le end bytes more (omega arith),
+        take-append-le 32 (drop end bytes) more (omega (arith, length-drop end bytes)),
+      ) refl
+
+  -- A lasting fault is that of all longer bytes.
+  pub lasts : (e : FileFault) → LastingFault bytes e → LastingFault (bytes ++ more) e
+  lasts _ (bad_magic none) = bad_magic (λ v begun. none v (begun_before (magic v) bytes more begun))
+  lasts _ (too_many_rows v is long many) =
+      too_many_rows v (rw (take-append-le 8 bytes more (omega arith)) is)
+      (omega (arith, length-append bytes more)) (rw (rows-more long) many)
+  lasts _ (too_many_outputs v is long many) =
+      too_many_outputs v (rw (take-append-le 8 bytes more (omega arith)) is)
+      (omega (arith, length-append bytes more)) (rw (outputs-more long) many)
+  lasts _ (spare_bits v header reaches spare) =
+      spare_bits v (header-more v header)
+      (omega (arith, decode_end-more header.whole, length-append bytes more))
+      (spare-more header.whole reaches spare)
+  lasts _ (bad_trailer v has reaches wrong) =
+      let long = has.header.whole in
+      bad_trailer v (decode_bits-more v has)
+      (omega (arith, entries_end-more v long, length-append bytes more))
+      (λ is. wrong (rw (right-more v long reaches) at is))
+  lasts _ (trailing v has reaches is) =
+      let long = has.header.whole in
+      trailing v (decode_bits-more v has)
+      (omega (arith, entries_end-more v long, length-append bytes more))
+      (rw (right-more v long (omega arith)) is)
+
+-- A lasting fault of the first bytes of a piece is that of the whole piece.
+pub lasts_piece : (header piece : List ℕ) (n : ℕ) (e : FileFault)
+    → LastingFault (header ++ take n piece) e → LastingFault (header ++ piece) e
+lasts_piece header piece n e fault =
+    rw (append_assoc, take-append-drop) at (lasts (header ++ take n piece) (drop n piece) e fault)

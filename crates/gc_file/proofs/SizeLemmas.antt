@@ -1,0 +1,57 @@
+-- How many bytes the files have.
+use Rattle.gc_file.proofs.WriterNames.{◌≡◌, ℕ, ◌+◌, ◌*◌, ◌^◌, ◌<◌, ◌≤◌, List, [], ◌∷◌, ◌++◌, length, length-append, append_assoc, append-nil, flat_map, refl, sym, ap, arith, sha256, length-sha256, Netlist, canonical_text, GarblingParts, One, Two, EntryPair, bytes_for, GarbledParts, magic, body, row_bytes, entry_bytes, garbled_file, parts_of, length-number_bytes, length-packed, front, IsSmall, parts_one}
+use Rattle.gc_file.specs.declared.parts.Version.{Version}
+use Rattle.gc_file.proofs.ByteLemmas.{length-decode_bits}
+use Rattle.gc_file.specs.LabelBytes.{length-row_bytes, length-entry_bytes}
+
+pub length-flat_map : {X A : Type 0} (f : X → List A) (n : ℕ) → ((x : X) → length (f x) ≡ n)
+    → (xs : List X) → length (flat_map f xs) ≡ n * length xs
+length-flat_map f n each [] = omega arith
+length-flat_map f n each (x ∷ xs) =
+    simp (length-append, each, length-flat_map f n each xs) (omega arith)
+
+-- The bytes of a garbled file: header, row pairs, decode bits, entry pairs and trailer.
+pub length-garbled_file : (p : GarbledParts) → length p.digest ≡ 32 →
+    length (garbled_file p)
+    ≡ 48 + 32 * length p.rows + bytes_for (length p.decode_bits) + 32 * length p.entries + 32
+unfolding garbled_file
+length-garbled_file p digest =
+    simp (
+      length-append,
+      length-magic p.version,
+      digest,
+      length-number_bytes,
+      length-flat_map row_bytes 32 length-row_bytes,
+      length-packed,
+      length-flat_map entry_bytes 32 length-entry_bytes,
+      length-sha256,
+    ) (omega arith)
+  where
+    length-magic : (version : Version) → length (magic version) ≡ 8
+    length-magic One = refl
+    length-magic Two = refl
+
+-- The garbled files of a garbling have fewer than 2 ^ 64 bytes.
+pub garbled_file-size : (version : Version) (c : Netlist) (g : GarblingParts)
+    (entries : List EntryPair) → IsSmall g → length entries ≤ g.outputs
+    → length (garbled_file (parts_of version c g entries)) < 2 ^ 64
+garbled_file-size version c g entries small few = omega (
+  arith,
+  length-garbled_file (parts_of version c g entries) (length-sha256 (canonical_text c)),
+  length-decode_bits g small.fits,
+  small.rows,
+  small.outputs,
+)
+
+-- A garbled file is what stands before its entries, its entries and its trailer.
+pub garbled_file-front : (p : GarbledParts)
+    → front p ++ (flat_map entry_bytes p.entries ++ sha256 (body p)) ≡ garbled_file p
+unfolding garbled_file
+garbled_file-front p =
+    sym (append_assoc (front p) (flat_map entry_bytes p.entries) (sha256 (body p)))
+
+-- One without entries ends after its decode bits.
+pub garbled_file-one : (c : Netlist) (g : GarblingParts) →
+    front (parts_one c g) ++ sha256 (front (parts_one c g)) ≡ garbled_file (parts_one c g)
+unfolding garbled_file
+garbled_file-one c g = ap (λ l. l ++ sha256 l) (sym (append-nil (front (parts_one c g))))

@@ -1,0 +1,70 @@
+-- A garbled file that is taken from a source.
+use Rattle.gc_file.proofs.ReaderNames.{◌≡◌, ℕ, ◌+◌, ◌*◌, inl, inr, List, ◌++◌, length, Option, Some, None, Result, Ok, Err, refl, ap, length-append, arith, FileFault, GarbledParts, lasting, Fed, IsFed, IsAnswer, IsTaken, IsAnswerOfAll, IsTaking}
+use Rattle.std.proofs.lemmas.List.{append-nil}
+use Rattle.std.proofs.KnownBytes.{Consumes-trans}
+use Rattle.std.specs.Io.KnownBytes.{Consumes}
+use Rattle.gc_netlist.specs.declared.limits.TheConstants.{MAX_GATES, MAX_WIRES}
+use Rattle.gc_file.specs.declared.take.TakeFault.{TakeFault}
+use Rattle.gc_file.specs.declared.take.TakeFault.TheVariants.{File, ReadFault}
+use Rattle.gc_file.specs.Counted.{counted}
+use Rattle.gc_file.proofs.HeaderLemmas.{lasts}
+
+-- More bytes than any file has.
+abbrev pub most_bytes : ℕ
+most_bytes = 128 + 32 * MAX_GATES + 33 * MAX_WIRES
+
+-- How many bytes a reader was fed.
+abbrev pub fed_length : Fed → ℕ
+fed_length (Ok bytes) = length bytes
+fed_length (Err e) = 0
+
+-- What is answered of the bytes given is answered of all.
+answer_of_all : (given left bytes : List ℕ) (result : Result GarbledParts TakeFault)
+    → bytes ≡ given ++ left → IsAnswer given (Some left) result → IsAnswerOfAll bytes result
+answer_of_all given left bytes (Ok parts) all (file, at_end) = rw (all, at_end, append-nil) file
+answer_of_all given left bytes (Err (File fault)) all answer = λ other. elim (answer other) [
+  | inl stays ↦ rw all (lasting fault (lasts given left fault stays))
+  | inr (first, at_end) ↦ rw (all, at_end, append-nil) first
+]
+answer_of_all given left bytes (Err (ReadFault got)) all answer = tt
+
+pub taken_all : (old new : Option (List ℕ)) (result : Result GarbledParts TakeFault)
+    → IsTaken old new result → (bytes : List ℕ) → old ≡ Some bytes → IsAnswerOfAll bytes result
+taken_all None new result taken bytes is = cc
+taken_all (Some xs) None result taken bytes is = absurd taken.consumed
+taken_all (Some xs) (Some left) result taken bytes is =
+    answer_of_all taken.given left bytes result (let given = taken.consumed in cc) taken.answer
+
+-- What was given is what the reader holds.
+given_is : {bytes : List ℕ} {a b : Option (List ℕ)} {got : ℕ} (t : IsTaking (Ok bytes) a b got)
+    → t.given ≡ bytes
+given_is t = let fed = t.fed in cc
+
+-- A piece that was given and fed.
+pub taking_more : (reader after : Fed) (piece : List ℕ) (answer : Result (Unit {0}) FileFault)
+    {a b d : Option (List ℕ)} {got more : ℕ}
+    → IsTaking reader a b got → IsFed reader piece answer after
+    → ((e : FileFault) → answer ≡ Err e → ⊥) → Consumes b d piece
+    → more ≡ counted (got + length piece) → IsTaking after a d more
+taking_more (Err e) after piece answer taking fed not_err consumed count = let is = taking.fed in cc
+taking_more (Ok bytes) after piece (Err e) taking fed not_err consumed count =
+    absurd (not_err e refl)
+taking_more (Ok bytes) after piece (Ok done) taking fed not_err consumed count = record {
+  given = bytes ++ piece;
+  fed = fed.0;
+  consumed = Consumes-trans _ _ _ bytes piece (rw (given_is taking) at taking.consumed) consumed;
+  sound = fed.1;
+  count = omega (arith, taking.count, ap length (given_is taking), length-append bytes piece);
+}
+
+-- A piece that was given, and has a fault.
+pub taken_fault : (reader after : Fed) (piece : List ℕ) {e : FileFault}
+    {a b d : Option (List ℕ)} {got : ℕ} → IsTaking reader a b got
+    → IsFed reader piece (Err e) after → Consumes b d piece
+    → IsTaken a d (Err (File e))
+taken_fault (Err f) after piece taking fed consumed = let is = taking.fed in cc
+taken_fault (Ok bytes) after piece taking fed consumed = record {
+  given = bytes ++ piece;
+  consumed = Consumes-trans _ _ _ bytes piece (rw (given_is taking) at taking.consumed) consumed;
+  answer = λ other. inl (fed.1 other);
+}

@@ -1,0 +1,55 @@
+-- What the writers write are files.
+use Rattle.gc_file.proofs.WriterNames.{ℕ, List, length, sum, take, get_or, All, refl, sym, ◌∙◌, arith, range_with_len, zip, count_by-le-length, slice_get-get_or, length-sha256, Netlist, IsLawful, is_and, canonical_text, offset_of, IsLabel, entry_pair_of}
+use Rattle.std.proofs.lemmas.List.Elements.{All-map}
+use Rattle.gc_label.proofs.SeedLemmas.{offset_of-lt, input_label_of-lt}
+use Rattle.gc_half.specs.Canonical.{garbling_of}
+use Rattle.gc_half.proofs.Bounds.{IsSmall-hash, IsSmall-⊕, IsSmall-times, IsSmall-row_pairs_of}
+use Rattle.gc_half.proofs.CanonicalLemmas.{garbling_of-IsGarbled}
+use Rattle.gc_file.specs.WrittenLaw.{AreFiles}
+use Rattle.gc_file.proofs.ByteLemmas.{length-decode_bits, length-entry_pairs}
+use Rattle.gc_file.proofs.DealLemmas.{length-encoded_from, first_wire-room}
+
+pub are_files : (c : Netlist) → IsLawful c → (seed : List ℕ) → AreFiles c seed
+are_files c lawful seed =
+    let g = garbling_of c seed in let garbled = garbling_of-IsGarbled c seed lawful in
+    let few_gates = count_by-le-length (λ gate. is_and gate.operation) c.gates in
+    let bits =
+    length-decode_bits g (omega (arith, garbled.wires, garbled.outputs, lawful.outputs_fit)) in
+    let rows : All (λ row. IsLabel row.generator × IsLabel row.evaluator) g.rows =
+    λ k row within. IsSmall-row_pairs_of c seed k (get_or g.rows k row)
+    (slice_get-get_or g.rows k row within) in
+    record {
+      one = record {
+        few_rows = omega (arith, few_gates, garbled.garbling.row_count, lawful.few_gates);
+        few_outputs = omega (arith, bits, garbled.outputs, lawful.outputs_fit, lawful.few_wires);
+        digest = length-sha256 (canonical_text c);
+        rows = rows;
+        entries = λ k pair within. absurd (omega arith);
+        entry_pairs = refl;
+        spelled = refl;
+      };
+      two = record {
+        few_rows = omega (arith, few_gates, garbled.garbling.row_count, lawful.few_gates);
+        few_outputs = omega (arith, bits, garbled.outputs, lawful.outputs_fit, lawful.few_wires);
+        digest = length-sha256 (canonical_text c);
+        rows = rows;
+        entries = All-map (λ pair. IsLabel pair.entry_zero × IsLabel pair.entry_one)
+            (entry_pair_of (offset_of seed) g) (range_with_len 0 g.outputs)
+            (λ k i within. (IsSmall-hash _ _, IsSmall-hash _ _));
+        entry_pairs = length-entry_pairs (offset_of seed) g ∙ sym bits;
+        spelled = refl;
+      };
+      labels = λ index bits small at. record {
+        index = small;
+        few_labels = omega (
+          arith,
+          length-encoded_from (sum (take index c.input_widths)) seed bits,
+          first_wire-room c lawful index (length bits) at,
+        );
+        labels = All-map IsLabel _
+            (zip (range_with_len (sum (take index c.input_widths)) (length bits)) bits)
+            (λ k pair within. IsSmall-⊕ _ _ (input_label_of-lt seed _)
+            (IsSmall-times _ (offset_of seed) (offset_of-lt seed)));
+        spelled = refl;
+      };
+    }

@@ -1,0 +1,111 @@
+use Rattle.gc_file.proofs.ReaderNames.{rules, ◌≡◌, ◌-◌, ◌<◌, ◌++◌, length, arith, err_from_is_err_and, nat_tests, output_count, IsSpare, version_of, row_size, decode_size, entry_size, IsCutUp, IsHashed}
+use Rattle.gc_file.proofs.PlaceLemmas.{in_order}
+use Rattle.gc_file.proofs.StepLemmas.{spare_step, bad_trailer_step, more_step, body_step, view_step, hashed_step}
+use Rattle.gc_file.proofs.body.Body.with.Given.{Over}
+use Rattle.gc_file.proofs.body.Body.with.Goals.{After-update-3, In_ok-add_decode_bytes}
+use Rattle.gc_file.proofs.body.Body.with.Goals as goal
+
+-- The piece is cut up into what each part lacks.
+cut-up : (g : Over) (c : After-update-3 g) →
+    let inside = c.self.inside in let h = inside.header.items in
+    let cuts = c.cut_up-cuts.result in
+    IsCutUp (row_size h - length inside.rows) (decode_size h - length inside.decode_bytes.items)
+    (entry_size h - length inside.entries) (32 - length inside.trailer.items) c.args.piece.now
+    cuts.rows.now cuts.decode_bytes.now cuts.entries.now cuts.trailer.now cuts.rest.now
+cut-up g c =
+    let decode_len : c.len-2.result ≡ length c.self.inside.decode_bytes.items = search rules in
+    let trailer_len : c.len-4.result ≡ length c.self.inside.trailer.items = search rules in
+    rw (
+      ← c.as_slice.ensures.value,
+      ← c.of-counts.ensures.rows,
+      ← c.of-counts.ensures.decode_bytes,
+      ← c.of-counts.ensures.entries,
+      ← c.len.ensures,
+      ← decode_len,
+      ← c.len-3.ensures,
+      ← trailer_len,
+    )
+    c.cut_up-cuts.ensures
+
+-- What the hasher holds then.
+hashed : (g : Over) (c : After-update-3 g) →
+    let inside = c.self.inside in let cuts = c.cut_up-cuts.result in
+    IsHashed (inside.header.items ++ (inside.rows ++ cuts.rows.now)
+    ++ (inside.decode_bytes.items ++ cuts.decode_bytes.now) ++ (inside.entries ++ cuts.entries.now))
+    inside.trailer.items c.update-3.new.self
+hashed g c =
+    let q1 = c.cut_up-cuts.result.rows.now in
+    hashed_step c.self.invariant (cut-up g c)
+    (λ m holds. c.update-3.ensures (m ++ q1 ++ c.cut_up-cuts.result.decode_bytes.now)
+    (c.update-2.ensures (m ++ q1) (c.update.ensures m holds)))
+
+-- No spare bit of the decode bytes is set, as far as they are there.
+no-spare : (g : Over) (c : In_ok-add_decode_bytes g) →
+    let h = c.self.inside.header.items in
+    let decode_bytes = c.self.inside.decode_bytes.items ++ c.cut_up-cuts.result.decode_bytes.now in
+    length decode_bytes ≡ decode_size h → IsSpare (output_count h) decode_bytes → ⊥
+no-spare g c =
+    let counts = c.of-counts.ensures in
+    rw (← c.as_slice.ensures.value, ← counts.decode_bytes, ← counts.outputs)
+    c.in_ok-add_decode_bytes.ensures.checked
+
+pub returns-in_err-add_decode_bytes-clause-err : goal.returns-in_err-add_decode_bytes-clause-err
+returns-in_err-add_decode_bytes-clause-err g c =
+    let now = (goal.at.returns-in_err-add_decode_bytes-clause-err g c).After-update-3 in
+    let exit = c.from_residual-in_err-add_decode_bytes in
+    let p = err_from_is_err_and exit.result exit.ensures.1 in
+    let header = c.as_slice.ensures.value in let counts = c.of-counts.ensures in
+    rw (p.1, p.2) (λ other.
+    let fault = c.in_err-add_decode_bytes.ensures.err other in
+    rw (fault.0, ← c.self.view_is) (spare_step c.self.invariant (cut-up g now)
+    (rw (← header, ← counts.decode_bytes) fault.1) (rw (← header, ← counts.outputs) fault.2)))
+
+pub returns-in_err-add_trailer-clause-err : goal.returns-in_err-add_trailer-clause-err
+returns-in_err-add_trailer-clause-err g c =
+    let at = goal.at.returns-in_err-add_trailer-clause-err g c in
+    let now = at.After-update-3 in
+    let fault = c.in_err-add_trailer.ensures.err in
+    let exit = c.from_residual-in_err-add_trailer in
+    let p = err_from_is_err_and exit.result exit.ensures.1 in
+    rw (p.1, p.2) (λ other. rw (fault.0, ← c.self.view_is)
+    (bad_trailer_step c.self.invariant (cut-up g now)
+    (no-spare g at.In_ok-add_decode_bytes) fault.1 (fault.2 _ (hashed g now))))
+
+pub returns-then-not-is_empty-clause-err : goal.returns-then-not-is_empty-clause-err
+returns-then-not-is_empty-clause-err g c =
+    let at = goal.at.returns-then-not-is_empty-clause-err g c in
+    let now = at.After-update-3 in
+    let some : 0 < length c.cut_up-cuts.result.rest.now = grind (arith, nat_tests) in
+    λ other. rw (← c.self.view_is)
+    (more_step c.self.invariant (cut-up g now) (no-spare g at.In_ok-add_decode_bytes)
+    (c.in_ok-add_trailer.ensures.hashed _ (hashed g now)) some)
+
+pub invariant_of-result : goal.invariant_of-result
+invariant_of-result g c =
+    let at = goal.at.invariant_of-result g c in
+    let now = at.After-update-3 in
+    rw (
+      c.in_ok-add.ensures.ok,
+      c.in_ok-add_decode_bytes.ensures.ok,
+      c.in_ok-add-2.ensures.ok,
+      c.in_ok-add_trailer.ensures.ok,
+    )
+    (body_step c.self.invariant (cut-up g now) (no-spare g at.In_ok-add_decode_bytes)
+    (c.in_ok-add_trailer.ensures.hashed _ (hashed g now)))
+
+pub returns-clause-ok : goal.returns-clause-ok
+returns-clause-ok g c =
+    let now = (goal.at.returns-clause-ok g c).After-update-3 in
+    let none : length c.cut_up-cuts.result.rest.now ≡ 0 = grind (arith, nat_tests) in
+    rw (
+      c.in_ok-add.ensures.ok,
+      c.in_ok-add_decode_bytes.ensures.ok,
+      c.in_ok-add-2.ensures.ok,
+      c.in_ok-add_trailer.ensures.ok,
+      ← c.self.view_is,
+    )
+    (view_step c.self.invariant (cut-up g now) none)
+
+pub returns-clause-sound : goal.returns-clause-sound
+returns-clause-sound g c =
+    (version_of c.self.inside.header.items, in_order (invariant_of-result g c))

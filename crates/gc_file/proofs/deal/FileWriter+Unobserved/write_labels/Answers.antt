@@ -1,0 +1,30 @@
+use Rattle.gc_file.proofs.WriterNames.{◌+◌, length, arith, take_all}
+use Rattle.gc_file.proofs.ByteLemmas.{ord_min-nat}
+use Rattle.gc_file.proofs.DealLemmas.{label_bytes-next, label_bytes-rest}
+use Rattle.gc_file.proofs.WritingLemmas.{Wrote-more, Wrote-exit}
+use Rattle.gc_file.proofs.deal.FileWriter+Unobserved.write_labels.Goals as goal
+
+pub returns-in_err-write_some_labels-clause-bytes : goal.returns-in_err-write_some_labels-clause-bytes
+returns-in_err-write_some_labels-clause-bytes g c =
+    let seed = c.args.seed.now in let first = c.args.first in let bits = c.args.bits.now in
+    let done = c.loop-done.done in let next = c.min-next.result in
+    let least = ord_min-nat (done + 64) (length bits) in
+    Wrote-exit c.from_residual.result _ c.from_residual.ensures.1
+    (label_bytes-next seed first bits done next (omega arith) (omega arith))
+    (label_bytes-rest seed first bits next (omega arith)) c.loop-done.invariant.1
+    c.in_err-write_some_labels.ensures.bytes
+
+pub loop-done-preserved : goal.loop-done-preserved
+loop-done-preserved g c =
+    let bits = c.args.bits.now in let done = c.loop-done.done in let next = c.min-next.result in
+    let least = ord_min-nat (done + 64) (length bits) in (
+      omega arith,
+      Wrote-more
+          (label_bytes-next c.args.seed.now c.args.first bits done next (omega arith) (omega arith))
+          c.loop-done.invariant.1 c.in_ok-write_some_labels.ensures.bytes
+          c.in_ok-write_some_labels.ensures.counted,
+    )
+
+pub returns-clause-bytes : goal.returns-clause-bytes
+returns-clause-bytes g c =
+    rw (take_all c.loop-done.done c.args.bits.now (omega arith)) at c.loop-done.invariant.1.bytes

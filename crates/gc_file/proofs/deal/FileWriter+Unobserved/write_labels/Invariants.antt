@@ -1,0 +1,14 @@
+use Rattle.gc_file.proofs.WriterNames.{◌≤◌, ◌-◌, length, take, Unseen}
+use Rattle.gc_file.proofs.WritingLemmas.{Wrote}
+use Rattle.gc_file.proofs.DealLemmas.{label_bytes}
+use Rattle.gc_file.proofs.deal.FileWriter+Unobserved.write_labels.Given as goal
+
+abbrev pub invariant-loop-done : goal.invariant-loop-done
+invariant-loop-done g l =
+    (l.done ≤ length l.bits)
+    × Wrote Unseen l.initial.self l.self (g.S.Sink.taken l.initial.sink) (g.S.Sink.taken l.sink)
+    (g.S.Sink.failures l.initial.sink) (g.S.Sink.failures l.sink)
+    (label_bytes l.seed l.first (take l.done l.bits))
+
+abbrev pub decreases-loop-done : goal.decreases-loop-done
+decreases-loop-done g l = length l.bits - l.done

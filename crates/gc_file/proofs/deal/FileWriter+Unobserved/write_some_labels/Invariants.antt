@@ -1,0 +1,10 @@
+use Rattle.gc_file.proofs.WriterNames.{take, Unseen}
+use Rattle.gc_file.proofs.WritingLemmas.{Wrote}
+use Rattle.gc_file.proofs.DealLemmas.{label_bytes}
+use Rattle.gc_file.proofs.deal.FileWriter+Unobserved.write_some_labels.Given as goal
+
+abbrev pub invariant-loop-i : goal.invariant-loop-i
+invariant-loop-i g l =
+    Wrote Unseen l.initial.self l.self (g.S.Sink.taken l.initial.sink) (g.S.Sink.taken l.sink)
+    (g.S.Sink.failures l.initial.sink) (g.S.Sink.failures l.sink)
+    (label_bytes l.seed l.first (take l.i l.bits))

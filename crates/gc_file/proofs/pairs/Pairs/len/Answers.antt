@@ -1,0 +1,30 @@
+use Rattle.std.proofs.Common.{arith}
+use Rattle.gc_file.proofs.PairLemmas.{length-view}
+use Rattle.gc_file.proofs.pairs.Pairs.len.Goals as goal
+
+pub returns : goal.returns
+returns g c =
+    let pair = g.P.LabelPair in let inside = c.self.inside in
+    omega (
+      arith,
+      length-view pair.bytes_of pair.length_bytes inside.pairs.items inside.partial.items
+          c.self.view_is,
+    )
+
+pub overflow_add-result : goal.overflow_add-result
+overflow_add-result g c =
+    let pair = g.P.LabelPair in let inside = c.self.inside in
+    omega (
+      arith,
+      length-view pair.bytes_of pair.length_bytes inside.pairs.items inside.partial.items
+          c.self.view_is,
+    )
+
+pub overflow_mul-result : goal.overflow_mul-result
+overflow_mul-result g c =
+    let pair = g.P.LabelPair in let inside = c.self.inside in
+    omega (
+      arith,
+      length-view pair.bytes_of pair.length_bytes inside.pairs.items inside.partial.items
+          c.self.view_is,
+    )

@@ -1,0 +1,25 @@
+//! Whole numbers in files.
+
+ghost use Rattle.std.specs.Prelude.{◌≡◌, ◌+◌, ◌≤◌, length};
+ghost use Rattle.gc_file.specs.Number as numbers;
+
+use byteorder::{ByteOrder, LittleEndian};
+
+/// The number in the four bytes from a place on, the lowest first. That there are four is the caller's condition.
+#[tactic(auto, unfolding(crate::specs::Number::number_at))]
+pub fn number_at(place: usize, bytes: &[u8]) -> u32
+    requires { place + 4 ≤ length bytes.now }
+    ensures { result ≡ numbers.number_at place bytes.now }
+{
+    LittleEndian::read_u32(&bytes[place..])
+}
+
+/// The four bytes of a number, the lowest first.
+#[tactic(auto, unfolding(crate::specs::Number::number_bytes))]
+pub fn number_bytes(number: u32) -> [u8; 4]
+    ensures { result ≡ numbers.number_bytes number }
+{
+    let mut bytes = [0; 4];
+    LittleEndian::write_u32(&mut bytes, number);
+    bytes
+}

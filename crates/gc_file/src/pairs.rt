@@ -1,0 +1,185 @@
+//! Pairs of labels, from pieces of their bytes.
+
+ghost use Rattle.std.specs.Prelude.{◌≡◌, ◌+◌, ◌*◌, ◌%◌, ◌<◌, ◌^◌, ℕ, List, [], ◌++◌, length, flat_map, All, OnOk, IfOk, IfErr};
+ghost use Rattle.gc_label.specs.Label.{bytes_of_label};
+ghost use Rattle.gc_file.specs.GarbledFile.{IsLabel, IsRowPair, row_bytes};
+
+use crate::fault::FileFault;
+use crate::parts::EntryPair;
+use crate::piece::{append, cut, make_room};
+use crate::sizes::PAIR;
+use arrayvec::ArrayVec;
+use gc_half::RowPair;
+use gc_label::Label;
+use std::alloc::Allocator;
+use std::marker::Model;
+
+/// Two labels that stand one after the other in a file.
+pub(crate) trait LabelPair: Copy {
+    // The bytes of the pair.
+    ghost bytes_of: { Self → List ℕ };
+
+    // Each of its labels is that of 16 bytes.
+    ghost are_labels: { Self → Type 0 };
+
+    ghost length_bytes: { (pair : Self) → length (bytes_of pair) ≡ 32 };
+
+    /// The pair of these labels.
+    fn from_labels(first: Label, second: Label) -> Self
+        ensures bytes { bytes_of result ≡ bytes_of_label first ++ bytes_of_label second }
+        ensures labels { IsLabel first → IsLabel second → are_labels result };
+}
+
+impl LabelPair for RowPair {
+    ghost use Rattle.gc_file.specs.GarbledFile.{row_bytes};
+    ghost use Rattle.gc_file.specs.LabelBytes.{length-row_bytes};
+
+    ghost bytes_of = { λ row. row_bytes row };
+
+    ghost are_labels = { λ row. IsLabel row.generator × IsLabel row.evaluator };
+
+    ghost length_bytes = { λ row. length-row_bytes row };
+
+    fn from_labels(first: Label, second: Label) -> RowPair {
+        RowPair {
+            generator: first,
+            evaluator: second,
+        }
+    }
+}
+
+impl LabelPair for EntryPair {
+    ghost use Rattle.gc_file.specs.GarbledFile.{entry_bytes};
+    ghost use Rattle.gc_file.specs.LabelBytes.{length-entry_bytes};
+
+    ghost bytes_of = { λ pair. entry_bytes pair };
+
+    ghost are_labels = { λ pair. IsLabel pair.entry_zero × IsLabel pair.entry_one };
+
+    ghost length_bytes = { λ pair. length-entry_bytes pair };
+
+    fn from_labels(first: Label, second: Label) -> EntryPair {
+        EntryPair {
+            entry_zero: first,
+            entry_one: second,
+        }
+    }
+}
+
+/// The label of 16 bytes.
+pub(crate) fn label_from_bytes(bytes: &[u8]) -> Label
+    requires { length bytes.now ≡ 16 }
+    ensures bytes { bytes_of_label result ≡ bytes.now }
+    ensures fits { IsLabel result }
+{
+    let mut own = [0; 16];
+    own.copy_from_slice(bytes);
+    Label::from_bytes(own)
+}
+
+/// The pair of 32 bytes.
+fn pair_from_bytes<P: LabelPair>(bytes: &[u8]) -> P
+    requires { length bytes.now ≡ 32 }
+    ensures bytes { P.bytes_of result ≡ bytes.now }
+    ensures labels { P.are_labels result }
+{
+    let (first, second) = bytes.split_at(16);
+    P::from_labels(label_from_bytes(first), label_from_bytes(second))
+}
+
+/// The row pairs whose bytes these are, 32 bytes each: the generator's row, and then the evaluator's. It allocates once.
+/// That the bytes are those of whole row pairs is the caller's condition.
+pub fn rows_from_bytes<A: Allocator>(alloc: A, bytes: &[u8]) -> Result<Vec<RowPair, A>, FileFault>
+    requires { length bytes.now % 32 ≡ 0 }
+    ensures bytes { IfOk result (λ v. flat_map row_bytes v.items ≡ bytes.now) }
+    ensures rows { IfOk result (λ v. All IsRowPair v.items) }
+    ensures memory { IfErr result (λ e. e ≡ FileFault.Memory) }
+{
+    let mut rows = Vec::with_capacity(alloc, bytes.len() / PAIR)?;
+    push_pairs(&mut rows, bytes)?;
+    Ok(rows)
+}
+
+/// Pushes the pairs whose bytes these are.
+fn push_pairs<P: LabelPair, A: Allocator>(
+    pairs: &mut Vec<P, A>,
+    bytes: &[u8],
+) -> Result<(), FileFault>
+    requires whole { length bytes.now % 32 ≡ 0 }
+    requires labels { All P.are_labels pairs.old.items }
+    ensures bytes { OnOk result (flat_map P.bytes_of pairs.new.items
+        ≡ flat_map P.bytes_of pairs.old.items ++ bytes.now) }
+    ensures labels { All P.are_labels pairs.new.items }
+    ensures memory { IfErr result (λ e. e ≡ FileFault.Memory) }
+{
+    for i in 0..bytes.len() / PAIR {
+        pairs.push(pair_from_bytes(&bytes[PAIR * i..PAIR * i + PAIR]))?;
+    }
+    Ok(())
+}
+
+/// Pairs whose bytes come in pieces. Contracts see their bytes.
+#[derive(Drop)]
+pub(crate) struct Pairs<P: LabelPair, A: Allocator> {
+    pairs: Vec<P, A>,
+    // The bytes of a pair that isn't whole.
+    partial: ArrayVec<u8, PAIR>,
+}
+
+impl<P: LabelPair, A: Allocator> Model for Pairs<P, A> {
+    ghost use Rattle.std.specs.Prelude.{◌<◌, ◌++◌, ℕ, List, flat_map, length, All};
+
+    ghost Value = { List ℕ };
+
+    ghost view = { λ p. flat_map P.bytes_of p.pairs.items ++ p.partial.items };
+
+    ghost invariant = { λ p. (length p.partial.items < 32) × All P.are_labels p.pairs.items };
+}
+
+impl<P: LabelPair, A: Allocator> Pairs<P, A> {
+    /// No pairs.
+    pub(crate) fn new(alloc: A) -> Pairs<P, A>
+        ensures { result ≡ [] }
+    {
+        Pairs {
+            pairs: Vec::new(alloc),
+            partial: ArrayVec::new(),
+        }
+    }
+
+    /// How many bytes have come.
+    pub(crate) fn len(&self) -> usize
+        requires { length self.now < 2 ^ 64 }
+        ensures { result ≡ length self.now }
+    {
+        PAIR * self.pairs.len() + self.partial.len()
+    }
+
+    /// Adds the next bytes. There will be `most` pairs in all.
+    pub(crate) fn add(&mut self, bytes: &[u8], most: usize) -> Result<(), FileFault>
+        ensures ok { OnOk result (self.new ≡ self.old ++ bytes.now) }
+        ensures memory { IfErr result (λ e. e ≡ FileFault.Memory) }
+    {
+        make_room(&mut self.pairs, bytes.len().div_ceil(PAIR), most)?;
+        let (front, rest) = cut(bytes, PAIR - self.partial.len());
+        append(&mut self.partial, front);
+        if self.partial.is_full() {
+            let pair = pair_from_bytes(self.partial.as_slice());
+            self.partial.clear();
+            self.pairs.push(pair)?;
+        }
+        let (whole, last) = rest.split_at(rest.len() - rest.len() % PAIR);
+        push_pairs(&mut self.pairs, whole)?;
+        append(&mut self.partial, last);
+        Ok(())
+    }
+
+    /// The pairs, where they are whole.
+    pub(crate) fn into_pairs(self) -> Vec<P, A>
+        requires { length self % 32 ≡ 0 }
+        ensures bytes { flat_map P.bytes_of result.items ≡ self }
+        ensures labels { All P.are_labels result.items }
+    {
+        self.pairs
+    }
+}

@@ -1,3 +1,0 @@
-pub mod Names
-pub mod JobListLemmas
-pub mod JobsLemmas

@@ -1,6 +1,0 @@
-use Rattle.gc_jobs.proofs.Names.{◌≡◌, drop, tokens}
-use Rattle.gc_jobs.proofs.job_list.has_words.Given as goal
-
--- No blank is in a token.
-abbrev pub invariant-loop-byte : goal.invariant-loop-byte
-invariant-loop-byte l = tokens (drop l.byte-index l.byte-items) ≡ tokens l.byte-items

@@ -1,2 +1,0 @@
-pub mod JobList
-pub mod Jobs

@@ -1,0 +1,404 @@
+//! A labelling that is partly there, while gates wait.
+
+ghost use Rattle.std.specs.Prelude.{◌≡◌, ℕ, ◌<◌, IfOk, Some, None, length, slice_get, slice_index_or};
+ghost use Rattle.gc_netlist.specs.Circuit.{EachRead, IsLawful, input_wires};
+ghost use Rattle.gc_layers.specs.declared.mark.Mark.TheVariants.{Absent, There};
+ghost use Rattle.gc_layers.specs.Layer.{AreLabels, IsLabelled, IsOriginOf, IsPlace};
+
+use crate::block::{Block, MadeBlock};
+use crate::exchange::MOST_OUT;
+use crate::helpers::Helpers;
+use crate::labelled::Labelled;
+use crate::labelling::Labelling;
+use crate::mark::Mark;
+use crate::origin::Origin;
+use crate::pending::Pending;
+use crate::place::Place;
+use crate::postponed::Postponed;
+use gc_circuit::{Circuit, Gate, Memory, Operation};
+use gc_half::labels_read;
+use gc_label::Label;
+use gc_workers::Gatehouse;
+use std::alloc::Allocator;
+use std::marker::Model;
+use std::mem::replace;
+use std::sync::Wait;
+
+/// A label for each wire of a circuit, as far as they are there: a wire without a label has zero. AND gates that read
+/// labels which are there wait to be made together: they are a layer. Gates that read a wire without a label are
+/// postponed until it has one.
+#[derive(Drop)]
+pub(crate) struct Layer<
+    'c,
+    P: Pending,
+    O: Origin<P>,
+    L: Labelling<P>,
+    A: Allocator,
+    C: Allocator,
+    H: Gatehouse,
+> {
+    circuit: &'c Circuit<C>,
+    labelling: L,
+    // By wire.
+    labels: Vec<Label, A>,
+    // By wire: whether its label is there, which may be zero too.
+    marks: Vec<Mark, A>,
+    waiting: Block<P, O, A>,
+    postponed: Postponed<'c, A, C>,
+    helpers: Helpers<'c, P, O, A, H>,
+}
+
+impl<'c, P: Pending, O: Origin<P>, L: Labelling<P>, A: Allocator, C: Allocator, H: Gatehouse> Model
+    for Layer<'c, P, O, L, A, C, H> {
+    ghost use Rattle.gc_layers.specs.Layer.{IsLayer};
+
+    ghost Value = { L };
+
+    ghost view = { λ t. t.labelling };
+
+    ghost invariant = { λ t. IsLayer (L.circuit_of t.labelling) (L.label_of t.labelling)
+        O.is_pending (L.is_pending t.labelling) t.circuit.now t.labels.items t.marks.items
+        t.postponed };
+}
+
+impl<
+    'c,
+    P: Pending,
+    O: Origin<P>,
+    L: Labelling<P>,
+    A: Allocator + Copy,
+    C: Allocator,
+    H: Gatehouse,
+> Layer<'c, P, O, L, A, C, H> {
+    /// A labelling of which these labels are there, those of the input wires among them, and no gate waits.
+    pub(crate) fn open(
+        alloc: A,
+        circuit: &'c Circuit<C>,
+        labelling: L,
+        labels: Vec<Label, A>,
+        helpers: Helpers<'c, P, O, A, H>,
+    ) -> Result<Layer<'c, P, O, L, A, C, H>, Memory>
+        requires circuit { L.circuit_of labelling ≡ circuit.now }
+        requires labels { AreLabels circuit.now (L.label_of labelling) 0 labels.items }
+        requires origin { IsOriginOf O.is_pending (L.is_pending labelling) }
+        ensures { IfOk result (λ l. l ≡ labelling) }
+    {
+        circuit.law_lawful();
+        Ok(Layer {
+            circuit,
+            labelling,
+            labels,
+            marks: input_marks(alloc, circuit)?,
+            waiting: Block::open(alloc)?,
+            postponed: Postponed::open(alloc, circuit)?,
+            helpers,
+        })
+    }
+
+    /// Goes from gate to gate.
+    pub(crate) fn pass<R: Wait>(&mut self, rt: &R) -> Result<(), Memory>
+        ensures { self.new ≡ self.old }
+    {
+        let circuit = self.circuit;
+        let mut k = 0;
+        for i in 0..circuit.gates() {
+            let gate = circuit.gate(i);
+            self.visit(Place { gate: i, k }, gate)?;
+            if gate.operation.is_and() {
+                k += 1;
+            }
+            self.keep_up(rt)?;
+        }
+        Ok(())
+    }
+
+    /// Goes on until no gate waits.
+    pub(crate) fn finish<R: Wait>(&mut self, rt: &R) -> Result<(), Memory>
+        ensures { self.new ≡ self.old }
+    {
+        for _ in rt.forever() {
+            if self.waiting.is_empty() && self.helpers.are_idle() {
+                return Ok(());
+            }
+            self.advance(rt)?;
+        }
+        unreachable!()
+    }
+
+    /// The labelling, the labels and their marks.
+    pub(crate) fn into_labelled(self) -> Labelled<L, A>
+        ensures labelling { result.labelling ≡ self.entry }
+        ensures labels { IsLabelled (L.circuit_of self.entry) (L.label_of self.entry)
+            result.labels.items result.marks.items }
+    {
+        let Layer {
+            circuit: _,
+            labelling,
+            labels,
+            marks,
+            waiting: _,
+            postponed: _,
+            helpers: _,
+        } = self;
+        Labelled {
+            labelling,
+            labels,
+            marks,
+        }
+    }
+
+    /// Hands the gates out that wait, where they are a block, visits those whose labels are there now, and makes room
+    /// for more that are postponed.
+    #[inline]
+    fn keep_up<R: Wait>(&mut self, rt: &R) -> Result<(), Memory>
+        ensures { self.new ≡ self.old }
+    {
+        self.hand_out_block(rt)?;
+        if self.postponed.has_woken() {
+            self.revisit(rt)?;
+        }
+        if self.postponed.is_full() {
+            self.make_room(rt)?;
+        }
+        Ok(())
+    }
+
+    /// Hands the gates out that wait, where they are a block.
+    #[inline]
+    fn hand_out_block<R: Wait>(&mut self, rt: &R) -> Result<(), Memory>
+        ensures { self.new ≡ self.old }
+    {
+        if self.is_block() {
+            self.hand_out(rt)?;
+        }
+        Ok(())
+    }
+
+    /// Whether the gates that wait are a block.
+    #[inline]
+    fn is_block(&self) -> bool {
+        self.waiting.len() >= self.helpers.gates_of_block()
+    }
+
+    /// Labels a gate's wire; an AND gate waits; a gate that reads a label which isn't there is postponed.
+    #[inline]
+    fn visit(&mut self, place: Place, gate: Gate) -> Result<(), Memory>
+        requires place { IsPlace (L.circuit_of self.old) place }
+        requires gate { slice_get (L.circuit_of self.old).gates place.gate ≡ Some gate }
+        ensures { self.new ≡ self.old }
+    {
+        if let Some(wire) = missing(&self.marks, gate.operation) {
+            return self.postpone(place, wire);
+        }
+        let (first, second) = labels_read(&self.labels, gate.operation);
+        if gate.operation.is_and() {
+            let pending = self.labelling.pending(place, gate, first, second);
+            self.wait(pending)
+        } else {
+            self.helpers.report(place.gate);
+            let label = self.labelling.free(place, gate, first, second);
+            self.settle(gate.set, label);
+            Ok(())
+        }
+    }
+
+    /// Postpones a gate until the label of a wire is there. Where too many are postponed it is left to the end.
+    fn postpone(&mut self, place: Place, wire: u32) -> Result<(), Memory>
+        requires place { IsPlace (L.circuit_of self.old) place }
+        requires wire { wire < (L.circuit_of self.old).wires }
+        ensures { self.new ≡ self.old }
+    {
+        let rest = self.marks[wire as usize];
+        if let Some(slot) = self.postponed.put(place, rest)? {
+            self.marks[wire as usize] = Mark::Awaited(slot);
+        }
+        Ok(())
+    }
+
+    /// Puts the label of a wire where it belongs, and wakes the gates that wait for it.
+    #[inline]
+    fn settle(&mut self, wire: u32, label: Label)
+        requires wire { wire < (L.circuit_of self.old).wires }
+        requires label { label ≡ L.label_of self.old wire }
+        ensures { self.new ≡ self.old }
+    {
+        let mark = self.marks[wire as usize];
+        self.labels[wire as usize] = label;
+        self.marks[wire as usize] = Mark::There;
+        if let Mark::Awaited(slot) = mark {
+            self.postponed.wake(slot);
+        }
+    }
+
+    /// Adds a gate to those that wait.
+    #[inline]
+    fn wait(&mut self, gate: P) -> Result<(), Memory>
+        requires { L.is_pending self.old gate }
+        ensures { self.new ≡ self.old }
+    {
+        self.waiting.push(gate)
+    }
+
+    /// The gates that wait, as a block. None waits from then on.
+    fn take_waiting(&mut self) -> Result<Block<P, O, A>, Memory>
+        ensures { self.new ≡ self.old }
+    {
+        let empty = self.helpers.empty()?;
+        Ok(replace(&mut self.waiting, empty))
+    }
+
+    /// Offers the helpers the gates that wait, as a block, or makes them where the helpers have enough to do.
+    fn hand_out<R: Wait>(&mut self, rt: &R) -> Result<(), Memory>
+        ensures { self.new ≡ self.old }
+    {
+        self.take_back(rt);
+        let block = self.take_waiting()?;
+        if let Some(block) = self.helpers.offer(rt, block) {
+            self.make(block);
+        }
+        Ok(())
+    }
+
+    /// Makes the gates of a block.
+    fn make(&mut self, block: Block<P, O, A>)
+        ensures { self.new ≡ self.old }
+    {
+        let made = self.helpers.make(block);
+        self.land(made);
+    }
+
+    /// Takes the blocks that came back. The answer is whether there were any.
+    fn take_back<R: Wait>(&mut self, rt: &R) -> bool
+        ensures { self.new ≡ self.old }
+    {
+        let mut is_any = false;
+        for _i in 0..MOST_OUT {
+            let Some(made) = self.helpers.returned(rt) else {
+                return is_any;
+            };
+            self.land(made);
+            is_any = true;
+        }
+        is_any
+    }
+
+    /// Takes a block that is made: what making its gates gave goes where it belongs.
+    fn land(&mut self, block: MadeBlock<P, O, A>)
+        ensures { self.new ≡ self.old }
+    {
+        let gates = block.gates();
+        let made = block.made();
+        for i in 0..gates.len() {
+            self.put(&gates[i], &made[i]);
+        }
+        self.helpers.release(block);
+    }
+
+    /// Gets a block made, by a helper or here, and visits the gates that waited for its labels.
+    fn advance<R: Wait>(&mut self, rt: &R) -> Result<(), Memory>
+        ensures { self.new ≡ self.old }
+    {
+        if !self.take_back(rt) {
+            self.make_one(rt)?;
+        }
+        self.revisit(rt)
+    }
+
+    /// Makes a block that no helper took, or the gates that wait, or waits for a block.
+    fn make_one<R: Wait>(&mut self, rt: &R) -> Result<(), Memory>
+        ensures { self.new ≡ self.old }
+    {
+        if let Some(made) = self.helpers.taken_back(rt) {
+            self.land(made);
+        } else if !self.waiting.is_empty() {
+            let block = self.take_waiting()?;
+            self.make(block);
+        } else if let Some(made) = self.helpers.awaited(rt) {
+            self.land(made);
+        }
+        Ok(())
+    }
+
+    /// Gets blocks made until there is room for another gate that is postponed, or no gate waits.
+    fn make_room<R: Wait>(&mut self, rt: &R) -> Result<(), Memory>
+        ensures { self.new ≡ self.old }
+    {
+        for _ in rt.forever() {
+            if !self.postponed.is_full() || self.waiting.is_empty() && self.helpers.are_idle() {
+                return Ok(());
+            }
+            self.advance(rt)?;
+        }
+        unreachable!()
+    }
+
+    /// Visits the gates whose labels are there now.
+    fn revisit<R: Wait>(&mut self, rt: &R) -> Result<(), Memory>
+        ensures { self.new ≡ self.old }
+    {
+        let circuit = self.circuit;
+        for _ in rt.forever() {
+            let Some(place) = self.postponed.next() else {
+                return Ok(());
+            };
+            self.visit(place, circuit.gate(place.gate))?;
+            self.hand_out_block(rt)?;
+        }
+        unreachable!()
+    }
+
+    /// Puts what making an AND gate gave where it belongs.
+    #[inline]
+    fn put(&mut self, gate: &P, made: &P::Made)
+        requires gate { O.is_pending gate.now }
+        requires made { made.now ≡ P.made_of gate.now }
+        ensures { self.new ≡ self.old }
+    {
+        let (wire, label) = self.labelling.keep(gate, made);
+        self.settle(wire, label);
+    }
+}
+
+/// A mark for each wire: the labels of the input wires are there.
+fn input_marks<A: Allocator + Copy, C: Allocator>(
+    alloc: A,
+    circuit: &Circuit<C>,
+) -> Result<Vec<Mark, A>, Memory>
+    ensures count { IfOk result (λ v. length v.items ≡ circuit.now.wires) }
+    ensures inputs { IfOk result (λ v. (w : ℕ) → slice_index_or v.items w Absent ≡ There
+        → w < input_wires circuit.now) }
+{
+    let mut marks = Vec::with_capacity(alloc, circuit.wires() as usize)?;
+    marks.resize(circuit.input_wires() as usize, Mark::There)?;
+    marks.resize(circuit.wires() as usize, Mark::Absent)?;
+    Ok(marks)
+}
+
+/// A wire that an operation reads and whose label isn't there, if there is one.
+#[inline]
+fn missing(marks: &[Mark], operation: Operation) -> Option<u32>
+    requires { EachRead (λ w. w < length marks.now) operation }
+    ensures none { result ≡ None
+        → EachRead (λ w. slice_index_or marks.now w Absent ≡ There) operation }
+    ensures some { (w : ℕ) → result ≡ Some w → w < length marks.now }
+{
+    match operation {
+        Operation::Xor(a, b) | Operation::And(a, b) => {
+            if !marks[a as usize].is_there() {
+                Some(a)
+            } else if !marks[b as usize].is_there() {
+                Some(b)
+            } else {
+                None
+            }
+        }
+        Operation::Inv(a) | Operation::Eqw(a) => {
+            if marks[a as usize].is_there() {
+                None
+            } else {
+                Some(a)
+            }
+        }
+        Operation::Eq(_) => None,
+    }
+}

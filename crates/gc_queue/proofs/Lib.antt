@@ -1,3 +1,0 @@
-pub mod GateSetLemmas
-pub mod QueueLemmas
-pub mod ReadersLemmas

@@ -1,4 +1,0 @@
-pub mod GateSet
-pub mod Queue
-pub mod Readers
-pub mod Opening

@@ -1,4 +1,0 @@
-pub mod CountLemmas
-pub mod DepthLemmas
-pub mod ReadLemmas
-pub mod SizeLemmas

@@ -1,3 +1,0 @@
-pub mod Stats
-pub mod Counts
-pub mod Depths

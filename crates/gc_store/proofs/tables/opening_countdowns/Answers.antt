@@ -1,0 +1,10 @@
+use Rattle.std.proofs.Common.{arith}
+use Rattle.std.proofs.lemmas.Grind.{common_steps}
+use Rattle.std.proofs.lemmas.List.FromFn.{map-range_with_len_more}
+use Rattle.gc_store.specs.Opening.{opening_countdown}
+use Rattle.gc_store.proofs.tables.opening_countdowns.Goals as goal
+
+pub loop-i-preserved : goal.loop-i-preserved
+loop-i-preserved g c =
+    let more = map-range_with_len_more (opening_countdown c.args.circuit.now) 0 c.loop-i.i in
+    grind (arith, common_steps, more)

@@ -1,2 +1,0 @@
-pub mod FilledLemmas
-pub mod ListLemmas

@@ -1,6 +1,0 @@
-use Rattle.std.proofs.Common.{◌≡◌, map, take}
-use Rattle.gc_value.specs.Value.{binary_digit}
-use Rattle.gc_value.proofs.value.show_value.Given as goal
-
-abbrev pub invariant-loop-bit : goal.invariant-loop-bit
-invariant-loop-bit g l = l.text.items ≡ map binary_digit (take l.bit-index l.bits)

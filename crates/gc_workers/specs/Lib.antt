@@ -1,0 +1,3 @@
+pub mod Workers
+pub mod Counts
+pub mod Fault
