@@ -11,3 +11,4 @@ pub mod CheckLemmas
 pub mod HexTextLemmas
 pub mod JobListLemmas
 pub mod JobsLemmas
+pub mod JobsNames

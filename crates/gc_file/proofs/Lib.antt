@@ -21,3 +21,5 @@ pub mod StepLemmas
 pub mod FileLemmas
 pub mod FormLemmas
 pub mod TakeLemmas
+pub mod WriterNames
+pub mod ReaderNames
