@@ -32,7 +32,7 @@ OPERATIONS = text_of([2, 1], [2, 1], [
 
 # Where the kit reads the words of a command line, and where outputs are printed and `run` reads back what it garbled.
 KIT = "rattle_arg", "core::str::utf8::from_utf8", "core::slice::words::skip_far", "clap::parser::lexer::"
-PUBLIC = "gc_command::lines::", "gc_command::value_form::", "gc_command::eval::", "gc_command::run::", "gc_read::body::"
+PUBLIC = "gc_command::lines::", "gc_command::value_form::", "gc_command::eval::", "gc_command::run::", "gc_file::body::"
 
 KEY, BLOCK = "x000102030405060708090a0b0c0d0e0f", "0110" * 32
 
