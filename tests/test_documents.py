@@ -6,6 +6,7 @@ import re
 import subprocess
 import sys
 import unittest
+from pathlib import Path
 
 from program import TOP
 
@@ -111,12 +112,18 @@ def edits_of(document):
 NO_CLAUSES = {"ensures", "type", "signature", "output", "Wait", "Allocator"}
 
 
-def promises():
-    """The rows of the tables of promises, each with the number of its line."""
-    for number, line in numbered_lines(TOP / "docs/PROMISES.md"):
-        cells = line.split("|")[1:-1]
-        if len(cells) == 5:
-            yield number, cells
+def rows(document, column):
+    """The rows of tables that have a column of this name, with the number of the line, the first
+    cell, and the cell in that column."""
+    place = None
+    for number, line in numbered_lines(document):
+        cells = [cell.strip() for cell in line.split("|")[1:-1]]
+        if not cells:
+            place = None
+        elif column in cells:
+            place = cells.index(column)
+        elif place is not None and len(cells) > place:
+            yield number, cells[0], cells[place]
 
 
 def unknown_names(text, known):
@@ -193,19 +200,24 @@ class Documents(unittest.TestCase):
         for document in (TOP / "docs/DEFINITIONS.md", *PAGES):
             for number, line in numbered_lines(document):
                 missing += [f"{place(document, number)} {it}" for it in unknown_names(line, known)]
-        for number, (call, _, _, definition, _) in promises():
-            for cell in (call, definition):
-                missing += [f"PROMISES.md:{number} {it}" for it in unknown_names(cell, known)]
+        for number, call, _ in rows(TOP / "docs/PROMISES.md", "Clause"):
+            missing += [f"PROMISES.md:{number} {it}" for it in unknown_names(call, known)]
         self.assertEqual(missing, [])
 
     def test_clauses(self):
-        """Each clause that a promise names stands in a contract."""
-        sources = "".join(it.read_text() for it in TOP.glob("crates/*/src/*.rt"))
-        known = NO_CLAUSES.union(re.findall(r"\b(?:ensures|fn) (\w+)", sources))
-        missing = []
-        for number, (_, _, clause, _, _) in promises():
-            missing += [f"PROMISES.md:{number} {it}" for it in unknown_names(clause, known)]
+        """Each clause that the promises name stands in a contract, and each that a crate's page
+        names in one of that crate.
+        """
+        missing, found = [], 0
+        for document in (TOP / "docs/PROMISES.md", *PAGES):
+            folder = document.parent if document in PAGES else TOP / "crates/*"
+            sources = "".join(Path(it).read_text() for it in glob.glob(f"{folder}/src/*.rt"))
+            known = NO_CLAUSES.union(re.findall(r"\b(?:ensures|fn) (\w+)", sources))
+            for number, _, clause in rows(document, "Clause"):
+                found += 1
+                missing += [f"{place(document, number)} {it}" for it in unknown_names(clause, known)]
         self.assertEqual(missing, [])
+        self.assertGreater(found, 200)
 
     def test_faults(self):
         """The faults of the vectors stand in the table of faults, under their codes."""
