@@ -1,7 +1,7 @@
 -- Parts that are whole are a garbled file.
 use Rattle.gc_file.proofs.ReaderNames.{◌≡◌, ℕ, ◌+◌, ◌<◌, List, ◌++◌, length, take, drop, map, flat_map, get_or, All, refl, sym, ap, arith, range_with_len, take-add, length-map-range_with_len, sha256, bit_in, IsSpare, number_bytes, GarbledParts, magic, row_bytes, entry_bytes, body, garbled_file, entry_count, IsLabel, IsGarbledFile, row_count, output_count, IsHeaderInOrder, version_of, row_size, decode_size, entry_size, number_bytes-number_at}
 use Rattle.std.proofs.lemmas.List.{take_all, length-take-le, length-drop}
-use Rattle.gc_file.specs.LabelBytes.{length-row_bytes, length-entry_bytes}
+use Rattle.gc_file.proofs.LabelBytesLemmas.{length-row_bytes, length-entry_bytes}
 use Rattle.gc_file.proofs.PairLemmas.{length-pairs}
 use Rattle.gc_file.proofs.PlaceLemmas.{begins}
 use Rattle.gc_file.proofs.PackLemmas.{packed-unpacked}

@@ -10,6 +10,7 @@ pub mod WritingLemmas
 pub mod EndLemmas
 pub mod ListLemmas
 pub mod ByteLemmas
+pub mod LabelBytesLemmas
 pub mod SizeLemmas
 pub mod DealLemmas
 pub mod WrittenFiles

@@ -7,7 +7,7 @@ pub use Rattle.gc_file.proofs.NumberLemmas.{number_at-append, length-number_byte
 pub use Rattle.gc_file.specs.DecodeBits.{bytes_for, packed, bit_in}
 unfoldable pub use Rattle.gc_file.specs.GarbledFile.{garbled_file}
 pub use Rattle.gc_file.specs.GarbledFile.{GarbledParts, magic, entry_count, IsGarbledFile, row_bytes, entry_bytes, IsLabel, header, body}
-pub use Rattle.gc_file.specs.LabelBytes.{length-row_bytes, length-entry_bytes}
+pub use Rattle.gc_file.proofs.LabelBytesLemmas.{length-row_bytes, length-entry_bytes}
 pub use Rattle.gc_file.specs.Number.{number_bytes, number_at}
 pub use Rattle.gc_file.specs.declared.parts.Version.{Version}
 pub use Rattle.gc_label.proofs.LabelLemmas.{length-bytes_of_label, label_of_bytes-bytes_of_label, bytes_of_label-label_of_bytes, label_of_bytes-lt}

@@ -2,7 +2,7 @@
 use Rattle.gc_file.proofs.WriterNames.{◌≡◌, ℕ, ◌+◌, ◌*◌, ◌^◌, ◌<◌, ◌≤◌, List, [], ◌∷◌, ◌++◌, length, length-append, append_assoc, append-nil, flat_map, refl, sym, ap, arith, sha256, length-sha256, Netlist, canonical_text, GarblingParts, One, Two, EntryPair, bytes_for, GarbledParts, magic, body, row_bytes, entry_bytes, garbled_file, parts_of, length-number_bytes, length-packed, front, IsSmall, parts_one}
 use Rattle.gc_file.specs.declared.parts.Version.{Version}
 use Rattle.gc_file.proofs.ByteLemmas.{length-decode_bits}
-use Rattle.gc_file.specs.LabelBytes.{length-row_bytes, length-entry_bytes}
+use Rattle.gc_file.proofs.LabelBytesLemmas.{length-row_bytes, length-entry_bytes}
 
 pub length-flat_map : {X A : Type 0} (f : X → List A) (n : ℕ) → ((x : X) → length (f x) ≡ n)
     → (xs : List X) → length (flat_map f xs) ≡ n * length xs

@@ -1,17 +1,13 @@
--- How many bytes a pair of labels takes.
-use Rattle.std.proofs.Common.{◌≡◌, ℕ, ◌++◌, length, length-append, ◌∙◌}
+-- The bytes of a pair of labels, for a pair of any kind whose labels are told.
+use Rattle.std.specs.Prelude.{◌++◌, ℕ, List}
 use Rattle.gc_label.specs.Label.{bytes_of_label}
-use Rattle.gc_label.proofs.LabelLemmas.{length-bytes_of_label}
-use Rattle.gc_half.specs.declared.garbling.RowPair.{RowPair}
-use Rattle.gc_file.specs.declared.parts.EntryPair.{EntryPair}
-use Rattle.gc_file.specs.GarbledFile.{row_bytes, entry_bytes}
+use Rattle.gc_file.specs.GarbledFile.{IsLabel}
 
-length-two : (a b : ℕ) → length (bytes_of_label a ++ bytes_of_label b) ≡ 32
-length-two a b = length-append (bytes_of_label a) (bytes_of_label b)
-    ∙ rw (length-bytes_of_label a, length-bytes_of_label b)
+module _ {P : Type 0} (labels : P → ℕ × ℕ) where
+  -- the 16 bytes of the first label, and then those of the second
+  abbrev pub bytes_by : P → List ℕ
+  bytes_by pair = bytes_of_label (labels pair).0 ++ bytes_of_label (labels pair).1
 
-pub length-row_bytes : (row : RowPair) → length (row_bytes row) ≡ 32
-length-row_bytes row = length-two row.generator row.evaluator
-
-pub length-entry_bytes : (pair : EntryPair) → length (entry_bytes pair) ≡ 32
-length-entry_bytes pair = length-two pair.entry_zero pair.entry_one
+  -- Each of the two is the number of 16 bytes.
+  abbrev pub AreLabels : P → Type 0
+  AreLabels pair = IsLabel (labels pair).0 × IsLabel (labels pair).1

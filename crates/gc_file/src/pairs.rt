@@ -3,6 +3,7 @@
 ghost use Rattle.std.specs.Prelude.{◌≡◌, ◌+◌, ◌*◌, ◌%◌, ◌<◌, ◌^◌, ℕ, List, [], ◌++◌, length, flat_map, All, OnOk, IfOk, IfErr};
 ghost use Rattle.gc_label.specs.Label.{bytes_of_label};
 ghost use Rattle.gc_file.specs.GarbledFile.{IsLabel, IsRowPair, row_bytes};
+ghost use Rattle.gc_file.specs.LabelBytes.{bytes_by, AreLabels};
 
 use crate::fault::FileFault;
 use crate::parts::EntryPair;
@@ -16,29 +17,16 @@ use std::marker::Model;
 
 /// Two labels that stand one after the other in a file.
 pub(crate) trait LabelPair: Copy {
-    // The bytes of the pair.
-    ghost bytes_of: { Self → List ℕ };
-
-    // Each of its labels is that of 16 bytes.
-    ghost are_labels: { Self → Type 0 };
-
-    ghost length_bytes: { (pair : Self) → length (bytes_of pair) ≡ 32 };
+    // The labels of the pair.
+    ghost labels: { Self → ℕ × ℕ };
 
     /// The pair of these labels.
     fn from_labels(first: Label, second: Label) -> Self
-        ensures bytes { bytes_of result ≡ bytes_of_label first ++ bytes_of_label second }
-        ensures labels { IsLabel first → IsLabel second → are_labels result };
+        ensures { labels result ≡ (first, second) };
 }
 
 impl LabelPair for RowPair {
-    ghost use Rattle.gc_file.specs.GarbledFile.{row_bytes};
-    ghost use Rattle.gc_file.specs.LabelBytes.{length-row_bytes};
-
-    ghost bytes_of = { λ row. row_bytes row };
-
-    ghost are_labels = { λ row. IsLabel row.generator × IsLabel row.evaluator };
-
-    ghost length_bytes = { λ row. length-row_bytes row };
+    ghost labels = { λ row. (row.generator, row.evaluator) };
 
     fn from_labels(first: Label, second: Label) -> RowPair {
         RowPair {
@@ -49,14 +37,7 @@ impl LabelPair for RowPair {
 }
 
 impl LabelPair for EntryPair {
-    ghost use Rattle.gc_file.specs.GarbledFile.{entry_bytes};
-    ghost use Rattle.gc_file.specs.LabelBytes.{length-entry_bytes};
-
-    ghost bytes_of = { λ pair. entry_bytes pair };
-
-    ghost are_labels = { λ pair. IsLabel pair.entry_zero × IsLabel pair.entry_one };
-
-    ghost length_bytes = { λ pair. length-entry_bytes pair };
+    ghost labels = { λ pair. (pair.entry_zero, pair.entry_one) };
 
     fn from_labels(first: Label, second: Label) -> EntryPair {
         EntryPair {
@@ -80,8 +61,8 @@ pub(crate) fn label_from_bytes(bytes: &[u8]) -> Label
 /// The pair of 32 bytes.
 fn pair_from_bytes<P: LabelPair>(bytes: &[u8]) -> P
     requires { length bytes.now ≡ 32 }
-    ensures bytes { P.bytes_of result ≡ bytes.now }
-    ensures labels { P.are_labels result }
+    ensures bytes { bytes_by P.labels result ≡ bytes.now }
+    ensures labels { AreLabels P.labels result }
 {
     let (first, second) = bytes.split_at(16);
     P::from_labels(label_from_bytes(first), label_from_bytes(second))
@@ -106,10 +87,10 @@ fn push_pairs<P: LabelPair, A: Allocator>(
     bytes: &[u8],
 ) -> Result<(), FileFault>
     requires whole { length bytes.now % 32 ≡ 0 }
-    requires labels { All P.are_labels pairs.old.items }
-    ensures bytes { OnOk result (flat_map P.bytes_of pairs.new.items
-        ≡ flat_map P.bytes_of pairs.old.items ++ bytes.now) }
-    ensures labels { All P.are_labels pairs.new.items }
+    requires labels { All (AreLabels P.labels) pairs.old.items }
+    ensures bytes { OnOk result (flat_map (bytes_by P.labels) pairs.new.items
+        ≡ flat_map (bytes_by P.labels) pairs.old.items ++ bytes.now) }
+    ensures labels { All (AreLabels P.labels) pairs.new.items }
     ensures memory { IfErr result (λ e. e ≡ FileFault.Memory) }
 {
     for i in 0..bytes.len() / PAIR {
@@ -128,12 +109,13 @@ pub(crate) struct Pairs<P: LabelPair, A: Allocator> {
 
 impl<P: LabelPair, A: Allocator> Model for Pairs<P, A> {
     ghost use Rattle.std.specs.Prelude.{◌<◌, ◌++◌, ℕ, List, flat_map, length, All};
+    ghost use Rattle.gc_file.specs.LabelBytes.{bytes_by, AreLabels};
 
     ghost Value = { List ℕ };
 
-    ghost view = { λ p. flat_map P.bytes_of p.pairs.items ++ p.partial.items };
+    ghost view = { λ p. flat_map (bytes_by P.labels) p.pairs.items ++ p.partial.items };
 
-    ghost invariant = { λ p. (length p.partial.items < 32) × All P.are_labels p.pairs.items };
+    ghost invariant = { λ p. (length p.partial.items < 32) × All (AreLabels P.labels) p.pairs.items };
 }
 
 impl<P: LabelPair, A: Allocator> Pairs<P, A> {
@@ -177,8 +159,8 @@ impl<P: LabelPair, A: Allocator> Pairs<P, A> {
     /// The pairs, where they are whole.
     pub(crate) fn into_pairs(self) -> Vec<P, A>
         requires { length self % 32 ≡ 0 }
-        ensures bytes { flat_map P.bytes_of result.items ≡ self }
-        ensures labels { All P.are_labels result.items }
+        ensures bytes { flat_map (bytes_by P.labels) result.items ≡ self }
+        ensures labels { All (AreLabels P.labels) result.items }
     {
         self.pairs
     }

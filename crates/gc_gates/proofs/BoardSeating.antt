@@ -8,6 +8,7 @@ use Rattle.atomic_table.proofs.Lists.{set_else}
 use Rattle.gc_workers.specs.Counts.{total, only}
 use Rattle.gc_workers.proofs.Sums.{total-append, total-dealt, total-joined, each-one, each-dealt, each-joined, only_other}
 use Rattle.gc_workers.proofs.Sums.{zeros}
+use Rattle.gc_workers.specs.declared.states.TheConstants.{DONE, IN_HAND}
 use Rattle.gc_rounds.specs.Words.{stamp}
 use Rattle.gc_rounds.specs.Steps.{one_less, merged, nobody}
 use Rattle.gc_rounds.specs.declared.view.View.{View}
@@ -40,22 +41,28 @@ module _ {J : Type 0} (gates : J → ℕ) (right : J → ℕ → ℕ → ℕ →
     pub splits : (words : List ℕ) (views : List (View (GateView J))) (id : ℕ)
         (v left other : View (GateView J)) → Sound lay gates right job words views
         → get_elem? views id ≡ some v
-        → ((r g : ℕ) → in_hand r g left.inner.hand + in_hand r g other.inner.hand ≡ in_hand r g v.inner.hand)
-        → ((r g : ℕ) → pairs r g left.inner.made + pairs r g other.inner.made ≡ pairs r g v.inner.made)
+        → ((r g : ℕ) → in_hand r g left.inner.hand + in_hand r g other.inner.hand
+        ≡ in_hand r g v.inner.hand)
+        → ((r g : ℕ) → pairs r g left.inner.made + pairs r g other.inner.made
+        ≡ pairs r g v.inner.made)
         → Fits lay gates right job words left → Fits lay gates right job words other
         → Sound lay gates right job words (set views id left ++ other ∷ [])
     splits words views id v left other o at hand made l q =
-        let totals = λ (m : View (GateView J) → ℕ). total-dealt m views id v left other at in record {
+        let totals = λ (m : View (GateView J) → ℕ). total-dealt m views id v left other at in
+        record {
           long = o.long;
           cells = o.cells;
-          hands = λ r g. omega (arith, totals (λ u. in_hand r g u.inner.hand), hand r g, o.hands r g);
+          hands = λ r g. omega
+              (arith, totals (λ u. in_hand r g u.inner.hand), hand r g, o.hands r g);
           once = λ r g. omega (arith, totals (λ u. pairs r g u.inner.made), made r g, o.once r g);
-          mades = λ r g le. omega (arith, totals (λ u. pairs r g u.inner.made), made r g, o.mades r g le);
+          mades = λ r g le. omega
+              (arith, totals (λ u. pairs r g u.inner.made), made r g, o.mades r g le);
           fits = each-dealt _ views id left other o.fits l q;
         }
 
     pub merges : (words : List ℕ) (views : List (View (GateView J))) (id other : ℕ)
-        (v w : View (GateView J)) → Sound lay gates right job words views → get_elem? views id ≡ some v
+        (v w : View (GateView J)) → Sound lay gates right job words views
+        → get_elem? views id ≡ some v
         → ¬ (other ≡ id)
         → get_elem? (set views id (merged v w (joined v.inner w.inner))) other ≡ some w
         → w.inner.hand ≡ Empty
@@ -72,14 +79,17 @@ module _ {J : Type 0} (gates : J → ℕ) (right : J → ℕ → ℕ → ℕ →
           hands = λ r g. let none_there = ap (in_hand r g) empty in
               omega (arith, totals (λ u. in_hand r g u.inner.hand), o.hands r g);
           once = λ r g. omega (arith, totals (λ u. pairs r g u.inner.made), made r g, o.once r g);
-          mades = λ r g le. omega (arith, totals (λ u. pairs r g u.inner.made), made r g, o.mades r g le);
+          mades = λ r g le. omega
+              (arith, totals (λ u. pairs r g u.inner.made), made r g, o.mades r g le);
           fits = each-joined _ views id other both (nobody no_view) o.fits
               (record {
                 holding = f.holding;
                 inside = f.inside;
-                knows = λ r g k. let adds = total-append (is_pair r g) v.inner.known w.inner.known in
+                knows = λ r g k.
+                    let adds = total-append (is_pair r g) v.inner.known w.inner.known in
                     let mine = f.knows r g in let known = theirs.knows r g in grind arith;
-                looks = λ r g n k. let adds = total-append (is_look r g n) v.inner.looks w.inner.looks in
+                looks = λ r g n k.
+                    let adds = total-append (is_look r g n) v.inner.looks w.inner.looks in
                     let mine = f.looks r g n in let known = theirs.looks r g n in grind arith;
                 spent = λ z. let a = f.spent (omega arith) in let b = theirs.spent (omega arith) in
                     (a.0, λ i. a.1 i ++ b.1 i);
@@ -98,7 +108,9 @@ module _ {J : Type 0} (gates : J → ℕ) (right : J → ℕ → ℕ → ℕ →
         → Dealt key.seats (first_seat key ∷ [])
         × Sound one_round gates right key.about (replicate n 0) (first_seat key ∷ [])
     opens n is some_seat =
-        let free : (r g : ℕ) → state_of one_round (replicate n 0) r g ≡ 0 = λ r g. zeros n (3 * g) in (
+        let free : (r g : ℕ)
+        → state_of one_round (replicate n 0) r g ≡ 0 =
+        λ r g. zeros n (3 * g) in (
           record {
             dealt = omega arith;
             here = each-one Here (first_seat key) (λ r e. cc);
@@ -111,10 +123,15 @@ module _ {J : Type 0} (gates : J → ℕ) (right : J → ℕ → ℕ → ℕ →
               low = λ e. absurd (omega (arith, free r g));
               high = λ e. absurd (omega (arith, free r g));
             };
-            hands = λ r g. sym (only_other (stamp r 1) (state_of one_round (replicate n 0) r g) (λ e. omega (arith, free r g)));
+            hands = λ r g. sym (only_other (stamp r IN_HAND)
+                (state_of one_round (replicate n 0) r g)
+                (λ e. omega (arith, free r g)));
             once = λ r g. omega arith;
-            mades = λ r g l. sym (only_other (stamp r 2) (state_of one_round (replicate n 0) r g) (λ e. omega (arith, free r g)));
-            fits = each-one _ (first_seat key) (blank one_round key.about (replicate n 0) _ refl refl refl refl);
+            mades = λ r g l. sym
+                (only_other (stamp r DONE) (state_of one_round (replicate n 0) r g)
+                (λ e. omega (arith, free r g)));
+            fits = each-one _ (first_seat key)
+                (blank one_round key.about (replicate n 0) _ refl refl refl refl);
           },
         )
 
@@ -122,20 +139,37 @@ module _ {J : Type 0} (gates : J → ℕ) (right : J → ℕ → ℕ → ℕ →
         → Splits Holds id v (one_less v) (dealt_seat v)
     deals id v several s o at = let f = o.1.fits id v at in (
       record {
-        dealt = omega (arith, total-dealt (λ (u : View (GateView J)). u.seats) s.views id v (one_less v) (dealt_seat v) at, o.0.dealt);
-        here = each-dealt Here s.views id (one_less v) (dealt_seat v) o.0.here (o.0.here id v at) (λ r e. cc);
+        dealt = omega (
+          arith,
+          total-dealt (λ (u : View (GateView J)). u.seats) s.views id v (one_less v)
+              (dealt_seat v) at,
+          o.0.dealt,
+        );
+        here = each-dealt Here s.views id (one_less v) (dealt_seat v) o.0.here (o.0.here id v at)
+            (λ r e. cc);
       },
       splits one_round key.about s.words s.views id v (one_less v) (dealt_seat v) o.1 at
           (λ r g. omega arith) (λ r g. omega arith)
-          (record { holding = f.holding; inside = f.inside; knows = f.knows; looks = f.looks; spent = λ e. absurd (omega arith) })
+          (record {
+            holding = f.holding;
+            inside = f.inside;
+            knows = f.knows;
+            looks = f.looks;
+            spent = λ e. absurd (omega arith);
+          })
           (blank one_round key.about s.words _ refl refl refl refl),
     )
 
     pub notes : (id : ℕ) (v : View (GateView J)) → Splits Holds id v v (note_of v)
     notes id v s o at = let f = o.1.fits id v at in (
       record {
-        dealt = omega (arith, total-dealt (λ (u : View (GateView J)). u.seats) s.views id v v (note_of v) at, o.0.dealt);
-        here = each-dealt Here s.views id v (note_of v) o.0.here (o.0.here id v at) (λ r e. absurd (cc));
+        dealt = omega (
+          arith,
+          total-dealt (λ (u : View (GateView J)). u.seats) s.views id v v (note_of v) at,
+          o.0.dealt,
+        );
+        here = each-dealt Here s.views id v (note_of v) o.0.here (o.0.here id v at)
+            (λ r e. absurd (cc));
       },
       splits one_round key.about s.words s.views id v v (note_of v) o.1 at
           (λ r g. omega arith) (λ r g. omega arith) f
@@ -154,8 +188,14 @@ module _ {J : Type 0} (gates : J → ℕ) (right : J → ℕ → ℕ → ℕ →
     joins id v other w empty s o at apart there =
         let both = merged v w (joined v.inner w.inner) in (
           record {
-            dealt = omega (arith, total-joined (λ (u : View (GateView J)). u.seats) s.views id other v both w (nobody no_view) at there, o.0.dealt);
-            here = each-joined Here s.views id other both (nobody no_view) o.0.here (o.0.here id v at) (λ r e. absurd (cc));
+            dealt = omega (
+              arith,
+              total-joined (λ (u : View (GateView J)). u.seats) s.views id other v both w
+                  (nobody no_view) at there,
+              o.0.dealt,
+            );
+            here = each-joined Here s.views id other both (nobody no_view) o.0.here
+                (o.0.here id v at) (λ r e. absurd (cc));
           },
           merges one_round key.about s.words s.views id other v w o.1 at apart there empty,
         )
@@ -180,6 +220,6 @@ module _ {J : Type 0} (gates : J → ℕ) (right : J → ℕ → ℕ → ℕ →
       only_here = λ r g later. let c = o.1.cells r g in
           sym (all_made id v s o f.1.1 are whole r g)
           ∙ o.1.mades r g (omega (arith, c.state, c.round))
-          ∙ only_other (stamp r 2) (state_of one_round s.words r g)
+          ∙ only_other (stamp r DONE) (state_of one_round s.words r g)
           (λ e. omega (arith, c.state, c.round));
     })

@@ -14,6 +14,7 @@ use Rattle.atomic_table.specs.Table as table_spec
 use Rattle.atomic_table.specs.Seated.{TableId}
 use Rattle.atomic_table.specs.declared.shared.Seat.{Seat}
 use Rattle.gc_workers.specs.Counts.{total, only}
+use Rattle.gc_workers.specs.declared.states.TheConstants.{DONE, FREE, IN_HAND}
 use Rattle.gc_rounds.specs.Words.{round_of, bank_of, stamp}
 use Rattle.gc_rounds.specs.Views.{gives, unfair, seals_in}
 use Rattle.gc_rounds.specs.declared.view.Key.{Key}
@@ -63,13 +64,16 @@ module _ (lay : Layout) where
   abbrev after_state : {J : Type 0} → View (GateView J) → ℕ → ℕ → ℕ → View (GateView J)
   after_state v r g found = gate_steps.after_state lay v r g found
 
-  abbrev state_loaded : {J S : Type 0} → table_spec.Step S → Me S (View (GateView J)) → ℕ → Me S (View (GateView J)) → Type 0
+  abbrev state_loaded : {J S : Type 0} → table_spec.Step S → Me S (View (GateView J)) → ℕ
+      → Me S (View (GateView J)) → Type 0
   state_loaded st m found m' = gate_steps.state_loaded lay st m found m'
 
-  abbrev claimed : {J S : Type 0} → table_spec.Step S → Me S (View (GateView J)) → ℕ → Me S (View (GateView J)) → Type 0
+  abbrev claimed : {J S : Type 0} → table_spec.Step S → Me S (View (GateView J)) → ℕ
+      → Me S (View (GateView J)) → Type 0
   claimed st m found m' = gate_steps.claimed lay st m found m'
 
-  abbrev done_stored : {J S : Type 0} → table_spec.Step S → Me S (View (GateView J)) → ℕ → Me S (View (GateView J)) → Type 0
+  abbrev done_stored : {J S : Type 0} → table_spec.Step S → Me S (View (GateView J)) → ℕ
+      → Me S (View (GateView J)) → Type 0
   done_stored st m found m' = gate_steps.done_stored lay st m found m'
 
   abbrev after_done : {J : Type 0} → View (GateView J) → ℕ → ℕ → View (GateView J)
@@ -82,25 +86,26 @@ module _ (lay : Layout) where
 
   -- what a list of known gates and one of looks say of the words
   abbrev Known : List ℕ → List (ℕ × ℕ) → Type 0
-  Known words known = (k h : ℕ) → 0 < pairs k h known → stamp k 2 ≤ state_of words k h
+  Known words known = (k h : ℕ) → 0 < pairs k h known → stamp k DONE ≤ state_of words k h
 
   abbrev Lasting : List ℕ → List (ℕ × ℕ × ℕ) → Type 0
   Lasting words looks = (k h n : ℕ) → 0 < looked k h n looks
-      → (k ≤ round_now words k) × ((state_of words k h ≡ n) ⊎ (stamp k 0 < state_of words k h))
+      → (k ≤ round_now words k) × ((state_of words k h ≡ n) ⊎ (stamp k FREE < state_of words k h))
 
   -- No bank's round changes, and a state that changes goes up, to a round that its bank has reached.
   record Up (before now : List ℕ) : Type 0 where
     pub rounds : (k : ℕ) → round_now now k ≡ round_now before k
     pub moves : (k h : ℕ) → (state_of before k h ≤ state_of now k h) × (k ≤ round_now before k
-        → (state_of now k h ≡ state_of before k h) ⊎ (stamp k 0 < state_of now k h))
+        → (state_of now k h ≡ state_of before k h) ⊎ (stamp k FREE < state_of now k h))
 
-  looks_last : (before now : List ℕ) (looks : List (ℕ × ℕ × ℕ)) → Up before now → Lasting before looks
+  looks_last : (before now : List ℕ) (looks : List (ℕ × ℕ × ℕ)) → Up before now
+      → Lasting before looks
       → Lasting now looks
   looks_last before now looks up f k h n more =
       let was = f k h n more in let goes = up.moves k h in let same = up.rounds k in grind arith
 
   -- one more gate is known that is done
-  knows_too : (words : List ℕ) (known : List (ℕ × ℕ)) (r g : ℕ) → stamp r 2 ≤ state_of words r g
+  knows_too : (words : List ℕ) (known : List (ℕ × ℕ)) (r g : ℕ) → stamp r DONE ≤ state_of words r g
       → Known words known → Known words ((r, g) ∷ known)
   knows_too words known r g done f k h more =
       let old = f k h in let same = pair_is k h (r, g) in grind arith
@@ -133,7 +138,8 @@ module _ (lay : Layout) where
 
     hand_moves : (before now : List ℕ) (hand : Hand)
         → ((k h phase : ℕ) → hand ≡ Has k h phase → SameHalves before now k h)
-        → board.IsHandRight lay gates right job before hand → board.IsHandRight lay gates right job now hand
+        → board.IsHandRight lay gates right job before hand
+        → board.IsHandRight lay gates right job now hand
     hand_moves before now Empty same h = tt
     hand_moves before now (Has k h phase) same f = let e = same k h phase refl in
         ((λ l. rw e.0 (f.0 l)), (λ l. rw e.1 (f.1 l)))
@@ -152,7 +158,7 @@ module _ (lay : Layout) where
 
     -- state 1 is of the bank's round
     one_round : (words : List ℕ) (views : List (SeatView J)) (k h : ℕ) → Rule words views
-        → state_of words k h ≡ stamp k 1 → round_now words k ≡ k
+        → state_of words k h ≡ stamp k IN_HAND → round_now words k ≡ k
     one_round words views k h o is =
         let t = someone (λ (u : SeatView J). in_hand k h u.inner.hand) views
         (omega (arith, o.1.hands k h, only_same)) in
@@ -162,31 +168,33 @@ module _ (lay : Layout) where
     -- who has a gate in hand finds it at state 1
     taken : (words : List ℕ) (views : List (SeatView J)) (id r g : ℕ) (v : SeatView J)
         → Rule words views → get_elem? views id ≡ some v → in_hand r g v.inner.hand ≡ 1
-        → state_of words r g ≡ stamp r 1
+        → state_of words r g ≡ stamp r IN_HAND
     taken words views id r g v o at_id has =
         let le = term_le (λ (x : SeatView J). in_hand r g x.inner.hand) views id v at_id in
-        sym (only_is (stamp r 1) (state_of words r g) (omega (arith, o.1.hands r g)))
+        sym (only_is (stamp r IN_HAND) (state_of words r g) (omega (arith, o.1.hands r g)))
 
     -- a step that changes the view at id from v to w
     turned : (before now : List ℕ) (views : List (SeatView J)) (id : ℕ) (v w : SeatView J)
         → board.Sound lay gates right job before views → get_elem? views id ≡ some v
         → length now ≡ length before → ((k h : ℕ) → state_of before k h ≤ state_of now k h)
         → ((k h : ℕ) → board.Cell lay gates right job now k h)
-        → ((k h : ℕ) → (in_hand k h w.inner.hand + only (stamp k 1) (state_of before k h)
-        ≡ in_hand k h v.inner.hand + only (stamp k 1) (state_of now k h))
-        × (state_of now k h < stamp (k + 1) 0
-        → pairs k h w.inner.made + only (stamp k 2) (state_of before k h)
-        ≡ pairs k h v.inner.made + only (stamp k 2) (state_of now k h))
-        × ((pairs k h w.inner.made ≡ pairs k h v.inner.made) ⊎ (state_of now k h < stamp (k + 1) 0)))
+        → ((k h : ℕ) → (in_hand k h w.inner.hand + only (stamp k IN_HAND) (state_of before k h)
+        ≡ in_hand k h v.inner.hand + only (stamp k IN_HAND) (state_of now k h))
+        × (state_of now k h < stamp (k + 1) FREE
+        → pairs k h w.inner.made + only (stamp k DONE) (state_of before k h)
+        ≡ pairs k h v.inner.made + only (stamp k DONE) (state_of now k h))
+        × ((pairs k h w.inner.made ≡ pairs k h v.inner.made)
+        ⊎ (state_of now k h < stamp (k + 1) FREE)))
         → ((j : ℕ) (u : SeatView J) → j ≢ id → get_elem? views j ≡ some u
         → board.Fits lay gates right job now u)
-        → board.Fits lay gates right job now w → board.Sound lay gates right job now (set views id w)
+        → board.Fits lay gates right job now w
+        → board.Sound lay gates right job now (set views id w)
     turned before now views id v w o at_id long le cells counts others mine =
         let totals = λ (m : SeatView J → ℕ). total-set m views id v w at_id in
         let makes = λ (k h : ℕ). totals (λ u. pairs k h u.inner.made) in
-        let mades : (k h : ℕ) → state_of now k h < stamp (k + 1) 0
+        let mades : (k h : ℕ) → state_of now k h < stamp (k + 1) FREE
         → total (λ (u : SeatView J). pairs k h u.inner.made) (set views id w)
-        ≡ only (stamp k 2) (state_of now k h) = λ k h l.
+        ≡ only (stamp k DONE) (state_of now k h) = λ k h l.
         omega (arith, makes k h, o.mades k h (omega (arith, le k h)), (counts k h).1 l) in record {
           long = long ∙ o.long;
           cells = cells;
@@ -200,11 +208,13 @@ module _ (lay : Layout) where
 
     -- where one seat stands for all, no other has a gate in hand or made one
     pub sees_all : (words : List ℕ) (views : List (SeatView J)) (id : ℕ) (v : SeatView J)
-        → Rule words views → get_elem? views id ≡ some v → v.all ≡ key.seats → v.seats ≡ v.all → (r g : ℕ)
-        → (in_hand r g v.inner.hand ≡ only (stamp r 1) (state_of words r g))
+        → Rule words views → get_elem? views id ≡ some v → v.all ≡ key.seats → v.seats ≡ v.all
+        → (r g : ℕ)
+        → (in_hand r g v.inner.hand ≡ only (stamp r IN_HAND) (state_of words r g))
         × (total (λ u. pairs r g u.inner.made) views ≡ pairs r g v.inner.made)
     sees_all words views id v o at_id are whole r g =
-        let all : total (λ (u : SeatView J). u.seats) views ≡ v.seats = omega (arith, law.dealt key words views o.0) in (
+        let all : total (λ (u : SeatView J). u.seats) views ≡ v.seats =
+        omega (arith, law.dealt key words views o.0) in (
           sym (sole (λ u. in_hand r g u.inner.hand) (λ u. u.seats) views id v at_id all
               (λ j u there no. ap (in_hand r g) ((o.1.fits j u there).spent no).0)) ∙ o.1.hands r g,
           sole (λ u. pairs r g u.inner.made) (λ u. u.seats) views id v at_id all
@@ -267,7 +277,10 @@ module _ (lay : Layout) where
 
       -- the word says which gate it is, and the seat in which round
       here : (k h i : ℕ) → i < 3 → v.stand ≡ Inside k → at r g + i ≡ at k h + i → (k ≡ r) × (h ≡ g)
-      here k h i i_small stand e = (inside_is k r (sym stand ∙ p.inside), (law.layout.apart r g k h i i i_small i_small (sym e)).1)
+      here k h i i_small stand e = (
+        inside_is k r (sym stand ∙ p.inside),
+        (law.layout.apart r g k h i i i_small i_small (sym e)).1,
+      )
 
       now_is : (s : State ℕ (SeatView J)) → Holds s → get_elem? s.views seat.id ≡ some v
           → round_now s.words r ≡ r
@@ -287,7 +300,8 @@ module _ (lay : Layout) where
       finds s o at_id = let c = o.1.cells r g in let e = now_is s o at_id in record {
         state = c.state;
         round = omega (arith, c.round, e);
-        known = λ more. omega (arith, (o.1.fits seat.id v at_id).knows r g more, c.state, c.round, e);
+        known = λ more. omega
+            (arith, (o.1.fits seat.id v at_id).knows r g more, c.state, c.round, e);
         alone = λ whole. let are = p.place.whole in
             let t = sees_all s.words s.views seat.id v o at_id are whole r g in
             (t.0, sym t.1 ∙ o.1.mades r g (omega (arith, c.round, e)));
@@ -314,7 +328,8 @@ module _ (lay : Layout) where
 
       -- a load of half i of the gate, where this is right if the gate is done in the round
       pub loads_half : (i : ℕ) → i < 2 → ((s : State ℕ (SeatView J)) → Holds s
-          → state_of s.words r g ≡ stamp r 2 → right job r g i (get_or s.words (at r g + suc i) 0))
+          → state_of s.words r g ≡ stamp r DONE
+          → right job r g i (get_or s.words (at r g + suc i) 0))
           → Owes (at r g + suc i) (λ n. n)
           (λ n m. (m.1 ≡ seat.me.1) × (m.0 ≡ after_half v (at r g + suc i) n)
           × ((k h : ℕ) → v.stand ≡ Inside k → at r g + suc i ≡ at k h + suc i
@@ -325,7 +340,8 @@ module _ (lay : Layout) where
             after_half v word found,
             keeps,
             tt,
-            kept _ (loaded s.words s.views word seat.id v v.inner.known v.inner.looks (Load word found)
+            kept _ (loaded s.words s.views word seat.id v v.inner.known v.inner.looks
+                (Load word found)
                 ((λ b. refl), (λ k. refl), refl) o at_id f.knows f.looks),
             (
               refl,
@@ -365,10 +381,10 @@ module _ (lay : Layout) where
           (e : Step) → IsBeside e → Holds s → get_elem? s.views seat.id ≡ some v → 0 < m → m < 3
           → state_of s.words r g < stamp r m
           → (m ≡ 2 → right job r g 0 (low_of s.words r g) × right job r g 1 (high_of s.words r g))
-          → in_hand r g hand + only (stamp r 1) (state_of s.words r g)
-          ≡ in_hand r g v.inner.hand + only (stamp r 1) (stamp r m)
-          → pairs r g made + only (stamp r 2) (state_of s.words r g)
-          ≡ pairs r g v.inner.made + only (stamp r 2) (stamp r m)
+          → in_hand r g hand + only (stamp r IN_HAND) (state_of s.words r g)
+          ≡ in_hand r g v.inner.hand + only (stamp r IN_HAND) (stamp r m)
+          → pairs r g made + only (stamp r DONE) (state_of s.words r g)
+          ≡ pairs r g v.inner.made + only (stamp r DONE) (stamp r m)
           → ((k h : ℕ) → is_pair k h (r, g) ≡ 0 → (in_hand k h hand ≡ in_hand k h v.inner.hand)
           × (pairs k h made ≡ pairs k h v.inner.made))
           → board.IsHandRight lay gates right job (set s.words (at r g) (stamp r m)) hand
@@ -443,9 +459,10 @@ module _ (lay : Layout) where
           )
 
       pub claims : (old : ℕ) → v.inner.hand ≡ Empty → 0 < v.seats → 0 < looked r g old v.inner.looks
-          → old ≤ stamp r 0 → Owes (at r g) (λ n. either (eqb n old) (stamp r 1) n)
-          (claimed (step table.slots (at r g) old (stamp r 1) none) seat.me)
-      claims old empty seated look free = owed (omega arith) (λ s h wide at_id small. let o = law.parts key s h in
+          → old ≤ stamp r FREE → Owes (at r g) (λ n. either (eqb n old) (stamp r IN_HAND) n)
+          (claimed (step table.slots (at r g) old (stamp r IN_HAND) none) seat.me)
+      claims old empty seated look free =
+          owed (omega arith) (λ s h wide at_id small. let o = law.parts key s h in
           let f = o.1.fits seat.id v at_id in let found : ℕ = state_of s.words r g in
           dite (ℕ_discrete found old)
           (λ hit. rw (eq-eqb found old hit) (
@@ -453,7 +470,7 @@ module _ (lay : Layout) where
                 (Claim (at r g) found),
             keeps,
             tt,
-            kept _ (rw (ne_eqb found (stamp r 2) (λ two. omega arith))
+            kept _ (rw (ne_eqb found (stamp r DONE) (λ two. omega arith))
                 (state_turns s 1 (Has r g 0) v.inner.made v.inner.known (Claim (at r g) found)
                 ((λ b. refl), (λ k. refl), refl) o at_id (omega arith) (omega arith) (omega arith)
                 (λ two. absurd (omega arith))
@@ -468,13 +485,14 @@ module _ (lay : Layout) where
                   rw (it.0, it.1) (finds s o at_id, inl hit, refl),
             ),
           ))
-          (λ ne. let later : stamp r 0 < found = omega (arith, f.looks r g old look) in
+          (λ ne. let later : stamp r FREE < found = omega (arith, f.looks r g old look) in
           rw (ne_eqb found old ne) (
             changed v v.inner.hand v.inner.made (learnt v.inner.known r g found) v.inner.looks
                 (Claim (at r g) found),
             keeps,
             tt,
-            kept _ (loaded s.words s.views (at r g) seat.id v (learnt v.inner.known r g found) v.inner.looks
+            kept _ (loaded s.words s.views (at r g) seat.id v
+                (learnt v.inner.known r g found) v.inner.looks
                 (Claim (at r g) found) ((λ b. refl), (λ k. refl), refl) o at_id
                 (learns s.words v.inner.known r g f.knows) f.looks),
             (
@@ -501,7 +519,8 @@ module _ (lay : Layout) where
       pub stores_half : (i n : ℕ) → i < 2 → v.inner.hand ≡ Has r g i → right job r g i n
           → Owes (at r g + suc i) (λ _. n)
           (λ _. half_stored (step table.slots (at r g + suc i) n 0 none) seat.me n)
-      stores_half i n two has is = owed (omega arith) (λ s h wide at_id small. let o = law.parts key s h in
+      stores_half i n two has is =
+          owed (omega arith) (λ s h wide at_id small. let o = law.parts key s h in
           let f = o.1.fits seat.id v at_id in let words = s.words in
           let word : ℕ = at r g + suc i in let now = set words word n in
           let w = after_stored v r g (i + 1) word n in
@@ -527,7 +546,8 @@ module _ (lay : Layout) where
               turned words now s.views seat.id v w o.1 at_id (length-set words word n)
                   (λ k h. (up.moves k h).0)
                   (λ k h. dite (ℕ_discrete (at k h) (at r g))
-                  (λ is. let e : state_of now k h ≡ stamp r 1 = rw is (states r g ∙ one) in record {
+                  (λ is. let e : state_of now k h ≡ stamp r IN_HAND = rw is (states r g ∙ one) in
+                  record {
                     state = omega (arith, e);
                     round = omega (arith, e, up.rounds k, round_here s k h o at_id is);
                     low = λ two. absurd (omega arith);
@@ -536,17 +556,19 @@ module _ (lay : Layout) where
                   (λ ne. cell_moves words now k h (states k h) (halves k h ne) (up.rounds k)
                   (o.1.cells k h)))
                   (λ k h. (
-                    omega (arith, ap (in_hand k h) has, ap (only (stamp k 1)) (states k h)),
-                    (λ l. omega (arith, ap (only (stamp k 2)) (states k h))),
+                    omega (arith, ap (in_hand k h) has, ap (only (stamp k IN_HAND)) (states k h)),
+                    (λ l. omega (arith, ap (only (stamp k DONE)) (states k h))),
                     inl refl,
                   ))
                   (λ j u ne there. let theirs = o.1.fits j u there in
                   fits_lasts words now u up (λ k h ph e. halves k h (λ is.
-                  let kr : k ≡ r = sym (law.sees key s.words s.views j k u o.0 there (theirs.inside k h ph e))
+                  let kr : k ≡ r = sym
+                  (law.sees key s.words s.views j k u o.0 there (theirs.inside k h ph e))
                   ∙ round_here s k h o at_id is in
                   let it : in_hand r g u.inner.hand ≡ 1 =
                   rw (e, kr, (same_gate k h is)) (pair_same r g) in
-                  let two = terms_le (λ (x : SeatView J). in_hand r g x.inner.hand) s.views seat.id j
+                  let two = terms_le (λ (x : SeatView J). in_hand r g x.inner.hand) s.views
+                  seat.id j
                   v u ne at_id there in omega (arith, o.1.hands r g, only_le))) theirs)
                   (record {
                     holding = half_right words i n two (omega (arith, o.1.long, there)) is
@@ -560,11 +582,13 @@ module _ (lay : Layout) where
             (refl, λ k h ph e. cc),
           ))
 
-      pub stores_done : v.inner.hand ≡ Has r g 2 → Owes (at r g) (λ _. stamp r 2)
-          (λ _. done_stored (step table.slots (at r g) (stamp r 2) 0 none) seat.me (stamp r 2))
+      pub stores_done : v.inner.hand ≡ Has r g 2 → Owes (at r g) (λ _. stamp r DONE)
+          (λ _. done_stored (step table.slots (at r g) (stamp r DONE) 0 none) seat.me
+          (stamp r DONE))
       stores_done has = owed (omega arith) (λ s h wide at_id small. let o = law.parts key s h in
-          let f = o.1.fits seat.id v at_id in let now = set s.words (at r g) (stamp r 2) in
-          let two : state_of now r g ≡ stamp r 2 = get_or-set_same s.words (at r g) (stamp r 2) 0
+          let f = o.1.fits seat.id v at_id in let now = set s.words (at r g) (stamp r DONE) in
+          let two : state_of now r g ≡ stamp r DONE =
+          get_or-set_same s.words (at r g) (stamp r DONE) 0
           (omega (arith, o.1.long, there)) in
           let own : in_hand r g v.inner.hand ≡ 1 = ap (in_hand r g) has ∙ pair_same r g in
           let one = taken s.words s.views seat.id r g v o at_id own in
@@ -574,10 +598,10 @@ module _ (lay : Layout) where
             keeps,
             tt,
             kept _ (state_turns s 2 Empty (v.inner.made ++ (r, g) ∷ []) ((r, g) ∷ v.inner.known)
-                (Store (at r g) (stamp r 2)) ((λ b. refl), (λ k. refl), refl) o at_id
+                (Store (at r g) (stamp r DONE)) ((λ b. refl), (λ k. refl), refl) o at_id
                 (omega arith) (omega arith) (omega arith)
                 (λ _. (held.0 (omega arith), held.1 (omega arith)))
-                (omega (arith, ap (only (stamp r 1)) one, only_same, only_other))
+                (omega (arith, ap (only (stamp r IN_HAND)) one, only_same, only_other))
                 (omega (arith, adds r g, pair_same r g, only_other, only_same))
                 (λ k h apart. (sym (ap (in_hand k h) has ∙ apart), omega (arith, adds k h)))
                 tt (λ k h phase e. absurd (cc)) (knows_too now v.inner.known r g (omega arith))

@@ -6,6 +6,7 @@ use mathlib.Core.Option.{some, some-injective, some-ne-none}
 use lib.ListN.{get_elem?}
 use Rattle.atomic_table.proofs.Lists.{at_set, at_snoc}
 use Rattle.gc_workers.specs.Counts.{total, only}
+use Rattle.gc_workers.specs.declared.states.TheConstants.{DONE, IN_HAND}
 use Rattle.gc_rounds.specs.Words.{round_of, bank_of, stamp}
 use Rattle.gc_rounds.specs.Steps.{recorded, one_less, newcomer, merged, nobody, starting}
 use Rattle.gc_rounds.specs.Laws.{Opens, Moves, Deals, Joins}
@@ -41,7 +42,8 @@ round_up words b n k room le = dite (ℕ_discrete (bank_of k) b)
 module _ {J : Type 0} (gates : J → ℕ) (right : J → ℕ → ℕ → ℕ → ℕ → Type 0) where
   hand_moves : (job : J) (before now : List ℕ) (hand : Hand) → ((k h phase : ℕ)
       → hand ≡ Has k h phase → (low_of two_banks now k h ≡ low_of two_banks before k h)
-      × (high_of two_banks now k h ≡ high_of two_banks before k h)) → IsHandRight two_banks gates right job before hand
+      × (high_of two_banks now k h ≡ high_of two_banks before k h))
+      → IsHandRight two_banks gates right job before hand
       → IsHandRight two_banks gates right job now hand
   hand_moves job before now Empty same h = tt
   hand_moves job before now (Has k h phase) same f = let e = same k h phase refl in (
@@ -51,7 +53,8 @@ module _ {J : Type 0} (gates : J → ℕ) (right : J → ℕ → ℕ → ℕ →
   )
 
   no_job : (job : J) (words : List ℕ) (v : View (GateView J)) → v.inner.hand ≡ Empty
-      → v.inner.known ≡ [] → v.inner.looks ≡ [] → v.inner.made ≡ [] → Fits two_banks gates right job words v
+      → v.inner.known ≡ [] → v.inner.looks ≡ [] → v.inner.made ≡ []
+      → Fits two_banks gates right job words v
   no_job job words v hand known looks made = record {
     holding = subst (IsHandRight two_banks gates right job words) (sym hand) tt;
     inside = λ r g phase e. absurd (has_not r g phase (sym e ∙ hand));
@@ -72,16 +75,19 @@ module _ {J : Type 0} (gates : J → ℕ) (right : J → ℕ → ℕ → ℕ →
           high = λ e. absurd (omega (arith, free r g));
         };
         hands = λ r g.
-            sym (only_other (stamp r 1) (state_of two_banks words r g) (λ e. omega (arith, free r g)));
+            sym (only_other (stamp r IN_HAND) (state_of two_banks words r g)
+            (λ e. omega (arith, free r g)));
         once = λ r g. omega arith;
         mades = λ r g l.
-            sym (only_other (stamp r 2) (state_of two_banks words r g) (λ e. omega (arith, free r g)));
+            sym (only_other (stamp r DONE) (state_of two_banks words r g)
+            (λ e. omega (arith, free r g)));
         fits = one;
       }
     where
       one : (id : ℕ) (v : View (GateView J)) → get_elem? (starting jobs seats
           (first_view job) ∷ []) id ≡ some v → Fits two_banks gates right job words v
-      one zero v e = subst (Fits two_banks gates right job words) (some-injective _ _ e) (no_job job words
+      one zero v e = subst (Fits two_banks gates right job words) (some-injective _ _ e)
+          (no_job job words
           (starting jobs seats (first_view job)) refl refl refl refl)
       one (suc id) v e = absurd (some-ne-none v (sym e))
 
@@ -89,11 +95,14 @@ module _ {J : Type 0} (gates : J → ℕ) (right : J → ℕ → ℕ → ℕ →
   moves job words views id b n v stand s o at_id small idle le =
       let now = set words b n in let w = recorded v stand s in
       let room : b < length words = omega (arith, o.long) in
-      let up : (k : ℕ) → two_banks.now words k ≤ two_banks.now now k = λ k. round_up words b n k room le in
+      let up : (k : ℕ) → two_banks.now words k ≤ two_banks.now now k = λ k.
+      round_up words b n k room le in
       let word_stays : (r g i : ℕ) → get_or now (two_banks.at r g + i) 0 ≡ get_or words
-      (two_banks.at r g + i) 0 = λ r g i. get_or-set_other words b (two_banks.at r g + i) n 0 (λ e. omega arith) in
+      (two_banks.at r g + i) 0 = λ r g i.
+      get_or-set_other words b (two_banks.at r g + i) n 0 (λ e. omega arith) in
       let state_stays : (r g : ℕ)
-      → state_of two_banks now r g ≡ state_of two_banks words r g = λ r g. get_or-set_other words b (two_banks.at r g) n 0
+      → state_of two_banks now r g ≡ state_of two_banks words r g = λ r g.
+      get_or-set_other words b (two_banks.at r g) n 0
       (λ e. omega arith) in
       let lasts : (u : View (GateView J)) → Fits two_banks gates right job words u
       → Fits two_banks gates right job now u = λ u f. record {
@@ -121,7 +130,7 @@ module _ {J : Type 0} (gates : J → ℕ) (right : J → ℕ → ℕ → ℕ →
           arith,
           total-set (λ u. in_hand r g u.inner.hand) views id v w at_id,
           o.hands r g,
-          ap (only (stamp r 1)) (state_stays r g),
+          ap (only (stamp r IN_HAND)) (state_stays r g),
         );
         once = λ r g. omega (
           arith,
@@ -132,10 +141,11 @@ module _ {J : Type 0} (gates : J → ℕ) (right : J → ℕ → ℕ → ℕ →
           arith,
           total-set (λ u. pairs r g u.inner.made) views id v w at_id,
           o.mades r g (omega (arith, state_stays r g)),
-          ap (only (stamp r 2)) (state_stays r g),
+          ap (only (stamp r DONE)) (state_stays r g),
         );
         fits = λ j u e. ⊎_elim
-            (λ t. subst (Fits two_banks gates right job now) t.1 (let f = o.fits id v at_id in record {
+            (λ t. subst (Fits two_banks gates right job now) t.1
+            (let f = o.fits id v at_id in record {
               holding = hand_moves job words now v.inner.hand (λ r g _ _. (
                 word_stays r g 1,
                 word_stays r g 2,
@@ -183,7 +193,8 @@ module _ {J : Type 0} (gates : J → ℕ) (right : J → ℕ → ℕ → ℕ →
             (at_snoc (set views id left) other u j e);
       }
 
-  pub joins : Joins (Sound two_banks gates right) (λ (v : GateView J). v.hand ≡ Empty) joined no_view
+  pub joins : Joins (Sound two_banks gates right)
+      (λ (v : GateView J). v.hand ≡ Empty) joined no_view
   joins job words views id other v w o at_id apart there out idle =
       let both = merged v w (joined v.inner w.inner) in let none_left = nobody no_view in
       let f = o.fits id v at_id in

@@ -50,7 +50,13 @@ module _ {J : Type 0} where
     seats = 0;
     stand = Outside;
     steps = [];
-    inner = record { job = v.inner.job; hand = Empty; made = []; known = v.inner.known; looks = [] };
+    inner = record {
+      job = v.inner.job;
+      hand = Empty;
+      made = [];
+      known = v.inner.known;
+      looks = [];
+    };
   }
 
   -- The words of a board that no seat uses any more, and the gates that were made, each with round 0.

@@ -16,7 +16,11 @@ module _ {J : Type 0} (gates : J → ℕ) (right : J → ℕ → ℕ → ℕ →
       → Dealt seats views → get_elem? views id ≡ some v → w.stand ≡ v.stand → w.seats ≡ v.seats
       → Dealt seats (set views id w)
   moved seats views id v w o at_id stand parts = record {
-    dealt = omega (arith, total-set (λ (u : View (GateView J)). u.seats) views id v w at_id, o.dealt);
+    dealt = omega (
+      arith,
+      total-set (λ (u : View (GateView J)). u.seats) views id v w at_id,
+      o.dealt,
+    );
     here = each-set (λ (u : View (GateView J)). (r : ℕ) → u.stand ≡ Inside r → r ≡ 0) views id w
         (λ j u ne there. o.here j u there) (λ r is. o.here id v at_id r (sym stand ∙ is));
   }

@@ -73,7 +73,8 @@ module _ {J : Type 0} (l : Layout) (gates : J → ℕ) (right : J → ℕ → �
     pub cells : (r g : ℕ) → Cell job words r g
     -- A gate is IN_HAND in a round where exactly one seat has it in hand in that round, and else none has.
     pub hands : (r g : ℕ)
-        → total (λ v. in_hand r g v.inner.hand) views ≡ only (stamp r IN_HAND) (state_of l words r g)
+        → total (λ v. in_hand r g v.inner.hand) views
+        ≡ only (stamp r IN_HAND) (state_of l words r g)
     -- A round with a gate stands at most once in all made lists together.
     pub once : (r g : ℕ) → total (λ v. pairs r g v.inner.made) views ≤ 1
     -- As long as the state word of a gate is of no later round, the gate is DONE in the round where the pair stands

@@ -86,14 +86,16 @@ module _ {J : Type 0} where
   -- Each kind of step, of the seat before, the word found or stored, and the seat after. None takes or gives a slot.
   module _ {S : Type 0} where
     -- a load of a state word
-    abbrev pub state_loaded : Layout → Step S → Me S (View (GateView J)) → ℕ → Me S (View (GateView J))
+    abbrev pub state_loaded : Layout → Step S → Me S (View (GateView J)) → ℕ
+        → Me S (View (GateView J))
         → Type 0
     state_loaded l st m found m' =
         (m'.1 ≡ m.1) × ((r g : ℕ) → m.0.stand ≡ Inside r → st.word ≡ l.at r g
         → Finds m.0 r g found × (m'.0 ≡ after_state l m.0 r g found))
 
     -- a load of the low half of a gate: that of a known gate is right in the round
-    abbrev pub low_loaded : Layout → (J → ℕ → ℕ → ℕ → ℕ → Type 0) → Step S → Me S (View (GateView J)) → ℕ
+    abbrev pub low_loaded : Layout → (J → ℕ → ℕ → ℕ → ℕ → Type 0) → Step S
+        → Me S (View (GateView J)) → ℕ
         → Me S (View (GateView J)) → Type 0
     low_loaded l right st m found m' =
         (m'.1 ≡ m.1) × (m'.0 ≡ after_half m.0 st.word found)
@@ -101,7 +103,8 @@ module _ {J : Type 0} where
         → (job : J) → m.0.inner.job ≡ Some job → right job r g 0 found)
 
     -- a load of the high half
-    abbrev pub high_loaded : Layout → (J → ℕ → ℕ → ℕ → ℕ → Type 0) → Step S → Me S (View (GateView J)) → ℕ
+    abbrev pub high_loaded : Layout → (J → ℕ → ℕ → ℕ → ℕ → Type 0) → Step S
+        → Me S (View (GateView J)) → ℕ
         → Me S (View (GateView J)) → Type 0
     high_loaded l right st m found m' =
         (m'.1 ≡ m.1) × (m'.0 ≡ after_half m.0 st.word found)
@@ -109,7 +112,8 @@ module _ {J : Type 0} where
         → (job : J) → m.0.inner.job ≡ Some job → right job r g 1 found)
 
     -- an exchange of a state word from a free one that a load found
-    abbrev pub claimed : Layout → Step S → Me S (View (GateView J)) → ℕ → Me S (View (GateView J)) → Type 0
+    abbrev pub claimed : Layout → Step S → Me S (View (GateView J)) → ℕ → Me S (View (GateView J))
+        → Type 0
     claimed l st m found m' =
         (m'.1 ≡ m.1)
         × ((r g : ℕ) → m.0.stand ≡ Inside r → st.word ≡ l.at r g
@@ -124,7 +128,8 @@ module _ {J : Type 0} where
         → m'.0 ≡ after_stored m.0 r g (phase + 1) st.word half)
 
     -- a store of DONE in the round for the gate in hand
-    abbrev pub done_stored : Layout → Step S → Me S (View (GateView J)) → ℕ → Me S (View (GateView J))
+    abbrev pub done_stored : Layout → Step S → Me S (View (GateView J)) → ℕ
+        → Me S (View (GateView J))
         → Type 0
     done_stored l st m new m' =
         (m'.1 ≡ m.1) × ((r g phase : ℕ) → m.0.inner.hand ≡ Has r g phase

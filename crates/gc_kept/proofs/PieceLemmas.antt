@@ -16,7 +16,7 @@ use Rattle.std.proofs.lemmas.Option.{slice_get_within, get_or_from_slice_get}
 use Rattle.std.proofs.lemmas.Slice.Zip.{length-zip}
 use Rattle.gc_label.proofs.LabelLemmas.{length-bytes_of_label}
 use Rattle.gc_half.specs.Evaluation.{decode}
-use Rattle.gc_file.specs.LabelBytes.{length-row_bytes}
+use Rattle.gc_file.proofs.LabelBytesLemmas.{length-row_bytes}
 use Rattle.gc_file.specs.LabelFile.{label_magic, label_file}
 use Rattle.gc_file.specs.Number.{number_bytes}
 use Rattle.gc_file.proofs.SizeLemmas.{length-flat_map}

@@ -297,12 +297,14 @@ module _ {T I : Type 0} (jobs seats : ℕ) (about : T) (holds : T → List ℕ �
         ))
 
 -- a step on another word than the banks', by a seat that stays where it is
-pub step_on_another_word : {I : Type 0} (jobs seats : ℕ) (before now : List ℕ) (views : List (View I)) (id : ℕ)
+pub step_on_another_word : {I : Type 0} (jobs seats : ℕ) (before now : List ℕ)
+    (views : List (View I)) (id : ℕ)
     (v w : View I) (s : Step) → BanksSound jobs seats before views → get_elem? views id ≡ some v
     → 1 < length now → ((b : ℕ) → b < 2 → get_or now b 0 ≡ get_or before b 0) → w.stand ≡ v.stand
     → w.all ≡ v.all → w.seats ≡ v.seats → w.steps ≡ v.steps ++ s ∷ [] → ((b : ℕ) → gives b s ≡ 0)
     → ((r : ℕ) → seals_in r s ≡ 0) → unfair s ≡ 0 → BanksSound jobs seats now (set views id w)
-step_on_another_word jobs seats before now views id v w s o at wide same stand all parts steps no_gift
+step_on_another_word jobs seats before now views id v w s o at wide same stand all parts
+    steps no_gift
     no_seal fair =
     let f = o.fits id v at in
     let counts : (b : ℕ) → counted b w.stand ≡ counted b v.stand = λ b. ap (counted b) stand in

@@ -3,6 +3,8 @@ use Rattle.gc_steps.proofs.Names.{◌≡◌, ◌≢◌, ℕ, ◌+◌, ◌*◌, �
 use Rattle.atomic_table.specs.Seated.{TableId}
 use Rattle.atomic_table.specs.declared.shared.Seat.{Seat}
 use Rattle.gc_netlist.specs.declared.gate.Gate.{Gate}
+use Rattle.gc_workers.specs.declared.states.TheConstants.{DONE, FREE, IN_HAND}
+use Rattle.gc_rounds.specs.declared.words.TheConstants.{ROUND}
 use Rattle.gc_rounds.specs.Words.{round_of, stamp}
 use Rattle.gc_rounds.specs.Places.{IsSamePlace}
 use Rattle.gc_rounds.specs.declared.view.Step.{Step}
@@ -52,7 +54,8 @@ ran_then {a = a} p q = record {
   steps = q.steps ∙ ap (λ l. l ++ q.added) p.steps ∙ append_assoc a.steps p.added q.added;
 }
 
-pub longer : {J : Type 0} {a b : Seen J} {list : List (ℕ × ℕ)} {m n : ℕ} → m ≤ n → Ran a b list m → Ran a b list n
+pub longer : {J : Type 0} {a b : Seen J} {list : List (ℕ × ℕ)} {m n : ℕ} → m ≤ n → Ran a b list m
+    → Ran a b list n
 longer le p = search (rules, p)
 
 -- a load or a claim sights what it finds
@@ -72,34 +75,41 @@ pub unknown : (n found two : ℕ) → (0 < n → found ≡ two) → found ≢ tw
 unknown n found two known ne = grind arith
 
 -- what is found and is not 2 of the round comes before it
-pub undone : (r found : ℕ) → found % 4294967296 < 3 → found ≢ stamp r 2 → round_of found ≤ r
-    → found < stamp r 2
+pub undone : (r found : ℕ) → found % ROUND < 3 → found ≢ stamp r DONE → round_of found ≤ r
+    → found < stamp r DONE
 undone r found small ne le = omega arith
 
 -- What is said of a call is said of a longer one, which has it as a part.
-pub lacks_within : {J : Type 0} {lay : Layout} {a b c d : Seen J} {job : JobParts} {r w : ℕ} → Grown a b → Grown c d
+pub lacks_within : {J : Type 0} {lay : Layout} {a b c d : Seen J} {job : JobParts} {r w : ℕ}
+    → Grown a b → Grown c d
     → Lacks lay job r w b c → Lacks lay job r w a d
 lacks_within {lay = lay} {r = r} p q l = record {
   no_input = l.no_input;
   unknown = λ h set. let t = l.unknown h set in (
     omega (arith, p.known r h, t.0),
-    (t.1.0, t.1.1, omega (arith, t.1.2, p.sighted (lay.at r h) t.1.0, q.sighted (lay.at r h) t.1.0)),
+    (
+      t.1.0,
+      t.1.1,
+      omega (arith, t.1.2, p.sighted (lay.at r h) t.1.0, q.sighted (lay.at r h) t.1.0),
+    ),
   );
 }
 
-pub says_within : {J : Type 0} {a b c d : Seen J} (lay : Layout) (job : JobParts) (r g : ℕ) (answer : Answer) → Grown a b
+pub says_within : {J : Type 0} {a b c d : Seen J} (lay : Layout) (job : JobParts) (r g : ℕ)
+    (answer : Answer) → Grown a b
     → Grown c d → Says lay job r g b c answer → Says lay job r g a d answer
 says_within lay job r g (Made label) p q h =
     (h.0, omega (arith, q.known r g), omega (arith, p.known r g))
 says_within lay job r g (Done label) p q h = (h.0, omega (arith, q.known r g))
 says_within lay job r g Taken p q h =
     let word = lay.at r g in
-    let one = stamp r 1 in
-    (omega (arith, p.known r g), omega (arith, p.sighted word one, q.sighted word one))
+    let held = stamp r IN_HAND in
+    (omega (arith, p.known r g), omega (arith, p.sighted word held, q.sighted word held))
 says_within lay job r g (NotYet w) p q h = (omega (arith, p.known r g), h.1, lacks_within p q h.2)
 
 -- an answer after steps that made nothing
-pub answers_later : {J : Type 0} {a b c : Seen J} {m n : ℕ} (lay : Layout) (job : JobParts) (r g : ℕ) (x : Answer)
+pub answers_later : {J : Type 0} {a b c : Seen J} {m n : ℕ} (lay : Layout) (job : JobParts)
+    (r g : ℕ) (x : Answer)
     → Ran a b a.inner.made m → Answers lay job r g n b c x → Answers lay job r g (m + n) a c x
 answers_later lay job r g x p h =
     (says_within lay job r g x (grown p) still h.0, rw p.made at (ran_then p h.1))
@@ -125,8 +135,10 @@ made_apart r g h l Taken apart = refl
 made_apart r g h l (NotYet w) apart = refl
 
 -- two answers, of which the second call began where the first ended
-pub two_made : {J : Type 0} {a b c : Seen J} {m n : ℕ} (lay : Layout) (job : JobParts) (r g h : ℕ) (x y : Answer)
-    → Answers lay job r g m a b x → Answers lay job r h n b c y → AnswersTwo lay job r g h (m + n) a c (x, y)
+pub two_made : {J : Type 0} {a b c : Seen J} {m n : ℕ} (lay : Layout) (job : JobParts) (r g h : ℕ)
+    (x y : Answer)
+    → Answers lay job r g m a b x → Answers lay job r h n b c y
+    → AnswersTwo lay job r g h (m + n) a c (x, y)
 two_made lay job r g h x y p q = (
   says_within lay job r g x still (grown q.1) p.0,
   says_within lay job r h y (grown p.1) still q.0,
@@ -134,8 +146,10 @@ two_made lay job r g h x y p q = (
 )
 
 -- An answer that is not Made is one after any more steps.
-pub answers_unmade : {J : Type 0} {a b : Seen J} {m n : ℕ} (lay : Layout) (job : JobParts) (r g : ℕ) (x : Answer) → m ≤ n
-    → (made_now x ≡ 0) × Says lay job r g a b x → Ran a b a.inner.made m → Answers lay job r g n a b x
+pub answers_unmade : {J : Type 0} {a b : Seen J} {m n : ℕ} (lay : Layout) (job : JobParts) (r g : ℕ)
+    (x : Answer) → m ≤ n
+    → (made_now x ≡ 0) × Says lay job r g a b x → Ran a b a.inner.made m
+    → Answers lay job r g n a b x
 answers_unmade {a = a} lay job r g x le found p =
     (found.1, rw (unmade r g a.inner.made x found.0) (longer le p))
 
@@ -171,7 +185,8 @@ four_later lay job r a b c d all le p q = (
 )
 
 -- Of two gates that were looked at, both were ready, one was, or none.
-module _ {J : Type 0} {a b c : Seen J} (lay : Layout) (job : JobParts) (r g h : ℕ) (x y : Answer) (p : Ran a b a.inner.made 7)
+module _ {J : Type 0} {a b c : Seen J} (lay : Layout) (job : JobParts) (r g h : ℕ) (x y : Answer)
+    (p : Ran a b a.inner.made 7)
     (q : Ran b c b.inner.made 7) where
   pub both_ready : (d : Seen J) → AnswersTwo lay job r g h 8 c d (x, y)
       → AnswersTwo lay job r g h 22 a d (x, y)
@@ -181,7 +196,8 @@ module _ {J : Type 0} {a b c : Seen J} (lay : Layout) (job : JobParts) (r g h : 
     rw ((both_looked p q).made) at (ran_then (both_looked p q) t.2),
   )
 
-  pub first_ready : (d : Seen J) → Answers lay job r g 4 c d x → (made_now y ≡ 0) × Says lay job r h b c y
+  pub first_ready : (d : Seen J) → Answers lay job r g 4 c d x
+      → (made_now y ≡ 0) × Says lay job r h b c y
       → AnswersTwo lay job r g h 22 a d (x, y)
   first_ready d s e = (
     says_within lay job r g x (grown (both_looked p q)) still s.0,
@@ -190,7 +206,8 @@ module _ {J : Type 0} {a b c : Seen J} (lay : Layout) (job : JobParts) (r g h : 
         (longer (omega arith) (rw ((both_looked p q).made) at (ran_then (both_looked p q) s.1))),
   )
 
-  pub second_ready : (d : Seen J) → (made_now x ≡ 0) × Says lay job r g a b x → Answers lay job r h 4 c d y
+  pub second_ready : (d : Seen J) → (made_now x ≡ 0) × Says lay job r g a b x
+      → Answers lay job r h 4 c d y
       → AnswersTwo lay job r g h 22 a d (x, y)
   second_ready d e t = (
     says_within lay job r g x still (grown (ran_then q t.1)) e.1,
@@ -199,7 +216,8 @@ module _ {J : Type 0} {a b c : Seen J} (lay : Layout) (job : JobParts) (r g h : 
         (longer (omega arith) (rw ((both_looked p q).made) at (ran_then (both_looked p q) t.1))),
   )
 
-  pub none_ready : (made_now x ≡ 0) × Says lay job r g a b x → (made_now y ≡ 0) × Says lay job r h b c y
+  pub none_ready : (made_now x ≡ 0) × Says lay job r g a b x
+      → (made_now y ≡ 0) × Says lay job r h b c y
       → AnswersTwo lay job r g h 22 a c (x, y)
   none_ready e f = (
     says_within lay job r g x still (grown q) e.1,
@@ -227,7 +245,8 @@ got_input {job = job} {w = w} lawful input is = record {
 }
 
 -- a seat that moved is still one of the table
-pub still_in : {J S : Type 0} {gates : J → ℕ} {lay : Layout} {table : TableId} {key : Key J} {old new : Seat S (Seen J)}
+pub still_in : {J S : Type 0} {gates : J → ℕ} {lay : Layout} {table : TableId} {key : Key J}
+    {old new : Seat S (Seen J)}
     → IsGatePlace lay gates table key old → IsSamePlace old new → new.me.0.jobs ≡ old.me.0.jobs
     → new.me.0.all ≡ old.me.0.all → new.me.0.inner.job ≡ old.me.0.inner.job
     → IsGatePlace lay gates table key new
@@ -241,12 +260,15 @@ still_in p same jobs all about = record {
 }
 
 -- banks with one seat
-pub alone_later : {J : Type 0} {a b : Seen J} {list : List (ℕ × ℕ)} {m : ℕ} → Ran a b list m → IsAlone a
+pub alone_later : {J : Type 0} {a b : Seen J} {list : List (ℕ × ℕ)} {m : ℕ} → Ran a b list m
+    → IsAlone a
     → IsAlone b
 alone_later p alone = p.seats ∙ alone ∙ sym p.all
 
-module _ {J : Type 0} (job : JobParts) (r g : ℕ) (x : Gate) (there : slice_get job.circuit.gates g ≡ Some x)
-    (a : Seen J) (first_made : (u : ℕ) → first_wire x.operation ≡ Some u → SetsMade job r u a 1) where
+module _ {J : Type 0} (job : JobParts) (r g : ℕ) (x : Gate)
+    (there : slice_get job.circuit.gates g ≡ Some x)
+    (a : Seen J)
+    (first_made : (u : ℕ) → first_wire x.operation ≡ Some u → SetsMade job r u a 1) where
   -- The gate that sets the second wire is not made,
   pub second_lacking : (w : ℕ) → second_wire x.operation ≡ Some w → SetsMade job r w a 0
       → FirstLacking job r g a w
@@ -276,7 +298,7 @@ made_ran lay r g free i low j high v empty =
     let one : Step = Claim (lay.at r g) free in
     let two : Step = Store i low in
     let three : Step = Store j high in
-    let four : Step = Store (lay.at r g) (stamp r 2) in
+    let four : Step = Store (lay.at r g) (stamp r DONE) in
     record {
       jobs = refl;
       all = refl;
@@ -304,17 +326,17 @@ made_answer {a = a} free i low j high lay job r g empty taken put right = rw (pu
 )
 
 -- a claim that finds neither IN_HAND nor DONE in the round found the free word
-pub free_found : (r free found : ℕ) → (found ≡ free) ⊎ (stamp r 0 < found)
-    → found % 4294967296 < 3 → round_of found ≤ r → found ≢ stamp r 2 → found ≢ stamp r 1
+pub free_found : (r free found : ℕ) → (found ≡ free) ⊎ (stamp r FREE < found)
+    → found % ROUND < 3 → round_of found ≤ r → found ≢ stamp r DONE → found ≢ stamp r IN_HAND
     → found ≡ free
 free_found r free found either small le not_done not_taken =
     ⊎_elim (λ hit. hit) (λ more. absurd (omega (arith, not_done, not_taken))) either
 
 -- what is claimed at the free word that was looked at is taken
 pub claimed_free : {J : Type 0} (lay : Layout) (v : Seen J) (r g free found : ℕ) → found ≡ free
-    → free ≤ stamp r 0 → after_claim lay v r g free found ≡ after_taken lay v r g free
+    → free ≤ stamp r FREE → after_claim lay v r g free found ≡ after_taken lay v r g free
 claimed_free lay v r g free found hit le =
-    rw (eq-eqb found free hit, ne_eqb found (stamp r 2) (λ two. omega arith)) (rw hit refl)
+    rw (eq-eqb found free hit, ne_eqb found (stamp r DONE) (λ two. omega arith)) (rw hit refl)
 
 module _ {J : Type 0} {v w : Seen J} (same : v ≡ w) where
   pub jobs_same : v.jobs ≡ w.jobs

@@ -15,5 +15,6 @@ join_seat-requires g c = let p = c.requires.to in let e = c.split_seat-note.ensu
   e.3 ∙ c.requires.from.table_id,
   ap (λ (m : Me ℕ (View (GateView g.row.J.Denot))). m.1) e.4,
   omega arith,
-  joins _ _ c.args.words.now.key _ _ _ _ (ap (λ (m : Me ℕ (View (GateView g.row.J.Denot))). m.0.inner.hand) e.4),
+  joins _ _ c.args.words.now.key _ _ _ _
+      (ap (λ (m : Me ℕ (View (GateView g.row.J.Denot))). m.0.inner.hand) e.4),
 )

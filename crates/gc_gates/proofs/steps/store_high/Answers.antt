@@ -4,4 +4,5 @@ use Rattle.gc_gates.proofs.steps.store_high.Goals as goal
 
 pub store-requires : goal.store-requires
 store-requires g c = let w = c.requires in
-    rw c.index.ensures.at (stores_half _ _ _ _ _ g.met.R.Frame.law _ w.place 1 _ (omega arith) w.has w.right)
+    rw c.index.ensures.at
+    (stores_half _ _ _ _ _ g.met.R.Frame.law _ w.place 1 _ (omega arith) w.has w.right)

@@ -21,7 +21,8 @@ returns-clause-ok g c =
 pub returns-in-Err-read-clause-alone : goal.returns-in-Err-read-clause-alone
 returns-in-Err-read-clause-alone g c = λ alone.
     let ran = c.read.ensures.ran in
-    second_lacking c.args.self.now.job.now _ _ _ (rw c.circuit.ensures.circuit at c.gate-operation.ensures)
+    second_lacking c.args.self.now.job.now _ _ _
+    (rw c.circuit.ensures.circuit at c.gate-operation.ensures)
     c.args.place.now.me.0
     (λ u e. c.in-Ok.ensures.alone alone u (c.first_wire.ensures ∙ e))
     _ (sym c.second_wire.ensures ∙ c.in-Err-read.ensures.err.0)
@@ -30,7 +31,8 @@ returns-in-Err-read-clause-alone g c = λ alone.
 pub returns-clause-alone : goal.returns-clause-alone
 returns-clause-alone g c = λ alone.
     let ran = c.read.ensures.ran in
-    both_made c.args.self.now.job.now _ _ _ (rw c.circuit.ensures.circuit at c.gate-operation.ensures)
+    both_made c.args.self.now.job.now _ _ _
+    (rw c.circuit.ensures.circuit at c.gate-operation.ensures)
     c.args.place.now.me.0
     (λ u e. c.in-Ok.ensures.alone alone u (c.first_wire.ensures ∙ e))
     (λ u e. rw ran.made at
