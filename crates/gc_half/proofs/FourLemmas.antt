@@ -1,5 +1,5 @@
 -- Evaluating in file order, where no gate waits.
-use Rattle.gc_half.proofs.Names.{◌≡◌, ℕ, ◌+◌, ◌<◌, ◌∙◌, List, length, map, slice_get, slice_index, Some, refl, sym, arith, Gate, Netlist, IsLawful, EachRead, EachRead-map, and_number, and_count, solution_solves, RowPair}
+use Rattle.gc_half.proofs.Names.{◌≡◌, ℕ, ◌+◌, ◌<◌, ◌∙◌, List, length, map, slice_get, slice_index, Some, refl, arith, Gate, Netlist, IsLawful, EachRead, EachRead-map, and_number, and_count, solution_solves, RowPair}
 use Rattle.std.specs.List.{range_with_len, slice_set}
 use Rattle.gc_netlist.specs.Solution.{values_after, solution}
 use Rattle.gc_netlist.proofs.Tables.{table_step, length-table, EachRead-below, after-zero}

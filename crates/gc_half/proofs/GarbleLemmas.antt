@@ -8,6 +8,7 @@ use Rattle.gc_netlist.specs.Solution.{values_after}
 use Rattle.gc_netlist.proofs.Tables.{read-table, length-table, table_padded, IsSetBefore-below}
 use Rattle.gc_half.specs.Garbling.{IsGarbledFrom}
 use Rattle.gc_half.specs.Hash.{hash, numbered_from}
+use Rattle.gc_half.specs.SideBySide.{IsOneGateMore}
 use Rattle.gc_half.proofs.AndNumbers.{and_number-le}
 use Rattle.gc_half.proofs.OneGateLemmas.{first_read-local, second_read-local}
 use Rattle.gc_half.proofs.GarblingLemmas.{zero_local, IsGarbling-same, rows-garbling}
@@ -38,6 +39,11 @@ module _ (h : ℕ → ℕ → ℕ) (r : ℕ) (c : Netlist) (given : List ℕ) wh
   few_rows n labels rows are =
       let count = length-rows_after h r c label_of n in
       rw are.row_pairs (omega (arith, and_number-le c n))
+
+  -- There are as many row pairs as AND gates among the gates.
+  pub count_rows : (n : ℕ) (labels : List ℕ) (rows : List RowPair) → AreGarbled n labels rows
+      → length rows ≡ and_number c n
+  count_rows n labels rows are = rw are.row_pairs (length-rows_after h r c label_of n)
 
   -- Such a table that is lengthened by zeros has a label for each wire.
   pub labels-padded : (n : ℕ) (labels table : List ℕ) (rows : List RowPair) (count wires : ℕ)
@@ -87,6 +93,16 @@ module _ (h : ℕ → ℕ → ℕ) (r : ℕ) (c : Netlist) (given : List ℕ) wh
         same = EachRead-map (IsSetBefore c i) _ g.operation (λ w set. are.right w
             ∙ sym (after-keeps _ (zero_local h r c) c lawful _ i _ w
             (omega (arith, slice_get_within c.gates i g at)) set)) (lawful.reads i g at)
+
+    -- The same, of a step of garblings side by side.
+    pub garbled-step : (i : ℕ) (g : Gate) → slice_get c.gates i ≡ Some g
+        → (labels new : List ℕ) (rows new_rows : List RowPair) (o wires : ℕ)
+        → AreGarbled i labels rows → o ≡ r → wires ≡ c.wires
+        → IsOneGateMore h o wires g labels rows new new_rows → AreGarbled (i + 1) new new_rows
+    garbled-step i g at labels new rows new_rows o wires are same wires_is more =
+        let more = subst (λ (x : ℕ). IsOneGateMore h x wires g labels rows new new_rows) same more in
+        garbled-next i g at labels new rows new_rows are more.label more.there more.kept
+        (omega (arith, more.few, wires_is)) more.row_pairs
 
     module _ (long : length given ≡ input_wires c) where
       -- At the start the labels are those of the input wires.

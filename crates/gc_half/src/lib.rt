@@ -7,6 +7,8 @@
 //! ([`evaluate_one_thread`]) follows one label of each wire, the active one, through the gates: [`eval_and`] is
 //! its step at an AND gate.
 //!
+//! [`garble_two`] garbles a circuit under two seeds side by side, and [`evaluate_four_from`] evaluates it four times.
+//!
 //! [`garble_from`] garbles from an offset and zero labels of the caller's, its AND gates numbered from any
 //! [`FirstAnd`] on, and [`evaluate_labels`] returns the active labels of the output wires: so labels that come out of
 //! one circuit can go into the next.
@@ -31,6 +33,7 @@ mod numbers;
 mod one_gate;
 mod row_table;
 mod table;
+mod two;
 mod waiting;
 mod zero_labels;
 
@@ -49,5 +52,6 @@ pub use laws::{law_garblings, law_half_gates, law_joined};
 pub use numbers::and_numbers;
 pub use one_gate::{evaluate_gate, garble_gate, labels_read};
 pub use table::Table;
+pub use two::{InputLabels, garble_two, garble_two_from};
 pub use waiting::{WaitingGate, WaitingGates};
 pub use zero_labels::input_zero_labels;

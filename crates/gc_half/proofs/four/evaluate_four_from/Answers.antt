@@ -1,4 +1,4 @@
-use Rattle.gc_half.proofs.Names.{◌≡◌, ◌+◌, ◌<◌, ◌∙◌, add-one, length, refl, sym, ap, arith}
+use Rattle.gc_half.proofs.Names.{◌≡◌, ◌+◌, ◌∙◌, add-one, length, refl, sym, ap, arith}
 use Rattle.gc_half.specs.Hash.{hash, numbered_from}
 use Rattle.gc_half.proofs.AndNumbers.{and_number-and, and_number-other}
 use Rattle.gc_half.proofs.FourLemmas.{followed-start, can-step, lane-next, followed-end}
