@@ -1,4 +1,4 @@
--- Where a reader stands at the first fault.
+-- Where a reader is at the first fault.
 use Rattle.std.proofs.Common.{◌≡◌, ℕ, List, map, sum, Bool, Option, None, Ok, Err, inl, inr, sym, ◌∙◌, arith}
 use Rattle.std.specs.List.{range_with_len}
 use Rattle.gc_netlist.specs.declared.limits.TheConstants.{MAX_GATES, MAX_WIRES}

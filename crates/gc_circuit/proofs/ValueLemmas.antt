@@ -28,7 +28,7 @@ any_place p a (suc m) h = elim (cases_Bool (p a)) [
       let (i, from, at) = any_place p (a + 1) m (grind arith) in (i, omega arith, at)
 ]
 
--- one place that passes settles the answer
+-- one place that passes settles the result
 pub any_at_place : (p : ℕ → Bool) (a m i : ℕ) → a ≤ i → i < a + m → p i ≡ true →
     list_any p (range_with_len a m) ≡ true
 any_at_place p a m i from below h =

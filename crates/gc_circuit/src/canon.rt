@@ -88,7 +88,7 @@ impl<A: Allocator> Circuit<A> {
     /// The canonical text of the circuit: the line of its numbers of gates and wires, the line of its input
     /// widths, the line of its output widths, an empty line, and a line for each gate.
     ///
-    /// Numbers have no leading zeros, one space stands between two words, and each line ends with a line feed.
+    /// Numbers have no leading zeros, one space is between two words, and each line ends with a line feed.
     pub fn canon<B: Allocator + Copy>(&self, alloc: B) -> Result<Vec<u8, B>, Memory>
         ensures { IfOk result (λ text. text.items ≡ canonical_text self.now) }
     {

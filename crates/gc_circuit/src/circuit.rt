@@ -49,7 +49,7 @@ impl<A: Allocator> fmt::Debug for Circuit<A> {
 }
 
 impl<A: Allocator> Circuit<A> {
-    /// The circuit of these parts. That it is lawful, and what the sums are, is the caller's condition.
+    /// The circuit of these parts. The caller ensures that it is lawful, and what the sums are.
     pub(crate) fn new(
         wires: u32,
         inputs: Widths<A>,
@@ -131,7 +131,7 @@ impl<A: Allocator> Circuit<A> {
         self.output_wires
     }
 
-    /// The gate at place i of the file, counted from 0. That there is one is the caller's condition.
+    /// The gate at place i of the file, counted from 0. The caller ensures that there is one.
     pub fn gate(&self, i: u32) -> Gate
         requires { i < length self.now.gates }
         ensures { slice_get self.now.gates i ≡ Some result }

@@ -30,7 +30,7 @@ pub struct BegunDigest {
 }
 
 impl<A: Allocator> Circuit<A> {
-    /// The digest of the circuit: SHA-256 (FIPS 180-4) of its canonical text. It takes no memory.
+    /// The digest of the circuit: SHA-256 (FIPS 180-4) of its canonical text. It doesn't allocate.
     pub fn digest(&self) -> [u8; 32]
         ensures { result ≡ sha256 (canonical_text self.now) }
     {
@@ -50,7 +50,7 @@ impl<A: Allocator> Circuit<A> {
     }
 
     /// The lines with which a text and the canonical text of the circuit both begin, until they have at least `least`
-    /// bytes. None where the texts differ before. It takes no memory.
+    /// bytes. None where the texts differ before. It doesn't allocate.
     pub fn common_lines(&self, text: &[u8], least: usize) -> Option<CommonLines>
         ensures { IfSome result (AreCommonLines self.now text.now least) }
     {
@@ -86,8 +86,8 @@ impl<A: Allocator> Circuit<A> {
         BegunDigest { hasher, gates }
     }
 
-    /// The digest of the circuit, of which the beginning is given. That it is of this circuit is the caller's
-    /// condition. It takes no memory.
+    /// The digest of the circuit, of which the beginning is given. The caller ensures that it is of this circuit. It
+    /// doesn't allocate.
     pub fn finish_digest(&self, mut begun: BegunDigest) -> [u8; 32]
         requires { IsBegun self.now begun }
         ensures { result ≡ sha256 (canonical_text self.now) }

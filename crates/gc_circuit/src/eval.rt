@@ -35,7 +35,7 @@ fn operation_bit(bits: &[bool], operation: Operation) -> bool
     ensures { result ≡ bit_of (bits_of bits.now) operation }
 {
     match operation {
-        // In one arm, so that the processor doesn't have to guess which of the two comes next.
+        // In one arm, so that the processor needn't guess which of the two comes next.
         Operation::Xor(a, b) | Operation::And(a, b) => {
             let (first, second) = (bits[a as usize], bits[b as usize]);
             if operation.is_and() {
@@ -65,8 +65,8 @@ fn input_bits<A: Allocator + Copy, C: Allocator, V: Allocator>(
     Ok(bits)
 }
 
-/// The bits on all wires, in order, for these input values; false on a wire that is not set. It grows once. That the
-/// values fit the circuit is the caller's condition (`fits`).
+/// The bits on all wires, in order, for these input values; false on a wire that is not set. It grows once. The caller
+/// ensures that the values fit the circuit (`fits`).
 pub fn wire_bits<A: Allocator + Copy, C: Allocator, V: Allocator>(
     alloc: A,
     circuit: &Circuit<C>,
@@ -85,8 +85,8 @@ pub fn wire_bits<A: Allocator + Copy, C: Allocator, V: Allocator>(
     Ok(bits)
 }
 
-/// The bits on the output wires, in order, for these input values: plain evaluation. That the values fit the
-/// circuit is the caller's condition (`fits`).
+/// The bits on the output wires, in order, for these input values: plain evaluation. The caller ensures that the values
+/// fit the circuit (`fits`).
 pub fn plain_eval<A: Allocator + Copy, C: Allocator, V: Allocator>(
     alloc: A,
     circuit: &Circuit<C>,

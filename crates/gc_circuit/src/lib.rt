@@ -1,7 +1,6 @@
 //! Boolean circuits in Bristol Fashion: reading and writing them, their digests, and evaluating them in the clear.
 //!
-//! It re-exports the names of `gc_netlist`, which defines what a circuit is and what a text spells, and those of
-//! `gc_value`, which reads texts of values. Crates above take these names from here.
+//! What a circuit is and what a text spells is defined in `gc_netlist`. Texts of values are read here too.
 #![tactic(auto)]
 
 mod canon;

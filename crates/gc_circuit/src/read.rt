@@ -186,7 +186,7 @@ fn all_set(is_set: &[bool]) -> bool
     is_set.iter().all(|set| *set)
 }
 
-/// The first of these wires that is not set. That there is one is the caller's condition.
+/// The first of these wires that is not set. The caller ensures that there is one.
 #[cold]
 fn first_unset(is_set: &[bool]) -> usize
     requires { list_all (λ b. b) is_set.now ≡ false }
@@ -226,9 +226,9 @@ fn check_outputs(is_set: &[bool], outputs: u32) -> Result<(), Stop>
 }
 
 impl<A: Allocator + Copy> Circuit<A> {
-    /// Reads a circuit in Bristol Fashion. The answer is the circuit exactly where the text spells a lawful one,
-    /// and otherwise the first fault of the text, from left to right; `Memory` stands in place of the circuit,
-    /// or of a later fault, only where a growth was refused.
+    /// Reads a circuit in Bristol Fashion. Returns the circuit exactly where the text spells a lawful one, and
+    /// otherwise the first fault of the text, from left to right; `Memory` replaces the circuit, or a later fault, only
+    /// where an allocation was refused.
     pub fn read(alloc: A, text: &[u8]) -> Result<Circuit<A>, ReadFault>
         ensures lawful { IfOk result IsLawful }
         ensures spelled { IfOk result (Spells text.now) }

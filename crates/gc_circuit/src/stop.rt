@@ -4,7 +4,7 @@ ghost use Rattle.gc_netlist.specs.Met.{back_of};
 use gc_netlist::ReadFault;
 use std::alloc::{AllocError, AllocFailed};
 
-/// Why reading stops, and where: how many tokens the place stands before those that are left, the gate that is read
+/// Why reading stops, and where: how many tokens the place comes before those that are left, the gate that is read
 /// there, and the wire that the fault is about.
 #[derive(Clone, Copy, Debug)]
 pub(crate) struct Stop {

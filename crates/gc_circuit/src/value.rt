@@ -90,7 +90,7 @@ impl<T: Drop> From<AllocFailed<T>> for ValueFault {
 ///   i mod 8, where bit 0 is the lowest, of byte i / 8, and the bits that no wire uses are 0.
 ///
 /// A text whose first byte is `x` has the second form. `WrongLength` comes before `BadDigit`, and that before
-/// `SpareBits`; `Memory` comes only where a growth was refused, and then in place of any answer but `WrongLength`.
+/// `SpareBits`; `Memory` comes only where an allocation was refused, and then in place of any result but `WrongLength`.
 pub fn read_value<A: Allocator + Copy>(
     alloc: A,
     text: &[u8],
@@ -100,7 +100,7 @@ pub fn read_value<A: Allocator + Copy>(
     ensures err { IfErr result (λ fault.
         (fault ≡ ValueFault.Memory) ⊎ (value_of_text text.now width ≡ Err fault)) }
 
-    // The length is judged before memory is taken.
+    // The length is checked before memory is taken.
     ensures length_first { IsFalse (has_length width (form_of text.now)) →
         result ≡ Err ValueFault.WrongLength }
 {

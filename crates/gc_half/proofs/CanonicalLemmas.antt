@@ -58,7 +58,7 @@ module _ (c : Netlist) (seed : List ℕ) where
         rows-garbling hash (offset_of seed) c lawful _ _
         (record { inputs = zero_label_of-input; gates = zero_label_of-gate })
 
-    -- An AND gate's row pair stands at its AND number,
+    -- An AND gate's row pair is at its AND number,
     pub row_pairs_of-at : (i : ℕ) (g : Gate) (a b : ℕ) → slice_get c.gates i ≡ Some g
         → g.operation ≡ And a b → slice_get (row_pairs_of c seed) (and_number c i)
         ≡ Some (rows_of hash (offset_of seed) (zero_label_of c seed) (and_number c i) a b)

@@ -25,7 +25,7 @@ module _ (h : ℕ → ℕ → ℕ) (r : ℕ) (c : Netlist) (given : List ℕ) wh
   unfoldable pub label_of : ℕ → ℕ
   label_of = labels_after (length c.gates)
 
-  -- The first n gates are garbled. The labels of the wires that they leave set stand in a table that may end after the
+  -- The first n gates are garbled. The labels of the wires that they leave set are in a table that may end after the
   -- last of them. Behind it, and where no wire is set, there is 0.
   pub record AreGarbled (n : ℕ) (labels : List ℕ) (rows : List RowPair) : Type 0 where
     pub few : length labels ≤ c.wires
@@ -132,7 +132,7 @@ module _ (h : ℕ → ℕ → ℕ) (r : ℕ) (c : Netlist) (given : List ℕ) wh
           rows-garbling h r c lawful (slice_index given) _
           (solution_solves _ (zero_local h r c) c lawful (slice_index given))
 
-      -- So is what stands in a table of them.
+      -- So is what is in a table of them.
       pub table-garbling : (table : List ℕ) → table ≡ map label_of (range_with_len 0 c.wires)
           → IsGarbling h r c (slice_index given) (slice_index table)
           (rows_after h r c label_of (length c.gates))

@@ -17,7 +17,7 @@ take-found : {X : Type 0} (xs : List X) (i : ℕ) (x : X) → slice_get xs i ≡
     → take (i + 1) xs ≡ take i xs ++ x ∷ []
 take-found xs i x h = grind (arith, common_steps, gets)
 
--- The element at a place of a list that ends with x is x, or it stands in the list before.
+-- The element at a place of a list that ends with x is x, or it is in the list before.
 last-or-before : {X : Type 0} (xs : List X) (x y : X) (i : ℕ) → slice_get (xs ++ x ∷ []) i ≡ Some y
     → (slice_get xs i ≡ Some y) ⊎ (x ≡ y)
 last-or-before xs x y i h = grind (arith, common_steps, gets)
@@ -65,7 +65,7 @@ module _ (hash : ℕ → ℕ → ℕ) (r : ℕ) (c : Netlist) (label : ℕ → �
   length-rows_after zero = ap length rows_after-start
   length-rows_after (suc n) = grind (arith, common_steps, counts n, length-rows_after n)
 
-  -- that of an AND gate stands at its AND number,
+  -- that of an AND gate is at its AND number,
   pub rows_after-at : (n i : ℕ) (g : Gate) (a b : ℕ) → i < n → slice_get c.gates i ≡ Some g
       → g.operation ≡ And a b
       → slice_get (rows n) (and_number c i) ≡ Some (rows_of hash r label (and_number c i) a b)

@@ -31,7 +31,7 @@ pub record RowTableParts : Type 0 where
   pub left : List RowPair
   pub first : Option Mismatch
 
--- The row pairs that are made stand in the places of given ones, and were compared with these as far as they go.
+-- The row pairs that are made are in the places of given ones, and were compared with these as far as they go.
 pub record AreCompared (given : List RowPair) (t : RowTableParts) : Type 0 where
   pub left : t.left ≡ drop (length t.made) given
   pub first : length t.made ≤ length given →

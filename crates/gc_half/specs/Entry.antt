@@ -11,7 +11,7 @@ use Rattle.gc_half.specs.Evaluation.{encode}
 abbrev pub label_of_colour : ℕ → ℕ → Bool → ℕ
 label_of_colour offset zero_label s = encode offset zero_label (xor (colour zero_label) s)
 
--- The tweak of output i. Those of the AND gates, 2 * k and 2 * k + 1, stand before it.
+-- The tweak of output i. Those of the AND gates, 2 * k and 2 * k + 1, come before it.
 abbrev pub output_tweak : ℕ → ℕ → ℕ
 output_tweak and_gates i = 2 * and_gates + i
 

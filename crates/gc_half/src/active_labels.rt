@@ -7,8 +7,8 @@ use gc_circuit::Memory;
 use gc_label::Label;
 use std::alloc::Allocator;
 
-/// The active labels of the input wires, and 16 zero bytes for each other wire: the table that evaluation begins
-/// with. It takes memory once, for all wires. That there are no more labels than wires is the caller's condition.
+/// The active labels of the input wires, and 16 zero bytes for each other wire: the table that evaluation begins with.
+/// It allocates once, for all wires. The caller ensures that there are no more labels than wires.
 pub fn input_active_labels<A: Allocator + Copy>(
     alloc: A,
     wires: u32,

@@ -59,8 +59,8 @@ impl<A: Allocator> ActiveTable<A> {
         }
     }
 
-    /// Evaluates one more gate, or has it wait. An AND gate is the k-th, counted from 0. That there are the wires and
-    /// the row pair, and that no gate that waits sets the same wire, are the caller's conditions.
+    /// Evaluates one more gate, or has it wait. An AND gate is the k-th, counted from 0. The caller ensures that there
+    /// are the wires and the row pair, and that no gate that waits sets the same wire.
     #[inline(always)]
     pub(crate) fn step(&mut self, k: u32, rows: &[RowPair], gate: Gate)
         requires row { IsTrue (is_and gate.operation) → k < length rows.now }
@@ -116,8 +116,8 @@ impl<A: Allocator> ActiveTable<A> {
         }
     }
 
-    /// The labels of the wires that an operation reads first and second. That no gate that waits sets one of these
-    /// wires is the caller's condition.
+    /// The labels of the wires that an operation reads first and second. The caller ensures that no gate that waits
+    /// sets one of these wires.
     #[inline(always)]
     fn read(&self, operation: Operation) -> (Label, Label)
         requires wires { EachRead (λ w. w < length self.now.labels) operation }
@@ -158,7 +158,7 @@ impl<A: Allocator> ActiveTable<A> {
         self.labels[set as usize] = last;
     }
 
-    /// Gives a wire its label. That no gate that waits sets the same wire is the caller's condition.
+    /// Gives a wire its label. The caller ensures that no gate that waits sets the same wire.
     #[inline(always)]
     fn put(&mut self, wire: u32, label: Label)
         requires place { wire < length self.old.labels }

@@ -16,8 +16,8 @@ use gc_label::{Label, Offset};
 use std::alloc::Allocator;
 
 /// Entry `s` of output i, counted from 0: the hash of that one of the output wire's two labels whose colour is `s`,
-/// under the tweak 2A + i, where A is the number of AND gates. It takes no memory. That the garbling fits the
-/// circuit and that there is such an output are the caller's conditions.
+/// under the tweak 2A + i, where A is the number of AND gates. It doesn't allocate. The caller ensures that the
+/// garbling fits the circuit and that there is such an output.
 pub fn output_entry<A: Allocator, B: Allocator>(
     circuit: &Circuit<A>,
     garbling: &Garbling<B>,
@@ -54,7 +54,7 @@ pub fn output_entry_from<A: Allocator, B: Allocator>(
 }
 
 /// The entries 0 and 1 of four outputs, from output `first` on, each as [`output_entry`] gives it. They are hashed at
-/// once. That the garbling fits the circuit and that there are such outputs are the caller's conditions.
+/// once. The caller ensures that the garbling fits the circuit and that there are such outputs.
 pub fn four_output_entries<A: Allocator, B: Allocator>(
     circuit: &Circuit<A>,
     garbling: &Garbling<B>,

@@ -16,8 +16,8 @@ use gc_label::Label;
 use std::alloc::Allocator;
 
 /// The active labels of all wires, evaluated from row pairs and active labels of the input wires, gate after gate in
-/// file order: 16 zero bytes for a wire that is not set. It takes memory once, for the labels. That there are as many
-/// row pairs as AND gates, and as many labels as input wires, are the caller's conditions.
+/// file order: 16 zero bytes for a wire that is not set. It allocates once, for the labels. The caller ensures that
+/// there are as many row pairs as AND gates, and as many labels as input wires.
 pub fn evaluate_one_thread<A: Allocator + Copy, C: Allocator>(
     alloc: A,
     circuit: &Circuit<C>,
@@ -55,10 +55,10 @@ pub fn evaluate_from<A: Allocator + Copy, C: Allocator>(
     Ok(active.into_labels())
 }
 
-/// The active labels of the output wires, in order, evaluated from row pairs and active labels of the input wires, where
-/// AND gates are numbered from `first` on ("Two Halves Make a Whole", the procedure Ev). It allocates once for the labels
-/// of all wires and once for those of the output wires. That there are as many row pairs as AND gates, and as many labels
-/// as input wires, are the caller's conditions.
+/// The active labels of the output wires, in order, evaluated from row pairs and active labels of the input wires,
+/// where AND gates are numbered from `first` on ("Two Halves Make a Whole", the procedure Ev). It allocates once for
+/// the labels of all wires and once for those of the output wires. The caller ensures that there are as many row pairs
+/// as AND gates, and as many labels as input wires.
 pub fn evaluate_labels<A: Allocator + Copy, C: Allocator>(
     alloc: A,
     circuit: &Circuit<C>,
@@ -75,8 +75,8 @@ pub fn evaluate_labels<A: Allocator + Copy, C: Allocator>(
     Ok(Vec::from_slice(alloc, output_labels(circuit, &active))?)
 }
 
-/// The labels of the output wires, which are the last ones, out of a label for each wire. That there is a label for each
-/// wire is the caller's condition.
+/// The labels of the output wires, which are the last ones, out of a label for each wire. The caller ensures that there
+/// is a label for each wire.
 pub fn output_labels<'l, C: Allocator>(circuit: &Circuit<C>, labels: &'l [Label]) -> &'l [Label]
     requires { length labels.now ≡ circuit.now.wires }
     ensures count { length result.now ≡ output_wires circuit.now }

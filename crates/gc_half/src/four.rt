@@ -41,8 +41,8 @@ pub struct Evaluation<'r> {
 
 /// The active labels of all wires in four evaluations of one circuit, made side by side on one thread ("Two Halves Make
 /// a Whole", the procedure Ev). AND gates are numbered from `first` on. Each is what
-/// [`evaluate_from`](crate::evaluate_from) returns. That each has a row pair for each AND gate, and a label for each
-/// input wire, are the caller's conditions.
+/// [`evaluate_from`](crate::evaluate_from) returns. The caller ensures that each has a row pair for each AND gate, and
+/// a label for each input wire.
 pub fn evaluate_four_from<A: Allocator + Copy, C: Allocator>(
     alloc: A,
     circuit: &Circuit<C>,
@@ -87,8 +87,8 @@ pub fn evaluate_four_from<A: Allocator + Copy, C: Allocator>(
     })
 }
 
-/// Evaluates one more gate in four evaluations. An AND gate is the k-th, counted from 0. That there are the wires and
-/// the row pairs are the caller's conditions.
+/// Evaluates one more gate in four evaluations. An AND gate is the k-th, counted from 0. The caller ensures that there
+/// are the wires and the row pairs.
 #[inline(always)]
 fn step<A: Allocator>(
     first: FirstAnd,
@@ -194,7 +194,7 @@ impl<'r, A: Allocator> Lane<'r, A> {
         self.labels[wire as usize] = label;
     }
 
-    /// Evaluates a gate that is no AND gate, which is the caller's condition. The numbers are those of the contract.
+    /// Evaluates a gate that is no AND gate; the caller ensures this. The numbers are those of the contract.
     #[inline(always)]
     fn free(&mut self, first: FirstAnd, k: u32, gate: Gate)
         requires free { is_and gate.operation ≡ false }

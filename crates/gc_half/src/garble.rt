@@ -16,7 +16,7 @@ use std::alloc::Allocator;
 
 /// Garbles a circuit from an offset, a zero label for each input wire, and the number of the first AND gate, gate after
 /// gate in file order ("Two Halves Make a Whole", the procedure Gb). It allocates once for the labels and once for the
-/// rows. That there are as many zero labels as input wires is the caller's condition.
+/// rows. The caller ensures that there are as many zero labels as input wires.
 pub fn garble_from<A: Allocator + Copy, C: Allocator>(
     alloc: A,
     circuit: &Circuit<C>,
@@ -35,8 +35,8 @@ pub fn garble_from<A: Allocator + Copy, C: Allocator>(
     Ok(garbling)
 }
 
-/// The garbling of a circuit under a seed, gate after gate in file order. It takes memory for the labels and for
-/// the rows, each once.
+/// The garbling of a circuit under a seed, gate after gate in file order. It allocates for the labels and for the rows,
+/// each once.
 pub fn garble_one_thread<A: Allocator + Copy, C: Allocator>(
     alloc: A,
     circuit: &Circuit<C>,
@@ -51,8 +51,8 @@ pub fn garble_one_thread<A: Allocator + Copy, C: Allocator>(
 }
 
 /// The garbling of a circuit under a seed, and the first of the given row pairs that is not the garbling's, if there is
-/// one. Each row pair is compared as soon as it is made, and takes the place of the given one: it takes memory for the
-/// labels alone, once. That a row pair is given for each AND gate is the caller's condition.
+/// one. Each row pair is compared as soon as it is made, and takes the place of the given one: it allocates for the
+/// labels alone, once. The caller ensures that a row pair is given for each AND gate.
 pub fn garble_and_compare<A: Allocator + Copy, C: Allocator>(
     alloc: A,
     circuit: &Circuit<C>,
@@ -69,8 +69,8 @@ pub fn garble_and_compare<A: Allocator + Copy, C: Allocator>(
 }
 
 /// The garbling of a circuit with an offset, these zero labels of the input wires, and AND gates that are numbered from
-/// `first` on. Any number of row pairs are given: these are compared as far as they go. That there are as many zero
-/// labels as input wires is the caller's condition.
+/// `first` on. Any number of row pairs are given: these are compared as far as they go. The caller ensures that there
+/// are as many zero labels as input wires.
 fn garble_over<A: Allocator, C: Allocator>(
     circuit: &Circuit<C>,
     offset: Offset,

@@ -63,8 +63,7 @@ impl<A: Allocator> Model for Garbling<A> {
 }
 
 impl<A: Allocator> Garbling<A> {
-    /// A garbling of these parts, which are moved in. That there are as many wires as outputs is the
-    /// caller's condition.
+    /// A garbling of these parts, which are moved in. The caller ensures that there are as many wires as outputs.
     pub fn from_parts(
         zero_labels: Vec<Label, A>,
         rows: Vec<RowPair, A>,
@@ -84,7 +83,7 @@ impl<A: Allocator> Garbling<A> {
         }
     }
 
-    /// The zero label of a wire. That there is such a wire is the caller's condition.
+    /// The zero label of a wire. The caller ensures that there is such a wire.
     pub fn zero_label(&self, wire: u32) -> Label
         requires { wire < length self.now.zero_labels }
         ensures { slice_get self.now.zero_labels wire ≡ Some result }
@@ -126,8 +125,8 @@ impl<A: Allocator> Garbling<A> {
         self.outputs
     }
 
-    /// The decode bit of output wire i, counted from 0: the colour of its zero label. That there is such an
-    /// output wire is the caller's condition.
+    /// The decode bit of output wire i, counted from 0: the colour of its zero label. The caller ensures that there is
+    /// such an output wire.
     pub fn decode_bit(&self, i: u32) -> bool
         requires { i < self.now.outputs }
         ensures { slice_get (decode_bits_of self.now) i ≡ Some result }

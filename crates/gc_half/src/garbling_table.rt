@@ -74,8 +74,8 @@ impl<A: Allocator> GarblingTable<A> {
         }
     }
 
-    /// Garbles one more gate, or has it wait. The table is lengthened where it ends before the wire that the gate
-    /// sets. That there are the wires, and that no gate that waits sets the same wire, are the caller's conditions.
+    /// Garbles one more gate, or has it wait. The table is lengthened where it ends before the wire that the gate sets.
+    /// The caller ensures that there are the wires, and that no gate that waits sets the same wire.
     #[inline(always)]
     pub(crate) fn step(&mut self, offset: Offset, wires: u32, gate: Gate) -> Result<(), Memory>
         requires read { EachRead (λ w. w < length self.old.labels) gate.operation }
@@ -205,7 +205,7 @@ impl<A: Allocator> GarblingTable<A> {
         Ok(())
     }
 
-    /// Gives a wire its label. That no gate that waits sets the same wire is the caller's condition.
+    /// Gives a wire its label. The caller ensures that no gate that waits sets the same wire.
     #[inline(always)]
     fn put(&mut self, wire: u32, label: Label)
         requires place { wire < length self.old.labels }

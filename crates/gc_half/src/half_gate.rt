@@ -151,8 +151,8 @@ impl AndStep {
     }
 }
 
-/// Evaluates the k-th AND gate, counted from 0, from its rows and the active labels `a` and `b` of the wires
-/// that it reads. The answer is the active label of the wire that it sets.
+/// Evaluates the k-th AND gate, counted from 0, from its rows and the active labels `a` and `b` of the wires that it
+/// reads. Returns the active label of the wire that it sets.
 pub fn eval_and(k: u32, generator: Label, evaluator: Label, a: Label, b: Label) -> Label
     ensures { result ≡ and_active hash k generator evaluator a b }
 {

@@ -77,7 +77,7 @@ pub(crate) fn tweak_hash_eight(
 }
 
 /// The hashes of eight labels, as [`tweak_hash`] gives each, under tweaks that follow one another from `first` on. They
-/// are computed at once. That the last tweak is below 2^64 is the caller's condition.
+/// are computed at once. The caller ensures that the last tweak is below 2^64.
 pub fn tweak_hash_series(labels: [Label; 8], first: u64) -> [Label; 8]
     requires { first + 8 ≤ 2 ^ 64 }
     ensures { (j : ℕ) → j < 8

@@ -7,7 +7,7 @@ ghost use Rattle.gc_netlist.specs.Circuit.{and_number};
 use gc_circuit::Circuit;
 use std::alloc::{AllocError, Allocator};
 
-/// For each gate, how many AND gates stand before it in the file. It takes memory once.
+/// For each gate, how many AND gates come before it in the file. It allocates once.
 pub fn and_numbers<A: Allocator + Copy, C: Allocator>(
     alloc: A,
     circuit: &Circuit<C>,

@@ -11,8 +11,8 @@ use crate::half_gate::{eval_and, garble_and};
 use gc_circuit::Operation;
 use gc_label::{Label, Offset};
 
-/// The labels of the wires that an operation reads first and second, [`Label::ZERO`] where it reads none. That
-/// there are such labels is the caller's condition.
+/// The labels of the wires that an operation reads first and second, [`Label::ZERO`] where it reads none. The caller
+/// ensures that there are such labels.
 #[inline]
 pub fn labels_read(labels: &[Label], operation: Operation) -> (Label, Label)
     requires { EachRead (λ w. w < length labels.now) operation }
@@ -54,9 +54,9 @@ pub fn garble_gate(
     }
 }
 
-/// Evaluates one gate from the active labels of the wires that it reads first and second: the active label of the
-/// wire that it sets. An AND gate is the k-th, counted from 0, and that the rows have a pair for it is the caller's
-/// condition ("Two Halves Make a Whole", the procedure Ev).
+/// Evaluates one gate from the active labels of the wires that it reads first and second: the active label of the wire
+/// that it sets. An AND gate is the k-th, counted from 0, and the caller ensures that the rows have a pair for it ("Two
+/// Halves Make a Whole", the procedure Ev).
 #[inline]
 pub fn evaluate_gate(
     k: u32,

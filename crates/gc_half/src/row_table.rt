@@ -66,7 +66,7 @@ impl<A: Allocator> RowTable<A> {
         Ok(())
     }
 
-    /// Adds a pair in the place of the next given one. That one is left is the caller's condition.
+    /// Adds a pair in the place of the next given one. The caller ensures that one is left.
     #[inline(always)]
     fn replace(&mut self, pair: RowPair)
         requires { 0 < length self.old.left }

@@ -9,8 +9,8 @@ use std::marker::Model;
 const STRETCH: usize = 256;
 
 /// This many entries, each of one value until it is set. The memory for all is taken at the opening, but written only
-/// as far as entries are set: so a page of it is first touched by whoever sets an entry there, and not by the
-/// opening thread. No call but [`Table::open`] takes memory.
+/// as far as entries are set: so a page of it is first touched by whoever sets an entry there, and not by the opening
+/// thread. No call but [`Table::open`] allocates.
 #[derive(Drop)]
 pub struct Table<T: Copy, A: Allocator> {
     // The first entries, as far as they are filled.
@@ -31,7 +31,7 @@ impl<T: Copy, A: Allocator> Model for Table<T, A> {
 }
 
 impl<T: Copy, A: Allocator> Table<T, A> {
-    /// This many entries of one value. It takes all the memory that is needed, once.
+    /// This many entries of one value. It allocates all memory that is needed, once.
     pub fn open(alloc: A, unset: T, len: u32) -> Result<Table<T, A>, AllocError>
         ensures { IfOk result (λ t. t ≡ replicate len unset) }
     {
@@ -42,7 +42,7 @@ impl<T: Copy, A: Allocator> Table<T, A> {
         })
     }
 
-    /// An entry. That there is one at this place is the caller's condition.
+    /// An entry. The caller ensures that there is one at this place.
     #[inline]
     pub fn get(&self, i: u32) -> T
         requires { i < length self.now }
@@ -54,7 +54,7 @@ impl<T: Copy, A: Allocator> Table<T, A> {
         }
     }
 
-    /// Sets an entry. That there is one at this place is the caller's condition.
+    /// Sets an entry. The caller ensures that there is one at this place.
     #[inline]
     pub fn set(&mut self, i: u32, entry: T)
         requires { i < length self.old }
@@ -82,7 +82,7 @@ impl<T: Copy, A: Allocator> Table<T, A> {
     }
 }
 
-/// Fills a vector with a value up to a length. That it has room for it is the caller's condition.
+/// Fills a vector with a value up to a length. The caller ensures that it has room for it.
 fn fill<T: Copy, A: Allocator>(items: &mut Vec<T, A>, value: T, len: usize)
     requires more { vec_len items.old ≤ len }
     requires room { len ≤ vec_capacity items.old }

@@ -30,8 +30,8 @@ pub struct InputLabels<'l> {
 
 /// Two garblings of one circuit, made side by side on one thread, each from an offset and zero labels of its own ("Two
 /// Halves Make a Whole", the procedure Gb). AND gates are numbered from `first` on. Each is what
-/// [`garble_from`](crate::garble_from) returns. It allocates for the labels and for the rows of each, once. That there are
-/// as many zero labels as input wires is the caller's condition.
+/// [`garble_from`](crate::garble_from) returns. It allocates for the labels and for the rows of each, once. The caller
+/// ensures that there are as many zero labels as input wires.
 pub fn garble_two_from<A: Allocator + Copy, C: Allocator>(
     alloc: A,
     circuit: &Circuit<C>,
@@ -75,8 +75,8 @@ pub fn garble_two<A: Allocator + Copy, C: Allocator>(
     garble_both(circuit, FirstAnd::ZERO, one, other)
 }
 
-/// Both garblings, gate after gate. That no row pair is made yet, and that there are as many labels as input wires, are
-/// the caller's conditions.
+/// Both garblings, gate after gate. The caller ensures that no row pair is made yet, and that there are as many labels
+/// as input wires.
 fn garble_both<A: Allocator, C: Allocator>(
     circuit: &Circuit<C>,
     first: FirstAnd,
@@ -105,8 +105,7 @@ fn garble_both<A: Allocator, C: Allocator>(
     Ok((one.finish(circuit)?, other.finish(circuit)?))
 }
 
-/// Garbles one more gate in both. That there are the wires, and that both have as many row pairs, are the caller's
-/// conditions.
+/// Garbles one more gate in both. The caller ensures that there are the wires, and that both have as many row pairs.
 #[inline(always)]
 fn step<A: Allocator>(
     first: FirstAnd,

@@ -64,7 +64,7 @@ impl<T: Copy> WaitingGates<T> {
         operation.reads(third.set)
     }
 
-    /// Has one more gate wait. That fewer than three wait is the caller's condition.
+    /// Has one more gate wait. The caller ensures that fewer than three wait.
     #[inline(always)]
     pub fn push(&mut self, gate: T, set: u32)
         requires { length (gates_in self.old) < 3 }

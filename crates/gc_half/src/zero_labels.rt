@@ -15,7 +15,7 @@ use std::alloc::Allocator;
 const STRETCH: u32 = 64;
 
 /// The zero labels of the input wires under a seed, and 16 zero bytes for each other wire: the table that garbling
-/// begins with. It takes memory once, for all wires.
+/// begins with. It allocates once, for all wires.
 pub fn input_zero_labels<A: Allocator + Copy, C: Allocator>(
     alloc: A,
     circuit: &Circuit<C>,

@@ -5,9 +5,8 @@
 //! have different colours (point and permute). After "Two Halves Make a Whole" (Zahur, Rosulek and
 //! Evans, 2015).
 //!
-//! A [`Seed`] of 32 bytes is the key of a ChaCha20 keystream (RFC 8439, with a 64-bit block counter
-//! and the 64-bit stream number 0), from which [`offset`] and [`input_label`] are read. No call
-//! takes memory.
+//! A [`Seed`] of 32 bytes is the key of a ChaCha20 keystream (RFC 8439, with a 64-bit block counter and the 64-bit
+//! stream number 0), from which [`offset`] and [`input_label`] are read. No call allocates.
 #![tactic(auto)]
 
 mod keystream;

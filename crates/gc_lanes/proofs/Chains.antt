@@ -1,4 +1,4 @@
--- The message schedules of blocks that stand one after another.
+-- The message schedules of blocks that follow one another.
 use Rattle.std.proofs.Common.{◌≡◌, ℕ, zero, suc, ◌+◌, ◌*◌, ◌%◌, ◌^◌, ◌<◌, List, drop, slice_index, take, ap, refl, sym, ◌∙◌, add-one, add-zero, arith}
 use Rattle.std.proofs.lemmas.List.{drop-drop, drop-take, get_or-drop, get_or-take, take-take}
 use Rattle.sha2.specs.Sha256.{compress, hash_after, round, round_constants, rounds, word_at}

@@ -1,4 +1,4 @@
--- Blocks of 64 bytes that stand one after another in a message, and their message schedules.
+-- Blocks of 64 bytes that follow one another in a message, and their message schedules.
 use Rattle.std.specs.Prelude.{◌≡◌, ◌<◌, ◌*◌, ℕ, List, [], drop, get_or, slice_index, take}
 use Rattle.sha2.specs.Sha256.{add32, round_constants, schedule}
 use Rattle.gc_lanes.specs.Lanes.{lane}

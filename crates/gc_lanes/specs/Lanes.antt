@@ -23,7 +23,7 @@ label_of_low_words words =
     slice_index words 0 + 2 ^ 32 * slice_index words 1 + 2 ^ 64 * slice_index words 2
     + 2 ^ 96 * slice_index words 3
 
--- What stands at place j in each of four rows.
+-- What is at place j in each of four rows.
 abbrev pub column : List ℕ → List ℕ → List ℕ → List ℕ → ℕ → List ℕ
 column p q r s j = slice_index p j ∷ slice_index q j ∷ slice_index r j ∷ slice_index s j ∷ []
 

@@ -46,7 +46,7 @@ pub(crate) fn word_of(bytes: &[u8], start: usize) -> u32
     ])
 }
 
-// The word at this byte of each tweak, whose 8 bytes stand lowest first.
+// The word at this byte of each tweak, whose 8 bytes are lowest first.
 #[inline(always)]
 fn tweak_word<W: Words, const N: usize>(tweaks: &[u64; N], start: usize) -> W
     requires lanes { N ≡ W.lanes }
@@ -61,7 +61,7 @@ fn tweak_word<W: Words, const N: usize>(tweaks: &[u64; N], start: usize) -> W
     words
 }
 
-/// The two words of each tweak, whose 8 bytes stand lowest first.
+/// The two words of each tweak, whose 8 bytes are lowest first.
 #[inline(always)]
 pub(crate) fn tweak_words<W: Words, const N: usize>(tweaks: &[u64; N]) -> [W; 2]
     requires { N ≡ W.lanes }

@@ -13,7 +13,7 @@ use crate::words::Words;
 
 /// The tweaked hash of each label: the first 16 bytes of SHA-256 (FIPS 180-4) of the label's 16 bytes followed by the 8
 /// bytes of its tweak, the lowest first. Labels and hashes are the numbers that their bytes spell, the first byte
-/// highest. It takes no memory.
+/// highest. It doesn't allocate.
 #[inline]
 pub fn hash_four(labels: [u128; 4], tweaks: [u64; 4]) -> [u128; 4]
     ensures { (i : ℕ) → i < 4
@@ -31,7 +31,7 @@ pub fn hash_eight(labels: [u128; 8], tweaks: [u64; 8]) -> [u128; 8]
     labels_of_eight(hash_each(words_of_eight(labels), tweak_words(&tweaks)))
 }
 
-// The words of the tweaked hash of each label, one in each lane; those of labels stand lowest first. A window of such
+// The words of the tweaked hash of each label, one in each lane; those of labels are lowest first. A window of such
 // words fits in memory.
 #[inline(always)]
 fn hash_each<W: Words>(label: [W; 4], tweak: [W; 2]) -> [W; 4]

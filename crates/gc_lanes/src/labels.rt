@@ -1,5 +1,5 @@
 //! Labels by their words, one label in each lane. A label is 16 bytes, seen as the number that they spell, the first
-//! byte highest; its words stand lowest first here.
+//! byte highest; its words are lowest first here.
 
 ghost use Rattle.std.specs.Prelude.{◌≡◌, ◌<◌, ◌++◌, ◌∷◌, [], ℕ, slice_index};
 ghost use Rattle.gc_lanes.specs.Lanes.{column, label_of_low_words, lane, low_words, words_of_lane};
@@ -106,7 +106,7 @@ pub(crate) fn labels_of_four(words: [u32x4; 4]) -> [u128; 4]
     [label_of(a), label_of(b), label_of(c), label_of(d)]
 }
 
-/// The two labels whose words stand side by side.
+/// The two labels whose words are side by side.
 #[inline(always)]
 fn labels_of_two(words: u32x8) -> (u128, u128)
     ensures one { result.0

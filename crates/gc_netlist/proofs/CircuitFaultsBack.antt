@@ -84,7 +84,7 @@ module _ (c : Netlist) (lawful : IsLawful (without_outputs c)) where
       let no = false_from_ne_true (set w) (λ yes. free (tested_set c w yes)) in
       grind (arith, nat_tests)
 
-  -- the first unset wire is the one that is judged
+  -- the first unset wire is the one that is checked
   is_unset : (ws : List ℕ) (w : ℕ) → IsFirstUnset c ws w → IsSet c w → ⊥
   is_unset [] w h = absurd h
   is_unset (a ∷ ws) w (inl (same, free)) = rw same at free
@@ -141,7 +141,7 @@ module _ (ts : List (List ℕ)) where
   limited_due_back words limit (number_of_values wires before side) us e s bad =
       side_back wires words side us e s (rw bad refl)
 
-  -- and a gate, which is judged too.
+  -- and a gate, which is checked too.
   no_gate : (c : Netlist) (words : List Word) → GateDue c words → Reads words gate_at
   unfolding gates_at
   no_gate c words (next_gate n begun below) us e s bad =

@@ -101,7 +101,7 @@ is_and (Inv a) = false
 is_and (Eq v) = false
 is_and (Eqw a) = false
 
--- The AND number of gate i: how many AND gates stand before it in file order.
+-- The AND number of gate i: how many AND gates come before it in file order.
 abbrev pub and_number : Netlist → ℕ → ℕ
 and_number c i = count_by (λ g. is_and g.operation) (take i c.gates)
 

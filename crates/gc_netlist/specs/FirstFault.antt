@@ -52,7 +52,7 @@ pub data LimitedDue : List Word → ℕ → Type 0 where
   number_of_values : (wires : ℕ) (words : List Word) → SideDue wires words →
       LimitedDue words MAX_VALUES
 
--- The first count of a gate: it is how many numbers stand between the two counts and the wire that the gate sets.
+-- The first count of a gate: it is how many numbers are between the two counts and the wire that the gate sets.
 abbrev pub IsCount : ℕ → Type 0
 IsCount r = (r ≡ 1) ⊎ (r ≡ 2)
 

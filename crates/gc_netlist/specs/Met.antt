@@ -1,4 +1,4 @@
--- Where a reader stands at the first fault: what its steps leave of the tokens, and how far back the place is.
+-- Where a reader is at the first fault: what its steps leave of the tokens, and how far back the place is.
 use Rattle.std.specs.Prelude.{◌≡◌, ℕ, ◌+◌, ◌&&◌, ◌==◌, Bool, true, false, List, [], zero, suc, length, Option, Result, Ok, Err, if◌then◌else◌}
 use Rattle.gc_netlist.specs.declared.limits.TheConstants.{MAX_VALUES}
 use Rattle.gc_netlist.specs.declared.fault.ReadFault.{ReadFault}

@@ -34,13 +34,13 @@ gate_of_number (due_in_gate c words numbers gate at) = Some (length c.gates)
 abbrev pub gate_of_name : {r : ℕ} {words : List Word} → NameDue r words → Option ℕ
 gate_of_name (due_as_name c words numbers gate count len) = Some (length c.gates)
 
--- how many of the wires stand before the first that isn't set
+-- how many of the wires come before the first that isn't set
 abbrev pub before_unset : (c : Netlist) (wires : List ℕ) (w : ℕ) → IsFirstUnset c wires w → ℕ
 before_unset c [] w h = 0
 before_unset c (a ∷ more) w (inl here) = 0
 before_unset c (a ∷ more) w (inr later) = suc (before_unset c more w later.1)
 
--- the token of a gate's wire set, which stands before its operation, where the gate comes after k tokens
+-- the token of a gate's wire set, which comes before its operation, where the gate comes after k tokens
 abbrev pub set_token : ℕ → Gate → ℕ
 set_token k g = k + (length (words_of_gate g) - 2)
 

@@ -73,7 +73,7 @@ operation_of_one name a =
     else if bytes_eq name (codes "XOR") || bytes_eq name (codes "AND") then Err BadShape
     else Err UnknownOperation
 
--- A gate after its counts 2 and 1: the wires and the name come first, and are judged then.
+-- A gate after its counts 2 and 1: the wires and the name come first, and are checked then.
 unfoldable pub two_at : List (List ℕ) → Result (Gate × List (List ℕ)) ReadFault
 two_at ts = do
   a ← number_at ts
@@ -131,7 +131,7 @@ module _ (wires : ℕ) (set : ℕ → Bool) where
     reads ← check_reads g.operation
     check_set g.set
 
--- n gates, after those that were read before. Each is judged by these.
+-- n gates, after those that were read before. Each is checked by these.
 unfoldable pub gates_at : ℕ → ℕ → ℕ → List Gate → List (List ℕ)
     → Result (List Gate × List (List ℕ)) ReadFault
 gates_at wires inputs zero before ts = Ok (before, ts)

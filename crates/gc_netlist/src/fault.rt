@@ -5,8 +5,8 @@ use std::alloc::{AllocError, AllocFailed};
 use std::error::Error;
 use std::fmt;
 
-/// Why a text is no circuit: the first fault that reading it from left to right meets. `Memory` stands in place
-/// of a later fault, or of the circuit, only where a growth was refused.
+/// Why a text is no circuit: the first fault that reading it from left to right meets. `Memory` replaces a later fault,
+/// or the circuit, only where an allocation was refused.
 #[derive(Clone, Copy, Debug, PartialEq, Eq)]
 pub enum ReadFault {
     /// A token is due where the text has ended.

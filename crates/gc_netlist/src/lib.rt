@@ -1,6 +1,6 @@
 //! What a Boolean circuit is, and what a text in Bristol Fashion spells.
 //!
-//! The definitions stand in `specs/`. Here are [`Gate`]s and their [`Operation`]s, the limits of a circuit, and the
+//! The definitions are in `specs/`. Here are [`Gate`]s and their [`Operation`]s, the limits of a circuit, and the
 //! faults of texts that spell none. [`law_reading`] says that each text spells exactly one lawful circuit or has
 //! exactly one first fault, and [`law_canonical_text`] that a lawful circuit has one canonical text.
 #![tactic(auto)]

@@ -1,4 +1,4 @@
-//! The limits of a circuit. Each stands here alone.
+//! The limits of a circuit. Each is defined here only.
 
 /// The most gates that a circuit may have.
 pub const MAX_GATES: u32 = 1 << 24;

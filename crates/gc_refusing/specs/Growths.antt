@@ -1,20 +1,20 @@
--- Which growths a `Refusing` refuses. A growth is one call of `allocate`, and the first has the number 1.
+-- Which allocations a `Refusing` refuses. An allocation is one call of `allocate`, and the first has the number 1.
 use Rattle.std.specs.Prelude.{◌≡◌, ◌↔◌, ℕ, Bool, IsTrue}
 use Rattle.gc_refusing.specs.declared.Refusal.{Refusal}
 use Rattle.gc_refusing.specs.declared.Refusal.TheVariants.{Never, Nth, Always}
 use Rattle.gc_refusing.specs.declared.Refusing.{Refusing}
 
--- the growth of this number is refused
+-- the allocation of this number is refused
 abbrev pub IsRefused : Refusal → ℕ → Type 0
 IsRefused Never growth = ⊥
 IsRefused (Nth n) growth = growth ≡ n
 IsRefused Always growth = Unit {0}
 
--- the answer is right for some growth, whose number the threads that share the counter settle
+-- the result is right for some allocation, whose number the threads that share the counter settle
 abbrev pub AnswersSomeGrowth : Refusal → Bool → Type 0
 AnswersSomeGrowth refusal refused = (growth : ℕ) × (IsTrue refused ↔ IsRefused refusal growth)
 
--- which growths this one refuses
+-- which allocations this one refuses
 abbrev pub refusal_of : {B : Type 0} → Refusing B → Refusal
 refusal_of heap = heap.tally.refusal
 

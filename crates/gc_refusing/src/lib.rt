@@ -1,5 +1,5 @@
-//! An allocator for tests, which refuses chosen growths and counts them all. So a test can let
-//! memory run out at each growth in turn.
+//! An allocator for tests, which refuses chosen allocations and counts them all. So a test can let memory run out at
+//! each allocation in turn.
 #![tactic(auto)]
 
 ghost use Rattle.std.specs.Prelude.{◌≡◌, ◌↔◌, IsTrue};
@@ -9,7 +9,7 @@ ghost use Rattle.gc_refusing.specs.declared.Refusal.TheVariants.{Always, Never, 
 use std::alloc::{AllocError, Allocator};
 use std::sync::atomic::{AtomicU64, Ordering};
 
-/// Which growths are refused. The first growth has the number 1.
+/// Which allocations are refused. The first allocation has the number 1.
 #[derive(Clone, Copy, Debug, PartialEq, Eq)]
 pub enum Refusal {
     Never,
@@ -18,7 +18,7 @@ pub enum Refusal {
 }
 
 impl Refusal {
-    /// Whether the growth of this number is refused.
+    /// Whether the allocation of this number is refused.
     pub fn refuses(self, growth: u64) -> bool
         ensures { IsTrue result ↔ IsRefused self growth }
     {
@@ -30,7 +30,7 @@ impl Refusal {
     }
 }
 
-/// The growths so far: how many were asked for, and how many of these were refused.
+/// The allocations so far: how many were asked for, and how many of these were refused.
 #[derive(Drop)]
 struct Tally {
     refusal: Refusal,
@@ -49,7 +49,7 @@ impl Tally {
         }
     }
 
-    /// Counts one more growth, and says whether it is refused.
+    /// Counts one more allocation, and says whether it is refused.
     fn refuses_next(&self) -> bool
         ensures { AnswersSomeGrowth self.now.refusal result }
     {
@@ -62,18 +62,18 @@ impl Tally {
     }
 }
 
-/// An allocator that refuses some growths, and hands the others to `inner`.
+/// An allocator that refuses some allocations, and hands the others to `inner`.
 ///
-/// A growth is one call of `allocate`: each time that a collection takes a block, be it larger or
-/// smaller than the last. Lend it as `&heap` to the code under test, and read the counts after.
-/// Threads may share it, and each growth then has a number of its own.
+/// An allocation is one call of `allocate`: each time that a collection takes a block, be it larger or smaller than the
+/// last. Lend it as `&heap` to the code under test, and read the counts after. Threads may share it, and each
+/// allocation then has a number of its own.
 pub struct Refusing<B: Allocator> {
     inner: B,
     tally: Tally,
 }
 
 impl<B: Allocator> Refusing<B> {
-    /// Refuses the growths that `refusal` says.
+    /// Refuses the allocations that `refusal` says.
     pub fn new(inner: B, refusal: Refusal) -> Refusing<B>
         ensures refusal { refusal_of result ≡ refusal }
         ensures inner { inner_of result ≡ inner }
@@ -84,7 +84,7 @@ impl<B: Allocator> Refusing<B> {
         }
     }
 
-    /// Refuses no growth, and counts them.
+    /// Refuses no allocation, and counts them.
     pub fn never(inner: B) -> Refusing<B>
         ensures refusal { refusal_of result ≡ Never }
         ensures inner { inner_of result ≡ inner }
@@ -92,7 +92,7 @@ impl<B: Allocator> Refusing<B> {
         Refusing::new(inner, Refusal::Never)
     }
 
-    /// Refuses the `n`-th growth, counted from 1, and no other. At 0 it refuses none.
+    /// Refuses the `n`-th allocation, counted from 1, and no other. At 0 it refuses none.
     pub fn nth(inner: B, n: u64) -> Refusing<B>
         ensures refusal { refusal_of result ≡ Nth n }
         ensures inner { inner_of result ≡ inner }
@@ -100,7 +100,7 @@ impl<B: Allocator> Refusing<B> {
         Refusing::new(inner, Refusal::Nth(n))
     }
 
-    /// Refuses every growth.
+    /// Refuses every allocation.
     pub fn always(inner: B) -> Refusing<B>
         ensures refusal { refusal_of result ≡ Always }
         ensures inner { inner_of result ≡ inner }
@@ -108,12 +108,12 @@ impl<B: Allocator> Refusing<B> {
         Refusing::new(inner, Refusal::Always)
     }
 
-    /// How many growths were asked for so far, those that were refused among them.
+    /// How many allocations were asked for so far, those that were refused among them.
     pub fn growths(&self) -> u64 {
         self.tally.growths.load(Ordering::SeqCst)
     }
 
-    /// How many growths were refused so far.
+    /// How many allocations were refused so far.
     pub fn refused(&self) -> u64 {
         self.tally.refused.load(Ordering::SeqCst)
     }

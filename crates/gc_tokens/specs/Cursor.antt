@@ -1,4 +1,4 @@
--- Where a reader stands in a text.
+-- Where a reader is in a text.
 use Rattle.std.specs.Prelude.{◌≡◌, ℕ, ◌<◌, ◌-◌, ◌++◌, ◌⊎◌, true, List, length, slice_index}
 use Rattle.gc_netlist.specs.Text.{is_blank}
 

@@ -38,7 +38,7 @@ fn run_start(text: &[u8]) -> usize
     0
 }
 
-/// Where the last token begins. That there is one is the caller's condition.
+/// Where the last token begins. The caller ensures that there is one.
 fn last_start(text: &[u8]) -> usize
     requires { 0 < length (tokens text.now) }
     ensures within { result < length text.now }
@@ -50,7 +50,7 @@ fn last_start(text: &[u8]) -> usize
     run_start(&text[..end])
 }
 
-/// Where the token begins from which there are `back` to the end. That there are as many is the caller's condition.
+/// Where the token begins from which there are `back` to the end. The caller ensures that there are as many.
 pub(crate) fn start_back(text: &[u8], back: usize) -> usize
     requires some { 0 < back }
     requires fits { back ≤ length (tokens text.now) }

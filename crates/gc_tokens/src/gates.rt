@@ -112,8 +112,8 @@ pub fn read_gate(tokens: &mut Tokens<'_>) -> Result<Gate, ReadFault>
     ensures left { IfErr result (λ _. tokens.new.left ≡ gate_left tokens.old.left) }
     ensures kept { tokens.new.text ≡ tokens.old.text }
 {
-    // The answer of the call is made anew by `?`: handed on as it stands, it would bring the usual gate into memory
-    // too.
+    // `Ok(..?)` builds a new result, so that the call's own result, which is laid in memory, doesn't draw the usual
+    // gate there too.
     match tokens.common_gate() {
         Some(gate) => Ok(gate),
         None => Ok(read_any_gate(tokens)?),

@@ -2,7 +2,7 @@
 //! begin.
 //!
 //! A token is a run of bytes that are no blanks, and the four blanks are tab, line feed, carriage return and space. Any
-//! bytes are a text, and no call here takes memory.
+//! bytes are a text, and no call here allocates.
 #![tactic(auto)]
 
 mod back;

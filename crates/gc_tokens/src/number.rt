@@ -4,7 +4,7 @@ ghost use Rattle.gc_netlist.specs.Reading.{number_at};
 
 use gc_netlist::ReadFault;
 
-/// Whether the byte stands between tokens: a tab, a line feed, a carriage return or a space. Nearly all other bytes are
+/// Whether the byte is between tokens: a tab, a line feed, a carriage return or a space. Nearly all other bytes are
 /// above a space, so that one comparison suffices for them.
 #[inline]
 pub fn is_blank(byte: u8) -> bool

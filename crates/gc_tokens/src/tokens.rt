@@ -97,7 +97,7 @@ impl<'a> Tokens<'a> {
     }
 
     /// Where the token begins that stands `back` tokens before those that are left, in bytes from the start of the
-    /// text. With 0 it is the next one. That there is one is the caller's condition. It may take a token.
+    /// text. With 0 it is the next one. The caller ensures that there is one. It may take a token.
     pub fn start(&mut self, back: usize) -> usize
         requires before { back + length self.old.left ≤ length (tokens self.old.text) }
         requires next { back ≡ 0 → 0 < length self.old.left }
@@ -113,8 +113,8 @@ impl<'a> Tokens<'a> {
         }
     }
 
-    /// The end of the last token before those that are left, in bytes from the start of the text. That there is one is
-    /// the caller's condition.
+    /// The end of the last token before those that are left, in bytes from the start of the text. The caller ensures
+    /// that there is one.
     pub fn end_before(&self) -> usize
         requires { length self.now.left < length (tokens self.now.text) }
         ensures { IsSpot self.now.text
@@ -142,7 +142,7 @@ impl<'a> Tokens<'a> {
         Some(gate)
     }
 
-    /// Takes a token that is due. Where none is left, it answers `Truncated`.
+    /// Takes a token that is due. Where none is left, it returns `Truncated`.
     #[inline(always)]
     pub(crate) fn token(&mut self) -> Result<&'a [u8], ReadFault>
         ensures read { MatchResult result (λ t. token_at self.old.left ≡ Ok (t.now, self.new.left))
@@ -160,7 +160,7 @@ impl<'a> Tokens<'a> {
     }
 
     /// Takes a number that is due, in decimal digits and below 2 ^ 32. Leading zeros are accepted. Where no token is
-    /// left, it answers `Truncated`, and where the next is no such number, `BadNumber`. Then it takes none.
+    /// left, it returns `Truncated`, and where the next is no such number, `BadNumber`. Then it takes none.
     #[inline(always)]
     pub fn number(&mut self) -> Result<u32, ReadFault>
         ensures read { MatchResult result (λ n. number_at self.old.left ≡ Ok (n, self.new.left))
@@ -177,8 +177,8 @@ impl<'a> Tokens<'a> {
         Ok(value)
     }
 
-    /// Takes a number that is due and may not be above the limit. One that is above is taken, and the answer is
-    /// `TooLarge`. Otherwise it answers as `number` does.
+    /// Takes a number that is due and may not be above the limit. One that is above is taken, and the result is
+    /// `TooLarge`. Otherwise it returns as `number` does.
     #[tactic(auto, unfolding(gc_netlist::specs::Reading::limited_at, gc_netlist::specs::Met::limited_left))]
     pub fn number_up_to(&mut self, limit: u32) -> Result<u32, ReadFault>
         ensures number { MatchResult result
@@ -196,7 +196,7 @@ impl<'a> Tokens<'a> {
         }
     }
 
-    /// Checks that no token is left, and else answers `TrailingTokens`.
+    /// Checks that no token is left, and else returns `TrailingTokens`.
     pub fn end(&self) -> Result<(), ReadFault>
         ensures { result ≡ check_end self.now.left }
     {

@@ -1,5 +1,4 @@
--- A refusal owns nothing. Else the inner allocator is asked under the same lifetimes, and its
--- answer is handed on.
+-- A refusal owns nothing. Else the inner allocator is asked under the same lifetimes, and its result is handed on.
 -- Assumes `Logic`.
 use Rattle.gc_refusing.proofs.Fields.{Bool, List, [], ◌∷◌, Err, false, refl, ap, w64, a_type, dnil}
 use Rattle.gc_refusing.proofs.Fields.{dcons, Val, vptr, inst_fn, id⊢, ftrue, flft, tables, Sq, prop}
@@ -67,7 +66,7 @@ allocate_spec 𝓤 𝓛 𝓜 𝓡 wired B laws g d e bound _ =
     ((κs, qs, bounds, (record { ref_ptr = p; now = h }, a.1), (lent, vs.1)), τ) in
     let I = callee.ended B g d e in
     let answer_laws = result_laws RawPtr alloc_error.the_row pointer_laws alloc_error_laws in
-    -- the end of each way through the body: an answer, and the block that comes with it
+    -- the end of each way through the body: a result, and the block that comes with it
     let answers : (v : Val) (r : Answer.Denot)
     → Sq 𝓛 (‵ (Answer.own_val r (v ∷ [])) ∷ ‵ (block_if_ok (token Z h) τ r)
     ∷ raw (alive 𝓛 S κs qs) ∷ []) (prop (W.post y v)) = λ v r.
