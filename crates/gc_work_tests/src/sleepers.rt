@@ -184,7 +184,10 @@ fn whom_a_hand_in_wakes(rt: HostRuntime) -> Result<(), Fail> {
         let text = fan(rt.alloc(), readers)?;
         for _time in 0..20 {
             let found = given_at::<Brand, HostRuntime>(&rt, rt.alloc(), ledger(), text.as_str());
-            assert!(rt; found == Some([given; SLEEPERS]), "{readers} readers: {found:?}");
+            assert!(rt;
+                found == Some([given; SLEEPERS]),
+                "{readers} readers: {found:?}"
+            );
         }
     }
     Ok(())
