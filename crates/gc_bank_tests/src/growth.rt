@@ -12,6 +12,7 @@ use gc_worked::growths::refusals_met;
 use gc_workers::{Open, OpenFault};
 use std::alloc::Global;
 use std::sync::Wait;
+use std::sync::atomic::{AtomicBool, AtomicU64, Ordering};
 use std::test::Fail;
 use std::thread::Threads;
 
@@ -59,29 +60,52 @@ fn same(one: &[Vec<bool, &Refusing<Global>>], other: &[Vec<bool>]) -> bool {
             .all(|(a, b)| a.as_slice() == b.as_slice())
 }
 
-/// How many runs of this many workers meet a refused growth. Each gives the answer of one thread, or the fault for
+/// Of the runs in which one growth is refused, by the growths in turn.
+#[derive(Clone, Copy, PartialEq, Eq, Debug)]
+struct Refused {
+    /// How many there are,
+    runs: u64,
+    /// and how many give the answer all the same before one gives the fault for memory.
+    answered: u64,
+}
+
+/// The runs of this many workers that meet a refused growth. Each gives the answer of one thread, or the fault for
 /// memory.
 fn refused_runs<R: Threads + Wait + Sync>(
     rt: &R,
     alloc: Global,
     jobs: &[Job],
     workers: u32,
-) -> Result<u64, Fail> {
+) -> Result<Refused, Fail> {
     let plain = one_after_another(alloc, jobs)?;
+    let answered = AtomicU64::new(0);
+    let is_faulty = AtomicBool::new(false);
     let refused = refusals_met(alloc, |heap| {
         Some(match evaluated(rt, heap, jobs, workers, &Open)? {
-            Ok(all) => same(&all, &plain),
-            Err(fault) => fault == EvalFault::Memory && heap.refused() == 1,
+            Ok(all) => {
+                if !is_faulty.load(Ordering::SeqCst) {
+                    answered.fetch_add(heap.refused(), Ordering::SeqCst);
+                }
+                same(&all, &plain)
+            }
+            Err(fault) => {
+                is_faulty.store(true, Ordering::SeqCst);
+                fault == EvalFault::Memory && heap.refused() == 1
+            }
         })
     });
     match refused {
-        Some(runs) => Ok(runs),
+        Some(runs) => Ok(Refused {
+            runs,
+            answered: answered.load(Ordering::SeqCst),
+        }),
         None => Err(Fail::new("neither the answer nor the fault for memory")),
     }
 }
 
 /// Fewer jobs than workers, on a wide circuit, are shared at the banks. These take memory seven times, the workers
-/// once each and once together, and the answers twice together and at least twice for each job.
+/// once each and once together, and the answers twice together and at least twice for each job. Without memory for the
+/// banks and the workers one thread evaluates the jobs.
 #[test]
 fn each_growth_of_shared_jobs_refused(rt: HostRuntime) -> Result<(), Fail> {
     let alloc = rt.alloc();
@@ -90,21 +114,31 @@ fn each_growth_of_shared_jobs_refused(rt: HostRuntime) -> Result<(), Fail> {
     let ones = "1".repeat(alloc, 1100)?;
     let values = [ones.as_str(), ones.as_str()];
     let jobs = one_of_each_version(alloc, &circuit, text.as_str(), &values)?;
-    let few = refused_runs(&rt, alloc, &jobs, 3)?;
-    let many = refused_runs(&rt, alloc, &jobs, 16)?;
-    assert!(rt; few >= 16 && many >= 29, "{few} and {many} growths");
+    for (workers, runs) in [(3, 16), (16, 29)] {
+        let refused = refused_runs(&rt, alloc, &jobs, workers)?;
+        let opening = 8 + u64::from(workers);
+        assert!(rt;
+            refused.runs >= runs && refused.answered >= opening,
+            "{refused:?}"
+        );
+    }
     Ok(())
 }
 
-/// Otherwise each worker evaluates jobs of its own: the list takes memory twice, and each job at least twice.
+/// Otherwise each worker evaluates jobs of its own: the list takes memory twice, and each job at least twice. Without
+/// memory for the list of the answers alone, which comes last, there is none.
 #[test]
 fn each_growth_of_jobs_apart_refused(rt: HostRuntime) -> Result<(), Fail> {
     let alloc = rt.alloc();
     let circuit = Circuit::read(alloc, FULL_ADDER.as_bytes())?;
     let jobs = three_jobs(alloc, &circuit)?;
     for workers in [1, 2, 64] {
-        let runs = refused_runs(&rt, alloc, &jobs, workers)?;
-        assert!(rt; runs >= 7, "{runs} growths by {workers} workers");
+        let refused = refused_runs(&rt, alloc, &jobs, workers)?;
+        let is_last = refused.answered.checked_add(1) == Some(refused.runs);
+        assert!(rt;
+            refused.runs >= 7 && is_last,
+            "{refused:?} of {workers} workers"
+        );
     }
     Ok(())
 }

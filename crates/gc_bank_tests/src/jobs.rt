@@ -6,13 +6,13 @@ use gc_circuit::{Circuit, read_value};
 use gc_file::{Version, read_garbled, read_labels};
 use gc_job::{EvalFault, Job, evaluate};
 use gc_rounds::MAX_JOBS;
-use gc_worked::circuits::{FULL_ADDER, SPACED_ADDER, many_ands};
+use gc_worked::circuits::{FULL_ADDER, SPACED_ADDER, and_chains, many_ands};
+use gc_worked::counting::Counting;
 use gc_worked::files::{label_file, write};
 use gc_worked::meeting::Meeting;
 use gc_workers::Gatehouse;
 use std::alloc::{Allocator, Global};
 use std::sync::Wait;
-use std::sync::atomic::{AtomicU64, Ordering};
 use std::test::Fail;
 use std::thread::Threads;
 
@@ -118,55 +118,47 @@ fn meet<R: Threads + Wait + Sync>(rt: &R, alloc: Global, jobs: &[Job], workers: 
     observer.has_met() && observer.are_below(workers) && is_right
 }
 
-/// Counts the calls of each of the first 64 workers, and all calls.
-#[derive(Drop)]
-struct Counting {
-    calls: AtomicU64,
-    // Bit w is set once worker w called.
-    workers: AtomicU64,
-}
-
-impl Gatehouse for Counting {
-    fn before(&self, worker: u32, _gate: u32) {
-        self.calls.fetch_add(1, Ordering::SeqCst);
-        self.workers
-            .fetch_or(1u64.checked_shl(worker).unwrap_or(0), Ordering::SeqCst);
-    }
-}
-
-/// How often the gates of jobs are reported, and by which workers (bit w for worker w), as this many workers evaluate
-/// them; None where the answers are not those of one thread.
-fn reports<R: Threads + Wait + Sync>(
+/// Whether this many workers report each gate of the jobs' circuit, once for each job where they evaluate jobs of their
+/// own, and each by its own number, and the answers are those of one thread.
+fn is_each_reported<R: Threads + Wait + Sync>(
     rt: &R,
     alloc: Global,
     jobs: &[Job],
     workers: u32,
-) -> Option<(u64, u64)> {
-    let observer = Counting {
-        calls: AtomicU64::new(0),
-        workers: AtomicU64::new(0),
-    };
+) -> Result<bool, Fail> {
+    let gates = jobs.first().map_or(0, |job| job.circuit().gates());
+    let observer = Counting::new(alloc, gates)?;
     let found = evaluated(rt, alloc, jobs, workers, &observer);
-    if found != Some(one_after_another(alloc, jobs)) {
-        return None;
-    }
-    Some((
-        observer.calls.load(Ordering::SeqCst),
-        observer.workers.load(Ordering::SeqCst),
-    ))
+    let is_right = found == Some(one_after_another(alloc, jobs));
+    let each = jobs.len() as u64;
+    let most = if jobs.len() < workers as usize {
+        u64::MAX
+    } else {
+        each
+    };
+    Ok(is_right && observer.is_each_between(each, most) && observer.are_below(workers))
 }
 
-/// Each gate of each job is reported once: by one worker, and by two that evaluate a job each.
+/// Each gate of each of two jobs is reported: by one worker, and by two that evaluate a job each, once; by 64 that share
+/// both at the banks, at least once, where AND gates are stepped four at once, and two.
 #[test]
 fn gates_of_jobs_are_reported(rt: HostRuntime) -> Result<(), Fail> {
     let alloc = rt.alloc();
-    let text = many_ands(alloc, 2000)?;
-    let circuit = Circuit::read(alloc, text.as_bytes())?;
     let zeros = "0".repeat(alloc, 2000)?;
-    let values = [zeros.as_str(), zeros.as_str()];
-    let jobs = one_of_each_version(alloc, &circuit, text.as_str(), &values)?;
-    assert_eq!(rt; reports(&rt, alloc, &jobs, 1), Some((4000, 1)));
-    assert_eq!(rt; reports(&rt, alloc, &jobs, 2), Some((4000, 3)));
+    for (text, width) in [
+        (many_ands(alloc, 2000)?, 2000),
+        (and_chains(alloc, 64, 32)?, 64),
+    ] {
+        let circuit = Circuit::read(alloc, text.as_bytes())?;
+        let zeros = zeros.get(..width).unwrap_or("");
+        let jobs = one_of_each_version(alloc, &circuit, text.as_str(), &[zeros, zeros])?;
+        for workers in [1, 2, 64] {
+            assert!(rt;
+                is_each_reported(&rt, alloc, &jobs, workers)?,
+                "{workers} workers"
+            );
+        }
+    }
     Ok(())
 }
 

@@ -7,3 +7,5 @@ mod banks;
 mod growth;
 #[cfg(test)]
 mod jobs;
+#[cfg(test)]
+mod rounds;

@@ -11,6 +11,7 @@ use gc_worked::meeting::Meeting;
 use gc_workers::Open;
 use std::alloc::Global;
 use std::sync::Wait;
+use std::sync::atomic::{AtomicU64, Ordering};
 use std::test::Fail;
 use std::thread::Threads;
 
@@ -87,49 +88,71 @@ fn each_gate_is_reported(rt: HostRuntime) -> Result<(), Fail> {
     Ok(())
 }
 
-/// How many runs of this many workers meet a refused growth. Each gives the answer of one thread, or the fault for
+/// Of the runs in which one growth is refused, by the growths in turn.
+#[derive(Clone, Copy, PartialEq, Eq, Debug)]
+struct Refused {
+    /// How many there are,
+    runs: u64,
+    /// and how many of them give the answer all the same.
+    answered: u64,
+}
+
+/// The runs of this many workers that meet a refused growth. Each gives the answer of one thread, or the fault for
 /// memory.
 fn refused_runs<R: Threads + Wait + Sync>(
     rt: &R,
     alloc: Global,
     job: &Job,
     workers: u32,
-) -> Result<u64, Fail> {
+) -> Result<Refused, Fail> {
     let plain = evaluate(alloc, job)?;
+    let answered = AtomicU64::new(0);
     let refused = refusals_met(alloc, |heap| {
         Some(match evaluate_many(rt, heap, job, workers, &Open) {
-            Ok(bits) => bits.as_slice() == plain.as_slice(),
+            Ok(bits) => {
+                answered.fetch_add(heap.refused(), Ordering::SeqCst);
+                bits.as_slice() == plain.as_slice()
+            }
             Err(fault) => fault == EvalFault::Memory && heap.refused() == 1,
         })
     });
     match refused {
-        Some(runs) => Ok(runs),
+        Some(runs) => Ok(Refused {
+            runs,
+            answered: answered.load(Ordering::SeqCst),
+        }),
         None => Err(Fail::new("neither the answer nor the fault for memory")),
     }
 }
 
 /// Which way to go takes memory twice where there are several threads; the board six times, the workers once each and
-/// once together, the seats that are back once, and the output labels and bits once each. On one thread there are the
-/// labels of all wires, those of the output wires, and the bits.
+/// once together, the seats that are back once, and the output labels and bits once each. Without memory for these last
+/// two alone there is no answer. On one thread there are the labels of all wires, those of the output wires, and the
+/// bits, and no answer without them.
 #[test]
 fn each_growth_refused(rt: HostRuntime) -> Result<(), Fail> {
     let circuit = Circuit::read(rt.alloc(), FULL_ADDER.as_bytes())?;
     let job = job_on_zeros(rt.alloc(), &circuit, FULL_ADDER)?;
-    assert_eq!(rt; refused_runs(&rt, rt.alloc(), &job, 1)?, 3);
+    let refused = refused_runs(&rt, rt.alloc(), &job, 1)?;
+    assert_eq!(rt; (refused.runs, refused.answered), (3, 0));
     let text = and_chains(rt.alloc(), 64, 16)?;
     let circuit = Circuit::read(rt.alloc(), text.as_bytes())?;
     let job = job_on_zeros(rt.alloc(), &circuit, text.as_str())?;
-    assert_eq!(rt; refused_runs(&rt, rt.alloc(), &job, 2)?, 14);
-    assert_eq!(rt; refused_runs(&rt, rt.alloc(), &job, 64)?, 76);
+    for (workers, runs) in [(2, 14), (64, 76)] {
+        let refused = refused_runs(&rt, rt.alloc(), &job, workers)?;
+        assert_eq!(rt; (refused.runs, refused.answered), (runs, runs - 2));
+    }
     Ok(())
 }
 
-/// Two workers that go by layers: there are AND gates enough for a second thread.
+/// Two workers that go by layers: there are AND gates enough for a second thread. Without memory for the bits alone
+/// there is no answer.
 #[test]
 fn each_growth_of_layers_refused(rt: HostRuntime) -> Result<(), Fail> {
     let text = many_ands(rt.alloc(), 1100)?;
     let circuit = Circuit::read(rt.alloc(), text.as_bytes())?;
     let job = job_on_zeros(rt.alloc(), &circuit, text.as_str())?;
-    assert!(rt; refused_runs(&rt, rt.alloc(), &job, 2)? > 8);
+    let refused = refused_runs(&rt, rt.alloc(), &job, 2)?;
+    assert!(rt; refused.runs > 8 && refused.answered.checked_add(1) == Some(refused.runs));
     Ok(())
 }

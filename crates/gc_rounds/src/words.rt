@@ -3,6 +3,8 @@
 ghost use Rattle.std.specs.Prelude.{◌≡◌, ◌<◌};
 ghost use Rattle.gc_rounds.specs.Words.{stamp};
 
+use gc_workers::MAX_WORKERS;
+
 /// The most rounds, each of which has a job.
 pub const MAX_JOBS: usize = 65_536;
 
@@ -11,6 +13,12 @@ pub const MARK: u64 = 0x1_0000;
 
 /// The lowest bit of the round.
 pub const ROUND: u64 = 0x1_0000_0000;
+
+// Each round fits into the bits from its lowest one on,
+const _: () = prove!(MAX_JOBS as u64 - 1 <= u64::MAX / ROUND);
+
+// and each number of seats that are in into those below the mark.
+const _: () = prove!((MAX_WORKERS as u64) < MARK);
 
 /// The word with this number below the round.
 #[inline]

@@ -73,7 +73,7 @@ impl Batch {
         self.tasks.is_full()
     }
 
-    /// Puts in a task.
+    /// Puts in a task. That there is room for it is the caller's condition.
     #[inline]
     pub(crate) fn push(&mut self, task: Task)
         requires { length self.old < BATCH_SIZE }

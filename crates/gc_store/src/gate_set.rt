@@ -1,4 +1,4 @@
-//! Sets of gates, from which the first in file order is taken.
+//! Sets of gates, from which one is taken at a time.
 
 ghost use Rattle.std.specs.Prelude.{◌≡◌, ◌<◌, ◌≤◌, ◌*◌, ℕ, IfOk, IfSome, MatchOption, length, slice_index_or};
 ghost use Rattle.std.specs.Int.{bit_at};
@@ -56,7 +56,7 @@ impl<A: Allocator + Copy> GateSet<A> {
 }
 
 impl<A: Allocator> GateSet<A> {
-    /// Puts a gate into the set.
+    /// Puts a gate into the set. That the set has room for it is the caller's condition.
     #[inline]
     pub(crate) fn insert(&mut self, gate: u32)
         requires { gate < 64 * length self.old }
@@ -68,7 +68,8 @@ impl<A: Allocator> GateSet<A> {
         self.start = self.start.min(word / WORD_BITS);
     }
 
-    /// Takes a gate out of the set: the first one at or after the block of this gate, or else the first of all.
+    /// Takes a gate out of the set. It looks from the block of this gate on, and then from the first on; which gate it
+    /// finds is not promised.
     #[inline]
     pub(crate) fn take(&mut self, from: u32) -> Option<u32>
         ensures { TakesOne self.old result self.new }
@@ -84,7 +85,7 @@ impl<A: Allocator> GateSet<A> {
         Some((word * WORD_BITS + bit) as u32)
     }
 
-    /// A word that has a gate: the first one from this block on, or else the first of all.
+    /// A word that has a gate. It looks from this block on, and then from the first on.
     #[inline]
     fn word_from(&mut self, block: usize) -> Option<usize>
         ensures found { MatchOption result ((k : ℕ) → slice_index_or self.old k 0 ≡ 0)
@@ -97,7 +98,7 @@ impl<A: Allocator> GateSet<A> {
         }
     }
 
-    /// The first word from this block on that has a gate, where the block comes after the first that may have one.
+    /// A word that has a gate. It looks from this block on, where the block comes after the first that may have one.
     #[inline]
     fn next_word(&self, block: usize) -> Option<usize>
         ensures { IfSome result (λ word. 0 < slice_index_or self.now word 0) }
@@ -115,7 +116,7 @@ impl<A: Allocator> GateSet<A> {
         None
     }
 
-    /// The first word that has a gate.
+    /// A word that has a gate. It looks from the first on.
     #[inline]
     fn first_word(&mut self) -> Option<usize>
         ensures found { MatchOption result ((k : ℕ) → slice_index_or self.old k 0 ≡ 0)

@@ -11,8 +11,10 @@ use gc_circuit::Memory;
 use std::alloc::Allocator;
 use std::marker::Model;
 
-/// A mark and a countdown for each gate, and the queue of the gates that are free and have the countdown 0: they go in
-/// file order, as the tables lie, so that what gates near each other read is still in the processor's caches.
+/// A mark and a countdown for each gate, and the queue of the gates that are free and have the countdown 0.
+///
+/// They go about in file order, as the tables lie, so that what gates near each other read is still in the processor's
+/// caches. No clause says in which order they go.
 ///
 /// [`Queue::open`] takes all its memory.
 #[derive(Drop)]
@@ -38,7 +40,8 @@ impl<A: Allocator> Model for Queue<A> {
 }
 
 impl<A: Allocator + Copy> Queue<A> {
-    /// A queue where every gate is free, with these countdowns less one: the opening itself counts each gate down.
+    /// A queue where every gate is free, with these countdowns less one: the opening itself counts each gate down. That
+    /// there are fewer than 2^32 of them, and that none is 0, is the caller's condition.
     pub fn open(alloc: A, countdowns: Vec<u8, A>) -> Result<Queue<A>, Memory>
         requires few { length countdowns.items < 2 ^ 32 }
         requires positive { (i : ℕ) → i < length countdowns.items
@@ -94,7 +97,8 @@ impl<A: Allocator> Queue<A> {
         self.marks[gate as usize] = Mark::Finished;
     }
 
-    /// Counts a gate down by one, and queues it where that was the last.
+    /// Counts a gate down by one, and queues it where that was the last. That its countdown isn't 0 is the caller's
+    /// condition.
     #[inline]
     pub fn count_down(&mut self, gate: u32)
         requires { 0 < slice_index_or self.old.countdowns gate 0 }

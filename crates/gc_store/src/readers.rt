@@ -47,7 +47,8 @@ impl<A: Allocator + Copy> Readers<A> {
 }
 
 impl<A: Allocator> Readers<A> {
-    /// Counts each gate down by the number of its reads of a wire.
+    /// Counts each gate down by the number of its reads of a wire. That these are the readers of the circuit, that it has
+    /// such a wire, and that no gate's countdown is less than that number, is the caller's condition.
     #[inline]
     pub fn count_down(&self, queue: &mut Queue<A>, circuit: &Circuit<A>, wire: u32)
         requires linked { IsLinked circuit.now self.now.firsts self.now.nexts }
@@ -69,7 +70,7 @@ impl<A: Allocator> Readers<A> {
     }
 }
 
-/// The wire of a read, if the gate has this read.
+/// The wire of a read, if the gate has this read. That there is such a gate is the caller's condition.
 #[inline]
 fn wire_read<C: Allocator>(circuit: &Circuit<C>, read: u32) -> Option<u32>
     requires { read < read_count circuit.now }

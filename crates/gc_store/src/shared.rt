@@ -29,7 +29,8 @@ struct LockedStore<L: Ledger, A: Allocator> {
     sleeping: u32,
 }
 
-/// A store that threads share. Each call is one critical section, so each finds a store as it is between two steps.
+/// A store that threads share. What a call does to it, it does in one critical section, so it finds the store as it is
+/// between two steps. [`SharedStore::take`] looks in one, and in a further one each time that it was woken.
 ///
 /// No call takes memory. Which task a call gives, and what it found the store to be, no contract can say: other
 /// threads change it.

@@ -186,8 +186,9 @@ impl<A: Allocator> TaskPool<A> {
         }
     }
 
-    /// The task that was pushed last of those that are left, where this attempt took one. Of a pool without thieves it
-    /// takes one as long as one is left. That the owner is this pool's is the caller's condition. It takes no memory.
+    /// Pops a task, where this attempt takes one. Else nothing changes; of a pool without thieves that comes only where
+    /// each task that was pushed is popped. It takes from the back of the pool, but which task it takes is not promised.
+    /// That the owner is this pool's is the caller's condition. It doesn't allocate.
     pub fn pop(&self, owner: &mut Owner<A>) -> Option<Task>
         requires { owner.old.pool ≡ self.now }
         ensures popped { MatchOption result (owner.new ≡ owner.old)
@@ -198,8 +199,8 @@ impl<A: Allocator> TaskPool<A> {
         owner.worker.pop_as::<Pops>()
     }
 
-    /// The task that was pushed first of those that are left, where this attempt took one. That the thief is this
-    /// pool's is the caller's condition. It takes no memory.
+    /// Steals a task, where this attempt takes one. Else nothing changes. It takes from the front of the pool, but which
+    /// task it takes is not promised. That the thief is this pool's is the caller's condition. It doesn't allocate.
     pub fn steal(&self, thief: &mut Thief<A>) -> Option<Task>
         requires { thief.old.pool ≡ self.now }
         ensures { MatchOption result (thief.new ≡ thief.old)

@@ -13,6 +13,8 @@ mod pools;
 #[cfg(test)]
 mod shared_stores;
 #[cfg(test)]
+mod sleepers;
+#[cfg(test)]
 mod stores;
 #[cfg(test)]
 mod ways;

@@ -118,10 +118,13 @@ fn each_growth_of_few_workers_refused(rt: HostRuntime) -> Result<(), Fail> {
     Ok(())
 }
 
+/// Chains go through a store, and independent AND gates by layers.
 #[test]
 fn each_growth_of_64_workers_refused(rt: HostRuntime) -> Result<(), Fail> {
     let by_store = and_chains(rt.alloc(), 64, 16)?;
     assert!(rt; are_refused(&rt, rt.alloc(), by_store.as_str(), 64, 128) == Some(true));
+    let few_by_layers = many_ands(rt.alloc(), 2000)?;
+    assert!(rt; are_refused(&rt, rt.alloc(), few_by_layers.as_str(), 64, 8) == Some(true));
     // Four threads help.
     let by_layers = many_ands(rt.alloc(), 4100)?;
     assert!(rt; are_refused(&rt, rt.alloc(), by_layers.as_str(), 64, 8) == Some(true));

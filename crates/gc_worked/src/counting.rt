@@ -10,6 +10,8 @@ pub struct Counting {
     reports: Vec<AtomicU64>,
     // Bit w is worker w's.
     workers: AtomicU64,
+    // How often a worker of a higher number than 63 reports a gate.
+    strays: AtomicU64,
 }
 
 impl Counting {
@@ -22,31 +24,43 @@ impl Counting {
         Ok(Counting {
             reports,
             workers: AtomicU64::new(0),
+            strays: AtomicU64::new(0),
         })
     }
 
     /// Whether each gate is reported, and none more often than this.
     pub fn is_each_reported(&self, most: u64) -> bool {
+        self.is_each_between(1, most)
+    }
+
+    /// Whether each gate is reported this often at least, and none more often than `most`.
+    pub fn is_each_between(&self, least: u64, most: u64) -> bool {
         for reports in &self.reports {
             let reports = reports.load(Ordering::SeqCst);
-            if reports == 0 || reports > most {
+            if reports < least || reports > most {
                 return false;
             }
         }
         true
     }
 
-    /// Whether each worker that reported a gate has a number below this one.
+    /// Whether each worker that reported a gate has a number below this one, which is at most 64.
     pub fn are_below(&self, workers: u32) -> bool {
-        workers >= 64 || self.workers.load(Ordering::SeqCst) >> workers == 0
+        let others = self
+            .workers
+            .load(Ordering::SeqCst)
+            .checked_shr(workers)
+            .unwrap_or(0);
+        others == 0 && self.strays.load(Ordering::SeqCst) == 0
     }
 }
 
 impl Gatehouse for Counting {
     fn before(&self, worker: u32, gate: u32) {
-        if worker < 64 {
-            self.workers.fetch_or(1 << worker, Ordering::SeqCst);
-        }
+        match 1u64.checked_shl(worker) {
+            Some(bit) => self.workers.fetch_or(bit, Ordering::SeqCst),
+            None => self.strays.fetch_add(1, Ordering::SeqCst),
+        };
         if let Some(reports) = self.reports.get(gate as usize) {
             reports.fetch_add(1, Ordering::SeqCst);
         }
