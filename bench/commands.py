@@ -41,8 +41,7 @@ COMMANDS = [
     ("by 4", "garble CIRCUIT SEED made --workers 4"),
     ("`eval` by 1", "eval CIRCUIT garbled LABELS --workers 1"),
     ("by 4", "eval CIRCUIT garbled LABELS --workers 4"),
-    ("`audit` by 1", "audit CIRCUIT SEED garbled --workers 1"),
-    ("by 4", "audit CIRCUIT SEED garbled --workers 4"),
+    ("`audit`", "audit CIRCUIT SEED garbled"),
     ("SHA-256", BOTH),
 ]
 

@@ -31,7 +31,7 @@ BY_GATES = f"\n| Gates | {COLUMNS}\n"
 # The heads of tables that bench/commands.py prints as they are in docs/SPEED.md.
 OF_COMMANDS = (
     "\n| Circuit | `check` | `locate` | `stats` | `garble` by 1 | by 4 | `eval` by 1 | by 4"
-    " | `audit` by 1 | by 4 | SHA-256 |\n"
+    " | `audit` | SHA-256 |\n"
 )
 OF_JOBS = "\n| `jobs` | by 1 worker | by 2 | by 4 |\n"
 

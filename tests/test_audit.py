@@ -13,7 +13,6 @@ import reference
 import tracing
 
 VERSIONS = 1, 2
-WORKERS = 1, 2, 64
 
 # Three values, of two, no and three wires, and nine outputs. AND gates 0 to 3 stand in the places
 # 1, 3, 5 and 7, and set the wires 6, 9, 10 and 13.
@@ -267,11 +266,8 @@ class AuditTest(ProgramTest):
         return [self.put("g", garbled), *self.put_all("l", labels)]
 
     def assert_lines(self, lines, garbled, labels=()):
-        """`audit` prints these lines for these files, by each number of workers."""
-        names = self.put_files(garbled, labels)
-        for workers in WORKERS:
-            words = "audit", "c.txt", SEED, *names, "--workers", workers
-            self.assert_ends(audits(lines), *words)
+        """`audit` prints these lines for these files."""
+        self.assert_ends(audits(lines), "audit", "c.txt", SEED, *self.put_files(garbled, labels))
 
 
 class Verdicts(AuditTest):
@@ -369,7 +365,7 @@ class HonestFiles(AuditTest):
             lines = report(labels, **rest)
             self.assert_ends(audits(lines), "audit", "c.txt", seed, "g", *names)
             lines = report(labels[::-1], **rest)
-            words = "--workers", 64, "g", *names[::-1]
+            words = "g", *names[::-1]
             self.assert_ends(audits(lines), "audit", "c.txt", seed, *words)
 
     def test_worked_circuits(self):
@@ -418,9 +414,7 @@ class HonestFiles(AuditTest):
             ([bits - 1, bits + 8 + 32 * 64 - 1], {"rows": last_row, "entries": "wrong 63 1"}),
         ]:
             self.put("g", spoiled(self.bytes_of("honest"), places))
-            for workers in WORKERS:
-                words = "audit", "chains", SEED, "g", "--workers", workers
-                self.assert_ends(audits(report(**verdicts)), *words)
+            self.assert_ends(audits(report(**verdicts)), "audit", "chains", SEED, "g")
 
 
 class Agreement(AuditTest):
@@ -459,13 +453,10 @@ class Agreement(AuditTest):
             version = draw.choice(VERSIONS)
             garbled = reference.garbled_file(circuit, garbling, version)
             garbled, labels = self.draw_garbled(draw, garbled), self.draw_labels(draw, files)
-            workers = draw.choice(WORKERS)
-            ending = ending_of_audit(
-                lambda: tracing.audit(text.encode(), SEED, garbled, labels, workers))
+            ending = ending_of_audit(lambda: tracing.audit(text.encode(), SEED, garbled, labels))
             honest += ending[1].endswith("\nhonest\n")
-            words = "audit", "c.txt", SEED, *self.put_files(garbled, labels), "--workers", workers
             with self.subTest(name):
-                self.assert_ends(ending, *words)
+                self.assert_ends(ending, "audit", "c.txt", SEED, *self.put_files(garbled, labels))
         self.assertTrue(5 < honest < 55, honest)
 
     def test_the_files_of_vectors(self):

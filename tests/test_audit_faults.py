@@ -27,28 +27,25 @@ FILES = {
 
 # The words behind `audit`, and the first fault in the order of the work.
 FIRST_FAULTS = [
-    ("none 0 none none --workers 0", "50 CannotRead"),
+    ("none 0 none none", "50 CannotRead"),
     (". 0 none", "50 CannotRead"),
-    ("bad.txt 0 none none --workers 0", "1 Truncated"),
-    ("xor.txt 0 none none --workers 0", "18 BadSeed"),
-    ("xor.txt SEED none none --workers 0", "50 CannotRead"),
-    ("xor.txt SEED . none --workers 0", "50 CannotRead"),
-    ("xor.txt SEED xor.txt none --workers 0", "30 BadMagic"),
-    ("xor.txt SEED a none --workers 0", "30 BadMagic"),
-    ("xor.txt SEED empty none --workers 0", "31 Truncated"),
-    ("xor.txt SEED short none --workers 0", "31 Truncated"),
-    ("xor.txt SEED long none --workers 0", "32 Trailing"),
-    ("xor.txt SEED large none --workers 0", "33 CountTooLarge"),
-    ("xor.txt SEED spare none --workers 0", "34 SpareBits"),
-    ("xor.txt SEED trailer none --workers 0", "35 BadTrailer"),
-    ("xor.txt SEED g none a_short --workers 0", "50 CannotRead"),
-    ("xor.txt SEED g a_short none --workers 0", "31 Truncated"),
-    ("xor.txt SEED g a a_long none --workers 0", "32 Trailing"),
-    ("xor.txt SEED g g none --workers 0", "30 BadMagic"),
-    ("xor.txt SEED g a_large --workers 65", "33 CountTooLarge"),
-    ("xor.txt SEED g a a --workers 0", "22 BadWorkers"),
-    ("xor.txt SEED g --workers 65", "22 BadWorkers"),
-    ("and.txt SEED g --workers 4294967295", "22 BadWorkers"),
+    ("bad.txt 0 none none", "1 Truncated"),
+    ("xor.txt 0 none none", "18 BadSeed"),
+    ("xor.txt SEED none none", "50 CannotRead"),
+    ("xor.txt SEED . none", "50 CannotRead"),
+    ("xor.txt SEED xor.txt none", "30 BadMagic"),
+    ("xor.txt SEED a none", "30 BadMagic"),
+    ("xor.txt SEED empty none", "31 Truncated"),
+    ("xor.txt SEED short none", "31 Truncated"),
+    ("xor.txt SEED long none", "32 Trailing"),
+    ("xor.txt SEED large none", "33 CountTooLarge"),
+    ("xor.txt SEED spare none", "34 SpareBits"),
+    ("xor.txt SEED trailer none", "35 BadTrailer"),
+    ("xor.txt SEED g none a_short", "50 CannotRead"),
+    ("xor.txt SEED g a_short none", "31 Truncated"),
+    ("xor.txt SEED g a a_long none", "32 Trailing"),
+    ("xor.txt SEED g g none", "30 BadMagic"),
+    ("xor.txt SEED g a_large", "33 CountTooLarge"),
 ]
 
 # Files that `eval` refuses to bind, and that are audited.
@@ -75,9 +72,10 @@ class FirstFaults(ProgramTest):
                 self.assertNotEqual(ending[0], 1)
                 self.assert_ends(ending, *words)
 
-    def test_words_that_are_no_number(self):
-        for number in "", "x", "-1", "1.5", "4294967296":
-            self.assert_usage("audit", "xor.txt", SEED, "g", f"--workers={number}")
+    def test_workers_are_refused(self):
+        """One thread audits."""
+        self.assert_usage("audit", "xor.txt", SEED, "g", "--workers=1")
+        self.assert_usage("audit", "xor.txt", SEED, "g", "--workers", "4")
 
     def test_no_file_changes(self):
         before = {path.name: path.read_bytes() for path in self.folder.iterdir()}

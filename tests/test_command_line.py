@@ -200,7 +200,6 @@ class CommandLine(ProgramTest):
                 ("jobs", "c.txt", "list", f"--workers={number}"),
                 ("garble", "c.txt", SEED, "g", f"--format={number}"),
                 ("deal", "c.txt", SEED, "--", number, "1", "l"),
-                ("audit", "c.txt", SEED, "g", f"--workers={number}"),
                 ("labels", "c.txt", SEED, f"--from={number}", "1", "1"),
                 ("labels", "c.txt", SEED, f"--count={number}", "1", "1"),
             ]:

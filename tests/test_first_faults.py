@@ -41,7 +41,6 @@ WORDS = {
         "SEED": SEED,
         "GARBLED": "garbled",
         "LABELS": "a b",
-        "--workers": "2",
     },
 }
 
@@ -139,7 +138,7 @@ FAULTS = {
         *VALUES_FAULTS,
     ],
     # It binds nothing: the faults of binding never come.
-    "audit": [NO_WORKERS, *CIRCUIT_FAULTS, *SEED_FAULTS, *FILE_FAULTS, *WORKERS_FAULTS],
+    "audit": [*CIRCUIT_FAULTS, *SEED_FAULTS, *FILE_FAULTS],
 }
 
 NOBODYS_LABEL = bytes(16)

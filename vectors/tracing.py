@@ -4,12 +4,11 @@ It follows docs/COMMANDS.md. bristol.py has the places of faults and the statist
 has the scheme. Each command's function here gives its lines, or raises its first fault.
 """
 from bristol import (
-    Fault, and_count, demand, digest, output_wires, place_of, plain_bits, read_circuit,
+    Fault, and_count, digest, output_wires, place_of, plain_bits, read_circuit,
     read_seed, read_values, statistics)
 from reference import (
     decode_bits, decode_entries, encode, garble, read_garbled, read_label_file)
 
-MAX_WORKERS = 64
 
 
 def lines_of(numbers):
@@ -41,12 +40,11 @@ def labels(text, seed, values, first=0, count=2**32 - 1):
                       encode(garbling, wire, bits[wire]).hex(), str(bits[wire])]) for wire in wires]
 
 
-def audit(text, seed, garbled_data, label_data, workers=1):
+def audit(text, seed, garbled_data, label_data):
     """Whether a garbled file and label files are those of the circuit and the seed."""
     circuit, seed = read_circuit(text), read_seed(seed)
     garbled = read_garbled(garbled_data)
     label_files = [read_label_file(data) for data in label_data]
-    demand(1 <= workers <= MAX_WORKERS, 22, "BadWorkers")
     garbling = garble(circuit, seed)
     counts = len(garbled.rows), len(garbled.decode_bits)
     is_sized = counts == (and_count(circuit), len(output_wires(circuit)))

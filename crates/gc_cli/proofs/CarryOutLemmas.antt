@@ -16,4 +16,4 @@ lines-answer old new (deal circuit seed index value name) out is = (refl, is)
 lines-answer old new (eval circuit garbled workers hex labels) out is = (refl, is)
 lines-answer old new (jobs circuit list workers hex) out is = (refl, is)
 lines-answer old new (list_labels circuit seed from count values) out is = (refl, is)
-lines-answer old new (audit circuit seed garbled workers labels) out is = absurd is
+lines-answer old new (audit circuit seed garbled labels) out is = absurd is

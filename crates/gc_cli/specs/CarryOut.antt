@@ -37,12 +37,12 @@ AnswersLines old new (locate circuit) out = IfSome (old circuit) (λ file. Answe
 AnswersLines old new (stats circuit) out = IfSome (old circuit) (λ file. AnswersStats file out)
 AnswersLines old new (list_labels circuit seed from count values) out =
     IfSome (old circuit) (λ file. AnswersLabels file seed from count values out)
-AnswersLines old new (audit circuit seed garbled workers labels) out = ⊥
+AnswersLines old new (audit circuit seed garbled labels) out = ⊥
 
 -- The order is done. `honest` is whether an audit finds the files honest, and true of any other order.
 abbrev pub Answers : FileBytes → FileBytes → OrderText → Bool → List ℕ → Type 0
-Answers old new (audit circuit seed garbled workers labels) honest out =
-    AnswersAudit old circuit seed garbled workers labels honest out
+Answers old new (audit circuit seed garbled labels) honest out =
+    AnswersAudit old circuit seed garbled labels honest out
 Answers old new order honest out = (honest ≡ true) × AnswersLines old new order out
 
 -- The order has this fault. `Failed` says of a name that its file has failed: that a file can't be read, or written,
@@ -73,8 +73,8 @@ HasFault bytes Failed (stats circuit) fault =
 HasFault bytes Failed (list_labels circuit seed from count values) fault =
     IfSome (bytes circuit) (λ file. HasLabelsFault file seed values fault)
     × HasCause fault (Failed circuit) ⊥
-HasFault bytes Failed (audit circuit seed garbled workers labels) fault =
-    HasAuditFault bytes Failed circuit seed garbled workers labels fault
+HasFault bytes Failed (audit circuit seed garbled labels) fault =
+    HasAuditFault bytes Failed circuit seed garbled labels fault
 
 -- The order is `labels`.
 abbrev pub IsLabels : OrderText → Type 0
@@ -83,7 +83,7 @@ IsLabels order = ⊥
 
 -- The order is `audit`.
 abbrev pub IsAudit : OrderText → Type 0
-IsAudit (audit circuit seed garbled workers labels) = Unit {0}
+IsAudit (audit circuit seed garbled labels) = Unit {0}
 IsAudit order = ⊥
 
 -- The order writes the file of this name.

@@ -79,7 +79,6 @@ fn audit_answer<R: Threads + Wait + Sync, A: Allocator + Copy + Send + Sync, F: 
         circuit,
         seed,
         garbled,
-        workers,
         labels,
     } = order
     else {
@@ -87,9 +86,7 @@ fn audit_answer<R: Threads + Wait + Sync, A: Allocator + Copy + Send + Sync, F: 
     };
     let (circuit, seed) = (circuit.as_str(), seed.as_str());
     let garbled = garbled.as_str();
-    let found = audit(
-        rt, alloc, circuit, seed, garbled, *workers, labels, files, progress,
-    )?;
+    let found = audit(rt, alloc, circuit, seed, garbled, labels, files, progress)?;
     Ok(Answer {
         lines: found.lines,
         is_honest: found.is_honest,

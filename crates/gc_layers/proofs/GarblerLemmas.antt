@@ -1,79 +1,77 @@
 -- A garbling that is partly there.
-use Rattle.gc_layers.proofs.Names.{◌≡◌, ◌≢◌, count_by, ℕ, ◌+◌, ◌-◌, ◌<◌, ◌≤◌, inl, inr, true, false, List, length, length-set, map, set, get_or, slice_index, slice_get, Some, sym, ◌∙◌, arith, range_with_len, get_or-set_same, ext_get_or, fill_by_all, get_or_from_slice_get, slice_get-get_or, slice_get_within, Operation, Gate, Netlist, IsLawful, IsSetBefore, EachRead, is_and, and_number, and_count, output_wires, RowPair, hash, and_zero, first_read, second_read, gate_zero, row_pair, input_zero, zero_label_of, row_pairs_of, garbling_of, input_zero-input, input_zero-other, zero_label_of-input, zero_label_of-gate, zero_label_of-not_set, row_pairs_of-at, length-row_pairs_of, garbling_of-IsGarbled, and_or_other, and_number-below, set_or_not, AreLabels, AreKept, AreRows, IsGate, IsNumberFor, is_present, no_rows, row_of}
+use Rattle.gc_layers.proofs.Names.{◌≡◌, ◌≢◌, count_by, ℕ, ◌+◌, ◌-◌, ◌<◌, ◌≤◌, inl, inr, true, false, List, length, length-set, map, set, get_or, slice_index, slice_get, Some, sym, ◌∙◌, arith, range_with_len, get_or-set_same, ext_get_or, fill_by_all, get_or_from_slice_get, slice_get-get_or, slice_get_within, Operation, Gate, Netlist, IsLawful, IsSetBefore, EachRead, is_and, and_number, and_count, output_wires, RowPair, hash, and_zero, first_read, second_read, gate_zero, row_pair, input_zero, zero_label_of, row_pairs_of, garbling_of, input_zero-input, input_zero-other, zero_label_of-input, zero_label_of-gate, zero_label_of-not_set, row_pairs_of-at, length-row_pairs_of, garbling_of-IsGarbled, and_or_other, and_number-below, set_or_not, AreLabels, AreRows, IsGate, IsMissing, is_present, no_rows, row_of}
 use Rattle.std.proofs.lemmas.Bool.Decides.{nat_tests}
 use Rattle.std.proofs.lemmas.List.Sums.{count_by-le-length}
 use Rattle.gc_netlist.proofs.SolutionLemmas.{EachRead-map}
 use Rattle.gc_label.specs.Seed.{offset_of}
 use Rattle.gc_half.specs.Garbling.{IsGarbled}
-use Rattle.gc_half.proofs.ListLemmas.{count_by-all_back, count_by-set_more}
+use Rattle.gc_half.proofs.ListLemmas.{count_by-all_back, count_by-set, count_by-set_more}
 use Rattle.gc_layers.proofs.PartlyLemmas.{labels-start, partly-put, partly-more}
+
+module _ (k missing : ℕ) (rows : List RowPair) (old pair : RowPair)
+    (at : slice_get rows k ≡ Some old) (absent : is_present old ≡ false)
+    (counted : IsMissing rows missing) where
+  -- One that was missing is there,
+  pub count-put : is_present pair ≡ true
+      → (1 ≤ missing) × IsMissing (set rows k pair) (missing - 1)
+  count-put present =
+      let more = count_by-set_more is_present rows k old pair at absent present in
+      let most = count_by-le-length is_present (set rows k pair) in
+      let long = length-set rows k pair in
+      let some : 1 ≤ missing = omega arith in
+      (some, omega arith)
+
+  -- or is missing still.
+  pub count-same : is_present pair ≡ false → IsMissing (set rows k pair) missing
+  count-same still =
+      let same = count_by-set is_present rows k old pair at (absent ∙ sym still) in
+      let long = length-set rows k pair in
+      omega arith
 
 module _ (c : Netlist) (seed : List ℕ) where
   -- Where none is missing, all are there.
-  pub kept-whole : (rows : List RowPair) → AreKept c seed 0 rows 0
-      → AreKept c seed (and_count c) rows 0
-  kept-whole rows are = record {
-    are_rows = record {
-      count = are.are_rows.count;
-      partly = partly-more (row_of c seed) no_rows _ _ rows are.are_rows.partly
-          (λ i. i < and_count c)
-          (λ i below. inr (are.are_rows.partly.right i (present i below)));
-    };
-    counted = are.counted;
+  pub rows-whole : (rows : List RowPair) → IsMissing rows 0 → AreRows c seed 0 rows
+      → AreRows c seed (and_count c) rows
+  rows-whole rows counted are = record {
+    count = are.count;
+    partly = partly-more (row_of c seed) no_rows _ _ rows are.partly (λ i. i < and_count c)
+        (λ i below. inr (are.partly.right i (present i below)));
   }
     where
       present : (i : ℕ) → i < and_count c → (get_or rows i no_rows).evaluator ≢ 0
       present i below blank =
-          let at = slice_get-get_or rows i no_rows (omega (arith, are.are_rows.count)) in
-          let is = count_by-all_back is_present rows (omega (arith, are.counted)) i _ at in
+          let at = slice_get-get_or rows i no_rows (omega (arith, are.count)) in
+          let is = count_by-all_back is_present rows (omega (arith, counted)) i _ at in
           grind (arith, nat_tests)
 
-  module _ (k missing : ℕ) (rows : List RowPair) (old pair : RowPair)
-      (at : slice_get rows k ≡ Some old) (absent : is_present old ≡ false)
-      (present : is_present pair ≡ true) where
-    -- One that was missing is there.
-    pub count-put : missing + count_by is_present rows ≡ length rows → (1 ≤ missing)
-        × (missing - 1 + count_by is_present (set rows k pair) ≡ length (set rows k pair))
-    count-put counted =
-        let more = count_by-set_more is_present rows k old pair at absent present in
-        let most = count_by-le-length is_present (set rows k pair) in
-        let long = length-set rows k pair in
-        let some : 1 ≤ missing = omega arith in
-        (some, omega arith)
-
-    -- A row pair that isn't there is put where it belongs,
-    pub kept-put : (n : ℕ) → pair ≡ row_of c seed k → AreKept c seed n rows missing
-        → AreKept c seed n (set rows k pair) (missing - 1)
-    kept-put n is are = record {
-      are_rows = record {
-        count = length-set rows k pair ∙ are.are_rows.count;
-        partly = partly-put (row_of c seed) no_rows _ _ rows are.are_rows.partly k pair
-            (slice_get_within rows k old at) is;
-      };
-      counted = (count-put are.counted).1;
+  module _ (k : ℕ) (rows : List RowPair) (old pair : RowPair) (at : slice_get rows k ≡ Some old) where
+    -- A row pair is put where it belongs,
+    pub rows-put : (n : ℕ) → pair ≡ row_of c seed k → AreRows c seed n rows
+        → AreRows c seed n (set rows k pair)
+    rows-put n is are = record {
+      count = length-set rows k pair ∙ are.count;
+      partly = partly-put (row_of c seed) no_rows _ _ rows are.partly k pair
+          (slice_get_within rows k old at) is;
     }
 
     -- and is then one of the first.
-    pub kept-next : pair ≡ row_of c seed k → AreKept c seed k rows missing
-        → AreKept c seed (k + 1) (set rows k pair) (missing - 1)
-    kept-next is are =
-        let put = kept-put k is are in
+    pub rows-next : pair ≡ row_of c seed k → AreRows c seed k rows
+        → AreRows c seed (k + 1) (set rows k pair)
+    rows-next is are =
+        let put = rows-put k is are in
         let below = slice_get_within rows k old at in
         let here = get_or-set_same rows k pair no_rows below ∙ is in record {
-          are_rows = record {
-            count = put.are_rows.count;
-            partly = partly-more (row_of c seed) no_rows _ _ (set rows k pair) put.are_rows.partly
-                (λ i. i < k + 1) (λ i few. grind (arith, here));
-          };
-          counted = put.counted;
+          count = put.count;
+          partly = partly-more (row_of c seed) no_rows _ _ (set rows k pair) put.partly
+              (λ i. i < k + 1) (λ i few. grind (arith, here));
         }
 
-  -- The number of an AND gate, for which what was kept so far holds.
-  pub is-number : (Holds : Netlist → List ℕ → ℕ → Type 0) (k i : ℕ) (g : Gate) → Holds c seed k
+  -- There is a row pair for the number of an AND gate.
+  pub is-number : (rows : List RowPair) (n k i : ℕ) (g : Gate) → AreRows c seed n rows
       → k ≡ and_number c i → slice_get c.gates i ≡ Some g → is_and g.operation ≡ true
-      → IsNumberFor Holds k
-  is-number Holds k i g holds number at and =
-      (c, seed, k, holds, omega (arith, and_number-below c i g at and))
+      → k < length rows
+  is-number rows n k i g are number at and =
+      omega (arith, are.count, and_number-below c i g at and)
 
   -- At the end the labels are whole,
   pub labels-end : (labels : List ℕ) → AreLabels c (zero_label_of c seed) (length c.gates) labels

@@ -1,5 +1,4 @@
 pub mod Names
-pub mod ComparedLemmas
 pub mod EvaluatorLemmas
 pub mod GarblerLemmas
 pub mod MadeLemmas

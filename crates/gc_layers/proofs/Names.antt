@@ -17,7 +17,7 @@ pub use Rattle.gc_layers.specs.Layer.{AreLabels, IsLabelled, IsPartly, AreMarked
 pub use Rattle.gc_layers.specs.declared.mark.Mark.{Mark}
 pub use Rattle.gc_layers.specs.declared.mark.Mark.TheVariants.{Absent, There}
 pub use Rattle.gc_layers.specs.Evaluator.{AreOutputLabels, EvaluatorParts, IsEvaluator, active_by}
-pub use Rattle.gc_layers.specs.Garbler.{row_of, AreKept, AreRows, IsGate, IsNumberFor, is_present, garbled_of}
+pub use Rattle.gc_layers.specs.Garbler.{row_of, AreRows, IsGate, IsMissing, is_present, garbled_of}
 pub use Rattle.gc_layers.specs.Made.{IsMadeAt}
 pub use Rattle.gc_netlist.specs.Circuit.{Netlist, IsLawful, and_count, is_and, and_number, input_wires, output_wires, IsSetBefore, EachRead}
 pub use Rattle.gc_netlist.specs.declared.gate.Gate.{Gate}

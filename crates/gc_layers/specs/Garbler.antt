@@ -28,6 +28,10 @@ garbled_of w = record { zero_label = zero_by w; rows = rows_by w }
 abbrev pub is_present : RowPair → Bool
 is_present pair = nat_lt 0 pair.evaluator
 
+-- This many of the row pairs are not there.
+abbrev pub IsMissing : List RowPair → ℕ → Type 0
+IsMissing rows missing = missing + count_by is_present rows ≡ length rows
+
 module _ (c : Netlist) (seed : List ℕ) where
   -- the row pair of the circuit's k-th AND gate
   abbrev pub row_of : ℕ → RowPair
@@ -39,11 +43,6 @@ module _ (c : Netlist) (seed : List ℕ) where
     pub count : length rows ≡ and_count c
     pub partly : IsPartly row_of no_rows (λ pair. pair.evaluator ≡ 0) (λ k. k < n) rows
 
-  -- How many of these row pairs are not there is counted.
-  pub record AreKept (n : ℕ) (rows : List RowPair) (missing : ℕ) : Type 0 where
-    pub are_rows : AreRows n rows
-    pub counted : missing + count_by is_present rows ≡ length rows
-
   -- The gate that waits sets a wire of the circuit and has the number of an AND gate. The label that follows from it is
   -- the wire's zero label, and the row pair is that of its number.
   pub record IsGate (w : PlacedGate AndGate) : Type 0 where
@@ -52,28 +51,21 @@ module _ (c : Netlist) (seed : List ℕ) where
     pub number : w.waits.gate.k < and_count c
     pub row : rows_by w ≡ row_of w.waits.gate.k
 
--- This is the number of an AND gate, of a circuit for which something holds under a seed.
-abbrev pub IsNumberFor : (Netlist → List ℕ → ℕ → Type 0) → ℕ → Type 0
-IsNumberFor Holds k =
-    (c : Netlist) × (seed : List ℕ) × (n : ℕ) × Holds c seed n × (k < and_count c)
-
--- A gate of this operation with this row pair, which is the k-th AND gate where it is one, was kept: what held before
--- holds after and, where it follows the first k, it is among them.
-pub record KeepsGate (Old New : Netlist → List ℕ → ℕ → Type 0) (k : ℕ) (operation : Operation)
-    (pair : RowPair) : Type 0 where
-  pub other : is_and operation ≡ false → (c : Netlist) (seed : List ℕ) → Old c seed k → New c seed k
+-- A gate of this operation with this row pair, which is the k-th AND gate where it is one, was kept: the row pairs stay
+-- where it is none; else the first k + 1 are there, if the first k were.
+pub record KeepsGate (old new : List RowPair) (k : ℕ) (operation : Operation) (pair : RowPair)
+    : Type 0 where
+  pub other : is_and operation ≡ false → new ≡ old
   pub next : is_and operation ≡ true → (c : Netlist) (seed : List ℕ) → pair ≡ row_of c seed k
-      → Old c seed k → New c seed (k + 1)
+      → AreRows c seed k old → AreRows c seed (k + 1) new
 
--- The circuit and the seed of a garbling, and the row pairs with which its own are compared.
+-- The circuit and the seed of a garbling.
 pub record GarblerParts : Type 0 where
   pub circuit : Netlist
   pub seed : List ℕ
-  pub given : List RowPair
 
--- The offset is the seed's, and what was taken of row pairs is the garbling's.
-pub record IsGarbler (of : GarblerParts) (offset : ℕ) (Holds : Netlist → List ℕ → ℕ → Type 0)
-    : Type 0 where
+-- The offset is the seed's, and the row pairs that are there are the garbling's.
+pub record IsGarbler (of : GarblerParts) (offset : ℕ) (rows : List RowPair) : Type 0 where
   pub lawful : IsLawful of.circuit
   pub is_offset : offset ≡ offset_of of.seed
-  pub kept : Holds of.circuit of.seed 0
+  pub are_rows : AreRows of.circuit of.seed 0 rows

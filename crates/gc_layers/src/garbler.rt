@@ -1,11 +1,12 @@
 //! The garbling of a circuit as a labelling of its wires.
 
 ghost use Rattle.std.specs.Prelude.{◌≡◌};
+ghost use Rattle.gc_layers.specs.Garbler.{AreRows};
 
 use crate::labelling::Labelling;
+use crate::made_rows::MadeRows;
 use crate::place::Place;
 use crate::placed::PlacedGate;
-use crate::row_keeper::RowKeeper;
 use gc_circuit::{Circuit, Gate};
 use gc_half::{AndGate, GarbledAnd, WaitingGate, garble_gate};
 use gc_label::{Label, Offset, Seed, offset};
@@ -14,58 +15,52 @@ use std::marker::Model;
 
 /// The garbling of a circuit under a seed, of which the labels are elsewhere.
 #[derive(Drop)]
-pub(crate) struct Garbler<'c, K: RowKeeper, C: Allocator> {
+pub(crate) struct Garbler<'c, A: Allocator, C: Allocator> {
     circuit: &'c Circuit<C>,
     seed: &'c Seed,
     offset: Offset,
-    keeper: K,
+    rows: MadeRows<A>,
 }
 
-impl<'c, K: RowKeeper, C: Allocator> Model for Garbler<'c, K, C> {
+impl<'c, A: Allocator, C: Allocator> Model for Garbler<'c, A, C> {
     ghost use Rattle.gc_layers.specs.Garbler.{GarblerParts, IsGarbler};
 
     ghost Value = { GarblerParts };
 
-    ghost view = { λ t. record {
-      circuit = t.circuit.now;
-      seed = t.seed.now;
-      given = K.given t.keeper;
-    } };
+    ghost view = { λ t. record { circuit = t.circuit.now; seed = t.seed.now } };
 
-    ghost invariant = { λ t. IsGarbler
-        (record { circuit = t.circuit.now; seed = t.seed.now; given = K.given t.keeper })
-        t.offset (K.holds t.keeper) };
+    ghost invariant = { λ t. IsGarbler (record { circuit = t.circuit.now; seed = t.seed.now })
+        t.offset t.rows };
 }
 
-impl<'c, K: RowKeeper, C: Allocator> Garbler<'c, K, C> {
-    /// A garbling whose row pairs go to this keeper.
-    pub(crate) fn new(circuit: &'c Circuit<C>, seed: &'c Seed, keeper: K) -> Garbler<'c, K, C>
-        requires { K.holds keeper circuit.now seed.now 0 }
-        ensures { result ≡ record {
-          circuit = circuit.now;
-          seed = seed.now;
-          given = K.given keeper;
-        } }
+impl<'c, A: Allocator, C: Allocator> Garbler<'c, A, C> {
+    /// A garbling of which these row pairs are there.
+    pub(crate) fn new(
+        circuit: &'c Circuit<C>,
+        seed: &'c Seed,
+        rows: MadeRows<A>,
+    ) -> Garbler<'c, A, C>
+        requires { AreRows circuit.now seed.now 0 rows }
+        ensures { result ≡ record { circuit = circuit.now; seed = seed.now } }
     {
         circuit.law_lawful();
         Garbler {
             circuit,
             seed,
             offset: offset(seed),
-            keeper,
+            rows,
         }
     }
 
-    /// What became of the row pairs.
-    pub(crate) fn into_keeper(self) -> K
-        ensures holds { K.holds result self.entry.circuit self.entry.seed 0 }
-        ensures given { K.given result ≡ self.entry.given }
+    /// The row pairs that are there.
+    pub(crate) fn into_rows(self) -> MadeRows<A>
+        ensures { AreRows self.entry.circuit self.entry.seed 0 result }
     {
-        self.keeper
+        self.rows
     }
 }
 
-impl<'c, K: RowKeeper, C: Allocator> Labelling<PlacedGate<AndGate>> for Garbler<'c, K, C> {
+impl<'c, A: Allocator, C: Allocator> Labelling<PlacedGate<AndGate>> for Garbler<'c, A, C> {
     ghost use Rattle.gc_half.specs.Canonical.{zero_label_of};
     ghost use Rattle.gc_layers.specs.Garbler.{IsGate};
 
@@ -105,7 +100,7 @@ impl<'c, K: RowKeeper, C: Allocator> Labelling<PlacedGate<AndGate>> for Garbler<
 
     #[inline]
     fn keep(&mut self, gate: &PlacedGate<AndGate>, made: &GarbledAnd) -> (u32, Label) {
-        self.keeper.keep(gate.waits.gate.k, made.rows);
+        self.rows.keep(gate.waits.gate.k, made.rows);
         (gate.waits.set, made.zero_label)
     }
 }

@@ -1,22 +1,35 @@
 //! A table of row pairs.
 
-ghost use Rattle.std.specs.Prelude.{◌≡◌, ℕ, IfOk, List};
-ghost use Rattle.gc_netlist.specs.Circuit.{and_count};
-ghost use Rattle.gc_layers.specs.Garbler.{AreKept, is_present};
+ghost use Rattle.std.specs.Prelude.{◌≡◌, ◌+◌, ◌<◌, ℕ, IfOk, IsTrue, List, length};
+ghost use Rattle.gc_netlist.specs.Circuit.{Netlist, and_count};
+ghost use Rattle.gc_layers.specs.Garbler.{AreRows, is_present, row_of};
 
-use crate::row_keeper::RowKeeper;
 use crate::to_garble::NOT_GARBLED;
 use gc_circuit::{Circuit, Memory};
 use gc_half::{RowPair, Table};
 use gc_label::Label;
 use std::alloc::Allocator;
+use std::marker::Model;
 
-/// The row pairs by AND number. An AND gate without a row pair has zeros.
+/// The row pairs of a garbling by AND number, which are made in any order. An AND gate without a row pair has zeros. A
+/// contract sees the row pairs.
 #[derive(Drop)]
 pub(crate) struct MadeRows<A: Allocator> {
     rows: Table<RowPair, A>,
     // How many are not there.
     missing: u32,
+}
+
+impl<A: Allocator> Model for MadeRows<A> {
+    ghost use Rattle.std.specs.Prelude.{List};
+    ghost use Rattle.gc_half.specs.declared.garbling.RowPair.{RowPair};
+    ghost use Rattle.gc_layers.specs.Garbler.{IsMissing};
+
+    ghost Value = { List RowPair };
+
+    ghost view = { λ t. t.rows };
+
+    ghost invariant = { λ t. IsMissing t.rows t.missing };
 }
 
 /// Whether a row pair is there.
@@ -30,8 +43,7 @@ fn is_present(pair: &RowPair) -> bool
 impl<A: Allocator> MadeRows<A> {
     /// No row pair is there.
     pub(crate) fn open<C: Allocator>(alloc: A, circuit: &Circuit<C>) -> Result<MadeRows<A>, Memory>
-        ensures { IfOk result (λ made. (seed : List ℕ)
-            → AreKept circuit.now seed 0 made.rows made.missing) }
+        ensures { IfOk result (λ rows. (seed : List ℕ) → AreRows circuit.now seed 0 rows) }
     {
         let missing = circuit.and_count();
         Ok(MadeRows {
@@ -42,32 +54,38 @@ impl<A: Allocator> MadeRows<A> {
 
     /// All row pairs, with zeros for those that are not there.
     pub(crate) fn into_rows(self) -> Vec<RowPair, A>
-        ensures { result.items ≡ self.rows }
+        ensures { result.items ≡ self }
     {
         self.rows.into_entries()
     }
-}
 
-impl<A: Allocator> RowKeeper for MadeRows<A> {
-    ghost use Rattle.std.specs.Prelude.{[]};
-    ghost use Rattle.gc_layers.specs.Garbler.{AreKept};
-
-    ghost holds = { λ t c seed n. AreKept c seed n t.rows t.missing };
-
-    ghost given = { λ t. [] };
-
-    fn is_whole(&self) -> bool {
+    /// Whether each AND gate's row pair is there.
+    pub(crate) fn is_whole(&self) -> bool
+        ensures { IsTrue result → (c : Netlist) (seed : List ℕ)
+            → AreRows c seed 0 self.now → AreRows c seed (and_count c) self.now }
+    {
         self.missing == 0
     }
 
+    /// Whether the row pair of the k-th AND gate is there.
     #[inline]
-    fn has(&self, k: u32) -> bool {
+    pub(crate) fn has(&self, k: u32) -> bool
+        requires { k < length self.now }
+        ensures { IsTrue result → (c : Netlist) (seed : List ℕ)
+            → AreRows c seed k self.now → AreRows c seed (k + 1) self.now }
+    {
         is_present(&self.rows.get(k))
     }
 
-    // A row pair that is there stays.
+    /// Takes the row pair of the k-th AND gate. One that is there stays.
     #[inline]
-    fn keep(&mut self, k: u32, pair: RowPair) {
+    pub(crate) fn keep(&mut self, k: u32, pair: RowPair)
+        requires { k < length self.old }
+        ensures kept { (c : Netlist) (seed : List ℕ) (n : ℕ) → pair ≡ row_of c seed k
+            → AreRows c seed n self.old → AreRows c seed n self.new }
+        ensures next { (c : Netlist) (seed : List ℕ) → pair ≡ row_of c seed k
+            → AreRows c seed k self.old → AreRows c seed (k + 1) self.new }
+    {
         if is_present(&self.rows.get(k)) {
             return;
         }

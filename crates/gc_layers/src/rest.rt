@@ -8,10 +8,10 @@ ghost use Rattle.gc_half.specs.Garbling.{zero_of};
 ghost use Rattle.gc_layers.specs.declared.mark.Mark.TheVariants.{Absent, There};
 ghost use Rattle.gc_half.specs.Canonical.{zero_label_of};
 ghost use Rattle.gc_layers.specs.Layer.{AreLabels, AreMarked};
-ghost use Rattle.gc_layers.specs.Garbler.{IsNumberFor, KeepsGate};
+ghost use Rattle.gc_layers.specs.Garbler.{AreRows, KeepsGate};
 
+use crate::made_rows::MadeRows;
 use crate::mark::Mark;
-use crate::row_keeper::RowKeeper;
 use gc_circuit::{Circuit, Gate};
 use gc_half::{garble_gate, labels_read};
 use gc_label::{Label, Offset, Seed, offset};
@@ -20,34 +20,33 @@ use std::alloc::Allocator;
 
 /// Garbles each gate whose label or row pair isn't there, in file order, as worker 0, which reports it to the observer
 /// first.
-pub(crate) fn garble_rest<K: RowKeeper, C: Allocator, H: Gatehouse>(
+pub(crate) fn garble_rest<A: Allocator, C: Allocator, H: Gatehouse>(
     observer: &H,
     circuit: &Circuit<C>,
     seed: &Seed,
     marks: &[Mark],
     labels: &mut [Label],
-    keeper: &mut K,
+    rows: &mut MadeRows<A>,
 )
     requires count { length marks.now ≡ circuit.now.wires }
     requires marks { AreMarked (zero_label_of circuit.now seed.now) marks.now labels.old }
     requires labels { AreLabels circuit.now (zero_label_of circuit.now seed.now) 0 labels.old }
-    requires rows { K.holds keeper.old circuit.now seed.now 0 }
+    requires rows { AreRows circuit.now seed.now 0 rows.old }
     ensures labels { AreLabels circuit.now (zero_label_of circuit.now seed.now)
         (length circuit.now.gates) labels.new }
-    ensures rows { K.holds keeper.new circuit.now seed.now (and_count circuit.now) }
-    ensures given { K.given keeper.new ≡ K.given keeper.old }
+    ensures rows { AreRows circuit.now seed.now (and_count circuit.now) rows.new }
 {
     circuit.law_lawful();
-    if keeper.is_whole() && are_marked(marks) {
+    if rows.is_whole() && are_marked(marks) {
         return;
     }
     let offset = offset(seed);
     let mut k = 0;
     for i in 0..circuit.gates() {
         let gate = circuit.gate(i);
-        if !is_there(marks, keeper, k, gate) {
+        if !is_there(marks, rows, k, gate) {
             observer.before(0, i);
-            garble_at(labels, keeper, k, offset, gate);
+            garble_at(labels, rows, k, offset, gate);
         }
         if gate.operation.is_and() {
             k += 1;
@@ -70,33 +69,38 @@ pub(crate) fn are_marked(marks: &[Mark]) -> bool
 
 /// Whether the label of the wire that a gate sets is there and, of the k-th AND gate, its row pair.
 #[inline]
-fn is_there<K: RowKeeper>(marks: &[Mark], keeper: &K, k: u32, gate: Gate) -> bool
+fn is_there<A: Allocator>(marks: &[Mark], rows: &MadeRows<A>, k: u32, gate: Gate) -> bool
     requires set { gate.set < length marks.now }
-    requires number { IsTrue (is_and gate.operation) → IsNumberFor (K.holds keeper.now) k }
+    requires number { IsTrue (is_and gate.operation) → k < length rows.now }
     ensures label { IsTrue result → slice_index_or marks.now gate.set Absent ≡ There }
     ensures row { IsTrue result → IsTrue (is_and gate.operation) → (c : Netlist) (seed : List ℕ)
-        → K.holds keeper.now c seed k → K.holds keeper.now c seed (k + 1) }
+        → AreRows c seed k rows.now → AreRows c seed (k + 1) rows.now }
 {
-    marks[gate.set as usize].is_there() && (!gate.operation.is_and() || keeper.has(k))
+    marks[gate.set as usize].is_there() && (!gate.operation.is_and() || rows.has(k))
 }
 
 /// Garbles a gate: its label goes where it belongs, and the row pair of the k-th AND gate, counted from 0, to the
-/// keeper.
-fn garble_at<K: RowKeeper>(labels: &mut [Label], keeper: &mut K, k: u32, offset: Offset, gate: Gate)
+/// others.
+fn garble_at<A: Allocator>(
+    labels: &mut [Label],
+    rows: &mut MadeRows<A>,
+    k: u32,
+    offset: Offset,
+    gate: Gate,
+)
     requires read { EachRead (λ w. w < length labels.old) gate.operation }
     requires set { gate.set < length labels.old }
-    requires number { IsTrue (is_and gate.operation) → IsNumberFor (K.holds keeper.old) k }
+    requires number { IsTrue (is_and gate.operation) → k < length rows.old }
     ensures labels { labels.new ≡ slice_set labels.old gate.set
         (zero_of hash offset (slice_index labels.old) k gate.operation) }
-    ensures rows { KeepsGate (K.holds keeper.old) (K.holds keeper.new) k gate.operation
+    ensures rows { KeepsGate rows.old rows.new k gate.operation
         (row_pair hash offset k (first_read (slice_index labels.old) gate.operation)
         (second_read (slice_index labels.old) gate.operation)) }
-    ensures given { K.given keeper.new ≡ K.given keeper.old }
 {
     let (first, second) = labels_read(labels, gate.operation);
     let (label, pair) = garble_gate(k, offset, gate.operation, first, second);
     labels[gate.set as usize] = label;
     if let Some(pair) = pair {
-        keeper.keep(k, pair);
+        rows.keep(k, pair);
     }
 }

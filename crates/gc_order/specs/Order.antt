@@ -118,13 +118,12 @@ labels_command =
     let with_count = with_rule with_from count in
     with_rule with_count (more_words (codes "values"))
 
--- `audit CIRCUIT SEED GARBLED [--workers WORKERS] [LABELS]...`
+-- `audit CIRCUIT SEED GARBLED [LABELS]...`
 abbrev pub audit_command : App
 audit_command =
     let garbled = required_word (codes "garbled") in
     let with_garbled = with_rule (command_with_seed (codes "audit")) garbled in
-    let with_workers = with_rule with_garbled workers_option in
-    with_rule with_workers (more_words (codes "labels"))
+    with_rule with_garbled (more_words (codes "labels"))
 
 -- The program, which needs a command, before it has any.
 abbrev pub named_program : App
@@ -188,7 +187,7 @@ pub data OrderText : Type 0 where
   eval : (circuit garbled : List ℕ) (workers : ℕ) (hex : Bool) (labels : List (List ℕ)) → OrderText
   jobs : (circuit list : List ℕ) (workers : ℕ) (hex : Bool) → OrderText
   list_labels : (circuit seed : List ℕ) (from count : ℕ) (values : List (List ℕ)) → OrderText
-  audit : (circuit seed garbled : List ℕ) (workers : ℕ) (labels : List (List ℕ)) → OrderText
+  audit : (circuit seed garbled : List ℕ) (labels : List (List ℕ)) → OrderText
 
 -- The texts of an order.
 abbrev pub text_of : Order → OrderText
@@ -210,8 +209,8 @@ text_of (Jobs circuit list workers hex) =
 text_of (Labels circuit seed from count values) =
     list_labels (string_bytes circuit) (string_bytes seed) from count
     (map string_bytes values.items)
-text_of (Audit circuit seed garbled workers labels) =
-    audit (string_bytes circuit) (string_bytes seed) (string_bytes garbled) workers
+text_of (Audit circuit seed garbled labels) =
+    audit (string_bytes circuit) (string_bytes seed) (string_bytes garbled)
     (map string_bytes labels.items)
 
 -- The word that clap found for an id that has one word,
@@ -311,7 +310,6 @@ audit_in rows = audit
     (word_of (codes "circuit") rows)
     (word_of (codes "seed") rows)
     (word_of (codes "garbled") rows)
-    (number_in (word_of (codes "workers") rows))
     (words_of (codes "labels") rows)
 
 -- The order of the command of a name, where the program has one.

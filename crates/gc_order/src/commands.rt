@@ -312,7 +312,6 @@ fn audit<'a>(alloc: Global) -> Result<Command<'a>, AllocError>
     let about = "Says whether a garbled file and label files are those of a circuit and a seed";
     let command = command_with_seed(alloc, "audit", about, AUDIT_HELP);
     let command = with_arg(command, garbled_arg(alloc));
-    let command = with_arg(command, workers_arg(alloc));
     with_arg(command, labels_arg(alloc, AUDITED_HELP))
 }
 

@@ -123,8 +123,6 @@ pub enum Order {
         seed: String,
         /// The name of the garbled file.
         garbled: String,
-        /// How many workers garble.
-        workers: u32,
         /// The name of each label file, in the order of the words.
         labels: Vec<String>,
     },
@@ -290,7 +288,6 @@ fn audit_order(alloc: Global, found: &ArgMatches<'_>) -> Result<Order, AllocErro
         circuit: word_of(alloc, found, "circuit")?,
         seed: word_of(alloc, found, "seed")?,
         garbled: word_of(alloc, found, "garbled")?,
-        workers: number_of(found, "workers"),
         labels: words_of(alloc, found, "labels")?,
     })
 }

@@ -11,9 +11,9 @@ use Rattle.gc_command.proofs.EvalLemmas.{files-kind}
 use Rattle.gc_trace.specs.Audit.{HasAuditFault}
 
 module _ (bytes : FileBytes) (Failed : List ℕ → Type 0) (circuit seed garbled : List ℕ)
-    (workers : ℕ) (labels : List (List ℕ)) where
+    (labels : List (List ℕ)) where
   abbrev Has : Fault → Type 0
-  Has = HasAuditFault bytes Failed circuit seed garbled workers labels
+  Has = HasAuditFault bytes Failed circuit seed garbled labels
 
   -- The fault of the circuit's file,
   pub circuit-fault : (fault : Fault) → HasReadingFault (bytes circuit) (Failed circuit) fault

@@ -12,8 +12,7 @@ use Rattle.gc_file.specs.declared.parts.Version.TheVariants.{One, Two}
 use Rattle.gc_file.specs.GarbledFile.{GarbledParts}
 use Rattle.gc_file.specs.LabelFile.{LabelFileParts}
 use Rattle.gc_file.specs.Honest.{honest_parts}
-use Rattle.gc_workers.specs.Workers.{AreFew}
-use Rattle.gc_work.specs.WorkFault.{HasWorkFault}
+use Rattle.gc_work.specs.declared.fault.WorkFault.TheVariants as work
 use Rattle.gc_audit.specs.declared.garbled.GarbledAudit.{GarbledAudit}
 use Rattle.gc_audit.specs.declared.garbled.PartsAudit.{PartsAudit}
 use Rattle.gc_audit.specs.declared.rows.DifferingRows.{DifferingRows}
@@ -156,8 +155,8 @@ pub record AreAuditLines (c : Netlist) (seed : List ℕ) (g : GarbledParts)
       ↔ (g ≡ honest_parts g.version c garbling seed) × IsTrue all_dealt
   pub printed : lines ≡ garbled_lines g.version found ++ labels_lines ++ end_line honest
 
--- What `audit` answers, whatever the number of workers.
-pub record AnswersAudit (bytes : FileBytes) (circuit seed_text garbled : List ℕ) (workers : ℕ)
+-- What `audit` prints.
+pub record AnswersAudit (bytes : FileBytes) (circuit seed_text garbled : List ℕ)
     (labels : List (List ℕ)) (honest : Bool) (lines : List ℕ) : Type 0 where
   pub c : Netlist
   pub g : GarbledParts
@@ -165,28 +164,27 @@ pub record AnswersAudit (bytes : FileBytes) (circuit seed_text garbled : List �
   pub input : AreEvalFiles bytes circuit garbled labels c g files
   pub seed : List ℕ
   pub seed_read : IsSeed seed_text seed
-  pub few : AreFew workers
   pub printed : AreAuditLines c seed g files honest lines
 
 -- When `audit` has which fault: it is the first in the order of the work (the circuit, the seed, the garbled file, the
--- label files in turn, the number of workers, garbling), but that memory may run out at each step. A file that can't be
+-- label files in turn, garbling, where memory alone may run out), but that memory may run out at each step. A file that can't be
 -- read has failed, and each file before it, and the seed, is what it has to be.
-abbrev pub HasAuditFault : FileBytes → (List ℕ → Type 0) → List ℕ → List ℕ → List ℕ → ℕ
+abbrev pub HasAuditFault : FileBytes → (List ℕ → Type 0) → List ℕ → List ℕ → List ℕ
     → List (List ℕ) → Fault → Type 0
-HasAuditFault bytes Failed circuit seed garbled workers labels CannotRead =
+HasAuditFault bytes Failed circuit seed garbled labels CannotRead =
     Failed circuit
     ⊎ ((c : Netlist) × IfSome (bytes circuit) (λ held. IsCircuit held c) × IsSeedText seed
     × HasFilesFault bytes Failed garbled labels CannotRead)
-HasAuditFault bytes Failed circuit seed garbled workers labels (Circuit fault) =
+HasAuditFault bytes Failed circuit seed garbled labels (Circuit fault) =
     IfSome (bytes circuit) (λ held. HasCircuitFault held (Circuit fault))
-HasAuditFault bytes Failed circuit seed garbled workers labels BadSeed =
+HasAuditFault bytes Failed circuit seed garbled labels BadSeed =
     ((c : Netlist) × IfSome (bytes circuit) (λ held. IsCircuit held c)) × ¬ IsSeedText seed
-HasAuditFault bytes Failed circuit seed garbled workers labels (File fault) =
+HasAuditFault bytes Failed circuit seed garbled labels (File fault) =
     (c : Netlist) × IfSome (bytes circuit) (λ held. IsCircuit held c) × IsSeedText seed
     × HasFilesFault bytes Failed garbled labels (File fault)
-HasAuditFault bytes Failed circuit seed garbled workers labels (Garbling fault) =
+HasAuditFault bytes Failed circuit seed garbled labels (Garbling fault) =
     (c : Netlist) × ((g : GarbledParts) × ((files : List LabelFileParts)
     × (AreEvalFiles bytes circuit garbled labels c g files × IsSeedText seed
-    × HasWorkFault workers fault)))
-HasAuditFault bytes Failed circuit seed garbled workers labels Memory = Unit {0}
-HasAuditFault bytes Failed circuit seed garbled workers labels _ = ⊥
+    × (fault ≡ work.Memory))))
+HasAuditFault bytes Failed circuit seed garbled labels Memory = Unit {0}
+HasAuditFault bytes Failed circuit seed garbled labels _ = ⊥

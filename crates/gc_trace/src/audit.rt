@@ -5,9 +5,8 @@ ghost use Rattle.sha2.specs.Sha256.{sha256};
 ghost use Rattle.gc_netlist.specs.Canon.{canonical_text};
 ghost use Rattle.gc_circuit.specs.Digest.{IsBegun};
 ghost use Rattle.gc_half.specs.Canonical.{garbling_of};
-ghost use Rattle.gc_half.specs.Comparing.{HasLabels};
+ghost use Rattle.gc_half.specs.Garbling.{IsGarbled};
 ghost use Rattle.gc_file.specs.GarbledFile.{GarbledParts};
-ghost use Rattle.gc_work.specs.WorkFault.{JudgesWorkers};
 ghost use Rattle.gc_audit.specs.Garbled.{AreCountsRight, IsGarbledAudit, IsPartsAudit};
 ghost use Rattle.gc_disk.specs.Files.{HasFailed};
 ghost use Rattle.gc_trace.specs.Audit.{AnswersAudit, AreAuditLines, AreLabelsFound, HasAuditFault};
@@ -27,10 +26,9 @@ use gc_command::{
 };
 use gc_disk::Files;
 use gc_file::{Garbled, LabelFile, Version};
-use gc_half::Garbling;
+use gc_half::{Garbling, garble_and_compare, garble_one_thread};
 use gc_label::Seed;
-use gc_work::{WorkFault, garble, garble_and_compare};
-use gc_workers::Open;
+use gc_work::WorkFault;
 use std::alloc::{AllocError, Allocator};
 use std::sync::Wait;
 use std::thread;
@@ -46,23 +44,23 @@ pub struct Audited<A: Allocator> {
 }
 
 /// Compares the garbled file and the label files of these names with what garbling the circuit of a file under a seed
-/// gives, by this number of workers, and returns what it finds. Nothing of these files is trusted.
+/// gives, and returns what it finds. Nothing of these files is trusted. One thread garbles and compares; another may
+/// hash meanwhile.
 pub fn audit<R: Threads + Wait + Sync, A: Allocator + Copy + Send + Sync, F: Files, P: Progress>(
     rt: &R,
     alloc: A,
     circuit: &str,
     seed: &str,
     garbled: &str,
-    workers: u32,
     labels: &[String],
     files: &mut F,
     progress: &P,
 ) -> Result<Audited<A>, Fault>
     ensures answers { IfOk result (λ found. AnswersAudit (F.bytes files.old) circuit.now seed.now
-        garbled.now workers (map string_bytes labels.now) found.is_honest found.lines.items) }
+        garbled.now (map string_bytes labels.now) found.is_honest found.lines.items) }
     ensures fault { IfErr result (HasAuditFault (F.bytes files.old)
         (HasFailed (F.failures files.old) (F.failures files.new)) circuit.now seed.now garbled.now
-        workers (map string_bytes labels.now)) }
+        (map string_bytes labels.now)) }
     ensures same { (name : List ℕ) → F.bytes files.new name ≡ F.bytes files.old name }
 {
     progress.begin(1, 3, Work::ReadingCircuit);
@@ -74,9 +72,7 @@ pub fn audit<R: Threads + Wait + Sync, A: Allocator + Copy + Send + Sync, F: Fil
     let label_files = read_label_files(alloc, labels, files)?;
     let gates = circuit.gates();
     progress.begin(3, 3, Work::Garbling { gates });
-    let (garbling, found) = garbling_and_audit(
-        rt, alloc, &circuit, begun, &seed, garbled, workers,
-    )?;
+    let (garbling, found) = garbling_and_audit(rt, alloc, &circuit, begun, &seed, garbled)?;
     match audit_lines(
         alloc,
         &circuit,
@@ -91,23 +87,22 @@ pub fn audit<R: Threads + Wait + Sync, A: Allocator + Copy + Send + Sync, F: Fil
     }
 }
 
-/// Garbles the circuit under the seed by this many workers, compares a garbled file with what that makes, and answers
-/// the zero labels and what was found. Meanwhile another thread finishes the circuit's digest, where one can be
-/// started. That the digest begun is the circuit's is the caller's condition.
-fn garbling_and_audit<R: Threads + Wait + Sync, A: Allocator + Copy + Send + Sync>(
+/// Garbles the circuit under the seed, compares a garbled file with what that makes, and returns the garbling and what
+/// was found. Meanwhile another thread finishes the circuit's digest, where one can be started. That the digest begun
+/// is the circuit's is the caller's condition.
+fn garbling_and_audit<R: Threads + Sync, A: Allocator + Copy + Send + Sync>(
     rt: &R,
     alloc: A,
     circuit: &Circuit<A>,
     begun: BegunDigest,
     seed: &Seed,
     file: Garbled<A>,
-    workers: u32,
 ) -> Result<(Garbling<A>, GarbledAudit), WorkFault>
     requires { IsBegun circuit.now begun }
-    ensures labels { IfOk result (λ made. HasLabels circuit.now seed.now made.0) }
+    ensures garbled { IfOk result (λ made. IsGarbled circuit.now seed.now made.0) }
     ensures audit { IfOk result (λ made.
         IsGarbledAudit circuit.now (garbling_of circuit.now seed.now) seed.now file made.1) }
-    ensures workers { JudgesWorkers workers result }
+    ensures fault { IfErr result (λ fault. fault ≡ WorkFault.Memory) }
 {
     let filed = file.digest();
     let (digest, made) = thread::join(
@@ -117,14 +112,14 @@ fn garbling_and_audit<R: Threads + Wait + Sync, A: Allocator + Copy + Send + Syn
             ensures { result ≡ sha256 (canonical_text circuit.entry.now) }
         { circuit.finish_digest(begun) },
         move || -> Result<(Garbling<A>, Option<PartsAudit>), WorkFault>
-            ensures labels { IfOk result
-                (λ made. HasLabels circuit.entry.now seed.entry.now made.0) }
+            ensures garbled { IfOk result
+                (λ made. IsGarbled circuit.entry.now seed.entry.now made.0) }
             ensures parts { IfOk result (λ made.
                 MatchOption made.1 (¬ AreCountsRight circuit.entry.now file)
                 (IsPartsAudit circuit.entry.now (garbling_of circuit.entry.now seed.entry.now)
                 seed.entry.now file)) }
-            ensures workers { JudgesWorkers workers result }
-        { garbling_and_parts(rt, alloc, circuit, seed, file, workers) },
+            ensures fault { IfErr result (λ fault. fault ≡ WorkFault.Memory) }
+        { garbling_and_parts(alloc, circuit, seed, file) },
     );
     let (garbling, parts) = made?;
     let digest = filed == digest;
@@ -133,27 +128,25 @@ fn garbling_and_audit<R: Threads + Wait + Sync, A: Allocator + Copy + Send + Syn
 
 /// The same without the digest. Where the file's counts are right, its row pairs are compared with the garbling's as
 /// these are made, so that both together take hardly more memory than one of them. Else the file is dropped before.
-fn garbling_and_parts<R: Threads + Wait + Sync, A: Allocator + Copy + Send + Sync>(
-    rt: &R,
+fn garbling_and_parts<A: Allocator + Copy>(
     alloc: A,
     circuit: &Circuit<A>,
     seed: &Seed,
     file: Garbled<A>,
-    workers: u32,
 ) -> Result<(Garbling<A>, Option<PartsAudit>), WorkFault>
-    ensures labels { IfOk result (λ made. HasLabels circuit.now seed.now made.0) }
+    ensures garbled { IfOk result (λ made. IsGarbled circuit.now seed.now made.0) }
     ensures parts { IfOk result (λ made. MatchOption made.1 (¬ AreCountsRight circuit.now file)
         (IsPartsAudit circuit.now (garbling_of circuit.now seed.now) seed.now file)) }
-    ensures workers { JudgesWorkers workers result }
+    ensures fault { IfErr result (λ fault. fault ≡ WorkFault.Memory) }
 {
     circuit.law_lawful();
     if !are_counts_right(circuit, &file) {
         drop(file);
-        return Ok((garble(rt, alloc, circuit, seed, workers, &Open)?, None));
+        return Ok((garble_one_thread(alloc, circuit, seed)?, None));
     }
     let version = file.version();
     let (rows, decode_bits, entries) = file.into_parts();
-    let (garbling, first) = garble_and_compare(rt, alloc, circuit, seed, rows, workers, &Open)?;
+    let (garbling, first) = garble_and_compare(alloc, circuit, seed, rows)?;
     let parts = audit_compared(
         circuit,
         &garbling,
@@ -166,8 +159,7 @@ fn garbling_and_parts<R: Threads + Wait + Sync, A: Allocator + Copy + Send + Syn
     Ok((garbling, Some(parts)))
 }
 
-/// What is found of a garbled file of a version and of label files, by the zero labels of the garbling of
-/// the circuit under the seed.
+/// What is found of a garbled file of a version and of label files, by the garbling of the circuit under the seed.
 fn audit_lines<A: Allocator + Copy>(
     alloc: A,
     circuit: &Circuit<A>,
@@ -177,7 +169,7 @@ fn audit_lines<A: Allocator + Copy>(
     seed: &Seed,
     label_files: &[LabelFile<A>],
 ) -> Result<Audited<A>, Memory>
-    requires { HasLabels circuit.now seed.now garbling.now }
+    requires { IsGarbled circuit.now seed.now garbling.now }
     ensures { IfOk result (λ made. (file : GarbledParts) → file.version ≡ version
         → IsGarbledAudit circuit.now (garbling_of circuit.now seed.now) seed.now file found.now
         → AreAuditLines circuit.now seed.now file label_files.now made.is_honest made.lines.items) }
@@ -326,8 +318,8 @@ fn push_entry_difference<A: Allocator>(
     Ok(())
 }
 
-/// Adds the line of each label file. The answer is whether all are the dealer's. That `garbling` has the zero labels of
-/// the circuit's garbling under the seed is the caller's condition.
+/// Adds the line of each label file, and returns whether all are the dealer's. That `garbling` is the circuit's under
+/// the seed is the caller's condition.
 fn push_label_files<A: Allocator + Copy>(
     lines: &mut Vec<u8, A>,
     alloc: A,
@@ -336,11 +328,12 @@ fn push_label_files<A: Allocator + Copy>(
     seed: &Seed,
     files: &[LabelFile<A>],
 ) -> Result<bool, Memory>
-    requires { HasLabels circuit.now seed.now garbling.now }
+    requires { IsGarbled circuit.now seed.now garbling.now }
     ensures { IfOk result (λ all_dealt. (added : List ℕ)
         × AreLabelsFound circuit.now seed.now files.now all_dealt added
         × (lines.new.items ≡ lines.old.items ++ added)) }
 {
+    circuit.law_lawful();
     let mut all_dealt = true;
     for file in files {
         let verdict = audit_labels(alloc, circuit, garbling, seed, file)?;

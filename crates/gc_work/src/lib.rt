@@ -2,15 +2,13 @@
 //!
 //! [`garble`] garbles on one thread, by layers (`gc_layers`) or through one store, as [`way_of`](gc_layers::way_of)
 //! says. Through a store workers claim, seal and hand in gates under a lock, and what the store keeps at every moment
-//! makes the answer right, whatever the threads did. [`garble_and_compare`] compares given row pairs with those of a
-//! garbling.
+//! makes the answer right, whatever the threads did.
 //!
 //! A [`TaskPool`] is filled and emptied by one [`Owner`] and emptied by any number of [`Thief`]s, with no lock.
 //! What was pushed to it is what was taken from it and what is left, whatever the threads did.
 #![tactic(auto)]
 
 mod account;
-mod comparing;
 mod fault;
 mod garbling;
 mod gather;
@@ -21,7 +19,6 @@ mod worker;
 mod workers;
 
 pub use account::{PoolAccount, PoolRule};
-pub use comparing::garble_and_compare;
 pub use fault::WorkFault;
 pub use garbling::garble;
 pub use gc_workers::{Gatehouse, Open};

@@ -1,9 +1,6 @@
-//! The tests of stores, of stores that threads share, of pools of tasks, and of garbling on many threads, where row
-//! pairs may be compared meanwhile.
+//! The tests of stores, of stores that threads share, of pools of tasks, and of garbling on many threads.
 #![tactic(auto)]
 
-#[cfg(test)]
-mod comparing;
 #[cfg(test)]
 mod fixtures;
 #[cfg(test)]

@@ -11,4 +11,4 @@ from_parts-requires g c =
 pub returns : goal.returns
 returns g c = rw (c.from_parts.ensures, c.into_rows-rows.ensures)
     (garbled-end c.args.circuit.now c.args.seed.now c.law_lawful.ensures _ _ _
-    c.output_wires.ensures c.in_ok-labels.ensures.labels c.in_ok-labels.ensures.rows.are_rows)
+    c.output_wires.ensures c.in_ok-labels.ensures.labels c.in_ok-labels.ensures.rows)

@@ -4,5 +4,4 @@ pub returns : goal.returns
 returns c =
     let one = c.with_arg-command.ensures _ _
     c.command_with_seed-command.ensures c.garbled_arg.ensures in
-    let two = c.with_arg-command-2.ensures _ _ one c.workers_arg.ensures in
-    c.with_arg.ensures _ _ two c.labels_arg.ensures
+    c.with_arg.ensures _ _ one c.labels_arg.ensures

@@ -11,7 +11,7 @@ returns-in_err-circuit-clause-fault g c =
     let p = err_from_is_err_and c.from_residual.result c.from_residual.ensures.1 in
     rw (p.1, p.2) (circuit-fault (g.F.Files.bytes c.args.files.now)
     (HasFailed (g.F.Files.failures c.args.files.now) (g.F.Files.failures c.read_and_begin_digest.new.files))
-    c.args.circuit.now c.args.seed.now c.args.garbled.now c.args.workers
+    c.args.circuit.now c.args.seed.now c.args.garbled.now
     (map string_bytes c.args.labels.now) _ c.in_err-circuit.ensures.fault)
 
 pub returns-in_err-garbled-clause-fault : goal.returns-in_err-garbled-clause-fault
@@ -20,7 +20,7 @@ returns-in_err-garbled-clause-fault g c =
     let first = fun_ext c.read_and_begin_digest.ensures.same in
     rw (p.1, p.2) (files-fault (g.F.Files.bytes c.args.files.now)
     (HasFailed (g.F.Files.failures c.args.files.now) (g.F.Files.failures c.read_garbled_file.new.files))
-    c.args.circuit.now c.args.seed.now c.args.garbled.now c.args.workers
+    c.args.circuit.now c.args.seed.now c.args.garbled.now
     (map string_bytes c.args.labels.now) _ c.in_ok-circuit.ensures.circuit
     (c.in_ok-seed.ensures.accepts.0 refl) _
     (inl (rw (first, c.in_ok-circuit.ensures.counted) at c.in_err-garbled.ensures.fault)))
@@ -34,7 +34,7 @@ returns-in_err-label_files-clause-fault g c =
     at c.in_err-label_files.ensures.fault in
     rw (p.1, p.2) (files-fault (g.F.Files.bytes c.args.files.now)
     (HasFailed (g.F.Files.failures c.args.files.now) (g.F.Files.failures c.read_label_files.new.files))
-    c.args.circuit.now c.args.seed.now c.args.garbled.now c.args.workers
+    c.args.circuit.now c.args.seed.now c.args.garbled.now
     (map string_bytes c.args.labels.now) _ c.in_ok-circuit.ensures.circuit
     (c.in_ok-seed.ensures.accepts.0 refl) _
     (inr (c.in_ok-garbled.garbled, rw first at c.in_ok-garbled.ensures.garbled, fault)))
@@ -46,7 +46,7 @@ returns-in_err-garbling-clause-fault g c =
     c.in_ok-circuit.ensures.circuit c.in_ok-garbled.ensures.garbled c.in_ok-label_files.ensures.labels in
     let seed = c.in_ok-seed.ensures.accepts.0 refl in
     rw (p.1, p.2)
-    (c.in_ok-circuit.circuit, (c.in_ok-garbled.garbled, (c.in_ok-label_files.label_files.items, (files, seed, c.in_err-garbling.ensures.workers))))
+    (c.in_ok-circuit.circuit, (c.in_ok-garbled.garbled, (c.in_ok-label_files.label_files.items, (files, seed, c.in_err-garbling.ensures.fault))))
 
 pub returns-in_err-garbling-clause-same : goal.returns-in_err-garbling-clause-same
 returns-in_err-garbling-clause-same g c = λ n.
@@ -65,7 +65,6 @@ returns-in-Ok-clause-answers g c = record {
     accepted = c.in_ok-seed.ensures.accepts.0 refl;
     spelled = c.in_ok-seed.ensures.bytes;
   };
-  few = c.in_ok-garbling.ensures.workers;
   printed = rw c.deref.ensures.value at (c.in-Ok.ensures c.in_ok-garbled.garbled
       (sym c.version-version.ensures) c.in_ok-garbling.ensures.audit);
 }
