@@ -148,8 +148,8 @@ class CommandLine(ProgramTest):
             (["--help"], HELP),
             (["-h"], HELP),
             (["run", "--help"], RUN_HELP),
-            (["--version"], "halfgates 0.6.0\n"),
-            (["-V"], "halfgates 0.6.0\n"),
+            (["--version"], "halfgates 0.7.0\n"),
+            (["-V"], "halfgates 0.7.0\n"),
         ]:
             self.assert_prints(text, *words)
 

@@ -14,7 +14,7 @@ use clap::{Arg, ArgAction, Command};
 use std::alloc::{AllocError, Global};
 
 /// The version of the program.
-const VERSION: &str = "0.6.0";
+const VERSION: &str = "0.7.0";
 
 /// The greatest number that a word or an option takes. No circuit has as many wires.
 const MOST: u64 = 4_294_967_295;
