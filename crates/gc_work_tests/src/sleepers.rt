@@ -19,9 +19,10 @@ use std::thread::Threads;
 const SLEEPERS: usize = 3;
 
 /// A gate, and this many gates that read the wire that it sets.
-fn fan(alloc: Global, readers: u64) -> Result<String, Fail> {
-    let mut text = format!(in alloc; "{} {}\n1 1\n1 1\n1 1 0 1 INV\n", readers + 1, readers + 2)?;
-    for reader in 0..readers {
+fn fan(alloc: Global, readers: u32) -> Result<String, Fail> {
+    let n = u64::from(readers);
+    let mut text = format!(in alloc; "{} {}\n1 1\n1 1\n1 1 0 1 INV\n", n + 1, n + 2)?;
+    for reader in 0..n {
         text.push_str(format!(in alloc; "2 1 1 0 {} AND\n", reader + 2)?.as_str())?;
     }
     Ok(text)
