@@ -128,8 +128,8 @@ fn leaves_none<L: Ledger>(
     answer == Ok(true)
 }
 
-/// Three threads sleep at the store of a fan with this many readers, whose first gate is claimed, while another thread
-/// works there and then stops the store. The answer is what each was given; None where the work went otherwise.
+/// Three threads sleep at the store of a fan, whose first gate is claimed, while another thread works there, and stops
+/// the store where the work goes otherwise than it should. The answer is what each was given; None after a stop.
 fn given_at<L: Ledger + Send + Sync, R: Threads + Wait + Sync>(
     rt: &R,
     alloc: Global,
@@ -160,7 +160,9 @@ fn given_at<L: Ledger + Send + Sync, R: Threads + Wait + Sync>(
             } else {
                 wakes_each(rt, &shared, &mut tally, first, &notes)
             };
-            shared.stop(rt);
+            if !(all_ask && worked) {
+                shared.stop(rt);
+            }
             all_ask && worked
         },
         || {
