@@ -50,7 +50,7 @@ impl Rounds {
 
     /// Waits until all have begun a round this often, for so many turns at the most.
     fn wait(&self, times: u64) {
-        for _turn in 0..100_000_000u64 {
+        for _turn in 0..1_000_000_000u64 {
             if self.have_all_begun(times) {
                 return;
             }

@@ -19,9 +19,10 @@ use std::thread::Threads;
 const SLEEPERS: usize = 3;
 
 /// A gate, and this many gates that read the wire that it sets.
-fn fan(alloc: Global, readers: u64) -> Result<String, Fail> {
-    let mut text = format!(in alloc; "{} {}\n1 1\n1 1\n1 1 0 1 INV\n", readers + 1, readers + 2)?;
-    for reader in 0..readers {
+fn fan(alloc: Global, readers: u32) -> Result<String, Fail> {
+    let n = u64::from(readers);
+    let mut text = format!(in alloc; "{} {}\n1 1\n1 1\n1 1 0 1 INV\n", n + 1, n + 2)?;
+    for reader in 0..n {
         text.push_str(format!(in alloc; "2 1 1 0 {} AND\n", reader + 2)?.as_str())?;
     }
     Ok(text)
@@ -127,8 +128,8 @@ fn leaves_none<L: Ledger>(
     answer == Ok(true)
 }
 
-/// Three threads sleep at the store of a fan with this many readers, whose first gate is claimed, while another thread
-/// works there and then stops the store. The answer is what each was given; None where the work went otherwise.
+/// Three threads sleep at the store of a fan, whose first gate is claimed, while another thread works there, and stops
+/// the store where the work goes otherwise than it should. The answer is what each was given; None after a stop.
 fn given_at<L: Ledger + Send + Sync, R: Threads + Wait + Sync>(
     rt: &R,
     alloc: Global,
@@ -159,7 +160,9 @@ fn given_at<L: Ledger + Send + Sync, R: Threads + Wait + Sync>(
             } else {
                 wakes_each(rt, &shared, &mut tally, first, &notes)
             };
-            shared.stop(rt);
+            if !(all_ask && worked) {
+                shared.stop(rt);
+            }
             all_ask && worked
         },
         || {
