@@ -16,6 +16,7 @@ count_more p gates i g n m at before more =
     elim (cases_Bool (p g)) [
       | inl passes ↦ more ∙ ap (λ b. n + one_if b) passes ∙ ap (λ k. k + 1) before
           ∙ sym (count_by_more_yes p gates i g within (same ∙ passes))
-      | inr fails ↦ more ∙ ap (λ b. n + one_if b) fails ∙ (let e : n + 0 ≡ n = omega arith in e) ∙ before
+      | inr fails ↦ more ∙ ap (λ b. n + one_if b) fails ∙ (let e : n + 0 ≡ n = omega arith in e)
+          ∙ before
           ∙ sym (count_by_more_no p gates i g within (same ∙ fails))
     ]

@@ -36,7 +36,8 @@ depth_of-le depth (Eqw a) n h = (omega (arith, h a), omega (arith, h a))
 depth_of-le depth (Eq b) n h = (omega arith, omega arith)
 
 -- The number is the greatest in the table of those of wires that the first i gates set, and at most i.
-pub record IsDeepest (c : Netlist) (i : ℕ) (table : List Depths) (f : Depths → ℕ) (n : ℕ) : Type 0 where
+pub record IsDeepest (c : Netlist) (i : ℕ) (table : List Depths)
+    (f : Depths → ℕ) (n : ℕ) : Type 0 where
   pub few : n ≤ i
   pub most : (w : ℕ) → f (depths_in table w) ≤ n
   pub reached : (n ≡ 0) ⊎ ((w : ℕ) × IsSetBefore c i w × (f (depths_in table w) ≡ n))
@@ -47,7 +48,8 @@ past (suc k) zero = refl
 past (suc k) (suc w) = past k w
 
 -- the start: no wire is deep
-pub table_start : (c : Netlist) (n : ℕ) (table : List Depths) → n ≡ c.wires → table ≡ replicate n none_deep →
+pub table_start : (c : Netlist) (n : ℕ) (table : List Depths) → n ≡ c.wires
+    → table ≡ replicate n none_deep →
     table ≡ map (values_after depths_rule c (λ w. none_deep) 0) (range_with_len 0 c.wires)
 table_start c n table wires is =
     rw (is, after-zero depths_rule c (λ w. none_deep))
@@ -78,7 +80,8 @@ module _ (c : Netlist) (lawful : IsLawful c) (i : ℕ) (g : Gate) (at : slice_ge
     | inr other ↦ omega (arith, at_other w other, h.most w, is)
   ]
 
-  reached_before : (n m : ℕ) → (n ≡ 0) ⊎ ((w : ℕ) × IsSetBefore c i w × (f (depths_in table w) ≡ n)) → m ≡ n →
+  reached_before : (n m : ℕ) → (n ≡ 0) ⊎ ((w : ℕ) × IsSetBefore c i w × (f (depths_in table w) ≡ n))
+      → m ≡ n →
       (m ≡ 0) ⊎ ((w : ℕ) × IsSetBefore c (i + 1) w × (f (depths_in (set table g.set d) w) ≡ m))
   reached_before n m (inl none) is = inl (is ∙ none)
   reached_before n m (inr (w, before, deep)) is =
@@ -103,7 +106,8 @@ module _ (c : Netlist) (lawful : IsLawful c) (i : ℕ) (g : Gate) (at : slice_ge
 -- all gates
 module _ (c : Netlist) (lawful : IsLawful c) (i : ℕ) (table : List Depths) (f : Depths → ℕ)
     (whole : i ≡ length c.gates)
-    (is : table ≡ map (values_after depths_rule c (λ w. none_deep) i) (range_with_len 0 c.wires)) where
+    (is : table ≡ map (values_after depths_rule c (λ w. none_deep) i)
+    (range_with_len 0 c.wires)) where
   on : ℕ → Depths
   on = values_after depths_rule c (λ w. none_deep) i
 
@@ -124,7 +128,8 @@ module _ (c : Netlist) (lawful : IsLawful c) (i : ℕ) (table : List Depths) (f 
       inr (w, set, sym (in_table w set) ∙ deep)
 
   pub deepest_all : (rule : (ℕ → ℕ) → ℕ → Gate → ℕ) → f none_deep ≡ 0 →
-      ((values : ℕ → Depths) (k : ℕ) (g : Gate) → f (depths_rule values k g) ≡ rule (λ w. f (values w)) k g) →
+      ((values : ℕ → Depths) (k : ℕ) (g : Gate)
+      → f (depths_rule values k g) ≡ rule (λ w. f (values w)) k g) →
       (n : ℕ) → IsDeepest c i table f n → IsGreatest rule c n
   deepest_all rule none same n h = record {
     depths = λ w. f (on w);

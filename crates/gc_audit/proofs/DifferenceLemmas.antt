@@ -23,7 +23,8 @@ module _ {X : Type 0} (xs ys : List X) where
       sym (take_all n xs (omega arith)) ∙ same ∙ take_all n ys (omega arith)
 
 -- Where two lists are the same, no first difference is found.
-pub none_found : {D X : Type 0} (found : Option D) (xs ys : List X) (place : D → ℕ) (Is : D → Type 0)
+pub none_found : {D X : Type 0} (found : Option D) (xs ys : List X) (place : D → ℕ)
+    (Is : D → Type 0)
     → ((d : D) → Is d → DifferFirstAt xs ys (place d)) → MatchOption found (xs ≡ ys) Is → xs ≡ ys
     → found ≡ None
 none_found None xs ys place Is first is same = refl

@@ -43,7 +43,8 @@ entry_difference entries pairs i p q s before at_p at_q differ = record {
   first = differ_first entries pairs i p q before at_p at_q (DifferFirstIn-differ p q s differ);
   colour =
       let none : EntryPair = record { entry_zero = 0; entry_one = 0 } in
-      rw (get_or_from_slice_get entries i p none at_p, get_or_from_slice_get pairs i q none at_q) differ;
+      rw (get_or_from_slice_get entries i p none at_p, get_or_from_slice_get pairs i q none at_q)
+      differ;
 }
 
 module _ (c : Netlist) (g : GarblingParts) (offset : ℕ) (file : GarbledParts) where
@@ -61,7 +62,8 @@ module _ (c : Netlist) (g : GarblingParts) (offset : ℕ) (file : GarbledParts) 
   honest-counts lawful fits is =
       let bits : length (decode_bits_of g) ≡ g.outputs =
       length-decode_bits g (omega (arith, lawful.outputs_fit, fits.wires, fits.outputs)) in
-      let rows_same : length file.rows ≡ length g.rows = ap (λ (p : GarbledParts). length p.rows) is in
+      let rows_same : length file.rows ≡ length g.rows =
+      ap (λ (p : GarbledParts). length p.rows) is in
       let bits_same : length file.decode_bits ≡ length (decode_bits_of g) =
       ap (λ (p : GarbledParts). length p.decode_bits) is in
       record {
@@ -91,9 +93,11 @@ module _ (c : Netlist) (g : GarblingParts) (offset : ℕ) (file : GarbledParts) 
               (ap (λ (f : GarbledParts). f.entries) is),
         )
 
-    none-in_file : (audit : GarbledAudit) → IsGarbledAuditWith c g offset file audit → audit ≡ honest_audit
+    none-in_file : (audit : GarbledAudit) → IsGarbledAuditWith c g offset file audit
+        → audit ≡ honest_audit
     none-in_file audit found =
-        let digest : audit.digest ≡ true = found.digest.1 (ap (λ (f : GarbledParts). f.digest) is) in
+        let digest : audit.digest ≡ true =
+        found.digest.1 (ap (λ (f : GarbledParts). f.digest) is) in
         rw (← none-in_parts audit.parts found.parts, ← digest)
 
   -- and where none is found the file is honest.
@@ -106,9 +110,14 @@ module _ (c : Netlist) (g : GarblingParts) (offset : ℕ) (file : GarbledParts) 
     λ is. none-in_file lawful fits is audit found,
   )
 
-module _ (c : Netlist) (seed : List ℕ) (lawful : IsLawful c) (g : GarblingParts) (has : HasLabels c seed g) where
+module _ (c : Netlist) (seed : List ℕ) (lawful : IsLawful c) (g : GarblingParts)
+    (has : HasLabels c seed g) where
   -- The garbling has these labels,
-  same_garbling : record { zero_labels = g.zero_labels; rows = row_pairs_of c seed; outputs = g.outputs } ≡ garbling_of c seed
+  same_garbling : record {
+    zero_labels = g.zero_labels;
+    rows = row_pairs_of c seed;
+    outputs = g.outputs;
+  } ≡ garbling_of c seed
   same_garbling = parts-same _ _ _ _ has.labels refl has.fits.outputs
 
   -- the entry pairs of a circuit with this many AND gates
@@ -116,12 +125,16 @@ module _ (c : Netlist) (seed : List ℕ) (lawful : IsLawful c) (g : GarblingPart
   pairs_with ands =
       let entry : ℕ → Bool → ℕ = λ i s.
       hash
-      (label_of_colour (offset_of seed) (slice_index g.zero_labels (length g.zero_labels - g.outputs + i)) s)
+      (label_of_colour (offset_of seed)
+      (slice_index g.zero_labels (length g.zero_labels - g.outputs + i)) s)
       (output_tweak ands i) in
-      let pair : ℕ → EntryPair = λ i. record { entry_zero = entry i false; entry_one = entry i true } in
+      let pair : ℕ → EntryPair = λ i.
+      record { entry_zero = entry i false; entry_one = entry i true } in
       map pair (range_with_len 0 g.outputs)
 
-  same_entries : (v : Version) → version_entries v (offset_of seed) g ≡ version_entries v (offset_of seed) (garbling_of c seed)
+  same_entries : (v : Version)
+      → version_entries v (offset_of seed) g
+      ≡ version_entries v (offset_of seed) (garbling_of c seed)
   same_entries One = refl
   same_entries Two =
       ap pairs_with (has.fits.and_gates ∙ sym (length-row_pairs_of c seed lawful))
@@ -129,16 +142,20 @@ module _ (c : Netlist) (seed : List ℕ) (lawful : IsLawful c) (g : GarblingPart
 
   -- so what is found of the other parts by the labels is found by the garbling.
   pub compared-audit : (file : GarbledParts) (audit : PartsAudit) → AreCountsRight c file
-      → MatchOption audit.rows (file.rows ≡ row_pairs_of c seed) (IsRowDifference c file.rows (row_pairs_of c seed))
-      → MatchOption audit.bits (file.decode_bits ≡ decode_bits_of g) (DifferFirstAt file.decode_bits (decode_bits_of g))
+      → MatchOption audit.rows (file.rows ≡ row_pairs_of c seed)
+      (IsRowDifference c file.rows (row_pairs_of c seed))
+      → MatchOption audit.bits (file.decode_bits ≡ decode_bits_of g)
+      (DifferFirstAt file.decode_bits (decode_bits_of g))
       → (let entries = version_entries file.version (offset_of seed) g in
       MatchOption audit.entries (file.entries ≡ entries) (IsEntryDifference file.entries entries))
       → IsPartsAudit c (garbling_of c seed) seed file audit
   compared-audit file audit counts rows bits entries = record {
     counts = counts;
     rows = rows;
-    bits = subst (λ l. MatchOption audit.bits (file.decode_bits ≡ l) (DifferFirstAt file.decode_bits l))
+    bits = subst (λ l. MatchOption audit.bits (file.decode_bits ≡ l)
+        (DifferFirstAt file.decode_bits l))
         (ap decode_bits_of same_garbling) bits;
-    entries = subst (λ l. MatchOption audit.entries (file.entries ≡ l) (IsEntryDifference file.entries l))
+    entries = subst (λ l.
+        MatchOption audit.entries (file.entries ≡ l) (IsEntryDifference file.entries l))
         (same_entries file.version) entries;
   }

@@ -46,8 +46,10 @@ module _ (offset : ℕ) (zero_label : ℕ → ℕ) where
       ∙ ap (λ w. Some (encode offset (zero_label w) (get_or bits i false))) (omega arith)
 
   -- One label more.
-  pub encoded-more : (first : ℕ) (labels : List ℕ) (bits more : List Bool) (i label : ℕ) (bit : Bool)
-      → take i labels ≡ encoded_with offset zero_label first bits → length bits ≡ i → slice_get labels i ≡ Some label
+  pub encoded-more : (first : ℕ) (labels : List ℕ) (bits more : List Bool) (i label : ℕ)
+      (bit : Bool)
+      → take i labels ≡ encoded_with offset zero_label first bits → length bits ≡ i
+      → slice_get labels i ≡ Some label
       → label ≡ encode offset (zero_label (first + i)) bit → more ≡ bits ++ bit ∷ []
       → (take (i + 1) labels ≡ encoded_with offset zero_label first more) × (length more ≡ i + 1)
   encoded-more first labels bits more i label bit read count at is pushed = (
@@ -64,13 +66,17 @@ module _ (offset : ℕ) (zero_label : ℕ → ℕ) where
   )
 
 -- What `get` found at an index.
-pub found_at : (xs ys : List ℕ) (i j x y : ℕ) → true ≡ ltb i (length xs) → x ≡ get_or xs i x → xs ≡ ys
+pub found_at : (xs ys : List ℕ) (i j x y : ℕ) → true ≡ ltb i (length xs) → x ≡ get_or xs i x
+    → xs ≡ ys
     → i ≡ j → y ≡ x → slice_get ys j ≡ Some y
 found_at xs ys i j x y below at same place e =
-    rw (← same, ← place, e) (slice_get_read xs (length xs) i x refl (ltb-true i (length xs) (sym below)) at)
+    rw (← same, ← place, e)
+    (slice_get_read xs (length xs) i x refl (ltb-true i (length xs) (sym below)) at)
 
-module _ (c : Netlist) (offset : ℕ) (labels : ℕ → ℕ) (g : GarblingParts) (has : HasInputLabels c g labels)
-    (wire zero_label : ℕ) (input : wire < input_wires c) (at : slice_get g.zero_labels wire ≡ Some zero_label) where
+module _ (c : Netlist) (offset : ℕ)
+    (labels : ℕ → ℕ) (g : GarblingParts) (has : HasInputLabels c g labels)
+    (wire zero_label : ℕ) (input : wire < input_wires c)
+    (at : slice_get g.zero_labels wire ≡ Some zero_label) where
   zero_is : zero_label ≡ labels wire
   zero_is = sym (get_or_from_slice_get g.zero_labels wire zero_label 0 at) ∙ has wire input
 
@@ -80,13 +86,16 @@ module _ (c : Netlist) (offset : ℕ) (labels : ℕ → ℕ) (g : GarblingParts)
   by_labels label bit is = is ∙ ap (λ z. encode offset z bit) zero_is
 
   -- and so for none.
-  pub none_by_labels : (label : ℕ) → ((bit : Bool) → label ≢ encode offset zero_label bit) → (bit : Bool)
+  pub none_by_labels : (label : ℕ) → ((bit : Bool) → label ≢ encode offset zero_label bit)
+      → (bit : Bool)
       → label ≢ encode offset (labels wire) bit
   none_by_labels label none bit is = none bit (is ∙ ap (λ z. encode offset z bit) (sym zero_is))
 
-module _ (c : Netlist) (offset : ℕ) (odd : IsTrue (colour offset)) (zero_label : ℕ → ℕ) (file : LabelFileParts) where
+module _ (c : Netlist) (offset : ℕ) (odd : IsTrue (colour offset))
+    (zero_label : ℕ → ℕ) (file : LabelFileParts) where
   -- A dealer's file has as many labels as bits.
-  length-dealt : (bits : List Bool) → IsDealtWith c offset zero_label file bits → length file.labels ≡ length bits
+  length-dealt : (bits : List Bool) → IsDealtWith c offset zero_label file bits
+      → length file.labels ≡ length bits
   length-dealt bits dealt =
       ap (λ (f : LabelFileParts). length f.labels) dealt.parts
       ∙ length-encoded_with offset zero_label (first_wire_of c file.index) bits
@@ -97,22 +106,26 @@ module _ (c : Netlist) (offset : ℕ) (odd : IsTrue (colour offset)) (zero_label
   dealt-right bits wire dealt wrong =
       let first = first_wire_of c file.index in let i = wrong.place in
       let within = slice_get_within file.labels i wrong.label wrong.at in
-      let read = encoded-at offset zero_label first bits i (omega (arith, length-dealt bits dealt)) in
+      let read = encoded-at offset zero_label first bits i
+      (omega (arith, length-dealt bits dealt)) in
       let filed = ap (λ (f : LabelFileParts). slice_get f.labels i) dealt.parts in
       wrong.wrong (get_or bits i false) (rw wrong.wire_at (cc (read, filed, wrong.at)))
 
   -- The verdict is bits exactly where the file is the dealer's for them.
-  pub verdict-dealt : {A : Type 0} (verdict : LabelsVerdict A) → IsVerdictWith c offset zero_label file verdict
+  pub verdict-dealt : {A : Type 0} (verdict : LabelsVerdict A)
+      → IsVerdictWith c offset zero_label file verdict
       → (bits : List Bool) → HasBits verdict bits ↔ IsDealtWith c offset zero_label file bits
   verdict-dealt NoValue is bits = (
     λ h. absurd h,
-    λ dealt. absurd (omega (arith, slice_get_within c.input_widths file.index (length bits) dealt.width)),
+    λ dealt. absurd (omega
+        (arith, slice_get_within c.input_widths file.index (length bits) dealt.width)),
   )
   verdict-dealt WrongWidth is bits = (
     λ h. absurd h,
     λ dealt. is.2 (cc (length-dealt bits dealt, is.1, dealt.width)),
   )
-  verdict-dealt (WrongLabel wire) is bits = (λ h. absurd h, λ dealt. dealt-right bits wire dealt is.1)
+  verdict-dealt (WrongLabel wire) is bits =
+      (λ h. absurd h, λ dealt. dealt-right bits wire dealt is.1)
   verdict-dealt (Bits found) is bits = (
     λ same. subst (IsDealtWith c offset zero_label file) same is,
     λ dealt.
@@ -125,15 +138,18 @@ module _ (c : Netlist) (offset : ℕ) (odd : IsTrue (colour offset)) (zero_label
   pub compared-verdict : {A : Type 0} (verdict : LabelsVerdict A) (first index : ℕ)
       → slice_get c.input_widths file.index ≡ Some (length file.labels)
       → first ≡ first_wire_of c index → index ≡ file.index
-      → AreCompared offset zero_label first file.labels verdict → IsVerdictWith c offset zero_label file verdict
+      → AreCompared offset zero_label first file.labels verdict
+      → IsVerdictWith c offset zero_label file verdict
   compared-verdict NoValue first index width place same is = absurd is
   compared-verdict WrongWidth first index width place same is = absurd is
   compared-verdict (WrongLabel wire) first index width place same is =
       (width, rw (← same, ← place) is)
   compared-verdict (Bits bits) first index width place same is =
-      let labels : file.labels ≡ encoded_with offset zero_label (first_wire_of c file.index) bits.items =
+      let labels : file.labels
+      ≡ encoded_with offset zero_label (first_wire_of c file.index) bits.items =
       rw (← same, ← place) is in
       record {
-        width = width ∙ ap Some (ap length labels ∙ length-encoded_with offset zero_label _ bits.items);
+        width = width ∙ ap Some
+            (ap length labels ∙ length-encoded_with offset zero_label _ bits.items);
         parts = rw (← labels);
       }

@@ -7,4 +7,3 @@ pub mod AuditedFileLemmas
 pub mod CountLemmas
 pub mod DepthLemmas
 pub mod ReadLemmas
-pub mod SizeLemmas

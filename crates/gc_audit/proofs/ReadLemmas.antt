@@ -15,14 +15,18 @@ pub is_read-more : (gates : List Gate) (i : ℕ) (g : Gate) (w : ℕ) → slice_
     (is_read (take i gates) w || reads g.operation w) ≡ is_read (take (i + 1) gates) w
 is_read-more gates i g w at =
     let read = λ (x : Gate). reads x.operation w in
-    rw (list_any_more read gates i g (slice_get_within gates i g at), get_or_from_slice_get gates i g g at)
+    rw (
+      list_any_more read gates i g (slice_get_within gates i g at),
+      get_or_from_slice_get gates i g g at,
+    )
 
 -- A slice that was written back into its vector.
 pub written_back : (n : ℕ) (new rest : List Bool) → length new ≡ n → take n (new ++ rest) ≡ new
 written_back n new rest long = grind (arith, common_steps)
 
 -- all gates
-pub is_read-all : (gates : List Gate) (i n : ℕ) (read : List Bool) → length gates ≤ i → length read ≡ n →
+pub is_read-all : (gates : List Gate) (i n : ℕ) (read : List Bool) → length gates ≤ i
+    → length read ≡ n →
     ((w : ℕ) → w < n → slice_index_or read w false ≡ is_read (take i gates) w) →
     read ≡ map (is_read gates) (range_with_len 0 n)
 is_read-all gates i n read all long each =
@@ -30,14 +34,17 @@ is_read-all gates i n read all long each =
     (λ w below. each w below ∙ ap (λ l. is_read l w) (take_all i gates all))
 
 -- The gate sets a wire that is read,
-pub not_unread-read : (c : Netlist) (g : Gate) → is_read c.gates g.set ≡ true → is_unread c g ≡ false
+pub not_unread-read : (c : Netlist) (g : Gate) → is_read c.gates g.set ≡ true
+    → is_unread c g ≡ false
 not_unread-read c g read = grind arith
 
 -- or an output wire,
-pub not_unread-output : (c : Netlist) (g : Gate) → c.wires ≤ g.set + output_wires c → is_unread c g ≡ false
+pub not_unread-output : (c : Netlist) (g : Gate) → c.wires ≤ g.set + output_wires c
+    → is_unread c g ≡ false
 not_unread-output c g output = grind (arith, nat_tests)
 
 -- or neither.
-pub unread : (c : Netlist) (g : Gate) → is_read c.gates g.set ≡ false → g.set + output_wires c < c.wires →
+pub unread : (c : Netlist) (g : Gate) → is_read c.gates g.set ≡ false
+    → g.set + output_wires c < c.wires →
     is_unread c g ≡ true
 unread c g not_read before = grind (arith, nat_tests)

@@ -7,7 +7,8 @@ use Rattle.gc_audit.proofs.DifferenceLemmas.{differ_first}
 module _ (c : Netlist) (filed garbled : List RowPair) (m : Mismatch)
     (is : IsFirstMismatch filed garbled m) where
   -- what stands at a place
-  at_place : (rows : List RowPair) (p : RowPair) → slice_get rows m.place ≡ Some p → row_at rows m.place ≡ p
+  at_place : (rows : List RowPair) (p : RowPair) → slice_get rows m.place ≡ Some p
+      → row_at rows m.place ≡ p
   at_place rows p there =
       get_or_from_slice_get rows m.place p (record { generator = 0; evaluator = 0 }) there
 

@@ -14,10 +14,11 @@ first_wire_of c index = sum (take index c.input_widths)
 
 -- The garbling has these zero labels on the input wires.
 abbrev pub HasInputLabels : Netlist → GarblingParts → (ℕ → ℕ) → Type 0
-HasInputLabels c g zero_label = (w : ℕ) → w < input_wires c → slice_index g.zero_labels w ≡ zero_label w
+HasInputLabels c g zero_label = (w : ℕ) → w < input_wires c
+    → slice_index g.zero_labels w ≡ zero_label w
 
--- The file is the dealer's for these bits, with an offset and zero labels of the input wires: there is an input value of
--- the file's index, of as many wires as bits, and the file's labels stand for the bits on these wires.
+-- The file is the dealer's for these bits, with an offset and zero labels of the input wires: there is an input value
+-- of the file's index, of as many wires as bits, and the file's labels stand for the bits on these wires.
 pub record IsDealtWith (c : Netlist) (offset : ℕ) (zero_label : ℕ → ℕ) (file : LabelFileParts)
     (bits : List Bool) : Type 0 where
   pub width : slice_get c.input_widths file.index ≡ Some (length bits)

@@ -6,11 +6,8 @@ use Rattle.gc_netlist.specs.declared.gate.Operation.TheVariants.{Xor, And, Inv, 
 use Rattle.gc_netlist.specs.declared.gate.Gate.{Gate}
 use Rattle.gc_netlist.specs.Circuit.{Netlist, IsSet, and_count, output_wires, reads}
 use Rattle.gc_netlist.specs.Solution.{Solves}
-use Rattle.gc_half.specs.Garbling.{GarblingParts, FitsCircuit}
-use Rattle.gc_file.specs.declared.parts.Version.{Version}
 use Rattle.gc_file.specs.declared.parts.Version.TheVariants.{One, Two}
-use Rattle.gc_file.specs.GarbledFile.{garbled_file}
-use Rattle.gc_file.specs.Honest.{honest_parts_with}
+use Rattle.gc_file.specs.Honest.{IsFileSize}
 use Rattle.gc_audit.specs.declared.figures.Stats.{Stats}
 
 -- whether the operation is XOR,
@@ -79,13 +76,6 @@ is_output c w = nat_le c.wires (w + output_wires c)
 -- Whether the gate sets a wire that no gate reads and that is no output wire.
 abbrev pub is_unread : Netlist → Gate → Bool
 is_unread c g = not (is_read c.gates g.set) && not (is_output c g.set)
-
--- The number is that of the bytes of the garbled file of a version, for any garbling with the circuit's counts and any
--- offset, so for the circuit's garbling under any seed.
-abbrev pub IsFileSize : Version → Netlist → ℕ → Type 0
-IsFileSize version c n =
-    (offset : ℕ) (g : GarblingParts) → FitsCircuit c g
-    → n ≡ length (garbled_file (honest_parts_with version c g offset))
 
 -- These are the statistics of the circuit.
 pub record IsStats (c : Netlist) (s : Stats) : Type 0 where

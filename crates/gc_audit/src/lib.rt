@@ -15,7 +15,6 @@ mod garbled;
 mod labels;
 mod laws;
 mod rows;
-mod sizes;
 mod survey;
 
 pub use entries::EntryDifference;
@@ -24,5 +23,4 @@ pub use garbled::{GarbledAudit, PartsAudit, are_counts_right, audit_compared, au
 pub use labels::{LabelsVerdict, audit_labels, audit_labels_with_offset};
 pub use laws::law_audited_files;
 pub use rows::{DifferingRows, RowDifference};
-pub use sizes::garbled_size;
 pub use survey::stats;

@@ -9,9 +9,9 @@ ghost use Rattle.gc_audit.specs.Stats.{IsGreatest, IsStats, depth_rule, and_dept
 use crate::counts::Counts;
 use crate::depths::Depths;
 use crate::figures::Stats;
-use crate::sizes::garbled_size;
 use gc_circuit::{Circuit, Memory, Operation};
 use gc_file::Version;
+use gc_file::sizes::garbled_size;
 use std::alloc::Allocator;
 
 /// What one pass over the gates finds.

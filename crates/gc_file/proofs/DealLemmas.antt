@@ -8,7 +8,8 @@ use Rattle.gc_file.proofs.SizeLemmas.{length-flat_map}
 module _ (offset : ℕ) (zero_label : ℕ → ℕ) where
   pub encoded_with-append : (first : ℕ) (xs ys : List Bool) →
       encoded_with offset zero_label first (xs ++ ys)
-      ≡ encoded_with offset zero_label first xs ++ encoded_with offset zero_label (first + length xs) ys
+      ≡ encoded_with offset zero_label first xs
+      ++ encoded_with offset zero_label (first + length xs) ys
   encoded_with-append first [] ys = ap (λ n. encoded_with offset zero_label n ys) (omega arith)
   encoded_with-append first (x ∷ xs) ys =
       let next : first + suc (length xs) ≡ first + 1 + length xs = omega arith in
@@ -27,7 +28,8 @@ module _ (seed : List ℕ) where
   pub encoded_from-append : (first : ℕ) (xs ys : List Bool) →
       encoded_from first seed (xs ++ ys)
       ≡ encoded_from first seed xs ++ encoded_from (first + length xs) seed ys
-  encoded_from-append first xs ys = encoded_with-append (offset_of seed) (input_label_of seed) first xs ys
+  encoded_from-append first xs ys =
+      encoded_with-append (offset_of seed) (input_label_of seed) first xs ys
 
   -- The bytes of some bits, and of those after them.
   pub label_bytes-append : (first : ℕ) (xs ys : List Bool) {at : ℕ} {zs : List Bool}
@@ -56,7 +58,8 @@ module _ (seed : List ℕ) where
 
 pub length-encoded_from : (first : ℕ) (seed : List ℕ) (bits : List Bool)
     → length (encoded_from first seed bits) ≡ length bits
-length-encoded_from first seed bits = length-encoded_with (offset_of seed) (input_label_of seed) first bits
+length-encoded_from first seed bits =
+    length-encoded_with (offset_of seed) (input_label_of seed) first bits
 
 -- A label file is its header and its labels.
 pub label_file-is : (c : Netlist) (seed : List ℕ) (index : ℕ) (bits : List Bool) (first : ℕ) →

@@ -21,7 +21,8 @@ unfolding number_bytes
 length-number_bytes n = length-bytes_low_first 0 4 n
 
 -- The number whose bytes stand at a place is read there.
-pub number_at-number_bytes : (place n : ℕ) (before after : List ℕ) → length before ≡ place → n < 2 ^ 32
+pub number_at-number_bytes : (place n : ℕ) (before after : List ℕ) → length before ≡ place
+    → n < 2 ^ 32
     → number_at place (before ++ (number_bytes n ++ after)) ≡ n
 unfolding number_at number_bytes
 number_at-number_bytes place n before after at fits =
@@ -43,11 +44,13 @@ number_bytes-number_at place bytes within small =
       get_or-take 4 xs 2 0 (omega arith),
       get_or-take 4 xs 3 0 (omega arith),
     ) in
-    le_bytes_4 (take 4 xs) (little_number 4 xs) (length-take-le 4 xs (omega (arith, length-drop place bytes)))
+    le_bytes_4 (take 4 xs) (little_number 4 xs)
+    (length-take-le 4 xs (omega (arith, length-drop place bytes)))
     (λ i. elim (cases_lt i 4) [
       | inl below ↦ rw (get_or-take 4 xs i 0 below, get_or-drop place bytes i 0) (small (place + i))
       | inr past ↦ rw (get_or_past (take 4 xs) i 0
-          (omega (arith, length-take-le 4 xs (omega (arith, length-drop place bytes))))) (omega arith)
+          (omega (arith, length-take-le 4 xs (omega (arith, length-drop place bytes)))))
+          (omega arith)
     ]) same
 
 -- A number that was read fits into its four bytes.

@@ -11,8 +11,10 @@ use Rattle.gc_file.specs.DecodeBits.{bits_number, bytes_for, packed, bit_in, IsS
 
 bits_number-lt : (bits : List Bool) → bits_number bits < 2 ^ length bits
 bits_number-lt [] = omega arith
-bits_number-lt (true ∷ bits) = let rest = bits_number-lt bits in rw (pow-suc 2 (length bits)) (omega arith)
-bits_number-lt (false ∷ bits) = let rest = bits_number-lt bits in rw (pow-suc 2 (length bits)) (omega arith)
+bits_number-lt (true ∷ bits) = let rest = bits_number-lt bits in
+    rw (pow-suc 2 (length bits)) (omega arith)
+bits_number-lt (false ∷ bits) = let rest = bits_number-lt bits in
+    rw (pow-suc 2 (length bits)) (omega arith)
 
 bit_at-bits_number : (bits : List Bool) (i : ℕ)
     → bit_at (bits_number bits) i ≡ (if get_or bits i false then 1 else 0)
@@ -38,7 +40,8 @@ made_again false = refl
 
 -- Bit i of byte k of the packed bits.
 chunk_bit : (bits : List Bool) (k i : ℕ) → i < 8
-    → bit_at (bits_number (take 8 (drop (8 * k) bits))) i ≡ (if get_or bits (8 * k + i) false then 1 else 0)
+    → bit_at (bits_number (take 8 (drop (8 * k) bits))) i
+    ≡ (if get_or bits (8 * k + i) false then 1 else 0)
 chunk_bit bits k i below =
     bit_at-bits_number (take 8 (drop (8 * k) bits)) i
     ∙ ap (λ b. if b then 1 else 0) (get_or-take 8 (drop (8 * k) bits) i false below
@@ -47,7 +50,8 @@ chunk_bit bits k i below =
 chunk-lt : (bits : List Bool) (k : ℕ) → bits_number (take 8 (drop (8 * k) bits)) < 2 ^ 8
 chunk-lt bits k =
     let number = bits_number-lt (take 8 (drop (8 * k) bits)) in
-    short (length (take 8 (drop (8 * k) bits))) _ (omega (arith, length-take 8 (drop (8 * k) bits))) number
+    short (length (take 8 (drop (8 * k) bits))) _
+    (omega (arith, length-take 8 (drop (8 * k) bits))) number
   where
     short : (n m : ℕ) → n ≤ 8 → m < 2 ^ n → m < 2 ^ 8
     short zero m h l = omega arith
@@ -69,9 +73,12 @@ unfolding packed
 packed-unpacked bytes outputs len small none =
     let bits = map (bit_in bytes) (range_with_len 0 outputs) in
     let count : length bits ≡ outputs = length-map-range_with_len (bit_in bytes) 0 outputs in
-    ap (λ n. map (λ k. bits_number (take 8 (drop (8 * k) bits))) (range_with_len 0 (bytes_for n))) count
-    ∙ sym (fill_by_all (λ k. bits_number (take 8 (drop (8 * k) bits))) bytes (bytes_for outputs) 0 len
-    (λ k within. same_from_bits_below 8 (get_or bytes k 0) (bits_number (take 8 (drop (8 * k) bits)))
+    ap (λ n. map (λ k. bits_number (take 8 (drop (8 * k) bits))) (range_with_len 0 (bytes_for n)))
+    count
+    ∙ sym (fill_by_all (λ k. bits_number (take 8 (drop (8 * k) bits))) bytes
+    (bytes_for outputs) 0 len
+    (λ k within. same_from_bits_below 8 (get_or bytes k 0)
+    (bits_number (take 8 (drop (8 * k) bits)))
     (small k) (chunk-lt bits k)
     (λ i below. bit k i within below ∙ sym (chunk_bit bits k i below))))
   where
@@ -80,7 +87,8 @@ packed-unpacked bytes outputs len small none =
         (8 * k + i) false then 1 else 0)
     bit k i within below = elim (cases_lt (8 * k + i) outputs) [
       | inl there ↦ (
-          let at : get_or (map (bit_in bytes) (range_with_len 0 outputs)) (8 * k + i) false ≡ bit_in bytes
+          let at : get_or (map (bit_in bytes) (range_with_len 0 outputs)) (8 * k + i) false
+          ≡ bit_in bytes
           (8 * k + i) =
           get_or-map-range_with_len (bit_in bytes) 0 outputs (8 * k + i) (8 * k + i) false there
           (omega arith) in
@@ -89,7 +97,8 @@ packed-unpacked bytes outputs len small none =
           rw (at, byte, place) (sym
           (bit_again (bit_at (get_or bytes k 0) i) (bit_at-lt (get_or bytes k 0) i))))
       | inr past ↦ (
-          let at : get_or (map (bit_in bytes) (range_with_len 0 outputs)) (8 * k + i) false ≡ false =
+          let at : get_or (map (bit_in bytes) (range_with_len 0 outputs)) (8 * k + i) false
+          ≡ false =
           get_or_past (map (bit_in bytes) (range_with_len 0 outputs)) (8 * k + i) false
           (omega (arith, length-map-range_with_len (bit_in bytes) 0 outputs)) in
           let last : k ≡ length bytes - 1 = omega arith in
@@ -100,12 +109,14 @@ packed-unpacked bytes outputs len small none =
     ]
 
 -- The bits that bytes have are those that were packed into them.
-pub unpacked-packed : (bits : List Bool) → map (bit_in (packed bits)) (range_with_len 0 (length bits)) ≡ bits
+pub unpacked-packed : (bits : List Bool)
+    → map (bit_in (packed bits)) (range_with_len 0 (length bits)) ≡ bits
 unfolding packed
 unpacked-packed bits =
     sym (fill_by_all (bit_in (packed bits)) bits (length bits) false refl (λ i within.
     let chunk : get_or (packed bits) (i / 8) 0 ≡ bits_number (take 8 (drop (8 * (i / 8)) bits)) =
-    get_or-map-range_with_len (λ k. bits_number (take 8 (drop (8 * k) bits))) 0 (bytes_for (length bits))
+    get_or-map-range_with_len (λ k. bits_number (take 8 (drop (8 * k) bits))) 0
+    (bytes_for (length bits))
     (i / 8) (i / 8) 0 (omega arith) (omega arith) in
     let place : 8 * (i / 8) + i % 8 ≡ i = omega arith in
     let bit = chunk_bit bits (i / 8) (i % 8) (omega arith) in
@@ -126,7 +137,8 @@ packed-not_spare bits spare =
     let part = spare.not_full in
     let last : length (packed bits) - 1 ≡ n / 8 = omega (arith, length-packed bits) in
     let chunk : get_or (packed bits) (n / 8) 0 ≡ bits_number (take 8 (drop (8 * (n / 8)) bits)) =
-    get_or-map-range_with_len (λ k. bits_number (take 8 (drop (8 * k) bits))) 0 (bytes_for n) (n / 8)
+    get_or-map-range_with_len (λ k. bits_number (take 8 (drop (8 * k) bits))) 0 (bytes_for n)
+    (n / 8)
     (n / 8) 0 (omega arith) (omega arith) in
     let size : length (take 8 (drop (8 * (n / 8)) bits)) ≡ n % 8 =
     omega (arith, length-take 8 (drop (8 * (n / 8)) bits), length-drop (8 * (n / 8)) bits) in

@@ -1,7 +1,12 @@
 -- How many bytes the files have.
 use Rattle.gc_file.proofs.WriterNames.{◌≡◌, ℕ, ◌+◌, ◌*◌, ◌^◌, ◌<◌, ◌≤◌, List, [], ◌∷◌, ◌++◌, length, length-append, append_assoc, append-nil, flat_map, refl, sym, ap, arith, sha256, length-sha256, Netlist, canonical_text, GarblingParts, One, Two, EntryPair, bytes_for, GarbledParts, magic, body, row_bytes, entry_bytes, garbled_file, parts_of, length-number_bytes, length-packed, front, IsSmall, parts_one}
 use Rattle.gc_file.specs.declared.parts.Version.{Version}
-use Rattle.gc_file.proofs.ByteLemmas.{length-decode_bits}
+use Rattle.gc_file.proofs.ByteLemmas.{length-decode_bits, length-entry_pairs}
+use Rattle.gc_netlist.specs.Circuit.{IsLawful, and_count, output_wires}
+use Rattle.gc_half.specs.Garbling.{FitsCircuit, decode_bits_of}
+use Rattle.gc_file.specs.GarbledFile.{entry_count}
+use Rattle.gc_file.specs.Honest.{honest_parts_with, version_entries}
+use Rattle.std.proofs.Common.{◌∙◌}
 use Rattle.gc_file.proofs.LabelBytesLemmas.{length-row_bytes, length-entry_bytes}
 
 pub length-flat_map : {X A : Type 0} (f : X → List A) (n : ℕ) → ((x : X) → length (f x) ≡ n)
@@ -55,3 +60,28 @@ pub garbled_file-one : (c : Netlist) (g : GarblingParts) →
     front (parts_one c g) ++ sha256 (front (parts_one c g)) ≡ garbled_file (parts_one c g)
 unfolding garbled_file
 garbled_file-one c g = ap (λ l. l ++ sha256 l) (sym (append-nil (front (parts_one c g))))
+
+-- The entry pairs of a file of a version are as many as it has.
+length-version_entries : (version : Version) (offset : ℕ) (g : GarblingParts) →
+    length (version_entries version offset g) ≡ entry_count version g.outputs
+length-version_entries One offset g = refl
+length-version_entries Two offset g = length-entry_pairs offset g
+
+-- The bytes of a garbling's file, from the numbers of the circuit.
+pub length-honest : (version : Version) (c : Netlist) → IsLawful c
+    → (offset : ℕ) (g : GarblingParts) →
+    FitsCircuit c g →
+    length (garbled_file (honest_parts_with version c g offset))
+    ≡ 48 + 32 * and_count c + bytes_for (output_wires c) + 32 * entry_count version (output_wires c)
+    + 32
+length-honest version c lawful offset g fits =
+    let bits : length (decode_bits_of g) ≡ output_wires c =
+    length-decode_bits g (omega (arith, fits.wires, fits.outputs, lawful.outputs_fit))
+    ∙ fits.outputs in
+    let entries = length-version_entries version offset g ∙ ap (entry_count version) fits.outputs in
+    rw (
+      length-garbled_file (honest_parts_with version c g offset) (length-sha256 (canonical_text c)),
+      fits.and_gates,
+      bits,
+      entries,
+    )

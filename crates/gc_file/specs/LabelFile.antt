@@ -29,7 +29,8 @@ pub record IsLabelFile (bytes : List ℕ) (p : LabelFileParts) : Type 0 where
   pub labels : All IsLabel p.labels
   pub spelled : bytes ≡ label_file p
 
--- The labels that stand for these bits on the wires from the first one on, with an offset and a zero label on each wire.
+-- The labels that stand for these bits on the wires from the first one on, with an offset and a zero label on each
+-- wire.
 abbrev pub encoded_with : ℕ → (ℕ → ℕ) → ℕ → List Bool → List ℕ
 encoded_with offset zero_label first bits =
     map (λ (p : ℕ × Bool). encode offset (zero_label p.0) p.1)

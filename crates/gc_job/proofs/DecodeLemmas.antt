@@ -68,7 +68,8 @@ recognised_more and_gates entries labels i label at known before k l low got =
     ]
 
 -- The labels are compared as far as the next output.
-pub known_more : (and_gates : ℕ) (entries : List EntryPair) (labels : List ℕ) (i known label : ℕ) (is_known : Bool)
+pub known_more : (and_gates : ℕ) (entries : List EntryPair) (labels : List ℕ) (i known label : ℕ)
+    (is_known : Bool)
     → slice_get labels i ≡ Some label
     → (IsTrue is_known ↔ IsRecognised and_gates entries i label)
     → IsKnownUntil and_gates entries labels i known

@@ -3,7 +3,7 @@
 ghost use Rattle.std.specs.Prelude.{◌≡◌, ◌≢◌, ◌≤◌, Some, length, slice_get, IfErr, OnOk, OnErr};
 ghost use Rattle.gc_file.specs.LabelFile.{label_file, label_parts_of};
 ghost use Rattle.gc_file.specs.Written.{IsWritten};
-ghost use Rattle.gc_audit.specs.Stats.{IsFileSize};
+ghost use Rattle.gc_file.specs.Honest.{IsFileSize};
 ghost use Rattle.gc_kept.specs.Files.{IsFileAt, HasRoomFault, HasWriteFault, IsDealtAt, HasDealFault};
 ghost use Rattle.gc_kept.specs.Files.{file_of, IsGarbledAt, HasFileFault};
 
@@ -11,8 +11,7 @@ use crate::bits::read_bits;
 use crate::circuit::KeptCircuit;
 use crate::fault::KeptFault;
 use crate::garbling::KeptGarbling;
-use gc_audit::garbled_size;
-use gc_file::sizes::{LABEL, LABEL_HEADER};
+use gc_file::sizes::{LABEL, LABEL_HEADER, garbled_size};
 use gc_file::{
     MemSink, Version, WriteFault, write_garbled_by_digest, write_garbled2_with_offset, write_labels,
 };

@@ -9,7 +9,6 @@
 mod answer;
 mod four;
 mod jobs;
-mod known;
 mod read;
 mod round;
 mod step;

@@ -4,10 +4,9 @@ ghost use Rattle.std.specs.Prelude.{◌≡◌, ◌+◌, ◌<◌, ◌≤◌, ◌|
 ghost use Rattle.gc_steps.specs.Walks.{IsWithin, batches_left, is_learnt};
 
 use crate::answer::Answer;
-use crate::known::NumberSet;
 use gc_circuit::{Circuit, Gate};
 use gc_half::WaitingGates;
-use gc_workers::Gatehouse;
+use gc_workers::{Gatehouse, NumberSet};
 use std::alloc::{AllocError, Allocator, Global};
 use std::marker::Model;
 
@@ -56,7 +55,7 @@ pub struct Walk<B: Allocator = Global> {
 }
 
 impl<B: Allocator> Model for Walk<B> {
-    ghost use Rattle.std.specs.Prelude.{ℕ, ◌<◌, All, length};
+    ghost use Rattle.std.specs.Prelude.{ℕ, ◌*◌, ◌<◌, ◌≤◌, All, length};
     ghost use Rattle.gc_half.specs.Waiting.{gates_in};
     ghost use Rattle.gc_steps.specs.Walks.{Progress};
 
@@ -70,7 +69,8 @@ impl<B: Allocator> Model for Walk<B> {
     } };
 
     ghost invariant = { λ w. (0 < w.left → w.next < w.gates)
-        × All (λ waits. waits.gate < w.gates) (gates_in w.waiting) };
+        × All (λ waits. waits.gate < w.gates) (gates_in w.waiting)
+        × (w.gates ≤ 64 * length w.known) };
 }
 
 impl<B: Allocator + Copy> Walk<B> {
@@ -86,7 +86,7 @@ impl<B: Allocator + Copy> Walk<B> {
             next: 0,
             left: 0,
             learnt: false,
-            known: NumberSet::none(alloc, gates)?,
+            known: NumberSet::new(alloc, gates)?,
             waiting: WaitingGates::new(),
         })
     }
@@ -192,7 +192,9 @@ impl<B: Allocator> Walk<B> {
         ensures learnt { self.new.learnt ≡ (self.old.learnt || is_learnt answer) }
     {
         if let Answer::Made(_) | Answer::Done(_) = answer {
-            self.known.add(gate);
+            if gate < self.gates {
+                self.known.insert(gate);
+            }
             self.learnt = true;
         }
     }

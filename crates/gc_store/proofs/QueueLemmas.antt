@@ -7,7 +7,7 @@ use Rattle.std.proofs.lemmas.List.Sums.{count_by-le-length}
 use Rattle.std.proofs.Math.ListN.{length-replicate}
 use Rattle.gc_store.specs.declared.mark.Mark.{Mark}
 use Rattle.gc_store.specs.declared.mark.Mark.TheVariants as mark
-use Rattle.gc_store.specs.GateSet.{Has, Adds, Removes}
+use Rattle.gc_workers.specs.NumberSet.{Has, Adds, Removes}
 use Rattle.gc_store.specs.Queue.{Standing, is_busy, freed, with_mark, IsQueue}
 use Rattle.gc_half.proofs.ListLemmas.{one_place, slice_get-replicate, count_by-set, count_by-set_more, count_by-set_less, count_by-replicate, count_by-some}
 

@@ -1,6 +1,6 @@
 -- How far each gate is, and which gates are ready.
 use Rattle.std.specs.Prelude.{◌≡◌, ◌≢◌, ℕ, ◌*◌, ◌^◌, ◌<◌, ◌≤◌, ◌↔◌, Bool, true, false, List, length, count_by, Option, Some, None, slice_get, slice_set}
-use Rattle.gc_store.specs.GateSet.{Has}
+use Rattle.gc_workers.specs.NumberSet.{Has}
 use Rattle.gc_store.specs.declared.mark.Mark.{Mark}
 use Rattle.gc_store.specs.declared.mark.Mark.TheVariants as mark
 

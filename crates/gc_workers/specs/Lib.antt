@@ -1,3 +1,4 @@
 pub mod Workers
 pub mod Counts
+pub mod NumberSet
 pub mod Fault

@@ -1,13 +1,16 @@
 //! What workers that garble or evaluate a circuit together share: how many there may be, the [`Gatehouse`], which observes
-//! them, and, of boards and banks, the states of a gate, why these can't be opened or closed, and sums over lists.
+//! them, sets of numbers, and, of boards and banks, the states of a gate, why these can't be opened or closed, and sums
+//! over lists.
 #![tactic(auto)]
 
 mod fault;
 mod gatehouse;
+mod number_set;
 mod states;
 
 pub use fault::{CloseRefused, OpenFault};
 pub use gatehouse::{Gatehouse, Open, report_all};
+pub use number_set::NumberSet;
 pub use states::{DONE, FREE, IN_HAND};
 
 /// The most workers that garble or evaluate together, seats of a board or of banks, and tallies of a store.

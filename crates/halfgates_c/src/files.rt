@@ -3,7 +3,7 @@
 ghost use Rattle.std.specs.Prelude.{◌≡◌, ◌≢◌, MatchOption, pos, length};
 ghost use Rattle.core.specs.Ptr.{as_ptr, as_mut_ptr};
 ghost use denote.RawPtr.{Testable};
-ghost use Rattle.gc_audit.specs.Stats.{IsFileSize};
+ghost use Rattle.gc_file.specs.Honest.{IsFileSize};
 ghost use Rattle.gc_kept.specs.Version.{version_of};
 ghost use Rattle.gc_kept.specs.Files.{IsDealtAt, IsDealtFrom, IsGarbledAt, HasDealFault, HasDealFaultFrom, HasFileFault};
 ghost use Rattle.gc_kept.specs.Labels.{IsReceivedAt, HasReceivedFault};

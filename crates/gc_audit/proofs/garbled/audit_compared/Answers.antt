@@ -20,7 +20,8 @@ row_difference-requires g c = within c.args.first c.requires.first.1
 pub returns : goal.returns
 returns g c file counts version bits entries compared =
     let a = c.args in
-    compared-audit a.circuit.now a.seed.now c.law_lawful.ensures a.labels.now c.requires.labels file _ counts
+    compared-audit a.circuit.now a.seed.now c.law_lawful.ensures a.labels.now c.requires.labels file
+    _ counts
     (c.row_difference.ensures file.rows (row_pairs_of a.circuit.now a.seed.now) compared)
     (subst (λ l. MatchOption c.audit_bits.result (l ≡ decode_bits_of a.labels.now)
     (DifferFirstAt l (decode_bits_of a.labels.now))) (sym bits) c.audit_bits.ensures)

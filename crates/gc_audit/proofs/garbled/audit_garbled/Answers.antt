@@ -5,6 +5,8 @@ use Rattle.gc_audit.proofs.garbled.audit_garbled.Goals as goal
 pub returns-clause-honest : goal.returns-clause-honest
 returns-clause-honest g c =
     let a = c.args in
-    let right : IsTrue c.eq.result ↔ (a.file.now.digest ≡ sha256 (canonical_text a.circuit.now)) = search rules in
-    finds_none-honest a.circuit.now a.garbling.now a.offset a.file.now c.law_lawful.ensures c.requires.fits _
+    let right : IsTrue c.eq.result ↔ (a.file.now.digest ≡ sha256 (canonical_text a.circuit.now)) =
+    search rules in
+    finds_none-honest a.circuit.now a.garbling.now a.offset a.file.now c.law_lawful.ensures
+    c.requires.fits _
     (record { digest = right; parts = c.audit_parts.ensures })

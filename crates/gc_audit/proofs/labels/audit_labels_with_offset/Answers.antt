@@ -11,7 +11,8 @@ returns-then-filed-width-clause-dealt g c zero_label has =
     let a = c.args in let width = c.in-Some.width.now in let found = c.in-Some.ensures.lookup in
     let at = found_at _ _ c.index-index.result _ width width found.0 found.1 c.input_widths.ensures
     c.index-index.ensures refl in
-    verdict-dealt a.circuit.now a.offset c.label-difference.ensures.coloured zero_label a.file.now {A = ℕ} WrongWidth (
+    verdict-dealt a.circuit.now a.offset c.label-difference.ensures.coloured zero_label a.file.now
+    {A = ℕ} WrongWidth (
       width,
       at,
       λ e.
@@ -28,9 +29,11 @@ verdict g c zero_label has =
     (ap length (sym c.labels-filed.ensures) ∙ c.if-filed-width.false) in
     let first = c.first_wire-first.result in
     IfOk-weaker c.compare.result (AreCompared a.offset zero_label first a.file.now.labels) _
-    (λ v is. compared-verdict a.circuit.now a.offset c.label-difference.ensures.coloured zero_label a.file.now v first c.index-index.result at
+    (λ v is. compared-verdict a.circuit.now a.offset c.label-difference.ensures.coloured zero_label
+    a.file.now v first c.index-index.result at
     c.first_wire-first.ensures c.index-index.ensures is)
-    (subst (λ l. IfOk c.compare.result (AreCompared a.offset zero_label first l)) c.labels-filed.ensures
+    (subst (λ l. IfOk c.compare.result (AreCompared a.offset zero_label first l))
+    c.labels-filed.ensures
     (rw c.label-difference.ensures.same at (c.compare.ensures zero_label has)))
 
 pub returns-clause-verdict : goal.returns-clause-verdict
@@ -40,4 +43,5 @@ pub returns-clause-dealt : goal.returns-clause-dealt
 returns-clause-dealt g c zero_label has =
     let a = c.args in
     IfOk-weaker c.compare.result (IsVerdictWith a.circuit.now a.offset zero_label a.file.now) _
-    (λ v is. verdict-dealt a.circuit.now a.offset c.label-difference.ensures.coloured zero_label a.file.now v is) (verdict g c zero_label has)
+    (λ v is. verdict-dealt a.circuit.now a.offset c.label-difference.ensures.coloured zero_label
+    a.file.now v is) (verdict g c zero_label has)

@@ -5,15 +5,22 @@ use Rattle.gc_audit.proofs.labels.compare.Goals as goal
 pub loop-i-preserved : goal.loop-i-preserved
 loop-i-preserved g c =
     let a = c.args in let i = c.loop-i.i in let label = c.index-filed-i.result in
-    let at = slice_get_read a.filed.now (length a.filed.now) i label refl (omega arith) c.index-filed-i.is in
+    let at = slice_get_read a.filed.now (length a.filed.now) i label refl
+    (omega arith) c.index-filed-i.is in
     record {
       read = λ zero_label has.
-          (encoded-more a.offset zero_label a.first a.filed.now c.loop-i.bits.items _ i label c.in-Some.bit
+          (encoded-more a.offset zero_label a.first a.filed.now c.loop-i.bits.items _ i label
+          c.in-Some.bit
           (c.loop-i.invariant.read zero_label has) c.loop-i.invariant.count at
-          (by_labels a.circuit.now a.offset zero_label a.labels.now has (a.first + i) _ (omega arith)
+          (by_labels a.circuit.now a.offset zero_label a.labels.now has (a.first + i) _
+          (omega arith)
           c.zero_label.ensures label _ c.in-Some.ensures) c.in_ok-push.ensures.items).0;
       count = ap length c.in_ok-push.ensures.items
-          ∙ omega (arith, length-append c.loop-i.bits.items (c.in-Some.bit ∷ []), c.loop-i.invariant.count);
+          ∙ omega (
+            arith,
+            length-append c.loop-i.bits.items (c.in-Some.bit ∷ []),
+            c.loop-i.invariant.count,
+          );
     }
 
 pub returns-in_default : goal.returns-in_default
@@ -25,7 +32,9 @@ returns-in_default g c zero_label has =
       bits = c.loop-i.bits.items;
       before = c.loop-i.invariant.read zero_label has;
       label = label;
-      at = slice_get_read a.filed.now (length a.filed.now) i label refl (omega arith) c.index-filed-i.is;
-      wrong = none_by_labels a.circuit.now a.offset zero_label a.labels.now has (a.first + i) _ (omega arith)
+      at = slice_get_read a.filed.now (length a.filed.now) i label refl
+          (omega arith) c.index-filed-i.is;
+      wrong = none_by_labels a.circuit.now a.offset zero_label a.labels.now has (a.first + i) _
+          (omega arith)
           c.zero_label.ensures label c.in_default.ensures;
     }

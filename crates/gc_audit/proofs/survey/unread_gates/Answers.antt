@@ -10,7 +10,8 @@ use Rattle.gc_audit.proofs.survey.unread_gates.Goals.{then-not-read-gate+then-ga
 pub bounds-read-gate : goal.bounds-read-gate
 bounds-read-gate g c = omega (
   arith,
-  length-table (is_read c.args.circuit.now.gates) c.args.circuit.now.wires c.args.read.now c.requires,
+  length-table (is_read c.args.circuit.now.gates) c.args.circuit.now.wires c.args.read.now
+      c.requires,
   c.wires.ensures.lawful.sets c.loop-i.i c.gate-gate.result c.gate-gate.ensures,
 )
 
@@ -23,14 +24,17 @@ loop-i-preserved g c =
     ∙ read-table (is_read circuit.gates) circuit.wires gate.set false
     (c.wires.ensures.lawful.sets c.loop-i.i gate c.gate-gate.ensures) in
     let outputs_fit = c.wires.ensures.lawful.outputs_fit in
-    count_more (is_unread circuit) circuit.gates c.loop-i.i gate c.loop-i.unread _ c.gate-gate.ensures
+    count_more (is_unread circuit) circuit.gates c.loop-i.i gate c.loop-i.unread _
+    c.gate-gate.ensures
     c.loop-i.invariant (elim c.if-not-read-gate.branch [
       | then-not-read-gate+then-gate-first_output w ↦
-          rw (unread circuit gate (sym in_table ∙ w.if-not-read-gate.true) (omega arith)) w.unread-is
+          rw (unread circuit gate (sym in_table ∙ w.if-not-read-gate.true) (omega arith))
+          w.unread-is
       | else-not-read-gate w ↦ elim w.else-not-read-gate.branch [
         | else-not-read-gate-via-then-not-read-gate+else-gate-first_output v ↦
             rw (not_unread-output circuit gate (omega arith)) (omega arith)
         | else-not-read-gate-via-else-not-read-gate v ↦
-            rw (not_unread-read circuit gate (sym in_table ∙ v.if-not-read-gate.false)) (omega arith)
+            rw (not_unread-read circuit gate (sym in_table ∙ v.if-not-read-gate.false))
+            (omega arith)
       ]
     ])

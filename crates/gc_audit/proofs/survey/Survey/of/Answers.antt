@@ -16,7 +16,8 @@ loop-i-init g c =
     let circuit = c.args.circuit.now in
     let wires = c.wires-wires.result in
     let table = c.in_ok-depths.depths.items in
-    let depths : table ≡ replicate wires none_deep = c.in_ok-depths.ensures.items_if_clones_equal (λ y same. same) in
+    let depths : table ≡ replicate wires none_deep =
+    c.in_ok-depths.ensures.items_if_clones_equal (λ y same. same) in
     let read : c.in_ok-read.read.items ≡ replicate wires false =
     c.in_ok-read.ensures.items_if_clones_equal (λ y same. same) in
     record {
@@ -34,7 +35,8 @@ of-reached-requires-clause-wires g c =
     let long = length-table _ c.args.circuit.now.wires _ c.loop-i.invariant.table in
     EachRead-map (λ w. w < c.args.circuit.now.wires) (λ w. w < length c.deref.result.now)
     c.gate-gate.result.operation (λ w h. omega (arith, long, ap length c.deref.ensures.value, h))
-    (EachRead-below c.args.circuit.now c.wires-wires.ensures.lawful c.loop-i.i c.gate-gate.result c.gate-gate.ensures)
+    (EachRead-below c.args.circuit.now c.wires-wires.ensures.lawful c.loop-i.i c.gate-gate.result
+    c.gate-gate.ensures)
 
 pub index_mut-requires : goal.index_mut-requires
 index_mut-requires g c = omega (
@@ -64,20 +66,30 @@ loop-i-preserved g c =
     (c.mark_read.auto.read ∙ c.deref_mut.ensures.len) in
     record {
       counts = record {
-        xor = count_more (λ x. is_xor x.operation) circuit.gates i gate _ _ at before.counts.xor c.add.ensures.xor;
-        and = count_more (λ x. is_and x.operation) circuit.gates i gate _ _ at before.counts.and c.add.ensures.and;
-        inv = count_more (λ x. is_inv x.operation) circuit.gates i gate _ _ at before.counts.inv c.add.ensures.inv;
-        eq = count_more (λ x. is_eq x.operation) circuit.gates i gate _ _ at before.counts.eq c.add.ensures.eq;
-        eqw = count_more (λ x. is_eqw x.operation) circuit.gates i gate _ _ at before.counts.eqw c.add.ensures.eqw;
+        xor = count_more (λ x. is_xor x.operation) circuit.gates i gate _ _ at before.counts.xor
+            c.add.ensures.xor;
+        and = count_more (λ x. is_and x.operation) circuit.gates i gate _ _ at before.counts.and
+            c.add.ensures.and;
+        inv = count_more (λ x. is_inv x.operation) circuit.gates i gate _ _ at before.counts.inv
+            c.add.ensures.inv;
+        eq = count_more (λ x. is_eq x.operation) circuit.gates i gate _ _ at before.counts.eq
+            c.add.ensures.eq;
+        eqw = count_more (λ x. is_eqw x.operation) circuit.gates i gate _ _ at before.counts.eqw
+            c.add.ensures.eqw;
       };
-      table = table_step depths_rule depths_local circuit lawful (λ w. none_deep) table i gate none_deep reached
+      table = table_step depths_rule depths_local circuit lawful
+          (λ w. none_deep) table i gate none_deep reached
           before.table at found;
-      depth = deepest_more circuit lawful i gate at table place (λ d. d.depth) reached _ _ before.depth
-          (rw found (depth_of-le (λ w. (depths_in table w).depth) gate.operation _ before.depth.most).0)
+      depth = deepest_more circuit lawful i gate at table place
+          (λ d. d.depth) reached _ _ before.depth
+          (rw found (depth_of-le
+          (λ w. (depths_in table w).depth) gate.operation _ before.depth.most).0)
           c.max-deepest.ensures.depth;
-      and_depth = deepest_more circuit lawful i gate at table place (λ d. d.and_depth) reached _ _ before.and_depth
+      and_depth = deepest_more circuit lawful i gate at table place
+          (λ d. d.and_depth) reached _ _ before.and_depth
           (rw found
-          (depth_of-le (λ w. (depths_in table w).and_depth) gate.operation _ before.and_depth.most).1)
+          (depth_of-le (λ w. (depths_in table w).and_depth) gate.operation _
+          before.and_depth.most).1)
           c.max-deepest.ensures.and_depth;
       long = ap length back ∙ same_length ∙ before.long;
       read = λ w below. ap (λ t. slice_index_or t w false) back
@@ -89,14 +101,18 @@ loop-i-preserved g c =
 
 pub returns-clause-depth : goal.returns-clause-depth
 returns-clause-depth g c =
-    deepest_all c.args.circuit.now c.wires-wires.ensures.lawful c.loop-i.i c.loop-i.depths.items (λ d. d.depth)
-    (omega (arith, c.gates-i-end.ensures.count)) c.loop-i.invariant.table depth_rule refl (λ on k gate. refl)
+    deepest_all c.args.circuit.now c.wires-wires.ensures.lawful c.loop-i.i c.loop-i.depths.items
+    (λ d. d.depth)
+    (omega (arith, c.gates-i-end.ensures.count)) c.loop-i.invariant.table depth_rule refl
+    (λ on k gate. refl)
     c.loop-i.deepest.depth c.loop-i.invariant.depth
 
 pub returns-clause-and_depth : goal.returns-clause-and_depth
 returns-clause-and_depth g c =
-    deepest_all c.args.circuit.now c.wires-wires.ensures.lawful c.loop-i.i c.loop-i.depths.items (λ d. d.and_depth)
-    (omega (arith, c.gates-i-end.ensures.count)) c.loop-i.invariant.table and_depth_rule refl (λ on k gate. refl)
+    deepest_all c.args.circuit.now c.wires-wires.ensures.lawful c.loop-i.i c.loop-i.depths.items
+    (λ d. d.and_depth)
+    (omega (arith, c.gates-i-end.ensures.count)) c.loop-i.invariant.table and_depth_rule refl
+    (λ on k gate. refl)
     c.loop-i.deepest.and_depth c.loop-i.invariant.and_depth
 
 pub returns-clause-read : goal.returns-clause-read

@@ -4,7 +4,8 @@ use Rattle.gc_file.proofs.DealLemmas.{label_bytes-next, label_bytes-rest}
 use Rattle.gc_file.proofs.WritingLemmas.{Wrote-more, Wrote-exit}
 use Rattle.gc_file.proofs.deal.FileWriter+Unobserved.write_labels.Goals as goal
 
-pub returns-in_err-write_some_labels-clause-bytes : goal.returns-in_err-write_some_labels-clause-bytes
+pub returns-in_err-write_some_labels-clause-bytes
+    : goal.returns-in_err-write_some_labels-clause-bytes
 returns-in_err-write_some_labels-clause-bytes g c =
     let seed = c.args.seed.now in let first = c.args.first in let bits = c.args.bits.now in
     let done = c.loop-done.done in let next = c.min-next.result in

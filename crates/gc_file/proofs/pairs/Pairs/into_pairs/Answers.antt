@@ -6,4 +6,5 @@ use Rattle.gc_file.proofs.pairs.Pairs.into_pairs.Goals as goal
 pub returns-clause-bytes : goal.returns-clause-bytes
 returns-clause-bytes g c =
     whole_pairs (bytes_by g.P.LabelPair.labels) (length-bytes_by g.P.LabelPair.labels)
-    c.self.inside.pairs.items c.self.inside.partial.items _ c.self.view_is c.self.invariant.0 c.requires
+    c.self.inside.pairs.items c.self.inside.partial.items _ c.self.view_is c.self.invariant.0
+    c.requires

@@ -1,8 +1,8 @@
 use Rattle.std.proofs.Common.{◌≡◌, ◌/◌, ◌%◌, ap, ◌∙◌, arith}
 use Rattle.gc_netlist.specs.Circuit.{output_wires}
 use Rattle.gc_file.specs.GarbledFile.{entry_count}
-use Rattle.gc_audit.proofs.SizeLemmas.{length-honest}
-use Rattle.gc_audit.proofs.sizes.garbled_size.Goals as goal
+use Rattle.gc_file.proofs.SizeLemmas.{length-honest}
+use Rattle.gc_file.proofs.sizes.garbled_size.Goals as goal
 
 pub returns : goal.returns
 returns g c = λ offset garbling fits.
