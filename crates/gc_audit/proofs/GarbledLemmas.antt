@@ -10,7 +10,7 @@ use Rattle.gc_audit.specs.declared.garbled.PartsAudit.{PartsAudit}
 use Rattle.gc_audit.specs.Garbled.{AreCountsRight, IsPartsAudit, IsPartsAuditWith, IsGarbledAuditWith, honest_audit}
 use Rattle.gc_audit.proofs.DifferenceLemmas.{differ_first, none_found}
 
--- The entry pair of an output stands at its place.
+-- The entry pair of an output is at its place.
 pub pair_at_output : (offset : ℕ) (g : GarblingParts) (i : ℕ) → i < g.outputs →
     slice_get (entry_pairs_of offset g) i ≡ Some (entry_pair_of offset g i)
 pair_at_output offset g i below =

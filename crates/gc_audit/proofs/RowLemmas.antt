@@ -6,7 +6,7 @@ use Rattle.gc_audit.proofs.DifferenceLemmas.{differ_first}
 
 module _ (c : Netlist) (filed garbled : List RowPair) (m : Mismatch)
     (is : IsFirstMismatch filed garbled m) where
-  -- what stands at a place
+  -- what is at a place
   at_place : (rows : List RowPair) (p : RowPair) → slice_get rows m.place ≡ Some p
       → row_at rows m.place ≡ p
   at_place rows p there =

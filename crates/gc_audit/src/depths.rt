@@ -31,8 +31,8 @@ impl Depths {
         }
     }
 
-    /// The depths of the wire that an operation sets, from those of all wires. That the operation reads wires, whose
-    /// depths are below the greatest number, is the caller's condition.
+    /// The depths of the wire that an operation sets, from those of all wires. The caller ensures that the operation
+    /// reads wires, whose depths are below the greatest number.
     pub(crate) fn of(table: &[Depths], operation: Operation) -> Depths
         requires wires { EachRead (λ w. w < length table.now) operation }
         requires shallow { EachRead (λ w. AreBelow u32.MAX (depths_in table.now w)) operation }

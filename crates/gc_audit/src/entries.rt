@@ -22,8 +22,8 @@ pub struct EntryDifference {
     pub colour: bool,
 }
 
-/// The first of a file's entries that is not the garbling's. A file of version 1 has none. That the garbling fits the
-/// circuit, and that there are as many entry pairs as the version asks for, are the caller's conditions.
+/// The first of a file's entries that is not the garbling's. A file of version 1 has none. The caller ensures that the
+/// garbling fits the circuit, and that there are as many entry pairs as the version asks for.
 pub(crate) fn audit_entries<A: Allocator, B: Allocator>(
     circuit: &Circuit<A>,
     garbling: &Garbling<B>,
@@ -43,8 +43,8 @@ pub(crate) fn audit_entries<A: Allocator, B: Allocator>(
 }
 
 /// The first of the entries that is not the garbling's. Those of four outputs are hashed at once, and those of the last
-/// ones by themselves. That the garbling fits the circuit, and that there is an entry pair for each output, are the
-/// caller's conditions.
+/// ones by themselves. The caller ensures that the garbling fits the circuit, and that there is an entry pair for each
+/// output.
 fn audit_pairs<A: Allocator, B: Allocator>(
     circuit: &Circuit<A>,
     garbling: &Garbling<B>,

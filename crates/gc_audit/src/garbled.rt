@@ -110,7 +110,7 @@ fn audit_parts<A: Allocator, B: Allocator, C: Allocator>(
 /// before: `first` is the first that is not the garbling's. `labels` has the garbling's zero labels.
 ///
 /// The counts of the file are right, as [`are_counts_right`] says, and it has this version, these decode bits and these
-/// entry pairs: these are the caller's conditions. It takes no memory.
+/// entry pairs: these are the caller's conditions. It doesn't allocate.
 pub fn audit_compared<A: Allocator, B: Allocator>(
     circuit: &Circuit<A>,
     labels: &Garbling<B>,
@@ -146,7 +146,7 @@ pub fn are_counts_right<A: Allocator, B: Allocator>(circuit: &Circuit<A>, file: 
         && file.entries().len() == file.version().entry_count(circuit.output_wires()) as usize
 }
 
-/// The first output whose decode bit is not the garbling's. That there are as many is the caller's condition.
+/// The first output whose decode bit is not the garbling's. The caller ensures that there are as many.
 fn audit_bits<A: Allocator>(garbling: &Garbling<A>, bits: &[bool]) -> Option<u32>
     requires { length bits.now ≡ garbling.now.outputs }
     ensures { MatchOption result (bits.now ≡ decode_bits_of garbling.now)

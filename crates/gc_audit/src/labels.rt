@@ -32,7 +32,7 @@ pub enum LabelsVerdict<A: Allocator = Global> {
 /// the circuit, the seed and these bits.
 ///
 /// `labels` has the zero labels of the circuit's garbling under the seed: this is the caller's condition. It allocates
-/// once, for the bits; `Memory` stands in place of a verdict only where this was refused.
+/// once, for the bits; `Memory` replaces a verdict only where this was refused.
 pub fn audit_labels<A: Allocator, B: Allocator, C: Allocator, D: Allocator>(
     alloc: A,
     circuit: &Circuit<B>,
@@ -80,8 +80,7 @@ pub fn audit_labels_with_offset<A: Allocator, B: Allocator, C: Allocator, D: All
 }
 
 /// The bits that the filed labels stand for on the input wires from the first one on, or the first wire whose label
-/// stands for none. That `labels` has a zero label for each wire, and that these are input wires, are the caller's
-/// conditions.
+/// stands for none. The caller ensures that `labels` has a zero label for each wire, and that these are input wires.
 fn compare<A: Allocator, B: Allocator, C: Allocator>(
     alloc: A,
     circuit: &Circuit<B>,

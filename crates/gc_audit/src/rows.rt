@@ -35,7 +35,7 @@ pub struct RowDifference {
     pub rows: DifferingRows,
 }
 
-/// The first row pair of a file that is not the garbling's. That there are as many is the caller's condition.
+/// The first row pair of a file that is not the garbling's. The caller ensures that there are as many.
 pub(crate) fn first_mismatch(garbled: &[RowPair], filed: &[RowPair]) -> Option<Mismatch>
     requires { length filed.now ≡ length garbled.now }
     ensures { MatchOption result (filed.now ≡ garbled.now)
@@ -54,8 +54,8 @@ pub(crate) fn first_mismatch(garbled: &[RowPair], filed: &[RowPair]) -> Option<M
     None
 }
 
-/// The AND gate of the first row pair that is not the garbling's. That it is compared with the garbling's row pairs, of
-/// which there is one for each AND gate, is the caller's condition.
+/// The AND gate of the first row pair that is not the garbling's. The caller ensures that it is compared with the
+/// garbling's row pairs, of which there is one for each AND gate.
 pub(crate) fn row_difference<A: Allocator>(
     circuit: &Circuit<A>,
     first: Option<Mismatch>,
@@ -85,7 +85,7 @@ fn differing_rows(filed: RowPair, garbled: RowPair) -> Option<DifferingRows>
     }
 }
 
-/// The difference at the AND gate with this number. That there is one is the caller's condition.
+/// The difference at the AND gate with this number. The caller ensures that there is one.
 fn difference_at<A: Allocator>(
     circuit: &Circuit<A>,
     number: u32,
@@ -105,8 +105,8 @@ fn difference_at<A: Allocator>(
     }
 }
 
-/// The place in the file of the AND gate with this number. That there is one is the caller's condition. It goes through
-/// the gates once.
+/// The place in the file of the AND gate with this number. The caller ensures that there is one. It goes through the
+/// gates once.
 fn and_gate<A: Allocator>(circuit: &Circuit<A>, number: u32) -> u32
     requires { number < and_count circuit.now }
     ensures bound { result < length circuit.now.gates }

@@ -86,7 +86,7 @@ fn unread_gates<C: Allocator>(circuit: &Circuit<C>, read: &[bool]) -> u32
 }
 
 /// The statistics of a circuit, from two passes over its gates. It takes nine bytes of memory for each wire, in two
-/// growths, and keeps none.
+/// allocations, and keeps none.
 pub fn stats<A: Allocator + Copy, C: Allocator>(
     alloc: A,
     circuit: &Circuit<C>,

@@ -45,7 +45,7 @@ bits_number-last bits first i bit at low =
     cases false rest = refl
     cases true rest = refl
 
--- What stands in each byte.
+-- What is in each byte.
 pub packed-at : (bits : List Bool) (k d : ℕ) → k < bytes_for (length bits) →
     get_or (packed bits) k d ≡ bits_number (take 8 (drop (8 * k) bits))
 unfolding packed

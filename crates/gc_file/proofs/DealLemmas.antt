@@ -87,7 +87,7 @@ length-label_file c seed index bits =
       length-encoded_from (sum (take index c.input_widths)) seed bits,
     )
 
--- The wires of an input value stand before the number of wires.
+-- The wires of an input value come before the number of wires.
 pub first_wire-room : (c : Netlist) → IsLawful c → (index width : ℕ)
     → slice_get c.input_widths index ≡ Some width →
     sum (take index c.input_widths) + width ≤ MAX_WIRES

@@ -6,7 +6,7 @@ use Rattle.gc_file.proofs.PairLemmas.{length-pairs}
 use Rattle.gc_file.proofs.PlaceLemmas.{begins}
 use Rattle.gc_file.proofs.PackLemmas.{packed-unpacked}
 
--- Two pieces that stand one after the other.
+-- Two pieces that follow one another.
 pub take_plus : {X : Type 0} (a b : ℕ) (xs : List X)
     → take a xs ++ take b (drop a xs) ≡ take (a + b) xs
 take_plus a b xs = sym (take-add a b xs)

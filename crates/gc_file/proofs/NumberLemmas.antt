@@ -20,7 +20,7 @@ pub length-number_bytes : (n : ℕ) → length (number_bytes n) ≡ 4
 unfolding number_bytes
 length-number_bytes n = length-bytes_low_first 0 4 n
 
--- The number whose bytes stand at a place is read there.
+-- The number whose bytes are at a place is read there.
 pub number_at-number_bytes : (place n : ℕ) (before after : List ℕ) → length before ≡ place
     → n < 2 ^ 32
     → number_at place (before ++ (number_bytes n ++ after)) ≡ n

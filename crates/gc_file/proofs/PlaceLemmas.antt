@@ -1,4 +1,4 @@
--- Where the parts of a garbled file stand, and what is wrong with them.
+-- Where the parts of a garbled file are, and what is wrong with them.
 use Rattle.gc_file.proofs.ReaderNames.{◌≡◌, ℕ, ◌+◌, ◌-◌, ◌%◌, ◌<◌, ◌≤◌, List, ◌++◌, length, take, slice_index, refl, sym, ◌∙◌, append_assoc, length-append, arith, LongSha256, sha256, SpareBits, BadTrailer, Trailing, Version, One, Two, IsSpare, magic, IsBegun, row_count, output_count, decode_end, entries_end, trailer_end, IsTrailerRight, HasHeader, HasSpareBit, HasDecodeBits, LastingFault, spare_bits, bad_trailer, trailing, IsHeaderInOrder, IsInOrder, version_of, row_size, decode_size, entry_size, IsFilled, IsBody, number_at-append}
 use Rattle.std.proofs.lemmas.List.{take-append-le, take_at, drop_at, take_all, get_or-append-add, get_or_append_left}
 

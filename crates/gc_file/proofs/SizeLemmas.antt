@@ -48,7 +48,7 @@ garbled_file-size version c g entries small few = omega (
   small.outputs,
 )
 
--- A garbled file is what stands before its entries, its entries and its trailer.
+-- A garbled file is what comes before its entries, its entries and its trailer.
 pub garbled_file-front : (p : GarbledParts)
     → front p ++ (flat_map entry_bytes p.entries ++ sha256 (body p)) ≡ garbled_file p
 unfolding garbled_file

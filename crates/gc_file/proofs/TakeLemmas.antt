@@ -18,7 +18,7 @@ abbrev pub fed_length : Fed → ℕ
 fed_length (Ok bytes) = length bytes
 fed_length (Err e) = 0
 
--- What is answered of the bytes given is answered of all.
+-- What is returned of the bytes given is returned of all.
 answer_of_all : (given left bytes : List ℕ) (result : Result GarbledParts TakeFault)
     → bytes ≡ given ++ left → IsAnswer given (Some left) result → IsAnswerOfAll bytes result
 answer_of_all given left bytes (Ok parts) all (file, at_end) = rw (all, at_end, append-nil) file

@@ -23,8 +23,7 @@ decode_size header = bytes_for (output_count header)
 abbrev pub entry_size : List ℕ → ℕ
 entry_size header = 32 * entry_count (version_of header) (output_count header)
 
--- The four parts after a header have no more bytes than these, and none before the parts that stand before it are
--- whole.
+-- The four parts after a header have no more bytes than these, and none before the parts that come before it are whole.
 pub record IsFilled (row_size decode_size entry_size : ℕ)
     (rows decode entries trailer : List ℕ) : Type 0 where
   pub rows_fit : length rows ≤ row_size

@@ -9,8 +9,8 @@ abbrev pub bits_number : List Bool → ℕ
 bits_number [] = 0
 bits_number (bit ∷ bits) = (if bit then 1 else 0) + 2 * bits_number bits
 
--- The bytes of these bits: bit i stands at place i mod 8, 0 the lowest, of byte i / 8. The places of the last byte that
--- are left over are 0.
+-- The bytes of these bits: bit i is at place i mod 8, 0 the lowest, of byte i / 8. The places of the last byte that are
+-- left over are 0.
 unfoldable pub packed : List Bool → List ℕ
 packed bits =
     map (λ k. bits_number (take 8 (drop (8 * k) bits)))

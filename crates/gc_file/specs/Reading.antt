@@ -1,4 +1,4 @@
--- What readers of files answer.
+-- What readers of files return.
 use Rattle.std.specs.Prelude.{◌≡◌, ◌≢◌, ℕ, ◌≤◌, List, ◌++◌, length, Result, Ok, Err}
 use Rattle.gc_netlist.specs.declared.limits.TheConstants.{MAX_WIRES}
 use Rattle.gc_file.specs.declared.fault.FileFault.{FileFault}
@@ -28,12 +28,12 @@ abbrev pub IsLabelsChecked : List ℕ → Result (Unit {0}) FileFault → Type 0
 IsLabelsChecked bytes (Ok done) = IsLabelForm bytes
 IsLabelsChecked bytes (Err e) = FirstLabelFault bytes e
 
--- A reader of pieces is seen as the bytes that it was fed, which are sound, or as the fault that it answers from then
+-- A reader of pieces is seen as the bytes that it was fed, which are sound, or as the fault that it returns from then
 -- on.
 abbrev pub Fed : Type 0
 Fed = Result (List ℕ) FileFault
 
--- A piece is fed to a reader: this answer, and the reader afterwards.
+-- A piece is fed to a reader: this result, and the reader afterwards.
 abbrev pub IsFed : Fed → List ℕ → Result (Unit {0}) FileFault → Fed → Type 0
 IsFed (Err fault) piece answer after = (answer ≡ Err fault) × (after ≡ Err fault)
 IsFed (Ok bytes) piece (Ok done) after = (after ≡ Ok (bytes ++ piece)) × IsSound (bytes ++ piece)

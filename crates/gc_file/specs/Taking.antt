@@ -24,7 +24,7 @@ abbrev pub text_of : TakeFault → List ℕ
 text_of (File fault) = faults.name_of fault
 text_of (ReadFault got) = codes "ReadFault after " ++ decimal got ++ codes " bytes"
 
--- What is answered of the bytes that a source gave, with the bytes that it has left. A fault of the file is one that no
+-- What is returned of the bytes that a source gave, with the bytes that it has left. A fault of the file is one that no
 -- further bytes can mend, or none are left; a source that failed gave `got` bytes, which are in order as far as they
 -- go.
 abbrev pub IsAnswer : List ℕ → Option (List ℕ) → Result GarbledParts TakeFault → Type 0
@@ -33,21 +33,21 @@ IsAnswer given left (Err (File fault)) = fault ≢ Memory
     → LastingFault given fault ⊎ (FirstFault given fault × IsAtEnd left)
 IsAnswer given left (Err (ReadFault got)) = IsSound given × (got ≡ counted (length given))
 
--- A garbled file is taken from a source: which bytes the source gave, and what is answered of them.
+-- A garbled file is taken from a source: which bytes the source gave, and what is returned of them.
 pub record IsTaken (old new : Option (List ℕ))
     (result : Result GarbledParts TakeFault) : Type 0 where
   pub given : List ℕ
   pub consumed : Consumes old new given
   pub answer : IsAnswer given new result
 
--- What is answered of all the bytes that a source had, where they are known: what is answered where they are read,
+-- What is returned of all the bytes that a source had, where they are known: what is returned where they are read,
 -- unless the source failed.
 abbrev pub IsAnswerOfAll : List ℕ → Result GarbledParts TakeFault → Type 0
 IsAnswerOfAll bytes (Ok parts) = IsGarbledFile bytes parts
 IsAnswerOfAll bytes (Err (File fault)) = fault ≢ Memory → FirstFault bytes fault
 IsAnswerOfAll bytes (Err (ReadFault got)) = Unit {0}
 
--- The source failed once more where that is answered, and otherwise not.
+-- The source failed once more where that is returned, and otherwise not.
 abbrev pub CountsReadFault : {T : Type 0} → Result T TakeFault → ℕ → ℕ → Type 0
 CountsReadFault (Ok parts) old new = new ≡ old
 CountsReadFault (Err (File fault)) old new = new ≡ old

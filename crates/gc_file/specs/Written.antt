@@ -12,7 +12,7 @@ use Rattle.gc_file.specs.declared.writer.WriteFault.{WriteFault}
 use Rattle.gc_file.specs.DecodeBits.{packed}
 use Rattle.gc_file.specs.GarbledFile.{GarbledParts, parts_of, header, row_bytes}
 
--- The sink took the whole file, and its length is the answer; or it took the first `sent` bytes of it, which are not
+-- The sink took the whole file, and its length is the result; or it took the first `sent` bytes of it, which are not
 -- all, and no others. `old` and `new` are the bytes that it has taken, where they are known.
 abbrev pub IsWritten : List ℕ → Result ℕ WriteFault → Option (List ℕ) → Option (List ℕ) → Type 0
 IsWritten file (Ok n) old new = (n ≡ length file) × Appends old new file

@@ -67,8 +67,8 @@ impl FileWriter<Unobserved> {
     }
 }
 
-/// The first wire of the input value with this index: the sum of the widths of the values before it. That there are at
-/// least as many values is the caller's condition.
+/// The first wire of the input value with this index: the sum of the widths of the values before it. The caller ensures
+/// that there are at least as many values.
 pub fn first_wire<A: Allocator>(circuit: &Circuit<A>, index: usize) -> u32
     requires { index ≤ length circuit.now.input_widths }
     ensures { result ≡ sum (take index circuit.now.input_widths) }
@@ -87,8 +87,8 @@ fn sum_of(widths: &[u32]) -> u32
 
 /// Writes the label file of the input value with this index to the sink and returns how many bytes it has: for each of
 /// the value's wires, in wire order, the label that stands for its bit, which is the wire's zero label plus the bit
-/// times the offset of the seed. That there is such a value, and that the bits have its width, are the caller's
-/// conditions. It takes no memory but what the sink takes.
+/// times the offset of the seed. The caller ensures that there is such a value, and that the bits have its width. It
+/// doesn't allocate but what the sink takes.
 ///
 /// Where the sink fails, it has taken the first `sent` bytes of the file, and no others.
 pub fn write_labels<S: Sink, A: Allocator>(

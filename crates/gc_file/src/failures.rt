@@ -5,8 +5,8 @@ ghost use Rattle.std.specs.Prelude.{◌≡◌, ◌+◌};
 use std::marker::Model;
 use std::snapshot::Snapshot;
 
-/// How often something outside the program has failed, as contracts see it: a number. No code holds it and it
-/// has no last value; it is there to say that an answer had a cause. It takes no memory.
+/// How often something outside the program has failed, as contracts see it: a number. No code holds it and it has no
+/// last value; it is there to say that a result had a cause. It doesn't allocate.
 #[derive(Drop)]
 pub struct FailureCount {
     history: History,

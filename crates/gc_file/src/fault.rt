@@ -7,8 +7,8 @@ use std::alloc::{AllocError, AllocFailed};
 use std::error::Error;
 use std::fmt;
 
-/// Why bytes are no file: the first fault in their order. `Memory` stands in place of a later fault, or of the file,
-/// only where a growth was refused.
+/// Why bytes are no file: the first fault in their order. `Memory` replaces a later fault, or the file, only where an
+/// allocation was refused.
 #[derive(Clone, Copy, Debug, PartialEq, Eq)]
 pub enum FileFault {
     /// The first bytes are not those of the format.

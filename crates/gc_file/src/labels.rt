@@ -37,7 +37,7 @@ impl<A: Allocator> Model for LabelFile<A> {
 }
 
 impl<A: Allocator> LabelFile<A> {
-    /// The index of the input value. Any number may stand in a file.
+    /// The index of the input value. A file may have any number.
     pub fn index(&self) -> u32
         ensures { result ≡ self.now.index }
     {
@@ -52,8 +52,8 @@ impl<A: Allocator> LabelFile<A> {
     }
 }
 
-/// The labels whose bytes these are, 16 bytes each. It allocates once. That the bytes are those of whole labels is the
-/// caller's condition.
+/// The labels whose bytes these are, 16 bytes each. It allocates once. The caller ensures that the bytes are those of
+/// whole labels.
 pub fn labels_from_bytes<A: Allocator>(alloc: A, bytes: &[u8]) -> Result<Vec<Label, A>, FileFault>
     requires { length bytes.now % 16 ≡ 0 }
     ensures bytes { IfOk result (λ v. flat_map bytes_of_label v.items ≡ bytes.now) }
@@ -91,9 +91,9 @@ fn check_labels(bytes: &[u8]) -> Result<(), FileFault>
     }
 }
 
-/// Reads a label file. The answer is the file exactly where the bytes are one, and otherwise their first fault;
-/// `Memory` stands in place of the file only where a growth was refused. Whether there is an input value of this index,
-/// with as many wires, is not checked.
+/// Reads a label file. Returns the file exactly where the bytes are one, and otherwise their first fault; `Memory`
+/// replaces the file only where an allocation was refused. Whether there is an input value of this index, with as many
+/// wires, is not checked.
 pub fn read_labels<A: Allocator>(alloc: A, bytes: &[u8]) -> Result<LabelFile<A>, FileFault>
     ensures { IsLabelsRead bytes.now result }
 {

@@ -5,7 +5,7 @@ ghost use Rattle.gc_file.specs.Number as numbers;
 
 use byteorder::{ByteOrder, LittleEndian};
 
-/// The number in the four bytes from a place on, the lowest first. That there are four is the caller's condition.
+/// The number in the four bytes from a place on, the lowest first. The caller ensures that there are four.
 #[tactic(auto, unfolding(crate::specs::Number::number_at))]
 pub fn number_at(place: usize, bytes: &[u8]) -> u32
     requires { place + 4 ≤ length bytes.now }

@@ -15,7 +15,7 @@ use gc_label::Label;
 use std::alloc::Allocator;
 use std::marker::Model;
 
-/// Two labels that stand one after the other in a file.
+/// Two labels that follow one another in a file.
 pub(crate) trait LabelPair: Copy {
     // The labels of the pair.
     ghost labels: { Self → ℕ × ℕ };
@@ -68,8 +68,8 @@ fn pair_from_bytes<P: LabelPair>(bytes: &[u8]) -> P
     P::from_labels(label_from_bytes(first), label_from_bytes(second))
 }
 
-/// The row pairs whose bytes these are, 32 bytes each: the generator's row, and then the evaluator's. It allocates once.
-/// That the bytes are those of whole row pairs is the caller's condition.
+/// The row pairs whose bytes these are, 32 bytes each: the generator's row, and then the evaluator's. It allocates
+/// once. The caller ensures that the bytes are those of whole row pairs.
 pub fn rows_from_bytes<A: Allocator>(alloc: A, bytes: &[u8]) -> Result<Vec<RowPair, A>, FileFault>
     requires { length bytes.now % 32 ≡ 0 }
     ensures bytes { IfOk result (λ v. flat_map row_bytes v.items ≡ bytes.now) }

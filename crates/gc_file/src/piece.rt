@@ -26,7 +26,7 @@ pub(crate) fn append<const N: usize>(room: &mut ArrayVec<u8, N>, bytes: &[u8])
 }
 
 /// Makes room for more items, where there is none: at least as much again as there was, and for no more than `most`
-/// items in all where these are enough. So a growth never needs more room than twice what `most` items take.
+/// items in all where these are enough. So an allocation never needs more room than twice what `most` items take.
 pub(crate) fn make_room<T, A: Allocator>(
     items: &mut Vec<T, A>,
     more: usize,

@@ -28,7 +28,7 @@ enum State<A: Allocator> {
 }
 
 /// Reads a garbled file from pieces of any size. Until the trailer is found right nothing of the file is given out. A
-/// count in the header takes no memory by itself: room is made as the bytes come.
+/// count in the header doesn't allocate by itself: room is made as the bytes come.
 #[derive(Drop)]
 pub struct GarbledReader<A: Allocator = Global> {
     alloc: A,
@@ -85,7 +85,7 @@ fn advance<A: Allocator + Copy>(
 }
 
 impl<A: Allocator + Copy> GarbledReader<A> {
-    /// A reader that was fed nothing. It takes no memory.
+    /// A reader that was fed nothing. It doesn't allocate.
     pub fn new(alloc: A) -> GarbledReader<A>
         ensures { result ≡ Ok [] }
     {
@@ -95,9 +95,9 @@ impl<A: Allocator + Copy> GarbledReader<A> {
         }
     }
 
-    /// Takes the next bytes of the file. The answer is Ok exactly where all bytes so far are in order as far as they
-    /// go, and otherwise their first fault, however they were cut into pieces; `Memory` stands in place of either only
-    /// where a growth was refused. A fault is answered again from then on.
+    /// Takes the next bytes of the file. Returns Ok exactly where all bytes so far are in order as far as they go, and
+    /// otherwise their first fault, however they were cut into pieces; `Memory` replaces either only where an
+    /// allocation was refused. A fault is returned again from then on.
     pub fn feed(&mut self, piece: &[u8]) -> Result<(), FileFault>
         ensures { IsFed self.old piece.now result self.new }
     {
@@ -114,8 +114,8 @@ impl<A: Allocator + Copy> GarbledReader<A> {
         }
     }
 
-    /// The file that the bytes are. If they are none, the answer is their first fault; `Memory` stands in place of the
-    /// file only where a growth was refused.
+    /// The file that the bytes are. If they are none, the result is their first fault; `Memory` replaces the file only
+    /// where an allocation was refused.
     pub fn end(self) -> Result<Garbled<A>, FileFault>
         ensures { IsEnded self result }
     {
@@ -128,8 +128,8 @@ impl<A: Allocator + Copy> GarbledReader<A> {
     }
 }
 
-/// Reads a garbled file of either version. The answer is the file exactly where the bytes are one, and otherwise their
-/// first fault; `Memory` stands in place of the file, or of a later fault, only where a growth was refused.
+/// Reads a garbled file of either version. Returns the file exactly where the bytes are one, and otherwise their first
+/// fault; `Memory` replaces the file, or a later fault, only where an allocation was refused.
 pub fn read_garbled<A: Allocator + Copy>(alloc: A, bytes: &[u8]) -> Result<Garbled<A>, FileFault>
     ensures { IsRead bytes.now result }
 {

@@ -63,7 +63,7 @@ impl<A: Allocator> Model for MemSink<A> {
 }
 
 impl<A: Allocator> MemSink<A> {
-    /// A sink that holds no byte. It takes no memory.
+    /// A sink that holds no byte. It doesn't allocate.
     pub fn new(alloc: A, limit: Option<usize>) -> MemSink<A>
         ensures { result ≡ record { bytes = []; limit = limit; failures = 0 } }
     {
@@ -185,7 +185,7 @@ impl<W: Write> Sink for OutSink<W> {
 }
 
 /// Writes a beginning of the piece, as [`write_once`] does, and tries again where it is interrupted. So no interruption
-/// is ever its answer.
+/// is ever its result.
 fn write_some<W: Write>(writer: &mut W, piece: &[u8]) -> io::Result<usize>
     ensures bound { IfOk result (λ n. n ≤ length piece.now) }
     ensures some { 0 < length piece.now → IfOk result (λ n. 0 < n) }

@@ -174,7 +174,7 @@ impl<R: Read> Source for InSource<R> {
     }
 }
 
-/// Reads once, and again where it is interrupted. So no interruption is ever its answer.
+/// Reads once, and again where it is interrupted. So no interruption is ever its result.
 fn read_some<R: Read>(reader: &mut R, room: &mut [u8]) -> io::Result<usize>
     ensures bound { ReadsAtMost result room.new }
     ensures bytes { ReadConsumes (R.remaining reader.old) (R.remaining reader.new) result room.new }

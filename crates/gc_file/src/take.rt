@@ -62,8 +62,8 @@ impl fmt::Display for TakeFault {
 impl Error for TakeFault {}
 
 /// Reads a garbled file of either version from a source, in pieces of at most 4,096 bytes. If the source doesn't fail,
-/// the answer is what [`read_garbled`](crate::read_garbled) answers for the bytes that it had left; a fault that no
-/// further bytes can mend is answered as soon as it is met. What the source gave stays given, whatever the answer.
+/// the result is what [`read_garbled`](crate::read_garbled) returns for the bytes that it had left; a fault that no
+/// further bytes can mend is returned as soon as it is met. What the source gave stays given, whatever the result.
 pub fn read_garbled_from<A: Allocator + Copy, S: Source>(
     alloc: A,
     source: &mut S,

@@ -183,8 +183,8 @@ fn named(entries: (Label, Label)) -> EntryPair
 }
 
 /// Writes the garbled file of version 1 to the sink and returns how many bytes it has: the digest of the circuit's
-/// canonical text, the garbling's rows and its decode bits. That the garbling fits the circuit is the caller's
-/// condition. It takes no memory but what the sink takes.
+/// canonical text, the garbling's rows and its decode bits. The caller ensures that the garbling fits the circuit. It
+/// doesn't allocate but what the sink takes.
 ///
 /// Where the sink fails, it has taken the first `sent` bytes of the file, and no others.
 pub fn write_garbled<S: Sink, A: Allocator, B: Allocator>(

@@ -15,7 +15,7 @@ module _ {I : Type 0} where
     -- A seat inside a round sees a bank whose round it is, and the round has a job.
     pub sees : (r : ℕ) → v.stand ≡ Inside r
         → (round_of (slice_index words (bank_of r)) ≡ r) × (r < jobs)
-    -- It is counted in at one bank at most, and at none where it stands for no seat.
+    -- It is counted in at one bank at most, and at none where it is for no seat.
     pub few : counted 0 v.stand + counted 1 v.stand ≤ v.seats
     -- Each exchange that gave a bank to its next round found it sealed with nobody counted in.
     pub fair : total unfair v.steps ≡ 0

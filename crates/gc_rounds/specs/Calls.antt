@@ -1,4 +1,4 @@
--- What each call's answer says of the words that its steps found. Each call adds these steps alone to the record.
+-- What each call's result says of the words that its steps found. Each call adds these steps alone to the record.
 use Rattle.std.specs.Prelude.{◌≡◌, ◌≢◌, ℕ, ◌<◌, true, false}
 use Rattle.gc_rounds.specs.Words.{count_of, mark_of, round_of, bank_of, shut_word}
 use Rattle.gc_rounds.specs.Views.{reached, sealed_in}
@@ -48,7 +48,7 @@ module _ {I : Type 0} where
       (found : ℕ) × why found × (new ≡ recorded old Outside (Reopen (bank_of r) found false))
 
   -- A try to give the bank of round r to round r + 2: it won where it found the bank sealed in round r with nobody
-  -- counted in, and else the answer says what it found.
+  -- counted in, and else the result says what it found.
   abbrev pub Reopens : ℕ → View I → View I → Reopening → Type 0
   Reopens r old new Given = new ≡ recorded old Outside (Reopen (bank_of r) (shut_word r) true)
   Reopens r old new NotSealed = Lost r old new (λ n. (round_of n ≡ r) × (mark_of n ≡ 0))

@@ -1,4 +1,4 @@
--- What stands in a view: where its seat is, and the record of its steps.
+-- What is in a view: where its seat is, and the record of its steps.
 use Rattle.std.specs.Prelude.{ℕ, ◌+◌, ◌*◌, ◌-◌, ◌%◌, List, if◌then◌else◌}
 use Rattle.gc_workers.specs.Counts.{total, only}
 use Rattle.gc_rounds.specs.Words.{round_of, bank_of}

@@ -29,8 +29,8 @@ fn second_word(jobs: u32) -> u64
 }
 
 /// A table with bank 0 open in round 0, bank 1 in round 1, or sealed where there is one job, and this many words more,
-/// all 0; and a place that stands for all seats. It takes memory for the words twice over, and gives half of it back:
-/// 46 or 49 where it gets none.
+/// all 0; and a place that stands for all seats. It allocates for the words twice over, and gives half of it back: 46
+/// or 49 where it gets none.
 pub fn open_table<T, I: KeptInner<T>, A: Allocator + Copy>(
     alloc: A,
     key: &Key<T>,

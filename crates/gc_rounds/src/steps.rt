@@ -21,7 +21,7 @@ pub type Words<T, I> = Shared<u8, View<I>, Key<T>, Rule>;
 /// A seat at the words, with its view. It has no bytes.
 pub type Place<I> = Seat<u8, View<I>>;
 
-/// Counts the seat in at the bank of the round, and answers the word that it found there.
+/// Counts the seat in at the bank of the round, and returns the word that it found there.
 pub(crate) fn count_in<T, I: KeptInner<T>, Q: Asked>(
     words: &Words<T, I>,
     place: &mut Place<I>,
@@ -40,7 +40,7 @@ pub(crate) fn count_in<T, I: KeptInner<T>, Q: Asked>(
     words.fetch_add::<CountIn<Q>>(place, (round % 2) as usize, 1)
 }
 
-/// Takes a seat out that is counted in at the bank of the round, and answers the word that it found there.
+/// Takes a seat out that is counted in at the bank of the round, and returns the word that it found there.
 pub(crate) fn count_out<T, I: KeptInner<T>>(
     words: &Words<T, I>,
     place: &mut Place<I>,
@@ -55,7 +55,7 @@ pub(crate) fn count_out<T, I: KeptInner<T>>(
     words.fetch_sub::<CountOut>(place, (round % 2) as usize, 1)
 }
 
-/// Marks the bank of the round as sealed, and answers the word that it found there.
+/// Marks the bank of the round as sealed, and returns the word that it found there.
 pub(crate) fn mark_sealed<T, I: KeptInner<T>>(
     words: &Words<T, I>,
     place: &mut Place<I>,
@@ -70,7 +70,7 @@ pub(crate) fn mark_sealed<T, I: KeptInner<T>>(
     words.fetch_or::<MarkSealed>(place, (round % 2) as usize, MARK)
 }
 
-/// Gives the bank of the round to the next round but one, where it is sealed and nobody is inside. It answers the word
+/// Gives the bank of the round to the next round but one, where it is sealed and nobody is inside. It returns the word
 /// that it found there.
 pub(crate) fn give_on<T, I: KeptInner<T>>(
     words: &Words<T, I>,

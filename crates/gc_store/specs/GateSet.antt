@@ -2,7 +2,7 @@
 use Rattle.std.specs.Prelude.{◌≡◌, ℕ, ◌*◌, ◌<◌, ◌≤◌, ◌↔◌, List, length, Option, Some, None, slice_index_or}
 use Rattle.gc_workers.specs.NumberSet.{Has, Removes}
 
--- Taking a gate: it is in the set no longer. Where the set has none there is no answer, and nothing changes.
+-- Taking a gate: it is in the set no longer. Where the set has none there is no result, and nothing changes.
 abbrev pub TakesOne : List ℕ → Option ℕ → List ℕ → Type 0
 TakesOne old None new = ((i : ℕ) → ¬ Has old i) × (new ≡ old)
 TakesOne old (Some i) new = Removes old i new

@@ -17,7 +17,7 @@ IsReady s i = (slice_get s.marks i ≡ Some mark.Free) × (slice_get s.countdown
 abbrev pub with_mark : Standing → ℕ → Mark → Standing
 with_mark s i m = record s { marks = slice_set s.marks i m }
 
--- Taking a gate: a ready gate is claimed from then on. Where none is ready there is no answer, and nothing changes.
+-- Taking a gate: a ready gate is claimed from then on. Where none is ready there is no result, and nothing changes.
 abbrev pub Takes : Standing → Option ℕ → Standing → Type 0
 Takes old None new = ((i : ℕ) → ¬ IsReady old i) × (new ≡ old)
 Takes old (Some i) new = IsReady old i × (new ≡ with_mark old i mark.Claimed)

@@ -74,7 +74,7 @@ FinishesUpTo old tasks (Err refused) new =
     × FinishesEach old (take n tasks) middle × Finishes middle task (Err refused) new
 
 -- Handing in, in one critical section: sealed tasks are finished, and where none is refused gates are claimed into the
--- batch. The answer is whether every gate is finished.
+-- batch. Returns whether every gate is finished.
 abbrev pub HandsOver : Bool → Content → List Task → List Task → Result Bool Refused → Content
     → List Task → Type 0
 HandsOver stopped old tasks before (Ok complete) new after =

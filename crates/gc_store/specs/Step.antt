@@ -1,4 +1,4 @@
--- The steps of a store, as relations between its content before a call, the call's answer and its content afterwards.
+-- The steps of a store, as relations between its content before a call, the call's result and its content afterwards.
 -- No step changes the circuit or the seed.
 use Rattle.std.specs.Prelude.{◌≡◌, ℕ, ◌+◌, ◌<◌, ◌↔◌, Bool, IsTrue, if◌then◌else◌, List, map, sum, count_by, Option, Some, None, Result, Ok, Err, slice_get, slice_set, ◌⊎◌, [], ◌∷◌, ◌++◌, length}
 use Rattle.gc_netlist.specs.declared.gate.Gate.{Gate}
@@ -23,21 +23,21 @@ pub record IsOwnTask (s : Content) (task : Task) : Type 0 where
 abbrev pub with_state : Content → ℕ → State → Content
 with_state s i state = record s { states = slice_set s.states i state }
 
--- A claim: a ready gate is claimed from then on, and the answer is its task. Where no gate is ready the answer is None,
+-- A claim: a ready gate is claimed from then on, and the result is its task. Where no gate is ready the result is None,
 -- and nothing changes.
 abbrev pub Claims : Content → Option Task → Content → Type 0
 Claims old None new = ((i : ℕ) → ¬ IsReady old i) × (new ≡ old)
 Claims old (Some task) new =
     IsReady old task.gate × IsOwnTask old task × (new ≡ with_state old task.gate Claimed)
 
--- Claims one after the other, with these tasks as their answers.
+-- Claims one after the other, with these tasks as their results.
 abbrev pub ClaimsAll : Content → List Task → Content → Type 0
 ClaimsAll old [] new = new ≡ old
 ClaimsAll old (task ∷ tasks) new =
     (next : Content) × Claims old (Some task) next × ClaimsAll next tasks new
 
 -- Claiming into a batch: tasks are claimed one after the other and put at the end of the batch, until it is full or no
--- gate is ready. The answer is how many this call claimed.
+-- gate is ready. Returns how many this call claimed.
 pub record ClaimsSome (old : Content) (before : List Task) (answer : ℕ) (new : Content)
     (after : List Task) : Type 0 where
   pub tasks : List Task
@@ -55,7 +55,7 @@ with_sealed s task = record s {
 
 -- Handing in a sealed task. Where its gate is not claimed it is refused as NotClaimed; else, where it is not the
 -- store's task for that gate, as OtherInputs. A refusal gives the sealed task back and changes nothing. Else the gate
--- is finished, and the answer is whether every gate now is.
+-- is finished, and it returns whether every gate now is.
 abbrev pub Finishes : Content → Task → Result Bool Refused → Content → Type 0
 Finishes old task (Ok complete) new =
     IsClaimed old task.gate × IsOwnTask old task × (new ≡ with_sealed old task)
@@ -71,7 +71,7 @@ Deals old None new = (old.tallies ≡ MAX_WORKERS) × (new ≡ old)
 Deals old (Some tally) new =
     (old.tallies < MAX_WORKERS) × (tally ≡ 0) × (new ≡ record old { tallies = old.tallies + 1 })
 
--- Settling: with all the tallies that were dealt the answer is their sum, which is the number of finished gates. Where
+-- Settling: with all the tallies that were dealt the result is their sum, which is the number of finished gates. Where
 -- one is missing it is refused.
 abbrev pub Settles : Account → List ℕ → Result ℕ TallyMissing → Type 0
 Settles s tallies (Ok n) =
@@ -84,7 +84,7 @@ reopened Free = Free
 reopened Claimed = Free
 reopened (Finished label rows) = Finished label rows
 
--- Reopening: claimed gates are free again, and the answer is how many they were.
+-- Reopening: claimed gates are free again, and the result is how many they were.
 abbrev pub Reopens : Content → ℕ → Content → Type 0
 Reopens old answer new =
     (answer ≡ count_by is_claimed old.states)

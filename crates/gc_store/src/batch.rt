@@ -10,7 +10,7 @@ use std::marker::Model;
 /// The most tasks that a batch holds.
 pub const BATCH_SIZE: usize = 16;
 
-/// Up to [`BATCH_SIZE`] tasks, in place: a batch takes no memory.
+/// Up to [`BATCH_SIZE`] tasks, in place: a batch doesn't allocate.
 #[derive(Drop)]
 pub struct Batch {
     // None of them is None, which alone can fill the places that are not used.
@@ -73,7 +73,7 @@ impl Batch {
         self.tasks.is_full()
     }
 
-    /// Puts in a task. That there is room for it is the caller's condition.
+    /// Puts in a task. The caller ensures that there is room for it.
     #[inline]
     pub(crate) fn push(&mut self, task: Task)
         requires { length self.old < BATCH_SIZE }

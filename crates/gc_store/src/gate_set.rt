@@ -53,7 +53,7 @@ impl<A: Allocator + Copy> GateSet<A> {
 }
 
 impl<A: Allocator> GateSet<A> {
-    /// Puts a gate into the set. That the set has room for it is the caller's condition.
+    /// Puts a gate into the set. The caller ensures that the set has room for it.
     #[inline]
     pub(crate) fn insert(&mut self, gate: u32)
         requires { gate < 64 * length self.old }

@@ -96,7 +96,7 @@ impl<A: Allocator> Progress<A> {
 }
 
 impl<A: Allocator + Copy> Progress<A> {
-    /// This circuit and seed with every gate free. It takes all the memory that is needed.
+    /// This circuit and seed with every gate free. It allocates all memory that is needed.
     pub(crate) fn open(alloc: A, circuit: Circuit<A>, seed: Seed) -> Result<Progress<A>, Memory>
         ensures { IfOk result (λ s. s ≡ opened circuit seed) }
     {
@@ -203,7 +203,7 @@ impl<A: Allocator> Progress<A> {
         self.circuit.equals(circuit) && self.seed == *seed
     }
 
-    /// Claims a ready gate and answers its task; or None, exactly where no gate is ready. It looks for one from the
+    /// Claims a ready gate and returns its task; or None, exactly where no gate is ready. It looks for one from the
     /// gate `from` on, and then from the first on.
     // A task is so large that returning it takes long where the call is not inlined.
     #[inline(always)]
@@ -215,7 +215,7 @@ impl<A: Allocator> Progress<A> {
     }
 
     /// Claims gates until the batch is full or no gate is ready, each as [`Progress::claim`] does, and puts their tasks
-    /// into the batch. The answer is how many gates this call claimed.
+    /// into the batch. Returns how many gates this call claimed.
     pub(crate) fn claim_some(&mut self, from: u32, batch: &mut Batch) -> u32
         ensures { ClaimsSome self.old batch.old result self.new batch.new }
     {
@@ -238,7 +238,7 @@ impl<A: Allocator> Progress<A> {
         self.claimed() > 0
     }
 
-    /// Frees all claimed gates. The answer is how many they were.
+    /// Frees all claimed gates. Returns how many they were.
     pub(crate) fn reopen(&mut self) -> u32
         ensures { Reopens self.old result self.new }
     {
@@ -247,7 +247,7 @@ impl<A: Allocator> Progress<A> {
         count
     }
 
-    /// Takes a sealed task back. The answer is whether every gate is now finished.
+    /// Takes a sealed task back. Returns whether every gate is now finished.
     ///
     /// It refuses a task whose gate isn't claimed, and else one that isn't the own task of its gate. A refusal
     /// changes nothing.

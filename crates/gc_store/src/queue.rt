@@ -40,8 +40,8 @@ impl<A: Allocator> Model for Queue<A> {
 }
 
 impl<A: Allocator + Copy> Queue<A> {
-    /// A queue where every gate is free, with these countdowns less one: the opening itself counts each gate down. That
-    /// there are fewer than 2^32 of them, and that none is 0, is the caller's condition.
+    /// A queue where every gate is free, with these countdowns less one: the opening itself counts each gate down. The
+    /// caller ensures that there are fewer than 2^32 of them, and that none is 0.
     pub fn open(alloc: A, countdowns: Vec<u8, A>) -> Result<Queue<A>, Memory>
         requires few { length countdowns.items < 2 ^ 32 }
         requires positive { (i : ℕ) → i < length countdowns.items
@@ -67,7 +67,7 @@ impl<A: Allocator + Copy> Queue<A> {
 }
 
 impl<A: Allocator> Queue<A> {
-    /// Whether a gate is claimed. That there is such a gate is the caller's condition.
+    /// Whether a gate is claimed. The caller ensures that there is such a gate.
     #[inline]
     pub fn is_claimed(&self, gate: u32) -> bool
         requires { gate < length self.now.marks }
@@ -88,7 +88,7 @@ impl<A: Allocator> Queue<A> {
         Some(gate)
     }
 
-    /// Marks a gate as finished. That it is claimed is the caller's condition.
+    /// Marks a gate as finished. The caller ensures that it is claimed.
     #[inline]
     pub fn finish(&mut self, gate: u32)
         requires { slice_get self.old.marks gate ≡ Some mark.Claimed }
@@ -97,8 +97,7 @@ impl<A: Allocator> Queue<A> {
         self.marks[gate as usize] = Mark::Finished;
     }
 
-    /// Counts a gate down by one, and queues it where that was the last. That its countdown isn't 0 is the caller's
-    /// condition.
+    /// Counts a gate down by one, and queues it where that was the last. The caller ensures that its countdown isn't 0.
     #[inline]
     pub fn count_down(&mut self, gate: u32)
         requires { 0 < slice_index_or self.old.countdowns gate 0 }
@@ -113,7 +112,7 @@ impl<A: Allocator> Queue<A> {
         }
     }
 
-    /// Puts a gate back into the queue. That it is claimed is the caller's condition.
+    /// Puts a gate back into the queue. The caller ensures that it is claimed.
     pub fn put_back(&mut self, gate: u32)
         requires { slice_get self.old.marks gate ≡ Some mark.Claimed }
         ensures { self.new ≡ with_mark self.old gate mark.Free }

@@ -47,8 +47,8 @@ impl<A: Allocator + Copy> Readers<A> {
 }
 
 impl<A: Allocator> Readers<A> {
-    /// Counts each gate down by the number of its reads of a wire. That these are the readers of the circuit, that it has
-    /// such a wire, and that no gate's countdown is less than that number, is the caller's condition.
+    /// Counts each gate down by the number of its reads of a wire. The caller ensures that these are the readers of the
+    /// circuit, that it has such a wire, and that no gate's countdown is less than that number.
     #[inline]
     pub fn count_down(&self, queue: &mut Queue<A>, circuit: &Circuit<A>, wire: u32)
         requires linked { IsLinked circuit.now self.now.firsts self.now.nexts }
@@ -70,7 +70,7 @@ impl<A: Allocator> Readers<A> {
     }
 }
 
-/// The wire of a read, if the gate has this read. That there is such a gate is the caller's condition.
+/// The wire of a read, if the gate has this read. The caller ensures that there is such a gate.
 #[inline]
 fn wire_read<C: Allocator>(circuit: &Circuit<C>, read: u32) -> Option<u32>
     requires { read < read_count circuit.now }

@@ -32,8 +32,8 @@ struct LockedStore<L: Ledger, A: Allocator> {
 /// A store that threads share. What a call does to it, it does in one critical section, so it finds the store as it is
 /// between two steps. [`SharedStore::take`] looks in one, and in a further one each time that it was woken.
 ///
-/// No call takes memory. Which task a call gives, and what it found the store to be, no contract can say: other
-/// threads change it.
+/// No call allocates. Which task a call gives, and what it found the store to be, no contract can say: other threads
+/// change it.
 #[derive(Drop)]
 pub struct SharedStore<L: Ledger, A: Allocator = Global> {
     // Padded, so that threads that try for the lock leave the store's own cache lines alone.
@@ -79,8 +79,8 @@ impl<L: Ledger, A: Allocator> LockedStore<L, A> {
         }
     }
 
-    /// Claims into the batch from the gate `from` on, unless the store was stopped. The answer is whether ready gates
-    /// may be left.
+    /// Claims into the batch from the gate `from` on, unless the store was stopped. Returns whether ready gates may be
+    /// left.
     fn claim_from(&mut self, from: u32, batch: &mut Batch) -> bool
         ensures claims { ClaimsUnless self.old.stopped self.old.store.content batch.old
             self.new.store.content batch.new }
@@ -111,8 +111,8 @@ impl<L: Ledger, A: Allocator> LockedStore<L, A> {
         Ok(())
     }
 
-    /// Finishes sealed tasks, and claims into the batch where none is refused, from the first of their gates on. The
-    /// answer is whether the store is now complete, and whom to wake.
+    /// Finishes sealed tasks, and claims into the batch where none is refused, from the first of their gates on.
+    /// Returns whether the store is now complete, and whom to wake.
     fn hand_in_all(
         &mut self,
         sealed: &[Sealed],
@@ -190,7 +190,7 @@ impl<L: Ledger, A: Allocator> SharedStore<L, A> {
         }
     }
 
-    /// Claims a ready gate, and answers its task. It waits while no gate is ready and some gate is claimed. None says
+    /// Claims a ready gate, and returns its task. It waits while no gate is ready and some gate is claimed. None says
     /// that nothing is left to do, or that the store was stopped.
     pub fn take<R: Wait>(&self, rt: &R) -> Option<Task> {
         let mut locked = self.enter(rt);
@@ -208,7 +208,7 @@ impl<L: Ledger, A: Allocator> SharedStore<L, A> {
     }
 
     /// Takes a sealed task back and raises the tally by one, and claims gates into the batch; all in one critical
-    /// section. The answer is whether the store is now complete. After [`SharedStore::stop`] it claims nothing.
+    /// section. Returns whether the store is now complete. After [`SharedStore::stop`] it claims nothing.
     ///
     /// It refuses what [`Store::finish`] refuses, and then changes nothing.
     pub fn hand_in(
@@ -223,8 +223,8 @@ impl<L: Ledger, A: Allocator> SharedStore<L, A> {
         self.hand_in_all(rt, &[sealed], tally, batch)
     }
 
-    /// Takes sealed tasks back one after another, each as [`SharedStore::hand_in`] does, and then claims gates into
-    /// the batch; all in one critical section. The answer is whether the store is now complete.
+    /// Takes sealed tasks back one after another, each as [`SharedStore::hand_in`] does, and then claims gates into the
+    /// batch; all in one critical section. Returns whether the store is now complete.
     ///
     /// It ends at the first that is refused, and then claims nothing. Those before it are finished and counted, and
     /// those after it are not.

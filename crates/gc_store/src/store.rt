@@ -70,8 +70,8 @@ impl<L: Ledger, A: Allocator> Store<L, A> {
 }
 
 impl<L: Ledger, A: Allocator + Copy> Store<L, A> {
-    /// A store of this circuit and seed with every gate free, which begins the ledger. It takes all the memory that
-    /// the store needs. That the ledger is that of `L`, with [`MAX_WORKERS`] parts, is the caller's condition.
+    /// A store of this circuit and seed with every gate free, which begins the ledger. It allocates all memory that the
+    /// store needs. The caller ensures that the ledger is that of `L`, with [`MAX_WORKERS`] parts.
     pub fn open(
         alloc: A,
         ledger: Blank,
@@ -141,7 +141,7 @@ impl<L: Ledger, A: Allocator> Store<L, A> {
         Some(Tally::new(share))
     }
 
-    /// Claims a ready gate and answers its task; or None, exactly where no gate is ready.
+    /// Claims a ready gate and returns its task; or None, exactly where no gate is ready.
     #[inline(always)]
     pub fn claim(&mut self) -> Option<Task>
         ensures step { Claims self.old.content result self.new.content }
@@ -150,8 +150,8 @@ impl<L: Ledger, A: Allocator> Store<L, A> {
         self.progress.claim(0)
     }
 
-    /// Claims ready gates, and puts their tasks into the batch, until it is full or no gate is ready. The answer is how
-    /// many this call claimed.
+    /// Claims ready gates, and puts their tasks into the batch, until it is full or no gate is ready. Returns how many
+    /// this call claimed.
     pub fn claim_some(&mut self, batch: &mut Batch) -> u32
         ensures step { ClaimsSome self.old.content batch.old result self.new.content batch.new }
         ensures tallies { self.new.tallies ≡ self.old.tallies }
@@ -167,7 +167,7 @@ impl<L: Ledger, A: Allocator> Store<L, A> {
         self.progress.claim_some(from, batch)
     }
 
-    /// Makes each claimed gate free again. The answer is how many they were.
+    /// Makes each claimed gate free again. Returns how many they were.
     pub fn reopen(&mut self) -> u32
         ensures step { Reopens self.old.content result self.new.content }
         ensures tallies { self.new.tallies ≡ self.old.tallies }
@@ -182,7 +182,7 @@ impl<L: Ledger, A: Allocator> Store<L, A> {
         self.progress.has_claimed()
     }
 
-    /// Takes a sealed task back, and raises the tally by one. The answer is whether the store is now complete.
+    /// Takes a sealed task back, and raises the tally by one. Returns whether the store is now complete.
     ///
     /// It refuses a task whose gate isn't claimed, and else one that isn't the store's own task for its gate.
     /// A refusal changes nothing.

@@ -18,7 +18,7 @@ pub struct Task {
     pub gate: u32,
     /// What the gate computes: its wires, or for EQ its constant.
     pub operation: Operation,
-    /// How many AND gates stand before the gate in the file.
+    /// How many AND gates come before the gate in the file.
     pub and_number: u32,
     /// The offset of the garbling.
     pub offset: Offset,
@@ -72,7 +72,7 @@ impl Model for Sealed {
 }
 
 impl Sealed {
-    /// Garbles a task. It takes no memory.
+    /// Garbles a task. It doesn't allocate.
     #[inline]
     pub fn make(task: Task) -> Sealed
         ensures { result ≡ task }
@@ -91,7 +91,7 @@ impl Sealed {
         }
     }
 
-    /// Garbles two tasks, at once where both gates are AND. It takes no memory.
+    /// Garbles two tasks, at once where both gates are AND. It doesn't allocate.
     #[inline]
     pub fn make_two(one: Task, other: Task) -> (Sealed, Sealed)
         ensures one { result.0 ≡ one }

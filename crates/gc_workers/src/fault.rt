@@ -7,7 +7,7 @@ use std::alloc::{AllocError, AllocFailed};
 use std::error::Error;
 use std::fmt;
 
-/// Why a board can't be opened. Each comes only where a growth was refused.
+/// Why a board can't be opened. Each comes only where an allocation was refused.
 #[derive(Clone, Copy, Debug, PartialEq, Eq)]
 pub enum OpenFault {
     /// Memory ran out.

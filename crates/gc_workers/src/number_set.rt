@@ -61,7 +61,7 @@ impl<A: Allocator> NumberSet<A> {
         }
     }
 
-    /// Puts a number into the set. That there is room for it is the caller's condition.
+    /// Puts a number into the set. The caller ensures that there is room for it.
     #[inline]
     pub fn insert(&mut self, number: u32)
         requires { number < 64 * length self.old }
@@ -70,7 +70,7 @@ impl<A: Allocator> NumberSet<A> {
         self.words[(number / WORD_BITS) as usize] |= 1 << (number % WORD_BITS);
     }
 
-    /// Takes a number out of the set. That the set has it is the caller's condition.
+    /// Takes a number out of the set. The caller ensures that the set has it.
     #[inline]
     pub fn remove(&mut self, number: u32)
         requires { Has self.old number }
@@ -79,7 +79,7 @@ impl<A: Allocator> NumberSet<A> {
         self.words[(number / WORD_BITS) as usize] &= !(1 << (number % WORD_BITS));
     }
 
-    /// The first number of a word. That there is such a word is the caller's condition.
+    /// The first number of a word. The caller ensures that there is such a word.
     #[inline]
     pub fn first_of(&self, word: usize) -> Option<u32>
         requires { word < length self.now }
