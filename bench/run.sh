@@ -34,6 +34,7 @@ fi
 
 tune_memory
 "$top/bench/parts.py" "$bench" "$circuit" ${baseline:+"$baseline"}
+"$top/bench/side_by_side.py" "$bench"
 "$top/bench/workers.py" "$bench"
 "$top/bench/sizes.py" "$bench"
 "$top/bench/program.py" "$top/halfgates" "$bench" "$circuit"

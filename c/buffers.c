@@ -28,11 +28,13 @@ PROVED(halfgates_evaluate_labels);
 PROVED(halfgates_job_output_labels);
 PROVED(halfgates_decode);
 
-/* These two take the size of each of their buffers. */
+/* These take the size of each of their buffers. */
 extern int32_t proved_halfgates_input_labels(halfgates_garbling *garbling, uint32_t index, uint8_t *zero,
                                              size_t zero_size, uint8_t *one, size_t one_size);
 extern int32_t proved_halfgates_output_labels(halfgates_garbling *garbling, uint32_t index, uint8_t *zero,
                                               size_t zero_size, uint8_t *one, size_t one_size);
+extern int32_t proved_halfgates_garble_many(halfgates_circuit *circuit, const uint8_t *seeds, size_t count,
+                                            halfgates_garbling **garblings, size_t garblings_count);
 
 /* Whether there is a buffer of this size, or none is asked for. */
 static int is_there(const void *buffer, size_t size) {
@@ -116,6 +118,13 @@ int32_t halfgates_audit_labels(halfgates_garbling *garbling, const uint8_t *labe
     if (!is_there(labels, length) || !is_there(bits, size))
         return HALFGATES_BAD_ARGUMENT;
     return proved_halfgates_audit_labels(garbling, labels, length, bits, size, report);
+}
+
+int32_t halfgates_garble_many(halfgates_circuit *circuit, const uint8_t *seeds, size_t count,
+                              halfgates_garbling **garblings) {
+    if (!is_there(seeds, count) || !is_there(garblings, count))
+        return HALFGATES_BAD_ARGUMENT;
+    return proved_halfgates_garble_many(circuit, seeds, count, garblings, count);
 }
 
 int32_t halfgates_garble_from(halfgates_circuit *circuit, const uint8_t offset[16], const uint8_t *zero_labels,

@@ -373,6 +373,21 @@ public:
         return halfgates::garbling(at, shape_);
     }
 
+    /* Garbles under each of these seeds, two at a time side by side. */
+    HALFGATES_NODISCARD std::vector<halfgates::garbling> garble_many(const std::vector<seed> &keys) {
+        static_assert(sizeof(seed) == 32, "seeds are one after another");
+        std::vector<halfgates::garbling> made;
+        std::vector<detail::handle<halfgates_garbling, halfgates_garbling_free>> handles(keys.size());
+        std::vector<halfgates_garbling *> at(keys.size());
+        made.reserve(keys.size());
+        check(halfgates_garble_many(get(), keys.empty() ? nullptr : keys.front().data(), keys.size(), at.data()));
+        for (std::size_t i = 0; i < at.size(); i++)
+            handles[i].reset(at[i]);
+        for (auto &it : handles)
+            made.emplace_back(it.release(), shape_);
+        return made;
+    }
+
     /* Garbles from an offset, zero labels of the input wires, and the first AND number. Under one offset use no AND
      * number twice. */
     HALFGATES_NODISCARD halfgates::garbling garble_from(const label &offset, const detail::input &zero_labels,

@@ -64,6 +64,21 @@ class Vectors(LibraryTest):
                 with circuit.garble(seed) as garbling:
                     self.check_garbling(vector, garbling)
 
+    def test_garblings_side_by_side(self):
+        for name, vector in worked_circuits():
+            with self.subTest(name), Circuit.read(text_of(vector)) as circuit:
+                for count in range(6):
+                    seeds = [bytes.fromhex(vector["seed"]), *(bytes([it]) * 32 for it in range(count))][:count]
+                    garblings = circuit.garble_many(seeds)
+                    self.assertEqual(len(garblings), count)
+                    for seed, garbling in zip(seeds, garblings):
+                        with garbling, circuit.garble(seed) as alone:
+                            self.assertEqual(garbling.write(), alone.write())
+                            self.assertEqual(garbling.offset, alone.offset)
+                    for garbling in garblings[:1]:
+                        self.assertRaisesRegex(ValueError, "closed", garbling.write)
+                self.assertRaises(ValueError, circuit.garble_many, [bytes(32), bytes(31)])
+
     def check_garbling(self, vector, garbling):
         for version in (1, 2):
             file = bytes.fromhex("".join(vector[f"garbled_file_{version}"]))

@@ -18,6 +18,14 @@ from pathlib import Path
 from halfgates import Circuit, Fault
 
 COPIES = 100
+AT_ONCE = 10  # how many garblings are in memory
+
+
+def garblings_of(circuit, copies, seeds):
+    """Each copy with its garbling, which is freed before the next batch is made."""
+    for first in range(0, len(copies), AT_ONCE):
+        batch = copies[first : first + AT_ONCE]
+        yield from zip(batch, circuit.garble_many(seeds[it] for it in batch))
 
 
 def bits_of(number, width):
@@ -36,10 +44,10 @@ class Garbler:
         self.forged = set(secrets.SystemRandom().sample(range(COPIES), forged))
 
     def garbled_files(self):
-        return [self.garbled_file(it) for it in range(COPIES)]
+        return [self.garbled_file(*it) for it in garblings_of(self.circuit, range(COPIES), self.seeds)]
 
-    def garbled_file(self, copy):
-        with self.circuit.garble(self.seeds[copy]) as garbling:
+    def garbled_file(self, copy, garbling):
+        with garbling:
             file = garbling.write()
         if copy in self.forged:
             file[48] ^= 1
@@ -59,10 +67,14 @@ class Evaluator:
         self.circuit, self.files = circuit, files
         self.opened = set(secrets.SystemRandom().sample(range(COPIES), COPIES // 2))
 
-    def audit(self, copy, seed):
-        """Whether a copy is the garbling of the circuit under the seed that the garbler says."""
-        with self.circuit.garble(seed) as garbling:
-            return garbling.audit(self.files[copy]).honest
+    def audit(self, seeds):
+        """The opened copies that aren't the garbling of the circuit under the seed that the garbler says."""
+        wrong = []
+        for copy, garbling in garblings_of(self.circuit, sorted(self.opened), seeds):
+            with garbling:
+                if not garbling.audit(self.files[copy]).honest:
+                    wrong.append(copy)
+        return wrong
 
     def evaluate(self, copy, labels):
         """The output bits of a copy, or the name of what is wrong with it."""
@@ -87,7 +99,7 @@ def main():
         garbler = Garbler(circuit, words.numbers, words.forge)
         evaluator = Evaluator(circuit, garbler.garbled_files())
 
-        wrong = [it for it in evaluator.opened if not evaluator.audit(it, garbler.seeds[it])]
+        wrong = evaluator.audit({it: garbler.seeds[it] for it in evaluator.opened})
         print(f"opened {len(evaluator.opened)}, forged {len(wrong)}")
         if wrong:
             sys.exit("the garbler cheats")

@@ -2,7 +2,7 @@
 """Circuits, garblings and jobs: the handles of the library."""
 
 from contextlib import contextmanager
-from ctypes import byref, c_size_t, c_uint8, c_uint32
+from ctypes import byref, c_size_t, c_uint8, c_uint32, c_void_p, sizeof
 from operator import index as integer
 from os import PathLike
 from pathlib import Path
@@ -15,7 +15,8 @@ from ._handle import Handle, Shape, owner
 from ._library import BAD_ARGUMENT, OK, SMALL_BUFFER, Fault, check, library
 from ._reports import GarbledReport, LabelsReport, Place, WireLabels
 
-LABEL = 16  # the bytes of a label
+SEED = 32  # the bytes of a seed
+LABEL = 16  # those of a label
 ROW_PAIR = 32  # those of an AND gate's generator row and evaluator row
 HEAD_OF_LABELS = 16  # those of a label file before its labels
 
@@ -93,6 +94,23 @@ class Circuit(Handle):
         with _lent(seed, "a seed", 32) as lent:
             check(self._call(library.halfgates_garble, lent.at, byref(it._at)))
         return it
+
+    def garble_many(self, seeds: Iterable[Buffer]) -> List["Garbling"]:
+        """Garbles under each of these seeds, as `garble` does, in their order. Two at a time are made side by side.
+
+        It takes less time than as many calls of `garble`. Faults: 23, 62. After a fault there is no garbling.
+        """
+        keys = bytearray()
+        for seed in seeds:
+            with _lent(seed, "a seed", SEED):
+                keys += seed
+        made = [self._garbling() for _ in range(len(keys) // SEED)]
+        places = (c_void_p * len(made))()
+        for i, it in enumerate(made):  # each owns its place before the call writes it
+            it._at = it._Owner.from_buffer(places, i * sizeof(c_void_p))
+        with Lent(keys) as lent:
+            check(self._call(library.halfgates_garble_many, lent.at, len(made), places))
+        return made
 
     def garble_from(self, offset: Buffer, zero_labels: Buffer, first: int = 0) -> "Garbling":
         """Garbles from an offset of 16 bytes, a zero label for each input wire, and the number of the first AND gate.

@@ -71,6 +71,7 @@ _FUNCTIONS = {
     "locate": (c_int32, _BYTES, c_size_t, POINTER(Place)),
     "plain": (c_int32, _HANDLE, _BYTES, c_size_t, _BYTES, c_size_t),
     "garble": (c_int32, _HANDLE, _BYTES, POINTER(_HANDLE)),
+    "garble_many": (c_int32, _HANDLE, _BYTES, c_size_t, POINTER(_HANDLE)),
     "garble_from": (c_int32, _HANDLE, _BYTES, _BYTES, c_size_t, c_uint64, POINTER(_HANDLE)),
     "garbling_free": (None, _HANDLE),
     "garbled_size": (c_uint64, _HANDLE, c_uint32),

@@ -30,6 +30,22 @@ impl<T: Free> Handle<T> {
         NonNull::new(handle).map(Self).ok_or(Fault::MEMORY)
     }
 
+    /// The `count` handles that a call of the library writes.
+    ///
+    /// # Safety
+    ///
+    /// Where `make` returns 0, it has written this many new handles. It writes no others.
+    pub unsafe fn many(
+        count: usize,
+        make: impl FnOnce(*mut *mut T) -> i32,
+    ) -> Result<Vec<Self>, Fault> {
+        let (mut places, mut handles) = (room(count)?, room(count)?);
+        places.resize(count, ptr::null_mut());
+        Fault::check(make(places.as_mut_ptr()))?;
+        handles.extend(places.into_iter().filter_map(NonNull::new).map(Self));
+        Ok(handles)
+    }
+
     pub fn get(&self) -> *mut T {
         self.0.as_ptr()
     }

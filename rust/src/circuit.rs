@@ -158,6 +158,31 @@ impl Circuit {
         Ok(Garbling::new(handle, Arc::clone(&self.shape)))
     }
 
+    /// Garbles under each of these seeds, as [`Circuit::garble`] does, in their order. Two at a time
+    /// are garbled side by side, which takes less time.
+    ///
+    /// # Errors
+    ///
+    /// [`Fault::GARBLING_MEMORY`], [`Fault::MEMORY`]. After an error there is no garbling.
+    #[doc(alias = "halfgates_garble_many")]
+    pub fn garble_many(&self, seeds: &[[u8; 32]]) -> Result<Vec<Garbling>, Fault> {
+        let mut garblings = room(seeds.len())?;
+        // SAFETY: the call reads the 32 bytes of each seed, and writes a handle for each.
+        let handles = unsafe {
+            Handle::many(seeds.len(), |places| {
+                let (at, count) = (seeds.as_ptr().cast(), seeds.len());
+                sys::halfgates_garble_many(self.handle.get(), at, count, places)
+            })?
+        };
+        let shape = &self.shape;
+        garblings.extend(
+            handles
+                .into_iter()
+                .map(|it| Garbling::new(it, Arc::clone(shape))),
+        );
+        Ok(garblings)
+    }
+
     /// Garbles from an offset, whose colour is 1, and from the zero labels of all input wires.
     ///
     /// `first` is the number of the first AND gate. Under one offset, use no AND number twice:

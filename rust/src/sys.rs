@@ -142,6 +142,12 @@ extern "C" {
         seed: *const u8,
         garbling: *mut *mut halfgates_garbling,
     ) -> i32;
+    pub fn halfgates_garble_many(
+        circuit: *mut halfgates_circuit,
+        seeds: *const u8,
+        count: usize,
+        garblings: *mut *mut halfgates_garbling,
+    ) -> i32;
     pub fn halfgates_garble_from(
         circuit: *mut halfgates_circuit,
         offset: *const u8,

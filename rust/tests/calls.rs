@@ -67,6 +67,19 @@ fn numbers() {
 }
 
 #[test]
+fn garblings_under_several_seeds() {
+    let circuit = adder();
+    let seeds: Vec<[u8; 32]> = (0..5).map(|it| [it; 32]).collect();
+    let garblings = circuit.garble_many(&seeds).unwrap();
+    assert_eq!(garblings.len(), seeds.len());
+    for (seed, garbling) in seeds.iter().zip(&garblings) {
+        let alone = circuit.garble(seed).unwrap();
+        assert_eq!(garbling.write(Version::V2), alone.write(Version::V2));
+    }
+    assert!(circuit.garble_many(&[]).unwrap().is_empty());
+}
+
+#[test]
 fn a_garbling_shows_no_label() {
     let garbling = garbling();
     let job = adder()

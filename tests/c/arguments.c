@@ -72,6 +72,11 @@ static void garble(halfgates_circuit *circuit, halfgates_garbling *garbling) {
     CHECK_CODE(BAD, halfgates_garble(NULL, SEED, &made));
     CHECK_CODE(BAD, halfgates_garble(circuit, NULL, &made));
     CHECK_CODE(BAD, halfgates_garble(circuit, SEED, NULL));
+    CHECK_CODE(BAD, halfgates_garble_many(NULL, SEED, 1, &made));
+    CHECK_CODE(BAD, halfgates_garble_many((halfgates_circuit *)garbling, SEED, 1, &made));
+    CHECK_CODE(BAD, halfgates_garble_many(circuit, NULL, 1, &made));
+    CHECK_CODE(BAD, halfgates_garble_many(circuit, SEED, 1, NULL));
+    CHECK_CODE(HALFGATES_OK, halfgates_garble_many(circuit, SEED, 0, &made));
     CHECK(made == NULL);
     CHECK_CODE(BAD, halfgates_garbling_write(NULL, 2, room, sizeof room, &written));
     CHECK_CODE(BAD, halfgates_garbling_write(garbling, 0, room, sizeof room, &written));

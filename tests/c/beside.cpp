@@ -224,6 +224,15 @@ void check_own_labels(halfgates::circuit &circuit) {
     throws(42, [&] { (void)circuit.label_file(2, zeros); });
 }
 
+/* Garblings under several seeds are those under each of them. */
+void check_many(halfgates::circuit &circuit) {
+    const std::vector<halfgates::seed> keys{seed_of(SEED), halfgates::seed::random(), halfgates::seed::random()};
+    std::vector<halfgates::garbling> garblings = circuit.garble_many(keys);
+    CHECK(garblings.size() == keys.size() && circuit.garble_many({}).empty());
+    for (std::size_t i = 0; i < keys.size(); i++)
+        CHECK(garblings[i].write() == circuit.garble(keys[i]).write());
+}
+
 } // namespace
 
 int main(int count, char **words) {
@@ -239,6 +248,7 @@ int main(int count, char **words) {
     check_audits(circuit, garbling, count - 2, words + 2);
     check_jobs(circuit, garbling);
     check_own_labels(circuit);
+    check_many(circuit);
     CHECK(halfgates::locate(text).fault == HALFGATES_OK);
     CHECK(halfgates::locate(std::string("1 5 x")).column == 5);
     return 0;

@@ -89,6 +89,25 @@ static void work_on_labels(halfgates_circuit *circuit, halfgates_garbling *garbl
     halfgates_circuit_free(other);
 }
 
+/* Five garblings, which are those under each seed alone: two pairs and one more. After a refusal none is left. */
+static void garble_many(halfgates_circuit *circuit) {
+    enum { COUNT = 5 };
+    uint8_t seeds[32 * COUNT], garbled[177], expected[177];
+    size_t written;
+    halfgates_garbling *garblings[COUNT] = {NULL}, *alone = NULL;
+    for (size_t i = 0; i < sizeof seeds; i++)
+        seeds[i] = (uint8_t)(3 * i + i / 32);
+    CALL(halfgates_garble_many(circuit, seeds, COUNT, garblings));
+    for (size_t i = 0; i < COUNT; i++) {
+        CALL(halfgates_garble(circuit, seeds + 32 * i, &alone));
+        CALL(halfgates_garbling_write(alone, 2, expected, sizeof expected, &written));
+        CALL(halfgates_garbling_write(garblings[i], 2, garbled, sizeof garbled, &written));
+        CHECK(memcmp(garbled, expected, sizeof garbled) == 0);
+        halfgates_garbling_free(alone);
+        halfgates_garbling_free(garblings[i]);
+    }
+}
+
 /* All calls that take memory. */
 static void work(void) {
     const uint8_t *text = (const uint8_t *)FULL_ADDER, seed[32] = {5}, bits[3] = {1, 0, 1};
@@ -108,6 +127,7 @@ static void work(void) {
     CALL(halfgates_plain(circuit, bits, 3, outputs, 2));
     CHECK(outputs[0] == 0 && outputs[1] == 1);
     CALL(halfgates_garble(circuit, seed, &garbling));
+    garble_many(circuit);
     check_sizes(garbling);
     CALL(halfgates_garbling_write(garbling, 1, garbled, sizeof garbled, &written));
     CALL(halfgates_garbling_write(garbling, 2, garbled, sizeof garbled, &written));

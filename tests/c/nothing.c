@@ -18,6 +18,7 @@ static void check_circuit(const char *text, size_t values) {
     CHECK(values == 0 || widths[0] == 0);
     CHECK_CODE(HALFGATES_OK, halfgates_plain(circuit, NULL, 0, NULL, 0));
     CHECK_CODE(HALFGATES_OK, halfgates_garble(circuit, SEED, &garbling));
+    CHECK_CODE(HALFGATES_OK, halfgates_garble_many(circuit, NULL, 0, NULL));
     CHECK_CODE(HALFGATES_OK, halfgates_garble_from(circuit, OFFSET, NULL, 0, 0, &own));
     CHECK_CODE(HALFGATES_OK, halfgates_labels(garbling, NULL, 0, 0, NULL, 0));
     CHECK_CODE(HALFGATES_OK, halfgates_rows(garbling, NULL, 0));

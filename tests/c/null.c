@@ -95,6 +95,8 @@ int main(int count, char **words) {
     CHECK_REFUSED(halfgates_evaluate, job, NULL, 2);
     CHECK_REFUSED(halfgates_job_output_labels, job, NULL, 1);
     CHECK_REFUSED(halfgates_job_output_labels, job, NULL, 32);
+    CHECK_REFUSED(halfgates_garble_many, circuit, NULL, 1, &made_garbling);
+    CHECK_REFUSED(halfgates_garble_many, circuit, seed, 1, NULL);
     CHECK_REFUSED(halfgates_garble_from, circuit, offset, NULL, 1, 0, &made_garbling);
     CHECK_REFUSED(halfgates_garble_from, circuit, offset, NULL, 48, 0, &made_garbling);
     CHECK_REFUSED(halfgates_garbling_deal, garbling, 0, NULL, 1, room, sizeof room, &written);

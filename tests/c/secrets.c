@@ -212,6 +212,18 @@ static void garble_from_labels(halfgates_circuit *circuit, const struct values *
     free(zero), free(active);
 }
 
+/* Three garblings: two side by side, and one alone. */
+static void garble_many(halfgates_circuit *circuit) {
+    uint8_t seeds[96];
+    halfgates_garbling *garblings[3] = {NULL};
+    for (size_t i = 0; i < sizeof seeds; i++)
+        seeds[i] = (uint8_t)(5 * i + i / 32);
+    hide(seeds, sizeof seeds);
+    CALL(0, halfgates_garble_many(circuit, seeds, 3, garblings));
+    for (size_t i = 0; i < 3; i++)
+        halfgates_garbling_free(garblings[i]);
+}
+
 int main(int count, char **words) {
     uint8_t seed[32];
     size_t size, sizes[256], labels_size;
@@ -234,6 +246,7 @@ int main(int count, char **words) {
     for (uint32_t version = 1; version <= 2; version++)
         check_version(circuit, garbling, version, labels, labels_size, sizes, &values);
     garble_from_labels(circuit, &values);
+    garble_many(circuit);
 
     halfgates_garbling_free(garbling);
     halfgates_circuit_free(circuit);

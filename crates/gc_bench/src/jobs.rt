@@ -4,7 +4,8 @@ use anyhow::{Result, anyhow};
 use gc_bank::{evaluate_jobs, one_circuit};
 use gc_circuit::Circuit;
 use gc_file::{LabelFile, MemSink, read_garbled, read_labels, write_labels};
-use gc_job::{Job, evaluate};
+use gc_half::Four;
+use gc_job::{Job, evaluate, evaluate_four};
 use gc_label::Seed;
 use gc_rounds::MAX_JOBS;
 use gc_workers::Open;
@@ -47,6 +48,23 @@ fn label_file(
 pub fn one_after_another(alloc: Global, jobs: &[Job]) -> Result<()> {
     for job in jobs {
         evaluate(alloc, job)?;
+    }
+    Ok(())
+}
+
+/// Evaluates a job four times, side by side.
+pub fn side_by_side(alloc: Global, job: &Job) -> Result<()> {
+    let four = evaluate_four(
+        alloc,
+        Four {
+            a: job,
+            b: job,
+            c: job,
+            d: job,
+        },
+    );
+    if four.d.is_none() {
+        return Err(anyhow!("the job has no output bits"));
     }
     Ok(())
 }

@@ -1,12 +1,12 @@
 //! The parts that are timed.
 
-use crate::jobs::{job_of, one_after_another, together};
+use crate::jobs::{job_of, one_after_another, side_by_side, together};
 use crate::part::Part;
 use anyhow::{Result, anyhow};
 use gc_circuit::{Circuit, fits, plain_eval};
 use gc_eval::evaluate_many;
 use gc_file::{GarbledReader, MemSink, Sink, SinkFault, read_garbled, write_garbled2};
-use gc_half::{Garbling, garble_one_thread};
+use gc_half::{Garbling, garble_one_thread, garble_two};
 use gc_job::{Job, evaluate};
 use gc_label::Seed;
 use gc_lanes::{LongSha256, hash_eight, hash_four};
@@ -22,6 +22,7 @@ use std::thread::Threads;
 pub struct Subject {
     pub circuit: Circuit,
     seed: Seed,
+    other: Seed,
     garbling: Garbling,
     values: Vec<Vec<bool>>,
     canonical_text: Vec<u8>,
@@ -64,6 +65,7 @@ impl Subject {
             garbled_file: file_of(alloc, &circuit, &garbling, &seed)?,
             circuit,
             seed,
+            other: Seed::from_bytes([1; 32]),
             garbling,
         })
     }
@@ -104,8 +106,12 @@ impl Subject {
             Part::Lanes => self.lanes(),
             Part::EightLanes => self.eight_lanes(),
             Part::Garble => Ok(garble_one_thread(alloc, &self.circuit, &self.seed).map(drop)?),
+            Part::GarbleTwo => {
+                Ok(garble_two(alloc, &self.circuit, &self.seed, &self.other).map(drop)?)
+            }
             Part::GarbleBy(workers) => self.garble(rt, alloc, workers),
             Part::Job => Ok(evaluate(alloc, job).map(drop)?),
+            Part::JobFour => side_by_side(alloc, job),
             Part::JobBy(workers) => Ok(evaluate_many(rt, alloc, job, workers, &Open).map(drop)?),
             Part::List => one_after_another(alloc, jobs),
             Part::ListBy(workers) => together(rt, alloc, jobs, workers),

@@ -13,10 +13,14 @@ pub enum Part {
     EightLanes,
     /// Garbling on one thread.
     Garble,
+    /// Two garblings side by side on one thread.
+    GarbleTwo,
     /// Garbling by this many workers.
     GarbleBy(u32),
     /// Evaluation of a job on one thread.
     Job,
+    /// Evaluation of four jobs side by side on one thread.
+    JobFour,
     /// Evaluation of a job by this many workers.
     JobBy(u32),
     /// Evaluation of a list of jobs on one thread, one after another.
@@ -40,16 +44,18 @@ pub enum Part {
 }
 
 /// All parts, each with its name on the command line.
-static PARTS: [(&str, Part); 22] = [
+static PARTS: [(&str, Part); 24] = [
     ("read", Part::Read),
     ("plain", Part::Plain),
     ("lanes", Part::Lanes),
     ("eight_lanes", Part::EightLanes),
     ("garble", Part::Garble),
+    ("garble_two", Part::GarbleTwo),
     ("garble1", Part::GarbleBy(1)),
     ("garble2", Part::GarbleBy(2)),
     ("garble4", Part::GarbleBy(4)),
     ("job", Part::Job),
+    ("job_four", Part::JobFour),
     ("job1", Part::JobBy(1)),
     ("job2", Part::JobBy(2)),
     ("job4", Part::JobBy(4)),

@@ -5,3 +5,4 @@ pub mod PlainLemmas
 pub mod RoomLemmas
 mod PieceLemmas
 mod LabelFileLemmas
+mod ManyLemmas

@@ -18,6 +18,7 @@ mod job;
 mod label_bytes;
 mod label_file;
 mod label_files;
+mod many;
 mod plain;
 mod values;
 mod version;

@@ -5,7 +5,7 @@ use gc_circuit::{
     Circuit, Gate, Memory, Operation, ReadFault, ValueFault, fits, plain_eval, read_value,
     show_value,
 };
-use gc_half::{garble_one_thread, input_active_labels, input_zero_labels};
+use gc_half::{garble_one_thread, garble_two, input_active_labels, input_zero_labels};
 use gc_label::Label;
 use gc_refusing::Refusing;
 use gc_worked::circuits::{ADDER_DIGEST, FULL_ADDER, many_ands, one_zero_one};
@@ -27,10 +27,11 @@ enum Call {
     ZeroLabels,
     ActiveLabels,
     Garble,
+    GarbleTwo,
 }
 
 /// The calls, and how many growths each asks for.
-static GROWTHS: [(Call, u64); 10] = [
+static GROWTHS: [(Call, u64); 11] = [
     (Call::Read, 4),
     (Call::Copy, 3),
     (Call::Canon, 4),
@@ -41,6 +42,7 @@ static GROWTHS: [(Call, u64); 10] = [
     (Call::ZeroLabels, 1),
     (Call::ActiveLabels, 1),
     (Call::Garble, 2),
+    (Call::GarbleTwo, 4),
 ];
 
 /// The full adder, input values for it, and what two calls give with ample memory.
@@ -74,6 +76,7 @@ impl Adder {
             Call::ZeroLabels => self.zero_labels(heap),
             Call::ActiveLabels => active_labels(heap),
             Call::Garble => self.garble(heap),
+            Call::GarbleTwo => self.garble_two(heap),
         }
     }
 
@@ -111,6 +114,13 @@ impl Adder {
     fn garble(&self, heap: &Refusing<Global>) -> Answer {
         match garble_one_thread(heap, &self.circuit, &zero_seed()) {
             Ok(garbling) => plain_if(garbling.fits(&self.circuit)),
+            Err(Memory) => Answer::Memory,
+        }
+    }
+
+    fn garble_two(&self, heap: &Refusing<Global>) -> Answer {
+        match garble_two(heap, &self.circuit, &zero_seed(), &zero_seed()) {
+            Ok((one, other)) => plain_if(one.rows() == other.rows() && one.fits(&self.circuit)),
             Err(Memory) => Answer::Memory,
         }
     }

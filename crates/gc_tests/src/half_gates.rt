@@ -23,9 +23,9 @@ use crate::labels::{A, B, R, are_labels, label, zero_seed};
 use gc_circuit::Circuit;
 use gc_half::{
     AndGate, AndStep, GarbledAnd, Garbling, RowPair, eval_and, eval_four_ands, eval_two_ands,
-    garble_and, garble_one_thread, garble_two_ands, tweak_hash,
+    garble_and, garble_one_thread, garble_two, garble_two_ands, tweak_hash,
 };
-use gc_label::{Label, offset};
+use gc_label::{Label, Seed, offset};
 use gc_worked::circuits::{AND, AND_INV_AND};
 use std::test::Fail;
 
@@ -196,6 +196,21 @@ fn a_circuit(rt: HostRuntime) -> Result<(), Fail> {
     let rows = [FIRST_AND.rows(), SECOND_AND.rows()];
     assert!(rt; garbling.rows() == rows.as_slice() && garbling.outputs() == 2);
     assert!(rt; !garbling.decode_bit(0) && !garbling.decode_bit(1));
+    Ok(())
+}
+
+/// Of two garblings side by side one is that of the zero seed, and the other the one that is made alone.
+#[test]
+fn two_garblings_of_a_circuit(rt: HostRuntime) -> Result<(), Fail> {
+    let circuit = Circuit::read(rt.alloc(), AND_INV_AND.as_bytes())?;
+    let seed = Seed::from_bytes([7; 32]);
+    let (first, second) = garble_two(rt.alloc(), &circuit, &zero_seed(), &seed)?;
+    let zero_labels = [A, B, FIRST_AND.zero, FIRST_AND.zero ^ R, SECOND_AND.zero];
+    assert!(rt; has_zero_labels(&first, &circuit, &zero_labels));
+    assert!(rt; first.rows() == [FIRST_AND.rows(), SECOND_AND.rows()].as_slice());
+    let alone = garble_one_thread(rt.alloc(), &circuit, &seed)?;
+    assert!(rt; second.zero_labels() == alone.zero_labels() && second.rows() == alone.rows());
+    assert!(rt; second.zero_label(0) != first.zero_label(0) && second.rows() != first.rows());
     Ok(())
 }
 

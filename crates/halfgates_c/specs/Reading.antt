@@ -1,10 +1,12 @@
 -- What is handed out.
-use Rattle.std.specs.Prelude.{ℕ, List}
+use Rattle.std.specs.Prelude.{◌≢◌, ℕ, List}
 use Rattle.gc_netlist.specs.Circuit.{Netlist, IsLawful}
 use Rattle.gc_netlist.specs.Spelling.{Spells}
 use Rattle.gc_label.specs.Seed.{offset_of}
 use Rattle.gc_half.specs.Garbling.{GarblingParts, IsGarbled}
-use Rattle.gc_kept.specs.Garbling.{GarblingWith}
+use Rattle.gc_kept.specs.declared.fault.KeptFault.{KeptFault}
+use Rattle.gc_kept.specs.declared.fault.KeptFault.TheVariants.{BadArgument}
+use Rattle.gc_kept.specs.Garbling.{GarblingWith, IsWantOfMemory}
 use Rattle.gc_kept.specs.Labels.{IsFromLabels}
 use Rattle.gc_job.specs.Job.{JobParts}
 use Rattle.gc_kept.specs.Job.{IsBoundJob}
@@ -29,6 +31,15 @@ pub record HoldsGarbling (c : Netlist) (seed : List ℕ) (slot : Slot) : Type 0 
   pub garbled : IsGarbled c seed garbling
   pub holds : Holds slot
       (Garbling (record { circuit = c; offset = offset_of seed; first = 0; garbling = garbling }))
+
+-- C's pointer is to a handle of this garbling.
+abbrev pub HoldsThis : GarblingWith → Slot → Type 0
+HoldsThis g slot = Holds slot (Garbling g)
+
+-- The fault of garbling under many seeds: there are not as many pointers as seeds, or memory is missing.
+abbrev pub HasManyFault : ℕ → ℕ → KeptFault → Type 0
+HasManyFault seeds pointers BadArgument = seeds ≢ pointers
+HasManyFault seeds pointers fault = IsWantOfMemory fault
 
 -- C's pointer is to a handle of the garbling of the circuit from an offset and zero labels, its AND gates numbered from
 -- `first` on.

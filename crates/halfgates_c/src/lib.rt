@@ -14,6 +14,7 @@ mod garbling;
 mod handle;
 mod job;
 mod locate;
+mod many;
 mod name;
 mod null;
 mod slot;

@@ -1,6 +1,6 @@
 //! C's pointer.
 
-ghost use Rattle.std.specs.Prelude.{◌≡◌, OnOk, OnErr, IfErr};
+ghost use Rattle.std.specs.Prelude.{◌≡◌, OnOk, OnErr, IfOk, IfErr};
 ghost use Rattle.std.specs.declared.option.Option.{Option};
 ghost use Rattle.gc_handle.specs.Behind.{behind};
 ghost use Rattle.halfgates_c.specs.declared.handle.Handle.{Handle};
@@ -54,10 +54,18 @@ impl Slot {
         ensures fault { IfErr result (λ fault. fault ≡ KeptFault.Memory) }
         ensures kept { OnErr result (self.new ≡ self.old) }
     {
-        let handle = Handle::holding(alloc, Some(Box::new(alloc, held)?));
-        let pointer = Slot::of_pointer(Pointer::of(Box::new(alloc, handle)?));
+        let pointer = Slot::holding(alloc, held)?;
         mem::forget(mem::replace(self, pointer));
         Ok(())
+    }
+
+    /// The pointer to a handle of this.
+    pub(crate) fn holding(alloc: Global, held: Held) -> Result<Slot, KeptFault>
+        ensures done { IfOk result (λ slot. Holds slot held) }
+        ensures fault { IfErr result (λ fault. fault ≡ KeptFault.Memory) }
+    {
+        let handle = Handle::holding(alloc, Some(Box::new(alloc, held)?));
+        Ok(Slot::of_pointer(Pointer::of(Box::new(alloc, handle)?)))
     }
 }
 

@@ -1,0 +1,54 @@
+#!/usr/bin/env python3
+"""Times garbling and evaluating one circuit several times, one after another and side by side.
+
+  side_by_side.py BENCH
+
+BENCH is gc_bench. It prints a table of the fastest of nine runs on one thread: a garbling alone, and
+one of two side by side; a job alone, and one of four side by side. A second table has what an AND
+gate takes, beside its hashes alone at eight at once: four to garble it, and two to evaluate it.
+"""
+
+import sys
+import tempfile
+
+from measure import CIRCUITS, make, print_row, times
+
+# How long one of several side by side may take at the most, in times one alone.
+MOST = {
+    "SHA-256's compression, 8 times": (0.66, 0.55),
+    "AES-128, 33 times": (0.91, None),
+    "64 chains of AND gates": (0.6, 0.35),
+}
+
+
+def main():
+    [bench] = sys.argv[1:]
+    print_row("milliseconds", "garbling", "of two", "ratio", "evaluating", "of four", "ratio")
+    rows = {}
+    with tempfile.TemporaryDirectory() as folder:
+        file = f"{folder}/circuit"
+        for name, command in CIRCUITS.items():
+            make(command, file)
+            parts = "garble", "garble_two", "job", "job_four", "eight_lanes"
+            rows[name] = print_ratios(name, times(bench, file, 9, *parts))
+    columns = "garbling", "of two", "4 hashes", "evaluating", "of four", "2 hashes"
+    print_row("nanoseconds an AND gate", *columns)
+    for name, row in rows.items():
+        print_row(name, *[f"{it:.0f}" for it in row])
+
+
+def print_ratios(name, took):
+    """Prints milliseconds and ratios, and returns what an AND gate takes."""
+    garbled, beside = took["garble"], took["garble_two"] / 2
+    evaluated, four = took["job"], took["job_four"] / 4
+    cells = [f"{it / 1e6:.1f}" for it in (garbled, beside, evaluated, four)]
+    ratios = beside / garbled, four / evaluated
+    limits = [f" (at most {it})" if it else "" for it in MOST.get(name, (None, None))]
+    ratios = [f"{it:.2f}{most}" for it, most in zip(ratios, limits)]
+    print_row(name, *cells[:2], ratios[0], *cells[2:], ratios[1])
+    hashes = took["eight_lanes"]
+    row = garbled, beside, hashes, evaluated, four, hashes / 2
+    return [it / max(took["and"], 1) for it in row]
+
+
+main()

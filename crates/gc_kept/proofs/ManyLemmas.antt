@@ -1,0 +1,26 @@
+-- Results of a list of things, one for each in order.
+use Rattle.std.proofs.Common.{◌≡◌, ℕ, ◌+◌, ◌*◌, ◌<◌, ◌≤◌, List, [], ◌∷◌, ◌++◌, length, take, get_or, arith}
+use Rattle.std.specs.List.{AllZip}
+use Rattle.std.proofs.lemmas.List.{take_more, take_all}
+use Rattle.std.proofs.lemmas.Slice.Zip.{all_zipped_more}
+
+module _ {A B : Type 0} (R : A → B → Type 0) (xs : List A) where
+  -- One more,
+  pub all_more : (ys : List B) (i : ℕ) (d x : A) (y : B) → i < length xs → x ≡ get_or xs i d
+      → AllZip R (take i xs) ys → R x y → AllZip R (take (i + 1) xs) (ys ++ y ∷ [])
+  all_more ys i d x y within is before holds =
+      rw (take_more xs i d within, ← is) (all_zipped_more R (take i xs) ys x y before holds)
+
+  -- or two more, of those that stand in pairs.
+  pub two_more : (ys : List B) (i : ℕ) (d x x' : A) (y y' : B) → 2 * i + 1 < length xs
+      → x ≡ get_or xs (2 * i) d → x' ≡ get_or xs (2 * i + 1) d
+      → AllZip R (take (2 * i) xs) ys → R x y → R x' y'
+      → AllZip R (take (2 * (i + 1)) xs) ((ys ++ y ∷ []) ++ y' ∷ [])
+  two_more ys i d x x' y y' within is is' before holds holds' =
+      let place : 2 * (i + 1) ≡ 2 * i + 1 + 1 = omega arith in
+      let one = all_more ys (2 * i) d x y (omega (arith, within)) is before holds in
+      rw place (all_more (ys ++ y ∷ []) (2 * i + 1) d x' y' within is' one holds')
+
+  -- There are no more.
+  pub all_ended : (ys : List B) (i : ℕ) → length xs ≤ i → AllZip R (take i xs) ys → AllZip R xs ys
+  all_ended ys i end before = (rw (take_all i xs end) at before)

@@ -1,0 +1,88 @@
+//! Many garblings of one circuit.
+
+ghost use Rattle.std.specs.Prelude.{◌≡◌, ◌≢◌, IfErr, IfOk, MatchOption, OnErr, OnOk, length, pos};
+ghost use Rattle.std.specs.List.{AllZip};
+ghost use Rattle.core.specs.Ptr.{as_mut_ptr};
+ghost use denote.RawPtr.{Testable};
+ghost use Rattle.halfgates_c.specs.Answers.{Answers};
+ghost use Rattle.halfgates_c.specs.Holding.{circuit_of};
+ghost use Rattle.halfgates_c.specs.Reading.{HasManyFault, HoldsGarbling, HoldsThis};
+
+use crate::code::{BAD_ARGUMENT, code_of};
+use crate::handle::{Handle, on_held};
+use crate::null::is_null;
+use crate::slot::Slot;
+use gc_kept::{Held, KeptCircuit, KeptFault, KeptGarbling};
+use std::alloc::Global;
+use std::mem;
+
+/// A handle of each garbling.
+fn handles_of(
+    alloc: Global,
+    garblings: Vec<KeptGarbling, Global>,
+) -> Result<Vec<Slot, Global>, KeptFault>
+    ensures ok { IfOk result (λ handles.
+        AllZip HoldsThis garblings.items handles.items) }
+    ensures fault { IfErr result (λ fault. fault ≡ KeptFault.Memory) }
+{
+    let mut handles = Vec::with_capacity(alloc, garblings.len())?;
+    for garbling in garblings {
+        handles.push(Slot::holding(alloc, Held::Garbling(garbling))?)?;
+    }
+    Ok(handles)
+}
+
+/// Writes each handle to the place of C's pointer. What was there isn't looked at. That there are as many places is the
+/// caller's condition.
+fn give(mut handles: Vec<Slot, Global>, slots: &mut [Slot])
+    requires { length slots.old ≡ length handles.items }
+    ensures { slots.new ≡ handles.items }
+{
+    while let Some(handle) = handles.pop() {
+        let place = handles.len();
+        mem::forget(mem::replace(&mut slots[place], handle));
+    }
+}
+
+/// Garbles a circuit under each seed, and hands the garblings out: all of them or none.
+fn garble_many(
+    alloc: Global,
+    circuit: &KeptCircuit,
+    seeds: &[[u8; 32]],
+    slots: &mut [Slot],
+) -> Result<(), KeptFault>
+    ensures ok { OnOk result (AllZip (HoldsGarbling circuit.now) seeds.now slots.new) }
+    ensures fault { IfErr result (HasManyFault (length seeds.now) (length slots.old)) }
+    ensures kept { OnErr result (slots.new ≡ slots.old) }
+{
+    if slots.len() != seeds.len() {
+        return Err(KeptFault::BadArgument);
+    }
+    let garblings = circuit.garble_many(alloc, seeds)?;
+    let handles = handles_of(alloc, garblings)?;
+    give(handles, slots);
+    Ok(())
+}
+
+/// Garbles a circuit under each of these seeds.
+#[unsafe(no_mangle)]
+pub extern "C" fn halfgates_garble_many(
+    alloc: Global,
+    circuit: &mut Handle,
+    seeds: &[[u8; 32]],
+    garblings: &mut [Slot],
+) -> i32
+    requires circuit { Testable (as_mut_ptr circuit) }
+    ensures answer { MatchOption (circuit_of circuit.old.held) (result ≡ pos 60) (λ c.
+        Answers result (AllZip (HoldsGarbling c) seeds.now garblings.new)
+        (HasManyFault (length seeds.now) (length garblings.old))) }
+    ensures held { circuit.new.held ≡ circuit.old.held }
+    ensures kept { result ≢ pos 0 → garblings.new ≡ garblings.old }
+{
+    if is_null(circuit) {
+        return BAD_ARGUMENT;
+    }
+    on_held!(alloc, circuit, Circuit(circuit) => {
+        code_of(garble_many(alloc, circuit, seeds, garblings))
+    }, else BAD_ARGUMENT)
+}
