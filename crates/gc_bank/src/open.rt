@@ -12,7 +12,7 @@ ghost use Rattle.gc_bank.specs.Seats.{IsSeatOf, IsNew, view, jobs_on, seats_on};
 
 use crate::seat::{BankSeat, Banks};
 use crate::series::Series;
-use gc_gates::{BankTable, Place, Words, open_banks, settle};
+use gc_gates::{BankTable, Place, Words, learn_once, open_banks};
 use gc_job::{Job, Wiring};
 use gc_rounds::{Key, MAX_JOBS, Rule, deal_place, join_place};
 use gc_workers::{CloseRefused, MAX_WORKERS, OpenFault};
@@ -105,7 +105,7 @@ impl<'j, 'c, B: Allocator + Copy, A: Allocator, C: Allocator> Banks<'j, 'c, B, A
 
 impl<'j, 'c, B: Allocator, A: Allocator, C: Allocator> Banks<'j, 'c, B, A, C> {
     /// Joins all seats in one, which shows that they made each gate at most once in each round.
-    fn settle_all(&self, seats: Vec<BankSeat<B, A, C>, B>)
+    fn learn_all(&self, seats: Vec<BankSeat<B, A, C>, B>)
         requires own { All (IsSeatOf self.now) seats.items }
         requires outside { All (λ s. (view s).stand ≡ Outside) seats.items }
         requires all { length seats.items ≡ seats_on self.now }
@@ -113,7 +113,7 @@ impl<'j, 'c, B: Allocator, A: Allocator, C: Allocator> Banks<'j, 'c, B, A, C> {
     {
         let words = &self.board.table.shared;
         let mut whole = gather(words, seats);
-        settle(words, &mut whole);
+        learn_once(words, &mut whole);
     }
 
     /// Ends the banks, exactly where all their seats are there and outside: else 47, with all that was passed. The
@@ -138,7 +138,7 @@ impl<'j, 'c, B: Allocator, A: Allocator, C: Allocator> Banks<'j, 'c, B, A, C> {
             return Err(CloseRefused { board: self, seats });
         }
         let made = made_by(&seats);
-        self.settle_all(seats);
+        self.learn_all(seats);
         Ok(made)
     }
 }

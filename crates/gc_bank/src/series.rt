@@ -1,6 +1,6 @@
 //! What the words of two banks are about: a list of jobs, as contracts see it.
 
-use gc_gates::Work;
+use gc_gates::Subject;
 use gc_job::Facts;
 use gc_steps::Jobs;
 use std::alloc::{Allocator, Global};
@@ -21,7 +21,7 @@ impl<B: Allocator, A: Allocator, C: Allocator> Model for Series<B, A, C> {
     ghost view = { λ s. s.jobs.items };
 }
 
-impl<B: Allocator, A: Allocator, C: Allocator> Work for Series<B, A, C> {
+impl<B: Allocator, A: Allocator, C: Allocator> Subject for Series<B, A, C> {
     ghost use Rattle.gc_bank.specs.Rounds.{gates_of, IsRightIn};
 
     ghost gates = { gates_of };

@@ -6,7 +6,8 @@ use Rattle.gc_eval.specs.declared.worker.Worker.{Worker}
 use Rattle.gc_eval.specs.Seats.{IsSeatOf, job_on}
 
 -- The worker has a seat of this board, and walks over its gates.
-pub record IsWorkerOf {A B C : Type 0} (board : EvalBoard B A C) (worker : Worker B A C) : Type 0 where
+pub record IsWorkerOf {A B C : Type 0} (board : EvalBoard B A C)
+    (worker : Worker B A C) : Type 0 where
   pub seat_of : IsSeatOf board worker.seat
   pub gates : worker.walk.gates ≡ gates_of (job_on board)
 

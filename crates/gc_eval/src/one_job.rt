@@ -1,6 +1,6 @@
 //! What the words of a board are about: its job, as contracts see it.
 
-use gc_gates::Work;
+use gc_gates::Subject;
 use gc_job::Facts;
 use gc_steps::Jobs;
 use std::alloc::{Allocator, Global};
@@ -20,7 +20,7 @@ impl<A: Allocator, C: Allocator> Model for OneJob<A, C> {
     ghost view = { λ work. work.facts };
 }
 
-impl<A: Allocator, C: Allocator> Work for OneJob<A, C> {
+impl<A: Allocator, C: Allocator> Subject for OneJob<A, C> {
     ghost use Rattle.gc_job.specs.ActiveLabels.{gates_of};
     ghost use Rattle.gc_eval.specs.OneJob.{IsRight};
 

@@ -19,7 +19,7 @@ use Rattle.gc_gates.specs.Layout.{Layout}
 use Rattle.gc_gates.specs.Layout.{one_round}
 use Rattle.gc_gates.specs.Gates.{state_of, in_hand, Fits, Sound, no_view}
 use Rattle.gc_gates.specs.Steps.{joined}
-use Rattle.gc_gates.specs.Board.{Dealt, first_seat, dealt_seat, note_of, Settled}
+use Rattle.gc_gates.specs.Board.{Dealt, first_seat, dealt_seat, note_of, AtRest}
 use Rattle.gc_gates.specs.BoardLaw.{one_round_law}
 use Rattle.gc_gates.specs.declared.view.GateView.{GateView}
 use Rattle.gc_gates.specs.declared.view.Hand.TheVariants.{Empty}
@@ -208,10 +208,10 @@ module _ {J : Type 0} (gates : J → ℕ) (right : J → ℕ → ℕ → ℕ →
         (sees_all one_round gates right _ _ (one_round_law gates right) key s.words s.views id v o
         at are whole r g).1
 
-    pub settled : (id : ℕ) (v : View (GateView J)) (ws : List ℕ) (xs : List ℕ) → v.all ≡ key.seats
+    pub at_rest : (id : ℕ) (v : View (GateView J)) (ws : List ℕ) (xs : List ℕ) → v.all ≡ key.seats
         → v.seats ≡ v.all → Final (Seen Holds id v) ws xs
-        → Settled gates right key.about ws v.inner.made
-    settled id v ws xs are whole f = let s = f.0 in let o = f.1.0 in rw (← f.2) (record {
+        → AtRest gates right key.about ws v.inner.made
+    at_rest id v ws xs are whole f = let s = f.0 in let o = f.1.0 in rw (← f.2) (record {
       long = o.1.long;
       cells = λ g. o.1.cells 0 g;
       mades = λ g. let c = o.1.cells 0 g in

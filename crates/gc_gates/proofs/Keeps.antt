@@ -29,7 +29,7 @@ use Rattle.gc_rounds.proofs.Keeps.{inside_is}
 use Rattle.gc_gates.specs.Pairs.{is_pair, pairs, looked}
 use Rattle.gc_gates.specs.Gates.{in_hand}
 use Rattle.gc_gates.specs.Gates as board
-use Rattle.gc_gates.specs.Steps.{Finds, changed, learnt, after_half, after_stored, half_stored, settled}
+use Rattle.gc_gates.specs.Steps.{Finds, changed, learnt, after_half, after_stored, half_stored, once_learnt}
 use Rattle.gc_gates.specs.Steps as gate_steps
 use Rattle.gc_gates.specs.Places.{IsPlaceAt}
 use Rattle.gc_gates.specs.declared.view.GateView.{GateView}
@@ -610,9 +610,9 @@ module _ (lay : Layout) where
           ))
 
     -- a seat that stands for all has made each gate at most once in a round
-    pub settles : (slots id : ℕ) (me : Me ℕ (SeatView J)) → me.0.all ≡ key.seats
-        → Allows (holds key) slots id me 0 (λ n. n) (settled (step slots 0 0 0 none) me)
-    settles slots id me are s h wide at_id small = let o = law.parts key s h in
+    pub learns_once : (slots id : ℕ) (me : Me ℕ (SeatView J)) → me.0.all ≡ key.seats
+        → Allows (holds key) slots id me 0 (λ n. n) (once_learnt (step slots 0 0 0 none) me)
+    learns_once slots id me are s h wide at_id small = let o = law.parts key s h in
         let f = o.1.fits id me.0 at_id in let found : ℕ = get_or s.words 0 0 in (
           after_half me.0 0 found,
           keeps,

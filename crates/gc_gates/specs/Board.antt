@@ -60,7 +60,7 @@ module _ {J : Type 0} where
   }
 
   -- The words of a board that no seat uses any more, and the gates that were made, each with round 0.
-  pub record Settled (gates : J → ℕ) (right : J → ℕ → ℕ → ℕ → ℕ → Type 0) (job : J)
+  pub record AtRest (gates : J → ℕ) (right : J → ℕ → ℕ → ℕ → ℕ → Type 0) (job : J)
       (words : List ℕ) (made : List (ℕ × ℕ)) : Type 0 where
     pub long : length words ≡ one_round.size (gates job)
     -- The words of each gate are right.

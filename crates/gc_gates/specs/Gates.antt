@@ -33,7 +33,7 @@ abbrev pub in_hand : ℕ → ℕ → Hand → ℕ
 in_hand r g Empty = 0
 in_hand r g (Has k h phase) = is_pair r g (k, h)
 
--- Each work says how many gates there are, and which numbers are right, in a round, as half k of a gate: the
+-- Each subject says how many gates there are, and which numbers are right, in a round, as half k of a gate: the
 -- low half is half 0, the high half is half 1.
 module _ {J : Type 0} (l : Layout) (gates : J → ℕ) (right : J → ℕ → ℕ → ℕ → ℕ → Type 0) where
   -- The halves of the gate in hand that are stored are right: the low half from phase 1 on, the high half at phase 2.

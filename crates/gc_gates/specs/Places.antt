@@ -9,8 +9,8 @@ use Rattle.gc_gates.specs.Layout.{Layout}
 use Rattle.gc_gates.specs.declared.view.GateView.{GateView}
 
 module _ {J S : Type 0} where
-  -- The seat is one of this table, which has the words of this work, and its view is of this work and of this many jobs
-  -- and seats.
+  -- The seat is one of this table, which has the words of this subject, and its view is of this subject and of this
+  -- many jobs and seats.
   pub record IsGatePlace (l : Layout) (gates : J → ℕ) (table : TableId) (key : Key J)
       (seat : Seat S (View (GateView J))) : Type 0 where
     pub words : table.words ≡ l.size (gates key.about)

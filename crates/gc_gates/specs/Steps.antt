@@ -136,7 +136,8 @@ module _ {J : Type 0} where
         → m'.0 ≡ after_done l m.0 r g)
 
     -- a load of a bank's word from which a view that stands for all seats learns that each pair was made once at most
-    abbrev pub settled : Step S → Me S (View (GateView J)) → ℕ → Me S (View (GateView J)) → Type 0
-    settled st m found m' =
+    abbrev pub once_learnt : Step S → Me S (View (GateView J)) → ℕ → Me S (View (GateView J))
+        → Type 0
+    once_learnt st m found m' =
         (m'.1 ≡ m.1) × (m'.0 ≡ after_half m.0 st.word found)
         × (m.0.seats ≡ m.0.all → IsOnce m.0.inner.made)

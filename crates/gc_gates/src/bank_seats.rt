@@ -7,9 +7,9 @@ ghost use Rattle.gc_gates.specs.Layout.{two_banks};
 ghost use Rattle.gc_gates.specs.Gates.{IsOnce, first_view};
 ghost use Rattle.gc_gates.specs.Places.{IsGatePlace};
 
-use crate::kinds::Settle;
+use crate::kinds::LearnOnce;
 use crate::steps::{Place, Words};
-use crate::view::{GateView, Work};
+use crate::view::{GateView, Subject};
 use gc_rounds::{Key, Rule, open_table};
 use gc_workers::{MAX_WORKERS, OpenFault};
 use std::alloc::{Allocator, Global};
@@ -19,13 +19,13 @@ pub type BankWords<J, A> = gc_rounds::WordTable<J, GateView<J>, A>;
 
 /// The table, as one value.
 #[derive(Drop)]
-pub struct BankTable<J: Work, A: Allocator = Global> {
+pub struct BankTable<J: Subject, A: Allocator = Global> {
     pub table: BankWords<J, A>,
 }
 
 /// A table with the words of this many gates in each bank, none of them made, and a place that stands for all seats. It
 /// allocates the words twice, and frees one copy: 46 or 49 where an allocation fails.
-pub fn open_banks<J: Work, A: Allocator + Copy>(
+pub fn open_banks<J: Subject, A: Allocator + Copy>(
     alloc: A,
     key: &Key<J>,
     gates: u32,
@@ -40,12 +40,12 @@ pub fn open_banks<J: Work, A: Allocator + Copy>(
 }
 
 /// A place that stands for all seats learns, by one load, that each gate was made at most once in each round.
-pub fn settle<J: Work>(words: &Words<J, Rule>, place: &mut Place<J>)
+pub fn learn_once<J: Subject>(words: &Words<J, Rule>, place: &mut Place<J>)
     requires place { IsGatePlace two_banks J.gates words.now.table_id words.now.key place.old }
     requires all { place.old.me.0.seats ≡ place.old.me.0.all }
     ensures same { IsSamePlace place.old place.new }
     ensures made { place.new.me.0.inner.made ≡ place.old.me.0.inner.made }
     ensures once { IsOnce place.old.me.0.inner.made }
 {
-    words.load::<Settle>(place, 0);
+    words.load::<LearnOnce>(place, 0);
 }

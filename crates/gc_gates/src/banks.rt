@@ -1,10 +1,10 @@
 //! The rule of the gates' words as the inner rule of a table of banks, and that table as a frame of them.
 
 use crate::frame::Frame;
-use crate::view::{GateView, Work};
+use crate::view::{GateView, Subject};
 use gc_rounds::{Inner, KeptInner, Rule};
 
-impl<J: Work> Inner<J> for GateView<J> {
+impl<J: Subject> Inner<J> for GateView<J> {
     ghost use Rattle.std.specs.Prelude.{◌≡◌, ◌*◌};
     ghost use Rattle.gc_gates.specs.Layout.{two_banks};
     ghost use Rattle.gc_gates.specs.Gates.{Sound, first_view, fresh_view, no_view};
@@ -26,7 +26,7 @@ impl<J: Work> Inner<J> for GateView<J> {
     ghost holds = { Sound two_banks J.gates J.right };
 }
 
-impl<J: Work> KeptInner<J> for GateView<J> {
+impl<J: Subject> KeptInner<J> for GateView<J> {
     ghost use Rattle.gc_gates.specs.BankLaws as laws;
 
     ghost opens = { laws.opens J.gates J.right };
@@ -38,7 +38,7 @@ impl<J: Work> KeptInner<J> for GateView<J> {
     ghost joins = { laws.joins J.gates J.right };
 }
 
-impl<J: Work> Frame<J> for Rule {
+impl<J: Subject> Frame<J> for Rule {
     ghost use Rattle.gc_rounds.specs.Banks.{BanksSound};
     ghost use Rattle.gc_gates.specs.Layout.{two_banks};
     ghost use Rattle.gc_gates.specs.BankLaws as laws;

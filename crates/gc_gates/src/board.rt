@@ -1,14 +1,14 @@
 //! The rule of one board, which is in round 0.
 
 use crate::frame::Frame;
-use crate::view::{GateView, Work};
+use crate::view::{GateView, Subject};
 use atomic_table::TableRule;
 use gc_rounds::{Key, View};
 
 /// The rule: the seats add up, and the words of the gates are sound.
 pub struct OneRound;
 
-impl<J: Work> TableRule<u8, View<GateView<J>>, Key<J>> for OneRound {
+impl<J: Subject> TableRule<u8, View<GateView<J>>, Key<J>> for OneRound {
     ghost use Rattle.gc_gates.specs.Layout.{one_round};
     ghost use Rattle.gc_gates.specs.Gates.{Sound};
     ghost use Rattle.gc_gates.specs.Board.{Dealt, first_seat};
@@ -19,7 +19,7 @@ impl<J: Work> TableRule<u8, View<GateView<J>>, Key<J>> for OneRound {
     ghost first = { first_seat };
 }
 
-impl<J: Work> Frame<J> for OneRound {
+impl<J: Subject> Frame<J> for OneRound {
     ghost use Rattle.gc_gates.specs.Layout.{one_round};
     ghost use Rattle.gc_gates.specs.Board.{Dealt};
     ghost use Rattle.gc_gates.specs.BoardLaw.{one_round_law};

@@ -7,14 +7,14 @@ ghost use Rattle.gc_rounds.specs.Places.{IsSamePlace};
 ghost use Rattle.gc_rounds.specs.Steps.{one_less, merged};
 ghost use Rattle.gc_gates.specs.declared.view.Hand.TheVariants.{Empty};
 ghost use Rattle.gc_gates.specs.Layout.{one_round};
-ghost use Rattle.gc_gates.specs.Board.{first_seat, dealt_seat, note_of, Settled};
+ghost use Rattle.gc_gates.specs.Board.{first_seat, dealt_seat, note_of, AtRest};
 ghost use Rattle.gc_gates.specs.Places.{IsGatePlace, IsPlaceInside};
 ghost use Rattle.gc_gates.specs.Steps.{joined};
 
 use crate::board::OneRound;
 use crate::kinds::{Deal, Merge, Note};
 use crate::steps::{Place, Words};
-use crate::view::{GateView, Work};
+use crate::view::{GateView, Subject};
 use atomic_table::{Closed, Table};
 use gc_rounds::{Key, View};
 use gc_workers::OpenFault;
@@ -32,7 +32,7 @@ pub fn free_words<A: Allocator>(alloc: A, gates: u32) -> Result<Vec<u64, A>, All
 
 /// A table of these words, in which all gates are free, and a place that stands for all seats. It allocates a copy of
 /// the words, returns 49 where there is no memory for it, and frees theirs.
-pub fn open_board<J: Work, A: Allocator>(
+pub fn open_board<J: Subject, A: Allocator>(
     alloc: A,
     key: &Key<J>,
     words: Vec<u64, A>,
@@ -51,7 +51,7 @@ pub fn open_board<J: Work, A: Allocator>(
 }
 
 /// A new seat, out of a place that stands for several.
-pub fn deal_seat<J: Work>(words: &Words<J, OneRound>, place: &mut Place<J>) -> Place<J>
+pub fn deal_seat<J: Subject>(words: &Words<J, OneRound>, place: &mut Place<J>) -> Place<J>
     requires place { IsGatePlace one_round J.gates words.now.table_id words.now.key place.old }
     requires several { 1 < place.old.me.0.seats }
     ensures kept { IsSamePlace place.old place.new × (place.new.me.0 ≡ one_less place.old.me.0) }
@@ -62,7 +62,7 @@ pub fn deal_seat<J: Work>(words: &Words<J, OneRound>, place: &mut Place<J>) -> P
 }
 
 /// `to` learns what `from` knows.
-pub fn copy_known<J: Work>(words: &Words<J, OneRound>, from: &mut Place<J>, to: &mut Place<J>)
+pub fn copy_known<J: Subject>(words: &Words<J, OneRound>, from: &mut Place<J>, to: &mut Place<J>)
     requires from { IsGatePlace one_round J.gates words.now.table_id words.now.key from.old }
     requires to { IsGatePlace one_round J.gates words.now.table_id words.now.key to.old }
     ensures from { IsSamePlace from.old from.new × (from.new.me.0 ≡ from.old.me.0) }
@@ -75,7 +75,7 @@ pub fn copy_known<J: Work>(words: &Words<J, OneRound>, from: &mut Place<J>, to: 
 }
 
 /// `other` ends, and `place` has what it had.
-pub fn join_seat<J: Work>(words: &Words<J, OneRound>, place: &mut Place<J>, other: Place<J>)
+pub fn join_seat<J: Subject>(words: &Words<J, OneRound>, place: &mut Place<J>, other: Place<J>)
     requires place { IsGatePlace one_round J.gates words.now.table_id words.now.key place.old }
     requires other { IsGatePlace one_round J.gates words.now.table_id words.now.key other }
     requires empty { (other.me.0.inner.hand ≡ Empty) × (other.me.1 ≡ []) }
@@ -87,13 +87,16 @@ pub fn join_seat<J: Work>(words: &Words<J, OneRound>, place: &mut Place<J>, othe
 }
 
 /// The words at the end, from the place that stands for all seats.
-pub fn close_board<J: Work, A: Allocator>(table: BoardWords<J, A>, place: Place<J>) -> Closed<u8, A>
+pub fn close_board<J: Subject, A: Allocator>(
+    table: BoardWords<J, A>,
+    place: Place<J>,
+) -> Closed<u8, A>
     requires place { IsGatePlace one_round J.gates table.shared.table_id table.shared.key place }
     requires all { place.me.0.seats ≡ place.me.0.all }
     ensures words { (slots_len result.words ≡ table.shared.table_id.words)
         × (slots_len result.slots ≡ table.shared.table_id.slots)
         × IsFull result.words }
-    ensures right { Settled J.gates J.right table.shared.key.about
+    ensures right { AtRest J.gates J.right table.shared.key.about
         (slots_items result.words) place.me.0.inner.made }
 {
     table.close_with(place)

@@ -1,11 +1,11 @@
 //! Tables that have words of gates.
 
-use crate::view::{GateView, Work};
+use crate::view::{GateView, Subject};
 use atomic_table::TableRule;
 use gc_rounds::{Key, View};
 
 /// The rule of a table that has words of gates: where they lie, and what holds besides the rule of these words.
-pub trait Frame<J: Work>: TableRule<u8, View<GateView<J>>, Key<J>> {
+pub trait Frame<J: Subject>: TableRule<u8, View<GateView<J>>, Key<J>> {
     ghost use Rattle.std.specs.Prelude.{◌≡◌, ◌+◌, ◌<◌, ◌^◌, ℕ, List};
     ghost use Rattle.gc_gates.specs.Layout.{Layout};
     ghost use Rattle.gc_gates.specs.Frame.{FrameLaw};

@@ -2,14 +2,14 @@
 //! and joined.
 
 use crate::frame::Frame;
-use crate::view::{GateView, Work};
+use crate::view::{GateView, Subject};
 use atomic_table::{Join, Play, Split};
 use gc_rounds::View;
 use std::marker::PhantomData;
 
 pub struct LoadState<R>(PhantomData<R>);
 
-impl<J: Work, R: Frame<J>> Play<u8, View<GateView<J>>> for LoadState<R> {
+impl<J: Subject, R: Frame<J>> Play<u8, View<GateView<J>>> for LoadState<R> {
     ghost use Rattle.gc_gates.specs.Steps.{state_loaded};
 
     ghost then = { state_loaded R.layout };
@@ -17,7 +17,7 @@ impl<J: Work, R: Frame<J>> Play<u8, View<GateView<J>>> for LoadState<R> {
 
 pub struct LoadLow<R>(PhantomData<R>);
 
-impl<J: Work, R: Frame<J>> Play<u8, View<GateView<J>>> for LoadLow<R> {
+impl<J: Subject, R: Frame<J>> Play<u8, View<GateView<J>>> for LoadLow<R> {
     ghost use Rattle.gc_gates.specs.Steps.{low_loaded};
 
     ghost then = { low_loaded R.layout J.right };
@@ -25,7 +25,7 @@ impl<J: Work, R: Frame<J>> Play<u8, View<GateView<J>>> for LoadLow<R> {
 
 pub struct LoadHigh<R>(PhantomData<R>);
 
-impl<J: Work, R: Frame<J>> Play<u8, View<GateView<J>>> for LoadHigh<R> {
+impl<J: Subject, R: Frame<J>> Play<u8, View<GateView<J>>> for LoadHigh<R> {
     ghost use Rattle.gc_gates.specs.Steps.{high_loaded};
 
     ghost then = { high_loaded R.layout J.right };
@@ -33,7 +33,7 @@ impl<J: Work, R: Frame<J>> Play<u8, View<GateView<J>>> for LoadHigh<R> {
 
 pub struct Claim<R>(PhantomData<R>);
 
-impl<J: Work, R: Frame<J>> Play<u8, View<GateView<J>>> for Claim<R> {
+impl<J: Subject, R: Frame<J>> Play<u8, View<GateView<J>>> for Claim<R> {
     ghost use Rattle.gc_gates.specs.Steps.{claimed};
 
     ghost then = { claimed R.layout };
@@ -41,7 +41,7 @@ impl<J: Work, R: Frame<J>> Play<u8, View<GateView<J>>> for Claim<R> {
 
 pub struct StoreHalf;
 
-impl<J: Work> Play<u8, View<GateView<J>>> for StoreHalf {
+impl<J: Subject> Play<u8, View<GateView<J>>> for StoreHalf {
     ghost use Rattle.gc_gates.specs.Steps.{half_stored};
 
     ghost then = { half_stored };
@@ -49,19 +49,19 @@ impl<J: Work> Play<u8, View<GateView<J>>> for StoreHalf {
 
 pub struct StoreDone<R>(PhantomData<R>);
 
-impl<J: Work, R: Frame<J>> Play<u8, View<GateView<J>>> for StoreDone<R> {
+impl<J: Subject, R: Frame<J>> Play<u8, View<GateView<J>>> for StoreDone<R> {
     ghost use Rattle.gc_gates.specs.Steps.{done_stored};
 
     ghost then = { done_stored R.layout };
 }
 
 /// A load from which a view that stands for all seats learns what they made.
-pub struct Settle;
+pub struct LearnOnce;
 
-impl<J: Work> Play<u8, View<GateView<J>>> for Settle {
-    ghost use Rattle.gc_gates.specs.Steps.{settled};
+impl<J: Subject> Play<u8, View<GateView<J>>> for LearnOnce {
+    ghost use Rattle.gc_gates.specs.Steps.{once_learnt};
 
-    ghost then = { settled };
+    ghost then = { once_learnt };
 }
 
 /// One seat of a board, out of a view that stands for several.

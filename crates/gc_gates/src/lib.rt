@@ -7,7 +7,7 @@
 //!
 //! Where the words lie, which round they are in and what else its table keeps is a [`Frame`]'s. There are two: the
 //! rule of a table of two banks (`gc_rounds`), and [`OneRound`], the rule of one board, which is in round 0 for good.
-//! Nothing here knows of circuits: [`Work`] says what the words are about.
+//! Nothing here knows of circuits: [`Subject`] says what the words are about.
 #![tactic(auto)]
 
 mod bank_seats;
@@ -19,7 +19,7 @@ mod kinds;
 mod steps;
 mod view;
 
-pub use bank_seats::{BankTable, BankWords, open_banks, settle};
+pub use bank_seats::{BankTable, BankWords, learn_once, open_banks};
 pub use board::OneRound;
 pub use board_seats::{
     BoardWords, close_board, copy_known, deal_seat, free_words, join_seat, open_board,
@@ -28,4 +28,4 @@ pub use frame::Frame;
 pub use steps::{
     Place, Words, claim, load_high, load_low, load_state, store_done, store_high, store_low,
 };
-pub use view::{GateView, Hand, Work};
+pub use view::{GateView, Hand, Subject};

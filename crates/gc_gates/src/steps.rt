@@ -11,7 +11,7 @@ ghost use Rattle.gc_gates.specs.Places.{IsPlaceAt};
 
 use crate::frame::Frame;
 use crate::kinds::{Claim, LoadHigh, LoadLow, LoadState, StoreDone, StoreHalf};
-use crate::view::{GateView, Work};
+use crate::view::{GateView, Subject};
 use atomic_table::Shared;
 use gc_rounds::{Key, View, stamped};
 use gc_workers::{DONE, FREE, IN_HAND};
@@ -24,7 +24,7 @@ pub type Place<J> = gc_rounds::Place<GateView<J>>;
 
 /// Loads the state word of a gate.
 #[inline]
-pub fn load_state<J: Work, R: Frame<J>>(
+pub fn load_state<J: Subject, R: Frame<J>>(
     words: &Words<J, R>,
     place: &mut Place<J>,
     round: u32,
@@ -41,7 +41,7 @@ pub fn load_state<J: Work, R: Frame<J>>(
 
 /// Loads the low half of a gate that is known in the round.
 #[inline]
-pub fn load_low<J: Work, R: Frame<J>>(
+pub fn load_low<J: Subject, R: Frame<J>>(
     words: &Words<J, R>,
     place: &mut Place<J>,
     round: u32,
@@ -59,7 +59,7 @@ pub fn load_low<J: Work, R: Frame<J>>(
 
 /// Loads the high half of a gate that is known in the round.
 #[inline]
-pub fn load_high<J: Work, R: Frame<J>>(
+pub fn load_high<J: Subject, R: Frame<J>>(
     words: &Words<J, R>,
     place: &mut Place<J>,
     round: u32,
@@ -78,7 +78,7 @@ pub fn load_high<J: Work, R: Frame<J>>(
 /// Exchanges the state word of a gate from the free word that a load found to `IN_HAND` in the round, and answers the
 /// word that it found. Where that is the free word, the gate is in hand.
 #[inline]
-pub fn claim<J: Work, R: Frame<J>>(
+pub fn claim<J: Subject, R: Frame<J>>(
     words: &Words<J, R>,
     place: &mut Place<J>,
     round: u32,
@@ -101,7 +101,7 @@ pub fn claim<J: Work, R: Frame<J>>(
 
 /// Stores the low half of the gate in hand.
 #[inline]
-pub fn store_low<J: Work, R: Frame<J>>(
+pub fn store_low<J: Subject, R: Frame<J>>(
     words: &Words<J, R>,
     place: &mut Place<J>,
     round: u32,
@@ -121,7 +121,7 @@ pub fn store_low<J: Work, R: Frame<J>>(
 
 /// Stores the high half of the gate in hand, after the low half.
 #[inline]
-pub fn store_high<J: Work, R: Frame<J>>(
+pub fn store_high<J: Subject, R: Frame<J>>(
     words: &Words<J, R>,
     place: &mut Place<J>,
     round: u32,
@@ -141,7 +141,7 @@ pub fn store_high<J: Work, R: Frame<J>>(
 
 /// Stores `DONE` in the round for the gate in hand, after both halves: the gate is made.
 #[inline]
-pub fn store_done<J: Work, R: Frame<J>>(
+pub fn store_done<J: Subject, R: Frame<J>>(
     words: &Words<J, R>,
     place: &mut Place<J>,
     round: u32,

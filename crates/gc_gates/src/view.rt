@@ -6,7 +6,7 @@ use std::collections::LinkedList;
 
 /// What the words are about: how many gates there are, and which numbers are right, in a round, as the low half (half
 /// 0) and the high half (half 1) of each gate.
-pub trait Work {
+pub trait Subject {
     ghost gates: { Self → ℕ };
 
     ghost right: { Self → ℕ → ℕ → ℕ → ℕ → Type 0 };
@@ -20,7 +20,7 @@ pub enum Hand {
 
 /// What a seat knows of the gates. Only contracts see it: no value of it is made.
 pub struct GateView<J> {
-    /// The work, and none in a view that was joined to another.
+    /// The subject, and none in a view that was joined to another.
     pub job: Option<J>,
     pub hand: Hand,
     /// The rounds and gates that the seat made, in order.

@@ -1,9 +1,9 @@
 //! The jobs of rounds.
 
-use gc_gates::Work;
+use gc_gates::Subject;
 
-/// Work that is the evaluation of a job in each round.
-pub trait Jobs: Work {
+/// A subject that is the evaluation of a job in each round.
+pub trait Jobs: Subject {
     ghost use Rattle.std.specs.Prelude.{ℕ, Option};
     ghost use Rattle.gc_job.specs.Job.{JobParts};
     ghost use Rattle.gc_steps.specs.Jobs.{JobsLaw};

@@ -16,7 +16,8 @@ returns-clause-known g c =
     second (found.b (omega (arith, below, c.min-end.ensures, c.put.ensures.count)))) in
     let three = c.put-3.ensures.known jobs start two
     (λ below. subst (λ k. IfSome c.evaluate_some-a.result.c (λ bits. AreBitsOf jobs k bits.items))
-    third (found.c (omega (arith, below, c.min-end.ensures, c.put.ensures.count, c.put-2.ensures.count)))) in
+    third (found.c (omega
+    (arith, below, c.min-end.ensures, c.put.ensures.count, c.put-2.ensures.count)))) in
     c.put-4.ensures.known jobs start three
     (λ below. subst (λ k. IfSome c.evaluate_some-a.result.d (λ bits. AreBitsOf jobs k bits.items))
     fourth (found.d (omega (

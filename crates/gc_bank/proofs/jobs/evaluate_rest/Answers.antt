@@ -12,7 +12,8 @@ bits_of-requires g c =
 
 pub returns-in_err-bits : goal.returns-in_err-bits
 returns-in_err-bits g c =
-    let p = err_from_is_err_and c.from_residual-in_err-bits.result c.from_residual-in_err-bits.ensures.1 in
+    let p = err_from_is_err_and c.from_residual-in_err-bits.result
+    c.from_residual-in_err-bits.ensures.1 in
     let at = slice_get_read c.args.jobs.now _ c.loop-i.i _ refl (omega arith) c.index-jobs-i.is in
     rw (p.1, p.2) (job_fault _ _ _ _ _ at c.in_err-bits.ensures c.loop-i.invariant.0)
 

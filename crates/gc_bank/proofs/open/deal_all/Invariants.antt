@@ -6,7 +6,8 @@ invariant-loop-left g l =
     IsGatePlace two_banks gates_of l.words.table_id l.words.key l.first × IsNew l.first.me.0
     × (l.first.me.1 ≡ []) × (l.first.me.0.seats ≡ l.left) × (0 < l.left)
     × (length l.seats.items + l.left ≡ l.count)
-    × All (λ (s : BankSeat _ _ _). IsGatePlace two_banks gates_of l.words.table_id l.words.key s.place
+    × All (λ (s : BankSeat _ _ _).
+    IsGatePlace two_banks gates_of l.words.table_id l.words.key s.place
     × IsNew s.place.me.0) l.seats.items
 
 abbrev pub decreases-loop-left : goal.decreases-loop-left

@@ -4,7 +4,8 @@ use Rattle.gc_bank.proofs.open.gather.Given as goal
 abbrev pub invariant-loop-seat : goal.invariant-loop-seat
 invariant-loop-seat g l =
     IsGatePlace two_banks gates_of l.words.table_id l.words.key l.whole
-    × All (λ (s : BankSeat _ _ _). IsGatePlace two_banks gates_of l.words.table_id l.words.key s.place)
+    × All (λ (s : BankSeat _ _ _).
+    IsGatePlace two_banks gates_of l.words.table_id l.words.key s.place)
     l.seats.items
     × All (λ (s : BankSeat _ _ _). s.place.me.0.stand ≡ Outside) l.seats.items
     × (l.whole.me.0.seats + length l.seats.items ≡ length l.fn.seats.items)

@@ -5,7 +5,8 @@ use Rattle.gc_eval.proofs.open.gather.Goals as goal
 pub loop-place-init : goal.loop-place-init
 loop-place-init g c =
     let Own : EvalSeat _ _ → Type 0 =
-    λ s. IsPlaceInside one_round gates_of c.args.words.now.table_id c.args.words.now.key s.place 0 in
+    λ s. IsPlaceInside one_round gates_of c.args.words.now.table_id c.args.words.now.key s.place
+    0 in
     let is = c.in-Some.ensures.items in (
       (all_last _ _ _ is Own c.requires.own).place,
       all_but_last _ _ _ is Own c.requires.own,
@@ -19,13 +20,15 @@ loop-place-init g c =
 pub join_seat-requires-clause-other : goal.join_seat-requires-clause-other
 join_seat-requires-clause-other g c =
     let Own : EvalSeat _ _ → Type 0 =
-    λ s. IsPlaceInside one_round gates_of c.args.words.now.table_id c.args.words.now.key s.place 0 in
+    λ s. IsPlaceInside one_round gates_of c.args.words.now.table_id c.args.words.now.key s.place
+    0 in
     (all_last _ _ _ c.in-Some-pop.ensures.items Own c.loop-place.invariant.1).place
 
 pub loop-place-preserved : goal.loop-place-preserved
 loop-place-preserved g c =
     let Own : EvalSeat _ _ → Type 0 =
-    λ s. IsPlaceInside one_round gates_of c.args.words.now.table_id c.args.words.now.key s.place 0 in
+    λ s. IsPlaceInside one_round gates_of c.args.words.now.table_id c.args.words.now.key s.place
+    0 in
     let is = c.in-Some-pop.ensures.items in
     let kept = c.join_seat.ensures in
     let i = c.loop-place.invariant in (

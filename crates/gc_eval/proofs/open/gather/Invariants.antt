@@ -4,7 +4,8 @@ use Rattle.gc_eval.proofs.open.gather.Given as goal
 abbrev pub invariant-loop-place : goal.invariant-loop-place
 invariant-loop-place g l =
     IsGatePlace one_round gates_of l.words.table_id l.words.key l.whole
-    × All (λ (s : EvalSeat _ _). IsPlaceInside one_round gates_of l.words.table_id l.words.key s.place 0)
+    × All (λ (s : EvalSeat _ _).
+    IsPlaceInside one_round gates_of l.words.table_id l.words.key s.place 0)
     l.seats.items
     × (l.whole.me.0.seats + length l.seats.items ≡ length l.fn.seats.items)
     × ((r g' : ℕ) → pairs r g' l.whole.me.0.inner.made + total

@@ -6,7 +6,7 @@ use Rattle.gc_steps.proofs.round.Round.label.Goals as goal
 
 -- There are words for the gate that sets the wire.
 exists : (g : Over) (c : In-Some g)
-    → c.in-Some.gate < g.J.Work.gates c.args.self.now.words.now.key.about
+    → c.in-Some.gate < g.J.Subject.gates c.args.self.now.words.now.key.about
 exists g c = omega (
   arith,
   set_within c.args.self.now.job.now.circuit c.args.wire c.in-Some.gate

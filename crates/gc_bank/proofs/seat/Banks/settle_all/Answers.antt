@@ -1,6 +1,0 @@
-use Rattle.std.proofs.Common.{arith}
-use Rattle.gc_bank.proofs.seat.Banks.settle_all.Goals as goal
-
-pub returns : goal.returns
-returns g c = λ r gate.
-    omega (arith, c.gather-whole.ensures.made r gate, c.settle.ensures.once r gate)

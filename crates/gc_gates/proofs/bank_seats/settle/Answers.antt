@@ -1,8 +1,0 @@
-use Rattle.std.proofs.Common.{arith}
-use Rattle.gc_gates.proofs.Keeps.{settles}
-use Rattle.gc_gates.specs.BankLaws.{two_banks_law}
-use Rattle.gc_gates.proofs.bank_seats.settle.Goals as goal
-
-pub load-requires : goal.load-requires
-load-requires g c = let p = c.requires.place in
-    (p.table_id, omega arith, settles _ _ _ _ _ (two_banks_law _ _) _ _ _ _ p.whole)
