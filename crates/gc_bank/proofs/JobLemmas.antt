@@ -56,7 +56,7 @@ job_fault jobs outputs n job (UnknownOutputLabel output) at is before = record {
 job_fault jobs outputs n job Memory at is before = tt
 job_fault jobs outputs n job BadWorkers at is before = absurd is.decoding
 
--- What holds of an answer holds of what follows from it.
+-- What holds of a result holds of what follows from it.
 pub if_some : {X : Type 0} (P Q : X → Type 0) (o : Option X) → ((x : X) → P x → Q x) → IfSome o P
     → IfSome o Q
 if_some P Q None follows is = tt

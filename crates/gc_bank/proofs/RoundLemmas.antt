@@ -56,7 +56,7 @@ in_round jobs v r job P inside there p =
     subst (λ k. MatchOption (slice_get jobs k) ⊥ (P k)) (sym (ap round_in inside))
     (subst (λ o. MatchOption o ⊥ (P r)) (sym there) p)
 
--- an answer makes a made list longer by one gate, where it is Made
+-- a result makes a made list longer by one gate, where it is Made
 length_after : (r g : ℕ) (l : List (ℕ × ℕ)) (x : Answer)
     → length (made_after r g l x) ≡ length l + made_now x
 length_after r g l (Made label) = length-append l ((r, g) ∷ [])
@@ -64,7 +64,7 @@ length_after r g l (Done label) = omega arith
 length_after r g l Taken = omega arith
 length_after r g l (NotYet w) = omega arith
 
--- four answers make it longer by the gates that they made
+-- four results make it longer by the gates that they made
 pub four_counted : (r a b c d : ℕ) (l new : List (ℕ × ℕ)) (x : Answer × Answer × Answer × Answer)
     → new ≡ made_after r d (made_after r c (made_after r b (made_after r a l x.0) x.1) x.2) x.3
     → length new ≡ length l + made_now x.0 + made_now x.1 + made_now x.2 + made_now x.3

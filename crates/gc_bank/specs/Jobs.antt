@@ -1,4 +1,4 @@
--- Lists of jobs on one circuit, and what evaluating them answers.
+-- Lists of jobs on one circuit, and what evaluating them returns.
 use Rattle.std.specs.Prelude.{◌≡◌, ℕ, ◌<◌, ◌⊎◌, Bool, List, length, slice_get, Some, Result, Ok, Err}
 use Rattle.gc_netlist.specs.Circuit.{Netlist}
 use Rattle.gc_workers.specs.declared.TheConstants.{MAX_WORKERS}

@@ -1,4 +1,4 @@
--- What a seat of banks knows and has done, and what the answers of banks say: those of a round, at the words of two
+-- What a seat of banks knows and has done, and what the results of banks say: those of a round, at the words of two
 -- banks.
 use Rattle.std.specs.Prelude.{ℕ, List}
 use Rattle.gc_gates.specs.Layout.{two_banks}

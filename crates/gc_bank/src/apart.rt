@@ -117,8 +117,7 @@ fn report_job<A: Allocator, C: Allocator, H: Gatehouse>(
 /// How many jobs are evaluated at once.
 const AT_ONCE: usize = 4;
 
-/// Evaluates the jobs from `start` on, one for each place of the share. That there are these jobs is the caller's
-/// condition.
+/// Evaluates the jobs from `start` on, one for each place of the share. The caller ensures that there are these jobs.
 fn evaluate_share<A: Allocator, B: Allocator + Copy, C: Allocator>(
     alloc: B,
     jobs: &[Job<'_, A, C>],
@@ -196,7 +195,7 @@ fn evaluate_some<A: Allocator, B: Allocator + Copy, C: Allocator>(
     evaluate_at(alloc, jobs, places)
 }
 
-/// The output bits of the job at a place, if there are any. That there is such a job is the caller's condition.
+/// The output bits of the job at a place, if there are any. The caller ensures that there is such a job.
 fn evaluate_one<A: Allocator, B: Allocator + Copy, C: Allocator>(
     alloc: B,
     jobs: &[Job<'_, A, C>],
@@ -211,7 +210,7 @@ fn evaluate_one<A: Allocator, B: Allocator + Copy, C: Allocator>(
     }
 }
 
-/// The output bits of the jobs at four places, where there are any. That there are such jobs is the caller's condition.
+/// The output bits of the jobs at four places, where there are any. The caller ensures that there are such jobs.
 fn evaluate_at<A: Allocator, B: Allocator + Copy, C: Allocator>(
     alloc: B,
     jobs: &[Job<'_, A, C>],

@@ -1,5 +1,5 @@
 //! The calls of banks by which a seat enters, steps, reads labels, leaves, seals and reopens. None of them waits or
-//! takes memory.
+//! allocates.
 
 ghost use Rattle.std.specs.Prelude.{◌≡◌, ℕ, ◌+◌, ◌*◌, ◌<◌, ◌≤◌, ◌-◌, ◌^◌, length, min, Some, MatchOption, IfSome, IfNone};
 ghost use Rattle.gc_rounds.specs.declared.view.Stand.TheVariants.{Outside, Inside};
@@ -34,8 +34,8 @@ impl<B: Allocator, A: Allocator, C: Allocator> BankSeat<B, A, C> {
 impl<'j, 'c, B: Allocator, A: Allocator, C: Allocator> Banks<'j, 'c, B, A, C> {
     /// Enters a round: inside where its bank is open in it, shut where it is sealed in it, and else the other round
     /// that the bank is in. An only seat finds what its own steps left: bank 0 open in round 0 and bank 1 in round 1,
-    /// until it seals or reopens them. That the seat is these banks' and outside, and that there is such a round, is
-    /// the caller's condition.
+    /// until it seals or reopens them. The caller ensures that the seat is these banks' and outside, and that there is
+    /// such a round.
     pub fn enter(&self, seat: &mut BankSeat<B, A, C>, round: u32) -> Entry
         requires own { IsSeatOf self.now seat.old }
         requires outside { (view seat.old).stand ≡ Outside }
@@ -53,10 +53,10 @@ impl<'j, 'c, B: Allocator, A: Allocator, C: Allocator> Banks<'j, 'c, B, A, C> {
         entry
     }
 
-    /// Makes a gate in the seat's round, or says why not, in at most 11 atomic steps. A label that is answered is the
+    /// Makes a gate in the seat's round, or says why not, in at most 11 atomic steps. A label that is returned is the
     /// gate's active label in the round's job, and the seat knows the gate in the round from then on. A gate that the
-    /// seat knows is answered by Done. That the seat is these banks' and inside a round, and that there is such a
-    /// gate, is the caller's condition.
+    /// seat knows is returned by Done. The caller ensures that the seat is these banks' and inside a round, and that
+    /// there is such a gate.
     pub fn step(&self, seat: &mut BankSeat<B, A, C>, gate: u32) -> Answer
         requires own { IsSeatOf self.now seat.old }
         requires inside { IsInside (view seat.old) }
@@ -78,10 +78,10 @@ impl<'j, 'c, B: Allocator, A: Allocator, C: Allocator> Banks<'j, 'c, B, A, C> {
         answer
     }
 
-    /// Steps two gates in the seat's round at once, in at most 22 atomic steps: for each it answers as `step` does,
-    /// and the gates that it makes are made in this order. A gate that isn't ready before the call isn't made ready
-    /// by the other. Two AND gates that are ready take about as long as one. That the seat is these banks' and inside
-    /// a round, and that there are such gates, is the caller's condition.
+    /// Steps two gates in the seat's round at once, in at most 22 atomic steps: for each it returns as `step` does, and
+    /// the gates that it makes are made in this order. A gate that isn't ready before the call isn't made ready by the
+    /// other. Two AND gates that are ready take about as long as one. The caller ensures that the seat is these banks'
+    /// and inside a round, and that there are such gates.
     pub fn step_two(
         &self,
         seat: &mut BankSeat<B, A, C>,
@@ -113,8 +113,8 @@ impl<'j, 'c, B: Allocator, A: Allocator, C: Allocator> Banks<'j, 'c, B, A, C> {
     }
 
     /// Steps four gates in the seat's round, as [`Banks::step`] steps one, in at most 72 atomic steps. Where each is
-    /// found ready, the labels of four AND gates are computed at once; else it steps two gates and two gates. That the
-    /// seat is these banks' and inside a round, and that there are such gates, is the caller's condition.
+    /// found ready, the labels of four AND gates are computed at once; else it steps two gates and two gates. The
+    /// caller ensures that the seat is these banks' and inside a round, and that there are such gates.
     pub(crate) fn step_four(
         &self,
         seat: &mut BankSeat<B, A, C>,
@@ -146,8 +146,8 @@ impl<'j, 'c, B: Allocator, A: Allocator, C: Allocator> Banks<'j, 'c, B, A, C> {
     }
 
     /// The active label of a wire in the seat's round, if it is an input wire or the gate that sets it is done in the
-    /// round; the seat knows that gate from then on, and a gate that it knew gives its label. That the seat is these
-    /// banks' and inside a round, and that there is such a wire, is the caller's condition.
+    /// round; the seat knows that gate from then on, and a gate that it knew gives its label. The caller ensures that
+    /// the seat is these banks' and inside a round, and that there is such a wire.
     pub fn label(&self, seat: &mut BankSeat<B, A, C>, wire: u32) -> Option<Label>
         requires own { IsSeatOf self.now seat.old }
         requires inside { IsInside (view seat.old) }
@@ -167,7 +167,7 @@ impl<'j, 'c, B: Allocator, A: Allocator, C: Allocator> Banks<'j, 'c, B, A, C> {
         self.at(round).label(&mut seat.place, wire)
     }
 
-    /// Leaves the seat's round. That the seat is these banks' and inside a round is the caller's condition.
+    /// Leaves the seat's round. The caller ensures that the seat is these banks' and inside a round.
     pub fn leave(&self, seat: &mut BankSeat<B, A, C>)
         requires own { IsSeatOf self.now seat.old }
         requires inside { IsInside (view seat.old) }
@@ -182,8 +182,8 @@ impl<'j, 'c, B: Allocator, A: Allocator, C: Allocator> Banks<'j, 'c, B, A, C> {
         seat.inside = None;
     }
 
-    /// Seals the seat's round: nobody enters it any more, and who is inside goes on until it leaves. That the seat is
-    /// these banks' and inside a round is the caller's condition.
+    /// Seals the seat's round: nobody enters it any more, and who is inside goes on until it leaves. The caller ensures
+    /// that the seat is these banks' and inside a round.
     pub fn seal(&self, seat: &mut BankSeat<B, A, C>)
         requires own { IsSeatOf self.now seat.old }
         requires inside { IsInside (view seat.old) }
@@ -197,9 +197,9 @@ impl<'j, 'c, B: Allocator, A: Allocator, C: Allocator> Banks<'j, 'c, B, A, C> {
         gc_rounds::seal(&self.board.table.shared, &mut seat.place, round);
     }
 
-    /// Gives the bank of a round to the next round but one, where it is sealed in the round and nobody is inside;
-    /// else it answers what it found. That the seat is these banks' and outside, and that there is a next round but
-    /// one, is the caller's condition.
+    /// Gives the bank of a round to the next round but one, where it is sealed in the round and nobody is inside; else
+    /// it returns what it found. The caller ensures that the seat is these banks' and outside, and that there is a next
+    /// round but one.
     pub fn reopen(&self, seat: &mut BankSeat<B, A, C>, round: u32) -> Reopening
         requires own { IsSeatOf self.now seat.old }
         requires outside { (view seat.old).stand ≡ Outside }

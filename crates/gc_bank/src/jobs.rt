@@ -24,8 +24,8 @@ use std::thread::Threads;
 /// worker has when all have ended is evaluated on one thread, as are all where there is no memory for the banks.
 ///
 /// It refuses 0 workers and more than [`MAX_WORKERS`]: 22. Else it is 48 for the first job of which the garbled file
-/// doesn't recognise an output label, at the first such output. Memory is the other fault. That there are 1 to
-/// [`MAX_JOBS`] jobs, all on one circuit, is the caller's condition; [`one_circuit`](crate::one_circuit) is the test.
+/// doesn't recognise an output label, at the first such output. Memory is the other fault. The caller ensures that
+/// there are 1 to [`MAX_JOBS`] jobs, all on one circuit; [`one_circuit`](crate::one_circuit) is the test.
 pub fn evaluate_jobs<
     A: Allocator + Send + Sync,
     B: Allocator + Copy + Send + Sync,
@@ -104,7 +104,7 @@ fn bits_of<A: Allocator, B: Allocator + Copy, C: Allocator>(
     }
 }
 
-/// The output bits at a place, if there are any; none stand there afterwards.
+/// The output bits at a place, if there are any; none are there afterwards.
 fn taken<B: Allocator>(
     known: &mut Vec<Option<Vec<bool, B>>, B>,
     place: usize,

@@ -1,8 +1,7 @@
-//! Lists of jobs on one circuit. It passes on names of `gc_rounds` and `gc_counts` to users of banks, who take jobs from
-//! `gc_job`, and answers and walks from `gc_walk`.
+//! Lists of jobs on one circuit.
 //!
-//! [`evaluate_jobs`] answers the output bits of each job of a list whose jobs are on [`one_circuit`]. [`Banks`] are
-//! two sets of board words, used again job after job, at which many seats evaluate such a list.
+//! [`evaluate_jobs`] returns the output bits of each job of a list whose jobs are on [`one_circuit`]. [`Banks`] are two
+//! sets of board words, used again job after job, at which many seats evaluate such a list.
 #![tactic(auto)]
 
 mod apart;

@@ -66,11 +66,11 @@ fn series_of<B: Allocator, A: Allocator, C: Allocator>(
 }
 
 impl<'j, 'c, B: Allocator + Copy, A: Allocator, C: Allocator> Banks<'j, 'c, B, A, C> {
-    /// Banks for a list of jobs, bank 0 open in round 0 and bank 1 open in round 1 (sealed where there is one job),
-    /// and their seats, which are outside and have done nothing. It takes all the memory that the banks need: 46
-    /// where there is none for the seats and the tables of the circuit, 49 where there is none for the table of the
-    /// shared words. That there are 1 to [`MAX_JOBS`] jobs, all on one circuit ([`one_circuit`](crate::one_circuit) is
-    /// the test), and 1 to [`MAX_WORKERS`] seats, is the caller's condition.
+    /// Banks for a list of jobs, bank 0 open in round 0 and bank 1 open in round 1 (sealed where there is one job), and
+    /// their seats, which are outside and have done nothing. It allocates all memory that the banks need: 46 where
+    /// there is none for the seats and the tables of the circuit, 49 where there is none for the table of the shared
+    /// words. The caller ensures that there are 1 to [`MAX_JOBS`] jobs, all on one circuit
+    /// ([`one_circuit`](crate::one_circuit) is the test), and 1 to [`MAX_WORKERS`] seats.
     pub fn open(
         alloc: B,
         jobs: &'j [Job<'c, A, C>],
@@ -116,10 +116,9 @@ impl<'j, 'c, B: Allocator, A: Allocator, C: Allocator> Banks<'j, 'c, B, A, C> {
         learn_once(words, &mut whole);
     }
 
-    /// Ends the banks, exactly where all their seats are there and outside: else 47, with all that was passed. The
-    /// answer is how many gates the seats made in all rounds, each at most once in each round (it stays at
-    /// `u64::MAX`, which no banks reach). It takes no memory. That the seats are these banks' is the caller's
-    /// condition.
+    /// Ends the banks, exactly where all their seats are there and outside: else 47, with all that was passed. Returns
+    /// how many gates the seats made in all rounds, each at most once in each round (it stays at `u64::MAX`, which no
+    /// banks reach). It doesn't allocate. The caller ensures that the seats are these banks'.
     pub fn close(
         self,
         seats: Vec<BankSeat<B, A, C>, B>,

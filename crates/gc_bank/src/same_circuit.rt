@@ -7,7 +7,7 @@ use gc_circuit::Circuit;
 use gc_job::Job;
 use std::alloc::Allocator;
 
-/// Whether the circuits of these jobs are all equal. It takes no memory.
+/// Whether the circuits of these jobs are all equal. It doesn't allocate.
 pub fn one_circuit<A: Allocator, C: Allocator>(jobs: &[Job<'_, A, C>]) -> bool
     ensures { IsTrue result ↔ AreOnOneCircuit jobs.now }
 {

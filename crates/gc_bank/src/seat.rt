@@ -25,9 +25,9 @@ pub struct BankSeat<B: Allocator = Global, A: Allocator = Global, C: Allocator =
     ghost counted: { count ≡ min (length place.me.0.inner.made) (2 ^ 64 - 1) },
 }
 
-/// Evaluations of the jobs of a list, on one circuit, with two sets of board words: round r evaluates the job at
-/// place r, and bank b serves the rounds r with `r mod 2 = b`, in order. A bank goes to its next round when its round
-/// is sealed and no seat is inside. No call waits, and none but `Banks::open` takes memory.
+/// Evaluations of the jobs of a list, on one circuit, with two sets of board words: round r evaluates the job at place
+/// r, and bank b serves the rounds r with `r mod 2 = b`, in order. A bank goes to its next round when its round is
+/// sealed and no seat is inside. No call waits, and none but `Banks::open` allocates.
 #[derive(Drop)]
 pub struct Banks<'j, 'c, B: Allocator = Global, A: Allocator = Global, C: Allocator = Global> {
     pub(crate) jobs: &'j [Job<'c, A, C>],

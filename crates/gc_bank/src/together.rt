@@ -17,7 +17,7 @@ use std::thread;
 use std::thread::Threads;
 
 /// For each job, in order, its output bits where a worker kept them. None has any where there is no memory for the
-/// banks and their workers, and the answer is empty where there is none for it.
+/// banks and their workers, and the result is empty where there is none for it.
 pub(crate) fn evaluate_together<
     A: Allocator + Send + Sync,
     B: Allocator + Copy + Send + Sync,

@@ -85,7 +85,7 @@ fn bits_of_round<B: Allocator + Copy, A: Allocator, C: Allocator>(
     }
 }
 
-/// Gives the bank of a round on, once all have left the round. The answer is whether it was given on.
+/// Advances the bank of a round, once all have left the round. Returns whether it was advanced.
 fn await_bank<B: Allocator, A: Allocator, C: Allocator>(
     banks: &Banks<'_, '_, B, A, C>,
     seat: &mut BankSeat<B, A, C>,
@@ -107,7 +107,7 @@ fn await_bank<B: Allocator, A: Allocator, C: Allocator>(
 }
 
 impl<B: Allocator, A: Allocator, C: Allocator> Worker<B, A, C> {
-    /// Steps the gates of a batch in the round, and notes what each was answered.
+    /// Steps the gates of a batch in the round, and notes what each was returned.
     fn step<H: Gatehouse>(
         &mut self,
         banks: &Banks<'_, '_, B, A, C>,
@@ -144,7 +144,7 @@ impl<B: Allocator, A: Allocator, C: Allocator> Worker<B, A, C> {
     }
 
     /// One pass over all gates that the worker doesn't know to be done in the round, from its share on and then round
-    /// from the first. The answer is whether it made a gate, or learnt of one.
+    /// from the first. Returns whether it made a gate, or learnt of one.
     fn pass<H: Gatehouse>(
         &mut self,
         banks: &Banks<'_, '_, B, A, C>,
@@ -166,7 +166,7 @@ impl<B: Allocator, A: Allocator, C: Allocator> Worker<B, A, C> {
 
 impl<B: Allocator + Copy, A: Allocator, C: Allocator> Worker<B, A, C> {
     /// Passes over the gates of the round, of which the worker knows none, again as long as a pass made a gate or
-    /// learnt of one, until each output wire has a label. These labels are the answer.
+    /// learnt of one, until each output wire has a label. These labels are the result.
     fn labels_of_round<H: Gatehouse>(
         &mut self,
         alloc: B,
@@ -273,8 +273,7 @@ fn worker_of<B: Allocator + Copy, A: Allocator, C: Allocator>(
     })
 }
 
-/// A worker for each seat, from the last to worker 0. That the seats are these banks' and new is the caller's
-/// condition.
+/// A worker for each seat, from the last to worker 0. The caller ensures that the seats are these banks' and new.
 pub(crate) fn workers_of<B: Allocator + Copy, A: Allocator, C: Allocator>(
     alloc: B,
     banks: &Banks<'_, '_, B, A, C>,

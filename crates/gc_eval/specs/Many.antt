@@ -1,4 +1,4 @@
--- What an evaluation on many threads answers.
+-- What an evaluation on many threads returns.
 use Rattle.std.specs.Prelude.{◌≡◌, ℕ, ◌<◌, ◌⊎◌, Bool, List, Result, Err}
 use Rattle.gc_workers.specs.declared.TheConstants.{MAX_WORKERS}
 use Rattle.gc_workers.specs.Workers.{AreFew}

@@ -1,4 +1,4 @@
--- What a seat of a board knows and has done, and what the answers of a board say: those of round 0, at the words of one
+-- What a seat of a board knows and has done, and what the results of a board say: those of round 0, at the words of one
 -- board.
 use Rattle.std.specs.Prelude.{ℕ, List}
 use Rattle.gc_gates.specs.Layout.{one_round}
@@ -10,7 +10,7 @@ use Rattle.gc_steps.specs.Views as steps
 abbrev pub Seen : Type 0
 Seen = steps.Seen JobParts
 
--- how often gate g stands in a list of rounds and gates
+-- how often gate g is in a list of rounds and gates
 abbrev pub times : ℕ → List (ℕ × ℕ) → ℕ
 times g l = pairs 0 g l
 

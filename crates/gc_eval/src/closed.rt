@@ -14,8 +14,8 @@ use gc_workers::DONE;
 use std::alloc::Allocator;
 
 impl<'j, 'c, B: Allocator, A: Allocator, C: Allocator> Active<'j, 'c, B, A, C> {
-    /// The active label of a wire, exactly where it is an input wire or the gate that sets it is done. That there is
-    /// such a wire is the caller's condition.
+    /// The active label of a wire, exactly where it is an input wire or the gate that sets it is done. The caller
+    /// ensures that there is such a wire.
     pub fn label(&self, wire: u32) -> Option<Label>
         requires { wire < (job_in self.now).circuit.wires }
         ensures some { IfSome result (λ label. (label ≡ active (job_in self.now) wire)
@@ -71,14 +71,14 @@ impl<'j, 'c, B: Allocator, A: Allocator, C: Allocator> Active<'j, 'c, B, A, C> {
         Ok(Some(labels))
     }
 
-    /// The output bits, in wire order: what the active labels of the output wires decode to, as `evaluate` answers
-    /// it. None exactly where an output wire has no label; in version 2 it is 48 at the first output whose label the
+    /// The output bits, in wire order: what the active labels of the output wires decode to, as `evaluate` returns it.
+    /// None exactly where an output wire has no label; in version 2 it is 48 at the first output whose label the
     /// garbled file doesn't recognise.
     pub fn decode<D: Allocator + Copy>(&self, alloc: D) -> Result<Option<Vec<bool, D>>, EvalFault>
         ensures ok { IfOk result (λ o. MatchOption o (LacksOutput self.now)
             (λ v. IsEvaluated (job_in self.now) (Ok v.items) × HasOutputs self.now)) }
         ensures err { IfErr result (λ fault. IsEvaluated (job_in self.now) (Err fault)) }
-        // Where an output wire has no label the answer is None, and never 48.
+        // Where an output wire has no label the result is None, and never 48.
         ensures recognised { IfErr result (λ fault. fault ≢ EvalFault.Memory
             → HasOutputs self.now) }
     {

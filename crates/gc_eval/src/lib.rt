@@ -1,9 +1,8 @@
-//! Evaluating a garbled circuit on many threads. It passes on names of `gc_job` to users of jobs, and names of
-//! `gc_walk` and `gc_counts` to users of boards.
+//! Evaluating a garbled circuit on many threads.
 //!
-//! An evaluation takes rows, decode bits and one active label for each input wire alone. [`evaluate_many`] answers the
+//! An evaluation takes rows, decode bits and one active label for each input wire alone. [`evaluate_many`] returns the
 //! output bits of a [`Job`], as [`evaluate`] does on one thread. Who has threads of their own opens an [`EvalBoard`]
-//! for them. A [`Walk`] gives them the gates in an order that serves.
+//! for them. A [`Walk`](gc_steps::Walk) gives them the gates in an order that serves.
 #![tactic(auto)]
 
 mod active;

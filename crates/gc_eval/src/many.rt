@@ -20,13 +20,13 @@ use std::sync::Wait;
 use std::thread;
 use std::thread::Threads;
 
-/// Evaluates a job by this number of workers: the answer is what [`evaluate`] answers, honest job or not. The calling
+/// Evaluates a job by this number of workers: the result is what [`evaluate`] returns, honest job or not. The calling
 /// thread is worker 0; a thread is started for each other worker that has something to do, and where one can't be
-/// started the calling thread does its work too. Where many AND gates near each other can be evaluated at once,
-/// worker 0 goes from gate to gate and all evaluate the AND gates that it passed ([`evaluate_by_layers`]). Where half
-/// of the gates are AND and three gates in four need no gate of another worker's share, each has a seat at a board.
-/// Else worker 0 evaluates alone, as it does where the workers can't have their memory. `observer.before` is called
-/// for each gate before it is evaluated, and ahead of each step at a board.
+/// started the calling thread does its work too. Where many AND gates near each other can be evaluated at once, worker
+/// 0 goes from gate to gate and all evaluate the AND gates that it passed ([`evaluate_by_layers`]). Where half of the
+/// gates are AND and three gates in four need no gate of another worker's share, each has a seat at a board. Else
+/// worker 0 evaluates alone, as it does where the workers can't have their memory. `observer.before` is called for each
+/// gate before it is evaluated, and ahead of each step at a board.
 ///
 /// It refuses 0 workers and more than [`MAX_WORKERS`]: 22.
 pub fn evaluate_many<
@@ -62,7 +62,7 @@ pub fn evaluate_many<
     }
 }
 
-/// What the workers evaluate by layers or on a board. There is no answer where there is no memory for it, or where one
+/// What the workers evaluate by layers or on a board. There is no result where there is no memory for it, or where one
 /// thread does as well.
 fn evaluate_by_many<
     A: Allocator + Send + Sync,
@@ -88,7 +88,7 @@ fn evaluate_by_many<
     }
 }
 
-/// What the workers evaluate by layers. There is no answer where there is no memory for it.
+/// What the workers evaluate by layers. There is no result where there is no memory for it.
 fn evaluate_layers<
     A: Allocator + Send + Sync,
     B: Allocator + Copy + Send + Sync,
@@ -122,7 +122,7 @@ fn evaluate_layers<
     Ok(Some(job.decode(alloc, &labels)?))
 }
 
-/// What the workers evaluate on a board. There is no answer where there is no memory for it, or where an output wire
+/// What the workers evaluate on a board. There is no result where there is no memory for it, or where an output wire
 /// got no label.
 fn evaluate_together<
     A: Allocator + Send + Sync,

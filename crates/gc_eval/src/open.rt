@@ -51,9 +51,9 @@ fn deal_all<A: Allocator, B: Allocator, C: Allocator>(
 }
 
 impl<'j, 'c, B: Allocator + Copy, A: Allocator, C: Allocator> EvalBoard<'j, 'c, B, A, C> {
-    /// A board for a job, and its seats, which have done nothing. It takes all the memory that the board needs: 46
+    /// A board for a job, and its seats, which have done nothing. It allocates all memory that the board needs: 46
     /// where there is none for the seats and the tables of the circuit, 49 where there is none for the table of the
-    /// shared words. That there are 1 to [`MAX_WORKERS`] seats is the caller's condition.
+    /// shared words. The caller ensures that there are 1 to [`MAX_WORKERS`] seats.
     pub fn open(
         alloc: B,
         job: &'j Job<'c, A, C>,
@@ -137,9 +137,9 @@ impl<'j, 'c, B: Allocator + Copy + Send + Sync, A: Allocator, C: Allocator + Syn
 }
 
 impl<'j, 'c, B: Allocator, A: Allocator, C: Allocator> EvalBoard<'j, 'c, B, A, C> {
-    /// Ends the board, exactly where all its seats are there: else 47, with all that was passed. The made lists of
-    /// the seats, taken together, are the gates that are done, each once. It takes no memory. That the seats are this
-    /// board's is the caller's condition.
+    /// Ends the board, exactly where all its seats are there: else 47, with all that was passed. The made lists of the
+    /// seats, taken together, are the gates that are done, each once. It doesn't allocate. The caller ensures that the
+    /// seats are this board's.
     pub fn close(
         self,
         seats: Vec<EvalSeat<A, C>, B>,

@@ -19,7 +19,7 @@ pub struct EvalSeat<A: Allocator = Global, C: Allocator = Global> {
 }
 
 /// An evaluation of a job that many seats work at, each in a thread of its own or not: no call waits, and none but
-/// `EvalBoard::open` takes memory. The board has three shared words for each gate.
+/// `EvalBoard::open` allocates. The board has three shared words for each gate.
 #[derive(Drop)]
 pub struct EvalBoard<'j, 'c, B: Allocator = Global, A: Allocator = Global, C: Allocator = Global> {
     pub(crate) job: &'j Job<'c, A, C>,

@@ -39,10 +39,9 @@ impl<'j, 'c, B: Allocator, A: Allocator, C: Allocator> EvalBoard<'j, 'c, B, A, C
         }
     }
 
-    /// Makes a gate, or says why not, in at most 11 atomic steps. A label that is answered is the gate's active
-    /// label, and the seat knows the gate from then on. A gate that the seat knows is answered by Done. It waits for
-    /// nobody and takes no memory. That the seat is this board's, and that there is such a gate, is the caller's
-    /// condition.
+    /// Makes a gate, or says why not, in at most 11 atomic steps. A label that is returned is the gate's active label,
+    /// and the seat knows the gate from then on. A gate that the seat knows is returned by Done. It waits for nobody
+    /// and doesn't allocate. The caller ensures that the seat is this board's, and that there is such a gate.
     pub fn step(&self, seat: &mut EvalSeat<A, C>, gate: u32) -> Answer
         requires own { IsSeatOf self.now seat.old }
         requires gate { gate < gates_of (job_on self.now) }
@@ -59,7 +58,7 @@ impl<'j, 'c, B: Allocator, A: Allocator, C: Allocator> EvalBoard<'j, 'c, B, A, C
 
     /// Steps two gates, as [`EvalBoard::step`] steps one, in at most 22 atomic steps. The labels of two AND gates are
     /// computed at once, before the second is claimed: that of the second for nothing where another seat claims it
-    /// meanwhile. That the seat is this board's, and that there are such gates, is the caller's condition.
+    /// meanwhile. The caller ensures that the seat is this board's, and that there are such gates.
     pub fn step_two(&self, seat: &mut EvalSeat<A, C>, first: u32, second: u32) -> (Answer, Answer)
         requires own { IsSeatOf self.now seat.old }
         requires gates { (first < gates_of (job_on self.now)) × (second < gates_of (job_on self.now)) }
@@ -78,8 +77,7 @@ impl<'j, 'c, B: Allocator, A: Allocator, C: Allocator> EvalBoard<'j, 'c, B, A, C
 
     /// Steps four gates, as [`EvalBoard::step`] steps one, in at most 72 atomic steps. Where each is found ready, the
     /// labels of four AND gates are computed at once, when the first is claimed and before the others are; else it
-    /// steps two gates and two gates. That the seat is this board's, and that there are such gates, is the caller's
-    /// condition.
+    /// steps two gates and two gates. The caller ensures that the seat is this board's, and that there are such gates.
     pub(crate) fn step_four(
         &self,
         seat: &mut EvalSeat<A, C>,
@@ -103,8 +101,8 @@ impl<'j, 'c, B: Allocator, A: Allocator, C: Allocator> EvalBoard<'j, 'c, B, A, C
     }
 
     /// The active label of a wire, if it is an input wire or the gate that sets it is done; the seat knows that gate
-    /// from then on, and a gate that it knew gives its label. It waits for nobody and takes no memory. That the seat
-    /// is this board's, and that there is such a wire, is the caller's condition.
+    /// from then on, and a gate that it knew gives its label. It waits for nobody and doesn't allocate. The caller
+    /// ensures that the seat is this board's, and that there is such a wire.
     pub fn label(&self, seat: &mut EvalSeat<A, C>, wire: u32) -> Option<Label>
         requires own { IsSeatOf self.now seat.old }
         requires wire { wire < (job_on self.now).circuit.wires }
@@ -118,8 +116,8 @@ impl<'j, 'c, B: Allocator, A: Allocator, C: Allocator> EvalBoard<'j, 'c, B, A, C
         self.round().label(&mut seat.place, wire)
     }
 
-    /// `to` learns what `from` knows. It waits for nobody and doesn't allocate. That both seats are this board's is the
-    /// caller's condition.
+    /// `to` learns what `from` knows. It waits for nobody and doesn't allocate. The caller ensures that both seats are
+    /// this board's.
     pub fn tell(&self, from: &mut EvalSeat<A, C>, to: &mut EvalSeat<A, C>)
         requires from { IsSeatOf self.now from.old }
         requires to { IsSeatOf self.now to.old }

@@ -23,7 +23,7 @@ pub(crate) struct Worker<B: Allocator, A: Allocator, C: Allocator> {
 }
 
 impl<B: Allocator, A: Allocator, C: Allocator> Worker<B, A, C> {
-    /// Steps gates at once, and notes what each was answered.
+    /// Steps gates at once, and notes what each was returned.
     fn step<H: Gatehouse>(&mut self, board: &EvalBoard<'_, '_, B, A, C>, observer: &H, batch: Batch)
         requires worker { IsWorkerOf board.now self.old }
         requires batch { IsWithin (gates_of (job_on board.now)) batch }
@@ -52,7 +52,7 @@ impl<B: Allocator, A: Allocator, C: Allocator> Worker<B, A, C> {
     }
 
     /// One pass over all gates that the worker doesn't know to be done, from this gate on and then round from the
-    /// first. The answer is whether it made a gate, or learnt of one.
+    /// first. Returns whether it made a gate, or learnt of one.
     fn pass<H: Gatehouse>(
         &mut self,
         board: &EvalBoard<'_, '_, B, A, C>,
@@ -122,8 +122,7 @@ impl<'j, 'c, B: Allocator, A: Allocator, C: Allocator> EvalBoard<'j, 'c, B, A, C
     }
 }
 
-/// A worker for each seat, from the last to worker 0. That the seats are this board's and new is the caller's
-/// condition.
+/// A worker for each seat, from the last to worker 0. The caller ensures that the seats are this board's and new.
 pub(crate) fn workers_of<B: Allocator + Copy, A: Allocator, C: Allocator>(
     alloc: B,
     board: &EvalBoard<'_, '_, B, A, C>,

@@ -75,10 +75,10 @@ module _ {J : Type 0} (l : Layout) (gates : J → ℕ) (right : J → ℕ → �
     pub hands : (r g : ℕ)
         → total (λ v. in_hand r g v.inner.hand) views
         ≡ only (stamp r IN_HAND) (state_of l words r g)
-    -- A round with a gate stands at most once in all made lists together.
+    -- A round with a gate is at most once in all made lists together.
     pub once : (r g : ℕ) → total (λ v. pairs r g v.inner.made) views ≤ 1
-    -- As long as the state word of a gate is of no later round, the gate is DONE in the round where the pair stands
-    -- in a made list, and else the pair stands in none.
+    -- As long as the state word of a gate is of no later round, the gate is DONE in the round where the pair is in a
+    -- made list, and else the pair is in none.
     pub mades : (r g : ℕ) → state_of l words r g < stamp (r + 1) FREE
         → total (λ v. pairs r g v.inner.made) views ≡ only (stamp r DONE) (state_of l words r g)
     -- What each view says is so.
@@ -97,6 +97,6 @@ module _ {J : Type 0} where
   abbrev pub no_view : GateView J
   no_view = record { job = None; hand = Empty; made = []; known = []; looks = [] }
 
--- Each round with a gate stands at most once in the made list.
+-- Each round with a gate is at most once in the made list.
 abbrev pub IsOnce : List (ℕ × ℕ) → Type 0
 IsOnce made = (r g : ℕ) → pairs r g made ≤ 1

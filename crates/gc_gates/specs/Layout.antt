@@ -3,7 +3,7 @@ use Rattle.std.specs.Prelude.{◌≡◌, ℕ, ◌+◌, ◌*◌, ◌<◌, List, s
 use Rattle.gc_rounds.specs.Words.{round_of, bank_of}
 
 pub record Layout : Type 0 where
-  -- where the state word of a gate stands in a round; its low and its high half follow
+  -- where the state word of a gate is in a round; its low and its high half follow
   pub at : ℕ → ℕ → ℕ
   -- how many words a table has for this many gates
   pub size : ℕ → ℕ

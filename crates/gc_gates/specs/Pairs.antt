@@ -1,4 +1,4 @@
--- How often a round with a gate, or these with a number, stand in a list.
+-- How often a round with a gate, or these with a number, are in a list.
 use Rattle.std.specs.Prelude.{ℕ, ◌*◌, List}
 use Rattle.gc_workers.specs.Counts.{total, only}
 
@@ -6,7 +6,7 @@ use Rattle.gc_workers.specs.Counts.{total, only}
 abbrev pub is_pair : ℕ → ℕ → ℕ × ℕ → ℕ
 is_pair r g p = only r p.0 * only g p.1
 
--- how often round r with gate g stands in the list
+-- how often round r with gate g is in the list
 abbrev pub pairs : ℕ → ℕ → List (ℕ × ℕ) → ℕ
 pairs r g l = total (is_pair r g) l
 

@@ -75,7 +75,7 @@ pub fn load_high<J: Subject, R: Frame<J>>(
     words.load::<LoadHigh<R>>(place, R::index(round, gate) + 2)
 }
 
-/// Exchanges the state word of a gate from the free word that a load found to `IN_HAND` in the round, and answers the
+/// Exchanges the state word of a gate from the free word that a load found to `IN_HAND` in the round, and returns the
 /// word that it found. Where that is the free word, the gate is in hand.
 #[inline]
 pub fn claim<J: Subject, R: Frame<J>>(

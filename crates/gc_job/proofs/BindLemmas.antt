@@ -1,4 +1,4 @@
--- Label files in turn, and the places where they stand.
+-- Label files in turn, and the places where they are.
 use Rattle.gc_job.proofs.Names.{◌≡◌, ◌≢◌, ℕ, ◌+◌, ◌<◌, ◌≤◌, Bool, true, false, inl, inr, List, [], length, take, set, get_or, slice_get, Option, Some, None, is_some, MatchOption, not, eqb, ltb, refl, sym, ◌∙◌, arith, slice_get_within, slice_get_read, cases_eq, Decides-eqb, LabelFileParts, DoubleValue, HasFile, IsInOrder, AreInOrder, LabelsFault, double_value, IsFileAt, ArePlaces}
 use Rattle.std.proofs.lemmas.List.{get_or-set_same, get_or-set_other, length-set}
 use Rattle.std.proofs.lemmas.Slice.Eq.{slice_eq-Decides}
@@ -43,7 +43,7 @@ module _ (widths : List ℕ) (before : List LabelFileParts) (file : LabelFilePar
   in_order_at is =
       record { width = at; first = place_free before file.index _ is (marked file.index inside) }
 
--- No file stands before the first, so none is marked.
+-- No file comes before the first, so none is marked.
 pub places_none : (places : List (Option ℕ))
     → ((k : ℕ) → k < length places → get_or places k None ≡ None) → ArePlaces [] places
 places_none places empty value room = rw (empty value room) (λ h. cc (h.at))

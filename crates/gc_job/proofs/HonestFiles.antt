@@ -120,7 +120,7 @@ module _ (c : Netlist) (lawful : IsLawful c) (seed : List ℕ) (values : List (L
         inputs = bound-inputs job bound;
       })
 
-  -- So its evaluation answers the circuit's outputs.
+  -- So its evaluation returns the circuit's outputs.
   bound-outputs : (job : JobParts) → IsBound c g files job → (result : Result (List Bool) EvalFault)
       → IsEvaluated job result →
       MatchResult result (AreOutputs c (flat_map (λ value. value) values)) (λ fault. fault ≡ Memory)

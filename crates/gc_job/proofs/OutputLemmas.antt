@@ -65,7 +65,7 @@ bound-whole c lawful g files job bound = rw bound.parts (record {
   inputs = bound.labels.count;
 })
 
--- An evaluation answers a bit for each output wire.
+-- An evaluation returns a bit for each output wire.
 pub length-evaluated : (job : JobParts) → IsWhole job → (bits : List Bool)
     → IsEvaluated job (Ok bits) → length bits ≡ output_wires job.circuit
 length-evaluated job whole bits is =

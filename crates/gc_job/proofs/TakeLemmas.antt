@@ -8,7 +8,7 @@ slice_get-take (suc n) k [] h = refl
 slice_get-take (suc n) zero (x ∷ xs) h = refl
 slice_get-take (suc n) (suc k) (x ∷ xs) h = slice_get-take n k xs (omega arith)
 
--- An element of the front stands in the front, and in the list.
+-- An element of the front is in the front, and in the list.
 pub slice_get_taken : {X : Type 0} (n k : ℕ) (xs : List X) (x : X)
     → slice_get (take n xs) k ≡ Some x
     → (k < n) × (slice_get xs k ≡ Some x)

@@ -1,4 +1,4 @@
--- What evaluating a garbled circuit answers, honest rows and labels or not.
+-- What evaluating a garbled circuit returns, honest rows and labels or not.
 use Rattle.std.specs.Prelude.{◌≡◌, ℕ, ◌<◌, ◌≤◌, Bool, true, false, List, length, slice_get, slice_index, Some, Result, Ok, Err}
 use Rattle.gc_netlist.specs.Circuit.{and_count}
 use Rattle.gc_netlist.specs.Solution.{on_outputs}

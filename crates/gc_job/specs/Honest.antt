@@ -53,7 +53,7 @@ pub record AreHonestFiles (c : Netlist) (seed : List ℕ) (values : List (List B
       → slice_get files k ≡ Some other → file.index ≡ other.index → i ≡ k
 
 -- Such files have no fault; the job that they are bound to is honest, and its input labels stand for the values; and
--- its evaluation answers the circuit's outputs, unless memory is missing.
+-- its evaluation returns the circuit's outputs, unless memory is missing.
 pub record HonestFilesLaw (c : Netlist) (seed : List ℕ) (values : List (List Bool))
     (g : GarbledParts) (files : List LabelFileParts) : Type 0 where
   pub no_fault : (fault : BindFault) → FirstBindFault c g files fault → ⊥

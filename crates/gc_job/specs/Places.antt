@@ -1,4 +1,4 @@
--- Where the label file of each input value stands.
+-- Where the label file of each input value is.
 use Rattle.std.specs.Prelude.{◌≡◌, ℕ, ◌<◌, List, [], length, slice_get, slice_index_or, Option, Some, None, MatchOption}
 use Rattle.gc_file.specs.LabelFile.{LabelFileParts}
 use Rattle.gc_job.specs.Binding.{HasFile}

@@ -74,7 +74,7 @@ fn places_of<B: Allocator>(
     Ok(places)
 }
 
-/// The input value that a label file is for. That there are places for all values is the caller's condition.
+/// The input value that a label file is for. The caller ensures that there are places for all values.
 fn value_of<B: Allocator>(
     widths: &[u32],
     places: &[Option<usize>],
@@ -101,8 +101,8 @@ fn value_of<B: Allocator>(
     Ok(value)
 }
 
-/// The labels of the files at these places, one after another. That there are such files is the caller's condition. It
-/// takes memory once, where there are as many labels as given.
+/// The labels of the files at these places, one after another. The caller ensures that there are such files. It
+/// allocates once, where there are as many labels as given.
 fn joined_labels<A: Allocator + Copy, B: Allocator>(
     alloc: A,
     count: u32,

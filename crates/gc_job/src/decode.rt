@@ -39,8 +39,8 @@ pub(crate) fn decoding<A: Allocator, B: Allocator + Copy, C: Allocator>(
     Ok(decoded(alloc, garbled.decode_bits(), labels)?)
 }
 
-/// The bits that these labels decode to: each is the decode bit xor the colour of the label. That there is a decode bit
-/// for each label is the caller's condition.
+/// The bits that these labels decode to: each is the decode bit xor the colour of the label. The caller ensures that
+/// there is a decode bit for each label.
 pub fn decoded<A: Allocator + Copy>(
     alloc: A,
     decode_bits: &[bool],
@@ -131,8 +131,8 @@ fn is_entry(entries: &[EntryPair], output: usize, label: Label, hash: Label) -> 
     choose(label.colour(), is_one, is_zero)
 }
 
-/// The first of two answers where this holds, and else the other. It is not inlined: beside the comparisons the compiler
-/// would choose the address of an entry by it, and it is a secret.
+/// The first of two results where this holds, and else the other. It is not inlined: beside the comparisons the
+/// compiler would choose the address of an entry by it, and it is a secret.
 #[inline(never)]
 fn choose(is_so: bool, first: bool, other: bool) -> bool
     ensures { result ≡ if is_so then first else other }

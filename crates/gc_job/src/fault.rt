@@ -9,8 +9,8 @@ use std::error::Error;
 use std::fmt;
 
 /// Why a garbled file and label files are no job for a circuit: the first fault that holds, in the order below. That of
-/// a label file is the first of the first file that has one. `Memory` stands in place of a later fault, or of the job,
-/// only where a growth was refused.
+/// a label file is the first of the first file that has one. `Memory` replaces a later fault, or the job, only where an
+/// allocation was refused.
 #[derive(Clone, Copy, Debug, PartialEq, Eq)]
 pub enum BindFault {
     /// The garbled file has the digest of another circuit.
@@ -85,7 +85,7 @@ impl From<AllocError> for BindFault {
     }
 }
 
-/// Why a job has no output bits. `Memory` stands in place of the answer only where a growth was refused.
+/// Why a job has no output bits. `Memory` replaces the result only where an allocation was refused.
 #[derive(Clone, Copy, Debug, PartialEq, Eq)]
 pub enum EvalFault {
     /// The number of workers is 0 or above [`MAX_WORKERS`](gc_workers::MAX_WORKERS). Evaluation on one thread never

@@ -12,7 +12,7 @@ use std::alloc::Allocator;
 
 /// The output bits of four jobs on one circuit, each those that [`evaluate`](crate::evaluate) returns. Where it returns
 /// a fault for a job, and where memory runs out, there are none. The k-th AND gates of all four are evaluated at once.
-/// That the circuits are equal is the caller's condition.
+/// The caller ensures that the circuits are equal.
 pub fn evaluate_four<A: Allocator, B: Allocator + Copy, C: Allocator>(
     alloc: B,
     jobs: Four<&Job<'_, A, C>>,

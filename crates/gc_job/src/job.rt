@@ -42,11 +42,11 @@ impl<'c, A: Allocator + Copy, C: Allocator> Job<'c, A, C> {
     ghost use Rattle.gc_netlist.specs.Canon.{canonical_text};
     ghost use Rattle.gc_job.specs.Binding.{IsBound, FirstBindFault};
 
-    /// The job of a circuit, a garbled file and a label file for each input value, in any order. The files are judged
-    /// in this order, and the first fault is the answer: 40 where the garbled file is another circuit's, 41 where it
+    /// The job of a circuit, a garbled file and a label file for each input value, in any order. The files are checked
+    /// in this order, and the first fault is the result: 40 where the garbled file is another circuit's, 41 where it
     /// has other counts; then for each label file in turn 42 where the circuit has no such input value, 43 where that
-    /// has another width, 44 where a file before it is for the same value; and 45 where an input value has no file.
-    /// It takes memory once, for the input labels.
+    /// has another width, 44 where a file before it is for the same value; and 45 where an input value has no file. It
+    /// allocates once, for the input labels.
     pub fn bind<B: Allocator>(
         alloc: A,
         circuit: &'c Circuit<C>,
@@ -60,9 +60,9 @@ impl<'c, A: Allocator + Copy, C: Allocator> Job<'c, A, C> {
         Job::bind_by_digest(alloc, circuit, &circuit.digest(), garbled, files)
     }
 
-    /// The job as [`Job::bind`] answers it, for a caller that has the digest of the circuit's canonical text: it is not
+    /// The job as [`Job::bind`] returns it, for a caller that has the digest of the circuit's canonical text: it is not
     /// taken again. A caller that takes this digest during other work may give the one that the garbled file has, and
-    /// compare them afterwards: until they are equal nothing is known of the answer.
+    /// compare them afterwards: until they are equal nothing is known of the result.
     pub fn bind_by_digest<B: Allocator>(
         alloc: A,
         circuit: &'c Circuit<C>,
@@ -148,7 +148,7 @@ impl<'c, A: Allocator, C: Allocator> Job<'c, A, C> {
 
     /// The output bits that these active labels of the output wires decode to ("Two Halves Make a Whole", the procedure
     /// De). In version 2 it is 48 at the first label whose hash is not the entry of its colour; in version 1 any label
-    /// decodes. That there is a label for each output wire is the caller's condition.
+    /// decodes. The caller ensures that there is a label for each output wire.
     pub fn decode<B: Allocator + Copy>(
         &self,
         alloc: B,

@@ -56,8 +56,8 @@ pub fn evaluate<A: Allocator, B: Allocator + Copy, C: Allocator>(
     job.decode(alloc, &labels)
 }
 
-/// The active labels of the output wires of a job without its circuit, as [`output_labels`] gives them. That it is a job
-/// of this circuit is the caller's condition.
+/// The active labels of the output wires of a job without its circuit, as [`output_labels`] gives them. The caller
+/// ensures that it is a job of this circuit.
 pub fn output_labels_detached<A: Allocator, B: Allocator + Copy, C: Allocator>(
     alloc: B,
     circuit: &Circuit<C>,
@@ -76,8 +76,8 @@ pub fn output_labels_detached<A: Allocator, B: Allocator + Copy, C: Allocator>(
     )
 }
 
-/// Evaluates a job without its circuit on one thread, as [`evaluate`] does. That it is a job of this circuit is the
-/// caller's condition.
+/// Evaluates a job without its circuit on one thread, as [`evaluate`] does. The caller ensures that it is a job of this
+/// circuit.
 pub fn evaluate_detached<A: Allocator, B: Allocator + Copy, C: Allocator>(
     alloc: B,
     circuit: &Circuit<C>,

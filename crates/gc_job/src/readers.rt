@@ -24,7 +24,7 @@ pub struct ReadGate {
 }
 
 impl<'c, A: Allocator, C: Allocator> Job<'c, A, C> {
-    /// The active label of an input wire. That it is one is the caller's condition.
+    /// The active label of an input wire. The caller ensures that it is one.
     #[inline]
     pub fn input(&self, wire: u32) -> Label
         requires { wire < input_wires self.now.circuit }
@@ -34,8 +34,8 @@ impl<'c, A: Allocator, C: Allocator> Job<'c, A, C> {
         self.inputs()[wire as usize]
     }
 
-    /// The gate that sets a wire, if one does. It takes no memory and goes through the gates; [`Wiring::setter`]
-    /// reads a table. That there is such a wire is the caller's condition.
+    /// The gate that sets a wire, if one does. It doesn't allocate and goes through the gates; [`Wiring::setter`] reads
+    /// a table. The caller ensures that there is such a wire.
     pub fn setter(&self, wire: u32) -> Option<u32>
         requires { wire < self.now.circuit.wires }
         ensures some { IfSome result (IsSetBy self.now.circuit wire) }
@@ -50,10 +50,9 @@ impl<'c, A: Allocator, C: Allocator> Job<'c, A, C> {
         None
     }
 
-    /// The active label of the wire that a gate sets, from those of the wires that it reads first and second; one
-    /// that it does not read is ignored ("Two Halves Make a Whole", the procedure Ev). It takes no memory and counts
-    /// the AND gates before the gate; [`Job::active_by`] reads a table. That there is such a gate is the caller's
-    /// condition.
+    /// The active label of the wire that a gate sets, from those of the wires that it reads first and second; one that
+    /// it does not read is ignored ("Two Halves Make a Whole", the procedure Ev). It doesn't allocate and counts the
+    /// AND gates before the gate; [`Job::active_by`] reads a table. The caller ensures that there is such a gate.
     pub fn active(&self, gate: u32, first: Label, second: Label) -> Label
         requires { gate < gates_of self.now }
         ensures { result ≡ active_from self.now gate first second }
@@ -61,8 +60,8 @@ impl<'c, A: Allocator, C: Allocator> Job<'c, A, C> {
         self.active_at(self.and_number(gate), gate, first, second)
     }
 
-    /// The same, with the tables of the job's circuit. That there is such a gate, and that the wiring is the circuit's,
-    /// are the caller's conditions.
+    /// The same, with the tables of the job's circuit. The caller ensures that there is such a gate, and that the
+    /// wiring is the circuit's.
     #[inline]
     pub fn active_by<B: Allocator>(
         &self,
@@ -90,8 +89,8 @@ impl<'c, A: Allocator, C: Allocator> Job<'c, A, C> {
     }
 
     /// The active labels of the wires that two gates set, each as [`Job::active_by`] gives it from the labels of the
-    /// wires that the gate reads first and second. Two AND gates are evaluated at once. That there are such gates,
-    /// and that the wiring is the circuit's, are the caller's conditions.
+    /// wires that the gate reads first and second. Two AND gates are evaluated at once. The caller ensures that there
+    /// are such gates, and that the wiring is the circuit's.
     #[inline]
     pub fn active_two<B: Allocator>(
         &self,
@@ -117,8 +116,8 @@ impl<'c, A: Allocator, C: Allocator> Job<'c, A, C> {
         }
     }
 
-    /// The active labels of the wires that four gates set, in the same way. Four AND gates are evaluated at once.
-    /// That there are such gates, and that the wiring is the circuit's, are the caller's conditions.
+    /// The active labels of the wires that four gates set, in the same way. Four AND gates are evaluated at once. The
+    /// caller ensures that there are such gates, and that the wiring is the circuit's.
     #[inline]
     pub fn active_four<B: Allocator>(
         &self,
@@ -174,7 +173,7 @@ impl<'c, A: Allocator, C: Allocator> Job<'c, A, C> {
         }
     }
 
-    /// How many AND gates stand before a gate in the file. That there is such a gate is the caller's condition.
+    /// How many AND gates come before a gate in the file. The caller ensures that there is such a gate.
     fn and_number(&self, gate: u32) -> u32
         requires { gate < gates_of self.now }
         ensures { result ≡ and_number self.now.circuit gate }

@@ -33,7 +33,7 @@ impl<'c, A: Allocator, C: Allocator> Model for Wiring<'c, A, C> {
 }
 
 impl<'c, A: Allocator + Copy, C: Allocator> Wiring<'c, A, C> {
-    /// The tables of a circuit. It takes memory twice.
+    /// The tables of a circuit. It allocates twice.
     pub fn of(alloc: A, circuit: &'c Circuit<C>) -> Result<Wiring<'c, A, C>, AllocError>
         ensures { IfOk result (λ wiring. wiring ≡ circuit.now) }
     {
@@ -47,7 +47,7 @@ impl<'c, A: Allocator + Copy, C: Allocator> Wiring<'c, A, C> {
 }
 
 impl<'c, A: Allocator, C: Allocator> Wiring<'c, A, C> {
-    /// The gate that sets a wire, if one does. That there is such a wire is the caller's condition.
+    /// The gate that sets a wire, if one does. The caller ensures that there is such a wire.
     #[inline]
     pub fn setter(&self, wire: u32) -> Option<u32>
         requires { wire < self.now.wires }
@@ -62,7 +62,7 @@ impl<'c, A: Allocator, C: Allocator> Wiring<'c, A, C> {
         if after == 0 { None } else { Some(after - 1) }
     }
 
-    /// How many AND gates stand before a gate in the file. That there is such a gate is the caller's condition.
+    /// How many AND gates come before a gate in the file. The caller ensures that there is such a gate.
     #[inline]
     pub fn and_number(&self, gate: u32) -> u32
         requires { gate < length self.now.gates }

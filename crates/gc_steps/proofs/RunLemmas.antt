@@ -107,14 +107,14 @@ says_within lay job r g Taken p q h =
     (omega (arith, p.known r g), omega (arith, p.sighted word held, q.sighted word held))
 says_within lay job r g (NotYet w) p q h = (omega (arith, p.known r g), h.1, lacks_within p q h.2)
 
--- an answer after steps that made nothing
+-- a result after steps that made nothing
 pub answers_later : {J : Type 0} {a b c : Seen J} {m n : ℕ} (lay : Layout) (job : JobParts)
     (r g : ℕ) (x : Answer)
     → Ran a b a.inner.made m → Answers lay job r g n b c x → Answers lay job r g (m + n) a c x
 answers_later lay job r g x p h =
     (says_within lay job r g x (grown p) still h.0, rw p.made at (ran_then p h.1))
 
--- an answer that is not Made leaves the made list
+-- a result that is not Made leaves the made list
 pub unmade : (r g : ℕ) (l : List (ℕ × ℕ)) (answer : Answer) → made_now answer ≡ 0
     → made_after r g l answer ≡ l
 unmade r g l (Made label) e = absurd (omega arith)
@@ -122,7 +122,7 @@ unmade r g l (Done label) e = refl
 unmade r g l Taken e = refl
 unmade r g l (NotYet w) e = refl
 
--- an answer for another gate leaves how often a gate stands in the made list
+-- a result for another gate leaves how often a gate is in the made list
 pub made_apart : (r g h : ℕ) (l : List (ℕ × ℕ)) (answer : Answer) → h ≢ g
     → pairs r h (made_after r g l answer) ≡ pairs r h l
 made_apart r g h l (Made label) apart = omega (
@@ -134,7 +134,7 @@ made_apart r g h l (Done label) apart = refl
 made_apart r g h l Taken apart = refl
 made_apart r g h l (NotYet w) apart = refl
 
--- two answers, of which the second call began where the first ended
+-- two results, of which the second call began where the first ended
 pub two_made : {J : Type 0} {a b c : Seen J} {m n : ℕ} (lay : Layout) (job : JobParts) (r g h : ℕ)
     (x y : Answer)
     → Answers lay job r g m a b x → Answers lay job r h n b c y
@@ -145,7 +145,7 @@ two_made lay job r g h x y p q = (
   rw p.1.made at (ran_then p.1 q.1),
 )
 
--- An answer that is not Made is one after any more steps.
+-- A result that is not Made is one after any more steps.
 pub answers_unmade : {J : Type 0} {a b : Seen J} {m n : ℕ} (lay : Layout) (job : JobParts) (r g : ℕ)
     (x : Answer) → m ≤ n
     → (made_now x ≡ 0) × Says lay job r g a b x → Ran a b a.inner.made m
@@ -158,7 +158,7 @@ both_looked : {J : Type 0} {a b c : Seen J} → Ran a b a.inner.made 7 → Ran b
     → Ran a c a.inner.made 14
 both_looked p q = rw p.made at (ran_then p q)
 
--- four answers of one call: two, and then two,
+-- four results of one call: two, and then two,
 pub four_made : {J : Type 0} {u v w : Seen J} {m n most : ℕ} (lay : Layout) (job : JobParts)
     (r a b c d : ℕ) (x y : Answer × Answer) → m + n ≤ most → AnswersTwo lay job r a b m u v x
     → AnswersTwo lay job r c d n v w y

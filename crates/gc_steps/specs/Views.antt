@@ -1,4 +1,4 @@
--- How a seat's view grows in a call inside a round, and what the answers of a step say. Of a board the round is 0.
+-- How a seat's view grows in a call inside a round, and what the results of a step say. Of a board the round is 0.
 use Rattle.std.specs.Prelude.{◌≡◌, ◌≢◌, ℕ, ◌*◌, ◌<◌, ◌≤◌, ◌⊎◌, List, [], ◌∷◌, ◌++◌, length, slice_get, Some}
 use Rattle.gc_netlist.specs.declared.gate.Gate.{Gate}
 use Rattle.gc_netlist.specs.Circuit.{Netlist, IsSetBy, IsSet, input_wires, first_wire, second_wire}
@@ -33,7 +33,7 @@ pub record Reads (c : Netlist) (g w : ℕ) : Type 0 where
 abbrev pub AreReadBy : JobParts → ℕ → ℕ × ℕ → Type 0
 AreReadBy job g labels = active_from job g labels.0 labels.1 ≡ active job (set_of job g)
 
--- The answer is Made.
+-- The result is Made.
 abbrev pub IsMadeNow : Answer → Type 0
 IsMadeNow (Made label) = Unit {0}
 IsMadeNow (Done label) = ⊥
@@ -91,7 +91,7 @@ SawUndone lay old new r g = (found : ℕ) × (found < stamp r DONE) × Saw old n
 abbrev pub Knows : {J : Type 0} → Seen J → ℕ → ℕ → Type 0
 Knows v r g = 0 < pairs r g v.inner.known
 
--- An answered label is the active label of wire w in the round's job. The wire is set, and the gate that sets it is
+-- A returned label is the active label of wire w in the round's job. The wire is set, and the gate that sets it is
 -- known in the round.
 pub record Got {J : Type 0} (job : JobParts) (r w : ℕ) (new : Seen J) (label : ℕ) : Type 0 where
   pub set : IsSet job.circuit w
@@ -105,9 +105,9 @@ pub record Lacks {J : Type 0} (lay : Layout) (job : JobParts) (r w : ℕ) (old n
   pub unknown : (h : ℕ) → IsSetBy job.circuit w h
       → (pairs r h old.inner.known ≡ 0) × SawUndone lay old new r h
 
--- What an answer for gate g in round r says. Made: the label is right in the round's job, the gate is known, and it
--- was not known. Done: the label is right, and the gate known. Taken: it was not known, and it was found IN_HAND in
--- the round. NotYet: it was not known, and it reads the wire, which lacks a label.
+-- What a result for gate g in round r says. Made: the label is right in the round's job, the gate is known, and it was
+-- not known. Done: the label is right, and the gate known. Taken: it was not known, and it was found IN_HAND in the
+-- round. NotYet: it was not known, and it reads the wire, which lacks a label.
 abbrev pub Says : {J : Type 0} → Layout → JobParts → ℕ → ℕ → Seen J → Seen J → Answer → Type 0
 Says lay job r g old new (Made label) =
     (label ≡ active job (set_of job g)) × Knows new r g × (pairs r g old.inner.known ≡ 0)
@@ -117,20 +117,20 @@ Says lay job r g old new Taken =
 Says lay job r g old new (NotYet w) =
     (pairs r g old.inner.known ≡ 0) × Reads job.circuit g w × Lacks lay job r w old new
 
--- the made list after an answer for gate g in round r: Made alone appends to it, the gate with the round
+-- the made list after a result for gate g in round r: Made alone appends to it, the gate with the round
 abbrev pub made_after : ℕ → ℕ → List (ℕ × ℕ) → Answer → List (ℕ × ℕ)
 made_after r g made (Made label) = made ++ (r, g) ∷ []
 made_after r g made (Done label) = made
 made_after r g made Taken = made
 made_after r g made (NotYet w) = made
 
--- It was answered after at most this number of steps, which changed the made list by this answer alone.
+-- It was returned after at most this number of steps, which changed the made list by this result alone.
 abbrev pub Answers : {J : Type 0} → Layout → JobParts → ℕ → ℕ → ℕ → Seen J → Seen J → Answer
     → Type 0
 Answers lay job r g most old new answer =
     Says lay job r g old new answer × Ran old new (made_after r g old.inner.made answer) most
 
--- Two gates were answered at once, after at most this number of steps, which changed the made list by these answers
+-- Two gates were returned at once, after at most this number of steps, which changed the made list by these results
 -- alone, in this order.
 abbrev pub AnswersTwo : {J : Type 0} → Layout → JobParts → ℕ → ℕ → ℕ → ℕ → Seen J → Seen J
     → Answer × Answer → Type 0
@@ -163,7 +163,7 @@ pub record IsReady {J : Type 0} (job : JobParts) (r : ℕ) (v : Seen J) (ready :
   pub found : 0 < looked r ready.gate ready.free v.inner.looks
   pub free : ready.free ≤ stamp r FREE
 
--- The seat stands for all seats. Then the answers follow from its made list alone.
+-- The seat stands for all seats. Then the results follow from its made list alone.
 abbrev pub IsAlone : {J : Type 0} → Seen J → Type 0
 IsAlone v = v.seats ≡ v.all
 
@@ -183,16 +183,15 @@ FirstLacking job r g old w =
     ⊎ ((second_wire gate.operation ≡ Some w) × SetsMade job r w old 0
     × ((u : ℕ) → first_wire gate.operation ≡ Some u → SetsMade job r u old 1))
 
--- What the only seat is answered for gate g in round r: Done where it made the gate, else NotYet with the
--- first wire whose gate it hasn't made, else Made; and never Taken.
+-- What the only seat is returned for gate g in round r: Done where it made the gate, else NotYet with the first wire
+-- whose gate it hasn't made, else Made; and never Taken.
 abbrev pub AnswersAlone : {J : Type 0} → JobParts → ℕ → ℕ → Seen J → Answer → Type 0
 AnswersAlone job r g old (Made label) = (pairs r g old.inner.made ≡ 0) × ReadsMade job r g old
 AnswersAlone job r g old (Done label) = pairs r g old.inner.made ≡ 1
 AnswersAlone job r g old Taken = ⊥
 AnswersAlone job r g old (NotYet w) = (pairs r g old.inner.made ≡ 0) × FirstLacking job r g old w
 
--- What it is answered for two gates at once: for each, where they are two, what a step of that gate alone is
--- answered.
+-- What it is returned for two gates at once: for each, where they are two, what a step of that gate alone is returned.
 abbrev pub AnswersTwoAlone : {J : Type 0} → JobParts → ℕ → ℕ → ℕ → Seen J → Answer × Answer → Type 0
 AnswersTwoAlone job r g h old answers =
     AnswersAlone job r g old answers.0 × (h ≢ g → AnswersAlone job r h old answers.1)

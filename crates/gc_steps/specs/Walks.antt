@@ -23,14 +23,14 @@ IsWithin gates (One a) = a < gates
 IsWithin gates (Two a b) = (a < gates) × (b < gates)
 IsWithin gates (Four a b c d) = (a < gates) × (b < gates) × (c < gates) × (d < gates)
 
--- After this answer the worker knows the gate to be done.
+-- After this result the worker knows the gate to be done.
 abbrev pub is_learnt : Answer → Bool
 is_learnt (Made label) = true
 is_learnt (Done label) = true
 is_learnt Taken = false
 is_learnt (NotYet w) = false
 
--- how many gates a step made, of which this is the answer: 1 where it is Made, and else 0
+-- how many gates a step made, of which this is the result: 1 where it is Made, and else 0
 abbrev pub made_now : Answer → ℕ
 made_now (Made label) = 1
 made_now (Done label) = 0

@@ -145,8 +145,8 @@ impl<'w, 'c, J: Jobs, R: Frame<J>, B: Allocator, A: Allocator, C: Allocator> Rou
 
     /// Steps four gates, as [`Round::step`] steps one, in at most 72 atomic steps. Where all are found ready, the
     /// labels of four AND gates are computed at once, when the first is claimed and before the others are; else it
-    /// steps two gates and two gates. That the place is inside the round with an empty hand, and that there are such
-    /// gates, is the caller's condition.
+    /// steps two gates and two gates. The caller ensures that the place is inside the round with an empty hand, and
+    /// that there are such gates.
     pub fn step_four(
         &self,
         place: &mut Place<J>,

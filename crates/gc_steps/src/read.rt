@@ -41,7 +41,7 @@ impl<'w, 'c, J: Jobs, R: Frame<J>, B: Allocator, A: Allocator, C: Allocator> Rou
     }
 
     /// The label of a wire, where it is an input wire or the gate that sets it is found done, in at most 3 atomic
-    /// steps. That the place is inside the round, and that there is such a wire, is the caller's condition.
+    /// steps. The caller ensures that the place is inside the round, and that there is such a wire.
     pub fn label(&self, place: &mut Place<J>, wire: u32) -> Option<Label>
         requires place { IsPlaceInside R.layout J.gates self.now.words.now.table_id
             self.now.words.now.key place.old self.now.number }
@@ -118,7 +118,7 @@ impl<'w, 'c, J: Jobs, R: Frame<J>, B: Allocator, A: Allocator, C: Allocator> Rou
     }
 
     /// What a gate is made of, where its state word is found free and the labels that it reads are there. The fault is
-    /// the answer.
+    /// the result.
     pub(crate) fn prepare(&self, place: &mut Place<J>, gate: u32) -> Result<Prepared, Answer>
         requires place { IsPlaceAt R.layout J.gates self.now.words.now.table_id
             self.now.words.now.key place.old self.now.number gate }

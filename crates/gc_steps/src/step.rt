@@ -30,7 +30,7 @@ impl<'w, 'c, J: Jobs, R: Frame<J>, B: Allocator, A: Allocator, C: Allocator> Rou
     A,
     C,
 > {
-    /// Takes a gate in hand whose state word was found free, where no seat has it since; else the answer.
+    /// Takes a gate in hand whose state word was found free, where no seat has it since; else the result.
     pub(crate) fn take(&self, place: &mut Place<J>, gate: u32, free: u64) -> Option<Answer>
         requires place { IsPlaceAt R.layout J.gates self.now.words.now.table_id
             self.now.words.now.key place.old self.now.number gate }
@@ -116,8 +116,8 @@ impl<'w, 'c, J: Jobs, R: Frame<J>, B: Allocator, A: Allocator, C: Allocator> Rou
         Answer::Made(label)
     }
 
-    /// Makes a gate, or says why not, in at most 11 atomic steps. That the place is inside the round with an empty hand,
-    /// and that there is such a gate, is the caller's condition.
+    /// Makes a gate, or says why not, in at most 11 atomic steps. The caller ensures that the place is inside the round
+    /// with an empty hand, and that there is such a gate.
     pub fn step(&self, place: &mut Place<J>, gate: u32) -> Answer
         requires place { IsPlaceAt R.layout J.gates self.now.words.now.table_id
             self.now.words.now.key place.old self.now.number gate }

@@ -85,9 +85,9 @@ impl<'w, 'c, J: Jobs, R: Frame<J>, B: Allocator, A: Allocator, C: Allocator> Rou
         }
     }
 
-    /// Steps two gates, as [`Round::step`] steps one, in at most 22 atomic steps. Where both are found ready, the labels
-    /// of two AND gates are computed at once, when the first is claimed and before the second is. That the place is
-    /// inside the round with an empty hand, and that there are such gates, is the caller's condition.
+    /// Steps two gates, as [`Round::step`] steps one, in at most 22 atomic steps. Where both are found ready, the
+    /// labels of two AND gates are computed at once, when the first is claimed and before the second is. The caller
+    /// ensures that the place is inside the round with an empty hand, and that there are such gates.
     pub fn step_two(&self, place: &mut Place<J>, first: u32, second: u32) -> (Answer, Answer)
         requires first { IsPlaceAt R.layout J.gates self.now.words.now.table_id
             self.now.words.now.key place.old self.now.number first }

@@ -42,8 +42,8 @@ impl Batch {
 
 /// A worker's passes over the gates of a circuit, but for those that it knows to be done. AND gates wait until there
 /// are four, which are stepped at once. Before a gate that reads a wire that one of them sets, and at the end of a
-/// pass, those that wait are stepped. No answer rests on a walk. Contracts see how many gates there are, how many
-/// of them the pass has yet to come to, how many AND gates wait, and whether the worker learnt of a gate in the pass.
+/// pass, those that wait are stepped. No result rests on a walk. Contracts see how many gates there are, how many of
+/// them the pass has yet to come to, how many AND gates wait, and whether the worker learnt of a gate in the pass.
 #[derive(Drop)]
 pub struct Walk<B: Allocator = Global> {
     gates: u32,
@@ -75,7 +75,7 @@ impl<B: Allocator> Model for Walk<B> {
 
 impl<B: Allocator + Copy> Walk<B> {
     /// A walk over the gates of a circuit that has this number of them, before its first pass. No gate is known. It
-    /// takes memory once, a bit for each gate.
+    /// allocates once, a bit for each gate.
     pub fn new(alloc: B, gates: u32) -> Result<Walk<B>, AllocError>
         ensures gates { IfOk result (λ walk. walk.gates ≡ gates) }
         ensures new { IfOk result
@@ -106,8 +106,8 @@ impl<B: Allocator> Walk<B> {
         self.waiting = WaitingGates::new();
     }
 
-    /// The next gates of the pass, or none where the pass has come to all its gates and none waits. That the circuit
-    /// has the gates of the walk is the caller's condition.
+    /// The next gates of the pass, or none where the pass has come to all its gates and none waits. The caller ensures
+    /// that the circuit has the gates of the walk.
     pub fn next<C: Allocator>(&mut self, circuit: &Circuit<C>) -> Option<Batch>
         requires { self.old.gates ≡ length circuit.now.gates }
         ensures batch { IfSome result (IsWithin self.old.gates) }
@@ -185,7 +185,7 @@ impl<B: Allocator> Walk<B> {
         Some(Batch::Two(first.gate, second.gate))
     }
 
-    /// Notes what a gate was answered: one that is done is known from now on.
+    /// Notes what a gate was returned: one that is done is known from now on.
     pub fn note(&mut self, gate: u32, answer: Answer)
         ensures gates { self.new.gates ≡ self.old.gates }
         ensures left { (self.new.left ≡ self.old.left) × (self.new.waiting ≡ self.old.waiting) }
