@@ -51,6 +51,14 @@ Commands:
 Options:
   -h, --help     Print help
   -V, --version  Print version
+
+With `--args-from FILE`, anywhere before `--`, each line of FILE is an argument in its place. FILE \
+may be /dev/stdin. Other users of the machine can see a command line, but not these lines.
+
+`halfgates help COMMAND` prints what `halfgates COMMAND --help` prints.
+
+Example, with the seed in seed.txt:
+  halfgates garble adder.txt --args-from seed.txt adder.garbled
 """
 
 TRY_HELP = "\nFor more information, try '--help'.\n"

@@ -1,2 +1,3 @@
+pub mod ArgumentsLemmas
 pub mod MistakeLemmas
 pub mod CarryOutLemmas

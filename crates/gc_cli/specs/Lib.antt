@@ -1,4 +1,6 @@
+pub mod Arguments
 pub mod CarryOut
 pub mod CommandLine
 pub mod Output
 pub mod Serve
+pub mod WholeRun

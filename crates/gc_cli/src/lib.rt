@@ -3,17 +3,21 @@
 //! It re-exports names of `gc_command`, `gc_files` and `gc_order`.
 #![tactic(auto)]
 
+mod arguments;
 mod command_line;
 mod output;
 mod program;
 mod progress_line;
+mod whole_run;
 mod work;
 
+pub use arguments::{Refusal, arguments_of};
 pub use command_line::Heap;
 pub use gc_command::Fault;
 pub use gc_disk::Files;
 pub use gc_order::{Order, order_of};
 pub use output::Output;
-pub use program::{DISHONEST, DONE, FAULT, USAGE, refuse_line, serve};
+pub use program::{DISHONEST, DONE, FAULT, USAGE, refuse_line};
 pub use progress_line::ProgressLine;
+pub use whole_run::serve;
 pub use work::{Answer, carry_out};

@@ -1,4 +1,4 @@
-//! A whole run of the program, from the words of its command line to its status.
+//! A run of the program, from its arguments to its status.
 
 ghost use Rattle.std.specs.Prelude.{◌≡◌, ◌+◌, ◌<◌, ◌≤◌, ◌⊎◌, ℕ, List, map, string_bytes, IfErr, IfOk, OnOk};
 ghost use Rattle.std.specs.Io.KnownBytes.{Appends};
@@ -36,17 +36,9 @@ pub const USAGE: u8 = 2;
 /// The status of an audit that has found its files dishonest.
 pub const DISHONEST: u8 = 3;
 
-/// Does what the words of a command line say, of which the first is the program's name, and answers the status of the
-/// run. `progress` observes each step of a command, and its end before anything is printed.
-///
-/// - [`DONE`]: the lines of the order, or the help or the version that was asked for, are on `out`.
-/// - [`DISHONEST`]: the lines of an audit are on `out`, of which the last is `dishonest`.
-/// - [`FAULT`]: the line `halfgates: fault CODE NAME` is on `err`, unless `err` can't be written. Nothing is on `out`,
-///   and every file is as it was, unless printing on `out` failed, which is the fault 51.
-/// - [`USAGE`]: what clap says of words that are no order is on `err`. So is what it says where memory ran out.
-///
-/// No file changes but the one that the order writes.
-pub fn serve<R: Threads + Wait + Sync, F: Files, O: Write, E: Write, P: Progress>(
+/// Does what arguments say, of which the first is the program's name, and returns the status of the run, as
+/// [`serve`](crate::serve) does for arguments without `--args-from`.
+pub(crate) fn serve_arguments<R: Threads + Wait + Sync, F: Files, O: Write, E: Write, P: Progress>(
     rt: &R,
     heap: &mut Heap,
     words: &[String],
@@ -190,7 +182,7 @@ fn reason_of(kind: ErrorKind) -> &'static str
 }
 
 /// Says on standard error which fault ended the run. Where that fails, nothing can be said.
-fn report<E: Write>(fault: Fault, err: &mut Output<E>) -> u8
+pub(crate) fn report<E: Write>(fault: Fault, err: &mut Output<E>) -> u8
     ensures status { result ≡ FAULT }
     ensures printed { PrintsFault err.old err.new fault }
 {

@@ -19,6 +19,15 @@ const VERSION: &str = "0.7.0";
 /// The greatest number that a word or an option takes. No circuit has as many wires.
 const MOST: u64 = 4_294_967_295;
 
+const PROGRAM_HELP: &str = "\
+With `--args-from FILE`, anywhere before `--`, each line of FILE is an argument in its place. FILE \
+may be /dev/stdin. Other users of the machine can see a command line, but not these lines.
+
+`halfgates help COMMAND` prints what `halfgates COMMAND --help` prints.
+
+Example, with the seed in seed.txt:
+  halfgates garble adder.txt --args-from seed.txt adder.garbled";
+
 const RUN_HELP: &str = "\
 Prints the output values, one per line: a character 0 or 1 for each wire, in wire order, or with \
 --hex a text that is read as a value.
@@ -194,6 +203,7 @@ fn named_program<'a>(alloc: Global) -> Command<'a>
 {
     Command::new(alloc, "halfgates")
         .about("Garbles Boolean circuits and evaluates garbled circuits")
+        .after_help(PROGRAM_HELP)
         .version(VERSION)
         .subcommand_required(true)
         .arg_required_else_help(true)

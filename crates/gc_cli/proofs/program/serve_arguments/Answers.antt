@@ -3,7 +3,7 @@ use Rattle.clap.specs.Words.{kind_of}
 use Rattle.gc_order.specs.Order.{text_of}
 use Rattle.gc_command.specs.declared.fault.Fault.TheVariants.{CannotWrite}
 use Rattle.gc_cli.proofs.MistakeLemmas.{IsMistaken-other_kind}
-use Rattle.gc_cli.proofs.program.serve.Goals as goal
+use Rattle.gc_cli.proofs.program.serve_arguments.Goals as goal
 
 pub returns-in-Ok-clause-fault : goal.returns-in-Ok-clause-fault
 returns-in-Ok-clause-fault g c = λ _. (

@@ -1,0 +1,111 @@
+-- Lines and words, one more at a time.
+use Rattle.std.proofs.Common.{◌≡◌, ◌≢◌, ◌∙◌, ℕ, Bool, true, false, List, [], ◌∷◌, ◌++◌, append_assoc, ap, ap₂, sym, refl, length, map, Result, Ok, Err, true≢false, arith, subst}
+use Rattle.std.specs.Prelude.{◌==◌, OnOk, codes, bytes_eq}
+use Rattle.std.proofs.lemmas.Bool.{ne_eqb}
+use Rattle.std.proofs.lemmas.List.{append-nil}
+use Rattle.std.proofs.lemmas.Slice.Eq.{bytes_eq-Decides}
+use Rattle.gc_disk.specs.Files.{FileBytes}
+use Rattle.gc_cli.specs.declared.arguments.Refusal.{Refusal}
+use Rattle.gc_cli.specs.declared.arguments.Refusal.TheVariants.{NoFile, CannotRead, Memory}
+use Rattle.gc_cli.specs.Arguments.{AreLines, no_line, next_line, IsOneLine, BeginWithFile, IsEnd, IsPlain, FirstStandsFor, plain_word, FrontStandsFor, no_word, next_word, IsRefusedFile, IsRefusedNext, IsRefusedLine}
+
+-- the front of the words, and then what comes first in the others
+pub front-next : (files : FileBytes) (words mid after given first : List (List ℕ))
+    → ((more left : List (List ℕ)) → FrontStandsFor files mid more left
+    → FrontStandsFor files words (given ++ more) left)
+    → FirstStandsFor files mid first after → (more left : List (List ℕ))
+    → FrontStandsFor files after more left → FrontStandsFor files words ((given ++ first) ++ more) left
+front-next files words mid after given first before step more left later =
+    rw append_assoc (before (first ++ more) left (next_word step later))
+
+-- the lines so far, and one more
+pub lines-next : (text rest line after : List ℕ) (given : List (List ℕ))
+    → ((more : List (List ℕ)) → AreLines rest more → AreLines text (given ++ more))
+    → rest ≡ line ++ 10 ∷ after → IsOneLine line → (more : List (List ℕ))
+    → AreLines after more → AreLines text ((given ++ line ∷ []) ++ more)
+lines-next text rest line after given before is one more later =
+    rw append_assoc (before (line ∷ more) (rw is (next_line one later)))
+
+-- no text is left, or some is
+length-zero : (text : List ℕ) → (length text == 0) ≡ true → text ≡ []
+length-zero [] is = refl
+length-zero (b ∷ text) is =
+    absurd (true≢false (sym is ∙ ne_eqb (length (b ∷ text)) 0 (λ e. omega arith)))
+
+pub no-text : (text : List ℕ) (r : Bool) → r ≡ (length text == 0) → r ≡ true → AreLines text []
+no-text text r is empty = rw (length-zero text (sym is ∙ empty)) no_line
+
+pub some-text : (text : List ℕ) (r : Bool) → r ≡ (length text == 0) → r ≡ false → text ≢ []
+some-text text r is some none =
+    true≢false (sym (ap (λ (t : List ℕ). length t == 0) none) ∙ sym is ∙ some)
+
+-- the lines so far are all
+pub lines-end : (text rest : List ℕ) (given : List (List ℕ))
+    → ((more : List (List ℕ)) → AreLines rest more → AreLines text (given ++ more))
+    → AreLines rest [] → AreLines text given
+lines-end text rest given before none = rw append-nil at (before [] none)
+
+pub on-ok : {T E P Q : Type 0} (r : Result T E) → (P → Q) → OnOk r P → OnOk r Q
+on-ok (Ok x) f p = f p
+on-ok (Err e) f p = tt
+
+-- what `==` says of two texts
+pub same-text : (xs ys : List ℕ) (r : Bool) → r ≡ bytes_eq xs ys → r ≡ true → xs ≡ ys
+same-text xs ys r is same = (bytes_eq-Decides xs ys).0 (sym is ∙ same)
+
+pub other-text : (xs ys : List ℕ) (r : Bool) → r ≡ bytes_eq xs ys → r ≡ false → xs ≢ ys
+other-text xs ys r is other same =
+    true≢false (sym ((bytes_eq-Decides xs ys).1 same) ∙ sym is ∙ other)
+
+module _ {X : Type 0} (f : X → List ℕ) where
+  pub one-word : (words left : List X) (word : X) (text : List ℕ) → words ≡ word ∷ left
+      → length left ≡ 0 → f word ≡ text → map f words ≡ text ∷ []
+  one-word words [] word text is none same = ap (map f) is ∙ ap (λ t. t ∷ []) same
+  one-word words (next ∷ left) word text is none same = absurd (omega arith)
+
+  pub first-word : (words left : List X) (word : X) (text : List ℕ) → words ≡ word ∷ left
+      → f word ≡ text → map f words ≡ text ∷ map f left
+  first-word words left word text is same = ap (map f) is ∙ ap (λ t. t ∷ map f left) same
+
+  pub two-words : (words left rest : List X) (word next : X) (text name : List ℕ)
+      → words ≡ word ∷ left → left ≡ next ∷ rest → f word ≡ text → f next ≡ name
+      → map f words ≡ text ∷ name ∷ map f rest
+  two-words words left rest word next text name is then same named =
+      ap (map f) (is ∙ ap (λ l. word ∷ l) then) ∙ ap₂ (λ a b. a ∷ b ∷ map f rest) same named
+
+  pub not-end : (words left : List X) (word : X) (text : List ℕ) → words ≡ word ∷ left
+      → f word ≡ text → ¬ (IsEnd (map f words)) → text ≢ codes "--"
+  not-end words left word text is same more end =
+      more (subst IsEnd (sym (first-word words left word text is same)) end)
+
+  pub plain-first : (files : FileBytes) (words left : List X) (word : X) (text : List ℕ)
+      → words ≡ word ∷ left → f word ≡ text → IsPlain text
+      → FirstStandsFor files (map f words) (text ∷ []) (map f left)
+  plain-first files words left word text is same plain =
+      rw (first-word words left word text is same) (plain_word plain)
+
+  -- the refusal of a line, of which the first word is the program's name
+  pub line-memory : (files : FileBytes) (Failed : List ℕ → Type 0) (words left : List X) (word : X)
+      → words ≡ word ∷ left → IsRefusedLine files Failed (map f words) Memory
+  line-memory files Failed words left word is =
+      rw (ap (map f) is)
+      record { given = []; left = map f left; front = no_word; next = tt }
+
+-- a file that is refused is the reason why its words are
+pub next-refused : (files : FileBytes) (Failed : List ℕ → Type 0) (words : List (List ℕ))
+    (name : List ℕ) (left : List (List ℕ)) (refusal : Refusal) → BeginWithFile words name left
+    → IsRefusedFile files Failed name refusal → IsRefusedNext files Failed words refusal
+next-refused files Failed words name left NoFile begin refused = absurd refused
+next-refused files Failed words name left CannotRead begin refused = (name, (left, (begin, refused)))
+next-refused files Failed words name left Memory begin refused = tt
+
+-- That the option has no file is no failure of one.
+pub no-file : (files : FileBytes) (Failed : List ℕ → Type 0) (words : List (List ℕ))
+    → IsRefusedLine files Failed words NoFile → IsRefusedLine files (λ name. ⊥) words NoFile
+no-file files Failed [] refused = refused
+no-file files Failed (program ∷ words) refused = record {
+  given = refused.given;
+  left = refused.left;
+  front = refused.front;
+  next = refused.next;
+}

@@ -1,0 +1,109 @@
+//! A whole run of the program, from the words of its command line to its status.
+
+ghost use Rattle.std.specs.Prelude.{◌≡◌, ◌<◌, ◌≤◌, ◌⊎◌, ℕ, List, map, string_bytes, OnOk};
+ghost use Rattle.std.specs.Io.KnownBytes.{Appends};
+ghost use Rattle.gc_file.specs.Counted.{CountsFailure};
+ghost use Rattle.gc_disk.specs.Files.{HasFailed};
+ghost use Rattle.gc_cli.specs.CommandLine.{IsMistaken};
+ghost use Rattle.gc_cli.specs.Serve.{AskToWrite, EndsByFault, FindsDishonest, IsDone};
+ghost use Rattle.gc_cli.specs.WholeRun.{EndsByRefusal, IsOf, LackFile, PrintsNoFile, no_file_text};
+
+use crate::arguments::{Refusal, arguments_of};
+use crate::command_line::Heap;
+use crate::output::Output;
+use crate::program::{DISHONEST, DONE, FAULT, USAGE, report, serve_arguments};
+use gc_command::{Fault, Progress};
+use gc_disk::Files;
+use std::io::{self, Write};
+use std::sync::Wait;
+use std::thread::Threads;
+
+/// Does what the words of a command line say, of which the first is the program's name, and returns the status of the
+/// run. `progress` observes each step of a command, and its end before anything is printed.
+///
+/// Before all else, each `--args-from FILE` or `--args-from=FILE` before `--` stands for the lines of FILE, each of
+/// which is an argument.
+///
+/// - [`DONE`]: the lines of the order, or the help or the version that was asked for, are on `out`.
+/// - [`DISHONEST`]: the lines of an audit are on `out`, of which the last is `dishonest`.
+/// - [`FAULT`]: the line `halfgates: fault CODE NAME` is on `err`, unless `err` can't be written. Nothing is on `out`,
+///   and every file is as it was, unless printing on `out` failed, which is the fault 51. It is 50 where FILE can't be
+///   read or isn't UTF-8, and 52 where there is no memory for its lines.
+/// - [`USAGE`]: what clap says of words that are no order is on `err`. So is what it says where memory ran out, and
+///   that `--args-from` lacks FILE.
+///
+/// No file changes but the one that the order writes.
+pub fn serve<R: Threads + Wait + Sync, F: Files, O: Write, E: Write, P: Progress>(
+    rt: &R,
+    heap: &mut Heap,
+    words: &[String],
+    files: &mut F,
+    out: &mut Output<O>,
+    err: &mut Output<E>,
+    progress: &P,
+) -> u8
+    ensures status { result ≤ DISHONEST }
+
+    ensures done { result ≡ DONE → IsOf (F.bytes files.old) (map string_bytes words.now)
+        (λ arguments. IsDone (F.bytes files.old) (F.bytes files.new) arguments out.old out.new) }
+    ensures no_errors { result ≡ DONE → err.new ≡ err.old }
+    ensures dishonest { result ≡ DISHONEST → IsOf (F.bytes files.old) (map string_bytes words.now)
+        (λ arguments. FindsDishonest (F.bytes files.old) (F.bytes files.new) arguments
+        out.old out.new) }
+    ensures no_errors_of_audit { result ≡ DISHONEST → err.new ≡ err.old }
+
+    ensures fault { result ≡ FAULT → IsOf (F.bytes files.old) (map string_bytes words.now)
+        (λ arguments. EndsByFault (F.bytes files.old) (F.bytes files.new)
+        (HasFailed (F.failures files.old) (F.failures files.new))
+        arguments out.old out.new err.old err.new)
+        ⊎ EndsByRefusal (F.bytes files.old) (F.bytes files.new)
+        (HasFailed (F.failures files.old) (F.failures files.new))
+        (map string_bytes words.now) out.old out.new err.old err.new }
+
+    // Arguments that neither are an order nor ask for a text, where there was memory to read them, or no file after
+    // the option: only these, and all of these.
+    ensures usage { result ≡ USAGE
+        → IsOf (F.bytes files.old) (map string_bytes words.now) IsMistaken
+        ⊎ (LackFile (F.bytes files.old) (map string_bytes words.now)
+        ⊎ (heap.old < heap.new)) }
+    ensures mistaken { IsOf (F.bytes files.old) (map string_bytes words.now)
+        (λ arguments. IsMistaken arguments → result ≡ USAGE)
+        ⊎ ((result ≡ USAGE) ⊎ EndsByRefusal (F.bytes files.old) (F.bytes files.new)
+        (HasFailed (F.failures files.old) (F.failures files.new))
+        (map string_bytes words.now) out.old out.new err.old err.new) }
+    ensures no_output { result ≡ USAGE → out.new ≡ out.old }
+
+    // A file changes only where the arguments are an order that writes it, and by `fault` is as it was at a fault.
+    ensures others { (name : List ℕ) → ¬ (IsOf (F.bytes files.old) (map string_bytes words.now)
+        (λ arguments. AskToWrite arguments name))
+        → F.bytes files.new name ≡ F.bytes files.old name }
+    ensures unwritten { result ≡ USAGE
+        → (name : List ℕ) → F.bytes files.new name ≡ F.bytes files.old name }
+{
+    match arguments_of(heap.alloc(), words, files) {
+        Ok(arguments) => serve_arguments(rt, heap, &arguments, files, out, err, progress),
+        Err(Refusal::NoFile) => lack_file(err),
+        Err(Refusal::CannotRead) => report(Fault::CannotRead, err),
+        Err(Refusal::Memory) => report(Fault::Memory, err),
+    }
+}
+
+/// Says on standard error that the option lacks its file. Where that fails, nothing can be said.
+fn lack_file<E: Write>(err: &mut Output<E>) -> u8
+    ensures status { result ≡ USAGE }
+    ensures printed { PrintsNoFile err.old err.new }
+{
+    let _ = write_no_file(err);
+    USAGE
+}
+
+/// Writes that the option lacks its file, as clap writes it of other options.
+fn write_no_file<E: Write>(err: &mut Output<E>) -> io::Result<()>
+    ensures printed { OnOk result (Appends err.old.contents err.new.contents no_file_text) }
+    ensures counted { CountsFailure result err.old.failures err.new.failures }
+{
+    err.write_all(
+        b"error: a value is required for '--args-from <FILE>' but none was supplied\n\n\
+For more information, try '--help'.\n",
+    )
+}
