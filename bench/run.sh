@@ -35,6 +35,7 @@ fi
 tune_memory
 "$top/bench/parts.py" "$bench" "$circuit" ${baseline:+"$baseline"}
 "$top/bench/workers.py" "$bench"
+"$top/bench/busy.py" "$bench"
 "$top/bench/sizes.py" "$bench"
 "$top/bench/program.py" "$top/halfgates" "$bench" "$circuit"
 "$top/bench/commands.py" "$top/halfgates" "$bench"
