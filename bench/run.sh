@@ -36,6 +36,7 @@ tune_memory
 "$top/bench/parts.py" "$bench" "$circuit" ${baseline:+"$baseline"}
 "$top/bench/side_by_side.py" "$bench"
 "$top/bench/workers.py" "$bench"
+"$top/bench/busy.py" "$bench"
 "$top/bench/sizes.py" "$bench"
 "$top/bench/program.py" "$top/halfgates" "$bench" "$circuit"
 "$top/bench/commands.py" "$top/halfgates" "$bench"

@@ -40,9 +40,10 @@ abbrev pub IsOriginOf : {P : Type 0} → (P → Type 0) → (P → Type 0) → T
 IsOriginOf {P} IsFrom IsPending = (gate : P) → IsFrom gate ↔ IsPending gate
 
 -- All that is there is the labelling's: the labels, their marks, and the gates that wait; those that are postponed are
--- of the same circuit.
+-- of the same circuit. As many AND gates are before the front as its number says.
 pub record IsLayer {P : Type 0} (c : Netlist) (label_of : ℕ → ℕ) (IsFrom IsPending : P → Type 0)
-    (circuit : Netlist) (labels : List ℕ) (marks : List Mark) (postponed : Netlist) : Type 0 where
+    (circuit : Netlist) (labels : List ℕ) (marks : List Mark) (postponed : Netlist) (front : Place)
+    : Type 0 where
   pub same : c ≡ circuit
   pub lawful : IsLawful circuit
   pub are_labels : AreLabels circuit label_of 0 labels
@@ -50,6 +51,7 @@ pub record IsLayer {P : Type 0} (c : Netlist) (label_of : ℕ → ℕ) (IsFrom I
   pub as_many : length marks ≡ circuit.wires
   pub origin : IsOriginOf IsFrom IsPending
   pub are_postponed : postponed ≡ circuit
+  pub numbered : front.k ≡ and_number circuit front.gate
 
 -- The labels of a circuit's wires, right as far as they are there, and a mark for each wire.
 pub record IsLabelled (c : Netlist) (label_of : ℕ → ℕ) (labels : List ℕ) (marks : List Mark)

@@ -15,9 +15,8 @@ use std::sync::Wait;
 use std::thread::Threads;
 
 /// The active labels of the output wires, evaluated from row pairs and active labels of the input wires on up to
-/// `threads` threads, which go about it as those of [`garble_by_layers`](crate::garble_by_layers) do. Each worker
-/// reports each gate to the observer before it evaluates it; the calling thread is worker 0. There is no answer where a
-/// block was lost.
+/// `threads` threads, which go about it, and report gates to the observer, as those of
+/// [`garble_by_layers`](crate::garble_by_layers) do. None says that an output wire got no label.
 ///
 /// There must be as many row pairs as AND gates, and as many labels as input wires.
 pub fn evaluate_by_layers<

@@ -23,8 +23,11 @@ use std::thread::Threads;
 /// AND gates wait to be garbled in blocks, by all threads, and a gate that reads a label which isn't there yet is
 /// postponed until it is. A thread is started for each [`GATES_FOR_THREAD`](crate::GATES_FOR_THREAD) AND gates,
 /// at most; where none can be started the calling thread garbles all. It allocates for the labels and their marks,
-/// for the rows, and for the gates that wait or are postponed: up to 66 blocks of 64 gates, and 4,096 gates. Each
-/// worker reports each gate to the observer before it garbles it; the calling thread is worker 0.
+/// for the rows, and for the gates that wait or are postponed: up to 66 blocks of 64 gates, and 4,096 gates.
+///
+/// Each gate is reported to the observer once, by the worker that takes it and before that worker garbles it; the
+/// calling thread is worker 0. It never waits for a helper: where it has nothing else to garble, it garbles gates that
+/// helpers hold, and doesn't report them.
 pub fn garble_by_layers<
     A: Allocator + Copy + Send + Sync,
     C: Allocator + Sync,

@@ -3,15 +3,15 @@
 ghost use Rattle.std.specs.Prelude.{◌≡◌, IfOk, IfSome, []};
 
 use crate::block::{BLOCK, Block, MadeBlock};
-use crate::exchange::{Exchange, Finding, MOST_OUT};
+use crate::exchange::{Exchange, MOST_OUT};
 use crate::origin::Origin;
 use crate::pending::Pending;
 use gc_circuit::Memory;
-use gc_workers::Gatehouse;
+use gc_workers::{Gatehouse, Open};
 use std::alloc::Allocator;
 use std::sync::Wait;
 
-/// With fewer blocks than this helpers may soon run out of work,
+/// With fewer blocks than this helpers may soon have none to make,
 const FEW: usize = 8;
 
 /// and with this many they have enough for a while.
@@ -101,6 +101,13 @@ impl<'e, P: Pending, O: Origin<P>, A: Allocator + Copy, H: Gatehouse> Helpers<'e
         block.make(self.observer, 0)
     }
 
+    /// A block of gates that helpers hold, which report them, made by the calling thread.
+    pub(crate) fn make_held(&self, block: Block<P, O, A>) -> MadeBlock<P, O, A>
+        ensures { result ≡ block }
+    {
+        block.make(&Open, 0)
+    }
+
     /// A block that a helper made, if one is back.
     pub(crate) fn returned<R: Wait>(&mut self, rt: &R) -> Option<MadeBlock<P, O, A>> {
         let made = self.exchange.returned(rt)?;
@@ -115,21 +122,11 @@ impl<'e, P: Pending, O: Origin<P>, A: Allocator + Copy, H: Gatehouse> Helpers<'e
         Some(self.make(block))
     }
 
-    /// Waits for the next block that a helper made, or makes one that no helper took. None says that all blocks are
-    /// back, or that one was lost.
-    pub(crate) fn awaited<R: Wait>(&mut self, rt: &R) -> Option<MadeBlock<P, O, A>> {
-        if self.out == 0 {
-            return None;
-        }
-        let Some(finding) = self.exchange.look(rt) else {
-            self.out = 0;
-            return None;
-        };
+    /// A block that a helper made, if one comes back soon.
+    pub(crate) fn returned_soon<R: Wait>(&mut self, rt: &R) -> Option<MadeBlock<P, O, A>> {
+        let made = self.exchange.returned_soon(rt)?;
         self.out = self.out.saturating_sub(1);
-        match finding {
-            Finding::Made(made) => Some(made),
-            Finding::Offered(block) => Some(self.make(block)),
-        }
+        Some(made)
     }
 
     /// Keeps a block to be filled anew, when what was made isn't needed any more.

@@ -1,11 +1,11 @@
 //! A labelling that is partly there, while gates wait.
 
 ghost use Rattle.std.specs.Prelude.{◌≡◌, ℕ, ◌<◌, IfOk, Some, None, length, slice_get, slice_index_or};
-ghost use Rattle.gc_netlist.specs.Circuit.{EachRead, IsLawful, input_wires};
+ghost use Rattle.gc_netlist.specs.Circuit.{EachRead, IsLawful, and_number, input_wires};
 ghost use Rattle.gc_layers.specs.declared.mark.Mark.TheVariants.{Absent, There};
 ghost use Rattle.gc_layers.specs.Layer.{AreLabels, IsLabelled, IsOriginOf, IsPlace};
 
-use crate::block::{Block, MadeBlock};
+use crate::block::{BLOCK, Block, MadeBlock};
 use crate::exchange::MOST_OUT;
 use crate::helpers::Helpers;
 use crate::labelled::Labelled;
@@ -46,6 +46,8 @@ pub(crate) struct Layer<
     waiting: Block<P, O, A>,
     postponed: Postponed<'c, A, C>,
     helpers: Helpers<'c, P, O, A, H>,
+    // The labels of all gates before this place are there.
+    front: Place,
 }
 
 impl<'c, P: Pending, O: Origin<P>, L: Labelling<P>, A: Allocator, C: Allocator, H: Gatehouse> Model
@@ -58,7 +60,7 @@ impl<'c, P: Pending, O: Origin<P>, L: Labelling<P>, A: Allocator, C: Allocator, 
 
     ghost invariant = { λ t. IsLayer (L.circuit_of t.labelling) (L.label_of t.labelling)
         O.is_pending (L.is_pending t.labelling) t.circuit.now t.labels.items t.marks.items
-        t.postponed };
+        t.postponed t.front };
 }
 
 impl<
@@ -92,6 +94,7 @@ impl<
             waiting: Block::open(alloc)?,
             postponed: Postponed::open(alloc, circuit)?,
             helpers,
+            front: Place { gate: 0, k: 0 },
         })
     }
 
@@ -107,7 +110,7 @@ impl<
             if gate.operation.is_and() {
                 k += 1;
             }
-            self.keep_up(rt)?;
+            self.keep_up(rt, i + 1)?;
         }
         Ok(())
     }
@@ -116,13 +119,19 @@ impl<
     pub(crate) fn finish<R: Wait>(&mut self, rt: &R) -> Result<(), Memory>
         ensures { self.new ≡ self.old }
     {
+        let gates = self.circuit.gates();
         for _ in rt.forever() {
-            if self.waiting.is_empty() && self.helpers.are_idle() {
+            if self.is_done(gates) {
                 return Ok(());
             }
-            self.advance(rt)?;
+            self.advance(rt, gates)?;
         }
         unreachable!()
+    }
+
+    /// Whether none of the first gates waits, of which this many were visited or postponed.
+    fn is_done(&self, reached: u32) -> bool {
+        self.waiting.is_empty() && (self.helpers.are_idle() || self.front.gate >= reached)
     }
 
     /// The labelling, the labels and their marks.
@@ -139,6 +148,7 @@ impl<
             waiting: _,
             postponed: _,
             helpers: _,
+            front: _,
         } = self;
         Labelled {
             labelling,
@@ -148,9 +158,9 @@ impl<
     }
 
     /// Hands the gates out that wait, where they are a block, visits those whose labels are there now, and makes room
-    /// for more that are postponed.
+    /// for more that are postponed. This many gates were visited or postponed.
     #[inline]
-    fn keep_up<R: Wait>(&mut self, rt: &R) -> Result<(), Memory>
+    fn keep_up<R: Wait>(&mut self, rt: &R, reached: u32) -> Result<(), Memory>
         ensures { self.new ≡ self.old }
     {
         self.hand_out_block(rt)?;
@@ -158,7 +168,7 @@ impl<
             self.revisit(rt)?;
         }
         if self.postponed.is_full() {
-            self.make_room(rt)?;
+            self.make_room(rt, reached)?;
         }
         Ok(())
     }
@@ -197,7 +207,7 @@ impl<
         } else {
             self.helpers.report(place.gate);
             let label = self.labelling.free(place, gate, first, second);
-            self.settle(gate.set, label);
+            self.put_label(gate.set, label);
             Ok(())
         }
     }
@@ -217,7 +227,7 @@ impl<
 
     /// Puts the label of a wire where it belongs, and wakes the gates that wait for it.
     #[inline]
-    fn settle(&mut self, wire: u32, label: Label)
+    fn put_label(&mut self, wire: u32, label: Label)
         requires wire { wire < (L.circuit_of self.old).wires }
         requires label { label ≡ L.label_of self.old wire }
         ensures { self.new ≡ self.old }
@@ -267,7 +277,7 @@ impl<
         self.land(made);
     }
 
-    /// Takes the blocks that came back. The answer is whether there were any.
+    /// Takes the blocks that came back, and returns whether there were any.
     fn take_back<R: Wait>(&mut self, rt: &R) -> bool
         ensures { self.new ≡ self.old }
     {
@@ -295,17 +305,18 @@ impl<
     }
 
     /// Gets a block made, by a helper or here, and visits the gates that waited for its labels.
-    fn advance<R: Wait>(&mut self, rt: &R) -> Result<(), Memory>
+    fn advance<R: Wait>(&mut self, rt: &R, reached: u32) -> Result<(), Memory>
         ensures { self.new ≡ self.old }
     {
         if !self.take_back(rt) {
-            self.make_one(rt)?;
+            self.make_one(rt, reached)?;
         }
         self.revisit(rt)
     }
 
-    /// Makes a block that no helper took, or the gates that wait, or waits for a block.
-    fn make_one<R: Wait>(&mut self, rt: &R) -> Result<(), Memory>
+    /// Makes a block that no helper took, or the gates that wait. Where there are none, takes a block that comes back
+    /// soon, or else makes gates that helpers hold: the system may have stopped these for long.
+    fn make_one<R: Wait>(&mut self, rt: &R, reached: u32) -> Result<(), Memory>
         ensures { self.new ≡ self.old }
     {
         if let Some(made) = self.helpers.taken_back(rt) {
@@ -313,21 +324,67 @@ impl<
         } else if !self.waiting.is_empty() {
             let block = self.take_waiting()?;
             self.make(block);
-        } else if let Some(made) = self.helpers.awaited(rt) {
+        } else if let Some(made) = self.helpers.returned_soon(rt) {
             self.land(made);
+        } else {
+            self.make_held(reached)?;
+        }
+        Ok(())
+    }
+
+    /// Makes gates that helpers hold, the first ones in file order. What comes back of them later changes nothing.
+    fn make_held(&mut self, reached: u32) -> Result<(), Memory>
+        ensures { self.new ≡ self.old }
+    {
+        self.front = first_absent(self.circuit, &self.marks, self.front, reached);
+        self.visit_held(reached)?;
+        let block = self.take_waiting()?;
+        let made = self.helpers.make_held(block);
+        self.land(made);
+        Ok(())
+    }
+
+    /// Visits the first gates whose labels aren't there although those that they read are, up to a block.
+    fn visit_held(&mut self, reached: u32) -> Result<(), Memory>
+        ensures { self.new ≡ self.old }
+    {
+        let circuit = self.circuit;
+        let Place { gate: first, mut k } = self.front;
+        for i in first..reached.min(circuit.gates()) {
+            if self.waiting.len() >= BLOCK {
+                return Ok(());
+            }
+            let gate = circuit.gate(i);
+            self.visit_if_held(Place { gate: i, k }, gate)?;
+            if gate.operation.is_and() {
+                k += 1;
+            }
+        }
+        Ok(())
+    }
+
+    /// Visits a gate if its label isn't there although those that it reads are.
+    fn visit_if_held(&mut self, place: Place, gate: Gate) -> Result<(), Memory>
+        requires place { IsPlace (L.circuit_of self.old) place }
+        requires gate { slice_get (L.circuit_of self.old).gates place.gate ≡ Some gate }
+        ensures { self.new ≡ self.old }
+    {
+        let missing = missing(&self.marks, gate.operation);
+        if missing.is_none() && is_absent(&self.marks, gate.set) {
+            return self.visit(place, gate);
         }
         Ok(())
     }
 
     /// Gets blocks made until there is room for another gate that is postponed, or no gate waits.
-    fn make_room<R: Wait>(&mut self, rt: &R) -> Result<(), Memory>
+    fn make_room<R: Wait>(&mut self, rt: &R, reached: u32) -> Result<(), Memory>
         ensures { self.new ≡ self.old }
     {
         for _ in rt.forever() {
-            if !self.postponed.is_full() || self.waiting.is_empty() && self.helpers.are_idle() {
+            if !self.postponed.is_full() || self.is_done(reached) {
                 return Ok(());
             }
-            self.advance(rt)?;
+            self.advance(rt, reached)?;
         }
         unreachable!()
     }
@@ -355,7 +412,7 @@ impl<
         ensures { self.new ≡ self.old }
     {
         let (wire, label) = self.labelling.keep(gate, made);
-        self.settle(wire, label);
+        self.put_label(wire, label);
     }
 }
 
@@ -372,6 +429,43 @@ fn input_marks<A: Allocator + Copy, C: Allocator>(
     marks.resize(circuit.input_wires() as usize, Mark::There)?;
     marks.resize(circuit.wires() as usize, Mark::Absent)?;
     Ok(marks)
+}
+
+/// From a place on, the first of the first gates, this many, whose label isn't there: all before it are. Where all are
+/// there, the place after them.
+fn first_absent<C: Allocator>(
+    circuit: &Circuit<C>,
+    marks: &[Mark],
+    from: Place,
+    reached: u32,
+) -> Place
+    requires marks { length marks.now ≡ circuit.now.wires }
+    requires number { from.k ≡ and_number circuit.now from.gate }
+    ensures { result.k ≡ and_number circuit.now result.gate }
+{
+    let end = reached.min(circuit.gates());
+    if from.gate >= end {
+        return from;
+    }
+    let mut k = from.k;
+    for i in from.gate..end {
+        let gate = circuit.gate(i);
+        if !marks[gate.set as usize].is_there() {
+            return Place { gate: i, k };
+        }
+        if gate.operation.is_and() {
+            k += 1;
+        }
+    }
+    Place { gate: end, k }
+}
+
+/// Whether a wire's label isn't there.
+fn is_absent(marks: &[Mark], wire: u32) -> bool {
+    match marks.get(wire as usize) {
+        Some(mark) => !mark.is_there(),
+        None => false,
+    }
 }
 
 /// A wire that an operation reads and whose label isn't there, if there is one.

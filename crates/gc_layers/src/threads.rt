@@ -1,6 +1,6 @@
 //! A labelling by layers, on several threads.
 
-ghost use Rattle.std.specs.Prelude.{◌≡◌, ◌<◌, IfOk};
+ghost use Rattle.std.specs.Prelude.{◌≡◌, ◌+◌, ◌*◌, ◌<◌, ◌≤◌, ◌⊎◌, IfOk};
 ghost use Rattle.gc_layers.specs.Layer.{AreLabels, IsLabelled, IsOriginOf};
 
 use crate::exchange::Exchange;
@@ -28,12 +28,13 @@ pub const GATES_FOR_THREAD: u32 = 1024;
 /// Labels the wires of a circuit on up to `threads` threads, from the labels of its input wires. The calling thread
 /// goes from gate to gate in file order. AND gates wait to be made in blocks, by all threads; a gate that reads a label
 /// which isn't there yet is postponed until it is. A thread is started for each [`GATES_FOR_THREAD`] AND gates, at
-/// most; where none can be started the calling thread makes all. It takes memory for the marks and for the gates that
-/// wait or are postponed: up to 66 blocks of 64 gates, and 4,096 gates. Each worker reports each gate to the observer
-/// before it makes it; the calling thread is worker 0.
+/// most; where none can be started the calling thread makes all. It never waits for a helper: where it has nothing else
+/// to make, it makes gates that helpers hold. It allocates for the marks and for the gates that wait or are postponed:
+/// up to 66 blocks of 64 gates, and 4,096 gates. Each gate is reported to the observer once, by the worker that takes
+/// it; the calling thread is worker 0, and doesn't report what it makes in a helper's place.
 ///
-/// Where a block was lost there are wires without a mark, and their labels are zero or right. The labels must be those
-/// of the input wires, and each other one zero or right.
+/// A wire without a mark has zero or its label. The labels must be those of the input wires, and each other one zero or
+/// right.
 pub fn label_by_layers<
     P: Pending<Made = M> + Send + Sync,
     M: Copy + Send + Sync,
@@ -86,8 +87,7 @@ fn label_from<
     ensures { IfOk result (λ r. (r.labelling ≡ labelling)
         × IsLabelled circuit.now (L.label_of labelling) r.labels.items r.marks.items) }
 {
-    let worth_starting = circuit.and_count() / GATES_FOR_THREAD;
-    let helpers = (threads.saturating_sub(1).min(worth_starting) as usize).min(MOST_HELPERS);
+    let helpers = helper_count(threads, circuit.and_count());
     let blocks: Exchange<P, O, A> = Exchange::open(alloc, helpers)?;
     let exchange = &blocks;
     if helpers == 0 {
@@ -96,7 +96,7 @@ fn label_from<
     let (_, labelled) = thread::join(
         rt,
         ||
-            requires { 0 < helpers }
+            requires { (0 < helpers) × (helpers ≤ MOST_HELPERS) }
         { help_by(rt, exchange, helpers, observer) },
         move || -> Result<Labelled<L, A>, Memory>
             requires circuit { L.circuit_of labelling ≡ circuit.now }
@@ -123,18 +123,39 @@ fn help_by<
     H: Gatehouse + Sync,
     R: Threads + Wait + Sync,
 >(rt: &R, exchange: &Exchange<P, O, A>, helpers: usize, observer: &H)
-    requires { 0 < helpers }
+    requires { (0 < helpers) × (helpers ≤ MOST_HELPERS) }
 {
     let mut each = [(); MOST_HELPERS];
-    let (each, _) = each.split_at_mut(helpers.min(MOST_HELPERS));
+    let (each, _) = each.split_at_mut(helpers);
     thread::for_each_mut(
         rt,
         each,
         helpers,
         &|i: usize, _one: &mut ()|
-            requires { i < MOST_HELPERS }
-        { exchange.help(rt, observer, i as u32 + 1) },
+            requires { (i < helpers) × (helpers ≤ MOST_HELPERS) }
+        { exchange.help(rt, observer, worker_of(i, helpers)) },
     );
+}
+
+/// How many threads help the calling one: one fewer than there may be in all, and one for each [`GATES_FOR_THREAD`] AND
+/// gates at the most.
+fn helper_count(threads: u32, ands: u32) -> usize
+    ensures fewer { (result ≡ 0) ⊎ (result < threads) }
+    ensures most { result ≤ MOST_HELPERS }
+    ensures worth { GATES_FOR_THREAD * result ≤ ands }
+{
+    let worth_starting = ands / GATES_FOR_THREAD;
+    (threads.saturating_sub(1).min(worth_starting) as usize).min(MOST_HELPERS)
+}
+
+/// The worker that a helper is, counted from 0. The calling thread is worker 0.
+fn worker_of(helper: usize, helpers: usize) -> u32
+    requires helper { helper < helpers }
+    requires most { helpers ≤ MOST_HELPERS }
+    ensures number { result ≡ helper + 1 }
+    ensures few { result ≤ helpers }
+{
+    helper as u32 + 1
 }
 
 /// The calling thread goes from gate to gate.

@@ -1,11 +1,12 @@
 //! The command `audit`: whether files are those of a circuit and a seed, and where they first differ.
 
-ghost use Rattle.std.specs.Prelude.{◌≡◌, ◌++◌, ◌∷◌, ℕ, List, map, codes, decimal, IfOk, IfErr, OnOk, MatchOption, Some, string_bytes};
+ghost use Rattle.std.specs.Prelude.{◌≡◌, ◌++◌, ◌∷◌, ℕ, List, map, codes, decimal, IfOk, IfErr, OnOk, MatchOption, Some, string_bytes, length};
 ghost use Rattle.sha2.specs.Sha256.{sha256};
 ghost use Rattle.gc_netlist.specs.Canon.{canonical_text};
+ghost use Rattle.gc_netlist.specs.Circuit.{and_count};
 ghost use Rattle.gc_circuit.specs.Digest.{IsBegun};
 ghost use Rattle.gc_half.specs.Canonical.{garbling_of};
-ghost use Rattle.gc_half.specs.Garbling.{IsGarbled};
+ghost use Rattle.gc_half.specs.Comparing.{HasLabels, IsComparison};
 ghost use Rattle.gc_file.specs.GarbledFile.{GarbledParts};
 ghost use Rattle.gc_audit.specs.Garbled.{AreCountsRight, IsGarbledAudit, IsPartsAudit};
 ghost use Rattle.gc_disk.specs.Files.{HasFailed};
@@ -26,7 +27,7 @@ use gc_command::{
 };
 use gc_disk::Files;
 use gc_file::{Garbled, LabelFile, Version};
-use gc_half::{Garbling, garble_and_compare, garble_one_thread};
+use gc_half::{Garbling, Mismatch, RowPair, garble_and_compare, garble_one_thread};
 use gc_label::Seed;
 use gc_work::WorkFault;
 use std::alloc::{AllocError, Allocator};
@@ -99,7 +100,7 @@ fn garbling_and_audit<R: Threads + Sync, A: Allocator + Copy + Send + Sync>(
     file: Garbled<A>,
 ) -> Result<(Garbling<A>, GarbledAudit), WorkFault>
     requires { IsBegun circuit.now begun }
-    ensures garbled { IfOk result (λ made. IsGarbled circuit.now seed.now made.0) }
+    ensures labels { IfOk result (λ made. HasLabels circuit.now seed.now made.0) }
     ensures audit { IfOk result (λ made.
         IsGarbledAudit circuit.now (garbling_of circuit.now seed.now) seed.now file made.1) }
     ensures fault { IfErr result (λ fault. fault ≡ WorkFault.Memory) }
@@ -112,8 +113,8 @@ fn garbling_and_audit<R: Threads + Sync, A: Allocator + Copy + Send + Sync>(
             ensures { result ≡ sha256 (canonical_text circuit.entry.now) }
         { circuit.finish_digest(begun) },
         move || -> Result<(Garbling<A>, Option<PartsAudit>), WorkFault>
-            ensures garbled { IfOk result
-                (λ made. IsGarbled circuit.entry.now seed.entry.now made.0) }
+            ensures labels { IfOk result
+                (λ made. HasLabels circuit.entry.now seed.entry.now made.0) }
             ensures parts { IfOk result (λ made.
                 MatchOption made.1 (¬ AreCountsRight circuit.entry.now file)
                 (IsPartsAudit circuit.entry.now (garbling_of circuit.entry.now seed.entry.now)
@@ -134,7 +135,7 @@ fn garbling_and_parts<A: Allocator + Copy>(
     seed: &Seed,
     file: Garbled<A>,
 ) -> Result<(Garbling<A>, Option<PartsAudit>), WorkFault>
-    ensures garbled { IfOk result (λ made. IsGarbled circuit.now seed.now made.0) }
+    ensures labels { IfOk result (λ made. HasLabels circuit.now seed.now made.0) }
     ensures parts { IfOk result (λ made. MatchOption made.1 (¬ AreCountsRight circuit.now file)
         (IsPartsAudit circuit.now (garbling_of circuit.now seed.now) seed.now file)) }
     ensures fault { IfErr result (λ fault. fault ≡ WorkFault.Memory) }
@@ -146,7 +147,7 @@ fn garbling_and_parts<A: Allocator + Copy>(
     }
     let version = file.version();
     let (rows, decode_bits, entries) = file.into_parts();
-    let (garbling, first) = garble_and_compare(alloc, circuit, seed, rows)?;
+    let (garbling, first) = compare(alloc, circuit, seed, rows)?;
     let parts = audit_compared(
         circuit,
         &garbling,
@@ -159,6 +160,23 @@ fn garbling_and_parts<A: Allocator + Copy>(
     Ok((garbling, Some(parts)))
 }
 
+/// Garbles the circuit under the seed, and compares the given row pairs with those that it makes. There is one for each
+/// AND gate.
+fn compare<A: Allocator + Copy>(
+    alloc: A,
+    circuit: &Circuit<A>,
+    seed: &Seed,
+    given: Vec<RowPair, A>,
+) -> Result<(Garbling<A>, Option<Mismatch>), Memory>
+    requires { length given.items ≡ and_count circuit.now }
+    ensures labels { IfOk result (λ made. HasLabels circuit.now seed.now made.0) }
+    ensures compared { IfOk result
+        (λ made. IsComparison circuit.now seed.now given.items made.1) }
+{
+    circuit.law_lawful();
+    garble_and_compare(alloc, circuit, seed, given)
+}
+
 /// What is found of a garbled file of a version and of label files, by the garbling of the circuit under the seed.
 fn audit_lines<A: Allocator + Copy>(
     alloc: A,
@@ -169,7 +187,7 @@ fn audit_lines<A: Allocator + Copy>(
     seed: &Seed,
     label_files: &[LabelFile<A>],
 ) -> Result<Audited<A>, Memory>
-    requires { IsGarbled circuit.now seed.now garbling.now }
+    requires { HasLabels circuit.now seed.now garbling.now }
     ensures { IfOk result (λ made. (file : GarbledParts) → file.version ≡ version
         → IsGarbledAudit circuit.now (garbling_of circuit.now seed.now) seed.now file found.now
         → AreAuditLines circuit.now seed.now file label_files.now made.is_honest made.lines.items) }
@@ -328,12 +346,11 @@ fn push_label_files<A: Allocator + Copy>(
     seed: &Seed,
     files: &[LabelFile<A>],
 ) -> Result<bool, Memory>
-    requires { IsGarbled circuit.now seed.now garbling.now }
+    requires { HasLabels circuit.now seed.now garbling.now }
     ensures { IfOk result (λ all_dealt. (added : List ℕ)
         × AreLabelsFound circuit.now seed.now files.now all_dealt added
         × (lines.new.items ≡ lines.old.items ++ added)) }
 {
-    circuit.law_lawful();
     let mut all_dealt = true;
     for file in files {
         let verdict = audit_labels(alloc, circuit, garbling, seed, file)?;
