@@ -179,6 +179,15 @@ fn given_at<L: Ledger + Send + Sync, R: Threads + Wait + Sync>(
     if worked { Some(given) } else { None }
 }
 
+/// The same, with a ledger of its own.
+fn given_anew<R: Threads + Wait + Sync>(
+    rt: &R,
+    alloc: Global,
+    fan: &str,
+) -> Option<[Given; SLEEPERS]> {
+    given_at::<Brand, R>(rt, alloc, ledger(), fan)
+}
+
 /// One hand-in after another wakes one of three threads that sleep, which is given a task. One that is woken and finds
 /// no gate that is ready sleeps on: it is given none before the last gate.
 #[test]
@@ -186,7 +195,7 @@ fn whom_a_hand_in_wakes(rt: HostRuntime) -> Result<(), Fail> {
     for (readers, given) in [(24, Given::Task), (16, Given::NoneAtLast)] {
         let text = fan(rt.alloc(), readers)?;
         for _time in 0..20 {
-            let found = given_at::<Brand, HostRuntime>(&rt, rt.alloc(), ledger(), text.as_str());
+            let found = given_anew(&rt, rt.alloc(), text.as_str());
             assert!(rt;
                 found == Some([given; SLEEPERS]),
                 "{readers} readers: {found:?}"
