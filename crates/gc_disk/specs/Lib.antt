@@ -1,3 +1,4 @@
+pub mod Cause
 pub mod SeenName
 pub mod Files
 pub mod FileFailures

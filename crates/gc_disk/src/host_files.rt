@@ -1,12 +1,17 @@
 //! The files of the system that the program runs on.
 
-ghost use Rattle.std.specs.Prelude.{◌≡◌, ◌≢◌, ◌↔◌, [], None, IfOk, IfErr, IfSome, OnOk};
+ghost use Rattle.std.specs.Prelude.{◌≡◌, ◌≢◌, ◌↔◌, [], None, IfOk, IfErr, IsErr, IfSome, OnOk};
 ghost use Rattle.std.specs.Io.KnownBytes.{IsAtEnd};
 ghost use Rattle.std.specs.IoError.{error_kind};
+ghost use Rattle.gc_disk.specs.Files.{CountsRead, CountsWrite};
 
+use crate::cause::Cause;
 use crate::file_failures::FileFailures;
 use crate::files::{FileError, Files};
+use crate::noting::Noting;
 use crate::replacement::{Replacement, open_out};
+use crate::reread::Reread;
+use crate::trail::Trail;
 use gc_file::{InSource, OutSink, Sink, SinkFault};
 use std::alloc::Allocator;
 use std::io::{self, ErrorKind, Read, Write};
@@ -15,7 +20,7 @@ use std::{fs, rt};
 /// A sink of a file that the system keeps. Nothing is known of what it took.
 #[derive(Drop)]
 pub struct HostSink<W, A: Allocator> {
-    sink: OutSink<W>,
+    sink: OutSink<Noting<W>>,
     replacement: Option<Replacement<A>>,
 }
 
@@ -37,7 +42,8 @@ impl<W: Write, A: Allocator> Sink for HostSink<W, A> {
 #[derive(Drop)]
 pub struct HostFiles<'r, R: rt::Files + Alloc> {
     rt: &'r R,
-    failures: FileFailures<HostSink<R::File, R::A>, InSource<R::File>>,
+    trail: Trail,
+    failures: FileFailures<HostSink<R::File, R::A>, InSource<Noting<R::File>>>,
 }
 
 impl<'r, R: rt::Files + Alloc> HostFiles<'r, R> {
@@ -47,41 +53,69 @@ impl<'r, R: rt::Files + Alloc> HostFiles<'r, R> {
     {
         HostFiles {
             rt,
+            trail: Trail::new(),
             failures: FileFailures::new(),
         }
+    }
+
+    /// Adds that the file of this name can't be read, and returns why.
+    fn fail_to_read<T>(&mut self, name: &str, error: &io::Error) -> Result<T, FileError>
+        ensures counted { CountsRead result name.now self.old.failures self.new.failures }
+        ensures failed { IsErr result }
+    {
+        let fault = cause_of(error);
+        if let FileError::CannotRead = fault {
+            self.trail.fail(Cause::of(error.kind()));
+            self.failures.add_one(name);
+        }
+        Err(fault)
+    }
+
+    /// Adds that the file of this name can't be written, and returns why.
+    fn fail_to_write<T>(&mut self, name: &str, error: &io::Error) -> Result<T, FileError>
+        ensures counted { CountsWrite result name.now self.old.failures self.new.failures }
+        ensures failed { IsErr result }
+    {
+        if error.kind() == ErrorKind::OutOfMemory {
+            return Err(FileError::Memory);
+        }
+        self.trail.fail(Cause::of(error.kind()));
+        self.failures.add_one(name);
+        Err(FileError::CannotWrite)
     }
 }
 
 impl<'r, R: rt::Files + Alloc> Files for HostFiles<'r, R> {
     type Sink = HostSink<R::File, R::A>;
 
-    type Source = InSource<R::File>;
+    type Source = InSource<Noting<R::File>>;
 
     ghost bytes = { λ _ _. None };
 
     ghost failures = { λ f. f.failures };
 
     fn read<A: Allocator + Copy>(&mut self, alloc: A, name: &str) -> Result<Vec<u8, A>, FileError> {
-        let outcome = read_file(self.rt, alloc, name);
-        if let Err(FileError::CannotRead) = outcome {
-            self.failures.add_one(name);
+        self.trail.open(name);
+        match read_file(self.rt, alloc, name) {
+            Ok(bytes) => Ok(bytes),
+            Err(error) => self.fail_to_read(name, &error),
         }
-        outcome
     }
 
     fn create(&mut self, name: &str, source: &str) -> Result<HostSink<R::File, R::A>, FileError> {
-        let outcome = create_sink(self.rt, name, source);
-        if let Err(FileError::CannotWrite) = outcome {
-            self.failures.add_one(name);
+        self.trail.open(name);
+        match create_sink(self.rt, name, source) {
+            Ok(sink) => Ok(sink),
+            Err(error) => self.fail_to_write(name, &error),
         }
-        outcome
     }
 
     fn keep(&mut self, name: &str, sink: HostSink<R::File, R::A>) -> Result<(), FileError> {
         self.failures.add_sink(name, &sink);
         match keep_sink(self.rt, sink) {
             Ok(()) => Ok(()),
-            Err(_) => {
+            Err(error) => {
+                self.trail.fail(Cause::of(error.kind()));
                 self.failures.add_one(name);
                 Err(FileError::CannotWrite)
             }
@@ -91,27 +125,40 @@ impl<'r, R: rt::Files + Alloc> Files for HostFiles<'r, R> {
     fn discard(&mut self, name: &str, sink: HostSink<R::File, R::A>) {
         self.failures.add_sink(name, &sink);
         let HostSink { sink, replacement } = sink;
-        drop(sink);
+        if let Some(cause) = sink.into_inner().cause() {
+            self.trail.fail(cause);
+        }
         if let Some(replacement) = replacement {
             replacement.remove(self.rt);
         }
     }
 
-    fn open(&mut self, name: &str) -> Result<InSource<R::File>, FileError> {
+    fn open(&mut self, name: &str) -> Result<InSource<Noting<R::File>>, FileError> {
+        self.trail.open(name);
         match fs::open(self.rt, name) {
-            Ok(file) => Ok(InSource::new(file)),
-            Err(error) => {
-                let cause = cause_of(&error);
-                if let FileError::CannotRead = cause {
-                    self.failures.add_one(name);
-                }
-                Err(cause)
-            }
+            Ok(file) => Ok(InSource::new(Noting::new(file))),
+            Err(error) => self.fail_to_read(name, &error),
         }
     }
 
-    fn shut(&mut self, name: &str, source: InSource<R::File>) {
+    fn shut(&mut self, name: &str, source: InSource<Noting<R::File>>) {
         self.failures.add_source(name, &source);
+        if let Some(cause) = source.into_inner().cause() {
+            self.trail.fail(cause);
+        }
+    }
+}
+
+impl<'r, R: rt::Files + Alloc> Reread for HostFiles<'r, R> {
+    fn read_again<A: Allocator + Copy>(&self, alloc: A, name: &str) -> Option<Vec<u8, A>> {
+        match fs::metadata(self.rt, name) {
+            Ok(found) if found.is_file() => read_file(self.rt, alloc, name).ok(),
+            _ => None,
+        }
+    }
+
+    fn trail(&self) -> &Trail {
+        &self.trail
     }
 }
 
@@ -120,22 +167,18 @@ fn create_sink<R: rt::Files + Alloc>(
     rt: &R,
     name: &str,
     source: &str,
-) -> Result<HostSink<R::File, R::A>, FileError>
+) -> io::Result<HostSink<R::File, R::A>>
     ensures unfailed { IfOk result (λ sink. sink.sink.failures ≡ 0) }
     ensures apart { IfOk result (λ _. name.now ≢ source.now) }
-    ensures writing { IfErr result (λ e. e ≢ FileError.CannotRead) }
 {
     if name == source {
-        return Err(FileError::CannotWrite);
+        return Err(ErrorKind::InvalidInput.into());
     }
-    match open_out(rt, name, source) {
-        Ok((file, replacement)) => Ok(HostSink {
-            sink: OutSink::new(file),
-            replacement,
-        }),
-        Err(error) if error.kind() == ErrorKind::OutOfMemory => Err(FileError::Memory),
-        Err(_) => Err(FileError::CannotWrite),
-    }
+    let (file, replacement) = open_out(rt, name, source)?;
+    Ok(HostSink {
+        sink: OutSink::new(Noting::new(file)),
+        replacement,
+    })
 }
 
 /// Writes out what a sink holds back, and puts its file in the place of the one that it replaces.
@@ -154,17 +197,11 @@ fn keep_sink<W: Write + Drop, A: Allocator>(
     }
 }
 
-fn read_file<A: Allocator>(
-    rt: &impl rt::Files,
-    alloc: A,
-    name: &str,
-) -> Result<Vec<u8, A>, FileError>
-    ensures { IfErr result (λ e. e ≢ FileError.CannotWrite) }
-{
-    match fs::open(rt, name) {
-        Ok(mut file) => read_all(alloc, &mut file),
-        Err(error) => Err(cause_of(&error)),
-    }
+/// All the bytes of the file of this name.
+fn read_file<A: Allocator>(rt: &impl rt::Files, alloc: A, name: &str) -> io::Result<Vec<u8, A>> {
+    let mut bytes = Vec::new(alloc);
+    fs::open(rt, name)?.read_to_end(&mut bytes)?;
+    Ok(bytes)
 }
 
 /// All the bytes that a reader has left. `Memory` comes where they could not be kept, and `CannotRead` where the

@@ -1,6 +1,7 @@
 -- The command line, by clap's rules.
 use Rattle.std.specs.Prelude.{◌≡◌, ◌==◌, ℕ, Bool, List, [], ◌∷◌, true, false, IsTrue, Option, Some, None, map, option_and_then, unwrap_or, codes, string_bytes, bytes_eq, if◌then◌else◌}
 use Rattle.std.specs.List.{list_any}
+use Rattle.std.specs.Option.{option_map_or}
 use Rattle.clap.specs.Words.{App, Row, Rule, Shape, all_of, app_of, first_of, new_app, new_rule, rule_of, subcommand_of, with_rule, with_subcommand}
 use Rattle.std.specs.Str.Parse.{digits_value, without_leading_plus}
 use Rattle.clap.specs.ValueTests.{accepts}
@@ -45,9 +46,18 @@ workers_option = number_option (codes "workers") 0 4294967295 (codes "1")
 abbrev pub hex_flag : Rule
 hex_flag = record (new_rule (codes "hex")) { long = Some (codes "hex"); action = Some SetTrue }
 
+-- the flag `--explain`
+abbrev pub explain_flag : Rule
+explain_flag =
+    record (new_rule (codes "explain")) { long = Some (codes "explain"); action = Some SetTrue }
+
 -- a command whose first word is a circuit's file
+abbrev pub new_command : List ℕ → App
+new_command name = with_rule (new_app name) (required_word (codes "circuit"))
+
+-- the same with the flag `--explain`
 abbrev pub command_on_circuit : List ℕ → App
-command_on_circuit name = with_rule (new_app name) (required_word (codes "circuit"))
+command_on_circuit name = with_rule (new_command name) explain_flag
 
 -- and whose second word is the seed
 abbrev pub command_with_seed : List ℕ → App
@@ -332,3 +342,9 @@ command_in name rows =
 abbrev pub order_in : List (List ℕ) → Option OrderText
 order_in words =
     option_and_then (λ command. command_in command.0 command.1) (subcommand_of program words)
+
+-- Whether the command in a command line has the flag `--explain`.
+abbrev pub explains_in : List (List ℕ) → Bool
+explains_in words =
+    option_map_or (λ command. flag_in (word_of (codes "explain") command.1))
+    (subcommand_of program words) false

@@ -4,9 +4,10 @@ ghost use Rattle.std.specs.Prelude.{IfOk, codes};
 ghost use Rattle.clap.specs.Words.{App, Rule, new_rule, with_rule, with_subcommand};
 ghost use Rattle.gc_order.specs.Order.{HasRule, HasShape, audit_command, check_command};
 ghost use Rattle.gc_order.specs.Order.{circuit_program, command_on_circuit, command_with_seed};
-ghost use Rattle.gc_order.specs.Order.{deal_command, eval_command, file_program, garble_command, hex_flag};
+ghost use Rattle.gc_order.specs.Order.{deal_command, eval_command, explain_flag, file_program};
+ghost use Rattle.gc_order.specs.Order.{garble_command, hex_flag};
 ghost use Rattle.gc_order.specs.Order.{jobs_command, labels_command, locate_command, more_words};
-ghost use Rattle.gc_order.specs.Order.{named_program, number_option, plain_command, program};
+ghost use Rattle.gc_order.specs.Order.{named_program, new_command, number_option, plain_command, program};
 ghost use Rattle.gc_order.specs.Order.{required_word, run_command, stats_command, workers_option};
 
 use clap::builder::ValueParser;
@@ -151,6 +152,10 @@ const FROM_HELP: &str = "The first wire to print, counted from 0";
 const HEX_HELP: &str = "\
 Print output values as x and two hexadecimal digits for each 8 wires, of which the first wire is \
 the lowest bit";
+
+const EXPLAIN_HELP: &str = "\
+After the line of a fault print one more, which says where the fault is and what is wrong; where \
+standard error is a terminal this is always done";
 
 const COUNT_HELP: &str = "How many lines to print at most, by default all";
 
@@ -325,7 +330,7 @@ fn audit<'a>(alloc: Global) -> Result<Command<'a>, AllocError>
     with_arg(command, labels_arg(alloc, AUDITED_HELP))
 }
 
-/// A command that reads a circuit, the file of which is its first word.
+/// A command that reads a circuit, the file of which is its first word, and explains a fault where it is asked to.
 fn command_on_circuit<'a>(
     alloc: Global,
     name: &'a str,
@@ -333,6 +338,18 @@ fn command_on_circuit<'a>(
     help: &'a str,
 ) -> Result<Command<'a>, AllocError>
     ensures { IfOk result (HasShape (command_on_circuit name.entry.now)) }
+{
+    with_arg(new_command(alloc, name, about, help), explain_arg(alloc))
+}
+
+/// A command whose first word is a circuit's file.
+fn new_command<'a>(
+    alloc: Global,
+    name: &'a str,
+    about: &'a str,
+    help: &'a str,
+) -> Result<Command<'a>, AllocError>
+    ensures { IfOk result (HasShape (new_command name.entry.now)) }
 {
     Command::new(alloc, name)
         .about(about)
@@ -406,6 +423,16 @@ fn hex_arg<'a>(alloc: Global) -> Arg<'a>
         .long("hex")
         .action(ArgAction::SetTrue)
         .help(HEX_HELP)
+}
+
+/// The flag for a line that explains a fault.
+fn explain_arg<'a>(alloc: Global) -> Arg<'a>
+    ensures { HasRule explain_flag result }
+{
+    Arg::new(alloc, "explain")
+        .long("explain")
+        .action(ArgAction::SetTrue)
+        .help(EXPLAIN_HELP)
 }
 
 /// An option that is a number from `low` to `high`, and is `default` where it isn't given.

@@ -5,4 +5,4 @@ mod commands;
 mod order;
 mod words;
 
-pub use order::{Order, order_of};
+pub use order::{Asked, Order, asked_of, order_of};

@@ -3,7 +3,7 @@
 ghost use Rattle.std.specs.Prelude.{◌≡◌, map, IfOk, Some, string_bytes};
 ghost use Rattle.clap.specs.Words.{FailsBy, fault_of, found_of, rows_of};
 ghost use Rattle.gc_order.specs.Order.{IsCommandName, audit_in, check_in, command_in, deal_in};
-ghost use Rattle.gc_order.specs.Order.{eval_in, garble_in, jobs_in, labels_in, locate_in, order_in};
+ghost use Rattle.gc_order.specs.Order.{eval_in, explains_in, garble_in, jobs_in, labels_in, locate_in, order_in};
 ghost use Rattle.gc_order.specs.Order.{plain_in, program, run_in, stats_in, text_of};
 
 use crate::commands::halfgates;
@@ -128,6 +128,15 @@ pub enum Order {
     },
 }
 
+/// What a command line asks for.
+#[derive(Drop)]
+pub struct Asked {
+    /// The order.
+    pub order: Order,
+    /// Whether a fault is to be explained, by the flag `--explain`.
+    pub explains: bool,
+}
+
 /// The order in the words of a command line, of which the first is the program's name. The error is clap's, with the
 /// text to show: for words that it refuses, for help or the version, and where memory ran out.
 pub fn order_of(alloc: Global, words: &[String]) -> Result<Order, Error>
@@ -135,9 +144,28 @@ pub fn order_of(alloc: Global, words: &[String]) -> Result<Order, Error>
         (λ order. order_in (map string_bytes words.now) ≡ Some (text_of order)) }
     ensures kinds { FailsBy (fault_of program (map string_bytes words.now)) result }
 {
+    match asked_of(alloc, words) {
+        Ok(asked) => Ok(asked.order),
+        Err(error) => Err(error),
+    }
+}
+
+/// The order in the words of a command line, and whether a fault of it is to be explained. The errors are those of
+/// [`order_of`].
+pub fn asked_of(alloc: Global, words: &[String]) -> Result<Asked, Error>
+    ensures order { IfOk result
+        (λ asked. order_in (map string_bytes words.now) ≡ Some (text_of asked.order)) }
+    ensures explains { IfOk result
+        (λ asked. asked.explains ≡ explains_in (map string_bytes words.now)) }
+    ensures kinds { FailsBy (fault_of program (map string_bytes words.now)) result }
+{
     let matches = halfgates(alloc)?.try_get_matches_from(words)?;
     match matches.subcommand() {
-        Some((name, found)) => Ok(named_order(alloc, name, found)?),
+        Some((name, found)) => {
+            let order = named_order(alloc, name, found)?;
+            let explains = is_flagged(found, "explain");
+            Ok(Asked { order, explains })
+        }
         None => unreachable!(),
     }
 }

@@ -1,6 +1,7 @@
-use Rattle.std.proofs.Common.{◌≡◌, ap, ◌∙◌, sym, subst, refl, true, ℕ, List, Option, Some, map}
+use Rattle.std.proofs.Common.{◌≡◌, ap, ◌∙◌, sym, subst, refl, true, false, ℕ, List, Option, Some, map}
 use Rattle.std.proofs.Common.{option_map, string_bytes}
-use Rattle.std.specs.Prelude.{option_and_then}
+use Rattle.std.specs.Prelude.{codes, option_and_then}
+use Rattle.std.specs.Option.{option_map_or}
 use Rattle.std.proofs.lemmas.Result.{err_from_is_err_and}
 use Rattle.clap.specs.Matches.{subcommand_name_of}
 use Rattle.clap.specs.Words.{App, HasKind, HasMatchesOf, Row, app_of, fault_of, is_simple}
@@ -9,10 +10,10 @@ use Rattle.clap.specs.Faults.{is_simple_and_free}
 use Rattle.clap.specs.declared.builder.command.Command.{Command}
 use Rattle.clap.specs.declared.parser.matches.ArgMatches.{ArgMatches}
 use Rattle.clap.proofs.OnLiterals.{clap_on_literals}
-use Rattle.gc_order.specs.Order.{HasShape, command_in, program}
+use Rattle.gc_order.specs.Order.{HasShape, command_in, flag_in, program, word_of}
 use Rattle.gc_order.proofs.EnteredLemmas.{entered-one_of}
 use Rattle.gc_order.proofs.OrderLemmas.{subcommand-pair}
-use Rattle.gc_order.proofs.order.order_of.Goals as goal
+use Rattle.gc_order.proofs.order.asked_of.Goals as goal
 
 -- clap's rules say what it makes of every line
 is_simple-program : is_simple_and_free program ≡ true
@@ -55,10 +56,18 @@ returns-clause-order c =
     let found = found-subcommand _ _ _ _ _ c.in_ok-halfgates.ensures c.in_ok-matches.ensures.matches
     c.in-Some.ensures.name c.in-Some.ensures.rows in
     ap (λ (o : Option (List ℕ × List Row)). option_and_then (λ p. command_in p.0 p.1) o) found
-    ∙ c.in_ok-named_order-in-Some.ensures
+    ∙ c.in_ok-order-in-Some.ensures
 
 pub named_order-requires : goal.named_order-requires
 named_order-requires c =
     entered-one_of (map string_bytes c.args.words.now) _ _
     (found-subcommand _ _ _ _ _ c.in_ok-halfgates.ensures c.in_ok-matches.ensures.matches
     c.in-Some.ensures.name c.in-Some.ensures.rows)
+
+pub returns-clause-explains : goal.returns-clause-explains
+returns-clause-explains c =
+    let found = found-subcommand _ _ _ _ _ c.in_ok-halfgates.ensures c.in_ok-matches.ensures.matches
+    c.in-Some.ensures.name c.in-Some.ensures.rows in
+    c.is_flagged-explains.ensures
+    ∙ sym (ap (λ (o : Option (List ℕ × List Row)). option_map_or
+    (λ command. flag_in (word_of (codes "explain") command.1)) o false) found)

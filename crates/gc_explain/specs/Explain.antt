@@ -1,0 +1,78 @@
+-- Which place the line that explains a fault names.
+use Rattle.std.specs.Prelude.{◌≡◌, ℕ, ◌⊎◌, List, [], ◌∷◌, ◌++◌, Option, codes, decimal, IfSome}
+use Rattle.gc_netlist.specs.declared.fault.ReadFault.{ReadFault}
+use Rattle.gc_netlist.specs.declared.fault.ReadFault.TheVariants as read
+use Rattle.gc_netlist.specs.Place.{IsLocated}
+use Rattle.gc_circuit.specs.declared.locate.Located.{Located}
+use Rattle.gc_file.specs.declared.fault.FileFault.{FileFault}
+use Rattle.gc_file.specs.declared.fault.FileFault.TheVariants as file
+use Rattle.gc_file.specs.FileFault.{FirstFault, FirstLabelFault}
+use Rattle.gc_disk.specs.Files.{FileBytes}
+use Rattle.gc_order.specs.Order.{OrderText, run, plain, check, locate, stats, garble, deal, eval, jobs, list_labels, audit}
+use Rattle.gc_command.specs.declared.fault.Fault.{Fault}
+use Rattle.gc_command.specs.declared.fault.Fault.TheVariants.{Circuit, File}
+
+-- the name of the circuit's file
+abbrev pub circuit_of : OrderText → List ℕ
+circuit_of (run circuit seed workers hex values) = circuit
+circuit_of (plain circuit hex values) = circuit
+circuit_of (check circuit) = circuit
+circuit_of (locate circuit) = circuit
+circuit_of (stats circuit) = circuit
+circuit_of (garble circuit seed out version workers) = circuit
+circuit_of (deal circuit seed index value out) = circuit
+circuit_of (eval circuit garbled workers hex labels) = circuit
+circuit_of (jobs circuit list workers hex) = circuit
+circuit_of (list_labels circuit seed from count values) = circuit
+circuit_of (audit circuit seed garbled workers labels) = circuit
+
+-- the place that is a whole file: `NAME: `
+abbrev pub file_place : List ℕ → List ℕ
+file_place name = name ++ codes ": "
+
+-- a byte of it: `NAME: byte BYTE: `
+abbrev pub byte_place : List ℕ → ℕ → List ℕ
+byte_place name byte = file_place name ++ codes "byte " ++ decimal byte ++ codes ": "
+
+-- a line and a column of it: `NAME:LINE:COLUMN: `
+abbrev pub located_place : List ℕ → Located → List ℕ
+located_place name l =
+    name ++ codes ":" ++ decimal l.line ++ codes ":" ++ decimal l.column ++ codes ": "
+
+-- the line that tells a sentence of a place
+abbrev pub line_told : List ℕ → List ℕ → List ℕ
+line_told place sentence = codes "halfgates: " ++ place ++ sentence ++ 10 ∷ []
+
+-- The place is where the first fault of a circuit's file is, as `locate` finds it, and the fault is this one. Where the
+-- file can't be read once more, it is the whole file.
+abbrev pub IsCircuitPlace : Option (List ℕ) → List ℕ → ReadFault → List ℕ → Type 0
+IsCircuitPlace bytes name fault place =
+    (place ≡ file_place name)
+    ⊎ ((l : Located) × (l.fault ≡ fault) × (place ≡ located_place name l)
+    × IfSome bytes (λ held. IsLocated held l.fault l.line l.column l.gate l.wire))
+
+-- A garbled file, or a label file, with these bytes has this first fault.
+abbrev pub HasFileFault : FileFault → List ℕ → Type 0
+HasFileFault fault bytes = FirstFault bytes fault ⊎ FirstLabelFault bytes fault
+
+-- The place is a byte of a file that has this first fault. Where the file can't be read once more, it is the whole file.
+abbrev pub IsFilePlace : FileBytes → FileFault → List ℕ → Type 0
+IsFilePlace bytes fault place =
+    (name : List ℕ) × ((place ≡ file_place name)
+    ⊎ ((byte : ℕ) × (place ≡ byte_place name byte) × IfSome (bytes name) (HasFileFault fault)))
+
+-- The place that is named for a fault of an order: of the faults 1 to 12 one of the circuit's file, and of 30 to 35 one
+-- of a garbled file or a label file.
+abbrev pub IsPlace : FileBytes → OrderText → Fault → List ℕ → Type 0
+IsPlace bytes order (Circuit read.Memory) place = place ≡ []
+IsPlace bytes order (Circuit fault) place =
+    IsCircuitPlace (bytes (circuit_of order)) (circuit_of order) fault place
+IsPlace bytes order (File file.Memory) place = Unit {0}
+IsPlace bytes order (File fault) place = IsFilePlace bytes fault place
+IsPlace bytes order _ place = Unit {0}
+
+-- The line explains a fault of an order.
+abbrev pub Explains : FileBytes → OrderText → Fault → List ℕ → Type 0
+Explains bytes order fault line =
+    (place : List ℕ) × (sentence : List ℕ) × (line ≡ line_told place sentence)
+    × IsPlace bytes order fault place

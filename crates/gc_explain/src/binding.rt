@@ -1,0 +1,176 @@
+//! Faults of binding a job, and of evaluating it.
+
+use crate::explanation::circuit_of;
+use crate::listed::{JobNames, job_names, with_line};
+use crate::told::{Told, alone, on_file};
+use gc_circuit::Circuit;
+use gc_disk::Reread;
+use gc_file::{Garbled, LabelFile, read_garbled, read_labels};
+use gc_job::BindFault;
+use gc_order::Order;
+use std::alloc::{AllocError, Allocator};
+
+/// What is told of files that are no job for the circuit: those of the job that was at work last.
+pub(crate) fn told_of_binding<A: Allocator + Copy, F: Reread>(
+    alloc: A,
+    order: &Order,
+    files: &F,
+    fault: BindFault,
+) -> Option<Told<A>> {
+    let names = job_names(alloc, order, files)?;
+    let text = files.read_again(alloc, circuit_of(order))?;
+    let circuit = Circuit::read(alloc, &text).ok()?;
+    let told = match fault {
+        BindFault::OtherCircuit | BindFault::OtherCounts => {
+            told_of_garbled(alloc, &circuit, &names, files, fault)?
+        }
+        _ => told_of_labels(alloc, &circuit, &names, files, fault)?,
+    };
+    let Told { place, sentence } = told;
+    Some(Told {
+        place,
+        sentence: with_line(alloc, order, files, sentence).ok()?,
+    })
+}
+
+/// What is told of a garbled file of another circuit.
+fn told_of_garbled<A: Allocator + Copy, F: Reread>(
+    alloc: A,
+    circuit: &Circuit<A>,
+    names: &JobNames<A>,
+    files: &F,
+    fault: BindFault,
+) -> Option<Told<A>> {
+    let name = names.garbled.as_str();
+    let bytes = files.read_again(alloc, name)?;
+    let garbled = read_garbled(alloc, &bytes).ok()?;
+    let sentence = match fault {
+        BindFault::OtherCircuit => digest_sentence(alloc, circuit, &garbled),
+        _ => counts_sentence(alloc, circuit, &garbled),
+    };
+    on_file(alloc, name, sentence)
+}
+
+/// The sentence on a garbled file with another digest than the circuit's.
+fn digest_sentence<A: Allocator + Copy>(
+    alloc: A,
+    circuit: &Circuit<A>,
+    garbled: &Garbled<A>,
+) -> Result<String<A>, AllocError> {
+    let found = hex::encode(alloc, garbled.digest())?;
+    let due = hex::encode(alloc, circuit.digest())?;
+    format!(in alloc; "its circuit has the digest {found}, and this one has {due}")
+}
+
+/// The sentence on a garbled file with other counts than the circuit's.
+fn counts_sentence<A: Allocator + Copy>(
+    alloc: A,
+    circuit: &Circuit<A>,
+    garbled: &Garbled<A>,
+) -> Result<String<A>, AllocError> {
+    let (rows, bits) = (garbled.rows().len(), garbled.decode_bits().len());
+    let (gates, outputs) = (circuit.and_count(), circuit.output_wires());
+    format!(in alloc;
+        "it has {rows} row pairs and {bits} decode bits, and {gates} and {outputs} are due"
+    )
+}
+
+/// What is told of the label files of a job.
+fn told_of_labels<A: Allocator + Copy, F: Reread>(
+    alloc: A,
+    circuit: &Circuit<A>,
+    names: &JobNames<A>,
+    files: &F,
+    fault: BindFault,
+) -> Option<Told<A>> {
+    let mut found = Vec::with_capacity(alloc, names.labels.len()).ok()?;
+    for name in &names.labels {
+        let bytes = files.read_again(alloc, name.as_str())?;
+        let file = read_labels(alloc, &bytes).ok()?;
+        if fault_of(circuit, &found, &file) == Some(fault) {
+            let sentence = label_sentence(alloc, circuit, &file, fault);
+            return on_file(alloc, name.as_str(), sentence);
+        }
+        found.push(file.index()).ok()?;
+    }
+    let index = missing_value(circuit, &found)?;
+    alone(
+        alloc,
+        format!(in alloc; "value {index}, counted from 0, has no label file"),
+    )
+}
+
+/// The fault of a label file, where files for these input values come before it.
+fn fault_of<A: Allocator>(
+    circuit: &Circuit<A>,
+    before: &[u32],
+    file: &LabelFile<A>,
+) -> Option<BindFault> {
+    let index = file.index();
+    let Some(width) = circuit.input_widths().get(index as usize) else {
+        return Some(BindFault::NoSuchValue);
+    };
+    if file.labels().len() != *width as usize {
+        return Some(BindFault::WrongWidth);
+    }
+    if before.contains(&index) {
+        return Some(BindFault::DoubleValue);
+    }
+    None
+}
+
+/// The sentence on a label file with this fault.
+fn label_sentence<A: Allocator + Copy>(
+    alloc: A,
+    circuit: &Circuit<A>,
+    file: &LabelFile<A>,
+    fault: BindFault,
+) -> Result<String<A>, AllocError> {
+    let (index, labels) = (file.index(), file.labels().len());
+    let widths = circuit.input_widths();
+    match fault {
+        BindFault::NoSuchValue => {
+            let count = widths.len();
+            format!(in alloc; "it is for value {index}, counted from 0, and there are {count}")
+        }
+        BindFault::WrongWidth => {
+            let width = widths.get(index as usize).copied().unwrap_or(0);
+            format!(in alloc;
+                "it has {labels} labels, and {width} are due for value {index}, counted from 0"
+            )
+        }
+        _ => format!(in alloc; "it is a second file for value {index}, counted from 0"),
+    }
+}
+
+/// The first input value that is none of these.
+fn missing_value<A: Allocator>(circuit: &Circuit<A>, found: &[u32]) -> Option<u32> {
+    let mut index = 0u32;
+    for _width in circuit.input_widths() {
+        if !found.contains(&index) {
+            return Some(index);
+        }
+        index = index.saturating_add(1);
+    }
+    None
+}
+
+/// What is told of an output label that the garbled file doesn't recognise.
+pub(crate) fn told_of_output<A: Allocator + Copy>(
+    alloc: A,
+    order: &Order,
+    output: u32,
+) -> Option<Told<A>> {
+    let (file, whose) = match order {
+        Order::Eval { garbled, .. } => (garbled, "the file"),
+        Order::Jobs { list, .. } => (list, "the file of a job"),
+        _ => return None,
+    };
+    on_file(
+        alloc,
+        file.as_str(),
+        format!(in alloc;
+            "{whose} recognises no label like that of output wire {output}, counted from 0"
+        ),
+    )
+}

@@ -1,0 +1,123 @@
+//! The files of a job, and its line in a list.
+
+use gc_disk::Reread;
+use gc_order::Order;
+use gc_tokens::is_blank;
+use std::alloc::{AllocError, Allocator};
+use std::str;
+
+/// How many files `jobs` opens before those of the first job: the circuit and the list.
+const BEFORE_JOBS: u64 = 2;
+
+/// The names of a job's files, and its line, if a list names it.
+#[derive(Drop)]
+pub(crate) struct JobNames<A: Allocator> {
+    pub(crate) garbled: String<A>,
+    pub(crate) labels: Vec<String<A>, A>,
+    pub(crate) line: Option<u64>,
+}
+
+/// The names of the files of the job that was at work last. There is none where a list can't be read once more.
+pub(crate) fn job_names<A: Allocator + Copy, F: Reread>(
+    alloc: A,
+    order: &Order,
+    files: &F,
+) -> Option<JobNames<A>> {
+    match order {
+        Order::Eval {
+            garbled,
+            labels,
+            ..
+        }
+        | Order::Audit {
+            garbled,
+            labels,
+            ..
+        } => {
+            Some(JobNames {
+                garbled: String::from_str(alloc, garbled.as_str()).ok()?,
+                labels: copies_of(alloc, labels).ok()?,
+                line: None,
+            })
+        }
+        Order::Jobs { list, .. } => {
+            let word = files.trail().opened().checked_sub(BEFORE_JOBS + 1)?;
+            let text = files.read_again(alloc, list.as_str())?;
+            names_at(alloc, &text, word)
+        }
+        _ => None,
+    }
+}
+
+/// Copies of these names.
+fn copies_of<A: Allocator + Copy>(
+    alloc: A,
+    names: &[String],
+) -> Result<Vec<String<A>, A>, AllocError> {
+    let mut copies = Vec::with_capacity(alloc, names.len())?;
+    for name in names {
+        copies.push(String::from_str(alloc, name.as_str())?)?;
+    }
+    Ok(copies)
+}
+
+/// The names on the line of a list that has the word of this number, counted from 0 over all lines.
+fn names_at<A: Allocator + Copy>(alloc: A, list: &[u8], word: u64) -> Option<JobNames<A>> {
+    let (mut line, mut left) = (0u64, word);
+    for text in list.split(|byte| *byte == b'\n') {
+        line = line.saturating_add(1);
+        let words = words_of(alloc, text).ok()?;
+        let count = words.len() as u64;
+        if left < count {
+            return names_of(alloc, &words, line);
+        }
+        left -= count;
+    }
+    None
+}
+
+/// The words of a line.
+fn words_of<A: Allocator>(alloc: A, line: &[u8]) -> Result<Vec<&[u8], A>, AllocError> {
+    line.split(|byte| is_blank(*byte))
+        .filter(|part| !part.is_empty())
+        .collect(alloc)
+}
+
+/// The names that are the words of this line.
+fn names_of<A: Allocator + Copy>(alloc: A, words: &[&[u8]], line: u64) -> Option<JobNames<A>> {
+    let (garbled, others) = words.split_first()?;
+    let mut labels = Vec::with_capacity(alloc, others.len()).ok()?;
+    for word in others {
+        labels.push(name_of(alloc, word)?).ok()?;
+    }
+    Some(JobNames {
+        garbled: name_of(alloc, garbled)?,
+        labels,
+        line: Some(line),
+    })
+}
+
+/// The name that a word is.
+fn name_of<A: Allocator>(alloc: A, word: &[u8]) -> Option<String<A>> {
+    String::from_str(alloc, str::from_utf8(word).ok()?).ok()
+}
+
+/// A sentence on a file of a job, with the job's line where a list names it.
+pub(crate) fn with_line<A: Allocator + Copy, F: Reread>(
+    alloc: A,
+    order: &Order,
+    files: &F,
+    sentence: String<A>,
+) -> Result<String<A>, AllocError> {
+    let Order::Jobs { list, .. } = order else {
+        return Ok(sentence);
+    };
+    let Some(names) = job_names(alloc, order, files) else {
+        return Ok(sentence);
+    };
+    let Some(line) = names.line else {
+        return Ok(sentence);
+    };
+    let (sentence, list) = (sentence.as_str(), list.as_str());
+    format!(in alloc; "{sentence} (line {line} of {list})")
+}
