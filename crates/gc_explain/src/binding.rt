@@ -15,9 +15,10 @@ pub(crate) fn told_of_binding<A: Allocator + Copy, F: Reread>(
     alloc: A,
     order: &Order,
     files: &F,
+    opened: u64,
     fault: BindFault,
 ) -> Option<Told<A>> {
-    let names = job_names(alloc, order, files)?;
+    let names = job_names(alloc, order, files, opened)?;
     let text = files.read_again(alloc, circuit_of(order))?;
     let circuit = Circuit::read(alloc, &text).ok()?;
     let told = match fault {
@@ -29,7 +30,7 @@ pub(crate) fn told_of_binding<A: Allocator + Copy, F: Reread>(
     let Told { place, sentence } = told;
     Some(Told {
         place,
-        sentence: with_line(alloc, order, files, sentence).ok()?,
+        sentence: with_line(alloc, order, files, opened, sentence).ok()?,
     })
 }
 

@@ -11,6 +11,7 @@ pub(crate) fn told_of_reading<A: Allocator + Copy, F: Reread>(
     alloc: A,
     order: &Order,
     files: &F,
+    opened: u64,
 ) -> Option<Told<A>> {
     let trail = files.trail();
     let why = reason_of(trail.cause());
@@ -18,7 +19,7 @@ pub(crate) fn told_of_reading<A: Allocator + Copy, F: Reread>(
     on_file(
         alloc,
         trail.name(),
-        with_line(alloc, order, files, sentence),
+        with_line(alloc, order, files, opened, sentence),
     )
 }
 

@@ -22,19 +22,21 @@ use std::alloc::Allocator;
 use std::str;
 
 /// The line that explains a fault that ended an order over these files: `halfgates: `, the place, where there is one,
-/// and a sentence. `printing` is why standard output can't be written, where that is the fault. Files are read once
-/// more for it. There is no line where they don't show the fault any more, or where memory is refused.
+/// and a sentence. `opened` is how many files the order opened, and `printing` why standard output can't be written,
+/// where that is the fault. Files are read once more for it. There is no line where they don't show the fault any more,
+/// or where memory is refused.
 pub fn explain<A: Allocator + Copy, F: Reread>(
     alloc: A,
     order: &Order,
     files: &F,
+    opened: u64,
     fault: Fault,
     printing: Option<Cause>,
 ) -> Option<Vec<u8, A>>
     ensures { IfSome result
         (λ line. Explains (F.bytes files.now) (text_of order.now) fault line.items) }
 {
-    let told = told_of(alloc, order, files, fault, printing)?;
+    let told = told_of(alloc, order, files, opened, fault, printing)?;
     told.line(alloc).ok()
 }
 
@@ -43,6 +45,7 @@ fn told_of<A: Allocator + Copy, F: Reread>(
     alloc: A,
     order: &Order,
     files: &F,
+    opened: u64,
     fault: Fault,
     printing: Option<Cause>,
 ) -> Option<Told<A>>
@@ -53,8 +56,8 @@ fn told_of<A: Allocator + Copy, F: Reread>(
         Fault::Circuit(ReadFault::Memory) => told_of_memory(alloc),
         Fault::Circuit(fault) => told_of_circuit(alloc, circuit_of(order), files, fault),
         Fault::File(FileFault::Memory) => told_of_memory(alloc),
-        Fault::File(fault) => told_of_file(alloc, order, files, fault),
-        other => told_of_other(alloc, order, files, other, printing),
+        Fault::File(fault) => told_of_file(alloc, order, files, opened, fault),
+        other => told_of_other(alloc, order, files, opened, other, printing),
     }
 }
 
@@ -63,6 +66,7 @@ fn told_of_other<A: Allocator + Copy, F: Reread>(
     alloc: A,
     order: &Order,
     files: &F,
+    opened: u64,
     fault: Fault,
     printing: Option<Cause>,
 ) -> Option<Told<A>> {
@@ -76,12 +80,12 @@ fn told_of_other<A: Allocator + Copy, F: Reread>(
             told_of_workers(alloc, order)
         }
         Fault::Binding(BindFault::Memory) => told_of_memory(alloc),
-        Fault::Binding(fault) => told_of_binding(alloc, order, files, fault),
+        Fault::Binding(fault) => told_of_binding(alloc, order, files, opened, fault),
         Fault::Evaluation(EvalFault::UnknownOutputLabel { output }) => {
             told_of_output(alloc, order, output)
         }
         Fault::BadList => told_of_list(alloc, order, files),
-        Fault::CannotRead => told_of_reading(alloc, order, files),
+        Fault::CannotRead => told_of_reading(alloc, order, files, opened),
         Fault::CannotWrite => told_of_writing(alloc, files, printing),
         _ => told_of_memory(alloc),
     }

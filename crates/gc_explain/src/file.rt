@@ -18,13 +18,14 @@ pub(crate) fn told_of_file<A: Allocator + Copy, F: Reread>(
     alloc: A,
     order: &Order,
     files: &F,
+    opened: u64,
     fault: FileFault,
 ) -> Option<Told<A>>
     requires { fault ≢ FileFault.Memory }
     ensures { IfSome result (λ told. IsFilePlace (F.bytes files.now) fault told.place.items) }
 {
     let name = files.trail().name();
-    let is_garbled = is_garbled(alloc, order, files);
+    let is_garbled = is_garbled(alloc, order, files, opened);
     let place = match byte_of_fault(alloc, name, files, is_garbled, fault) {
         Some(byte) => byte_place(alloc, name, byte).ok()?,
         None => file_place(alloc, name).ok()?,
@@ -32,18 +33,23 @@ pub(crate) fn told_of_file<A: Allocator + Copy, F: Reread>(
     let sentence = String::from_str(alloc, meaning_of(is_garbled, fault)).ok()?;
     Some(Told {
         place,
-        sentence: with_line(alloc, order, files, sentence).ok()?,
+        sentence: with_line(alloc, order, files, opened, sentence).ok()?,
     })
 }
 
 /// Whether the file that was opened last is read as a garbled file.
-fn is_garbled<A: Allocator + Copy, F: Reread>(alloc: A, order: &Order, files: &F) -> bool {
+fn is_garbled<A: Allocator + Copy, F: Reread>(
+    alloc: A,
+    order: &Order,
+    files: &F,
+    opened: u64,
+) -> bool {
     match order {
-        Order::Jobs { .. } => match job_names(alloc, order, files) {
+        Order::Jobs { .. } => match job_names(alloc, order, files, opened) {
             Some(names) => names.garbled.as_str() == files.trail().name(),
             None => true,
         },
-        _ => files.trail().opened() <= 2,
+        _ => opened <= 2,
     }
 }
 

@@ -17,11 +17,13 @@ pub(crate) struct JobNames<A: Allocator> {
     pub(crate) line: Option<u64>,
 }
 
-/// The names of the files of the job that was at work last. There is none where a list can't be read once more.
+/// The names of the files of the job that was at work last, where the order opened this many files. There is none where
+/// a list can't be read once more.
 pub(crate) fn job_names<A: Allocator + Copy, F: Reread>(
     alloc: A,
     order: &Order,
     files: &F,
+    opened: u64,
 ) -> Option<JobNames<A>> {
     match order {
         Order::Eval {
@@ -41,7 +43,7 @@ pub(crate) fn job_names<A: Allocator + Copy, F: Reread>(
             })
         }
         Order::Jobs { list, .. } => {
-            let word = files.trail().opened().checked_sub(BEFORE_JOBS + 1)?;
+            let word = opened.checked_sub(BEFORE_JOBS + 1)?;
             let text = files.read_again(alloc, list.as_str())?;
             names_at(alloc, &text, word)
         }
@@ -107,12 +109,13 @@ pub(crate) fn with_line<A: Allocator + Copy, F: Reread>(
     alloc: A,
     order: &Order,
     files: &F,
+    opened: u64,
     sentence: String<A>,
 ) -> Result<String<A>, AllocError> {
     let Order::Jobs { list, .. } = order else {
         return Ok(sentence);
     };
-    let Some(names) = job_names(alloc, order, files) else {
+    let Some(names) = job_names(alloc, order, files, opened) else {
         return Ok(sentence);
     };
     let Some(line) = names.line else {
