@@ -1,23 +1,25 @@
 //! A whole run of the program, from the words of its command line to its status.
 
-ghost use Rattle.std.specs.Prelude.{◌≡◌, ◌+◌, ◌<◌, ◌≤◌, ◌⊎◌, ℕ, List, map, string_bytes, IfErr, IfOk, OnOk};
+ghost use Rattle.std.specs.Prelude.{◌≡◌, ◌+◌, ◌<◌, ◌≤◌, ◌⊎◌, ◌||◌, ℕ, List, map, string_bytes, IfErr, IfOk, OnOk};
 ghost use Rattle.std.specs.Io.KnownBytes.{Appends};
 ghost use Rattle.std.specs.IoError.{error_kind};
 ghost use Rattle.gc_file.specs.Counted.{CountsFailure};
-ghost use Rattle.gc_order.specs.Order.{text_of};
+ghost use Rattle.gc_order.specs.Order.{explains_in, text_of};
 ghost use Rattle.gc_disk.specs.Files.{HasFailed};
 ghost use Rattle.gc_cli.specs.CarryOut.{Writes};
 ghost use Rattle.gc_cli.specs.CommandLine.{IsMistaken};
+ghost use Rattle.gc_cli.specs.Output.{Printed};
 ghost use Rattle.gc_cli.specs.Serve.{AskToWrite, EndsByFault, FailsToAnswer, FindsDishonest, IsDone};
-ghost use Rattle.gc_cli.specs.Serve.{PrintsAnswer, PrintsFault};
+ghost use Rattle.gc_cli.specs.Serve.{IsTold, PrintsAnswer, PrintsFault, PrintsLine};
 ghost use Rattle.gc_cli.specs.Serve.{PrintsRefusal, fault_line, reason_of, refusal_line};
 
 use crate::command_line::Heap;
 use crate::output::Output;
 use crate::work::{carry_out, label_lines};
 use gc_command::{Fault, Progress};
-use gc_disk::Files;
-use gc_order::Order;
+use gc_disk::{Cause, Files, Reread};
+use gc_explain::explain;
+use gc_order::{Asked, Order};
 use gc_trace::labels::LabelLines;
 use std::alloc::{Allocator, Global};
 use std::io::{self, ErrorKind, Write};
@@ -42,11 +44,12 @@ pub const DISHONEST: u8 = 3;
 /// - [`DONE`]: the lines of the order, or the help or the version that was asked for, are on `out`.
 /// - [`DISHONEST`]: the lines of an audit are on `out`, of which the last is `dishonest`.
 /// - [`FAULT`]: the line `halfgates: fault CODE NAME` is on `err`, unless `err` can't be written. Nothing is on `out`,
-///   and every file is as it was, unless printing on `out` failed, which is the fault 51.
+///   and every file is as it was, unless printing on `out` failed, which is the fault 51. Where the words ask for it, or
+///   `explains` does, a line that explains the fault may follow.
 /// - [`USAGE`]: what clap says of words that are no order is on `err`. So is what it says where memory ran out.
 ///
 /// No file changes but the one that the order writes.
-pub fn serve<R: Threads + Wait + Sync, F: Files, O: Write, E: Write, P: Progress>(
+pub fn serve<R: Threads + Wait + Sync, F: Reread, O: Write, E: Write, P: Progress>(
     rt: &R,
     heap: &mut Heap,
     words: &[String],
@@ -54,6 +57,7 @@ pub fn serve<R: Threads + Wait + Sync, F: Files, O: Write, E: Write, P: Progress
     out: &mut Output<O>,
     err: &mut Output<E>,
     progress: &P,
+    explains: bool,
 ) -> u8
     ensures status { result ≤ DISHONEST }
 
@@ -67,7 +71,7 @@ pub fn serve<R: Threads + Wait + Sync, F: Files, O: Write, E: Write, P: Progress
 
     ensures fault { result ≡ FAULT → EndsByFault (F.bytes files.old) (F.bytes files.new)
         (HasFailed (F.failures files.old) (F.failures files.new))
-        (map string_bytes words.now) out.old out.new err.old err.new }
+        (map string_bytes words.now) explains out.old out.new err.old err.new }
 
     // Words that neither are an order nor ask for a text: only they, where there was memory to read them, and all of
     // them.
@@ -82,11 +86,12 @@ pub fn serve<R: Threads + Wait + Sync, F: Files, O: Write, E: Write, P: Progress
     ensures unwritten { result ≡ USAGE
         → (name : List ℕ) → F.bytes files.new name ≡ F.bytes files.old name }
 {
+    let alloc = heap.alloc();
     match heap.order(words) {
-        Ok(order) => match print_answer(rt, heap.alloc(), &order, files, out, progress) {
+        Ok(asked) => match print_answer(rt, alloc, &asked.order, files, out, progress) {
             Ok(true) => DONE,
             Ok(false) => DISHONEST,
-            Err(fault) => report(fault, err),
+            Err(fault) => report_order(fault, alloc, &asked, explains, files, out, err),
         },
         Err(help) if !help.use_stderr() => match write!(out, "{help}") {
             Ok(()) => DONE,
@@ -187,6 +192,64 @@ fn reason_of(kind: ErrorKind) -> &'static str
         ErrorKind::OutOfMemory => "out of memory",
         _ => "its words can't be read",
     }
+}
+
+/// Says on standard error which fault ended an order and, where the words ask for it or `explains` does, what explains
+/// it.
+fn report_order<F: Reread, O: Write, E: Write>(
+    fault: Fault,
+    alloc: Global,
+    asked: &Asked,
+    explains: bool,
+    files: &F,
+    out: &Output<O>,
+    err: &mut Output<E>,
+) -> u8
+    ensures status { result ≡ FAULT }
+    ensures printed { (told : Printed) × PrintsFault err.old told fault
+        × IsTold (F.bytes files.now) (text_of asked.now.order) (explains || asked.now.explains)
+        fault told err.new }
+{
+    let status = report(fault, err);
+    let explains = explains | asked.explains;
+    tell(
+        alloc,
+        &asked.order,
+        explains,
+        files,
+        fault,
+        out.cause(),
+        err,
+    );
+    status
+}
+
+/// Says on standard error what explains the fault of an order, where it is to be explained. Where that fails, nothing
+/// can be said.
+fn tell<F: Reread, E: Write>(
+    alloc: Global,
+    order: &Order,
+    explains: bool,
+    files: &F,
+    fault: Fault,
+    printing: Option<Cause>,
+    err: &mut Output<E>,
+)
+    ensures { IsTold (F.bytes files.now) (text_of order.now) explains fault err.old err.new }
+{
+    if !explains {
+        return;
+    }
+    if let Some(line) = explain(alloc, order, files, fault, printing) {
+        write_told(&line, err);
+    }
+}
+
+/// Writes the line that explains a fault. Where that fails, nothing can be said.
+fn write_told<E: Write>(line: &[u8], err: &mut Output<E>)
+    ensures { PrintsLine err.old err.new line.now }
+{
+    let _ = err.write_all(line);
 }
 
 /// Says on standard error which fault ended the run. Where that fails, nothing can be said.
