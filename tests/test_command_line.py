@@ -17,6 +17,8 @@ wire order, or x and two hexadecimal digits for each 8 wires, of which the first
 lowest bit
 
 Options:
+      --explain            After the line of a fault print one more, which says where the fault is and \
+what is wrong; where standard error is a terminal this is always done
       --workers <WORKERS>  How many threads may garble or evaluate, from 1 to 64; the result is the same \
 [default: 1]
       --hex                Print output values as x and two hexadecimal digits for each 8 wires, of \
@@ -92,9 +94,9 @@ NO_ORDERS = [
         "  tip: to pass '--walk' as a value, use '-- --walk'\n\n"
         "Usage: halfgates run <CIRCUIT> <SEED> [VALUES]...\n" + TRY_HELP,
     ),
-    (["check", "c.txt", "1"], one_more("check <CIRCUIT>")),
-    (["locate", "c.txt", "1"], one_more("locate <CIRCUIT>")),
-    (["stats", "c.txt", "1"], one_more("stats <CIRCUIT>")),
+    (["check", "c.txt", "1"], one_more("check [OPTIONS] <CIRCUIT>")),
+    (["locate", "c.txt", "1"], one_more("locate [OPTIONS] <CIRCUIT>")),
+    (["stats", "c.txt", "1"], one_more("stats [OPTIONS] <CIRCUIT>")),
     (["locate"], missing("CIRCUIT", "locate <CIRCUIT>")),
     (["stats"], missing("CIRCUIT", "stats <CIRCUIT>")),
     (["labels", "c.txt"], missing("SEED", "labels <CIRCUIT> <SEED> [VALUES]...")),
@@ -107,9 +109,9 @@ NO_ORDERS = [
 
 def documented_commands():
     """The words of each command in the table of docs/COMMANDS.md: the names of its arguments, in
-    order, and its options."""
+    order, and its options, of which `--explain` is one of every command."""
     rows = re.findall(r"^\| `(\w+) (CIRCUIT[^`]*)` \|", (TOP / "docs/COMMANDS.md").read_text(), re.M)
-    return {name: (re.sub(r"\[.*?\] ?|\.\.", "", words).split(), re.findall(r"--\w+", words))
+    return {name: (re.sub(r"\[.*?\] ?|\.\.", "", words).split(), ["--explain", *re.findall(r"--\w+", words)])
             for name, words in rows}
 
 

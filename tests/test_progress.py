@@ -122,9 +122,12 @@ class Progress(ProgramTest):
         self.assertEqual(taken, [data])
 
     def test_a_fault_stands_alone(self):
+        """The line of progress is gone before the fault is printed, and explained, as it is on a terminal."""
         os.mkfifo(self.folder / "slow")
         go_on = lambda: self.put("slow", "5 8")
-        self.assert_shows(CHECKING, fails("1 Truncated"), go_on, "check", "slow")
+        status, printed, errors = fails("1 Truncated")
+        errors += "halfgates: slow: the text ends before the circuit does\n"
+        self.assert_shows(CHECKING, (status, printed, errors), go_on, "check", "slow")
 
     def run_short(self, go_on, *words):
         """A run that ends before its line would be shown: the thread of the line keeps nobody waiting."""

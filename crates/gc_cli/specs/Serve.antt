@@ -1,14 +1,15 @@
 -- The outcome of a whole run.
-use Rattle.std.specs.Prelude.{◌≡◌, ℕ, ◌+◌, ◌⊎◌, Bool, true, false, List, [], ◌∷◌, ◌++◌, codes}
+use Rattle.std.specs.Prelude.{◌≡◌, ℕ, ◌+◌, ◌⊎◌, ◌||◌, Bool, IsTrue, true, false, List, [], ◌∷◌, ◌++◌, codes}
 use Rattle.std.specs.Io.KnownBytes.{Appends}
 use Rattle.std.specs.declared.io.ErrorKind.{ErrorKind}
 use Rattle.std.specs.declared.io.ErrorKind.TheVariants.{InvalidData, OutOfMemory}
-use Rattle.gc_order.specs.Order.{OrderText}
+use Rattle.gc_order.specs.Order.{OrderText, explains_in}
 use Rattle.gc_disk.specs.Files.{FileBytes}
 use Rattle.gc_command.specs.declared.fault.Fault.{Fault}
 use Rattle.gc_command.specs.declared.fault.Fault.TheVariants.{CannotWrite}
 use Rattle.gc_command.specs.Fault.{text_of}
 use Rattle.gc_command.specs.Wrote.{KeepsFiles}
+use Rattle.gc_explain.specs.Explain.{Explains}
 use Rattle.gc_cli.specs.CarryOut.{Answers, HasFault, Writes}
 use Rattle.gc_cli.specs.CommandLine.{IsOrder, AsksForText}
 use Rattle.gc_cli.specs.Output.{Printed}
@@ -83,13 +84,30 @@ PrintsLine before after line =
 abbrev pub PrintsFault : Printed → Printed → Fault → Type 0
 PrintsFault before after fault = PrintsLine before after (fault_line fault)
 
--- A fault ended the run, and standard error has its line, unless a call to print it failed.
-abbrev pub EndsByFault : FileBytes → FileBytes → (List ℕ → Type 0) → List (List ℕ) → Printed
+-- Standard error, as it was before and after, has nothing more; or, where the fault of an order is to be explained, it
+-- has the line that explains it, unless a call to print that failed. `bytes` are those of the files.
+abbrev pub IsTold : FileBytes → OrderText → Bool → Fault → Printed → Printed → Type 0
+IsTold bytes order explains fault before after =
+    (after ≡ before)
+    ⊎ (IsTrue explains
+    × ((line : List ℕ) × Explains bytes order fault line × PrintsLine before after line))
+
+-- The same where the words are an order, with the flag `--explain` or without it.
+abbrev pub TellsMore : FileBytes → List (List ℕ) → Bool → Fault → Printed → Printed → Type 0
+TellsMore bytes words explains fault before after =
+    (after ≡ before)
+    ⊎ ((order : OrderText) × IsOrder words order
+    × IsTold bytes order (explains || explains_in words) fault before after)
+
+-- A fault ended the run, and standard error has its line, unless a call to print it failed, and after it perhaps the
+-- line that explains it.
+abbrev pub EndsByFault : FileBytes → FileBytes → (List ℕ → Type 0) → List (List ℕ) → Bool → Printed
     → Printed → Printed → Printed → Type 0
-EndsByFault old new Failed words out out_after err err_after =
+EndsByFault old new Failed words explains out out_after err err_after =
     (fault : Fault)
     × (IsFaulty old new Failed words out out_after fault
-    × PrintsFault err err_after fault)
+    × ((told : Printed) × PrintsFault err told fault
+    × TellsMore new words explains fault told err_after))
 
 -- It has the line that says why the words of a command line can't be read.
 abbrev pub PrintsRefusal : Printed → Printed → ErrorKind → Type 0

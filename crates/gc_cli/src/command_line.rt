@@ -1,13 +1,13 @@
 //! Reading the words that the program is run with.
 
 ghost use Rattle.std.specs.Prelude.{◌≡◌, map, string_bytes, IfErr, IfOk, OnOk};
-ghost use Rattle.gc_order.specs.Order.{text_of};
+ghost use Rattle.gc_order.specs.Order.{explains_in, text_of};
 ghost use Rattle.gc_cli.specs.CommandLine.{IsOrder, IsRefusal};
 
 use clap::Error;
 use clap::error::ErrorKind;
 use gc_file::FailureCount;
-use gc_order::{Order, order_of};
+use gc_order::{Asked, asked_of};
 use std::alloc::Global;
 use std::marker::Model;
 
@@ -43,16 +43,19 @@ impl Heap {
         self.alloc
     }
 
-    /// The order in the words of a command line, of which the first is the program's name. The words of a line that
-    /// clap refuses, or that asks for help or the version, are answered with clap's error, which has the text to show,
-    /// and so is a line for which there is no memory.
-    pub fn order(&mut self, words: &[String]) -> Result<Order, Error>
-        ensures ok { IfOk result (λ order. IsOrder (map string_bytes words.now) (text_of order)) }
+    /// The order in the words of a command line, of which the first is the program's name, and whether its fault is to
+    /// be explained. The words of a line that clap refuses, or that asks for help or the version, are answered with
+    /// clap's error, which has the text to show, and so is a line for which there is no memory.
+    pub fn order(&mut self, words: &[String]) -> Result<Asked, Error>
+        ensures ok { IfOk result
+            (λ asked. IsOrder (map string_bytes words.now) (text_of asked.order)) }
+        ensures explains { IfOk result
+            (λ asked. asked.explains ≡ explains_in (map string_bytes words.now)) }
         ensures err { IfErr result (IsRefusal (map string_bytes words.now) self.old self.new) }
         ensures same { OnOk result (self.new ≡ self.old) }
     {
-        match order_of(self.alloc, words) {
-            Ok(order) => Ok(order),
+        match asked_of(self.alloc, words) {
+            Ok(asked) => Ok(asked),
             Err(error) => {
                 if error.kind() == ErrorKind::OutOfMemory {
                     self.shortages.add_one();

@@ -4,6 +4,7 @@ ghost use Rattle.std.specs.Prelude.{◌≡◌, IfSome, OnOk};
 ghost use Rattle.std.specs.Io.KnownBytes.{Appends};
 ghost use Rattle.gc_file.specs.Counted.{CountsFailure};
 
+use gc_disk::Cause;
 use gc_file::FailureCount;
 use std::fmt::Display;
 use std::io::{self, Write};
@@ -14,6 +15,7 @@ use std::marker::Model;
 #[derive(Drop)]
 pub struct Output<W: Write> {
     writer: W,
+    cause: Option<Cause>,
     failures: FailureCount,
 }
 
@@ -32,6 +34,7 @@ impl<W: Write> Output<W> {
     {
         Output {
             writer,
+            cause: None,
             failures: FailureCount::new(),
         }
     }
@@ -48,7 +51,9 @@ impl<W: Write> Output<W> {
         ensures printed { OnOk result (Appends self.old.contents self.new.contents bytes.now) }
         ensures counted { CountsFailure result self.old.failures self.new.failures }
     {
-        counted(self.writer.write_all(bytes), &mut self.failures)
+        let outcome = self.writer.write_all(bytes);
+        self.note(&outcome);
+        counted(outcome, &mut self.failures)
     }
 
     /// Prints all of a text, as `write!` and `writeln!` make it. Where that fails, some of it may have been printed.
@@ -57,7 +62,23 @@ impl<W: Write> Output<W> {
             (Appends self.old.contents self.new.contents)) }
         ensures counted { CountsFailure result self.old.failures self.new.failures }
     {
-        counted(self.writer.write_fmt(text), &mut self.failures)
+        let outcome = self.writer.write_fmt(text);
+        self.note(&outcome);
+        counted(outcome, &mut self.failures)
+    }
+
+    /// Why the last call to print that failed did.
+    pub fn cause(&self) -> Option<Cause> {
+        self.cause
+    }
+
+    /// Notes why a call to print failed.
+    fn note(&mut self, outcome: &io::Result<()>)
+        ensures { self.new ≡ self.old }
+    {
+        if let Err(error) = outcome {
+            self.cause = Some(Cause::of(error.kind()));
+        }
     }
 }
 

@@ -1,23 +1,25 @@
 //! A run of the program, from its arguments to its status.
 
-ghost use Rattle.std.specs.Prelude.{◌≡◌, ◌+◌, ◌<◌, ◌≤◌, ◌⊎◌, ℕ, List, map, string_bytes, IfErr, IfOk, OnOk};
+ghost use Rattle.std.specs.Prelude.{◌≡◌, ◌+◌, ◌<◌, ◌≤◌, ◌⊎◌, ◌||◌, ℕ, List, map, string_bytes, IfErr, IfOk, OnOk};
 ghost use Rattle.std.specs.Io.KnownBytes.{Appends};
 ghost use Rattle.std.specs.IoError.{error_kind};
 ghost use Rattle.gc_file.specs.Counted.{CountsFailure};
-ghost use Rattle.gc_order.specs.Order.{text_of};
+ghost use Rattle.gc_order.specs.Order.{explains_in, text_of};
 ghost use Rattle.gc_disk.specs.Files.{HasFailed};
 ghost use Rattle.gc_cli.specs.CarryOut.{Writes};
 ghost use Rattle.gc_cli.specs.CommandLine.{IsMistaken};
+ghost use Rattle.gc_cli.specs.Output.{Printed};
 ghost use Rattle.gc_cli.specs.Serve.{AskToWrite, EndsByFault, FailsToAnswer, FindsDishonest, IsDone};
-ghost use Rattle.gc_cli.specs.Serve.{PrintsAnswer, PrintsFault};
+ghost use Rattle.gc_cli.specs.Serve.{IsTold, PrintsAnswer, PrintsFault, PrintsLine};
 ghost use Rattle.gc_cli.specs.Serve.{PrintsRefusal, fault_line, reason_of, refusal_line};
 
 use crate::command_line::Heap;
 use crate::output::Output;
 use crate::work::{carry_out, label_lines};
 use gc_command::{Fault, Progress};
-use gc_disk::Files;
-use gc_order::Order;
+use gc_disk::{Cause, Files, Reread};
+use gc_explain::explain;
+use gc_order::{Asked, Order};
 use gc_trace::labels::LabelLines;
 use std::alloc::{Allocator, Global};
 use std::io::{self, ErrorKind, Write};
@@ -38,7 +40,7 @@ pub const DISHONEST: u8 = 3;
 
 /// Does what arguments say, of which the first is the program's name, and returns the status of the run, as
 /// [`serve`](crate::serve) does for arguments without `--args-from`.
-pub(crate) fn serve_arguments<R: Threads + Wait + Sync, F: Files, O: Write, E: Write, P: Progress>(
+pub(crate) fn serve_arguments<R: Threads + Wait + Sync, F: Reread, O: Write, E: Write, P: Progress>(
     rt: &R,
     heap: &mut Heap,
     words: &[String],
@@ -46,6 +48,7 @@ pub(crate) fn serve_arguments<R: Threads + Wait + Sync, F: Files, O: Write, E: W
     out: &mut Output<O>,
     err: &mut Output<E>,
     progress: &P,
+    explains: bool,
 ) -> u8
     ensures status { result ≤ DISHONEST }
 
@@ -59,7 +62,7 @@ pub(crate) fn serve_arguments<R: Threads + Wait + Sync, F: Files, O: Write, E: W
 
     ensures fault { result ≡ FAULT → EndsByFault (F.bytes files.old) (F.bytes files.new)
         (HasFailed (F.failures files.old) (F.failures files.new))
-        (map string_bytes words.now) out.old out.new err.old err.new }
+        (map string_bytes words.now) explains out.old out.new err.old err.new }
 
     // Words that neither are an order nor ask for a text: only they, where there was memory to read them, and all of
     // them.
@@ -74,11 +77,12 @@ pub(crate) fn serve_arguments<R: Threads + Wait + Sync, F: Files, O: Write, E: W
     ensures unwritten { result ≡ USAGE
         → (name : List ℕ) → F.bytes files.new name ≡ F.bytes files.old name }
 {
+    let (alloc, before) = (heap.alloc(), files.trail().opened());
     match heap.order(words) {
-        Ok(order) => match print_answer(rt, heap.alloc(), &order, files, out, progress) {
+        Ok(asked) => match print_answer(rt, alloc, &asked.order, files, out, progress) {
             Ok(true) => DONE,
             Ok(false) => DISHONEST,
-            Err(fault) => report(fault, err),
+            Err(fault) => report_order(fault, alloc, &asked, explains, files, before, out, err),
         },
         Err(help) if !help.use_stderr() => match write!(out, "{help}") {
             Ok(()) => DONE,
@@ -179,6 +183,68 @@ fn reason_of(kind: ErrorKind) -> &'static str
         ErrorKind::OutOfMemory => "out of memory",
         _ => "its words can't be read",
     }
+}
+
+/// Says on standard error which fault ended an order and, where the arguments ask for it or `explains` does, what
+/// explains it. `before` is how many files were opened before the order.
+fn report_order<F: Reread, O: Write, E: Write>(
+    fault: Fault,
+    alloc: Global,
+    asked: &Asked,
+    explains: bool,
+    files: &F,
+    before: u64,
+    out: &Output<O>,
+    err: &mut Output<E>,
+) -> u8
+    ensures status { result ≡ FAULT }
+    ensures printed { (told : Printed) × PrintsFault err.old told fault
+        × IsTold (F.bytes files.now) (text_of asked.now.order) (explains || asked.now.explains)
+        fault told err.new }
+{
+    let status = report(fault, err);
+    let explains = explains | asked.explains;
+    tell(
+        alloc,
+        &asked.order,
+        explains,
+        files,
+        before,
+        fault,
+        out.cause(),
+        err,
+    );
+    status
+}
+
+/// Says on standard error what explains the fault of an order, where it is to be explained. Where that fails, nothing
+/// can be said. `before` is how many files were opened before the order.
+fn tell<F: Reread, E: Write>(
+    alloc: Global,
+    order: &Order,
+    explains: bool,
+    files: &F,
+    before: u64,
+    fault: Fault,
+    printing: Option<Cause>,
+    err: &mut Output<E>,
+)
+    ensures { IsTold (F.bytes files.now) (text_of order.now) explains fault err.old err.new }
+{
+    if !explains {
+        return;
+    }
+    let opened = files.trail().opened().saturating_sub(before);
+    if let Some(line) = explain(alloc, order, files, opened, fault, printing) {
+        write_told(&line, err);
+    }
+}
+
+/// Writes the line that explains a fault. Where that fails, nothing can be said.
+fn write_told<E: Write>(line: &[u8], err: &mut Output<E>)
+    ensures { PrintsLine err.old err.new line.now }
+{
+    let _ = err.write_all(line);
 }
 
 /// Says on standard error which fault ended the run. Where that fails, nothing can be said.

@@ -13,7 +13,7 @@ use crate::command_line::Heap;
 use crate::output::Output;
 use crate::program::{DISHONEST, DONE, FAULT, USAGE, report, serve_arguments};
 use gc_command::{Fault, Progress};
-use gc_disk::Files;
+use gc_disk::Reread;
 use std::io::{self, Write};
 use std::sync::Wait;
 use std::thread::Threads;
@@ -28,12 +28,13 @@ use std::thread::Threads;
 /// - [`DISHONEST`]: the lines of an audit are on `out`, of which the last is `dishonest`.
 /// - [`FAULT`]: the line `halfgates: fault CODE NAME` is on `err`, unless `err` can't be written. Nothing is on `out`,
 ///   and every file is as it was, unless printing on `out` failed, which is the fault 51. It is 50 where FILE can't be
-///   read or isn't UTF-8, and 52 where there is no memory for its lines.
+///   read or isn't UTF-8, and 52 where there is no memory for its lines. Where the arguments ask for it, or `explains`
+///   does, a line that explains the fault of an order may follow.
 /// - [`USAGE`]: what clap says of words that are no order is on `err`. So is what it says where memory ran out, and
 ///   that `--args-from` lacks FILE.
 ///
 /// No file changes but the one that the order writes.
-pub fn serve<R: Threads + Wait + Sync, F: Files, O: Write, E: Write, P: Progress>(
+pub fn serve<R: Threads + Wait + Sync, F: Reread, O: Write, E: Write, P: Progress>(
     rt: &R,
     heap: &mut Heap,
     words: &[String],
@@ -41,6 +42,7 @@ pub fn serve<R: Threads + Wait + Sync, F: Files, O: Write, E: Write, P: Progress
     out: &mut Output<O>,
     err: &mut Output<E>,
     progress: &P,
+    explains: bool,
 ) -> u8
     ensures status { result ≤ DISHONEST }
 
@@ -55,7 +57,7 @@ pub fn serve<R: Threads + Wait + Sync, F: Files, O: Write, E: Write, P: Progress
     ensures fault { result ≡ FAULT → IsOf (F.bytes files.old) (map string_bytes words.now)
         (λ arguments. EndsByFault (F.bytes files.old) (F.bytes files.new)
         (HasFailed (F.failures files.old) (F.failures files.new))
-        arguments out.old out.new err.old err.new)
+        arguments explains out.old out.new err.old err.new)
         ⊎ EndsByRefusal (F.bytes files.old) (F.bytes files.new)
         (HasFailed (F.failures files.old) (F.failures files.new))
         (map string_bytes words.now) out.old out.new err.old err.new }
@@ -81,7 +83,7 @@ pub fn serve<R: Threads + Wait + Sync, F: Files, O: Write, E: Write, P: Progress
         → (name : List ℕ) → F.bytes files.new name ≡ F.bytes files.old name }
 {
     match arguments_of(heap.alloc(), words, files) {
-        Ok(arguments) => serve_arguments(rt, heap, &arguments, files, out, err, progress),
+        Ok(arguments) => serve_arguments(rt, heap, &arguments, files, out, err, progress, explains),
         Err(Refusal::NoFile) => lack_file(err),
         Err(Refusal::CannotRead) => report(Fault::CannotRead, err),
         Err(Refusal::Memory) => report(Fault::Memory, err),

@@ -1,9 +1,11 @@
 //! The tests of commands that need what no disk gives: files that fail at each call and in mid-stream, each growth
-//! refused in turn, streams that fail, and the steps that commands report.
+//! refused in turn, streams that fail, the lines that explain faults, and the steps that commands report.
 #![tactic(auto)]
 
 #[cfg(test)]
 mod command_line;
+#[cfg(test)]
+mod explain;
 #[cfg(test)]
 mod failing_files;
 #[cfg(test)]

@@ -4,7 +4,7 @@ ghost use Rattle.std.specs.Prelude.{◌≡◌, ℕ, List, [], Option, Some, None
 ghost use Rattle.gc_disk.specs.Files.{CountsRead};
 ghost use Rattle.gc_worked.specs.MemFiles.{bytes_at, bytes_of, written_or};
 
-use gc_disk::{FileError, FileFailures, Files};
+use gc_disk::{Cause, FileError, FileFailures, Files, Reread, Trail};
 use gc_file::{MemSink, MemSource};
 use std::alloc::{Allocator, Global};
 use std::marker::Model;
@@ -37,6 +37,7 @@ pub struct MemFiles<'a, B: Allocator = Global> {
     files: &'a [(&'a str, &'a [u8])],
     written: Option<(String<B>, Vec<u8, B>)>,
     limits: Limits,
+    trail: Trail,
     failures: FileFailures<MemSink<B>, MemSource<'a>>,
 }
 
@@ -73,6 +74,7 @@ impl<'a, B: Allocator> MemFiles<'a, B> {
             files,
             written: None,
             limits,
+            trail: Trail::new(),
             failures: FileFailures::new(),
         }
     }
@@ -114,11 +116,13 @@ impl<'a, B: Allocator> MemFiles<'a, B> {
         ensures written { self.new.written ≡ self.old.written }
         ensures counted { CountsRead result name.now self.old.failures self.new.failures }
     {
+        self.trail.open(name);
         if self.goes_well() && !self.has_written(name) {
             if let Some(bytes) = held_at(self.files, name) {
                 return Ok(bytes);
             }
         }
+        self.trail.fail(Cause::NotFound);
         self.failures.add_one(name);
         Err(FileError::CannotRead)
     }
@@ -151,9 +155,11 @@ impl<'a, B: Allocator + Copy> Files for MemFiles<'a, B> {
     }
 
     fn create(&mut self, name: &str, source: &str) -> Result<MemSink<B>, FileError> {
+        self.trail.open(name);
         if self.goes_well() && name != source {
             return Ok(MemSink::new(self.alloc, self.limits.taken));
         }
+        self.trail.fail(Cause::NotWritten);
         self.failures.add_one(name);
         Err(FileError::CannotWrite)
     }
@@ -166,6 +172,7 @@ impl<'a, B: Allocator + Copy> Files for MemFiles<'a, B> {
                 return Ok(());
             }
         }
+        self.trail.fail(Cause::FullDisk);
         self.failures.add_one(name);
         Err(FileError::CannotWrite)
     }
@@ -181,5 +188,19 @@ impl<'a, B: Allocator + Copy> Files for MemFiles<'a, B> {
 
     fn shut(&mut self, name: &str, source: MemSource<'a>) {
         self.failures.add_source(name, &source);
+    }
+}
+
+impl<'a, B: Allocator + Copy> Reread for MemFiles<'a, B> {
+    fn read_again<A: Allocator + Copy>(&self, alloc: A, name: &str) -> Option<Vec<u8, A>> {
+        if self.has_written(name) {
+            return None;
+        }
+        let bytes = held_at(self.files, name)?;
+        Vec::from_slice(alloc, bytes).ok()
+    }
+
+    fn trail(&self) -> &Trail {
+        &self.trail
     }
 }

@@ -1,4 +1,4 @@
-use Rattle.std.proofs.Common.{rules, map, string_bytes, ⊎_elim, inl, inr, arith}
+use Rattle.std.proofs.Common.{rules, map, string_bytes, ⊎_elim, inl, inr, arith, refl}
 use Rattle.clap.specs.Words.{kind_of}
 use Rattle.gc_order.specs.Order.{text_of}
 use Rattle.gc_command.specs.declared.fault.Fault.TheVariants.{CannotWrite}
@@ -9,8 +9,16 @@ pub returns-in-Ok-clause-fault : goal.returns-in-Ok-clause-fault
 returns-in-Ok-clause-fault g c = λ _. (
   c.in-Err-print_answer.fault,
   (
-    inl (text_of c.in-Ok.order, c.in-Ok.ensures.ok, c.in-Err-print_answer.ensures.fault),
-    c.report.ensures.printed,
+    inl (text_of c.in-Ok.asked.order, c.in-Ok.ensures.ok, c.in-Err-print_answer.ensures.fault),
+    (
+      c.report_order.ensures.printed.0,
+      c.report_order.ensures.printed.1,
+      inr (
+        text_of c.in-Ok.asked.order,
+        c.in-Ok.ensures.ok,
+        rw (← c.in-Ok.ensures.explains) c.report_order.ensures.printed.2,
+      ),
+    ),
   ),
 )
 
@@ -26,4 +34,5 @@ returns-clause-usage g c = λ _.
     c.in-Err.ensures.err
 
 pub returns-in-Err-clause-fault : goal.returns-in-Err-clause-fault
-returns-in-Err-clause-fault g c = λ _. (CannotWrite, (search rules, c.report-in-Err-write.ensures.printed))
+returns-in-Err-clause-fault g c = λ _.
+    (CannotWrite, (search rules, (_, c.report.ensures.printed, inl refl)))

@@ -1,0 +1,123 @@
+//! Tests of the line that explains a fault: with each growth refused it is there or not, and never another.
+
+use crate::jobs::{held, job_files, order};
+use gc_circuit::{ReadFault, ValueFault};
+use gc_cli::carry_out;
+use gc_command::{Fault, Silent};
+use gc_explain::explain;
+use gc_file::FileFault;
+use gc_job::{BindFault, EvalFault};
+use gc_order::Order;
+use gc_refusing::Refusing;
+use gc_work::WorkFault;
+use gc_worked::MemFiles;
+use gc_worked::circuits::{SEED, XOR};
+use std::alloc::Global;
+use std::process::Abort;
+use std::test::Fail;
+
+/// Orders over the files of a job and a file that is none, and the lines that explain their faults.
+static ORDERS: [(&[&str], &str); 8] = [
+    (
+        &["check", "bad"],
+        "halfgates: bad:1:3: a number from 0 to 4294967295 belongs here\n",
+    ),
+    (
+        &["plain", "c.txt", "1", "2"],
+        "halfgates: value 1, counted from 0, has a character that is neither 0 nor 1\n",
+    ),
+    (
+        &["eval", "c.txt", "bad", "0", "1"],
+        "halfgates: bad: byte 0: a garbled file begins with HGARBLE1 or HGARBLE2\n",
+    ),
+    (
+        &["audit", "c.txt", SEED, "g", "0", "bad"],
+        "halfgates: bad: byte 0: a label file begins with HLABELS1\n",
+    ),
+    (
+        &["eval", "c.txt", "g", "0", "0"],
+        "halfgates: 0: it is a second file for value 0, counted from 0\n",
+    ),
+    (
+        &["jobs", "c.txt", "bad list"],
+        "halfgates: no_file: the file can't be read: there is no such file or directory (line 2 of bad list)\n",
+    ),
+    (
+        &["run", "c.txt", "0", "1", "0"],
+        "halfgates: the length of the seed is 1, and 64 hexadecimal digits are due\n",
+    ),
+    (
+        &["garble", "c.txt", SEED, "c.txt"],
+        "halfgates: c.txt: the file can't be written: it is a name of standard output or of the circuit's file\n",
+    ),
+];
+
+/// Asserts that a fault is explained by this line, and by no other or none where a growth is refused.
+fn assert_explained(
+    rt: &impl Abort,
+    alloc: Global,
+    order: &Order,
+    files: &MemFiles<'_>,
+    fault: Fault,
+    line: &str,
+) -> Result<(), Fail> {
+    for growth in 1..100 {
+        let heap = Refusing::nth(alloc, growth);
+        let told = explain(&heap, order, files, fault, None);
+        let is_right = told.is_some_and(|told| told.as_slice() == line.as_bytes());
+        if heap.refused() == 0 {
+            assert!(rt; is_right, "{line}");
+            return Ok(());
+        }
+        let again = explain(alloc, order, files, fault, None);
+        assert!(rt;
+            again.is_some_and(|told| told.as_slice() == line.as_bytes()),
+            "{line}"
+        );
+    }
+    Err(Fail::new("each run met a refusal"))
+}
+
+#[test]
+fn each_growth_refused(rt: HostRuntime) -> Result<(), Fail> {
+    let alloc = rt.alloc();
+    let mut files = job_files(alloc, XOR, &[false, true])?;
+    files.push(("bad", Vec::from_slice(alloc, b"1 x".as_slice())?))?;
+    files.push((
+        "bad list",
+        Vec::from_slice(alloc, b"g 0 1\ng no_file".as_slice())?,
+    ))?;
+    let files = held(alloc, &files)?;
+    for (words, line) in &ORDERS {
+        let order = order(alloc, words)?;
+        let mut files = MemFiles::new(alloc, &files);
+        match carry_out(&rt, alloc, &order, &mut files, &Silent) {
+            Ok(_) => return Err(Fail::new("there is no fault")),
+            Err(fault) => assert_explained(&rt, alloc, &order, &files, fault, line)?,
+        }
+    }
+    Ok(())
+}
+
+/// The faults of memory, each of which has the same line.
+const MEMORY: [Fault; 7] = [
+    Fault::Circuit(ReadFault::Memory),
+    Fault::Value(ValueFault::Memory),
+    Fault::Garbling(WorkFault::Memory),
+    Fault::File(FileFault::Memory),
+    Fault::Binding(BindFault::Memory),
+    Fault::Evaluation(EvalFault::Memory),
+    Fault::Memory,
+];
+
+#[test]
+fn want_of_memory(rt: HostRuntime) -> Result<(), Fail> {
+    let alloc = rt.alloc();
+    let order = order(alloc, &["check", "c.txt"])?;
+    let files = MemFiles::new(alloc, &[]);
+    for fault in MEMORY {
+        let line = "halfgates: memory ran out\n";
+        assert_explained(&rt, alloc, &order, &files, fault, line)?;
+    }
+    Ok(())
+}
