@@ -200,7 +200,7 @@ fn sha(bytes: &[u8]) -> Result<()> {
     not_zeros(LongSha256::digest(bytes))
 }
 
-/// Uses a digest, so that it has to be computed.
+/// Uses a digest, so that it must be computed.
 fn not_zeros(digest: [u8; 32]) -> Result<()> {
     if digest == [0; 32] {
         return Err(anyhow!("a digest of zeros"));

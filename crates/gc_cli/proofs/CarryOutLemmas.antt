@@ -1,4 +1,4 @@
--- An order that is no audit answers its lines.
+-- An order that is no audit returns its lines.
 use Rattle.std.proofs.Common.{ℕ, true, List, refl}
 use Rattle.gc_disk.specs.Files.{FileBytes}
 use Rattle.gc_order.specs.Order.{OrderText, run, plain, check, locate, stats, garble, deal, eval, jobs, list_labels, audit}

@@ -1,4 +1,4 @@
--- What a command answers and writes, and which fault it has, where the files' bytes are known.
+-- What a command returns and writes, and which fault it has, where the files' bytes are known.
 use Rattle.std.specs.Prelude.{◌≡◌, ℕ, Bool, true, List, IfSome}
 use Rattle.gc_disk.specs.Files.{FileBytes}
 use Rattle.gc_command.specs.declared.fault.Fault.{Fault}
@@ -17,7 +17,7 @@ use Rattle.gc_trace.specs.Labels.{AnswersLabels, HasLabelsFault}
 use Rattle.gc_trace.specs.Audit.{AnswersAudit, HasAuditFault}
 use Rattle.gc_command.specs.Jobs.{AnswersJobs, HasJobsFault}
 
--- The order, which is no audit, is done: the bytes for standard output are its answer, and where it writes a file, that
+-- The order, which is no audit, is done: the bytes for standard output are its result, and where it writes a file, that
 -- is written. `old` and `new` are the bytes of the files before and after it.
 abbrev pub AnswersLines : FileBytes → FileBytes → OrderText → List ℕ → Type 0
 AnswersLines old new (run circuit seed workers hex values) out =

@@ -1,24 +1,24 @@
--- The words of a command line, by clap's rules.
+-- The arguments, by clap's rules.
 use Rattle.std.specs.Prelude.{◌≡◌, ◌≢◌, ℕ, ◌+◌, ◌⊎◌, List, [], Some}
 use Rattle.clap.specs.Words.{IsAmong, fault_of, kind_of}
 use Rattle.clap.specs.declared.error.Error.{Error}
 use Rattle.clap.specs.declared.error.kind.ErrorKind.TheVariants.{DisplayHelp, DisplayVersion, OutOfMemory}
 use Rattle.gc_order.specs.Order.{OrderText, order_in, program}
 
--- The words are an order.
+-- The arguments are an order.
 abbrev pub IsOrder : List (List ℕ) → OrderText → Type 0
 IsOrder words order = (fault_of program words ≡ []) × (order_in words ≡ Some order)
 
--- The words ask for a text that goes to standard output.
+-- The arguments ask for a text that goes to standard output.
 abbrev pub AsksForText : List (List ℕ) → Type 0
 AsksForText words =
     IsAmong DisplayHelp (fault_of program words) ⊎ IsAmong DisplayVersion (fault_of program words)
 
--- The words are neither.
+-- The arguments are neither.
 abbrev pub IsMistaken : List (List ℕ) → Type 0
 IsMistaken words = (fault_of program words ≢ []) × ¬ AsksForText words
 
--- The words are refused for one of their faults, or because memory ran out, which is counted.
+-- The arguments are refused for one of their faults, or because memory ran out, which is counted.
 abbrev pub IsRefusal : List (List ℕ) → ℕ → ℕ → Error → Type 0
 IsRefusal words old new error =
     (IsAmong (kind_of error) (fault_of program words) × (new ≡ old))

@@ -14,7 +14,7 @@ use Rattle.gc_cli.specs.CarryOut.{Answers, HasFault, Writes}
 use Rattle.gc_cli.specs.CommandLine.{IsOrder, AsksForText}
 use Rattle.gc_cli.specs.Output.{Printed}
 
--- What answers an order is printed, and no call to print failed. `honest` is false of an audit that finds its files
+-- What an order returns is printed, and no call to print failed. `honest` is false of an audit that finds its files
 -- dishonest alone. `before` and `after` are of standard output.
 abbrev pub PrintsAnswer : FileBytes → FileBytes → OrderText → Bool → Printed → Printed → Type 0
 PrintsAnswer old new order honest before after =
@@ -27,7 +27,7 @@ abbrev pub FailsToPrint : Printed → Printed → Fault → Type 0
 FailsToPrint before after fault =
     (fault ≡ CannotWrite) × (after.failures ≡ before.failures + 1)
 
--- A fault that an order has ends it: nothing is printed, and every file is as it was. Or a call to print its answer
+-- A fault that an order has ends it: nothing is printed, and every file is as it was. Or a call to print its result
 -- failed. `Failed` says of a name that its file has failed.
 abbrev pub FailsToAnswer : FileBytes → FileBytes → (List ℕ → Type 0) → OrderText → Printed → Printed
     → Fault → Type 0
@@ -37,19 +37,19 @@ FailsToAnswer old new Failed order before after fault =
     ⊎ (((honest : Bool) × ((out : List ℕ) × Answers old new order honest out))
     × FailsToPrint before after fault)
 
--- A run that is done has printed what answers its order, or a text that its words ask for, and no call to print
+-- A run that is done has printed what its order returns, or a text that its arguments ask for, and no call to print
 -- failed. Where the order is an audit, it has found the files honest.
 abbrev pub IsDone : FileBytes → FileBytes → List (List ℕ) → Printed → Printed → Type 0
 IsDone old new words before after =
     ((order : OrderText) × IsOrder words order × PrintsAnswer old new order true before after)
     ⊎ (AsksForText words × (after.failures ≡ before.failures))
 
--- Or its order is an audit that has found the files dishonest, and what it answers is printed.
+-- Or its order is an audit that has found the files dishonest, and what it returns is printed.
 abbrev pub FindsDishonest : FileBytes → FileBytes → List (List ℕ) → Printed → Printed → Type 0
 FindsDishonest old new words before after =
     (order : OrderText) × IsOrder words order × PrintsAnswer old new order false before after
 
--- A fault that ends a run ends its order; or a call to print a text that its words ask for failed.
+-- A fault that ends a run ends its order; or a call to print a text that its arguments ask for failed.
 abbrev pub IsFaulty : FileBytes → FileBytes → (List ℕ → Type 0) → List (List ℕ) → Printed → Printed
     → Fault → Type 0
 IsFaulty old new Failed words before after fault =
@@ -57,7 +57,7 @@ IsFaulty old new Failed words before after fault =
     × FailsToAnswer old new Failed order before after fault)
     ⊎ (AsksForText words × FailsToPrint before after fault)
 
--- The words are an order that writes the file of this name.
+-- The arguments are an order that writes the file of this name.
 abbrev pub AskToWrite : List (List ℕ) → List ℕ → Type 0
 AskToWrite words name = (order : OrderText) × IsOrder words order × Writes order name
 
@@ -65,7 +65,7 @@ AskToWrite words name = (order : OrderText) × IsOrder words order × Writes ord
 abbrev pub fault_line : Fault → List ℕ
 fault_line fault = codes "halfgates: " ++ text_of fault ++ 10 ∷ []
 
--- why the words of a command line can't be read, by the kind of the error that asking for them gave
+-- why the arguments can't be read, by the kind of the error that asking for them gave
 abbrev pub reason_of : ErrorKind → List ℕ
 reason_of InvalidData = codes "a word is not UTF-8"
 reason_of OutOfMemory = codes "out of memory"
@@ -92,7 +92,7 @@ IsTold bytes order explains fault before after =
     ⊎ (IsTrue explains
     × ((line : List ℕ) × Explains bytes order fault line × PrintsLine before after line))
 
--- The same where the words are an order, with the flag `--explain` or without it.
+-- The same where the arguments are an order, with the flag `--explain` or without it.
 abbrev pub TellsMore : FileBytes → List (List ℕ) → Bool → Fault → Printed → Printed → Type 0
 TellsMore bytes words explains fault before after =
     (after ≡ before)
@@ -109,6 +109,6 @@ EndsByFault old new Failed words explains out out_after err err_after =
     × ((told : Printed) × PrintsFault err told fault
     × TellsMore new words explains fault told err_after))
 
--- It has the line that says why the words of a command line can't be read.
+-- It has the line that says why the arguments can't be read.
 abbrev pub PrintsRefusal : Printed → Printed → ErrorKind → Type 0
 PrintsRefusal before after kind = PrintsLine before after (refusal_line kind)

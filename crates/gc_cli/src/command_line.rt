@@ -1,4 +1,4 @@
-//! Reading the words that the program is run with.
+//! Reading the arguments.
 
 ghost use Rattle.std.specs.Prelude.{◌≡◌, map, string_bytes, IfErr, IfOk, OnOk};
 ghost use Rattle.gc_order.specs.Order.{explains_in, text_of};
@@ -11,8 +11,8 @@ use gc_order::{Asked, asked_of};
 use std::alloc::Global;
 use std::marker::Model;
 
-/// The allocator of a run, and how often it had no memory to read the words of the command line. That number contracts
-/// alone read, and only [`Heap::order`] raises it.
+/// The allocator of a run, and how often it had no memory to read the arguments. That number contracts alone read, and
+/// only [`Heap::order`] raises it.
 #[derive(Drop)]
 pub struct Heap {
     alloc: Global,
@@ -43,9 +43,9 @@ impl Heap {
         self.alloc
     }
 
-    /// The order in the words of a command line, of which the first is the program's name, and whether its fault is to
-    /// be explained. The words of a line that clap refuses, or that asks for help or the version, are answered with
-    /// clap's error, which has the text to show, and so is a line for which there is no memory.
+    /// The order in the arguments, of which the first is the program's name, and whether its fault is to be explained.
+    /// For arguments that clap refuses, or that ask for help or the version, it returns clap's error, which has the
+    /// text to show, and so is a line for which there is no memory.
     pub fn order(&mut self, words: &[String]) -> Result<Asked, Error>
         ensures ok { IfOk result
             (λ asked. IsOrder (map string_bytes words.now) (text_of asked.order)) }

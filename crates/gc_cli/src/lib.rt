@@ -1,6 +1,4 @@
 //! The program `halfgates` as a library: its command line, carrying out any order, and what it prints.
-//!
-//! It re-exports names of `gc_command`, `gc_files` and `gc_order`.
 #![tactic(auto)]
 
 mod arguments;

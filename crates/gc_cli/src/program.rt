@@ -32,7 +32,7 @@ pub const DONE: u8 = 0;
 /// The status of a run that a fault ended.
 pub const FAULT: u8 = 1;
 
-/// The status of a run whose words are no order, or can't be read.
+/// The status of a run whose arguments are no order, or can't be read.
 pub const USAGE: u8 = 2;
 
 /// The status of an audit that has found its files dishonest.
@@ -71,7 +71,7 @@ pub(crate) fn serve_arguments<R: Threads + Wait + Sync, F: Reread, O: Write, E: 
     ensures mistaken { IsMistaken (map string_bytes words.now) → result ≡ USAGE }
     ensures no_output { result ≡ USAGE → out.new ≡ out.old }
 
-    // A file changes only where the words are an order that writes it, and by `fault` is as it was at a fault.
+    // A file changes only where the arguments are an order that writes it, and by `fault` is as it was at a fault.
     ensures others { (name : List ℕ) → ¬ AskToWrite (map string_bytes words.now) name
         → F.bytes files.new name ≡ F.bytes files.old name }
     ensures unwritten { result ≡ USAGE
@@ -95,7 +95,7 @@ pub(crate) fn serve_arguments<R: Threads + Wait + Sync, F: Reread, O: Write, E: 
     }
 }
 
-/// Carries out an order, and prints its answer. It returns whether an audit finds its files honest, and `true` of any
+/// Carries out an order, and prints its result. It returns whether an audit finds its files honest, and `true` of any
 /// other order. The lines of `labels` are printed as they are made, so that they need not all be in memory: each fault
 /// but that of `out` comes before the first of them.
 fn print_answer<R: Threads + Wait + Sync, F: Files, O: Write, P: Progress>(
@@ -152,8 +152,8 @@ fn print_lines<A: Allocator, O: Write>(
     }
 }
 
-/// Says on `err` why the words of a command line can't be read, as where one is not UTF-8. Where that fails, nothing
-/// can be said. The status is that of a run whose words are no order.
+/// Says on `err` why the arguments can't be read, as where one is not UTF-8. Where that fails, nothing can be said. The
+/// status is that of a run whose arguments are no order.
 pub fn refuse_line<E: Write>(error: &io::Error, err: &mut Output<E>) -> u8
     ensures status { result ≡ USAGE }
     ensures printed { PrintsRefusal err.old err.new (error_kind error.now) }
@@ -162,7 +162,7 @@ pub fn refuse_line<E: Write>(error: &io::Error, err: &mut Output<E>) -> u8
     USAGE
 }
 
-/// Writes the line that says why the words of a command line can't be read.
+/// Writes the line that says why the arguments can't be read.
 fn write_refusal<E: Write>(kind: ErrorKind, err: &mut Output<E>) -> io::Result<()>
     ensures printed { OnOk result (Appends err.old.contents err.new.contents (refusal_line kind)) }
     ensures counted { CountsFailure result err.old.failures err.new.failures }
@@ -174,7 +174,7 @@ fn write_refusal<E: Write>(kind: ErrorKind, err: &mut Output<E>) -> io::Result<(
     )
 }
 
-/// Why the words of a command line can't be read.
+/// Why the arguments can't be read.
 fn reason_of(kind: ErrorKind) -> &'static str
     ensures { result.now ≡ reason_of kind }
 {

@@ -29,7 +29,7 @@ struct State {
 
 /// A line on standard error that shows the progress of a command. [`ProgressLine::during`] shows it once the command
 /// has been at work for two seconds, and it goes away before anything is printed. It is no output of the command, and
-/// no contract speaks of it. That standard error is a terminal is the caller's condition.
+/// no contract speaks of it. The caller ensures that standard error is a terminal.
 #[derive(Drop)]
 pub struct ProgressLine<'r, R> {
     rt: &'r R,

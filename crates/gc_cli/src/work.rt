@@ -24,7 +24,7 @@ use std::alloc::{AllocError, Allocator};
 use std::sync::Wait;
 use std::thread::Threads;
 
-/// What an order answers.
+/// What an order returns.
 #[derive(Drop)]
 pub struct Answer<A: Allocator> {
     /// The bytes for standard output.
@@ -33,7 +33,7 @@ pub struct Answer<A: Allocator> {
     pub is_honest: bool,
 }
 
-/// Carries out an order, and returns its answer, or the first fault of its work.
+/// Carries out an order, and returns its result, or the first fault of its work.
 pub fn carry_out<
     R: Threads + Wait + Sync,
     A: Allocator + Copy + Send + Sync,
@@ -60,7 +60,7 @@ pub fn carry_out<
     })
 }
 
-/// Carries out an audit. That this is the order is the caller's condition.
+/// Carries out an audit. The caller ensures that this is the order.
 fn audit_answer<R: Threads + Wait + Sync, A: Allocator + Copy + Send + Sync, F: Files, P: Progress>(
     rt: &R,
     alloc: A,
@@ -93,7 +93,7 @@ fn audit_answer<R: Threads + Wait + Sync, A: Allocator + Copy + Send + Sync, F: 
     })
 }
 
-/// Carries out an order, and returns the bytes for standard output. That it is no audit is the caller's condition.
+/// Carries out an order, and returns the bytes for standard output. The caller ensures that it is no audit.
 fn answer_lines<R: Threads + Wait + Sync, A: Allocator + Copy + Send + Sync, F: Files, P: Progress>(
     rt: &R,
     alloc: A,
@@ -194,7 +194,7 @@ fn answer_lines<R: Threads + Wait + Sync, A: Allocator + Copy + Send + Sync, F: 
     }
 }
 
-/// The lines of `labels`, which are made as they are taken. That this is the order is the caller's condition.
+/// The lines of `labels`, which are made as they are taken. The caller ensures that this is the order.
 pub(crate) fn label_lines<A: Allocator + Copy, F: Files>(
     alloc: A,
     order: &Order,

@@ -4,7 +4,7 @@ use Rattle.std.specs.Prelude.{IfOk, IfSome, MatchResult}
 use Rattle.gc_job.specs.Job.{JobParts}
 use Rattle.gc_job.proofs.OutputLemmas.{bound-whole, length-evaluated}
 
--- what holds of an answer holds of it where `map_err` passes it on
+-- what holds of a result holds of it where `map_err` passes it on
 pub map_err-ok : {T E D : Type 0} (r : Result T E) (s : Result T D) (Q : E → Type 0)
     (P : T → Type 0) (x : T) → MatchResult r (λ y. s ≡ Ok y) Q
     → is_ok s ≡ is_ok r → IfOk r P → s ≡ Ok x → P x

@@ -1,4 +1,4 @@
--- From what each step of `eval` answers to what it answers as a whole.
+-- From what each step of `eval` returns to what it returns as a whole.
 use Rattle.gc_command.proofs.Names.{◌≡◌, ◌≢◌, ℕ, Bool, List, [], ◌∷◌, Result, Err, IfSome, inl, inr, refl, ◌∙◌, arith, fun_ext, Netlist, canonical_text, GarbledParts, IsGarbledFile, LabelFileParts, FileBytes, Fault, IsCircuit, HasReadingFault, HasJobFault, AreLabelFiles, HasGarbledFault, HasLabelFault, HasLabelFilesFault, HasFilesFault, AreEvalFiles, FilesGive, HasEvalFault, other_circuit}
 use Rattle.sha2.specs.Sha256.{sha256}
 use Rattle.gc_job.specs.declared.fault.BindFault.TheVariants.{OtherCircuit}

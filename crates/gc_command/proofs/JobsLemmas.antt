@@ -1,4 +1,4 @@
--- From what each step of `jobs` answers to what it answers as a whole.
+-- From what each step of `jobs` returns to what it returns as a whole.
 use Rattle.gc_command.proofs.JobsNames.{◌≡◌, ℕ, ◌+◌, ◌<◌, map, drop, drop-cons, get_or, Bool, List, [], ◌∷◌, IfSome, sum, inl, inr, length, slice_get, Some, sym, ap, ◌∙◌, zero, suc, refl, add-one, arith, fun_ext, slice_get_within, slice_get_cases, JobParts, AreEvaluated, AreOnOneCircuit, FileBytes, GivesFile, Fault, IsJobList, listed, NameFiles, NameJob, HasNamedFault, NameJobs, FirstBadJob, HasLinesFault, HasListFault, HasJobsFault}
 use Rattle.gc_netlist.specs.Circuit.{Netlist, IsLawful}
 use Rattle.gc_file.specs.GarbledFile.{GarbledParts, IsGarbledFile}

@@ -1,4 +1,4 @@
--- From what each step of a run answers to what it answers as a whole.
+-- From what each step of a run returns to what it returns as a whole.
 use Rattle.gc_command.proofs.Names.{ℕ, List, Bool, Ok, Err, flat_map, refl, arith, Netlist, IsLawful, AreOutputs, GarbledParts, LabelFileParts, FirstBindFault, AreHonestFiles, HonestFilesLaw, Fault, DecodeTo, HasJobFault, AreFew}
 use Rattle.gc_job.specs.declared.fault.EvalFault.TheVariants as eval
 use Rattle.gc_job.proofs.HonestFiles.{honest-files}

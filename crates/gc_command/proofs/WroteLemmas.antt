@@ -1,4 +1,4 @@
--- What a command answers where its file is written, and where it can't be.
+-- What a command returns where its file is written, and where it can't be.
 use Rattle.gc_command.proofs.Names.{◌≡◌, ℕ, Bool, List, Option, Some, None, length, sym, ap, ◌∙◌, length-map-range_with_len, Netlist, value_text_law, Fault, IsInputValue, AreFew}
 use Rattle.std.specs.Prelude.{IfSome}
 use Rattle.std.specs.List.{slice_get}

@@ -1,4 +1,4 @@
--- The command `check`: what it answers, and which fault it has.
+-- The command `check`: what it returns, and which fault it has.
 use Rattle.std.specs.Prelude.{◌≡◌, ℕ, List, [], ◌∷◌, ◌++◌, length, codes}
 use Rattle.hex.specs.Hex.{encode_lower}
 use Rattle.sha2.specs.Sha256.{sha256}
@@ -20,7 +20,7 @@ check_lines c =
     ++ line (Name (codes "outputs") ∷ words_of_widths c.output_widths)
     ++ line (Name (codes "digest") ∷ Name (encode_lower (sha256 (canonical_text c))) ∷ [])
 
--- What `check` answers: the lines of the circuit that the bytes are.
+-- What `check` returns: the lines of the circuit that the bytes are.
 pub record AnswersCheck (bytes lines : List ℕ) : Type 0 where
   pub circuit : Netlist
   pub read : IsCircuit bytes circuit

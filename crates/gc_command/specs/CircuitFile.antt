@@ -9,7 +9,7 @@ use Rattle.gc_command.specs.declared.fault.Fault.{Fault}
 use Rattle.gc_command.specs.declared.fault.Fault.TheVariants.{Circuit, CannotRead, Memory}
 use Rattle.gc_command.specs.Fault.{HasCause}
 
--- The bytes are the circuit's: reading answers it, they spell it, and it is lawful.
+-- The bytes are the circuit's: reading returns it, they spell it, and it is lawful.
 pub record IsCircuit (bytes : List ℕ) (c : Netlist) : Type 0 where
   pub read : circuit_of (tokens bytes) ≡ Ok c
   pub spelled : Spells bytes c

@@ -1,4 +1,4 @@
--- The command `eval`: what it answers, and which fault it has. What is said of a file is said where its bytes are
+-- The command `eval`: what it returns, and which fault it has. What is said of a file is said where its bytes are
 -- known.
 use Rattle.std.specs.Prelude.{◌≡◌, ◌≢◌, ℕ, ◌⊎◌, Bool, List, [], ◌∷◌, Result, IfSome, IfOk, IfErr}
 use Rattle.sha2.specs.Sha256.{sha256}
@@ -77,7 +77,7 @@ pub record FilesGive (bytes : FileBytes) (c : Netlist) (garbled : List ℕ) (wor
       → IfOk outcome (λ made. DecodeTo c g files (bits made))
   pub faulty : digest ≡ sha256 (canonical_text c) → IfErr outcome (HasJobFault c g files workers)
 
--- What `eval` answers: the lines of what the files decode to, whatever the number of workers.
+-- What `eval` returns: the lines of what the files decode to, whatever the number of workers.
 pub record AnswersEval (bytes : FileBytes) (circuit garbled : List ℕ) (workers : ℕ)
     (form : ValueForm) (labels : List (List ℕ)) (lines : List ℕ) : Type 0 where
   pub c : Netlist
@@ -91,7 +91,7 @@ pub record AnswersEval (bytes : FileBytes) (circuit garbled : List ℕ) (workers
 
 -- When `eval` has which fault: it is the first in the order of the work, in which the number of workers comes after
 -- binding, but that memory may run out at each step. A file that can't be read has failed, and each file before it is
--- what it has to be.
+-- what it must be.
 abbrev pub HasEvalFault : FileBytes → (List ℕ → Type 0) → List ℕ → List ℕ → ℕ → List (List ℕ)
     → Fault → Type 0
 HasEvalFault bytes Failed circuit garbled workers labels CannotRead =

@@ -1,4 +1,4 @@
--- The command `garble`: what it writes and answers, and which fault it has.
+-- The command `garble`: what it writes and returns, and which fault it has.
 use Rattle.std.specs.Prelude.{ℕ, List, Option}
 use Rattle.gc_netlist.specs.Circuit.{Netlist}
 use Rattle.gc_label.specs.Seed.{IsSeedText}

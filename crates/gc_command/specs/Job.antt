@@ -11,7 +11,7 @@ use Rattle.gc_eval.specs.Many.{IsEvaluatedBy}
 use Rattle.gc_command.specs.declared.fault.Fault.{Fault}
 use Rattle.gc_command.specs.declared.fault.Fault.TheVariants.{Binding, Evaluation}
 
--- The files are a job of the circuit, and its evaluation answers these bits.
+-- The files are a job of the circuit, and its evaluation returns these bits.
 pub record DecodeTo (c : Netlist) (g : GarbledParts) (files : List LabelFileParts)
     (bits : List Bool) : Type 0 where
   pub job : JobParts

@@ -1,4 +1,4 @@
--- The command `jobs`: what it answers, and which fault it has. What is said of a file is said where its bytes are
+-- The command `jobs`: what it returns, and which fault it has. What is said of a file is said where its bytes are
 -- known.
 use Rattle.std.specs.Prelude.{◌≡◌, ◌≢◌, ℕ, ◌<◌, ◌⊎◌, Bool, List, [], ◌∷◌, ◌++◌, flat_map, length, IfSome, Err}
 use Rattle.gc_netlist.specs.Circuit.{Netlist}
@@ -107,8 +107,8 @@ abbrev pub jobs_lines : ValueForm → List ℕ → List (List Bool) → List ℕ
 jobs_lines form widths outputs =
     flat_map (λ bits. output_lines form widths bits ++ 10 ∷ []) outputs
 
--- What `jobs` answers: the lines of what each job decodes to, whatever the number of workers. A list without jobs
--- answers nothing.
+-- What `jobs` returns: the lines of what each job decodes to, whatever the number of workers. A list without jobs
+-- returns nothing.
 pub record AnswersJobs (bytes : FileBytes) (circuit list : List ℕ) (workers : ℕ)
     (form : ValueForm) (lines : List ℕ) : Type 0 where
   pub c : Netlist
@@ -122,7 +122,7 @@ pub record AnswersJobs (bytes : FileBytes) (circuit list : List ℕ) (workers : 
 
 -- When `jobs` has which fault: it is the first in the order of the work (the circuit, the list, the files and the
 -- binding of each job in turn, the number of workers, evaluation), but that memory may run out at each step. A file
--- that can't be read has failed, and each file before it is what it has to be.
+-- that can't be read has failed, and each file before it is what it must be.
 abbrev pub HasJobsFault : FileBytes → (List ℕ → Type 0) → List ℕ → List ℕ → ℕ → Fault → Type 0
 HasJobsFault bytes Failed circuit list workers CannotRead =
     Failed circuit

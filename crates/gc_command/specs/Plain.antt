@@ -1,4 +1,4 @@
--- The command `plain`: what it answers, and which fault it has.
+-- The command `plain`: what it returns, and which fault it has.
 use Rattle.std.specs.Prelude.{◌≡◌, ℕ, Bool, List}
 use Rattle.std.specs.List.{flat_map}
 use Rattle.gc_netlist.specs.Circuit.{Netlist}
@@ -10,7 +10,7 @@ use Rattle.gc_command.specs.CircuitFile.{IsCircuit, HasCircuitFault}
 use Rattle.gc_command.specs.Values.{SpellValues, HasValueFault}
 use Rattle.gc_command.specs.Lines.{output_lines}
 
--- What `plain` answers: the lines of the circuit's outputs on the values that the texts spell.
+-- What `plain` returns: the lines of the circuit's outputs on the values that the texts spell.
 pub record AnswersPlain (bytes : List ℕ) (form : ValueForm) (texts : List (List ℕ))
     (lines : List ℕ) : Type 0 where
   pub circuit : Netlist

@@ -1,4 +1,4 @@
--- The command `run`: what it answers, and which fault it has.
+-- The command `run`: what it returns, and which fault it has.
 use Rattle.std.specs.Prelude.{◌≡◌, ℕ, Bool, List}
 use Rattle.std.specs.List.{flat_map}
 use Rattle.gc_netlist.specs.Circuit.{Netlist}
@@ -29,7 +29,7 @@ abbrev pub IsOwnFault : ℕ → Fault → Type 0
 IsOwnFault workers (Garbling fault) = HasWorkFault workers fault
 IsOwnFault workers fault = IsWantOfMemory fault
 
--- What `run` answers: the lines of the circuit's outputs on the values, whatever the number of workers.
+-- What `run` returns: the lines of the circuit's outputs on the values, whatever the number of workers.
 pub record AnswersRun (bytes seed : List ℕ) (workers : ℕ) (form : ValueForm)
     (texts : List (List ℕ)) (lines : List ℕ) : Type 0 where
   pub circuit : Netlist

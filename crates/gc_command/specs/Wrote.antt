@@ -14,7 +14,7 @@ pub record HasWritten (file : List ℕ) (held : Option (List ℕ)) (lines : List
   pub holds : held ≡ Some file
   pub printed : lines ≡ wrote_line (length file)
 
--- The fault of a file that can't be written, or that there is no memory for the answer.
+-- The fault of a file that can't be written, or that there is no memory for the result.
 abbrev pub IsUnwritten : Fault → Type 0
 IsUnwritten CannotWrite = Unit {0}
 IsUnwritten Memory = Unit {0}

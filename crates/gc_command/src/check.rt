@@ -17,7 +17,7 @@ use gc_disk::Files;
 use std::alloc::{AllocError, Allocator};
 use std::thread::Threads;
 
-/// Reads the circuit of a file, and answers the lines of its numbers and its digest.
+/// Reads the circuit of a file, and returns the lines of its numbers and its digest.
 pub fn check<R: Threads, A: Allocator + Copy + Send + Sync, F: Files, P: Progress>(
     rt: &R,
     alloc: A,
@@ -38,7 +38,7 @@ pub fn check<R: Threads, A: Allocator + Copy + Send + Sync, F: Files, P: Progres
     Ok(check_lines(alloc, &circuit, &digest)?)
 }
 
-/// The lines of a circuit's numbers and its digest. That the digest is the circuit's is the caller's condition.
+/// The lines of a circuit's numbers and its digest. The caller ensures that the digest is the circuit's.
 fn check_lines<A: Allocator + Copy>(
     alloc: A,
     circuit: &Circuit<A>,

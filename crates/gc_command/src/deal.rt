@@ -17,7 +17,7 @@ use gc_file::write_labels;
 use gc_label::Seed;
 use std::alloc::Allocator;
 
-/// Writes the label file of the input value of this index, by the circuit of a file and a seed, and answers the line
+/// Writes the label file of the input value of this index, by the circuit of a file and a seed, and returns the line
 /// that states its bytes. A file in place of the label file is replaced at once, and stays as it is at a fault.
 pub fn deal<A: Allocator + Copy, F: Files>(
     alloc: A,
@@ -47,8 +47,8 @@ pub fn deal<A: Allocator + Copy, F: Files>(
     write_value(alloc, &circuit, &seed, index, &bits, out, source, files)
 }
 
-/// Writes the label file of an input value with these bits, which is not `source`. That there is such a value, and that the bits have its
-/// width, are the caller's conditions.
+/// Writes the label file of an input value with these bits, which is not `source`. The caller ensures that there is
+/// such a value, and that the bits have its width.
 fn write_value<A: Allocator + Copy, F: Files>(
     alloc: A,
     circuit: &Circuit<A>,

@@ -23,7 +23,7 @@ use std::thread;
 use std::thread::Threads;
 
 /// Evaluates the circuit of a file from the garbled file and the label files of these names, by this many workers, and
-/// answers the lines of the output values that they decode to, in this form. Nothing of these files is trusted.
+/// returns the lines of the output values that they decode to, in this form. Nothing of these files is trusted.
 pub fn eval<R: Threads + Wait + Sync, A: Allocator + Copy + Send + Sync, F: Files, P: Progress>(
     rt: &R,
     alloc: A,
@@ -66,7 +66,7 @@ struct Evaluated<A: Allocator> {
 }
 
 /// The digest of the circuit's canonical text, which another thread finishes, where one can be started, and what the
-/// files of these names give by this many workers. That the digest begun is the circuit's is the caller's condition.
+/// files of these names give by this many workers. The caller ensures that the digest begun is the circuit's.
 fn digest_and_evaluation<
     R: Threads + Wait + Sync,
     A: Allocator + Copy + Send + Sync,
@@ -115,7 +115,7 @@ fn digest_and_evaluation<
 }
 
 /// Reads the garbled file and the label files of these names, and evaluates the circuit from them by this many workers.
-/// Whether the circuit has the digest that the garbled file names isn't judged.
+/// Whether the circuit has the digest that the garbled file names isn't checked.
 fn read_and_evaluate<
     R: Threads + Wait + Sync,
     A: Allocator + Copy + Send + Sync,

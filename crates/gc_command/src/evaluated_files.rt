@@ -31,7 +31,7 @@ pub fn read_garbled_file<A: Allocator + Copy, F: Files>(
     Ok(taken?)
 }
 
-/// The label files of these names. Each is read and judged before the next is opened.
+/// The label files of these names. Each is read and checked before the next is opened.
 pub fn read_label_files<N: AsStr, A: Allocator + Copy, F: Files>(
     alloc: A,
     names: &[N],

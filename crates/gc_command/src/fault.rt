@@ -13,7 +13,7 @@ use std::alloc::{AllocError, AllocFailed};
 use std::error::Error;
 use std::fmt;
 
-/// Why a command has no answer: the first fault that its work meets.
+/// Why a command has no result: the first fault that its work meets.
 #[derive(Clone, Copy, Debug, PartialEq, Eq)]
 pub enum Fault {
     /// The file is no circuit, or there is no memory for reading or evaluating it.

@@ -27,7 +27,7 @@ use std::alloc::Allocator;
 use std::sync::Wait;
 use std::thread::Threads;
 
-/// Garbles the circuit of a file under a seed by this many workers, writes the garbled file, and answers the line that
+/// Garbles the circuit of a file under a seed by this many workers, writes the garbled file, and returns the line that
 /// states its bytes. A file in place of the garbled file is replaced at once, and stays as it is at a fault.
 pub fn garble<R: Threads + Wait + Sync, A: Allocator + Copy + Send + Sync, F: Files, P: Progress>(
     rt: &R,
@@ -65,8 +65,8 @@ pub fn garble<R: Threads + Wait + Sync, A: Allocator + Copy + Send + Sync, F: Fi
     )
 }
 
-/// Writes the garbled file of a garbling, which is not `source`. That the digest is the circuit's, and that the garbling fits the circuit, are
-/// the caller's conditions.
+/// Writes the garbled file of a garbling, which is not `source`. The caller ensures that the digest is the circuit's,
+/// and that the garbling fits the circuit.
 fn write_garbling<A: Allocator + Copy, F: Files>(
     alloc: A,
     version: Version,

@@ -18,8 +18,8 @@ use std::thread;
 use std::thread::Threads;
 
 /// The digest of the circuit's canonical text and the garbling of the circuit under a seed by this many workers.
-/// Meanwhile another thread finishes the digest, where one can be started. That the digest begun is the circuit's is
-/// the caller's condition.
+/// Meanwhile another thread finishes the digest, where one can be started. The caller ensures that the digest begun is
+/// the circuit's.
 pub(crate) fn digest_and_garbling<R: Threads + Wait + Sync, A: Allocator + Copy + Send + Sync>(
     rt: &R,
     alloc: A,

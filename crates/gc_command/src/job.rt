@@ -17,7 +17,7 @@ use std::sync::Wait;
 use std::thread::Threads;
 
 /// The output bits that a garbled file and label files of a circuit decode to, by this many workers. Nothing is known
-/// of the answer where this is not the digest of the circuit's canonical text.
+/// of the result where this is not the digest of the circuit's canonical text.
 pub fn evaluate_files<R: Threads + Wait + Sync, A: Allocator + Copy + Send + Sync>(
     rt: &R,
     alloc: A,

@@ -21,7 +21,7 @@ use std::alloc::{AllocError, Allocator};
 use std::thread::Threads;
 
 /// Evaluates the circuit of a file by this many workers from each garbled file that the list of this name has, with the
-/// label files on its line, and answers the lines of the output values that they decode to, in this form. Nothing of
+/// label files on its line, and returns the lines of the output values that they decode to, in this form. Nothing of
 /// these files is trusted.
 pub fn jobs<R: Threads + Sync, A: Allocator + Copy + Send + Sync, F: Files, P: Progress>(
     rt: &R,
@@ -47,8 +47,8 @@ pub fn jobs<R: Threads + Sync, A: Allocator + Copy + Send + Sync, F: Files, P: P
     Ok(jobs_lines(alloc, form, circuit.output_widths(), &outputs)?)
 }
 
-/// The output bits of each job of a list, which may have none. That all are on one circuit, and that they are not too
-/// many, is the caller's condition.
+/// The output bits of each job of a list, which may have none. The caller ensures that all are on one circuit, and that
+/// they are not too many.
 fn evaluate_listed<R: Threads + Sync, A: Allocator + Copy + Send + Sync>(
     rt: &R,
     alloc: A,
@@ -69,8 +69,8 @@ fn evaluate_listed<R: Threads + Sync, A: Allocator + Copy + Send + Sync>(
     evaluate_jobs(rt, alloc, jobs, workers, &Open)
 }
 
-/// The output values of each of a list of jobs, in this form, each with an empty line after it. That the widths are together as many
-/// as the bits of each is the caller's condition. The room is taken at once.
+/// The output values of each of a list of jobs, in this form, each with an empty line after it. The caller ensures that
+/// the widths are together as many as the bits of each. The room is taken at once.
 fn jobs_lines<A: Allocator + Copy>(
     alloc: A,
     form: ValueForm,

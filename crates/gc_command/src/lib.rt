@@ -1,4 +1,5 @@
-//! The commands on one circuit, each in a module of its name: `check`, `plain`, `garble`, `deal`, `eval` and `run`.
+//! The commands on circuits and files, each in a module of its name: `check`, `plain`, `garble`, `deal`, `eval`, `run`
+//! and `jobs`.
 #![tactic(auto)]
 
 pub mod check;

@@ -31,8 +31,7 @@ pub fn push_number<A: Allocator>(lines: &mut Vec<u8, A>, number: u64) -> Result<
     lines.extend_from_slice(buffer.format(number).as_bytes())
 }
 
-/// The output values, one a line, in this form. That the widths are together as many as the bits is the caller's
-/// condition.
+/// The output values, one a line, in this form. The caller ensures that the widths are together as many as the bits.
 pub fn output_lines<A: Allocator>(
     alloc: A,
     form: ValueForm,

@@ -16,8 +16,8 @@ use gc_disk::Files;
 use gc_job::Job;
 use std::alloc::Allocator;
 
-/// The jobs of the list in the file of this name. The list's bytes are dropped. That this is the digest of the
-/// circuit's canonical text is the caller's condition.
+/// The jobs of the list in the file of this name. The list's bytes are dropped. The caller ensures that this is the
+/// digest of the circuit's canonical text.
 pub fn read_listed_jobs<'c, A: Allocator + Copy, F: Files, P: Progress>(
     alloc: A,
     circuit: &'c Circuit<A>,
@@ -39,8 +39,8 @@ pub fn read_listed_jobs<'c, A: Allocator + Copy, F: Files, P: Progress>(
     read_jobs(alloc, circuit, digest, &lines, files, progress)
 }
 
-/// The jobs that lines name. Each job's files are read and bound before the next job's are opened. That this is
-/// the digest of the circuit's canonical text, and that each line has a token, are the caller's conditions.
+/// The jobs that lines name. Each job's files are read and bound before the next job's are opened. The caller ensures
+/// that this is the digest of the circuit's canonical text, and that each line has a token.
 fn read_jobs<'c, A: Allocator + Copy, F: Files, P: Progress>(
     alloc: A,
     circuit: &'c Circuit<A>,
@@ -71,8 +71,8 @@ fn read_jobs<'c, A: Allocator + Copy, F: Files, P: Progress>(
     Ok(jobs)
 }
 
-/// The job that a line names, from its garbled file and its label files. That this is the digest of
-/// the circuit's canonical text, and that the line has a token, are the caller's conditions.
+/// The job that a line names, from its garbled file and its label files. The caller ensures that this is the digest of
+/// the circuit's canonical text, and that the line has a token.
 fn read_job<'c, A: Allocator + Copy, F: Files>(
     alloc: A,
     circuit: &'c Circuit<A>,

@@ -21,7 +21,7 @@ use std::sync::Wait;
 use std::thread::Threads;
 
 /// The garbled file of the circuit's garbling under a seed, by this many workers, in version 2. It refuses 0 workers
-/// and more than 64 (22). That the digest begun is the circuit's is the caller's condition.
+/// and more than 64 (22). The caller ensures that the digest begun is the circuit's.
 pub fn own_garbled<R: Threads + Wait + Sync, A: Allocator + Copy + Send + Sync>(
     rt: &R,
     alloc: A,
@@ -61,8 +61,7 @@ fn garbled_bytes<R: Threads + Wait + Sync, A: Allocator + Copy + Send + Sync>(
     Ok(sink.into_bytes())
 }
 
-/// The label file of each of these values under a seed, in order. That the values fit the circuit is the caller's
-/// condition.
+/// The label file of each of these values under a seed, in order. The caller ensures that the values fit the circuit.
 pub fn own_labels<A: Allocator + Copy>(
     alloc: A,
     circuit: &Circuit<A>,
@@ -82,8 +81,8 @@ pub fn own_labels<A: Allocator + Copy>(
     Ok(labels)
 }
 
-/// The label file of the input value of this index. That there is one, and that the bits have its width, are the
-/// caller's conditions.
+/// The label file of the input value of this index. The caller ensures that there is one, and that the bits have its
+/// width.
 fn own_label_file<A: Allocator + Copy>(
     alloc: A,
     circuit: &Circuit<A>,

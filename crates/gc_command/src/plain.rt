@@ -1,4 +1,4 @@
-//! The command `plain`: evaluating a circuit as it stands, without garbling.
+//! The command `plain`: evaluating a circuit as it is, without garbling.
 
 ghost use Rattle.std.specs.Prelude.{◌≡◌, ℕ, List, map, IfOk, IfErr, IfSome, string_bytes};
 ghost use Rattle.gc_command.specs.Plain.{AnswersPlain, HasPlainFault};
@@ -13,7 +13,7 @@ use gc_circuit::{ReadFault, plain_eval};
 use gc_disk::Files;
 use std::alloc::Allocator;
 
-/// Evaluates the circuit of a file on the values, and answers the lines of its output values in this form.
+/// Evaluates the circuit of a file on the values, and returns the lines of its output values in this form.
 pub fn plain<A: Allocator + Copy, F: Files>(
     alloc: A,
     circuit: &str,

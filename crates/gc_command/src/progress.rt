@@ -40,7 +40,7 @@ pub trait Progress {
     /// The command begins this work, which is step `step` of `steps`, counted from 1.
     fn begin(&self, step: u32, steps: u32, work: Work);
 
-    /// The command is done, or a fault ended it: what it answers is about to be printed.
+    /// The command is done, or a fault ended it: what it returns is about to be printed.
     fn end(&self);
 }
 

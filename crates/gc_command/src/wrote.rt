@@ -15,8 +15,8 @@ use std::alloc::Allocator;
 pub const ROOM: usize = 27;
 
 /// Keeps the sink that a file was written to, and returns the line that states the file's bytes. At a fault the file
-/// stays as it is. That `room` is empty and holds [`ROOM`] bytes, so that no memory is taken, and that a sink whose writing failed has counted a failure,
-/// are the caller's conditions.
+/// stays as it is. The caller ensures that `room` is empty and holds [`ROOM`] bytes, so that no memory is taken, and
+/// that a sink whose writing failed has counted a failure.
 pub fn keep_written<A: Allocator, F: Files>(
     files: &mut F,
     name: &str,

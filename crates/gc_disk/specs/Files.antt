@@ -1,4 +1,4 @@
--- What calls on files answer, and which files have failed.
+-- What calls on files return, and which files have failed.
 use Rattle.std.specs.Prelude.{◌≡◌, ℕ, List, [], ◌∷◌, ◌++◌, replicate, Option, Some, None, Result, Ok, Err}
 use Rattle.gc_disk.specs.declared.files.FileError.{FileError}
 use Rattle.gc_disk.specs.declared.files.FileError.TheVariants.{CannotRead, CannotWrite, Memory}

@@ -8,7 +8,7 @@ use std::marker::Model;
 use std::snapshot::Snapshot;
 
 /// Which files have failed, as contracts see it: for each call that failed the name of its file, in order. A sink that
-/// was kept and a source that was shut add as many as they have counted. No code holds it, and it takes no memory.
+/// was kept and a source that was shut add as many as they have counted. No code holds it, and it doesn't allocate.
 #[derive(Drop)]
 pub struct FileFailures<K: Sink, S: Source> {
     history: FileHistory<K, S>,

@@ -150,7 +150,7 @@ fn is_one_file<R: rt::Files + Alloc>(rt: &R, name: &str, other: &str) -> io::Res
     Ok(path.as_path().as_str() == other.as_path().as_str())
 }
 
-/// What a call on a name answers, or `None` where the name is none for it. Want of memory is an error.
+/// What a call on a name returns, or `None` where the name is none for it. Want of memory is an error.
 fn present<T>(outcome: io::Result<T>) -> io::Result<Option<T>> {
     match outcome {
         Ok(found) => Ok(Some(found)),

@@ -5,7 +5,7 @@ ghost use Rattle.std.specs.Prelude.{◌≡◌, ◌++◌, ◌∷◌, []};
 use std::marker::Model;
 use std::snapshot::Snapshot;
 
-/// The name of a file, as contracts see it. No code holds it, and it takes no memory.
+/// The name of a file, as contracts see it. No code holds it, and it doesn't allocate.
 #[derive(Drop)]
 pub struct SeenName {
     letters: Letters,

@@ -8,8 +8,8 @@ use arrayvec::ArrayString;
 /// The bytes of the longest name that is kept. Linux opens no longer one.
 const LONGEST: usize = 4_096;
 
-/// The name of the file that was opened last, how many were opened, and why the last call that failed did. It takes no
-/// memory of an allocator.
+/// The name of the file that was opened last, how many were opened, and why the last call that failed did. It doesn't
+/// allocate.
 #[derive(Drop)]
 pub struct Trail {
     name: ArrayString<LONGEST>,

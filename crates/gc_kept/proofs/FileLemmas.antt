@@ -1,4 +1,4 @@
--- Label files that stand one after another.
+-- Label files that follow one another.
 use Rattle.std.proofs.Common.{◌≡◌, ◌≢◌, ℕ, ◌+◌, ◌-◌, ◌<◌, ◌≤◌, List, [], ◌∷◌, ◌++◌, length, map, take, sym, ap, ◌∙◌, append_assoc, append-nil, arith}
 use Rattle.std.specs.List.{flat_map, sum, sum_by, slice_index, All}
 use Rattle.std.proofs.lemmas.Grind.{flat_map-append}

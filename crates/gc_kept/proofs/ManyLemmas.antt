@@ -11,7 +11,7 @@ module _ {A B : Type 0} (R : A → B → Type 0) (xs : List A) where
   all_more ys i d x y within is before holds =
       rw (take_more xs i d within, ← is) (all_zipped_more R (take i xs) ys x y before holds)
 
-  -- or two more, of those that stand in pairs.
+  -- or two more, of those that are in pairs.
   pub two_more : (ys : List B) (i : ℕ) (d x x' : A) (y y' : B) → 2 * i + 1 < length xs
       → x ≡ get_or xs (2 * i) d → x' ≡ get_or xs (2 * i + 1) d
       → AllZip R (take (2 * i) xs) ys → R x y → R x' y'

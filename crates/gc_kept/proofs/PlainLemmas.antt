@@ -1,4 +1,4 @@
--- Values that stand one after another.
+-- Values that follow one another.
 use Rattle.std.proofs.Common.{◌≡◌, ℕ, ◌+◌, ◌-◌, ◌<◌, ◌≤◌, List, [], ◌∷◌, ◌++◌, Bool, length, map, take, refl, sym, ap, ◌∙◌, append-nil, arith}
 use Rattle.std.specs.List.{flat_map, sum, slice_index}
 use Rattle.std.proofs.lemmas.List.{length-append, take_all, nil_from_length}

@@ -1,4 +1,4 @@
--- Label files that stand one after another.
+-- Label files that follow one another.
 use Rattle.std.specs.Prelude.{◌≡◌, ◌≢◌, ℕ, ◌+◌, List, [], ◌∷◌, ◌++◌, length, map, flat_map, take, sum, All}
 use Rattle.gc_file.specs.declared.fault.FileFault.{FileFault}
 use Rattle.gc_file.specs.declared.fault.FileFault.TheVariants as file

@@ -28,7 +28,7 @@ impl KeptGarbling {
         Ok((file.version(), found))
     }
 
-    /// Compares a label file with the garbling, as [`gc_audit::audit_labels_with_offset`] does: the index that stands in
+    /// Compares a label file with the garbling, as [`gc_audit::audit_labels_with_offset`] does: the index that is in
     /// the file, and what is found. It refuses a garbling whose AND gates aren't numbered from 0 on (60).
     pub fn audit_labels(
         &self,

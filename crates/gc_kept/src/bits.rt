@@ -15,7 +15,7 @@ pub(crate) fn bit_byte(bit: bool) -> u8
     u8::from(bit)
 }
 
-/// Writes the byte of each bit. That there is one for each is the caller's condition.
+/// Writes the byte of each bit. The caller ensures that there is one for each.
 pub fn write_bits(bits: &[bool], bytes: &mut [u8])
     requires { length bytes.old ≡ length bits.now }
     ensures { bytes.new ≡ map bit_number bits.now }

@@ -1,4 +1,4 @@
-//! Why a call has no answer.
+//! Why a call has no result.
 
 ghost use Rattle.std.specs.Prelude.{◌≡◌, ◌<◌};
 ghost use Rattle.gc_kept.specs.Fault.{code_of, name_of};
@@ -10,7 +10,7 @@ use std::alloc::{AllocError, AllocFailed};
 use std::error::Error;
 use std::fmt;
 
-/// Why a call has no answer: a fault of the layers below, one that has the number of such a fault, or one of the three,
+/// Why a call has no result: a fault of the layers below, one that has the number of such a fault, or one of the three,
 /// from 60 on, that only callers in other languages meet.
 #[derive(Clone, Copy, Debug, PartialEq, Eq)]
 pub enum KeptFault {

@@ -92,8 +92,8 @@ impl KeptCircuit {
         self.write_dealt(alloc, seed, index, &bits, buffer, written)
     }
 
-    /// Writes the label file of an input value with these bits, and reports the number of its bytes. That there is such
-    /// a value, and that the bits have its width, are the caller's conditions.
+    /// Writes the label file of an input value with these bits, and reports the number of its bytes. The caller ensures
+    /// that there is such a value, and that the bits have its width.
     fn write_dealt(
         &self,
         alloc: Global,

@@ -168,8 +168,8 @@ impl KeptGarbling {
         Ok(())
     }
 
-    /// The zero label of a wire, and the label that stands for a bit on it. That there is such a wire is the caller's
-    /// condition.
+    /// The zero label of a wire, and the label that stands for a bit on it. The caller ensures that there is such a
+    /// wire.
     pub fn labels_of(&self, wire: u32, bit: bool) -> (Label, Label)
         requires { wire < length self.now.garbling.zero_labels }
         ensures zero { slice_get self.now.garbling.zero_labels wire ≡ Some result.0 }

@@ -33,8 +33,8 @@ impl Model for KeptJob {
 }
 
 impl KeptCircuit {
-    /// Binds a garbled file and label files to a job, as [`Job::bind`] does. The label files stand one after another,
-    /// and `lengths` has the number of bytes of each. Nothing of them is trusted.
+    /// Binds a garbled file and label files to a job, as [`Job::bind`] does. The label files follow one another, and
+    /// `lengths` has the number of bytes of each. Nothing of them is trusted.
     pub fn bind(
         &self,
         alloc: Global,

@@ -1,4 +1,4 @@
-//! Labels and row pairs as bytes that stand in no file.
+//! Labels and row pairs as bytes that are in no file.
 
 ghost use Rattle.std.specs.Prelude.{◌≡◌, ◌+◌, ◌*◌, ◌++◌, ◌≤◌, ◌<◌, length, flat_map, map, take, slice_index, OnOk, OnErr, IfErr};
 ghost use Rattle.gc_label.specs.Label.{bytes_of_label, times, ◌⊕◌};
@@ -22,7 +22,7 @@ pub(crate) fn has_room(size: usize, buffer: &[u8]) -> Result<(), KeptFault>
     Ok(())
 }
 
-/// Writes a label to its place among labels. That there is such a place is the caller's condition.
+/// Writes a label to its place among labels. The caller ensures that there is such a place.
 #[inline]
 fn put_label(label: Label, place: usize, bytes: &mut [u8])
     requires { 16 * place + 16 ≤ length bytes.old }
@@ -34,7 +34,7 @@ fn put_label(label: Label, place: usize, bytes: &mut [u8])
     bytes[at..at + LABEL].copy_from_slice(&label.to_bytes());
 }
 
-/// Writes labels. That there are 16 bytes for each is the caller's condition.
+/// Writes labels. The caller ensures that there are 16 bytes for each.
 pub(crate) fn put_labels(labels: &[Label], bytes: &mut [u8])
     requires { length bytes.old ≡ 16 * length labels.now }
     ensures { bytes.new ≡ flat_map bytes_of_label labels.now }
@@ -44,7 +44,7 @@ pub(crate) fn put_labels(labels: &[Label], bytes: &mut [u8])
     }
 }
 
-/// Writes the sum of each label and a difference. That there are 16 bytes for each is the caller's condition.
+/// Writes the sum of each label and a difference. The caller ensures that there are 16 bytes for each.
 fn put_sums(labels: &[Label], difference: Label, bytes: &mut [u8])
     requires { length bytes.old ≡ 16 * length labels.now }
     ensures { bytes.new ≡ flat_map bytes_of_label (map (λ label. label ⊕ difference) labels.now) }
@@ -63,8 +63,8 @@ pub(crate) fn times(label: Label, bit: bool) -> Label
     label.times(bit)
 }
 
-/// Writes the labels that stand for bits on the wires from the first one on. That there are zero labels for these wires,
-/// and 16 bytes for each, are the caller's conditions.
+/// Writes the labels that stand for bits on the wires from the first one on. The caller ensures that there are zero
+/// labels for these wires, and 16 bytes for each.
 pub(crate) fn put_encoded(
     zero_labels: &[Label],
     offset: Offset,
@@ -85,7 +85,7 @@ pub(crate) fn put_encoded(
     }
 }
 
-/// Writes row pairs. That there are 32 bytes for each is the caller's condition.
+/// Writes row pairs. The caller ensures that there are 32 bytes for each.
 fn put_rows(rows: &[RowPair], bytes: &mut [u8])
     requires { length bytes.old ≡ 32 * length rows.now }
     ensures { bytes.new ≡ flat_map row_bytes rows.now }
@@ -96,7 +96,7 @@ fn put_rows(rows: &[RowPair], bytes: &mut [u8])
     }
 }
 
-/// Writes labels to the front of a buffer, whose end stays as it is. That there is room is the caller's condition.
+/// Writes labels to the front of a buffer, whose end stays as it is. The caller ensures that there is room.
 pub(crate) fn write_labels(labels: &[Label], buffer: &mut [u8])
     requires { 16 * length labels.now ≤ length buffer.old }
     ensures { IsFileAt (flat_map bytes_of_label labels.now) buffer.old buffer.new }
@@ -104,8 +104,8 @@ pub(crate) fn write_labels(labels: &[Label], buffer: &mut [u8])
     put_labels(labels, &mut buffer[..LABEL * labels.len()]);
 }
 
-/// Writes the sum of each label and a difference to the front of a buffer, whose end stays as it is. That there is room is
-/// the caller's condition.
+/// Writes the sum of each label and a difference to the front of a buffer, whose end stays as it is. The caller ensures
+/// that there is room.
 pub(crate) fn write_sums(labels: &[Label], difference: Label, buffer: &mut [u8])
     requires { 16 * length labels.now ≤ length buffer.old }
     ensures { IsFileAt
@@ -115,7 +115,7 @@ pub(crate) fn write_sums(labels: &[Label], difference: Label, buffer: &mut [u8])
     put_sums(labels, difference, &mut buffer[..LABEL * labels.len()]);
 }
 
-/// Writes row pairs to the front of a buffer, whose end stays as it is. That there is room is the caller's condition.
+/// Writes row pairs to the front of a buffer, whose end stays as it is. The caller ensures that there is room.
 pub(crate) fn write_rows(rows: &[RowPair], buffer: &mut [u8])
     requires { 32 * length rows.now ≤ length buffer.old }
     ensures { IsFileAt (flat_map row_bytes rows.now) buffer.old buffer.new }

@@ -18,7 +18,7 @@ use gc_job::BindFault;
 use gc_label::Label;
 use std::alloc::Global;
 
-/// Writes the header of a label file. That there is room is the caller's condition.
+/// Writes the header of a label file. The caller ensures that there is room.
 fn put_header(index: u32, width: u32, file: &mut [u8])
     requires { 16 ≤ length file.old }
     ensures header { take 16 file.new ≡ label_magic ++ number_bytes index ++ number_bytes width }
@@ -27,8 +27,7 @@ fn put_header(index: u32, width: u32, file: &mut [u8])
     file[..LABEL_HEADER].copy_from_slice(label_header(index, width).as_slice());
 }
 
-/// Writes the label file with this index and these labels. That there are as many bytes as it has is the caller's
-/// condition.
+/// Writes the label file with this index and these labels. The caller ensures that there are as many bytes as it has.
 fn put_file(index: u32, labels: &[Label], file: &mut [u8])
     requires bytes { length file.old ≡ 16 + 16 * length labels.now }
     requires few { length labels.now < 2 ^ 32 }
@@ -108,8 +107,8 @@ impl KeptGarbling {
         Ok(())
     }
 
-    /// Writes the label file of an input value with these bits. That there is such a value, that the bits have its width,
-    /// and that there are as many bytes as the file has, are the caller's conditions.
+    /// Writes the label file of an input value with these bits. The caller ensures that there is such a value, that the
+    /// bits have its width, and that there are as many bytes as the file has.
     fn put_dealt(&self, index: u32, bits: &[bool], file: &mut [u8])
         requires value { slice_get self.now.circuit.input_widths index ≡ Some (length bits.now) }
         requires bytes { length file.old ≡ 16 + 16 * length bits.now }

@@ -1,4 +1,4 @@
-//! Label files that stand one after another.
+//! Label files that follow one another.
 
 ghost use Rattle.std.specs.Prelude.{◌≡◌, ◌↔◌, IfOk, IfErr, IsTrue, sum};
 ghost use Rattle.gc_kept.specs.LabelFiles.{AreLabelFiles, HasLabelFilesFault};
@@ -21,8 +21,8 @@ fn add_up(lengths: &[usize], total: usize) -> bool
     left == 0
 }
 
-/// Reads label files that stand one after another, by the number of bytes of each. It first refuses numbers that don't
-/// add up to that of all bytes (60).
+/// Reads label files that follow one another, by the number of bytes of each. It first refuses numbers that don't add
+/// up to that of all bytes (60).
 pub(crate) fn read_label_files(
     alloc: Global,
     bytes: &[u8],

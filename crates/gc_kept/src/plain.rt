@@ -10,7 +10,7 @@ use crate::label_bytes::has_room;
 use gc_circuit::{Memory, ReadFault, plain_eval};
 use std::alloc::Global;
 
-/// The values of these widths that stand one after another. That the widths add up is the caller's condition.
+/// The values of these widths that follow one another. The caller ensures that the widths add up.
 pub(crate) fn values_of(
     alloc: Global,
     widths: &[u32],

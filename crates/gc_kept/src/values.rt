@@ -20,7 +20,7 @@ use gc_file::sizes::{LABEL, PAIR};
 use gc_job::BindFault;
 use std::alloc::{Allocator, Global};
 
-/// The first wire of the output value with this index. That there are at least as many values is the caller's condition.
+/// The first wire of the output value with this index. The caller ensures that there are at least as many values.
 fn first_output<A: Allocator>(circuit: &Circuit<A>, index: usize) -> u32
     requires { index ≤ length circuit.now.output_widths }
     ensures { result ≡ first_output_of circuit.now index }
@@ -80,7 +80,7 @@ impl KeptGarbling {
         self.write_both(from as usize, *width as usize, zero, one)
     }
 
-    /// Writes both labels of so many wires, from one on. That there are such wires is the caller's condition.
+    /// Writes both labels of so many wires, from one on. The caller ensures that there are such wires.
     fn write_both(
         &self,
         from: usize,
@@ -139,7 +139,7 @@ impl KeptGarbling {
         Ok(())
     }
 
-    /// Writes the decode bit of each output wire. That there is a byte for each is the caller's condition.
+    /// Writes the decode bit of each output wire. The caller ensures that there is a byte for each.
     fn put_decode_bits(&self, bits: &mut [u8])
         requires { length bits.old ≡ self.now.garbling.outputs }
         ensures { bits.new ≡ map bit_number (decode_bits_of self.now.garbling) }

@@ -5,7 +5,7 @@ use Rattle.gc_layers.specs.declared.mark.Mark.{Mark}
 use Rattle.gc_layers.specs.declared.mark.Mark.TheVariants.{Absent, There}
 use Rattle.gc_layers.specs.declared.place.Place.{Place}
 
--- What making these gates gives stands at their places.
+-- What making these gates gives is at their places.
 abbrev pub AreMade : {P M : Type 0} → (P → M) → List P → List M → Type 0
 AreMade {P} {M} made_of gates made =
     (i : ℕ) (gate : P) (d : M) → slice_get gates i ≡ Some gate

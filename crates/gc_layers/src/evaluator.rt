@@ -41,8 +41,7 @@ impl<'c, C: Allocator> Model for Evaluator<'c, C> {
 }
 
 impl<'c, C: Allocator> Evaluator<'c, C> {
-    /// The evaluation of these rows on these labels. That there are as many rows as AND gates is the caller's
-    /// condition.
+    /// The evaluation of these rows on these labels. The caller ensures that there are as many rows as AND gates.
     pub(crate) fn new(
         circuit: &'c Circuit<C>,
         rows: &'c [RowPair],

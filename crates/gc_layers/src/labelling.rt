@@ -40,7 +40,7 @@ pub trait Labelling<P: Pending>: Drop {
         requires second { second ≡ second_read (label_of self.now) gate.operation }
         ensures { is_pending self.now result };
 
-    /// Keeps what making a gate gave. The answer is the wire that it sets, and its label.
+    /// Keeps what making a gate gave. Returns the wire that it sets, and its label.
     fn keep(&mut self, gate: &P, made: &P::Made) -> (u32, Label)
         requires gate { is_pending self.old gate.now }
         requires made { made.now ≡ P.made_of gate.now }

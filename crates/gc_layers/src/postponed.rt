@@ -70,7 +70,7 @@ impl<'c, A: Allocator, C: Allocator> Postponed<'c, A, C> {
         !self.woken.is_empty()
     }
 
-    /// Postpones a gate, before those that wait for the same wire already. The answer is its slot, if there was room.
+    /// Postpones a gate, before those that wait for the same wire already. The result is its slot, if there was room.
     pub(crate) fn put(&mut self, place: Place, rest: Mark) -> Result<Option<u16>, Memory>
         requires { IsPlace self.old place }
         ensures { self.new ≡ self.old }

@@ -10,7 +10,7 @@ use crate::placed::PlacedGate;
 use gc_half::{AndStep, eval_four_ands};
 use gc_label::Label;
 
-/// Evaluates the gates at the four places from 4 * i on, at once. The last gate stands in for those that aren't there.
+/// Evaluates the gates at the four places from 4 * i on, at once. The last gate fills in for those that aren't there.
 fn evaluate_four(gates: &[PlacedGate<AndStep>], made: &mut [Label], i: usize)
     requires place { 4 * i < length gates.now }
     requires room { length gates.now ≤ length made.old }

@@ -19,7 +19,7 @@ pub(crate) const NOT_GARBLED: GarbledAnd = GarbledAnd {
     },
 };
 
-/// Garbles the gates at the places 2 * i and 2 * i + 1 at once. The last gate stands in for one that isn't there.
+/// Garbles the gates at the places 2 * i and 2 * i + 1 at once. The last gate fills in for one that isn't there.
 fn garble_pair(gates: &[PlacedGate<AndGate>], made: &mut [GarbledAnd], i: usize)
     requires place { 2 * i < length gates.now }
     requires room { length gates.now ≤ length made.old }

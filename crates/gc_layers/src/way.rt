@@ -30,7 +30,7 @@ const GATES_FOR_NARROW: u32 = 3;
 /// This many gates at the front of a circuit are looked at for its layers: as many as are postponed at the most.
 const LOOKED_AT: u32 = MOST_POSTPONED as u32;
 
-/// How threads garble or evaluate a circuit in the least time. Whatever the way, the answer is the same.
+/// How threads garble or evaluate a circuit in the least time. Whatever the way, the result is the same.
 #[derive(Clone, Copy, PartialEq, Eq, Debug)]
 pub enum Way {
     /// One thread goes from gate to gate: others would save it less than they cost.
@@ -41,8 +41,8 @@ pub enum Way {
     Together,
 }
 
-/// The way that takes this many threads the least time. [`Way::Alone`] takes no memory for one thread, and for a
-/// circuit with few AND gates. Else it takes memory for the depths of 4,096 gates and, where layers aren't wide, for a
+/// The way that takes this many threads the least time. [`Way::Alone`] doesn't allocate for one thread, and for a
+/// circuit with few AND gates. Else it allocates for the depths of 4,096 gates and, where layers aren't wide, for a
 /// number for each wire.
 ///
 /// No clause says which of the three ways it is otherwise, but that all go from gate to gate only where half of the
@@ -98,7 +98,7 @@ impl<A: Allocator> Depths<A> {
         depth.copied().unwrap_or(0)
     }
 
-    /// Puts down the depth of the wire that a gate sets, and answers it.
+    /// Puts down the depth of the wire that a gate sets, and returns it.
     fn put(&mut self, gate: Gate) -> u32 {
         let operation = gate.operation;
         let read = self

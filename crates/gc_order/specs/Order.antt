@@ -15,15 +15,15 @@ use Rattle.gc_file.specs.declared.parts.Version.TheVariants.{One, Two}
 use Rattle.gc_order.specs.declared.order.Order.{Order}
 use Rattle.gc_order.specs.declared.order.Order.TheVariants.{Run, Plain, Check, Locate, Stats, Garble, Deal, Eval, Jobs, Labels, Audit}
 
--- a positional word that has to be there
+-- a positional word that must be there
 abbrev pub required_word : List ℕ → Rule
 required_word id = record (new_rule id) { value_names = 1; required = true }
 
--- positional words, any number of them
+-- positional arguments, any number of them
 abbrev pub more_words : List ℕ → Rule
 more_words id = record (new_rule id) { value_names = 1; action = Some Append }
 
--- a positional word that has to be there, and is a number from `low` to `high`
+-- a positional word that must be there, and is a number from `low` to `high`
 abbrev pub number_word : List ℕ → ℕ → ℕ → Rule
 number_word id low high =
     record (new_rule id) { value_names = 1; parser = Some (Unsigned low high); required = true }

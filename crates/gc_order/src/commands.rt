@@ -400,7 +400,7 @@ fn garbled_arg<'a>(alloc: Global) -> Arg<'a>
     )
 }
 
-/// A word that has to be there.
+/// A word that must be there.
 fn word_arg<'a>(alloc: Global, id: &'a str, name: &'a str, help: &'a str) -> Arg<'a>
     ensures { HasRule (required_word id.entry.now) result }
 {

@@ -1,4 +1,4 @@
-//! Orders: what the words of a command line ask for.
+//! Orders: what the arguments ask for.
 
 ghost use Rattle.std.specs.Prelude.{◌≡◌, map, IfOk, Some, string_bytes};
 ghost use Rattle.clap.specs.Words.{FailsBy, fault_of, found_of, rows_of};
@@ -12,7 +12,7 @@ use clap::{ArgMatches, Error};
 use gc_file::Version;
 use std::alloc::{AllocError, Global};
 
-/// A command with its words. Whether the files that these name exist, and what they hold, the command judges.
+/// A command with its arguments. Whether the files that these name exist, and what they hold, the command checks.
 #[derive(Drop)]
 pub enum Order {
     /// Garble a circuit and evaluate it on these values.
@@ -88,7 +88,7 @@ pub enum Order {
         workers: u32,
         /// Whether output values are printed in hexadecimal digits.
         hex: bool,
-        /// The name of each label file, in the order of the words.
+        /// The name of each label file, in the order of the arguments.
         labels: Vec<String>,
     },
     /// Evaluate a circuit from each garbled file of a list and the label files on its line.
@@ -123,7 +123,7 @@ pub enum Order {
         seed: String,
         /// The name of the garbled file.
         garbled: String,
-        /// The name of each label file, in the order of the words.
+        /// The name of each label file, in the order of the arguments.
         labels: Vec<String>,
     },
 }
@@ -137,8 +137,8 @@ pub struct Asked {
     pub explains: bool,
 }
 
-/// The order in the words of a command line, of which the first is the program's name. The error is clap's, with the
-/// text to show: for words that it refuses, for help or the version, and where memory ran out.
+/// The order in the arguments, of which the first is the program's name. The error is clap's, with the text to show:
+/// for arguments that it refuses, for help or the version, and where memory ran out.
 pub fn order_of(alloc: Global, words: &[String]) -> Result<Order, Error>
     ensures order { IfOk result
         (λ order. order_in (map string_bytes words.now) ≡ Some (text_of order)) }
@@ -150,8 +150,7 @@ pub fn order_of(alloc: Global, words: &[String]) -> Result<Order, Error>
     }
 }
 
-/// The order in the words of a command line, and whether a fault of it is to be explained. The errors are those of
-/// [`order_of`].
+/// The order in the arguments, and whether a fault of it is to be explained. The errors are those of [`order_of`].
 pub fn asked_of(alloc: Global, words: &[String]) -> Result<Asked, Error>
     ensures order { IfOk result
         (λ asked. order_in (map string_bytes words.now) ≡ Some (text_of asked.order)) }
@@ -170,8 +169,8 @@ pub fn asked_of(alloc: Global, words: &[String]) -> Result<Asked, Error>
     }
 }
 
-/// The order of the command of this name, from what clap found of its words. That the program has one is the
-/// caller's condition.
+/// The order of the command of this name, from what clap found of its arguments. The caller ensures that the program
+/// has one.
 fn named_order(alloc: Global, name: &str, found: &ArgMatches<'_>) -> Result<Order, AllocError>
     requires { IsCommandName name.now }
     ensures { IfOk result (λ order. command_in name.now (rows_of (found_of found.now))
@@ -193,7 +192,7 @@ fn named_order(alloc: Global, name: &str, found: &ArgMatches<'_>) -> Result<Orde
     }
 }
 
-/// The order of `run`, from what clap found of its words.
+/// The order of `run`, from what clap found of its arguments.
 fn run_order(alloc: Global, found: &ArgMatches<'_>) -> Result<Order, AllocError>
     ensures { IfOk result (λ order. text_of order ≡ run_in (rows_of (found_of found.now))) }
 {
@@ -206,7 +205,7 @@ fn run_order(alloc: Global, found: &ArgMatches<'_>) -> Result<Order, AllocError>
     })
 }
 
-/// The order of `plain`, from what clap found of its words.
+/// The order of `plain`, from what clap found of its arguments.
 fn plain_order(alloc: Global, found: &ArgMatches<'_>) -> Result<Order, AllocError>
     ensures { IfOk result (λ order. text_of order ≡ plain_in (rows_of (found_of found.now))) }
 {
@@ -217,7 +216,7 @@ fn plain_order(alloc: Global, found: &ArgMatches<'_>) -> Result<Order, AllocErro
     })
 }
 
-/// The order of `check`, from what clap found of its words.
+/// The order of `check`, from what clap found of its arguments.
 fn check_order(alloc: Global, found: &ArgMatches<'_>) -> Result<Order, AllocError>
     ensures { IfOk result (λ order. text_of order ≡ check_in (rows_of (found_of found.now))) }
 {
@@ -226,7 +225,7 @@ fn check_order(alloc: Global, found: &ArgMatches<'_>) -> Result<Order, AllocErro
     })
 }
 
-/// The order of `locate`, from what clap found of its words.
+/// The order of `locate`, from what clap found of its arguments.
 fn locate_order(alloc: Global, found: &ArgMatches<'_>) -> Result<Order, AllocError>
     ensures { IfOk result (λ order. text_of order ≡ locate_in (rows_of (found_of found.now))) }
 {
@@ -235,7 +234,7 @@ fn locate_order(alloc: Global, found: &ArgMatches<'_>) -> Result<Order, AllocErr
     })
 }
 
-/// The order of `stats`, from what clap found of its words.
+/// The order of `stats`, from what clap found of its arguments.
 fn stats_order(alloc: Global, found: &ArgMatches<'_>) -> Result<Order, AllocError>
     ensures { IfOk result (λ order. text_of order ≡ stats_in (rows_of (found_of found.now))) }
 {
@@ -244,7 +243,7 @@ fn stats_order(alloc: Global, found: &ArgMatches<'_>) -> Result<Order, AllocErro
     })
 }
 
-/// The order of `garble`, from what clap found of its words.
+/// The order of `garble`, from what clap found of its arguments.
 fn garble_order(alloc: Global, found: &ArgMatches<'_>) -> Result<Order, AllocError>
     ensures { IfOk result (λ order. text_of order ≡ garble_in (rows_of (found_of found.now))) }
 {
@@ -257,7 +256,7 @@ fn garble_order(alloc: Global, found: &ArgMatches<'_>) -> Result<Order, AllocErr
     })
 }
 
-/// The order of `deal`, from what clap found of its words.
+/// The order of `deal`, from what clap found of its arguments.
 fn deal_order(alloc: Global, found: &ArgMatches<'_>) -> Result<Order, AllocError>
     ensures { IfOk result (λ order. text_of order ≡ deal_in (rows_of (found_of found.now))) }
 {
@@ -270,7 +269,7 @@ fn deal_order(alloc: Global, found: &ArgMatches<'_>) -> Result<Order, AllocError
     })
 }
 
-/// The order of `eval`, from what clap found of its words.
+/// The order of `eval`, from what clap found of its arguments.
 fn eval_order(alloc: Global, found: &ArgMatches<'_>) -> Result<Order, AllocError>
     ensures { IfOk result (λ order. text_of order ≡ eval_in (rows_of (found_of found.now))) }
 {
@@ -283,7 +282,7 @@ fn eval_order(alloc: Global, found: &ArgMatches<'_>) -> Result<Order, AllocError
     })
 }
 
-/// The order of `jobs`, from what clap found of its words.
+/// The order of `jobs`, from what clap found of its arguments.
 fn jobs_order(alloc: Global, found: &ArgMatches<'_>) -> Result<Order, AllocError>
     ensures { IfOk result (λ order. text_of order ≡ jobs_in (rows_of (found_of found.now))) }
 {
@@ -295,7 +294,7 @@ fn jobs_order(alloc: Global, found: &ArgMatches<'_>) -> Result<Order, AllocError
     })
 }
 
-/// The order of `labels`, from what clap found of its words.
+/// The order of `labels`, from what clap found of its arguments.
 fn labels_order(alloc: Global, found: &ArgMatches<'_>) -> Result<Order, AllocError>
     ensures { IfOk result (λ order. text_of order ≡ labels_in (rows_of (found_of found.now))) }
 {
@@ -308,7 +307,7 @@ fn labels_order(alloc: Global, found: &ArgMatches<'_>) -> Result<Order, AllocErr
     })
 }
 
-/// The order of `audit`, from what clap found of its words.
+/// The order of `audit`, from what clap found of its arguments.
 fn audit_order(alloc: Global, found: &ArgMatches<'_>) -> Result<Order, AllocError>
     ensures { IfOk result (λ order. text_of order ≡ audit_in (rows_of (found_of found.now))) }
 {

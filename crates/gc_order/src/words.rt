@@ -1,4 +1,4 @@
-//! What clap found of the words of a command.
+//! What clap found of a command's arguments.
 
 ghost use Rattle.std.specs.Prelude.{◌≡◌, map, IfOk, string_bytes};
 ghost use Rattle.clap.specs.Words.{found_of, rows_of};

@@ -1,4 +1,4 @@
--- The command `audit`: what it answers, and which fault it has. What is said of a file is said where its bytes are
+-- The command `audit`: what it returns, and which fault it has. What is said of a file is said where its bytes are
 -- known.
 use Rattle.std.specs.Prelude.{◌≡◌, ◌≢◌, ℕ, ◌≤◌, ◌↔◌, ◌⊎◌, ◌&&◌, Bool, true, false, IsTrue, List, [], ◌∷◌, ◌++◌, length, map, slice_get, Option, Some, None, IfSome, codes}
 use Rattle.gc_netlist.specs.Circuit.{Netlist}
@@ -167,8 +167,8 @@ pub record AnswersAudit (bytes : FileBytes) (circuit seed_text garbled : List �
   pub printed : AreAuditLines c seed g files honest lines
 
 -- When `audit` has which fault: it is the first in the order of the work (the circuit, the seed, the garbled file, the
--- label files in turn, garbling, where memory alone may run out), but that memory may run out at each step. A file that can't be
--- read has failed, and each file before it, and the seed, is what it has to be.
+-- label files in turn, garbling, where memory alone may run out), but that memory may run out at each step. A file that
+-- can't be read has failed, and each file before it, and the seed, is what it must be.
 abbrev pub HasAuditFault : FileBytes → (List ℕ → Type 0) → List ℕ → List ℕ → List ℕ
     → List (List ℕ) → Fault → Type 0
 HasAuditFault bytes Failed circuit seed garbled labels CannotRead =

@@ -1,4 +1,4 @@
--- The command `labels`: what it answers, and which fault it has.
+-- The command `labels`: what it returns, and which fault it has.
 use Rattle.std.specs.Prelude.{◌≡◌, ℕ, ◌-◌, Bool, false, List, [], ◌∷◌, take, filter, slice_index, slice_index_or}
 use Rattle.std.specs.List.{flat_map, range_with_len}
 use Rattle.hex.specs.Hex.{encode_lower}
@@ -54,7 +54,7 @@ pub record AreLabelLines (c : Netlist) (seed : List ℕ) (values : List (List Bo
   pub printed : lines ≡ flat_map (line_of_wire (offset_of seed) garbling.zero_labels bits)
       (set_from c from count)
 
--- What `labels` answers: these lines, for the values that the texts spell.
+-- What `labels` returns: these lines, for the values that the texts spell.
 pub record AnswersLabels (bytes seed_text : List ℕ) (from count : ℕ) (texts : List (List ℕ))
     (lines : List ℕ) : Type 0 where
   pub circuit : Netlist

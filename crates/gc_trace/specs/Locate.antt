@@ -1,4 +1,4 @@
--- The command `locate`: what it answers, and which fault it has.
+-- The command `locate`: what it returns, and which fault it has.
 use Rattle.std.specs.Prelude.{◌≡◌, ℕ, ◌⊎◌, List, [], ◌∷◌, ◌++◌, Option, Some, None, codes}
 use Rattle.gc_netlist.specs.declared.fault.ReadFault.{ReadFault}
 use Rattle.gc_netlist.specs.declared.fault.ReadFault.TheVariants as read
@@ -30,7 +30,7 @@ located_lines located =
     ++ count_line (codes "line") located.line ++ count_line (codes "column") located.column
     ++ optional_line (codes "gate") located.gate ++ optional_line (codes "wire") located.wire
 
--- What `locate` answers: where the first fault is; or that there is none, and then the bytes are a circuit's.
+-- What `locate` returns: where the first fault is; or that there is none, and then the bytes are a circuit's.
 abbrev pub AnswersLocate : List ℕ → List ℕ → Type 0
 AnswersLocate bytes lines =
     ((c : Netlist) × IsCircuit bytes c × (lines ≡ codes "no fault\n"))

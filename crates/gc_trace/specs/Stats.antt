@@ -1,4 +1,4 @@
--- The command `stats`: what it answers, and which fault it has.
+-- The command `stats`: what it returns, and which fault it has.
 use Rattle.std.specs.Prelude.{◌≡◌, ℕ, List, ◌++◌, codes}
 use Rattle.gc_netlist.specs.Circuit.{Netlist}
 use Rattle.gc_audit.specs.declared.figures.Stats.{Stats}
@@ -21,7 +21,7 @@ stats_lines stats =
     ++ count_line (codes "garbled1") stats.garbled1
     ++ count_line (codes "garbled2") stats.garbled2
 
--- What `stats` answers: the lines of the statistics of the circuit that the bytes are.
+-- What `stats` returns: the lines of the statistics of the circuit that the bytes are.
 pub record AnswersStats (bytes lines : List ℕ) : Type 0 where
   pub circuit : Netlist
   pub read : IsCircuit bytes circuit

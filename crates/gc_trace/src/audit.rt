@@ -89,8 +89,8 @@ pub fn audit<R: Threads + Wait + Sync, A: Allocator + Copy + Send + Sync, F: Fil
 }
 
 /// Garbles the circuit under the seed, compares a garbled file with what that makes, and returns the garbling and what
-/// was found. Meanwhile another thread finishes the circuit's digest, where one can be started. That the digest begun
-/// is the circuit's is the caller's condition.
+/// was found. Meanwhile another thread finishes the circuit's digest, where one can be started. The caller ensures that
+/// the digest begun is the circuit's.
 fn garbling_and_audit<R: Threads + Sync, A: Allocator + Copy + Send + Sync>(
     rt: &R,
     alloc: A,
@@ -336,8 +336,8 @@ fn push_entry_difference<A: Allocator>(
     Ok(())
 }
 
-/// Adds the line of each label file, and returns whether all are the dealer's. That `garbling` is the circuit's under
-/// the seed is the caller's condition.
+/// Adds the line of each label file, and returns whether all are the dealer's. The caller ensures that `garbling` is
+/// the circuit's under the seed.
 fn push_label_files<A: Allocator + Copy>(
     lines: &mut Vec<u8, A>,
     alloc: A,

@@ -50,9 +50,9 @@ impl<A: Allocator> Model for LabelLines<A> {
         × (length l.bits.items ≡ l.wires.wires) };
 }
 
-/// Reads the circuit of a file, the seed and the values, garbles the circuit on one thread, and answers the lines of
-/// its set wires from `from` on, at most `count`: each wire's number, its zero label, its active label for the
-/// values, and its bit.
+/// Reads the circuit of a file, the seed and the values, garbles the circuit on one thread, and returns the lines of
+/// its set wires from `from` on, at most `count`: each wire's number, its zero label, its active label for the values,
+/// and its bit.
 pub fn labels<A: Allocator + Copy, F: Files>(
     alloc: A,
     circuit: &str,
@@ -77,7 +77,7 @@ pub fn labels<A: Allocator + Copy, F: Files>(
 }
 
 /// The lines of the circuit's wires under a seed for these values. The row pairs are dropped before the bits are made.
-/// That the values fit the circuit is the caller's condition.
+/// The caller ensures that the values fit the circuit.
 fn lines_of<A: Allocator + Copy>(
     alloc: A,
     circuit: &Circuit<A>,

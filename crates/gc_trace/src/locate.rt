@@ -10,7 +10,7 @@ use gc_command::{Fault, push_count, push_number};
 use gc_disk::Files;
 use std::alloc::{AllocError, Allocator};
 
-/// Reads the text of a file, and answers where its first fault is as a circuit, or the line `no fault`.
+/// Reads the text of a file, and returns where its first fault is as a circuit, or the line `no fault`.
 pub fn locate<A: Allocator + Copy, F: Files>(
     alloc: A,
     circuit: &str,

@@ -35,7 +35,7 @@ impl<A: Allocator> Model for SetWires<A> {
 }
 
 impl<A: Allocator> SetWires<A> {
-    /// The wires that are set from `from` on, at most `count`. It takes memory once, a flag for each wire.
+    /// The wires that are set from `from` on, at most `count`. It allocates once, a flag for each wire.
     pub(crate) fn new<C: Allocator>(
         alloc: A,
         circuit: &Circuit<C>,

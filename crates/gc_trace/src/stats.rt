@@ -10,7 +10,7 @@ use gc_command::{Fault, push_count, read_circuit};
 use gc_disk::Files;
 use std::alloc::{AllocError, Allocator};
 
-/// Reads the circuit of a file, and answers the lines of its statistics.
+/// Reads the circuit of a file, and returns the lines of its statistics.
 pub fn stats<A: Allocator + Copy, F: Files>(
     alloc: A,
     circuit: &str,

@@ -42,7 +42,7 @@ is task t = cond (same_task task t) 1 0
 is_itself : (task : Task) → is task task ≡ 1
 is_itself task = ap (λ b. cond b 1 0) ((decides task task).1 refl)
 
--- a task that stands in the list is taken from it
+-- a task that is in the list is taken from it
 taken : (task : Task) (tasks : List Task) → 0 < weigh (is task) tasks
     → IsTaken task tasks (remove_key (same_task task) tasks)
 taken task [] some = absurd (omega arith)

@@ -130,8 +130,8 @@ fn garble_alone<A: Allocator + Copy, C: Allocator, H: Gatehouse>(
     garble_one_thread(alloc, circuit, seed)
 }
 
-/// Lets this many workers finish what they can, each with a pool of this capacity. The answer is the store and worker
-/// 0's tally.
+/// Lets this many workers finish what they can, each with a pool of this capacity. Returns the store and worker 0's
+/// tally.
 fn work_together<
     L: Ledger + Send + Sync,
     A: Allocator + Copy + Send + Sync,

@@ -171,8 +171,7 @@ impl<A: Allocator + Copy> TaskPool<A> {
 
 impl<A: Allocator> TaskPool<A> {
     /// Pushes a task. Where the pool has no room and can't grow it gives the task back, and nothing changes; it never
-    /// does so at the first `capacity` pushes, which take no memory. That the owner is this pool's is the caller's
-    /// condition.
+    /// does so at the first `capacity` pushes, which don't allocate. The caller ensures that the owner is this pool's.
     pub fn push(&self, owner: &mut Owner<A>, task: Task) -> Result<(), NoRoom>
         requires { owner.old.pool ≡ self.now }
         ensures pushed { MatchResult result
@@ -187,8 +186,8 @@ impl<A: Allocator> TaskPool<A> {
     }
 
     /// Pops a task, where this attempt takes one. Else nothing changes; of a pool without thieves that comes only where
-    /// each task that was pushed is popped. It takes from the back of the pool, but which task it takes is not promised.
-    /// That the owner is this pool's is the caller's condition. It doesn't allocate.
+    /// each task that was pushed is popped. It takes from the back of the pool, but which task it takes is not
+    /// promised. The caller ensures that the owner is this pool's. It doesn't allocate.
     pub fn pop(&self, owner: &mut Owner<A>) -> Option<Task>
         requires { owner.old.pool ≡ self.now }
         ensures popped { MatchOption result (owner.new ≡ owner.old)
@@ -199,8 +198,8 @@ impl<A: Allocator> TaskPool<A> {
         owner.worker.pop_as::<Pops>()
     }
 
-    /// Steals a task, where this attempt takes one. Else nothing changes. It takes from the front of the pool, but which
-    /// task it takes is not promised. That the thief is this pool's is the caller's condition. It doesn't allocate.
+    /// Steals a task, where this attempt takes one. Else nothing changes. It takes from the front of the pool, but
+    /// which task it takes is not promised. The caller ensures that the thief is this pool's. It doesn't allocate.
     pub fn steal(&self, thief: &mut Thief<A>) -> Option<Task>
         requires { thief.old.pool ≡ self.now }
         ensures { MatchOption result (thief.new ≡ thief.old)
@@ -212,8 +211,8 @@ impl<A: Allocator> TaskPool<A> {
         }
     }
 
-    /// Takes the owner and all thieves of the pool back. Where a thief is missing it gives all back. That the owner and
-    /// the thieves are this pool's is the caller's condition. It takes no memory.
+    /// Takes the owner and all thieves of the pool back. Where a thief is missing it gives all back. The caller ensures
+    /// that the owner and the thieves are this pool's. It doesn't allocate.
     ///
     /// The tasks pushed are, as counts, those popped, those stolen and those left.
     pub fn gather(
@@ -253,7 +252,7 @@ impl<A: Allocator> TaskPool<A> {
 
 impl<A: Allocator> Gathered<A> {
     /// Hands out one of the tasks that are left: it is popped, and the rest stays. None comes only where none is left,
-    /// and changes nothing. It takes no memory.
+    /// and changes nothing. It doesn't allocate.
     ///
     /// The tasks pushed are, as counts, those popped, those stolen and those left, also now.
     pub fn next(&mut self) -> Option<Task>

@@ -82,7 +82,7 @@ fn next_task<L: Ledger, A: Allocator, R: Wait>(
     shared.take(rt)
 }
 
-/// Seals an AND gate's task together with the kept one, or keeps it. The answer is whether there was room for them.
+/// Seals an AND gate's task together with the kept one, or keeps it. Returns whether there was room for them.
 #[inline(always)]
 fn seal_and<A: Allocator>(
     sealed: &mut Vec<Sealed, A>,
@@ -97,8 +97,8 @@ fn seal_and<A: Allocator>(
     sealed.push(one).is_ok() && sealed.push(two).is_ok()
 }
 
-/// Seals a task, or keeps one of an AND gate until it can be sealed together with another. The answer is whether there
-/// was room for what was sealed.
+/// Seals a task, or keeps one of an AND gate until it can be sealed together with another. Returns whether there was
+/// room for what was sealed.
 #[inline(always)]
 fn seal<A: Allocator>(sealed: &mut Vec<Sealed, A>, kept: &mut Option<Task>, task: Task) -> bool {
     if task.operation.is_and() {
@@ -108,8 +108,8 @@ fn seal<A: Allocator>(sealed: &mut Vec<Sealed, A>, kept: &mut Option<Task>, task
     }
 }
 
-/// Seals a task, and then others that the worker has, up to [`MAX_SEALED`] in all. The answer is whether there was room
-/// for them.
+/// Seals a task, and then others that the worker has, up to [`MAX_SEALED`] in all. Returns whether there was room for
+/// them.
 fn seal_some<L: Ledger, A: Allocator, H: Gatehouse>(
     pool: &TaskPool<A>,
     worker: &mut Worker<L, A>,

@@ -17,7 +17,7 @@ pub fn and_file(alloc: Global, version: Version) -> Result<Vec<u8>, Fail> {
     Ok(hex::decode(alloc, file)?)
 }
 
-/// What writing a garbled file answered, and the bytes that the sink then held.
+/// What writing a garbled file returned, and the bytes that the sink then held.
 #[derive(Drop)]
 pub struct Written {
     pub answer: Result<u64, WriteFault>,

@@ -1,13 +1,14 @@
-//! Each growth of a call refused in turn: the call answers its Memory fault exactly where a growth was refused, and the
-//! plain answer where none was, also after a refusal. [`refusals_met`] leaves it to its caller what a run may answer.
+//! Each allocation of a call refused in turn: the call returns its Memory fault exactly where an allocation was
+//! refused, and the plain result where none was, also after a refusal. [`refusals_met`] leaves it to its caller what a
+//! run may return.
 
 use gc_refusing::Refusing;
 use std::alloc::Global;
 
-/// What a call answered.
+/// What a call returned.
 #[derive(Clone, Copy, PartialEq, Eq, Debug)]
 pub enum Answer {
-    /// What it answers with ample memory.
+    /// What it returns with ample memory.
     Plain,
     /// Its Memory fault.
     Memory,
@@ -19,20 +20,20 @@ pub fn plain_if(holds: bool) -> Answer {
     if holds { Answer::Plain } else { Answer::Other }
 }
 
-/// A run that answered something else than it should.
+/// A run that returned something else than it should.
 #[derive(Clone, Copy, PartialEq, Eq, Debug)]
 pub enum Stray {
-    /// The run with this growth refused, which had to answer its Memory fault.
+    /// The run with this allocation refused, which had to return its Memory fault.
     Refused(u64, Answer),
-    /// A run with ample memory after as many growths, which had to give the plain answer.
+    /// A run with ample memory after as many allocations, which had to give the plain result.
     Ample(u64, Answer),
     /// Each run met a refusal.
     Endless,
 }
 
-/// Makes the call with growth 1, 2, 3, .. refused, until a run meets no refusal. Each run that meets one answers its
-/// Memory fault, and each other one, also over memory that refused a growth before, the plain answer. The answer is how
-/// many runs met a refusal.
+/// Makes the call with allocation 1, 2, 3, .. refused, until a run meets no refusal. Each run that meets one returns
+/// its Memory fault, and each other one, also over memory that refused an allocation before, the plain result. Returns
+/// how many runs met a refusal.
 pub fn runs_refused<F: Fn(&Refusing<Global>) -> Answer>(
     alloc: Global,
     call: F,
@@ -59,8 +60,8 @@ pub fn runs_refused<F: Fn(&Refusing<Global>) -> Answer>(
     Err(Stray::Endless)
 }
 
-/// Makes a run with growth 1, 2, 3, .. refused, until one meets no refusal; `is_right` says whether a run answers as it
-/// should. The answer is how many runs met a refusal; None where one answered something else, or each met one.
+/// Makes a run with allocation 1, 2, 3, .. refused, until one meets no refusal; `is_right` says whether a run returns
+/// as it should. Returns how many runs met a refusal; None where one returned something else, or each met one.
 pub fn refusals_met<F: Fn(&Refusing<Global>) -> Option<bool>>(
     alloc: Global,
     is_right: F,

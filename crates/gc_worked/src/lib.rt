@@ -1,5 +1,5 @@
 //! What the tests of several crates share: worked circuits and files, the files of circuits under one seed, calls whose
-//! growths are refused in turn, workers that meet, and an observer that counts.
+//! allocations are refused in turn, workers that meet, and an observer that counts.
 #![tactic(auto)]
 
 pub mod circuits;

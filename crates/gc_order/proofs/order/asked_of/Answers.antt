@@ -41,7 +41,7 @@ is_simple-alone : is_simple program ≡ true
 unfolding clap_on_literals
 is_simple-alone = refl
 
--- the subcommand that clap's rules find, from what its calls answer
+-- the subcommand that clap's rules find, from what its calls return
 found-subcommand : (c : Command) (m : ArgMatches) (words : List (List ℕ)) (name : List ℕ)
     (rows : List Row) → HasShape program c → HasMatchesOf (app_of c) words m
     → Some name ≡ subcommand_name_of m → Some rows ≡ option_map (λ p. p.1) (subcommand_rows_of m)
