@@ -210,7 +210,7 @@ fn two_garblings_of_a_circuit(rt: HostRuntime) -> Result<(), Fail> {
     assert!(rt; first.rows() == [FIRST_AND.rows(), SECOND_AND.rows()].as_slice());
     let alone = garble_one_thread(rt.alloc(), &circuit, &seed)?;
     assert!(rt; second.zero_labels() == alone.zero_labels() && second.rows() == alone.rows());
-    assert!(rt; second.zero_label(0) != first.zero_label(0) && second.rows() != first.rows());
+    assert!(rt; second.zero_labels() != first.zero_labels() && second.rows() != first.rows());
     Ok(())
 }
 
