@@ -93,9 +93,21 @@ fn a_bank_that_is_given_on_is_used(rt: HostRuntime) -> Result<(), Fail> {
         "1".repeat(alloc, GATES as usize)?,
     );
     let mut jobs = Vec::new(alloc);
-    for values in [[&zeros, &ones], [&ones, &zeros], [&ones, &ones]] {
-        let values = [values[0].as_str(), values[1].as_str()];
-        jobs.push(job_of(alloc, &circuit, text.as_str(), Version::Two, &values)?)?;
+    for (first, second) in [(false, true), (true, false), (true, true)] {
+        let first = if first { ones.as_str() } else { zeros.as_str() };
+        let second = if second {
+            ones.as_str()
+        } else {
+            zeros.as_str()
+        };
+        let job = job_of(
+            alloc,
+            &circuit,
+            text.as_str(),
+            Version::Two,
+            &[first, second],
+        )?;
+        jobs.push(job)?;
     }
     let observer = Rounds::new(alloc)?;
     let found = evaluated(&rt, alloc, &jobs, WORKERS, &observer);
