@@ -188,8 +188,7 @@ fn workers_of(order: &Order) -> Option<u32> {
         Order::Run { workers, .. }
         | Order::Garble { workers, .. }
         | Order::Eval { workers, .. }
-        | Order::Jobs { workers, .. }
-        | Order::Audit { workers, .. } => Some(*workers),
+        | Order::Jobs { workers, .. } => Some(*workers),
         _ => None,
     }
 }
