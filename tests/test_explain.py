@@ -295,7 +295,7 @@ class Explain(ProgramTest):
                     self.assert_explained("18 BadSeed", line, command, "c.txt", *words)
 
     def test_workers(self):
-        for command in "run", "garble", "eval", "jobs", "audit":
+        for command in "run", "garble", "eval", "jobs":
             for workers in "0", "65":
                 self.assert_explained(
                     "22 BadWorkers",
