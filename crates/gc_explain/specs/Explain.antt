@@ -24,7 +24,7 @@ circuit_of (deal circuit seed index value out) = circuit
 circuit_of (eval circuit garbled workers hex labels) = circuit
 circuit_of (jobs circuit list workers hex) = circuit
 circuit_of (list_labels circuit seed from count values) = circuit
-circuit_of (audit circuit seed garbled workers labels) = circuit
+circuit_of (audit circuit seed garbled labels) = circuit
 
 -- the place that is a whole file: `NAME: `
 abbrev pub file_place : List ℕ → List ℕ
