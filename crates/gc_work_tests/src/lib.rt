@@ -10,8 +10,6 @@ mod pools;
 #[cfg(test)]
 mod shared_stores;
 #[cfg(test)]
-mod sleepers;
-#[cfg(test)]
 mod stores;
 #[cfg(test)]
 mod ways;
