@@ -1,13 +1,29 @@
 /*
- * The functions of halfgates.h that take buffers. A slice of Rattle is never NULL: where C passes a NULL, the proved
- * export sees another address, and can't look. So each function here refuses a NULL that has a size, and then calls
- * the proved export of its name, which the build renames to proved_halfgates_..
+ * The functions of halfgates.h that take handles or buffers. Each calls the proved export of its name, which the build
+ * renames to proved_halfgates_..
+ *
+ * A handle: the proved export takes the address of a pointer that this call alone has, by which it reads what the
+ * handle holds. So several calls may read one handle at once.
+ *
+ * A buffer: a slice of Rattle is never NULL. Where C passes a NULL, the proved export sees another address, and can't
+ * look. So each function here refuses a NULL that has a size.
  */
 #include <halfgates.h>
 
 #define PROVED(name) extern __typeof__(name) proved_##name
 
+/* What the proved export takes in place of a handle. */
+#define LENT(handle) ((void *)&(handle))
+
 PROVED(halfgates_circuit_read);
+PROVED(halfgates_circuit_share);
+PROVED(halfgates_circuit_numbers);
+PROVED(halfgates_circuit_digest);
+PROVED(halfgates_garble);
+PROVED(halfgates_garbled_size);
+PROVED(halfgates_offset);
+PROVED(halfgates_zero_label);
+PROVED(halfgates_decode_bit);
 PROVED(halfgates_circuit_input_widths);
 PROVED(halfgates_circuit_output_widths);
 PROVED(halfgates_locate);
@@ -29,11 +45,11 @@ PROVED(halfgates_job_output_labels);
 PROVED(halfgates_decode);
 
 /* These take the size of each of their buffers. */
-extern int32_t proved_halfgates_input_labels(halfgates_garbling *garbling, uint32_t index, uint8_t *zero,
+extern int32_t proved_halfgates_input_labels(const halfgates_garbling *garbling, uint32_t index, uint8_t *zero,
                                              size_t zero_size, uint8_t *one, size_t one_size);
-extern int32_t proved_halfgates_output_labels(halfgates_garbling *garbling, uint32_t index, uint8_t *zero,
+extern int32_t proved_halfgates_output_labels(const halfgates_garbling *garbling, uint32_t index, uint8_t *zero,
                                               size_t zero_size, uint8_t *one, size_t one_size);
-extern int32_t proved_halfgates_garble_many(halfgates_circuit *circuit, const uint8_t *seeds, size_t count,
+extern int32_t proved_halfgates_garble_many(const halfgates_circuit *circuit, const uint8_t *seeds, size_t count,
                                             halfgates_garbling **garblings, size_t garblings_count);
 
 /* Whether there is a buffer of this size, or none is asked for. */
@@ -43,154 +59,188 @@ static int is_there(const void *buffer, size_t size) {
 
 int32_t halfgates_circuit_read(const uint8_t *text, size_t length, halfgates_circuit **circuit) {
     if (!is_there(text, length))
-        return HALFGATES_BAD_ARGUMENT;
+        return HALFGATES_NULL_POINTER;
     return proved_halfgates_circuit_read(text, length, circuit);
 }
 
-int32_t halfgates_circuit_input_widths(halfgates_circuit *circuit, uint32_t *widths, size_t count) {
-    if (!is_there(widths, count))
-        return HALFGATES_BAD_ARGUMENT;
-    return proved_halfgates_circuit_input_widths(circuit, widths, count);
+int32_t halfgates_circuit_share(const halfgates_circuit *circuit, halfgates_circuit **other) {
+    return proved_halfgates_circuit_share(LENT(circuit), other);
 }
 
-int32_t halfgates_circuit_output_widths(halfgates_circuit *circuit, uint32_t *widths, size_t count) {
+int32_t halfgates_circuit_numbers(const halfgates_circuit *circuit, halfgates_numbers *numbers) {
+    return proved_halfgates_circuit_numbers(LENT(circuit), numbers);
+}
+
+int32_t halfgates_circuit_digest(const halfgates_circuit *circuit, uint8_t digest[32]) {
+    return proved_halfgates_circuit_digest(LENT(circuit), digest);
+}
+
+int32_t halfgates_garble(const halfgates_circuit *circuit, const uint8_t seed[32], halfgates_garbling **garbling) {
+    return proved_halfgates_garble(LENT(circuit), seed, garbling);
+}
+
+uint64_t halfgates_garbled_size(const halfgates_circuit *circuit, uint32_t version) {
+    return proved_halfgates_garbled_size(LENT(circuit), version);
+}
+
+int32_t halfgates_offset(const halfgates_garbling *garbling, uint8_t offset[16]) {
+    return proved_halfgates_offset(LENT(garbling), offset);
+}
+
+int32_t halfgates_zero_label(const halfgates_garbling *garbling, uint32_t wire, uint8_t label[16]) {
+    return proved_halfgates_zero_label(LENT(garbling), wire, label);
+}
+
+int32_t halfgates_decode_bit(const halfgates_garbling *garbling, uint32_t output, uint8_t *bit) {
+    return proved_halfgates_decode_bit(LENT(garbling), output, bit);
+}
+
+int32_t halfgates_circuit_input_widths(const halfgates_circuit *circuit, uint32_t *widths, size_t count) {
     if (!is_there(widths, count))
-        return HALFGATES_BAD_ARGUMENT;
-    return proved_halfgates_circuit_output_widths(circuit, widths, count);
+        return HALFGATES_NULL_POINTER;
+    return proved_halfgates_circuit_input_widths(LENT(circuit), widths, count);
+}
+
+int32_t halfgates_circuit_output_widths(const halfgates_circuit *circuit, uint32_t *widths, size_t count) {
+    if (!is_there(widths, count))
+        return HALFGATES_NULL_POINTER;
+    return proved_halfgates_circuit_output_widths(LENT(circuit), widths, count);
 }
 
 int32_t halfgates_locate(const uint8_t *text, size_t length, halfgates_place *place) {
     if (!is_there(text, length))
-        return HALFGATES_BAD_ARGUMENT;
+        return HALFGATES_NULL_POINTER;
     return proved_halfgates_locate(text, length, place);
 }
 
-int32_t halfgates_plain(halfgates_circuit *circuit, const uint8_t *bits, size_t size, uint8_t *outputs,
+int32_t halfgates_plain(const halfgates_circuit *circuit, const uint8_t *bits, size_t size, uint8_t *outputs,
                         size_t outputs_size) {
     if (!is_there(bits, size) || !is_there(outputs, outputs_size))
-        return HALFGATES_BAD_ARGUMENT;
-    return proved_halfgates_plain(circuit, bits, size, outputs, outputs_size);
+        return HALFGATES_NULL_POINTER;
+    return proved_halfgates_plain(LENT(circuit), bits, size, outputs, outputs_size);
 }
 
-int32_t halfgates_garbling_write(halfgates_garbling *garbling, uint32_t version, uint8_t *buffer, size_t size,
+int32_t halfgates_garbling_write(const halfgates_garbling *garbling, uint32_t version, uint8_t *buffer, size_t size,
                                  size_t *written) {
     if (!is_there(buffer, size))
-        return HALFGATES_BAD_ARGUMENT;
-    return proved_halfgates_garbling_write(garbling, version, buffer, size, written);
+        return HALFGATES_NULL_POINTER;
+    return proved_halfgates_garbling_write(LENT(garbling), version, buffer, size, written);
 }
 
-int32_t halfgates_deal(halfgates_circuit *circuit, const uint8_t seed[32], uint32_t index, const uint8_t *bits,
+int32_t halfgates_deal(const halfgates_circuit *circuit, const uint8_t seed[32], uint32_t index, const uint8_t *bits,
                        size_t count, uint8_t *buffer, size_t size, size_t *written) {
     if (!is_there(bits, count) || !is_there(buffer, size))
-        return HALFGATES_BAD_ARGUMENT;
-    return proved_halfgates_deal(circuit, seed, index, bits, count, buffer, size, written);
+        return HALFGATES_NULL_POINTER;
+    return proved_halfgates_deal(LENT(circuit), seed, index, bits, count, buffer, size, written);
 }
 
-int32_t halfgates_labels(halfgates_garbling *garbling, const uint8_t *bits, size_t size, uint32_t from,
+int32_t halfgates_labels(const halfgates_garbling *garbling, const uint8_t *bits, size_t size, uint32_t from,
                          halfgates_wire_labels *labels, size_t count) {
     if (!is_there(bits, size) || !is_there(labels, count))
-        return HALFGATES_BAD_ARGUMENT;
-    return proved_halfgates_labels(garbling, bits, size, from, labels, count);
+        return HALFGATES_NULL_POINTER;
+    return proved_halfgates_labels(LENT(garbling), bits, size, from, labels, count);
 }
 
-int32_t halfgates_job_bind(halfgates_circuit *circuit, const uint8_t *garbled, size_t length, const uint8_t *labels,
-                           size_t labels_size, const size_t *lengths, size_t count, halfgates_job **job) {
+int32_t halfgates_job_bind(const halfgates_circuit *circuit, const uint8_t *garbled, size_t length,
+                           const uint8_t *labels, size_t labels_size, const size_t *lengths, size_t count,
+                           halfgates_job **job) {
     if (!is_there(garbled, length) || !is_there(labels, labels_size) || !is_there(lengths, count))
-        return HALFGATES_BAD_ARGUMENT;
-    return proved_halfgates_job_bind(circuit, garbled, length, labels, labels_size, lengths, count, job);
+        return HALFGATES_NULL_POINTER;
+    return proved_halfgates_job_bind(LENT(circuit), garbled, length, labels, labels_size, lengths, count, job);
 }
 
-int32_t halfgates_evaluate(halfgates_job *job, uint8_t *bits, size_t size) {
+int32_t halfgates_evaluate(const halfgates_job *job, uint8_t *bits, size_t size) {
     if (!is_there(bits, size))
-        return HALFGATES_BAD_ARGUMENT;
-    return proved_halfgates_evaluate(job, bits, size);
+        return HALFGATES_NULL_POINTER;
+    return proved_halfgates_evaluate(LENT(job), bits, size);
 }
 
-int32_t halfgates_audit(halfgates_garbling *garbling, const uint8_t *garbled, size_t length,
+int32_t halfgates_audit(const halfgates_garbling *garbling, const uint8_t *garbled, size_t length,
                         halfgates_audit_report *report) {
     if (!is_there(garbled, length))
-        return HALFGATES_BAD_ARGUMENT;
-    return proved_halfgates_audit(garbling, garbled, length, report);
+        return HALFGATES_NULL_POINTER;
+    return proved_halfgates_audit(LENT(garbling), garbled, length, report);
 }
 
-int32_t halfgates_audit_labels(halfgates_garbling *garbling, const uint8_t *labels, size_t length, uint8_t *bits,
+int32_t halfgates_audit_labels(const halfgates_garbling *garbling, const uint8_t *labels, size_t length, uint8_t *bits,
                                size_t size, halfgates_labels_report *report) {
     if (!is_there(labels, length) || !is_there(bits, size))
-        return HALFGATES_BAD_ARGUMENT;
-    return proved_halfgates_audit_labels(garbling, labels, length, bits, size, report);
+        return HALFGATES_NULL_POINTER;
+    return proved_halfgates_audit_labels(LENT(garbling), labels, length, bits, size, report);
 }
 
-int32_t halfgates_garble_many(halfgates_circuit *circuit, const uint8_t *seeds, size_t count,
+int32_t halfgates_garble_many(const halfgates_circuit *circuit, const uint8_t *seeds, size_t count,
                               halfgates_garbling **garblings) {
     if (!is_there(seeds, count) || !is_there(garblings, count))
-        return HALFGATES_BAD_ARGUMENT;
-    return proved_halfgates_garble_many(circuit, seeds, count, garblings, count);
+        return HALFGATES_NULL_POINTER;
+    return proved_halfgates_garble_many(LENT(circuit), seeds, count, garblings, count);
 }
 
-int32_t halfgates_garble_from(halfgates_circuit *circuit, const uint8_t offset[16], const uint8_t *zero_labels,
+int32_t halfgates_garble_from(const halfgates_circuit *circuit, const uint8_t offset[16], const uint8_t *zero_labels,
                               size_t size, uint64_t first, halfgates_garbling **garbling) {
     if (!is_there(zero_labels, size))
-        return HALFGATES_BAD_ARGUMENT;
-    return proved_halfgates_garble_from(circuit, offset, zero_labels, size, first, garbling);
+        return HALFGATES_NULL_POINTER;
+    return proved_halfgates_garble_from(LENT(circuit), offset, zero_labels, size, first, garbling);
 }
 
-int32_t halfgates_input_labels(halfgates_garbling *garbling, uint32_t index, uint8_t *zero, uint8_t *one,
+int32_t halfgates_input_labels(const halfgates_garbling *garbling, uint32_t index, uint8_t *zero, uint8_t *one,
                                size_t size) {
     if (!is_there(zero, size) || !is_there(one, size))
-        return HALFGATES_BAD_ARGUMENT;
-    return proved_halfgates_input_labels(garbling, index, zero, size, one, size);
+        return HALFGATES_NULL_POINTER;
+    return proved_halfgates_input_labels(LENT(garbling), index, zero, size, one, size);
 }
 
-int32_t halfgates_output_labels(halfgates_garbling *garbling, uint32_t index, uint8_t *zero, uint8_t *one,
+int32_t halfgates_output_labels(const halfgates_garbling *garbling, uint32_t index, uint8_t *zero, uint8_t *one,
                                 size_t size) {
     if (!is_there(zero, size) || !is_there(one, size))
-        return HALFGATES_BAD_ARGUMENT;
-    return proved_halfgates_output_labels(garbling, index, zero, size, one, size);
+        return HALFGATES_NULL_POINTER;
+    return proved_halfgates_output_labels(LENT(garbling), index, zero, size, one, size);
 }
 
-int32_t halfgates_rows(halfgates_garbling *garbling, uint8_t *rows, size_t size) {
+int32_t halfgates_rows(const halfgates_garbling *garbling, uint8_t *rows, size_t size) {
     if (!is_there(rows, size))
-        return HALFGATES_BAD_ARGUMENT;
-    return proved_halfgates_rows(garbling, rows, size);
+        return HALFGATES_NULL_POINTER;
+    return proved_halfgates_rows(LENT(garbling), rows, size);
 }
 
-int32_t halfgates_decode_bits(halfgates_garbling *garbling, uint8_t *bits, size_t size) {
+int32_t halfgates_decode_bits(const halfgates_garbling *garbling, uint8_t *bits, size_t size) {
     if (!is_there(bits, size))
-        return HALFGATES_BAD_ARGUMENT;
-    return proved_halfgates_decode_bits(garbling, bits, size);
+        return HALFGATES_NULL_POINTER;
+    return proved_halfgates_decode_bits(LENT(garbling), bits, size);
 }
 
-int32_t halfgates_garbling_deal(halfgates_garbling *garbling, uint32_t index, const uint8_t *bits, size_t count,
+int32_t halfgates_garbling_deal(const halfgates_garbling *garbling, uint32_t index, const uint8_t *bits, size_t count,
                                 uint8_t *buffer, size_t size, size_t *written) {
     if (!is_there(bits, count) || !is_there(buffer, size))
-        return HALFGATES_BAD_ARGUMENT;
-    return proved_halfgates_garbling_deal(garbling, index, bits, count, buffer, size, written);
+        return HALFGATES_NULL_POINTER;
+    return proved_halfgates_garbling_deal(LENT(garbling), index, bits, count, buffer, size, written);
 }
 
-int32_t halfgates_label_file(halfgates_circuit *circuit, uint32_t index, const uint8_t *labels, size_t labels_size,
-                             uint8_t *buffer, size_t size, size_t *written) {
+int32_t halfgates_label_file(const halfgates_circuit *circuit, uint32_t index, const uint8_t *labels,
+                             size_t labels_size, uint8_t *buffer, size_t size, size_t *written) {
     if (!is_there(labels, labels_size) || !is_there(buffer, size))
-        return HALFGATES_BAD_ARGUMENT;
-    return proved_halfgates_label_file(circuit, index, labels, labels_size, buffer, size, written);
+        return HALFGATES_NULL_POINTER;
+    return proved_halfgates_label_file(LENT(circuit), index, labels, labels_size, buffer, size, written);
 }
 
-int32_t halfgates_evaluate_labels(halfgates_circuit *circuit, const uint8_t *rows, size_t rows_size, uint64_t first,
-                                  const uint8_t *labels, size_t labels_size, uint8_t *outputs, size_t outputs_size) {
+int32_t halfgates_evaluate_labels(const halfgates_circuit *circuit, const uint8_t *rows, size_t rows_size,
+                                  uint64_t first, const uint8_t *labels, size_t labels_size, uint8_t *outputs,
+                                  size_t outputs_size) {
     if (!is_there(rows, rows_size) || !is_there(labels, labels_size) || !is_there(outputs, outputs_size))
-        return HALFGATES_BAD_ARGUMENT;
-    return proved_halfgates_evaluate_labels(circuit, rows, rows_size, first, labels, labels_size, outputs,
+        return HALFGATES_NULL_POINTER;
+    return proved_halfgates_evaluate_labels(LENT(circuit), rows, rows_size, first, labels, labels_size, outputs,
                                             outputs_size);
 }
 
-int32_t halfgates_job_output_labels(halfgates_job *job, uint8_t *outputs, size_t size) {
+int32_t halfgates_job_output_labels(const halfgates_job *job, uint8_t *outputs, size_t size) {
     if (!is_there(outputs, size))
-        return HALFGATES_BAD_ARGUMENT;
-    return proved_halfgates_job_output_labels(job, outputs, size);
+        return HALFGATES_NULL_POINTER;
+    return proved_halfgates_job_output_labels(LENT(job), outputs, size);
 }
 
 int32_t halfgates_decode(const uint8_t *labels, size_t labels_size, const uint8_t *decode_bits, size_t count,
                          uint8_t *bits, size_t size) {
     if (!is_there(labels, labels_size) || !is_there(decode_bits, count) || !is_there(bits, size))
-        return HALFGATES_BAD_ARGUMENT;
+        return HALFGATES_NULL_POINTER;
     return proved_halfgates_decode(labels, labels_size, decode_bits, count, bits, size);
 }

@@ -184,7 +184,7 @@ class Refusals(LabelsTest):
         garble(self.offset, self.zeros, LIMIT - 1).close()
         self.assert_fault("60 BadArgument", garble, b"\2" + b"\1" * 15, self.zeros)
         for size in (0, 32, 47, 49, 64):
-            self.assert_fault("60 BadArgument", garble, self.offset, bytes(size))
+            self.assert_fault("66 WrongSize", garble, self.offset, bytes(size))
         for size in (0, 15, 17):
             self.assertRaisesRegex(ValueError, "^an offset has 16 bytes", garble, b"\1" * size, self.zeros)
         for first in (-1, 2**64):
@@ -206,9 +206,9 @@ class Refusals(LabelsTest):
         for first in (LIMIT, 2**64 - 1):
             self.assert_fault("60 BadArgument", evaluate, rows, self.zeros, first)
         for size in (0, 31, 33, 64):
-            self.assert_fault("60 BadArgument", evaluate, bytes(size), self.zeros)
+            self.assert_fault("66 WrongSize", evaluate, bytes(size), self.zeros)
         for size in (0, 32, 47, 49):
-            self.assert_fault("60 BadArgument", evaluate, rows, bytes(size))
+            self.assert_fault("66 WrongSize", evaluate, rows, bytes(size))
         self.assertEqual(len(evaluate(rows, self.zeros, LIMIT - 1)), 32)
 
     def test_values(self):
@@ -221,7 +221,7 @@ class Refusals(LabelsTest):
             self.assert_fault("15 BadDigit", garbling.deal, 0, [2])
         self.assert_fault("42 NoSuchValue", self.circuit.label_file, 3, bytes(LABEL))
         for size in (0, 15, 17, 32):
-            self.assert_fault("60 BadArgument", self.circuit.label_file, 0, bytes(size))
+            self.assert_fault("66 WrongSize", self.circuit.label_file, 0, bytes(size))
 
     def test_decoding(self):
         decode = halfgates.decode
@@ -229,7 +229,7 @@ class Refusals(LabelsTest):
         self.assertEqual(decode(b"\1" * 16 + b"\2" * 16, [0, 1]), b"\1\1")
         self.assert_fault("15 BadDigit", decode, bytes(16), [2])
         for size in (0, 15, 17, 32):
-            self.assert_fault("60 BadArgument", decode, bytes(size), [1])
+            self.assert_fault("66 WrongSize", decode, bytes(size), [1])
 
     def test_codes_of_memory(self):
         memory = {code for code in range(-1, 100) if halfgates.is_memory(code)}

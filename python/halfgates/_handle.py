@@ -1,9 +1,8 @@
 # SPDX-License-Identifier: MIT OR Apache-2.0
-"""What circuits, garblings and jobs have in common: a handle of the library, which one call at a time uses."""
+"""What circuits, garblings and jobs have in common: a handle of the library, which calls only read."""
 
 from __future__ import annotations
 
-import threading
 from ctypes import c_void_p
 from typing import Any, Callable, ClassVar, NamedTuple, NoReturn, Optional, Tuple, Type, TypeVar
 
@@ -40,11 +39,10 @@ def owner(free: Callable[[c_void_p], None]) -> Type[c_void_p]:
 
 
 class Handle:
-    """A handle of the library. Each call on it waits for the calls of other threads.
+    """A handle of the library. Any number of calls may use it at once, on any threads: no call waits for another.
 
-    The end of its `with` block, `close` or the end of the object frees it; a call that is at work meanwhile ends first.
-    After that its calls raise ValueError. A call while another is at work on the same thread, as a signal handler or a
-    finalizer may make it, raises RuntimeError: it never waits for its own thread.
+    The end of its `with` block, `close` or the end of the object frees it; calls that are at work meanwhile end first.
+    After that its calls raise ValueError.
     """
 
     _Owner: ClassVar[Type[c_void_p]]
@@ -59,22 +57,18 @@ class Handle:
     def _empty(cls: Type[H]) -> H:
         """An object for the handle that a call is about to write: a handle has its owner before that call returns."""
         it = cls.__new__(cls)
-        it._at, it._turn, it._work = cls._Owner(), threading.RLock(), threading.Lock()
+        it._at = cls._Owner()
         return it
 
     def _call(self, function: Callable[..., Any], *words: object) -> Any:
-        """What a function of the library returns for the handle."""
-        with self._turn:  # other threads wait here, and this one never waits for itself
-            if self._work.locked():
-                raise RuntimeError(f"a call on this {type(self).__name__} is at work on this thread")
-            with self._work:
-                at = self._at
-                if at is None:
-                    raise ValueError(f"this {type(self).__name__} is closed")
-                return function(at, *words)
+        """What a function of the library returns for the handle. Its owner stays until the call ends."""
+        at = self._at
+        if at is None:
+            raise ValueError(f"this {type(self).__name__} is closed")
+        return function(at, *words)
 
     def close(self) -> None:
-        """Frees the handle, at once or when the call that is at work ends. Closing again does nothing."""
+        """Frees the handle, at once or when the calls that are at work end. Closing again does nothing."""
         self._at = None
 
     def __repr__(self) -> str:

@@ -24,8 +24,7 @@ HEAD_OF_LABELS = 16  # those of a label file before its labels
 class Circuit(Handle):
     """A circuit, by `Circuit.read`. Its numbers stay when it is closed, and so do its garblings and jobs.
 
-    Several threads may use one circuit: their calls wait for one another. To garble on several threads at once, give
-    each a handle of its own by `share`.
+    Several threads may use one circuit at once.
     """
 
     _Owner = owner(library.halfgates_circuit_free)
@@ -59,7 +58,7 @@ class Circuit(Handle):
         return cls.read(text.encode())
 
     def share(self) -> "Circuit":
-        """One more handle of the same circuit, without a copy: each thread can have its own. Fault: 62."""
+        """One more handle of the same circuit, without a copy, which is closed by itself. Fault: 62."""
         it = self._empty()
         check(self._call(library.halfgates_circuit_share, byref(it._at)))
         it._describe(self._shape, self.digest)
@@ -117,8 +116,8 @@ class Circuit(Handle):
 
         The zero labels are 16 bytes a wire, one after another. Under one offset use no AND number twice, or whoever
         evaluates can learn labels that it wasn't given: after this garbling go on from `first + and_gates`. Faults: 23,
-        60 where the offset's colour bit is 0, there is another number of labels, or `first + and_gates` is above 2^62,
-        62.
+        60 where the offset's colour bit is 0 or `first + and_gates` is above 2^62, 62, 66 where there is another number
+        of labels.
         """
         it, first = self._garbling(), _u64(first)
         with _lent(offset, "an offset", LABEL) as lent, Lent(zero_labels) as labels:
@@ -148,7 +147,7 @@ class Circuit(Handle):
     def label_file(self, index: int, labels: Buffer) -> bytearray:
         """The label file of the input value of this index, from labels that were received, 16 bytes a wire.
 
-        Faults: 42, 60 where there is another number of labels, 62.
+        Faults: 42, 62, 66 where there is another number of labels.
         """
         index, written = _u32(index), c_size_t()
         with Lent(labels) as lent:
@@ -183,7 +182,7 @@ class Circuit(Handle):
         """The active labels of all output wires, 16 bytes each, from the row pairs and those of all input wires.
 
         `first` is the number of the first AND gate, as for `garble_from`. Nothing of rows and labels is trusted.
-        Faults: 46, 60 where there is another number of rows or labels, or `first + and_gates` is above 2^62.
+        Faults: 46, 60 where `first + and_gates` is above 2^62, 66 where there is another number of rows or labels.
         """
         first, outputs = _u64(first), bytearray(LABEL * self._shape.output_wires)
         with Lent(rows) as pairs, Lent(labels) as lent, Lent(outputs, is_written=True) as out:
@@ -342,7 +341,7 @@ def decode(labels: Buffer, decode_bits: Bits) -> bytearray:
     """The bits of active output labels, 16 bytes each, by the decode bits of their wires.
 
     Any label decodes: that it is one of its wire's two isn't checked. Faults: 13, 46, 15 where a decode bit is neither
-    0 nor 1, 60 where there is another number of labels than of bits.
+    0 nor 1, 66 where there is another number of labels than of bits.
     """
     with Lent(labels) as lent, _lent_bits(decode_bits) as decoding:
         bits = bytearray(decoding.size)

@@ -46,7 +46,7 @@ impl<T: Free> Handle<T> {
         Ok(handles)
     }
 
-    pub fn get(&self) -> *mut T {
+    pub fn get(&self) -> *const T {
         self.0.as_ptr()
     }
 }
@@ -54,13 +54,16 @@ impl<T: Free> Handle<T> {
 impl<T: Free> Drop for Handle<T> {
     fn drop(&mut self) {
         // SAFETY: the handle is the library's, and this is its only owner.
-        unsafe { T::free(self.get()) }
+        unsafe { T::free(self.0.as_ptr()) }
     }
 }
 
-// SAFETY: a handle belongs to no thread, and handles of one circuit can be used side by side. It
-// isn't `Sync`, since one call at a time uses it.
+// SAFETY: a handle belongs to no thread, and handles of one circuit can be used side by side.
 unsafe impl<T: Free> Send for Handle<T> {}
+
+// SAFETY: all calls but the one that frees only read a handle, and any number of them may use it at
+// once.
+unsafe impl<T: Free> Sync for Handle<T> {}
 
 macro_rules! free {
     ($($handle:ident by $function:ident)*) => {

@@ -12,13 +12,8 @@ use crate::{sys, Garbling, Job, Label, RowPair, Version};
 ///
 /// It is read once and garbled any number of times. Its garblings and jobs outlive it.
 ///
-/// A circuit can be sent to another thread, and isn't `Sync`: one call at a time uses it.
-/// [`Circuit::share`] gives each thread a handle of its own, without copying the circuit.
-///
-/// ```compile_fail
-/// fn is_sync<T: Sync>() {}
-/// is_sync::<halfgates::Circuit>();
-/// ```
+/// Several threads can use one circuit at once. [`Circuit::share`] gives one that is dropped by
+/// itself.
 pub struct Circuit {
     handle: Handle<sys::halfgates_circuit>,
     shape: Arc<Shape>,
@@ -54,8 +49,7 @@ impl Circuit {
         Ok(Self { handle, shape })
     }
 
-    /// One more handle of this circuit, which another thread can use at the same time. It copies
-    /// nothing.
+    /// One more handle of this circuit. It copies nothing.
     ///
     /// # Errors
     ///
@@ -194,9 +188,9 @@ impl Circuit {
     ///
     /// # Errors
     ///
-    /// [`Fault::BAD_ARGUMENT`] where the offset has colour 0, where there isn't one label for each
-    /// input wire, or where `first` and the AND gates add up to more than 2^62;
-    /// [`Fault::GARBLING_MEMORY`], [`Fault::MEMORY`].
+    /// [`Fault::WRONG_SIZE`] where there isn't one label for each input wire;
+    /// [`Fault::BAD_ARGUMENT`] where the offset has colour 0, or where `first` and the AND gates
+    /// add up to more than 2^62; [`Fault::GARBLING_MEMORY`], [`Fault::MEMORY`].
     #[doc(alias = "halfgates_garble_from")]
     pub fn garble_from(
         &self,
@@ -268,7 +262,7 @@ impl Circuit {
     ///
     /// # Errors
     ///
-    /// [`Fault::NO_SUCH_VALUE`], [`Fault::BAD_ARGUMENT`] where there isn't one label for each wire,
+    /// [`Fault::NO_SUCH_VALUE`], [`Fault::WRONG_SIZE`] where there isn't one label for each wire,
     /// [`Fault::MEMORY`].
     #[doc(alias = "halfgates_label_file")]
     pub fn label_file(&self, index: usize, labels: &[Label]) -> Result<Vec<u8>, Fault> {
@@ -327,8 +321,9 @@ impl Circuit {
     ///
     /// # Errors
     ///
-    /// [`Fault::BAD_ARGUMENT`] where there isn't one row pair for each AND gate or one label for
-    /// each input wire, or where `first` is too large; [`Fault::JOB_MEMORY`], [`Fault::MEMORY`].
+    /// [`Fault::WRONG_SIZE`] where there isn't one row pair for each AND gate or one label for
+    /// each input wire; [`Fault::BAD_ARGUMENT`] where `first` is too large; [`Fault::JOB_MEMORY`],
+    /// [`Fault::MEMORY`].
     #[doc(alias = "halfgates_evaluate_labels")]
     pub fn evaluate_labels(
         &self,

@@ -103,12 +103,18 @@ faults! {
     JOB_MEMORY = 46 "Memory";
     /// The garbled file, of version 2, doesn't recognise the label of an output.
     UNKNOWN_OUTPUT_LABEL = 48 "UnknownOutputLabel";
-    /// There is no such wire or output, or a size or an offset isn't what the call takes.
+    /// There is no such wire or output, or an offset or an AND number isn't what the call takes.
     BAD_ARGUMENT = 60 "BadArgument";
     /// A buffer is too small.
     SMALL_BUFFER = 61 "SmallBuffer";
     /// No memory for a handle, a file, or a buffer of this crate.
     MEMORY = 62 "Memory";
+    /// A pointer is null. The calls of this crate pass none.
+    NULL_POINTER = 64 "NullPointer";
+    /// A handle is of another type. The types of this crate keep handles apart.
+    WRONG_HANDLE = 65 "WrongHandle";
+    /// There is another number of labels or rows than the call takes.
+    WRONG_SIZE = 66 "WrongSize";
 }
 
 impl Fault {

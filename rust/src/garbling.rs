@@ -15,8 +15,7 @@ use crate::{sys, GarbledReport, Label, LabelsReport, RowPair, Version, WireLabel
 /// has it knows every label.
 ///
 /// It comes from [`Circuit::garble`](crate::Circuit::garble) or
-/// [`Circuit::garble_from`](crate::Circuit::garble_from). It can be sent to another thread, and
-/// isn't `Sync`.
+/// [`Circuit::garble_from`](crate::Circuit::garble_from). Several threads can use it at once.
 pub struct Garbling {
     handle: Handle<sys::halfgates_garbling>,
     shape: Arc<Shape>,
@@ -24,7 +23,7 @@ pub struct Garbling {
 
 /// A call that writes the zero labels and the one labels of a value.
 type WritePairs =
-    unsafe extern "C" fn(*mut sys::halfgates_garbling, u32, *mut u8, *mut u8, usize) -> i32;
+    unsafe extern "C" fn(*const sys::halfgates_garbling, u32, *mut u8, *mut u8, usize) -> i32;
 
 impl Garbling {
     pub(crate) fn new(handle: Handle<sys::halfgates_garbling>, shape: Arc<Shape>) -> Self {

@@ -9,8 +9,7 @@ use crate::{sys, Label};
 
 /// What an evaluator has: a circuit, a garbled file of it, and a label for each input wire.
 ///
-/// It comes from [`Circuit::bind`](crate::Circuit::bind). It can be sent to another thread, and
-/// isn't `Sync`.
+/// It comes from [`Circuit::bind`](crate::Circuit::bind). Several threads can use it at once.
 pub struct Job {
     handle: Handle<sys::halfgates_job>,
     output_wires: usize,

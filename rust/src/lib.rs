@@ -124,7 +124,7 @@ pub fn locate(text: impl AsRef<[u8]>) -> Result<Option<Place>, Fault> {
 ///
 /// # Errors
 ///
-/// [`Fault::BAD_ARGUMENT`] where there isn't one decode bit for each label;
+/// [`Fault::WRONG_SIZE`] where there isn't one decode bit for each label;
 /// [`Fault::CIRCUIT_MEMORY`], [`Fault::JOB_MEMORY`], [`Fault::MEMORY`].
 #[doc(alias = "halfgates_decode")]
 pub fn decode(labels: &[Label], decode_bits: &[bool]) -> Result<Vec<bool>, Fault> {

@@ -109,28 +109,28 @@ extern "C" {
         circuit: *mut *mut halfgates_circuit,
     ) -> i32;
     pub fn halfgates_circuit_share(
-        circuit: *mut halfgates_circuit,
+        circuit: *const halfgates_circuit,
         other: *mut *mut halfgates_circuit,
     ) -> i32;
     pub fn halfgates_circuit_free(circuit: *mut halfgates_circuit);
     pub fn halfgates_circuit_numbers(
-        circuit: *mut halfgates_circuit,
+        circuit: *const halfgates_circuit,
         numbers: *mut halfgates_numbers,
     ) -> i32;
     pub fn halfgates_circuit_input_widths(
-        circuit: *mut halfgates_circuit,
+        circuit: *const halfgates_circuit,
         widths: *mut u32,
         count: usize,
     ) -> i32;
     pub fn halfgates_circuit_output_widths(
-        circuit: *mut halfgates_circuit,
+        circuit: *const halfgates_circuit,
         widths: *mut u32,
         count: usize,
     ) -> i32;
-    pub fn halfgates_circuit_digest(circuit: *mut halfgates_circuit, digest: *mut u8) -> i32;
+    pub fn halfgates_circuit_digest(circuit: *const halfgates_circuit, digest: *mut u8) -> i32;
     pub fn halfgates_locate(text: *const u8, length: usize, place: *mut halfgates_place) -> i32;
     pub fn halfgates_plain(
-        circuit: *mut halfgates_circuit,
+        circuit: *const halfgates_circuit,
         bits: *const u8,
         size: usize,
         outputs: *mut u8,
@@ -138,18 +138,18 @@ extern "C" {
     ) -> i32;
 
     pub fn halfgates_garble(
-        circuit: *mut halfgates_circuit,
+        circuit: *const halfgates_circuit,
         seed: *const u8,
         garbling: *mut *mut halfgates_garbling,
     ) -> i32;
     pub fn halfgates_garble_many(
-        circuit: *mut halfgates_circuit,
+        circuit: *const halfgates_circuit,
         seeds: *const u8,
         count: usize,
         garblings: *mut *mut halfgates_garbling,
     ) -> i32;
     pub fn halfgates_garble_from(
-        circuit: *mut halfgates_circuit,
+        circuit: *const halfgates_circuit,
         offset: *const u8,
         zero_labels: *const u8,
         size: usize,
@@ -157,16 +157,16 @@ extern "C" {
         garbling: *mut *mut halfgates_garbling,
     ) -> i32;
     pub fn halfgates_garbling_free(garbling: *mut halfgates_garbling);
-    pub fn halfgates_garbled_size(circuit: *mut halfgates_circuit, version: u32) -> u64;
+    pub fn halfgates_garbled_size(circuit: *const halfgates_circuit, version: u32) -> u64;
     pub fn halfgates_garbling_write(
-        garbling: *mut halfgates_garbling,
+        garbling: *const halfgates_garbling,
         version: u32,
         buffer: *mut u8,
         size: usize,
         written: *mut usize,
     ) -> i32;
     pub fn halfgates_deal(
-        circuit: *mut halfgates_circuit,
+        circuit: *const halfgates_circuit,
         seed: *const u8,
         index: u32,
         bits: *const u8,
@@ -176,7 +176,7 @@ extern "C" {
         written: *mut usize,
     ) -> i32;
     pub fn halfgates_garbling_deal(
-        garbling: *mut halfgates_garbling,
+        garbling: *const halfgates_garbling,
         index: u32,
         bits: *const u8,
         count: usize,
@@ -185,7 +185,7 @@ extern "C" {
         written: *mut usize,
     ) -> i32;
     pub fn halfgates_label_file(
-        circuit: *mut halfgates_circuit,
+        circuit: *const halfgates_circuit,
         index: u32,
         labels: *const u8,
         labels_size: usize,
@@ -193,39 +193,39 @@ extern "C" {
         size: usize,
         written: *mut usize,
     ) -> i32;
-    pub fn halfgates_offset(garbling: *mut halfgates_garbling, offset: *mut u8) -> i32;
+    pub fn halfgates_offset(garbling: *const halfgates_garbling, offset: *mut u8) -> i32;
     pub fn halfgates_input_labels(
-        garbling: *mut halfgates_garbling,
+        garbling: *const halfgates_garbling,
         index: u32,
         zero: *mut u8,
         one: *mut u8,
         size: usize,
     ) -> i32;
     pub fn halfgates_output_labels(
-        garbling: *mut halfgates_garbling,
+        garbling: *const halfgates_garbling,
         index: u32,
         zero: *mut u8,
         one: *mut u8,
         size: usize,
     ) -> i32;
-    pub fn halfgates_rows(garbling: *mut halfgates_garbling, rows: *mut u8, size: usize) -> i32;
+    pub fn halfgates_rows(garbling: *const halfgates_garbling, rows: *mut u8, size: usize) -> i32;
     pub fn halfgates_decode_bits(
-        garbling: *mut halfgates_garbling,
+        garbling: *const halfgates_garbling,
         bits: *mut u8,
         size: usize,
     ) -> i32;
     pub fn halfgates_zero_label(
-        garbling: *mut halfgates_garbling,
+        garbling: *const halfgates_garbling,
         wire: u32,
         label: *mut u8,
     ) -> i32;
     pub fn halfgates_decode_bit(
-        garbling: *mut halfgates_garbling,
+        garbling: *const halfgates_garbling,
         output: u32,
         bit: *mut u8,
     ) -> i32;
     pub fn halfgates_labels(
-        garbling: *mut halfgates_garbling,
+        garbling: *const halfgates_garbling,
         bits: *const u8,
         size: usize,
         from: u32,
@@ -234,7 +234,7 @@ extern "C" {
     ) -> i32;
 
     pub fn halfgates_job_bind(
-        circuit: *mut halfgates_circuit,
+        circuit: *const halfgates_circuit,
         garbled: *const u8,
         length: usize,
         labels: *const u8,
@@ -244,14 +244,14 @@ extern "C" {
         job: *mut *mut halfgates_job,
     ) -> i32;
     pub fn halfgates_job_free(job: *mut halfgates_job);
-    pub fn halfgates_evaluate(job: *mut halfgates_job, bits: *mut u8, size: usize) -> i32;
+    pub fn halfgates_evaluate(job: *const halfgates_job, bits: *mut u8, size: usize) -> i32;
     pub fn halfgates_job_output_labels(
-        job: *mut halfgates_job,
+        job: *const halfgates_job,
         outputs: *mut u8,
         size: usize,
     ) -> i32;
     pub fn halfgates_evaluate_labels(
-        circuit: *mut halfgates_circuit,
+        circuit: *const halfgates_circuit,
         rows: *const u8,
         rows_size: usize,
         first: u64,
@@ -270,13 +270,13 @@ extern "C" {
     ) -> i32;
 
     pub fn halfgates_audit(
-        garbling: *mut halfgates_garbling,
+        garbling: *const halfgates_garbling,
         garbled: *const u8,
         length: usize,
         report: *mut halfgates_audit_report,
     ) -> i32;
     pub fn halfgates_audit_labels(
-        garbling: *mut halfgates_garbling,
+        garbling: *const halfgates_garbling,
         labels: *const u8,
         length: usize,
         bits: *mut u8,

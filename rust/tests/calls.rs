@@ -154,7 +154,8 @@ fn labels_that_cannot_be_garbled_from() {
     colourless[0] &= !1;
     let refused = |offset, zero, first| circuit.garble_from(offset, zero, first).unwrap_err();
     assert_eq!(refused(&colourless, &zero, 0), Fault::BAD_ARGUMENT);
-    assert_eq!(refused(&offset, &zero[1..], 0), Fault::BAD_ARGUMENT);
+    assert_eq!(refused(&offset, &zero[1..], 0), Fault::WRONG_SIZE);
+    assert_eq!(refused(&colourless, &zero[1..], 0), Fault::WRONG_SIZE);
     assert_eq!(refused(&offset, &zero, 1 << 62), Fault::BAD_ARGUMENT);
     assert!(circuit.garble_from(&offset, &zero, (1 << 62) - 1).is_ok());
 }
@@ -201,7 +202,7 @@ fn numbers_that_nothing_has() {
     assert_eq!(garbling.labels(&[true], 0..8), Err(Fault::WRONG_LENGTH));
     assert_eq!(circuit.deal(&SEED, 0, &[]), Err(Fault::WRONG_LENGTH));
     assert_eq!(garbling.deal(0, &BITS), Err(Fault::WRONG_LENGTH));
-    assert_eq!(circuit.label_file(0, &[]), Err(Fault::BAD_ARGUMENT));
+    assert_eq!(circuit.label_file(0, &[]), Err(Fault::WRONG_SIZE));
 }
 
 #[test]
@@ -265,11 +266,14 @@ fn an_output_label_that_nothing_recognises() {
 fn rows_and_labels_of_a_wrong_number() {
     let (circuit, garbling) = (adder(), garbling());
     let (rows, labels) = (garbling.rows().unwrap(), active_labels(&garbling));
-    let refused = Err(Fault::BAD_ARGUMENT);
+    let refused = Err(Fault::WRONG_SIZE);
     assert_eq!(circuit.evaluate_labels(&[], &labels, 0), refused);
     assert_eq!(circuit.evaluate_labels(&rows, &labels[1..], 0), refused);
-    assert_eq!(circuit.evaluate_labels(&rows, &labels, 1 << 62), refused);
-    assert_eq!(decode(&labels, &[true]), Err(Fault::BAD_ARGUMENT));
+    assert_eq!(
+        circuit.evaluate_labels(&rows, &labels, 1 << 62),
+        Err(Fault::BAD_ARGUMENT)
+    );
+    assert_eq!(decode(&labels, &[true]), Err(Fault::WRONG_SIZE));
     assert_eq!(decode(&[], &[]), Ok(Vec::new()));
 }
 
@@ -337,6 +341,28 @@ fn audits_of_label_files() {
         wide.audit_labels(&files[0]).unwrap().verdict,
         Verdict::WrongWidth
     );
+}
+
+#[test]
+fn one_handle_on_several_threads() {
+    let (circuit, garbling) = (adder(), garbling());
+    let garbled = garbling.write(Version::V2).unwrap();
+    let job = circuit.bind(&garbled, &label_files(&garbling)).unwrap();
+    let outputs = circuit.plain(&BITS).unwrap();
+    thread::scope(|scope| {
+        for _ in 0..4 {
+            scope.spawn(|| {
+                for _ in 0..100 {
+                    assert_eq!(
+                        circuit.garble(&SEED).unwrap().write(Version::V2),
+                        Ok(garbled.clone())
+                    );
+                    assert_eq!(garbling.write(Version::V2).as_ref(), Ok(&garbled));
+                    assert_eq!(job.evaluate().as_ref(), Ok(&outputs));
+                }
+            });
+        }
+    });
 }
 
 #[test]

@@ -1,7 +1,7 @@
 /* Each call with each bad argument: it is refused by its code, and writes nothing. null.c has NULLs with a size. */
 #include "check.h"
 
-enum { BAD = HALFGATES_BAD_ARGUMENT };
+enum { BAD = HALFGATES_BAD_ARGUMENT, ABSENT = HALFGATES_NULL_POINTER, OTHER = HALFGATES_WRONG_HANDLE };
 
 static const uint8_t SEED[32];
 static const uint8_t BITS[3] = {1, 0, 1};
@@ -23,25 +23,25 @@ static void circuits(halfgates_circuit *circuit) {
     halfgates_numbers numbers;
     halfgates_place place;
     uint32_t widths[4];
-    CHECK_CODE(BAD, halfgates_circuit_read(text, length, NULL));
+    CHECK_CODE(ABSENT, halfgates_circuit_read(text, length, NULL));
     CHECK_CODE(HALFGATES_CIRCUIT_TRUNCATED, halfgates_circuit_read(NULL, 0, &made));
     CHECK_CODE(HALFGATES_CIRCUIT_TRUNCATED, halfgates_circuit_read(text, 0, &made));
     CHECK_CODE(HALFGATES_BAD_NUMBER, halfgates_circuit_read((const uint8_t *)"1\0002", 3, &made));
     CHECK(made == NULL);
-    CHECK_CODE(BAD, halfgates_locate(text, length, NULL));
+    CHECK_CODE(ABSENT, halfgates_locate(text, length, NULL));
     CHECK_CODE(HALFGATES_OK, halfgates_locate(NULL, 0, &place));
     CHECK(place.fault == HALFGATES_CIRCUIT_TRUNCATED && place.line == 1 && place.column == 1);
     CHECK(place.gate == HALFGATES_NONE && place.wire == HALFGATES_NONE);
 
-    CHECK_CODE(BAD, halfgates_circuit_numbers(NULL, &numbers));
-    CHECK_CODE(BAD, halfgates_circuit_numbers(circuit, NULL));
-    CHECK_CODE(BAD, halfgates_circuit_digest(NULL, room));
-    CHECK_CODE(BAD, halfgates_circuit_digest(circuit, NULL));
-    CHECK_CODE(BAD, halfgates_circuit_input_widths(NULL, widths, 3));
+    CHECK_CODE(ABSENT, halfgates_circuit_numbers(NULL, &numbers));
+    CHECK_CODE(ABSENT, halfgates_circuit_numbers(circuit, NULL));
+    CHECK_CODE(ABSENT, halfgates_circuit_digest(NULL, room));
+    CHECK_CODE(ABSENT, halfgates_circuit_digest(circuit, NULL));
+    CHECK_CODE(ABSENT, halfgates_circuit_input_widths(NULL, widths, 3));
     memset(widths, 0xA5, sizeof widths);
     CHECK_CODE(HALFGATES_SMALL_BUFFER, halfgates_circuit_input_widths(circuit, widths, 2));
     CHECK_CODE(HALFGATES_SMALL_BUFFER, halfgates_circuit_input_widths(circuit, NULL, 0));
-    CHECK_CODE(BAD, halfgates_circuit_output_widths(NULL, widths, 1));
+    CHECK_CODE(ABSENT, halfgates_circuit_output_widths(NULL, widths, 1));
     CHECK_CODE(HALFGATES_SMALL_BUFFER, halfgates_circuit_output_widths(circuit, widths, 0));
     CHECK(widths[0] == 0xA5A5A5A5);
     CHECK_CODE(HALFGATES_OK, halfgates_circuit_input_widths(circuit, widths, 4));
@@ -57,7 +57,7 @@ static void circuits(halfgates_circuit *circuit) {
 
 static void plain(halfgates_circuit *circuit) {
     const uint8_t digits[3] = {1, 2, 1};
-    CHECK_CODE(BAD, halfgates_plain(NULL, BITS, 3, room, 2));
+    CHECK_CODE(ABSENT, halfgates_plain(NULL, BITS, 3, room, 2));
     CHECK_CODE(HALFGATES_SMALL_BUFFER, halfgates_plain(circuit, BITS, 3, room, 1));
     CHECK_CODE(HALFGATES_SMALL_BUFFER, halfgates_plain(circuit, BITS, 3, NULL, 0));
     CHECK_CODE(HALFGATES_SMALL_BUFFER, halfgates_plain(circuit, digits, 2, room, 1));
@@ -69,40 +69,40 @@ static void plain(halfgates_circuit *circuit) {
 
 static void garble(halfgates_circuit *circuit, halfgates_garbling *garbling) {
     halfgates_garbling *made = NULL;
-    CHECK_CODE(BAD, halfgates_garble(NULL, SEED, &made));
-    CHECK_CODE(BAD, halfgates_garble(circuit, NULL, &made));
-    CHECK_CODE(BAD, halfgates_garble(circuit, SEED, NULL));
-    CHECK_CODE(BAD, halfgates_garble_many(NULL, SEED, 1, &made));
-    CHECK_CODE(BAD, halfgates_garble_many((halfgates_circuit *)garbling, SEED, 1, &made));
-    CHECK_CODE(BAD, halfgates_garble_many(circuit, NULL, 1, &made));
-    CHECK_CODE(BAD, halfgates_garble_many(circuit, SEED, 1, NULL));
+    CHECK_CODE(ABSENT, halfgates_garble(NULL, SEED, &made));
+    CHECK_CODE(ABSENT, halfgates_garble(circuit, NULL, &made));
+    CHECK_CODE(ABSENT, halfgates_garble(circuit, SEED, NULL));
+    CHECK_CODE(ABSENT, halfgates_garble_many(NULL, SEED, 1, &made));
+    CHECK_CODE(OTHER, halfgates_garble_many((halfgates_circuit *)garbling, SEED, 1, &made));
+    CHECK_CODE(ABSENT, halfgates_garble_many(circuit, NULL, 1, &made));
+    CHECK_CODE(ABSENT, halfgates_garble_many(circuit, SEED, 1, NULL));
     CHECK_CODE(HALFGATES_OK, halfgates_garble_many(circuit, SEED, 0, &made));
     CHECK(made == NULL);
-    CHECK_CODE(BAD, halfgates_garbling_write(NULL, 2, room, sizeof room, &written));
+    CHECK_CODE(ABSENT, halfgates_garbling_write(NULL, 2, room, sizeof room, &written));
     CHECK_CODE(BAD, halfgates_garbling_write(garbling, 0, room, sizeof room, &written));
     CHECK_CODE(BAD, halfgates_garbling_write(garbling, 3, room, sizeof room, &written));
-    CHECK_CODE(BAD, halfgates_garbling_write(garbling, 2, room, sizeof room, NULL));
+    CHECK_CODE(ABSENT, halfgates_garbling_write(garbling, 2, room, sizeof room, NULL));
     check_untouched();
     CHECK_CODE(HALFGATES_SMALL_BUFFER, halfgates_garbling_write(garbling, 2, NULL, 0, &written));
     CHECK(written == 177);
     written = 7;
 
-    CHECK_CODE(BAD, halfgates_zero_label(NULL, 0, room));
+    CHECK_CODE(ABSENT, halfgates_zero_label(NULL, 0, room));
     CHECK_CODE(BAD, halfgates_zero_label(garbling, 8, room));
     CHECK_CODE(BAD, halfgates_zero_label(garbling, UINT32_MAX, room));
-    CHECK_CODE(BAD, halfgates_zero_label(garbling, 0, NULL));
-    CHECK_CODE(BAD, halfgates_decode_bit(NULL, 0, room));
+    CHECK_CODE(ABSENT, halfgates_zero_label(garbling, 0, NULL));
+    CHECK_CODE(ABSENT, halfgates_decode_bit(NULL, 0, room));
     CHECK_CODE(BAD, halfgates_decode_bit(garbling, 2, room));
     CHECK_CODE(BAD, halfgates_decode_bit(garbling, UINT32_MAX, room));
-    CHECK_CODE(BAD, halfgates_decode_bit(garbling, 0, NULL));
+    CHECK_CODE(ABSENT, halfgates_decode_bit(garbling, 0, NULL));
     check_untouched();
 }
 
 static void deal(halfgates_circuit *circuit) {
     const uint8_t digit = 2;
-    CHECK_CODE(BAD, halfgates_deal(NULL, SEED, 0, BITS, 1, room, sizeof room, &written));
-    CHECK_CODE(BAD, halfgates_deal(circuit, NULL, 0, BITS, 1, room, sizeof room, &written));
-    CHECK_CODE(BAD, halfgates_deal(circuit, SEED, 0, BITS, 1, room, sizeof room, NULL));
+    CHECK_CODE(ABSENT, halfgates_deal(NULL, SEED, 0, BITS, 1, room, sizeof room, &written));
+    CHECK_CODE(ABSENT, halfgates_deal(circuit, NULL, 0, BITS, 1, room, sizeof room, &written));
+    CHECK_CODE(ABSENT, halfgates_deal(circuit, SEED, 0, BITS, 1, room, sizeof room, NULL));
     CHECK_CODE(HALFGATES_NO_SUCH_VALUE, halfgates_deal(circuit, SEED, 3, BITS, 1, room, sizeof room, &written));
     CHECK_CODE(HALFGATES_NO_SUCH_VALUE,
                halfgates_deal(circuit, SEED, UINT32_MAX, BITS, 1, room, sizeof room, &written));
@@ -119,7 +119,7 @@ static void wire_labels(halfgates_garbling *garbling) {
     const uint8_t digits[3] = {1, 1, 255};
     halfgates_wire_labels found[9];
     memset(found, 0xA5, sizeof found);
-    CHECK_CODE(BAD, halfgates_labels(NULL, BITS, 3, 0, found, 8));
+    CHECK_CODE(ABSENT, halfgates_labels(NULL, BITS, 3, 0, found, 8));
     CHECK_CODE(BAD, halfgates_labels(garbling, BITS, 3, 0, found, 9));
     CHECK_CODE(BAD, halfgates_labels(garbling, BITS, 3, 8, found, 1));
     CHECK_CODE(BAD, halfgates_labels(garbling, BITS, 3, UINT32_MAX, found, 1));
@@ -134,19 +134,19 @@ static void wire_labels(halfgates_garbling *garbling) {
 static void jobs(halfgates_circuit *circuit, halfgates_job *job) {
     const size_t more[3] = {32, 32, 33}, wrapping[3] = {32, SIZE_MAX, 65}, late[2] = {1, 100};
     halfgates_job *made = NULL;
-    CHECK_CODE(BAD, halfgates_job_bind(NULL, garbled, 177, labels, 96, SIZES, 3, &made));
-    CHECK_CODE(BAD, halfgates_job_bind(circuit, garbled, 177, labels, 96, SIZES, 3, NULL));
-    CHECK_CODE(BAD, halfgates_job_bind(circuit, garbled, 177, labels, 96, more, 3, &made));
-    CHECK_CODE(BAD, halfgates_job_bind(circuit, garbled, 177, labels, 96, wrapping, 3, &made));
-    CHECK_CODE(BAD, halfgates_job_bind(circuit, garbled, 177, labels, 96, SIZES, 2, &made));
-    CHECK_CODE(BAD, halfgates_job_bind(circuit, garbled, 177, labels, 96, NULL, 0, &made));
-    CHECK_CODE(BAD, halfgates_job_bind(circuit, garbled, 177, labels, 32, late, 2, &made));
+    CHECK_CODE(ABSENT, halfgates_job_bind(NULL, garbled, 177, labels, 96, SIZES, 3, &made));
+    CHECK_CODE(ABSENT, halfgates_job_bind(circuit, garbled, 177, labels, 96, SIZES, 3, NULL));
+    CHECK_CODE(HALFGATES_WRONG_SIZE, halfgates_job_bind(circuit, garbled, 177, labels, 96, more, 3, &made));
+    CHECK_CODE(HALFGATES_WRONG_SIZE, halfgates_job_bind(circuit, garbled, 177, labels, 96, wrapping, 3, &made));
+    CHECK_CODE(HALFGATES_WRONG_SIZE, halfgates_job_bind(circuit, garbled, 177, labels, 96, SIZES, 2, &made));
+    CHECK_CODE(HALFGATES_WRONG_SIZE, halfgates_job_bind(circuit, garbled, 177, labels, 96, NULL, 0, &made));
+    CHECK_CODE(HALFGATES_WRONG_SIZE, halfgates_job_bind(circuit, garbled, 177, labels, 32, late, 2, &made));
     CHECK_CODE(HALFGATES_FILE_TRUNCATED, halfgates_job_bind(circuit, NULL, 0, labels, 96, SIZES, 3, &made));
     CHECK_CODE(HALFGATES_FILE_TRUNCATED, halfgates_job_bind(circuit, garbled, 176, labels, 96, SIZES, 3, &made));
     CHECK_CODE(HALFGATES_MISSING_VALUE, halfgates_job_bind(circuit, garbled, 177, labels, 64, SIZES, 2, &made));
     CHECK_CODE(HALFGATES_MISSING_VALUE, halfgates_job_bind(circuit, garbled, 177, NULL, 0, NULL, 0, &made));
     CHECK(made == NULL);
-    CHECK_CODE(BAD, halfgates_evaluate(NULL, room, 2));
+    CHECK_CODE(ABSENT, halfgates_evaluate(NULL, room, 2));
     CHECK_CODE(HALFGATES_SMALL_BUFFER, halfgates_evaluate(job, room, 1));
     CHECK_CODE(HALFGATES_SMALL_BUFFER, halfgates_evaluate(job, NULL, 0));
     check_untouched();
@@ -155,11 +155,11 @@ static void jobs(halfgates_circuit *circuit, halfgates_job *job) {
 static void audits(halfgates_garbling *garbling) {
     halfgates_audit_report report;
     halfgates_labels_report labels_report;
-    CHECK_CODE(BAD, halfgates_audit(NULL, garbled, 177, &report));
-    CHECK_CODE(BAD, halfgates_audit(garbling, garbled, 177, NULL));
+    CHECK_CODE(ABSENT, halfgates_audit(NULL, garbled, 177, &report));
+    CHECK_CODE(ABSENT, halfgates_audit(garbling, garbled, 177, NULL));
     CHECK_CODE(HALFGATES_FILE_TRUNCATED, halfgates_audit(garbling, NULL, 0, &report));
-    CHECK_CODE(BAD, halfgates_audit_labels(NULL, labels, 32, room, 1, &labels_report));
-    CHECK_CODE(BAD, halfgates_audit_labels(garbling, labels, 32, room, 1, NULL));
+    CHECK_CODE(ABSENT, halfgates_audit_labels(NULL, labels, 32, room, 1, &labels_report));
+    CHECK_CODE(ABSENT, halfgates_audit_labels(garbling, labels, 32, room, 1, NULL));
     CHECK_CODE(HALFGATES_FILE_TRUNCATED, halfgates_audit_labels(garbling, NULL, 0, room, 1, &labels_report));
     CHECK_CODE(HALFGATES_SMALL_BUFFER, halfgates_audit_labels(garbling, labels, 32, NULL, 0, &labels_report));
     CHECK(labels_report.count == 1);
@@ -174,7 +174,7 @@ static void places_of_handles(void) {
     CHECK_CODE(HALFGATES_CIRCUIT_TRUNCATED, halfgates_circuit_read(NULL, 0, &circuit));
     CHECK(circuit == (halfgates_circuit *)1);
     CHECK_CODE(HALFGATES_OK, halfgates_circuit_read((const uint8_t *)FULL_ADDER, strlen(FULL_ADDER), &circuit));
-    CHECK_CODE(BAD, halfgates_garble(circuit, NULL, &garbling));
+    CHECK_CODE(ABSENT, halfgates_garble(circuit, NULL, &garbling));
     CHECK(garbling == (halfgates_garbling *)1);
     CHECK_CODE(HALFGATES_OK, halfgates_garble(circuit, SEED, &garbling));
     CHECK_CODE(HALFGATES_FILE_TRUNCATED, halfgates_job_bind(circuit, garbled, 176, labels, 96, SIZES, 3, &job));
@@ -185,10 +185,62 @@ static void places_of_handles(void) {
     halfgates_circuit_free(circuit);
 }
 
+/* A handle in the place of one of another type, which C lets pass with a cast. */
+static void other_types(void *circuit, void *garbling, void *job) {
+    halfgates_circuit *made = NULL;
+    halfgates_garbling *made_garbling = NULL;
+    halfgates_job *made_job = NULL;
+    halfgates_numbers numbers;
+    halfgates_audit_report report;
+    halfgates_labels_report labels_report;
+    halfgates_wire_labels found[1];
+    uint32_t widths[3];
+    void *const no_circuits[2] = {garbling, job}, *const no_garblings[2] = {circuit, job};
+    void *const no_jobs[2] = {circuit, garbling};
+    for (int i = 0; i < 2; i++) {
+        CHECK_CODE(OTHER, halfgates_circuit_share(no_circuits[i], &made));
+        CHECK_CODE(OTHER, halfgates_circuit_numbers(no_circuits[i], &numbers));
+        CHECK_CODE(OTHER, halfgates_circuit_input_widths(no_circuits[i], widths, 3));
+        CHECK_CODE(OTHER, halfgates_circuit_output_widths(no_circuits[i], widths, 1));
+        CHECK_CODE(OTHER, halfgates_circuit_digest(no_circuits[i], room));
+        CHECK_CODE(OTHER, halfgates_plain(no_circuits[i], BITS, 3, room, 2));
+        CHECK_CODE(OTHER, halfgates_garble(no_circuits[i], SEED, &made_garbling));
+        CHECK_CODE(OTHER, halfgates_garble_from(no_circuits[i], SEED, labels, 48, 0, &made_garbling));
+        CHECK(halfgates_garbled_size(no_circuits[i], 2) == 0);
+        CHECK_CODE(OTHER, halfgates_deal(no_circuits[i], SEED, 0, BITS, 1, room, 32, &written));
+        CHECK_CODE(OTHER, halfgates_label_file(no_circuits[i], 0, labels, 16, room, 32, &written));
+        CHECK_CODE(OTHER, halfgates_job_bind(no_circuits[i], garbled, 177, labels, 96, SIZES, 3, &made_job));
+        CHECK_CODE(OTHER, halfgates_evaluate_labels(no_circuits[i], labels, 32, 0, labels, 48, room, 32));
+
+        CHECK_CODE(OTHER, halfgates_garbling_write(no_garblings[i], 2, room, 177, &written));
+        CHECK_CODE(OTHER, halfgates_garbling_write(no_garblings[i], 3, NULL, 0, &written));
+        CHECK_CODE(OTHER, halfgates_garbling_deal(no_garblings[i], 0, BITS, 1, room, 32, &written));
+        CHECK_CODE(OTHER, halfgates_offset(no_garblings[i], room));
+        CHECK_CODE(OTHER, halfgates_input_labels(no_garblings[i], 0, room, room + 16, 16));
+        CHECK_CODE(OTHER, halfgates_output_labels(no_garblings[i], 0, room, room + 32, 32));
+        CHECK_CODE(OTHER, halfgates_rows(no_garblings[i], room, 32));
+        CHECK_CODE(OTHER, halfgates_decode_bits(no_garblings[i], room, 2));
+        CHECK_CODE(OTHER, halfgates_zero_label(no_garblings[i], 0, room));
+        CHECK_CODE(OTHER, halfgates_decode_bit(no_garblings[i], 0, room));
+        CHECK_CODE(OTHER, halfgates_labels(no_garblings[i], BITS, 3, 0, found, 1));
+        CHECK_CODE(OTHER, halfgates_audit(no_garblings[i], garbled, 177, &report));
+        CHECK_CODE(OTHER, halfgates_audit_labels(no_garblings[i], labels, 32, room, 1, &labels_report));
+
+        CHECK_CODE(OTHER, halfgates_evaluate(no_jobs[i], room, 2));
+        CHECK_CODE(OTHER, halfgates_job_output_labels(no_jobs[i], room, 32));
+    }
+    CHECK(made == NULL && made_garbling == NULL && made_job == NULL);
+    check_untouched();
+}
+
 static void names(void) {
     CHECK(strcmp(halfgates_fault_name(HALFGATES_OK).text, "Ok") == 0);
     CHECK(strcmp(halfgates_fault_name(HALFGATES_BAD_ARGUMENT).text, "BadArgument") == 0);
     CHECK(strcmp(halfgates_fault_name(HALFGATES_SMALL_BUFFER).text, "SmallBuffer") == 0);
+    CHECK(strcmp(halfgates_fault_name(HALFGATES_NULL_POINTER).text, "NullPointer") == 0);
+    CHECK(strcmp(halfgates_fault_name(HALFGATES_WRONG_HANDLE).text, "WrongHandle") == 0);
+    CHECK(strcmp(halfgates_fault_name(HALFGATES_WRONG_SIZE).text, "WrongSize") == 0);
+    CHECK(strcmp(halfgates_fault_name(HALFGATES_WRONG_SIZE + 1).text, "Unknown") == 0);
     CHECK(strcmp(halfgates_fault_name(-1).text, "Unknown") == 0);
     CHECK(strcmp(halfgates_fault_name(INT32_MIN).text, "Unknown") == 0);
     CHECK(strcmp(halfgates_fault_name(INT32_MAX).text, "Unknown") == 0);
@@ -216,6 +268,7 @@ int main(void) {
     wire_labels(garbling);
     jobs(circuit, job);
     audits(garbling);
+    other_types(circuit, garbling, job);
     places_of_handles();
     names();
 

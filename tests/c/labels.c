@@ -4,7 +4,8 @@
  */
 #include "check.h"
 
-enum { BAD = HALFGATES_BAD_ARGUMENT, SMALL = HALFGATES_SMALL_BUFFER, LABEL = 16 };
+enum { BAD = HALFGATES_BAD_ARGUMENT, SMALL = HALFGATES_SMALL_BUFFER, ABSENT = HALFGATES_NULL_POINTER, LABEL = 16 };
+enum { SIZE = HALFGATES_WRONG_SIZE };
 
 static const uint64_t LIMIT = UINT64_C(1) << 62;
 static const uint8_t SEED[32] = {9}, OFFSET[LABEL] = {0x11, 1, 2, 3}, EVEN[LABEL] = {0x10, 1, 2, 3};
@@ -73,12 +74,13 @@ static void joined(halfgates_circuit *circuit) {
 static void garble_from(halfgates_circuit *circuit) {
     const uint8_t zeros[49] = {5};
     halfgates_garbling *made = NULL;
-    CHECK_CODE(BAD, halfgates_garble_from(NULL, OFFSET, zeros, 48, 0, &made));
-    CHECK_CODE(BAD, halfgates_garble_from(circuit, NULL, zeros, 48, 0, &made));
-    CHECK_CODE(BAD, halfgates_garble_from(circuit, OFFSET, zeros, 48, 0, NULL));
-    CHECK_CODE(BAD, halfgates_garble_from(circuit, OFFSET, NULL, 0, 0, &made));
-    CHECK_CODE(BAD, halfgates_garble_from(circuit, OFFSET, zeros, 47, 0, &made));
-    CHECK_CODE(BAD, halfgates_garble_from(circuit, OFFSET, zeros, 49, 0, &made));
+    CHECK_CODE(ABSENT, halfgates_garble_from(NULL, OFFSET, zeros, 48, 0, &made));
+    CHECK_CODE(ABSENT, halfgates_garble_from(circuit, NULL, zeros, 48, 0, &made));
+    CHECK_CODE(ABSENT, halfgates_garble_from(circuit, OFFSET, zeros, 48, 0, NULL));
+    CHECK_CODE(SIZE, halfgates_garble_from(circuit, OFFSET, NULL, 0, 0, &made));
+    CHECK_CODE(SIZE, halfgates_garble_from(circuit, OFFSET, zeros, 47, 0, &made));
+    CHECK_CODE(SIZE, halfgates_garble_from(circuit, OFFSET, zeros, 49, 0, &made));
+    CHECK_CODE(SIZE, halfgates_garble_from(circuit, EVEN, zeros, 47, LIMIT, &made));
     CHECK_CODE(BAD, halfgates_garble_from(circuit, EVEN, zeros, 48, 0, &made));
     CHECK_CODE(BAD, halfgates_garble_from(circuit, OFFSET, zeros, 48, LIMIT, &made));
     CHECK_CODE(BAD, halfgates_garble_from(circuit, OFFSET, zeros, 48, UINT64_MAX, &made));
@@ -109,25 +111,25 @@ static void labels_of_values(halfgates_circuit *circuit, halfgates_garbling *gar
     uint8_t zero[LABEL], one[LABEL], offset[LABEL], expected[32];
     const uint8_t bit = 1, digit = 2;
     fill();
-    CHECK_CODE(BAD, halfgates_offset(NULL, room));
-    CHECK_CODE(BAD, halfgates_offset(garbling, NULL));
-    CHECK_CODE(BAD, halfgates_input_labels(NULL, 0, room, room + 64, 16));
-    CHECK_CODE(BAD, halfgates_output_labels(NULL, 0, room, room + 64, 32));
+    CHECK_CODE(ABSENT, halfgates_offset(NULL, room));
+    CHECK_CODE(ABSENT, halfgates_offset(garbling, NULL));
+    CHECK_CODE(ABSENT, halfgates_input_labels(NULL, 0, room, room + 64, 16));
+    CHECK_CODE(ABSENT, halfgates_output_labels(NULL, 0, room, room + 64, 32));
     CHECK_CODE(HALFGATES_NO_SUCH_VALUE, halfgates_input_labels(garbling, 3, room, room + 64, 16));
     CHECK_CODE(HALFGATES_NO_SUCH_VALUE, halfgates_input_labels(garbling, UINT32_MAX, room, room + 64, 16));
     CHECK_CODE(HALFGATES_NO_SUCH_VALUE, halfgates_output_labels(garbling, 1, room, room + 64, 32));
     CHECK_CODE(SMALL, halfgates_input_labels(garbling, 0, room, room + 64, 15));
     CHECK_CODE(SMALL, halfgates_input_labels(garbling, 0, NULL, NULL, 0));
     CHECK_CODE(SMALL, halfgates_output_labels(garbling, 0, room, room + 64, 31));
-    CHECK_CODE(BAD, halfgates_garbling_deal(NULL, 0, &bit, 1, room, 32, &written));
-    CHECK_CODE(BAD, halfgates_garbling_deal(garbling, 0, &bit, 1, room, 32, NULL));
+    CHECK_CODE(ABSENT, halfgates_garbling_deal(NULL, 0, &bit, 1, room, 32, &written));
+    CHECK_CODE(ABSENT, halfgates_garbling_deal(garbling, 0, &bit, 1, room, 32, NULL));
     CHECK_CODE(HALFGATES_NO_SUCH_VALUE, halfgates_garbling_deal(garbling, 3, &bit, 1, room, 32, &written));
     CHECK_CODE(HALFGATES_WRONG_LENGTH, halfgates_garbling_deal(garbling, 0, &bit, 0, room, 32, &written));
     CHECK_CODE(HALFGATES_BAD_DIGIT, halfgates_garbling_deal(garbling, 0, &digit, 1, room, 32, &written));
-    CHECK_CODE(BAD, halfgates_label_file(NULL, 0, SEED, 16, room, 32, &written));
-    CHECK_CODE(BAD, halfgates_label_file(circuit, 0, SEED, 16, room, 32, NULL));
-    CHECK_CODE(BAD, halfgates_label_file(circuit, 0, SEED, 15, room, 32, &written));
-    CHECK_CODE(BAD, halfgates_label_file(circuit, 0, SEED, 17, room, 32, &written));
+    CHECK_CODE(ABSENT, halfgates_label_file(NULL, 0, SEED, 16, room, 32, &written));
+    CHECK_CODE(ABSENT, halfgates_label_file(circuit, 0, SEED, 16, room, 32, NULL));
+    CHECK_CODE(SIZE, halfgates_label_file(circuit, 0, SEED, 15, room, 32, &written));
+    CHECK_CODE(SIZE, halfgates_label_file(circuit, 0, SEED, 17, room, 32, &written));
     CHECK_CODE(HALFGATES_NO_SUCH_VALUE, halfgates_label_file(circuit, 3, SEED, 16, room, 32, &written));
     check_behind(0);
     CHECK(written == 7);
@@ -156,18 +158,20 @@ static void labels_of_values(halfgates_circuit *circuit, halfgates_garbling *gar
 static void evaluation(halfgates_circuit *circuit, halfgates_garbling *garbling) {
     const uint8_t labels[49] = {3}, digits[2] = {1, 2}, bits[2] = {1, 0};
     uint8_t rows[33] = {0};
-    CHECK_CODE(BAD, halfgates_rows(NULL, room, 32));
-    CHECK_CODE(BAD, halfgates_decode_bits(NULL, room, 2));
-    CHECK_CODE(BAD, halfgates_evaluate_labels(NULL, rows, 32, 0, labels, 48, room, 32));
-    CHECK_CODE(BAD, halfgates_evaluate_labels(circuit, rows, 31, 0, labels, 48, room, 32));
-    CHECK_CODE(BAD, halfgates_evaluate_labels(circuit, rows, 33, 0, labels, 48, room, 32));
-    CHECK_CODE(BAD, halfgates_evaluate_labels(circuit, rows, 32, 0, labels, 47, room, 32));
-    CHECK_CODE(BAD, halfgates_evaluate_labels(circuit, rows, 32, 0, labels, 49, room, 32));
+    CHECK_CODE(ABSENT, halfgates_rows(NULL, room, 32));
+    CHECK_CODE(ABSENT, halfgates_decode_bits(NULL, room, 2));
+    CHECK_CODE(ABSENT, halfgates_evaluate_labels(NULL, rows, 32, 0, labels, 48, room, 32));
+    CHECK_CODE(SIZE, halfgates_evaluate_labels(circuit, rows, 31, 0, labels, 48, room, 32));
+    CHECK_CODE(SIZE, halfgates_evaluate_labels(circuit, rows, 33, 0, labels, 48, room, 32));
+    CHECK_CODE(SIZE, halfgates_evaluate_labels(circuit, rows, 32, 0, labels, 47, room, 32));
+    CHECK_CODE(SIZE, halfgates_evaluate_labels(circuit, rows, 32, 0, labels, 49, room, 32));
+    CHECK_CODE(SIZE, halfgates_evaluate_labels(circuit, rows, 31, LIMIT, labels, 48, room, 31));
+    CHECK_CODE(BAD, halfgates_evaluate_labels(circuit, rows, 32, LIMIT, labels, 48, room, 31));
     CHECK_CODE(BAD, halfgates_evaluate_labels(circuit, rows, 32, LIMIT, labels, 48, room, 32));
     CHECK_CODE(BAD, halfgates_evaluate_labels(circuit, rows, 32, UINT64_MAX, labels, 48, room, 32));
-    CHECK_CODE(BAD, halfgates_decode(labels, 31, bits, 2, room, 2));
-    CHECK_CODE(BAD, halfgates_decode(labels, 33, bits, 2, room, 2));
-    CHECK_CODE(BAD, halfgates_job_output_labels(NULL, room, 32));
+    CHECK_CODE(SIZE, halfgates_decode(labels, 31, bits, 2, room, 2));
+    CHECK_CODE(SIZE, halfgates_decode(labels, 33, bits, 2, room, 2));
+    CHECK_CODE(ABSENT, halfgates_job_output_labels(NULL, room, 32));
     fill();
     CHECK_CODE(HALFGATES_BAD_DIGIT, halfgates_decode(labels, 32, digits, 2, room, 2));
     check_behind(0);
@@ -198,8 +202,8 @@ static void job_labels(halfgates_circuit *circuit, halfgates_garbling *garbling)
 static void sharing(halfgates_circuit *circuit) {
     halfgates_circuit *other = NULL;
     uint8_t digests[2][32];
-    CHECK_CODE(BAD, halfgates_circuit_share(NULL, &other));
-    CHECK_CODE(BAD, halfgates_circuit_share(circuit, NULL));
+    CHECK_CODE(ABSENT, halfgates_circuit_share(NULL, &other));
+    CHECK_CODE(ABSENT, halfgates_circuit_share(circuit, NULL));
     CHECK(other == NULL);
     CHECK_CODE(HALFGATES_OK, halfgates_circuit_share(circuit, &other));
     CHECK_CODE(HALFGATES_OK, halfgates_circuit_digest(circuit, digests[0]));

@@ -1,5 +1,5 @@
 /*
- * A NULL whose size isn't 0 is a bad argument. Each call is made by a process of its own, and its end is looked at.
+ * A NULL whose size isn't 0 is refused. Each call is made by a process of its own, and its end is looked at.
  *
  *   null [LIBRARY]
  *
@@ -38,7 +38,7 @@ static void check_end(const char *what) {
     do { \
         fflush(stderr); \
         if (fork() == 0) \
-            _exit(CALLED(name)(__VA_ARGS__) != HALFGATES_BAD_ARGUMENT); \
+            _exit(CALLED(name)(__VA_ARGS__) != HALFGATES_NULL_POINTER); \
         check_end(#name "(" #__VA_ARGS__ ")"); \
     } while (0)
 

@@ -70,14 +70,14 @@ void check_seeds() {
     CHECK(memcmp(first.data(), second.data(), 32) != 0);
     const bytes given(32, 7);
     CHECK(memcmp(halfgates::seed::from_bytes(given).data(), given.data(), 32) == 0);
-    throws(60, "fault 60 BadArgument", [] { (void)halfgates::seed::from_bytes({}); });
-    throws(60, "fault 60 BadArgument", [] { (void)halfgates::seed::from_bytes(bytes(31)); });
-    throws(60, "fault 60 BadArgument", [] { (void)halfgates::seed::from_bytes(bytes(33)); });
+    throws(66, "fault 66 WrongSize", [] { (void)halfgates::seed::from_bytes({}); });
+    throws(66, "fault 66 WrongSize", [] { (void)halfgates::seed::from_bytes(bytes(31)); });
+    throws(66, "fault 66 WrongSize", [] { (void)halfgates::seed::from_bytes(bytes(33)); });
 }
 
 /* What a call reads may be a list, a temporary, a view, or a pointer and a size. */
 void check_inputs() {
-    halfgates::circuit circuit(TEXT);
+    const halfgates::circuit circuit(TEXT);
     const bytes bits = {0, 1, 1}, expected = {0, 1};
     const std::array<std::uint8_t, 3> array = {{0, 1, 1}};
     const halfgates::view view(bits);
@@ -91,8 +91,8 @@ void check_inputs() {
 }
 
 void check_faults() {
-    halfgates::circuit circuit(TEXT);
-    halfgates::garbling garbling = circuit.garble(seed_of(0));
+    const halfgates::circuit circuit(TEXT);
+    const halfgates::garbling garbling = circuit.garble(seed_of(0));
     throws(1, "fault 1 Truncated", [] { halfgates::circuit it(bytes{}); });
     throws(16, "fault 16 WrongLength", [&] { (void)circuit.plain({1}); });
     throws(42, "fault 42 NoSuchValue", [&] { (void)circuit.deal(seed_of(0), 3, {1}); });
@@ -118,13 +118,13 @@ void check_moves() {
     halfgates::circuit first(TEXT);
     halfgates::circuit second = std::move(first);
     CHECK(first.get() == nullptr);
-    throws(60, "fault 60 BadArgument", [&] { (void)first.garble(seed_of(0)); });
+    throws(64, "fault 64 NullPointer", [&] { (void)first.garble(seed_of(0)); });
     halfgates::garbling garbling = second.garble(seed_of(0));
     garbling = second.garble(seed_of(1));
     CHECK(garbling.write().size() == 177);
     halfgates::garbling moved = std::move(garbling);
-    throws(60, "fault 60 BadArgument", [&] { (void)garbling.input_labels(0); });
-    throws(60, "fault 60 BadArgument", [&] { (void)garbling.rows(); });
+    throws(64, "fault 64 NullPointer", [&] { (void)garbling.input_labels(0); });
+    throws(64, "fault 64 NullPointer", [&] { (void)garbling.rows(); });
     CHECK(moved.write().size() == 177);
     first = second.share();
     halfgates::circuit third = first.share();

@@ -1,6 +1,6 @@
 /*
- * Eight threads, each with a handle of its own on one circuit, or with a circuit of its own, and a garbling that a thread
- * hands to another.
+ * Eight threads, each with a handle of its own on one circuit, or with a circuit of its own; eight that use one circuit,
+ * one garbling and one job at once; and a garbling that a thread hands to another.
  */
 #include "check.h"
 #include <pthread.h>
@@ -13,7 +13,7 @@ struct task {
     uint8_t garbled[177];
 };
 
-static void garble_once(halfgates_circuit *circuit, uint8_t number, uint8_t garbled[177]) {
+static void garble_once(const halfgates_circuit *circuit, uint8_t number, uint8_t garbled[177]) {
     uint8_t seed[32];
     size_t written;
     halfgates_garbling *garbling = NULL;
@@ -49,6 +49,65 @@ static void *work(void *at) {
     return NULL;
 }
 
+/* What several threads read at once, and what they are to find. */
+struct shared {
+    const halfgates_circuit *circuit;
+    const halfgates_garbling *garbling;
+    const halfgates_job *job;
+    uint8_t garbled[177], zero[16], outputs[2];
+};
+
+static void *read_all(void *at) {
+    const struct shared *shared = at;
+    const uint8_t bits[3] = {1, 0, 1};
+    uint8_t garbled[177], zero[16], outputs[2];
+    halfgates_numbers numbers;
+    size_t written;
+    for (int round = 0; round < ROUNDS; round++) {
+        CHECK_CODE(HALFGATES_OK, halfgates_circuit_numbers(shared->circuit, &numbers));
+        CHECK(numbers.gates == 5 && numbers.wires == 8);
+        garble_once(shared->circuit, 0, garbled);
+        CHECK(memcmp(garbled, shared->garbled, sizeof garbled) == 0);
+        CHECK_CODE(HALFGATES_OK, halfgates_garbling_write(shared->garbling, 2, garbled, sizeof garbled, &written));
+        CHECK(memcmp(garbled, shared->garbled, sizeof garbled) == 0);
+        CHECK_CODE(HALFGATES_OK, halfgates_zero_label(shared->garbling, 7, zero));
+        CHECK(memcmp(zero, shared->zero, sizeof zero) == 0);
+        CHECK_CODE(HALFGATES_OK, halfgates_evaluate(shared->job, outputs, sizeof outputs));
+        CHECK(memcmp(outputs, shared->outputs, sizeof outputs) == 0);
+        CHECK_CODE(HALFGATES_OK, halfgates_plain(shared->circuit, bits, 3, outputs, sizeof outputs));
+        CHECK(memcmp(outputs, shared->outputs, sizeof outputs) == 0);
+    }
+    return NULL;
+}
+
+/* Several threads use the same three handles at once. */
+static void share_handles(const halfgates_circuit *circuit) {
+    const uint8_t seed[32] = {0}, bits[3] = {1, 0, 1};
+    const size_t sizes[3] = {32, 32, 32};
+    uint8_t labels[96];
+    size_t written;
+    pthread_t threads[THREADS];
+    halfgates_garbling *garbling = NULL;
+    halfgates_job *job = NULL;
+    struct shared shared;
+    CHECK_CODE(HALFGATES_OK, halfgates_garble(circuit, seed, &garbling));
+    CHECK_CODE(HALFGATES_OK, halfgates_garbling_write(garbling, 2, shared.garbled, 177, &written));
+    CHECK_CODE(HALFGATES_OK, halfgates_zero_label(garbling, 7, shared.zero));
+    for (uint32_t i = 0; i < 3; i++)
+        CHECK_CODE(HALFGATES_OK, halfgates_deal(circuit, seed, i, bits + i, 1, labels + 32 * i, 32, &written));
+    CHECK_CODE(HALFGATES_OK, halfgates_job_bind(circuit, shared.garbled, 177, labels, 96, sizes, 3, &job));
+    CHECK_CODE(HALFGATES_OK, halfgates_evaluate(job, shared.outputs, 2));
+    shared.circuit = circuit;
+    shared.garbling = garbling;
+    shared.job = job;
+    for (int i = 0; i < THREADS; i++)
+        CHECK(pthread_create(&threads[i], NULL, read_all, &shared) == 0);
+    for (int i = 0; i < THREADS; i++)
+        CHECK(pthread_join(threads[i], NULL) == 0);
+    halfgates_garbling_free(garbling);
+    halfgates_job_free(job);
+}
+
 /* Frees what another thread made. */
 static void *free_garbling(void *garbling) {
     halfgates_garbling_free(garbling);
@@ -77,6 +136,7 @@ int main(void) {
         garble_once(circuit, i, garbled);
         CHECK(memcmp(garbled, tasks[i].garbled, sizeof garbled) == 0);
     }
+    share_handles(circuit);
     CHECK_CODE(HALFGATES_OK, halfgates_garble(circuit, seed, &garbling));
     CHECK(pthread_create(&other, NULL, free_garbling, garbling) == 0);
     CHECK(pthread_join(other, NULL) == 0);

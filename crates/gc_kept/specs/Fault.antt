@@ -4,7 +4,7 @@ use Rattle.gc_netlist.specs.Fault as read
 use Rattle.gc_file.specs.Fault as held
 use Rattle.gc_job.specs.Fault.{bind_code_of, bind_name_of, eval_code_of, eval_name_of}
 use Rattle.gc_kept.specs.declared.fault.KeptFault.{KeptFault}
-use Rattle.gc_kept.specs.declared.fault.KeptFault.TheVariants.{Circuit, BadDigit, WrongLength, Garbling, File, Binding, Evaluation, BadArgument, SmallBuffer, Memory}
+use Rattle.gc_kept.specs.declared.fault.KeptFault.TheVariants.{Circuit, BadDigit, WrongLength, Garbling, File, Binding, Evaluation, BadArgument, SmallBuffer, Memory, WrongSize}
 
 abbrev pub code_of : KeptFault → ℕ
 code_of (Circuit fault) = read.code_of fault
@@ -17,6 +17,7 @@ code_of (Evaluation fault) = eval_code_of fault
 code_of BadArgument = 60
 code_of SmallBuffer = 61
 code_of Memory = 62
+code_of WrongSize = 66
 
 abbrev pub name_of : KeptFault → List ℕ
 name_of (Circuit fault) = read.name_of fault
@@ -29,3 +30,4 @@ name_of (Evaluation fault) = eval_name_of fault
 name_of BadArgument = codes "BadArgument"
 name_of SmallBuffer = codes "SmallBuffer"
 name_of Memory = codes "Memory"
+name_of WrongSize = codes "WrongSize"

@@ -5,7 +5,7 @@ use Rattle.gc_file.specs.declared.fault.FileFault.TheVariants as file
 use Rattle.gc_file.specs.FileFault.{FirstLabelFault}
 use Rattle.gc_file.specs.LabelFile.{LabelFileParts, IsLabelFile, label_file}
 use Rattle.gc_kept.specs.declared.fault.KeptFault.{KeptFault}
-use Rattle.gc_kept.specs.declared.fault.KeptFault.TheVariants.{File, BadArgument, Memory}
+use Rattle.gc_kept.specs.declared.fault.KeptFault.TheVariants.{File, Memory, WrongSize}
 
 abbrev pub file_length : LabelFileParts → ℕ
 file_length file = length (label_file file)
@@ -32,7 +32,7 @@ pub record HasFaultyFile (bytes lengths : List ℕ) (fault : FileFault) : Type 0
 -- The fault of such bytes: the lengths don't add up to theirs, else the first fault of a file. Memory may be missing
 -- instead.
 abbrev pub HasLabelFilesFault : List ℕ → List ℕ → KeptFault → Type 0
-HasLabelFilesFault bytes lengths BadArgument = length bytes ≢ sum lengths
+HasLabelFilesFault bytes lengths WrongSize = length bytes ≢ sum lengths
 HasLabelFilesFault bytes lengths (File fault) =
     (length bytes ≡ sum lengths) × (fault ≢ file.Memory → HasFaultyFile bytes lengths fault)
 HasLabelFilesFault bytes lengths Memory = Unit {0}

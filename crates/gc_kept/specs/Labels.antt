@@ -13,7 +13,7 @@ use Rattle.gc_job.specs.Job.{JobParts}
 use Rattle.gc_job.specs.declared.fault.BindFault.TheVariants as bind
 use Rattle.gc_job.specs.declared.fault.EvalFault.TheVariants as eval
 use Rattle.gc_kept.specs.declared.fault.KeptFault.{KeptFault}
-use Rattle.gc_kept.specs.declared.fault.KeptFault.TheVariants.{BadDigit, Binding, Circuit, Evaluation, BadArgument, SmallBuffer, Garbling, Memory}
+use Rattle.gc_kept.specs.declared.fault.KeptFault.TheVariants.{BadDigit, Binding, Circuit, Evaluation, BadArgument, SmallBuffer, Garbling, Memory, WrongSize}
 use Rattle.gc_netlist.specs.declared.fault.ReadFault.TheVariants as read
 use Rattle.gc_kept.specs.Bits.{HasBadDigit}
 use Rattle.gc_kept.specs.Files.{IsFileAt, HasWriteFault}
@@ -43,12 +43,13 @@ pub record IsFromLabels (c : Netlist) (offset zero_labels : List ℕ) (first : �
   pub count : length labels ≡ input_wires c
   pub garbled : IsGarbledFrom g.offset (slice_index labels) first c g.garbling
 
--- The fault of such a garbling: there are other labels than one for each input wire, the offset has the colour 0, or an
--- AND number is too large. Memory may be missing instead.
+-- The fault of such a garbling: there are other labels than one for each input wire, then the offset has the colour 0,
+-- or an AND number is too large. Memory may be missing instead.
 abbrev pub HasGarbleFault : Netlist → List ℕ → List ℕ → ℕ → KeptFault → Type 0
+HasGarbleFault c offset zero_labels first WrongSize = length zero_labels ≢ 16 * input_wires c
 HasGarbleFault c offset zero_labels first BadArgument =
-    (length zero_labels ≢ 16 * input_wires c) ⊎ (colour (label_of_bytes offset) ≡ false)
-    ⊎ (¬ (first + and_count c ≤ 2 ^ 62))
+    (length zero_labels ≡ 16 * input_wires c)
+    × ((colour (label_of_bytes offset) ≡ false) ⊎ (¬ (first + and_count c ≤ 2 ^ 62)))
 HasGarbleFault c offset zero_labels first Garbling = Unit {0}
 HasGarbleFault c offset zero_labels first Memory = Unit {0}
 HasGarbleFault c offset zero_labels first _ = ⊥
@@ -96,12 +97,14 @@ pub record AreEvaluatedTo (c : Netlist) (rows : List ℕ) (first : ℕ) (labels 
   pub evaluated : AreOutputLabels first c row_pairs inputs outputs
   pub buffer : IsFileAt (flat_map bytes_of_label outputs) old new
 
--- The fault of such an evaluation: a number of bytes or an AND number is wrong, then the buffer has too little room.
+-- The fault of such an evaluation: a number of bytes is wrong, then an AND number, then the buffer has too little room.
 -- Memory may be missing instead.
 abbrev pub HasLabelsEvalFault : Netlist → List ℕ → ℕ → List ℕ → ℕ → KeptFault → Type 0
-HasLabelsEvalFault c rows first labels room BadArgument =
+HasLabelsEvalFault c rows first labels room WrongSize =
     (length rows ≢ 32 * and_count c) ⊎ (length labels ≢ 16 * input_wires c)
-    ⊎ (¬ (first + and_count c ≤ 2 ^ 62))
+HasLabelsEvalFault c rows first labels room BadArgument =
+    (length rows ≡ 32 * and_count c) × (length labels ≡ 16 * input_wires c)
+    × (¬ (first + and_count c ≤ 2 ^ 62))
 HasLabelsEvalFault c rows first labels room SmallBuffer =
     (length rows ≡ 32 * and_count c) × (length labels ≡ 16 * input_wires c)
     × (first + and_count c ≤ 2 ^ 62) × (room < 16 * output_wires c)
@@ -133,7 +136,7 @@ pub record AreDecoded (labels decode_bits old new : List ℕ) : Type 0 where
 -- The fault of decoding: other labels than one for each decode bit, then a buffer with too little room, then a bad digit.
 -- Memory may be missing instead.
 abbrev pub HasDecodeFault : List ℕ → List ℕ → ℕ → KeptFault → Type 0
-HasDecodeFault labels decode_bits room BadArgument = length labels ≢ 16 * length decode_bits
+HasDecodeFault labels decode_bits room WrongSize = length labels ≢ 16 * length decode_bits
 HasDecodeFault labels decode_bits room SmallBuffer =
     (length labels ≡ 16 * length decode_bits) × (room < length decode_bits)
 HasDecodeFault labels decode_bits room BadDigit =
@@ -157,7 +160,7 @@ pub record IsReceivedAt (c : Netlist) (index : ℕ) (bytes old new : List ℕ) (
 abbrev pub HasReceivedFault : Netlist → ℕ → List ℕ → ℕ → ℕ → KeptFault → Type 0
 HasReceivedFault c index bytes room written (Binding fault) =
     (fault ≡ bind.NoSuchValue) × (length c.input_widths ≤ index)
-HasReceivedFault c index bytes room written BadArgument =
+HasReceivedFault c index bytes room written WrongSize =
     (width : ℕ) × (slice_get c.input_widths index ≡ Some width) × (length bytes ≢ 16 * width)
 HasReceivedFault c index bytes room written SmallBuffer =
     (width : ℕ) × (slice_get c.input_widths index ≡ Some width) × (length bytes ≡ 16 * width)

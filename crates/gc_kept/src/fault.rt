@@ -10,7 +10,7 @@ use std::alloc::{AllocError, AllocFailed};
 use std::error::Error;
 use std::fmt;
 
-/// Why a call has no result: a fault of the layers below, one that has the number of such a fault, or one of the three,
+/// Why a call has no result: a fault of the layers below, one that has the number of such a fault, or one of the four,
 /// from 60 on, that only callers in other languages meet.
 #[derive(Clone, Copy, Debug, PartialEq, Eq)]
 pub enum KeptFault {
@@ -34,6 +34,8 @@ pub enum KeptFault {
     SmallBuffer,
     /// There is no memory for what is kept.
     Memory,
+    /// Bytes that are read have another number than the call takes.
+    WrongSize,
 }
 
 impl KeptFault {
@@ -42,7 +44,7 @@ impl KeptFault {
     pub fn code(self) -> u32
         ensures code { result ≡ code_of self }
         ensures some { 0 < result }
-        ensures few { result < 64 }
+        ensures few { result < 67 }
     {
         match self {
             KeptFault::Circuit(fault) => fault.code(),
@@ -55,6 +57,7 @@ impl KeptFault {
             KeptFault::BadArgument => 60,
             KeptFault::SmallBuffer => 61,
             KeptFault::Memory => 62,
+            KeptFault::WrongSize => 66,
         }
     }
 
@@ -73,6 +76,7 @@ impl KeptFault {
             KeptFault::BadArgument => "BadArgument",
             KeptFault::SmallBuffer => "SmallBuffer",
             KeptFault::Memory => "Memory",
+            KeptFault::WrongSize => "WrongSize",
         }
     }
 }

@@ -19,8 +19,8 @@ const NO_MEMORY: KeptFault = KeptFault::Evaluation(EvalFault::Memory);
 impl KeptCircuit {
     /// Evaluates row pairs, 32 bytes for each AND gate, and an active label for each input wire, 16 bytes each, as
     /// [`evaluate_labels`] does, and writes the active labels of the output wires to the front of a buffer. AND gates are
-    /// numbered from `first` on. Nothing of the rows and the labels is trusted. It refuses other numbers of bytes, and a
-    /// first AND gate whose sum with the number of AND gates is above 2^62 (60), and then a buffer that is too small
+    /// numbered from `first` on. Nothing of the rows and the labels is trusted. It refuses other numbers of bytes (66), then
+    /// a first AND gate whose sum with the number of AND gates is above 2^62 (60), and then a buffer that is too small
     /// (61).
     pub fn evaluate_labels(
         &self,
@@ -41,7 +41,7 @@ impl KeptCircuit {
         if rows.len() != PAIR * and_gates as usize
             || labels.len() != LABEL * circuit.input_wires() as usize
         {
-            return Err(KeptFault::BadArgument);
+            return Err(KeptFault::WrongSize);
         }
         let Some(first) = FirstAnd::new(first, and_gates) else {
             return Err(KeptFault::BadArgument);
@@ -62,7 +62,7 @@ impl KeptCircuit {
 }
 
 /// Writes the bits that active labels of output wires decode to, 16 bytes each, to the front of a buffer: each is the
-/// decode bit xor the label's colour. It refuses other labels than one for each decode bit (60), a buffer that is too
+/// decode bit xor the label's colour. It refuses other labels than one for each decode bit (66), a buffer that is too
 /// small (61), and a decode bit other than 0 and 1 (15), in this order.
 pub fn decode(
     alloc: Global,
@@ -77,7 +77,7 @@ pub fn decode(
 {
     let count = decode_bits.len();
     if labels.len() % LABEL != 0 || labels.len() / LABEL != count {
-        return Err(KeptFault::BadArgument);
+        return Err(KeptFault::WrongSize);
     }
     has_room(count, bits)?;
     let decode_bits = read_bits(alloc, decode_bits, count)?;

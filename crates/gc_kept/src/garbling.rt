@@ -70,8 +70,8 @@ impl KeptCircuit {
     }
 
     /// Garbles the circuit on one thread, as [`garble_from`] does, from an offset, a zero label for each input wire, one
-    /// after another, and the number of the first AND gate. It refuses an offset of colour 0, another number of bytes,
-    /// and a first AND gate whose sum with the number of AND gates is above 2^62 (60).
+    /// after another, and the number of the first AND gate. It refuses another number of bytes (66), then an offset of
+    /// colour 0 and a first AND gate whose sum with the number of AND gates is above 2^62 (60).
     pub fn garble_from(
         &self,
         alloc: Global,
@@ -85,7 +85,7 @@ impl KeptCircuit {
     {
         let circuit = self.circuit();
         if zero_labels.len() != LABEL * circuit.input_wires() as usize {
-            return Err(KeptFault::BadArgument);
+            return Err(KeptFault::WrongSize);
         }
         let Some(offset) = Offset::new(Label::from_bytes(*offset)) else {
             return Err(KeptFault::BadArgument);

@@ -40,7 +40,7 @@ fn put_file(index: u32, labels: &[Label], file: &mut [u8])
 impl KeptCircuit {
     /// Writes the label file of the input value with this index and these labels, 16 bytes each, and reports the number
     /// of its bytes. It refuses an index without a value (42), another number of bytes than 16 for each wire of the value
-    /// (60), and a buffer that is too small (61): then `written` is the size that is needed. After another fault it is as
+    /// (66), and a buffer that is too small (61): then `written` is the size that is needed. After another fault it is as
     /// it was.
     pub fn label_file(
         &self,
@@ -63,7 +63,7 @@ impl KeptCircuit {
         };
         let size = LABEL * *width as usize;
         if labels.len() != size {
-            return Err(KeptFault::BadArgument);
+            return Err(KeptFault::WrongSize);
         }
         look_for_room(LABEL_HEADER + size, buffer, written)?;
         let Ok(labels) = labels_from_bytes(alloc, labels) else {

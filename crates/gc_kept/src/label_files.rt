@@ -22,7 +22,7 @@ fn add_up(lengths: &[usize], total: usize) -> bool
 }
 
 /// Reads label files that follow one another, by the number of bytes of each. It first refuses numbers that don't add
-/// up to that of all bytes (60).
+/// up to that of all bytes (66).
 pub(crate) fn read_label_files(
     alloc: Global,
     bytes: &[u8],
@@ -32,7 +32,7 @@ pub(crate) fn read_label_files(
     ensures fault { IfErr result (HasLabelFilesFault bytes.now lengths.now) }
 {
     if !add_up(lengths, bytes.len()) {
-        return Err(KeptFault::BadArgument);
+        return Err(KeptFault::WrongSize);
     }
     let mut files = Vec::with_capacity(alloc, lengths.len())?;
     let mut rest = bytes;

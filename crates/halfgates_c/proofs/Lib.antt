@@ -1,1 +1,2 @@
+mod AnswersLemmas
 mod ManyLemmas

@@ -1,5 +1,5 @@
 -- What handles hold.
-use Rattle.std.specs.Prelude.{◌≡◌, Option, Some, None, MatchOption}
+use Rattle.std.specs.Prelude.{◌≡◌, ℤ, pos, Option, Some, None}
 use Rattle.gc_netlist.specs.Circuit.{Netlist}
 use Rattle.gc_job.specs.Job.{JobParts}
 use Rattle.gc_kept.specs.Garbling.{GarblingWith}
@@ -7,27 +7,34 @@ use Rattle.gc_kept.specs.declared.held.Held.{Held}
 use Rattle.gc_kept.specs.declared.held.Held.TheVariants.{Circuit, Garbling, Job}
 use Rattle.halfgates_c.specs.declared.slot.Slot.{Slot}
 
--- The circuit that is held, if one is,
+-- The code is what a call on a circuit says of it, or 64 for a null, and 65 for a handle of another type.
+abbrev pub OfCircuit : Option Held → (code : ℤ) → (Netlist → Type 0) → Type 0
+OfCircuit None code P = code ≡ pos 64
+OfCircuit (Some (Circuit circuit)) code P = P circuit
+OfCircuit (Some (Garbling garbling)) code P = code ≡ pos 65
+OfCircuit (Some (Job job)) code P = code ≡ pos 65
+
+-- The same of a garbling,
+abbrev pub OfGarbling : Option Held → (code : ℤ) → (GarblingWith → Type 0) → Type 0
+OfGarbling None code P = code ≡ pos 64
+OfGarbling (Some (Circuit circuit)) code P = code ≡ pos 65
+OfGarbling (Some (Garbling garbling)) code P = P garbling
+OfGarbling (Some (Job job)) code P = code ≡ pos 65
+
+-- and of a job.
+abbrev pub OfJob : Option Held → (code : ℤ) → (JobParts → Type 0) → Type 0
+OfJob None code P = code ≡ pos 64
+OfJob (Some (Circuit circuit)) code P = code ≡ pos 65
+OfJob (Some (Garbling garbling)) code P = code ≡ pos 65
+OfJob (Some (Job job)) code P = P job
+
+-- The circuit that is held, if one is.
 abbrev pub circuit_of : Option Held → Option Netlist
 circuit_of None = None
 circuit_of (Some (Circuit circuit)) = Some circuit
 circuit_of (Some (Garbling garbling)) = None
 circuit_of (Some (Job job)) = None
 
--- the garbling,
-abbrev pub garbling_of : Option Held → Option GarblingWith
-garbling_of None = None
-garbling_of (Some (Circuit circuit)) = None
-garbling_of (Some (Garbling garbling)) = Some garbling
-garbling_of (Some (Job job)) = None
-
--- and the job.
-abbrev pub job_of : Option Held → Option JobParts
-job_of None = None
-job_of (Some (Circuit circuit)) = None
-job_of (Some (Garbling garbling)) = None
-job_of (Some (Job job)) = Some job
-
 -- C's pointer is to a handle that holds this.
 abbrev pub Holds : Slot → Held → Type 0
-Holds slot held = MatchOption slot.handle ⊥ (λ handle. handle.held ≡ Some held)
+Holds slot held = slot.held ≡ Some held

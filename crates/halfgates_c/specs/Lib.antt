@@ -1,6 +1,7 @@
 pub mod Answers
 pub mod Holding
 pub mod LabelsReports
+pub mod Lending
 pub mod Numbers
 pub mod Places
 pub mod Reading

@@ -43,6 +43,9 @@ name_at n =
     else if n == 61 then codes "SmallBuffer"
     else if n == 62 then codes "Memory"
     else if n == 63 then codes "WrongLabel"
+    else if n == 64 then codes "NullPointer"
+    else if n == 65 then codes "WrongHandle"
+    else if n == 66 then codes "WrongSize"
     else codes "Unknown"
 
 -- the name of a code; no code is negative

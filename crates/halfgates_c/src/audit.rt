@@ -5,16 +5,16 @@ ghost use Rattle.core.specs.Ptr.{as_mut_ptr};
 ghost use denote.RawPtr.{Testable};
 ghost use Rattle.gc_kept.specs.Audit.{HasGarbledFault};
 ghost use Rattle.halfgates_c.specs.Answers.{Answers};
-ghost use Rattle.halfgates_c.specs.Holding.{garbling_of};
+ghost use Rattle.halfgates_c.specs.Holding.{OfGarbling};
 ghost use Rattle.halfgates_c.specs.Reports.{AreRowFlags, IsReport, IsReportOn, version_number};
 
-use crate::code::{BAD_ARGUMENT, code_of};
+use crate::code::{NULL_POINTER, code_of};
 use crate::handle::{Handle, on_held};
 use crate::locate::NONE;
 use crate::null::is_null;
 use gc_audit::{DifferingRows, GarbledAudit, RowDifference};
 use gc_file::Version;
-use gc_kept::{Held, KeptFault, KeptGarbling};
+use gc_kept::{KeptFault, KeptGarbling};
 use std::alloc::Global;
 
 /// What an audit finds of a garbled file: `halfgates_audit_report`.
@@ -107,17 +107,16 @@ pub extern "C" fn halfgates_audit(
     file: &[u8],
     report: &mut Report,
 ) -> i32
-    requires garbling { Testable (as_mut_ptr garbling) }
     requires report { Testable (as_mut_ptr report) }
-    ensures answer { MatchOption (garbling_of garbling.old.held) (result ≡ pos 60) (λ g.
+    ensures answer { OfGarbling garbling.old.held result (λ g.
         Answers result (IsReportOn g file.now report.new) (HasGarbledFault g file.now)) }
-    ensures held { garbling.new.held ≡ garbling.old.held }
+    ensures back { garbling.new ≡ garbling.old }
     ensures kept { result ≢ pos 0 → report.new ≡ report.old }
 {
-    if is_null(garbling) || is_null(report) {
-        return BAD_ARGUMENT;
+    if is_null(report) {
+        return NULL_POINTER;
     }
-    on_held!(alloc, garbling, Garbling(garbling) => {
+    on_held!(garbling, Garbling(garbling) => {
         code_of(audit(alloc, garbling, file, report))
-    }, else BAD_ARGUMENT)
+    })
 }

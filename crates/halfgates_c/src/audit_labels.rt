@@ -1,18 +1,18 @@
 //! Comparing label files with a garbling.
 
-ghost use Rattle.std.specs.Prelude.{◌≡◌, ◌≢◌, IfErr, MatchOption, OnErr, OnOk, length, pos};
+ghost use Rattle.std.specs.Prelude.{◌≡◌, ◌≢◌, IfErr, OnErr, OnOk, length, pos};
 ghost use Rattle.core.specs.Ptr.{as_mut_ptr};
 ghost use denote.RawPtr.{Testable};
-ghost use Rattle.halfgates_c.specs.Holding.{garbling_of};
+ghost use Rattle.halfgates_c.specs.Holding.{OfGarbling};
 ghost use Rattle.halfgates_c.specs.Answers.{Answers};
 ghost use Rattle.halfgates_c.specs.LabelsReports.{AreFoundAt, HasNoRoomFor, HasReportFault, IsLabelsReportOn, SaysVerdict};
 
-use crate::code::{BAD_ARGUMENT, code_of};
+use crate::code::{NULL_POINTER, code_of};
 use crate::handle::{Handle, on_held};
 use crate::locate::NONE;
 use crate::null::is_null;
 use gc_audit::LabelsVerdict;
-use gc_kept::{Held, KeptFault, KeptGarbling, write_bits};
+use gc_kept::{KeptFault, KeptGarbling, write_bits};
 use std::alloc::Global;
 
 /// What an audit finds of a label file: `halfgates_labels_report`.
@@ -91,19 +91,18 @@ pub extern "C" fn halfgates_audit_labels(
     bits: &mut [u8],
     report: &mut LabelsReport,
 ) -> i32
-    requires garbling { Testable (as_mut_ptr garbling) }
     requires report { Testable (as_mut_ptr report) }
-    ensures answer { MatchOption (garbling_of garbling.old.held) (result ≡ pos 60)
+    ensures answer { OfGarbling garbling.old.held result
         (λ g. Answers result (IsLabelsReportOn g file.now bits.old bits.new report.new)
         (HasReportFault g file.now (length bits.old) report.new)) }
     ensures kept { result ≢ pos 0 → bits.new ≡ bits.old }
     ensures unreported { result ≢ pos 0 → result ≢ pos 61 → report.new ≡ report.old }
-    ensures held { garbling.new.held ≡ garbling.old.held }
+    ensures back { garbling.new ≡ garbling.old }
 {
-    if is_null(garbling) || is_null(report) {
-        return BAD_ARGUMENT;
+    if is_null(report) {
+        return NULL_POINTER;
     }
-    on_held!(alloc, garbling, Garbling(garbling) => {
+    on_held!(garbling, Garbling(garbling) => {
         code_of(audit(alloc, garbling, file, bits, report))
-    }, else BAD_ARGUMENT)
+    })
 }

@@ -1,6 +1,6 @@
 //! Circuits.
 
-ghost use Rattle.std.specs.Prelude.{◌≡◌, ◌≢◌, OnOk, OnErr, IfErr, MatchOption, pos, length};
+ghost use Rattle.std.specs.Prelude.{◌≡◌, ◌≢◌, OnOk, OnErr, IfErr, pos, length};
 ghost use Rattle.core.specs.Ptr.{as_mut_ptr};
 ghost use denote.RawPtr.{Testable};
 ghost use Rattle.sha2.specs.Sha256.{sha256};
@@ -8,11 +8,11 @@ ghost use Rattle.gc_netlist.specs.Canon.{canonical_text};
 ghost use Rattle.gc_kept.specs.Circuit.{HasTextFault};
 ghost use Rattle.gc_kept.specs.Plain.{ArePlainOutputs, HasPlainFault};
 ghost use Rattle.halfgates_c.specs.Answers.{Answers};
-ghost use Rattle.halfgates_c.specs.Holding.{circuit_of};
+ghost use Rattle.halfgates_c.specs.Holding.{OfCircuit};
 ghost use Rattle.halfgates_c.specs.Reading.{HoldsCircuit, HoldsShared};
 ghost use Rattle.halfgates_c.specs.Numbers.{AreNumbers, Copies};
 
-use crate::code::{BAD_ARGUMENT, OK, SMALL_BUFFER, code_of};
+use crate::code::{NULL_POINTER, OK, SMALL_BUFFER, code_of};
 use crate::handle::{Handle, on_held};
 use crate::null::is_null;
 use crate::slot::Slot;
@@ -51,7 +51,7 @@ pub extern "C" fn halfgates_circuit_read(alloc: Global, text: &[u8], circuit: &m
     ensures kept { result ≢ pos 0 → circuit.new ≡ circuit.old }
 {
     if is_null(circuit) {
-        return BAD_ARGUMENT;
+        return NULL_POINTER;
     }
     code_of(read(alloc, text, circuit))
 }
@@ -73,19 +73,18 @@ pub extern "C" fn halfgates_circuit_share(
     circuit: &mut Handle,
     other: &mut Slot,
 ) -> i32
-    requires circuit { Testable (as_mut_ptr circuit) }
     requires other { Testable (as_mut_ptr other) }
-    ensures answer { MatchOption (circuit_of circuit.old.held) (result ≡ pos 60) (λ c.
+    ensures answer { OfCircuit circuit.old.held result (λ c.
         Answers result (HoldsShared c other.new) (λ fault. fault ≡ KeptFault.Memory)) }
-    ensures held { circuit.new.held ≡ circuit.old.held }
+    ensures back { circuit.new ≡ circuit.old }
     ensures kept { result ≢ pos 0 → other.new ≡ other.old }
 {
-    if is_null(circuit) || is_null(other) {
-        return BAD_ARGUMENT;
+    if is_null(other) {
+        return NULL_POINTER;
     }
-    on_held!(alloc, circuit, Circuit(circuit) => {
+    on_held!(circuit, Circuit(circuit) => {
         code_of(share(alloc, circuit, other))
-    }, else BAD_ARGUMENT)
+    })
 }
 
 /// Frees a circuit. Null is allowed.
@@ -112,25 +111,20 @@ fn numbers_of(circuit: &KeptCircuit) -> Numbers
 
 /// Writes the numbers of a circuit.
 #[unsafe(no_mangle)]
-pub extern "C" fn halfgates_circuit_numbers(
-    alloc: Global,
-    circuit: &mut Handle,
-    numbers: &mut Numbers,
-) -> i32
-    requires circuit { Testable (as_mut_ptr circuit) }
+pub extern "C" fn halfgates_circuit_numbers(circuit: &mut Handle, numbers: &mut Numbers) -> i32
     requires numbers { Testable (as_mut_ptr numbers) }
-    ensures answer { MatchOption (circuit_of circuit.old.held) (result ≡ pos 60)
+    ensures answer { OfCircuit circuit.old.held result
         (λ c. (result ≡ pos 0) × AreNumbers c numbers.new) }
-    ensures held { circuit.new.held ≡ circuit.old.held }
+    ensures back { circuit.new ≡ circuit.old }
     ensures kept { result ≢ pos 0 → numbers.new ≡ numbers.old }
 {
-    if is_null(circuit) || is_null(numbers) {
-        return BAD_ARGUMENT;
+    if is_null(numbers) {
+        return NULL_POINTER;
     }
-    on_held!(alloc, circuit, Circuit(circuit) => {
+    on_held!(circuit, Circuit(circuit) => {
         *numbers = numbers_of(circuit);
         OK
-    }, else BAD_ARGUMENT)
+    })
 }
 
 /// Copies the widths to the front of a buffer, where it has room for them.
@@ -146,67 +140,46 @@ fn copy_widths(widths: &[u32], copied: &mut [u32]) -> i32
 
 /// Writes the number of wires of each input value.
 #[unsafe(no_mangle)]
-pub extern "C" fn halfgates_circuit_input_widths(
-    alloc: Global,
-    circuit: &mut Handle,
-    widths: &mut [u32],
-) -> i32
-    requires circuit { Testable (as_mut_ptr circuit) }
-    ensures answer { MatchOption (circuit_of circuit.old.held)
-        ((result ≡ pos 60) × (widths.new ≡ widths.old))
+pub extern "C" fn halfgates_circuit_input_widths(circuit: &mut Handle, widths: &mut [u32]) -> i32
+    ensures answer { OfCircuit circuit.old.held result
         (λ c. Copies result c.input_widths widths.old widths.new) }
-    ensures held { circuit.new.held ≡ circuit.old.held }
+    ensures back { circuit.new ≡ circuit.old }
+    ensures kept { result ≢ pos 0 → widths.new ≡ widths.old }
 {
-    if is_null(circuit) {
-        return BAD_ARGUMENT;
-    }
-    on_held!(alloc, circuit, Circuit(circuit) => {
+    on_held!(circuit, Circuit(circuit) => {
         copy_widths(circuit.circuit().input_widths(), widths)
-    }, else BAD_ARGUMENT)
+    })
 }
 
 /// Writes the number of wires of each output value.
 #[unsafe(no_mangle)]
-pub extern "C" fn halfgates_circuit_output_widths(
-    alloc: Global,
-    circuit: &mut Handle,
-    widths: &mut [u32],
-) -> i32
-    requires circuit { Testable (as_mut_ptr circuit) }
-    ensures answer { MatchOption (circuit_of circuit.old.held)
-        ((result ≡ pos 60) × (widths.new ≡ widths.old))
+pub extern "C" fn halfgates_circuit_output_widths(circuit: &mut Handle, widths: &mut [u32]) -> i32
+    ensures answer { OfCircuit circuit.old.held result
         (λ c. Copies result c.output_widths widths.old widths.new) }
-    ensures held { circuit.new.held ≡ circuit.old.held }
+    ensures back { circuit.new ≡ circuit.old }
+    ensures kept { result ≢ pos 0 → widths.new ≡ widths.old }
 {
-    if is_null(circuit) {
-        return BAD_ARGUMENT;
-    }
-    on_held!(alloc, circuit, Circuit(circuit) => {
+    on_held!(circuit, Circuit(circuit) => {
         copy_widths(circuit.circuit().output_widths(), widths)
-    }, else BAD_ARGUMENT)
+    })
 }
 
 /// Writes the digest of a circuit.
 #[unsafe(no_mangle)]
-pub extern "C" fn halfgates_circuit_digest(
-    alloc: Global,
-    circuit: &mut Handle,
-    digest: &mut [u8; 32],
-) -> i32
-    requires circuit { Testable (as_mut_ptr circuit) }
+pub extern "C" fn halfgates_circuit_digest(circuit: &mut Handle, digest: &mut [u8; 32]) -> i32
     requires digest { Testable (as_mut_ptr digest) }
-    ensures answer { MatchOption (circuit_of circuit.old.held)
-        ((result ≡ pos 60) × (digest.new ≡ digest.old))
+    ensures answer { OfCircuit circuit.old.held result
         (λ c. (result ≡ pos 0) × (digest.new ≡ sha256 (canonical_text c))) }
-    ensures held { circuit.new.held ≡ circuit.old.held }
+    ensures back { circuit.new ≡ circuit.old }
+    ensures kept { result ≢ pos 0 → digest.new ≡ digest.old }
 {
-    if is_null(circuit) || is_null(digest) {
-        return BAD_ARGUMENT;
+    if is_null(digest) {
+        return NULL_POINTER;
     }
-    on_held!(alloc, circuit, Circuit(circuit) => {
+    on_held!(circuit, Circuit(circuit) => {
         *digest = *circuit.digest();
         OK
-    }, else BAD_ARGUMENT)
+    })
 }
 
 /// Evaluates a circuit in the clear.
@@ -217,17 +190,13 @@ pub extern "C" fn halfgates_plain(
     bits: &[u8],
     outputs: &mut [u8],
 ) -> i32
-    requires circuit { Testable (as_mut_ptr circuit) }
-    ensures answer { MatchOption (circuit_of circuit.old.held) (result ≡ pos 60) (λ c.
+    ensures answer { OfCircuit circuit.old.held result (λ c.
         Answers result (ArePlainOutputs c bits.now outputs.old outputs.new)
         (HasPlainFault c bits.now (length outputs.old))) }
-    ensures held { circuit.new.held ≡ circuit.old.held }
+    ensures back { circuit.new ≡ circuit.old }
     ensures kept { result ≢ pos 0 → outputs.new ≡ outputs.old }
 {
-    if is_null(circuit) {
-        return BAD_ARGUMENT;
-    }
-    on_held!(alloc, circuit, Circuit(circuit) => {
+    on_held!(circuit, Circuit(circuit) => {
         code_of(circuit.plain(alloc, bits, outputs))
-    }, else BAD_ARGUMENT)
+    })
 }

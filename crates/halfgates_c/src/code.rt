@@ -14,6 +14,12 @@ pub(crate) const BAD_ARGUMENT: i32 = 60;
 /// The code of a buffer with too little room.
 pub(crate) const SMALL_BUFFER: i32 = 61;
 
+/// The code of a pointer that is null.
+pub(crate) const NULL_POINTER: i32 = 64;
+
+/// The code of a handle of another type.
+pub(crate) const WRONG_HANDLE: i32 = 65;
+
 /// The code of an outcome: 0, or the number of the fault.
 pub(crate) fn code_of(outcome: Result<(), KeptFault>) -> i32
     ensures done { OnOk outcome (result ≡ pos 0) }

@@ -8,26 +8,22 @@ ghost use Rattle.gc_kept.specs.Version.{version_of};
 ghost use Rattle.gc_kept.specs.Files.{IsDealtAt, IsDealtFrom, IsGarbledAt, HasDealFault, HasDealFaultFrom, HasFileFault};
 ghost use Rattle.gc_kept.specs.Labels.{IsReceivedAt, HasReceivedFault};
 ghost use Rattle.halfgates_c.specs.Answers.{Answers};
-ghost use Rattle.halfgates_c.specs.Holding.{circuit_of, garbling_of};
+ghost use Rattle.halfgates_c.specs.Holding.{OfCircuit, OfGarbling, circuit_of};
 
-use crate::code::{BAD_ARGUMENT, code_of};
+use crate::code::{BAD_ARGUMENT, NULL_POINTER, code_of};
 use crate::handle::{Handle, on_held};
 use crate::null::is_null;
-use gc_kept::{Held, version_of};
+use gc_kept::version_of;
 use std::alloc::Global;
 
 /// How many bytes the garbled file of a version has; 0 for a bad argument.
 #[unsafe(no_mangle)]
-pub extern "C" fn halfgates_garbled_size(alloc: Global, circuit: &mut Handle, version: u32) -> u64
-    requires circuit { Testable (as_mut_ptr circuit) }
+pub extern "C" fn halfgates_garbled_size(circuit: &mut Handle, version: u32) -> u64
     ensures size { MatchOption (circuit_of circuit.old.held) (result ≡ 0) (λ c.
         MatchOption (version_of version) (result ≡ 0) (λ v. IsFileSize v c result)) }
-    ensures held { circuit.new.held ≡ circuit.old.held }
+    ensures back { circuit.new ≡ circuit.old }
 {
-    if is_null(circuit) {
-        return 0;
-    }
-    on_held!(alloc, circuit, Circuit(circuit) => match version_of(version) {
+    on_held!(circuit, Circuit(circuit) => match version_of(version) {
         Some(version) => circuit.garbled_size(version),
         None => 0,
     }, else 0)
@@ -42,23 +38,22 @@ pub extern "C" fn halfgates_garbling_write(
     buffer: &mut [u8],
     written: &mut usize,
 ) -> i32
-    requires garbling { Testable (as_mut_ptr garbling) }
     requires written { Testable (as_mut_ptr written) }
-    ensures answer { MatchOption (garbling_of garbling.old.held) (result ≡ pos 60) (λ g.
+    ensures answer { OfGarbling garbling.old.held result (λ g.
         MatchOption (version_of version) (result ≡ pos 60) (λ v.
         Answers result (IsGarbledAt g v buffer.old buffer.new written.new)
         (HasFileFault g v (length buffer.old) written.new))) }
-    ensures held { garbling.new.held ≡ garbling.old.held }
+    ensures back { garbling.new ≡ garbling.old }
     ensures kept { result ≢ pos 0 → buffer.new ≡ buffer.old }
     ensures unreported { result ≢ pos 0 → result ≢ pos 61 → written.new ≡ written.old }
 {
-    if is_null(garbling) || is_null(written) {
-        return BAD_ARGUMENT;
+    if is_null(written) {
+        return NULL_POINTER;
     }
-    on_held!(alloc, garbling, Garbling(garbling) => match version_of(version) {
+    on_held!(garbling, Garbling(garbling) => match version_of(version) {
         Some(version) => code_of(garbling.write(alloc, version, buffer, written)),
         None => BAD_ARGUMENT,
-    }, else BAD_ARGUMENT)
+    })
 }
 
 /// Writes the label file of an input value.
@@ -72,22 +67,21 @@ pub extern "C" fn halfgates_deal(
     buffer: &mut [u8],
     written: &mut usize,
 ) -> i32
-    requires circuit { Testable (as_mut_ptr circuit) }
     requires seed { Testable (as_ptr seed) }
     requires written { Testable (as_mut_ptr written) }
-    ensures answer { MatchOption (circuit_of circuit.old.held) (result ≡ pos 60) (λ c.
+    ensures answer { OfCircuit circuit.old.held result (λ c.
         Answers result (IsDealtAt c seed.now index bits.now buffer.old buffer.new written.new)
         (HasDealFault c seed.now index bits.now (length buffer.old) written.new)) }
-    ensures held { circuit.new.held ≡ circuit.old.held }
+    ensures back { circuit.new ≡ circuit.old }
     ensures kept { result ≢ pos 0 → buffer.new ≡ buffer.old }
     ensures unreported { result ≢ pos 0 → result ≢ pos 61 → written.new ≡ written.old }
 {
-    if is_null(circuit) || is_null(seed) || is_null(written) {
-        return BAD_ARGUMENT;
+    if is_null(seed) || is_null(written) {
+        return NULL_POINTER;
     }
-    on_held!(alloc, circuit, Circuit(circuit) => {
+    on_held!(circuit, Circuit(circuit) => {
         code_of(circuit.deal(alloc, seed, index, bits, buffer, written))
-    }, else BAD_ARGUMENT)
+    })
 }
 
 /// Writes the label file of an input value, from a garbling.
@@ -100,21 +94,20 @@ pub extern "C" fn halfgates_garbling_deal(
     buffer: &mut [u8],
     written: &mut usize,
 ) -> i32
-    requires garbling { Testable (as_mut_ptr garbling) }
     requires written { Testable (as_mut_ptr written) }
-    ensures answer { MatchOption (garbling_of garbling.old.held) (result ≡ pos 60) (λ g.
+    ensures answer { OfGarbling garbling.old.held result (λ g.
         Answers result (IsDealtFrom g index bits.now buffer.old buffer.new written.new)
         (HasDealFaultFrom g index bits.now (length buffer.old) written.new)) }
-    ensures held { garbling.new.held ≡ garbling.old.held }
+    ensures back { garbling.new ≡ garbling.old }
     ensures kept { result ≢ pos 0 → buffer.new ≡ buffer.old }
     ensures unreported { result ≢ pos 0 → result ≢ pos 61 → written.new ≡ written.old }
 {
-    if is_null(garbling) || is_null(written) {
-        return BAD_ARGUMENT;
+    if is_null(written) {
+        return NULL_POINTER;
     }
-    on_held!(alloc, garbling, Garbling(garbling) => {
+    on_held!(garbling, Garbling(garbling) => {
         code_of(garbling.deal(alloc, index, bits, buffer, written))
-    }, else BAD_ARGUMENT)
+    })
 }
 
 /// Writes the label file of an input value, from labels that were received.
@@ -127,19 +120,18 @@ pub extern "C" fn halfgates_label_file(
     buffer: &mut [u8],
     written: &mut usize,
 ) -> i32
-    requires circuit { Testable (as_mut_ptr circuit) }
     requires written { Testable (as_mut_ptr written) }
-    ensures answer { MatchOption (circuit_of circuit.old.held) (result ≡ pos 60) (λ c.
+    ensures answer { OfCircuit circuit.old.held result (λ c.
         Answers result (IsReceivedAt c index labels.now buffer.old buffer.new written.new)
         (HasReceivedFault c index labels.now (length buffer.old) written.new)) }
-    ensures held { circuit.new.held ≡ circuit.old.held }
+    ensures back { circuit.new ≡ circuit.old }
     ensures kept { result ≢ pos 0 → buffer.new ≡ buffer.old }
     ensures unreported { result ≢ pos 0 → result ≢ pos 61 → written.new ≡ written.old }
 {
-    if is_null(circuit) || is_null(written) {
-        return BAD_ARGUMENT;
+    if is_null(written) {
+        return NULL_POINTER;
     }
-    on_held!(alloc, circuit, Circuit(circuit) => {
+    on_held!(circuit, Circuit(circuit) => {
         code_of(circuit.label_file(alloc, index, labels, buffer, written))
-    }, else BAD_ARGUMENT)
+    })
 }

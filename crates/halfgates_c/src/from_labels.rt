@@ -1,16 +1,13 @@
 //! Evaluation from labels to labels, and decoding.
 
-ghost use Rattle.std.specs.Prelude.{◌≡◌, ◌≢◌, MatchOption, length, pos};
-ghost use Rattle.core.specs.Ptr.{as_mut_ptr};
-ghost use denote.RawPtr.{Testable};
+ghost use Rattle.std.specs.Prelude.{◌≡◌, ◌≢◌, length, pos};
 ghost use Rattle.gc_kept.specs.Labels.{AreDecoded, AreEvaluatedTo, HasDecodeFault, HasLabelsEvalFault};
 ghost use Rattle.halfgates_c.specs.Answers.{Answers};
-ghost use Rattle.halfgates_c.specs.Holding.{circuit_of};
+ghost use Rattle.halfgates_c.specs.Holding.{OfCircuit};
 
-use crate::code::{BAD_ARGUMENT, code_of};
+use crate::code::code_of;
 use crate::handle::{Handle, on_held};
-use crate::null::is_null;
-use gc_kept::{Held, decode};
+use gc_kept::decode;
 use std::alloc::Global;
 
 /// Evaluates row pairs and labels, and writes the active labels of all output wires.
@@ -23,19 +20,15 @@ pub extern "C" fn halfgates_evaluate_labels(
     labels: &[u8],
     outputs: &mut [u8],
 ) -> i32
-    requires circuit { Testable (as_mut_ptr circuit) }
-    ensures answer { MatchOption (circuit_of circuit.old.held) (result ≡ pos 60) (λ c.
+    ensures answer { OfCircuit circuit.old.held result (λ c.
         Answers result (AreEvaluatedTo c rows.now first labels.now outputs.old outputs.new)
         (HasLabelsEvalFault c rows.now first labels.now (length outputs.old))) }
-    ensures held { circuit.new.held ≡ circuit.old.held }
+    ensures back { circuit.new ≡ circuit.old }
     ensures kept { result ≢ pos 0 → outputs.new ≡ outputs.old }
 {
-    if is_null(circuit) {
-        return BAD_ARGUMENT;
-    }
-    on_held!(alloc, circuit, Circuit(circuit) => {
+    on_held!(circuit, Circuit(circuit) => {
         code_of(circuit.evaluate_labels(alloc, rows, first, labels, outputs))
-    }, else BAD_ARGUMENT)
+    })
 }
 
 /// Decodes active labels of output wires, and writes their bits.

@@ -1,16 +1,16 @@
 //! Garblings.
 
-ghost use Rattle.std.specs.Prelude.{◌≡◌, ◌≢◌, OnOk, OnErr, IfErr, MatchOption, pos};
+ghost use Rattle.std.specs.Prelude.{◌≡◌, ◌≢◌, OnOk, OnErr, IfErr, pos};
 ghost use Rattle.core.specs.Ptr.{as_ptr, as_mut_ptr};
 ghost use denote.RawPtr.{Testable};
 ghost use Rattle.gc_kept.specs.Garbling.{IsWantOfMemory};
 ghost use Rattle.gc_kept.specs.Labels.{HasGarbleFault};
 ghost use Rattle.gc_kept.specs.Wires.{IsZeroLabel, IsDecodeBit, HasNoWire, HasNoOutput};
 ghost use Rattle.halfgates_c.specs.Answers.{Answers};
-ghost use Rattle.halfgates_c.specs.Holding.{circuit_of, garbling_of};
+ghost use Rattle.halfgates_c.specs.Holding.{OfCircuit, OfGarbling};
 ghost use Rattle.halfgates_c.specs.Reading.{HoldsGarbling, HoldsGarblingFrom};
 
-use crate::code::{BAD_ARGUMENT, code_of};
+use crate::code::{NULL_POINTER, code_of};
 use crate::handle::{Handle, on_held};
 use crate::null::is_null;
 use crate::slot::Slot;
@@ -41,20 +41,19 @@ pub extern "C" fn halfgates_garble(
     seed: &[u8; 32],
     garbling: &mut Slot,
 ) -> i32
-    requires circuit { Testable (as_mut_ptr circuit) }
     requires seed { Testable (as_ptr seed) }
     requires garbling { Testable (as_mut_ptr garbling) }
-    ensures answer { MatchOption (circuit_of circuit.old.held) (result ≡ pos 60) (λ c.
+    ensures answer { OfCircuit circuit.old.held result (λ c.
         Answers result (HoldsGarbling c seed.now garbling.new) IsWantOfMemory) }
-    ensures held { circuit.new.held ≡ circuit.old.held }
+    ensures back { circuit.new ≡ circuit.old }
     ensures kept { result ≢ pos 0 → garbling.new ≡ garbling.old }
 {
-    if is_null(circuit) || is_null(seed) || is_null(garbling) {
-        return BAD_ARGUMENT;
+    if is_null(seed) || is_null(garbling) {
+        return NULL_POINTER;
     }
-    on_held!(alloc, circuit, Circuit(circuit) => {
+    on_held!(circuit, Circuit(circuit) => {
         code_of(garble(alloc, circuit, seed, garbling))
-    }, else BAD_ARGUMENT)
+    })
 }
 
 /// Garbles a circuit from an offset and labels, and hands the garbling out.
@@ -86,21 +85,20 @@ pub extern "C" fn halfgates_garble_from(
     first: u64,
     garbling: &mut Slot,
 ) -> i32
-    requires circuit { Testable (as_mut_ptr circuit) }
     requires offset { Testable (as_ptr offset) }
     requires garbling { Testable (as_mut_ptr garbling) }
-    ensures answer { MatchOption (circuit_of circuit.old.held) (result ≡ pos 60) (λ c.
+    ensures answer { OfCircuit circuit.old.held result (λ c.
         Answers result (HoldsGarblingFrom c offset.now zero_labels.now first garbling.new)
         (HasGarbleFault c offset.now zero_labels.now first)) }
-    ensures held { circuit.new.held ≡ circuit.old.held }
+    ensures back { circuit.new ≡ circuit.old }
     ensures kept { result ≢ pos 0 → garbling.new ≡ garbling.old }
 {
-    if is_null(circuit) || is_null(offset) || is_null(garbling) {
-        return BAD_ARGUMENT;
+    if is_null(offset) || is_null(garbling) {
+        return NULL_POINTER;
     }
-    on_held!(alloc, circuit, Circuit(circuit) => {
+    on_held!(circuit, Circuit(circuit) => {
         code_of(garble_from(alloc, circuit, offset, zero_labels, first, garbling))
-    }, else BAD_ARGUMENT)
+    })
 }
 
 /// Frees a garbling. Null is allowed.
@@ -112,45 +110,37 @@ pub extern "C" fn halfgates_garbling_free(garbling: Slot) {
 /// Writes the zero label of a wire.
 #[unsafe(no_mangle)]
 pub extern "C" fn halfgates_zero_label(
-    alloc: Global,
     garbling: &mut Handle,
     wire: u32,
     label: &mut [u8; 16],
 ) -> i32
-    requires garbling { Testable (as_mut_ptr garbling) }
     requires label { Testable (as_mut_ptr label) }
-    ensures answer { MatchOption (garbling_of garbling.old.held) (result ≡ pos 60) (λ g.
+    ensures answer { OfGarbling garbling.old.held result (λ g.
         Answers result (IsZeroLabel g wire label.new) (HasNoWire g wire)) }
-    ensures held { garbling.new.held ≡ garbling.old.held }
+    ensures back { garbling.new ≡ garbling.old }
     ensures kept { result ≢ pos 0 → label.new ≡ label.old }
 {
-    if is_null(garbling) || is_null(label) {
-        return BAD_ARGUMENT;
+    if is_null(label) {
+        return NULL_POINTER;
     }
-    on_held!(alloc, garbling, Garbling(garbling) => {
+    on_held!(garbling, Garbling(garbling) => {
         code_of(garbling.zero_label(wire, label))
-    }, else BAD_ARGUMENT)
+    })
 }
 
 /// Writes the decode bit of an output wire.
 #[unsafe(no_mangle)]
-pub extern "C" fn halfgates_decode_bit(
-    alloc: Global,
-    garbling: &mut Handle,
-    output: u32,
-    bit: &mut u8,
-) -> i32
-    requires garbling { Testable (as_mut_ptr garbling) }
+pub extern "C" fn halfgates_decode_bit(garbling: &mut Handle, output: u32, bit: &mut u8) -> i32
     requires bit { Testable (as_mut_ptr bit) }
-    ensures answer { MatchOption (garbling_of garbling.old.held) (result ≡ pos 60) (λ g.
+    ensures answer { OfGarbling garbling.old.held result (λ g.
         Answers result (IsDecodeBit g output bit.new) (HasNoOutput g output)) }
-    ensures held { garbling.new.held ≡ garbling.old.held }
+    ensures back { garbling.new ≡ garbling.old }
     ensures kept { result ≢ pos 0 → bit.new ≡ bit.old }
 {
-    if is_null(garbling) || is_null(bit) {
-        return BAD_ARGUMENT;
+    if is_null(bit) {
+        return NULL_POINTER;
     }
-    on_held!(alloc, garbling, Garbling(garbling) => {
+    on_held!(garbling, Garbling(garbling) => {
         code_of(garbling.decode_bit(output, bit))
-    }, else BAD_ARGUMENT)
+    })
 }

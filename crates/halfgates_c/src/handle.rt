@@ -1,100 +1,86 @@
-//! What C's pointer points to.
+//! C's pointer to a handle, for the time of a call.
 
-ghost use Rattle.std.specs.Prelude.{◌≡◌, None, Some, MatchOption};
-ghost use Rattle.core.specs.Option.{option_map};
+ghost use Rattle.std.specs.Prelude.{◌≡◌, ℕ};
 ghost use Rattle.std.specs.declared.option.Option.{Option};
-ghost use Rattle.gc_handle.specs.Behind.{behind};
+ghost use Rattle.gc_handle.specs.Lent.{lent_owns};
 ghost use Rattle.gc_kept.specs.declared.held.Held.{Held};
 ghost use Rattle.gc_kept.specs.contracts.held.Held.{the_row as held_row};
 
-use gc_handle::Pointer;
+use gc_handle::Lent;
 use gc_kept::Held;
-use std::alloc::Global;
 use std::marker::Model;
 use std::mem;
 
-/// What C's pointer points to: what is held, or nothing. The heap's handle takes no bytes, so to C it is one pointer.
+/// C's pointer to a handle, with a right to read what it holds; or null. Each call has one of its own, so several may
+/// read one handle at once.
 #[repr(C)]
+#[derive(Drop)]
 pub struct Handle {
     at: *mut u8,
-    alloc: Global,
     pub ghost held: { Option Held },
+    pub ghost round: { ℕ },
+    pub ghost parts: { ℕ },
 }
 
 impl Model for Handle {
-    ghost also_owns = { λ h. behind held_row h.alloc h.at h.held };
+    ghost also_owns = { λ h. lent_owns held_row h.at h.held h.round h.parts };
 }
 
 impl Handle {
-    fn of_pointer(pointer: Pointer<Held>) -> Handle
-        ensures { result.held ≡ pointer.value }
+    ghost use Rattle.halfgates_c.specs.Lending.{handle_of};
+
+    fn of_lent(lent: Lent<Held>) -> Handle
+        ensures { result ≡ handle_of lent }
     {
-        let Pointer { at, alloc } = pointer;
-        Handle {
-            at: at as *mut u8,
-            alloc,
-        }
+        let Lent { at } = lent;
+        Handle { at: at as *mut u8 }
     }
 
-    fn into_pointer(self) -> Pointer<Held>
-        ensures { result.value ≡ self.held }
+    fn into_lent(self) -> Lent<Held>
+        ensures { (result.value ≡ self.held) × (self ≡ handle_of result) }
     {
-        let Handle { at, alloc } = self;
-        Pointer {
+        let Handle { at } = self;
+        Lent {
             at: at as *mut Held,
-            alloc,
         }
     }
 
-    /// What is held, moved out.
-    fn into_box(self) -> Option<Box<Held, Global>>
-        ensures { MatchOption result (self.held ≡ None) (λ held. self.held ≡ Some held.value) }
+    /// Takes the pointer with its right to read, for the time of a call. `put` gives it back.
+    pub(crate) fn take(&mut self) -> Lent<Held>
+        ensures held { result.value ≡ self.old.held }
+        ensures whole { self.old ≡ handle_of result }
     {
-        self.into_pointer().into_box()
+        mem::replace(self, Handle::of_lent(Lent::null())).into_lent()
     }
 
-    /// Takes out what is held, for the time of a call. `put` gives it back.
-    pub(crate) fn take(&mut self, alloc: Global) -> Option<Box<Held, Global>>
-        ensures held { option_map (λ held. held.value) result ≡ self.old.held }
-        ensures empty { self.new.held ≡ None }
+    /// Gives back what was taken.
+    pub(crate) fn put(&mut self, lent: Lent<Held>)
+        ensures { self.new ≡ handle_of lent }
     {
-        mem::replace(self, Handle::holding(alloc, None)).into_box()
-    }
-
-    /// Gives back what was taken out.
-    pub(crate) fn put(&mut self, alloc: Global, held: Option<Box<Held, Global>>)
-        ensures { self.new.held ≡ option_map (λ held. held.value) held }
-    {
-        *self = Handle::holding(alloc, held);
-    }
-
-    /// A handle of this, if there is something.
-    pub(crate) fn holding(alloc: Global, held: Option<Box<Held, Global>>) -> Handle
-        ensures { result.held ≡ option_map (λ held. held.value) held }
-    {
-        Handle::of_pointer(match held {
-            Some(held) => Pointer::of(held),
-            None => Pointer::null(alloc),
-        })
+        *self = Handle::of_lent(lent);
     }
 }
 
-impl Drop for Handle {
-    fn drop(self) {
-        let _freed = self.into_box();
-    }
-}
-
-/// What is computed of what a handle holds, where this is of a kind; else another value. Then the handle holds it
-/// again.
+/// What is computed of what a handle holds, where this is of a kind; else another value, or the codes of a null and of a
+/// handle of another kind. The handle is as it was then.
 macro_rules! on_held {
-    ($alloc:ident, $handle:ident, $kind:ident($it:ident) => $of_it:expr, else $other:expr) => {{
-        let held = $handle.take($alloc);
-        let answer = match held.as_deref() {
-            Some(Held::$kind($it)) => $of_it,
+    ($handle:ident, $kind:ident($it:ident) => $of_it:expr) => {{
+        let lent = $handle.take();
+        let answer = match lent.get() {
+            Some(gc_kept::Held::$kind($it)) => $of_it,
+            Some(_) => crate::code::WRONG_HANDLE,
+            None => crate::code::NULL_POINTER,
+        };
+        $handle.put(lent);
+        answer
+    }};
+    ($handle:ident, $kind:ident($it:ident) => $of_it:expr, else $other:expr) => {{
+        let lent = $handle.take();
+        let answer = match lent.get() {
+            Some(gc_kept::Held::$kind($it)) => $of_it,
             _ => $other,
         };
-        $handle.put($alloc, held);
+        $handle.put(lent);
         answer
     }};
 }

@@ -1,15 +1,15 @@
 //! Jobs.
 
-ghost use Rattle.std.specs.Prelude.{◌≡◌, ◌≢◌, OnOk, OnErr, IfErr, MatchOption, pos, length};
+ghost use Rattle.std.specs.Prelude.{◌≡◌, ◌≢◌, OnOk, OnErr, IfErr, pos, length};
 ghost use Rattle.core.specs.Ptr.{as_mut_ptr};
 ghost use denote.RawPtr.{Testable};
 ghost use Rattle.gc_kept.specs.Job.{HasJobFault, AreEvaluated, HasEvaluationFault};
 ghost use Rattle.gc_kept.specs.Labels.{AreJobLabels, HasJobLabelsFault};
 ghost use Rattle.halfgates_c.specs.Answers.{Answers};
-ghost use Rattle.halfgates_c.specs.Holding.{circuit_of, job_of};
+ghost use Rattle.halfgates_c.specs.Holding.{OfCircuit, OfJob};
 ghost use Rattle.halfgates_c.specs.Reading.{HoldsJob};
 
-use crate::code::{BAD_ARGUMENT, code_of};
+use crate::code::{NULL_POINTER, code_of};
 use crate::handle::{Handle, on_held};
 use crate::null::is_null;
 use crate::slot::Slot;
@@ -44,20 +44,19 @@ pub extern "C" fn halfgates_job_bind(
     lengths: &[usize],
     job: &mut Slot,
 ) -> i32
-    requires circuit { Testable (as_mut_ptr circuit) }
     requires job { Testable (as_mut_ptr job) }
-    ensures answer { MatchOption (circuit_of circuit.old.held) (result ≡ pos 60) (λ c.
+    ensures answer { OfCircuit circuit.old.held result (λ c.
         Answers result (HoldsJob c garbled.now labels.now lengths.now job.new)
         (HasJobFault c garbled.now labels.now lengths.now)) }
-    ensures held { circuit.new.held ≡ circuit.old.held }
+    ensures back { circuit.new ≡ circuit.old }
     ensures kept { result ≢ pos 0 → job.new ≡ job.old }
 {
-    if is_null(circuit) || is_null(job) {
-        return BAD_ARGUMENT;
+    if is_null(job) {
+        return NULL_POINTER;
     }
-    on_held!(alloc, circuit, Circuit(circuit) => {
+    on_held!(circuit, Circuit(circuit) => {
         code_of(bind(alloc, circuit, garbled, labels, lengths, job))
-    }, else BAD_ARGUMENT)
+    })
 }
 
 /// Frees a job. Null is allowed.
@@ -69,16 +68,12 @@ pub extern "C" fn halfgates_job_free(job: Slot) {
 /// Evaluates a job, and writes the bits of all output wires.
 #[unsafe(no_mangle)]
 pub extern "C" fn halfgates_evaluate(alloc: Global, job: &mut Handle, bits: &mut [u8]) -> i32
-    requires job { Testable (as_mut_ptr job) }
-    ensures answer { MatchOption (job_of job.old.held) (result ≡ pos 60) (λ j.
+    ensures answer { OfJob job.old.held result (λ j.
         Answers result (AreEvaluated j bits.old bits.new) (HasEvaluationFault j (length bits.old))) }
-    ensures held { job.new.held ≡ job.old.held }
+    ensures back { job.new ≡ job.old }
     ensures kept { result ≢ pos 0 → bits.new ≡ bits.old }
 {
-    if is_null(job) {
-        return BAD_ARGUMENT;
-    }
-    on_held!(alloc, job, Job(job) => code_of(job.evaluate(alloc, bits)), else BAD_ARGUMENT)
+    on_held!(job, Job(job) => code_of(job.evaluate(alloc, bits)))
 }
 
 /// Evaluates a job, and writes the active labels of all output wires.
@@ -88,15 +83,11 @@ pub extern "C" fn halfgates_job_output_labels(
     job: &mut Handle,
     outputs: &mut [u8],
 ) -> i32
-    requires job { Testable (as_mut_ptr job) }
-    ensures answer { MatchOption (job_of job.old.held) (result ≡ pos 60) (λ j.
+    ensures answer { OfJob job.old.held result (λ j.
         Answers result (AreJobLabels j outputs.old outputs.new)
         (HasJobLabelsFault j (length outputs.old))) }
-    ensures held { job.new.held ≡ job.old.held }
+    ensures back { job.new ≡ job.old }
     ensures kept { result ≢ pos 0 → outputs.new ≡ outputs.old }
 {
-    if is_null(job) {
-        return BAD_ARGUMENT;
-    }
-    on_held!(alloc, job, Job(job) => code_of(job.output_labels(alloc, outputs)), else BAD_ARGUMENT)
+    on_held!(job, Job(job) => code_of(job.output_labels(alloc, outputs)))
 }

@@ -1,7 +1,7 @@
 //! The C library: what `include/halfgates.h` declares.
 //!
-//! Each export tests its pointers for null, takes what its handle holds for the time of the call, asks `gc_kept`, and
-//! answers a code. That a pointer may be tested is C's condition, and holds of all that C can pass.
+//! Each export tests its pointers for null, reads what its handle holds, asks `gc_kept`, and returns a code. That a
+//! pointer may be tested is C's condition, and holds of all that C can pass.
 #![tactic(auto)]
 
 mod audit;

@@ -6,7 +6,7 @@ ghost use denote.RawPtr.{Testable};
 ghost use Rattle.halfgates_c.specs.Answers.{Answers};
 ghost use Rattle.halfgates_c.specs.Places.{IsPlaceOf, IsPlaceIn, IsTextMemory};
 
-use crate::code::{BAD_ARGUMENT, code_of};
+use crate::code::{NULL_POINTER, code_of};
 use crate::null::is_null;
 use gc_circuit::{Circuit, Located, ReadFault};
 use gc_kept::KeptFault;
@@ -71,7 +71,7 @@ pub extern "C" fn halfgates_locate(alloc: Global, text: &[u8], place: &mut Place
     ensures kept { result ≢ pos 0 → place.new ≡ place.old }
 {
     if is_null(place) {
-        return BAD_ARGUMENT;
+        return NULL_POINTER;
     }
     code_of(locate(alloc, text, place))
 }

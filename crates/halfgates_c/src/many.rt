@@ -1,16 +1,13 @@
 //! Many garblings of one circuit.
 
-ghost use Rattle.std.specs.Prelude.{◌≡◌, ◌≢◌, IfErr, IfOk, MatchOption, OnErr, OnOk, length, pos};
+ghost use Rattle.std.specs.Prelude.{◌≡◌, ◌≢◌, IfErr, IfOk, OnErr, OnOk, length, pos};
 ghost use Rattle.std.specs.List.{AllZip};
-ghost use Rattle.core.specs.Ptr.{as_mut_ptr};
-ghost use denote.RawPtr.{Testable};
 ghost use Rattle.halfgates_c.specs.Answers.{Answers};
-ghost use Rattle.halfgates_c.specs.Holding.{circuit_of};
+ghost use Rattle.halfgates_c.specs.Holding.{OfCircuit};
 ghost use Rattle.halfgates_c.specs.Reading.{HasManyFault, HoldsGarbling, HoldsThis};
 
-use crate::code::{BAD_ARGUMENT, code_of};
+use crate::code::code_of;
 use crate::handle::{Handle, on_held};
-use crate::null::is_null;
 use crate::slot::Slot;
 use gc_kept::{Held, KeptCircuit, KeptFault, KeptGarbling};
 use std::alloc::Global;
@@ -72,17 +69,13 @@ pub extern "C" fn halfgates_garble_many(
     seeds: &[[u8; 32]],
     garblings: &mut [Slot],
 ) -> i32
-    requires circuit { Testable (as_mut_ptr circuit) }
-    ensures answer { MatchOption (circuit_of circuit.old.held) (result ≡ pos 60) (λ c.
+    ensures answer { OfCircuit circuit.old.held result (λ c.
         Answers result (AllZip (HoldsGarbling c) seeds.now garblings.new)
         (HasManyFault (length seeds.now) (length garblings.old))) }
-    ensures held { circuit.new.held ≡ circuit.old.held }
+    ensures back { circuit.new ≡ circuit.old }
     ensures kept { result ≢ pos 0 → garblings.new ≡ garblings.old }
 {
-    if is_null(circuit) {
-        return BAD_ARGUMENT;
-    }
-    on_held!(alloc, circuit, Circuit(circuit) => {
+    on_held!(circuit, Circuit(circuit) => {
         code_of(garble_many(alloc, circuit, seeds, garblings))
-    }, else BAD_ARGUMENT)
+    })
 }

@@ -68,6 +68,9 @@ fn code_name(code: i32) -> &'static str
         61 => "SmallBuffer",
         62 => "Memory",
         63 => "WrongLabel",
+        64 => "NullPointer",
+        65 => "WrongHandle",
+        66 => "WrongSize",
         _ => "Unknown",
     }
 }

@@ -1,35 +1,35 @@
-//! C's pointer.
+//! C's pointer to a handle, which C owns.
 
 ghost use Rattle.std.specs.Prelude.{◌≡◌, OnOk, OnErr, IfOk, IfErr};
 ghost use Rattle.std.specs.declared.option.Option.{Option};
 ghost use Rattle.gc_handle.specs.Behind.{behind};
-ghost use Rattle.halfgates_c.specs.declared.handle.Handle.{Handle};
-ghost use Rattle.halfgates_c.specs.contracts.handle.Handle.{the_row as handle_row};
+ghost use Rattle.gc_kept.specs.declared.held.Held.{Held};
+ghost use Rattle.gc_kept.specs.contracts.held.Held.{the_row as held_row};
 
-use crate::handle::Handle;
 use gc_handle::Pointer;
 use gc_kept::{Held, KeptFault};
 use std::alloc::Global;
 use std::marker::Model;
 use std::mem;
 
-/// C's pointer: to a handle, or null.
+/// C's pointer to a handle: it owns what the handle holds, or is null. The heap's handle takes no bytes, so to C it is
+/// one pointer.
 #[repr(C)]
 pub struct Slot {
     at: *mut u8,
     alloc: Global,
-    pub ghost handle: { Option Handle },
+    pub ghost held: { Option Held },
 }
 
 impl Model for Slot {
-    ghost also_owns = { λ s. behind handle_row s.alloc s.at s.handle };
+    ghost also_owns = { λ s. behind held_row s.alloc s.at s.held };
 }
 
 impl Slot {
     ghost use Rattle.halfgates_c.specs.Holding.{Holds};
 
-    fn of_pointer(pointer: Pointer<Handle>) -> Slot
-        ensures { result.handle ≡ pointer.value }
+    fn of_pointer(pointer: Pointer<Held>) -> Slot
+        ensures { result.held ≡ pointer.value }
     {
         let Pointer { at, alloc } = pointer;
         Slot {
@@ -38,12 +38,12 @@ impl Slot {
         }
     }
 
-    fn into_pointer(self) -> Pointer<Handle>
-        ensures { result.value ≡ self.handle }
+    fn into_pointer(self) -> Pointer<Held>
+        ensures { result.value ≡ self.held }
     {
         let Slot { at, alloc } = self;
         Pointer {
-            at: at as *mut Handle,
+            at: at as *mut Held,
             alloc,
         }
     }
@@ -64,8 +64,7 @@ impl Slot {
         ensures done { IfOk result (λ slot. Holds slot held) }
         ensures fault { IfErr result (λ fault. fault ≡ KeptFault.Memory) }
     {
-        let handle = Handle::holding(alloc, Some(Box::new(alloc, held)?));
-        Ok(Slot::of_pointer(Pointer::of(Box::new(alloc, handle)?)))
+        Ok(Slot::of_pointer(Pointer::of(Box::new(alloc, held)?)))
     }
 }
 

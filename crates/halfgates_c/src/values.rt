@@ -1,6 +1,6 @@
 //! What a garbling has for the wires of a value, for its AND gates, and for its output wires.
 
-ghost use Rattle.std.specs.Prelude.{◌≡◌, ◌≢◌, ◌*◌, MatchOption, length, flat_map, map, pos};
+ghost use Rattle.std.specs.Prelude.{◌≡◌, ◌≢◌, ◌*◌, length, flat_map, map, pos};
 ghost use Rattle.core.specs.Ptr.{as_mut_ptr};
 ghost use denote.RawPtr.{Testable};
 ghost use Rattle.gc_netlist.specs.Spelling.{bit_number};
@@ -11,123 +11,95 @@ ghost use Rattle.gc_audit.specs.Labels.{first_wire_of};
 ghost use Rattle.gc_kept.specs.Files.{IsFileAt, HasRoomFault};
 ghost use Rattle.gc_kept.specs.Labels.{AreLabelsOf, HasValueFault, first_output_of};
 ghost use Rattle.halfgates_c.specs.Answers.{Answers};
-ghost use Rattle.halfgates_c.specs.Holding.{garbling_of};
+ghost use Rattle.halfgates_c.specs.Holding.{OfGarbling};
 
-use crate::code::{BAD_ARGUMENT, OK, code_of};
+use crate::code::{NULL_POINTER, OK, code_of};
 use crate::handle::{Handle, on_held};
 use crate::null::is_null;
 use gc_kept::Held;
-use std::alloc::Global;
 
 /// Writes the offset of a garbling.
 #[unsafe(no_mangle)]
-pub extern "C" fn halfgates_offset(
-    alloc: Global,
-    garbling: &mut Handle,
-    offset: &mut [u8; 16],
-) -> i32
-    requires garbling { Testable (as_mut_ptr garbling) }
+pub extern "C" fn halfgates_offset(garbling: &mut Handle, offset: &mut [u8; 16]) -> i32
     requires offset { Testable (as_mut_ptr offset) }
-    ensures answer { MatchOption (garbling_of garbling.old.held)
-        ((result ≡ pos 60) × (offset.new ≡ offset.old))
+    ensures answer { OfGarbling garbling.old.held result
         (λ g. (result ≡ pos 0) × (offset.new ≡ bytes_of_label g.offset)) }
-    ensures held { garbling.new.held ≡ garbling.old.held }
+    ensures back { garbling.new ≡ garbling.old }
+    ensures kept { result ≢ pos 0 → offset.new ≡ offset.old }
 {
-    if is_null(garbling) || is_null(offset) {
-        return BAD_ARGUMENT;
+    if is_null(offset) {
+        return NULL_POINTER;
     }
-    on_held!(alloc, garbling, Garbling(garbling) => {
+    on_held!(garbling, Garbling(garbling) => {
         *offset = garbling.offset();
         OK
-    }, else BAD_ARGUMENT)
+    })
 }
 
 /// Writes both labels of each wire of an input value.
 #[unsafe(no_mangle)]
 pub extern "C" fn halfgates_input_labels(
-    alloc: Global,
     garbling: &mut Handle,
     index: u32,
     zero: &mut [u8],
     one: &mut [u8],
 ) -> i32
-    requires garbling { Testable (as_mut_ptr garbling) }
-    ensures answer { MatchOption (garbling_of garbling.old.held) (result ≡ pos 60) (λ g.
+    ensures answer { OfGarbling garbling.old.held result (λ g.
         Answers result (AreLabelsOf g g.circuit.input_widths index
         (first_wire_of g.circuit index) zero.old zero.new one.old one.new)
         (HasValueFault g.circuit.input_widths index (length zero.old) (length one.old))) }
-    ensures held { garbling.new.held ≡ garbling.old.held }
+    ensures back { garbling.new ≡ garbling.old }
     ensures zero_kept { result ≢ pos 0 → zero.new ≡ zero.old }
     ensures one_kept { result ≢ pos 0 → one.new ≡ one.old }
 {
-    if is_null(garbling) {
-        return BAD_ARGUMENT;
-    }
-    on_held!(alloc, garbling, Garbling(garbling) => {
+    on_held!(garbling, Garbling(garbling) => {
         code_of(garbling.input_labels(index, zero, one))
-    }, else BAD_ARGUMENT)
+    })
 }
 
 /// Writes both labels of each wire of an output value.
 #[unsafe(no_mangle)]
 pub extern "C" fn halfgates_output_labels(
-    alloc: Global,
     garbling: &mut Handle,
     index: u32,
     zero: &mut [u8],
     one: &mut [u8],
 ) -> i32
-    requires garbling { Testable (as_mut_ptr garbling) }
-    ensures answer { MatchOption (garbling_of garbling.old.held) (result ≡ pos 60) (λ g.
+    ensures answer { OfGarbling garbling.old.held result (λ g.
         Answers result (AreLabelsOf g g.circuit.output_widths index
         (first_output_of g.circuit index) zero.old zero.new one.old one.new)
         (HasValueFault g.circuit.output_widths index (length zero.old) (length one.old))) }
-    ensures held { garbling.new.held ≡ garbling.old.held }
+    ensures back { garbling.new ≡ garbling.old }
     ensures zero_kept { result ≢ pos 0 → zero.new ≡ zero.old }
     ensures one_kept { result ≢ pos 0 → one.new ≡ one.old }
 {
-    if is_null(garbling) {
-        return BAD_ARGUMENT;
-    }
-    on_held!(alloc, garbling, Garbling(garbling) => {
+    on_held!(garbling, Garbling(garbling) => {
         code_of(garbling.output_labels(index, zero, one))
-    }, else BAD_ARGUMENT)
+    })
 }
 
 /// Writes the row pairs of a garbling.
 #[unsafe(no_mangle)]
-pub extern "C" fn halfgates_rows(alloc: Global, garbling: &mut Handle, rows: &mut [u8]) -> i32
-    requires garbling { Testable (as_mut_ptr garbling) }
-    ensures answer { MatchOption (garbling_of garbling.old.held) (result ≡ pos 60) (λ g.
+pub extern "C" fn halfgates_rows(garbling: &mut Handle, rows: &mut [u8]) -> i32
+    ensures answer { OfGarbling garbling.old.held result (λ g.
         Answers result (IsFileAt (flat_map row_bytes g.garbling.rows) rows.old rows.new)
         (HasRoomFault (32 * length g.garbling.rows) (length rows.old))) }
-    ensures held { garbling.new.held ≡ garbling.old.held }
+    ensures back { garbling.new ≡ garbling.old }
     ensures kept { result ≢ pos 0 → rows.new ≡ rows.old }
 {
-    if is_null(garbling) {
-        return BAD_ARGUMENT;
-    }
-    on_held!(alloc, garbling, Garbling(garbling) => code_of(garbling.rows(rows)), else BAD_ARGUMENT)
+    on_held!(garbling, Garbling(garbling) => code_of(garbling.rows(rows)))
 }
 
 /// Writes the decode bits of a garbling.
 #[unsafe(no_mangle)]
-pub extern "C" fn halfgates_decode_bits(
-    alloc: Global,
-    garbling: &mut Handle,
-    bits: &mut [u8],
-) -> i32
-    requires garbling { Testable (as_mut_ptr garbling) }
-    ensures answer { MatchOption (garbling_of garbling.old.held) (result ≡ pos 60) (λ g.
+pub extern "C" fn halfgates_decode_bits(garbling: &mut Handle, bits: &mut [u8]) -> i32
+    ensures answer { OfGarbling garbling.old.held result (λ g.
         Answers result (IsFileAt (map bit_number (decode_bits_of g.garbling)) bits.old bits.new)
         (HasRoomFault g.garbling.outputs (length bits.old))) }
-    ensures held { garbling.new.held ≡ garbling.old.held }
+    ensures back { garbling.new ≡ garbling.old }
     ensures kept { result ≢ pos 0 → bits.new ≡ bits.old }
 {
-    if is_null(garbling) {
-        return BAD_ARGUMENT;
-    }
-    on_held!(alloc, garbling, Garbling(garbling) => {
+    on_held!(garbling, Garbling(garbling) => {
         code_of(garbling.decode_bits(bits))
-    }, else BAD_ARGUMENT)
+    })
 }

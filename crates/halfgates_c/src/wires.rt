@@ -1,16 +1,13 @@
 //! The labels of wires.
 
-ghost use Rattle.std.specs.Prelude.{◌≡◌, ◌≢◌, ◌+◌, ◌≤◌, ◌<◌, IfErr, MatchOption, OnErr, OnOk, length, pos};
-ghost use Rattle.core.specs.Ptr.{as_mut_ptr};
-ghost use denote.RawPtr.{Testable};
-ghost use Rattle.halfgates_c.specs.Holding.{garbling_of};
+ghost use Rattle.std.specs.Prelude.{◌≡◌, ◌≢◌, ◌+◌, ◌≤◌, ◌<◌, IfErr, OnErr, OnOk, length, pos};
+ghost use Rattle.halfgates_c.specs.Holding.{OfGarbling};
 ghost use Rattle.halfgates_c.specs.Answers.{Answers};
 ghost use Rattle.halfgates_c.specs.WireLabels.{AreLabelsFrom, AreLabelsOn, AreWireLabels, HasWiresFault};
 
-use crate::code::{BAD_ARGUMENT, code_of};
+use crate::code::code_of;
 use crate::handle::{Handle, on_held};
-use crate::null::is_null;
-use gc_kept::{Held, KeptFault, KeptGarbling};
+use gc_kept::{KeptFault, KeptGarbling};
 use std::alloc::Global;
 
 /// The labels of a wire: `halfgates_wire_labels`.
@@ -84,18 +81,14 @@ pub extern "C" fn halfgates_labels(
     from: u32,
     labels: &mut [WireLabels],
 ) -> i32
-    requires garbling { Testable (as_mut_ptr garbling) }
-    ensures answer { MatchOption (garbling_of garbling.old.held) (result ≡ pos 60) (λ g.
+    ensures answer { OfGarbling garbling.old.held result (λ g.
         Answers result (AreLabelsOn g bits.now from labels.new)
         (HasWiresFault g bits.now from (length labels.old))) }
     ensures count { length labels.new ≡ length labels.old }
     ensures kept { result ≢ pos 0 → labels.new ≡ labels.old }
-    ensures held { garbling.new.held ≡ garbling.old.held }
+    ensures back { garbling.new ≡ garbling.old }
 {
-    if is_null(garbling) {
-        return BAD_ARGUMENT;
-    }
-    on_held!(alloc, garbling, Garbling(garbling) => {
+    on_held!(garbling, Garbling(garbling) => {
         code_of(write(alloc, garbling, bits, from, labels))
-    }, else BAD_ARGUMENT)
+    })
 }

@@ -4,7 +4,7 @@ use denote.RattleType.{RattleType}
 use Rattle.gc_handle.specs.Behind.{behind}
 use Rattle.gc_handle.specs.contracts.pointer.Pointer as pointer_type
 use Rattle.gc_handle.proofs.Recast.{Recast, recast_spec}
-use Rattle.halfgates_c.specs.contracts.handle.Handle as handle_type
+use Rattle.gc_kept.specs.contracts.held.Held as held_type
 use Rattle.halfgates_c.specs.contracts.slot.Slot as slot_type
 use Rattle.halfgates_c.specs.contracts.slot.Slot.into_pointer.Key.{name as #self}
 use Rattle.halfgates_c.proofs.slot.Slot.into_pointer.Statement.{statement}
@@ -12,15 +12,15 @@ use Rattle.halfgates_c.proofs.slot.Slot.into_pointer.Code as code
 
 pub into_pointer_spec : {M : Type 1} → statement M
 into_pointer_spec 𝓤 𝓛 𝓜 𝓡 wired =
-    let Handle : RattleType = handle_type.the_row in
-    let Pointer : RattleType = pointer_type.the_row Handle in
+    let Held : RattleType = held_type.the_row in
+    let Pointer : RattleType = pointer_type.the_row Held in
     let Slot : RattleType = slot_type.the_row in
     let it : Recast Slot Pointer = record {
       at = λ x. x.at;
       alloc = λ x. x.alloc;
-      owned = λ x. behind Handle x.alloc x.at x.handle;
-      made = λ x. record { at = x.at; alloc = x.alloc; value = x.handle };
-      says = λ x y. y.value ≡ x.handle;
+      owned = λ x. behind Held x.alloc x.at x.held;
+      made = λ x. record { at = x.at; alloc = x.alloc; value = x.held };
+      says = λ x y. y.value ≡ x.held;
       holds = λ x. refl;
       given_owns = λ x values. refl;
       made_owns = λ x values. refl;
