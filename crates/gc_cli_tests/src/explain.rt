@@ -4,6 +4,7 @@ use crate::jobs::{held, job_files, order};
 use gc_circuit::{ReadFault, ValueFault};
 use gc_cli::carry_out;
 use gc_command::{Fault, Silent};
+use gc_disk::Reread;
 use gc_explain::explain;
 use gc_file::FileFault;
 use gc_job::{BindFault, EvalFault};
@@ -61,15 +62,16 @@ fn assert_explained(
     fault: Fault,
     line: &str,
 ) -> Result<(), Fail> {
+    let opened = files.trail().opened();
     for growth in 1..100 {
         let heap = Refusing::nth(alloc, growth);
-        let told = explain(&heap, order, files, fault, None);
+        let told = explain(&heap, order, files, opened, fault, None);
         let is_right = told.is_some_and(|told| told.as_slice() == line.as_bytes());
         if heap.refused() == 0 {
             assert!(rt; is_right, "{line}");
             return Ok(());
         }
-        let again = explain(alloc, order, files, fault, None);
+        let again = explain(alloc, order, files, opened, fault, None);
         assert!(rt;
             again.is_some_and(|told| told.as_slice() == line.as_bytes()),
             "{line}"
