@@ -15,6 +15,7 @@ EXIT_STATUS = [
     ("0", "The command succeeded, whatever it found, or the help or the version was printed."),
     ("1", "A fault: a line on standard error says \\(oqhalfgates: fault CODE NAME\\(cq."),
     ("2", "The command line doesn\\(aqt parse: a message on standard error says why."),
+    ("3", "An audit found the files dishonest."),
 ]
 
 
@@ -60,12 +61,12 @@ def command(program, name):
 
 
 def manual(program):
-    about, usage, commands, options = asked(program, "--help").rstrip("\n").split("\n\n")
+    about, usage, commands, options, *others = asked(program, "--help").rstrip("\n").split("\n\n")
     page = f'.TH HALFGATES 1 "" "{asked(program, "--version").strip()}" "User Commands"\n'
     page += f".SH NAME\nhalfgates \\- {escaped(about[0].lower() + about[1:])}\n"
     page += f".SH SYNOPSIS\n{escaped(usage.removeprefix('Usage: '))}\n"
     page += ".SH COMMANDS\n" + "".join(command(program, name) for name, _ in rows(commands))
-    page += f".SH OPTIONS\n{tagged(rows(options))}"
+    page += f".SH OPTIONS\n{tagged(rows(options))}" + "".join(map(paragraph, others))
     status = "".join(f".TP\n.B {number}\n{said}\n" for number, said in EXIT_STATUS)
     return f"{page}.SH EXIT STATUS\n{status}"
 
