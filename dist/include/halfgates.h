@@ -21,7 +21,7 @@
  * of the input wires into active labels of the output wires. See LABELS.
  *
  * CODES. A function that can fail returns a code: 0 is success, and any other is the number of the fault that the
- * program `halfgates` prints, or one of three codes of this library. A call that fails changes no handle, and writes
+ * program `halfgates` prints, or a code of this library alone. A call that fails changes no handle, and writes
  * nothing but what its description says. A description lists the codes in the order in which they are found: of two
  * faults the code is that of the first. Wrong pointers and handles come before all others, and memory can run out at
  * any point: a code that is named "Memory" says nothing about the faults after it.
@@ -31,18 +31,19 @@
  * its type; freeing NULL does nothing. A garbling and a job keep what they need of their circuit, so handles are freed
  * in any order.
  *
- * THREADS. No function starts a thread, takes a lock or waits. Several threads may use several handles side by side,
- * garblings and jobs of one circuit too. One handle is used by one call at a time, whatever the call, so no handle is
- * const. Threads that use one circuit at once take a handle each, by halfgates_circuit_share, which copies nothing.
+ * THREADS. No function starts a thread, takes a lock or waits. A call with a const handle only reads it, so any number
+ * of them may use one handle at once, on any threads, and none is refused because another is at work. The others are
+ * those that free: free a handle when no call uses it, and no call comes after. What a call writes, such as a new
+ * handle, is for another thread once that thread knows that the call has returned.
  *
  * STACK. As measured on x86-64, halfgates_garbling_write uses 87 kilobytes of stack, halfgates_deal 35,
  * halfgates_job_bind 16, halfgates_circuit_read 9, and every other call less than 4.
  *
  * BUFFERS. The library reads and writes buffers within a call and keeps no pointer to them. No alignment is asked for
  * where a buffer is of bytes. A buffer that is written overlaps no other argument, and has at least the room that is
- * needed, else the code is HALFGATES_SMALL_BUFFER; what it has behind that stays. A buffer that is read has exactly the
- * size that the description names. Where a size is 0, the pointer before it may be NULL. A NULL elsewhere is
- * HALFGATES_BAD_ARGUMENT.
+ * needed, else the code is HALFGATES_SMALL_BUFFER and nothing is written to it; what it has behind that stays. A buffer
+ * that is read has exactly the size that the description names, else the code is HALFGATES_WRONG_SIZE. Where a size is
+ * 0, the pointer before it may be NULL. A NULL elsewhere is HALFGATES_NULL_POINTER.
  *
  * BITS are bytes 0 and 1, one for each wire, in wire order: those of input value 0, then those of value 1, and so on.
  * Another byte is HALFGATES_BAD_DIGIT, and a wrong number of them HALFGATES_WRONG_LENGTH.
@@ -72,7 +73,7 @@
 
 /* The version of this header. That of the library is halfgates_version(). */
 #define HALFGATES_VERSION_MAJOR 0
-#define HALFGATES_VERSION_MINOR 6
+#define HALFGATES_VERSION_MINOR 7
 #define HALFGATES_VERSION_PATCH 0
 
 #ifdef __cplusplus
@@ -125,14 +126,17 @@ enum {
     HALFGATES_UNKNOWN_OUTPUT_LABEL = 48, /* an output's label is none that the garbled file recognises (version 2) */
 
     /* Codes of this library alone. */
-    HALFGATES_BAD_ARGUMENT = 60, /* a NULL, a handle of another type, no such version, wire or output, a buffer that is
-                                    read and has a wrong size, an offset of colour 0, an AND number that is too large, a
-                                    file of a garbling whose `first` isn't 0 */
+    HALFGATES_BAD_ARGUMENT = 60, /* no such version, wire or output, an offset of colour 0, an AND number that is too
+                                    large, a file of a garbling whose `first` isn't 0 */
     HALFGATES_SMALL_BUFFER = 61, /* a buffer has too little room */
     HALFGATES_MEMORY = 62,       /* memory ran out for a handle or a file */
 
     /* A verdict of halfgates_audit_labels, and no code: a label is neither of the two labels of its wire. */
-    HALFGATES_WRONG_LABEL = 63
+    HALFGATES_WRONG_LABEL = 63,
+
+    HALFGATES_NULL_POINTER = 64, /* a NULL where a handle, a buffer with a size or a place to write to belongs */
+    HALFGATES_WRONG_HANDLE = 65, /* a handle of another type, such as a garbling in place of a circuit */
+    HALFGATES_WRONG_SIZE = 66    /* a buffer that is read has a wrong size */
 };
 
 /* A name or a version, ended by a zero byte. */
@@ -149,7 +153,7 @@ halfgates_name halfgates_fault_name(int32_t code);
 /* Whether a code says that memory ran out: 1 for 13, 23, 36, 46 and 62, and else 0. */
 int32_t halfgates_is_memory(int32_t code);
 
-/* The version of the library, such as "0.6.0". */
+/* The version of the library, such as "0.7.0". */
 halfgates_name halfgates_version(void);
 
 /* ---------------------------------------------------------------------------------------------------- circuits -- */
@@ -164,10 +168,10 @@ typedef struct halfgates_circuit halfgates_circuit;
 int32_t halfgates_circuit_read(const uint8_t *text, size_t length, halfgates_circuit **circuit);
 
 /*
- * Writes one more handle of the same circuit, without a copy: so several threads can use it at once, each by a handle
- * of its own. Each handle is freed by halfgates_circuit_free; the circuit goes with the last. Code: HALFGATES_MEMORY.
+ * Writes one more handle of the same circuit, without a copy: for a thread that frees its own. Each handle is freed by
+ * halfgates_circuit_free; the circuit goes with the last. Code: HALFGATES_MEMORY.
  */
-int32_t halfgates_circuit_share(halfgates_circuit *circuit, halfgates_circuit **other);
+int32_t halfgates_circuit_share(const halfgates_circuit *circuit, halfgates_circuit **other);
 
 /* Frees a circuit. Its garblings, its jobs and its other handles stay as they are. */
 void halfgates_circuit_free(halfgates_circuit *circuit);
@@ -184,17 +188,17 @@ typedef struct halfgates_numbers {
 } halfgates_numbers;
 
 /* Writes the numbers of a circuit. */
-int32_t halfgates_circuit_numbers(halfgates_circuit *circuit, halfgates_numbers *numbers);
+int32_t halfgates_circuit_numbers(const halfgates_circuit *circuit, halfgates_numbers *numbers);
 
 /*
  * Writes the number of wires of each input value, or of each output value, in order. `count`, the room in `widths`, is
  * at least `input_values` or `output_values`. Code: HALFGATES_SMALL_BUFFER.
  */
-int32_t halfgates_circuit_input_widths(halfgates_circuit *circuit, uint32_t *widths, size_t count);
-int32_t halfgates_circuit_output_widths(halfgates_circuit *circuit, uint32_t *widths, size_t count);
+int32_t halfgates_circuit_input_widths(const halfgates_circuit *circuit, uint32_t *widths, size_t count);
+int32_t halfgates_circuit_output_widths(const halfgates_circuit *circuit, uint32_t *widths, size_t count);
 
 /* Writes the digest of a circuit, the SHA-256 of its canonical text, 32 bytes. It was taken when the text was read. */
-int32_t halfgates_circuit_digest(halfgates_circuit *circuit, uint8_t digest[32]);
+int32_t halfgates_circuit_digest(const halfgates_circuit *circuit, uint8_t digest[32]);
 
 /* Stands for a gate, a wire or an output where there is none. */
 #define HALFGATES_NONE UINT32_MAX
@@ -219,7 +223,7 @@ int32_t halfgates_locate(const uint8_t *text, size_t length, halfgates_place *pl
  * Evaluates a circuit in the clear. `bits` are those of all input wires, `size` bytes; `outputs` takes the bits of all
  * output wires. Codes: HALFGATES_SMALL_BUFFER, HALFGATES_WRONG_LENGTH, HALFGATES_BAD_DIGIT, HALFGATES_CIRCUIT_MEMORY.
  */
-int32_t halfgates_plain(halfgates_circuit *circuit, const uint8_t *bits, size_t size, uint8_t *outputs,
+int32_t halfgates_plain(const halfgates_circuit *circuit, const uint8_t *bits, size_t size, uint8_t *outputs,
                         size_t outputs_size);
 
 /* --------------------------------------------------------------------------------------------------- garblings -- */
@@ -231,16 +235,25 @@ typedef struct halfgates_garbling halfgates_garbling;
  * Garbles a circuit under a seed of 32 bytes, on the calling thread. Take 32 random bytes for each garbling that is
  * sent to anybody. Codes: HALFGATES_GARBLING_MEMORY, HALFGATES_MEMORY.
  */
-int32_t halfgates_garble(halfgates_circuit *circuit, const uint8_t seed[32], halfgates_garbling **garbling);
+int32_t halfgates_garble(const halfgates_circuit *circuit, const uint8_t seed[32], halfgates_garbling **garbling);
 
 /*
- * Garbles a circuit from an offset of colour 1, 16 bytes, the zero labels of all input wires, one after another,
- * `size` bytes, which is 16 * input_wires, and the number `first` of its first AND gate; `first` plus the number of
- * AND gates is at most 2^62. Codes: HALFGATES_BAD_ARGUMENT where one of these isn't so, HALFGATES_GARBLING_MEMORY,
- * HALFGATES_MEMORY. Take 16 random bytes for an offset and set bit 0 of the first; zero labels are random too, or the
- * zero labels of output wires of circuits garbled under this offset. See LABELS on `first`.
+ * Garbles a circuit under `count` seeds, 32 bytes each and one after another, on the calling thread, and writes `count`
+ * garblings to `garblings`. Each is the garbling that halfgates_garble makes under its seed. Two at a time are made
+ * side by side, which takes less time. The codes are the same. A call that fails makes no garbling.
  */
-int32_t halfgates_garble_from(halfgates_circuit *circuit, const uint8_t offset[16], const uint8_t *zero_labels,
+int32_t halfgates_garble_many(const halfgates_circuit *circuit, const uint8_t *seeds, size_t count,
+                              halfgates_garbling **garblings);
+
+/*
+ * Garbles a circuit from an offset of colour 1, 16 bytes, the zero labels of all input wires, one after another, `size`
+ * bytes, which is 16 * input_wires, and the number `first` of its first AND gate; `first` plus the number of AND gates
+ * is at most 2^62. Codes: HALFGATES_WRONG_SIZE, HALFGATES_BAD_ARGUMENT where the offset or `first` isn't so,
+ * HALFGATES_GARBLING_MEMORY, HALFGATES_MEMORY. Take 16 random bytes for an offset and set bit 0 of the first; zero
+ * labels are random too, or the zero labels of output wires of circuits garbled under this offset. See LABELS on
+ * `first`.
+ */
+int32_t halfgates_garble_from(const halfgates_circuit *circuit, const uint8_t offset[16], const uint8_t *zero_labels,
                               size_t size, uint64_t first, halfgates_garbling **garbling);
 
 /* Frees a garbling. */
@@ -250,14 +263,14 @@ void halfgates_garbling_free(halfgates_garbling *garbling);
  * How many bytes the garbled file of a version has, 1 or 2, whatever the seed; 0 for a bad argument. In version 2 the
  * evaluator recognises the labels of the outputs, and refuses others.
  */
-uint64_t halfgates_garbled_size(halfgates_circuit *circuit, uint32_t version);
+uint64_t halfgates_garbled_size(const halfgates_circuit *circuit, uint32_t version);
 
 /*
  * Writes the garbled file of a garbling in a version, 1 or 2, to `buffer`, and the number of its bytes to `written`.
  * Codes: HALFGATES_BAD_ARGUMENT for a garbling whose `first` isn't 0; HALFGATES_SMALL_BUFFER, where `written` is the
  * size that is needed, so that a call with size 0 is a quick way to ask for it; HALFGATES_MEMORY.
  */
-int32_t halfgates_garbling_write(halfgates_garbling *garbling, uint32_t version, uint8_t *buffer, size_t size,
+int32_t halfgates_garbling_write(const halfgates_garbling *garbling, uint32_t version, uint8_t *buffer, size_t size,
                                  size_t *written);
 
 /*
@@ -267,26 +280,26 @@ int32_t halfgates_garbling_write(halfgates_garbling *garbling, uint32_t version,
  * HALFGATES_CIRCUIT_MEMORY, HALFGATES_MEMORY. Deal each value once for a seed: two label files of one value for
  * different bits give away the offset, and so both labels of every wire of which one is known.
  */
-int32_t halfgates_deal(halfgates_circuit *circuit, const uint8_t seed[32], uint32_t index, const uint8_t *bits,
+int32_t halfgates_deal(const halfgates_circuit *circuit, const uint8_t seed[32], uint32_t index, const uint8_t *bits,
                        size_t count, uint8_t *buffer, size_t size, size_t *written);
 
 /*
  * Writes the label file of an input value, as halfgates_deal does, from a garbling: so its labels are those of the
  * rows, whatever the garbling was made from. The codes are the same.
  */
-int32_t halfgates_garbling_deal(halfgates_garbling *garbling, uint32_t index, const uint8_t *bits, size_t count,
+int32_t halfgates_garbling_deal(const halfgates_garbling *garbling, uint32_t index, const uint8_t *bits, size_t count,
                                 uint8_t *buffer, size_t size, size_t *written);
 
 /*
  * Writes the label file of the input value `index` with labels that were received, such as by an oblivious transfer:
- * `labels_size` bytes, 16 for each wire of the value. Codes: HALFGATES_NO_SUCH_VALUE, HALFGATES_BAD_ARGUMENT for
- * another size, HALFGATES_SMALL_BUFFER with the size that is needed in `written`, HALFGATES_MEMORY.
+ * `labels_size` bytes, 16 for each wire of the value. Codes: HALFGATES_NO_SUCH_VALUE, HALFGATES_WRONG_SIZE,
+ * HALFGATES_SMALL_BUFFER with the size that is needed in `written`, HALFGATES_MEMORY.
  */
-int32_t halfgates_label_file(halfgates_circuit *circuit, uint32_t index, const uint8_t *labels, size_t labels_size,
-                             uint8_t *buffer, size_t size, size_t *written);
+int32_t halfgates_label_file(const halfgates_circuit *circuit, uint32_t index, const uint8_t *labels,
+                             size_t labels_size, uint8_t *buffer, size_t size, size_t *written);
 
 /* Writes the offset of a garbling, 16 bytes. Whoever has it knows both labels of every wire of which one is known. */
-int32_t halfgates_offset(halfgates_garbling *garbling, uint8_t offset[16]);
+int32_t halfgates_offset(const halfgates_garbling *garbling, uint8_t offset[16]);
 
 /*
  * Writes both labels of each wire of the input value `index`, or of the output value, 16 bytes for each wire: the zero
@@ -294,23 +307,25 @@ int32_t halfgates_offset(halfgates_garbling *garbling, uint8_t offset[16]);
  * HALFGATES_NO_SUCH_VALUE, HALFGATES_SMALL_BUFFER. An oblivious transfer offers these pairs; the zero labels of an
  * output value can be zero labels of input wires of the next circuit.
  */
-int32_t halfgates_input_labels(halfgates_garbling *garbling, uint32_t index, uint8_t *zero, uint8_t *one, size_t size);
-int32_t halfgates_output_labels(halfgates_garbling *garbling, uint32_t index, uint8_t *zero, uint8_t *one, size_t size);
+int32_t halfgates_input_labels(const halfgates_garbling *garbling, uint32_t index, uint8_t *zero, uint8_t *one,
+                               size_t size);
+int32_t halfgates_output_labels(const halfgates_garbling *garbling, uint32_t index, uint8_t *zero, uint8_t *one,
+                                size_t size);
 
 /*
  * Writes the row pairs of a garbling, 32 bytes for each AND gate in file order: the generator's row, and then the
  * evaluator's. Code: HALFGATES_SMALL_BUFFER.
  */
-int32_t halfgates_rows(halfgates_garbling *garbling, uint8_t *rows, size_t size);
+int32_t halfgates_rows(const halfgates_garbling *garbling, uint8_t *rows, size_t size);
 
 /* Writes the decode bits of a garbling, a byte 0 or 1 for each output wire in order. Code: HALFGATES_SMALL_BUFFER. */
-int32_t halfgates_decode_bits(halfgates_garbling *garbling, uint8_t *bits, size_t size);
+int32_t halfgates_decode_bits(const halfgates_garbling *garbling, uint8_t *bits, size_t size);
 
 /* Writes the zero label of a wire, 16 bytes: 16 zero bytes for a wire that no gate sets and that is no input wire. */
-int32_t halfgates_zero_label(halfgates_garbling *garbling, uint32_t wire, uint8_t label[16]);
+int32_t halfgates_zero_label(const halfgates_garbling *garbling, uint32_t wire, uint8_t label[16]);
 
 /* Writes the decode bit of an output wire, counted from 0 among the output wires: 0 or 1. */
-int32_t halfgates_decode_bit(halfgates_garbling *garbling, uint32_t output, uint8_t *bit);
+int32_t halfgates_decode_bit(const halfgates_garbling *garbling, uint32_t output, uint8_t *bit);
 
 /* The labels of a wire. */
 typedef struct halfgates_wire_labels {
@@ -325,7 +340,7 @@ typedef struct halfgates_wire_labels {
  * HALFGATES_CIRCUIT_MEMORY. A wire that no gate sets and that is no input wire has the bit 0 and 16 zero bytes for both
  * labels. Where a bit is 1 both labels of the wire are here, and so the offset: give them to nobody who evaluates.
  */
-int32_t halfgates_labels(halfgates_garbling *garbling, const uint8_t *bits, size_t size, uint32_t from,
+int32_t halfgates_labels(const halfgates_garbling *garbling, const uint8_t *bits, size_t size, uint32_t from,
                          halfgates_wire_labels *labels, size_t count);
 
 /* -------------------------------------------------------------------------------------------------------- jobs -- */
@@ -336,12 +351,13 @@ typedef struct halfgates_job halfgates_job;
 /*
  * Binds a garbled file, `length` bytes, and label files to a job. `labels` are `count` label files, in any order and
  * one after another, `labels_size` bytes in all, and `lengths` the number of bytes of each. Nothing of the files is
- * trusted. Codes: 30 to 36, the first fault of the garbled file; HALFGATES_BAD_ARGUMENT where the lengths don't add up
+ * trusted. Codes: 30 to 36, the first fault of the garbled file; HALFGATES_WRONG_SIZE where the lengths don't add up
  * to `labels_size`; 30 to 36, the first fault of each label file in turn; 40 to 46, the first fault of the binding;
  * HALFGATES_MEMORY.
  */
-int32_t halfgates_job_bind(halfgates_circuit *circuit, const uint8_t *garbled, size_t length, const uint8_t *labels,
-                           size_t labels_size, const size_t *lengths, size_t count, halfgates_job **job);
+int32_t halfgates_job_bind(const halfgates_circuit *circuit, const uint8_t *garbled, size_t length,
+                           const uint8_t *labels, size_t labels_size, const size_t *lengths, size_t count,
+                           halfgates_job **job);
 
 /* Frees a job. */
 void halfgates_job_free(halfgates_job *job);
@@ -350,14 +366,14 @@ void halfgates_job_free(halfgates_job *job);
  * Evaluates a job on the calling thread, and writes the bits of all output wires. A job may be evaluated again. Codes:
  * HALFGATES_SMALL_BUFFER, HALFGATES_JOB_MEMORY, HALFGATES_UNKNOWN_OUTPUT_LABEL.
  */
-int32_t halfgates_evaluate(halfgates_job *job, uint8_t *bits, size_t size);
+int32_t halfgates_evaluate(const halfgates_job *job, uint8_t *bits, size_t size);
 
 /*
  * Evaluates a job on the calling thread, and writes the active labels of all output wires, 16 bytes each. They are not
  * decoded: in version 2 too, labels that the garbled file doesn't recognise are written. Codes: HALFGATES_SMALL_BUFFER,
  * HALFGATES_JOB_MEMORY.
  */
-int32_t halfgates_job_output_labels(halfgates_job *job, uint8_t *outputs, size_t size);
+int32_t halfgates_job_output_labels(const halfgates_job *job, uint8_t *outputs, size_t size);
 
 /* ----------------------------------------------------------------------------------------- from labels to labels -- */
 
@@ -365,16 +381,18 @@ int32_t halfgates_job_output_labels(halfgates_job *job, uint8_t *outputs, size_t
  * Evaluates a garbled circuit on the calling thread: from its rows, 32 bytes for each AND gate, the number `first` of
  * its first AND gate, and the active labels of all input wires, 16 bytes each, to the active labels of all output
  * wires, 16 bytes each. Nothing of the rows and the labels is trusted: any of them give some labels. Codes:
- * HALFGATES_BAD_ARGUMENT where a size or `first` is wrong, HALFGATES_SMALL_BUFFER, HALFGATES_JOB_MEMORY.
+ * HALFGATES_WRONG_SIZE, HALFGATES_BAD_ARGUMENT where `first` is too large, HALFGATES_SMALL_BUFFER,
+ * HALFGATES_JOB_MEMORY.
  */
-int32_t halfgates_evaluate_labels(halfgates_circuit *circuit, const uint8_t *rows, size_t rows_size, uint64_t first,
-                                  const uint8_t *labels, size_t labels_size, uint8_t *outputs, size_t outputs_size);
+int32_t halfgates_evaluate_labels(const halfgates_circuit *circuit, const uint8_t *rows, size_t rows_size,
+                                  uint64_t first, const uint8_t *labels, size_t labels_size, uint8_t *outputs,
+                                  size_t outputs_size);
 
 /*
  * Writes the bits that `count` active labels of output wires stand for: each is the decode bit of its wire, 0 or 1, xor
  * the colour of the label. `labels_size` is 16 * `count`. Any label decodes: that it is one of its wire's two isn't
- * checked. Codes: HALFGATES_BAD_ARGUMENT for another size, HALFGATES_SMALL_BUFFER, HALFGATES_BAD_DIGIT,
- * HALFGATES_CIRCUIT_MEMORY, HALFGATES_JOB_MEMORY.
+ * checked. Codes: HALFGATES_WRONG_SIZE, HALFGATES_SMALL_BUFFER, HALFGATES_BAD_DIGIT, HALFGATES_CIRCUIT_MEMORY,
+ * HALFGATES_JOB_MEMORY.
  */
 int32_t halfgates_decode(const uint8_t *labels, size_t labels_size, const uint8_t *decode_bits, size_t count,
                          uint8_t *bits, size_t size);
@@ -402,7 +420,7 @@ typedef struct halfgates_audit_report {
  * Compares a garbled file, `length` bytes, with a garbling. Codes: HALFGATES_BAD_ARGUMENT for a garbling whose `first`
  * isn't 0; 30 to 36, the first fault of the file. A file that differs is success.
  */
-int32_t halfgates_audit(halfgates_garbling *garbling, const uint8_t *garbled, size_t length,
+int32_t halfgates_audit(const halfgates_garbling *garbling, const uint8_t *garbled, size_t length,
                         halfgates_audit_report *report);
 
 /* What an audit finds of a label file. */
@@ -421,7 +439,7 @@ typedef struct halfgates_labels_report {
  * HALFGATES_FILE_MEMORY; HALFGATES_JOB_MEMORY; HALFGATES_SMALL_BUFFER where `size` is less than the number of these
  * bits, which the report then has. A file that differs is success.
  */
-int32_t halfgates_audit_labels(halfgates_garbling *garbling, const uint8_t *labels, size_t length, uint8_t *bits,
+int32_t halfgates_audit_labels(const halfgates_garbling *garbling, const uint8_t *labels, size_t length, uint8_t *bits,
                                size_t size, halfgates_labels_report *report);
 
 #ifdef __cplusplus

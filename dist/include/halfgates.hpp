@@ -7,9 +7,8 @@
  *     halfgates::bytes garbled = garbling.write();
  *
  * Handles are moved and not copied, and are freed when their scope ends. A call that fails throws a `fault`, and where
- * memory for a result runs out std::bad_alloc. Methods that use a handle aren't const, since one handle is used by one
- * call at a time; `circuit::share` gives each thread its own. The numbers, widths and digest of a circuit are read
- * once.
+ * memory for a result runs out std::bad_alloc. All calls on a handle are const: threads may use one object at once. The
+ * numbers, widths and digest of a circuit are read once.
  *
  * What a call reads is a container of bytes or labels, such as a vector, a string, an array or a span, a `view`, or a
  * list such as {0, 1}. It is read where it is.
@@ -166,10 +165,10 @@ public:
         return made;
     }
 
-    /* These bytes. If they aren't 32, it throws HALFGATES_BAD_ARGUMENT. */
+    /* These bytes. If they aren't 32, it throws HALFGATES_WRONG_SIZE. */
     HALFGATES_NODISCARD static seed from_bytes(const detail::input &given) {
         seed made;
-        check(given.size() == made.bytes_.size() ? HALFGATES_OK : HALFGATES_BAD_ARGUMENT);
+        check(given.size() == made.bytes_.size() ? HALFGATES_OK : HALFGATES_WRONG_SIZE);
         std::memcpy(made.bytes_.data(), given.data(), given.size());
         return made;
     }
@@ -207,7 +206,7 @@ public:
     /* Takes over a garbling of a circuit of this shape. */
     garbling(halfgates_garbling *at, const shape &of) : handle_(at), shape_(of) {}
 
-    HALFGATES_NODISCARD bytes write(std::uint32_t version = 2) {
+    HALFGATES_NODISCARD bytes write(std::uint32_t version = 2) const {
         std::size_t size = 0;
         const std::int32_t code = halfgates_garbling_write(get(), version, nullptr, 0, &size);
         if (code != HALFGATES_SMALL_BUFFER)
@@ -218,57 +217,57 @@ public:
     }
 
     /* Writes the garbled file to a buffer with this much room, and returns the number of its bytes. */
-    std::size_t write_into(std::uint8_t *buffer, std::size_t size, std::uint32_t version = 2) {
+    std::size_t write_into(std::uint8_t *buffer, std::size_t size, std::uint32_t version = 2) const {
         std::size_t written = 0;
         check(halfgates_garbling_write(get(), version, buffer, size, &written));
         return written;
     }
 
-    HALFGATES_NODISCARD label offset() {
+    HALFGATES_NODISCARD label offset() const {
         label found;
         check(halfgates_offset(get(), found.data()));
         return found;
     }
 
-    HALFGATES_NODISCARD label zero_label(std::uint32_t wire) {
+    HALFGATES_NODISCARD label zero_label(std::uint32_t wire) const {
         label found;
         check(halfgates_zero_label(get(), wire, found.data()));
         return found;
     }
 
-    HALFGATES_NODISCARD bool decode_bit(std::uint32_t output) {
+    HALFGATES_NODISCARD bool decode_bit(std::uint32_t output) const {
         std::uint8_t bit = 0;
         check(halfgates_decode_bit(get(), output, &bit));
         return bit != 0;
     }
 
     /* The decode bits of all output wires. */
-    HALFGATES_NODISCARD bytes decode_bits() {
+    HALFGATES_NODISCARD bytes decode_bits() const {
         bytes bits(shape_.numbers.output_wires);
         check(halfgates_decode_bits(get(), bits.data(), bits.size()));
         return bits;
     }
 
     /* The row pairs, 32 bytes an AND gate. */
-    HALFGATES_NODISCARD bytes rows() {
+    HALFGATES_NODISCARD bytes rows() const {
         bytes found(32 * static_cast<std::size_t>(shape_.numbers.and_gates));
         rows_into(found.data(), found.size());
         return found;
     }
 
     /* Writes the row pairs to a buffer with this much room. */
-    void rows_into(std::uint8_t *buffer, std::size_t size) { check(halfgates_rows(get(), buffer, size)); }
+    void rows_into(std::uint8_t *buffer, std::size_t size) const { check(halfgates_rows(get(), buffer, size)); }
 
-    HALFGATES_NODISCARD label_pairs input_labels(std::uint32_t index) {
+    HALFGATES_NODISCARD label_pairs input_labels(std::uint32_t index) const {
         return pairs(halfgates_input_labels, shape_.input_widths, index);
     }
 
-    HALFGATES_NODISCARD label_pairs output_labels(std::uint32_t index) {
+    HALFGATES_NODISCARD label_pairs output_labels(std::uint32_t index) const {
         return pairs(halfgates_output_labels, shape_.output_widths, index);
     }
 
     HALFGATES_NODISCARD std::vector<halfgates_wire_labels> labels(const detail::input &bits, std::uint32_t from,
-                                                                  std::size_t count) {
+                                                                  std::size_t count) const {
         const std::uint32_t wires = shape_.numbers.wires;
         check(from <= wires && count <= wires - from ? HALFGATES_OK : HALFGATES_BAD_ARGUMENT);
         std::vector<halfgates_wire_labels> found(count);
@@ -277,20 +276,20 @@ public:
     }
 
     /* The label file of an input value. */
-    HALFGATES_NODISCARD bytes deal(std::uint32_t index, const detail::input &bits) {
+    HALFGATES_NODISCARD bytes deal(std::uint32_t index, const detail::input &bits) const {
         bytes file(16 + 16 * bits.size());
         std::size_t written = 0;
         check(halfgates_garbling_deal(get(), index, bits.data(), bits.size(), file.data(), file.size(), &written));
         return file;
     }
 
-    HALFGATES_NODISCARD halfgates_audit_report audit(const detail::input &garbled) {
+    HALFGATES_NODISCARD halfgates_audit_report audit(const detail::input &garbled) const {
         halfgates_audit_report report;
         check(halfgates_audit(get(), garbled.data(), garbled.size(), &report));
         return report;
     }
 
-    HALFGATES_NODISCARD labels_audit audit_labels(const detail::input &file) {
+    HALFGATES_NODISCARD labels_audit audit_labels(const detail::input &file) const {
         labels_audit found{{}, bytes(file.size() / 16)};
         check(halfgates_audit_labels(get(), file.data(), file.size(), found.bits.data(), found.bits.size(),
                                      &found.report));
@@ -298,11 +297,11 @@ public:
         return found;
     }
 
-    halfgates_garbling *get() noexcept { return handle_.get(); }
+    halfgates_garbling *get() const noexcept { return handle_.get(); }
 
 private:
     template <class Call>
-    label_pairs pairs(Call call, const std::vector<std::uint32_t> &widths, std::uint32_t index) {
+    label_pairs pairs(Call call, const std::vector<std::uint32_t> &widths, std::uint32_t index) const {
         const std::size_t width = index < widths.size() ? widths[index] : 0;
         label_pairs found{halfgates::labels(width), halfgates::labels(width)};
         check(call(get(), index, detail::room(found.zero), detail::room(found.one), 16 * width));
@@ -319,20 +318,20 @@ public:
     job(halfgates_job *at, const shape &of) noexcept : handle_(at), outputs_(of.numbers.output_wires) {}
 
     /* The bits of all output wires. */
-    HALFGATES_NODISCARD bytes evaluate() {
+    HALFGATES_NODISCARD bytes evaluate() const {
         bytes bits(outputs_);
         check(halfgates_evaluate(get(), bits.data(), bits.size()));
         return bits;
     }
 
     /* The active labels of all output wires. */
-    HALFGATES_NODISCARD labels output_labels() {
+    HALFGATES_NODISCARD labels output_labels() const {
         labels found(outputs_);
         check(halfgates_job_output_labels(get(), detail::room(found), 16 * found.size()));
         return found;
     }
 
-    halfgates_job *get() noexcept { return handle_.get(); }
+    halfgates_job *get() const noexcept { return handle_.get(); }
 
 private:
     detail::handle<halfgates_job, halfgates_job_free> handle_;
@@ -347,8 +346,8 @@ public:
         take(at);
     }
 
-    /* One more handle of the same circuit, without a copy, for another thread. */
-    HALFGATES_NODISCARD circuit share() {
+    /* One more handle of the same circuit, without a copy. */
+    HALFGATES_NODISCARD circuit share() const {
         halfgates_circuit *at = nullptr;
         check(halfgates_circuit_share(get(), &at));
         circuit other;
@@ -361,29 +360,44 @@ public:
     const std::vector<std::uint32_t> &output_widths() const noexcept { return shape_.output_widths; }
     const std::array<std::uint8_t, 32> &digest() const noexcept { return digest_; }
 
-    HALFGATES_NODISCARD std::uint64_t garbled_size(std::uint32_t version = 2) {
+    HALFGATES_NODISCARD std::uint64_t garbled_size(std::uint32_t version = 2) const {
         const std::uint64_t size = halfgates_garbled_size(get(), version);
         check(size != 0 ? HALFGATES_OK : HALFGATES_BAD_ARGUMENT);
         return size;
     }
 
-    HALFGATES_NODISCARD halfgates::garbling garble(const seed &key) {
+    HALFGATES_NODISCARD halfgates::garbling garble(const seed &key) const {
         halfgates_garbling *at = nullptr;
         check(halfgates_garble(get(), key.data(), &at));
         return halfgates::garbling(at, shape_);
     }
 
+    /* Garbles under each of these seeds, two at a time side by side. */
+    HALFGATES_NODISCARD std::vector<halfgates::garbling> garble_many(const std::vector<seed> &keys) const {
+        static_assert(sizeof(seed) == 32, "seeds are one after another");
+        std::vector<halfgates::garbling> made;
+        std::vector<detail::handle<halfgates_garbling, halfgates_garbling_free>> handles(keys.size());
+        std::vector<halfgates_garbling *> at(keys.size());
+        made.reserve(keys.size());
+        check(halfgates_garble_many(get(), keys.empty() ? nullptr : keys.front().data(), keys.size(), at.data()));
+        for (std::size_t i = 0; i < at.size(); i++)
+            handles[i].reset(at[i]);
+        for (auto &it : handles)
+            made.emplace_back(it.release(), shape_);
+        return made;
+    }
+
     /* Garbles from an offset, zero labels of the input wires, and the first AND number. Under one offset use no AND
      * number twice. */
     HALFGATES_NODISCARD halfgates::garbling garble_from(const label &offset, const detail::input &zero_labels,
-                                                        std::uint64_t first) {
+                                                        std::uint64_t first) const {
         halfgates_garbling *at = nullptr;
         check(halfgates_garble_from(get(), offset.data(), zero_labels.data(), zero_labels.size(), first, &at));
         return halfgates::garbling(at, shape_);
     }
 
     /* The label file of an input value. */
-    HALFGATES_NODISCARD bytes deal(const seed &key, std::uint32_t index, const detail::input &bits) {
+    HALFGATES_NODISCARD bytes deal(const seed &key, std::uint32_t index, const detail::input &bits) const {
         bytes file(16 + 16 * bits.size());
         std::size_t written = 0;
         check(halfgates_deal(get(), key.data(), index, bits.data(), bits.size(), file.data(), file.size(), &written));
@@ -391,7 +405,7 @@ public:
     }
 
     /* The label file of an input value, from labels that were received. */
-    HALFGATES_NODISCARD bytes label_file(std::uint32_t index, const detail::input &received) {
+    HALFGATES_NODISCARD bytes label_file(std::uint32_t index, const detail::input &received) const {
         bytes file(16 + received.size());
         std::size_t written = 0;
         check(halfgates_label_file(get(), index, received.data(), received.size(), file.data(), file.size(), &written));
@@ -399,7 +413,7 @@ public:
     }
 
     /* The job of a garbled file and of label files, which are joined first. */
-    HALFGATES_NODISCARD halfgates::job bind(const detail::input &garbled, const std::vector<bytes> &files) {
+    HALFGATES_NODISCARD halfgates::job bind(const detail::input &garbled, const std::vector<bytes> &files) const {
         bytes joined;
         std::vector<std::size_t> sizes;
         for (const bytes &file : files) {
@@ -411,7 +425,7 @@ public:
 
     /* The job of a garbled file and of label files that are one after another, with the number of bytes of each. */
     HALFGATES_NODISCARD halfgates::job bind(const detail::input &garbled, const detail::input &files,
-                                            const std::vector<std::size_t> &sizes) {
+                                            const std::vector<std::size_t> &sizes) const {
         halfgates_job *at = nullptr;
         check(halfgates_job_bind(get(), garbled.data(), garbled.size(), files.data(), files.size(), sizes.data(),
                                  sizes.size(), &at));
@@ -420,7 +434,7 @@ public:
 
     /* The active labels of all output wires, from row pairs and the active labels of all input wires. */
     HALFGATES_NODISCARD labels evaluate_labels(const detail::input &rows, const detail::input &active,
-                                               std::uint64_t first) {
+                                               std::uint64_t first) const {
         labels outputs(numbers().output_wires);
         check(halfgates_evaluate_labels(get(), rows.data(), rows.size(), first, active.data(), active.size(),
                                         detail::room(outputs), 16 * outputs.size()));
@@ -428,13 +442,13 @@ public:
     }
 
     /* The bits of all output wires for those of all input wires, without garbling. */
-    HALFGATES_NODISCARD bytes plain(const detail::input &bits) {
+    HALFGATES_NODISCARD bytes plain(const detail::input &bits) const {
         bytes outputs(numbers().output_wires);
         check(halfgates_plain(get(), bits.data(), bits.size(), outputs.data(), outputs.size()));
         return outputs;
     }
 
-    halfgates_circuit *get() noexcept { return handle_.get(); }
+    halfgates_circuit *get() const noexcept { return handle_.get(); }
 
 private:
     circuit() noexcept : shape_() {}
