@@ -145,14 +145,14 @@ fn each_growth_refused(rt: HostRuntime) -> Result<(), Fail> {
     Ok(())
 }
 
-/// Two workers that go by layers: there are AND gates enough for a second thread. Without memory for the bits alone
-/// there is no answer.
+/// Two workers that go by layers: there are AND gates enough for a second thread. Most refused allocations leave the
+/// result: which one is that of the bits, without which there is none, depends on the threads.
 #[test]
 fn each_growth_of_layers_refused(rt: HostRuntime) -> Result<(), Fail> {
     let text = many_ands(rt.alloc(), 1100)?;
     let circuit = Circuit::read(rt.alloc(), text.as_bytes())?;
     let job = job_on_zeros(rt.alloc(), &circuit, text.as_str())?;
     let refused = refused_runs(&rt, rt.alloc(), &job, 2)?;
-    assert!(rt; refused.runs > 8 && refused.answered.checked_add(1) == Some(refused.runs));
+    assert!(rt; refused.runs > 8 && refused.answered > 6, "{refused:?}");
     Ok(())
 }
