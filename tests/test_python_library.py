@@ -546,7 +546,7 @@ for name, *words in [
     ("audit_labels", garbling, labels, 32, *null, labels_report),
 ]:
     code = getattr(_library.library, f"halfgates_{name}")(*[getattr(it, "_at", it) for it in words])
-    if code != 60:
+    if code != 64:
         print(name, code)
 """
 

@@ -53,7 +53,8 @@ class Declarations(unittest.TestCase):
     def test_codes(self):
         header = re.findall(r"^ +HALFGATES_(\w+) = (\d+)", (INCLUDE / "halfgates.h").read_text(), re.M)
         crate = re.findall(r"^ +([A-Z_]+) = (\d+) \"", (CRATE / "src/fault.rs").read_text(), re.M)
-        self.assertEqual([("OK", "0"), *crate, ("WRONG_LABEL", "63")], header)
+        every = sorted([("OK", "0"), *crate, ("WRONG_LABEL", "63")], key=lambda it: int(it[1]))
+        self.assertEqual(every, header)
 
     def test_version(self):
         files = CRATE / "Cargo.toml", CRATE / "Cargo.lock", TOP / "python/pyproject.toml"

@@ -35,6 +35,7 @@ KIT = "rattle_arg", "core::str::utf8::from_utf8", "core::slice::words::skip_far"
 PUBLIC = "gc_command::lines::", "gc_command::value_form::", "gc_command::eval::", "gc_command::run::", "gc_file::body::"
 
 KEY, BLOCK = "x000102030405060708090a0b0c0d0e0f", "0110" * 32
+WIDTH = 128
 
 
 def with_others(tested, *others):
@@ -93,7 +94,8 @@ class OfTheProgram(ProgramTest):
         return found
 
     def check(self, program, decisions, words, hidden=(), public=()):
-        """Apart from the kit's code and from what is public, the program decides by secrets at most so often."""
+        """Apart from the kit's code and from what is public, the program decides by secrets at most so often. Whether an
+        argument is `--args-from` is one decision for each."""
         with self.subTest(program=program, words=words):
             found = self.reports(program, words, hidden)
             self.assertTrue(found, "nothing was marked as secret")
@@ -106,14 +108,16 @@ class OfTheProgram(ProgramTest):
         for program in PROGRAMS:
             for version in ("1", "2"):
                 words = ["garble", "aes128", SEED, f"garbled{version}", "--format", version, "--workers", version]
-                self.check(program, 1, words, hidden=[3])
+                self.check(program, 1 + 1, words, hidden=[3])
             for i, value in enumerate((KEY, BLOCK)):
-                # A seed; whether a value begins with x, has digits alone, and has no spare bits.
-                self.check(program, 4, ["deal", "aes128", SEED, str(i), value, f"{i}.labels"], hidden=[3, 5])
+                # A seed; whether a value begins with x, has digits alone, and has no spare bits. A branch for each bit
+                # of the value is known (SECURITY.md).
+                words = ["deal", "aes128", SEED, str(i), value, f"{i}.labels"]
+                self.check(program, 4 + 2 + WIDTH, words, hidden=[3, 5])
             for version in ("1", "2"):
                 words = ["eval", "aes128", f"garbled{version}", "--workers", version, "0.labels", "1.labels"]
                 self.check(program, int(version == "2"), words, public=PUBLIC)
-            self.check(program, 8, ["run", "aes128", SEED, KEY, BLOCK], hidden=[3, 4, 5], public=PUBLIC)
+            self.check(program, 8 + 3, ["run", "aes128", SEED, KEY, BLOCK], hidden=[3, 4, 5], public=PUBLIC)
 
 
 class FreedMemory(ProgramTest):
