@@ -50,8 +50,8 @@ pub fn audit_labels<A: Allocator, B: Allocator, C: Allocator, D: Allocator>(
 }
 
 /// Compares a label file with the labels of a circuit's input wires, as [`audit_labels`] does, where the caller has the
-/// offset. `labels` has a zero label for each wire: this is the caller's condition. The verdict is that by any zero labels
-/// that agree with these on the input wires.
+/// offset. `labels` has a zero label for each wire: this is the caller's condition. The verdict is that by any zero
+/// labels that agree with these on the input wires.
 pub fn audit_labels_with_offset<A: Allocator, B: Allocator, C: Allocator, D: Allocator>(
     alloc: A,
     circuit: &Circuit<B>,

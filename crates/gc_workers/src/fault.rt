@@ -73,8 +73,8 @@ impl<T: Drop> From<AllocFailed<T>> for OpenFault {
     }
 }
 
-/// Why a board, or banks, can't be closed: a seat is missing, or inside a round. They come back with all seats that were
-/// passed.
+/// Why a board, or banks, can't be closed: a seat is missing, or inside a round. They come back with all seats that
+/// were passed.
 #[derive(Drop)]
 pub struct CloseRefused<B, S> {
     /// What was to be closed.

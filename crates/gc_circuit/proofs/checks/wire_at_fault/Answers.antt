@@ -15,9 +15,11 @@ reads_one n is_set set a op first second = search rules
 pub returns-in-Some-Some : goal.returns-in-Some-Some
 returns-in-Some-Some c =
     c.wire_of_two.ensures ∙ reads_two _ _ _ _ _ c.args.gate.operation
-    (sym c.first_wire.ensures ∙ c.in-Some-Some.is-0) (sym c.second_wire.ensures ∙ c.in-Some-Some.is-1)
+    (sym c.first_wire.ensures ∙ c.in-Some-Some.is-0)
+    (sym c.second_wire.ensures ∙ c.in-Some-Some.is-1)
 
 pub returns-in-Some-None : goal.returns-in-Some-None
 returns-in-Some-None c =
     c.wire_of_one.ensures ∙ reads_one _ _ _ _ c.args.gate.operation
-    (sym c.first_wire.ensures ∙ c.in-Some-None.is-0) (sym c.second_wire.ensures ∙ c.in-Some-None.is-1)
+    (sym c.first_wire.ensures ∙ c.in-Some-None.is-0)
+    (sym c.second_wire.ensures ∙ c.in-Some-None.is-1)

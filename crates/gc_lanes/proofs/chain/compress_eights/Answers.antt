@@ -15,7 +15,8 @@ parts-preserved c =
     let start : n * 64 ≡ 512 * c.parts.part = omega arith in
     let width : 512 * c.parts.part + 512 - 512 * c.parts.part ≡ 512 = omega arith in
     let more : n + 8 ≡ 8 * (c.parts.part + 1) = omega arith in
-    let eight : List ℕ = take (512 * c.parts.part + 512 - 512 * c.parts.part) (drop (512 * c.parts.part) p) in
+    let eight : List ℕ = take (512 * c.parts.part + 512 - 512 * c.parts.part)
+    (drop (512 * c.parts.part) p) in
     c.compress_each.ensures eight c.schedules.ensures
     ∙ ap (λ (h : List ℕ). hash_after h eight 8) c.parts.invariant
     ∙ hash_after-joined c.args.hash.now p eight n 8

@@ -12,7 +12,9 @@ returns c = λ whole text held.
     let n = length piece in
     let found = c.in-Some.ensures.cases in
     let begins : take n left ≡ piece =
-    (slice_eq-Decides Decides-eqb (take n left) piece (pointwise eqb (take n left) piece) refl).0 found.0 in
+    (slice_eq-Decides Decides-eqb (take n left) piece (pointwise eqb (take n left) piece) refl).0
+    found.0 in
     let parts : left ≡ piece ++ c.in-Some.left.now =
-    sym (take-append-drop n left) ∙ ap (λ l. l ++ drop n left) begins ∙ ap (λ l. piece ++ l) (sym found.1) in
+    sym (take-append-drop n left) ∙ ap (λ l. l ++ drop n left) begins
+    ∙ ap (λ l. piece ++ l) (sym found.1) in
     held ∙ ap (λ l. text ++ l) parts ∙ sym (append_assoc text piece c.in-Some.left.now)

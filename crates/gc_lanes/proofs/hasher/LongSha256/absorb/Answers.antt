@@ -18,7 +18,8 @@ returns-then-piece-room c = λ m held.
       hashed = held.hashed ∙ hashed-short m d initial_hash_256 short;
       left = left-short m d s.buffer _ short held.left
           (rw (← used, c.copy_from_slice.ensures.after)
-          (take-put_mid c.used-used.result _ s.buffer d (c.used-used.result + length d) refl (omega arith)));
+          (take-put_mid c.used-used.result _ s.buffer d (c.used-used.result + length d) refl
+          (omega arith)));
     }
 
 pub returns : goal.returns
@@ -35,7 +36,8 @@ returns c = λ m held.
     let full : post_of used room s.buffer ≡ [] =
     drop_all room (drop used s.buffer) (omega (arith, length-drop used s.buffer)) in
     let filled : put_mid used room s.buffer c.copy_from_slice-2.new.self ≡ before =
-    rw (full, append-nil c.copy_from_slice-2.new.self, c.copy_from_slice-2.ensures.after, is) refl in
+    rw (full, append-nil c.copy_from_slice-2.new.self, c.copy_from_slice-2.ensures.after, is)
+    refl in
     let wide : length before ≡ 4096 =
     omega (
       arith,
@@ -49,7 +51,8 @@ returns c = λ m held.
     let second = rw (first, middle) at c.compress_eights-2.ensures in
     record {
       counted = total_append s.total _ m d held.counted refl;
-      hashed = second ∙ hashed-long m d initial_hash_256 s.buffer room end left_room fits refl held.left;
+      hashed = second ∙ hashed-long m d initial_hash_256 s.buffer room end left_room fits refl
+          held.left;
       left = left-long m d _ c.copy_from_slice-3.new.self _ room end left_room fits refl refl
           (c.copy_from_slice-3.ensures.after ∙ take_rest d end);
     }
