@@ -33,8 +33,8 @@ impl Seed {
         Seed { bytes }
     }
 
-    /// Reads a seed of 64 hexadecimal digits, in either case, and refuses any other text. All digits are read before that
-    /// is decided, and no branch and no address depends on one.
+    /// Reads a seed of 64 hexadecimal digits, in either case, and refuses any other text. All digits are read before
+    /// that is decided, and no branch and no address depends on one.
     pub fn from_hex(text: &str) -> Result<Seed, BadSeed>
         ensures accepts { IsOk result ↔ IsSeedText text.now }
         ensures bytes { IfOk result (λ seed. decode_of text.now ≡ Ok seed) }

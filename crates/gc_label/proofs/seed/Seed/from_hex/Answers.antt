@@ -74,7 +74,8 @@ returns-then-are_digits-clause-bytes c =
     let long = c.loop-i.invariant.long in
     let done = decode_done digits c.loop-i.bytes c.loop-i.i (omega arith) (omega arith)
     (c.loop-i.invariant.bytes c.if-are_digits.true) in
-    rw c.from_bytes.ensures (rw c.as_bytes-digits.ensures.value at (decode_of-even digits even ∙ done))
+    rw c.from_bytes.ensures (rw c.as_bytes-digits.ensures.value
+    at (decode_of-even digits even ∙ done))
 
 pub returns-else-are_digits-clause-accepts : goal.returns-else-are_digits-clause-accepts
 returns-else-are_digits-clause-accepts c =
