@@ -10,10 +10,12 @@ module _ {T : Type 0} (xs : List T) (u : T) where
   filled_further n m len more within =
       append_assoc xs (replicate (m - n) u) (replicate (len - m) u)
       ∙ ap (λ l. xs ++ l) (replicate-append-replicate (m - n) (len - m) u)
-      ∙ ap (λ k. xs ++ replicate k u) (let z : (m - n) + (len - m) ≡ len - n = omega (arith, more, within) in z)
+      ∙ ap (λ k. xs ++ replicate k u) (let z : (m - n) + (len - m) ≡ len - n =
+      omega (arith, more, within) in z)
 
   -- an entry that is set among those filled is set in the table
-  pub set_filled : (rest : ℕ) (all : List T) (i : ℕ) (entry : T) → i < length xs → xs ++ replicate rest u ≡ all
+  pub set_filled : (rest : ℕ) (all : List T) (i : ℕ) (entry : T) → i < length xs
+      → xs ++ replicate rest u ≡ all
       → set xs i entry ++ replicate rest u ≡ set all i entry
   set_filled rest all i entry within is =
       sym (set-append_left xs (replicate rest u) i entry within) ∙ ap (λ l. set l i entry) is

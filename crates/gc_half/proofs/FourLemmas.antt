@@ -13,41 +13,50 @@ module _ (h : ℕ → ℕ → ℕ) (c : Netlist) (rows : List RowPair) (inputs :
   -- the labels after the first n gates
   abbrev pub AreFollowed : ℕ → List ℕ → Type 0
   AreFollowed n labels =
-      labels ≡ map (values_after (active_rule h c rows) c (slice_index inputs) n) (range_with_len 0 c.wires)
+      labels ≡ map (values_after (active_rule h c rows) c (slice_index inputs) n)
+      (range_with_len 0 c.wires)
 
-  pub followed-start : (labels : List ℕ) → labels ≡ map (slice_index inputs) (range_with_len 0 c.wires)
+  pub followed-start : (labels : List ℕ) → labels ≡ map (slice_index inputs)
+      (range_with_len 0 c.wires)
       → AreFollowed 0 labels
   followed-start labels is = is ∙ rw (after-zero (active_rule h c rows) c (slice_index inputs)) refl
 
-  pub followed-read : IsLawful c → (n : ℕ) (g : Gate) → slice_get c.gates n ≡ Some g → (labels : List ℕ)
+  pub followed-read : IsLawful c → (n : ℕ) (g : Gate) → slice_get c.gates n ≡ Some g
+      → (labels : List ℕ)
       → AreFollowed n labels → EachRead (λ w. w < length labels) g.operation
   followed-read lawful n g at labels is =
       let long = length-table _ c.wires labels is in
-      EachRead-map (λ w. w < c.wires) (λ w. w < length labels) g.operation (λ w b. omega (arith, long, b))
+      EachRead-map (λ w. w < c.wires) (λ w. w < length labels) g.operation
+      (λ w b. omega (arith, long, b))
       (EachRead-below c lawful n g at)
 
-  pub followed-place : IsLawful c → (n : ℕ) (g : Gate) → slice_get c.gates n ≡ Some g → (labels : List ℕ)
+  pub followed-place : IsLawful c → (n : ℕ) (g : Gate) → slice_get c.gates n ≡ Some g
+      → (labels : List ℕ)
       → AreFollowed n labels → g.set < length labels
   followed-place lawful n g at labels is =
       omega (arith, length-table _ c.wires labels is, lawful.sets n g at)
 
-  pub followed-next : IsLawful c → (n : ℕ) (g : Gate) → slice_get c.gates n ≡ Some g → (labels new : List ℕ)
+  pub followed-next : IsLawful c → (n : ℕ) (g : Gate) → slice_get c.gates n ≡ Some g
+      → (labels new : List ℕ)
       → AreFollowed n labels
       → new ≡ slice_set labels g.set
       (active_of h (slice_index labels) (and_number c n) (row_at rows (and_number c n)) g.operation)
       → AreFollowed (n + 1) new
   followed-next lawful n g at labels new is put =
-      put ∙ table_step (active_rule h c rows) (active_local h c rows) c lawful (slice_index inputs) labels n g 0 _
+      put ∙ table_step (active_rule h c rows) (active_local h c rows) c lawful (slice_index inputs)
+      labels n g 0 _
       is at refl
 
-pub followed-end : (first : ℕ) (c : Netlist) → IsLawful c → (rows : List RowPair) (inputs labels : List ℕ)
+pub followed-end : (first : ℕ) (c : Netlist) → IsLawful c
+    → (rows : List RowPair) (inputs labels : List ℕ)
     → AreFollowed (numbered_from first hash) c rows inputs (length c.gates) labels
     → AreActiveFrom first c rows inputs labels
 followed-end first c lawful rows inputs labels is =
     let rule = active_rule (numbered_from first hash) c rows in
     record {
       active = solution rule c (slice_index inputs);
-      evaluation = solution_solves rule (active_local (numbered_from first hash) c rows) c lawful (slice_index inputs);
+      evaluation = solution_solves rule (active_local (numbered_from first hash) c rows) c lawful
+          (slice_index inputs);
       table = is;
     }
 
@@ -57,8 +66,10 @@ pub record IsLane (h : ℕ → ℕ → ℕ) (c : Netlist) (rows : List RowPair) 
   pub rows_are : lane_rows ≡ rows
   pub followed : AreFollowed h c rows inputs n labels
 
-module _ (h : ℕ → ℕ → ℕ) (c : Netlist) (rows : List RowPair) (inputs : List ℕ) (lawful : IsLawful c) (n : ℕ) (g : Gate)
-    (at : slice_get c.gates n ≡ Some g) (k : ℕ) (numbered : k ≡ and_number c n) (lane_rows : List RowPair)
+module _ (h : ℕ → ℕ → ℕ) (c : Netlist) (rows : List RowPair) (inputs : List ℕ) (lawful : IsLawful c)
+    (n : ℕ) (g : Gate)
+    (at : slice_get c.gates n ≡ Some g) (k : ℕ) (numbered : k ≡ and_number c n)
+    (lane_rows : List RowPair)
     (labels : List ℕ) (is : IsLane h c rows inputs n lane_rows labels) where
   pub can-step : length rows ≡ and_count c → CanStep k g lane_rows labels
   can-step count = record {
@@ -67,7 +78,8 @@ module _ (h : ℕ → ℕ → ℕ) (c : Netlist) (rows : List RowPair) (inputs :
     place = followed-place h c rows inputs lawful n g at labels is.followed;
   }
 
-  pub lane-next : (new_rows : List RowPair) (new : List ℕ) → IsStep h k g lane_rows labels new_rows new
+  pub lane-next : (new_rows : List RowPair) (new : List ℕ)
+      → IsStep h k g lane_rows labels new_rows new
       → IsLane h c rows inputs (n + 1) new_rows new
   lane-next new_rows new step = record {
     rows_are = step.kept ∙ is.rows_are;

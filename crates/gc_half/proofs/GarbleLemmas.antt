@@ -100,7 +100,8 @@ module _ (h : ℕ → ℕ → ℕ) (r : ℕ) (c : Netlist) (given : List ℕ) wh
         → AreGarbled i labels rows → o ≡ r → wires ≡ c.wires
         → IsOneGateMore h o wires g labels rows new new_rows → AreGarbled (i + 1) new new_rows
     garbled-step i g at labels new rows new_rows o wires are same wires_is more =
-        let more = subst (λ (x : ℕ). IsOneGateMore h x wires g labels rows new new_rows) same more in
+        let more = subst (λ (x : ℕ). IsOneGateMore h x wires g labels rows new new_rows) same
+        more in
         garbled-next i g at labels new rows new_rows are more.label more.there more.kept
         (omega (arith, more.few, wires_is)) more.row_pairs
 
@@ -138,7 +139,8 @@ module _ (h : ℕ → ℕ → ℕ) (r : ℕ) (c : Netlist) (given : List ℕ) wh
           (rows_after h r c label_of (length c.gates))
       table-garbling table is =
           IsGarbling-same h r c lawful (slice_index given) label_of (slice_index table) _
-          (λ w set. rw is (sym (read-table label_of c.wires w 0 (IsSetBefore-below c lawful _ w set))))
+          (λ w set. rw is (sym (read-table label_of c.wires w 0
+          (IsSetBefore-below c lawful _ w set))))
           labels-garbling
 
       pub table-not_set : (table : List ℕ) → table ≡ map label_of (range_with_len 0 c.wires)
@@ -159,7 +161,8 @@ unfolding label_of
 garbled-end first r c given lawful long labels table count wires outputs rows are count_is wires_is
     made outputs_are =
     let h = numbered_from first hash in
-    let padded = labels-padded h r c given _ labels table rows count wires are count_is wires_is made in
+    let padded = labels-padded h r c given _ labels table rows count wires are count_is wires_is
+    made in
     record {
       garbling = rw are.row_pairs (table-garbling h r c given lawful long table padded);
       wires = rw padded (length-map-range_with_len _ 0 c.wires);

@@ -36,7 +36,8 @@ evaluation-same hash c rows u v active same evaluation = record {
 
 pub following-decodes : FollowingLaw
 following-decodes hash r odd before lawful_before zero_before active_before bits_before decodes c
-    lawful joint is_joint first own zero_label rows garbling own_bits bits assignment active evaluation =
+    lawful joint is_joint first own zero_label rows garbling own_bits bits assignment active
+    evaluation =
     garbling-decodes (numbered_from first hash) r odd c lawful _ zero_label rows garbling _ bits
     assignment active
     (evaluation-same (numbered_from first hash) c rows _ _ active
@@ -45,13 +46,15 @@ following-decodes hash r odd before lawful_before zero_before active_before bits
 
 pub joined-decodes : JoinedLaw
 joined-decodes hash r odd before lawful_before first_before given zero_before rows_before
-    garbling_before input_bits bits_before assignment_before active_before evaluation_before c lawful
+    garbling_before input_bits bits_before assignment_before active_before evaluation_before c
+    lawful
     joint is_joint first own zero_label rows garbling own_bits bits assignment active evaluation =
     let decodes = garbling-decodes (numbered_from first_before hash) r odd before lawful_before
     given zero_before rows_before garbling_before input_bits bits_before assignment_before
     active_before evaluation_before in (
       decodes,
       following-decodes hash r odd before lawful_before zero_before active_before bits_before
-          decodes c lawful joint is_joint first own zero_label rows garbling own_bits bits assignment active
+          decodes c lawful joint is_joint first own zero_label rows garbling own_bits bits
+          assignment active
           evaluation,
     )

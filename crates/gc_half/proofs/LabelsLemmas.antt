@@ -41,27 +41,28 @@ module _ (r first : ℕ) (c : Netlist) (lawful : IsLawful c) (given : ℕ → �
   decode_bits-are = ap (map colour) output_zero_labels-are
 
 pub labels-stand : LabelsLaw
-labels-stand r odd c lawful zero_labels first g is bits fits inputs stand labels evaluated outputs are = (
-  record {
-    zero_count = ap length zero_are
-        ∙ length-map-range_with_len (slice_index g.zero_labels) _ (output_wires c) ∙ sym many;
-    count = ap length evaluated.last
-        ∙ length-map-range_with_len evaluated.active _ (output_wires c) ∙ sym many;
-    each = λ i below.
-        let inside : i < output_wires c = omega (arith, below, many) in
-        rw (evaluated.last, zero_are, are.last) (
-        at-output c evaluated.active 0 i inside
-        ∙ decodes.labels (c.wires - output_wires c + i)
-        (lawful.outputs_set _ (omega (arith, lawful.outputs_fit))
-        (omega (arith, lawful.outputs_fit, inside)))
-        ∙ sym (ap (λ z. encode r z (bits_of (on_outputs c are.bits) i))
-        (at-output c (slice_index g.zero_labels) 0 i inside)
-        ∙ ap (encode r (slice_index g.zero_labels (c.wires - output_wires c + i)))
-        (at-output c are.bits false i inside)));
-  },
-  rw (evaluated.last, decode_bits-are r first c lawful (slice_index zero_labels) g is)
-      (decodes.outputs ∙ sym are.last),
-)
+labels-stand r odd c lawful zero_labels first g is bits fits inputs stand labels evaluated outputs
+    are = (
+      record {
+        zero_count = ap length zero_are
+            ∙ length-map-range_with_len (slice_index g.zero_labels) _ (output_wires c) ∙ sym many;
+        count = ap length evaluated.last
+            ∙ length-map-range_with_len evaluated.active _ (output_wires c) ∙ sym many;
+        each = λ i below.
+            let inside : i < output_wires c = omega (arith, below, many) in
+            rw (evaluated.last, zero_are, are.last) (
+            at-output c evaluated.active 0 i inside
+            ∙ decodes.labels (c.wires - output_wires c + i)
+            (lawful.outputs_set _ (omega (arith, lawful.outputs_fit))
+            (omega (arith, lawful.outputs_fit, inside)))
+            ∙ sym (ap (λ z. encode r z (bits_of (on_outputs c are.bits) i))
+            (at-output c (slice_index g.zero_labels) 0 i inside)
+            ∙ ap (encode r (slice_index g.zero_labels (c.wires - output_wires c + i)))
+            (at-output c are.bits false i inside)));
+      },
+      rw (evaluated.last, decode_bits-are r first c lawful (slice_index zero_labels) g is)
+          (decodes.outputs ∙ sym are.last),
+    )
   where
     zero_are : output_zero_labels g ≡ on_outputs c (slice_index g.zero_labels)
     zero_are = output_zero_labels-are r first c lawful (slice_index zero_labels) g is
@@ -100,5 +101,10 @@ together-stand r zero_labels others bits other_bits labels other_labels stand ot
             get_or-append_right labels other_labels (length bits) i 0 stand.count past,
             get_or-append_right zero_labels others (length bits) i 0 stand.zero_count past,
             get_or-append_right bits other_bits (length bits) i false refl past,
-          ) (other_stand.each (i - length bits) (omega (arith, length-append bits other_bits, below, past)))
+          ) (other_stand.each (i - length bits) (omega (
+            arith,
+            length-append bits other_bits,
+            below,
+            past,
+          )))
     ]

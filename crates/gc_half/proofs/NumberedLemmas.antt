@@ -1,5 +1,5 @@
--- Where AND gates are numbered from 0 on, the hash is the hash itself. `rw` does not see it below `numbered_from`, which
--- computes where it is applied: so each notion that is taken at a hash has a lemma of its own.
+-- Where AND gates are numbered from 0 on, the hash is the hash itself. `rw` does not see it below `numbered_from`,
+-- which computes where it is applied: so each notion that is taken at a hash has a lemma of its own.
 use Rattle.gc_half.proofs.Names.{◌≡◌, ℕ, ◌+◌, ◌*◌, ◌<◌, List, map, slice_index, offset_of, input_label_of, IsGarbled, sym, ap, subst, ◌∙◌, arith, Netlist, input_wires, RowPair, IsGarbling}
 use Rattle.std.specs.List.{range_with_len}
 use Rattle.gc_netlist.proofs.Tables.{read-table}

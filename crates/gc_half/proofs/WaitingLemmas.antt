@@ -3,32 +3,35 @@ use Rattle.gc_half.proofs.Names.{◌≡◌, ℕ, false, List, [], ◌∷◌, set
 use Rattle.std.specs.List.{list_any}
 use Rattle.std.proofs.lemmas.List.{set_comm, get_or-set_other}
 use Rattle.gc_half.specs.declared.waiting.WaitingGate.{WaitingGate}
-use Rattle.gc_half.specs.Waiting.{NoneSets, settled}
+use Rattle.gc_half.specs.Waiting.{NoneSets, with_waiting}
 
 module _ {T : Type 0} (label : T → ℕ) where
   -- A label may be put first, and the gates made then, where they set other wires.
-  pub settled-put : (labels : List ℕ) (ws : List (WaitingGate T)) (wire new : ℕ) → NoneSets wire ws
-      → settled label (set labels wire new) ws ≡ set (settled label labels ws) wire new
-  settled-put labels [] wire new others = refl
-  settled-put labels (x ∷ ws) wire new others =
-      ap (λ l. settled label l ws) (set_comm labels wire x.set new (label x.gate) others.0)
-      ∙ settled-put (set labels x.set (label x.gate)) ws wire new others.1
+  pub with_waiting-put : (labels : List ℕ) (ws : List (WaitingGate T)) (wire new : ℕ)
+      → NoneSets wire ws
+      → with_waiting label (set labels wire new) ws ≡ set (with_waiting label labels ws) wire new
+  with_waiting-put labels [] wire new others = refl
+  with_waiting-put labels (x ∷ ws) wire new others =
+      ap (λ l. with_waiting label l ws) (set_comm labels wire x.set new (label x.gate) others.0)
+      ∙ with_waiting-put (set labels x.set (label x.gate)) ws wire new others.1
 
   -- What an operation reads that reads no wire of theirs is there already.
-  pub first_read-settled : (labels : List ℕ) (ws : List (WaitingGate T)) (op : Operation)
+  pub first_read-with_waiting : (labels : List ℕ) (ws : List (WaitingGate T)) (op : Operation)
       → list_any (λ waits. reads op waits.set) ws ≡ false
-      → first_read (slice_index labels) op ≡ first_read (slice_index (settled label labels ws)) op
-  first_read-settled labels [] op free = refl
-  first_read-settled labels (x ∷ ws) op free =
-      let rest = first_read-settled (set labels x.set (label x.gate)) ws op in
+      → first_read (slice_index labels) op ≡ first_read (slice_index (with_waiting label labels ws))
+      op
+  first_read-with_waiting labels [] op free = refl
+  first_read-with_waiting labels (x ∷ ws) op free =
+      let rest = first_read-with_waiting (set labels x.set (label x.gate)) ws op in
       grind (arith, nat_tests, get_or-set_other, rest)
 
-  pub second_read-settled : (labels : List ℕ) (ws : List (WaitingGate T)) (op : Operation)
+  pub second_read-with_waiting : (labels : List ℕ) (ws : List (WaitingGate T)) (op : Operation)
       → list_any (λ waits. reads op waits.set) ws ≡ false
-      → second_read (slice_index labels) op ≡ second_read (slice_index (settled label labels ws)) op
-  second_read-settled labels [] op free = refl
-  second_read-settled labels (x ∷ ws) op free =
-      let rest = second_read-settled (set labels x.set (label x.gate)) ws op in
+      → second_read (slice_index labels) op ≡ second_read
+      (slice_index (with_waiting label labels ws)) op
+  second_read-with_waiting labels [] op free = refl
+  second_read-with_waiting labels (x ∷ ws) op free =
+      let rest = second_read-with_waiting (set labels x.set (label x.gate)) ws op in
       grind (arith, nat_tests, get_or-set_other, rest)
 
-pub ruleset reads_settled = (first_read-settled, second_read-settled)
+pub ruleset reads_with_waiting = (first_read-with_waiting, second_read-with_waiting)

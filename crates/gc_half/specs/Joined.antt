@@ -1,5 +1,5 @@
--- Labels go into a circuit and labels come out: lists that stand for bits. Where circuits are joined, input wires of the
--- second take the values of output wires of the first: zero labels, bits and active labels are all handed on so.
+-- Labels go into a circuit and labels come out: lists that stand for bits. Where circuits are joined, input wires of
+-- the second take the values of output wires of the first: zero labels, bits and active labels are all handed on so.
 use Rattle.std.specs.Prelude.{◌≡◌, ℕ, ◌<◌, ◌+◌, ◌-◌, ◌++◌, Bool, IsTrue, List, length, drop, slice_index, Option, Some, None}
 use Rattle.gc_netlist.specs.Circuit.{Netlist, IsLawful, input_wires, output_wires}
 use Rattle.gc_netlist.specs.Solution.{on_outputs}
@@ -23,18 +23,18 @@ pub record StandFor (r : ℕ) (zero_labels : List ℕ) (bits : List Bool) (label
 abbrev pub output_zero_labels : GarblingParts → List ℕ
 output_zero_labels g = drop (length g.zero_labels - g.outputs) g.zero_labels
 
--- The labels of the output wires are active ones: those of an evaluation of the rows on these labels of the input wires,
--- where AND gates are numbered from `first` on.
+-- The labels of the output wires are active ones: those of an evaluation of the rows on these labels of the input
+-- wires, where AND gates are numbered from `first` on.
 pub record AreOutputLabels (first : ℕ) (c : Netlist) (rows : List RowPair)
     (inputs outputs : List ℕ) : Type 0 where
   pub active : ℕ → ℕ
   pub evaluation : IsEvaluation (numbered_from first hash) c rows (slice_index inputs) active
   pub last : outputs ≡ on_outputs c active
 
--- The law of labels. Take an offset of colour 1, a lawful circuit, zero labels of its input wires, and the number of the
--- first AND gate; a garbling from them, and labels of the input wires that stand for bits. Then the output labels of an
--- evaluation stand for the circuit's output bits, and decode to them. So they may go into another circuit under this
--- offset: there they stand for the same bits.
+-- The law of labels. Take an offset of colour 1, a lawful circuit, zero labels of its input wires, and the number of
+-- the first AND gate; a garbling from them, and labels of the input wires that stand for bits. Then the output labels
+-- of an evaluation stand for the circuit's output bits, and decode to them. So they may go into another circuit under
+-- this offset: there they stand for the same bits.
 abbrev pub LabelsLaw : Type 0
 LabelsLaw =
     (offset : ℕ) → IsTrue (colour offset) → (c : Netlist) → IsLawful c
@@ -77,9 +77,9 @@ abbrev pub handed_on : {A : Type 0} → Netlist → Joint → (ℕ → A) → (�
 handed_on before joint values own w = taken before values (own w) (joint w)
 
 -- The law of a circuit that follows another. Take any hash, offset of colour 1, lawful circuits and joint; the first
--- one's outputs stand for bits. The second is garbled with their zero labels, its AND gates numbered from any number on,
--- and evaluated on their active labels; its other input wires have zero labels and bits of their own. Then its outputs
--- stand for the bits that it computes from the first one's bits, and decode to them.
+-- one's outputs stand for bits. The second is garbled with their zero labels, its AND gates numbered from any number
+-- on, and evaluated on their active labels; its other input wires have zero labels and bits of their own. Then its
+-- outputs stand for the bits that it computes from the first one's bits, and decode to them.
 abbrev pub FollowingLaw : Type 0
 FollowingLaw =
     (hash : ℕ → ℕ → ℕ) (offset : ℕ) → IsTrue (colour offset)

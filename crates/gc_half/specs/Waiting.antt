@@ -30,10 +30,10 @@ abbrev pub NoneSets : {T : Type 0} → ℕ → List (WaitingGate T) → Type 0
 NoneSets wire = EachSets (λ set. wire ≢ set)
 
 -- The labels of the wires once the gates are made, where making one gives the wire that it sets this label.
-abbrev pub settled : {T : Type 0} → (T → ℕ) → List ℕ → List (WaitingGate T) → List ℕ
-settled label labels [] = labels
-settled label labels (waits ∷ others) =
-    settled label (slice_set labels waits.set (label waits.gate)) others
+abbrev pub with_waiting : {T : Type 0} → (T → ℕ) → List ℕ → List (WaitingGate T) → List ℕ
+with_waiting label labels [] = labels
+with_waiting label labels (waits ∷ others) =
+    with_waiting label (slice_set labels waits.set (label waits.gate)) others
 
 module _ (hash : ℕ → ℕ → ℕ) where
   -- The zero label of the wire that an AND gate sets, and its row pair.

@@ -31,13 +31,13 @@ pub(crate) struct ActiveTable<A: Allocator = Global> {
 impl<A: Allocator> Model for ActiveTable<A> {
     ghost use Rattle.std.specs.Prelude.{◌<◌, length};
     ghost use Rattle.gc_half.specs.Hash.{hash, numbered_from};
-    ghost use Rattle.gc_half.specs.Waiting.{ActiveTableParts, EachSets, gates_in, settled, active_label_by_step};
+    ghost use Rattle.gc_half.specs.Waiting.{ActiveTableParts, EachSets, gates_in, with_waiting, active_label_by_step};
 
     ghost Value = { ActiveTableParts };
 
     ghost view = { λ t. record {
       first = t.first;
-      labels = settled (active_label_by_step (numbered_from t.first hash))
+      labels = with_waiting (active_label_by_step (numbered_from t.first hash))
           t.labels.items (gates_in t.waiting);
       waiting = gates_in t.waiting;
     } };
@@ -74,7 +74,7 @@ impl<A: Allocator> ActiveTable<A> {
         ensures waiting { (w : ℕ) → w ≢ gate.set → NoneSets w self.old.waiting
             → NoneSets w self.new.waiting }
     {
-        self.settle_read(gate.operation);
+        self.make_read(gate.operation);
         let (first, second) = self.read(gate.operation);
         if gate.operation.is_and() {
             let step = AndStep {
@@ -94,7 +94,7 @@ impl<A: Allocator> ActiveTable<A> {
     pub(crate) fn into_labels(mut self) -> Vec<Label, A>
         ensures { result.items ≡ self.labels }
     {
-        self.settle();
+        self.make_waiting();
         let ActiveTable {
             first: _,
             labels,
@@ -105,14 +105,14 @@ impl<A: Allocator> ActiveTable<A> {
 
     /// Evaluates the gates that wait where an operation reads a wire that one of them sets.
     #[inline(always)]
-    fn settle_read(&mut self, operation: Operation)
+    fn make_read(&mut self, operation: Operation)
         ensures numbered { self.new.first ≡ self.old.first }
         ensures labels { self.new.labels ≡ self.old.labels }
         ensures waiting { (w : ℕ) → NoneSets w self.old.waiting → NoneSets w self.new.waiting }
         ensures unread { list_any (λ waits. reads operation waits.set) self.new.waiting ≡ false }
     {
         if self.waiting.are_read(operation) {
-            self.settle();
+            self.make_waiting();
         }
     }
 
@@ -172,7 +172,7 @@ impl<A: Allocator> ActiveTable<A> {
 
     /// Evaluates the gates that wait: two at once, and one alone.
     #[inline(never)]
-    fn settle(&mut self)
+    fn make_waiting(&mut self)
         ensures numbered { self.new.first ≡ self.old.first }
         ensures labels { self.new.labels ≡ self.old.labels }
         ensures waiting { self.new.waiting ≡ [] }

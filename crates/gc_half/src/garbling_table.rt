@@ -38,13 +38,13 @@ impl<A: Allocator> Model for GarblingTable<A> {
     ghost use Rattle.std.specs.Prelude.{◌<◌, ◌++◌, length, map};
     ghost use Rattle.std.specs.Option.{option_to_list};
     ghost use Rattle.gc_half.specs.Hash.{hash, numbered_from};
-    ghost use Rattle.gc_half.specs.Waiting.{GarblingTableParts, EachSets, settled, zero_label_of_gate, row_pair_of_gate};
+    ghost use Rattle.gc_half.specs.Waiting.{GarblingTableParts, EachSets, with_waiting, zero_label_of_gate, row_pair_of_gate};
 
     ghost Value = { GarblingTableParts };
 
     ghost view = { λ t. record {
       first = t.first;
-      labels = settled (zero_label_of_gate (numbered_from t.first hash))
+      labels = with_waiting (zero_label_of_gate (numbered_from t.first hash))
           t.labels.items (option_to_list t.waiting);
       rows = t.rows.made ++ map (λ waits. row_pair_of_gate (numbered_from t.first hash) waits.gate)
           (option_to_list t.waiting);
@@ -85,14 +85,15 @@ impl<A: Allocator> GarblingTable<A> {
         requires once { NoneSets gate.set self.old.waiting }
         ensures numbered { OnOk result (self.new.first ≡ self.old.first) }
         ensures label { OnOk result ((w : ℕ) → slice_index self.new.labels w
-            ≡ put (slice_index self.old.labels) gate.set (zero_of (numbered_from self.old.first hash) offset
-            (slice_index self.old.labels) (length self.old.rows) gate.operation) w) }
+            ≡ put (slice_index self.old.labels) gate.set
+            (zero_of (numbered_from self.old.first hash) offset (slice_index self.old.labels)
+            (length self.old.rows) gate.operation) w) }
         ensures there { OnOk result (gate.set < length self.new.labels) }
         ensures kept { OnOk result (length self.old.labels ≤ length self.new.labels) }
         ensures few { OnOk result (length self.new.labels ≤ wires) }
         ensures rows { OnOk result (self.new.rows ≡ with_row_pair self.old.rows
-            (gate_rows (numbered_from self.old.first hash) offset (length self.old.rows) gate.operation
-            (first_read (slice_index self.old.labels) gate.operation)
+            (gate_rows (numbered_from self.old.first hash) offset (length self.old.rows)
+            gate.operation (first_read (slice_index self.old.labels) gate.operation)
             (second_read (slice_index self.old.labels) gate.operation))) }
         ensures compared { OnOk result (KeepsCompared self.old.compared self.new.compared) }
         ensures waiting { OnOk result ((w : ℕ) → w ≢ gate.set → NoneSets w self.old.waiting
@@ -110,7 +111,7 @@ impl<A: Allocator> GarblingTable<A> {
 
     /// The labels of the wires that an operation reads first and second. A gate that waits is garbled first where it
     /// sets one of these wires.
-    #[tactic(auto, using(crate::proofs::WaitingLemmas::reads_settled))]
+    #[tactic(auto, using(crate::proofs::WaitingLemmas::reads_with_waiting))]
     #[inline(always)]
     fn read(&mut self, operation: Operation) -> Result<(Label, Label), Memory>
         requires { EachRead (λ w. w < length self.old.labels) operation }
@@ -125,13 +126,13 @@ impl<A: Allocator> GarblingTable<A> {
         ensures second { IfOk result (λ read.
             read.1 ≡ second_read (slice_index self.old.labels) operation) }
     {
-        self.settle_read(operation)?;
+        self.make_read(operation)?;
         Ok(labels_read(&self.labels, operation))
     }
 
     /// Garbles the gate that waits where an operation reads the wire that it sets.
     #[inline(always)]
-    fn settle_read(&mut self, operation: Operation) -> Result<(), Memory>
+    fn make_read(&mut self, operation: Operation) -> Result<(), Memory>
         ensures numbered { OnOk result (self.new.first ≡ self.old.first) }
         ensures labels { OnOk result (self.new.labels ≡ self.old.labels) }
         ensures rows { OnOk result (self.new.rows ≡ self.old.rows) }
@@ -143,7 +144,7 @@ impl<A: Allocator> GarblingTable<A> {
     {
         if let Some(waits) = &self.waiting {
             if operation.reads(waits.set) {
-                self.settle()?;
+                self.make_waiting()?;
             }
         }
         Ok(())
@@ -221,7 +222,7 @@ impl<A: Allocator> GarblingTable<A> {
 
     /// Garbles the gate that waits alone, if there is one.
     #[inline(never)]
-    fn settle(&mut self) -> Result<(), Memory>
+    fn make_waiting(&mut self) -> Result<(), Memory>
         ensures numbered { OnOk result (self.new.first ≡ self.old.first) }
         ensures labels { OnOk result (self.new.labels ≡ self.old.labels) }
         ensures rows { OnOk result (self.new.rows ≡ self.old.rows) }
@@ -244,7 +245,7 @@ impl<A: Allocator> GarblingTable<A> {
             (parts.0.items ≡ self.labels) × (parts.1.made ≡ self.rows)) }
         ensures compared { IfOk result (λ parts. KeepsCompared self.compared parts.1) }
     {
-        self.settle()?;
+        self.make_waiting()?;
         let GarblingTable {
             first: _,
             labels,

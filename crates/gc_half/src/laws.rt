@@ -23,10 +23,10 @@ pub fn law_garblings()
     ensures under_seed { (c : Netlist) → IsLawful c → (seed : List ℕ) → HasOneGarbled c seed }
 {}
 
-/// The laws of joined circuits. Labels that stand for bits go into a garbled circuit, and the labels that come out stand
-/// for its output bits (`labels`, `together`). Where input wires of a circuit have the zero labels of output wires of
-/// another, under one offset, evaluating it on the active labels that the other gave decodes to its bits on the other's
-/// bits, for every hash (`following`, `joined`).
+/// The laws of joined circuits. Labels that stand for bits go into a garbled circuit, and the labels that come out
+/// stand for its output bits (`labels`, `together`). Where input wires of a circuit have the zero labels of output
+/// wires of another, under one offset, evaluating it on the active labels that the other gave decodes to its bits on
+/// the other's bits, for every hash (`following`, `joined`).
 pub fn law_joined()
     ensures labels { LabelsLaw }
     ensures together { TogetherLaw }

@@ -125,8 +125,9 @@ fn step<A: Allocator>(
     ensures other_offset { OnOk result (other.new.offset ≡ other.old.offset) }
     ensures one { OnOk result (IsOneGateMore (numbered_from first hash) one.old.offset wires gate
         one.old.labels.items one.old.rows.items one.new.labels.items one.new.rows.items) }
-    ensures other { OnOk result (IsOneGateMore (numbered_from first hash) other.old.offset wires gate
-        other.old.labels.items other.old.rows.items other.new.labels.items other.new.rows.items) }
+    ensures other { OnOk result (IsOneGateMore (numbered_from first hash) other.old.offset
+        wires gate other.old.labels.items other.old.rows.items
+        other.new.labels.items other.new.rows.items) }
 {
     let k = one.rows.len() as u32;
     let (a, b) = one.read(gate.operation);
@@ -151,7 +152,8 @@ fn step<A: Allocator>(
     other.put(wires, gate.set, other_made)
 }
 
-/// Garbles the AND gates of both. It is not inlined: its many variables would push those of the loop out of the registers.
+/// Garbles the AND gates of both. It is not inlined: its many variables would push those of the loop out of the
+/// registers.
 #[inline(never)]
 fn garble_ands(first: FirstAnd, one: AndGate, other: AndGate) -> (GarbledAnd, GarbledAnd)
     ensures one { result.0
@@ -272,7 +274,8 @@ impl<A: Allocator> Garbler<A> {
         ensures there { OnOk result (wire < length self.new.labels.items) }
         ensures kept { OnOk result (length self.old.labels.items ≤ length self.new.labels.items) }
         ensures few { OnOk result (length self.new.labels.items ≤ wires) }
-        ensures rows { OnOk result (self.new.rows.items ≡ with_row_pair self.old.rows.items made.1) }
+        ensures rows { OnOk result
+            (self.new.rows.items ≡ with_row_pair self.old.rows.items made.1) }
     {
         let (label, rows) = made;
         if wire as usize >= self.labels.len() {

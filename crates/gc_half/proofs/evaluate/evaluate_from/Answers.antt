@@ -14,7 +14,8 @@ loop-i-init g c = record {
   labels = c.new-active.ensures.labels ∙ c.in_ok-input_active_labels.ensures
       ∙ rw (
         c.wires.ensures.count,
-        after-zero (active_rule (numbered_from c.args.first hash) c.args.circuit.now c.args.rows.now)
+        after-zero (active_rule (numbered_from c.args.first hash) c.args.circuit.now
+            c.args.rows.now)
             c.args.circuit.now (slice_index c.args.inputs.now),
       ) refl;
   waiting = λ w unset. rw c.new-active.ensures.waiting tt;
@@ -58,9 +59,11 @@ loop-i-preserved g c =
     record {
       first = c.step.ensures.numbered ∙ c.loop-i.invariant.first;
       labels = c.step.ensures.labels
-          ∙ table_step rule (active_local (numbered_from c.args.first hash) netlist c.args.rows.now) netlist
+          ∙ table_step rule (active_local (numbered_from c.args.first hash) netlist c.args.rows.now)
+          netlist
           c.wires.ensures.lawful (slice_index c.args.inputs.now) c.loop-i.active.labels i gate 0 _
-          c.loop-i.invariant.labels c.gate-gate.ensures (rw (c.loop-i.invariant.numbered, ← c.loop-i.invariant.first) refl);
+          c.loop-i.invariant.labels c.gate-gate.ensures
+          (rw (c.loop-i.invariant.numbered, ← c.loop-i.invariant.first) refl);
       waiting = λ w unset. c.step.ensures.waiting w
           (λ same. unset
           (inr (i, omega arith, record { gate = gate; at = c.gate-gate.ensures; wire = sym same })))
@@ -84,7 +87,8 @@ returns g c =
     let whole : c.loop-i.i ≡ length netlist.gates = omega (arith, c.gates-i-end.ensures.count) in
     record {
       active = solution rule netlist given;
-      evaluation = solution_solves rule (active_local (numbered_from c.args.first hash) netlist c.args.rows.now) netlist
+      evaluation = solution_solves rule (active_local (numbered_from c.args.first hash) netlist
+          c.args.rows.now) netlist
           c.wires.ensures.lawful given;
       table = rw (← whole) (c.into_labels.ensures ∙ c.loop-i.invariant.labels);
     }

@@ -10,6 +10,7 @@ garble_over-requires g c =
 
 pub returns-clause-garbled : goal.returns-clause-garbled
 returns-clause-garbled g c =
-    IfOk-weaker c.garble_over.result _ _ (λ made is. garbled-under-seed c.args.circuit.now c.args.seed.now
+    IfOk-weaker c.garble_over.result _ _ (λ made is. garbled-under-seed c.args.circuit.now
+    c.args.seed.now
     c.in_ok-labels.labels.items _ made.0 c.in_ok-labels.ensures c.offset.ensures is)
     c.garble_over.ensures.garbled

@@ -52,7 +52,8 @@ loop-i-preserved g c =
           step.there step.kept (omega (arith, step.few))
           (step.rows ∙ ap (λ n. with_row_pair c.loop-i.table.rows
           (gate_rows (numbered_from n hash) c.args.offset (length c.loop-i.table.rows)
-          c.gate.result.operation (first_read (slice_index c.loop-i.table.labels) c.gate.result.operation)
+          c.gate.result.operation (first_read (slice_index c.loop-i.table.labels)
+          c.gate.result.operation)
           (second_read (slice_index c.loop-i.table.labels) c.gate.result.operation))) same);
       compared = step.compared c.args.given.items before.compared;
       waiting = λ w unset.

@@ -11,19 +11,23 @@ loop-i-init g c =
     (record {
       offset = refl;
       other_offset = refl;
-      one = garbled-start h c.args.one.offset c.args.circuit.now c.args.one.labels.items lawful c.requires.one;
-      other = garbled-start h c.args.other.offset c.args.circuit.now c.args.other.labels.items lawful c.requires.other;
+      one = garbled-start h c.args.one.offset c.args.circuit.now c.args.one.labels.items lawful
+          c.requires.one;
+      other = garbled-start h c.args.other.offset c.args.circuit.now c.args.other.labels.items
+          lawful c.requires.other;
     })
 
 pub step-requires-clause-read : goal.step-requires-clause-read
 step-requires-clause-read g c =
-    EachRead-map (IsSetBefore c.args.circuit.now c.loop-i.i) (λ w. w < length c.loop-i.one.labels.items)
+    EachRead-map (IsSetBefore c.args.circuit.now c.loop-i.i)
+    (λ w. w < length c.loop-i.one.labels.items)
     c.gate.result.operation c.loop-i.invariant.one.there
     (c.gates-i-end.ensures.lawful.reads c.loop-i.i c.gate.result c.gate.ensures)
 
 pub step-requires-clause-other_read : goal.step-requires-clause-other_read
 step-requires-clause-other_read g c =
-    EachRead-map (IsSetBefore c.args.circuit.now c.loop-i.i) (λ w. w < length c.loop-i.other.labels.items)
+    EachRead-map (IsSetBefore c.args.circuit.now c.loop-i.i)
+    (λ w. w < length c.loop-i.other.labels.items)
     c.gate.result.operation c.loop-i.invariant.other.there
     (c.gates-i-end.ensures.lawful.reads c.loop-i.i c.gate.result c.gate.ensures)
 
@@ -52,7 +56,8 @@ loop-i-preserved g c =
           c.gate.result at _ _ _ _ _ _ before.one before.offset c.wires.ensures.count step.one;
       other =
           garbled-step h c.args.other.offset netlist c.args.other.labels.items lawful c.loop-i.i
-          c.gate.result at _ _ _ _ _ _ before.other before.other_offset c.wires.ensures.count step.other;
+          c.gate.result at _ _ _ _ _ _ before.other before.other_offset c.wires.ensures.count
+          step.other;
     }
 
 pub returns-clause-one : goal.returns-clause-one

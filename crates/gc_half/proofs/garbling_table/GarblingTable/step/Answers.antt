@@ -42,14 +42,16 @@ returns-clause-label g c = λ w.
     (set-put c.make_room.new.self.labels _ c.args.gate.set _ _ room.there
     (rw read.labels at room.label)
     (rw (read.first, read.second) at c.garble_gate-label.ensures.zero_label
-    ∙ (free (numbered_from c.args.self.now.first hash) _ 0 (length rows) rows c.args.gate.operation _ _
+    ∙ (free (numbered_from c.args.self.now.first hash) _ 0 (length rows) rows c.args.gate.operation
+    _ _
     c.in_default.not-And).0) w)
 
 pub returns-clause-rows : goal.returns-clause-rows
 returns-clause-rows g c =
     let rows = c.args.self.now.rows in
     c.put.ensures.rows ∙ c.in_ok-make_room.ensures.rows ∙ c.in_ok-first.ensures.rows
-    ∙ (free (numbered_from c.args.self.now.first hash) _ 0 (length rows) rows c.args.gate.operation _ _
+    ∙ (free (numbered_from c.args.self.now.first hash) _ 0 (length rows) rows c.args.gate.operation
+    _ _
     c.in_default.not-And).1
 
 pub returns-clause-waiting : goal.returns-clause-waiting

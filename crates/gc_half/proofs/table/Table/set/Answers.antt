@@ -8,7 +8,8 @@ pub returns : goal.returns
 returns g c =
     let inside = c.self.inside in
     let fits = c.self.invariant.0 in
-    let count = filled_length inside.filled.items c.args.self.now inside.unset (vec_len inside.filled) inside.len
+    let count = filled_length inside.filled.items c.args.self.now inside.unset
+    (vec_len inside.filled) inside.len
     inside.filled.ok.0 fits c.self.view_is in
     let P : Inside g.row.T.Denot g.row.A.Denot → Type 0 = λ x.
     set x.filled.items c.args.i c.args.entry ++ replicate (x.len - vec_len x.filled) x.unset
@@ -36,9 +37,12 @@ returns g c =
             c.requires,
           ) in
           subst P (sym w.self-inside-is)
-          (set_filled filled.items inside.unset (inside.len - vec_len filled) c.args.self.now c.args.i c.args.entry there
-          (filled_up inside.filled.items filled.items c.args.self.now inside.unset (vec_len inside.filled) end
-          (vec_len filled) inside.len more within w.fill.ensures.items w.fill.ensures.len c.self.view_is))
+          (set_filled filled.items inside.unset (inside.len - vec_len filled) c.args.self.now
+          c.args.i c.args.entry there
+          (filled_up inside.filled.items filled.items c.args.self.now inside.unset
+          (vec_len inside.filled) end
+          (vec_len filled) inside.len more within w.fill.ensures.items w.fill.ensures.len
+          c.self.view_is))
       | else-i-len w ↦
           let there : c.args.i < length inside.filled.items = omega (
             arith,
@@ -47,6 +51,7 @@ returns g c =
             inside.filled.ok.0,
           ) in
           subst P (sym w.self-inside-is)
-          (set_filled inside.filled.items inside.unset (inside.len - vec_len inside.filled) c.args.self.now c.args.i
+          (set_filled inside.filled.items inside.unset (inside.len - vec_len inside.filled)
+          c.args.self.now c.args.i
           c.args.entry there c.self.view_is)
     ]
