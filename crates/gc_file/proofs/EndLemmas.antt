@@ -1,5 +1,5 @@
 -- The ends of files on their way to a sink.
-use Rattle.gc_file.proofs.WriterNames.{◌≡◌, ℕ, ◌^◌, ◌<◌, List, [], ◌++◌, length, length-append, append_assoc, append-nil, Option, Result, Ok, Err, sym, ap, ◌∙◌, arith, take-append_seam, err_from_is_err_and, IsErrAnd, HoldsMessage, sha256, FileWriter, WriteFault, IsUnderWay, IsStopped, Proceeds, Ends, IsWritten}
+use Rattle.gc_file.proofs.WriterNames.{◌≡◌, ℕ, ◌^◌, ◌<◌, List, [], ◌++◌, length, length-append, append_assoc, append-nil, Option, Result, Ok, Err, sym, ap, ◌∙◌, arith, take-append_seam, err_from_is_err_and, IsErrAnd, HoldsMessage, sha256, FileWriter, WriteFault, IsUnderWay, IsStopped, IsAfter, Proceeds, Ends, IsWritten}
 use Rattle.gc_lanes.specs.declared.hasher.LongSha256.{LongSha256}
 use Rattle.gc_file.proofs.WritingLemmas.{IsStopped-more}
 
@@ -41,25 +41,18 @@ module _ {O : Type 0} {Saw : O → List ℕ → Type 0} {w w' : FileWriter O}
         (ended.goes before (file ++ xs) (written.goes before file a));
   }
 
--- A file whose bytes are digested is handed over. A writer that is not observed writes the digest.
-pub Ends-digest : {O : Type 0} {Saw : O → List ℕ → Type 0} {w w' : FileWriter LongSha256}
-    {v : FileWriter O} {taken now end : Option (List ℕ)} {r : Result ℕ WriteFault} {digest : List ℕ}
-    → ((bytes : List ℕ) → Saw v.observer bytes)
+-- All of a file whose bytes are digested was sent, and then the digest.
+pub Ends-digest : {w w' : FileWriter LongSha256} {taken now end : Option (List ℕ)}
+    {r : Result ℕ WriteFault} {digest : List ℕ}
     → ((bytes : List ℕ) → HoldsMessage w'.observer bytes → digest ≡ sha256 bytes)
-    → v.held ≡ w'.held → v.sent ≡ w'.sent → w'.held.items ≡ []
-    → Proceeds HoldsMessage w w' taken now (Ok tt) [] → Ends Saw v now end r (λ _. digest ++ [])
-    → Ends HoldsMessage w taken end r sha256
-Ends-digest {w'} {digest} unseen digested same_held same_sent empty sent ended = record {
+    → w'.held.items ≡ [] → Proceeds HoldsMessage w w' taken now (Ok tt) []
+    → IsAfter w'.sent now end digest r → Ends HoldsMessage w taken end r sha256
+Ends-digest {w'} digested empty sent after = record {
   goes = λ before file a.
       let u = sent.goes before file a in
-      let right = digested u.beginning u.seen ∙ ap sha256 (took_all w' file u empty) in
-      rw (← right, ← append-nil digest) (ended.goes before file (record {
-        beginning = u.beginning;
-        whole = rw (same_held) (u.whole ∙ append-nil file);
-        seen = unseen u.beginning;
-        taken = u.taken;
-        count = same_sent ∙ u.count;
-      }));
+      let all = took_all w' file u empty in
+      let right = digested u.beginning u.seen ∙ ap sha256 all in
+      rw (← right) (after.goes before file (rw all at u.taken) (rw all at u.count));
 }
 
 -- The sink stopped in the file.

@@ -1,5 +1,5 @@
 -- Files on their way to a sink.
-use Rattle.gc_file.proofs.WriterNames.{◌≡◌, ℕ, ◌+◌, ◌<◌, List, [], ◌++◌, length, take, drop, length-append, length-take, length-drop, append_assoc, append-nil, Option, Result, Ok, Err, ◌∙◌, arith, Appends-trans, take-append-drop, err_from_is_err_and, Appends, IsErrAnd, FileWriter, WriteFault, IsStopped, Proceeds}
+use Rattle.gc_file.proofs.WriterNames.{◌≡◌, refl, ℕ, ◌+◌, ◌<◌, List, ◌++◌, length, take, drop, length-append, length-take, length-drop, append_assoc, Option, Result, Ok, Err, ◌∙◌, arith, Appends-trans, take-append-drop, err_from_is_err_and, Appends, IsErrAnd, FileWriter, WriteFault, IsStopped, IsAfter, Proceeds}
 use Rattle.gc_file.specs.Counted.{counted}
 
 -- A sink that stopped in a file stopped in each longer one.
@@ -14,30 +14,29 @@ IsStopped-more more s = record {
   count = s.count;
 }
 
+-- The sink took only the first bytes of a piece.
+pub IsAfter-stopped : {taken now : Option (List ℕ)} (sent : ℕ) (piece : List ℕ) (more total : ℕ)
+    → Appends taken now (take more piece) → more < length piece → total ≡ counted (sent + more)
+    → IsAfter sent taken now piece (Err (record { sent = total }))
+IsAfter-stopped {taken} {now} sent piece more total appended below is = record {
+  goes = λ before file written count. record {
+    beginning = file ++ take more piece;
+    rest = drop more piece;
+    whole = rw (append_assoc, take-append-drop) refl;
+    not_all = omega (arith, length-drop more piece);
+    taken = Appends-trans before taken now file (take more piece) written appended;
+    count = omega (
+      arith,
+      is,
+      count,
+      length-append file (take more piece),
+      length-take more piece,
+    );
+  };
+}
+
 module _ {O : Type 0} {Saw : O → List ℕ → Type 0} {w w' : FileWriter O}
     {now now' : Option (List ℕ)} where
-  -- A sink that takes only the first of the bytes that are held stops in the file.
-  pub Proceeds-stopped : (more total : ℕ) → Appends now now' (take more w.held.items)
-      → more < length w.held.items → total ≡ counted (w.sent + more)
-      → Proceeds Saw w w' now now' (Err (record { sent = total })) []
-  Proceeds-stopped more total appended below is =
-      let held = w.held.items in
-      record {
-        goes = λ before file u. record {
-          beginning = u.beginning ++ take more held;
-          rest = drop more held;
-          whole = rw (append_assoc, take-append-drop, append-nil) u.whole;
-          not_all = omega (arith, length-drop more held);
-          taken = Appends-trans before now now' u.beginning (take more held) u.taken appended;
-          count = omega (
-            arith,
-            u.count,
-            length-append u.beginning (take more held),
-            length-take more held,
-          );
-        };
-      }
-
   -- The sink stopped in bytes, before more.
   pub Proceeds-exit : {e : WriteFault} {xs zs : List ℕ} (r : Result (Unit {0}) WriteFault)
       (rest : List ℕ) → IsErrAnd r (λ y. y ≡ e) → xs ++ rest ≡ zs

@@ -42,6 +42,14 @@ pub record Ends {O : Type 0} (Saw : O → List ℕ → Type 0) (writer : FileWri
       MatchResult result (λ n. Appends before now whole × (n ≡ counted (length whole)))
       (λ fault. IsStopped before now whole fault.sent)
 
+-- A piece was sent after whatever file the sink took this many bytes of: it took all of the piece, or stopped in it.
+pub record IsAfter (sent : ℕ) (taken now : Option (List ℕ)) (piece : List ℕ)
+    (result : Result ℕ WriteFault) : Type 0 where
+  pub goes : (before : Option (List ℕ)) (file : List ℕ) → Appends before taken file
+      → sent ≡ counted (length file) → let whole = file ++ piece in
+      MatchResult result (λ n. Appends before now whole × (n ≡ counted (length whole)))
+      (λ fault. IsStopped before now whole fault.sent)
+
 -- An observer that ignores the bytes may have seen any.
 abbrev pub Unseen : {O : Type 0} → O → List ℕ → Type 0
 Unseen observer bytes = ⊤

@@ -11,6 +11,7 @@ use crate::sink::Sink;
 use crate::spell::label_header;
 use crate::writer::{FileWriter, Observer, Unobserved, WriteFault};
 use gc_circuit::Circuit;
+use gc_half::encode;
 use gc_label::{Label, Offset, Seed, fill_input_labels, offset};
 use std::alloc::Allocator;
 
@@ -36,9 +37,10 @@ impl FileWriter<Unobserved> {
     {
         let mut zero_labels = [Label::ZERO; LABELS];
         fill_input_labels(seed, first, &mut zero_labels);
-        let offset = offset(seed).label();
+        let offset = offset(seed);
         for (i, bit) in bits.iter().enumerate() {
-            self.write(sink, &zero_labels[i].xor(offset.times(*bit)).to_bytes())?;
+            let label = encode(offset, zero_labels[i], *bit);
+            self.write(sink, &label.to_bytes())?;
         }
         Ok(())
     }

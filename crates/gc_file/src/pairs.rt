@@ -115,7 +115,8 @@ impl<P: LabelPair, A: Allocator> Model for Pairs<P, A> {
 
     ghost view = { λ p. flat_map (bytes_by P.labels) p.pairs.items ++ p.partial.items };
 
-    ghost invariant = { λ p. (length p.partial.items < 32) × All (AreLabels P.labels) p.pairs.items };
+    ghost invariant = { λ p. (length p.partial.items < 32)
+        × All (AreLabels P.labels) p.pairs.items };
 }
 
 impl<P: LabelPair, A: Allocator> Pairs<P, A> {

@@ -5,14 +5,14 @@ ghost use Rattle.std.specs.Io.KnownBytes.{Appends};
 ghost use Rattle.gc_lanes.specs.Hasher.{HoldsMessage};
 ghost use Rattle.sha2.specs.Sha256.{sha256};
 ghost use Rattle.gc_file.specs.Counted.{CountsFailure};
-ghost use Rattle.gc_file.specs.Writing.{IsUnderWay, Proceeds, Ends};
+ghost use Rattle.gc_file.specs.Writing.{IsUnderWay, Proceeds, Ends, IsAfter};
 
 use crate::sink::Sink;
 use arrayvec::ArrayVec;
 use gc_lanes::LongSha256;
 use sha2::Digest;
 use std::error::Error;
-use std::fmt;
+use std::{fmt, mem};
 
 /// The most bytes that are sent to a sink at once.
 const ROOM: usize = 16_384;
@@ -123,8 +123,9 @@ impl<O: Observer> FileWriter<O> {
     }
 
     /// Ends the file, and returns how many bytes it has.
-    pub(crate) fn end<S: Sink>(mut self, sink: &mut S) -> Result<u64, WriteFault>
-        ensures bytes { Ends O.saw self (S.taken sink.old) (S.taken sink.new) result (λ _. []) }
+    pub(crate) fn end<S: Sink>(&mut self, sink: &mut S) -> Result<u64, WriteFault>
+        ensures bytes { Ends O.saw self.old
+            (S.taken sink.old) (S.taken sink.new) result (λ _. []) }
         ensures counted { CountsFailure result (S.failures sink.old) (S.failures sink.new) }
     {
         self.send(sink)?;
@@ -139,38 +140,35 @@ impl<O: Observer> FileWriter<O> {
         ensures counted { CountsFailure result (S.failures sink.old) (S.failures sink.new) }
     {
         self.observer.see(self.held.as_slice());
-        match put_all(sink, self.held.as_slice()) {
-            Ok(()) => {
-                self.sent = self.sent.saturating_add(self.held.len() as u64);
-                self.held.clear();
-                Ok(())
-            }
-            Err(taken) => Err(WriteFault {
-                sent: self.sent.saturating_add(taken.sent),
-            }),
-        }
+        self.sent = put_after(sink, self.sent, self.held.as_slice())?;
+        self.held.clear();
+        Ok(())
     }
 }
 
 impl FileWriter<LongSha256> {
     /// Ends a garbled file with its trailer, the digest of the bytes before it, and returns how many bytes it has.
-    pub(crate) fn end_with_digest<S: Sink>(mut self, sink: &mut S) -> Result<u64, WriteFault>
-        ensures bytes { Ends HoldsMessage self (S.taken sink.old) (S.taken sink.new) result sha256 }
+    pub(crate) fn end_with_digest<S: Sink>(&mut self, sink: &mut S) -> Result<u64, WriteFault>
+        ensures bytes { Ends HoldsMessage self.old
+            (S.taken sink.old) (S.taken sink.new) result sha256 }
         ensures counted { CountsFailure result (S.failures sink.old) (S.failures sink.new) }
     {
         self.send(sink)?;
-        let FileWriter {
-            observer,
-            held,
-            sent,
-        } = self;
-        let mut trailer = FileWriter {
-            observer: Unobserved,
-            held,
-            sent,
-        };
-        trailer.write(sink, &observer.finalize())?;
-        trailer.end(sink)
+        let trailer = mem::replace(&mut self.observer, LongSha256::new()).finalize();
+        put_after(sink, self.sent, &trailer)
+    }
+}
+
+/// Sends the whole piece to the sink, which has taken `sent` bytes of a file. Returns how many it has taken then.
+fn put_after<S: Sink>(sink: &mut S, sent: u64, piece: &[u8]) -> Result<u64, WriteFault>
+    ensures bytes { IsAfter sent (S.taken sink.old) (S.taken sink.new) piece.now result }
+    ensures counted { CountsFailure result (S.failures sink.old) (S.failures sink.new) }
+{
+    match put_all(sink, piece) {
+        Ok(()) => Ok(sent.saturating_add(piece.len() as u64)),
+        Err(taken) => Err(WriteFault {
+            sent: sent.saturating_add(taken.sent),
+        }),
     }
 }
 

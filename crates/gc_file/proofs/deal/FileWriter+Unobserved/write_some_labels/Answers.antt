@@ -15,13 +15,11 @@ here g c =
     let bits = c.args.bits.now in
     rw (
       c.to_bytes.ensures.bytes,
-      c.xor.ensures,
+      c.encode-label.ensures,
       c.fill_input_labels.ensures,
       get_or-map-range_with_len (input_label_of seed) first 64 i (first + i)
           c.index-zero_labels-i.result (omega arith) refl,
-      c.times.ensures,
-      c.label-offset.ensures.same,
-      c.offset.ensures,
+      c.offset-offset.ensures,
     ) (simp append-nil at (label_bytes-append seed first (take i bits) (get_or bits i false ∷ [])
     (length-take-le i bits (omega arith)) (sym (take_more bits i false c.loop-i-test.true))))
 
