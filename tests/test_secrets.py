@@ -35,7 +35,6 @@ KIT = "rattle_arg", "core::str::utf8::from_utf8", "core::slice::words::skip_far"
 PUBLIC = "gc_command::lines::", "gc_command::value_form::", "gc_command::eval::", "gc_command::run::", "gc_file::body::"
 
 KEY, BLOCK = "x000102030405060708090a0b0c0d0e0f", "0110" * 32
-WIDTH = 128
 
 
 def with_others(tested, *others):
@@ -110,10 +109,9 @@ class OfTheProgram(ProgramTest):
                 words = ["garble", "aes128", SEED, f"garbled{version}", "--format", version, "--workers", version]
                 self.check(program, 1 + 1, words, hidden=[3])
             for i, value in enumerate((KEY, BLOCK)):
-                # A seed; whether a value begins with x, has digits alone, and has no spare bits. A branch for each bit
-                # of the value is known (SECURITY.md).
+                # A seed; whether a value begins with x, has digits alone, and has no spare bits.
                 words = ["deal", "aes128", SEED, str(i), value, f"{i}.labels"]
-                self.check(program, 4 + 2 + WIDTH, words, hidden=[3, 5])
+                self.check(program, 4 + 2, words, hidden=[3, 5])
             for version in ("1", "2"):
                 words = ["eval", "aes128", f"garbled{version}", "--workers", version, "0.labels", "1.labels"]
                 self.check(program, int(version == "2"), words, public=PUBLIC)

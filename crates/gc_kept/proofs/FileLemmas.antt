@@ -11,7 +11,8 @@ use Rattle.gc_file.specs.FileFault.{FirstLabelFault}
 use Rattle.gc_file.specs.LabelFile.{LabelFileParts, IsLabelFile, label_file}
 use Rattle.gc_kept.specs.LabelFiles.{file_length, IsOwnFile, HasFaultyFile}
 
-length-files : (files : List LabelFileParts) → length (flat_map label_file files) ≡ sum (map file_length files)
+length-files : (files : List LabelFileParts) → length (flat_map label_file files) ≡ sum
+    (map file_length files)
 length-files files = length-flat_map label_file files ∙ sym (sum-map file_length files)
 
 sum-as-sum_by : (xs : List ℕ) → sum xs ≡ sum_by (λ x. x) xs
@@ -19,16 +20,19 @@ sum-as-sum_by xs = ap sum (sym (map-id xs)) ∙ sum-map (λ x. x) xs
 
 pub sum-within : (xs : List ℕ) (i : ℕ) → i < length xs → sum (take i xs) + slice_index xs i ≤ sum xs
 sum-within xs i within =
-    omega (arith, sum-as-sum_by xs, sum-as-sum_by (take i xs), sum_by-take-drop (λ (x : ℕ). x) xs i, sum_by-drop_more (λ (x : ℕ). x) xs i 0 within)
+    omega (arith, sum-as-sum_by xs, sum-as-sum_by (take i xs), sum_by-take-drop (λ (x : ℕ). x) xs i,
+        sum_by-drop_more (λ (x : ℕ). x) xs i 0 within)
 
 module _ (lengths : List ℕ) (i left total : ℕ) (within : i < length lengths)
     (so : sum (take i lengths) + left ≡ total) where
   -- The next length is more than what is left of the total,
   pub exceeds : left < slice_index lengths i → sum lengths ≢ total
-  exceeds less same = let bound = sum-within lengths i within in omega (arith, bound, so, less, same)
+  exceeds less same = let bound = sum-within lengths i within
+      in omega (arith, bound, so, less, same)
 
   -- or is taken from it.
-  pub next_left : slice_index lengths i ≤ left → sum (take (i + 1) lengths) + (left - slice_index lengths i) ≡ total
+  pub next_left : slice_index lengths i ≤ left → sum (take (i + 1) lengths)
+      + (left - slice_index lengths i) ≡ total
   next_left fits =
       let next : sum (take (i + 1) lengths) ≡ sum (take i lengths) + slice_index lengths i =
       sum-as-sum_by (take (i + 1) lengths) ∙ sum_by_more (λ (x : ℕ). x) lengths i 0 within
@@ -37,7 +41,8 @@ module _ (lengths : List ℕ) (i left total : ℕ) (within : i < length lengths)
 
 -- After the files so far come these bytes.
 module _ (bytes lengths : List ℕ) (files : List LabelFileParts) (rest : List ℕ) (i : ℕ)
-    (spelled : bytes ≡ flat_map label_file files ++ rest) (lengths_of : take i lengths ≡ map file_length files)
+    (spelled : bytes ≡ flat_map label_file files ++ rest)
+        (lengths_of : take i lengths ≡ map file_length files)
     (whole : All IsOwnFile files) where
   counted : length bytes ≡ sum (take i lengths) + length rest
   counted =
@@ -65,10 +70,12 @@ module _ (bytes lengths : List ℕ) (files : List LabelFileParts) (rest : List �
 
     places : length files ≡ i
     places =
-        sym (length-map files file_length) ∙ ap length (sym lengths_of) ∙ length-take-le i lengths (omega (arith, within))
+        sym (length-map files file_length) ∙ ap length (sym lengths_of)
+            ∙ length-take-le i lengths (omega (arith, within))
 
     -- The next one has a fault,
-    pub faulty : (fault : FileFault) → FirstLabelFault front fault → HasFaultyFile bytes lengths fault
+    pub faulty : (fault : FileFault) → FirstLabelFault front fault
+        → HasFaultyFile bytes lengths fault
     faulty fault first = record {
       files = files;
       piece = front;

@@ -11,11 +11,14 @@ use Rattle.gc_label.specs.Label.{colour}
 use Rattle.gc_job.specs.Job.{JobParts, IsWhole}
 use Rattle.gc_job.specs.Evaluate.{IsEvaluated}
 
-pub length-evaluated : (job : JobParts) → IsWhole job → (bits : List Bool) → IsEvaluated job (Ok bits)
+pub length-evaluated : (job : JobParts) → IsWhole job → (bits : List Bool)
+    → IsEvaluated job (Ok bits)
     → length bits ≡ output_wires job.circuit
 length-evaluated job whole bits is =
     let labels = on_outputs job.circuit is.active in
     let count : length labels ≡ output_wires job.circuit =
-    length-map-range_with_len is.active (job.circuit.wires - output_wires job.circuit) (output_wires job.circuit) in
-    ap length is.decoding.0 ∙ length-map (zip job.decode_bits labels) (λ (p : Bool × ℕ). xor p.0 (colour p.1))
+    length-map-range_with_len is.active (job.circuit.wires - output_wires job.circuit)
+        (output_wires job.circuit) in
+    ap length is.decoding.0 ∙ length-map (zip job.decode_bits labels)
+        (λ (p : Bool × ℕ). xor p.0 (colour p.1))
     ∙ omega (arith, length-zip job.decode_bits labels, whole.decode_bits, count)

@@ -23,7 +23,8 @@ unfolding label_file
 length-file index labels =
     omega (
       arith,
-      length-append (number_bytes index ++ number_bytes (length labels)) (flat_map bytes_of_label labels),
+      length-append (number_bytes index ++ number_bytes (length labels))
+          (flat_map bytes_of_label labels),
       length-append (number_bytes index) (number_bytes (length labels)),
       length-number_bytes index,
       length-number_bytes (length labels),
@@ -31,8 +32,10 @@ length-file index labels =
     )
 
 -- A buffer has too little room for a garbling's file of this size, which is reported.
-pub lacks_file_room : (g : GarblingWith) (version : Version) (size room written : ℕ) (fault : KeptFault)
-    → g.first ≡ 0 → size ≡ length (file_of g version) → HasRoomFault size room fault → written ≡ size
+pub lacks_file_room : (g : GarblingWith) (version : Version) (size room written : ℕ)
+    (fault : KeptFault)
+    → g.first ≡ 0 → size ≡ length (file_of g version) → HasRoomFault size room fault
+        → written ≡ size
     → HasFileFault g version room written fault
 lacks_file_room g version size room written fault from_zero same lacks reported =
     rw lacks.0 (from_zero, (subst (λ n. room < n) same lacks.1, reported ∙ same))

@@ -6,6 +6,7 @@ module _ {T E : Type 0} where
   OnOk-both (Ok x) f a b = f a b
   OnOk-both (Err e) f a b = tt
 
-  pub IfErr-map : {P Q : E → Type 0} (r : Result T E) → ((e : E) → P e → Q e) → IfErr r P → IfErr r Q
+  pub IfErr-map : {P Q : E → Type 0} (r : Result T E) → ((e : E) → P e → Q e) → IfErr r P
+      → IfErr r Q
   IfErr-map (Ok x) f p = tt
   IfErr-map (Err e) f p = f e p

@@ -29,8 +29,8 @@ pub record AreRows (bytes : List ℕ) (rows : List RowPair) : Type 0 where
   pub spelled : bytes ≡ flat_map row_bytes rows
   pub each : All IsRowPair rows
 
--- The garbling of the circuit from the offset and the zero labels of the input wires that these bytes are, its AND gates
--- numbered from `first` on.
+-- The garbling of the circuit from the offset and the zero labels of the input wires that these bytes are, its AND
+-- gates numbered from `first` on.
 pub record IsFromLabels (c : Netlist) (offset zero_labels : List ℕ) (first : ℕ)
     (g : GarblingWith) : Type 0 where
   pub circuit : g.circuit ≡ c
@@ -62,8 +62,8 @@ first_output_of c index = c.wires - output_wires c + sum (take index c.output_wi
 abbrev pub zero_labels_from : GarblingWith → ℕ → ℕ → List ℕ
 zero_labels_from g from count = take count (drop from g.garbling.zero_labels)
 
--- Two buffers begin with both labels of each wire of a value, which has one of these widths and begins at this wire: the
--- one with the zero labels, and the other with their sums with the offset.
+-- Two buffers begin with both labels of each wire of a value, which has one of these widths and begins at this wire:
+-- the one with the zero labels, and the other with their sums with the offset.
 pub record AreLabelsOf (g : GarblingWith) (widths : List ℕ) (index from : ℕ)
     (zero_old zero_new one_old one_new : List ℕ) : Type 0 where
   pub width : ℕ
@@ -133,8 +133,8 @@ pub record AreDecoded (labels decode_bits old new : List ℕ) : Type 0 where
   pub count : length bits ≡ length active
   pub buffer : IsFileAt (map bit_number (decode bits active)) old new
 
--- The fault of decoding: other labels than one for each decode bit, then a buffer with too little room, then a bad digit.
--- Memory may be missing instead.
+-- The fault of decoding: other labels than one for each decode bit, then a buffer with too little room, then a bad
+-- digit. Memory may be missing instead.
 abbrev pub HasDecodeFault : List ℕ → List ℕ → ℕ → KeptFault → Type 0
 HasDecodeFault labels decode_bits room WrongSize = length labels ≢ 16 * length decode_bits
 HasDecodeFault labels decode_bits room SmallBuffer =
@@ -155,8 +155,8 @@ pub record IsReceivedAt (c : Netlist) (index : ℕ) (bytes old new : List ℕ) (
   pub file : IsFileAt (label_file (record { index = index; labels = labels })) old new
   pub count : written ≡ 16 + 16 * length labels
 
--- The fault of such a file: no such value, then other labels than one for each of its wires, then a buffer with too little
--- room, whose size is reported. Memory may be missing instead.
+-- The fault of such a file: no such value, then other labels than one for each of its wires, then a buffer with too
+-- little room, whose size is reported. Memory may be missing instead.
 abbrev pub HasReceivedFault : Netlist → ℕ → List ℕ → ℕ → ℕ → KeptFault → Type 0
 HasReceivedFault c index bytes room written (Binding fault) =
     (fault ≡ bind.NoSuchValue) × (length c.input_widths ≤ index)

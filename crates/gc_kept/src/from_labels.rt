@@ -18,10 +18,10 @@ const NO_MEMORY: KeptFault = KeptFault::Evaluation(EvalFault::Memory);
 
 impl KeptCircuit {
     /// Evaluates row pairs, 32 bytes for each AND gate, and an active label for each input wire, 16 bytes each, as
-    /// [`evaluate_labels`] does, and writes the active labels of the output wires to the front of a buffer. AND gates are
-    /// numbered from `first` on. Nothing of the rows and the labels is trusted. It refuses other numbers of bytes (66), then
-    /// a first AND gate whose sum with the number of AND gates is above 2^62 (60), and then a buffer that is too small
-    /// (61).
+    /// [`evaluate_labels`] does, and writes the active labels of the output wires to the front of a buffer. AND gates
+    /// are numbered from `first` on. Nothing of the rows and the labels is trusted. It refuses other numbers of bytes
+    /// (66), then a first AND gate whose sum with the number of AND gates is above 2^62 (60), and then a buffer that
+    /// is too small (61).
     pub fn evaluate_labels(
         &self,
         alloc: Global,

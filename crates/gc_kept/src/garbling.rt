@@ -10,10 +10,9 @@ ghost use Rattle.gc_kept.specs.Labels.{HasGarbleFault, IsFromLabels};
 use crate::bits::bit_byte;
 use crate::circuit::KeptCircuit;
 use crate::fault::KeptFault;
-use crate::label_bytes::times;
 use gc_file::labels_from_bytes;
 use gc_file::sizes::LABEL;
-use gc_half::{FirstAnd, Garbling, garble_from, garble_one_thread};
+use gc_half::{FirstAnd, Garbling, encode, garble_from, garble_one_thread};
 use gc_label::{Label, Offset, Seed, offset};
 use std::alloc::Global;
 use std::marker::Model;
@@ -69,9 +68,9 @@ impl KeptCircuit {
         })
     }
 
-    /// Garbles the circuit on one thread, as [`garble_from`] does, from an offset, a zero label for each input wire, one
-    /// after another, and the number of the first AND gate. It refuses another number of bytes (66), then an offset of
-    /// colour 0 and a first AND gate whose sum with the number of AND gates is above 2^62 (60).
+    /// Garbles the circuit on one thread, as [`garble_from`] does, from an offset, a zero label for each input wire,
+    /// one after another, and the number of the first AND gate. It refuses another number of bytes (66), then an
+    /// offset of colour 0 and a first AND gate whose sum with the number of AND gates is above 2^62 (60).
     pub fn garble_from(
         &self,
         alloc: Global,
@@ -176,6 +175,6 @@ impl KeptGarbling {
         ensures active { result.1 ≡ encode self.now.offset result.0 bit }
     {
         let zero_label = self.garbling.zero_label(wire);
-        (zero_label, zero_label.xor(times(self.offset.label(), bit)))
+        (zero_label, encode(self.offset, zero_label, bit))
     }
 }

@@ -56,8 +56,8 @@ impl KeptCircuit {
 }
 
 impl KeptJob {
-    /// Evaluates the job, as [`gc_job::evaluate`] does, and writes the bits of the output wires to the front of a buffer.
-    /// It refuses a buffer without a byte for each output wire (61). After a fault the buffer is as it was.
+    /// Evaluates the job, as [`gc_job::evaluate`] does, and writes the bits of the output wires to the front of a
+    /// buffer. It refuses a buffer without a byte for each output wire (61). After a fault the buffer is as it was.
     pub fn evaluate(&self, alloc: Global, bits: &mut [u8]) -> Result<(), KeptFault>
         ensures ok { OnOk result (AreEvaluated self.now bits.old bits.new) }
         ensures fault { IfErr result (HasEvaluationFault self.now (length bits.old)) }
@@ -72,8 +72,8 @@ impl KeptJob {
     }
 
     /// Writes the active labels of the output wires, 16 bytes each, to the front of a buffer, as
-    /// [`gc_job::output_labels`] gives them. It refuses a buffer without room for them (61). After a fault the buffer is
-    /// as it was.
+    /// [`gc_job::output_labels`] gives them. It refuses a buffer without room for them (61). After a fault the buffer
+    /// is as it was.
     pub fn output_labels(&self, alloc: Global, outputs: &mut [u8]) -> Result<(), KeptFault>
         ensures ok { OnOk result (AreJobLabels self.now outputs.old outputs.new) }
         ensures fault { IfErr result (HasJobLabelsFault self.now (length outputs.old)) }

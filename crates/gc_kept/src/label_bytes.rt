@@ -1,14 +1,14 @@
 //! Labels and row pairs as bytes that are in no file.
 
 ghost use Rattle.std.specs.Prelude.{◌≡◌, ◌+◌, ◌*◌, ◌++◌, ◌≤◌, ◌<◌, length, flat_map, map, take, slice_index, OnOk, OnErr, IfErr};
-ghost use Rattle.gc_label.specs.Label.{bytes_of_label, times, ◌⊕◌};
+ghost use Rattle.gc_label.specs.Label.{bytes_of_label, ◌⊕◌};
 ghost use Rattle.gc_file.specs.GarbledFile.{row_bytes};
 ghost use Rattle.gc_file.specs.LabelFile.{encoded_with};
 ghost use Rattle.gc_kept.specs.Files.{IsFileAt, HasRoomFault};
 
 use crate::fault::KeptFault;
 use gc_file::sizes::{LABEL, PAIR};
-use gc_half::RowPair;
+use gc_half::{RowPair, encode};
 use gc_label::{Label, Offset};
 
 /// Checks that a buffer has room for so many bytes.
@@ -54,15 +54,6 @@ fn put_sums(labels: &[Label], difference: Label, bytes: &mut [u8])
     }
 }
 
-/// The label where the bit is 1, and else [`Label::ZERO`]. It is not inlined: in a loop the compiler would make a branch of
-/// it, and the bit is a secret.
-#[inline(never)]
-pub(crate) fn times(label: Label, bit: bool) -> Label
-    ensures { result ≡ times bit label }
-{
-    label.times(bit)
-}
-
 /// Writes the labels that stand for bits on the wires from the first one on. The caller ensures that there are zero
 /// labels for these wires, and 16 bytes for each.
 pub(crate) fn put_encoded(
@@ -77,11 +68,10 @@ pub(crate) fn put_encoded(
     ensures { bytes.new ≡ flat_map bytes_of_label
         (encoded_with offset (slice_index zero_labels.now) first bits.now) }
 {
-    let difference = offset.label();
     for i in 0..bits.len() {
         let bit = bits[i];
         let zero_label = zero_labels[first + i];
-        put_label(zero_label.xor(times(difference, bit)), i, bytes);
+        put_label(encode(offset, zero_label, bit), i, bytes);
     }
 }
 

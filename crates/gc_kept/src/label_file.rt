@@ -39,9 +39,9 @@ fn put_file(index: u32, labels: &[Label], file: &mut [u8])
 
 impl KeptCircuit {
     /// Writes the label file of the input value with this index and these labels, 16 bytes each, and reports the number
-    /// of its bytes. It refuses an index without a value (42), another number of bytes than 16 for each wire of the value
-    /// (66), and a buffer that is too small (61): then `written` is the size that is needed. After another fault it is as
-    /// it was.
+    /// of its bytes. It refuses an index without a value (42), another number of bytes than 16 for each wire of the
+    /// value (66), and a buffer that is too small (61): then `written` is the size that is needed. After another
+    /// fault it is as it was.
     pub fn label_file(
         &self,
         alloc: Global,
@@ -76,8 +76,8 @@ impl KeptCircuit {
 }
 
 impl KeptGarbling {
-    /// Writes the label file of the input value with this index, for these bits, and reports the number of its bytes. The
-    /// refusals are those of [`KeptCircuit::deal`].
+    /// Writes the label file of the input value with this index, for these bits, and reports the number of its bytes.
+    /// The refusals are those of [`KeptCircuit::deal`].
     pub fn deal(
         &self,
         alloc: Global,

@@ -1,9 +1,9 @@
 //! Circuits, garblings and jobs that own their circuit, so callers may free them in any order: what a library for other
 //! languages hands out. Bits are bytes here, 0 and 1, and files are bytes in memory.
 //!
-//! A [`KeptCircuit`] has its digest with it. A [`KeptGarbling`] and a [`KeptJob`] share their circuit. A garbling is made
-//! under a seed, or from an offset and labels of the caller's; circuits that follow one another are garbled and evaluated
-//! from labels to labels.
+//! A [`KeptCircuit`] has its digest with it. A [`KeptGarbling`] and a [`KeptJob`] share their circuit. A garbling is
+//! made under a seed, or from an offset and labels of the caller's; circuits that follow one another are garbled and
+//! evaluated from labels to labels.
 #![tactic(auto)]
 
 mod audit;

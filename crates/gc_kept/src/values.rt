@@ -57,8 +57,8 @@ impl KeptGarbling {
         self.write_both(from as usize, *width as usize, zero, one)
     }
 
-    /// Writes both labels of each wire of the output value with this index, as [`KeptGarbling::input_labels`] does those
-    /// of an input value.
+    /// Writes both labels of each wire of the output value with this index, as [`KeptGarbling::input_labels`] does
+    /// those of an input value.
     pub fn output_labels(
         &self,
         index: u32,
@@ -109,8 +109,8 @@ impl KeptGarbling {
         Ok(())
     }
 
-    /// Writes the row pairs, 32 bytes for each AND gate in file order, to the front of a buffer: the generator's row, and
-    /// then the evaluator's. It refuses a buffer that is too small (61).
+    /// Writes the row pairs, 32 bytes for each AND gate in file order, to the front of a buffer: the generator's row,
+    /// and then the evaluator's. It refuses a buffer that is too small (61).
     pub fn rows(&self, buffer: &mut [u8]) -> Result<(), KeptFault>
         ensures ok { OnOk result
             (IsFileAt (flat_map row_bytes self.now.garbling.rows) buffer.old buffer.new) }
@@ -124,8 +124,8 @@ impl KeptGarbling {
         Ok(())
     }
 
-    /// Writes the decode bits, a byte for each output wire in order, to the front of a buffer. It refuses a buffer that is
-    /// too small (61).
+    /// Writes the decode bits, a byte for each output wire in order, to the front of a buffer. It refuses a buffer
+    /// that is too small (61).
     pub fn decode_bits(&self, bits: &mut [u8]) -> Result<(), KeptFault>
         ensures ok { OnOk result
             (IsFileAt (map bit_number (decode_bits_of self.now.garbling)) bits.old bits.new) }

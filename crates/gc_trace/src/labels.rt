@@ -11,7 +11,7 @@ use arrayvec::ArrayVec;
 use gc_circuit::{Circuit, ReadFault, wire_bits};
 use gc_command::{Fault, read_circuit, read_values};
 use gc_disk::Files;
-use gc_half::garble_one_thread;
+use gc_half::{encode, garble_one_thread};
 use gc_label::{Label, Offset, Seed, offset};
 use gc_work::WorkFault;
 use itoa::Buffer;
@@ -142,7 +142,7 @@ fn wire_line(offset: Offset, wire: u32, zero_label: Label, bit: bool) -> ArrayVe
     ensures line { result.items ≡ wire_line offset wire zero_label bit }
     ensures some { 0 < length result.items }
 {
-    let active = zero_label.xor(offset.label().times(bit));
+    let active = encode(offset, zero_label, bit);
     let mut number = Buffer::new();
     let mut line = ArrayVec::new();
     line.try_extend_from_slice(number.format(wire).as_bytes())

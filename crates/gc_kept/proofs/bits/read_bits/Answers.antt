@@ -20,7 +20,8 @@ and_true : (a b : Bool) → (a && b) ≡ true → (a ≡ true) × (b ≡ true)
 and_true a b h = grind arith
 
 -- One more byte.
-more : (bytes : List ℕ) (bits : List Bool) (i : ℕ) → i < length bytes → nat_lt (get_or bytes i 0) 2 ≡ true
+more : (bytes : List ℕ) (bits : List Bool) (i : ℕ) → i < length bytes
+    → nat_lt (get_or bytes i 0) 2 ≡ true
     → take i bytes ≡ map bit_number bits
     → take (i + 1) bytes ≡ map bit_number (bits ++ nat_eq (get_or bytes i 0) 1 ∷ [])
 more bytes bits i inside small before =

@@ -6,10 +6,12 @@ pub returns-then-left-length : goal.returns-then-left-length
 returns-then-left-length c =
     let l = c.loop-length in (
       λ is. absurd (cc),
-      λ same. absurd (exceeds c.args.lengths.now l.length-index l.left c.args.total (omega arith) l.invariant (omega arith) same),
+      λ same. absurd (exceeds c.args.lengths.now l.length-index l.left c.args.total (omega arith)
+          l.invariant (omega arith) same),
     )
 
 pub loop-length-preserved : goal.loop-length-preserved
 loop-length-preserved c =
     let l = c.loop-length in
-    next_left c.args.lengths.now l.length-index l.left c.args.total (omega arith) l.invariant (omega arith)
+    next_left c.args.lengths.now l.length-index l.left c.args.total (omega arith) l.invariant
+        (omega arith)
