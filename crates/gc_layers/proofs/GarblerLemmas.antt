@@ -44,7 +44,8 @@ module _ (c : Netlist) (seed : List ℕ) where
           let is = count_by-all_back is_present rows (omega (arith, counted)) i _ at in
           grind (arith, nat_tests)
 
-  module _ (k : ℕ) (rows : List RowPair) (old pair : RowPair) (at : slice_get rows k ≡ Some old) where
+  module _ (k : ℕ) (rows : List RowPair) (old pair : RowPair)
+      (at : slice_get rows k ≡ Some old) where
     -- A row pair is put where it belongs,
     pub rows-put : (n : ℕ) → pair ≡ row_of c seed k → AreRows c seed n rows
         → AreRows c seed n (set rows k pair)
@@ -137,14 +138,14 @@ module _ (c : Netlist) (seed : List ℕ) where
       ]
 
       -- so that it may wait.
-      pub may-wait : is_and g.operation ≡ true → (place : ℕ) → IsGate c seed (record {
-        place = place;
+      pub may-wait : is_and g.operation ≡ true → (in_file : ℕ) → IsGate c seed (record {
+        number = in_file;
         waits = record {
           gate = record { k = k; offset = offset; a = first; b = second };
           set = g.set;
         };
       })
-      may-wait and place = record {
+      may-wait and in_file = record {
         set = lawful.sets i g at;
         label = of_and g.operation and ∙ gate-label;
         number = omega (arith, number, and_number-below c i g at and);

@@ -8,17 +8,17 @@ use Rattle.gc_half.specs.Hash.{hash}
 use Rattle.gc_half.specs.HalfGate.{and_active}
 use Rattle.gc_half.specs.Evaluation.{IsEvaluation}
 use Rattle.gc_half.specs.Canonical.{active_label_of}
-use Rattle.gc_layers.specs.declared.placed.PlacedGate.{PlacedGate}
+use Rattle.gc_layers.specs.declared.numbered.NumberedGate.{NumberedGate}
 
 -- What evaluating a gate that waits gives: the active label of the wire that it sets.
-abbrev pub active_by : PlacedGate AndStep → ℕ
+abbrev pub active_by : NumberedGate AndStep → ℕ
 active_by gate =
     let step = gate.waits.gate in
     and_active hash step.k step.rows.generator step.rows.evaluator step.a step.b
 
 -- The gate that waits sets a wire of the circuit, and the label that follows from it is the wire's active label.
 pub record IsToEvaluate (c : Netlist) (rows : List RowPair) (inputs : List ℕ)
-    (gate : PlacedGate AndStep) : Type 0 where
+    (gate : NumberedGate AndStep) : Type 0 where
   pub set : gate.waits.set < c.wires
   pub label : active_by gate ≡ active_label_of c rows inputs gate.waits.set
 

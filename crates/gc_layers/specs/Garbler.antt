@@ -10,18 +10,18 @@ use Rattle.gc_half.specs.Hash.{hash}
 use Rattle.gc_half.specs.HalfGate.{and_zero}
 use Rattle.gc_half.specs.OneGate.{row_pair}
 use Rattle.gc_half.specs.Canonical.{no_rows, zero_label_of, row_pairs_of}
-use Rattle.gc_layers.specs.declared.placed.PlacedGate.{PlacedGate}
+use Rattle.gc_layers.specs.declared.numbered.NumberedGate.{NumberedGate}
 use Rattle.gc_layers.specs.Layer.{IsPartly}
 
 -- What garbling a gate that waits gives: the zero label of the wire that it sets,
-abbrev pub zero_by : PlacedGate AndGate → ℕ
+abbrev pub zero_by : NumberedGate AndGate → ℕ
 zero_by w = and_zero hash w.waits.gate.k w.waits.gate.offset w.waits.gate.a w.waits.gate.b
 
 -- and its row pair.
-abbrev pub rows_by : PlacedGate AndGate → RowPair
+abbrev pub rows_by : NumberedGate AndGate → RowPair
 rows_by w = row_pair hash w.waits.gate.offset w.waits.gate.k w.waits.gate.a w.waits.gate.b
 
-abbrev pub garbled_of : PlacedGate AndGate → GarbledAnd
+abbrev pub garbled_of : NumberedGate AndGate → GarbledAnd
 garbled_of w = record { zero_label = zero_by w; rows = rows_by w }
 
 -- A row pair is there unless the evaluator's row is zero.
@@ -45,7 +45,7 @@ module _ (c : Netlist) (seed : List ℕ) where
 
   -- The gate that waits sets a wire of the circuit and has the number of an AND gate. The label that follows from it is
   -- the wire's zero label, and the row pair is that of its number.
-  pub record IsGate (w : PlacedGate AndGate) : Type 0 where
+  pub record IsGate (w : NumberedGate AndGate) : Type 0 where
     pub set : w.waits.set < c.wires
     pub label : zero_by w ≡ zero_label_of c seed w.waits.set
     pub number : w.waits.gate.k < and_count c

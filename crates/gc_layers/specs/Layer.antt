@@ -3,7 +3,7 @@ use Rattle.std.specs.Prelude.{◌≡◌, ℕ, ◌<◌, ◌↔◌, List, Some, le
 use Rattle.gc_netlist.specs.Circuit.{Netlist, IsLawful, IsSetBefore, and_number}
 use Rattle.gc_layers.specs.declared.mark.Mark.{Mark}
 use Rattle.gc_layers.specs.declared.mark.Mark.TheVariants.{Absent, There}
-use Rattle.gc_layers.specs.declared.place.Place.{Place}
+use Rattle.gc_layers.specs.declared.numbers.GateNumbers.{GateNumbers}
 
 -- What making these gates gives is at their places.
 abbrev pub AreMade : {P M : Type 0} → (P → M) → List P → List M → Type 0
@@ -19,10 +19,10 @@ pub record IsPartly {A : Type 0} (whole : ℕ → A) (none : A) (IsBlank : A →
       → slice_index_or table i none ≡ whole i
   pub there : (i : ℕ) → IsThere i → slice_index_or table i none ≡ whole i
 
--- There is a gate at this place, and this many AND gates before it.
-pub record IsPlace (c : Netlist) (place : Place) : Type 0 where
-  pub below : place.gate < length c.gates
-  pub number : place.k ≡ and_number c place.gate
+-- There is a gate of this number, and this many AND gates before it.
+pub record AreNumbers (c : Netlist) (numbers : GateNumbers) : Type 0 where
+  pub below : numbers.gate < length c.gates
+  pub number : numbers.k ≡ and_number c numbers.gate
 
 -- A label for each wire, right as far as they are there: zero is no label, and those of the input wires and of the
 -- wires that the first n gates set are there.
@@ -42,8 +42,8 @@ IsOriginOf {P} IsFrom IsPending = (gate : P) → IsFrom gate ↔ IsPending gate
 -- All that is there is the labelling's: the labels, their marks, and the gates that wait; those that are postponed are
 -- of the same circuit. As many AND gates are before the front as its number says.
 pub record IsLayer {P : Type 0} (c : Netlist) (label_of : ℕ → ℕ) (IsFrom IsPending : P → Type 0)
-    (circuit : Netlist) (labels : List ℕ) (marks : List Mark) (postponed : Netlist) (front : Place)
-    : Type 0 where
+    (circuit : Netlist) (labels : List ℕ) (marks : List Mark) (postponed : Netlist)
+    (front : GateNumbers) : Type 0 where
   pub same : c ≡ circuit
   pub lawful : IsLawful circuit
   pub are_labels : AreLabels circuit label_of 0 labels

@@ -3,7 +3,8 @@ use Rattle.std.specs.Prelude.{◌≡◌, ℕ, ◌+◌}
 use Rattle.gc_layers.specs.declared.sleepers.Woken.{Woken}
 use Rattle.gc_layers.specs.declared.sleepers.Woken.TheVariants as woken
 
--- Whom a block that is offered wakes of the helpers that sleep, and how many sleep then: one, or nobody where none does.
+-- Whom a block that is offered wakes of the helpers that sleep, and how many sleep then: one, or nobody where there are
+-- none.
 abbrev pub WakesOne : ℕ → Woken → ℕ → Type 0
 WakesOne before woken.One after = before ≡ after + 1
 WakesOne before woken.All after = ⊥

@@ -93,7 +93,7 @@ impl<P: Pending, O: Origin<P>, A: Allocator> Block<P, O, A> {
             origin,
         } = self;
         for gate in &gates {
-            observer.before(worker, gate.place());
+            observer.before(worker, gate.number());
         }
         P::make_all(&gates, &mut made);
         MadeBlock {

@@ -8,8 +8,8 @@ ghost use Rattle.gc_layers.specs.Evaluator.{AreOutputLabels};
 
 use crate::labelling::Labelling;
 use crate::mark::Mark;
-use crate::place::Place;
-use crate::placed::PlacedGate;
+use crate::numbered::NumberedGate;
+use crate::numbers::GateNumbers;
 use crate::rest::are_marked;
 use gc_circuit::{Circuit, Gate};
 use gc_half::{AndStep, RowPair, WaitingGate, evaluate_gate};
@@ -77,7 +77,7 @@ impl<'c, C: Allocator> Evaluator<'c, C> {
     }
 }
 
-impl<'c, C: Allocator> Labelling<PlacedGate<AndStep>> for Evaluator<'c, C> {
+impl<'c, C: Allocator> Labelling<NumberedGate<AndStep>> for Evaluator<'c, C> {
     ghost use Rattle.gc_half.specs.Canonical.{active_label_of};
     ghost use Rattle.gc_layers.specs.Evaluator.{IsToEvaluate};
 
@@ -88,24 +88,24 @@ impl<'c, C: Allocator> Labelling<PlacedGate<AndStep>> for Evaluator<'c, C> {
     ghost is_pending = { λ t gate. IsToEvaluate t.circuit t.rows t.inputs gate };
 
     #[inline]
-    fn free(&self, place: Place, gate: Gate, first: Label, second: Label) -> Label {
-        evaluate_gate(place.k, self.rows, gate.operation, first, second)
+    fn free(&self, numbers: GateNumbers, gate: Gate, first: Label, second: Label) -> Label {
+        evaluate_gate(numbers.k, self.rows, gate.operation, first, second)
     }
 
     #[inline]
     fn pending(
         &self,
-        place: Place,
+        numbers: GateNumbers,
         gate: Gate,
         first: Label,
         second: Label,
-    ) -> PlacedGate<AndStep> {
-        PlacedGate {
-            place: place.gate,
+    ) -> NumberedGate<AndStep> {
+        NumberedGate {
+            number: numbers.gate,
             waits: WaitingGate {
                 gate: AndStep {
-                    k: place.k,
-                    rows: self.rows[place.k as usize],
+                    k: numbers.k,
+                    rows: self.rows[numbers.k as usize],
                     a: first,
                     b: second,
                 },
@@ -115,7 +115,7 @@ impl<'c, C: Allocator> Labelling<PlacedGate<AndStep>> for Evaluator<'c, C> {
     }
 
     #[inline]
-    fn keep(&mut self, gate: &PlacedGate<AndStep>, made: &Label) -> (u32, Label) {
+    fn keep(&mut self, gate: &NumberedGate<AndStep>, made: &Label) -> (u32, Label) {
         (gate.waits.set, *made)
     }
 }

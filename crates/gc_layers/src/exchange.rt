@@ -158,7 +158,7 @@ impl<P: Pending, O: Origin<P>, A: Allocator> Exchange<P, O, A> {
             let Some(block) = self.take(rt) else {
                 return;
             };
-            // There is room for as many blocks as are offered. The calling thread makes the gates of one that it misses.
+            // There is room for as many blocks as are offered. The calling thread makes the gates of one that is lost.
             let _handed_in = self.made.push(rt, block.make(observer, worker));
         }
     }

@@ -5,8 +5,8 @@ ghost use Rattle.gc_layers.specs.Garbler.{AreRows};
 
 use crate::labelling::Labelling;
 use crate::made_rows::MadeRows;
-use crate::place::Place;
-use crate::placed::PlacedGate;
+use crate::numbered::NumberedGate;
+use crate::numbers::GateNumbers;
 use gc_circuit::{Circuit, Gate};
 use gc_half::{AndGate, GarbledAnd, WaitingGate, garble_gate};
 use gc_label::{Label, Offset, Seed, offset};
@@ -60,7 +60,7 @@ impl<'c, A: Allocator, C: Allocator> Garbler<'c, A, C> {
     }
 }
 
-impl<'c, A: Allocator, C: Allocator> Labelling<PlacedGate<AndGate>> for Garbler<'c, A, C> {
+impl<'c, A: Allocator, C: Allocator> Labelling<NumberedGate<AndGate>> for Garbler<'c, A, C> {
     ghost use Rattle.gc_half.specs.Canonical.{zero_label_of};
     ghost use Rattle.gc_layers.specs.Garbler.{IsGate};
 
@@ -71,24 +71,24 @@ impl<'c, A: Allocator, C: Allocator> Labelling<PlacedGate<AndGate>> for Garbler<
     ghost is_pending = { λ t gate. IsGate t.circuit t.seed gate };
 
     #[inline]
-    fn free(&self, place: Place, gate: Gate, first: Label, second: Label) -> Label {
-        let (label, _) = garble_gate(place.k, self.offset, gate.operation, first, second);
+    fn free(&self, numbers: GateNumbers, gate: Gate, first: Label, second: Label) -> Label {
+        let (label, _) = garble_gate(numbers.k, self.offset, gate.operation, first, second);
         label
     }
 
     #[inline]
     fn pending(
         &self,
-        place: Place,
+        numbers: GateNumbers,
         gate: Gate,
         first: Label,
         second: Label,
-    ) -> PlacedGate<AndGate> {
-        PlacedGate {
-            place: place.gate,
+    ) -> NumberedGate<AndGate> {
+        NumberedGate {
+            number: numbers.gate,
             waits: WaitingGate {
                 gate: AndGate {
-                    k: place.k,
+                    k: numbers.k,
                     offset: self.offset,
                     a: first,
                     b: second,
@@ -99,7 +99,7 @@ impl<'c, A: Allocator, C: Allocator> Labelling<PlacedGate<AndGate>> for Garbler<
     }
 
     #[inline]
-    fn keep(&mut self, gate: &PlacedGate<AndGate>, made: &GarbledAnd) -> (u32, Label) {
+    fn keep(&mut self, gate: &NumberedGate<AndGate>, made: &GarbledAnd) -> (u32, Label) {
         self.rows.keep(gate.waits.gate.k, made.rows);
         (gate.waits.set, made.zero_label)
     }

@@ -3,10 +3,10 @@
 ghost use Rattle.std.specs.Prelude.{◌≡◌, ℕ, ◌<◌, true, false, Some, slice_get};
 ghost use Rattle.gc_netlist.specs.Circuit.{Netlist, is_and};
 ghost use Rattle.gc_half.specs.OneGate.{first_read, second_read};
-ghost use Rattle.gc_layers.specs.Layer.{IsPlace};
+ghost use Rattle.gc_layers.specs.Layer.{AreNumbers};
 
+use crate::numbers::GateNumbers;
 use crate::pending::Pending;
-use crate::place::Place;
 use gc_circuit::Gate;
 use gc_label::Label;
 
@@ -23,18 +23,18 @@ pub trait Labelling<P: Pending>: Drop {
     ghost is_pending: { Self → P → Type 0 };
 
     /// The label that a gate sets which isn't AND, from those that it reads first and second.
-    fn free(&self, place: Place, gate: Gate, first: Label, second: Label) -> Label
-        requires place { IsPlace (circuit_of self.now) place }
-        requires gate { slice_get (circuit_of self.now).gates place.gate ≡ Some gate }
+    fn free(&self, numbers: GateNumbers, gate: Gate, first: Label, second: Label) -> Label
+        requires numbers { AreNumbers (circuit_of self.now) numbers }
+        requires gate { slice_get (circuit_of self.now).gates numbers.gate ≡ Some gate }
         requires other { is_and gate.operation ≡ false }
         requires first { first ≡ first_read (label_of self.now) gate.operation }
         requires second { second ≡ second_read (label_of self.now) gate.operation }
         ensures { result ≡ label_of self.now gate.set };
 
     /// An AND gate as one that waits, from the labels that it reads first and second.
-    fn pending(&self, place: Place, gate: Gate, first: Label, second: Label) -> P
-        requires place { IsPlace (circuit_of self.now) place }
-        requires gate { slice_get (circuit_of self.now).gates place.gate ≡ Some gate }
+    fn pending(&self, numbers: GateNumbers, gate: Gate, first: Label, second: Label) -> P
+        requires numbers { AreNumbers (circuit_of self.now) numbers }
+        requires gate { slice_get (circuit_of self.now).gates numbers.gate ≡ Some gate }
         requires and { is_and gate.operation ≡ true }
         requires first { first ≡ first_read (label_of self.now) gate.operation }
         requires second { second ≡ second_read (label_of self.now) gate.operation }

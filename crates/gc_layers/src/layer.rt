@@ -3,7 +3,7 @@
 ghost use Rattle.std.specs.Prelude.{◌≡◌, ℕ, ◌<◌, IfOk, Some, None, length, slice_get, slice_index_or};
 ghost use Rattle.gc_netlist.specs.Circuit.{EachRead, IsLawful, and_number, input_wires};
 ghost use Rattle.gc_layers.specs.declared.mark.Mark.TheVariants.{Absent, There};
-ghost use Rattle.gc_layers.specs.Layer.{AreLabels, IsLabelled, IsOriginOf, IsPlace};
+ghost use Rattle.gc_layers.specs.Layer.{AreLabels, IsLabelled, IsOriginOf, AreNumbers};
 
 use crate::block::{BLOCK, Block, MadeBlock};
 use crate::exchange::MOST_OUT;
@@ -11,9 +11,9 @@ use crate::helpers::Helpers;
 use crate::labelled::Labelled;
 use crate::labelling::Labelling;
 use crate::mark::Mark;
+use crate::numbers::GateNumbers;
 use crate::origin::Origin;
 use crate::pending::Pending;
-use crate::place::Place;
 use crate::postponed::Postponed;
 use gc_circuit::{Circuit, Gate, Memory, Operation};
 use gc_half::labels_read;
@@ -46,8 +46,8 @@ pub(crate) struct Layer<
     waiting: Block<P, O, A>,
     postponed: Postponed<'c, A, C>,
     helpers: Helpers<'c, P, O, A, H>,
-    // The labels of all gates before this place are there.
-    front: Place,
+    // The labels of all gates before this one are there.
+    front: GateNumbers,
 }
 
 impl<'c, P: Pending, O: Origin<P>, L: Labelling<P>, A: Allocator, C: Allocator, H: Gatehouse> Model
@@ -94,7 +94,7 @@ impl<
             waiting: Block::open(alloc)?,
             postponed: Postponed::open(alloc, circuit)?,
             helpers,
-            front: Place { gate: 0, k: 0 },
+            front: GateNumbers { gate: 0, k: 0 },
         })
     }
 
@@ -106,7 +106,7 @@ impl<
         let mut k = 0;
         for i in 0..circuit.gates() {
             let gate = circuit.gate(i);
-            self.visit(Place { gate: i, k }, gate)?;
+            self.visit(GateNumbers { gate: i, k }, gate)?;
             if gate.operation.is_and() {
                 k += 1;
             }
@@ -192,34 +192,34 @@ impl<
 
     /// Labels a gate's wire; an AND gate waits; a gate that reads a label which isn't there is postponed.
     #[inline]
-    fn visit(&mut self, place: Place, gate: Gate) -> Result<(), Memory>
-        requires place { IsPlace (L.circuit_of self.old) place }
-        requires gate { slice_get (L.circuit_of self.old).gates place.gate ≡ Some gate }
+    fn visit(&mut self, numbers: GateNumbers, gate: Gate) -> Result<(), Memory>
+        requires numbers { AreNumbers (L.circuit_of self.old) numbers }
+        requires gate { slice_get (L.circuit_of self.old).gates numbers.gate ≡ Some gate }
         ensures { self.new ≡ self.old }
     {
         if let Some(wire) = missing(&self.marks, gate.operation) {
-            return self.postpone(place, wire);
+            return self.postpone(numbers, wire);
         }
         let (first, second) = labels_read(&self.labels, gate.operation);
         if gate.operation.is_and() {
-            let pending = self.labelling.pending(place, gate, first, second);
+            let pending = self.labelling.pending(numbers, gate, first, second);
             self.wait(pending)
         } else {
-            self.helpers.report(place.gate);
-            let label = self.labelling.free(place, gate, first, second);
+            self.helpers.report(numbers.gate);
+            let label = self.labelling.free(numbers, gate, first, second);
             self.put_label(gate.set, label);
             Ok(())
         }
     }
 
     /// Postpones a gate until the label of a wire is there. Where too many are postponed it is left to the end.
-    fn postpone(&mut self, place: Place, wire: u32) -> Result<(), Memory>
-        requires place { IsPlace (L.circuit_of self.old) place }
+    fn postpone(&mut self, numbers: GateNumbers, wire: u32) -> Result<(), Memory>
+        requires numbers { AreNumbers (L.circuit_of self.old) numbers }
         requires wire { wire < (L.circuit_of self.old).wires }
         ensures { self.new ≡ self.old }
     {
         let rest = self.marks[wire as usize];
-        if let Some(slot) = self.postponed.put(place, rest)? {
+        if let Some(slot) = self.postponed.put(numbers, rest)? {
             self.marks[wire as usize] = Mark::Awaited(slot);
         }
         Ok(())
@@ -349,13 +349,13 @@ impl<
         ensures { self.new ≡ self.old }
     {
         let circuit = self.circuit;
-        let Place { gate: first, mut k } = self.front;
+        let GateNumbers { gate: first, mut k } = self.front;
         for i in first..reached.min(circuit.gates()) {
             if self.waiting.len() >= BLOCK {
                 return Ok(());
             }
             let gate = circuit.gate(i);
-            self.visit_if_held(Place { gate: i, k }, gate)?;
+            self.visit_if_held(GateNumbers { gate: i, k }, gate)?;
             if gate.operation.is_and() {
                 k += 1;
             }
@@ -364,14 +364,14 @@ impl<
     }
 
     /// Visits a gate if its label isn't there although those that it reads are.
-    fn visit_if_held(&mut self, place: Place, gate: Gate) -> Result<(), Memory>
-        requires place { IsPlace (L.circuit_of self.old) place }
-        requires gate { slice_get (L.circuit_of self.old).gates place.gate ≡ Some gate }
+    fn visit_if_held(&mut self, numbers: GateNumbers, gate: Gate) -> Result<(), Memory>
+        requires numbers { AreNumbers (L.circuit_of self.old) numbers }
+        requires gate { slice_get (L.circuit_of self.old).gates numbers.gate ≡ Some gate }
         ensures { self.new ≡ self.old }
     {
         let missing = missing(&self.marks, gate.operation);
         if missing.is_none() && is_absent(&self.marks, gate.set) {
-            return self.visit(place, gate);
+            return self.visit(numbers, gate);
         }
         Ok(())
     }
@@ -395,10 +395,10 @@ impl<
     {
         let circuit = self.circuit;
         for _ in rt.forever() {
-            let Some(place) = self.postponed.next() else {
+            let Some(numbers) = self.postponed.next() else {
                 return Ok(());
             };
-            self.visit(place, circuit.gate(place.gate))?;
+            self.visit(numbers, circuit.gate(numbers.gate))?;
             self.hand_out_block(rt)?;
         }
         unreachable!()
@@ -431,14 +431,14 @@ fn input_marks<A: Allocator + Copy, C: Allocator>(
     Ok(marks)
 }
 
-/// From a place on, the first of the first gates, this many, whose label isn't there: all before it are. Where all are
-/// there, the place after them.
+/// From a gate on, the first of the first gates, this many, whose label isn't there: all before it are. Where all are
+/// there, the numbers after theirs.
 fn first_absent<C: Allocator>(
     circuit: &Circuit<C>,
     marks: &[Mark],
-    from: Place,
+    from: GateNumbers,
     reached: u32,
-) -> Place
+) -> GateNumbers
     requires marks { length marks.now ≡ circuit.now.wires }
     requires number { from.k ≡ and_number circuit.now from.gate }
     ensures { result.k ≡ and_number circuit.now result.gate }
@@ -451,13 +451,13 @@ fn first_absent<C: Allocator>(
     for i in from.gate..end {
         let gate = circuit.gate(i);
         if !marks[gate.set as usize].is_there() {
-            return Place { gate: i, k };
+            return GateNumbers { gate: i, k };
         }
         if gate.operation.is_and() {
             k += 1;
         }
     }
-    Place { gate: end, k }
+    GateNumbers { gate: end, k }
 }
 
 /// Whether a wire's label isn't there.

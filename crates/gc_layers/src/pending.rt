@@ -14,8 +14,8 @@ pub trait Pending: Copy {
     /// What fills a place that nothing was made for.
     fn nothing() -> Self::Made;
 
-    /// Its place in the file.
-    fn place(&self) -> u32;
+    /// Its number in the file.
+    fn number(&self) -> u32;
 
     /// Makes all these gates. Places after those that are needed stay as they are.
     fn make_all(gates: &[Self], made: &mut [Self::Made])

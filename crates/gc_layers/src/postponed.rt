@@ -1,10 +1,10 @@
 //! Gates that are postponed.
 
 ghost use Rattle.std.specs.Prelude.{◌≡◌, IfOk, Some};
-ghost use Rattle.gc_layers.specs.Layer.{IsPlace};
+ghost use Rattle.gc_layers.specs.Layer.{AreNumbers};
 
 use crate::mark::Mark;
-use crate::place::Place;
+use crate::numbers::GateNumbers;
 use gc_circuit::{Circuit, Memory};
 use std::alloc::Allocator;
 use std::marker::Model;
@@ -16,7 +16,7 @@ pub const MOST_POSTPONED: usize = 4096;
 /// a list, which the wire's mark begins.
 #[derive(Clone, Copy)]
 pub(crate) struct Link {
-    place: Place,
+    numbers: GateNumbers,
     rest: Mark,
 }
 
@@ -34,13 +34,13 @@ pub(crate) struct Postponed<'c, A: Allocator, C: Allocator> {
 impl<'c, A: Allocator, C: Allocator> Model for Postponed<'c, A, C> {
     ghost use Rattle.std.specs.Prelude.{All};
     ghost use Rattle.gc_netlist.specs.Circuit.{Netlist};
-    ghost use Rattle.gc_layers.specs.Layer.{IsPlace};
+    ghost use Rattle.gc_layers.specs.Layer.{AreNumbers};
 
     ghost Value = { Netlist };
 
     ghost view = { λ t. t.circuit.now };
 
-    ghost invariant = { λ t. All (λ l. IsPlace t.circuit.now l.place) t.links.items };
+    ghost invariant = { λ t. All (λ l. AreNumbers t.circuit.now l.numbers) t.links.items };
 }
 
 impl<'c, A: Allocator + Copy, C: Allocator> Postponed<'c, A, C> {
@@ -71,11 +71,11 @@ impl<'c, A: Allocator, C: Allocator> Postponed<'c, A, C> {
     }
 
     /// Postpones a gate, before those that wait for the same wire already. The result is its slot, if there was room.
-    pub(crate) fn put(&mut self, place: Place, rest: Mark) -> Result<Option<u16>, Memory>
-        requires { IsPlace self.old place }
+    pub(crate) fn put(&mut self, numbers: GateNumbers, rest: Mark) -> Result<Option<u16>, Memory>
+        requires { AreNumbers self.old numbers }
         ensures { self.new ≡ self.old }
     {
-        let link = Link { place, rest };
+        let link = Link { numbers, rest };
         if let Some(slot) = self.spare.pop() {
             self.fill(slot, link);
             return Ok(Some(slot));
@@ -91,7 +91,7 @@ impl<'c, A: Allocator, C: Allocator> Postponed<'c, A, C> {
     /// Puts a gate in a slot.
     #[inline]
     fn fill(&mut self, slot: u16, link: Link)
-        requires { IsPlace self.old link.place }
+        requires { AreNumbers self.old link.numbers }
         ensures { self.new ≡ self.old }
     {
         if (slot as usize) < self.links.len() {
@@ -108,9 +108,9 @@ impl<'c, A: Allocator, C: Allocator> Postponed<'c, A, C> {
     }
 
     /// A gate whose label is there now, which isn't postponed any more, if there is one.
-    pub(crate) fn next(&mut self) -> Option<Place>
+    pub(crate) fn next(&mut self) -> Option<GateNumbers>
         ensures same { self.new ≡ self.old }
-        ensures place { (p : _) → result ≡ Some p → IsPlace self.old p }
+        ensures numbers { (p : _) → result ≡ Some p → AreNumbers self.old p }
     {
         let slot = self.woken.pop()?;
         let link = self.links.get(slot as usize).copied()?;
@@ -118,6 +118,6 @@ impl<'c, A: Allocator, C: Allocator> Postponed<'c, A, C> {
             self.wake(rest);
         }
         let _ = self.spare.push(slot);
-        Some(link.place)
+        Some(link.numbers)
     }
 }

@@ -5,13 +5,13 @@ ghost use Rattle.gc_layers.specs.Layer.{AreMade};
 ghost use Rattle.gc_layers.specs.Evaluator.{active_by};
 ghost use Rattle.gc_layers.specs.Made.{IsMadeAt};
 
+use crate::numbered::NumberedGate;
 use crate::pending::Pending;
-use crate::placed::PlacedGate;
 use gc_half::{AndStep, eval_four_ands};
 use gc_label::Label;
 
 /// Evaluates the gates at the four places from 4 * i on, at once. The last gate fills in for those that aren't there.
-fn evaluate_four(gates: &[PlacedGate<AndStep>], made: &mut [Label], i: usize)
+fn evaluate_four(gates: &[NumberedGate<AndStep>], made: &mut [Label], i: usize)
     requires place { 4 * i < length gates.now }
     requires room { length gates.now ≤ length made.old }
     requires before { (j : ℕ) → j < 4 * i → IsMadeAt active_by gates.now made.old j }
@@ -35,7 +35,7 @@ fn evaluate_four(gates: &[PlacedGate<AndStep>], made: &mut [Label], i: usize)
 }
 
 /// Evaluates all gates that wait, by fours.
-fn evaluate_fours(gates: &[PlacedGate<AndStep>], made: &mut [Label])
+fn evaluate_fours(gates: &[NumberedGate<AndStep>], made: &mut [Label])
     requires { length gates.now ≤ length made.old }
     ensures { AreMade active_by gates.now made.new }
 {
@@ -44,7 +44,7 @@ fn evaluate_fours(gates: &[PlacedGate<AndStep>], made: &mut [Label])
     }
 }
 
-impl Pending for PlacedGate<AndStep> {
+impl Pending for NumberedGate<AndStep> {
     ghost use Rattle.gc_layers.specs.Evaluator.{active_by};
 
     type Made = Label;
@@ -55,11 +55,11 @@ impl Pending for PlacedGate<AndStep> {
         Label::ZERO
     }
 
-    fn place(&self) -> u32 {
-        self.place
+    fn number(&self) -> u32 {
+        self.number
     }
 
-    fn make_all(gates: &[PlacedGate<AndStep>], made: &mut [Label]) {
+    fn make_all(gates: &[NumberedGate<AndStep>], made: &mut [Label]) {
         evaluate_fours(gates, made);
     }
 }

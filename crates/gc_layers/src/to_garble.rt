@@ -5,8 +5,8 @@ ghost use Rattle.gc_layers.specs.Layer.{AreMade};
 ghost use Rattle.gc_layers.specs.Garbler.{garbled_of};
 ghost use Rattle.gc_layers.specs.Made.{IsMadeAt};
 
+use crate::numbered::NumberedGate;
 use crate::pending::Pending;
-use crate::placed::PlacedGate;
 use gc_half::{AndGate, GarbledAnd, RowPair, garble_two_ands};
 use gc_label::Label;
 
@@ -20,7 +20,7 @@ pub(crate) const NOT_GARBLED: GarbledAnd = GarbledAnd {
 };
 
 /// Garbles the gates at the places 2 * i and 2 * i + 1 at once. The last gate fills in for one that isn't there.
-fn garble_pair(gates: &[PlacedGate<AndGate>], made: &mut [GarbledAnd], i: usize)
+fn garble_pair(gates: &[NumberedGate<AndGate>], made: &mut [GarbledAnd], i: usize)
     requires place { 2 * i < length gates.now }
     requires room { length gates.now ≤ length made.old }
     requires before { (j : ℕ) → j < 2 * i → IsMadeAt garbled_of gates.now made.old j }
@@ -34,7 +34,7 @@ fn garble_pair(gates: &[PlacedGate<AndGate>], made: &mut [GarbledAnd], i: usize)
 }
 
 /// Garbles all gates that wait, by pairs.
-fn garble_pairs(gates: &[PlacedGate<AndGate>], made: &mut [GarbledAnd])
+fn garble_pairs(gates: &[NumberedGate<AndGate>], made: &mut [GarbledAnd])
     requires { length gates.now ≤ length made.old }
     ensures { AreMade garbled_of gates.now made.new }
 {
@@ -43,7 +43,7 @@ fn garble_pairs(gates: &[PlacedGate<AndGate>], made: &mut [GarbledAnd])
     }
 }
 
-impl Pending for PlacedGate<AndGate> {
+impl Pending for NumberedGate<AndGate> {
     ghost use Rattle.gc_layers.specs.Garbler.{garbled_of};
 
     type Made = GarbledAnd;
@@ -54,11 +54,11 @@ impl Pending for PlacedGate<AndGate> {
         NOT_GARBLED
     }
 
-    fn place(&self) -> u32 {
-        self.place
+    fn number(&self) -> u32 {
+        self.number
     }
 
-    fn make_all(gates: &[PlacedGate<AndGate>], made: &mut [GarbledAnd]) {
+    fn make_all(gates: &[NumberedGate<AndGate>], made: &mut [GarbledAnd]) {
         garble_pairs(gates, made);
     }
 }

@@ -31,9 +31,10 @@ loop-i-preserved g c =
     let reads = reads-there circuit seed lawful i gate at labels was.labels in
     let first = first_read-local (slice_index labels) zero gate.operation reads in
     let second = second_read-local (slice_index labels) zero gate.operation reads in
+    let number = was.number in
     let is_offset = c.offset-offset.ensures in
-    let label = gate-label circuit seed lawful i gate at k _ was.number is_offset _ _ first second in
-    let row = gate-row circuit seed lawful i gate at k _ was.number is_offset _ _ first second in
+    let label = gate-label circuit seed lawful i gate at k _ number is_offset _ _ first second in
+    let row = gate-row circuit seed lawful i gate at k _ number is_offset _ _ first second in
     let below = lawful.sets i gate at in
     let made : AreLabels circuit zero (i + 1) c.if-not-is_there.labels
     × AreMarked zero c.args.marks.now c.if-not-is_there.labels
