@@ -158,8 +158,8 @@ fn evaluate_group<A: Allocator, B: Allocator + Copy, C: Allocator>(
     put(share, next + 3, d);
 }
 
-/// The output bits of the jobs from place `first` on and before `end`, at most four. Of two or three, the last one takes
-/// the lanes that are left.
+/// The output bits of the jobs from place `first` on and before `end`, at most four. Of two or three, the last one
+/// takes the lanes that are left.
 fn evaluate_some<A: Allocator, B: Allocator + Copy, C: Allocator>(
     alloc: B,
     jobs: &[Job<'_, A, C>],

@@ -19,7 +19,8 @@ pub struct Active<'j, 'c, B: Allocator = Global, A: Allocator = Global, C: Alloc
     ghost wired: { wiring ≡ job.now.circuit },
     ghost long: { (slots_len closed.words ≡ 3 * gates_of job.now + 1) × (slots_len closed.slots ≡ 0)
         × IsFull closed.words },
-    ghost right: { (g : ℕ) → Cell one_round gates_of IsRight job.now (slots_items closed.words) 0 g },
+    ghost right: { (g : ℕ)
+        → Cell one_round gates_of IsRight job.now (slots_items closed.words) 0 g },
 }
 
 impl<'j, 'c, B: Allocator, A: Allocator, C: Allocator> Drop for Active<'j, 'c, B, A, C> {

@@ -150,7 +150,8 @@ impl<'j, 'c, B: Allocator, A: Allocator, C: Allocator> EvalBoard<'j, 'c, B, A, C
         requires { All (IsSeatOf self) seats.items }
         ensures exact { IsOk result ↔ (length seats.items ≡ seats_on self.entry) }
         ensures job { IfOk result (λ a. job_in a ≡ job_on self.entry) }
-        ensures made { IfOk result (λ a. (g : ℕ) → total (λ s. times g (view s).inner.made) seats.items
+        ensures made { IfOk result (λ a. (g : ℕ)
+            → total (λ s. times g (view s).inner.made) seats.items
             ≡ only DONE (state_of (words_of a) g)) }
         // They made no gate in another round.
         ensures only_here { IfOk result (λ _. (r g : ℕ) → 0 < r

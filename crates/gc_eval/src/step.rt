@@ -61,7 +61,8 @@ impl<'j, 'c, B: Allocator, A: Allocator, C: Allocator> EvalBoard<'j, 'c, B, A, C
     /// meanwhile. The caller ensures that the seat is this board's, and that there are such gates.
     pub fn step_two(&self, seat: &mut EvalSeat<A, C>, first: u32, second: u32) -> (Answer, Answer)
         requires own { IsSeatOf self.now seat.old }
-        requires gates { (first < gates_of (job_on self.now)) × (second < gates_of (job_on self.now)) }
+        requires gates { (first < gates_of (job_on self.now))
+            × (second < gates_of (job_on self.now)) }
         ensures own { IsSeatOf self.now seat.new }
         ensures same { IsSameSeat seat.old seat.new }
         ensures answer { AnswersTwo (job_on self.now) first second 22
