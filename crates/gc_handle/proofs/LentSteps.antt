@@ -103,7 +103,8 @@ module _ (R : RattleType) (laws : RowLaws R) {M : Type 1} {𝓤 : Ura M} (𝓛 :
       let p = block_ptr b o in
       let p' = block_ptr b' o' in
       qed 𝓛 (‵ (lent_owns R p (Some x) round i) ∷ ‵ (lent_owns R p' (Some x) round j) ∷ []) ∵
-      fsplit ! $ fpick ! (λ may. drop ! $ fsplit ! $ move ! (2 ∷ []) $ fsplit ! $ drop ! $ fsplit ! $
+      fsplit ! $ fpick ! (λ may. drop ! $ fsplit ! $ move ! (2 ∷ []) $ fsplit ! $ drop ! $
+      fsplit ! $
       -- [the other's parts; what it sees; the parts; what is seen]
       move ! (2 ∷ 0 ∷ []) $
       use2 𝓛 (‵ (tokens round (i + j))) (tokens_glue 𝓛 round i j (omega arith) few) $

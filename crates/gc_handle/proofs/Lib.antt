@@ -3,5 +3,6 @@ pub mod LentSteps
 pub mod Pair
 pub mod PointerSteps
 pub mod Recast
-pub mod RecastAlone
+pub mod RecastPair
+pub mod RecastWord
 pub mod Walk

@@ -15,7 +15,7 @@ use Rattle.left_right.specs.Parted.{part_owns, part_shares}
 abbrev pub may_test : Ptr → Fml
 may_test p = fex (Testable p) (λ _. ftrue)
 
--- so many parts in 2 ^ 63 of the right to read a value, in a round of lending. At null there is no value
+-- `parts` of the 2 ^ 63 parts of the right to read a value, in a round of lending. At null there is no value
 abbrev pub lent_owns : (R : RattleType) → Ptr → Option R.Denot → (round parts : ℕ) → Fml
 lent_owns R null_ptr None round parts = ftrue
 lent_owns R null_ptr (Some x) round parts = ffalse

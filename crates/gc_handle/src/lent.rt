@@ -11,6 +11,7 @@ use std::ptr::null_mut;
 
 /// A pointer to a value with parts of the right to read it, or null. The whole right to read a value is 2^63 parts, so
 /// several may read it at once, each by parts of its own; nobody changes it or frees it while a part is out.
+#[derive(Drop)]
 pub struct Lent<T> {
     pub at: *mut T,
     pub ghost value: { Option T },
