@@ -3,12 +3,15 @@
  * renames to proved_halfgates_..
  *
  * A handle: the proved export takes the address of a pointer that this call alone has, by which it reads what the
- * handle holds. So several calls may read one handle at once.
+ * handle holds. So several calls may read one handle at once. A list of handles is copied for the same reason.
  *
  * A buffer: a slice of Rattle is never NULL. Where C passes a NULL, the proved export sees another address, and can't
  * look. So each function here refuses a NULL that has a size.
  */
 #include <halfgates.h>
+
+void *malloc(size_t size);
+void free(void *block);
 
 #define PROVED(name) extern __typeof__(name) proved_##name
 
@@ -51,6 +54,9 @@ extern int32_t proved_halfgates_output_labels(const halfgates_garbling *garbling
                                               size_t zero_size, uint8_t *one, size_t one_size);
 extern int32_t proved_halfgates_garble_many(const halfgates_circuit *circuit, const uint8_t *seeds, size_t count,
                                             halfgates_garbling **garblings, size_t garblings_count);
+
+/* This one writes to the list of handles, and puts it back. */
+extern int32_t proved_halfgates_evaluate_many(halfgates_job **jobs, size_t count, uint8_t *bits, size_t size);
 
 /* Whether there is a buffer of this size, or none is asked for. */
 static int is_there(const void *buffer, size_t size) {
@@ -153,6 +159,24 @@ int32_t halfgates_evaluate(const halfgates_job *job, uint8_t *bits, size_t size)
     if (!is_there(bits, size))
         return HALFGATES_NULL_POINTER;
     return proved_halfgates_evaluate(LENT(job), bits, size);
+}
+
+/* The proved export takes a list of pointers that this call alone has: a copy. */
+int32_t halfgates_evaluate_many(halfgates_job *const *jobs, size_t count, uint8_t *bits, size_t size) {
+    halfgates_job **lent = NULL;
+    if (!is_there(jobs, count) || !is_there(bits, size))
+        return HALFGATES_NULL_POINTER;
+    if (count > SIZE_MAX / sizeof *jobs)
+        return HALFGATES_MEMORY;
+    if (count != 0) {
+        lent = malloc(count * sizeof *jobs);
+        if (lent == NULL)
+            return HALFGATES_MEMORY;
+        __builtin_memcpy(lent, jobs, count * sizeof *jobs);
+    }
+    const int32_t code = proved_halfgates_evaluate_many(lent, count, bits, size);
+    free(lent);
+    return code;
 }
 
 int32_t halfgates_audit(const halfgates_garbling *garbling, const uint8_t *garbled, size_t length,

@@ -1,5 +1,5 @@
 -- The labels of the output wires.
-use Rattle.gc_job.proofs.Names.{◌≡◌, ℕ, ◌+◌, ◌-◌, ◌<◌, List, length, map, drop, slice_get, Some, Bool, Result, Ok, Err, refl, sym, ap, ◌∙◌, arith, range_with_len, length-map-range_with_len, get_or-map-range_with_len, length-zip, slice_get_within, get_or_from_slice_get, Netlist, output_wires, IsLawful, solution, on_outputs, solution_solves, table_end, hash, active_rule, active_local, EvalFault, Memory, GarbledParts, LabelFileParts, JobParts, IsWhole, IsBound, labels_of, AreActive, IsDecodingOf, IsEvaluated}
+use Rattle.gc_job.proofs.Names.{◌≡◌, ℕ, ◌+◌, ◌-◌, ◌<◌, List, length, map, drop, slice_get, Some, Bool, Result, Ok, Err, refl, sym, ap, ◌∙◌, arith, range_with_len, length-map-range_with_len, get_or-map-range_with_len, length-zip, slice_get_within, get_or_from_slice_get, Netlist, output_wires, IsLawful, solution, on_outputs, solution_solves, table_end, hash, active_rule, active_local, EvalFault, Memory, GarbledParts, LabelFileParts, JobParts, IsWhole, job_of, subst, IsBound, labels_of, AreActive, IsDecodingOf, IsEvaluated}
 use Rattle.std.proofs.lemmas.List.{length-map}
 use Rattle.gc_half.proofs.NumberedLemmas.{IsEvaluation-zero}
 use Rattle.gc_half.specs.Joined.{AreOutputLabels}
@@ -72,3 +72,13 @@ length-evaluated job whole bits is =
     let labels = on_outputs job.circuit is.active in
     let long = length-outputs job.circuit whole.lawful is.active labels refl in
     rw (is.decoding.0, length-map, length-zip) (omega (arith, long, whole.decode_bits))
+
+module _ (P : JobParts → Type 0) (job : JobParts) (c : Netlist) (g : GarbledParts)
+    (inputs : List ℕ) (same : c ≡ job.circuit) (is : job_of job.circuit g inputs ≡ job) where
+  -- What holds of the parts of a job holds of the job,
+  pub of-parts : P (job_of c g inputs) → P job
+  of-parts holds = subst P (ap (λ n. job_of n g inputs) same ∙ is) holds
+
+  -- and the other way round.
+  pub to-parts : P job → P (job_of c g inputs)
+  to-parts holds = subst P (sym (ap (λ n. job_of n g inputs) same ∙ is)) holds

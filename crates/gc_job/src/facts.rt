@@ -1,8 +1,7 @@
 //! A job, as contracts see it.
 
+use crate::detached::DetachedJob;
 use gc_circuit::Circuit;
-use gc_file::Garbled;
-use gc_label::Label;
 use std::alloc::{Allocator, Global};
 use std::marker::Model;
 use std::snapshot::Snapshot;
@@ -11,8 +10,7 @@ use std::snapshot::Snapshot;
 #[derive(Drop)]
 pub struct Facts<A: Allocator = Global, C: Allocator = Global> {
     pub(crate) circuit: Snapshot<Circuit<C>>,
-    pub(crate) garbled: Snapshot<Garbled<A>>,
-    pub(crate) inputs: Snapshot<Vec<Label, A>>,
+    pub(crate) detached: Snapshot<DetachedJob<A>>,
 }
 
 impl<A: Allocator, C: Allocator> Model for Facts<A, C> {
@@ -20,5 +18,5 @@ impl<A: Allocator, C: Allocator> Model for Facts<A, C> {
 
     ghost Value = { JobParts };
 
-    ghost view = { λ f. job_of f.circuit.value f.garbled.value f.inputs.value.items };
+    ghost view = { λ f. job_of f.circuit.value f.detached.value.garbled f.detached.value.inputs };
 }

@@ -3,9 +3,12 @@
 ghost use Rattle.std.specs.Prelude.{◌≡◌, IfSome, Ok};
 ghost use Rattle.gc_half.specs.Evaluation.{AreActive};
 ghost use Rattle.gc_job.specs.Evaluate.{IsEvaluated};
-ghost use Rattle.gc_job.specs.Job.{IsWhole};
+ghost use Rattle.gc_job.specs.Job.{IsWhole, job_of};
 
+use crate::decode::decoding;
+use crate::detached::DetachedJob;
 use crate::job::Job;
+use gc_circuit::Circuit;
 use gc_half::{Evaluation, FirstAnd, Four, evaluate_four_from, output_labels};
 use gc_label::Label;
 use std::alloc::Allocator;
@@ -26,7 +29,36 @@ pub fn evaluate_four<A: Allocator, B: Allocator + Copy, C: Allocator>(
     ensures d { IfSome result.d (λ bits. IsEvaluated jobs.entry.d.now (Ok bits.items)) }
 {
     let Four { a, b, c, d } = jobs;
-    let circuit = a.circuit();
+    let detached = Four {
+        a: a.detached(),
+        b: b.detached(),
+        c: c.detached(),
+        d: d.detached(),
+    };
+    evaluate_four_detached(alloc, a.circuit(), detached)
+}
+
+/// The output bits of four jobs without their circuit, as [`evaluate_four`] returns them. The caller ensures that they
+/// are jobs of this circuit.
+pub fn evaluate_four_detached<A: Allocator, B: Allocator + Copy, C: Allocator>(
+    alloc: B,
+    circuit: &Circuit<C>,
+    jobs: Four<&DetachedJob<A>>,
+) -> Four<Option<Vec<bool, B>>>
+    requires a { IsWhole (job_of circuit.now jobs.a.now.garbled jobs.a.now.inputs) }
+    requires b { IsWhole (job_of circuit.now jobs.b.now.garbled jobs.b.now.inputs) }
+    requires c { IsWhole (job_of circuit.now jobs.c.now.garbled jobs.c.now.inputs) }
+    requires d { IsWhole (job_of circuit.now jobs.d.now.garbled jobs.d.now.inputs) }
+    ensures a { IfSome result.a (λ bits. IsEvaluated (job_of circuit.now
+        jobs.entry.a.now.garbled jobs.entry.a.now.inputs) (Ok bits.items)) }
+    ensures b { IfSome result.b (λ bits. IsEvaluated (job_of circuit.now
+        jobs.entry.b.now.garbled jobs.entry.b.now.inputs) (Ok bits.items)) }
+    ensures c { IfSome result.c (λ bits. IsEvaluated (job_of circuit.now
+        jobs.entry.c.now.garbled jobs.entry.c.now.inputs) (Ok bits.items)) }
+    ensures d { IfSome result.d (λ bits. IsEvaluated (job_of circuit.now
+        jobs.entry.d.now.garbled jobs.entry.d.now.inputs) (Ok bits.items)) }
+{
+    let Four { a, b, c, d } = jobs;
     let given = Four {
         a: a.evaluation(),
         b: b.evaluation(),
@@ -42,39 +74,40 @@ pub fn evaluate_four<A: Allocator, B: Allocator + Copy, C: Allocator>(
         };
     };
     Four {
-        a: decoded(alloc, a, &active.a),
-        b: decoded(alloc, b, &active.b),
-        c: decoded(alloc, c, &active.c),
-        d: decoded(alloc, d, &active.d),
+        a: decoded(alloc, circuit, a, &active.a),
+        b: decoded(alloc, circuit, b, &active.b),
+        c: decoded(alloc, circuit, c, &active.c),
+        d: decoded(alloc, circuit, d, &active.d),
     }
 }
 
 /// The output bits that these labels of all wires decode to, if they do.
 fn decoded<A: Allocator, B: Allocator + Copy, C: Allocator>(
     alloc: B,
-    job: &Job<'_, A, C>,
+    circuit: &Circuit<C>,
+    job: &DetachedJob<A>,
     active: &[Label],
 ) -> Option<Vec<bool, B>>
-    requires { AreActive job.now.circuit job.now.rows job.now.inputs active.now }
-    ensures { IfSome result (λ bits. IsEvaluated job.now (Ok bits.items)) }
+    requires whole { IsWhole (job_of circuit.now job.now.garbled job.now.inputs) }
+    requires active { AreActive circuit.now job.now.garbled.rows job.now.inputs active.now }
+    ensures { IfSome result (λ bits.
+        IsEvaluated (job_of circuit.now job.now.garbled job.now.inputs) (Ok bits.items)) }
 {
-    let labels = output_labels(job.circuit(), active);
-    match job.decode(alloc, labels) {
+    let labels = output_labels(circuit, active);
+    match decoding(alloc, circuit, job.garbled(), labels) {
         Ok(bits) => Some(bits),
         Err(_) => None,
     }
 }
 
-impl<'c, A: Allocator, C: Allocator> Job<'c, A, C> {
+impl<A: Allocator> DetachedJob<A> {
     /// What evaluating the job begins with.
     fn evaluation(&self) -> Evaluation<'_>
-        ensures rows { result.rows.now ≡ self.now.rows }
+        ensures rows { result.rows.now ≡ self.now.garbled.rows }
         ensures inputs { result.inputs.now ≡ self.now.inputs }
-        ensures whole { IsWhole self.now }
     {
-        self.law_whole();
         Evaluation {
-            rows: self.rows(),
+            rows: self.garbled().rows(),
             inputs: self.inputs(),
         }
     }

@@ -23,8 +23,7 @@ use std::snapshot::Snapshot;
 #[derive(Drop)]
 pub struct Job<'c, A: Allocator = Global, C: Allocator = Global> {
     circuit: &'c Circuit<C>,
-    garbled: Garbled<A>,
-    inputs: Vec<Label, A>,
+    detached: DetachedJob<A>,
 }
 
 impl<'c, A: Allocator, C: Allocator> Model for Job<'c, A, C> {
@@ -32,9 +31,10 @@ impl<'c, A: Allocator, C: Allocator> Model for Job<'c, A, C> {
 
     ghost Value = { JobParts };
 
-    ghost view = { λ j. job_of j.circuit.now j.garbled j.inputs.items };
+    ghost view = { λ j. job_of j.circuit.now j.detached.garbled j.detached.inputs };
 
-    ghost invariant = { λ j. IsWhole (job_of j.circuit.now j.garbled j.inputs.items) };
+    ghost invariant = { λ j.
+        IsWhole (job_of j.circuit.now j.detached.garbled j.detached.inputs) };
 }
 
 impl<'c, A: Allocator + Copy, C: Allocator> Job<'c, A, C> {
@@ -86,8 +86,7 @@ impl<'c, A: Allocator + Copy, C: Allocator> Job<'c, A, C> {
         let inputs = bound_labels(alloc, circuit, files)?;
         Ok(Job {
             circuit,
-            garbled,
-            inputs,
+            detached: DetachedJob::new(garbled, inputs),
         })
     }
 }
@@ -116,23 +115,32 @@ impl<'c, A: Allocator, C: Allocator> Job<'c, A, C> {
     pub fn rows(&self) -> &[RowPair]
         ensures { result.now ≡ self.now.rows }
     {
-        self.garbled.rows()
+        self.detached.garbled().rows()
     }
 
     /// The label of each input wire.
     pub fn inputs(&self) -> &[Label]
         ensures { result.now ≡ self.now.inputs }
     {
-        &self.inputs
+        self.detached.inputs()
     }
 
     /// The job without its circuit.
+    pub fn detached(&self) -> &DetachedJob<A>
+        ensures same { job_of self.now.circuit result.now.garbled result.now.inputs ≡ self.now }
+        ensures whole { IsWhole self.now }
+    {
+        self.law_whole();
+        &self.detached
+    }
+
+    /// The same, for a caller that gives the job up.
     pub fn detach(self) -> DetachedJob<A>
         ensures same { job_of self.entry.circuit result.garbled result.inputs ≡ self.entry }
         ensures whole { IsWhole self.entry }
     {
         self.law_whole();
-        DetachedJob::new(self.garbled, self.inputs)
+        self.detached
     }
 
     /// The job as contracts see it. It has no bytes.
@@ -141,8 +149,7 @@ impl<'c, A: Allocator, C: Allocator> Job<'c, A, C> {
     {
         Facts {
             circuit: Snapshot::of(self.circuit),
-            garbled: Snapshot::of(&self.garbled),
-            inputs: Snapshot::of(&self.inputs),
+            detached: Snapshot::of(&self.detached),
         }
     }
 
@@ -159,6 +166,6 @@ impl<'c, A: Allocator, C: Allocator> Job<'c, A, C> {
             (result_map_both (λ bits. bits.items) (λ fault. fault) result) }
     {
         self.law_whole();
-        decoding(alloc, self.circuit, &self.garbled, labels)
+        decoding(alloc, self.circuit, self.detached.garbled(), labels)
     }
 }

@@ -1,8 +1,8 @@
 //! The jobs of an evaluator: a circuit, what a garbled file of it holds, and one active label for each input wire.
 //!
-//! [`Job::bind`] makes a [`Job`] of a circuit, a garbled file and one label file for each input value. [`output_labels`]
-//! evaluates it to the active labels of the output wires, which [`Job::decode`] decodes to bits; [`evaluate`] does both.
-//! [`law_honest_files`] says that honest files are bound to an honest job.
+//! [`Job::bind`] makes a [`Job`] of a circuit, a garbled file and one label file for each input value.
+//! [`output_labels`] evaluates it to the active labels of the output wires, which [`Job::decode`] decodes to bits;
+//! [`evaluate`] does both. [`law_honest_files`] says that honest files are bound to an honest job.
 #![tactic(auto)]
 
 mod bind;
@@ -21,7 +21,7 @@ pub use decode::decoded;
 pub use detached::DetachedJob;
 pub use facts::Facts;
 pub use fault::{BindFault, EvalFault};
-pub use four::evaluate_four;
+pub use four::{evaluate_four, evaluate_four_detached};
 pub use job::Job;
 pub use laws::law_honest_files;
 pub use one_thread::{evaluate, evaluate_detached, output_labels, output_labels_detached};

@@ -27,20 +27,13 @@ pub fn output_labels<A: Allocator, B: Allocator + Copy, C: Allocator>(
     ensures { IfOk result (λ labels.
         AreOutputLabels 0 job.now.circuit job.now.rows job.now.inputs labels.items) }
 {
-    job.law_whole();
-    evaluate_labels(
-        alloc,
-        job.circuit(),
-        job.rows(),
-        FirstAnd::ZERO,
-        job.inputs(),
-    )
+    output_labels_detached(alloc, job.circuit(), job.detached())
 }
 
 /// Evaluates a job on one thread: the output bits, in wire order, that its [`output_labels`] decode to. Nothing of the
-/// job is trusted: the bits are what an evaluation of its rows on its input labels decodes to ("Two Halves Make a Whole",
-/// the procedures Ev and De). In version 2 the fault is 48 at the first output whose active label the garbled file does
-/// not recognise. An honest job gives the circuit's outputs, and never 48.
+/// job is trusted: the bits are what an evaluation of its rows on its input labels decodes to ("Two Halves Make a
+/// Whole", the procedures Ev and De). In version 2 the fault is 48 at the first output whose active label the garbled
+/// file does not recognise. An honest job gives the circuit's outputs, and never 48.
 pub fn evaluate<A: Allocator, B: Allocator + Copy, C: Allocator>(
     alloc: B,
     job: &Job<'_, A, C>,
@@ -51,9 +44,7 @@ pub fn evaluate<A: Allocator, B: Allocator + Copy, C: Allocator>(
         MatchResult result (λ outputs. AreOutputs job.now.circuit bits outputs.items)
         (λ fault. fault ≡ EvalFault.Memory) }
 {
-    job.law_whole();
-    let labels = output_labels(alloc, job)?;
-    job.decode(alloc, &labels)
+    evaluate_detached(alloc, job.circuit(), job.detached())
 }
 
 /// The active labels of the output wires of a job without its circuit, as [`output_labels`] gives them. The caller

@@ -11,8 +11,8 @@ use Rattle.gc_file.specs.FileFault.{FirstLabelFault}
 use Rattle.gc_file.specs.LabelFile.{LabelFileParts, IsLabelFile, label_file}
 use Rattle.gc_kept.specs.LabelFiles.{file_length, IsOwnFile, HasFaultyFile}
 
-length-files : (files : List LabelFileParts) → length (flat_map label_file files) ≡ sum
-    (map file_length files)
+length-files : (files : List LabelFileParts) → length (flat_map label_file files)
+    ≡ sum (map file_length files)
 length-files files = length-flat_map label_file files ∙ sym (sum-map file_length files)
 
 sum-as-sum_by : (xs : List ℕ) → sum xs ≡ sum_by (λ x. x) xs
@@ -20,8 +20,13 @@ sum-as-sum_by xs = ap sum (sym (map-id xs)) ∙ sum-map (λ x. x) xs
 
 pub sum-within : (xs : List ℕ) (i : ℕ) → i < length xs → sum (take i xs) + slice_index xs i ≤ sum xs
 sum-within xs i within =
-    omega (arith, sum-as-sum_by xs, sum-as-sum_by (take i xs), sum_by-take-drop (λ (x : ℕ). x) xs i,
-        sum_by-drop_more (λ (x : ℕ). x) xs i 0 within)
+    omega (
+      arith,
+      sum-as-sum_by xs,
+      sum-as-sum_by (take i xs),
+      sum_by-take-drop (λ (x : ℕ). x) xs i,
+      sum_by-drop_more (λ (x : ℕ). x) xs i 0 within,
+    )
 
 module _ (lengths : List ℕ) (i left total : ℕ) (within : i < length lengths)
     (so : sum (take i lengths) + left ≡ total) where
@@ -42,7 +47,7 @@ module _ (lengths : List ℕ) (i left total : ℕ) (within : i < length lengths)
 -- After the files so far come these bytes.
 module _ (bytes lengths : List ℕ) (files : List LabelFileParts) (rest : List ℕ) (i : ℕ)
     (spelled : bytes ≡ flat_map label_file files ++ rest)
-        (lengths_of : take i lengths ≡ map file_length files)
+    (lengths_of : take i lengths ≡ map file_length files)
     (whole : All IsOwnFile files) where
   counted : length bytes ≡ sum (take i lengths) + length rest
   counted =
@@ -71,7 +76,7 @@ module _ (bytes lengths : List ℕ) (files : List LabelFileParts) (rest : List �
     places : length files ≡ i
     places =
         sym (length-map files file_length) ∙ ap length (sym lengths_of)
-            ∙ length-take-le i lengths (omega (arith, within))
+        ∙ length-take-le i lengths (omega (arith, within))
 
     -- The next one has a fault,
     pub faulty : (fault : FileFault) → FirstLabelFault front fault

@@ -1,5 +1,7 @@
 -- How many bits an evaluation decodes to.
-use Rattle.std.proofs.Common.{◌≡◌, ℕ, ◌-◌, List, Bool, length, Ok, ap, ◌∙◌, arith}
+use Rattle.std.proofs.Common.{◌≡◌, ℕ, ◌-◌, List, Bool, length, IfOk, Result, Ok, Err, ap, ◌∙◌, arith}
+use Rattle.std.specs.Result.{result_map_both}
+use Rattle.gc_job.specs.declared.fault.EvalFault.{EvalFault}
 use Rattle.std.specs.List.{zip}
 use Rattle.std.proofs.lemmas.List.{length-map}
 use Rattle.std.proofs.lemmas.List.FromFn.{length-map-range_with_len}
@@ -18,7 +20,13 @@ length-evaluated job whole bits is =
     let labels = on_outputs job.circuit is.active in
     let count : length labels ≡ output_wires job.circuit =
     length-map-range_with_len is.active (job.circuit.wires - output_wires job.circuit)
-        (output_wires job.circuit) in
+    (output_wires job.circuit) in
     ap length is.decoding.0 ∙ length-map (zip job.decode_bits labels)
-        (λ (p : Bool × ℕ). xor p.0 (colour p.1))
+    (λ (p : Bool × ℕ). xor p.0 (colour p.1))
     ∙ omega (arith, length-zip job.decode_bits labels, whole.decode_bits, count)
+
+pub length-result : {V : Type 0} (bits_in : V → List Bool) (job : JobParts) → IsWhole job
+    → (r : Result V EvalFault) → IsEvaluated job (result_map_both bits_in (λ fault. fault) r)
+    → IfOk r (λ v. length (bits_in v) ≡ output_wires job.circuit)
+length-result bits_in job whole (Ok v) is = length-evaluated job whole (bits_in v) is
+length-result bits_in job whole (Err fault) is = tt

@@ -35,7 +35,7 @@ length-file index labels =
 pub lacks_file_room : (g : GarblingWith) (version : Version) (size room written : ℕ)
     (fault : KeptFault)
     → g.first ≡ 0 → size ≡ length (file_of g version) → HasRoomFault size room fault
-        → written ≡ size
+    → written ≡ size
     → HasFileFault g version room written fault
 lacks_file_room g version size room written fault from_zero same lacks reported =
     rw lacks.0 (from_zero, (subst (λ n. room < n) same lacks.1, reported ∙ same))

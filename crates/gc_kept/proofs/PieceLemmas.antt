@@ -39,8 +39,15 @@ pub piece_more : {X : Type 0} (f : X → List ℕ) (size : ℕ) (xs : List X) (i
     → take (size * (i + 1)) new ≡ flat_map f (take (i + 1) xs)
 piece_more f size xs i x old new within at before next =
     let place : size * (i + 1) ≡ size * i + size = omega arith in
-    rw (place, next, before, take_more xs i x within, ← at, flat_map-append f (take i xs) (x ∷ []),
-        append-nil (f x)) refl
+    rw (
+      place,
+      next,
+      before,
+      take_more xs i x within,
+      ← at,
+      flat_map-append f (take i xs) (x ∷ []),
+      append-nil (f x),
+    ) refl
 
 -- One more row pair: its two labels.
 pub row_more : (rows : List RowPair) (i : ℕ) (row : RowPair) (old mid new : List ℕ)
@@ -60,8 +67,8 @@ module _ (offset : ℕ) (zero_label : ℕ → ℕ) (first : ℕ) where
   -- One more label that stands for a bit.
   pub encoded_more : (bits : List Bool) (i label : ℕ) (old new : List ℕ) → i < length bits
       → label ≡ encode offset (zero_label (first + i)) (get_or bits i false)
-      → take (16 * i) old ≡ flat_map bytes_of_label
-          (encoded_with offset zero_label first (take i bits))
+      → take (16 * i) old
+      ≡ flat_map bytes_of_label (encoded_with offset zero_label first (take i bits))
       → take (16 * i + 16) new ≡ take (16 * i) old ++ bytes_of_label label
       → take (16 * (i + 1)) new
       ≡ flat_map bytes_of_label (encoded_with offset zero_label first (take (i + 1) bits))
@@ -76,7 +83,7 @@ module _ (offset : ℕ) (zero_label : ℕ → ℕ) (first : ℕ) where
       ap (λ n. take n new) place ∙ next ∙ ap (λ l. l ++ bytes_of_label label) before
       ∙ sym (ap (flat_map bytes_of_label) more
       ∙ flat_map-append bytes_of_label (encoded_with offset zero_label first (take i bits))
-          (label ∷ [])
+      (label ∷ [])
       ∙ ap (λ l. flat_map bytes_of_label (encoded_with offset zero_label first (take i bits)) ++ l)
       (append-nil (bytes_of_label label)))
 
@@ -120,8 +127,8 @@ put_end file part long =
 -- A label file is its header and its labels.
 pub label_file-is : (index n : ℕ) (labels front : List ℕ) → n ≡ length labels
     → front ≡ label_magic ++ number_bytes index ++ number_bytes n
-    → front ++ flat_map bytes_of_label labels ≡ label_file
-        (record { index = index; labels = labels })
+    → front ++ flat_map bytes_of_label labels
+    ≡ label_file (record { index = index; labels = labels })
 unfolding label_file
 label_file-is index n labels front count is = rw (is, count) refl
 

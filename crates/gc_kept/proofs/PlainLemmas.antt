@@ -10,13 +10,13 @@ use Rattle.gc_circuit.specs.Meaning.{AreOutputs}
 use Rattle.gc_kept.proofs.FileLemmas.{sum-within}
 
 module _ {V : Type 0} (bits_in : V → List Bool) where
-  each_length : (values : List V) → map length (map bits_in values) ≡ map (λ v. length (bits_in v))
-      values
+  each_length : (values : List V) → map length (map bits_in values)
+      ≡ map (λ v. length (bits_in v)) values
   each_length [] = refl
   each_length (v ∷ values) = ap (λ l. length (bits_in v) ∷ l) (each_length values)
 
-  length-joined : (values : List V) → length (flat_map bits_in values) ≡ sum
-      (map length (map bits_in values))
+  length-joined : (values : List V) → length (flat_map bits_in values)
+      ≡ sum (map length (map bits_in values))
   length-joined values =
       rw (each_length values, length-flat_map bits_in values)
       (sym (sum-map (λ v. length (bits_in v)) values))
@@ -38,11 +38,11 @@ module _ {V : Type 0} (bits_in : V → List Bool) where
         let same : sum widths ≡ sum widths + length rest =
         sym all ∙ counted ∙ ap (λ l. sum l + length rest) (take_all i widths end) in
         sym (joined ∙ ap (λ l. flat_map bits_in values ++ l)
-            (nil_from_length rest (omega (arith, same)))
+        (nil_from_length rest (omega (arith, same)))
         ∙ append-nil (flat_map bits_in values))
 
 pub length-outputs : (c : Netlist) (inputs outputs : List Bool) → AreOutputs c inputs outputs
     → length outputs ≡ output_wires c
 length-outputs c inputs outputs are =
     ap length are.last ∙ length-map-range_with_len are.bits (c.wires - output_wires c)
-        (output_wires c)
+    (output_wires c)

@@ -65,7 +65,7 @@ pub data HasDealFaultWith (c : Netlist) (offset : ℕ) (zero_label : ℕ → ℕ
   of_file : (bits : List Bool) (fault : KeptFault) → bytes ≡ map bit_number bits
       → slice_get c.input_widths index ≡ Some (length bits)
       → HasWriteFault (label_file (label_parts_with c offset zero_label index bits)) room written
-          fault
+      fault
       → HasDealFaultWith c offset zero_label index bytes room written fault
 
 -- The same under a seed,
@@ -85,5 +85,5 @@ IsDealtFrom g index bytes old new written =
 abbrev pub HasDealFaultFrom : GarblingWith → ℕ → List ℕ → ℕ → ℕ → KeptFault → Type 0
 HasDealFaultFrom g index bytes room written fault =
     HasDealFaultWith g.circuit g.offset (slice_index g.garbling.zero_labels) index bytes room
-        written
+    written
     fault

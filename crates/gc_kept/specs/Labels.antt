@@ -58,7 +58,7 @@ HasGarbleFault c offset zero_labels first _ = ⊥
 abbrev pub first_output_of : Netlist → ℕ → ℕ
 first_output_of c index = c.wires - output_wires c + sum (take index c.output_widths)
 
--- The zero labels of so many wires of a garbling, from one on.
+-- The zero labels of `count` wires of a garbling, from wire `from` on.
 abbrev pub zero_labels_from : GarblingWith → ℕ → ℕ → List ℕ
 zero_labels_from g from count = take count (drop from g.garbling.zero_labels)
 

@@ -4,6 +4,7 @@ pub mod Circuit
 pub mod Garbling
 pub mod LabelFiles
 pub mod Job
+pub mod Jobs
 pub mod Plain
 pub mod Version
 pub mod Files

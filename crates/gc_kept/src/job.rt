@@ -1,6 +1,9 @@
 //! Jobs that hold their circuit.
 
-ghost use Rattle.std.specs.Prelude.{◌≡◌, length, IfOk, IfErr, OnOk, OnErr};
+ghost use Rattle.std.specs.Prelude.{◌≡◌, ◌↔◌, length, IfOk, IfErr, IfSome, IsTrue, Ok, OnOk, OnErr};
+ghost use Rattle.std.specs.Result.{result_map_both};
+ghost use Rattle.gc_netlist.specs.Circuit.{output_wires};
+ghost use Rattle.gc_job.specs.Evaluate.{IsEvaluated};
 ghost use Rattle.gc_kept.specs.Job.{IsBoundJob, HasJobFault, AreEvaluated, HasEvaluationFault};
 ghost use Rattle.gc_kept.specs.Labels.{AreJobLabels, HasJobLabelsFault};
 
@@ -9,6 +12,7 @@ use crate::circuit::KeptCircuit;
 use crate::fault::KeptFault;
 use crate::label_bytes::{has_room, write_labels};
 use crate::label_files::read_label_files;
+use gc_circuit::Circuit;
 use gc_file::read_garbled;
 use gc_file::sizes::LABEL;
 use gc_job::{DetachedJob, EvalFault, Job, evaluate_detached, output_labels_detached};
@@ -56,6 +60,55 @@ impl KeptCircuit {
 }
 
 impl KeptJob {
+    ghost use Rattle.gc_job.specs.Job.{IsWhole, job_of};
+
+    /// The circuit.
+    pub(crate) fn circuit(&self) -> &Circuit<Global>
+        ensures { result.now ≡ self.now.circuit }
+    {
+        self.circuit.circuit()
+    }
+
+    /// The job without its circuit.
+    pub(crate) fn detached(&self) -> &DetachedJob<Global>
+        ensures same { job_of self.now.circuit result.now.garbled result.now.inputs ≡ self.now }
+        ensures whole { IsWhole self.now }
+    {
+        &self.job
+    }
+
+    /// How many output wires the circuit has.
+    pub(crate) fn outputs(&self) -> usize
+        ensures { result ≡ output_wires self.now.circuit }
+    {
+        self.circuit().output_wires() as usize
+    }
+
+    /// Whether another job is on an equal circuit.
+    pub(crate) fn is_beside(&self, other: &KeptJob) -> bool
+        ensures { IsTrue result ↔ (self.now.circuit ≡ other.now.circuit) }
+    {
+        self.circuit().equals(other.circuit())
+    }
+
+    /// The bits of the output wires: these, where some are known.
+    pub(crate) fn output_bits(
+        &self,
+        alloc: Global,
+        known: Option<Vec<bool, Global>>,
+    ) -> Result<Vec<bool, Global>, EvalFault>
+        requires { IfSome known (λ bits. IsEvaluated self.now (Ok bits.items)) }
+        ensures evaluated { IsEvaluated self.now
+            (result_map_both (λ bits. bits.items) (λ fault. fault) result) }
+        ensures count { IfOk result (λ bits.
+            length bits.items ≡ output_wires self.now.circuit) }
+    {
+        match known {
+            Some(bits) => Ok(bits),
+            None => evaluate_detached(alloc, self.circuit(), &self.job),
+        }
+    }
+
     /// Evaluates the job, as [`gc_job::evaluate`] does, and writes the bits of the output wires to the front of a
     /// buffer. It refuses a buffer without a byte for each output wire (61). After a fault the buffer is as it was.
     pub fn evaluate(&self, alloc: Global, bits: &mut [u8]) -> Result<(), KeptFault>
@@ -63,10 +116,9 @@ impl KeptJob {
         ensures fault { IfErr result (HasEvaluationFault self.now (length bits.old)) }
         ensures unwritten { OnErr result (bits.new ≡ bits.old) }
     {
-        let circuit = self.circuit.circuit();
-        let outputs = circuit.output_wires() as usize;
+        let outputs = self.outputs();
         has_room(outputs, bits)?;
-        let found = evaluate_detached(alloc, circuit, &self.job)?;
+        let found = self.output_bits(alloc, None)?;
         write_bits(&found, &mut bits[..outputs]);
         Ok(())
     }

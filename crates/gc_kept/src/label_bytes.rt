@@ -11,7 +11,7 @@ use gc_file::sizes::{LABEL, PAIR};
 use gc_half::{RowPair, encode};
 use gc_label::{Label, Offset};
 
-/// Checks that a buffer has room for so many bytes.
+/// Checks that a buffer has room for `size` bytes.
 pub(crate) fn has_room(size: usize, buffer: &[u8]) -> Result<(), KeptFault>
     ensures ok { OnOk result (size ≤ length buffer.now) }
     ensures fault { IfErr result (HasRoomFault size (length buffer.now)) }

@@ -80,7 +80,7 @@ impl KeptGarbling {
         self.write_both(from as usize, *width as usize, zero, one)
     }
 
-    /// Writes both labels of so many wires, from one on. The caller ensures that there are such wires.
+    /// Writes both labels of `count` wires, from wire `from` on. The caller ensures that there are such wires.
     fn write_both(
         &self,
         from: usize,

@@ -1,2 +1,3 @@
 mod AnswersLemmas
 mod ManyLemmas
+mod JobsLemmas

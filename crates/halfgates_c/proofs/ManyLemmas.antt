@@ -9,7 +9,8 @@ use Rattle.halfgates_c.specs.Holding.{Holds}
 use Rattle.halfgates_c.specs.Reading.{HoldsGarbling, HoldsThis}
 
 -- A handle of the garbling under a seed.
-pub held_under : (c : Netlist) (seed : List ℕ) (g : GarblingWith) (slot : Slot) → IsGarblingUnder c seed g
+pub held_under : (c : Netlist) (seed : List ℕ) (g : GarblingWith) (slot : Slot)
+    → IsGarblingUnder c seed g
     → Holds slot (Garbling g) → HoldsGarbling c seed slot
 held_under c seed g slot under held = record {
   garbling = g.garbling;

@@ -1,5 +1,5 @@
 -- What handles hold.
-use Rattle.std.specs.Prelude.{◌≡◌, ℤ, pos, Option, Some, None}
+use Rattle.std.specs.Prelude.{◌≡◌, ◌⊎◌, ℤ, pos, Option, Some, None, List, [], ◌∷◌}
 use Rattle.gc_netlist.specs.Circuit.{Netlist}
 use Rattle.gc_job.specs.Job.{JobParts}
 use Rattle.gc_kept.specs.Garbling.{GarblingWith}
@@ -27,6 +27,19 @@ OfJob None code P = code ≡ pos 64
 OfJob (Some (Circuit circuit)) code P = code ≡ pos 65
 OfJob (Some (Garbling garbling)) code P = code ≡ pos 65
 OfJob (Some (Job job)) code P = P job
+
+-- The code is what a call on a list of jobs says of them, or that of the first handle in the list that holds no job.
+abbrev pub OfEach : List (Option Held) → (code : ℤ) → (List JobParts → Type 0) → Type 0
+OfEach [] code P = P []
+OfEach (held ∷ others) code P = OfJob held code (λ job. OfEach others code (λ jobs. P (job ∷ jobs)))
+
+-- The same, or 62 where memory is missing for the list.
+abbrev pub OfJobs : List (Option Held) → (code : ℤ) → (List JobParts → Type 0) → Type 0
+OfJobs held code P = (code ≡ pos 62) ⊎ OfEach held code P
+
+-- A handle in the list holds no job, or memory is missing.
+abbrev pub OfNoJobs : List (Option Held) → (code : ℤ) → Type 0
+OfNoJobs held code = OfJobs held code (λ jobs. ⊥)
 
 -- The circuit that is held, if one is.
 abbrev pub circuit_of : Option Held → Option Netlist

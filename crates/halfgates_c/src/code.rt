@@ -14,6 +14,9 @@ pub(crate) const BAD_ARGUMENT: i32 = 60;
 /// The code of a buffer with too little room.
 pub(crate) const SMALL_BUFFER: i32 = 61;
 
+/// The code of memory that is missing for a handle, a file or a list.
+pub(crate) const MEMORY: i32 = 62;
+
 /// The code of a pointer that is null.
 pub(crate) const NULL_POINTER: i32 = 64;
 

@@ -61,8 +61,8 @@ impl Handle {
     }
 }
 
-/// What is computed of what a handle holds, where this is of a kind; else another value, or the codes of a null and of a
-/// handle of another kind. The handle is as it was then.
+/// What is computed of what a handle holds, where this is of a kind; else another value, or the codes of a null and
+/// of a handle of another kind. The handle is as it was then.
 macro_rules! on_held {
     ($handle:ident, $kind:ident($it:ident) => $of_it:expr) => {{
         let lent = $handle.take();

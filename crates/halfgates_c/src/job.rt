@@ -69,7 +69,8 @@ pub extern "C" fn halfgates_job_free(job: Slot) {
 #[unsafe(no_mangle)]
 pub extern "C" fn halfgates_evaluate(alloc: Global, job: &mut Handle, bits: &mut [u8]) -> i32
     ensures answer { OfJob job.old.held result (λ j.
-        Answers result (AreEvaluated j bits.old bits.new) (HasEvaluationFault j (length bits.old))) }
+        Answers result (AreEvaluated j bits.old bits.new)
+        (HasEvaluationFault j (length bits.old))) }
     ensures back { job.new ≡ job.old }
     ensures kept { result ≢ pos 0 → bits.new ≡ bits.old }
 {

@@ -13,6 +13,7 @@ mod from_labels;
 mod garbling;
 mod handle;
 mod job;
+mod jobs;
 mod locate;
 mod many;
 mod name;

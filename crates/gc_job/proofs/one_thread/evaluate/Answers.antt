@@ -1,23 +1,11 @@
-use Rattle.gc_job.proofs.Names.{◌∙◌, length, ap, err_from_is_err_and}
-use Rattle.gc_job.proofs.OutputLemmas.{decoded-job, length-output_labels, no_memory}
-use Rattle.gc_job.proofs.HonestLemmas.{honest-result}
+use Rattle.gc_job.proofs.Names.{◌≡◌, ℕ, Bool, List, MatchResult, Memory, AreOutputs, IsHonest}
+use Rattle.gc_job.proofs.OutputLemmas.{of-parts}
 use Rattle.gc_job.proofs.one_thread.evaluate.Goals as goal
-
-pub returns-in_err-labels-clause-evaluated : goal.returns-in_err-labels-clause-evaluated
-returns-in_err-labels-clause-evaluated g c =
-    let p = err_from_is_err_and c.from_residual.result c.from_residual.ensures.1 in
-    rw (p.1, p.2) (no_memory c.args.job.now c.law_whole.ensures)
-
-pub decode-requires : goal.decode-requires
-decode-requires g c =
-    ap length c.deref.ensures.value ∙ length-output_labels _ _ _ _ c.in_ok-labels.ensures
-
-pub returns-clause-evaluated : goal.returns-clause-evaluated
-returns-clause-evaluated g c =
-    decoded-job c.args.job.now _ _ c.in_ok-labels.ensures
-    (rw (← c.deref.ensures.value) c.decode.ensures)
 
 pub returns-clause-honest : goal.returns-clause-honest
 returns-clause-honest g c =
-    honest-result (λ outputs. outputs.items) c.args.job.now c.decode.result
-    c.law_whole.ensures (returns-clause-evaluated g c)
+    of-parts (λ job. (seed : List ℕ) (bits : List Bool) → IsHonest job seed bits
+    → MatchResult c.evaluate_detached.result (λ outputs. AreOutputs job.circuit bits outputs.items)
+    (λ fault. fault ≡ Memory)) c.args.job.now c.circuit.result.now c.detached.result.now.garbled
+    c.detached.result.now.inputs c.circuit.ensures.circuit c.detached.ensures.same
+    c.evaluate_detached.ensures.honest

@@ -28,7 +28,7 @@ write_bits-requires c =
     ) in
     let found = length-decoded c.deref.result.now c.deref-2.result.now same in
     let room = length-take-le (length c.args.decode_bits.now) c.args.bits.now
-        (omega (arith, c.in_ok-has_room.ensures.ok)) in
+    (omega (arith, c.in_ok-has_room.ensures.ok)) in
     omega (
       arith,
       same,
@@ -45,8 +45,11 @@ returns-clause-ok c =
     let bits = c.in_ok-decode_bits.decode_bits.items in
     let active = c.in-Ok.labels.items in
     let many = length-labels active c.args.labels.now c.in-Ok.ensures.bytes in
-    let same : length bits ≡ length active = omega (arith, c.in_ok-decode_bits.ensures.count,
-        many) in
+    let same : length bits ≡ length active = omega (
+      arith,
+      c.in_ok-decode_bits.ensures.count,
+      many,
+    ) in
     let found = length-decoded bits active same in
     record {
       active = active;
@@ -59,6 +62,11 @@ returns-clause-ok c =
           (c.write_bits.ensures
           ∙ ap (map bit_number) (c.deref-3.ensures.value ∙ c.in-Ok-decoded.ensures
           ∙ rw (c.deref.ensures.value, c.deref-2.ensures.value) refl))
-          (omega (arith, found, same, c.in_ok-decode_bits.ensures.count, length-map
-              (decode bits active) bit_number));
+          (omega (
+            arith,
+            found,
+            same,
+            c.in_ok-decode_bits.ensures.count,
+            length-map (decode bits active) bit_number,
+          ));
     }

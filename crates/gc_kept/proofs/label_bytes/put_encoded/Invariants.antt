@@ -7,6 +7,6 @@ use Rattle.gc_kept.proofs.label_bytes.put_encoded.Given as goal
 abbrev pub invariant-loop-i : goal.invariant-loop-i
 invariant-loop-i l = record {
   done : take (16 * l.i) l.bytes ≡ flat_map bytes_of_label
-      (encoded_with l.difference (slice_index l.zero_labels) l.first (take l.i l.bits));
+      (encoded_with l.offset (slice_index l.zero_labels) l.first (take l.i l.bits));
   count : length l.bytes ≡ 16 * length l.bits;
 }

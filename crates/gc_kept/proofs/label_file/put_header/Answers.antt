@@ -7,10 +7,10 @@ pub copy_from_slice-requires : goal.copy_from_slice-requires
 copy_from_slice-requires c =
     length-take-le 16 c.args.file.now c.requires
     ∙ sym (ap length (c.as_slice.ensures.value ∙ c.label_header.ensures)
-        ∙ length-header c.args.index c.args.width)
+    ∙ length-header c.args.index c.args.width)
 
 pub returns-clause-header : goal.returns-clause-header
 returns-clause-header c =
     let is = c.copy_from_slice.ensures.after ∙ c.as_slice.ensures.value ∙ c.label_header.ensures in
     take_at c.copy_from_slice.new.self _ 16 (ap length is ∙ length-header c.args.index c.args.width)
-        ∙ is
+    ∙ is

@@ -14,4 +14,4 @@ pub loop-length-preserved : goal.loop-length-preserved
 loop-length-preserved c =
     let l = c.loop-length in
     next_left c.args.lengths.now l.length-index l.left c.args.total (omega arith) l.invariant
-        (omega arith)
+    (omega arith)

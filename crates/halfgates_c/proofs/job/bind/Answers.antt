@@ -9,9 +9,11 @@ use Rattle.halfgates_c.proofs.job.bind.Goals as goal
 wanting : {T : Type 0} (c : Netlist) (garbled labels lengths : List ℕ) (r : Result T KeptFault)
     → IfErr r (λ fault. fault ≡ Memory) → IfErr r (HasJobFault c garbled labels lengths)
 wanting c garbled labels lengths (Ok x) so = tt
-wanting c garbled labels lengths (Err fault) so = subst (HasJobFault c garbled labels lengths) (sym so) want
+wanting c garbled labels lengths (Err fault) so = subst (HasJobFault c garbled labels lengths)
+    (sym so) want
 
 pub returns-clause-fault : goal.returns-clause-fault
 returns-clause-fault c =
-    wanting c.args.circuit.now c.args.garbled.now c.args.labels.now c.args.lengths.now c.hand_out.result
+    wanting c.args.circuit.now c.args.garbled.now c.args.labels.now c.args.lengths.now
+    c.hand_out.result
     c.hand_out.ensures.fault

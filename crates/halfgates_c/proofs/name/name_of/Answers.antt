@@ -5,4 +5,5 @@ use Rattle.halfgates_c.proofs.name.name_of.Goals as goal
 pub returns : goal.returns
 returns c =
     rw c.copy_from_slice.ensures.after
-    (ap (λ (zeros : List ℕ). c.args.bytes.now ++ zeros) (drop-replicate {X = ℕ} (length c.args.bytes.now) 32 0))
+    (ap (λ (zeros : List ℕ). c.args.bytes.now ++ zeros)
+    (drop-replicate {X = ℕ} (length c.args.bytes.now) 32 0))

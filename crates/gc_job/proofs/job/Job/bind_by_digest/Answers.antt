@@ -21,17 +21,18 @@ returns-in_err-inputs-clause-err g c =
 
 pub invariant_of-result : goal.invariant_of-result
 invariant_of-result g c =
-    let counts = c.has_counts.ensures.0 c.if-not-has_counts.false in record {
+    let counts = c.has_counts.ensures.0 c.if-not-has_counts.false in
+    rw c.new.ensures (record {
       lawful = c.law_lawful.ensures;
       rows = counts.rows;
       decode_bits = counts.decode_bits;
       inputs = c.in_ok-inputs.ensures.ok.count;
-    }
+    })
 
 pub returns-clause-ok : goal.returns-clause-ok
-returns-clause-ok g c = λ is. record {
+returns-clause-ok g c = λ is. rw c.new.ensures (record {
   of_circuit = sym c.digest.ensures ∙ same_digest _ _ _ c.ne.ensures c.if-ne.false ∙ is;
   counts = c.has_counts.ensures.0 c.if-not-has_counts.false;
   labels = c.in_ok-inputs.ensures.ok;
   parts = refl;
-}
+})

@@ -10,22 +10,22 @@ returns-in_err-garbled-clause-fault c =
 pub returns-in_err-files-clause-fault : goal.returns-in_err-files-clause-fault
 returns-in_err-files-clause-fault c =
     let p = err_from_is_err_and c.from_residual-in_err-files.result
-        c.from_residual-in_err-files.ensures.1 in
+    c.from_residual-in_err-files.ensures.1 in
     rw (p.1, p.2) (of_labels c.in_ok-garbled.garbled c.in_err-files.field-0.0
-        c.in_ok-garbled.ensures c.in_err-files.ensures.fault)
+    c.in_ok-garbled.ensures c.in_err-files.ensures.fault)
 
 pub returns-in_err-job-clause-fault : goal.returns-in_err-job-clause-fault
 returns-in_err-job-clause-fault c =
     let p = err_from_is_err_and c.from_residual-in_err-job.result
-        c.from_residual-in_err-job.ensures.1 in
+    c.from_residual-in_err-job.ensures.1 in
     rw (p.1, p.2) (of_binding c.in_ok-garbled.garbled c.in_ok-files.files.items
-        c.in_err-job.field-0.0 c.in_ok-garbled.ensures
+    c.in_err-job.field-0.0 c.in_ok-garbled.ensures
     c.in_ok-files.ensures.ok (λ other. rw (← c.circuit.ensures.same, ← c.deref.ensures.value)
-        (c.in_err-job.ensures.err
+    (c.in_err-job.ensures.err
     (rw c.circuit.ensures.same c.digest.ensures) other)))
 
 pub returns-in_err-again-clause-fault : goal.returns-in_err-again-clause-fault
 returns-in_err-again-clause-fault c =
     let p = err_from_is_err_and c.from_residual-in_err-again.result
-        c.from_residual-in_err-again.ensures.1 in
+    c.from_residual-in_err-again.ensures.1 in
     rw (p.1, p.2) want

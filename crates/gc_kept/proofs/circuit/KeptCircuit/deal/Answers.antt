@@ -34,8 +34,11 @@ returns-in_err-look_for_room-clause-fault c =
     c.from_residual-in_err-look_for_room.ensures.1 in
     let file = label_file (label_parts_of a.self.now a.seed.now a.index bits) in
     let size : 16 + 16 * c.in-Some.width.now ≡ length file =
-    omega (arith, length-label_file a.self.now a.seed.now a.index bits,
-        c.in_ok-bits.ensures.count) in
+    omega (
+      arith,
+      length-label_file a.self.now a.seed.now a.index bits,
+      c.in_ok-bits.ensures.count,
+    ) in
     rw (p.1, p.2) (of_file bits c.in_err-look_for_room.field-0.0 c.in_ok-bits.ensures.bytes
     (found_at _ _ a.index _ _ _ found.0 found.1
     (rw c.circuit-circuit.ensures.same at c.input_widths.ensures) refl

@@ -26,7 +26,10 @@ returns-clause-ok c = record {
     length-labels c.in-Ok.labels.items c.args.zero_labels.now c.in-Ok.ensures.bytes,
     ap input_wires c.circuit-circuit.ensures.same,
   );
-  garbled = rw (← c.in-Some-new.ensures.0, ← c.circuit-circuit.ensures.same,
-      ← c.deref.ensures.value)
+  garbled = rw (
+    ← c.in-Some-new.ensures.0,
+    ← c.circuit-circuit.ensures.same,
+    ← c.deref.ensures.value,
+  )
       c.in-Ok-garble_from.ensures;
 }

@@ -8,18 +8,19 @@ use Rattle.gc_kept.proofs.circuit.KeptCircuit.garble_many.Goals.{then-pairs-seed
 pub loop-i-preserved : goal.loop-i-preserved
 loop-i-preserved c =
     rw (c.in_ok-push-2.ensures.items, c.in_ok-push.ensures.items)
-    (two_more (IsGarblingUnder c.args.self.now) c.args.seeds.now c.loop-i.made.items c.loop-i.i [] _
-        _ c.in_ok-one.one
-    c.in_ok-one.other (omega (arith, c.loop-i-test.true)) refl refl c.loop-i.invariant
-        c.in_ok-one.ensures.one
-    c.in_ok-one.ensures.other)
+    (two_more (IsGarblingUnder c.args.self.now) c.args.seeds.now c.loop-i.made.items c.loop-i.i []
+    _ _ c.in_ok-one.one c.in_ok-one.other (omega (arith, c.loop-i-test.true)) refl refl
+    c.loop-i.invariant c.in_ok-one.ensures.one c.in_ok-one.ensures.other)
 
 pub returns-clause-ok : goal.returns-clause-ok
 returns-clause-ok c =
     let seeds = c.args.seeds.now in
     let under = IsGarblingUnder c.args.self.now in
-    let place : c.loop-i.i ≡ length seeds / 2 = omega (arith, c.loop-i-test.false,
-        c.loop-i.auto.i-end) in
+    let place : c.loop-i.i ≡ length seeds / 2 = omega (
+      arith,
+      c.loop-i-test.false,
+      c.loop-i.auto.i-end,
+    ) in
     let before : AllZip under (take (2 * (length seeds / 2)) seeds) c.loop-i.made.items =
     rw (← place) c.loop-i.invariant in
     elim c.if-pairs-seeds.branch [
@@ -28,11 +29,14 @@ returns-clause-ok c =
           rw (w.made-is, w.in_ok-push-3.ensures.items)
           (all_ended under seeds _ (2 * (length seeds / 2) + 1) (omega arith)
           (all_more under seeds c.loop-i.made.items (2 * (length seeds / 2)) [] _
-              w.in_ok-garble.field-0
-          (omega (arith, w.if-pairs-seeds.true)) refl before
-          (record { circuit = made.circuit; offset = made.offset; first = made.first; garbled =
-              made.garbled })))
+          w.in_ok-garble.field-0 (omega (arith, w.if-pairs-seeds.true)) refl before
+          (record {
+            circuit = made.circuit;
+            offset = made.offset;
+            first = made.first;
+            garbled = made.garbled;
+          })))
       | else-pairs-seeds w ↦ rw w.made-is
           (all_ended under seeds c.loop-i.made.items (2 * (length seeds / 2))
-              (omega (arith, w.if-pairs-seeds.false)) before)
+          (omega (arith, w.if-pairs-seeds.false)) before)
     ]

@@ -21,9 +21,9 @@ pub put_file-requires-clause-few : goal.put_file-requires-clause-few
 put_file-requires-clause-few c =
     let found = c.in-Some.ensures.lookup in
     let fits = first_wire-room c.args.self.now c.circuit.ensures.lawful c.args.index
-        c.in-Some.width.now
+    c.in-Some.width.now
     (found_at _ _ c.args.index _ _ _ found.0 found.1
-        (rw c.circuit.ensures.same at c.input_widths.ensures) refl refl) in
+    (rw c.circuit.ensures.same at c.input_widths.ensures) refl refl) in
     omega (
       arith,
       fits,

@@ -37,12 +37,12 @@ returns-in_err-look_for_room-clause-fault c =
     c.from_residual-in_err-look_for_room.ensures.1 in
     let g = c.self.inside in
     let file = label_file (label_parts_with g.circuit g.offset (slice_index g.garbling.zero_labels)
-        a.index bits) in
+    a.index bits) in
     let long = length-dealt g.circuit g.offset (slice_index g.garbling.zero_labels) a.index bits in
     let size : 16 + 16 * c.in-Some.width.now ≡ length file =
-        omega (arith, long, c.in_ok-bits.ensures.count) in
+    omega (arith, long, c.in_ok-bits.ensures.count) in
     rw (p.1, p.2, ← c.self.view_is) (of_file bits c.in_err-look_for_room.field-0.0
-        c.in_ok-bits.ensures.bytes
+    c.in_ok-bits.ensures.bytes
     (found_at _ _ a.index _ _ _ found.0 found.1
     (rw c.circuit-circuit.ensures.same at c.input_widths.ensures) refl
     c.in_ok-bits.ensures.count)
@@ -68,13 +68,13 @@ returns-clause-ok c =
     let g = c.args.self.now in
     let bits = c.in_ok-bits.bits.items in
     let long = length-dealt g.circuit g.offset (slice_index g.garbling.zero_labels) c.args.index
-        bits in
+    bits in
     record {
       bits = bits;
       bytes_are = c.in_ok-bits.ensures.bytes;
       width = rw (← c.self.view_is) (found_at _ _ c.args.index _ _ _ found.0 found.1
           (rw c.circuit-circuit.ensures.same at c.input_widths.ensures) refl
-              c.in_ok-bits.ensures.count);
+          c.in_ok-bits.ensures.count);
       file = at_front _ _ c.args.buffer.now (16 + 16 * c.in-Some.width.now)
           (rw (← c.deref.ensures.value) c.put_dealt.ensures)
           (omega (arith, long, c.in_ok-bits.ensures.count));

@@ -10,7 +10,7 @@ returns-clause-ok c =
     let found = c.in-Some.ensures.lookup in
     let from : c.first_wire-from.result ≡ first_wire_of c.args.self.now.circuit c.args.index =
     c.first_wire-from.ensures ∙ ap (λ n. first_wire_of n c.args.index)
-        c.circuit-circuit.ensures.same
+    c.circuit-circuit.ensures.same
     ∙ ap (λ (g : GarblingWith). first_wire_of g.circuit c.args.index) c.self.view_is in
     OnOk-both c.write_both.result (λ zero one. record {
       width = c.in-Some.width.now;

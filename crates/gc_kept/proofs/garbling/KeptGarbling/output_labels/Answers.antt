@@ -9,7 +9,8 @@ pub returns-clause-ok : goal.returns-clause-ok
 returns-clause-ok c =
     let found = c.in-Some.ensures.lookup in
     let from : c.first_output-from.result ≡ first_output_of c.args.self.now.circuit c.args.index =
-    c.first_output-from.ensures ∙ ap (λ n. first_output_of n c.args.index) c.circuit-circuit.ensures.same
+    c.first_output-from.ensures
+    ∙ ap (λ n. first_output_of n c.args.index) c.circuit-circuit.ensures.same
     ∙ ap (λ (g : GarblingWith). first_output_of g.circuit c.args.index) c.self.view_is in
     OnOk-both c.write_both.result (λ zero one. record {
       width = c.in-Some.width.now;

@@ -27,11 +27,14 @@ returns c =
     let labels = encoded_with c.self.inside.offset (slice_index c.self.inside.garbling.zero_labels)
     c.first_wire-first.result c.args.bits.now in
     let many = length-encoded_with c.self.inside.offset
-        (slice_index c.self.inside.garbling.zero_labels)
+    (slice_index c.self.inside.garbling.zero_labels)
     c.first_wire-first.result c.args.bits.now in
     rw (← c.self.view_is, ← c.circuit-circuit.ensures.same, ← c.first_wire-first.ensures)
-    (put_end file c.put_encoded.new.bytes (omega (arith, c.put_header.ensures.count,
-        c.requires.bytes))
+    (put_end file c.put_encoded.new.bytes (omega (
+      arith,
+      c.put_header.ensures.count,
+      c.requires.bytes,
+    ))
     ∙ ap (λ l. take 16 file ++ l) (rw (← c.zero_labels.ensures) c.put_encoded.ensures)
     ∙ label_file-is c.args.index (length c.args.bits.now) labels (take 16 file) (sym many)
     c.put_header.ensures.header)

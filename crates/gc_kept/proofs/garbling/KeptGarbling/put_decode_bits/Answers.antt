@@ -10,8 +10,12 @@ loop-i-preserved c =
     let at : slice_get (decode_bits_of c.args.self.now.garbling) l.i ≡ Some c.decode_bit.result =
     rw (← c.self.view_is) c.decode_bit.ensures in
     let many = ap (λ (g : GarblingWith). g.garbling.outputs) c.self.view_is in
-    let within : l.i < length l.bits = omega (arith, many, l.invariant.count,
-        c.outputs-i-end.ensures.count) in
+    let within : l.i < length l.bits = omega (
+      arith,
+      many,
+      l.invariant.count,
+      c.outputs-i-end.ensures.count,
+    ) in
     record {
       done = bits_more l.bits (decode_bits_of c.args.self.now.garbling) l.i c.bit_byte.result
           c.decode_bit.result within l.invariant.done at c.bit_byte.ensures;

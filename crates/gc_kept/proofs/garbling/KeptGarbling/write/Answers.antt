@@ -11,7 +11,7 @@ returns-in_err-look_for_room-clause-fault c =
     let size = (rw c.circuit.ensures at c.garbled_size-size.ensures) g.offset g.garbling
     (record { wires = is.wires; and_gates = is.garbling.row_count; outputs = is.outputs }) in
     rw (p.1, p.2) (lacks_file_room g c.args.version c.garbled_size-size.result
-        (length c.args.buffer.now)
+    (length c.args.buffer.now)
     c.look_for_room.new.written c.in_err-look_for_room.field-0.0
     (c.is_from_zero.ensures.0 c.if-not-is_from_zero.false) size
     c.in_err-look_for_room.ensures.fault c.in_err-look_for_room.ensures.written)

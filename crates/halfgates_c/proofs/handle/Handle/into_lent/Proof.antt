@@ -3,7 +3,8 @@ use Rattle.std.proofs.Common.{◌≡◌, refl}
 use denote.RattleType.{RattleType}
 use Rattle.gc_handle.specs.Lent.{lent_owns}
 use Rattle.gc_handle.specs.contracts.lent.Lent as lent_type
-use Rattle.gc_handle.proofs.RecastAlone.{Recast, recast_spec}
+use Rattle.gc_handle.proofs.Recast.{Recast}
+use Rattle.gc_handle.proofs.RecastWord.{word_of, recast_word}
 use Rattle.gc_kept.specs.contracts.held.Held as held_type
 use Rattle.halfgates_c.specs.Lending.{handle_of}
 use Rattle.halfgates_c.specs.declared.handle.Handle.{Handle}
@@ -12,7 +13,8 @@ use Rattle.halfgates_c.specs.contracts.handle.Handle.into_lent.Key.{name as #sel
 use Rattle.halfgates_c.proofs.handle.Handle.into_lent.Statement.{statement}
 use Rattle.halfgates_c.proofs.handle.Handle.into_lent.Code as code
 
-is_handle_of : (x : Handle) → x ≡ handle_of (record { at = x.at; value = x.held; round = x.round; parts = x.parts })
+is_handle_of : (x : Handle)
+    → x ≡ handle_of (record { at = x.at; value = x.held; round = x.round; parts = x.parts })
 unfolding handle_of
 is_handle_of x = refl
 
@@ -27,8 +29,7 @@ into_lent_spec 𝓤 𝓛 𝓜 𝓡 wired =
       round = x.round;
       parts = x.parts;
     } in
-    let it : Recast handle_row lent_row = record {
-      at = λ x. x.at;
+    let it : Recast handle_row lent_row (word_of handle_row (λ x. x.at)) = record {
       owned = λ x. lent_owns held_row x.at x.held x.round x.parts;
       made = made;
       says = λ x y. (y.value ≡ x.held) × (x ≡ handle_of y);
@@ -38,4 +39,4 @@ into_lent_spec 𝓤 𝓛 𝓜 𝓡 wired =
       last = λ x. tt;
       silent = λ x end. refl;
     } in
-    recast_spec handle_row lent_row it 𝓤 𝓛 𝓜 𝓡 #self _ _ (code.unfolded 𝓤 𝓛.H 𝓜 𝓡 wired)
+    recast_word handle_row lent_row (λ x. x.at) it 𝓤 𝓛 𝓜 𝓡 #self _ _ (code.unfolded 𝓤 𝓛.H 𝓜 𝓡 wired)

@@ -3,7 +3,8 @@ use Rattle.std.proofs.Common.{◌≡◌, refl}
 use denote.RattleType.{RattleType}
 use Rattle.gc_handle.specs.Lent.{lent_owns}
 use Rattle.gc_handle.specs.contracts.lent.Lent as lent_type
-use Rattle.gc_handle.proofs.RecastAlone.{Recast, recast_spec}
+use Rattle.gc_handle.proofs.Recast.{Recast}
+use Rattle.gc_handle.proofs.RecastWord.{word_of, recast_word}
 use Rattle.gc_kept.specs.contracts.held.Held as held_type
 use Rattle.gc_handle.specs.declared.lent.Lent.{Lent}
 use Rattle.gc_kept.specs.declared.held.Held.{Held}
@@ -14,7 +15,8 @@ use Rattle.halfgates_c.specs.contracts.handle.Handle.of_lent.Key.{name as #self}
 use Rattle.halfgates_c.proofs.handle.Handle.of_lent.Statement.{statement}
 use Rattle.halfgates_c.proofs.handle.Handle.of_lent.Code as code
 
-is_handle_of : (x : Lent Held) → ◌≡◌ {A = Handle} (record { at = x.at; held = x.value; round = x.round; parts = x.parts }) (handle_of x)
+is_handle_of : (x : Lent Held) → ◌≡◌ {A = Handle}
+    (record { at = x.at; held = x.value; round = x.round; parts = x.parts }) (handle_of x)
 unfolding handle_of
 is_handle_of x = refl
 
@@ -29,8 +31,7 @@ of_lent_spec 𝓤 𝓛 𝓜 𝓡 wired =
       round = x.round;
       parts = x.parts;
     } in
-    let it : Recast lent_row handle_row = record {
-      at = λ x. x.at;
+    let it : Recast lent_row handle_row (word_of lent_row (λ x. x.at)) = record {
       owned = λ x. lent_owns held_row x.at x.value x.round x.parts;
       made = made;
       says = λ x y. y ≡ handle_of x;
@@ -40,4 +41,4 @@ of_lent_spec 𝓤 𝓛 𝓜 𝓡 wired =
       last = λ x. tt;
       silent = λ x end. refl;
     } in
-    recast_spec lent_row handle_row it 𝓤 𝓛 𝓜 𝓡 #self _ _ (code.unfolded 𝓤 𝓛.H 𝓜 𝓡 wired)
+    recast_word lent_row handle_row (λ x. x.at) it 𝓤 𝓛 𝓜 𝓡 #self _ _ (code.unfolded 𝓤 𝓛.H 𝓜 𝓡 wired)

@@ -3,7 +3,8 @@ use Rattle.std.proofs.Common.{◌≡◌, refl}
 use denote.RattleType.{RattleType}
 use Rattle.gc_handle.specs.Behind.{behind}
 use Rattle.gc_handle.specs.contracts.pointer.Pointer as pointer_type
-use Rattle.gc_handle.proofs.Recast.{Recast, recast_spec}
+use Rattle.gc_handle.proofs.Recast.{Recast}
+use Rattle.gc_handle.proofs.RecastPair.{pair_of, recast_pair}
 use Rattle.gc_kept.specs.contracts.held.Held as held_type
 use Rattle.halfgates_c.specs.contracts.slot.Slot as slot_type
 use Rattle.halfgates_c.specs.contracts.slot.Slot.of_pointer.Key.{name as #self}
@@ -15,9 +16,7 @@ of_pointer_spec 𝓤 𝓛 𝓜 𝓡 wired =
     let Held : RattleType = held_type.the_row in
     let Pointer : RattleType = pointer_type.the_row Held in
     let Slot : RattleType = slot_type.the_row in
-    let it : Recast Pointer Slot = record {
-      at = λ x. x.at;
-      alloc = λ x. x.alloc;
+    let it : Recast Pointer Slot (pair_of Pointer (λ x. x.at) (λ x. x.alloc)) = record {
       owned = λ x. behind Held x.alloc x.at x.value;
       made = λ x. record { at = x.at; alloc = x.alloc; held = x.value };
       says = λ x y. y.held ≡ x.value;
@@ -27,4 +26,5 @@ of_pointer_spec 𝓤 𝓛 𝓜 𝓡 wired =
       last = λ x. tt;
       silent = λ x end. refl;
     } in
-    recast_spec Pointer Slot it 𝓤 𝓛 𝓜 𝓡 #self _ _ (code.unfolded 𝓤 𝓛.H 𝓜 𝓡 wired)
+    recast_pair Pointer Slot (λ x. x.at) (λ x. x.alloc) it 𝓤 𝓛 𝓜 𝓡 #self _ _
+    (code.unfolded 𝓤 𝓛.H 𝓜 𝓡 wired)

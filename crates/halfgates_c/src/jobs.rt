@@ -1,0 +1,103 @@
+//! Lists of jobs.
+
+ghost use Rattle.std.specs.Prelude.{◌≡◌, ◌≢◌, ◌≤◌, IfErr, IfOk, MatchResult, OnErr, Some, length, map, pos};
+ghost use Rattle.gc_kept.specs.Jobs.{AreAllEvaluated, HasListFault};
+ghost use Rattle.gc_kept.specs.declared.held.Held.TheVariants as held;
+ghost use Rattle.halfgates_c.specs.Answers.{Answers};
+ghost use Rattle.halfgates_c.specs.Holding.{OfJob, OfJobs, OfNoJobs};
+ghost use Rattle.halfgates_c.specs.Lending.{handle_of};
+
+use crate::code::{MEMORY, NULL_POINTER, WRONG_HANDLE, code_of};
+use crate::handle::Handle;
+use gc_handle::Lent;
+use gc_kept::{Held, KeptJob, evaluate_many};
+use std::alloc::{AllocError, Global};
+
+/// Takes each pointer with its right to read, for the time of a call. `put_all` gives them back.
+fn take_all(alloc: Global, handles: &mut [Handle]) -> Result<Vec<Lent<Held>, Global>, AllocError>
+    ensures taken { IfOk result (λ lents. handles.old ≡ map handle_of lents.items) }
+    ensures count { length handles.new ≡ length handles.old }
+    ensures kept { OnErr result (handles.new ≡ handles.old) }
+{
+    let mut lents = Vec::with_capacity(alloc, handles.len())?;
+    for i in 0..handles.len() {
+        lents.push_reserved(handles[i].take());
+    }
+    Ok(lents)
+}
+
+/// Gives back what was taken.
+fn put_all(mut lents: Vec<Lent<Held>, Global>, handles: &mut [Handle])
+    requires { length handles.old ≡ length lents.items }
+    ensures { handles.new ≡ map handle_of lents.items }
+{
+    while let Some(lent) = lents.pop() {
+        let place = lents.len();
+        handles[place].put(lent);
+    }
+}
+
+/// The job that a handle holds, or else the code.
+fn job_of(lent: &Lent<Held>) -> Result<&KeptJob, i32>
+    ensures { MatchResult result (λ job. lent.now.value ≡ Some (held.Job job.now))
+        (λ code. OfJob lent.now.value code (λ job. ⊥)) }
+{
+    match lent.get() {
+        Some(Held::Job(job)) => Ok(job),
+        Some(_) => Err(WRONG_HANDLE),
+        None => Err(NULL_POINTER),
+    }
+}
+
+/// The jobs that these handles hold, or else the code of the first that holds none.
+fn jobs_of(alloc: Global, lents: &[Lent<Held>]) -> Result<Vec<&KeptJob, Global>, i32>
+    ensures ok { IfOk result (λ jobs.
+        map (λ l. l.value) lents.now
+        ≡ map (λ j. Some (held.Job j)) (map (λ j. j.now) jobs.items)) }
+    ensures code { IfErr result (OfNoJobs (map (λ l. l.value) lents.now)) }
+{
+    let Ok(mut jobs) = Vec::with_capacity(alloc, lents.len()) else {
+        return Err(MEMORY);
+    };
+    for lent in lents {
+        let job = job_of(lent)?;
+        if jobs.push(job).is_err() {
+            return Err(MEMORY);
+        }
+    }
+    Ok(jobs)
+}
+
+/// Evaluates the jobs that these handles hold.
+fn evaluate_held(alloc: Global, lents: &[Lent<Held>], bits: &mut [u8]) -> i32
+    ensures answer { OfJobs (map (λ l. l.value) lents.now) result (λ jobs.
+        Answers result (AreAllEvaluated jobs bits.old bits.new)
+        (HasListFault jobs (length bits.old))) }
+    ensures kept { result ≢ pos 0 → bits.new ≡ bits.old }
+{
+    match jobs_of(alloc, lents) {
+        Ok(jobs) => code_of(evaluate_many(alloc, &jobs, bits)),
+        Err(code) => code,
+    }
+}
+
+/// Evaluates jobs, and writes the bits of the output wires, one job's after another's.
+#[unsafe(no_mangle)]
+pub extern "C" fn halfgates_evaluate_many(
+    alloc: Global,
+    jobs: &mut [Handle],
+    bits: &mut [u8],
+) -> i32
+    ensures answer { OfJobs (map (λ h. h.held) jobs.old) result (λ js.
+        Answers result (AreAllEvaluated js bits.old bits.new)
+        (HasListFault js (length bits.old))) }
+    ensures back { jobs.new ≡ jobs.old }
+    ensures kept { result ≢ pos 0 → bits.new ≡ bits.old }
+{
+    let Ok(lents) = take_all(alloc, jobs) else {
+        return MEMORY;
+    };
+    let code = evaluate_held(alloc, &lents, bits);
+    put_all(lents, jobs);
+    code
+}
