@@ -116,6 +116,24 @@ class Vectors(LibraryTest):
         first = circuit.wires - len(outputs)
         self.assertEqual(active[first:], evaluation["active_output_labels"])
 
+    def test_lists_of_jobs(self):
+        """Of one circuit, and of several: what each job is evaluated to alone."""
+        mixed = []
+        for name, vector in worked_circuits():
+            seed = bytes.fromhex(vector["seed"])
+            jobs = []
+            with self.subTest(name), Circuit.read(text_of(vector)) as circuit:
+                with circuit.garble(seed) as garbling:
+                    garbled = garbling.write()
+                for evaluation in vector["evaluations"][:3]:
+                    values = [bits_of(text) for text in evaluation["values"]]
+                    jobs.append(circuit.bind(garbled, deal_all(circuit, seed, values)))
+                for count in range(10):
+                    listed = [jobs[i % len(jobs)] for i in range(count)]
+                    self.assertEqual(halfgates.evaluate_many(listed), [it.evaluate() for it in listed])
+            mixed += [jobs[0], *jobs, *jobs]
+        self.assertEqual(halfgates.evaluate_many(iter(mixed)), [it.evaluate() for it in mixed])
+
     def test_faults_of_circuits(self):
         for about, bad in by_about(load("bad_circuits")):
             with self.subTest(about):
@@ -357,6 +375,21 @@ class Refusals(LibraryTest):
             handle.close()
         self.assertEqual(self.circuit.gates, 5)
 
+    def test_lists_of_jobs(self):
+        garbled, evaluate_many = self.garbling.write(), halfgates.evaluate_many
+        forged = [label_file(0, bytes(16)), *self.files[1:]]
+        with self.circuit.bind(garbled, self.files) as honest, self.circuit.bind(garbled, forged) as wrong:
+            for place in range(9):
+                jobs = [honest] * 9
+                jobs[place] = wrong
+                self.assert_fault("48 UnknownOutputLabel", evaluate_many, jobs)
+            for other in (self.garbling, self.circuit, None, b""):
+                self.assertRaises(TypeError, evaluate_many, [honest, other])
+            wrong.close()
+            with self.assertRaisesRegex(ValueError, "is closed$"):
+                evaluate_many([honest, wrong])
+            self.assertEqual(evaluate_many([honest]), [b"\0\1"])
+
     def test_what_memory_faults_are(self):
         for code in (13, 23, 36, 46, 62):
             self.assertEqual(halfgates._library.name_of(code), "Memory")
@@ -523,6 +556,8 @@ for name, *words in [
     ("job_bind", circuit, garbled, 177, *null, sizes, 3, byref(handle)),
     ("job_bind", circuit, garbled, 177, labels, 96, *null, byref(handle)),
     ("evaluate", job, *null),
+    ("evaluate_many", *null, room, 2),
+    ("evaluate_many", (c_void_p * 1)(job._at.value), 1, *null),
     ("garble_from", circuit, offset, *null, 0, byref(handle)),
     ("garbling_deal", garbling, 0, *null, room, 32, byref(written)),
     ("garbling_deal", garbling, 0, bits, 1, *null, byref(written)),

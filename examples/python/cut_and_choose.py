@@ -15,16 +15,20 @@ from collections import Counter
 from hashlib import sha256
 from pathlib import Path
 
-from halfgates import Circuit, Fault
+from halfgates import Circuit, Fault, evaluate_many
 
 COPIES = 100
-AT_ONCE = 10  # how many garblings are in memory
+AT_ONCE = 10  # how many garblings or jobs are in memory
+
+
+def batches(copies):
+    for first in range(0, len(copies), AT_ONCE):
+        yield copies[first : first + AT_ONCE]
 
 
 def garblings_of(circuit, copies, seeds):
     """Each copy with its garbling, which is freed before the next batch is made."""
-    for first in range(0, len(copies), AT_ONCE):
-        batch = copies[first : first + AT_ONCE]
+    for batch in batches(copies):
         yield from zip(batch, circuit.garble_many(seeds[it] for it in batch))
 
 
@@ -76,13 +80,26 @@ class Evaluator:
                     wrong.append(copy)
         return wrong
 
-    def evaluate(self, copy, labels):
-        """The output bits of a copy, or the name of what is wrong with it."""
-        try:
-            with self.circuit.bind(self.files[copy], labels) as job:
-                return bytes(job.evaluate())
-        except Fault as fault:
-            return fault.name
+    def answers(self, copies, deal):
+        """The output bits of each copy, or the name of what is wrong with it."""
+        for batch in batches(copies):
+            jobs = []
+            for copy in batch:
+                try:
+                    jobs.append(self.circuit.bind(self.files[copy], deal(copy)))
+                except Fault as fault:
+                    yield fault.name
+            try:
+                yield from map(bytes, evaluate_many(jobs))
+            except Fault:
+                yield from map(answer_of, jobs)
+
+
+def answer_of(job):
+    try:
+        return bytes(job.evaluate())
+    except Fault as fault:
+        return fault.name
 
 
 def main():
@@ -103,7 +120,7 @@ def main():
         print(f"opened {len(evaluator.opened)}, forged {len(wrong)}")
         if wrong:
             sys.exit("the garbler cheats")
-        answers = Counter(evaluator.evaluate(it, garbler.deal(it)) for it in {*range(COPIES)} - evaluator.opened)
+        answers = Counter(evaluator.answers([*{*range(COPIES)} - evaluator.opened], garbler.deal))
         [(bits, count)] = answers.most_common(1)
         print(f"evaluated {COPIES - len(evaluator.opened)}, alike {count}")
         print(sum(bit << i for i, bit in enumerate(bits)))

@@ -15,7 +15,7 @@ fails raises a `Fault`, with its `code` and its `name`.
 """
 
 from ._bits import Bits, Buffer, from_bits, to_bits
-from ._handles import Circuit, Garbling, Job, decode, locate
+from ._handles import Circuit, Garbling, Job, decode, evaluate_many, locate
 from ._library import Fault, MemoryFault, is_memory, version
 from ._reports import GarbledReport, LabelsReport, Place, WireLabels
 
@@ -34,6 +34,7 @@ __all__ = [
     "Place",
     "WireLabels",
     "decode",
+    "evaluate_many",
     "from_bits",
     "is_memory",
     "locate",

@@ -60,12 +60,16 @@ class Handle:
         it._at = cls._Owner()
         return it
 
-    def _call(self, function: Callable[..., Any], *words: object) -> Any:
-        """What a function of the library returns for the handle. Its owner stays until the call ends."""
+    def _owned(self) -> c_void_p:
+        """The handle's owner: the handle stays as long as it does."""
         at = self._at
         if at is None:
             raise ValueError(f"this {type(self).__name__} is closed")
-        return function(at, *words)
+        return at
+
+    def _call(self, function: Callable[..., Any], *words: object) -> Any:
+        """What a function of the library returns for the handle. Its owner stays until the call ends."""
+        return function(self._owned(), *words)
 
     def close(self) -> None:
         """Frees the handle, at once or when the calls that are at work end. Closing again does nothing."""

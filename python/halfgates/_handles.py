@@ -3,6 +3,7 @@
 
 from contextlib import contextmanager
 from ctypes import byref, c_size_t, c_uint8, c_uint32, c_void_p, sizeof
+from itertools import accumulate
 from operator import index as integer
 from os import PathLike
 from pathlib import Path
@@ -335,6 +336,25 @@ class Job(Handle):
         with Lent(labels, is_written=True) as out:
             check(self._call(library.halfgates_job_output_labels, out.at, out.size))
         return labels
+
+
+def evaluate_many(jobs: Iterable[Job]) -> List[bytearray]:
+    """The bits of all output wires of each job, in their order, as `Job.evaluate` returns them.
+
+    Up to four jobs in a row that have equal circuits are evaluated side by side, which takes less time. Faults: 46, 48,
+    62. The first fault in the order of the jobs is raised.
+    """
+    listed = list(jobs)
+    for it in listed:
+        if not isinstance(it, Job):
+            raise TypeError(f"a {type(it).__name__} is no Job")
+    owners = [it._owned() for it in listed]  # they stay until the call ends
+    counts = [it._shape.output_wires for it in listed]
+    bits = bytearray(sum(counts))
+    handles = (c_void_p * len(owners))(*(it.value for it in owners))
+    with Lent(bits, is_written=True) as out:
+        check(library.halfgates_evaluate_many(handles, len(owners), out.at, out.size))
+    return [bits[end - count : end] for count, end in zip(counts, accumulate(counts))]
 
 
 def decode(labels: Buffer, decode_bits: Bits) -> bytearray:

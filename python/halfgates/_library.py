@@ -90,6 +90,7 @@ _FUNCTIONS = {
     "job_bind": (c_int32, _HANDLE, _BYTES, c_size_t, _BYTES, c_size_t, _SIZE, c_size_t, POINTER(_HANDLE)),
     "job_free": (None, _HANDLE),
     "evaluate": (c_int32, _HANDLE, _BYTES, c_size_t),
+    "evaluate_many": (c_int32, POINTER(_HANDLE), c_size_t, _BYTES, c_size_t),
     "evaluate_labels": (c_int32, _HANDLE, _BYTES, c_size_t, c_uint64, _BYTES, c_size_t, _BYTES, c_size_t),
     "job_output_labels": (c_int32, _HANDLE, _BYTES, c_size_t),
     "decode": (c_int32, _BYTES, c_size_t, _BYTES, c_size_t, _BYTES, c_size_t),

@@ -1,9 +1,10 @@
 // SPDX-License-Identifier: MIT OR Apache-2.0
 
+use std::borrow::Borrow;
 use std::fmt;
 use std::mem::size_of;
 
-use crate::call::{bits_of, filled, Handle};
+use crate::call::{bits_of, filled, room, Handle};
 use crate::fault::Fault;
 use crate::{sys, Label};
 
@@ -59,6 +60,36 @@ impl Job {
             })
         }
     }
+}
+
+/// The bits of all output wires of each job, as [`Job::evaluate`] returns them.
+///
+/// Up to four jobs in a row that have equal circuits are evaluated side by side, which takes less
+/// time.
+///
+/// # Errors
+///
+/// The first fault in the order of the jobs: [`Fault::JOB_MEMORY`],
+/// [`Fault::UNKNOWN_OUTPUT_LABEL`]; [`Fault::MEMORY`].
+#[doc(alias = "halfgates_evaluate_many")]
+pub fn evaluate_many<J: Borrow<Job>>(jobs: &[J]) -> Result<Vec<Vec<bool>>, Fault> {
+    let (mut handles, mut outputs) = (room(jobs.len())?, room(jobs.len())?);
+    handles.extend(jobs.iter().map(|it| it.borrow().handle.get()));
+    let size = jobs.iter().map(|it| it.borrow().output_wires).sum();
+    // SAFETY: the call reads the list and the jobs of its handles, and writes `size` bytes.
+    let bits = unsafe {
+        filled(size, |bits| {
+            sys::halfgates_evaluate_many(handles.as_ptr(), handles.len(), bits, size)
+        })?
+    };
+    let mut bits = bits_of(bits).into_iter();
+    for job in jobs {
+        let count = job.borrow().output_wires;
+        let mut of_job = room(count)?;
+        of_job.extend(bits.by_ref().take(count));
+        outputs.push(of_job);
+    }
+    Ok(outputs)
 }
 
 /// Shows no label.

@@ -69,7 +69,7 @@ use call::{bits_of, filled};
 pub use circuit::Circuit;
 pub use fault::Fault;
 pub use garbling::Garbling;
-pub use job::Job;
+pub use job::{evaluate_many, Job};
 pub use report::{
     EntryDifference, GarbledReport, LabelsReport, Place, RowDifference, Verdict, WireLabels,
 };
@@ -97,7 +97,7 @@ pub enum Version {
     V2 = 2,
 }
 
-/// The version of the library, such as `0.7.0`.
+/// The version of the library, such as `0.8.0`.
 #[must_use]
 #[doc(alias = "halfgates_version")]
 pub fn version() -> String {

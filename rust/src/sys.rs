@@ -245,6 +245,12 @@ extern "C" {
     ) -> i32;
     pub fn halfgates_job_free(job: *mut halfgates_job);
     pub fn halfgates_evaluate(job: *const halfgates_job, bits: *mut u8, size: usize) -> i32;
+    pub fn halfgates_evaluate_many(
+        jobs: *const *const halfgates_job,
+        count: usize,
+        bits: *mut u8,
+        size: usize,
+    ) -> i32;
     pub fn halfgates_job_output_labels(
         job: *const halfgates_job,
         outputs: *mut u8,

@@ -4,7 +4,9 @@
 
 use std::thread;
 
-use halfgates::{decode, locate, Circuit, Fault, Garbling, Label, Verdict, Version};
+use halfgates::{
+    decode, evaluate_many, locate, Circuit, Fault, Garbling, Job, Label, Verdict, Version,
+};
 
 const FULL_ADDER: &str = include_str!("../../examples/full_adder.txt");
 const SEED: [u8; 32] = [7; 32];
@@ -263,6 +265,26 @@ fn an_output_label_that_nothing_recognises() {
 }
 
 #[test]
+fn lists_of_jobs() {
+    let (circuit, garbling) = (adder(), garbling());
+    let garbled = garbling.write(Version::V2).unwrap();
+    let mut jobs = Vec::new();
+    for count in 0..10 {
+        let alone: Result<Vec<_>, _> = jobs.iter().map(Job::evaluate).collect();
+        assert_eq!(evaluate_many(&jobs), alone);
+        let files = (0..3).map(|i| garbling.deal(i, &[count >> i & 1 == 1]).unwrap());
+        jobs.push(circuit.bind(&garbled, &files.collect::<Vec<_>>()).unwrap());
+    }
+    let twice = [&jobs[7], &jobs[7]];
+    assert_eq!(evaluate_many(&twice), Ok(vec![vec![true; 2]; 2]));
+
+    let mut files = label_files(&garbling);
+    files[1][16..].fill(0xaa);
+    jobs[5] = circuit.bind(&garbled, &files).unwrap();
+    assert_eq!(evaluate_many(&jobs), Err(Fault::UNKNOWN_OUTPUT_LABEL));
+}
+
+#[test]
 fn rows_and_labels_of_a_wrong_number() {
     let (circuit, garbling) = (adder(), garbling());
     let (rows, labels) = (garbling.rows().unwrap(), active_labels(&garbling));
@@ -363,6 +385,14 @@ fn one_handle_on_several_threads() {
             });
         }
     });
+}
+
+#[test]
+fn what_crosses_threads() {
+    fn crosses<T: Send + Sync>() {}
+    crosses::<Circuit>();
+    crosses::<Garbling>();
+    crosses::<Job>();
 }
 
 #[test]

@@ -133,6 +133,7 @@ static void wire_labels(halfgates_garbling *garbling) {
 
 static void jobs(halfgates_circuit *circuit, halfgates_job *job) {
     const size_t more[3] = {32, 32, 33}, wrapping[3] = {32, SIZE_MAX, 65}, late[2] = {1, 100};
+    halfgates_job *const absent[3] = {job, NULL, job}, *const alike[2] = {job, job};
     halfgates_job *made = NULL;
     CHECK_CODE(ABSENT, halfgates_job_bind(NULL, garbled, 177, labels, 96, SIZES, 3, &made));
     CHECK_CODE(ABSENT, halfgates_job_bind(circuit, garbled, 177, labels, 96, SIZES, 3, NULL));
@@ -149,6 +150,13 @@ static void jobs(halfgates_circuit *circuit, halfgates_job *job) {
     CHECK_CODE(ABSENT, halfgates_evaluate(NULL, room, 2));
     CHECK_CODE(HALFGATES_SMALL_BUFFER, halfgates_evaluate(job, room, 1));
     CHECK_CODE(HALFGATES_SMALL_BUFFER, halfgates_evaluate(job, NULL, 0));
+    CHECK_CODE(ABSENT, halfgates_evaluate_many(NULL, 1, room, 2));
+    CHECK_CODE(ABSENT, halfgates_evaluate_many(absent, 3, room, 6));
+    CHECK_CODE(ABSENT, halfgates_evaluate_many(absent, 3, room, 5));
+    CHECK_CODE(ABSENT, halfgates_evaluate_many(alike, 2, NULL, 4));
+    CHECK_CODE(HALFGATES_SMALL_BUFFER, halfgates_evaluate_many(alike, 2, room, 3));
+    CHECK_CODE(HALFGATES_SMALL_BUFFER, halfgates_evaluate_many(alike, 2, NULL, 0));
+    CHECK_CODE(HALFGATES_MEMORY, halfgates_evaluate_many(alike, SIZE_MAX, room, 4));
     check_untouched();
 }
 
@@ -228,6 +236,9 @@ static void other_types(void *circuit, void *garbling, void *job) {
 
         CHECK_CODE(OTHER, halfgates_evaluate(no_jobs[i], room, 2));
         CHECK_CODE(OTHER, halfgates_job_output_labels(no_jobs[i], room, 32));
+        halfgates_job *const other_first[3] = {job, no_jobs[i], NULL}, *const null_first[3] = {job, NULL, no_jobs[i]};
+        CHECK_CODE(OTHER, halfgates_evaluate_many(other_first, 3, room, 6));
+        CHECK_CODE(ABSENT, halfgates_evaluate_many(null_first, 3, room, 6));
     }
     CHECK(made == NULL && made_garbling == NULL && made_job == NULL);
     check_untouched();

@@ -192,6 +192,23 @@ void check_jobs(const halfgates::circuit &circuit, const halfgates::garbling &ga
     throws(48, [&] { (void)job.evaluate(); });
 }
 
+/* Lists of 0 to 9 jobs have the bits that each job has alone. One that isn't honest is a fault, wherever it is. */
+void check_lists_of_jobs(const halfgates::circuit &circuit, const halfgates::garbling &garbling) {
+    const bytes garbled = garbling.write();
+    std::vector<halfgates::job> jobs;
+    std::vector<bytes> expected;
+    for (std::uint8_t number = 0; number < 10; number++) {
+        CHECK(halfgates::evaluate_many(jobs) == expected);
+        const std::array<std::uint8_t, INPUTS> bits = bits_of(number % 8);
+        jobs.push_back(circuit.bind(garbled, {garbling.deal(0, {bits[0]}), garbling.deal(1, {bits[1], bits[2]})}));
+        expected.push_back(jobs.back().evaluate());
+        CHECK(expected.back() == circuit.plain(bits) && jobs.back().outputs() == OUTPUTS);
+    }
+    const halfgates::seed other = seed_of(OTHER_SEED);
+    jobs[6] = circuit.bind(garbled, {circuit.deal(other, 0, {1}), circuit.deal(other, 1, {1, 1})});
+    throws(48, [&] { (void)halfgates::evaluate_many(jobs); });
+}
+
 /* From labels of one's own, under a first AND number of one's own. */
 void check_own_labels(const halfgates::circuit &circuit) {
     const std::uint64_t first = (1ULL << 62) - ANDS;
@@ -247,6 +264,7 @@ int main(int count, char **words) {
     check_files(circuit, garbling);
     check_audits(circuit, garbling, count - 2, words + 2);
     check_jobs(circuit, garbling);
+    check_lists_of_jobs(circuit, garbling);
     check_own_labels(circuit);
     check_many(circuit);
     CHECK(halfgates::locate(text).fault == HALFGATES_OK);

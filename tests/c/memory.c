@@ -10,6 +10,8 @@ void *__real_malloc(size_t size);
 void *__real_realloc(void *at, size_t size);
 void __real_free(void *at);
 
+static const char AND_GATE[] = "1 3\n2 1 1\n1 1\n\n2 1 0 1 2 AND\n";
+
 static long until_refusal, refusals, growths, live;
 
 /* Whether this growth is the one to refuse. */
@@ -38,19 +40,32 @@ void __wrap_free(void *at) {
     __real_free(at);
 }
 
-/* Makes a call that may be refused memory. Where it is, the code is a Memory code, nothing is left, and it succeeds
- * when it is made again. */
-#define CALL(call) \
+/* Makes a call that may be refused memory. Where that makes it fail, the code is a Memory code, nothing is left, and it
+ * succeeds when it is made again. */
+#define CALL_THAT_MAY_GO_ON(call) \
     do { \
         const long before = live, refused = refusals; \
         int32_t code = (call); \
-        CHECK((code != HALFGATES_OK) == (refusals > refused)); \
         if (code != HALFGATES_OK) { \
-            CHECK(strcmp(halfgates_fault_name(code).text, "Memory") == 0); \
+            CHECK(refusals > refused && strcmp(halfgates_fault_name(code).text, "Memory") == 0); \
             CHECK(live == before); \
             CHECK_CODE(HALFGATES_OK, call); \
         } \
     } while (0)
+
+/* The same of a call that each refusal makes fail. */
+#define CALL(call) \
+    do { \
+        const long made = refusals; \
+        int failed = 0; \
+        CALL_THAT_MAY_GO_ON(failed_if(call, &failed)); \
+        CHECK(failed == (refusals > made)); \
+    } while (0)
+
+static int32_t failed_if(int32_t code, int *failed) {
+    *failed |= code != HALFGATES_OK;
+    return code;
+}
 
 /* Who asks for the size of a garbled file waits for no file. */
 static void check_sizes(halfgates_garbling *garbling) {
@@ -108,6 +123,41 @@ static void garble_many(halfgates_circuit *circuit) {
     }
 }
 
+/* Nine jobs, of the full adder but for one in the middle: each has the bits that it has alone. Jobs that are refused
+ * memory side by side are evaluated alone. */
+static void evaluate_many(halfgates_circuit *circuit) {
+    enum { COUNT = 9, ONE = 4 };
+    const uint8_t seed[32] = {6};
+    const size_t sizes[3] = {32, 32, 32};
+    uint8_t garbled[177], labels[96], outputs[2 * COUNT - 1], alone[2];
+    size_t written;
+    halfgates_circuit *and_gate = NULL;
+    halfgates_job *jobs[COUNT] = {NULL};
+    CALL(halfgates_circuit_read((const uint8_t *)AND_GATE, strlen(AND_GATE), &and_gate));
+    for (uint8_t i = 0; i < COUNT; i++) {
+        halfgates_circuit *of = i == ONE ? and_gate : circuit;
+        const size_t values = i == ONE ? 2 : 3, size = halfgates_garbled_size(of, 2);
+        halfgates_garbling *garbling = NULL;
+        CALL(halfgates_garble(of, seed, &garbling));
+        CALL(halfgates_garbling_write(garbling, 2, garbled, sizeof garbled, &written));
+        for (uint32_t k = 0; k < values; k++) {
+            const uint8_t bit = i >> k & 1;
+            CALL(halfgates_garbling_deal(garbling, k, &bit, 1, labels + 32 * k, 32, &written));
+        }
+        CALL(halfgates_job_bind(of, garbled, size, labels, 32 * values, sizes, values, &jobs[i]));
+        halfgates_garbling_free(garbling);
+    }
+    halfgates_circuit_free(and_gate);
+    CALL_THAT_MAY_GO_ON(halfgates_evaluate_many(jobs, COUNT, outputs, sizeof outputs));
+    for (size_t i = 0, at = 0; i < COUNT; i++) {
+        const size_t count = i == ONE ? 1 : 2;
+        CALL(halfgates_evaluate(jobs[i], alone, count));
+        CHECK(memcmp(outputs + at, alone, count) == 0);
+        at += count;
+        halfgates_job_free(jobs[i]);
+    }
+}
+
 /* All calls that take memory. */
 static void work(void) {
     const uint8_t *text = (const uint8_t *)FULL_ADDER, seed[32] = {5}, bits[3] = {1, 0, 1};
@@ -128,6 +178,7 @@ static void work(void) {
     CHECK(outputs[0] == 0 && outputs[1] == 1);
     CALL(halfgates_garble(circuit, seed, &garbling));
     garble_many(circuit);
+    evaluate_many(circuit);
     check_sizes(garbling);
     CALL(halfgates_garbling_write(garbling, 1, garbled, sizeof garbled, &written));
     CALL(halfgates_garbling_write(garbling, 2, garbled, sizeof garbled, &written));

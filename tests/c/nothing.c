@@ -40,6 +40,8 @@ static void check_circuit(const char *text, size_t values) {
     CHECK_CODE(HALFGATES_OK, halfgates_job_bind(circuit, garbled, size, values ? labels : NULL, 16 * values,
                                                 values ? lengths : NULL, values, &job));
     CHECK_CODE(HALFGATES_OK, halfgates_evaluate(job, NULL, 0));
+    CHECK_CODE(HALFGATES_OK, halfgates_evaluate_many(&job, 1, NULL, 0));
+    CHECK_CODE(HALFGATES_OK, halfgates_evaluate_many(NULL, 0, NULL, 0));
     CHECK_CODE(HALFGATES_OK, halfgates_job_output_labels(job, NULL, 0));
     halfgates_circuit_free(circuit);
     halfgates_garbling_free(garbling);

@@ -93,6 +93,10 @@ int main(int count, char **words) {
     CHECK_REFUSED(halfgates_job_bind, circuit, garbled, 177, labels, 96, NULL, 3, &bound);
     CHECK_REFUSED(halfgates_evaluate, job, NULL, 1);
     CHECK_REFUSED(halfgates_evaluate, job, NULL, 2);
+    CHECK_REFUSED(halfgates_evaluate_many, NULL, 1, room, 2);
+    CHECK_REFUSED(halfgates_evaluate_many, &job, 1, NULL, 1);
+    CHECK_REFUSED(halfgates_evaluate_many, &job, 1, NULL, 2);
+    CHECK_REFUSED(halfgates_evaluate_many, &bound, 1, room, 2);
     CHECK_REFUSED(halfgates_job_output_labels, job, NULL, 1);
     CHECK_REFUSED(halfgates_job_output_labels, job, NULL, 32);
     CHECK_REFUSED(halfgates_garble_many, circuit, NULL, 1, &made_garbling);

@@ -116,6 +116,19 @@ static uint8_t *deal(halfgates_circuit *circuit, const uint8_t *seed, const stru
     return files;
 }
 
+/* Five jobs: four side by side, and one alone. Of each it is decided once whether its output labels are recognised. */
+static void evaluate_many(uint32_t version, halfgates_job *job, const struct values *values) {
+    enum { COUNT = 5 };
+    const size_t count = values->numbers.output_wires;
+    halfgates_job *const jobs[COUNT] = {job, job, job, job, job};
+    uint8_t *outputs = take(COUNT * count);
+    CALL(version == 2 ? COUNT : 0, halfgates_evaluate_many(jobs, COUNT, outputs, COUNT * count));
+    show(outputs, COUNT * count);
+    for (size_t i = 0; i < COUNT; i++)
+        CHECK(memcmp(outputs + i * count, values->outputs, count) == 0);
+    free(outputs);
+}
+
 /* The evaluator's calls. What is sent to it is public, but for the labels. */
 static void evaluate(halfgates_circuit *circuit, uint32_t version, const uint8_t *file, size_t file_size,
                      const uint8_t *labels, size_t labels_size, const size_t *sizes, const struct values *values) {
@@ -127,6 +140,7 @@ static void evaluate(halfgates_circuit *circuit, uint32_t version, const uint8_t
     show(outputs, count);
     CHECK(memcmp(outputs, values->outputs, count) == 0);
     CALL(0, halfgates_job_output_labels(job, output_labels, 16 * count));
+    evaluate_many(version, job, values);
     halfgates_job_free(job);
     free(outputs), free(output_labels);
 }

@@ -54,13 +54,14 @@ struct shared {
     const halfgates_circuit *circuit;
     const halfgates_garbling *garbling;
     const halfgates_job *job;
+    halfgates_job *jobs[3]; /* the same job three times */
     uint8_t garbled[177], zero[16], outputs[2];
 };
 
 static void *read_all(void *at) {
     const struct shared *shared = at;
     const uint8_t bits[3] = {1, 0, 1};
-    uint8_t garbled[177], zero[16], outputs[2];
+    uint8_t garbled[177], zero[16], outputs[2], many[6];
     halfgates_numbers numbers;
     size_t written;
     for (int round = 0; round < ROUNDS; round++) {
@@ -74,6 +75,9 @@ static void *read_all(void *at) {
         CHECK(memcmp(zero, shared->zero, sizeof zero) == 0);
         CHECK_CODE(HALFGATES_OK, halfgates_evaluate(shared->job, outputs, sizeof outputs));
         CHECK(memcmp(outputs, shared->outputs, sizeof outputs) == 0);
+        CHECK_CODE(HALFGATES_OK, halfgates_evaluate_many(shared->jobs, 3, many, sizeof many));
+        for (int i = 0; i < 3; i++)
+            CHECK(memcmp(many + 2 * i, shared->outputs, 2) == 0);
         CHECK_CODE(HALFGATES_OK, halfgates_plain(shared->circuit, bits, 3, outputs, sizeof outputs));
         CHECK(memcmp(outputs, shared->outputs, sizeof outputs) == 0);
     }
@@ -99,7 +103,7 @@ static void share_handles(const halfgates_circuit *circuit) {
     CHECK_CODE(HALFGATES_OK, halfgates_evaluate(job, shared.outputs, 2));
     shared.circuit = circuit;
     shared.garbling = garbling;
-    shared.job = job;
+    shared.job = shared.jobs[0] = shared.jobs[1] = shared.jobs[2] = job;
     for (int i = 0; i < THREADS; i++)
         CHECK(pthread_create(&threads[i], NULL, read_all, &shared) == 0);
     for (int i = 0; i < THREADS; i++)
