@@ -201,27 +201,28 @@ pub data OrderText : Type 0 where
 
 -- The texts of an order.
 abbrev pub text_of : Order → OrderText
-text_of (Run circuit seed workers hex values) =
-    run (string_bytes circuit) (string_bytes seed) workers hex (map string_bytes values.items)
-text_of (Plain circuit hex values) =
-    plain (string_bytes circuit) hex (map string_bytes values.items)
+text_of (Run o) =
+    run (string_bytes o.circuit) (string_bytes o.seed) o.workers o.hex
+    (map string_bytes o.values.items)
+text_of (Plain o) = plain (string_bytes o.circuit) o.hex (map string_bytes o.values.items)
 text_of (Check circuit) = check (string_bytes circuit)
 text_of (Locate circuit) = locate (string_bytes circuit)
 text_of (Stats circuit) = stats (string_bytes circuit)
-text_of (Garble circuit seed out version workers) =
-    garble (string_bytes circuit) (string_bytes seed) (string_bytes out) version workers
-text_of (Deal circuit seed index value out) =
-    deal (string_bytes circuit) (string_bytes seed) index (string_bytes value) (string_bytes out)
-text_of (Eval circuit garbled workers hex labels) =
-    eval (string_bytes circuit) (string_bytes garbled) workers hex (map string_bytes labels.items)
-text_of (Jobs circuit list workers hex) =
-    jobs (string_bytes circuit) (string_bytes list) workers hex
-text_of (Labels circuit seed from count values) =
-    list_labels (string_bytes circuit) (string_bytes seed) from count
-    (map string_bytes values.items)
-text_of (Audit circuit seed garbled labels) =
-    audit (string_bytes circuit) (string_bytes seed) (string_bytes garbled)
-    (map string_bytes labels.items)
+text_of (Garble o) =
+    garble (string_bytes o.circuit) (string_bytes o.seed) (string_bytes o.out) o.version o.workers
+text_of (Deal o) =
+    deal (string_bytes o.circuit) (string_bytes o.seed) o.index (string_bytes o.value)
+    (string_bytes o.out)
+text_of (Eval o) =
+    eval (string_bytes o.circuit) (string_bytes o.garbled) o.workers o.hex
+    (map string_bytes o.labels.items)
+text_of (Jobs o) = jobs (string_bytes o.circuit) (string_bytes o.list) o.workers o.hex
+text_of (Labels o) =
+    list_labels (string_bytes o.circuit) (string_bytes o.seed) o.from o.count
+    (map string_bytes o.values.items)
+text_of (Audit o) =
+    audit (string_bytes o.circuit) (string_bytes o.seed) (string_bytes o.garbled)
+    (map string_bytes o.labels.items)
 
 -- The word that clap found for an id that has one word,
 abbrev pub word_of : List ℕ → List Row → List ℕ

@@ -15,7 +15,7 @@ use clap::{Arg, ArgAction, Command};
 use std::alloc::{AllocError, Global};
 
 /// The version of the program.
-const VERSION: &str = "0.7.0";
+const VERSION: &str = "0.8.0";
 
 /// The greatest number that a word or an option takes. No circuit has as many wires.
 const MOST: u64 = 4_294_967_295;
@@ -29,90 +29,121 @@ may be /dev/stdin. Other users of the machine can see a command line, but not th
 Example, with the seed in seed.txt:
   halfgates garble adder.txt --args-from seed.txt adder.garbled";
 
-const RUN_HELP: &str = "\
+/// The help of a command, which ends by naming the option that clap doesn't know.
+macro_rules! command_help {
+    ($help:literal) => {
+        concat!(
+            $help,
+            "\n\nWith `--args-from FILE` the lines of FILE are arguments: see `halfgates --help`."
+        )
+    };
+}
+
+const RUN_HELP: &str = command_help!(
+    "\
 Prints the output values, one per line: a character 0 or 1 for each wire, in wire order, or with \
 --hex a text that is read as a value.
 
 Example, with a full adder in adder.txt that reads three bits:
-  halfgates run adder.txt 0000000000000000000000000000000000000000000000000000000000000000 1 0 1";
+  halfgates run adder.txt 0000000000000000000000000000000000000000000000000000000000000000 1 0 1"
+);
 
-const CHECK_HELP: &str = "\
+const CHECK_HELP: &str = command_help!(
+    "\
 Prints six lines: `gates`, `wires` and `and` with the number of gates, wires and AND gates, \
 `inputs` and `outputs` with the number of values and the number of wires of each, and `digest` \
 with the SHA-256 of the circuit's canonical text in hexadecimal digits. Two files of the same \
 circuit have the same digest.
 
 Example:
-  halfgates check adder.txt";
+  halfgates check adder.txt"
+);
 
-const LOCATE_HELP: &str = "\
+const LOCATE_HELP: &str = command_help!(
+    "\
 Prints `no fault` where the text spells a circuit. Otherwise it prints `fault` with the code and \
 the name of the first fault, `line` and `column` with its place and, where they apply, `gate` and \
 `wire`. Lines and columns are counted from 1, and gates from 0. A column is a byte.
 
 Example:
-  halfgates locate adder.txt";
+  halfgates locate adder.txt"
+);
 
-const STATS_HELP: &str = "\
+const STATS_HELP: &str = command_help!(
+    "\
 Prints ten lines: `xor`, `and`, `inv`, `eq` and `eqw` with the number of gates of each operation, \
 `depth` and `and_depth` with the greatest depth of a wire in gates and in AND gates, `unread` with \
 the number of gates that set a wire that no gate and no output value reads, and `garbled1` and \
 `garbled2` with the number of bytes of the garbled file of version 1 and of version 2.
 
 Example:
-  halfgates stats adder.txt";
+  halfgates stats adder.txt"
+);
 
-const PLAIN_HELP: &str = "\
+const PLAIN_HELP: &str = command_help!(
+    "\
 Prints the output values, one per line: a character 0 or 1 for each wire, in wire order, or with \
 --hex a text that is read as a value.
 
 Example, with a full adder in adder.txt that reads three bits:
-  halfgates plain adder.txt 1 0 1";
+  halfgates plain adder.txt 1 0 1"
+);
 
-const GARBLE_HELP: &str = "\
+const GARBLE_HELP: &str = command_help!(
+    "\
 Writes the garbled file OUT, and prints `wrote` with the number of its bytes. Whoever has it, the \
 circuit and a label file for each input value can evaluate the circuit, without the seed or the \
 values.
 
 Example:
   halfgates garble adder.txt 0000000000000000000000000000000000000000000000000000000000000000 \
-adder.garbled";
+adder.garbled"
+);
 
-const DEAL_HELP: &str = "\
+const DEAL_HELP: &str = command_help!(
+    "\
 Writes the label file OUT, with a label for each wire of the input value, and prints `wrote` with \
 the number of its bytes. The seed must be that of the garbled file.
 
 Example, with a full adder in adder.txt that reads three bits, of which the first is 1:
   halfgates deal adder.txt 0000000000000000000000000000000000000000000000000000000000000000 0 1 \
-first.labels";
+first.labels"
+);
 
-const EVAL_HELP: &str = "\
+const EVAL_HELP: &str = command_help!(
+    "\
 Prints the output values, one per line: a character 0 or 1 for each wire, in wire order, or with \
 --hex a text that is read as a value. There must be a label file for each input value of the \
 circuit, in any order. Neither the seed nor the values are needed.
 
 Example, with a full adder in adder.txt that reads three bits:
-  halfgates eval adder.txt adder.garbled first.labels second.labels third.labels";
+  halfgates eval adder.txt adder.garbled first.labels second.labels third.labels"
+);
 
-const JOBS_HELP: &str = "\
+const JOBS_HELP: &str = command_help!(
+    "\
 Each line of LIST that is not blank is a job: the name of its garbled file and then the names of \
 its label files, as `eval` takes them, with spaces or tabs between them. Prints the output values \
 of each job, one per line, and then an empty line.
 
 Example, with a full adder in adder.txt that reads three bits, and the line \
 `adder.garbled first.labels second.labels third.labels` in list.txt:
-  halfgates jobs adder.txt list.txt --workers 4";
+  halfgates jobs adder.txt list.txt --workers 4"
+);
 
-const LABELS_HELP: &str = "\
+const LABELS_HELP: &str = command_help!(
+    "\
 Prints a line for each wire that is set, in wire order: the wire, its zero label, its active label \
 for these values, and its bit. A label has 32 hexadecimal digits. These lines reveal the values \
 and the labels: keep them as secret as the seed.
 
 Example, with a full adder in adder.txt that reads three bits, for the two wires from wire 6 on:
   halfgates labels adder.txt 0000000000000000000000000000000000000000000000000000000000000000 \
---from 6 --count 2 1 0 1";
+--from 6 --count 2 1 0 1"
+);
 
-const AUDIT_HELP: &str = "\
+const AUDIT_HELP: &str = command_help!(
+    "\
 Garbles the circuit, and compares the files with what that makes. Prints a line for each part of \
 the garbled file, with `right`, or with `wrong` and where the part first differs: `digest`, \
 `counts`, `rows`, `bits`, which are the decode bits, and `entries`, which a file of version 1 \
@@ -122,7 +153,8 @@ for, or what is wrong with it, and finally `honest` if all is right, or else `di
 
 Example, with a full adder in adder.txt and the label file of its first input value:
   halfgates audit adder.txt 0000000000000000000000000000000000000000000000000000000000000000 \
-adder.garbled first.labels";
+adder.garbled first.labels"
+);
 
 const CIRCUIT_HELP: &str = "The file of the circuit, in Bristol Fashion";
 

@@ -5,4 +5,7 @@ mod commands;
 mod order;
 mod words;
 
-pub use order::{Asked, Order, asked_of, order_of};
+pub use order::{
+    Asked, AuditOrder, DealOrder, EvalOrder, GarbleOrder, JobsOrder, LabelsOrder, Order,
+    PlainOrder, RunOrder, asked_of, order_of,
+};

@@ -12,22 +12,123 @@ use clap::{ArgMatches, Error};
 use gc_file::Version;
 use std::alloc::{AllocError, Global};
 
+/// Garble a circuit and evaluate it on these values.
+#[derive(Drop)]
+pub struct RunOrder {
+    /// The name of the circuit's file.
+    pub circuit: String,
+    /// The text of the seed.
+    pub seed: String,
+    /// How many workers garble.
+    pub workers: u32,
+    /// Whether output values are printed in hexadecimal digits.
+    pub hex: bool,
+    /// The text of each input value, in order.
+    pub values: Vec<String>,
+}
+
+/// Evaluate a circuit on these values, without garbling.
+#[derive(Drop)]
+pub struct PlainOrder {
+    /// The name of the circuit's file.
+    pub circuit: String,
+    /// Whether output values are printed in hexadecimal digits.
+    pub hex: bool,
+    /// The text of each input value, in order.
+    pub values: Vec<String>,
+}
+
+/// Garble a circuit into a file.
+#[derive(Drop)]
+pub struct GarbleOrder {
+    /// The name of the circuit's file.
+    pub circuit: String,
+    /// The text of the seed.
+    pub seed: String,
+    /// The name of the garbled file.
+    pub out: String,
+    /// The version of the garbled file.
+    pub version: Version,
+    /// How many workers garble.
+    pub workers: u32,
+}
+
+/// Write the labels of an input value into a file.
+#[derive(Drop)]
+pub struct DealOrder {
+    /// The name of the circuit's file.
+    pub circuit: String,
+    /// The text of the seed.
+    pub seed: String,
+    /// The index of the input value.
+    pub index: u32,
+    /// The text of the input value.
+    pub value: String,
+    /// The name of the label file.
+    pub out: String,
+}
+
+/// Evaluate a circuit from a garbled file and label files.
+#[derive(Drop)]
+pub struct EvalOrder {
+    /// The name of the circuit's file.
+    pub circuit: String,
+    /// The name of the garbled file.
+    pub garbled: String,
+    /// How many workers evaluate.
+    pub workers: u32,
+    /// Whether output values are printed in hexadecimal digits.
+    pub hex: bool,
+    /// The name of each label file, in the order of the arguments.
+    pub labels: Vec<String>,
+}
+
+/// Evaluate a circuit from each garbled file of a list and the label files on its line.
+#[derive(Drop)]
+pub struct JobsOrder {
+    /// The name of the circuit's file.
+    pub circuit: String,
+    /// The name of the list's file.
+    pub list: String,
+    /// How many workers evaluate.
+    pub workers: u32,
+    /// Whether output values are printed in hexadecimal digits.
+    pub hex: bool,
+}
+
+/// Print the labels and the bits of a circuit's wires for these values.
+#[derive(Drop)]
+pub struct LabelsOrder {
+    /// The name of the circuit's file.
+    pub circuit: String,
+    /// The text of the seed.
+    pub seed: String,
+    /// The first wire to print.
+    pub from: u32,
+    /// How many lines to print at most.
+    pub count: u32,
+    /// The text of each input value, in order.
+    pub values: Vec<String>,
+}
+
+/// Print whether a garbled file and label files are those of a circuit and a seed.
+#[derive(Drop)]
+pub struct AuditOrder {
+    /// The name of the circuit's file.
+    pub circuit: String,
+    /// The text of the seed.
+    pub seed: String,
+    /// The name of the garbled file.
+    pub garbled: String,
+    /// The name of each label file, in the order of the arguments.
+    pub labels: Vec<String>,
+}
+
 /// A command with its arguments. Whether the files that these name exist, and what they hold, the command checks.
 #[derive(Drop)]
 pub enum Order {
-    /// Garble a circuit and evaluate it on these values.
-    Run {
-        /// The name of the circuit's file.
-        circuit: String,
-        /// The text of the seed.
-        seed: String,
-        /// How many workers garble.
-        workers: u32,
-        /// Whether output values are printed in hexadecimal digits.
-        hex: bool,
-        /// The text of each input value, in order.
-        values: Vec<String>,
-    },
+    /// Garble a circuit and evaluate it.
+    Run(RunOrder),
     /// Print the size and the digest of a circuit.
     Check {
         /// The name of the circuit's file.
@@ -43,89 +144,20 @@ pub enum Order {
         /// The name of the circuit's file.
         circuit: String,
     },
-    /// Evaluate a circuit on these values, without garbling.
-    Plain {
-        /// The name of the circuit's file.
-        circuit: String,
-        /// Whether output values are printed in hexadecimal digits.
-        hex: bool,
-        /// The text of each input value, in order.
-        values: Vec<String>,
-    },
+    /// Evaluate a circuit without garbling.
+    Plain(PlainOrder),
     /// Garble a circuit into a file.
-    Garble {
-        /// The name of the circuit's file.
-        circuit: String,
-        /// The text of the seed.
-        seed: String,
-        /// The name of the garbled file.
-        out: String,
-        /// The version of the garbled file.
-        version: Version,
-        /// How many workers garble.
-        workers: u32,
-    },
+    Garble(GarbleOrder),
     /// Write the labels of an input value into a file.
-    Deal {
-        /// The name of the circuit's file.
-        circuit: String,
-        /// The text of the seed.
-        seed: String,
-        /// The index of the input value.
-        index: u32,
-        /// The text of the input value.
-        value: String,
-        /// The name of the label file.
-        out: String,
-    },
+    Deal(DealOrder),
     /// Evaluate a circuit from a garbled file and label files.
-    Eval {
-        /// The name of the circuit's file.
-        circuit: String,
-        /// The name of the garbled file.
-        garbled: String,
-        /// How many workers evaluate.
-        workers: u32,
-        /// Whether output values are printed in hexadecimal digits.
-        hex: bool,
-        /// The name of each label file, in the order of the arguments.
-        labels: Vec<String>,
-    },
-    /// Evaluate a circuit from each garbled file of a list and the label files on its line.
-    Jobs {
-        /// The name of the circuit's file.
-        circuit: String,
-        /// The name of the list's file.
-        list: String,
-        /// How many workers evaluate.
-        workers: u32,
-        /// Whether output values are printed in hexadecimal digits.
-        hex: bool,
-    },
-    /// Print the labels and the bits of a circuit's wires for these values.
-    Labels {
-        /// The name of the circuit's file.
-        circuit: String,
-        /// The text of the seed.
-        seed: String,
-        /// The first wire to print.
-        from: u32,
-        /// How many lines to print at most.
-        count: u32,
-        /// The text of each input value, in order.
-        values: Vec<String>,
-    },
-    /// Print whether a garbled file and label files are those of a circuit and a seed.
-    Audit {
-        /// The name of the circuit's file.
-        circuit: String,
-        /// The text of the seed.
-        seed: String,
-        /// The name of the garbled file.
-        garbled: String,
-        /// The name of each label file, in the order of the arguments.
-        labels: Vec<String>,
-    },
+    Eval(EvalOrder),
+    /// Evaluate a circuit from each garbled file of a list.
+    Jobs(JobsOrder),
+    /// Print the labels and the bits of a circuit's wires.
+    Labels(LabelsOrder),
+    /// Print whether files are those of a circuit and a seed.
+    Audit(AuditOrder),
 }
 
 /// What a command line asks for.
@@ -196,24 +228,24 @@ fn named_order(alloc: Global, name: &str, found: &ArgMatches<'_>) -> Result<Orde
 fn run_order(alloc: Global, found: &ArgMatches<'_>) -> Result<Order, AllocError>
     ensures { IfOk result (λ order. text_of order ≡ run_in (rows_of (found_of found.now))) }
 {
-    Ok(Order::Run {
+    Ok(Order::Run(RunOrder {
         circuit: word_of(alloc, found, "circuit")?,
         seed: word_of(alloc, found, "seed")?,
         workers: number_of(found, "workers"),
         hex: is_flagged(found, "hex"),
         values: words_of(alloc, found, "values")?,
-    })
+    }))
 }
 
 /// The order of `plain`, from what clap found of its arguments.
 fn plain_order(alloc: Global, found: &ArgMatches<'_>) -> Result<Order, AllocError>
     ensures { IfOk result (λ order. text_of order ≡ plain_in (rows_of (found_of found.now))) }
 {
-    Ok(Order::Plain {
+    Ok(Order::Plain(PlainOrder {
         circuit: word_of(alloc, found, "circuit")?,
         hex: is_flagged(found, "hex"),
         values: words_of(alloc, found, "values")?,
-    })
+    }))
 }
 
 /// The order of `check`, from what clap found of its arguments.
@@ -247,74 +279,74 @@ fn stats_order(alloc: Global, found: &ArgMatches<'_>) -> Result<Order, AllocErro
 fn garble_order(alloc: Global, found: &ArgMatches<'_>) -> Result<Order, AllocError>
     ensures { IfOk result (λ order. text_of order ≡ garble_in (rows_of (found_of found.now))) }
 {
-    Ok(Order::Garble {
+    Ok(Order::Garble(GarbleOrder {
         circuit: word_of(alloc, found, "circuit")?,
         seed: word_of(alloc, found, "seed")?,
         out: word_of(alloc, found, "out")?,
         version: version_of(number_of(found, "format")),
         workers: number_of(found, "workers"),
-    })
+    }))
 }
 
 /// The order of `deal`, from what clap found of its arguments.
 fn deal_order(alloc: Global, found: &ArgMatches<'_>) -> Result<Order, AllocError>
     ensures { IfOk result (λ order. text_of order ≡ deal_in (rows_of (found_of found.now))) }
 {
-    Ok(Order::Deal {
+    Ok(Order::Deal(DealOrder {
         circuit: word_of(alloc, found, "circuit")?,
         seed: word_of(alloc, found, "seed")?,
         index: number_of(found, "index"),
         value: word_of(alloc, found, "value")?,
         out: word_of(alloc, found, "out")?,
-    })
+    }))
 }
 
 /// The order of `eval`, from what clap found of its arguments.
 fn eval_order(alloc: Global, found: &ArgMatches<'_>) -> Result<Order, AllocError>
     ensures { IfOk result (λ order. text_of order ≡ eval_in (rows_of (found_of found.now))) }
 {
-    Ok(Order::Eval {
+    Ok(Order::Eval(EvalOrder {
         circuit: word_of(alloc, found, "circuit")?,
         garbled: word_of(alloc, found, "garbled")?,
         workers: number_of(found, "workers"),
         hex: is_flagged(found, "hex"),
         labels: words_of(alloc, found, "labels")?,
-    })
+    }))
 }
 
 /// The order of `jobs`, from what clap found of its arguments.
 fn jobs_order(alloc: Global, found: &ArgMatches<'_>) -> Result<Order, AllocError>
     ensures { IfOk result (λ order. text_of order ≡ jobs_in (rows_of (found_of found.now))) }
 {
-    Ok(Order::Jobs {
+    Ok(Order::Jobs(JobsOrder {
         circuit: word_of(alloc, found, "circuit")?,
         list: word_of(alloc, found, "list")?,
         workers: number_of(found, "workers"),
         hex: is_flagged(found, "hex"),
-    })
+    }))
 }
 
 /// The order of `labels`, from what clap found of its arguments.
 fn labels_order(alloc: Global, found: &ArgMatches<'_>) -> Result<Order, AllocError>
     ensures { IfOk result (λ order. text_of order ≡ labels_in (rows_of (found_of found.now))) }
 {
-    Ok(Order::Labels {
+    Ok(Order::Labels(LabelsOrder {
         circuit: word_of(alloc, found, "circuit")?,
         seed: word_of(alloc, found, "seed")?,
         from: number_of(found, "from"),
         count: number_of(found, "count"),
         values: words_of(alloc, found, "values")?,
-    })
+    }))
 }
 
 /// The order of `audit`, from what clap found of its arguments.
 fn audit_order(alloc: Global, found: &ArgMatches<'_>) -> Result<Order, AllocError>
     ensures { IfOk result (λ order. text_of order ≡ audit_in (rows_of (found_of found.now))) }
 {
-    Ok(Order::Audit {
+    Ok(Order::Audit(AuditOrder {
         circuit: word_of(alloc, found, "circuit")?,
         seed: word_of(alloc, found, "seed")?,
         garbled: word_of(alloc, found, "garbled")?,
         labels: words_of(alloc, found, "labels")?,
-    })
+    }))
 }
