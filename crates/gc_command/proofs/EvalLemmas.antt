@@ -98,5 +98,6 @@ module _ (bytes : FileBytes) (Failed : List ℕ → Type 0) (circuit garbled : L
       → digest ≢ sha256 (canonical_text c) → Has (faults.Binding OtherCircuit)
   other-fault c same read is other =
       job-fault c is.g is.files
-      (eval-files same (λ n. refl) read is.garbled_read is.labels_read) (faults.Binding OtherCircuit)
+      (eval-files same (λ n. refl) read is.garbled_read is.labels_read)
+      (faults.Binding OtherCircuit)
       (λ _. other_circuit (λ named. other (is.named ∙ named)))

@@ -148,7 +148,8 @@ hex_text-read bits =
       right_length = nat_eq-same (length digits) (2 * bytes_for (length bits))
           (length-encode_with lower_digits (packed bits)
           ∙ ap (λ n. 2 * n) (length-packed bits));
-      all_digits = encoded-digits lower_digits (packed bits) IsDigits-lower_digits (packed-bytes bits);
+      all_digits = encoded-digits lower_digits (packed bits) IsDigits-lower_digits
+          (packed-bytes bits);
       rest_zero = λ i past. encoded-bit bits i ∙ packed-past bits i past;
       in_wire_order = sym (unpacked-packed bits)
           ∙ ap (λ f. map f (range_with_len 0 (length bits)))

@@ -9,9 +9,10 @@ ghost use Rattle.gc_command.specs.Check.{AnswersCheck, HasCheckFault, check_line
 ghost use Rattle.gc_command.specs.Fault.{HasReadCause};
 
 use crate::circuit_file::read_circuit_and_digest;
+use crate::context::Context;
 use crate::fault::Fault;
 use crate::lines::{push_count, push_number};
-use crate::progress::{Progress, Work};
+use crate::progress::{Progress, Stage};
 use gc_circuit::Circuit;
 use gc_disk::Files;
 use std::alloc::{AllocError, Allocator};
@@ -19,11 +20,9 @@ use std::thread::Threads;
 
 /// Reads the circuit of a file, and returns the lines of its numbers and its digest.
 pub fn check<R: Threads, A: Allocator + Copy + Send + Sync, F: Files, P: Progress>(
-    rt: &R,
-    alloc: A,
+    context: &Context<'_, R, A, P>,
     circuit: &str,
     files: &mut F,
-    progress: &P,
 ) -> Result<Vec<u8, A>, Fault>
     ensures answers { IfOk result (λ lines. IfSome (F.bytes files.old circuit.now)
         (λ bytes. AnswersCheck bytes lines.items)) }
@@ -33,8 +32,9 @@ pub fn check<R: Threads, A: Allocator + Copy + Send + Sync, F: Files, P: Progres
         (HasReadCause (F.failures files.old) (F.failures files.new) circuit.now) }
     ensures same { (name : List ℕ) → F.bytes files.new name ≡ F.bytes files.old name }
 {
-    progress.begin(1, 1, Work::ReadingCircuit);
-    let (circuit, digest) = read_circuit_and_digest(rt, alloc, circuit, files)?;
+    let alloc = context.alloc;
+    context.progress.begin(1, 1, Stage::ReadingCircuit);
+    let (circuit, digest) = read_circuit_and_digest(context.rt, alloc, circuit, files)?;
     Ok(check_lines(alloc, &circuit, &digest)?)
 }
 

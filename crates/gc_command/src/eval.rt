@@ -5,18 +5,21 @@ ghost use Rattle.sha2.specs.Sha256.{sha256};
 ghost use Rattle.gc_netlist.specs.Canon.{canonical_text};
 ghost use Rattle.gc_circuit.specs.Digest.{IsBegun};
 ghost use Rattle.gc_disk.specs.Files.{HasFailed};
+ghost use Rattle.gc_command.specs.Lines.{form_by_flag};
 ghost use Rattle.gc_command.specs.Eval.{FilesGive, HasFilesFault, AnswersEval, HasEvalFault};
 
 use crate::circuit_file::{HashedPart, read_and_begin_digest};
+use crate::context::Context;
 use crate::evaluated_files::{read_garbled_file, read_label_files};
 use crate::fault::Fault;
 use crate::job::evaluate_files;
 use crate::lines::output_lines;
-use crate::progress::{Progress, Work};
+use crate::progress::{Progress, Stage};
 use crate::value_form::ValueForm;
 use gc_circuit::{BegunDigest, Circuit};
 use gc_disk::Files;
 use gc_job::BindFault;
+use gc_order::EvalOrder;
 use std::alloc::Allocator;
 use std::sync::Wait;
 use std::thread;
@@ -25,34 +28,30 @@ use std::thread::Threads;
 /// Evaluates the circuit of a file from the garbled file and the label files of these names, by this many workers, and
 /// returns the lines of the output values that they decode to, in this form. Nothing of these files is trusted.
 pub fn eval<R: Threads + Wait + Sync, A: Allocator + Copy + Send + Sync, F: Files, P: Progress>(
-    rt: &R,
-    alloc: A,
-    circuit: &str,
-    garbled: &str,
-    workers: u32,
-    form: ValueForm,
-    labels: &[String],
+    context: &Context<'_, R, A, P>,
+    order: &EvalOrder,
     files: &mut F,
-    progress: &P,
 ) -> Result<Vec<u8, A>, Fault>
-    ensures answers { IfOk result
-        (λ lines. AnswersEval (F.bytes files.old) circuit.now garbled.now workers form
-        (map string_bytes labels.now) lines.items) }
+    ensures answers { IfOk result (λ lines. AnswersEval (F.bytes files.old)
+        (string_bytes order.now.circuit) (string_bytes order.now.garbled) order.now.workers
+        (form_by_flag order.now.hex) (map string_bytes order.now.labels.items) lines.items) }
     ensures fault { IfErr result (HasEvalFault (F.bytes files.old)
-        (HasFailed (F.failures files.old) (F.failures files.new)) circuit.now garbled.now workers
-        (map string_bytes labels.now)) }
+        (HasFailed (F.failures files.old) (F.failures files.new)) (string_bytes order.now.circuit)
+        (string_bytes order.now.garbled) order.now.workers
+        (map string_bytes order.now.labels.items)) }
     ensures same { (name : List ℕ) → F.bytes files.new name ≡ F.bytes files.old name }
 {
-    progress.begin(1, 3, Work::ReadingCircuit);
-    let (circuit, begun) = read_and_begin_digest(rt, alloc, circuit, files, HashedPart::Beginning)?;
-    let (digest, evaluated) = digest_and_evaluation(
-        rt, alloc, &circuit, begun, garbled, workers, labels, files, progress,
-    );
+    let (rt, alloc) = (context.rt, context.alloc);
+    let name = order.circuit.as_str();
+    context.progress.begin(1, 3, Stage::ReadingCircuit);
+    let (circuit, begun) = read_and_begin_digest(rt, alloc, name, files, HashedPart::Beginning)?;
+    let (digest, evaluated) = digest_and_evaluation(context, order, &circuit, begun, files);
     let evaluated = evaluated?;
     if digest != evaluated.named {
         return Err(Fault::Binding(BindFault::OtherCircuit));
     }
     let outputs = evaluated.outputs?;
+    let form = ValueForm::by_flag(order.hex);
     Ok(output_lines(alloc, form, circuit.output_widths(), &outputs)?)
 }
 
@@ -73,30 +72,26 @@ fn digest_and_evaluation<
     F: Files,
     P: Progress,
 >(
-    rt: &R,
-    alloc: A,
+    context: &Context<'_, R, A, P>,
+    order: &EvalOrder,
     circuit: &Circuit<A>,
     begun: BegunDigest,
-    garbled: &str,
-    workers: u32,
-    labels: &[String],
     files: &mut F,
-    progress: &P,
 ) -> ([u8; 32], Result<Evaluated<A>, Fault>)
     requires { IsBegun circuit.now begun }
     ensures digest { result.0 ≡ sha256 (canonical_text circuit.now) }
     ensures evaluated { IfOk result.1 (λ made. FilesGive (F.bytes files.old) circuit.now
-        garbled.now workers (map string_bytes labels.now) made.named (λ bits. bits.items)
-        made.outputs) }
+        (string_bytes order.now.garbled) order.now.workers (map string_bytes order.now.labels.items)
+        made.named (λ bits. bits.items) made.outputs) }
     ensures fault { IfErr result.1 (HasFilesFault (F.bytes files.old)
-        (HasFailed (F.failures files.old) (F.failures files.new)) garbled.now
-        (map string_bytes labels.now)) }
+        (HasFailed (F.failures files.old) (F.failures files.new)) (string_bytes order.now.garbled)
+        (map string_bytes order.now.labels.items)) }
     ensures same { (name : List ℕ) → F.bytes files.new name ≡ F.bytes files.old name }
 {
     // `join_mut` says what becomes of the files, and `join` doesn't. It asks for closures that could be called again.
     let mut begun = Some(begun);
     thread::join_mut(
-        rt,
+        context.rt,
         &mut || -> [u8; 32]
             requires { IfSome begun (IsBegun circuit.now) }
             ensures { result ≡ sha256 (canonical_text circuit.entry.now) }
@@ -106,11 +101,7 @@ fn digest_and_evaluation<
                 None => circuit.digest(),
             }
         },
-        &mut || {
-            read_and_evaluate(
-                rt, alloc, circuit, garbled, workers, labels, files, progress,
-            )
-        },
+        &mut || read_and_evaluate(context, order, circuit, files),
     )
 }
 
@@ -122,29 +113,27 @@ fn read_and_evaluate<
     F: Files,
     P: Progress,
 >(
-    rt: &R,
-    alloc: A,
+    context: &Context<'_, R, A, P>,
+    order: &EvalOrder,
     circuit: &Circuit<A>,
-    garbled: &str,
-    workers: u32,
-    labels: &[String],
     files: &mut F,
-    progress: &P,
 ) -> Result<Evaluated<A>, Fault>
     ensures evaluated { IfOk result (λ made. FilesGive (F.bytes files.old) circuit.now
-        garbled.now workers (map string_bytes labels.now) made.named (λ bits. bits.items)
-        made.outputs) }
+        (string_bytes order.now.garbled) order.now.workers (map string_bytes order.now.labels.items)
+        made.named (λ bits. bits.items) made.outputs) }
     ensures fault { IfErr result (HasFilesFault (F.bytes files.old)
-        (HasFailed (F.failures files.old) (F.failures files.new)) garbled.now
-        (map string_bytes labels.now)) }
+        (HasFailed (F.failures files.old) (F.failures files.new)) (string_bytes order.now.garbled)
+        (map string_bytes order.now.labels.items)) }
     ensures same { (name : List ℕ) → F.bytes files.new name ≡ F.bytes files.old name }
 {
-    progress.begin(2, 3, Work::ReadingFiles);
-    let garbled = read_garbled_file(alloc, garbled, files)?;
-    let labels = read_label_files(alloc, labels, files)?;
+    let (rt, alloc) = (context.rt, context.alloc);
+    context.progress.begin(2, 3, Stage::ReadingFiles);
+    let name = order.garbled.as_str();
+    let garbled = read_garbled_file(alloc, name, files)?;
+    let labels = read_label_files(alloc, &order.labels, files)?;
     let gates = circuit.gates();
-    progress.begin(3, 3, Work::Evaluating { gates });
+    context.progress.begin(3, 3, Stage::Evaluating { gates });
     let named = garbled.digest();
-    let outputs = evaluate_files(rt, alloc, circuit, &named, garbled, &labels, workers);
+    let outputs = evaluate_files(rt, alloc, circuit, &named, garbled, &labels, order.workers);
     Ok(Evaluated { named, outputs })
 }

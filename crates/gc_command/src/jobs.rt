@@ -1,21 +1,24 @@
 //! The command `jobs`: evaluating a list of garbled files of one circuit.
 
-ghost use Rattle.std.specs.Prelude.{◌≡◌, ◌<◌, ◌≤◌, ℕ, List, All, length, map, sum, IfOk, IfErr, Err};
+ghost use Rattle.std.specs.Prelude.{◌≡◌, ◌<◌, ◌≤◌, ℕ, List, All, length, map, sum, IfOk, IfErr, Err, string_bytes};
 ghost use Rattle.gc_workers.specs.Workers.{AreFew};
 ghost use Rattle.gc_bank.specs.Jobs.{AreEvaluated, AreEvaluatedBy, AreOnOneCircuit};
 ghost use Rattle.gc_rounds.specs.declared.words.TheConstants.{MAX_JOBS};
 ghost use Rattle.gc_disk.specs.Files.{HasFailed};
+ghost use Rattle.gc_command.specs.Lines.{form_by_flag};
 ghost use Rattle.gc_command.specs.Jobs.{AnswersJobs, HasJobsFault, jobs_lines};
 
 use crate::circuit_file::read_circuit_and_digest;
+use crate::context::Context;
 use crate::fault::Fault;
 use crate::lines::push_output_lines;
 use crate::listed_job::read_listed_jobs;
-use crate::progress::{Progress, Work};
+use crate::progress::{Progress, Stage};
 use crate::value_form::ValueForm;
 use gc_bank::evaluate_jobs;
 use gc_disk::Files;
 use gc_job::{EvalFault, Job};
+use gc_order::JobsOrder;
 use gc_workers::Open;
 use std::alloc::{AllocError, Allocator};
 use std::thread::Threads;
@@ -24,26 +27,26 @@ use std::thread::Threads;
 /// label files on its line, and returns the lines of the output values that they decode to, in this form. Nothing of
 /// these files is trusted.
 pub fn jobs<R: Threads + Sync, A: Allocator + Copy + Send + Sync, F: Files, P: Progress>(
-    rt: &R,
-    alloc: A,
-    circuit: &str,
-    list: &str,
-    workers: u32,
-    form: ValueForm,
+    context: &Context<'_, R, A, P>,
+    order: &JobsOrder,
     files: &mut F,
-    progress: &P,
 ) -> Result<Vec<u8, A>, Fault>
-    ensures answers { IfOk result
-        (λ lines. AnswersJobs (F.bytes files.old) circuit.now list.now workers form lines.items) }
+    ensures answers { IfOk result (λ lines. AnswersJobs (F.bytes files.old)
+        (string_bytes order.now.circuit) (string_bytes order.now.list) order.now.workers
+        (form_by_flag order.now.hex) lines.items) }
     ensures fault { IfErr result (HasJobsFault (F.bytes files.old)
-        (HasFailed (F.failures files.old) (F.failures files.new)) circuit.now list.now workers) }
+        (HasFailed (F.failures files.old) (F.failures files.new)) (string_bytes order.now.circuit)
+        (string_bytes order.now.list) order.now.workers) }
     ensures same { (name : List ℕ) → F.bytes files.new name ≡ F.bytes files.old name }
 {
-    progress.begin(1, 3, Work::ReadingCircuit);
-    let (circuit, digest) = read_circuit_and_digest(rt, alloc, circuit, files)?;
+    let (rt, alloc, progress) = (context.rt, context.alloc, context.progress);
+    let (name, list) = (order.circuit.as_str(), order.list.as_str());
+    progress.begin(1, 3, Stage::ReadingCircuit);
+    let (circuit, digest) = read_circuit_and_digest(rt, alloc, name, files)?;
     let jobs = read_listed_jobs(alloc, &circuit, &digest, list, files, progress)?;
-    progress.begin(3, 3, Work::EvaluatingJobs { jobs: jobs.len() });
-    let outputs = evaluate_listed(rt, alloc, &jobs, workers)?;
+    progress.begin(3, 3, Stage::EvaluatingJobs { jobs: jobs.len() });
+    let outputs = evaluate_listed(rt, alloc, &jobs, order.workers)?;
+    let form = ValueForm::by_flag(order.hex);
     Ok(jobs_lines(alloc, form, circuit.output_widths(), &outputs)?)
 }
 

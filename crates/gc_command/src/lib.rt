@@ -4,6 +4,7 @@
 
 pub mod check;
 mod circuit_file;
+mod context;
 pub mod deal;
 pub mod eval;
 mod evaluated_files;
@@ -24,9 +25,11 @@ mod values;
 mod wrote;
 
 pub use circuit_file::{HashedPart, read_and_begin_digest, read_circuit, read_circuit_and_digest};
+pub use context::Context;
 pub use evaluated_files::{read_garbled_file, read_label_files};
 pub use fault::Fault;
+pub use job_list::words_of_line;
 pub use lines::{push_count, push_number, push_output_lines};
-pub use progress::{Progress, Silent, Work};
+pub use progress::{Progress, Silent, Stage};
 pub use value_form::{ValueForm, law_output_values, push_digits};
 pub use values::read_values;

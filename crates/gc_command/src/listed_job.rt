@@ -10,7 +10,7 @@ ghost use Rattle.gc_command.specs.Jobs.{AreListed, HasListFault, HasLinesFault, 
 use crate::evaluated_files::{read_garbled_file, read_label_files};
 use crate::fault::Fault;
 use crate::job_list::{listed_lines, words_of_line};
-use crate::progress::{Progress, Work};
+use crate::progress::{Progress, Stage};
 use gc_circuit::Circuit;
 use gc_disk::Files;
 use gc_job::Job;
@@ -61,11 +61,11 @@ fn read_jobs<'c, A: Allocator + Copy, F: Files, P: Progress>(
 {
     let mut jobs = Vec::with_capacity(alloc, lines.len())?;
     for line in lines {
-        let work = Work::ReadingJob {
+        let stage = Stage::ReadingJob {
             job: jobs.len().saturating_add(1),
             jobs: lines.len(),
         };
-        progress.begin(2, 3, work);
+        progress.begin(2, 3, stage);
         jobs.push(read_job(alloc, circuit, digest, line, files)?)?;
     }
     Ok(jobs)

@@ -4,7 +4,7 @@ use std::fmt::{self, Display, Formatter};
 
 /// What a command does in one of its steps.
 #[derive(Clone, Copy, Debug, PartialEq, Eq)]
-pub enum Work {
+pub enum Stage {
     /// Reading the circuit's file.
     ReadingCircuit,
     /// Reading the garbled file and the label files.
@@ -21,24 +21,24 @@ pub enum Work {
     EvaluatingJobs { jobs: usize },
 }
 
-impl Display for Work {
+impl Display for Stage {
     fn fmt<W: fmt::Write>(&self, f: &mut Formatter<W>) -> fmt::Result {
         match self {
-            Work::ReadingCircuit => f.write_str("reading the circuit"),
-            Work::ReadingFiles => f.write_str("reading the files"),
-            Work::ReadingJob { job, jobs } => write!(f, "reading job {job} of {jobs}"),
-            Work::Garbling { gates } => write!(f, "garbling {gates} gates"),
-            Work::Writing => f.write_str("writing the garbled file"),
-            Work::Evaluating { gates } => write!(f, "evaluating {gates} gates"),
-            Work::EvaluatingJobs { jobs } => write!(f, "evaluating {jobs} jobs"),
+            Stage::ReadingCircuit => f.write_str("reading the circuit"),
+            Stage::ReadingFiles => f.write_str("reading the files"),
+            Stage::ReadingJob { job, jobs } => write!(f, "reading job {job} of {jobs}"),
+            Stage::Garbling { gates } => write!(f, "garbling {gates} gates"),
+            Stage::Writing => f.write_str("writing the garbled file"),
+            Stage::Evaluating { gates } => write!(f, "evaluating {gates} gates"),
+            Stage::EvaluatingJobs { jobs } => write!(f, "evaluating {jobs} jobs"),
         }
     }
 }
 
 /// An observer of a command that may take long.
 pub trait Progress {
-    /// The command begins this work, which is step `step` of `steps`, counted from 1.
-    fn begin(&self, step: u32, steps: u32, work: Work);
+    /// The command begins this stage, which is step `step` of `steps`, counted from 1.
+    fn begin(&self, step: u32, steps: u32, stage: Stage);
 
     /// The command is done, or a fault ended it: what it returns is about to be printed.
     fn end(&self);
@@ -49,7 +49,7 @@ pub trait Progress {
 pub struct Silent;
 
 impl Progress for Silent {
-    fn begin(&self, _step: u32, _steps: u32, _work: Work) {}
+    fn begin(&self, _step: u32, _steps: u32, _stage: Stage) {}
 
     fn end(&self) {}
 }

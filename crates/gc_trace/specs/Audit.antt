@@ -118,7 +118,8 @@ pub data IsLabelsFound (c : Netlist) (seed : List ℕ) (file : LabelFileParts)
       IsLabelsFound c seed file false (labels_line file.index (Name (codes "width") ∷ []))
   -- or the label of a wire is neither of the two: the first such wire,
   wrong_label : (wire : ℕ) → slice_get c.input_widths file.index ≡ Some (length file.labels) →
-      IsFirstWrong (offset_of seed) (input_label_of seed) (first_wire_of c file.index) file.labels wire →
+      IsFirstWrong (offset_of seed) (input_label_of seed) (first_wire_of c file.index) file.labels
+      wire →
       IsLabelsFound c seed file false
       (labels_line file.index (Name (codes "wrong") ∷ Number wire ∷ []))
   -- or it is the dealer's for these bits.

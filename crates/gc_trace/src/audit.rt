@@ -22,13 +22,14 @@ use gc_audit::{
 };
 use gc_circuit::{BegunDigest, Circuit, Memory};
 use gc_command::{
-    Fault, HashedPart, Progress, Work, push_digits, push_number, read_and_begin_digest,
+    Context, Fault, HashedPart, Progress, Stage, push_digits, push_number, read_and_begin_digest,
     read_garbled_file, read_label_files,
 };
 use gc_disk::Files;
 use gc_file::{Garbled, LabelFile, Version};
 use gc_half::{Garbling, Mismatch, RowPair, garble_and_compare, garble_one_thread};
 use gc_label::Seed;
+use gc_order::AuditOrder;
 use gc_work::WorkFault;
 use std::alloc::{AllocError, Allocator};
 use std::sync::Wait;
@@ -48,31 +49,35 @@ pub struct Audited<A: Allocator> {
 /// gives, and returns what it finds. Nothing of these files is trusted. One thread garbles and compares; another may
 /// hash meanwhile.
 pub fn audit<R: Threads + Wait + Sync, A: Allocator + Copy + Send + Sync, F: Files, P: Progress>(
-    rt: &R,
-    alloc: A,
-    circuit: &str,
-    seed: &str,
-    garbled: &str,
-    labels: &[String],
+    context: &Context<'_, R, A, P>,
+    order: &AuditOrder,
     files: &mut F,
-    progress: &P,
 ) -> Result<Audited<A>, Fault>
-    ensures answers { IfOk result (λ found. AnswersAudit (F.bytes files.old) circuit.now seed.now
-        garbled.now (map string_bytes labels.now) found.is_honest found.lines.items) }
+    ensures answers { IfOk result (λ found. AnswersAudit (F.bytes files.old)
+        (string_bytes order.now.circuit) (string_bytes order.now.seed)
+        (string_bytes order.now.garbled) (map string_bytes order.now.labels.items)
+        found.is_honest found.lines.items) }
     ensures fault { IfErr result (HasAuditFault (F.bytes files.old)
-        (HasFailed (F.failures files.old) (F.failures files.new)) circuit.now seed.now garbled.now
-        (map string_bytes labels.now)) }
+        (HasFailed (F.failures files.old) (F.failures files.new)) (string_bytes order.now.circuit)
+        (string_bytes order.now.seed) (string_bytes order.now.garbled)
+        (map string_bytes order.now.labels.items)) }
     ensures same { (name : List ℕ) → F.bytes files.new name ≡ F.bytes files.old name }
 {
-    progress.begin(1, 3, Work::ReadingCircuit);
-    let (circuit, begun) = read_and_begin_digest(rt, alloc, circuit, files, HashedPart::Beginning)?;
+    let (rt, alloc, progress) = (context.rt, context.alloc, context.progress);
+    let (name, seed, file) = (
+        order.circuit.as_str(),
+        order.seed.as_str(),
+        order.garbled.as_str(),
+    );
+    progress.begin(1, 3, Stage::ReadingCircuit);
+    let (circuit, begun) = read_and_begin_digest(rt, alloc, name, files, HashedPart::Beginning)?;
     let seed = Seed::from_hex(seed)?;
-    progress.begin(2, 3, Work::ReadingFiles);
-    let garbled = read_garbled_file(alloc, garbled, files)?;
+    progress.begin(2, 3, Stage::ReadingFiles);
+    let garbled = read_garbled_file(alloc, file, files)?;
     let version = garbled.version();
-    let label_files = read_label_files(alloc, labels, files)?;
+    let label_files = read_label_files(alloc, &order.labels, files)?;
     let gates = circuit.gates();
-    progress.begin(3, 3, Work::Garbling { gates });
+    progress.begin(3, 3, Stage::Garbling { gates });
     let (garbling, found) = garbling_and_audit(rt, alloc, &circuit, begun, &seed, garbled)?;
     match audit_lines(
         alloc,

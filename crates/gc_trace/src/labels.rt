@@ -13,6 +13,7 @@ use gc_command::{Fault, read_circuit, read_values};
 use gc_disk::Files;
 use gc_half::{encode, garble_one_thread};
 use gc_label::{Label, Offset, Seed, offset};
+use gc_order::LabelsOrder;
 use gc_work::WorkFault;
 use itoa::Buffer;
 use std::alloc::{Allocator, Global};
@@ -51,29 +52,30 @@ impl<A: Allocator> Model for LabelLines<A> {
 }
 
 /// Reads the circuit of a file, the seed and the values, garbles the circuit on one thread, and returns the lines of
-/// its set wires from `from` on, at most `count`: each wire's number, its zero label, its active label for the values,
-/// and its bit.
+/// its set wires, from the first and at most as many as the order asks for: each wire's number, its zero label, its
+/// active label for the values, and its bit.
 pub fn labels<A: Allocator + Copy, F: Files>(
     alloc: A,
-    circuit: &str,
-    seed: &str,
-    from: u32,
-    count: u32,
-    values: &[String],
+    order: &LabelsOrder,
     files: &mut F,
 ) -> Result<LabelLines<A>, Fault>
-    ensures answers { IfOk result (λ lines. IfSome (F.bytes files.old circuit.now)
-        (λ bytes. AnswersLabels bytes seed.now from count (map string_bytes values.now) lines)) }
-    ensures fault { IfErr result (λ fault. IfSome (F.bytes files.old circuit.now)
-        (λ bytes. HasLabelsFault bytes seed.now (map string_bytes values.now) fault)) }
-    ensures cause { IfErr result
-        (HasReadCause (F.failures files.old) (F.failures files.new) circuit.now) }
+    ensures answers { IfOk result
+        (λ lines. IfSome (F.bytes files.old (string_bytes order.now.circuit))
+        (λ bytes. AnswersLabels bytes (string_bytes order.now.seed) order.now.from order.now.count
+        (map string_bytes order.now.values.items) lines)) }
+    ensures fault { IfErr result
+        (λ fault. IfSome (F.bytes files.old (string_bytes order.now.circuit))
+        (λ bytes. HasLabelsFault bytes (string_bytes order.now.seed)
+        (map string_bytes order.now.values.items) fault)) }
+    ensures cause { IfErr result (HasReadCause (F.failures files.old) (F.failures files.new)
+        (string_bytes order.now.circuit)) }
     ensures same { (name : List ℕ) → F.bytes files.new name ≡ F.bytes files.old name }
 {
-    let circuit = read_circuit(alloc, circuit, files)?;
+    let (name, seed) = (order.circuit.as_str(), order.seed.as_str());
+    let circuit = read_circuit(alloc, name, files)?;
     let seed = Seed::from_hex(seed)?;
-    let values = read_values(alloc, circuit.input_widths(), values)?;
-    lines_of(alloc, &circuit, &seed, from, count, &values)
+    let values = read_values(alloc, circuit.input_widths(), &order.values)?;
+    lines_of(alloc, &circuit, &seed, order.from, order.count, &values)
 }
 
 /// The lines of the circuit's wires under a seed for these values. The row pairs are dropped before the bits are made.

@@ -9,8 +9,14 @@ write_value-requires g c =
     (input_value-width _ _ _ _ c.in_ok-bits.ensures.spelled)
 
 pub returns-clause-answers : goal.returns-clause-answers
-returns-clause-answers g c = IfOk-weaker c.write_value.result _ _
-    (λ lines written. IfSome-both (g.F.Files.bytes c.args.files.now c.args.circuit.now) _ _ _
+returns-clause-answers g c =
+    rw (
+      ← c.as_str-name.ensures.value,
+      ← c.as_str-seed.ensures.value,
+      ← c.as_str-value.ensures.value,
+    )
+    (IfOk-weaker c.write_value.result _ _
+    (λ lines written. IfSome-both (g.F.Files.bytes c.args.files.now c.as_str-name.result.now) _ _ _
     (λ bytes circuit wrote. record {
       circuit = c.in_ok-circuit.circuit;
       seed = c.in_ok-seed.seed;
@@ -26,11 +32,18 @@ returns-clause-answers g c = IfOk-weaker c.write_value.result _ _
       written = rw c.deref.ensures.value at wrote;
     })
     c.in_ok-circuit.ensures.circuit
-    (rw (c.read_circuit.ensures.same c.args.circuit.now) at (written c.args.circuit.now)))
-    c.write_value.ensures.written
+    (rw (c.read_circuit.ensures.same c.as_str-name.result.now)
+    at (written c.as_str-name.result.now)))
+    c.write_value.ensures.written)
 
 pub returns-clause-fault : goal.returns-clause-fault
-returns-clause-fault g c = IfErr-weaker c.write_value.result _ _
+returns-clause-fault g c =
+    rw (
+      ← c.as_str-name.ensures.value,
+      ← c.as_str-seed.ensures.value,
+      ← c.as_str-value.ensures.value,
+    )
+    (IfErr-weaker c.write_value.result _ _
     (λ fault unwritten. IfSome_then _ c.in_ok-circuit.ensures.circuit
     (λ bytes circuit. deal-unwritten _ _ _ _ c.in_ok-circuit.circuit _ _ record {
       circuit = circuit;
@@ -40,12 +53,14 @@ returns-clause-fault g c = IfErr-weaker c.write_value.result _ _
       };
       value = rw c.input_widths.ensures at c.in_ok-bits.ensures.spelled;
     } fault unwritten))
-    c.write_value.ensures.fault
+    c.write_value.ensures.fault)
 
 pub returns-clause-cause : goal.returns-clause-cause
-returns-clause-cause g c = IfErr-weaker c.write_value.result _ _
+returns-clause-cause g c =
+    rw (← c.as_str-name.ensures.value)
+    (IfErr-weaker c.write_value.result _ _
     (λ fault cause. cause-writing fault _ _ (rw c.in_ok-circuit.ensures.counted at cause))
-    c.write_value.ensures.cause
+    c.write_value.ensures.cause)
 
 pub returns-clause-unwritten : goal.returns-clause-unwritten
 returns-clause-unwritten g c = IfErr-weaker c.write_value.result _ _

@@ -9,7 +9,8 @@ returns-in_err-labels-clause-fault g c =
 
 pub returns-in_err-push-clause-fault : goal.returns-in_err-push-clause-fault
 returns-in_err-push-clause-fault g c =
-    let p = err_from_is_err_and c.from_residual-in_err-push.result c.from_residual-in_err-push.ensures.1 in
+    let p = err_from_is_err_and c.from_residual-in_err-push.result
+    c.from_residual-in_err-push.ensures.1 in
     rw (p.1, p.2) (labels-memory _ _ _)
 
 pub returns-clause-labels : goal.returns-clause-labels

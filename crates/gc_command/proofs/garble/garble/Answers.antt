@@ -10,14 +10,21 @@ write_garbling-requires-clause-fits g c =
     c.in_ok-digest.ensures.garbled
 
 pub returns-clause-answers : goal.returns-clause-answers
-returns-clause-answers g c = IfOk-weaker c.write_garbling.result _ _
-    (λ lines written. IfSome-both (g.F.Files.bytes c.args.files.now c.args.circuit.now) (λ bytes. IsCircuit bytes c.in_ok-circuit.circuit) _ _
+returns-clause-answers g c =
+    rw (← c.as_str-name.ensures.value, ← c.as_str-seed.ensures.value)
+    (IfOk-weaker c.write_garbling.result _ _
+    (λ lines written. IfSome-both (g.F.Files.bytes c.args.files.now c.as_str-name.result.now)
+    (λ bytes. IsCircuit bytes c.in_ok-circuit.circuit) _ _
     (λ bytes circuit wrote. record {
       circuit = c.in_ok-circuit.circuit;
       seed = c.in_ok-seed.seed;
       input = record {
         circuit = circuit;
-        seed_read = record { accepted = c.in_ok-seed.ensures.accepts.0 refl; spelled = c.in_ok-seed.ensures.bytes };
+        seed_read = record {
+          accepted = c.in_ok-seed.ensures.accepts.0 refl;
+          spelled =
+              c.in_ok-seed.ensures.bytes;
+        };
       };
       garbling = c.in_ok-digest.garbling;
       few = c.in_ok-digest.ensures.workers;
@@ -25,24 +32,36 @@ returns-clause-answers g c = IfOk-weaker c.write_garbling.result _ _
       written = wrote;
     })
     c.in_ok-circuit.ensures.circuit
-    (rw (c.read_and_begin_digest.ensures.same c.args.circuit.now) at (written c.args.circuit.now)))
-    c.write_garbling.ensures.written
+    (rw (c.read_and_begin_digest.ensures.same c.as_str-name.result.now)
+    at (written c.as_str-name.result.now)))
+    c.write_garbling.ensures.written)
 
 pub returns-clause-fault : goal.returns-clause-fault
-returns-clause-fault g c = IfErr-weaker c.write_garbling.result _ _
-    (λ fault unwritten. IfSome-map (g.F.Files.bytes c.args.files.now c.args.circuit.now) (λ bytes. IsCircuit bytes c.in_ok-circuit.circuit) _
-    (λ bytes circuit. garble-unwritten bytes c.args.seed.now c.args.workers c.in_ok-circuit.circuit c.in_ok-seed.seed
+returns-clause-fault g c =
+    rw (← c.as_str-name.ensures.value, ← c.as_str-seed.ensures.value)
+    (IfErr-weaker c.write_garbling.result _ _
+    (λ fault unwritten. IfSome-map (g.F.Files.bytes c.args.files.now c.as_str-name.result.now)
+    (λ bytes. IsCircuit bytes c.in_ok-circuit.circuit) _
+    (λ bytes circuit. garble-unwritten bytes c.as_str-seed.result.now c.args.order.now.workers
+    c.in_ok-circuit.circuit
+    c.in_ok-seed.seed
     (record {
       circuit = circuit;
-      seed_read = record { accepted = c.in_ok-seed.ensures.accepts.0 refl; spelled = c.in_ok-seed.ensures.bytes };
+      seed_read = record {
+        accepted = c.in_ok-seed.ensures.accepts.0 refl;
+        spelled =
+            c.in_ok-seed.ensures.bytes;
+      };
     }) c.in_ok-digest.ensures.workers fault unwritten)
     c.in_ok-circuit.ensures.circuit)
-    c.write_garbling.ensures.fault
+    c.write_garbling.ensures.fault)
 
 pub returns-clause-cause : goal.returns-clause-cause
-returns-clause-cause g c = IfErr-weaker c.write_garbling.result _ _
+returns-clause-cause g c =
+    rw (← c.as_str-name.ensures.value)
+    (IfErr-weaker c.write_garbling.result _ _
     (λ fault cause. cause-writing fault _ _ (rw c.in_ok-circuit.ensures.counted at cause))
-    c.write_garbling.ensures.cause
+    c.write_garbling.ensures.cause)
 
 pub returns-clause-unwritten : goal.returns-clause-unwritten
 returns-clause-unwritten g c = IfErr-weaker c.write_garbling.result _ _

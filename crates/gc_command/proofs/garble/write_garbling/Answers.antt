@@ -3,9 +3,12 @@ use Rattle.gc_command.proofs.AnswerLemmas.{IfSome-map}
 use Rattle.gc_command.proofs.garble.write_garbling.Goals as goal
 
 pub returns-clause-written : goal.returns-clause-written
-returns-clause-written g c = IfOk-weaker c.keep_written.result _ _
+returns-clause-written g c =
+    rw (← c.as_str-out.ensures.value)
+    (IfOk-weaker c.keep_written.result _ _
     (λ line holds n. IfSome-map (g.F.Files.bytes c.args.files.now n) _ _
-    (λ known empty. holds (garbled_file (honest_parts c.args.version c.args.circuit.now c.args.garbling.now c.args.seed.now))
+    (λ known empty. holds (garbled_file (honest_parts c.args.order.now.version c.args.circuit.now
+    c.args.garbling.now c.args.seed.now))
     (rw empty at c.write_version-written.ensures.file))
     (c.in_ok-sink.ensures.empty n))
-    c.keep_written.ensures.written
+    c.keep_written.ensures.written)

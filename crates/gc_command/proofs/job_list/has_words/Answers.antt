@@ -11,10 +11,12 @@ returns-then-not-is_blank c =
 
 pub loop-byte-preserved : goal.loop-byte-preserved
 loop-byte-preserved c =
-    blank_passed c.as_bytes-byte-items.result.now c.loop-byte.byte-index c.loop-byte-test.true (sym c.is_blank.ensures
+    blank_passed c.as_bytes-byte-items.result.now c.loop-byte.byte-index c.loop-byte-test.true
+    (sym c.is_blank.ensures
     ∙ c.if-not-is_blank.false) c.loop-byte.invariant
 
 pub returns : goal.returns
 returns c =
-    sym (no_word c.as_bytes-byte-items.result.now c.loop-byte.byte-index c.loop-byte-test.false c.loop-byte.invariant)
+    sym (no_word c.as_bytes-byte-items.result.now c.loop-byte.byte-index c.loop-byte-test.false
+    c.loop-byte.invariant)
     ∙ ap (λ l. has_words (tokens l)) c.as_bytes-byte-items.ensures.value

@@ -4,8 +4,11 @@ use Rattle.gc_command.proofs.job_list.lines_with_words.Goals as goal
 
 pub returns : goal.returns
 returns g c =
-    IfOk-weaker c.collect.result _ _ (λ lines shown. map-shown (λ x. x.now) tokens lines.items ∙ ap (map tokens) shown)
-    (map_from_collect _ c.collect.ensures.ran (YieldsList-from_filter _ (λ line. has_words (tokens line))
-    (YieldsList-at c.filter.ensures.source (YieldsList-from_str_split 10 c.args.text.now (lit< tt) c.split.ensures.text
+    IfOk-weaker c.collect.result _ _ (λ lines shown. map-shown (λ x. x.now) tokens lines.items
+    ∙ ap (map tokens) shown)
+    (map_from_collect _ c.collect.ensures.ran (YieldsList-from_filter _
+    (λ line. has_words (tokens line))
+    (YieldsList-at c.filter.ensures.source (YieldsList-from_str_split 10 c.args.text.now (lit< tt)
+    c.split.ensures.text
     c.split.ensures.has_more c.split.ensures.pattern))
     c.filter.ensures.closure (λ x r q k. search (rules, tests))))

@@ -6,6 +6,7 @@ pub returns : goal.returns
 unfolding tokens
 returns g c =
     map_from_collect _ c.collect.ensures.ran (YieldsList-from_filter _ is_some_run
-    (YieldsList-at c.filter.ensures.source (YieldsList-from_slice_split _ is_blank c.args.line.now c.split.ensures.rest
+    (YieldsList-at c.filter.ensures.source (YieldsList-from_slice_split _ is_blank c.args.line.now
+    c.split.ensures.rest
     c.split.ensures.done c.split.ensures.closure (λ x r q k. search (rules, tests))))
     c.filter.ensures.closure (λ x r q k. search (rules, tests, is_run)))

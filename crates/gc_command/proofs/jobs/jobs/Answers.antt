@@ -5,19 +5,26 @@ use Rattle.gc_command.proofs.jobs.jobs.Goals as goal
 
 pub returns-in_err-circuit-clause-fault : goal.returns-in_err-circuit-clause-fault
 returns-in_err-circuit-clause-fault g c =
-    let p = err_from_is_err_and c.from_residual.result c.from_residual.ensures.1 in
+    rw (← c.as_str-name.ensures.value, ← c.as_str-list.ensures.value)
+    (let p = err_from_is_err_and c.from_residual.result c.from_residual.ensures.1 in
     rw (p.1, p.2) (jobs-circuit-fault (g.F.Files.bytes c.args.files.now)
-    (HasFailed (g.F.Files.failures c.args.files.now) (g.F.Files.failures c.read_circuit_and_digest.new.files))
-    c.args.circuit.now c.args.list.now c.args.workers _ c.in_err-circuit.ensures.fault)
+    (HasFailed (g.F.Files.failures c.args.files.now)
+    (g.F.Files.failures c.read_circuit_and_digest.new.files))
+    c.as_str-name.result.now c.as_str-list.result.now c.args.order.now.workers _
+    c.in_err-circuit.ensures.fault))
 
 pub returns-in_err-jobs-clause-fault : goal.returns-in_err-jobs-clause-fault
 returns-in_err-jobs-clause-fault g c =
-    let p = err_from_is_err_and c.from_residual-in_err-jobs.result c.from_residual-in_err-jobs.ensures.1 in
+    rw (← c.as_str-name.ensures.value, ← c.as_str-list.ensures.value)
+    (let p = err_from_is_err_and c.from_residual-in_err-jobs.result
+    c.from_residual-in_err-jobs.ensures.1 in
     let same = fun_ext c.read_circuit_and_digest.ensures.same in
     rw (p.1, p.2) (jobs-list-fault (g.F.Files.bytes c.args.files.now)
-    (HasFailed (g.F.Files.failures c.args.files.now) (g.F.Files.failures c.read_listed_jobs.new.files))
-    c.args.circuit.now c.args.list.now c.args.workers _ c.in_ok-circuit.ensures.circuit _
-    (rw (same, c.in_ok-circuit.ensures.counted) at c.in_err-jobs.ensures.fault))
+    (HasFailed (g.F.Files.failures c.args.files.now)
+    (g.F.Files.failures c.read_listed_jobs.new.files))
+    c.as_str-name.result.now c.as_str-list.result.now c.args.order.now.workers _
+    c.in_ok-circuit.ensures.circuit _
+    (rw (same, c.in_ok-circuit.ensures.counted) at c.in_err-jobs.ensures.fault)))
 
 pub evaluate_listed-requires-clause-count : goal.evaluate_listed-requires-clause-count
 evaluate_listed-requires-clause-count g c =
@@ -31,7 +38,9 @@ evaluate_listed-requires-clause-one g c = λ κs outlives i k a b.
 
 pub returns-in_err-outputs-clause-fault : goal.returns-in_err-outputs-clause-fault
 returns-in_err-outputs-clause-fault g c =
-    let p = err_from_is_err_and c.from_residual-in_err-outputs.result c.from_residual-in_err-outputs.ensures.1 in
+    rw (← c.as_str-name.ensures.value, ← c.as_str-list.ensures.value)
+    (let p = err_from_is_err_and c.from_residual-in_err-outputs.result
+    c.from_residual-in_err-outputs.ensures.1 in
     let same = fun_ext c.read_circuit_and_digest.ensures.same in
     let listed = rw same at c.in_ok-jobs.ensures.listed in
     let fault = c.in_err-outputs.ensures.fault in
@@ -42,10 +51,10 @@ returns-in_err-outputs-clause-fault g c =
         c.in_ok-jobs.jobs.items,
         listed,
         omega (arith, fault.0, ap length c.deref.ensures.value),
-        subst (λ l. AreEvaluatedBy c.args.workers l (Err c.in_err-outputs.field-0.0))
+        subst (λ l. AreEvaluatedBy c.args.order.now.workers l (Err c.in_err-outputs.field-0.0))
             c.deref.ensures.value fault.1,
       ),
-    )
+    ))
 
 pub jobs_lines-requires : goal.jobs_lines-requires
 jobs_lines-requires g c = λ k d within.
@@ -62,18 +71,21 @@ returns-in_err-jobs_lines-clause-same g c = λ n.
     c.read_listed_jobs.ensures.same n ∙ c.read_circuit_and_digest.ensures.same n
 
 pub returns-clause-answers : goal.returns-clause-answers
-returns-clause-answers g c = record {
-  c = c.in_ok-circuit.circuit;
-  circuit_read = c.in_ok-circuit.ensures.circuit;
-  jobs = c.in_ok-jobs.jobs.items;
-  are_listed = rw (fun_ext c.read_circuit_and_digest.ensures.same) at c.in_ok-jobs.ensures.listed;
-  few = rw c.deref.ensures.value at c.in_ok-outputs.ensures.few;
-  outputs = map (λ bits. bits.items) c.in_ok-outputs.outputs.items;
-  evaluated = rw c.deref.ensures.value at c.in_ok-outputs.ensures.evaluated;
-  printed = c.in_ok-jobs_lines.ensures
-      ∙ ap₂ (jobs_lines c.args.form) c.output_widths.ensures
-      (ap (map (λ bits. bits.items)) c.deref-2.ensures.value);
-}
+returns-clause-answers g c =
+    rw (← c.as_str-name.ensures.value, ← c.as_str-list.ensures.value, ← c.by_flag-form.ensures)
+    (record {
+      c = c.in_ok-circuit.circuit;
+      circuit_read = c.in_ok-circuit.ensures.circuit;
+      jobs = c.in_ok-jobs.jobs.items;
+      are_listed = rw (fun_ext c.read_circuit_and_digest.ensures.same)
+          at c.in_ok-jobs.ensures.listed;
+      few = rw c.deref.ensures.value at c.in_ok-outputs.ensures.few;
+      outputs = map (λ bits. bits.items) c.in_ok-outputs.outputs.items;
+      evaluated = rw c.deref.ensures.value at c.in_ok-outputs.ensures.evaluated;
+      printed = c.in_ok-jobs_lines.ensures
+          ∙ ap₂ (jobs_lines c.by_flag-form.result) c.output_widths.ensures
+          (ap (map (λ bits. bits.items)) c.deref-2.ensures.value);
+    })
 
 pub returns-clause-same : goal.returns-clause-same
 returns-clause-same g c = λ n.

@@ -4,7 +4,8 @@ use Rattle.gc_command.proofs.listed_job.read_job.Goals as goal
 
 pub returns-in_err-labels-clause-fault : goal.returns-in_err-labels-clause-fault
 returns-in_err-labels-clause-fault g c =
-    let p = err_from_is_err_and c.from_residual-in_err-labels.result c.from_residual-in_err-labels.ensures.1 in
+    let p = err_from_is_err_and c.from_residual-in_err-labels.result
+    c.from_residual-in_err-labels.ensures.1 in
     let names = parted c.deref.ensures.value c.in-Some.ensures.cases.0 (λ word. word.now)
     c.in_ok-words.ensures in
     let same = fun_ext c.read_garbled_file.ensures.same in
@@ -13,12 +14,14 @@ returns-in_err-labels-clause-fault g c =
 
 pub returns-in_err-bind_by_digest-clause-fault : goal.returns-in_err-bind_by_digest-clause-fault
 returns-in_err-bind_by_digest-clause-fault g c =
-    let p = err_from_is_err_and c.from_residual-in_err-bind_by_digest.result c.from_residual-in_err-bind_by_digest.ensures.1 in
+    let p = err_from_is_err_and c.from_residual-in_err-bind_by_digest.result
+    c.from_residual-in_err-bind_by_digest.ensures.1 in
     let names = parted c.deref.ensures.value c.in-Some.ensures.cases.0 (λ word. word.now)
     c.in_ok-words.ensures in
     let files = name-files c.read_garbled_file.ensures.same names c.in_ok-garbled.ensures.garbled
     c.in_ok-labels.ensures.labels in
-    let fault = rw c.deref-2.ensures.value at (c.in_err-bind_by_digest.ensures.err c.requires.digest) in
+    let fault = rw c.deref-2.ensures.value at (c.in_err-bind_by_digest.ensures.err
+    c.requires.digest) in
     rw (p.1, p.2) (c.in_ok-garbled.garbled, (c.in_ok-labels.labels.items, (files, fault)))
 
 pub returns-clause-named : goal.returns-clause-named

@@ -11,7 +11,8 @@ read_job-requires-clause-words g c =
 
 pub returns-in_err-read_job-clause-fault : goal.returns-in_err-read_job-clause-fault
 returns-in_err-read_job-clause-fault g c =
-    let p = err_from_is_err_and c.from_residual-in_err-read_job.result c.from_residual-in_err-read_job.ensures.1 in
+    let p = err_from_is_err_and c.from_residual-in_err-read_job.result
+    c.from_residual-in_err-read_job.ensures.1 in
     let rest = map (λ line. tokens line.now) (drop (c.loop-line.line-index + 1) c.args.lines.now) in
     let next = line-next (λ line. tokens line.now) c.args.lines.now c.loop-line.line-index
     record { ref_ptr = (0, 0); now = [] } c.loop-line-test.true in

@@ -5,7 +5,8 @@ use Rattle.gc_command.proofs.own_files.own_garbled.Goals as goal
 
 pub returns-in_err-read_garbled-clause-fault : goal.returns-in_err-read_garbled-clause-fault
 returns-in_err-read_garbled-clause-fault g c =
-    let p = err_from_is_err_and c.from_residual-in_err-read_garbled.result c.from_residual-in_err-read_garbled.ensures.1 in
+    let p = err_from_is_err_and c.from_residual-in_err-read_garbled.result
+    c.from_residual-in_err-read_garbled.ensures.1 in
     let file = own-garbled _ _ _ c.law_lawful.ensures c.in_ok-bytes.ensures.file in
     rw (p.1, p.2)
     (file-memory (FirstFault c.in_ok-bytes.bytes.items) (λ e. file_not_fault _ _ e file) _

@@ -6,20 +6,21 @@ use Rattle.gc_command.proofs.plain.plain.Goals as goal
 
 pub plain_eval-requires : goal.plain_eval-requires
 plain_eval-requires g c =
-    rw (c.deref.ensures.value, ← c.input_widths.ensures)
+    rw (c.deref-2.ensures.value, ← c.input_widths.ensures)
     (SpellValues-widths _ _ _ c.in_ok-values.ensures.spelled)
 
 pub output_lines-requires : goal.output_lines-requires
 output_lines-requires g c =
     let are = map_err-ok c.plain_eval.result c.map_err.result _ _ c.in_ok-outputs.outputs
     c.map_err.ensures.cases c.map_err.ensures.variant c.plain_eval.ensures c.in_ok-outputs.was in
-    rw (c.output_widths.ensures, c.deref-2.ensures.value) (length-outputs _ _ _ are)
+    rw (c.output_widths.ensures, c.deref-3.ensures.value) (length-outputs _ _ _ are)
 
 pub returns-clause-answers : goal.returns-clause-answers
 returns-clause-answers g c =
-    let are = map_err-ok c.plain_eval.result c.map_err.result _ _ c.in_ok-outputs.outputs
+    rw (← c.as_str-name.ensures.value, ← c.deref.ensures.value, ← c.by_flag-form.ensures)
+    (let are = map_err-ok c.plain_eval.result c.map_err.result _ _ c.in_ok-outputs.outputs
     c.map_err.ensures.cases c.map_err.ensures.variant c.plain_eval.ensures c.in_ok-outputs.was in
-    IfSome-map (g.F.Files.bytes c.args.files.now c.args.circuit.now)
+    IfSome-map (g.F.Files.bytes c.args.files.now c.as_str-name.result.now)
     (λ bytes. IsCircuit bytes c.in_ok-circuit.circuit) _
     (λ bytes circuit. record {
       circuit = c.in_ok-circuit.circuit;
@@ -27,8 +28,9 @@ returns-clause-answers g c =
       values = map (λ value. value.items) c.in_ok-values.values.items;
       spelled = rw c.input_widths.ensures at c.in_ok-values.ensures.spelled;
       outputs = c.in_ok-outputs.outputs.items;
-      computed = rw (flat_map-map, ← c.deref.ensures.value) are;
+      computed = rw (flat_map-map, ← c.deref-2.ensures.value) are;
       printed = c.in_ok-output_lines.ensures
-          ∙ ap₂ (output_lines c.args.form) c.output_widths.ensures c.deref-2.ensures.value;
+          ∙ ap₂ (output_lines c.by_flag-form.result) c.output_widths.ensures
+          c.deref-3.ensures.value;
     })
-    c.in_ok-circuit.ensures.circuit
+    c.in_ok-circuit.ensures.circuit)

@@ -7,12 +7,14 @@ use Rattle.gc_command.proofs.run.run.Goals as goal
 
 pub own_labels-requires : goal.own_labels-requires
 own_labels-requires g c =
-    rw (c.deref.ensures.value, ← c.input_widths.ensures)
+    rw (c.deref-2.ensures.value, ← c.input_widths.ensures)
     (SpellValues-widths _ _ _ c.in_ok-values.ensures.spelled)
 
 pub returns-in_err-labels-clause-fault : goal.returns-in_err-labels-clause-fault
 returns-in_err-labels-clause-fault g c =
-    let p = err_from_is_err_and c.from_residual-in_err-labels.result c.from_residual-in_err-labels.ensures.1 in
+    rw (← c.as_str-name.ensures.value, ← c.as_str-seed.ensures.value, ← c.deref.ensures.value)
+    (let p = err_from_is_err_and c.from_residual-in_err-labels.result
+    c.from_residual-in_err-labels.ensures.1 in
     rw (p.1, p.2)
     (IfSome_then _ c.in_ok-circuit.ensures.circuit
     (λ bytes circuit. want-of-memory _ _ _ _ (
@@ -25,14 +27,16 @@ returns-in_err-labels-clause-fault g c =
           input_values = rw c.input_widths.ensures at c.in_ok-values.ensures.spelled;
         },
       ),
-    ) c.in_ok-garbled.ensures.workers _ c.in_err-labels.ensures.fault))
+    ) c.in_ok-garbled.ensures.workers _ c.in_err-labels.ensures.fault)))
 
 pub returns-in_err-outputs-clause-fault : goal.returns-in_err-outputs-clause-fault
 returns-in_err-outputs-clause-fault g c =
-    let p = err_from_is_err_and c.from_residual-in_err-outputs.result c.from_residual-in_err-outputs.ensures.1 in
+    rw (← c.as_str-name.ensures.value, ← c.as_str-seed.ensures.value, ← c.deref.ensures.value)
+    (let p = err_from_is_err_and c.from_residual-in_err-outputs.result
+    c.from_residual-in_err-outputs.ensures.1 in
     let spelled = rw c.input_widths.ensures at c.in_ok-values.ensures.spelled in
     let honest = own-honest (SpellValues-widths _ _ _ spelled) c.in_ok-garbled.ensures.honest
-    (rw c.deref.ensures.value at c.in_ok-labels.ensures.labels) in
+    (rw c.deref-2.ensures.value at c.in_ok-labels.ensures.labels) in
     let digest = c.digest-digest.ensures ∙ own-digest c.in_ok-garbled.ensures.honest in
     rw (p.1, p.2)
     (IfSome_then _ c.in_ok-circuit.ensures.circuit
@@ -47,21 +51,27 @@ returns-in_err-outputs-clause-fault g c =
         },
       ),
     ) c.in_ok-garbled.ensures.workers _ (honest-fault c.in_ok-circuit.ensures.lawful honest _
-    (rw c.deref-2.ensures.value at (c.in_err-outputs.ensures.fault digest)))))
+    (rw c.deref-3.ensures.value at (c.in_err-outputs.ensures.fault digest))))))
 
 pub output_lines-requires : goal.output_lines-requires
 output_lines-requires g c =
     let digest = c.digest-digest.ensures ∙ own-digest c.in_ok-garbled.ensures.honest in
-    rw (c.output_widths.ensures, c.deref-3.ensures.value)
+    rw (c.output_widths.ensures, c.deref-4.ensures.value)
     (length-decoded _ c.in_ok-circuit.ensures.lawful _ _ _ (c.in_ok-outputs.ensures.decoded digest))
 
 pub returns-clause-answers : goal.returns-clause-answers
 returns-clause-answers g c =
-    let spelled = rw c.input_widths.ensures at c.in_ok-values.ensures.spelled in
+    rw (
+      ← c.as_str-name.ensures.value,
+      ← c.as_str-seed.ensures.value,
+      ← c.deref.ensures.value,
+      ← c.by_flag-form.ensures,
+    )
+    (let spelled = rw c.input_widths.ensures at c.in_ok-values.ensures.spelled in
     let honest = own-honest (SpellValues-widths _ _ _ spelled) c.in_ok-garbled.ensures.honest
-    (rw c.deref.ensures.value at c.in_ok-labels.ensures.labels) in
+    (rw c.deref-2.ensures.value at c.in_ok-labels.ensures.labels) in
     let digest = c.digest-digest.ensures ∙ own-digest c.in_ok-garbled.ensures.honest in
-    IfSome-map (g.F.Files.bytes c.args.files.now c.args.circuit.now)
+    IfSome-map (g.F.Files.bytes c.args.files.now c.as_str-name.result.now)
     (λ bytes. IsCircuit bytes c.in_ok-circuit.circuit) _
     (λ bytes circuit. record {
       circuit = c.in_ok-circuit.circuit;
@@ -74,8 +84,9 @@ returns-clause-answers g c =
       few = c.in_ok-garbled.ensures.workers;
       outputs = c.in_ok-outputs.outputs.items;
       computed = honest-decode c.in_ok-circuit.ensures.lawful honest _
-          (rw c.deref-2.ensures.value at (c.in_ok-outputs.ensures.decoded digest));
+          (rw c.deref-3.ensures.value at (c.in_ok-outputs.ensures.decoded digest));
       printed = c.in_ok-output_lines.ensures
-          ∙ ap₂ (output_lines c.args.form) c.output_widths.ensures c.deref-3.ensures.value;
+          ∙ ap₂ (output_lines c.by_flag-form.result) c.output_widths.ensures
+          c.deref-4.ensures.value;
     })
-    c.in_ok-circuit.ensures.circuit
+    c.in_ok-circuit.ensures.circuit)

@@ -23,5 +23,12 @@ overflow_add-result d c =
     let below = bits_number-within others 7
     (omega (arith, length-take (length bits - 1) (drop 1 bits), length-drop 1 bits)) in
     record {
-      fits = omega (arith, c.packed_byte.ensures, below, c.from.ensures, bool_byte-le (get_or bits 0 false));
+      fits = omega (
+        arith,
+        c.packed_byte.ensures,
+        below,
+        c.from.ensures,
+        bool_byte-le
+            (get_or bits 0 false),
+      );
     }
