@@ -271,9 +271,9 @@ class Explain(ProgramTest):
         self.put("b", label_file(1, bytes(16)))
         line = "recognises no label like that of output wire 0, counted from 0"
         self.assert_explained(
-            "48 UnknownOutputLabel", f"g: the file {line}", "eval", "c.txt", "g", "a", "b")
+            "48 UnknownOutputLabel", f"g: the garbled file {line}", "eval", "c.txt", "g", "a", "b")
         self.assert_explained(
-            "48 UnknownOutputLabel", f"list: the file of a job {line}", "jobs", "c.txt", "list")
+            "48 UnknownOutputLabel", f"list:2: the garbled file {line}", "jobs", "c.txt", "list")
 
     def test_values(self):
         for text, fault, line in VALUES:

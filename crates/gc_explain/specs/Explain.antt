@@ -10,7 +10,10 @@ use Rattle.gc_file.specs.FileFault.{FirstFault, FirstLabelFault}
 use Rattle.gc_disk.specs.Files.{FileBytes}
 use Rattle.gc_order.specs.Order.{OrderText, run, plain, check, locate, stats, garble, deal, eval, jobs, list_labels, audit}
 use Rattle.gc_command.specs.declared.fault.Fault.{Fault}
-use Rattle.gc_command.specs.declared.fault.Fault.TheVariants.{Circuit, File}
+use Rattle.gc_command.specs.declared.fault.Fault.TheVariants.{Circuit, File, Evaluation}
+use Rattle.gc_job.specs.declared.fault.EvalFault.TheVariants.{UnknownOutputLabel}
+use Rattle.gc_explain.specs.Places.{byte_place, file_place, located_place}
+use Rattle.gc_explain.specs.Output.{IsOutputPlace}
 
 -- the name of the circuit's file
 abbrev pub circuit_of : OrderText → List ℕ
@@ -25,19 +28,6 @@ circuit_of (eval circuit garbled workers hex labels) = circuit
 circuit_of (jobs circuit list workers hex) = circuit
 circuit_of (list_labels circuit seed from count values) = circuit
 circuit_of (audit circuit seed garbled labels) = circuit
-
--- the place that is a whole file: `NAME: `
-abbrev pub file_place : List ℕ → List ℕ
-file_place name = name ++ codes ": "
-
--- a byte of it: `NAME: byte BYTE: `
-abbrev pub byte_place : List ℕ → ℕ → List ℕ
-byte_place name byte = file_place name ++ codes "byte " ++ decimal byte ++ codes ": "
-
--- a line and a column of it: `NAME:LINE:COLUMN: `
-abbrev pub located_place : List ℕ → Located → List ℕ
-located_place name l =
-    name ++ codes ":" ++ decimal l.line ++ codes ":" ++ decimal l.column ++ codes ": "
 
 -- the line that tells a sentence of a place
 abbrev pub line_told : List ℕ → List ℕ → List ℕ
@@ -55,20 +45,23 @@ IsCircuitPlace bytes name fault place =
 abbrev pub HasFileFault : FileFault → List ℕ → Type 0
 HasFileFault fault bytes = FirstFault bytes fault ⊎ FirstLabelFault bytes fault
 
--- The place is a byte of a file that has this first fault. Where the file can't be read once more, it is the whole file.
+-- The place is a byte of a file that has this first fault. Where the file can't be read once more, it is the whole
+-- file.
 abbrev pub IsFilePlace : FileBytes → FileFault → List ℕ → Type 0
 IsFilePlace bytes fault place =
     (name : List ℕ) × ((place ≡ file_place name)
     ⊎ ((byte : ℕ) × (place ≡ byte_place name byte) × IfSome (bytes name) (HasFileFault fault)))
 
--- The place that is named for a fault of an order: of the faults 1 to 12 one of the circuit's file, and of 30 to 35 one
--- of a garbled file or a label file.
+-- The place that is named for a fault of an order: of the faults 1 to 12 one of the circuit's file, of 30 to 35 one of
+-- a garbled file or a label file, and of 48 the garbled file or a line of the list.
 abbrev pub IsPlace : FileBytes → OrderText → Fault → List ℕ → Type 0
 IsPlace bytes order (Circuit read.Memory) place = place ≡ []
 IsPlace bytes order (Circuit fault) place =
     IsCircuitPlace (bytes (circuit_of order)) (circuit_of order) fault place
 IsPlace bytes order (File file.Memory) place = Unit {0}
 IsPlace bytes order (File fault) place = IsFilePlace bytes fault place
+IsPlace bytes order (Evaluation (UnknownOutputLabel output)) place =
+    IsOutputPlace bytes order output place
 IsPlace bytes order _ place = Unit {0}
 
 -- The line explains a fault of an order.

@@ -1,1 +1,3 @@
 pub mod Explain
+pub mod Output
+pub mod Places

@@ -155,23 +155,3 @@ fn missing_value<A: Allocator>(circuit: &Circuit<A>, found: &[u32]) -> Option<u3
     }
     None
 }
-
-/// What is told of an output label that the garbled file doesn't recognise.
-pub(crate) fn told_of_output<A: Allocator + Copy>(
-    alloc: A,
-    order: &Order,
-    output: u32,
-) -> Option<Told<A>> {
-    let (file, whose) = match order {
-        Order::Eval { garbled, .. } => (garbled, "the file"),
-        Order::Jobs { list, .. } => (list, "the file of a job"),
-        _ => return None,
-    };
-    on_file(
-        alloc,
-        file.as_str(),
-        format!(in alloc;
-            "{whose} recognises no label like that of output wire {output}, counted from 0"
-        ),
-    )
-}

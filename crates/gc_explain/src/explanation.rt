@@ -5,10 +5,11 @@ ghost use Rattle.gc_order.specs.Order.{text_of};
 ghost use Rattle.gc_explain.specs.Explain as spec;
 ghost use Rattle.gc_explain.specs.Explain.{Explains, IsPlace};
 
-use crate::binding::{told_of_binding, told_of_output};
+use crate::binding::told_of_binding;
 use crate::cause::{told_of_reading, told_of_writing};
 use crate::circuit::told_of_circuit;
 use crate::file::told_of_file;
+use crate::output::told_of_output;
 use crate::told::{Told, alone, on_file};
 use crate::value::{told_of_count, told_of_index, told_of_seed, told_of_value, told_of_workers};
 use gc_circuit::{ReadFault, ValueFault};
@@ -57,6 +58,9 @@ fn told_of<A: Allocator + Copy, F: Reread>(
         Fault::Circuit(fault) => told_of_circuit(alloc, circuit_of(order), files, fault),
         Fault::File(FileFault::Memory) => told_of_memory(alloc),
         Fault::File(fault) => told_of_file(alloc, order, files, opened, fault),
+        Fault::Evaluation(EvalFault::UnknownOutputLabel { output }) => {
+            told_of_output(alloc, order, files, output)
+        }
         other => told_of_other(alloc, order, files, opened, other, printing),
     }
 }
@@ -81,9 +85,6 @@ fn told_of_other<A: Allocator + Copy, F: Reread>(
         }
         Fault::Binding(BindFault::Memory) => told_of_memory(alloc),
         Fault::Binding(fault) => told_of_binding(alloc, order, files, opened, fault),
-        Fault::Evaluation(EvalFault::UnknownOutputLabel { output }) => {
-            told_of_output(alloc, order, output)
-        }
         Fault::BadList => told_of_list(alloc, order, files),
         Fault::CannotRead => told_of_reading(alloc, order, files, opened),
         Fault::CannotWrite => told_of_writing(alloc, files, printing),
@@ -104,10 +105,10 @@ fn told_of_list<A: Allocator + Copy, F: Reread>(
     order: &Order,
     files: &F,
 ) -> Option<Told<A>> {
-    let Order::Jobs { list, .. } = order else {
+    let Order::Jobs(jobs) = order else {
         return None;
     };
-    let list = list.as_str();
+    let list = jobs.list.as_str();
     let text = files.read_again(alloc, list)?;
     let sentence = match str::from_utf8(&text) {
         Ok(_) => String::from_str(alloc, "the list has more than 65536 jobs"),
@@ -124,17 +125,17 @@ pub(crate) fn circuit_of(order: &Order) -> &str
     ensures { result.now ≡ spec.circuit_of (text_of order.now) }
 {
     let circuit = match order {
-        Order::Run { circuit, .. } => circuit,
-        Order::Plain { circuit, .. } => circuit,
+        Order::Run(run) => &run.circuit,
+        Order::Plain(plain) => &plain.circuit,
         Order::Check { circuit } => circuit,
         Order::Locate { circuit } => circuit,
         Order::Stats { circuit } => circuit,
-        Order::Garble { circuit, .. } => circuit,
-        Order::Deal { circuit, .. } => circuit,
-        Order::Eval { circuit, .. } => circuit,
-        Order::Jobs { circuit, .. } => circuit,
-        Order::Labels { circuit, .. } => circuit,
-        Order::Audit { circuit, .. } => circuit,
+        Order::Garble(garble) => &garble.circuit,
+        Order::Deal(deal) => &deal.circuit,
+        Order::Eval(eval) => &eval.circuit,
+        Order::Jobs(jobs) => &jobs.circuit,
+        Order::Labels(labels) => &labels.circuit,
+        Order::Audit(audit) => &audit.circuit,
     };
     circuit.as_str()
 }

@@ -45,7 +45,7 @@ fn is_garbled<A: Allocator + Copy, F: Reread>(
     opened: u64,
 ) -> bool {
     match order {
-        Order::Jobs { .. } => match job_names(alloc, order, files, opened) {
+        Order::Jobs(_) => match job_names(alloc, order, files, opened) {
             Some(names) => names.garbled.as_str() == files.trail().name(),
             None => true,
         },

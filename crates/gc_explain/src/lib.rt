@@ -8,6 +8,7 @@ mod explanation;
 mod file;
 mod hint;
 mod listed;
+mod output;
 mod told;
 mod value;
 

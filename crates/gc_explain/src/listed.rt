@@ -26,29 +26,28 @@ pub(crate) fn job_names<A: Allocator + Copy, F: Reread>(
     opened: u64,
 ) -> Option<JobNames<A>> {
     match order {
-        Order::Eval {
-            garbled,
-            labels,
-            ..
-        }
-        | Order::Audit {
-            garbled,
-            labels,
-            ..
-        } => {
-            Some(JobNames {
-                garbled: String::from_str(alloc, garbled.as_str()).ok()?,
-                labels: copies_of(alloc, labels).ok()?,
-                line: None,
-            })
-        }
-        Order::Jobs { list, .. } => {
+        Order::Eval(eval) => own_names(alloc, &eval.garbled, &eval.labels).ok(),
+        Order::Audit(audit) => own_names(alloc, &audit.garbled, &audit.labels).ok(),
+        Order::Jobs(jobs) => {
             let word = opened.checked_sub(BEFORE_JOBS + 1)?;
-            let text = files.read_again(alloc, list.as_str())?;
+            let text = files.read_again(alloc, jobs.list.as_str())?;
             names_at(alloc, &text, word)
         }
         _ => None,
     }
+}
+
+/// The names of the files of a job that no list names.
+fn own_names<A: Allocator + Copy>(
+    alloc: A,
+    garbled: &str,
+    labels: &[String],
+) -> Result<JobNames<A>, AllocError> {
+    Ok(JobNames {
+        garbled: String::from_str(alloc, garbled)?,
+        labels: copies_of(alloc, labels)?,
+        line: None,
+    })
 }
 
 /// Copies of these names.
@@ -112,7 +111,7 @@ pub(crate) fn with_line<A: Allocator + Copy, F: Reread>(
     opened: u64,
     sentence: String<A>,
 ) -> Result<String<A>, AllocError> {
-    let Order::Jobs { list, .. } = order else {
+    let Order::Jobs(jobs) = order else {
         return Ok(sentence);
     };
     let Some(names) = job_names(alloc, order, files, opened) else {
@@ -121,6 +120,6 @@ pub(crate) fn with_line<A: Allocator + Copy, F: Reread>(
     let Some(line) = names.line else {
         return Ok(sentence);
     };
-    let (sentence, list) = (sentence.as_str(), list.as_str());
+    let (sentence, list) = (sentence.as_str(), jobs.list.as_str());
     format!(in alloc; "{sentence} (line {line} of {list})")
 }

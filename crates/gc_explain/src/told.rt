@@ -1,7 +1,8 @@
 //! What is told of a fault.
 
 ghost use Rattle.std.specs.Prelude.{◌≡◌, ◌++◌, ◌∷◌, [], codes, decimal, string_bytes, IfOk, IfSome, OnOk};
-ghost use Rattle.gc_explain.specs.Explain.{byte_place, file_place, line_told, located_place};
+ghost use Rattle.gc_explain.specs.Explain.{line_told};
+ghost use Rattle.gc_explain.specs.Places.{byte_place, file_place, line_place, located_place};
 
 use gc_circuit::Located;
 use itoa::Buffer;
@@ -75,6 +76,21 @@ pub(crate) fn byte_place<A: Allocator>(
     let mut place = file_place(alloc, name)?;
     place.extend_from_slice(b"byte ")?;
     push_number(&mut place, byte)?;
+    place.extend_from_slice(b": ")?;
+    Ok(place)
+}
+
+/// The place that is a line of a file.
+pub(crate) fn line_place<A: Allocator>(
+    alloc: A,
+    name: &str,
+    line: u64,
+) -> Result<Vec<u8, A>, AllocError>
+    ensures { IfOk result (λ place. place.items ≡ line_place name.now line) }
+{
+    let mut place = Vec::from_slice(alloc, name.as_bytes())?;
+    place.push(b':')?;
+    push_number(&mut place, line)?;
     place.extend_from_slice(b": ")?;
     Ok(place)
 }

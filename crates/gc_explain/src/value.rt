@@ -37,9 +37,10 @@ pub(crate) fn told_of_index<A: Allocator + Copy, F: Reread>(
     order: &Order,
     files: &F,
 ) -> Option<Told<A>> {
-    let Order::Deal { index, .. } = order else {
+    let Order::Deal(deal) = order else {
         return None;
     };
+    let index = deal.index;
     let count = input_widths(alloc, order, files)?.len();
     alone(
         alloc,
@@ -57,13 +58,10 @@ pub(crate) fn told_of_value<A: Allocator + Copy, F: Reread>(
     fault: ValueFault,
 ) -> Option<Told<A>> {
     let widths = input_widths(alloc, order, files)?;
-    if let Order::Deal { index, value, .. } = order {
-        let width = *widths.get(*index as usize)?;
-        let text = value.as_bytes();
-        return alone(
-            alloc,
-            value_sentence(alloc, u64::from(*index), text, width, fault),
-        );
+    if let Order::Deal(deal) = order {
+        let width = *widths.get(deal.index as usize)?;
+        let (index, text) = (u64::from(deal.index), deal.value.as_bytes());
+        return alone(alloc, value_sentence(alloc, index, text, width, fault));
     }
     let mut index = 0u64;
     for (value, width) in values_of(order)?.iter().zip(&widths) {
@@ -163,9 +161,9 @@ fn number_of(token: &[u8]) -> Option<u32> {
 /// The texts of the values of an order.
 fn values_of(order: &Order) -> Option<&[String]> {
     match order {
-        Order::Run { values, .. } | Order::Plain { values, .. } | Order::Labels { values, .. } => {
-            Some(values.as_slice())
-        }
+        Order::Run(run) => Some(run.values.as_slice()),
+        Order::Plain(plain) => Some(plain.values.as_slice()),
+        Order::Labels(labels) => Some(labels.values.as_slice()),
         _ => None,
     }
 }
@@ -173,11 +171,11 @@ fn values_of(order: &Order) -> Option<&[String]> {
 /// The text of the seed of an order.
 fn seed_of(order: &Order) -> Option<&str> {
     match order {
-        Order::Run { seed, .. }
-        | Order::Garble { seed, .. }
-        | Order::Deal { seed, .. }
-        | Order::Labels { seed, .. }
-        | Order::Audit { seed, .. } => Some(seed.as_str()),
+        Order::Run(run) => Some(run.seed.as_str()),
+        Order::Garble(garble) => Some(garble.seed.as_str()),
+        Order::Deal(deal) => Some(deal.seed.as_str()),
+        Order::Labels(labels) => Some(labels.seed.as_str()),
+        Order::Audit(audit) => Some(audit.seed.as_str()),
         _ => None,
     }
 }
@@ -185,10 +183,10 @@ fn seed_of(order: &Order) -> Option<&str> {
 /// The number of workers of an order.
 fn workers_of(order: &Order) -> Option<u32> {
     match order {
-        Order::Run { workers, .. }
-        | Order::Garble { workers, .. }
-        | Order::Eval { workers, .. }
-        | Order::Jobs { workers, .. } => Some(*workers),
+        Order::Run(run) => Some(run.workers),
+        Order::Garble(garble) => Some(garble.workers),
+        Order::Eval(eval) => Some(eval.workers),
+        Order::Jobs(jobs) => Some(jobs.workers),
         _ => None,
     }
 }

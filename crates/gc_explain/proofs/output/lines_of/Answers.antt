@@ -1,0 +1,8 @@
+use Rattle.gc_command.proofs.JobsNames.{lit<, map_from_collect, YieldsList-from_str_split}
+use Rattle.gc_explain.proofs.output.lines_of.Goals as goal
+
+pub returns : goal.returns
+returns g c =
+    map_from_collect _ c.collect.ensures.ran
+    (YieldsList-from_str_split 10 c.args.text.now (lit< tt) c.split.ensures.text
+    c.split.ensures.has_more c.split.ensures.pattern)
