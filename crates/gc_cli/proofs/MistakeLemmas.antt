@@ -31,7 +31,8 @@ asks_for_text _ = false
 
 -- All the kinds ask for a text, or none does.
 record IsUniform (kinds : Kinds) : Type 0 where
-  agree : (a b : ErrorKind) → IsAmong a kinds → IsAmong b kinds → asks_for_text a ≡ true → asks_for_text b ≡ true
+  agree : (a b : ErrorKind) → IsAmong a kinds → IsAmong b kinds → asks_for_text a ≡ true
+      → asks_for_text b ≡ true
 
 -- no kind, and one
 none : IsUniform []
@@ -42,11 +43,13 @@ among-one a k h = ⊎_elim (λ same. same) (λ no. absurd no) h
 
 one : (k : ErrorKind) → IsUniform (k ∷ [])
 one k = record {
-  agree = λ a b p q asks. subst (λ x. asks_for_text x ≡ true) (among-one a k p ∙ sym (among-one b k q)) asks;
+  agree = λ a b p q asks. subst (λ x. asks_for_text x ≡ true)
+      (among-one a k p ∙ sym (among-one b k q)) asks;
 }
 
 -- no kind of these asks for a text
-stray-silent : (a : ErrorKind) → IsAmong a (kind.UnknownArgument ∷ kind.InvalidSubcommand ∷ []) → asks_for_text a ≡ true → ⊥
+stray-silent : (a : ErrorKind) → IsAmong a (kind.UnknownArgument ∷ kind.InvalidSubcommand ∷ [])
+    → asks_for_text a ≡ true → ⊥
 stray-silent a p asks = ⊎_elim
     (λ same. true≢false (sym asks ∙ ap asks_for_text same))
     (λ rest. true≢false (sym asks ∙ ap asks_for_text (among-one a kind.InvalidSubcommand rest)))
@@ -69,7 +72,8 @@ either : (c : Bool) {a b : Kinds} → IsUniform a → IsUniform b → IsUniform 
 either true p q = p
 either false p q = q
 
-perhaps : {T : Type 0} (o : Option T) (f : T → Kinds) (d : Kinds) → ((x : T) → IsUniform (f x)) → IsUniform d
+perhaps : {T : Type 0} (o : Option T) (f : T → Kinds) (d : Kinds) → ((x : T) → IsUniform (f x))
+    → IsUniform d
     → IsUniform (option_map_or f o d)
 perhaps None f d p q = q
 perhaps (Some x) f d p q = p x
@@ -79,7 +83,8 @@ perhaps (Some x) f d p q = p x
 value_kinds-uniform : (i : Bool) (p : ValueParser) (t : Text) → IsUniform (value_kinds i p t)
 value_kinds-uniform i p t = either (accepts i p t) none (one (refused_kind p))
 
-values_kinds-uniform : (i : Bool) (p : ValueParser) (ts : List Text) → IsUniform (values_kinds i p ts)
+values_kinds-uniform : (i : Bool) (p : ValueParser) (ts : List Text)
+    → IsUniform (values_kinds i p ts)
 values_kinds-uniform i p [] = none
 values_kinds-uniform i p (t ∷ ts) = both (value_kinds-uniform i p t) (values_kinds-uniform i p ts)
 
@@ -87,7 +92,8 @@ range_kinds-uniform : (least most n : ℕ) → IsUniform (range_kinds least most
 range_kinds-uniform least most n =
     either (nat_lt 0 least && n == 0) (one kind.InvalidValue)
     (either (least == most) (either (least == n) none (one kind.WrongNumberOfValues))
-    (either (nat_lt n least) (one kind.TooFewValues) (either (nat_lt most n) (one kind.TooManyValues) none)))
+    (either (nat_lt n least) (one kind.TooFewValues)
+    (either (nat_lt most n) (one kind.TooManyValues) none)))
 
 request_kinds-uniform : (x : ArgAction) → IsUniform (request_kinds x)
 request_kinds-uniform action.Help = one kind.DisplayHelp
@@ -99,20 +105,24 @@ request_kinds-uniform _ = none
 check_kinds-uniform : (help sub argument : Bool) → IsUniform (check_kinds help sub argument)
 check_kinds-uniform help sub argument =
     either help (one kind.DisplayHelpOnMissingArgumentOrSubcommand)
-    (either sub (one kind.MissingSubcommand) (either argument (one kind.MissingRequiredArgument) none))
+    (either sub (one kind.MissingSubcommand) (either argument (one kind.MissingRequiredArgument)
+    none))
 
 -- ---- one use of an argument
 
 values_fault-uniform : (a : Rule) (ts : List Text) → IsUniform (values_fault a ts)
 values_fault-uniform a ts = values_kinds-uniform a.ignore_case (parser_of_value a.parser) ts
 
-count_fault-uniform : (a : Rule) (ts : List Text) (rows : List Row) → IsUniform (count_fault a ts rows)
+count_fault-uniform : (a : Rule) (ts : List Text) (rows : List Row)
+    → IsUniform (count_fault a ts rows)
 count_fault-uniform a [] rows = value_kinds-uniform a.ignore_case (parser_of_value a.parser) _
 count_fault-uniform a (t ∷ ts) rows = values_fault-uniform a (t ∷ ts)
 
-set_fault-uniform : (again : Bool) (a : Rule) (ts : List Text) (rows : List Row) → IsUniform (set_fault again a ts rows)
+set_fault-uniform : (again : Bool) (a : Rule) (ts : List Text) (rows : List Row)
+    → IsUniform (set_fault again a ts rows)
 set_fault-uniform again a ts rows =
-    both (either (has_row a.id rows && not again) (one kind.ArgumentConflict) none) (values_fault-uniform a ts)
+    both (either (has_row a.id rows && not again) (one kind.ArgumentConflict) none)
+    (values_fault-uniform a ts)
 
 action_fault-uniform : (x : ArgAction) (again : Bool) (a : Rule) (ts : List Text) (rows : List Row)
     → IsUniform (action_fault x again a ts rows)
@@ -126,7 +136,8 @@ action_fault-uniform action.HelpShort again a ts rows = one kind.DisplayHelp
 action_fault-uniform action.HelpLong again a ts rows = one kind.DisplayHelp
 action_fault-uniform action.Version again a ts rows = one kind.DisplayVersion
 
-use_fault-uniform : (again : Bool) (a : Rule) (ts : List Text) (rows : List Row) → IsUniform (use_fault again a ts rows)
+use_fault-uniform : (again : Bool) (a : Rule) (ts : List Text) (rows : List Row)
+    → IsUniform (use_fault again a ts rows)
 use_fault-uniform again a ts rows =
     both (range_kinds-uniform (unwrap_or_range a.range).start_inclusive (most_values a) (length ts))
     (action_fault-uniform (action_of a) again a (values_or_missing a ts) rows)
@@ -139,47 +150,59 @@ module _ (c : List Rule) (again : Bool) where
       (λ p. perhaps (arg_by_id c p.0) (λ a. use_fault again a p.1 h.rows) []
       (λ a. use_fault-uniform again a p.1 h.rows) none) none
 
-  react_fault-uniform : (a : Rule) (ts : List Text) (h : Held) → IsUniform (react_fault c again a ts h)
-  react_fault-uniform a ts h = both (settle_fault-uniform h) (use_fault-uniform again a ts (settled c h).rows)
+  react_fault-uniform : (a : Rule) (ts : List Text) (h : Held)
+      → IsUniform (react_fault c again a ts h)
+  react_fault-uniform a ts h = both (settle_fault-uniform h)
+      (use_fault-uniform again a ts (settled c h).rows)
 
-  option_fault-uniform : (a : Rule) (o : Option Text) (h : Held) → IsUniform (option_fault c again a o h)
+  option_fault-uniform : (a : Rule) (o : Option Text) (h : Held)
+      → IsUniform (option_fault c again a o h)
   option_fault-uniform a (Some v) h = react_fault-uniform a (v ∷ []) h
   option_fault-uniform a None h = settle_fault-uniform h
 
-  long_fault-uniform : (o : Option Rule) (v : Option Text) (h : Held) → IsUniform (long_fault c again o v h)
+  long_fault-uniform : (o : Option Rule) (v : Option Text) (h : Held)
+      → IsUniform (long_fault c again o v h)
   long_fault-uniform None v h = one kind.UnknownArgument
   long_fault-uniform (Some a) v h = either (takes_values a) (option_fault-uniform a v h)
       (either (is_some v) (one kind.TooManyValues) (react_fault-uniform a [] h))
 
-  short_fault-uniform : (o : Option Rule) (rest : Text) (h : Held) (more : Held → Kinds) → ((x : Held) → IsUniform (more x))
+  short_fault-uniform : (o : Option Rule) (rest : Text) (h : Held) (more : Held → Kinds)
+      → ((x : Held) → IsUniform (more x))
       → IsUniform (short_fault c again o rest h more)
   short_fault-uniform None rest h more each = one kind.UnknownArgument
   short_fault-uniform (Some a) rest h more each =
       either (takes_values a) (option_fault-uniform a (attached_value rest) h)
       (both (react_fault-uniform a [] h) (each (reacted c a [] h)))
 
-  bundle_step_fault-uniform : (o : Option ℕ) (flags : Text) (skip : ℕ) (h : Held) (more : Text → ℕ → Held → Kinds)
-      → ((t : Text) (n : ℕ) (x : Held) → IsUniform (more t n x)) → IsUniform (bundle_step_fault c again o flags skip h more)
+  bundle_step_fault-uniform : (o : Option ℕ) (flags : Text) (skip : ℕ) (h : Held)
+      (more : Text → ℕ → Held → Kinds)
+      → ((t : Text) (n : ℕ) (x : Held) → IsUniform (more t n x))
+      → IsUniform (bundle_step_fault c again o flags skip h more)
   bundle_step_fault-uniform None flags skip h more each = none
   bundle_step_fault-uniform (Some x) flags zero h more each =
       let rest = drop (length (encode_utf8 x)) flags in
       short_fault-uniform (arg_by_short c x) rest h (more rest 0) (each rest 0)
-  bundle_step_fault-uniform (Some x) flags (suc skip) h more each = each (drop (length (encode_utf8 x)) flags) skip h
+  bundle_step_fault-uniform (Some x) flags (suc skip) h more each = each
+      (drop (length (encode_utf8 x)) flags) skip h
 
-  flags_fault-uniform : (k : ℕ) (flags : Text) (skip : ℕ) (h : Held) → IsUniform (flags_fault c again k flags skip h)
+  flags_fault-uniform : (k : ℕ) (flags : Text) (skip : ℕ) (h : Held)
+      → IsUniform (flags_fault c again k flags skip h)
   unfolding flags_fault
   flags_fault-uniform zero flags skip h = none
   flags_fault-uniform (suc k) flags skip h =
-      bundle_step_fault-uniform (slice_get (chars flags) 0) flags skip h (flags_fault c again k) (flags_fault-uniform k)
+      bundle_step_fault-uniform (slice_get (chars flags) 0) flags skip h (flags_fault c again k)
+      (flags_fault-uniform k)
 
   flag_word_fault-uniform : (o : Option (Text × Option Text)) (word : Text) (h : Held)
       → IsUniform (flag_word_fault c again o word h)
   flag_word_fault-uniform (Some p) word h = long_fault-uniform (arg_by_long c p.0) p.1 h
-  flag_word_fault-uniform None word h = perhaps (short_of word) (λ flags. bundle_fault c again flags h) []
+  flag_word_fault-uniform None word h = perhaps (short_of word)
+      (λ flags. bundle_fault c again flags h) []
       (λ flags. flags_fault-uniform (length flags) flags h.skip (record h { skip = 0 })) none
 
   positional_fault-uniform : (a : Rule) (h : Held) → IsUniform (positional_fault c again a h)
-  positional_fault-uniform a h = either (is_pending a h.pending && takes_several a) none (settle_fault-uniform h)
+  positional_fault-uniform a h = either (is_pending a h.pending && takes_several a) none
+      (settle_fault-uniform h)
 
 -- a subcommand `help` that is turned off asks for no help
 no_help : (named off : Bool) → off ≡ true
@@ -193,9 +216,11 @@ other_word-uniform : (s : Shape) (word : Text) (h : Held) → IsUniform (other_f
 other_word-uniform s word h = either (bytes_eq word (45 ∷ 45 ∷ [])) none
     (flag_word_fault-uniform s.rules s.args_override_self (long_of word) word h)
 
-off-uniform : (s : Shape) → s.disable_help_subcommand ≡ true → (o : Option Text) (word : Text) (h : Held)
+off-uniform : (s : Shape) → s.disable_help_subcommand ≡ true
+    → (o : Option Text) (word : Text) (h : Held)
     → IsUniform (other_fault s o word h)
-off-uniform s off (Some name) word h = no_help (bytes_eq name (codes "help")) s.disable_help_subcommand off
+off-uniform s off (Some name) word h = no_help (bytes_eq name (codes "help"))
+    s.disable_help_subcommand off
 off-uniform s off None word h = other_word-uniform s word h
 
 none-met : (waiting : Waiting) (word : Text) → subcommand_met [] waiting word ≡ None
@@ -213,17 +238,21 @@ module _ (s : Shape) (names : Names) (lacks : LacksHelp s names) where
   other_fault-uniform waiting word h = ⊎_elim
       (λ off. off-uniform s off (subcommand_met names waiting word) word h)
       (λ alone. subst (λ o. IsUniform (other_fault s o word h))
-      (sym (ap (λ (n : Names). subcommand_met n waiting word) alone ∙ none-met waiting word)) (other_word-uniform s word h))
+      (sym (ap (λ (n : Names). subcommand_met n waiting word) alone ∙ none-met waiting word))
+      (other_word-uniform s word h))
       lacks
 
   word_fault-uniform : (is_trailing : Bool) (waiting : Waiting) (word : Text) (h : Held)
       → IsUniform (word_fault s names is_trailing waiting word h)
-  word_fault-uniform is_trailing waiting word h = either is_trailing none (other_fault-uniform waiting word h)
+  word_fault-uniform is_trailing waiting word h = either is_trailing none
+      (other_fault-uniform waiting word h)
 
   step_fault-uniform : (position : ℕ) (h : Held) (x : Step) → IsUniform (step_fault s position h x)
   step_fault-uniform position h value =
-      perhaps (arg_by_index s.rules position) (λ a. positional_fault s.rules s.args_override_self a h) (stray_fault s)
-      (λ a. positional_fault-uniform s.rules s.args_override_self a h) (either s.is_leaf (one kind.UnknownArgument) stray-two)
+      perhaps (arg_by_index s.rules position) (λ a. positional_fault s.rules s.args_override_self a
+      h) (stray_fault s)
+      (λ a. positional_fault-uniform s.rules s.args_override_self a h)
+      (either s.is_leaf (one kind.UnknownArgument) stray-two)
   step_fault-uniform position h (next waiting) = none
   step_fault-uniform position h (trailing at) = none
   step_fault-uniform position h (subcommand name) = none
@@ -232,7 +261,8 @@ module _ (s : Shape) (names : Names) (lacks : LacksHelp s names) where
   turn_fault-uniform w word =
       let met = word_met s.rules names w.is_trailing w.waiting w.position word w.held in
       either (is_some w.stopped) none
-      (both (word_fault-uniform w.is_trailing w.waiting word w.held) (step_fault-uniform w.position met.0 met.1))
+      (both (word_fault-uniform w.is_trailing w.waiting word w.held)
+      (step_fault-uniform w.position met.0 met.1))
 
   walk_fault-uniform : (w : Walk) (words : List Text) → IsUniform (walk_fault s names w words)
   unfolding walk_fault
@@ -246,21 +276,26 @@ default_fault-uniform : (rows : List Row) (a : Rule) → IsUniform (default_faul
 default_fault-uniform rows a = either (has_row a.id rows || is_empty a.defaults) none
     (both (request_kinds-uniform (action_of a)) (values_fault-uniform a a.defaults))
 
-defaults_fault-uniform : (rows : List Row) (rules : List Rule) → IsUniform (defaults_fault rows rules)
+defaults_fault-uniform : (rows : List Row) (rules : List Rule)
+    → IsUniform (defaults_fault rows rules)
 unfolding defaults_fault
 defaults_fault-uniform rows [] = none
 defaults_fault-uniform rows (a ∷ rest) =
     both (default_fault-uniform rows a) (defaults_fault-uniform (with_default rows a) rest)
 
-check_fault-uniform : (s : Shape) (rows : List Row) (has_subcommand : Bool) → IsUniform (check_fault s rows has_subcommand)
+check_fault-uniform : (s : Shape) (rows : List Row) (has_subcommand : Bool)
+    → IsUniform (check_fault s rows has_subcommand)
 check_fault-uniform s rows has_subcommand = check_kinds-uniform
-    (not has_subcommand && (s.arg_required_else_help && not (list_any (λ r. explicit_source r.source) rows)))
+    (not has_subcommand && (s.arg_required_else_help &&
+    not (list_any (λ r. explicit_source r.source) rows)))
     (not has_subcommand && s.subcommand_required)
     (not (s.subcommand_negates_reqs && has_subcommand)
     && list_any (λ a. a.required && not (is_given a.id rows)) s.rules)
 
-level_fault-uniform : (s : Shape) (names : Names) → LacksHelp s names → (h : Held) (words : List Text)
-    (has_subcommand : Bool) (below : Kinds) → IsUniform below → IsUniform (level_fault s names h words has_subcommand below)
+level_fault-uniform : (s : Shape) (names : Names) → LacksHelp s names
+    → (h : Held) (words : List Text)
+    (has_subcommand : Bool) (below : Kinds) → IsUniform below
+    → IsUniform (level_fault s names h words has_subcommand below)
 level_fault-uniform s names lacks h words has_subcommand below p =
     let end = (walk s.rules names h words).held in
     both (walk_fault-uniform s names lacks (walk_from h) words)
@@ -268,16 +303,20 @@ level_fault-uniform s names lacks h words has_subcommand below p =
     (both (defaults_fault-uniform (settled s.rules end).rows s.rules)
     (check_fault-uniform s (finished s.rules end) has_subcommand))))
 
-entered_fault-uniform : (a : App) (stop : Option (Text × List Text)) → IsUniform (entered_fault a stop)
+entered_fault-uniform : (a : App) (stop : Option (Text × List Text))
+    → IsUniform (entered_fault a stop)
 entered_fault-uniform a stop = perhaps stop _ []
-    (λ p. perhaps (find (λ s. answers_to p.0 (label_of s)) a.subs) (λ s. level_fault s [] nothing_held p.1 false []) []
+    (λ p. perhaps (find (λ s. answers_to p.0 (label_of s)) a.subs)
+    (λ s. level_fault s [] nothing_held p.1 false []) []
     (λ s. level_fault-uniform s [] (inr refl) nothing_held p.1 false [] none) none) none
 
-built_fault-uniform : (a : App) → a.top.disable_help_subcommand ≡ true → (h : Held) (words : List Text)
+built_fault-uniform : (a : App) → a.top.disable_help_subcommand ≡ true
+    → (h : Held) (words : List Text)
     → IsUniform (built_fault a h words)
 built_fault-uniform a off h words =
     let stop = (walk a.top.rules (names_of a) h words).stopped in
-    level_fault-uniform a.top (names_of a) (inl off) h words (is_some (entered a stop)) (entered_fault a stop)
+    level_fault-uniform a.top (names_of a) (inl off) h words (is_some (entered a stop))
+    (entered_fault a stop)
     (entered_fault-uniform a stop)
 
 -- ---- the program
@@ -287,9 +326,11 @@ unfolding clap_on_literals
 program-off = refl
 
 fault_of-uniform : (words : List Text) → IsUniform (fault_of program words)
-fault_of-uniform words = built_fault-uniform (built program) program-off nothing_held (argument_words program words)
+fault_of-uniform words = built_fault-uniform (built program) program-off nothing_held
+    (argument_words program words)
 
-text-kinds : (k : ErrorKind) → asks_for_text k ≡ true → (k ≡ kind.DisplayHelp) ⊎ (k ≡ kind.DisplayVersion)
+text-kinds : (k : ErrorKind) → asks_for_text k ≡ true
+    → (k ≡ kind.DisplayHelp) ⊎ (k ≡ kind.DisplayVersion)
 text-kinds kind.DisplayHelp asks = inl refl
 text-kinds kind.DisplayVersion asks = inr refl
 text-kinds _ asks = absurd (true≢false (sym asks))
@@ -298,7 +339,8 @@ text-kinds _ asks = absurd (true≢false (sym asks))
 pub IsMistaken-other_kind : (words : List Text) (k : ErrorKind) → IsAmong k (fault_of program words)
     → k ≢ kind.DisplayHelp → k ≢ kind.DisplayVersion → IsMistaken words
 IsMistaken-other_kind words k among no_help no_version =
-    let other : asks_for_text k ≡ true → ⊥ = λ asks. ⊎_elim no_help no_version (text-kinds k asks) in
+    let other : asks_for_text k ≡ true → ⊥ = λ asks. ⊎_elim no_help no_version
+    (text-kinds k asks) in
     let agree = (fault_of-uniform words).agree in (
       λ faultless. subst (IsAmong k) faultless among,
       λ asks. ⊎_elim (λ help. other (agree kind.DisplayHelp k help among refl))

@@ -36,6 +36,11 @@ abbrev pub IsEnd : List (List ℕ) → Type 0
 IsEnd [] = Unit {0}
 IsEnd (word ∷ left) = word ≡ codes "--"
 
+-- The word is the option, with its file or without it.
+abbrev pub IsOption : List ℕ → Type 0
+IsOption word =
+    (word ≡ codes "--args-from") ⊎ ((name : List ℕ) × (word ≡ codes "--args-from=" ++ name))
+
 -- The word is neither that nor the option.
 pub record IsPlain (word : List ℕ) : Type 0 where
   pub no_end : word ≢ codes "--"
@@ -44,14 +49,16 @@ pub record IsPlain (word : List ℕ) : Type 0 where
 
 -- What comes first in the words stands for these arguments, and these words are left: a plain word stands for itself,
 -- and the option with a file for the file's lines.
-pub data FirstStandsFor (files : FileBytes) : List (List ℕ) → List (List ℕ) → List (List ℕ) → Type 0 where
+pub data FirstStandsFor (files : FileBytes) : List (List ℕ) → List (List ℕ) → List (List ℕ)
+    → Type 0 where
   plain_word : {word : List ℕ} {left : List (List ℕ)} → IsPlain word
       → FirstStandsFor files (word ∷ left) (word ∷ []) left
   file_lines : {words lines left : List (List ℕ)} (name : List ℕ) → BeginWithFile words name left
       → HasLines files name lines → FirstStandsFor files words lines left
 
 -- The words in front stand for these arguments, one after another, and these words are left.
-pub data FrontStandsFor (files : FileBytes) : List (List ℕ) → List (List ℕ) → List (List ℕ) → Type 0 where
+pub data FrontStandsFor (files : FileBytes) : List (List ℕ) → List (List ℕ) → List (List ℕ)
+    → Type 0 where
   no_word : {words : List (List ℕ)} → FrontStandsFor files words [] words
   next_word : {words first rest given left : List (List ℕ)} → FirstStandsFor files words first rest
       → FrontStandsFor files rest given left → FrontStandsFor files words (first ++ given) left
@@ -76,6 +83,17 @@ pub record AskForHelp (arguments : List (List ℕ)) : Type 0 where
   pub program : List ℕ
   pub rest : List (List ℕ)
   pub are : arguments ≡ program ∷ codes "help" ∷ rest
+
+-- Each word before the end is plain.
+pub data ArePlain : List (List ℕ) → Type 0 where
+  no_more : {words : List (List ℕ)} → IsEnd words → ArePlain words
+  one_more : {word : List ℕ} {left : List (List ℕ)} → IsPlain word → ArePlain left
+      → ArePlain (word ∷ left)
+
+-- The words of a command line stand for themselves, whatever is in the files.
+abbrev pub StandForThemselves : List (List ℕ) → Type 0
+StandForThemselves [] = Unit {0}
+StandForThemselves (program ∷ words) = ¬ AskForHelp (program ∷ words) × ArePlain words
 
 -- The words of a command line, of which the first is the program's name, stand for these arguments.
 abbrev pub StandFor : FileBytes → List (List ℕ) → List (List ℕ) → Type 0

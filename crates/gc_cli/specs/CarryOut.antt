@@ -76,16 +76,6 @@ HasFault bytes Failed (list_labels circuit seed from count values) fault =
 HasFault bytes Failed (audit circuit seed garbled labels) fault =
     HasAuditFault bytes Failed circuit seed garbled labels fault
 
--- The order is `labels`.
-abbrev pub IsLabels : OrderText → Type 0
-IsLabels (list_labels circuit seed from count values) = Unit {0}
-IsLabels order = ⊥
-
--- The order is `audit`.
-abbrev pub IsAudit : OrderText → Type 0
-IsAudit (audit circuit seed garbled labels) = Unit {0}
-IsAudit order = ⊥
-
 -- The order writes the file of this name.
 abbrev pub Writes : OrderText → List ℕ → Type 0
 Writes (garble circuit seed out version workers) name = name ≡ out

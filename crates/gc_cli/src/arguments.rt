@@ -2,8 +2,8 @@
 
 ghost use Rattle.std.specs.Prelude.{◌≡◌, ◌++◌, ◌≢◌, ◌∷◌, ℕ, List, map, string_bytes, IfErr, IfOk, IfNone, IfSome, OnOk, true, false, codes, length, ◌<◌, []};
 ghost use Rattle.gc_disk.specs.Files.{GivesFile, HasFailed};
-ghost use Rattle.gc_cli.specs.Arguments.{AreLines, AreRefused, AskForHelp, FirstStandsFor, HasLines, IsEnd, IsRefusedFile, IsRefusedLine};
-ghost use Rattle.gc_cli.specs.Arguments.{IsRefusedNext, StandFor, WordsStandFor, help_last};
+ghost use Rattle.gc_cli.specs.Arguments.{AreLines, ArePlain, AreRefused, AskForHelp, FirstStandsFor, HasLines, IsEnd, IsRefusedFile, IsRefusedLine};
+ghost use Rattle.gc_cli.specs.Arguments.{IsOption, IsRefusedNext, StandFor, StandForThemselves, WordsStandFor, help_last};
 
 use gc_disk::{FileError, Files};
 use std::alloc::{AllocError, Allocator};
@@ -33,6 +33,46 @@ impl From<AllocError> for Refusal {
 
     fn from(_e: AllocError) -> Refusal {
         Refusal::Memory
+    }
+}
+
+/// Whether the words of a command line stand for themselves, so that no argument has to be made.
+pub(crate) fn stand_for_themselves(words: &[String]) -> bool
+    ensures yes { result ≡ true → StandForThemselves (map string_bytes words.now) }
+    ensures no { result ≡ false → ¬ StandForThemselves (map string_bytes words.now) }
+{
+    match words.split_first() {
+        Some((_, given)) => !ask_for_help(words) && are_plain(given),
+        None => true,
+    }
+}
+
+/// Whether each word before the end is plain.
+fn are_plain(words: &[String]) -> bool
+    ensures yes { result ≡ true → ArePlain (map string_bytes words.now) }
+    ensures no { result ≡ false → ¬ ArePlain (map string_bytes words.now) }
+{
+    let mut left = words;
+    while let Some((word, later)) = left.split_first() {
+        if word.as_str() == "--" {
+            return true;
+        }
+        if is_option(word.as_str()) {
+            return false;
+        }
+        left = later;
+    }
+    true
+}
+
+/// Whether a word is the option, with its file or without it.
+fn is_option(word: &str) -> bool
+    ensures yes { result ≡ true → IsOption word.now }
+    ensures no { result ≡ false → ¬ IsOption word.now }
+{
+    match file_in(word) {
+        Some(_) => true,
+        None => word == OPTION,
     }
 }
 
@@ -78,7 +118,8 @@ fn put_help_last<A: Allocator + Copy>(
 /// Whether the first argument, after the program's name, is `help`.
 fn ask_for_help<A: Allocator>(arguments: &[String<A>]) -> bool
     ensures yes { result ≡ true → AskForHelp (map string_bytes arguments.now) }
-    ensures no { result ≡ false
+    ensures no { result ≡ false → ¬ AskForHelp (map string_bytes arguments.now) }
+    ensures last { result ≡ false
         → help_last (map string_bytes arguments.now) ≡ map string_bytes arguments.now }
 {
     let Some((_, given)) = arguments.split_first() else {
@@ -194,7 +235,8 @@ fn read_text<A: Allocator + Copy, F: Files>(
     name: &str,
     files: &mut F,
 ) -> Result<String<A>, Refusal>
-    ensures text { IfOk result (λ text. GivesFile (F.bytes files.old name.now) (string_bytes text)) }
+    ensures text { IfOk result
+        (λ text. GivesFile (F.bytes files.old name.now) (string_bytes text)) }
     ensures refusal { IfErr result (IsRefusedFile (F.bytes files.old)
         (HasFailed (F.failures files.old) (F.failures files.new)) name.now) }
     ensures unfailed { OnOk result (F.failures files.new ≡ F.failures files.old) }

@@ -19,6 +19,17 @@ pub struct Output<W: Write> {
     failures: FailureCount,
 }
 
+/// What a run prints on, and whether it explains faults.
+#[derive(Drop)]
+pub struct Console<O: Write, E: Write> {
+    /// Standard output.
+    pub out: Output<O>,
+    /// Standard error.
+    pub err: Output<E>,
+    /// Whether a fault is explained even where the arguments don't ask for it.
+    pub explains: bool,
+}
+
 impl<W: Write> Model for Output<W> {
     ghost use Rattle.gc_cli.specs.Output.{Printed};
 

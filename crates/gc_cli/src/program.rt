@@ -13,15 +13,15 @@ ghost use Rattle.gc_cli.specs.Serve.{AskToWrite, EndsByFault, FailsToAnswer, Fin
 ghost use Rattle.gc_cli.specs.Serve.{IsTold, PrintsAnswer, PrintsFault, PrintsLine};
 ghost use Rattle.gc_cli.specs.Serve.{PrintsRefusal, fault_line, reason_of, refusal_line};
 
+use crate::answer::Answer;
 use crate::command_line::Heap;
-use crate::output::Output;
-use crate::work::{carry_out, label_lines};
-use gc_command::{Fault, Progress};
-use gc_disk::{Cause, Files, Reread};
+use crate::orders::carry_out;
+use crate::output::{Console, Output};
+use gc_command::{Context, Fault, Progress};
+use gc_disk::{Files, Reread};
 use gc_explain::explain;
 use gc_order::{Asked, Order};
-use gc_trace::labels::LabelLines;
-use std::alloc::{Allocator, Global};
+use std::alloc::Global;
 use std::io::{self, ErrorKind, Write};
 use std::sync::Wait;
 use std::thread::Threads;
@@ -45,31 +45,30 @@ pub(crate) fn serve_arguments<R: Threads + Wait + Sync, F: Reread, O: Write, E: 
     heap: &mut Heap,
     words: &[String],
     files: &mut F,
-    out: &mut Output<O>,
-    err: &mut Output<E>,
+    console: &mut Console<O, E>,
     progress: &P,
-    explains: bool,
 ) -> u8
     ensures status { result ≤ DISHONEST }
 
     ensures done { result ≡ DONE → IsDone (F.bytes files.old) (F.bytes files.new)
-        (map string_bytes words.now) out.old out.new }
-    ensures no_errors { result ≡ DONE → err.new ≡ err.old }
+        (map string_bytes words.now) console.old.out console.new.out }
+    ensures no_errors { result ≡ DONE → console.new.err ≡ console.old.err }
     ensures dishonest { result ≡ DISHONEST
         → FindsDishonest (F.bytes files.old) (F.bytes files.new)
-        (map string_bytes words.now) out.old out.new }
-    ensures no_errors_of_audit { result ≡ DISHONEST → err.new ≡ err.old }
+        (map string_bytes words.now) console.old.out console.new.out }
+    ensures no_errors_of_audit { result ≡ DISHONEST → console.new.err ≡ console.old.err }
 
     ensures fault { result ≡ FAULT → EndsByFault (F.bytes files.old) (F.bytes files.new)
         (HasFailed (F.failures files.old) (F.failures files.new))
-        (map string_bytes words.now) explains out.old out.new err.old err.new }
+        (map string_bytes words.now) console.old.explains
+        console.old.out console.new.out console.old.err console.new.err }
 
     // Words that neither are an order nor ask for a text: only they, where there was memory to read them, and all of
     // them.
     ensures usage { result ≡ USAGE
         → IsMistaken (map string_bytes words.now) ⊎ (heap.old < heap.new) }
     ensures mistaken { IsMistaken (map string_bytes words.now) → result ≡ USAGE }
-    ensures no_output { result ≡ USAGE → out.new ≡ out.old }
+    ensures no_output { result ≡ USAGE → console.new.out ≡ console.old.out }
 
     // A file changes only where the arguments are an order that writes it, and by `fault` is as it was at a fault.
     ensures others { (name : List ℕ) → ¬ AskToWrite (map string_bytes words.now) name
@@ -78,33 +77,35 @@ pub(crate) fn serve_arguments<R: Threads + Wait + Sync, F: Reread, O: Write, E: 
         → (name : List ℕ) → F.bytes files.new name ≡ F.bytes files.old name }
 {
     let (alloc, before) = (heap.alloc(), files.trail().opened());
+    let context = Context {
+        rt,
+        alloc,
+        progress,
+    };
     match heap.order(words) {
-        Ok(asked) => match print_answer(rt, alloc, &asked.order, files, out, progress) {
+        Ok(asked) => match print_answer(&context, &asked.order, files, &mut console.out) {
             Ok(true) => DONE,
             Ok(false) => DISHONEST,
-            Err(fault) => report_order(fault, alloc, &asked, explains, files, before, out, err),
+            Err(fault) => report_order(fault, alloc, &asked, files, before, console),
         },
-        Err(help) if !help.use_stderr() => match write!(out, "{help}") {
+        Err(help) if !help.use_stderr() => match write!(console.out, "{help}") {
             Ok(()) => DONE,
-            Err(_) => report(Fault::CannotWrite, err),
+            Err(_) => report(Fault::CannotWrite, &mut console.err),
         },
         Err(error) => {
-            let _ = write!(err, "{error}");
+            let _ = write!(console.err, "{error}");
             USAGE
         }
     }
 }
 
 /// Carries out an order, and prints its result. It returns whether an audit finds its files honest, and `true` of any
-/// other order. The lines of `labels` are printed as they are made, so that they need not all be in memory: each fault
-/// but that of `out` comes before the first of them.
+/// other order. Each fault but that of `out` comes before anything is printed.
 fn print_answer<R: Threads + Wait + Sync, F: Files, O: Write, P: Progress>(
-    rt: &R,
-    alloc: Global,
+    context: &Context<'_, R, Global, P>,
     order: &Order,
     files: &mut F,
     out: &mut Output<O>,
-    progress: &P,
 ) -> Result<bool, Fault>
     ensures done { IfOk result (λ honest. PrintsAnswer (F.bytes files.old) (F.bytes files.new)
         (text_of order.now) honest out.old out.new) }
@@ -114,42 +115,11 @@ fn print_answer<R: Threads + Wait + Sync, F: Files, O: Write, P: Progress>(
     ensures others { (name : List ℕ) → ¬ Writes (text_of order.now) name
         → F.bytes files.new name ≡ F.bytes files.old name }
 {
-    if let Order::Labels { .. } = order {
-        let lines = label_lines(alloc, order, files);
-        progress.end();
-        return match print_lines(lines?, out) {
-            Ok(()) => Ok(true),
-            Err(_) => Err(Fault::CannotWrite),
-        };
-    }
-    let answer = carry_out(rt, alloc, order, files, progress);
-    progress.end();
-    let answer = answer?;
-    match out.write_all(&answer.lines) {
-        Ok(()) => Ok(answer.is_honest),
-        Err(_) => Err(Fault::CannotWrite),
-    }
-}
-
-/// Prints the lines that are left, as they are made.
-fn print_lines<A: Allocator, O: Write>(
-    mut left: LabelLines<A>,
-    out: &mut Output<O>,
-) -> Result<(), Fault>
-    ensures done { OnOk result ((Appends out.old.contents out.new.contents left)
-        × (out.new.failures ≡ out.old.failures)) }
-    ensures fault { IfErr result (λ fault. (fault ≡ Fault.CannotWrite)
-        × (out.new.failures ≡ out.old.failures + 1)) }
-{
-    loop {
-        let piece = left.next_lines();
-        if piece.is_empty() {
-            return Ok(());
-        }
-        let Ok(()) = out.write_all(&piece) else {
-            return Err(Fault::CannotWrite);
-        };
-    }
+    let answer = carry_out(context, order, files);
+    context.progress.end();
+    let Answer { lines, is_honest } = answer?;
+    lines.print(out)?;
+    Ok(is_honest)
 }
 
 /// Says on `err` why the arguments can't be read, as where one is not UTF-8. Where that fails, nothing can be said. The
@@ -185,58 +155,49 @@ fn reason_of(kind: ErrorKind) -> &'static str
     }
 }
 
-/// Says on standard error which fault ended an order and, where the arguments ask for it or `explains` does, what
-/// explains it. `before` is how many files were opened before the order.
+/// Says on standard error which fault ended an order and, where the arguments or the console ask for it, what explains
+/// it. `before` is how many files were opened before the order.
 fn report_order<F: Reread, O: Write, E: Write>(
     fault: Fault,
     alloc: Global,
     asked: &Asked,
-    explains: bool,
     files: &F,
     before: u64,
-    out: &Output<O>,
-    err: &mut Output<E>,
+    console: &mut Console<O, E>,
 ) -> u8
     ensures status { result ≡ FAULT }
-    ensures printed { (told : Printed) × PrintsFault err.old told fault
-        × IsTold (F.bytes files.now) (text_of asked.now.order) (explains || asked.now.explains)
-        fault told err.new }
+    ensures printed { (told : Printed) × PrintsFault console.old.err told fault
+        × IsTold (F.bytes files.now) (text_of asked.now.order)
+        (console.old.explains || asked.now.explains) fault told console.new.err }
+    ensures same { console.new.out ≡ console.old.out }
 {
-    let status = report(fault, err);
-    let explains = explains | asked.explains;
-    tell(
-        alloc,
-        &asked.order,
-        explains,
-        files,
-        before,
-        fault,
-        out.cause(),
-        err,
-    );
+    let status = report(fault, &mut console.err);
+    tell(fault, alloc, asked, files, before, console);
     status
 }
 
-/// Says on standard error what explains the fault of an order, where it is to be explained. Where that fails, nothing
-/// can be said. `before` is how many files were opened before the order.
-fn tell<F: Reread, E: Write>(
+/// Says on standard error what explains the fault of an order, where the arguments or the console ask for it. Where
+/// that fails, nothing can be said. `before` is how many files were opened before the order.
+fn tell<F: Reread, O: Write, E: Write>(
+    fault: Fault,
     alloc: Global,
-    order: &Order,
-    explains: bool,
+    asked: &Asked,
     files: &F,
     before: u64,
-    fault: Fault,
-    printing: Option<Cause>,
-    err: &mut Output<E>,
+    console: &mut Console<O, E>,
 )
-    ensures { IsTold (F.bytes files.now) (text_of order.now) explains fault err.old err.new }
+    ensures told { IsTold (F.bytes files.now) (text_of asked.now.order)
+        (console.old.explains || asked.now.explains) fault console.old.err console.new.err }
+    ensures same { console.new.out ≡ console.old.out }
 {
+    let explains = console.explains | asked.explains;
     if !explains {
         return;
     }
     let opened = files.trail().opened().saturating_sub(before);
-    if let Some(line) = explain(alloc, order, files, opened, fault, printing) {
-        write_told(&line, err);
+    let printing = console.out.cause();
+    if let Some(line) = explain(alloc, &asked.order, files, opened, fault, printing) {
+        write_told(&line, &mut console.err);
     }
 }
 

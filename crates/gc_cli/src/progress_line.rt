@@ -1,6 +1,6 @@
 //! A line on a terminal that shows the progress of a command.
 
-use gc_command::{Progress, Work};
+use gc_command::{Progress, Stage};
 use std::sync::{Condvar, Mutex, Wait};
 use std::thread::{self, Threads};
 use std::time::{Clock, Duration, Instant};
@@ -16,7 +16,7 @@ const PAUSE: u64 = 500;
 struct Step {
     step: u32,
     steps: u32,
-    work: Work,
+    stage: Stage,
 }
 
 /// What the line is drawn by.
@@ -100,16 +100,16 @@ impl<'r, R: Wait + Clock + Eprint> ProgressLine<'r, R> {
         let Ok(elapsed) = begun.elapsed(self.rt) else {
             return;
         };
-        let Step { step, steps, work } = at;
+        let Step { step, steps, stage } = at;
         let seconds = elapsed.as_secs();
         state.is_shown = true;
-        let _ = eprint!(self.rt; "\r\x1b[Khalfgates: step {step} of {steps}, {work}, {seconds} s");
+        let _ = eprint!(self.rt; "\r\x1b[Khalfgates: step {step} of {steps}, {stage}, {seconds} s");
     }
 }
 
 impl<'r, R: Wait + Clock + Eprint> Progress for ProgressLine<'r, R> {
-    fn begin(&self, step: u32, steps: u32, work: Work) {
-        self.state.lock(self.rt).at = Some(Step { step, steps, work });
+    fn begin(&self, step: u32, steps: u32, stage: Stage) {
+        self.state.lock(self.rt).at = Some(Step { step, steps, stage });
     }
 
     fn end(&self) {

@@ -4,13 +4,14 @@ ghost use Rattle.std.specs.Prelude.{◌≡◌, ◌<◌, ◌≤◌, ◌⊎◌, �
 ghost use Rattle.std.specs.Io.KnownBytes.{Appends};
 ghost use Rattle.gc_file.specs.Counted.{CountsFailure};
 ghost use Rattle.gc_disk.specs.Files.{HasFailed};
+ghost use Rattle.gc_cli.specs.Arguments.{StandForThemselves};
 ghost use Rattle.gc_cli.specs.CommandLine.{IsMistaken};
 ghost use Rattle.gc_cli.specs.Serve.{AskToWrite, EndsByFault, FindsDishonest, IsDone};
 ghost use Rattle.gc_cli.specs.WholeRun.{EndsByRefusal, IsOf, LackFile, PrintsNoFile, no_file_text};
 
-use crate::arguments::{Refusal, arguments_of};
+use crate::arguments::{Refusal, arguments_of, stand_for_themselves};
 use crate::command_line::Heap;
-use crate::output::Output;
+use crate::output::{Console, Output};
 use crate::program::{DISHONEST, DONE, FAULT, USAGE, report, serve_arguments};
 use gc_command::{Fault, Progress};
 use gc_disk::Reread;
@@ -24,14 +25,14 @@ use std::thread::Threads;
 /// Before all else, each `--args-from FILE` or `--args-from=FILE` before `--` stands for the lines of FILE, each of
 /// which is an argument.
 ///
-/// - [`DONE`]: the lines of the order, or the help or the version that was asked for, are on `out`.
-/// - [`DISHONEST`]: the lines of an audit are on `out`, of which the last is `dishonest`.
-/// - [`FAULT`]: the line `halfgates: fault CODE NAME` is on `err`, unless `err` can't be written. Nothing is on `out`,
-///   and every file is as it was, unless printing on `out` failed, which is the fault 51. It is 50 where FILE can't be
-///   read or isn't UTF-8, and 52 where there is no memory for its lines. Where the arguments ask for it, or `explains`
-///   does, a line that explains the fault of an order may follow.
-/// - [`USAGE`]: what clap says of words that are no order is on `err`. So is what it says where memory ran out, and
-///   that `--args-from` lacks FILE.
+/// - [`DONE`]: the lines of the order, or the help or the version that was asked for, are on standard output.
+/// - [`DISHONEST`]: the lines of an audit are on standard output, of which the last is `dishonest`.
+/// - [`FAULT`]: the line `halfgates: fault CODE NAME` is on standard error, unless that can't be written. Nothing is on
+///   standard output, and every file is as it was, unless printing there failed, which is the fault 51. It is 50 where
+///   FILE can't be read or isn't UTF-8, and 52 where there is no memory for its lines. Where the arguments or the
+///   console ask for it, a line that explains the fault of an order may follow.
+/// - [`USAGE`]: what clap says of words that are no order is on standard error. So is what it says where memory ran
+///   out, and that `--args-from` lacks FILE.
 ///
 /// No file changes but the one that the order writes.
 pub fn serve<R: Threads + Wait + Sync, F: Reread, O: Write, E: Write, P: Progress>(
@@ -39,28 +40,29 @@ pub fn serve<R: Threads + Wait + Sync, F: Reread, O: Write, E: Write, P: Progres
     heap: &mut Heap,
     words: &[String],
     files: &mut F,
-    out: &mut Output<O>,
-    err: &mut Output<E>,
+    console: &mut Console<O, E>,
     progress: &P,
-    explains: bool,
 ) -> u8
     ensures status { result ≤ DISHONEST }
 
     ensures done { result ≡ DONE → IsOf (F.bytes files.old) (map string_bytes words.now)
-        (λ arguments. IsDone (F.bytes files.old) (F.bytes files.new) arguments out.old out.new) }
-    ensures no_errors { result ≡ DONE → err.new ≡ err.old }
+        (λ arguments. IsDone (F.bytes files.old) (F.bytes files.new) arguments
+        console.old.out console.new.out) }
+    ensures no_errors { result ≡ DONE → console.new.err ≡ console.old.err }
     ensures dishonest { result ≡ DISHONEST → IsOf (F.bytes files.old) (map string_bytes words.now)
         (λ arguments. FindsDishonest (F.bytes files.old) (F.bytes files.new) arguments
-        out.old out.new) }
-    ensures no_errors_of_audit { result ≡ DISHONEST → err.new ≡ err.old }
+        console.old.out console.new.out) }
+    ensures no_errors_of_audit { result ≡ DISHONEST → console.new.err ≡ console.old.err }
 
     ensures fault { result ≡ FAULT → IsOf (F.bytes files.old) (map string_bytes words.now)
         (λ arguments. EndsByFault (F.bytes files.old) (F.bytes files.new)
         (HasFailed (F.failures files.old) (F.failures files.new))
-        arguments explains out.old out.new err.old err.new)
+        arguments console.old.explains
+        console.old.out console.new.out console.old.err console.new.err)
         ⊎ EndsByRefusal (F.bytes files.old) (F.bytes files.new)
         (HasFailed (F.failures files.old) (F.failures files.new))
-        (map string_bytes words.now) out.old out.new err.old err.new }
+        (map string_bytes words.now)
+        console.old.out console.new.out console.old.err console.new.err }
 
     // Arguments that neither are an order nor ask for a text, where there was memory to read them, or no file after
     // the option: only these, and all of these.
@@ -72,8 +74,11 @@ pub fn serve<R: Threads + Wait + Sync, F: Reread, O: Write, E: Write, P: Progres
         (λ arguments. IsMistaken arguments → result ≡ USAGE)
         ⊎ ((result ≡ USAGE) ⊎ EndsByRefusal (F.bytes files.old) (F.bytes files.new)
         (HasFailed (F.failures files.old) (F.failures files.new))
-        (map string_bytes words.now) out.old out.new err.old err.new) }
-    ensures no_output { result ≡ USAGE → out.new ≡ out.old }
+        (map string_bytes words.now)
+        console.old.out console.new.out console.old.err console.new.err) }
+    ensures mistaken_words { StandForThemselves (map string_bytes words.now)
+        → IsMistaken (map string_bytes words.now) → result ≡ USAGE }
+    ensures no_output { result ≡ USAGE → console.new.out ≡ console.old.out }
 
     // A file changes only where the arguments are an order that writes it, and by `fault` is as it was at a fault.
     ensures others { (name : List ℕ) → ¬ (IsOf (F.bytes files.old) (map string_bytes words.now)
@@ -82,11 +87,14 @@ pub fn serve<R: Threads + Wait + Sync, F: Reread, O: Write, E: Write, P: Progres
     ensures unwritten { result ≡ USAGE
         → (name : List ℕ) → F.bytes files.new name ≡ F.bytes files.old name }
 {
+    if stand_for_themselves(words) {
+        return serve_arguments(rt, heap, words, files, console, progress);
+    }
     match arguments_of(heap.alloc(), words, files) {
-        Ok(arguments) => serve_arguments(rt, heap, &arguments, files, out, err, progress, explains),
-        Err(Refusal::NoFile) => lack_file(err),
-        Err(Refusal::CannotRead) => report(Fault::CannotRead, err),
-        Err(Refusal::Memory) => report(Fault::Memory, err),
+        Ok(arguments) => serve_arguments(rt, heap, &arguments, files, console, progress),
+        Err(Refusal::NoFile) => lack_file(&mut console.err),
+        Err(Refusal::CannotRead) => report(Fault::CannotRead, &mut console.err),
+        Err(Refusal::Memory) => report(Fault::Memory, &mut console.err),
     }
 }
 

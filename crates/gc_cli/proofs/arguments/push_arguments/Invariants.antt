@@ -11,7 +11,8 @@ invariant-loop-files g l = record {
       × ((map string_bytes l.arguments.items ≡ map string_bytes l.fn.arguments.items ++ given)
       × ((more left : List (List ℕ))
       → FrontStandsFor (g.F.Files.bytes l.fn.files) (map string_bytes l.left) more left
-      → FrontStandsFor (g.F.Files.bytes l.fn.files) (map string_bytes l.fn.words) (given ++ more) left));
+      → FrontStandsFor (g.F.Files.bytes l.fn.files) (map string_bytes l.fn.words) (given ++ more)
+      left));
 }
 
 abbrev pub decreases-loop-files : goal.decreases-loop-files

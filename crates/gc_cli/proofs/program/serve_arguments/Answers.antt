@@ -9,7 +9,11 @@ pub returns-in-Ok-clause-fault : goal.returns-in-Ok-clause-fault
 returns-in-Ok-clause-fault g c = λ _. (
   c.in-Err-print_answer.fault,
   (
-    inl (text_of c.in-Ok.asked.order, c.in-Ok.ensures.ok, c.in-Err-print_answer.ensures.fault),
+    inl (
+      text_of c.in-Ok.asked.order,
+      c.in-Ok.ensures.ok,
+      rw c.report_order.ensures.same c.in-Err-print_answer.ensures.fault,
+    ),
     (
       c.report_order.ensures.printed.0,
       c.report_order.ensures.printed.1,

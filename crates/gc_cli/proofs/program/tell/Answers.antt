@@ -1,8 +1,8 @@
 use Rattle.std.proofs.Common.{rules, inr}
 use Rattle.gc_cli.proofs.program.tell.Goals as goal
 
-pub returns-in-Some : goal.returns-in-Some
-returns-in-Some g c = inr (
+pub returns-in-Some-clause-told : goal.returns-in-Some-clause-told
+returns-in-Some-clause-told g c = inr (
   search rules,
   (
     c.in-Some.line.items,

@@ -1,0 +1,59 @@
+//! Carrying out orders.
+
+ghost use Rattle.std.specs.Prelude.{◌≡◌, ℕ, List, IfOk, IfErr, OnErr};
+ghost use Rattle.gc_order.specs.Order.{text_of};
+ghost use Rattle.gc_disk.specs.Files.{HasFailed};
+ghost use Rattle.gc_command.specs.Wrote.{KeepsFiles};
+ghost use Rattle.gc_cli.specs.CarryOut.{Answers, HasFault, Writes};
+
+use crate::answer::Answer;
+use gc_command::check::check;
+use gc_command::deal::deal;
+use gc_command::eval::eval;
+use gc_command::garble::garble;
+use gc_command::jobs::jobs;
+use gc_command::plain::plain;
+use gc_command::run::run;
+use gc_command::{Context, Fault, Progress};
+use gc_disk::Files;
+use gc_order::Order;
+use gc_trace::audit::audit;
+use gc_trace::labels::labels;
+use gc_trace::locate::locate;
+use gc_trace::stats::stats;
+use std::alloc::Allocator;
+use std::sync::Wait;
+use std::thread::Threads;
+
+/// Carries out an order, and returns its result, or the first fault of its work.
+pub fn carry_out<
+    R: Threads + Wait + Sync,
+    A: Allocator + Copy + Send + Sync,
+    F: Files,
+    P: Progress,
+>(context: &Context<'_, R, A, P>, order: &Order, files: &mut F) -> Result<Answer<A>, Fault>
+    ensures answers { IfOk result (λ answer. Answers (F.bytes files.old) (F.bytes files.new)
+        (text_of order.now) answer.is_honest answer.lines) }
+    ensures fault { IfErr result (HasFault (F.bytes files.old)
+        (HasFailed (F.failures files.old) (F.failures files.new)) (text_of order.now)) }
+
+    // A file changes only where the order writes it, and is as it was after any fault.
+    ensures others { (name : List ℕ) → ¬ Writes (text_of order.now) name
+        → F.bytes files.new name ≡ F.bytes files.old name }
+    ensures unwritten { OnErr result (KeepsFiles (F.bytes files.old) (F.bytes files.new)) }
+{
+    let alloc = context.alloc;
+    match order {
+        Order::Run(order) => Ok(Answer::made(run(context, order, files)?)),
+        Order::Plain(order) => Ok(Answer::made(plain(alloc, order, files)?)),
+        Order::Check { circuit } => Ok(Answer::made(check(context, circuit.as_str(), files)?)),
+        Order::Locate { circuit } => Ok(Answer::made(locate(alloc, circuit.as_str(), files)?)),
+        Order::Stats { circuit } => Ok(Answer::made(stats(alloc, circuit.as_str(), files)?)),
+        Order::Garble(order) => Ok(Answer::made(garble(context, order, files)?)),
+        Order::Deal(order) => Ok(Answer::made(deal(alloc, order, files)?)),
+        Order::Eval(order) => Ok(Answer::made(eval(context, order, files)?)),
+        Order::Jobs(order) => Ok(Answer::made(jobs(context, order, files)?)),
+        Order::Labels(order) => Ok(Answer::of_labels(labels(alloc, order, files)?)),
+        Order::Audit(order) => Ok(Answer::of_audit(audit(context, order, files)?)),
+    }
+}
