@@ -1,9 +1,8 @@
 //! Tests of the line that explains a fault: with each growth refused it is there or not, and never another.
 
-use crate::jobs::{held, job_files, order};
+use crate::jobs::{held, job_files, order, result_of};
 use gc_circuit::{ReadFault, ValueFault};
-use gc_cli::carry_out;
-use gc_command::{Fault, Silent};
+use gc_command::Fault;
 use gc_disk::Reread;
 use gc_explain::explain;
 use gc_file::FileFault;
@@ -41,7 +40,8 @@ static ORDERS: [(&[&str], &str); 8] = [
     ),
     (
         &["jobs", "c.txt", "bad list"],
-        "halfgates: no_file: the file can't be read: there is no such file or directory (line 2 of bad list)\n",
+        "halfgates: no_file: the file can't be read: there is no such file or directory \
+(line 2 of bad list)\n",
     ),
     (
         &["run", "c.txt", "0", "1", "0"],
@@ -49,7 +49,8 @@ static ORDERS: [(&[&str], &str); 8] = [
     ),
     (
         &["garble", "c.txt", SEED, "c.txt"],
-        "halfgates: c.txt: the file can't be written: it is a name of standard output or of the circuit's file\n",
+        "halfgates: c.txt: the file can't be written: it is a name of standard output or of \
+the circuit's file\n",
     ),
 ];
 
@@ -93,7 +94,7 @@ fn each_growth_refused(rt: HostRuntime) -> Result<(), Fail> {
     for (words, line) in &ORDERS {
         let order = order(alloc, words)?;
         let mut files = MemFiles::new(alloc, &files);
-        match carry_out(&rt, alloc, &order, &mut files, &Silent) {
+        match result_of(&rt, alloc, &order, &mut files) {
             Ok(_) => return Err(Fail::new("there is no fault")),
             Err(fault) => assert_explained(&rt, alloc, &order, &files, fault, line)?,
         }

@@ -1,8 +1,7 @@
 //! Tests of files that fail: each call of them in turn, and sources and sinks in mid-stream.
 
-use crate::jobs::{held, job_files, order};
-use gc_cli::carry_out;
-use gc_command::{Fault, Silent};
+use crate::jobs::{assert_printed, held, job_files, order, result_of};
+use gc_command::Fault;
 use gc_order::Order;
 use gc_worked::circuits::{SEED, XOR};
 use gc_worked::{Limits, MemFiles};
@@ -16,8 +15,9 @@ const READ: Fault = Fault::CannotRead;
 
 const WRITE: Fault = Fault::CannotWrite;
 
-/// Orders, what they print where nothing fails, and the fault where each of their calls fails. `no file` isn't there, so
-/// nothing is printed of it. Those of `garble` and `deal` are to read the circuit, to create the file and to keep it;
+/// Orders, what they print where nothing fails, and the fault where each of their calls fails. `no file` isn't there,
+/// so nothing is printed of it. Those of `garble` and `deal` are to read the circuit, to create the file and to keep
+/// it;
 /// those of `eval` to read the circuit, to open the garbled file and to read each label file; those of `jobs` to read
 /// the list after the circuit; and those of `audit` are those of `eval`.
 static ORDERS: [(&[&str], &str, &[Fault]); 11] = [
@@ -98,7 +98,7 @@ fn assert_fails<R: Threads + Wait + Sync + Abort>(
     fault: Fault,
 ) {
     let mut files = MemFiles::limited(alloc, files, limits);
-    let answer = carry_out(rt, alloc, order, &mut files, &Silent);
+    let answer = result_of(rt, alloc, order, &mut files);
     assert_eq!(rt; answer.err(), Some(fault));
     assert!(rt; limits.taken.is_some() || files.into_written().is_none());
 }
@@ -113,8 +113,8 @@ fn assert_prints<R: Threads + Wait + Sync + Abort>(
     printed: &str,
 ) -> Result<(), Fail> {
     let mut files = MemFiles::limited(alloc, files, limits);
-    let answer = carry_out(rt, alloc, order, &mut files, &Silent)?;
-    assert_eq!(rt; answer.lines.as_slice(), printed.as_bytes());
+    let answer = result_of(rt, alloc, order, &mut files)?;
+    assert_printed(rt, alloc, answer, printed);
     Ok(())
 }
 

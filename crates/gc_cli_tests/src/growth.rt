@@ -73,8 +73,8 @@ const STATS_LINES: Part = (52, 5);
 /// The bits of all wires.
 const WIRE_BITS: Part = (13, 1);
 
-/// A flag for each wire, and the lines, in room taken at once.
-const LABEL_LINES: Part = (52, 2);
+/// A flag for each wire.
+const LABEL_LINES: Part = (52, 1);
 
 /// 102 bytes, in room for 16, 32, 64 and 128, and the bit of each of three label files.
 const AUDIT_LINES: Part = (52, 7);
@@ -193,7 +193,7 @@ fn code_of_refusal<R: Threads + Wait + Sync + Abort>(
 ) -> Option<u32> {
     let heap = Refusing::nth(alloc, growth);
     let mut files = MemFiles::new(alloc, files);
-    match outcome_of_refusal(rt, &heap, order, &mut files, printed)? {
+    match outcome_of_refusal(rt, alloc, &heap, order, &mut files, printed)? {
         Ok(()) => Some(0),
         Err(fault) => Some(fault.code()),
     }

@@ -79,8 +79,8 @@ fn reads_a_file_whole(rt: HostRuntime) -> Result<(), Fail> {
     Ok(())
 }
 
-/// Writes the byte 1 to a sink for the file of this path, which is then kept or discarded. The answer is why there is no
-/// sink.
+/// Writes the byte 1 to a sink for the file of this path, which is then kept or discarded. The result is why there is
+/// no sink.
 fn write_one(files: &mut impl Files, path: &str, is_kept: bool) -> Result<(), FileError> {
     let mut sink = files.create(path, "another file")?;
     let put = sink.put(&[1]);

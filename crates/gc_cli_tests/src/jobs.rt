@@ -1,8 +1,9 @@
 //! The files of a job and the orders over them.
 
 use gc_circuit::Circuit;
-use gc_cli::carry_out;
-use gc_command::{Fault, Silent};
+use gc_cli::{Answer, Output, carry_out};
+use gc_command::{Context, Fault, Silent};
+use gc_disk::Files;
 use gc_file::Version;
 use gc_order::{Order, order_of};
 use gc_refusing::Refusing;
@@ -43,28 +44,62 @@ pub fn held(alloc: Global, files: &NamedFiles) -> Result<Vec<(&str, &[u8])>, All
     Ok(held)
 }
 
-/// The order of these words.
-pub fn order(alloc: Global, words: &[&str]) -> Result<Order, Fail> {
-    let mut copies = Vec::new(alloc);
-    copies.push(String::from_str(alloc, "halfgates")?)?;
-    for word in words {
-        copies.push(String::from_str(alloc, word)?)?;
+/// The command line of these arguments.
+pub fn command_line(alloc: Global, arguments: &[&str]) -> Result<Vec<String>, AllocError> {
+    let mut words = Vec::new(alloc);
+    words.push(String::from_str(alloc, "halfgates")?)?;
+    for argument in arguments {
+        words.push(String::from_str(alloc, argument)?)?;
     }
-    Ok(order_of(alloc, &copies)?)
+    Ok(words)
+}
+
+/// The order of these arguments.
+pub fn order(alloc: Global, arguments: &[&str]) -> Result<Order, Fail> {
+    Ok(order_of(alloc, &command_line(alloc, arguments)?)?)
+}
+
+/// Carries out the order, which nobody observes.
+pub fn result_of<R: Threads + Wait + Sync, A: Allocator + Copy + Send + Sync, F: Files>(
+    rt: &R,
+    alloc: A,
+    order: &Order,
+    files: &mut F,
+) -> Result<Answer<A>, Fault> {
+    let progress = &Silent;
+    let context = Context {
+        rt,
+        alloc,
+        progress,
+    };
+    carry_out(&context, order, files)
+}
+
+/// Asserts that a result prints this.
+pub fn assert_printed<A: Allocator>(
+    rt: &impl Abort,
+    alloc: Global,
+    answer: Answer<A>,
+    printed: &str,
+) {
+    let mut out = Output::new(Vec::new(alloc));
+    assert_eq!(rt; answer.lines.print(&mut out), Ok(()));
+    assert_eq!(rt; out.into_inner().as_slice(), printed.as_bytes());
 }
 
 /// Carries out the order with memory of a heap that refuses one growth. The answer is what came of it, where that
 /// growth was refused: the order has printed this, or a fault ended it.
 pub fn outcome_of_refusal<R: Threads + Wait + Sync + Abort, B: Allocator + Copy>(
     rt: &R,
+    alloc: Global,
     heap: &Refusing<Global>,
     order: &Order,
     files: &mut MemFiles<'_, B>,
     printed: &str,
 ) -> Option<Result<(), Fault>> {
-    match carry_out(rt, heap, order, files, &Silent) {
+    match result_of(rt, heap, order, files) {
         Ok(answer) => {
-            assert_eq!(rt; answer.lines.as_slice(), printed.as_bytes());
+            assert_printed(rt, alloc, answer, printed);
             (heap.refused() > 0).then_some(Ok(()))
         }
         Err(fault) => {

@@ -1,5 +1,6 @@
 //! The tests of commands that need what no disk gives: files that fail at each call and in mid-stream, each growth
-//! refused in turn, streams that fail, the lines that explain faults, and the steps that commands report.
+//! refused in turn, streams that fail, the lines that explain faults, the steps that commands report, and whole runs
+//! over files in memory.
 #![tactic(auto)]
 
 #[cfg(test)]
@@ -18,3 +19,5 @@ mod jobs;
 mod progress;
 #[cfg(test)]
 mod refusals;
+#[cfg(test)]
+mod whole_runs;

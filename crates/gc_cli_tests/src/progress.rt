@@ -2,7 +2,7 @@
 
 use crate::jobs::{held, job_files, order};
 use gc_cli::carry_out;
-use gc_command::{Progress, Work};
+use gc_command::{Context, Progress, Stage};
 use gc_worked::MemFiles;
 use gc_worked::circuits::{FULL_ADDER, SEED};
 use std::alloc::Global;
@@ -43,8 +43,8 @@ struct Observer<'r, R> {
 }
 
 impl<'r, R: Wait> Progress for Observer<'r, R> {
-    fn begin(&self, step: u32, steps: u32, work: Work) {
-        if let Ok(line) = format!(in self.alloc; "{step} of {steps}: {work}\n") {
+    fn begin(&self, step: u32, steps: u32, stage: Stage) {
+        if let Ok(line) = format!(in self.alloc; "{step} of {steps}: {stage}\n") {
             let _ = self.lines.lock(self.rt).push_str(line.as_str());
         }
     }
@@ -64,13 +64,12 @@ fn each_step_in_turn(rt: HostRuntime) -> Result<(), Fail> {
             alloc,
             lines: Mutex::new(String::new(alloc)),
         };
-        carry_out(
-            &rt,
+        let context = Context {
+            rt: &rt,
             alloc,
-            &order,
-            &mut MemFiles::new(alloc, &files),
-            &observer,
-        )?;
+            progress: &observer,
+        };
+        carry_out(&context, &order, &mut MemFiles::new(alloc, &files))?;
         let lines = observer.lines.into_inner();
         assert_eq!(rt; lines.as_str(), *steps, "{words:?}");
     }

@@ -1,10 +1,9 @@
 //! Each growth of a command of two workers refused in turn, over files whose sinks take the same memory. After a
 //! refusal the same order over the same files has its answer.
 
-use crate::jobs::{order, outcome_of_refusal};
+use crate::jobs::{assert_printed, order, outcome_of_refusal, result_of};
 use gc_circuit::Circuit;
-use gc_cli::carry_out;
-use gc_command::{Fault, Silent};
+use gc_command::Fault;
 use gc_file::Version;
 use gc_order::Order;
 use gc_refusing::Refusing;
@@ -47,11 +46,19 @@ fn fault_of_refusal<R: Threads + Wait + Sync + Abort>(
     growth: u64,
 ) -> Option<Result<(), Fault>> {
     let heap = Refusing::nth(alloc, growth);
-    let outcome = outcome_of_refusal(rt, &heap, order, &mut MemFiles::new(&heap, files), printed)?;
+    let outcome = outcome_of_refusal(
+        rt,
+        alloc,
+        &heap,
+        order,
+        &mut MemFiles::new(&heap, files),
+        printed,
+    )?;
     if outcome.is_err() {
-        let again = carry_out(rt, &heap, order, &mut MemFiles::new(&heap, files), &Silent);
-        let is_right = again.is_ok_and(|answer| answer.lines.as_slice() == printed.as_bytes());
-        assert!(rt; is_right, "after growth {growth} was refused");
+        match result_of(rt, &heap, order, &mut MemFiles::new(&heap, files)) {
+            Ok(answer) => assert_printed(rt, alloc, answer, printed),
+            Err(fault) => assert!(rt; false, "{fault} after growth {growth} was refused"),
+        }
     }
     Some(outcome)
 }
