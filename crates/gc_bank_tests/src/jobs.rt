@@ -139,8 +139,8 @@ fn is_each_reported<R: Threads + Wait + Sync>(
     Ok(is_right && observer.is_each_between(each, most) && observer.are_below(workers))
 }
 
-/// Each gate of each of two jobs is reported: by one worker, and by two that evaluate a job each, once; by 64 that share
-/// both at the banks, at least once, where AND gates are stepped four at once, and two.
+/// Each gate of each of two jobs is reported: by one worker, and by two that evaluate a job each, once; by 64 that
+/// share both at the banks, at least once, where AND gates are stepped four at once, and two.
 #[test]
 fn gates_of_jobs_are_reported(rt: HostRuntime) -> Result<(), Fail> {
     let alloc = rt.alloc();
@@ -162,8 +162,8 @@ fn gates_of_jobs_are_reported(rt: HostRuntime) -> Result<(), Fail> {
     Ok(())
 }
 
-/// Two workers evaluate a job each, of two on 2,000 independent AND gates; two of three step the gates of both jobs, and
-/// two workers those of one job.
+/// Two workers evaluate a job each, of two on 2,000 independent AND gates; two of three step the gates of both jobs,
+/// and two workers those of one job.
 #[test]
 fn two_job_workers_meet(rt: HostRuntime) -> Result<(), Fail> {
     let alloc = rt.alloc();

@@ -17,8 +17,8 @@ const WORKERS: u32 = 4;
 
 const SHARE: u32 = GATES / WORKERS;
 
-/// Holds each worker at the first gate of its share, with which it begins each round, until all have come there as often
-/// as it has: so all of them go through each round. It counts the reports of each worker.
+/// Holds each worker at the first gate of its share, with which it begins each round, until all have come there as
+/// often as it has: so all of them go through each round. It counts the reports of each worker.
 #[derive(Drop)]
 struct Rounds {
     // By worker.

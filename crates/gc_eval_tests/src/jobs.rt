@@ -33,3 +33,14 @@ pub(crate) fn job_of<'c>(
     let labels = job_files(alloc, circuit, values)?;
     Ok(Job::bind(alloc, circuit, read_garbled(alloc, &file)?, &labels)?)
 }
+
+/// The job of a circuit's file on zeros. The circuit has at most three input values, of one width.
+pub(crate) fn job_on_zeros<'c>(
+    alloc: Global,
+    circuit: &'c Circuit,
+    text: &str,
+) -> Result<Job<'c>, Fail> {
+    let width = circuit.input_widths().first().copied().unwrap_or(0);
+    let zeros = "0".repeat(alloc, width as usize)?;
+    job_of(alloc, circuit, text, &[zeros.as_str(); 3])
+}

@@ -8,4 +8,6 @@ mod growth;
 #[cfg(test)]
 mod jobs;
 #[cfg(test)]
+mod layers;
+#[cfg(test)]
 mod workers;

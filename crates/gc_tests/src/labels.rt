@@ -57,8 +57,8 @@ const ONE_LABELS: [u128; 2] = [
 /// The first row of block 2^30, by `openssl enc -chacha20`.
 const LAST: u128 = 0x2d7f21b01b50505974f4e879dcf8c377;
 
-/// `rand_chacha` gives the four rows of the keystream's first block. The lowest bit of the first byte, the colour of the
-/// offset, is 0 there.
+/// `rand_chacha` gives the four rows of the keystream's first block. The lowest bit of the first byte, the colour of
+/// the offset, is 0 there.
 #[test]
 fn rows_of_the_keystream(rt: HostRuntime) {
     let mut keystream = ChaCha20Rng::from_seed([0; 32]);

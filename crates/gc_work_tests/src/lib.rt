@@ -6,9 +6,15 @@ mod fixtures;
 #[cfg(test)]
 mod growth;
 #[cfg(test)]
+mod layers;
+#[cfg(test)]
 mod pools;
 #[cfg(test)]
+mod reports;
+#[cfg(test)]
 mod shared_stores;
+#[cfg(test)]
+mod sleepers;
 #[cfg(test)]
 mod stores;
 #[cfg(test)]

@@ -74,19 +74,61 @@ pub fn and_chains(alloc: Global, chains: u32, length: u32) -> Result<String, Fai
     Ok(text)
 }
 
-/// An AND gate for each two input wires, and then for each of these one gate of each other operation.
-pub fn mixed_layers(alloc: Global, ands: u32) -> Result<String, Fail> {
-    let n = u64::from(ands);
-    let mut text = format!(in alloc; "{} {}\n2 {n} {n}\n1 1\n", 5 * n, 7 * n)?;
-    for i in 0..n {
-        text.push_str(format!(in alloc; "2 1 {i} {} {} AND\n", n + i, 2 * n + i)?.as_str())?;
-    }
-    for i in 0..n {
-        let w = 3 * n + 4 * i;
-        text.push_str(format!(in alloc; "2 1 {} {i} {w} XOR\n", 2 * n + i)?.as_str())?;
-        text.push_str(format!(in alloc; "1 1 {w} {} INV\n", w + 1)?.as_str())?;
-        text.push_str(format!(in alloc; "1 1 1 {} EQ\n", w + 2)?.as_str())?;
-        text.push_str(format!(in alloc; "1 1 {} {} EQW\n", w + 1, w + 3)?.as_str())?;
+/// The `i`-th AND gate of the first layer.
+fn first_layer(alloc: Global, ands: u32, i: u32) -> Result<String, Fail> {
+    let (n, i) = (u64::from(ands), u64::from(i));
+    Ok(format!(in alloc; "2 1 {i} {} {} AND\n", n + i, 2 * n + i)?)
+}
+
+/// The gates between the layers that follow from the `i`-th AND gate: two read the wire that it sets.
+fn between_layers(alloc: Global, ands: u32, i: u32) -> Result<String, Fail> {
+    let (n, i) = (u64::from(ands), u64::from(i));
+    let (read, set) = (2 * n + i, 3 * n + 4 * i);
+    let first = format!(in alloc; "1 1 {read} {set} INV\n1 1 {set} {} EQW\n", set + 1)?;
+    let (constant, last) = (set + 2, set + 3);
+    Ok(format!(in alloc; "{first}1 1 1 {constant} EQ\n2 1 {read} {constant} {last} XOR\n")?)
+}
+
+/// The `i`-th AND gate of the second layer.
+fn second_layer(alloc: Global, ands: u32, i: u32) -> Result<String, Fail> {
+    let (n, i) = (u64::from(ands), u64::from(i));
+    let read = 3 * n + 4 * i;
+    Ok(format!(in alloc; "2 1 {} {} {} AND\n", read + 3, read + 1, 7 * n + i)?)
+}
+
+/// The gates after the second layer that follow from its `i`-th AND gate: two read the wire that it sets.
+fn after_layers(alloc: Global, ands: u32, i: u32) -> Result<String, Fail> {
+    let (n, i) = (u64::from(ands), u64::from(i));
+    let (read, set) = (7 * n + i, 8 * n + 3 * i);
+    let (second, last) = (set + 1, set + 2);
+    Ok(format!(in alloc; "1 1 {read} {set} INV\n2 1 {read} {i} {second} XOR\n1 1 0 {last} EQ\n")?)
+}
+
+/// The texts of 0 to `count` - 1, one after another.
+fn each_text<F: Fn(u32) -> Result<String, Fail>>(
+    alloc: Global,
+    count: u32,
+    text_of: F,
+) -> Result<String, Fail>
+    requires { F.IsAlwaysCallable text_of }
+{
+    let mut text = String::new(alloc);
+    for i in 0..count {
+        text.push_str(text_of(i)?.as_str())?;
     }
     Ok(text)
+}
+
+/// Two layers of so many AND gates, and gates of each other operation after each. The gates of each of these four parts
+/// follow each other in the file. Two gates read the wire that an AND gate sets, and an AND gate of the second layer
+/// two wires that follow from the same one of the first. Each gate sets an output wire, or a wire that one follows
+/// from. The last gate reads nothing.
+pub fn mixed_layers(alloc: Global, ands: u32) -> Result<String, Fail> {
+    let n = u64::from(ands);
+    let head = format!(in alloc; "{} {}\n2 {n} {n}\n1 {}\n", 9 * n, 11 * n, 3 * n)?;
+    let first = each_text(alloc, ands, |i| first_layer(alloc, ands, i))?;
+    let between = each_text(alloc, ands, |i| between_layers(alloc, ands, i))?;
+    let second = each_text(alloc, ands, |i| second_layer(alloc, ands, i))?;
+    let after = each_text(alloc, ands, |i| after_layers(alloc, ands, i))?;
+    Ok(format!(in alloc; "{head}{first}{between}{second}{after}")?)
 }

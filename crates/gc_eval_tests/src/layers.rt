@@ -1,0 +1,49 @@
+//! Tests of evaluation by layers while the threads are held: gates are postponed and helpers sleep, and the helpers
+//! evaluate gates all the same.
+
+use crate::jobs::job_on_zeros;
+use gc_circuit::Circuit;
+use gc_eval::evaluate_many;
+use gc_job::evaluate;
+use gc_worked::circuits::mixed_layers;
+use gc_worked::holding::Holding;
+use gc_worked::pausing::Pausing;
+use gc_workers::Gatehouse;
+use std::alloc::Global;
+use std::sync::Wait;
+use std::test::Fail;
+use std::thread::Threads;
+
+/// Whether this many workers evaluate a circuit of layers of this many AND gates as one thread does.
+fn is_evaluated<H: Gatehouse + Sync, R: Threads + Wait + Sync>(
+    rt: &R,
+    alloc: Global,
+    ands: u32,
+    workers: u32,
+    observer: &H,
+) -> Result<bool, Fail> {
+    let text = mixed_layers(alloc, ands)?;
+    let circuit = Circuit::read(alloc, text.as_bytes())?;
+    let job = job_on_zeros(alloc, &circuit, text.as_str())?;
+    Ok(evaluate_many(rt, alloc, &job, workers, observer) == evaluate(alloc, &job))
+}
+
+/// A helper that is held, falls asleep and is woken evaluates gates of the second layer, each of which was postponed
+/// twice: 640 times six gates wait at once, in nearly all 4,096 slots. All gates of the first layer are in full blocks,
+/// so the helper holds none when it sleeps.
+#[test]
+fn postponed_gates_are_helped_with(rt: HostRuntime) -> Result<(), Fail> {
+    let observer = Holding::new(640);
+    assert!(rt; is_evaluated(&rt, rt.alloc(), 640, 2, &observer)?);
+    assert!(rt; observer.has_all_come());
+    Ok(())
+}
+
+/// Two helpers that sleep when the work ends end too.
+#[test]
+fn sleeping_helpers_end(rt: HostRuntime) -> Result<(), Fail> {
+    let observer = Pausing::new(9 * 1100);
+    assert!(rt; is_evaluated(&rt, rt.alloc(), 1100, 3, &observer)?);
+    assert!(rt; observer.has_paused());
+    Ok(())
+}
