@@ -17,7 +17,7 @@ import time
 from pathlib import Path
 from statistics import median
 
-from measure import CIRCUITS, input_widths, make, times
+from measure import CIRCUITS, input_widths, make, print_cells, print_columns, times
 
 SEED = 64 * "0"
 REPEATS = 7
@@ -92,16 +92,17 @@ def main():
             return time.monotonic() - begun
 
         medians = []
-        print_head("Circuit", COMMANDS)
+        print_columns("Circuit", *names_of(COMMANDS))
         for name in ON:
             make(CIRCUITS[name], f"{folder}/circuit")
             run("garble CIRCUIT SEED garbled")
             deal_zeros(Path(folder), "", run)
             medians.append(print_times(name, COMMANDS, run, HASHED))
-        print_head("Medians over SHA-256", [it for it in COMMANDS if it[1] in BOUNDS])
+        bounded = [it for it in COMMANDS if it[1] in BOUNDS]
+        print_columns("Medians over SHA-256", *names_of(bounded))
         for name, took in zip(ON, medians):
-            print_row(name, [f"{took[it] / took[hashed]:.2f}" for it, hashed in BOUNDS.items()])
-        print_head("`jobs`", JOBS)
+            print_cells(name, *[f"{took[it] / took[hashed]:.2f}" for it, hashed in BOUNDS.items()])
+        print_columns("`jobs`", *names_of(JOBS))
         for name, (count, command) in LISTS.items():
             make(command, f"{folder}/circuit")
             make_list(Path(folder), count, run)
@@ -126,13 +127,8 @@ def make_list(folder, count, run):
     (folder / "list").write_text("\n".join(lines))
 
 
-def print_head(first, commands):
-    print("\n|", " | ".join([first, *[name for name, _ in commands]]), "|")
-    print(f"|{(1 + len(commands)) * '---|'}", flush=True)
-
-
-def print_row(name, cells):
-    print("|", " | ".join([name, *cells]), "|", flush=True)
+def names_of(commands):
+    return [name for name, _ in commands]
 
 
 def print_times(name, commands, run, others=()):
@@ -141,7 +137,7 @@ def print_times(name, commands, run, others=()):
     for _ in range(REPEATS):
         for command, seconds in took.items():
             seconds.append(run(command))
-    print_row(name, [f"{1000 * min(took[command]):,.0f}" for _, command in commands])
+    print_cells(name, *[f"{1000 * min(took[command]):,.0f}" for _, command in commands])
     return {command: median(seconds) for command, seconds in took.items()}
 
 

@@ -51,6 +51,18 @@ def print_row(name, *cells):
     print(f"{name:43}", *[f"{cell:>9}" for cell in cells], flush=True)
 
 
+def print_columns(*names):
+    """The head of a table of docs/SPEED.md."""
+    print()
+    print_cells(*names)
+    print(f"|{len(names) * '---|'}", flush=True)
+
+
+def print_cells(*cells):
+    """A row of such a table."""
+    print("|", " | ".join(cells), "|", flush=True)
+
+
 def print_times(name, took):
     """A row with the numbers of gates and AND gates of a circuit, and the milliseconds of PARTS."""
     counts = [f"{took[count]:,}" for count in ("gates", "and")]

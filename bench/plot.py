@@ -35,6 +35,18 @@ OF_COMMANDS = (
 )
 OF_JOBS = "\n| `jobs` | by 1 worker | by 2 | by 4 |\n"
 
+# The heads of those that bench/side_by_side.py prints.
+OF_SEVERAL = (
+    "\n| Milliseconds | Garbling | Each of two | Ratio | Evaluating | Each of four | Ratio |\n"
+)
+OF_AND_GATES = (
+    "\n| Nanoseconds an AND gate | Garbling | Each of two | 4 hashes | Evaluating | Each of four"
+    " | 2 hashes |\n"
+)
+
+# The tables that are printed as they are in docs/SPEED.md.
+AS_PRINTED = OF_SEVERAL, OF_AND_GATES, OF_COMMANDS, OF_JOBS
+
 # The part of docs/SPEED.md on circuits of a thousand to sixteen million gates, and what follows it.
 GATES_PART = f"""\
 ## By the number of gates
@@ -205,7 +217,7 @@ def keep_figures(page, readme, printed):
     rows = printed_rows(text)
     sizes = {name: it for name, it in rows.items() if name.startswith("size ")}
     circuits = {name: it for name, it in rows.items() if name not in sizes}
-    tables = [(head, table_of(text, head)) for head in (OF_COMMANDS, OF_JOBS)]
+    tables = [(head, table_of(text, head)) for head in AS_PRINTED]
     if not circuits or not sizes or not all(rows for _, rows in tables):
         sys.exit(f"plot.py: not all tables of bench/run.sh are in {printed}")
     figures = with_figures(page.read_text(), circuits, sizes)

@@ -3,15 +3,16 @@
 
   side_by_side.py BENCH
 
-BENCH is gc_bench. It prints a table of the fastest of nine runs on one thread: a garbling alone, and
-one of two side by side; a job alone, and one of four side by side. A second table has what an AND
-gate takes, beside its hashes alone at eight at once: four to garble it, and two to evaluate it.
+BENCH is gc_bench. It prints two tables of docs/SPEED.md, of the fastest of nine runs on one thread:
+a garbling alone, and each of two side by side; a job alone, and each of four side by side. The
+second has what an AND gate takes, beside its hashes alone, eight at once: four to garble it, and two
+to evaluate it.
 """
 
 import sys
 import tempfile
 
-from measure import CIRCUITS, make, print_row, times
+from measure import CIRCUITS, make, print_cells, print_columns, times
 
 # How long one of several side by side may take at the most, in times one alone.
 MOST = {
@@ -20,21 +21,27 @@ MOST = {
     "64 chains of AND gates": (0.6, 0.35),
 }
 
+# A circuit without AND gates has no hashes to time.
+WITHOUT_HASHES = "independent gates, all XOR"
+
 
 def main():
     [bench] = sys.argv[1:]
-    print_row("milliseconds", "garbling", "of two", "ratio", "evaluating", "of four", "ratio")
+    columns = "Garbling", "Each of two", "Ratio", "Evaluating", "Each of four", "Ratio"
+    print_columns("Milliseconds", *columns)
     rows = {}
     with tempfile.TemporaryDirectory() as folder:
         file = f"{folder}/circuit"
         for name, command in CIRCUITS.items():
+            if name == WITHOUT_HASHES:
+                continue
             make(command, file)
             parts = "garble", "garble_two", "job", "job_four", "eight_lanes"
             rows[name] = print_ratios(name, times(bench, file, 9, *parts))
-    columns = "garbling", "of two", "4 hashes", "evaluating", "of four", "2 hashes"
-    print_row("nanoseconds an AND gate", *columns)
+    columns = "Garbling", "Each of two", "4 hashes", "Evaluating", "Each of four", "2 hashes"
+    print_columns("Nanoseconds an AND gate", *columns)
     for name, row in rows.items():
-        print_row(name, *[f"{it:.0f}" for it in row])
+        print_cells(name, *[f"{it:.0f}" for it in row])
 
 
 def print_ratios(name, took):
@@ -45,10 +52,10 @@ def print_ratios(name, took):
     ratios = beside / garbled, four / evaluated
     limits = [f" (at most {it})" if it else "" for it in MOST.get(name, (None, None))]
     ratios = [f"{it:.2f}{most}" for it, most in zip(ratios, limits)]
-    print_row(name, *cells[:2], ratios[0], *cells[2:], ratios[1])
+    print_cells(name, *cells[:2], ratios[0], *cells[2:], ratios[1])
     hashes = took["eight_lanes"]
     row = garbled, beside, hashes, evaluated, four, hashes / 2
-    return [it / max(took["and"], 1) for it in row]
+    return [it / took["and"] for it in row]
 
 
 main()

@@ -35,7 +35,7 @@ def printed(names, sizes):
         for count in sizes:
             measure.print_times(f"size {count}", {"gates": count, "and": count // 2, **took})
     row = "|---|\n| some circuit | 1,234 |\n"
-    return f"{output.getvalue()}{plot.OF_COMMANDS}{row}{plot.OF_JOBS}{row}"
+    return output.getvalue() + "".join(f"{head}{row}" for head in plot.AS_PRINTED)
 
 
 class Plot(unittest.TestCase):
@@ -85,7 +85,7 @@ class Plot(unittest.TestCase):
         rows = plot.table_of(page, plot.BY_GATES)
         self.assertEqual([row[0] for row in rows], [f"{it:,}" for it in SIZES])
         self.assertEqual(rows[0][1:4], ["500", "50", "350"])
-        for head in (plot.OF_COMMANDS, plot.OF_JOBS):
+        for head in plot.AS_PRINTED:
             self.assertEqual(plot.table_of(page, head), [["some circuit", "1,234"]])
         self.assertIn("\n- reading: 7 ns a gate\n", page)
         self.assertIn("\n- `run`: 8 ns\n", page)
