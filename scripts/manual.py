@@ -8,8 +8,9 @@ import re
 import subprocess
 import sys
 
-# Each command has this option; the page says it once.
+# Each command has this option, and ends with this paragraph; the page says them once.
 HELP = "-h, --help"
+ARGUMENTS_FROM = "With `--args-from FILE` "
 
 EXIT_STATUS = [
     ("0", "The command succeeded, whatever it found, or the help or the version was printed."),
@@ -55,7 +56,7 @@ def command(program, name):
     for block in blocks:
         if block.splitlines()[0] in ("Arguments:", "Options:"):
             page += tagged((term, said) for term, said in rows(block) if term != HELP)
-        else:
+        elif not block.startswith(ARGUMENTS_FROM):
             page += paragraph(block)
     return page
 

@@ -30,6 +30,8 @@ Prints the output values, one per line: a character 0 or 1 for each wire, in wir
 
 Example, with a full adder in adder.txt that reads three bits:
   halfgates run adder.txt 0000000000000000000000000000000000000000000000000000000000000000 1 0 1
+
+With `--args-from FILE` the lines of FILE are arguments: see `halfgates --help`.
 """
 
 HELP = """\
@@ -136,8 +138,8 @@ def help_words(text):
 
 def example_of(text):
     """The words of the example in a command's help, without the program's name."""
-    lines = text.split("\nExample", 1)[1].splitlines()
-    [line] = [line for line in lines[1:] if line]
+    example = text.split("\nExample", 1)[1].split("\n\n", 1)[0]
+    [line] = example.splitlines()[1:]
     assert line.startswith("  halfgates "), line
     return line.split()[1:]
 
@@ -158,8 +160,8 @@ class CommandLine(ProgramTest):
             (["--help"], HELP),
             (["-h"], HELP),
             (["run", "--help"], RUN_HELP),
-            (["--version"], "halfgates 0.7.0\n"),
-            (["-V"], "halfgates 0.7.0\n"),
+            (["--version"], "halfgates 0.8.0\n"),
+            (["-V"], "halfgates 0.8.0\n"),
         ]:
             self.assert_prints(text, *words)
 
