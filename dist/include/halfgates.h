@@ -36,8 +36,8 @@
  * those that free: free a handle when no call uses it, and no call comes after. What a call writes, such as a new
  * handle, is for another thread once that thread knows that the call has returned.
  *
- * STACK. As measured on x86-64, halfgates_garbling_write uses 87 kilobytes of stack, halfgates_deal 35,
- * halfgates_job_bind 16, halfgates_circuit_read 9, and every other call less than 4.
+ * STACK. As measured on x86-64, halfgates_job_bind uses 53 kilobytes of stack, halfgates_garbling_write 43,
+ * halfgates_audit 40, halfgates_circuit_read 26, halfgates_deal 20, and every other call less than 5.
  *
  * BUFFERS. The library reads and writes buffers within a call and keeps no pointer to them. No alignment is asked for
  * where a buffer is of bytes. A buffer that is written overlaps no other argument, and has at least the room that is
@@ -73,7 +73,7 @@
 
 /* The version of this header. That of the library is halfgates_version(). */
 #define HALFGATES_VERSION_MAJOR 0
-#define HALFGATES_VERSION_MINOR 7
+#define HALFGATES_VERSION_MINOR 8
 #define HALFGATES_VERSION_PATCH 0
 
 #ifdef __cplusplus
@@ -129,7 +129,7 @@ enum {
     HALFGATES_BAD_ARGUMENT = 60, /* no such version, wire or output, an offset of colour 0, an AND number that is too
                                     large, a file of a garbling whose `first` isn't 0 */
     HALFGATES_SMALL_BUFFER = 61, /* a buffer has too little room */
-    HALFGATES_MEMORY = 62,       /* memory ran out for a handle or a file */
+    HALFGATES_MEMORY = 62,       /* memory ran out for a handle, a file or a list */
 
     /* A verdict of halfgates_audit_labels, and no code: a label is neither of the two labels of its wire. */
     HALFGATES_WRONG_LABEL = 63,
@@ -153,7 +153,7 @@ halfgates_name halfgates_fault_name(int32_t code);
 /* Whether a code says that memory ran out: 1 for 13, 23, 36, 46 and 62, and else 0. */
 int32_t halfgates_is_memory(int32_t code);
 
-/* The version of the library, such as "0.7.0". */
+/* The version of the library, such as "0.8.0". */
 halfgates_name halfgates_version(void);
 
 /* ---------------------------------------------------------------------------------------------------- circuits -- */
@@ -367,6 +367,16 @@ void halfgates_job_free(halfgates_job *job);
  * HALFGATES_SMALL_BUFFER, HALFGATES_JOB_MEMORY, HALFGATES_UNKNOWN_OUTPUT_LABEL.
  */
 int32_t halfgates_evaluate(const halfgates_job *job, uint8_t *bits, size_t size);
+
+/*
+ * Evaluates `count` jobs on the calling thread, and writes the bits of all output wires, one job's after another's in the
+ * order of the list: those that halfgates_evaluate writes for each. The jobs may be of any circuits. Where several that
+ * follow one another have equal circuits, up to four are evaluated side by side, which takes less time. `size` is at
+ * least the sum of their numbers of output wires. Codes: HALFGATES_SMALL_BUFFER; HALFGATES_JOB_MEMORY and
+ * HALFGATES_UNKNOWN_OUTPUT_LABEL, the first fault of each job in turn; HALFGATES_MEMORY. Jobs are only read, as in the
+ * calls that take a const job: the list has no const before them so that a `halfgates_job **` is one.
+ */
+int32_t halfgates_evaluate_many(halfgates_job *const *jobs, size_t count, uint8_t *bits, size_t size);
 
 /*
  * Evaluates a job on the calling thread, and writes the active labels of all output wires, 16 bytes each. They are not

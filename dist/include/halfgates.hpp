@@ -18,6 +18,7 @@
 
 #include "halfgates.h"
 
+#include <algorithm>
 #include <array>
 #include <cerrno>
 #include <cstddef>
@@ -331,6 +332,9 @@ public:
         return found;
     }
 
+    /* The number of output wires. */
+    std::size_t outputs() const noexcept { return outputs_; }
+
     halfgates_job *get() const noexcept { return handle_.get(); }
 
 private:
@@ -468,6 +472,28 @@ private:
     shape shape_;
     std::array<std::uint8_t, 32> digest_;
 };
+
+/* The bits of all output wires of each job. Up to four jobs in a row on equal circuits are evaluated side by side. */
+HALFGATES_NODISCARD inline std::vector<bytes> evaluate_many(const std::vector<job> &jobs) {
+    std::vector<bytes> outputs;
+    std::vector<halfgates_job *> handles;
+    std::size_t size = 0;
+    outputs.reserve(jobs.size());
+    handles.reserve(jobs.size());
+    for (const job &it : jobs) {
+        outputs.emplace_back(it.outputs());
+        handles.push_back(it.get());
+        size += it.outputs();
+    }
+    bytes bits(size);
+    check(halfgates_evaluate_many(handles.data(), handles.size(), bits.data(), bits.size()));
+    auto next = bits.cbegin();
+    for (bytes &it : outputs) {
+        std::copy_n(next, it.size(), it.begin());
+        next += static_cast<std::ptrdiff_t>(it.size());
+    }
+    return outputs;
+}
 
 /* The bits of active output labels, by the decode bits of their wires. */
 HALFGATES_NODISCARD inline bytes decode(const detail::input &active, const detail::input &decode_bits) {
