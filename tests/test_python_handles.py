@@ -278,6 +278,22 @@ class Threads(unittest.TestCase):
         with self.assertRaisesRegex(ValueError, "is closed$"):
             circuit.garble(SEED)
 
+    def test_closing_the_jobs_of_a_list_in_the_middle_of_a_call(self):
+        with full_adder() as circuit, circuit.garble(SEED) as garbling:
+            files = [circuit.deal(SEED, index, [1]) for index in range(3)]
+            jobs = [circuit.bind(garbling.write(), files) for _ in range(2)]
+        owners = [weakref.ref(job._at) for job in jobs]
+
+        def close_first(real, *words):
+            for job in jobs:
+                job.close()
+            self.assertNotIn(None, [owner() for owner in owners])
+            return real(*words)
+
+        with patched("evaluate_many", close_first):
+            self.assertEqual(halfgates.evaluate_many(jobs), [bytearray([1, 1])] * 2)
+        self.assertEqual([owner() for owner in owners], [None, None])
+
 
 class OwnThread(unittest.TestCase):
     """What reaches a handle while its own thread uses it. Each script would wait for ever if a call waited at all."""
