@@ -28,7 +28,8 @@ def rust_of(parameter):
     base = re.sub(r"^const ", "", parameter).split()[0]
     pointers = parameter.count("*") + parameter.count("[")
     inner = "*const " if parameter.startswith("const ") else "*mut "
-    return "*mut " * (pointers - 1) + inner * bool(pointers) + TYPES.get(base, base)
+    outer = "*const " if "*const *" in parameter else "*mut "
+    return outer * (pointers - 1) + inner * bool(pointers) + TYPES.get(base, base)
 
 
 def functions_of_header():

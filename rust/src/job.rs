@@ -74,7 +74,7 @@ impl Job {
 #[doc(alias = "halfgates_evaluate_many")]
 pub fn evaluate_many<J: Borrow<Job>>(jobs: &[J]) -> Result<Vec<Vec<bool>>, Fault> {
     let (mut handles, mut outputs) = (room(jobs.len())?, room(jobs.len())?);
-    handles.extend(jobs.iter().map(|it| it.borrow().handle.get()));
+    handles.extend(jobs.iter().map(|it| it.borrow().handle.get().cast_mut()));
     let size = jobs.iter().map(|it| it.borrow().output_wires).sum();
     // SAFETY: the call reads the list and the jobs of its handles, and writes `size` bytes.
     let bits = unsafe {

@@ -246,7 +246,7 @@ extern "C" {
     pub fn halfgates_job_free(job: *mut halfgates_job);
     pub fn halfgates_evaluate(job: *const halfgates_job, bits: *mut u8, size: usize) -> i32;
     pub fn halfgates_evaluate_many(
-        jobs: *const *const halfgates_job,
+        jobs: *const *mut halfgates_job,
         count: usize,
         bits: *mut u8,
         size: usize,
