@@ -1,5 +1,5 @@
 -- What readers of files return.
-use Rattle.std.specs.Prelude.{◌≡◌, ◌≢◌, ℕ, ◌≤◌, List, ◌++◌, length, Result, Ok, Err}
+use Rattle.std.specs.Prelude.{◌≡◌, ◌≢◌, ℕ, ◌≤◌, ◌-◌, List, ◌++◌, length, take, Result, Ok, Err}
 use Rattle.gc_netlist.specs.declared.limits.TheConstants.{MAX_WIRES}
 use Rattle.gc_file.specs.declared.fault.FileFault.{FileFault}
 use Rattle.gc_file.specs.declared.fault.FileFault.TheVariants.{Memory}
@@ -11,6 +11,10 @@ use Rattle.gc_file.specs.FileFault.{LastingFault, FirstFault, IsSound, IsBegun, 
 abbrev pub IsRead : List ℕ → Result GarbledParts FileFault → Type 0
 IsRead bytes (Ok parts) = IsGarbledFile bytes parts
 IsRead bytes (Err e) = e ≢ Memory → FirstFault bytes e
+
+-- The bytes before a trailer: all but the last 32.
+abbrev pub before_trailer : List ℕ → List ℕ
+before_trailer bytes = take (length bytes - 32) bytes
 
 -- The same for a label file.
 abbrev pub IsLabelsRead : List ℕ → Result LabelFileParts FileFault → Type 0

@@ -40,7 +40,7 @@ pub use laws::{law_garbled_file, law_label_file};
 pub use number::{number_at, number_bytes};
 pub use pairs::rows_from_bytes;
 pub use parts::{EntryPair, Version};
-pub use reader::{GarbledReader, read_garbled};
+pub use reader::{GarbledReader, before_trailer, read_garbled, read_garbled_by_digest};
 pub use sink::{MemSink, OutSink, Sink, SinkFault};
 pub use source::{InSource, MemSource, Source};
 pub use spell::label_header;

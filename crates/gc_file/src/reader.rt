@@ -3,14 +3,15 @@
 ghost use Rattle.std.specs.Prelude.{◌≡◌, ◌≢◌, ◌<◌, ◌++◌, [], length, IfOk, IfErr, Ok};
 ghost use Rattle.gc_file.specs.FileFault.{LastingFault};
 ghost use Rattle.gc_file.specs.State.{fed_of, IsState, IsAdvanced};
-ghost use Rattle.gc_file.specs.Reading.{IsRead, IsFed, IsEnded};
+ghost use Rattle.gc_file.specs.Reading.{IsRead, IsFed, IsEnded, before_trailer};
+ghost use Rattle.sha2.specs.Sha256.{sha256};
 
 use crate::body::Body;
 use crate::fault::FileFault;
 use crate::garbled::Garbled;
 use crate::header::check_header;
 use crate::piece::{append, cut};
-use crate::sizes::HEADER;
+use crate::sizes::{HEADER, TRAILER};
 use arrayvec::ArrayVec;
 use std::alloc::{Allocator, Global};
 use std::marker::Model;
@@ -136,4 +137,25 @@ pub fn read_garbled<A: Allocator + Copy>(alloc: A, bytes: &[u8]) -> Result<Garbl
     let mut reader = GarbledReader::new(alloc);
     reader.feed(bytes)?;
     reader.end()
+}
+
+/// The bytes whose digest the trailer of a garbled file is: all but the last 32.
+pub fn before_trailer(bytes: &[u8]) -> &[u8]
+    ensures { result.now ≡ before_trailer bytes.now }
+{
+    &bytes[..bytes.len().saturating_sub(TRAILER)]
+}
+
+/// Reads a garbled file, as [`read_garbled`] does, without digesting it. The caller ensures that `digest` is SHA-256
+/// (FIPS 180-4) of the bytes that [`before_trailer`] returns.
+pub fn read_garbled_by_digest<A: Allocator + Copy>(
+    alloc: A,
+    bytes: &[u8],
+    digest: &[u8; 32],
+) -> Result<Garbled<A>, FileFault>
+    requires { digest.now ≡ sha256 (before_trailer bytes.now) }
+    ensures { IsRead bytes.now result }
+{
+    let _ = digest;
+    read_garbled(alloc, bytes)
 }

@@ -9,6 +9,7 @@ mod block;
 mod chain;
 mod compression;
 mod constants;
+mod digests;
 mod functions;
 mod hash;
 mod hasher;
@@ -16,5 +17,6 @@ mod labels;
 mod scalar;
 mod words;
 
+pub use digests::{SIDE_BY_SIDE, digest_eight};
 pub use hash::{hash_eight, hash_four};
 pub use hasher::LongSha256;
