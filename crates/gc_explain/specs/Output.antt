@@ -1,5 +1,5 @@
 -- The place that is named for an output label that a garbled file doesn't recognise.
-use Rattle.std.specs.Prelude.{◌≡◌, ◌==◌, ℕ, ◌+◌, ◌⊎◌, List, ◌++◌, Err, Some, codes, decimal, slice_get, IfSome}
+use Rattle.std.specs.Prelude.{◌≡◌, ◌==◌, ℕ, ◌+◌, ◌⊎◌, List, Err, Some, slice_get, IfSome}
 use Rattle.std.specs.List.{slice_split}
 use Rattle.gc_netlist.specs.Circuit.{Netlist}
 use Rattle.gc_netlist.specs.Text.{tokens}

@@ -10,7 +10,7 @@ use gc_job::BindFault;
 use gc_order::Order;
 use std::alloc::{AllocError, Allocator};
 
-/// What is told of files that are no job for the circuit: those of the job that was at work last.
+/// Explains why files are no job for the circuit: those of the job whose file was opened last.
 pub(crate) fn told_of_binding<A: Allocator + Copy, F: Reread>(
     alloc: A,
     order: &Order,
@@ -34,7 +34,7 @@ pub(crate) fn told_of_binding<A: Allocator + Copy, F: Reread>(
     })
 }
 
-/// What is told of a garbled file of another circuit.
+/// Explains that a garbled file is of another circuit.
 fn told_of_garbled<A: Allocator + Copy, F: Reread>(
     alloc: A,
     circuit: &Circuit<A>,
@@ -76,7 +76,7 @@ fn counts_sentence<A: Allocator + Copy>(
     )
 }
 
-/// What is told of the label files of a job.
+/// Explains what is wrong with the label files of a job.
 fn told_of_labels<A: Allocator + Copy, F: Reread>(
     alloc: A,
     circuit: &Circuit<A>,
@@ -144,7 +144,7 @@ fn label_sentence<A: Allocator + Copy>(
     }
 }
 
-/// The first input value that is none of these.
+/// The first input value that isn't among those found.
 fn missing_value<A: Allocator>(circuit: &Circuit<A>, found: &[u32]) -> Option<u32> {
     let mut index = 0u32;
     for _width in circuit.input_widths() {

@@ -6,7 +6,7 @@ use gc_disk::{Cause, Reread};
 use gc_order::Order;
 use std::alloc::Allocator;
 
-/// What is told of a file that can't be read: the one that was opened last.
+/// Explains why a file can't be read: the one that was opened last.
 pub(crate) fn told_of_reading<A: Allocator + Copy, F: Reread>(
     alloc: A,
     order: &Order,
@@ -23,8 +23,8 @@ pub(crate) fn told_of_reading<A: Allocator + Copy, F: Reread>(
     )
 }
 
-/// What is told of a file that can't be written: the one that was opened last, or standard output where printing failed
-/// for this cause.
+/// Explains why a file can't be written: the one that was opened last, or standard output where printing failed for
+/// this cause.
 pub(crate) fn told_of_writing<A: Allocator + Copy, F: Reread>(
     alloc: A,
     files: &F,

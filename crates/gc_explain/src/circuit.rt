@@ -11,8 +11,8 @@ use gc_circuit::{Circuit, Located, ReadFault};
 use gc_disk::Reread;
 use std::alloc::{AllocError, Allocator};
 
-/// What is told of a fault of the circuit in the file of this name. Where the file can't be read once more, or has
-/// another fault now, its place isn't told.
+/// Explains a fault of the circuit in the file of this name. Where the file can't be reread, or has another fault now,
+/// the place is the whole file.
 pub(crate) fn told_of_circuit<A: Allocator + Copy, F: Reread>(
     alloc: A,
     name: &str,

@@ -24,8 +24,8 @@ use std::str;
 
 /// The line that explains a fault that ended an order over these files: `halfgates: `, the place, where there is one,
 /// and a sentence. `opened` is how many files the order opened, and `printing` why standard output can't be written,
-/// where that is the fault. Files are read once more for it. There is no line where they don't show the fault any more,
-/// or where memory is refused.
+/// where that is the fault. Files are reread for it. There is no line where they no longer show the fault, or where
+/// memory is refused.
 pub fn explain<A: Allocator + Copy, F: Reread>(
     alloc: A,
     order: &Order,
@@ -41,7 +41,7 @@ pub fn explain<A: Allocator + Copy, F: Reread>(
     told.line(alloc).ok()
 }
 
-/// What is told of a fault.
+/// Explains a fault.
 fn told_of<A: Allocator + Copy, F: Reread>(
     alloc: A,
     order: &Order,
@@ -65,7 +65,7 @@ fn told_of<A: Allocator + Copy, F: Reread>(
     }
 }
 
-/// What is told of a fault that is neither in a circuit's text nor in the form of a file.
+/// Explains a fault that is neither in a circuit's text nor in the form of a file.
 fn told_of_other<A: Allocator + Copy, F: Reread>(
     alloc: A,
     order: &Order,
@@ -92,14 +92,14 @@ fn told_of_other<A: Allocator + Copy, F: Reread>(
     }
 }
 
-/// What is told where memory ran out.
+/// Explains that memory ran out.
 fn told_of_memory<A: Allocator + Copy>(alloc: A) -> Option<Told<A>>
     ensures { IfSome result (λ told. told.place.items ≡ []) }
 {
     alone(alloc, String::from_str(alloc, "memory ran out"))
 }
 
-/// What is told of a text that is no list of jobs.
+/// Explains why a text is no list of jobs.
 fn told_of_list<A: Allocator + Copy, F: Reread>(
     alloc: A,
     order: &Order,

@@ -12,8 +12,8 @@ use gc_netlist::MAX_GATES;
 use gc_order::Order;
 use std::alloc::Allocator;
 
-/// What is told of a fault of the file that was opened last. Where it can't be read once more, or has another fault
-/// now, no byte is told.
+/// Explains a fault of the file that was opened last. Where it can't be reread, or has another fault now, the place is
+/// the whole file.
 pub(crate) fn told_of_file<A: Allocator + Copy, F: Reread>(
     alloc: A,
     order: &Order,

@@ -17,8 +17,8 @@ pub(crate) struct JobNames<A: Allocator> {
     pub(crate) line: Option<u64>,
 }
 
-/// The names of the files of the job that was at work last, where the order opened this many files. There is none where
-/// a list can't be read once more.
+/// The names of the files of the job whose file was opened last, where the order opened this many files. There are none
+/// where a list can't be reread.
 pub(crate) fn job_names<A: Allocator + Copy, F: Reread>(
     alloc: A,
     order: &Order,
@@ -50,7 +50,7 @@ fn own_names<A: Allocator + Copy>(
     })
 }
 
-/// Copies of these names.
+/// Copies of the names.
 fn copies_of<A: Allocator + Copy>(
     alloc: A,
     names: &[String],

@@ -22,7 +22,7 @@ use gc_order::{JobsOrder, Order};
 use std::alloc::{AllocError, Allocator};
 use std::str;
 
-/// What is told of an output label that the garbled file doesn't recognise.
+/// Explains an output label that the garbled file doesn't recognise.
 pub(crate) fn told_of_output<A: Allocator + Copy, F: Reread>(
     alloc: A,
     order: &Order,
@@ -46,7 +46,7 @@ fn sentence_of<A: Allocator + Copy>(alloc: A, output: u32) -> Result<String<A>, 
     )
 }
 
-/// What is told of an output label of a job in a list: the first line that has such a job.
+/// Explains an unknown output label of a job in a list. The place is the first line that has such a job.
 fn told_of_job<A: Allocator + Copy, F: Reread>(
     alloc: A,
     jobs: &JobsOrder,
@@ -68,7 +68,7 @@ fn told_of_job<A: Allocator + Copy, F: Reread>(
 }
 
 /// The first line of a list, counted from 1, whose job has this unknown output label. The jobs are evaluated once more
-/// for it. There is none where the files can't be read once more, or where memory is refused.
+/// for it. There is none where the files can't be reread, or where memory is refused.
 fn line_of_output<A: Allocator + Copy, F: Reread>(
     alloc: A,
     jobs: &JobsOrder,

@@ -1,4 +1,4 @@
-//! What is told of a fault.
+//! The explanation of a fault.
 
 ghost use Rattle.std.specs.Prelude.{◌≡◌, ◌++◌, ◌∷◌, [], codes, decimal, string_bytes, IfOk, IfSome, OnOk};
 ghost use Rattle.gc_explain.specs.Explain.{line_told};
@@ -8,7 +8,7 @@ use gc_circuit::Located;
 use itoa::Buffer;
 use std::alloc::{AllocError, Allocator};
 
-/// What is told of a fault: the place that it names, which may be empty, and a sentence.
+/// The explanation of a fault: the place that it names, which may be empty, and a sentence.
 #[derive(Drop)]
 pub(crate) struct Told<A: Allocator> {
     pub(crate) place: Vec<u8, A>,
@@ -16,7 +16,7 @@ pub(crate) struct Told<A: Allocator> {
 }
 
 impl<A: Allocator> Told<A> {
-    /// The line that tells it.
+    /// The explanation as one line.
     pub(crate) fn line(self, alloc: A) -> Result<Vec<u8, A>, AllocError>
         ensures { IfOk result
             (λ line. line.items ≡ line_told self.place.items (string_bytes self.sentence)) }

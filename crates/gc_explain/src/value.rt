@@ -15,7 +15,7 @@ const BEFORE_WIDTHS: usize = 3;
 /// How many input values a circuit has at most.
 const MOST_VALUES: usize = 256;
 
-/// What is told of a wrong number of values.
+/// Explains a wrong number of values.
 pub(crate) fn told_of_count<A: Allocator + Copy, F: Reread>(
     alloc: A,
     order: &Order,
@@ -31,7 +31,7 @@ pub(crate) fn told_of_count<A: Allocator + Copy, F: Reread>(
     )
 }
 
-/// What is told of an index that no input value has.
+/// Explains an index that no input value has.
 pub(crate) fn told_of_index<A: Allocator + Copy, F: Reread>(
     alloc: A,
     order: &Order,
@@ -50,7 +50,7 @@ pub(crate) fn told_of_index<A: Allocator + Copy, F: Reread>(
     )
 }
 
-/// What is told of the first value that has this fault.
+/// Explains this fault by the first value that has it.
 pub(crate) fn told_of_value<A: Allocator + Copy, F: Reread>(
     alloc: A,
     order: &Order,
@@ -107,7 +107,7 @@ fn value_sentence<A: Allocator + Copy>(
     format!(in alloc; "value {index}, counted from 0, {what}")
 }
 
-/// What is told of a text that is no seed.
+/// Explains why a text is no seed.
 pub(crate) fn told_of_seed<A: Allocator + Copy>(alloc: A, order: &Order) -> Option<Told<A>> {
     let count = seed_of(order)?.len();
     if count == 64 {
@@ -120,7 +120,7 @@ pub(crate) fn told_of_seed<A: Allocator + Copy>(alloc: A, order: &Order) -> Opti
     )
 }
 
-/// What is told of a number of workers.
+/// Explains a number of workers that is out of range.
 pub(crate) fn told_of_workers<A: Allocator + Copy>(alloc: A, order: &Order) -> Option<Told<A>> {
     let workers = workers_of(order)?;
     alone(
@@ -129,7 +129,7 @@ pub(crate) fn told_of_workers<A: Allocator + Copy>(alloc: A, order: &Order) -> O
     )
 }
 
-/// The widths of the circuit's input values, where its file can be read once more.
+/// The widths of the circuit's input values, where its file can be reread.
 fn input_widths<A: Allocator + Copy, F: Reread>(
     alloc: A,
     order: &Order,
