@@ -36,9 +36,9 @@ impl<W: Write, A: Allocator> Sink for HostSink<W, A> {
 
 /// The files of a runtime. Nothing is known of their bytes.
 ///
-/// A regular file is replaced by a whole new one: its sink writes a file beside it, `.halfgates-N.tmp`, which is renamed
-/// when the sink is kept, and removed otherwise. It has the permissions of the file that it replaces. A FIFO or a device
-/// is written as its sink takes bytes. Each name of standard output is refused.
+/// A regular file is replaced by a whole new one: its sink writes a file beside it, `.halfgates-N.tmp`, which is
+/// renamed when the sink is kept, and removed otherwise. It has the permissions of the file that it replaces. A FIFO or
+/// a device is written as its sink takes bytes. Each name of standard output is refused.
 #[derive(Drop)]
 pub struct HostFiles<'r, R: rt::Files + Alloc> {
     rt: &'r R,

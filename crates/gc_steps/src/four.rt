@@ -26,7 +26,8 @@ struct FourLabels {
 /// A gate with the labels that it reads.
 #[inline]
 fn read_gate(ready: Prepared) -> ReadGate
-    ensures { result ≡ record { gate = ready.gate; first = ready.labels.0; second = ready.labels.1 } }
+    ensures { result
+        ≡ record { gate = ready.gate; first = ready.labels.0; second = ready.labels.1 } }
 {
     let (first, second) = ready.labels;
     ReadGate {
@@ -48,8 +49,10 @@ impl<'w, 'c, J: Jobs, R: Frame<J>, B: Allocator, A: Allocator, C: Allocator> Rou
     /// The labels of four gates, from the labels that they read.
     #[inline]
     fn labels_of_four(&self, a: ReadGate, b: ReadGate, c: ReadGate, d: ReadGate) -> FourLabels
-        requires first { (a.gate < gates_of self.now.job.now) × (b.gate < gates_of self.now.job.now) }
-        requires last { (c.gate < gates_of self.now.job.now) × (d.gate < gates_of self.now.job.now) }
+        requires first { (a.gate < gates_of self.now.job.now)
+            × (b.gate < gates_of self.now.job.now) }
+        requires last { (c.gate < gates_of self.now.job.now)
+            × (d.gate < gates_of self.now.job.now) }
         requires a { AreReadBy self.now.job.now a.gate (a.first, a.second) }
         requires b { AreReadBy self.now.job.now b.gate (b.first, b.second) }
         requires c { AreReadBy self.now.job.now c.gate (c.first, c.second) }
@@ -122,8 +125,8 @@ impl<'w, 'c, J: Jobs, R: Frame<J>, B: Allocator, A: Allocator, C: Allocator> Rou
         requires c { IsReady self.now.job.now self.now.number place.old.me.0 c }
         requires d { IsReady self.now.job.now self.now.number place.old.me.0 d }
         ensures same { IsSamePlace place.old place.new }
-        ensures answers { AnswersFour R.layout self.now.job.now self.now.number a.gate b.gate c.gate d.gate 37
-            place.old.me.0 place.new.me.0 result }
+        ensures answers { AnswersFour R.layout self.now.job.now self.now.number a.gate b.gate c.gate
+            d.gate 37 place.old.me.0 place.new.me.0 result }
     {
         let (b_gate, b_free) = (b.gate, b.free);
         let (c_gate, c_free) = (c.gate, c.free);

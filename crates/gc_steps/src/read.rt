@@ -102,7 +102,8 @@ impl<'w, 'c, J: Jobs, R: Frame<J>, B: Allocator, A: Allocator, C: Allocator> Rou
         ensures err { IfErr result (λ w. Reads self.now.job.now.circuit gate w
             × Lacks R.layout self.now.job.now self.now.number w place.old.me.0 place.new.me.0) }
         ensures alone { IsAlone place.old.me.0
-            → MatchResult result (λ _. ReadsMade self.now.job.now self.now.number gate place.old.me.0)
+            → MatchResult result
+            (λ _. ReadsMade self.now.job.now self.now.number gate place.old.me.0)
             (λ w. FirstLacking self.now.job.now self.now.number gate place.old.me.0 w) }
     {
         let operation = self.job.circuit().gate(gate).operation;
@@ -128,7 +129,8 @@ impl<'w, 'c, J: Jobs, R: Frame<J>, B: Allocator, A: Allocator, C: Allocator> Rou
         ensures ok { IfOk result (λ ready. (ready.gate ≡ gate)
             × IsReady self.now.job.now self.now.number place.new.me.0 ready) }
         ensures err { IfErr result (λ answer. (made_now answer ≡ 0)
-            × Says R.layout self.now.job.now self.now.number gate place.old.me.0 place.new.me.0 answer) }
+            × Says R.layout self.now.job.now self.now.number gate place.old.me.0 place.new.me.0
+            answer) }
         ensures alone { IsAlone place.old.me.0
             → MatchResult result (λ _. (pairs self.now.number gate place.old.me.0.inner.made ≡ 0)
             × ReadsMade self.now.job.now self.now.number gate place.old.me.0)

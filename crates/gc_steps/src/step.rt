@@ -63,7 +63,8 @@ impl<'w, 'c, J: Jobs, R: Frame<J>, B: Allocator, A: Allocator, C: Allocator> Rou
         requires has { place.old.me.0.inner.hand ≡ Has self.now.number gate 0 }
         requires right { label ≡ active self.now.job.now (set_of self.now.job.now gate) }
         ensures same { IsSamePlace place.old place.new }
-        ensures view { place.new.me.0 ≡ after_done R.layout (after_stored (after_stored place.old.me.0
+        ensures view { place.new.me.0 ≡ after_done R.layout (after_stored (after_stored
+            place.old.me.0
             self.now.number gate 1 (R.layout.at self.now.number gate + 1) (low_half label))
             self.now.number gate 2 (R.layout.at self.now.number gate + 2) (high_half label))
             self.now.number gate }

@@ -69,11 +69,12 @@ impl<'w, 'c, J: Jobs, R: Frame<J>, B: Allocator, A: Allocator, C: Allocator> Rou
         requires ready { IsReady self.now.job.now self.now.number place.old.me.0 first
             × IsReady self.now.job.now self.now.number place.old.me.0 second }
         ensures same { IsSamePlace place.old place.new }
-        ensures answers { AnswersTwo R.layout self.now.job.now self.now.number first.gate second.gate 8
-            place.old.me.0 place.new.me.0 result }
+        ensures answers { AnswersTwo R.layout self.now.job.now self.now.number first.gate
+            second.gate 8 place.old.me.0 place.new.me.0 result }
         ensures alone { IsAlone place.old.me.0
             → (pairs self.now.number first.gate place.old.me.0.inner.made ≡ 0 → IsMadeNow result.0)
-            × (second.gate ≢ first.gate → pairs self.now.number second.gate place.old.me.0.inner.made ≡ 0
+            × (second.gate ≢ first.gate
+            → pairs self.now.number second.gate place.old.me.0.inner.made ≡ 0
             → IsMadeNow result.1) }
     {
         let other = second;

@@ -7,4 +7,5 @@ returns-in-Some-clause-yes c = λ _. inr (c.in-Some.field-0.now, c.in-Some.ensur
 
 pub returns-in-None-clause-no : goal.returns-in-None-clause-no
 returns-in-None-clause-no c = λ other is.
-    ⊎_elim (other-text _ _ _ c.eq.ensures other) (λ named. c.in-None.ensures.none named.0 named.1) is
+    ⊎_elim (other-text _ _ _ c.eq.ensures other)
+    (λ named. c.in-None.ensures.none named.0 named.1) is
