@@ -1,5 +1,5 @@
 #!/usr/bin/env python3
-"""Writes a random circuit in Bristol Fashion. The same words give the same file.
+"""Writes a random circuit in Bristol Fashion. The same arguments give the same file.
 
   make_circuit.py GATES AND_SHARE FILE [independent]
 

@@ -3,7 +3,7 @@
 
   parts.py BENCH CIRCUIT [BASELINE]
 
-BENCH is gc_bench. BASELINE is a program that takes the words `garble CIRCUIT SEED - --repeat N` and
+BENCH is gc_bench. BASELINE is a program that takes the arguments `garble CIRCUIT SEED - --repeat N` and
 reports parse_ns= on standard error. Times are the fastest of several runs.
 """
 

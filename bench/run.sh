@@ -7,7 +7,7 @@
 #
 # CIRCUIT is a file in Bristol Fashion, on which parts and commands are timed. Without it one of a
 # million gates is made, half of them AND. Where BASELINE names a C source of a program that takes
-# the words `garble CIRCUIT SEED - --repeat N` and reports parse_ns=, that is timed too.
+# the arguments `garble CIRCUIT SEED - --repeat N` and reports parse_ns=, that is timed too.
 set -euo pipefail
 top=$(cd "$(dirname "$0")/.." && pwd)
 . "$top/machine.sh"

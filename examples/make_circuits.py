@@ -1,7 +1,7 @@
 #!/usr/bin/env python3
 """Writes circuits in Bristol Fashion.
 
-Without words it writes full_adder.txt, adder64.txt and less8.txt next to this script. With the name
+Without arguments it writes full_adder.txt, adder64.txt and less8.txt next to this script. With the name
 of a circuit it writes that circuit to FILE.
 
 Wire 0 of a value is its lowest bit. So a number is typed as x and its bytes in hexadecimal digits,

@@ -85,7 +85,7 @@ extern "C" {
 enum {
     HALFGATES_OK = 0,
 
-    /* Reading a circuit. The text is read from left to right, and its first fault is answered. */
+    /* Reading a circuit. The text is read from left to right, and its first fault is returned. */
     HALFGATES_CIRCUIT_TRUNCATED = 1,    /* the text ends before the circuit does */
     HALFGATES_BAD_NUMBER = 2,           /* a token where a number belongs is none, or is above 4,294,967,295 */
     HALFGATES_TOO_LARGE = 3,            /* more than 16,777,216 gates, 33,554,432 wires or 256 values of a side */
@@ -208,7 +208,7 @@ typedef struct halfgates_place {
     int32_t fault;   /* the fault, 1 to 12, or 0 where the text is a circuit; then the rest is 0 or HALFGATES_NONE */
     uint32_t gate;   /* the gate, counted from 0, or HALFGATES_NONE where no gate is being read */
     uint32_t wire;   /* the wire of the faults 7 to 10, else HALFGATES_NONE. For 7, HALFGATES_NO_SUCH_WIRE, it is the
-                        number as it stands in the text, which can be 4,294,967,295, as HALFGATES_NONE is */
+                        number as it is in the text, which can be 4,294,967,295, as HALFGATES_NONE is */
     uint64_t line;   /* the line, counted from 1: byte 10 ends a line */
     uint64_t column; /* the column, counted from 1 in bytes */
 } halfgates_place;
@@ -437,7 +437,7 @@ int32_t halfgates_audit(const halfgates_garbling *garbling, const uint8_t *garbl
 typedef struct halfgates_labels_report {
     int32_t verdict; /* HALFGATES_OK where the file is the one that halfgates_deal writes for the bits,
                         HALFGATES_NO_SUCH_VALUE, HALFGATES_WRONG_WIDTH, or HALFGATES_WRONG_LABEL */
-    uint32_t index;  /* the index of the input value that stands in the file */
+    uint32_t index;  /* the index of the input value that the file names */
     uint32_t count;  /* how many bits the labels stand for; 0 where the verdict isn't HALFGATES_OK */
     uint32_t wire;   /* the first wire whose label is neither of its two, or HALFGATES_NONE */
 } halfgates_labels_report;

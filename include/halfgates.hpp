@@ -102,7 +102,7 @@ public:
     template <class Container, class Item = detail::item<Container>>
     view(const Container &container) noexcept : view(container.data(), container.size() * sizeof(Item)) {}
 
-    /* Of these nothing would be left at the end of the statement. */
+    /* A temporary is gone at the end of the statement. */
     template <class Container, class Item = detail::item<Container>,
               class = typename std::enable_if<!std::is_same<Container, view>::value>::type>
     view(const Container &&container) = delete;

@@ -179,7 +179,7 @@ LABEL_FILES = [
     ([label_file(0, label(0, 0), label(1, 0), label(2, 0))], [("0 width", False)]),
     ([label_file(1, NOBODYS_LABEL)], [("1 width", False)]),
     ([label_file(2, NOBODYS_LABEL, NOBODYS_LABEL)], [("2 width", False)]),
-    # Each file is judged alone.
+    # Each file is checked alone.
     (
         [
             label_file(5),

@@ -1,4 +1,4 @@
-"""The circuits of examples/make_circuits.py: what they answer, by the program, and their files."""
+"""The circuits of examples/make_circuits.py: what they compute, by the program, and their files."""
 import hashlib
 import itertools
 import json

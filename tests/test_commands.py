@@ -125,7 +125,7 @@ VALUE_FAULTS = [
     (["1", "11", "1"], "16 WrongLength"),
     (["1", "0", ""], "16 WrongLength"),
     (["x02", "0", "1"], "17 SpareBits"),
-    # The values are judged one after another.
+    # The values are checked one after another.
     (["2", "", "x02"], "15 BadDigit"),
     (["1", "x02", "2"], "17 SpareBits"),
 ]
@@ -413,7 +413,7 @@ EVALUATION_FAULTS = [
     (XOR, XOR_FILE_2, ["z0", "1"], "48 UnknownOutputLabel"),
     (XOR, XOR_FILE_2, ["z0", "z1"], "48 UnknownOutputLabel"),
     (XOR, XOR_FILE_2, ["z0", "1", "--workers", "64"], "48 UnknownOutputLabel"),
-    # The number of workers is judged after binding.
+    # The number of workers is checked after binding.
     (AND, AND_FILE, ["0", "1", "--workers", "0"], "22 BadWorkers"),
     (AND, AND_FILE, ["0", "1", "--workers", "65"], "22 BadWorkers"),
     (AND, AND_FILE, ["0", "--workers", "0"], "45 MissingValue"),
@@ -434,7 +434,7 @@ EVALUATION_FAULTS = [
     (XOR, XOR_FILE, ["z1", "0", "1"], "44 DoubleValue"),
     (XOR, XOR_FILE, ["0"], "45 MissingValue"),
     (XOR, XOR_FILE, [], "45 MissingValue"),
-    # The circuit, the garbled file and each label file in turn are judged before the next is read.
+    # The circuit, the garbled file and each label file in turn are checked before the next is read.
     ("", b"\0", ["no file"], "1 Truncated"),
     (XOR, b"\0", ["no file"], "30 BadMagic"),
     (XOR, b"", ["no file"], "31 Truncated"),
@@ -592,7 +592,7 @@ LIST_FAULTS = [
     (b"g a1 a0 c1\nnothing", "1", "44 DoubleValue"),
     (b"g a1 b0 c1\nempty nothing", "1", "31 Truncated"),
     (b"g a1 b0 c1\ng a1 b0", "0", "45 MissingValue"),
-    # The number of workers is judged after all files, and before any output label.
+    # The number of workers is checked after all files, and before any output label.
     (b"g a1 b0 c1", "0", "22 BadWorkers"),
     (b"g z b0 c1", "65", "22 BadWorkers"),
     (b"g z b0 c1\ng a1 b0 c1", "2", "48 UnknownOutputLabel"),

@@ -93,7 +93,7 @@ UNCLEAR = {
 
 
 def auction(first, second, reserve=20):
-    """What the example answers."""
+    """What the example returns."""
     is_second = int(second > first)
     if max(first, second) < reserve:
         return 0, 0, 0

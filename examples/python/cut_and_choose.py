@@ -1,6 +1,6 @@
 #!/usr/bin/env python3
 """Cut and choose: a garbler that may cheat garbles one circuit under a hundred seeds, and the evaluator has half of
-them opened and audited. It evaluates the others, and takes what most of them answer.
+them opened and audited. It evaluates the others, and takes the result of most of them.
 
   cut_and_choose.py CIRCUIT NUMBER.. [--forge N]
 

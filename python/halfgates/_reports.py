@@ -25,7 +25,7 @@ class Place(NamedTuple):
     def _of(cls, it: _library.Place) -> "Optional[Place]":
         if it.fault == OK:
             return None
-        # Any number may stand where a wire is meant, NONE too.
+        # A token that is meant as a wire may be any number, NONE too.
         wire = it.wire if it.fault in FAULTS_OF_WIRES else None
         return cls(it.fault, name_of(it.fault), it.line, it.column, _or_none(it.gate), wire)
 

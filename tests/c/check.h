@@ -16,13 +16,13 @@
         } \
     } while (0)
 
-/* The code that a call answers is this one. */
+/* The code that a call returns is this one. */
 #define CHECK_CODE(code, call) \
     do { \
-        int32_t answered = (call); \
-        if (answered != (code)) { \
-            fprintf(stderr, "%s:%d: %s: %" PRId32 " %s\n", __FILE__, __LINE__, #call, answered, \
-                    halfgates_fault_name(answered).text); \
+        int32_t returned = (call); \
+        if (returned != (code)) { \
+            fprintf(stderr, "%s:%d: %s: %" PRId32 " %s\n", __FILE__, __LINE__, #call, returned, \
+                    halfgates_fault_name(returned).text); \
             exit(1); \
         } \
     } while (0)

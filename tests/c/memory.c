@@ -158,7 +158,7 @@ static void evaluate_many(halfgates_circuit *circuit) {
     }
 }
 
-/* All calls that take memory. */
+/* All calls that allocate. */
 static void work(void) {
     const uint8_t *text = (const uint8_t *)FULL_ADDER, seed[32] = {5}, bits[3] = {1, 0, 1};
     uint8_t garbled[177], labels[96], outputs[2], found_bits[1];
@@ -208,7 +208,7 @@ int main(void) {
         until_refusal = 0;
         CHECK(live == 0);
     } while (refusals > before);
-    /* Reading, garbling and binding take memory at the least. */
+    /* Reading, garbling and binding allocate at the least. */
     CHECK(refusals > 5);
     printf("%ld growths refused\n", refusals);
     return 0;

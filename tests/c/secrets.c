@@ -80,7 +80,7 @@ static char *read_file(const char *path, size_t *size) {
     return text;
 }
 
-/* The values of a circuit, and what it answers. */
+/* The values of a circuit, and its result. */
 struct values {
     halfgates_numbers numbers;
     uint32_t widths[256];

@@ -16,7 +16,7 @@ use gc_workers::{Gatehouse, MAX_WORKERS};
 use std::alloc::Allocator;
 use std::thread::Threads;
 
-/// The output bits of each job, in order, by this number of workers: what [`evaluate`] returns for it, honest job or
+/// The output bits of each job, in order, with this number of workers: what [`evaluate`] returns for it, honest job or
 /// not. Where there are no fewer jobs than workers, or a job's gates would gain nothing by several threads, each worker
 /// evaluates an equal share of the list, four jobs at once. Otherwise the workers share each job: they have
 /// [`Banks`](crate::Banks). A worker calls `observer.before` for each gate before it evaluates it. A thread is started

@@ -1,4 +1,4 @@
-//! Tests of banks: the answers of two seats that take turns, steps of two gates, and closing.
+//! Tests of banks: what the calls of two seats that take turns return, steps of two gates, and closing.
 
 ghost use Rattle.std.specs.Prelude.{◌≡◌, ◌<◌, length, All, IfOk};
 ghost use Rattle.gc_bank.specs.Seats.{IsSeatOf, IsInside, view, round_of, jobs_on};
@@ -31,7 +31,7 @@ enum Call {
     Reopen(u32),
 }
 
-/// What a call answers.
+/// What a call returns.
 #[derive(Clone, Copy, PartialEq, Eq, Debug)]
 enum Reply {
     Entry(Entry),
@@ -39,7 +39,7 @@ enum Reply {
     Label(Option<Label>),
     Nothing,
     Reopening(Reopening),
-    /// The call isn't the seat's to make where it stands.
+    /// The seat may not make the call where it is.
     Barred,
 }
 
@@ -202,7 +202,7 @@ fn script(alloc: Global, jobs: &[Job]) -> Result<[(Who, Call, Reply); 18], Fail>
     ])
 }
 
-/// Makes the calls of a script. The answer is the first call that has another reply than the script's, with the reply.
+/// Makes the calls of a script. It returns the first call that has another reply than the script's, with the reply.
 fn first_other<B: Allocator>(
     banks: &Banks<'_, '_, B>,
     jobs: &[Job],
@@ -240,8 +240,8 @@ fn two_seats_take_turns(rt: HostRuntime) -> Result<(), Fail> {
     Ok(())
 }
 
-/// Opens banks over this memory, has two seats make the calls of a script, and closes them. The answer is how many
-/// gates were made, where no memory was asked for after the opening.
+/// Opens banks over this memory, has two seats make the calls of a script, and closes them. It returns how
+/// many gates were made, where no memory was asked for after the opening.
 fn works_without_memory(
     heap: &Refusing<Global>,
     jobs: &[Job],
@@ -339,7 +339,7 @@ fn step_pairs(
     Ok(())
 }
 
-/// Two gates at once are made as one after the other is, and a gate that isn't ready or is known is answered by
+/// Two gates at once are made as one after the other is, and a gate that isn't ready or is known is stepped by
 /// itself.
 #[test]
 fn two_gates_in_a_step(rt: HostRuntime) -> Result<(), Fail> {

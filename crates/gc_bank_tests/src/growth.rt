@@ -51,7 +51,7 @@ fn opening(rt: HostRuntime) -> Result<(), Fail> {
     Ok(())
 }
 
-/// Whether two answers have the same bits.
+/// Whether two results have the same bits.
 fn same(one: &[Vec<bool, &Refusing<Global>>], other: &[Vec<bool>]) -> bool {
     one.len() == other.len()
         && one
@@ -65,11 +65,11 @@ fn same(one: &[Vec<bool, &Refusing<Global>>], other: &[Vec<bool>]) -> bool {
 struct Refused {
     /// How many there are,
     runs: u64,
-    /// and how many give the answer all the same before one gives the fault for memory.
+    /// and how many return the bits all the same before one returns the fault for memory.
     answered: u64,
 }
 
-/// The runs of this many workers that meet a refused growth. Each gives the answer of one thread, or the fault for
+/// The runs of this many workers that meet a refused growth. Each returns the bits of one thread, or the fault for
 /// memory.
 fn refused_runs<R: Threads + Wait + Sync>(
     rt: &R,
@@ -103,8 +103,8 @@ fn refused_runs<R: Threads + Wait + Sync>(
     }
 }
 
-/// Fewer jobs than workers, on a wide circuit, are shared at the banks. These take memory seven times, the workers
-/// once each and once together, and the answers twice together and at least twice for each job. Without memory for the
+/// Fewer jobs than workers, on a wide circuit, are shared at the banks. These allocate seven times, the workers once
+/// each and once together, and the results twice together and at least twice for each job. Without memory for the
 /// banks and the workers one thread evaluates the jobs.
 #[test]
 fn each_growth_of_shared_jobs_refused(rt: HostRuntime) -> Result<(), Fail> {
@@ -125,8 +125,8 @@ fn each_growth_of_shared_jobs_refused(rt: HostRuntime) -> Result<(), Fail> {
     Ok(())
 }
 
-/// Otherwise each worker evaluates jobs of its own: the list takes memory twice, and each job at least twice. Without
-/// memory for the list of the answers alone, which comes last, there is none.
+/// Otherwise each worker evaluates jobs of its own: the list allocates twice, and each job at least twice. Only without
+/// memory for the list of the results, which is allocated last, are there none.
 #[test]
 fn each_growth_of_jobs_apart_refused(rt: HostRuntime) -> Result<(), Fail> {
     let alloc = rt.alloc();

@@ -1,4 +1,4 @@
-//! Tests of the evaluation of lists of jobs: the answers are those of one thread, and the threads are really
+//! Tests of the evaluation of lists of jobs: the results are those of one thread, and the threads are really
 //! at work.
 
 use gc_bank::{evaluate_jobs, one_circuit};
@@ -33,7 +33,7 @@ pub(crate) fn job_of<'c>(
     Ok(Job::bind(alloc, circuit, garbled, &labels)?)
 }
 
-/// What this many workers answer; None where the jobs can't be evaluated together.
+/// What the evaluation with this many workers returns; None where the jobs can't be evaluated together.
 pub(crate) fn evaluated<
     B: Allocator + Copy + Send + Sync,
     H: Gatehouse + Sync,
@@ -51,7 +51,7 @@ pub(crate) fn evaluated<
     Some(evaluate_jobs(rt, alloc, jobs, workers, observer))
 }
 
-/// What one thread answers for each job, one after another.
+/// What the evaluation on one thread returns for each job, one after another.
 pub(crate) fn one_after_another(alloc: Global, jobs: &[Job]) -> Result<Vec<Vec<bool>>, EvalFault> {
     let mut all = Vec::new(alloc);
     for job in jobs {
@@ -109,7 +109,7 @@ pub(crate) fn one_of_each_version<'c>(
     Ok(jobs)
 }
 
-/// Whether two of this many workers meet as they evaluate jobs together, each by its own number, and the answers are
+/// Whether two of this many workers meet as they evaluate jobs together, each by its own number, and the results are
 /// those of one thread.
 fn meet<R: Threads + Wait + Sync>(rt: &R, alloc: Global, jobs: &[Job], workers: u32) -> bool {
     let observer = Meeting::new();
@@ -119,7 +119,7 @@ fn meet<R: Threads + Wait + Sync>(rt: &R, alloc: Global, jobs: &[Job], workers: 
 }
 
 /// Whether this many workers report each gate of the jobs' circuit, once for each job where they evaluate jobs of their
-/// own, and each by its own number, and the answers are those of one thread.
+/// own, and each by its own number, and the results are those of one thread.
 fn is_each_reported<R: Threads + Wait + Sync>(
     rt: &R,
     alloc: Global,

@@ -48,7 +48,7 @@ impl Rounds {
         true
     }
 
-    /// Waits until all have begun a round this often, for so many turns at the most.
+    /// Waits until all have begun a round this often, for at most a billion turns.
     fn wait(&self, times: u64) {
         for _turn in 0..1_000_000_000u64 {
             if self.have_all_begun(times) {

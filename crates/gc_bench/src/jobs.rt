@@ -69,7 +69,7 @@ pub fn side_by_side(alloc: Global, job: &Job) -> Result<()> {
     Ok(())
 }
 
-/// Evaluates the jobs by this many workers.
+/// Evaluates the jobs with this many workers.
 pub fn together<R: Threads + Sync>(
     rt: &R,
     alloc: Global,

@@ -14,7 +14,7 @@ use timing::{Timing, print_times, time_parts};
 
 /// `gc_bench FILE REPEATS PART..` runs the parts on a circuit one after another, and all of them REPEATS times, so that
 /// a slow spell of the machine slows all parts alike. It prints the numbers of gates and AND gates, and each part with
-/// its fastest run in nanoseconds. A part on a list of jobs gets a thousand. Without words it does nothing.
+/// its fastest run in nanoseconds. A part on a list of jobs gets a thousand. Without arguments it does nothing.
 fn main(rt: HostRuntime) -> Result<()> {
     let mut words = env::args(&rt)?.skip(1);
     let Some(file) = words.next() else {

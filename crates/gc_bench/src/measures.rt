@@ -157,7 +157,7 @@ impl Subject {
         Ok(())
     }
 
-    /// Garbles by this many workers.
+    /// Garbles with this many workers.
     fn garble<R: Threads + Wait + Sync>(&self, rt: &R, alloc: Global, workers: u32) -> Result<()> {
         garble(rt, alloc, &self.circuit, &self.seed, workers, &Open)?;
         Ok(())

@@ -15,17 +15,17 @@ pub enum Part {
     Garble,
     /// Two garblings side by side on one thread.
     GarbleTwo,
-    /// Garbling by this many workers.
+    /// Garbling with this many workers.
     GarbleBy(u32),
     /// Evaluation of a job on one thread.
     Job,
     /// Evaluation of four jobs side by side on one thread.
     JobFour,
-    /// Evaluation of a job by this many workers.
+    /// Evaluation of a job with this many workers.
     JobBy(u32),
     /// Evaluation of a list of jobs on one thread, one after another.
     List,
-    /// Evaluation of a list of jobs by this many workers.
+    /// Evaluation of a list of jobs with this many workers.
     ListBy(u32),
     /// The digest of the circuit.
     Digest,

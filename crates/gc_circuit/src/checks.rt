@@ -55,7 +55,7 @@ pub(crate) fn check_gate(is_set: &[bool], gate: Gate) -> Result<(), ReadFault>
     check_set(is_set, gate.set)
 }
 
-/// A wire of a gate, and how many tokens before the end of the gate it stands.
+/// A wire of a gate, and how many tokens it is before the end of the gate.
 #[derive(Clone, Copy)]
 pub(crate) struct WireBack {
     pub(crate) wire: u32,

@@ -14,7 +14,7 @@ pub(crate) struct Stop {
     pub(crate) wire: Option<u32>,
 }
 
-/// How many tokens before those that are left a fault stands that is about no wire.
+/// How many tokens the place of a fault that is about no wire comes before those that are left.
 pub(crate) fn back_of(fault: ReadFault) -> usize
     ensures { result ≡ back_of fault }
 {

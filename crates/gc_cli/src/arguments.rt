@@ -36,7 +36,7 @@ impl From<AllocError> for Refusal {
     }
 }
 
-/// Whether the words of a command line stand for themselves, so that no argument has to be made.
+/// Whether the words of a command line stand for themselves, so that no argument need be copied.
 pub(crate) fn stand_for_themselves(words: &[String]) -> bool
     ensures yes { result ≡ true → StandForThemselves (map string_bytes words.now) }
     ensures no { result ≡ false → ¬ StandForThemselves (map string_bytes words.now) }
@@ -274,7 +274,7 @@ fn push_lines<A: Allocator + Copy>(
     push_argument(alloc, rest, arguments)
 }
 
-/// Adds a copy of each of these words.
+/// Adds a copy of each word.
 fn push_copies<A: Allocator + Copy>(
     alloc: A,
     words: &[String],

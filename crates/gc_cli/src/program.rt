@@ -63,8 +63,8 @@ pub(crate) fn serve_arguments<R: Threads + Wait + Sync, F: Reread, O: Write, E: 
         (map string_bytes words.now) console.old.explains
         console.old.out console.new.out console.old.err console.new.err }
 
-    // Words that neither are an order nor ask for a text: only they, where there was memory to read them, and all of
-    // them.
+    // Arguments that neither are an order nor ask for a text: only they, where there was memory to read them, and all
+    // of them.
     ensures usage { result ≡ USAGE
         → IsMistaken (map string_bytes words.now) ⊎ (heap.old < heap.new) }
     ensures mistaken { IsMistaken (map string_bytes words.now) → result ≡ USAGE }

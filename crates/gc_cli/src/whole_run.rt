@@ -31,7 +31,7 @@ use std::thread::Threads;
 ///   standard output, and every file is as it was, unless printing there failed, which is the fault 51. It is 50 where
 ///   FILE can't be read or isn't UTF-8, and 52 where there is no memory for its lines. Where the arguments or the
 ///   console ask for it, a line that explains the fault of an order may follow.
-/// - [`USAGE`]: what clap says of words that are no order is on standard error. So is what it says where memory ran
+/// - [`USAGE`]: what clap says of arguments that are no order is on standard error. So is what it says where memory ran
 ///   out, and that `--args-from` lacks FILE.
 ///
 /// No file changes but the one that the order writes.

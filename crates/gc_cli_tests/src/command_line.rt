@@ -23,7 +23,7 @@ impl Write for Closed {
     }
 }
 
-/// A line whose words can't be read is refused, whether or not that can be said.
+/// A line whose arguments can't be read is refused, whether or not that can be said.
 #[test]
 fn refuses_words_that_cannot_be_read(rt: HostRuntime) -> Result<(), Fail> {
     let rows = [

@@ -126,7 +126,7 @@ fn calls_alone(calls: u32) -> Limits {
     }
 }
 
-/// Each call fails in turn, and nothing is written. Where all of these go well, none is left that fails.
+/// Each call fails in turn, and nothing is written. Where all of them go well, none is left that fails.
 #[test]
 fn each_call_in_turn(rt: HostRuntime) -> Result<(), Fail> {
     let alloc = rt.alloc();
@@ -146,7 +146,7 @@ fn each_call_in_turn(rt: HostRuntime) -> Result<(), Fail> {
     Ok(())
 }
 
-/// Orders with a source or a sink, how many of its bytes have to go well, the fault where fewer do, and what is
+/// Orders with a source or a sink, how many of its bytes must go well, the fault where fewer do, and what is
 /// printed where that many do. Of a garbled file of 113 bytes a source is asked for one more, which it lacks.
 static STREAMS: [(&[&str], usize, Fault, &str); 5] = [
     (&["eval", "c.txt", "g", "0", "1"], 114, READ, "1\n"),

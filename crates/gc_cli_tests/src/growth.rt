@@ -181,8 +181,8 @@ labels 2 1
 honest
 ";
 
-/// Carries out the order with the growth of this number refused. The code of its fault is reported: 0 where it had the
-/// answer without that growth, and None where no growth was refused.
+/// Carries out the order with the growth of this number refused. It returns the code of the fault: 0 where the order
+/// did without that growth, and None where no growth was refused.
 fn code_of_refusal<R: Threads + Wait + Sync + Abort>(
     rt: &R,
     alloc: Global,
@@ -199,8 +199,8 @@ fn code_of_refusal<R: Threads + Wait + Sync + Abort>(
     }
 }
 
-/// Carries out the order with growth 1, 2, 3, .. refused, until a run meets no refusal and prints the answer. The codes
-/// of the runs before it are reported, one for each growth.
+/// Carries out the order with growth 1, 2, 3, .. refused, until a run meets no refusal and prints its lines. It returns
+/// the codes of the runs before it, one for each growth.
 fn codes_of_refusals<R: Threads + Wait + Sync + Abort>(
     rt: &R,
     alloc: Global,

@@ -27,7 +27,7 @@ impl Read for Failing {
     }
 }
 
-/// No byte is answered of a stream that fails, neither at once nor after some bytes.
+/// No byte is returned of a stream that fails, neither at once nor after some bytes.
 #[test]
 fn fails_where_a_stream_fails(rt: HostRuntime) {
     let reasons = [

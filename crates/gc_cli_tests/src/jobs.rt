@@ -19,7 +19,7 @@ use std::thread::Threads;
 pub type NamedFiles = Vec<(&'static str, Vec<u8>)>;
 
 /// The files of an honest job under the seed of zeros: the circuit `c.txt`, its garbled file `g`, a label file for each
-/// bit, named by its index, and a list of these.
+/// bit, named by its index, and a list of the job.
 pub fn job_files(alloc: Global, text: &str, bits: &[bool]) -> Result<NamedFiles, Fail> {
     let circuit = Circuit::read(alloc, text.as_bytes())?;
     let mut files = Vec::new(alloc);
@@ -87,7 +87,7 @@ pub fn assert_printed<A: Allocator>(
     assert_eq!(rt; out.into_inner().as_slice(), printed.as_bytes());
 }
 
-/// Carries out the order with memory of a heap that refuses one growth. The answer is what came of it, where that
+/// Carries out the order with memory of a heap that refuses one growth. It returns what came of it, where that
 /// growth was refused: the order has printed this, or a fault ended it.
 pub fn outcome_of_refusal<R: Threads + Wait + Sync + Abort, B: Allocator + Copy>(
     rt: &R,

@@ -1,5 +1,5 @@
-//! Each growth of a command of two workers refused in turn, over files whose sinks take the same memory. After a
-//! refusal the same order over the same files has its answer.
+//! Each growth of a command of two workers refused in turn, over files whose sinks use the same memory. After a
+//! refusal the same order over the same files is carried out.
 
 use crate::jobs::{assert_printed, order, outcome_of_refusal, result_of};
 use gc_circuit::Circuit;
@@ -36,7 +36,7 @@ static ORDERS: [(&[&str], &str, u32); 4] = [
 /// The faults of memory: those of circuits and values, garbling, files that are read, evaluation, and the program.
 const MEMORY: [u32; 5] = [13, 23, 36, 46, 52];
 
-/// What an order answers where the growth of this number is refused. None: no growth was.
+/// What comes of an order where the growth of this number is refused. None: no growth was.
 fn fault_of_refusal<R: Threads + Wait + Sync + Abort>(
     rt: &R,
     alloc: Global,
@@ -63,8 +63,8 @@ fn fault_of_refusal<R: Threads + Wait + Sync + Abort>(
     Some(outcome)
 }
 
-/// Carries out the order with growth 1, 2, 3, .. refused, until a run meets no refusal. The answer is how many runs
-/// couldn't write the file; all others had the answer, or a fault of memory.
+/// Carries out the order with growth 1, 2, 3, .. refused, until a run meets no refusal. It returns how many runs
+/// couldn't write the file; all others printed their lines, or had a fault of memory.
 fn unwritten_runs<R: Threads + Wait + Sync + Abort>(
     rt: &R,
     alloc: Global,

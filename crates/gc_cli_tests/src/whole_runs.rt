@@ -97,7 +97,7 @@ labels 2 wrong 2\ndishonest\n",
     ),
 ];
 
-/// Runs with arguments of files, and runs that end by a fault or by words that are no order.
+/// Runs with arguments of files, and runs that end by a fault or by arguments that are no order.
 static OTHERS: [Run; 14] = [
     (&["--args-from", "order", "1", "0", "1"], DONE, "01\n", ""),
     (

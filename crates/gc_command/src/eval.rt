@@ -25,8 +25,8 @@ use std::sync::Wait;
 use std::thread;
 use std::thread::Threads;
 
-/// Evaluates the circuit of a file from the garbled file and the label files of these names, by this many workers, and
-/// returns the lines of the output values that they decode to, in this form. Nothing of these files is trusted.
+/// Evaluates the circuit of a file from the garbled file and the label files of these names, with this many workers,
+/// and returns the lines of the output values that they decode to, in this form. The files are not trusted.
 pub fn eval<R: Threads + Wait + Sync, A: Allocator + Copy + Send + Sync, F: Files, P: Progress>(
     context: &Context<'_, R, A, P>,
     order: &EvalOrder,
@@ -65,7 +65,7 @@ struct Evaluated<A: Allocator> {
 }
 
 /// The digest of the circuit's canonical text, which another thread finishes, where one can be started, and what the
-/// files of these names give by this many workers. The caller ensures that the digest begun is the circuit's.
+/// files of these names give with this many workers. The caller ensures that the digest begun is the circuit's.
 fn digest_and_evaluation<
     R: Threads + Wait + Sync,
     A: Allocator + Copy + Send + Sync,
@@ -105,8 +105,8 @@ fn digest_and_evaluation<
     )
 }
 
-/// Reads the garbled file and the label files of these names, and evaluates the circuit from them by this many workers.
-/// Whether the circuit has the digest that the garbled file names isn't checked.
+/// Reads the garbled file and the label files of these names, and evaluates the circuit from them with this many
+/// workers. Whether the circuit has the digest that the garbled file names isn't checked.
 fn read_and_evaluate<
     R: Threads + Wait + Sync,
     A: Allocator + Copy + Send + Sync,

@@ -29,8 +29,8 @@ use std::alloc::Allocator;
 use std::sync::Wait;
 use std::thread::Threads;
 
-/// Garbles the circuit of a file under a seed by this many workers, writes the garbled file, and returns the line that
-/// states its bytes. A file in place of the garbled file is replaced at once, and stays as it is at a fault.
+/// Garbles the circuit of a file under a seed with this many workers, writes the garbled file, and returns the line
+/// that states its bytes. A file in place of the garbled file is replaced at once, and stays as it is at a fault.
 pub fn garble<R: Threads + Wait + Sync, A: Allocator + Copy + Send + Sync, F: Files, P: Progress>(
     context: &Context<'_, R, A, P>,
     order: &GarbleOrder,

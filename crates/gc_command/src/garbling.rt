@@ -17,7 +17,7 @@ use std::sync::Wait;
 use std::thread;
 use std::thread::Threads;
 
-/// The digest of the circuit's canonical text and the garbling of the circuit under a seed by this many workers.
+/// The digest of the circuit's canonical text and the garbling of the circuit under a seed with this many workers.
 /// Meanwhile another thread finishes the digest, where one can be started. The caller ensures that the digest begun is
 /// the circuit's.
 pub(crate) fn digest_and_garbling<R: Threads + Wait + Sync, A: Allocator + Copy + Send + Sync>(

@@ -16,7 +16,7 @@ use std::alloc::Allocator;
 use std::sync::Wait;
 use std::thread::Threads;
 
-/// The output bits that a garbled file and label files of a circuit decode to, by this many workers. Nothing is known
+/// The output bits that a garbled file and label files of a circuit decode to, with this many workers. Nothing is known
 /// of the result where this is not the digest of the circuit's canonical text.
 pub fn evaluate_files<R: Threads + Wait + Sync, A: Allocator + Copy + Send + Sync>(
     rt: &R,

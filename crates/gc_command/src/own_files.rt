@@ -20,7 +20,7 @@ use std::alloc::Allocator;
 use std::sync::Wait;
 use std::thread::Threads;
 
-/// The garbled file of the circuit's garbling under a seed, by this many workers, in version 2. It refuses 0 workers
+/// The garbled file of the circuit's garbling under a seed, with this many workers, in version 2. It refuses 0 workers
 /// and more than 64 (22). The caller ensures that the digest begun is the circuit's.
 pub fn own_garbled<R: Threads + Wait + Sync, A: Allocator + Copy + Send + Sync>(
     rt: &R,

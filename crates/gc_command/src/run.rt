@@ -21,7 +21,7 @@ use std::alloc::Allocator;
 use std::sync::Wait;
 use std::thread::Threads;
 
-/// Garbles the circuit of a file under a seed by this many workers, deals the values, evaluates the circuit from the
+/// Garbles the circuit of a file under a seed with this many workers, deals the values, evaluates the circuit from the
 /// files of these, which it makes in memory, and returns the lines of the output values in this form.
 pub fn run<R: Threads + Wait + Sync, A: Allocator + Copy + Send + Sync, F: Files, P: Progress>(
     context: &Context<'_, R, A, P>,

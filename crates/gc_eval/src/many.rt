@@ -20,7 +20,7 @@ use std::sync::Wait;
 use std::thread;
 use std::thread::Threads;
 
-/// Evaluates a job by this number of workers: the result is what [`evaluate`] returns, honest job or not. The calling
+/// Evaluates a job with this number of workers: the result is what [`evaluate`] returns, honest job or not. The calling
 /// thread is worker 0; a thread is started for each other worker that has something to do, and where one can't be
 /// started the calling thread does its work too. Where many AND gates near each other can be evaluated at once, worker
 /// 0 goes from gate to gate and all evaluate the AND gates that it passed ([`evaluate_by_layers`]). Where half of the

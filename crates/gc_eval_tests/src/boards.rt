@@ -1,4 +1,4 @@
-//! Tests of boards: the answers of seats that take turns, closing, and each growth of the opening refused.
+//! Tests of boards: what the calls of seats that take turns return, closing, and each growth of the opening refused.
 
 ghost use Rattle.std.specs.Prelude.{◌≡◌, ◌<◌, ◌≤◌, All, IfOk};
 ghost use Rattle.gc_eval.specs.Seats.{IsSeatOf, job_on};
@@ -209,7 +209,7 @@ fn step_all<'j, 'c, B: Allocator>(board: &EvalBoard<'j, 'c, B>, job: &Job<'c>, s
     }
 }
 
-/// How many growths of decoding are refused in turn: it answers these bits with ample memory.
+/// How many growths of decoding are refused in turn: it returns these bits with ample memory.
 fn decoding_refused(alloc: Global, active: &Active, wanted: &[bool]) -> Result<u64, Stray> {
     runs_refused(alloc, |heap| match active.decode(heap) {
         Ok(bits) => plain_if(bits.is_some_and(|bits| bits.as_slice() == wanted)),
@@ -228,8 +228,8 @@ fn made_alone<'j, 'c>(alloc: Global, job: &'j Job<'c>) -> Result<(u64, Active<'j
     Ok((made, closed(board, seats)?))
 }
 
-/// What one seat makes decodes to what the evaluation on one thread answers. Decoding takes memory for the output
-/// labels and for their bits.
+/// What one seat makes decodes to what the evaluation on one thread returns. Decoding allocates the output labels and
+/// their bits.
 #[test]
 fn one_seat_makes_all(rt: HostRuntime) -> Result<(), Fail> {
     let alloc = rt.alloc();
@@ -242,8 +242,8 @@ fn one_seat_makes_all(rt: HostRuntime) -> Result<(), Fail> {
     Ok(())
 }
 
-/// Opens a board over this memory, has one seat make all gates and share them with the other one, and closes it. The
-/// answer is the label of a wire, and how many gates are done, where no memory was asked for after the opening.
+/// Opens a board over this memory, has one seat make all gates and share them with the other one, and closes it. It
+/// returns the label of a wire, and how many gates are done, where no memory was asked for after the opening.
 fn works_without_memory(
     heap: &Refusing<Global>,
     job: &Job,

@@ -32,7 +32,7 @@ fn binding(rt: HostRuntime) -> Result<(), Fail> {
     Ok(())
 }
 
-/// What an evaluation answered whose output bit is 1.
+/// What came of an evaluation whose output bit is 1.
 fn shown(found: Result<Vec<bool, &Refusing<Global>>, EvalFault>) -> Answer {
     match found {
         Ok(bits) => plain_if(bits.as_slice() == [true].as_slice()),
@@ -68,7 +68,7 @@ fn decoding(rt: HostRuntime) -> Result<(), Fail> {
     Ok(())
 }
 
-/// A bound job answers every query without memory.
+/// No query of a bound job allocates.
 #[test]
 fn a_bound_job_grows_nothing(rt: HostRuntime) -> Result<(), Fail> {
     let alloc = rt.alloc();

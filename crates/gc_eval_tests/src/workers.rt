@@ -1,4 +1,4 @@
-//! Tests of evaluation on many threads: the answer is that of one thread, and the threads are really at work.
+//! Tests of evaluation on many threads: the result is that of one thread, and the threads are really at work.
 
 use crate::jobs::job_on_zeros;
 use gc_circuit::Circuit;
@@ -16,7 +16,7 @@ use std::sync::atomic::{AtomicU64, Ordering};
 use std::test::Fail;
 use std::thread::Threads;
 
-/// Whether the workers 0 and 1 meet as they evaluate a circuit, and answer what one thread answers.
+/// Whether the workers 0 and 1 meet as they evaluate a circuit, and return what one thread does.
 fn meet<R: Threads + Wait + Sync>(rt: &R, alloc: Global, text: &str) -> Result<bool, Fail> {
     let circuit = Circuit::read(alloc, text.as_bytes())?;
     let job = job_on_zeros(alloc, &circuit, text)?;
@@ -103,13 +103,13 @@ fn worker_0_is_the_calling_thread(rt: HostRuntime) -> Result<(), Fail> {
 struct Refused {
     /// How many there are,
     runs: u64,
-    /// how many of them give the answer all the same,
+    /// how many of them return the bits all the same,
     answered: u64,
     /// and the number of the first growth without which there is none.
     needed: u64,
 }
 
-/// The runs of this many workers that meet a refused growth. Each gives the answer of one thread, or the fault for
+/// The runs of this many workers that meet a refused growth. Each returns the bits of one thread, or the fault for
 /// memory.
 fn refused_runs<R: Threads + Wait + Sync>(
     rt: &R,
@@ -143,10 +143,10 @@ fn refused_runs<R: Threads + Wait + Sync>(
     }
 }
 
-/// Which way to go takes memory twice where there are several threads; the board six times, the workers once each and
-/// once together, the seats that are back once, and the output labels and bits once each. Without memory for these last
-/// two alone there is no answer. On one thread there are the labels of all wires, those of the output wires, and the
-/// bits, and no answer without them.
+/// Choosing the way allocates twice where there are several threads; the board six times, the workers once each and
+/// once together, the seats that are back once, and the output labels and bits once each. Only without memory for one
+/// of the last two is there no result. On one thread there are the labels of all wires, those of the output wires, and
+/// the bits, and no result without them.
 #[test]
 fn each_growth_refused(rt: HostRuntime) -> Result<(), Fail> {
     let circuit = Circuit::read(rt.alloc(), FULL_ADDER.as_bytes())?;
@@ -164,11 +164,11 @@ fn each_growth_refused(rt: HostRuntime) -> Result<(), Fail> {
     Ok(())
 }
 
-/// Two workers that go by layers: there are AND gates enough for a second thread. Which way to go takes memory once,
+/// Two workers that go by layers: there are AND gates enough for a second thread. Choosing the way allocates once,
 /// the labels once, the queues twice, the list of blocks and the marks once each, the first block twice, the postponed
 /// gates three times and the second block twice; after these 13 come further blocks, and at last the output labels and
 /// bits once each. How many blocks there are depends on how fast the helper is, and so does the number of the growth
-/// without which there is no answer: that of the bits, the last one.
+/// without which there is no result: that of the bits, the last one.
 #[test]
 fn each_growth_of_layers_refused(rt: HostRuntime) -> Result<(), Fail> {
     let text = many_ands(rt.alloc(), 1100)?;

@@ -34,7 +34,7 @@ impl FirstAnd {
     /// AND gates are numbered from 0 on, as under a seed.
     pub const ZERO: FirstAnd = FirstAnd { number: 0 };
 
-    /// This number for the first of so many AND gates; none where their sum is above 2^62.
+    /// This number for the first of `and_gates` AND gates; none where the two add up to more than 2^62.
     pub fn new(number: u64, and_gates: u32) -> Option<FirstAnd>
         ensures { MatchOption result (¬ (number + and_gates ≤ 2 ^ 62))
             (λ first. (first ≡ number) × (number + and_gates ≤ 2 ^ 62)) }

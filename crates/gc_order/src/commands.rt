@@ -17,7 +17,7 @@ use std::alloc::{AllocError, Global};
 /// The version of the program.
 const VERSION: &str = "0.8.0";
 
-/// The greatest number that a word or an option takes. No circuit has as many wires.
+/// The greatest number that an argument or an option takes. No circuit has as many wires.
 const MOST: u64 = 4_294_967_295;
 
 const PROGRAM_HELP: &str = "\
@@ -362,7 +362,7 @@ fn audit<'a>(alloc: Global) -> Result<Command<'a>, AllocError>
     with_arg(command, labels_arg(alloc, AUDITED_HELP))
 }
 
-/// A command that reads a circuit, the file of which is its first word, and explains a fault where it is asked to.
+/// A command that reads a circuit, whose file is its first argument, and explains a fault where it is asked to.
 fn command_on_circuit<'a>(
     alloc: Global,
     name: &'a str,
@@ -374,7 +374,7 @@ fn command_on_circuit<'a>(
     with_arg(new_command(alloc, name, about, help), explain_arg(alloc))
 }
 
-/// A command whose first word is a circuit's file.
+/// A command whose first argument is a circuit's file.
 fn new_command<'a>(
     alloc: Global,
     name: &'a str,
@@ -389,7 +389,7 @@ fn new_command<'a>(
         .arg(word_arg(alloc, "circuit", "CIRCUIT", CIRCUIT_HELP))
 }
 
-/// A command that garbles a circuit: its second word is the seed.
+/// A command that garbles a circuit: its second argument is the seed.
 fn command_with_seed<'a>(
     alloc: Global,
     name: &'a str,
@@ -402,7 +402,7 @@ fn command_with_seed<'a>(
     with_arg(command, word_arg(alloc, "seed", "SEED", SEED_HELP))
 }
 
-/// The command with one word or option more.
+/// The command with one more argument or option.
 fn with_arg<'a>(
     command: Result<Command<'a>, AllocError>,
     arg: Arg<'a>,
@@ -413,14 +413,14 @@ fn with_arg<'a>(
     command?.arg(arg)
 }
 
-/// The word for the file that is written.
+/// The argument for the file that is written.
 fn out_arg<'a>(alloc: Global, help: &'a str) -> Arg<'a>
     ensures { HasRule (required_word (codes "out")) result }
 {
     word_arg(alloc, "out", "OUT", help)
 }
 
-/// The word for a garbled file.
+/// The argument for a garbled file.
 fn garbled_arg<'a>(alloc: Global) -> Arg<'a>
     ensures { HasRule (required_word (codes "garbled")) result }
 {
@@ -432,7 +432,7 @@ fn garbled_arg<'a>(alloc: Global) -> Arg<'a>
     )
 }
 
-/// A word that must be there.
+/// A required argument.
 fn word_arg<'a>(alloc: Global, id: &'a str, name: &'a str, help: &'a str) -> Arg<'a>
     ensures { HasRule (required_word id.entry.now) result }
 {
@@ -485,21 +485,21 @@ fn number_arg<'a>(
         .default_value(default)
 }
 
-/// The words for the input values.
+/// The arguments for the input values.
 fn values_arg<'a>(alloc: Global) -> Arg<'a>
     ensures { HasRule (more_words (codes "values")) result }
 {
     more_arg(alloc, "values", "VALUES", VALUES_HELP)
 }
 
-/// The words for label files.
+/// The arguments for label files.
 fn labels_arg<'a>(alloc: Global, help: &'a str) -> Arg<'a>
     ensures { HasRule (more_words (codes "labels")) result }
 {
     more_arg(alloc, "labels", "LABELS", help)
 }
 
-/// Any number of words.
+/// Any number of arguments.
 fn more_arg<'a>(alloc: Global, id: &'a str, name: &'a str, help: &'a str) -> Arg<'a>
     ensures { HasRule (more_words id.entry.now) result }
 {

@@ -1,4 +1,4 @@
-//! The command line of `halfgates`: the order that its words spell, by clap's rules.
+//! The command line of `halfgates`: the order that its arguments spell, by clap's rules.
 #![tactic(auto)]
 
 mod commands;

@@ -19,7 +19,7 @@ pub(crate) fn version_of(number: u32) -> Version
     }
 }
 
-/// The number that clap found for an id. clap refuses a line whose word is no number in its range.
+/// The number that clap found for an id. clap refuses an argument that is no number in its range.
 pub(crate) fn number_of(found: &ArgMatches<'_>, id: &str) -> u32
     ensures { result ≡ number_in (word_of id.now (rows_of (found_of found.now))) }
 {
@@ -47,7 +47,7 @@ fn number_in(text: &str) -> u32
     text.parse::<u32>().unwrap_or(0)
 }
 
-/// The word that clap found for an id. clap refuses a line that lacks a required one.
+/// The argument that clap found for an id. clap refuses a line that lacks a required one.
 pub(crate) fn word_of(alloc: Global, found: &ArgMatches<'_>, id: &str) -> Result<String, AllocError>
     ensures { IfOk result
         (λ word. string_bytes word ≡ word_of id.now (rows_of (found_of found.now))) }
@@ -55,7 +55,7 @@ pub(crate) fn word_of(alloc: Global, found: &ArgMatches<'_>, id: &str) -> Result
     String::from_str(alloc, found.get_str(id).unwrap_or(""))
 }
 
-/// The words that clap found for an id, in order.
+/// The arguments that clap found for an id, in order.
 pub(crate) fn words_of(
     alloc: Global,
     found: &ArgMatches<'_>,

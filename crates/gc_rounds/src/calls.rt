@@ -1,4 +1,4 @@
-//! Entering, leaving, sealing and reopening a round. None of these calls waits or allocates.
+//! Entering, leaving, sealing and reopening a round. No call here waits or allocates.
 
 ghost use Rattle.std.specs.Prelude.{◌≡◌, ℕ, ◌+◌, ◌<◌};
 ghost use Rattle.gc_rounds.specs.declared.view.Stand.TheVariants.{Outside, Inside};

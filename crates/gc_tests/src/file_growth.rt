@@ -1,4 +1,4 @@
-//! Each growth refused in turn of the calls that read files and of sinks in memory, and calls that take no memory.
+//! Each growth refused in turn of the calls that read files and of sinks in memory, and calls that don't allocate.
 
 use crate::hostile::{Kind, fault_of, flipped};
 use crate::labels::zero_seed;
@@ -109,7 +109,7 @@ fn a_source_after_a_refusal(rt: HostRuntime) -> Result<(), Fail> {
     Ok(())
 }
 
-/// What a reader answers to the file, to the file again, to no bytes, and at the end.
+/// What a reader returns for the file, for the file again, for no bytes, and at the end.
 fn answers_of<A: Allocator + Copy>(heap: A, file: &[u8]) -> [Option<FileFault>; 4] {
     let mut reader = GarbledReader::new(heap);
     [
@@ -120,7 +120,7 @@ fn answers_of<A: Allocator + Copy>(heap: A, file: &[u8]) -> [Option<FileFault>; 
     ]
 }
 
-/// A reader whose growth was refused answers so from then on.
+/// A reader whose growth was refused returns that fault from then on.
 #[test]
 fn a_reader_after_a_refusal(rt: HostRuntime) -> Result<(), Fail> {
     let file = and_file(rt.alloc(), Version::Two)?;
@@ -205,7 +205,7 @@ enum Kept {
 
 static ONES: [bool; 1100] = [true; 1100];
 
-/// Writes a file of 1,100 AND gates to a sink in memory. The answer is plain where the sink holds the file, and the
+/// Writes a file of 1,100 AND gates to a sink in memory. The result is plain where the sink holds the file, and the
 /// fault for memory where it holds a beginning of it, of as many bytes as the writer reports.
 fn written_to_memory<A: Allocator>(
     heap: A,
@@ -277,7 +277,7 @@ fn a_sink_after_a_refusal(rt: HostRuntime) {
     assert!(rt; sink.into_bytes().as_slice() == BOTH);
 }
 
-/// What the writers answer over a room: a garbled file of either version, and a label file twice.
+/// What the writers return over a room: a garbled file of either version, and a label file twice.
 fn written_to_room<A: Allocator, B: Allocator>(
     room: &mut [u8],
     circuit: &Circuit<A>,
@@ -308,7 +308,7 @@ fn first_entry<A: Allocator, B: Allocator>(
     Some(output_entry(circuit, garbling, offset(seed), 0, false))
 }
 
-/// The writers grow nothing over a sink that takes no memory, here of 300 bytes, which end ten bytes into the second
+/// The writers grow nothing over a sink that doesn't allocate, here of 300 bytes, which end ten bytes into the second
 /// label file. Nor does an entry.
 #[test]
 fn writing_and_an_entry_take_no_memory(rt: HostRuntime) -> Result<(), Fail> {

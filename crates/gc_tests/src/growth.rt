@@ -192,7 +192,7 @@ fn a_claimed_number_of_gates(rt: HostRuntime) -> Result<(), Fail> {
     Ok(())
 }
 
-/// Whether the readers of the full adder answer all that it has.
+/// Whether the readers of the full adder return all that it has.
 fn has_all<A: Allocator>(circuit: &Circuit<A>) -> bool {
     if circuit.gates() != 5 {
         return false;
@@ -211,7 +211,7 @@ fn has_all<A: Allocator>(circuit: &Circuit<A>) -> bool {
         && circuit.equals(circuit)
 }
 
-/// The readers of a circuit answer over memory that refuses each further growth.
+/// The readers of a circuit work over memory that refuses each further growth.
 #[test]
 fn a_circuit_that_is_read_grows_nothing(rt: HostRuntime) -> Result<(), Fail> {
     let digest = hex::decode(rt.alloc(), ADDER_DIGEST)?;

@@ -60,7 +60,7 @@ fn of_a_file(rt: HostRuntime) -> Result<(), Fail> {
     Ok(())
 }
 
-/// Whether a reader that takes the file byte by byte answers this fault from the byte of this place on, and at the end.
+/// Whether a reader that takes the file byte by byte returns this fault from the byte of this place on, and at the end.
 fn faults_from(alloc: Global, file: &[u8], last: usize, fault: FileFault) -> bool {
     let mut reader = GarbledReader::new(alloc);
     for (place, byte) in file.iter().enumerate() {
@@ -72,7 +72,7 @@ fn faults_from(alloc: Global, file: &[u8], last: usize, fault: FileFault) -> boo
     reader.feed(&[]) == Err(fault) && reader.end().err() == Some(fault)
 }
 
-/// A fault comes at the same byte as in one piece, and is answered again from then on.
+/// A fault comes at the same byte as in one piece, and is returned again from then on.
 #[test]
 fn after_a_fault(rt: HostRuntime) -> Result<(), Fail> {
     let alloc = rt.alloc();
@@ -98,7 +98,7 @@ pub(crate) const FORGED_HEADER: &str = concat!(
     "0000100001000000",
 );
 
-/// A count in a header takes no memory.
+/// A count in a header allocates nothing.
 #[test]
 fn of_a_forged_header(rt: HostRuntime) -> Result<(), Fail> {
     let heap = Refusing::always(rt.alloc());
@@ -110,7 +110,7 @@ fn of_a_forged_header(rt: HostRuntime) -> Result<(), Fail> {
     Ok(())
 }
 
-/// Whether the first `limit` bytes of the file are written, and the answer is the fault if these are not all.
+/// Whether the first `limit` bytes of the file are written, and the result is the fault if they aren't all.
 fn is_cut(written: &Written, file: &[u8], limit: usize) -> bool {
     let wanted = if limit < file.len() {
         Err(WriteFault { sent: limit as u64 })

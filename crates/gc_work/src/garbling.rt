@@ -29,7 +29,7 @@ use std::thread::Threads;
 const POOL_CAPACITY: u32 = 1024;
 
 // There is a tally for each worker.
-/// The garbling of a circuit under a seed, by this number of workers. The calling thread is worker 0.
+/// The garbling of a circuit under a seed, with this number of workers. The calling thread is worker 0.
 ///
 /// [`way_of`] says how it is made. [`Way::Alone`]: worker 0 garbles, and no thread is started. [`Way::Layers`]: worker
 /// 0 goes from gate to gate, and all garble the AND gates that it passed ([`garble_by_layers`]). [`Way::Together`]:

@@ -60,12 +60,12 @@ pub(crate) fn foreign_task<L: Ledger>(alloc: Global, ledger: Blank) -> Option<Ta
     open::<L, Global>(alloc, ledger, seed_of(1))?.claim()
 }
 
-/// Claims a gate, and answers which.
+/// Claims a gate, and returns it.
 pub(crate) fn claim_gate<L: Ledger>(store: &mut Store<L>) -> Option<u32> {
     Some(store.claim()?.gate)
 }
 
-/// Finishes ready gates, at most this many. The answer is how many were finished.
+/// Finishes ready gates, at most this many, and returns how many were finished.
 pub(crate) fn finish_gates<L: Ledger, A: Allocator>(
     store: &mut Store<L, A>,
     tally: &mut Tally<L>,

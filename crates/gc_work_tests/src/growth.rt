@@ -1,5 +1,5 @@
 //! Each growth of opening a store and of opening a pool refused in turn, and the work on an opened store, shared or
-//! not, which takes no memory.
+//! not, which doesn't allocate.
 
 ghost use Rattle.gc_store.specs.Account.{IsForStore};
 
@@ -118,7 +118,7 @@ fn hands_in_three<L: Ledger, A: Allocator, R: Abort + Wait>(
     Some(())
 }
 
-/// Shares an opened store of the full adder, hands in three gates, and stops; none of it asks for memory.
+/// Shares an opened store of the full adder, hands in three gates, and stops; none of it allocates.
 fn shares_without_memory<L: Ledger, R: Abort + Wait>(
     rt: &R,
     heap: &Refusing<Global>,

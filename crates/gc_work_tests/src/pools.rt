@@ -35,7 +35,7 @@ fn is_refusal(refused: &NoRoom, gate: u32) -> bool {
     refused.task == task(gate) && refused.code() == 24 && refused.name() == "NoRoom"
 }
 
-/// Pushes tasks 0, 1, 2 .. until one is refused, and no more than `most`. The answer is how many were pushed, or None
+/// Pushes tasks 0, 1, 2 .. until one is refused, and no more than `most`. It returns how many were pushed, or None
 /// where another task is refused than was pushed.
 fn push_some<A: Allocator>(pool: &TaskPool<A>, owner: &mut Owner<A>, most: u32) -> Option<u32>
     requires { owner.old.pool ≡ pool.now }
@@ -80,7 +80,7 @@ fn pool_hands_out(rt: HostRuntime) -> Result<(), Fail> {
     Ok(())
 }
 
-/// Pushes tasks to a pool of this capacity without thieves, no more than `most`, and pops them all. The answer is how
+/// Pushes tasks to a pool of this capacity without thieves, no more than `most`, and pops them all. It returns how
 /// many they were.
 fn fills(heap: &Refusing<Global>, capacity: u32, most: u32) -> Option<u32> {
     let (pool, mut owner, thieves) = TaskPool::open(heap, capacity, 0).ok()?;

@@ -58,7 +58,7 @@ fn stop_elsewhere<L: Ledger + Send + Sync, R: Threads + Wait + Sync>(
     let _ = thread::join(rt, || shared.stop(rt), || ());
 }
 
-/// Gates 0 and 1 are taken, and 0 is handed in. The holder of 1, a thread, stops the store and ends. The answer is the
+/// Gates 0 and 1 are taken, and 0 is handed in. The holder of 1, a thread, stops the store and ends. It returns the
 /// task of gate 1.
 fn leave<L: Ledger + Send + Sync, R: Abort + Threads + Wait + Sync>(
     rt: &R,
@@ -236,7 +236,7 @@ fn all_sleepers_end_with_a_stop(rt: HostRuntime) {
     assert!(rt; sleepers_end::<Brand, HostRuntime>(&rt, rt.alloc(), ledger()).is_some());
 }
 
-/// Hands in two tasks at once. The answer is the last that is claimed then; None where the store is complete.
+/// Hands in two tasks at once. It returns the last that is claimed then; None where the store is complete.
 fn exchange<L: Ledger>(
     rt: &impl Wait,
     shared: &SharedStore<L>,
@@ -251,8 +251,8 @@ fn exchange<L: Ledger>(
     batch.pop()
 }
 
-/// Hands in all gates of the full adder, of which the first two are held, and says so before the last one. The answer
-/// is whether that one completes the store.
+/// Hands in all gates of the full adder, of which the first two are held, and says so before the last one. It returns
+/// whether that one completes the store.
 fn hand_in_all_gates<L: Ledger>(
     rt: &impl Wait,
     shared: &SharedStore<L>,

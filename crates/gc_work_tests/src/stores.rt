@@ -17,7 +17,7 @@ enum Step {
     Ready(&'static [u32]),
     /// All claimed gates go again; this is their number.
     Reopens(u32),
-    /// The store's claim answers this gate, the first in the file of those that go again.
+    /// The store's claim returns this gate, the first in the file of those that go again.
     Claims(u32),
     /// This gate is finished, and the store isn't complete.
     Finishes(u32),
@@ -96,7 +96,7 @@ fn are_ready<L: Ledger>(store: &mut Store<L>, claimed: &mut Vec<Task>, gates: &[
     store.claim().is_none()
 }
 
-/// Finishes a gate that was claimed. The answer is the store's, or None where it refuses or the gate was not claimed.
+/// Finishes a gate that was claimed. The result is the store's, or None where it refuses or the gate was not claimed.
 fn finish<L: Ledger>(
     store: &mut Store<L>,
     tally: &mut Tally<L>,

@@ -1,4 +1,4 @@
-//! Tests of garbling on many threads: the answer is that of one thread, and the threads are really at work.
+//! Tests of garbling on many threads: the result is that of one thread, and the threads are really at work.
 
 use crate::fixtures::{has_labels, read, seed_of};
 use gc_circuit::Circuit;
@@ -81,7 +81,7 @@ fn each_gate_is_reported_once(rt: HostRuntime) -> Result<(), Fail> {
     Ok(())
 }
 
-/// Whether this many workers answer the garbling of one thread or the fault for memory, whichever threads a refusal
+/// Whether this many workers return the garbling of one thread or the fault for memory, whichever threads a refusal
 /// meets, and more runs than this meet one.
 fn are_refused<R: Threads + Wait + Sync>(
     rt: &R,

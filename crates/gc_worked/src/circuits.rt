@@ -119,7 +119,7 @@ fn each_text<F: Fn(u32) -> Result<String, Fail>>(
     Ok(text)
 }
 
-/// Two layers of so many AND gates, and gates of each other operation after each. The gates of each of these four parts
+/// Two layers of this many AND gates, and gates of each other operation after each. The gates of each of the four parts
 /// follow each other in the file. Two gates read the wire that an AND gate sets, and an AND gate of the second layer
 /// two wires that follow from the same one of the first. Each gate sets an output wire, or a wire that one follows
 /// from. The last gate reads nothing.
