@@ -152,7 +152,7 @@ static ORDERS: [(&[&str], &str, &[&[Part]]); 11] = [
 ];
 
 /// The statistics of the full adder.
-const ADDER_STATS: &str = "\
+pub(crate) const ADDER_STATS: &str = "\
 xor 4
 and 1
 inv 0
@@ -166,10 +166,11 @@ garbled2 177
 ";
 
 /// The line of the full adder's last wire.
-const SUM_LINE: &str = "7 0e9678301e606e503ee2240174330fb2 792e989dbe9153c07ebf4ee427b5b29a 1\n";
+pub(crate) const SUM_LINE: &str =
+    "7 0e9678301e606e503ee2240174330fb2 792e989dbe9153c07ebf4ee427b5b29a 1\n";
 
 /// What an audit finds of honest files of the full adder.
-const ADDER_AUDIT: &str = "\
+pub(crate) const ADDER_AUDIT: &str = "\
 digest right
 counts right
 rows right

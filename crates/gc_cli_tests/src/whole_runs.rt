@@ -1,5 +1,6 @@
 //! Tests of whole runs of the program over files in memory.
 
+use crate::growth::{ADDER_AUDIT, ADDER_STATS, SUM_LINE};
 use crate::jobs::command_line;
 use gc_cli::{Console, DISHONEST, DONE, FAULT, Heap, Output, USAGE, serve};
 use gc_command::Silent;
@@ -171,36 +172,6 @@ For more information, try '--help'.\n",
 For more information, try '--help'.\n",
     ),
 ];
-
-/// The statistics of the full adder.
-const ADDER_STATS: &str = "\
-xor 4
-and 1
-inv 0
-eq 0
-eqw 0
-depth 3
-and_depth 1
-unread 0
-garbled1 113
-garbled2 177
-";
-
-/// The line of the full adder's last wire.
-const SUM_LINE: &str = "7 0e9678301e606e503ee2240174330fb2 792e989dbe9153c07ebf4ee427b5b29a 1\n";
-
-/// What an audit finds of honest files of the full adder.
-const ADDER_AUDIT: &str = "\
-digest right
-counts right
-rows right
-bits right
-entries right
-labels 0 1
-labels 1 0
-labels 2 1
-honest
-";
 
 /// The texts that are there before any run, each with its name.
 static TEXTS: [(&str, &str); 6] = [
