@@ -30,3 +30,10 @@ pub low_words-fit : (label : ℕ)
     → label % 2 ^ 32 % 2 ^ 32 ∷ label / 2 ^ 32 % 2 ^ 32 % 2 ^ 32 ∷ label / 2 ^ 64 % 2 ^ 32 % 2 ^ 32
     ∷ label / 2 ^ 96 % 2 ^ 32 % 2 ^ 32 ∷ [] ≡ low_words label
 low_words-fit label = grind arith
+
+-- What a function has of each of eight vectors is a list of eight.
+pub eight-map : (f : List ℕ → ℕ) (words : List (List ℕ)) → length words ≡ 8
+    → f (get_or words 0 []) ∷ f (get_or words 1 []) ∷ f (get_or words 2 [])
+    ∷ f (get_or words 3 []) ∷ f (get_or words 4 []) ∷ f (get_or words 5 [])
+    ∷ f (get_or words 6 []) ∷ f (get_or words 7 []) ∷ [] ≡ map f words
+eight-map f words n = grind (arith, common_steps)

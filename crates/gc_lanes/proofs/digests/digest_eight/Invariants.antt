@@ -1,8 +1,8 @@
-use Rattle.std.proofs.Common.{◌≡◌, ◌≤◌, length, map, take, ℕ, ◌+◌, ◌-◌, ◌*◌, ◌<◌}
+use Rattle.std.proofs.Common.{◌≡◌, length, map, take}
 use Rattle.sha2.specs.Sha256.{sha256}
 use Rattle.gc_lanes.proofs.digests.digest_eight.Given as goal
 
-abbrev pub invariant-loop-i : goal.invariant-loop-i
-invariant-loop-i l =
+abbrev pub invariant-messages : goal.invariant-messages
+invariant-messages l =
     (length l.digests ≡ 8)
     × (take l.i l.digests ≡ take l.i (map (λ message. sha256 message.now) l.messages))
