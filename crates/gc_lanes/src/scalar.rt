@@ -14,7 +14,7 @@ fn ch(x: u32, y: u32, z: u32) -> u32
 fn maj(x: u32, y: u32, z: u32) -> u32
     ensures { result ≡ maj x y z }
 {
-    y ^ ((x ^ y) & (y ^ z))
+    (x & y) ^ (x & z) ^ (y & z)
 }
 
 #[inline(always)]
@@ -31,27 +31,20 @@ fn big_sigma_1(x: u32) -> u32
     x.rotate_right(6) ^ x.rotate_right(11) ^ x.rotate_right(25)
 }
 
-/// One round, with the sum of its constant and its word.
+/// One round, with the sum of its constant and its word. The sum for the next e adds Σ 1 last, and the next a comes from
+/// that e: so the chain of additions from one round to the next is short.
 #[inline(always)]
 pub(crate) fn round(variables: [u32; 8], keyed: u32) -> [u32; 8]
     ensures { (k w : ℕ) → keyed ≡ add32 k w → result ≡ round variables k w }
 {
     let [a, b, c, d, e, f, g, h] = variables;
-    let temporary_1 = h
+    let next_e = d
+        .wrapping_add(h)
         .wrapping_add(keyed)
         .wrapping_add(ch(e, f, g))
         .wrapping_add(big_sigma_1(e));
-    let temporary_2 = big_sigma_0(a).wrapping_add(maj(a, b, c));
-    [
-        temporary_1.wrapping_add(temporary_2),
-        a,
-        b,
-        c,
-        d.wrapping_add(temporary_1),
-        e,
-        f,
-        g,
-    ]
+    let rest = big_sigma_0(a).wrapping_add(maj(a, b, c)).wrapping_sub(d);
+    [next_e.wrapping_add(rest), a, b, c, next_e, e, f, g]
 }
 
 /// The next hash value (step 4).
