@@ -1,9 +1,9 @@
 use Rattle.gc_file.proofs.WriterNames.{◌≡◌, ◌<◌, ◌+◌, ◌++◌, ◌∷◌, [], length, take, refl, arith, take_more, take_all, take-append-drop, decode_bits_of, packed, length-packed}
 use Rattle.gc_file.proofs.ByteLemmas.{packed-at, length-decode_bits}
 use Rattle.gc_file.proofs.WritingLemmas.{Wrote-more, Wrote-exit}
-use Rattle.gc_file.proofs.write.FileWriter+LongSha256.write_decode_bits.Given.{Over}
-use Rattle.gc_file.proofs.write.FileWriter+LongSha256.write_decode_bits.Goals.{After-decode_byte}
-use Rattle.gc_file.proofs.write.FileWriter+LongSha256.write_decode_bits.Goals as goal
+use Rattle.gc_file.proofs.writer.FileWriter.write_decode_bits.Given.{Over}
+use Rattle.gc_file.proofs.writer.FileWriter.write_decode_bits.Goals.{After-decode_byte}
+use Rattle.gc_file.proofs.writer.FileWriter.write_decode_bits.Goals as goal
 
 -- What is written is the next byte.
 here : (g : Over) (c : After-decode_byte g) →

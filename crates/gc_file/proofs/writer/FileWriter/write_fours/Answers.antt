@@ -1,7 +1,7 @@
 use Rattle.std.proofs.Common.{◌≡◌, ◌+◌, ◌-◌, ◌*◌, refl, arith}
 use Rattle.gc_file.proofs.ByteLemmas.{entries-more}
 use Rattle.gc_file.proofs.WritingLemmas.{Wrote-more, Wrote-exit}
-use Rattle.gc_file.proofs.write.FileWriter+LongSha256.write_fours.Goals as goal
+use Rattle.gc_file.proofs.writer.FileWriter.write_fours.Goals as goal
 
 pub returns-in_err-write_pairs-clause-bytes : goal.returns-in_err-write_pairs-clause-bytes
 returns-in_err-write_pairs-clause-bytes g c =

@@ -1,7 +1,7 @@
 use Rattle.std.proofs.Common.{◌-◌, ◌*◌, ◌/◌, refl, arith}
 use Rattle.gc_file.proofs.ByteLemmas.{entries-more}
 use Rattle.gc_file.proofs.WritingLemmas.{Proceeds-step, Proceeds-exit}
-use Rattle.gc_file.proofs.write.FileWriter+LongSha256.write_entries.Goals as goal
+use Rattle.gc_file.proofs.writer.FileWriter.write_entries.Goals as goal
 
 pub returns-in_err-write_fours-clause-bytes : goal.returns-in_err-write_fours-clause-bytes
 returns-in_err-write_fours-clause-bytes g c =
