@@ -1,7 +1,7 @@
 use Rattle.std.proofs.Common.{◌≡◌, ◌++◌, length, map, drop}
 use Rattle.std.specs.Vec.{vec_len, vec_capacity}
 use Rattle.halfgates_c.specs.Lending.{handle_of}
-use Rattle.halfgates_c.proofs.jobs.take_all.Given as goal
+use Rattle.halfgates_c.proofs.list.take_all.Given as goal
 
 abbrev pub invariant-loop-i : goal.invariant-loop-i
 invariant-loop-i l = record {

@@ -1,6 +1,6 @@
 use Rattle.std.proofs.Common.{◌≡◌, ◌≤◌, ◌++◌, length, map, drop}
 use Rattle.halfgates_c.specs.Lending.{handle_of}
-use Rattle.halfgates_c.proofs.jobs.put_all.Given as goal
+use Rattle.halfgates_c.proofs.list.put_all.Given as goal
 
 abbrev pub invariant-loop-lent : goal.invariant-loop-lent
 invariant-loop-lent l = record {
