@@ -55,8 +55,10 @@ extern int32_t proved_halfgates_output_labels(const halfgates_garbling *garbling
 extern int32_t proved_halfgates_garble_many(const halfgates_circuit *circuit, const uint8_t *seeds, size_t count,
                                             halfgates_garbling **garblings, size_t garblings_count);
 
-/* This one writes to the list of handles, and puts it back. */
+/* These write to the list of handles, and put it back. */
 extern int32_t proved_halfgates_evaluate_many(halfgates_job **jobs, size_t count, uint8_t *bits, size_t size);
+extern int32_t proved_halfgates_write_many(halfgates_garbling **garblings, size_t count, uint32_t version,
+                                           uint8_t *files, size_t size);
 
 /* Whether there is a buffer of this size, or none is asked for. */
 static int is_there(const void *buffer, size_t size) {
@@ -161,20 +163,39 @@ int32_t halfgates_evaluate(const halfgates_job *job, uint8_t *bits, size_t size)
     return proved_halfgates_evaluate(LENT(job), bits, size);
 }
 
-/* The proved export takes a list of pointers that this call alone has: a copy. */
+/* Copies a list of handles: the proved export takes pointers that this call alone has. Without memory it returns 0. */
+static int copy_handles(const void *handles, size_t count, void **lent) {
+    *lent = NULL;
+    if (count == 0)
+        return 1;
+    if (count > SIZE_MAX / sizeof *lent)
+        return 0;
+    *lent = malloc(count * sizeof *lent);
+    if (*lent == NULL)
+        return 0;
+    __builtin_memcpy(*lent, handles, count * sizeof *lent);
+    return 1;
+}
+
 int32_t halfgates_evaluate_many(halfgates_job *const *jobs, size_t count, uint8_t *bits, size_t size) {
-    halfgates_job **lent = NULL;
+    void *lent;
     if (!is_there(jobs, count) || !is_there(bits, size))
         return HALFGATES_NULL_POINTER;
-    if (count > SIZE_MAX / sizeof *jobs)
+    if (!copy_handles(jobs, count, &lent))
         return HALFGATES_MEMORY;
-    if (count != 0) {
-        lent = malloc(count * sizeof *jobs);
-        if (lent == NULL)
-            return HALFGATES_MEMORY;
-        __builtin_memcpy(lent, jobs, count * sizeof *jobs);
-    }
     const int32_t code = proved_halfgates_evaluate_many(lent, count, bits, size);
+    free(lent);
+    return code;
+}
+
+int32_t halfgates_write_many(halfgates_garbling *const *garblings, size_t count, uint32_t version, uint8_t *files,
+                             size_t size) {
+    void *lent;
+    if (!is_there(garblings, count) || !is_there(files, size))
+        return HALFGATES_NULL_POINTER;
+    if (!copy_handles(garblings, count, &lent))
+        return HALFGATES_MEMORY;
+    const int32_t code = proved_halfgates_write_many(lent, count, version, files, size);
     free(lent);
     return code;
 }

@@ -274,6 +274,18 @@ int32_t halfgates_garbling_write(const halfgates_garbling *garbling, uint32_t ve
                                  size_t *written);
 
 /*
+ * Writes the garbled files of `count` garblings in a version, 1 or 2, to `files`, one after another in the order of the
+ * list: those that halfgates_garbling_write writes for each, of the sizes that halfgates_garbled_size returns for their
+ * circuits. The garblings may be of any circuits. Up to eight files that follow one another are digested side by side,
+ * which takes less time. `size` is at least the sum of their sizes. The files are made in memory first. Codes:
+ * HALFGATES_BAD_ARGUMENT for another version, or where the `first` of a garbling isn't 0; HALFGATES_SMALL_BUFFER;
+ * HALFGATES_MEMORY. Garblings are only read, as in the calls that take a const garbling: the list has no const before
+ * them so that a `halfgates_garbling **` is one.
+ */
+int32_t halfgates_write_many(halfgates_garbling *const *garblings, size_t count, uint32_t version, uint8_t *files,
+                             size_t size);
+
+/*
  * Writes the label file of the input value `index`, counted from 0, which stands for `count` bits under a seed of 32
  * bytes, to `buffer`, and the number of its bytes, 16 + 16 * count, to `written`. It needs no garbling. Codes:
  * HALFGATES_NO_SUCH_VALUE, HALFGATES_WRONG_LENGTH, HALFGATES_BAD_DIGIT, HALFGATES_SMALL_BUFFER as above,

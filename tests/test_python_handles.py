@@ -294,6 +294,22 @@ class Threads(unittest.TestCase):
             self.assertEqual(halfgates.evaluate_many(jobs), [bytearray([1, 1])] * 2)
         self.assertEqual([owner() for owner in owners], [None, None])
 
+    def test_closing_the_garblings_of_a_list_in_the_middle_of_a_call(self):
+        with full_adder() as circuit:
+            garblings = circuit.garble_many([SEED, SEED])
+        files = [it.write() for it in garblings]
+        owners = [weakref.ref(it._at) for it in garblings]
+
+        def close_first(real, *words):
+            for it in garblings:
+                it.close()
+            self.assertNotIn(None, [owner() for owner in owners])
+            return real(*words)
+
+        with patched("write_many", close_first):
+            self.assertEqual(halfgates.write_many(garblings), files)
+        self.assertEqual([owner() for owner in owners], [None, None])
+
 
 class OwnThread(unittest.TestCase):
     """What reaches a handle while its own thread uses it. Each script would wait for ever if a call waited at all."""

@@ -116,6 +116,21 @@ class Vectors(LibraryTest):
         first = circuit.wires - len(outputs)
         self.assertEqual(active[first:], evaluation["active_output_labels"])
 
+    def test_lists_of_garblings(self):
+        """Of one circuit, and of several: the file that each garbling writes alone."""
+        mixed = []
+        for name, vector in worked_circuits():
+            with self.subTest(name), Circuit.read(text_of(vector)) as circuit:
+                garblings = circuit.garble_many([bytes.fromhex(vector["seed"]), *(bytes([i] * 32) for i in range(8))])
+                for version in (1, 2):
+                    alone = [it.write(version) for it in garblings]
+                    for count in range(10):
+                        self.assertEqual(halfgates.write_many(garblings[:count], version), alone[:count])
+                self.assertEqual(halfgates.write_many(garblings), alone)
+            mixed += garblings[:3]
+        for version in (1, 2):
+            self.assertEqual(halfgates.write_many(iter(mixed), version), [it.write(version) for it in mixed])
+
     def test_lists_of_jobs(self):
         """Of one circuit, and of several: what each job is evaluated to alone."""
         mixed = []
@@ -375,6 +390,23 @@ class Refusals(LibraryTest):
             handle.close()
         self.assertEqual(self.circuit.gates, 5)
 
+    def test_lists_of_garblings(self):
+        write_many = halfgates.write_many
+        for version in (0, 3):
+            for garblings in ([], [self.garbling]):
+                self.assert_fault("60 BadArgument", write_many, garblings, version)
+        self.assertRaises(OverflowError, write_many, [], -1)
+        with self.circuit.garble_from(bytes([1] * 16), bytes(48), 1) as later:
+            for place in range(9):
+                garblings = [self.garbling] * 9
+                garblings[place] = later
+                self.assert_fault("60 BadArgument", write_many, garblings)
+        for other in (self.circuit, None, b""):
+            self.assertRaises(TypeError, write_many, [self.garbling, other])
+        with self.assertRaisesRegex(ValueError, "is closed$"):
+            write_many([self.garbling, later])
+        self.assertEqual(write_many([self.garbling]), [self.garbling.write()])
+
     def test_lists_of_jobs(self):
         garbled, evaluate_many = self.garbling.write(), halfgates.evaluate_many
         forged = [label_file(0, bytes(16)), *self.files[1:]]
@@ -548,6 +580,8 @@ for name, *words in [
     ("plain", circuit, *null, room, 2),
     ("plain", circuit, bits, 3, *null),
     ("garbling_write", garbling, 2, *null, byref(written)),
+    ("write_many", *null, 2, room, 177),
+    ("write_many", (c_void_p * 1)(garbling._at.value), 1, 2, *null),
     ("deal", circuit, bytes(32), 0, *null, room, 32, byref(written)),
     ("deal", circuit, bytes(32), 0, bits, 1, *null, byref(written)),
     ("labels", garbling, *null, 0, wires, 8),

@@ -15,10 +15,10 @@ from collections import Counter
 from hashlib import sha256
 from pathlib import Path
 
-from halfgates import Circuit, Fault, evaluate_many
+from halfgates import Circuit, Fault, evaluate_many, write_many
 
 COPIES = 100
-AT_ONCE = 10  # how many garblings or jobs are in memory
+AT_ONCE = 8  # how many garblings or jobs are in memory
 
 
 def batches(copies):
@@ -48,20 +48,22 @@ class Garbler:
         self.forged = set(secrets.SystemRandom().sample(range(COPIES), forged))
 
     def garbled_files(self):
-        return [self.garbled_file(*it) for it in garblings_of(self.circuit, range(COPIES), self.seeds)]
-
-    def garbled_file(self, copy, garbling):
-        with garbling:
-            file = garbling.write()
-        if copy in self.forged:
-            file[48] ^= 1
-            file[-32:] = sha256(memoryview(file)[:-32]).digest()
-        return file
+        files = []
+        for batch in batches(range(COPIES)):
+            files += write_many(self.circuit.garble_many(self.seeds[it] for it in batch))
+        for copy in self.forged:
+            forge(files[copy])
+        return files
 
     def deal(self, copy):
         """The label files of a copy that isn't opened. Of the evaluator's own values the labels come by oblivious
         transfer; this example hands them over."""
         return [self.circuit.deal(self.seeds[copy], *it) for it in enumerate(self.values)]
+
+
+def forge(file):
+    file[48] ^= 1
+    file[-32:] = sha256(memoryview(file)[:-32]).digest()
 
 
 class Evaluator:

@@ -15,7 +15,7 @@ fails raises a `Fault`, with its `code` and its `name`.
 """
 
 from ._bits import Bits, Buffer, from_bits, to_bits
-from ._handles import Circuit, Garbling, Job, decode, evaluate_many, locate
+from ._handles import Circuit, Garbling, Job, decode, evaluate_many, locate, write_many
 from ._library import Fault, MemoryFault, is_memory, version
 from ._reports import GarbledReport, LabelsReport, Place, WireLabels
 
@@ -39,4 +39,5 @@ __all__ = [
     "is_memory",
     "locate",
     "to_bits",
+    "write_many",
 ]

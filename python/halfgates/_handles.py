@@ -2,12 +2,12 @@
 """Circuits, garblings and jobs: the handles of the library."""
 
 from contextlib import contextmanager
-from ctypes import byref, c_size_t, c_uint8, c_uint32, c_void_p, sizeof
+from ctypes import Array, byref, c_size_t, c_uint8, c_uint32, c_void_p, sizeof
 from itertools import accumulate
 from operator import index as integer
 from os import PathLike
 from pathlib import Path
-from typing import Iterable, Iterator, List, Optional, Tuple, Union
+from typing import Iterable, Iterator, List, Optional, Sequence, Tuple, Type, Union
 
 from . import _library
 from ._bits import Bits, Buffer
@@ -338,6 +338,21 @@ class Job(Handle):
         return labels
 
 
+def write_many(garblings: Iterable[Garbling], version: int = 2) -> List[bytearray]:
+    """The garbled file of each garbling in a version, 1 or 2, in their order, as `Garbling.write` returns it.
+
+    Up to eight files in a row are digested side by side, which takes less time. Faults: 60 where there is no such
+    version, or the first AND number of a garbling isn't 0, 62.
+    """
+    listed, version = list(garblings), _u32(version)
+    owners = _owners_of(listed, Garbling)  # they stay until the call ends
+    sizes = [it._size(version) for it in listed]
+    files = bytearray(sum(sizes))
+    with Lent(files, is_written=True) as out:
+        check(library.halfgates_write_many(_handles_of(owners), len(owners), version, out.at, out.size))
+    return _cut(files, sizes)
+
+
 def evaluate_many(jobs: Iterable[Job]) -> List[bytearray]:
     """The bits of all output wires of each job, in their order, as `Job.evaluate` returns them.
 
@@ -345,16 +360,12 @@ def evaluate_many(jobs: Iterable[Job]) -> List[bytearray]:
     62. The first fault in the order of the jobs is raised.
     """
     listed = list(jobs)
-    for it in listed:
-        if not isinstance(it, Job):
-            raise TypeError(f"a {type(it).__name__} is no Job")
-    owners = [it._owned() for it in listed]  # they stay until the call ends
+    owners = _owners_of(listed, Job)  # they stay until the call ends
     counts = [it._shape.output_wires for it in listed]
     bits = bytearray(sum(counts))
-    handles = (c_void_p * len(owners))(*(it.value for it in owners))
     with Lent(bits, is_written=True) as out:
-        check(library.halfgates_evaluate_many(handles, len(owners), out.at, out.size))
-    return [bits[end - count : end] for count, end in zip(counts, accumulate(counts))]
+        check(library.halfgates_evaluate_many(_handles_of(owners), len(owners), out.at, out.size))
+    return _cut(bits, counts)
 
 
 def decode(labels: Buffer, decode_bits: Bits) -> bytearray:
@@ -392,6 +403,22 @@ def _unsigned(number: int, width: int) -> int:
     if not 0 <= number < 1 << width:
         raise OverflowError(f"a number is from 0 to {2**width - 1:,}")
     return number
+
+
+def _owners_of(listed: Sequence[Handle], of_type: Type[Handle]) -> List[c_void_p]:
+    for it in listed:
+        if not isinstance(it, of_type):
+            raise TypeError(f"a {type(it).__name__} is no {of_type.__name__}")
+    return [it._owned() for it in listed]
+
+
+def _handles_of(owners: List[c_void_p]) -> "Array[c_void_p]":
+    return (c_void_p * len(owners))(*(it.value for it in owners))
+
+
+def _cut(joined: bytearray, sizes: List[int]) -> List[bytearray]:
+    """The pieces of these sizes, which follow one another."""
+    return [joined[end - size : end] for size, end in zip(sizes, accumulate(sizes))]
 
 
 def _size_of(data: Buffer) -> int:

@@ -76,6 +76,7 @@ _FUNCTIONS = {
     "garbling_free": (None, _HANDLE),
     "garbled_size": (c_uint64, _HANDLE, c_uint32),
     "garbling_write": (c_int32, _HANDLE, c_uint32, _BYTES, c_size_t, _SIZE),
+    "write_many": (c_int32, POINTER(_HANDLE), c_size_t, c_uint32, _BYTES, c_size_t),
     "deal": (c_int32, _HANDLE, _BYTES, c_uint32, _BYTES, c_size_t, _BYTES, c_size_t, _SIZE),
     "garbling_deal": (c_int32, _HANDLE, c_uint32, _BYTES, c_size_t, _BYTES, c_size_t, _SIZE),
     "label_file": (c_int32, _HANDLE, c_uint32, _BYTES, c_size_t, _BYTES, c_size_t, _SIZE),

@@ -1,5 +1,6 @@
 // SPDX-License-Identifier: MIT OR Apache-2.0
 
+use std::borrow::Borrow;
 use std::fmt;
 use std::mem::size_of;
 use std::ops::Range;
@@ -37,20 +38,22 @@ impl Garbling {
     /// [`Fault::BAD_ARGUMENT`] where the garbling's first AND number isn't 0, [`Fault::MEMORY`].
     #[doc(alias = "halfgates_garbling_write")]
     pub fn write(&self, version: Version) -> Result<Vec<u8>, Fault> {
-        let mut written = 0;
-        // SAFETY: a buffer of size 0 can be NULL.
-        let asked =
-            Fault::check(unsafe { self.write_to(version, ptr::null_mut(), 0, &mut written) });
-        match asked {
-            Ok(()) | Err(Fault::SMALL_BUFFER) => {}
-            Err(fault) => return Err(fault),
-        }
-        let size = written;
+        let (size, mut written) = (self.garbled_size(version)?, 0);
         // SAFETY: the file has `size` bytes.
         unsafe {
             filled(size, |file| {
                 self.write_to(version, file, size, &mut written)
             })
+        }
+    }
+
+    /// How many bytes the garbled file of a version has.
+    fn garbled_size(&self, version: Version) -> Result<usize, Fault> {
+        let mut size = 0;
+        // SAFETY: a buffer of size 0 can be NULL.
+        match Fault::check(unsafe { self.write_to(version, ptr::null_mut(), 0, &mut size) }) {
+            Ok(()) | Err(Fault::SMALL_BUFFER) => Ok(size),
+            Err(fault) => Err(fault),
         }
     }
 
@@ -321,6 +324,42 @@ impl Garbling {
         unsafe { bits.set_len(report.count as usize) };
         Ok(LabelsReport::of(&report, bits_of(bits)))
     }
+}
+
+/// The garbled file of each garbling, as [`Garbling::write`] returns it.
+///
+/// Up to eight files in a row are digested side by side, which takes less time.
+///
+/// # Errors
+///
+/// [`Fault::BAD_ARGUMENT`] where the first AND number of a garbling isn't 0, [`Fault::MEMORY`].
+#[doc(alias = "halfgates_write_many")]
+pub fn write_many<G: Borrow<Garbling>>(
+    garblings: &[G],
+    version: Version,
+) -> Result<Vec<Vec<u8>>, Fault> {
+    let (mut handles, mut sizes) = (room(garblings.len())?, room(garblings.len())?);
+    for garbling in garblings {
+        let garbling = garbling.borrow();
+        handles.push(garbling.handle.get().cast_mut());
+        sizes.push(garbling.garbled_size(version)?);
+    }
+    let (count, size) = (handles.len(), sizes.iter().sum());
+    // SAFETY: the call reads the list and the garblings of its handles, and writes `size` bytes.
+    let joined = unsafe {
+        filled(size, |files| {
+            sys::halfgates_write_many(handles.as_ptr(), count, version as u32, files, size)
+        })?
+    };
+    let (mut files, mut rest) = (room(garblings.len())?, joined.as_slice());
+    for size in sizes {
+        let (file, others) = rest.split_at(size);
+        let mut copy = room(size)?;
+        copy.extend_from_slice(file);
+        files.push(copy);
+        rest = others;
+    }
+    Ok(files)
 }
 
 /// Shows no label.

@@ -68,7 +68,7 @@ use call::{bits_of, filled};
 
 pub use circuit::Circuit;
 pub use fault::Fault;
-pub use garbling::Garbling;
+pub use garbling::{write_many, Garbling};
 pub use job::{evaluate_many, Job};
 pub use report::{
     EntryDifference, GarbledReport, LabelsReport, Place, RowDifference, Verdict, WireLabels,

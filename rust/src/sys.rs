@@ -165,6 +165,13 @@ extern "C" {
         size: usize,
         written: *mut usize,
     ) -> i32;
+    pub fn halfgates_write_many(
+        garblings: *const *mut halfgates_garbling,
+        count: usize,
+        version: u32,
+        files: *mut u8,
+        size: usize,
+    ) -> i32;
     pub fn halfgates_deal(
         circuit: *const halfgates_circuit,
         seed: *const u8,

@@ -5,7 +5,8 @@
 use std::thread;
 
 use halfgates::{
-    decode, evaluate_many, locate, Circuit, Fault, Garbling, Job, Label, Verdict, Version,
+    decode, evaluate_many, locate, write_many, Circuit, Fault, Garbling, Job, Label, Verdict,
+    Version,
 };
 
 const FULL_ADDER: &str = include_str!("../../examples/full_adder.txt");
@@ -262,6 +263,31 @@ fn an_output_label_that_nothing_recognises() {
         .unwrap();
     assert_eq!(job.evaluate(), Err(Fault::UNKNOWN_OUTPUT_LABEL));
     assert_eq!(job.output_labels().unwrap().len(), 2);
+}
+
+#[test]
+fn lists_of_garblings() {
+    let and = Circuit::read(b"1 3\n2 1 1\n1 1\n\n2 1 0 1 2 AND\n").unwrap();
+    let circuit = adder();
+    for version in [Version::V1, Version::V2] {
+        let mut garblings = Vec::new();
+        for number in 0..10 {
+            let alone: Result<Vec<_>, _> = garblings
+                .iter()
+                .map(|it: &Garbling| it.write(version))
+                .collect();
+            assert_eq!(write_many(&garblings, version), alone);
+            let of = if number == 5 { &and } else { &circuit };
+            garblings.push(of.garble(&[number; 32]).unwrap());
+        }
+        let twice = [&garblings[5], &garblings[5]];
+        let file = garblings[5].write(version).unwrap();
+        assert_eq!(write_many(&twice, version), Ok(vec![file.clone(), file]));
+
+        let later = circuit.garble_from(&[1; 16], &[[0; 16]; 3], 1).unwrap();
+        garblings[7] = later;
+        assert_eq!(write_many(&garblings, version), Err(Fault::BAD_ARGUMENT));
+    }
 }
 
 #[test]

@@ -68,6 +68,7 @@ static void plain(halfgates_circuit *circuit) {
 }
 
 static void garble(halfgates_circuit *circuit, halfgates_garbling *garbling) {
+    halfgates_garbling *const absent[3] = {garbling, NULL, garbling}, *const alike[2] = {garbling, garbling};
     halfgates_garbling *made = NULL;
     CHECK_CODE(ABSENT, halfgates_garble(NULL, SEED, &made));
     CHECK_CODE(ABSENT, halfgates_garble(circuit, NULL, &made));
@@ -82,6 +83,17 @@ static void garble(halfgates_circuit *circuit, halfgates_garbling *garbling) {
     CHECK_CODE(BAD, halfgates_garbling_write(garbling, 0, room, sizeof room, &written));
     CHECK_CODE(BAD, halfgates_garbling_write(garbling, 3, room, sizeof room, &written));
     CHECK_CODE(ABSENT, halfgates_garbling_write(garbling, 2, room, sizeof room, NULL));
+    CHECK_CODE(ABSENT, halfgates_write_many(NULL, 1, 2, room, 177));
+    CHECK_CODE(ABSENT, halfgates_write_many(absent, 3, 1, room, 3 * 113));
+    CHECK_CODE(ABSENT, halfgates_write_many(absent, 3, 3, room, 176));
+    CHECK_CODE(ABSENT, halfgates_write_many(alike, 2, 2, NULL, 2 * 177));
+    CHECK_CODE(BAD, halfgates_write_many(alike, 2, 0, room, 2 * 177));
+    CHECK_CODE(BAD, halfgates_write_many(alike, 2, 3, NULL, 0));
+    CHECK_CODE(BAD, halfgates_write_many(NULL, 0, 3, room, sizeof room));
+    CHECK_CODE(HALFGATES_SMALL_BUFFER, halfgates_write_many(alike, 2, 2, room, 2 * 177 - 1));
+    CHECK_CODE(HALFGATES_SMALL_BUFFER, halfgates_write_many(alike, 2, 1, room, 2 * 113 - 1));
+    CHECK_CODE(HALFGATES_SMALL_BUFFER, halfgates_write_many(alike, 2, 2, NULL, 0));
+    CHECK_CODE(HALFGATES_MEMORY, halfgates_write_many(alike, SIZE_MAX, 2, room, 2 * 177));
     check_untouched();
     CHECK_CODE(HALFGATES_SMALL_BUFFER, halfgates_garbling_write(garbling, 2, NULL, 0, &written));
     CHECK(written == 177);
@@ -222,6 +234,10 @@ static void other_types(void *circuit, void *garbling, void *job) {
 
         CHECK_CODE(OTHER, halfgates_garbling_write(no_garblings[i], 2, room, 177, &written));
         CHECK_CODE(OTHER, halfgates_garbling_write(no_garblings[i], 3, NULL, 0, &written));
+        halfgates_garbling *const wrong_first[3] = {garbling, no_garblings[i], NULL};
+        halfgates_garbling *const absent_first[3] = {garbling, NULL, no_garblings[i]};
+        CHECK_CODE(OTHER, halfgates_write_many(wrong_first, 3, 1, room, 3 * 113));
+        CHECK_CODE(ABSENT, halfgates_write_many(absent_first, 3, 1, room, 3 * 113));
         CHECK_CODE(OTHER, halfgates_garbling_deal(no_garblings[i], 0, BITS, 1, room, 32, &written));
         CHECK_CODE(OTHER, halfgates_offset(no_garblings[i], room));
         CHECK_CODE(OTHER, halfgates_input_labels(no_garblings[i], 0, room, room + 16, 16));

@@ -125,7 +125,7 @@ void check_files(const halfgates::circuit &circuit, const halfgates::garbling &g
         bytes expected(circuit.garbled_size(version)), room(expected.size() + 1, 0xA5);
         std::size_t written;
         CHECK_CODE(0, halfgates_garbling_write(garbling.get(), version, expected.data(), expected.size(), &written));
-        CHECK(garbling.write(version) == expected);
+        CHECK(garbling.write(version) == expected && garbling.garbled_size(version) == expected.size());
         CHECK(garbling.write_into(room.data(), room.size(), version) == expected.size());
         CHECK(are_same(room.data(), expected.data(), expected.size()) && room.back() == 0xA5);
     }
@@ -250,6 +250,29 @@ void check_many(halfgates::circuit &circuit) {
         CHECK(garblings[i].write() == circuit.garble(keys[i]).write());
 }
 
+/* Lists of 0 to 9 garblings have the files that each garbling has alone. What is behind them stays. */
+void check_lists_of_garblings(const halfgates::circuit &circuit) {
+    const halfgates::circuit other(std::string("1 3\n2 1 1\n1 1\n\n2 1 0 1 2 AND\n"));
+    for (std::uint32_t version = 1; version <= 2; version++) {
+        std::vector<halfgates::garbling> garblings;
+        std::vector<halfgates_garbling *> handles;
+        std::vector<bytes> expected;
+        bytes joined;
+        for (int number = 0; number < 10; number++) {
+            CHECK(halfgates::write_many(garblings, version) == expected);
+            bytes room(joined.size() + 1, 0xA5);
+            CHECK_CODE(0, halfgates_write_many(handles.data(), handles.size(), version, room.data(), room.size()));
+            CHECK(std::equal(joined.begin(), joined.end(), room.begin()) && room.back() == 0xA5);
+            garblings.push_back((number % 4 == 2 ? other : circuit).garble(halfgates::seed::random()));
+            handles.push_back(garblings.back().get());
+            expected.push_back(garblings.back().write(version));
+            joined.insert(joined.end(), expected.back().begin(), expected.back().end());
+        }
+        throws(60, [&] { (void)halfgates::write_many(garblings, 3); });
+    }
+    throws(60, [&] { (void)halfgates::write_many({}, 0); });
+}
+
 } // namespace
 
 int main(int count, char **words) {
@@ -267,6 +290,7 @@ int main(int count, char **words) {
     check_lists_of_jobs(circuit, garbling);
     check_own_labels(circuit);
     check_many(circuit);
+    check_lists_of_garblings(circuit);
     CHECK(halfgates::locate(text).fault == HALFGATES_OK);
     CHECK(halfgates::locate(std::string("1 5 x")).column == 5);
     return 0;

@@ -100,6 +100,13 @@ static void files(halfgates_circuit *circuit, halfgates_garbling *garbling) {
     CHECK_CODE(HALFGATES_OK, halfgates_garble_from(circuit, OFFSET, zeros, 48, 1, &later));
     fill();
     CHECK_CODE(BAD, halfgates_garbling_write(later, 2, room, sizeof room, &written));
+    for (int place = 0; place < 9; place++) {
+        halfgates_garbling *list[9];
+        for (int i = 0; i < 9; i++)
+            list[i] = i == place ? later : garbling;
+        CHECK_CODE(BAD, halfgates_write_many(list, 9, 2, room, sizeof room));
+        CHECK_CODE(BAD, halfgates_write_many(list, 9, 2, NULL, 0));
+    }
     CHECK_CODE(BAD, halfgates_audit(later, garbled, sizeof garbled, &report));
     CHECK_CODE(BAD, halfgates_audit_labels(later, labels, sizeof labels, room, 1, &labels_report));
     check_behind(0);

@@ -123,6 +123,28 @@ static void garble_many(halfgates_circuit *circuit) {
     }
 }
 
+/* Nine files, of the full adder but for one in the middle: each is the one that is written alone. */
+static void write_many(halfgates_circuit *circuit) {
+    enum { COUNT = 9, ONE = 4 };
+    uint8_t seed[32] = {0}, files[COUNT * 177], expected[177];
+    size_t written, at = 0;
+    halfgates_circuit *and_gate = NULL;
+    halfgates_garbling *garblings[COUNT] = {NULL};
+    CALL(halfgates_circuit_read((const uint8_t *)AND_GATE, strlen(AND_GATE), &and_gate));
+    for (uint8_t i = 0; i < COUNT; i++) {
+        seed[0] = i;
+        CALL(halfgates_garble(i == ONE ? and_gate : circuit, seed, &garblings[i]));
+    }
+    halfgates_circuit_free(and_gate);
+    CALL(halfgates_write_many(garblings, COUNT, 2, files, sizeof files));
+    for (size_t i = 0; i < COUNT; i++) {
+        CALL(halfgates_garbling_write(garblings[i], 2, expected, sizeof expected, &written));
+        CHECK(memcmp(files + at, expected, written) == 0);
+        at += written;
+        halfgates_garbling_free(garblings[i]);
+    }
+}
+
 /* Nine jobs, of the full adder but for one in the middle: each has the bits that it has alone. Jobs that are refused
  * memory side by side are evaluated alone. */
 static void evaluate_many(halfgates_circuit *circuit) {
@@ -178,6 +200,7 @@ static void work(void) {
     CHECK(outputs[0] == 0 && outputs[1] == 1);
     CALL(halfgates_garble(circuit, seed, &garbling));
     garble_many(circuit);
+    write_many(circuit);
     evaluate_many(circuit);
     check_sizes(garbling);
     CALL(halfgates_garbling_write(garbling, 1, garbled, sizeof garbled, &written));

@@ -9,7 +9,7 @@ static void check_circuit(const char *text, size_t values) {
     halfgates_garbling *garbling = NULL, *own = NULL;
     halfgates_job *job = NULL;
     halfgates_audit_report report;
-    uint8_t garbled[128], labels[64];
+    uint8_t garbled[128], again[128], labels[64];
     uint32_t widths[2] = {1, 1};
     size_t size, written, lengths[2] = {16, 16};
 
@@ -28,6 +28,9 @@ static void check_circuit(const char *text, size_t values) {
     CHECK_CODE(HALFGATES_SMALL_BUFFER, halfgates_garbling_write(garbling, 2, NULL, 0, &size));
     CHECK(size == 80);
     CHECK_CODE(HALFGATES_OK, halfgates_garbling_write(garbling, 2, garbled, sizeof garbled, &size));
+    CHECK_CODE(HALFGATES_OK, halfgates_write_many(&garbling, 1, 2, again, size));
+    CHECK(memcmp(again, garbled, size) == 0);
+    CHECK_CODE(HALFGATES_OK, halfgates_write_many(NULL, 0, 2, NULL, 0));
     CHECK_CODE(HALFGATES_OK, halfgates_audit(garbling, garbled, size, &report));
     CHECK(report.honest == 1);
     for (uint32_t i = 0; i < values; i++) {

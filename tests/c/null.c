@@ -78,6 +78,10 @@ int main(int count, char **words) {
     CHECK_REFUSED(halfgates_plain, circuit, bits, 3, NULL, 2);
     CHECK_REFUSED(halfgates_garbling_write, garbling, 2, NULL, 1, &written);
     CHECK_REFUSED(halfgates_garbling_write, garbling, 2, NULL, 177, &written);
+    CHECK_REFUSED(halfgates_write_many, NULL, 1, 2, room, sizeof room);
+    CHECK_REFUSED(halfgates_write_many, &garbling, 1, 2, NULL, 1);
+    CHECK_REFUSED(halfgates_write_many, &garbling, 1, 2, NULL, 177);
+    CHECK_REFUSED(halfgates_write_many, &made_garbling, 1, 2, room, sizeof room);
     CHECK_REFUSED(halfgates_deal, circuit, seed, 0, NULL, 1, room, sizeof room, &written);
     CHECK_REFUSED(halfgates_deal, circuit, seed, 0, bits, 1, NULL, 1, &written);
     CHECK_REFUSED(halfgates_deal, circuit, seed, 0, bits, 1, NULL, 32, &written);

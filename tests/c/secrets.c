@@ -226,7 +226,7 @@ static void garble_from_labels(halfgates_circuit *circuit, const struct values *
     free(zero), free(active);
 }
 
-/* Three garblings: two side by side, and one alone. */
+/* Three garblings: two side by side, and one alone. Their files are digested side by side. */
 static void garble_many(halfgates_circuit *circuit) {
     uint8_t seeds[96];
     halfgates_garbling *garblings[3] = {NULL};
@@ -234,6 +234,12 @@ static void garble_many(halfgates_circuit *circuit) {
         seeds[i] = (uint8_t)(5 * i + i / 32);
     hide(seeds, sizeof seeds);
     CALL(0, halfgates_garble_many(circuit, seeds, 3, garblings));
+    for (uint32_t version = 1; version <= 2; version++) {
+        const size_t size = 3 * halfgates_garbled_size(circuit, version);
+        uint8_t *files = take(size);
+        CALL(0, halfgates_write_many(garblings, 3, version, files, size));
+        free(files);
+    }
     for (size_t i = 0; i < 3; i++)
         halfgates_garbling_free(garblings[i]);
 }

@@ -54,14 +54,15 @@ struct shared {
     const halfgates_circuit *circuit;
     const halfgates_garbling *garbling;
     const halfgates_job *job;
-    halfgates_job *jobs[3]; /* the same job three times */
+    halfgates_garbling *garblings[3]; /* the same garbling three times */
+    halfgates_job *jobs[3];           /* and the same job */
     uint8_t garbled[177], zero[16], outputs[2];
 };
 
 static void *read_all(void *at) {
     const struct shared *shared = at;
     const uint8_t bits[3] = {1, 0, 1};
-    uint8_t garbled[177], zero[16], outputs[2], many[6];
+    uint8_t garbled[177], files[3 * 177], zero[16], outputs[2], many[6];
     halfgates_numbers numbers;
     size_t written;
     for (int round = 0; round < ROUNDS; round++) {
@@ -71,6 +72,9 @@ static void *read_all(void *at) {
         CHECK(memcmp(garbled, shared->garbled, sizeof garbled) == 0);
         CHECK_CODE(HALFGATES_OK, halfgates_garbling_write(shared->garbling, 2, garbled, sizeof garbled, &written));
         CHECK(memcmp(garbled, shared->garbled, sizeof garbled) == 0);
+        CHECK_CODE(HALFGATES_OK, halfgates_write_many(shared->garblings, 3, 2, files, sizeof files));
+        for (int i = 0; i < 3; i++)
+            CHECK(memcmp(files + 177 * i, shared->garbled, 177) == 0);
         CHECK_CODE(HALFGATES_OK, halfgates_zero_label(shared->garbling, 7, zero));
         CHECK(memcmp(zero, shared->zero, sizeof zero) == 0);
         CHECK_CODE(HALFGATES_OK, halfgates_evaluate(shared->job, outputs, sizeof outputs));
@@ -102,7 +106,7 @@ static void share_handles(const halfgates_circuit *circuit) {
     CHECK_CODE(HALFGATES_OK, halfgates_job_bind(circuit, shared.garbled, 177, labels, 96, sizes, 3, &job));
     CHECK_CODE(HALFGATES_OK, halfgates_evaluate(job, shared.outputs, 2));
     shared.circuit = circuit;
-    shared.garbling = garbling;
+    shared.garbling = shared.garblings[0] = shared.garblings[1] = shared.garblings[2] = garbling;
     shared.job = shared.jobs[0] = shared.jobs[1] = shared.jobs[2] = job;
     for (int i = 0; i < THREADS; i++)
         CHECK(pthread_create(&threads[i], NULL, read_all, &shared) == 0);

@@ -67,6 +67,26 @@ length-version_entries : (version : Version) (offset : ℕ) (g : GarblingParts) 
 length-version_entries One offset g = refl
 length-version_entries Two offset g = length-entry_pairs offset g
 
+few-version_entries : (version : Version) (offset : ℕ) (g : GarblingParts) →
+    length (version_entries version offset g) ≤ g.outputs
+few-version_entries One offset g = omega arith
+few-version_entries Two offset g = omega (arith, length-entry_pairs offset g)
+
+-- So the bytes before the trailer of its file are fewer than 2 ^ 64.
+pub body-size : (version : Version) (c : Netlist) (offset : ℕ) (g : GarblingParts) → IsSmall g
+    → length (body (honest_parts_with version c g offset)) < 2 ^ 64
+unfolding garbled_file
+body-size version c offset g small =
+    let parts = honest_parts_with version c g offset in
+    let whole : length (garbled_file parts) ≡ length (body parts) + length (sha256 (body parts)) =
+    length-append (body parts) (sha256 (body parts)) in
+    omega (
+      arith,
+      whole,
+      garbled_file-size version c g (version_entries version offset g) small
+          (few-version_entries version offset g),
+    )
+
 -- The bytes of a garbling's file, from the numbers of the circuit.
 pub length-honest : (version : Version) (c : Netlist) → IsLawful c
     → (offset : ℕ) (g : GarblingParts) →

@@ -46,8 +46,8 @@ pub use source::{InSource, MemSource, Source};
 pub use spell::label_header;
 pub use take::{TakeFault, read_garbled_from};
 pub use write::{
-    write_garbled, write_garbled_by_digest, write_garbled2, write_garbled2_by_digest,
-    write_garbled2_with_offset,
+    write_before_trailer, write_garbled, write_garbled_by_digest, write_garbled2,
+    write_garbled2_by_digest, write_garbled2_with_offset,
 };
 pub use writer::WriteFault;
 pub use written_law::law_written_files;

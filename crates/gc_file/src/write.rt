@@ -1,20 +1,20 @@
 //! Writing garbled files.
 
 ghost use Rattle.std.specs.Prelude.{◌≡◌, ◌≤◌, ◌+◌, ◌-◌, ◌*◌, flat_map, []};
-ghost use Rattle.gc_lanes.specs.Hasher.{HoldsMessage};
 ghost use Rattle.sha2.specs.Sha256.{sha256};
 ghost use Rattle.gc_netlist.specs.Canon.{canonical_text};
 ghost use Rattle.gc_half.specs.Garbling.{decode_bits_of, FitsCircuit};
 ghost use Rattle.gc_file.specs.Counted.{CountsFailure};
 ghost use Rattle.gc_file.specs.DecodeBits.{packed};
-ghost use Rattle.gc_file.specs.GarbledFile.{row_bytes, entry_bytes, garbled_file, parts_of};
+ghost use Rattle.gc_file.specs.GarbledFile.{row_bytes, entry_bytes, body, garbled_file, parts_of};
+ghost use Rattle.gc_file.specs.Honest.{honest_parts_with, version_entries};
 ghost use Rattle.gc_file.specs.Writing.{Proceeds};
 ghost use Rattle.gc_file.specs.Written.{IsWritten, entry_pairs_from, entry_pairs_of, front, IsSmall, parts_one, parts_two, parts_two_with};
 
 use crate::parts::{EntryPair, Version};
 use crate::sink::Sink;
 use crate::spell::{decode_byte, header, pair_bytes};
-use crate::writer::{FileWriter, WriteFault};
+use crate::writer::{FileWriter, Observer, Unobserved, WriteFault};
 use gc_circuit::Circuit;
 use gc_half::{Garbling, RowPair, four_output_entries, output_entry};
 use gc_label::{Label, Offset, Seed, offset};
@@ -22,7 +22,7 @@ use gc_lanes::LongSha256;
 use sha2::Digest;
 use std::alloc::Allocator;
 
-impl FileWriter<LongSha256> {
+impl<O: Observer> FileWriter<O> {
     /// Writes the part before the entries: the header, the row pairs and the decode bits.
     fn write_front<S: Sink, A: Allocator, B: Allocator>(
         &mut self,
@@ -34,7 +34,7 @@ impl FileWriter<LongSha256> {
     ) -> Result<(), WriteFault>
         requires digest { digest.now ≡ sha256 (canonical_text circuit.now) }
         requires fits { FitsCircuit circuit.now garbling.now }
-        ensures bytes { Proceeds HoldsMessage self.old self.new
+        ensures bytes { Proceeds O.saw self.old self.new
             (S.taken sink.old) (S.taken sink.new) result
             (front (parts_of version circuit.now garbling.now [])) }
         ensures small { IsSmall garbling.now }
@@ -48,7 +48,7 @@ impl FileWriter<LongSha256> {
 
     /// Writes the row pairs.
     fn write_rows<S: Sink>(&mut self, sink: &mut S, rows: &[RowPair]) -> Result<(), WriteFault>
-        ensures bytes { Proceeds HoldsMessage self.old self.new
+        ensures bytes { Proceeds O.saw self.old self.new
             (S.taken sink.old) (S.taken sink.new) result (flat_map row_bytes rows.now) }
         ensures counted { CountsFailure result (S.failures sink.old) (S.failures sink.new) }
     {
@@ -64,7 +64,7 @@ impl FileWriter<LongSha256> {
         sink: &mut S,
         garbling: &Garbling<A>,
     ) -> Result<(), WriteFault>
-        ensures bytes { Proceeds HoldsMessage self.old self.new
+        ensures bytes { Proceeds O.saw self.old self.new
             (S.taken sink.old) (S.taken sink.new) result (packed (decode_bits_of garbling.now)) }
         ensures counted { CountsFailure result (S.failures sink.old) (S.failures sink.new) }
     {
@@ -72,6 +72,27 @@ impl FileWriter<LongSha256> {
             self.write(sink, &[decode_byte(garbling, k)])?;
         }
         Ok(())
+    }
+
+    /// Writes the entry pairs of a version, which are none in version 1.
+    fn write_version_entries<S: Sink, A: Allocator, B: Allocator>(
+        &mut self,
+        sink: &mut S,
+        version: Version,
+        circuit: &Circuit<A>,
+        garbling: &Garbling<B>,
+        offset: Offset,
+    ) -> Result<(), WriteFault>
+        requires { FitsCircuit circuit.now garbling.now }
+        ensures bytes { Proceeds O.saw self.old self.new
+            (S.taken sink.old) (S.taken sink.new) result
+            (flat_map entry_bytes (version_entries version offset garbling.now)) }
+        ensures counted { CountsFailure result (S.failures sink.old) (S.failures sink.new) }
+    {
+        match version {
+            Version::One => Ok(()),
+            Version::Two => self.write_entries(sink, circuit, garbling, offset),
+        }
     }
 
     /// Writes the entry pair of each output wire: those of four wires at once, and the last ones by themselves.
@@ -83,7 +104,7 @@ impl FileWriter<LongSha256> {
         offset: Offset,
     ) -> Result<(), WriteFault>
         requires { FitsCircuit circuit.now garbling.now }
-        ensures bytes { Proceeds HoldsMessage self.old self.new
+        ensures bytes { Proceeds O.saw self.old self.new
             (S.taken sink.old) (S.taken sink.new) result
             (flat_map entry_bytes (entry_pairs_of offset garbling.now)) }
         ensures counted { CountsFailure result (S.failures sink.old) (S.failures sink.new) }
@@ -104,7 +125,7 @@ impl FileWriter<LongSha256> {
     ) -> Result<(), WriteFault>
         requires fits { FitsCircuit circuit.now garbling.now }
         requires fours { 4 * fours ≤ garbling.now.outputs }
-        ensures bytes { Proceeds HoldsMessage self.old self.new
+        ensures bytes { Proceeds O.saw self.old self.new
             (S.taken sink.old) (S.taken sink.new) result
             (flat_map entry_bytes (entry_pairs_from offset garbling.now 0 (4 * fours))) }
         ensures counted { CountsFailure result (S.failures sink.old) (S.failures sink.new) }
@@ -128,7 +149,7 @@ impl FileWriter<LongSha256> {
     ) -> Result<(), WriteFault>
         requires fits { FitsCircuit circuit.now garbling.now }
         requires first { first ≤ garbling.now.outputs }
-        ensures bytes { Proceeds HoldsMessage self.old self.new
+        ensures bytes { Proceeds O.saw self.old self.new
             (S.taken sink.old) (S.taken sink.new) result
             (flat_map entry_bytes (entry_pairs_from offset garbling.now first
             (garbling.now.outputs - first))) }
@@ -144,7 +165,7 @@ impl FileWriter<LongSha256> {
 
     /// Writes these entry pairs.
     fn write_pairs<S: Sink>(&mut self, sink: &mut S, pairs: &[EntryPair]) -> Result<(), WriteFault>
-        ensures bytes { Proceeds HoldsMessage self.old self.new
+        ensures bytes { Proceeds O.saw self.old self.new
             (S.taken sink.old) (S.taken sink.new) result (flat_map entry_bytes pairs.now) }
         ensures counted { CountsFailure result (S.failures sink.old) (S.failures sink.new) }
     {
@@ -272,4 +293,29 @@ pub fn write_garbled2_with_offset<S: Sink, A: Allocator, B: Allocator>(
     file.write_front(sink, Version::Two, circuit, digest, garbling)?;
     file.write_entries(sink, circuit, garbling, offset)?;
     file.end_with_digest(sink)
+}
+
+/// Writes the garbled file of a version to the sink but its trailer, the digest of the bytes that are written, and
+/// returns how many these are. It digests nothing. The digest of the circuit is from [`Circuit::digest`], and the offset
+/// is that of the garbling, whose AND gates are numbered from 0 on: this is not checked.
+///
+/// Where the sink fails, it has taken the first `sent` of these bytes, and no others.
+pub fn write_before_trailer<S: Sink, A: Allocator, B: Allocator>(
+    sink: &mut S,
+    version: Version,
+    circuit: &Circuit<A>,
+    digest: &[u8; 32],
+    garbling: &Garbling<B>,
+    offset: Offset,
+) -> Result<u64, WriteFault>
+    requires digest { digest.now ≡ sha256 (canonical_text circuit.now) }
+    requires fits { FitsCircuit circuit.now garbling.now }
+    ensures body { IsWritten (body (honest_parts_with version circuit.now garbling.now offset))
+        result (S.taken sink.old) (S.taken sink.new) }
+    ensures counted { CountsFailure result (S.failures sink.old) (S.failures sink.new) }
+{
+    let mut file = FileWriter::new(Unobserved);
+    file.write_front(sink, version, circuit, digest, garbling)?;
+    file.write_version_entries(sink, version, circuit, garbling, offset)?;
+    file.end(sink)
 }

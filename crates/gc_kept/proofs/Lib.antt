@@ -7,3 +7,4 @@ pub mod RoomLemmas
 mod PieceLemmas
 mod LabelFileLemmas
 mod ManyLemmas
+mod GarblingsLemmas

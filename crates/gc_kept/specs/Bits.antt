@@ -1,5 +1,5 @@
 -- Bits as bytes.
-use Rattle.std.specs.Prelude.{◌≡◌, ◌≢◌, ℕ, Bool, true, false, List, length, slice_get, Some}
+use Rattle.std.specs.Prelude.{◌≡◌, ◌≢◌, ℕ, Bool, List, length, slice_get, Some}
 use Rattle.gc_netlist.specs.Spelling.{bit_number}
 use Rattle.gc_netlist.specs.declared.fault.ReadFault.TheVariants as read
 use Rattle.gc_kept.specs.declared.fault.KeptFault.{KeptFault}

@@ -16,7 +16,7 @@ use Rattle.gc_kept.specs.declared.fault.KeptFault.{KeptFault}
 use Rattle.gc_kept.specs.declared.fault.KeptFault.TheVariants.{BadDigit, Binding, Circuit, Evaluation, BadArgument, SmallBuffer, Garbling, Memory, WrongSize}
 use Rattle.gc_netlist.specs.declared.fault.ReadFault.TheVariants as read
 use Rattle.gc_kept.specs.Bits.{HasBadDigit}
-use Rattle.gc_kept.specs.Files.{IsFileAt, HasWriteFault}
+use Rattle.gc_kept.specs.Files.{IsFileAt}
 use Rattle.gc_kept.specs.Garbling.{GarblingWith}
 
 -- The bytes are these labels, 16 bytes each, one after another,

@@ -8,6 +8,7 @@ pub mod Jobs
 pub mod Plain
 pub mod Version
 pub mod Files
+pub mod Garblings
 pub mod Wires
 pub mod Audit
 pub mod Labels

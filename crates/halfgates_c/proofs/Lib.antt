@@ -1,3 +1,3 @@
 mod AnswersLemmas
 mod ManyLemmas
-mod JobsLemmas
+mod ListLemmas

@@ -28,16 +28,27 @@ OfJob (Some (Circuit circuit)) code P = code ≡ pos 65
 OfJob (Some (Garbling garbling)) code P = code ≡ pos 65
 OfJob (Some (Job job)) code P = P job
 
--- The code is what a call on a list of jobs says of them, or that of the first handle in the list that holds no job.
-abbrev pub OfEach : List (Option Held) → (code : ℤ) → (List JobParts → Type 0) → Type 0
-OfEach [] code P = P []
-OfEach (held ∷ others) code P = OfJob held code (λ job. OfEach others code (λ jobs. P (job ∷ jobs)))
+-- The code is what a call on a list of things says of them, or that of the first handle in the list that holds none.
+-- What is said of one handle is `OfGarbling` or `OfJob`.
+abbrev pub OfEach : {X : Type 0} → (Option Held → (code : ℤ) → (X → Type 0) → Type 0)
+    → List (Option Held) → (code : ℤ) → (List X → Type 0) → Type 0
+OfEach OfOne [] code P = P []
+OfEach OfOne (held ∷ others) code P =
+    OfOne held code (λ it. OfEach OfOne others code (λ things. P (it ∷ things)))
 
--- The same, or 62 where memory is missing for the list.
+-- The same of garblings, or 62 where memory is missing for the list,
+abbrev pub OfGarblings : List (Option Held) → (code : ℤ) → (List GarblingWith → Type 0) → Type 0
+OfGarblings held code P = (code ≡ pos 62) ⊎ OfEach OfGarbling held code P
+
+-- and of jobs.
 abbrev pub OfJobs : List (Option Held) → (code : ℤ) → (List JobParts → Type 0) → Type 0
-OfJobs held code P = (code ≡ pos 62) ⊎ OfEach held code P
+OfJobs held code P = (code ≡ pos 62) ⊎ OfEach OfJob held code P
 
--- A handle in the list holds no job, or memory is missing.
+-- A handle in the list holds no garbling, or memory is missing,
+abbrev pub OfNoGarblings : List (Option Held) → (code : ℤ) → Type 0
+OfNoGarblings held code = OfGarblings held code (λ garblings. ⊥)
+
+-- or no job.
 abbrev pub OfNoJobs : List (Option Held) → (code : ℤ) → Type 0
 OfNoJobs held code = OfJobs held code (λ jobs. ⊥)
 

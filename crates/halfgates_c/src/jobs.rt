@@ -1,41 +1,17 @@
 //! Lists of jobs.
 
-ghost use Rattle.std.specs.Prelude.{◌≡◌, ◌≢◌, ◌≤◌, IfErr, IfOk, MatchResult, OnErr, Some, length, map, pos};
+ghost use Rattle.std.specs.Prelude.{◌≡◌, ◌≢◌, ◌≤◌, IfErr, IfOk, MatchResult, Some, length, map, pos};
 ghost use Rattle.gc_kept.specs.Jobs.{AreAllEvaluated, HasListFault};
 ghost use Rattle.gc_kept.specs.declared.held.Held.TheVariants as held;
 ghost use Rattle.halfgates_c.specs.Answers.{Answers};
 ghost use Rattle.halfgates_c.specs.Holding.{OfJob, OfJobs, OfNoJobs};
-ghost use Rattle.halfgates_c.specs.Lending.{handle_of};
 
 use crate::code::{MEMORY, NULL_POINTER, WRONG_HANDLE, code_of};
 use crate::handle::Handle;
+use crate::list::{put_all, take_all};
 use gc_handle::Lent;
 use gc_kept::{Held, KeptJob, evaluate_many};
-use std::alloc::{AllocError, Global};
-
-/// Takes each pointer with its right to read, for the time of a call. `put_all` gives them back.
-fn take_all(alloc: Global, handles: &mut [Handle]) -> Result<Vec<Lent<Held>, Global>, AllocError>
-    ensures taken { IfOk result (λ lents. handles.old ≡ map handle_of lents.items) }
-    ensures count { length handles.new ≡ length handles.old }
-    ensures kept { OnErr result (handles.new ≡ handles.old) }
-{
-    let mut lents = Vec::with_capacity(alloc, handles.len())?;
-    for i in 0..handles.len() {
-        lents.push_reserved(handles[i].take());
-    }
-    Ok(lents)
-}
-
-/// Gives back what was taken.
-fn put_all(mut lents: Vec<Lent<Held>, Global>, handles: &mut [Handle])
-    requires { length handles.old ≡ length lents.items }
-    ensures { handles.new ≡ map handle_of lents.items }
-{
-    while let Some(lent) = lents.pop() {
-        let place = lents.len();
-        handles[place].put(lent);
-    }
-}
+use std::alloc::Global;
 
 /// The job that a handle holds, or else the code.
 fn job_of(lent: &Lent<Held>) -> Result<&KeptJob, i32>

@@ -4,7 +4,7 @@ use mir.Syntax.{w32}
 use mir.Val.{SFits}
 use Rattle.gc_kept.specs.Jobs.{AreAllEvaluated, HasListFault}
 use Rattle.halfgates_c.specs.Answers.{Answers}
-use Rattle.halfgates_c.proofs.JobsLemmas.{all_jobs, no_jobs}
+use Rattle.halfgates_c.proofs.ListLemmas.{all_jobs, no_jobs}
 use Rattle.halfgates_c.proofs.jobs.evaluate_held.Goals as goal
 
 pub returns-in-Ok-clause-answer : goal.returns-in-Ok-clause-answer

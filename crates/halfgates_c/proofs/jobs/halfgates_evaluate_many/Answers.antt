@@ -2,7 +2,7 @@ use Rattle.std.proofs.Common.{rules}
 use Rattle.std.proofs.lemmas.Int.{to_z-of_z}
 use mir.Syntax.{w32}
 use mir.Val.{SFits}
-use Rattle.halfgates_c.proofs.JobsLemmas.{held_of}
+use Rattle.halfgates_c.proofs.ListLemmas.{held_of}
 use Rattle.halfgates_c.proofs.jobs.halfgates_evaluate_many.Goals as goal
 
 pub returns-clause-answer : goal.returns-clause-answer

@@ -1,6 +1,6 @@
 use Rattle.std.proofs.Common.{arith}
 use Rattle.std.proofs.lemmas.Result.{err_from_is_err_and}
-use Rattle.halfgates_c.proofs.JobsLemmas.{jobs_until}
+use Rattle.halfgates_c.proofs.ListLemmas.{jobs_until}
 use Rattle.halfgates_c.proofs.jobs.jobs_of.Goals as goal
 
 pub returns-in_err-job-clause-code : goal.returns-in_err-job-clause-code

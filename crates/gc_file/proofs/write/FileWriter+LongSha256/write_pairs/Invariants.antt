@@ -1,9 +1,0 @@
-use Rattle.gc_file.proofs.WriterNames.{flat_map, take, HoldsMessage, entry_bytes}
-use Rattle.gc_file.proofs.WritingLemmas.{Wrote}
-use Rattle.gc_file.proofs.write.FileWriter+LongSha256.write_pairs.Given as goal
-
-abbrev pub invariant-loop-pair : goal.invariant-loop-pair
-invariant-loop-pair g l =
-    Wrote HoldsMessage l.initial.self l.self (g.S.Sink.taken l.initial.sink) (g.S.Sink.taken l.sink)
-    (g.S.Sink.failures l.initial.sink) (g.S.Sink.failures l.sink)
-    (flat_map entry_bytes (take l.pair-index l.pairs))

@@ -1,9 +1,0 @@
-use Rattle.gc_file.proofs.WriterNames.{flat_map, take, HoldsMessage, row_bytes}
-use Rattle.gc_file.proofs.WritingLemmas.{Wrote}
-use Rattle.gc_file.proofs.write.FileWriter+LongSha256.write_rows.Given as goal
-
-abbrev pub invariant-loop-row : goal.invariant-loop-row
-invariant-loop-row g l =
-    Wrote HoldsMessage l.initial.self l.self (g.S.Sink.taken l.initial.sink) (g.S.Sink.taken l.sink)
-    (g.S.Sink.failures l.initial.sink) (g.S.Sink.failures l.sink)
-    (flat_map row_bytes (take l.row-index l.rows))

@@ -1,0 +1,10 @@
+use Rattle.gc_file.proofs.WriterNames.{flat_map, take, entry_bytes}
+use Rattle.gc_file.proofs.WritingLemmas.{Wrote}
+use Rattle.gc_file.proofs.writer.FileWriter.write_pairs.Given as goal
+
+abbrev pub invariant-loop-pair : goal.invariant-loop-pair
+invariant-loop-pair g l =
+    Wrote g.O.Observer.saw l.initial.self l.self (g.S.Sink.taken l.initial.sink)
+    (g.S.Sink.taken l.sink)
+    (g.S.Sink.failures l.initial.sink) (g.S.Sink.failures l.sink)
+    (flat_map entry_bytes (take l.pair-index l.pairs))

@@ -1,0 +1,10 @@
+use Rattle.gc_file.proofs.WriterNames.{flat_map, take, row_bytes}
+use Rattle.gc_file.proofs.WritingLemmas.{Wrote}
+use Rattle.gc_file.proofs.writer.FileWriter.write_rows.Given as goal
+
+abbrev pub invariant-loop-row : goal.invariant-loop-row
+invariant-loop-row g l =
+    Wrote g.O.Observer.saw l.initial.self l.self (g.S.Sink.taken l.initial.sink)
+    (g.S.Sink.taken l.sink)
+    (g.S.Sink.failures l.initial.sink) (g.S.Sink.failures l.sink)
+    (flat_map row_bytes (take l.row-index l.rows))

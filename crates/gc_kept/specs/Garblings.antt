@@ -1,0 +1,42 @@
+-- Lists of garblings.
+use Rattle.std.specs.Prelude.{◌≡◌, ◌<◌, ◌≤◌, ℕ, List, ◌++◌, length, flat_map, All}
+use Rattle.sha2.specs.Sha256.{sha256}
+use Rattle.gc_file.specs.declared.parts.Version.{Version}
+use Rattle.gc_file.specs.GarbledFile.{body}
+use Rattle.gc_file.specs.Honest.{honest_parts_with}
+use Rattle.gc_kept.specs.declared.fault.KeptFault.{KeptFault}
+use Rattle.gc_kept.specs.declared.fault.KeptFault.TheVariants.{BadArgument, SmallBuffer, Memory}
+use Rattle.gc_kept.specs.Files.{IsFileAt, file_of}
+use Rattle.gc_kept.specs.Garbling.{GarblingWith}
+
+-- The AND gates of each garbling are numbered from 0 on.
+abbrev pub AreFromZero : List GarblingWith → Type 0
+AreFromZero garblings = All (λ g. g.first ≡ 0) garblings
+
+-- The garbled files of the garblings, one after another.
+abbrev pub files_of : Version → List GarblingWith → List ℕ
+files_of version garblings = flat_map (λ g. file_of g version) garblings
+
+-- The AND gates of each are numbered from 0 on, and the buffer begins with the files.
+pub record AreAllGarbledAt (garblings : List GarblingWith) (version : Version)
+    (old new : List ℕ) : Type 0 where
+  pub from_zero : AreFromZero garblings
+  pub files : IsFileAt (files_of version garblings) old new
+
+-- The fault of writing them: the AND gates of some aren't numbered from 0 on, else the buffer has too little room for
+-- all files. Memory may be missing instead.
+abbrev pub HasFilesFault : List GarblingWith → Version → ℕ → KeptFault → Type 0
+HasFilesFault garblings version room BadArgument = ¬ AreFromZero garblings
+HasFilesFault garblings version room SmallBuffer =
+    AreFromZero garblings × (room < length (files_of version garblings))
+HasFilesFault garblings version room Memory =
+    AreFromZero garblings × (length (files_of version garblings) ≤ room)
+HasFilesFault garblings version room _ = ⊥
+
+-- The bytes of a garbling's file before its trailer.
+abbrev pub body_of : Version → GarblingWith → List ℕ
+body_of version g = body (honest_parts_with version g.circuit g.garbling g.offset)
+
+-- Bytes, and their SHA-256 (FIPS 180-4) as a trailer.
+abbrev pub with_trailer : List ℕ → List ℕ
+with_trailer bytes = bytes ++ sha256 bytes
