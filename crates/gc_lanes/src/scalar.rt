@@ -31,8 +31,8 @@ fn big_sigma_1(x: u32) -> u32
     x.rotate_right(6) ^ x.rotate_right(11) ^ x.rotate_right(25)
 }
 
-/// One round, with the sum of its constant and its word. The sum for the next e adds Σ 1 last, and the next a comes from
-/// that e: so the chain of additions from one round to the next is short.
+/// One round, with the sum of its constant and its word. The sum for the next e adds Σ 1 last, and the next a comes
+/// from that e: so the chain of additions from one round to the next is short.
 #[inline(always)]
 pub(crate) fn round(variables: [u32; 8], keyed: u32) -> [u32; 8]
     ensures { (k w : ℕ) → keyed ≡ add32 k w → result ≡ round variables k w }
