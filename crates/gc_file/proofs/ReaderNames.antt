@@ -1,5 +1,5 @@
 -- The names that most proofs of this crate cite, passed on from one place. Declares nothing.
-pub use Rattle.std.proofs.Common.{◌≡◌, ℕ, ◌+◌, ◌<◌, List, ◌++◌, length, take, drop, map, flat_map, get_or, All, refl, sym, ap, arith, ◌≤◌, ◌∙◌, ◌-◌, slice_index, append_assoc, length-append, ◌*◌, ◌%◌, [], ◌∷◌, append-nil, rules, inl, inr, Option, Some, None, Result, Ok, Err, ◌^◌, ◌/◌}
+pub use Rattle.std.proofs.Common.{◌≡◌, ℕ, ◌+◌, ◌<◌, List, ◌++◌, length, take, drop, map, flat_map, get_or, All, refl, sym, ap, subst, arith, Bor, ◌≤◌, ◌∙◌, ◌-◌, slice_index, append_assoc, length-append, ◌*◌, ◌%◌, [], ◌∷◌, append-nil, rules, inl, inr, Option, Some, None, IfSome, Result, Ok, Err, ◌^◌, ◌/◌}
 pub use Rattle.std.proofs.Math.Seq.{take-add}
 pub use Rattle.std.proofs.lemmas.Bool.Decides.{nat_tests}
 pub use Rattle.std.proofs.lemmas.Grind.{flat_map-append}
@@ -17,9 +17,9 @@ pub use Rattle.gc_file.specs.declared.parts.Version.TheVariants.{One, Two}
 pub use Rattle.gc_label.proofs.LabelLemmas.{length-bytes_of_label, bytes_of_label-label_of_bytes}
 pub use Rattle.gc_label.specs.Label.{bytes_of_label}
 unfoldable pub use Rattle.gc_file.specs.Body.{version_of}
-pub use Rattle.gc_file.specs.Body.{row_size, decode_size, entry_size, IsFilled, IsCutUp, IsBody, IsHashed}
+pub use Rattle.gc_file.specs.Body.{row_size, decode_size, entry_size, IsFilled, IsCutUp, IsBody, IsHashed, IsGiven}
 pub use Rattle.gc_file.specs.FileFault.{row_count, output_count, IsHeaderInOrder, IsBegun, label_count, decode_end, entries_end, trailer_end, IsTrailerRight, HasHeader, HasSpareBit, HasDecodeBits, LastingFault, bad_magic, too_many_rows, too_many_outputs, spare_bits, bad_trailer, trailing, IsInOrder, lasting, truncated, bad_label_magic, too_many_labels, labels_trailing, header_truncated, labels_truncated}
-pub use Rattle.gc_file.specs.Reading.{IsLabelForm, Fed, IsFed}
+pub use Rattle.gc_file.specs.Reading.{before_trailer, IsLabelForm, Fed, IsFed}
 pub use Rattle.gc_file.specs.Taking.{IsAnswer, IsTaken, IsAnswerOfAll, IsTaking}
 pub use Rattle.gc_file.specs.declared.fault.FileFault.{FileFault}
 pub use Rattle.gc_file.specs.declared.fault.FileFault.TheVariants.{SpareBits, BadTrailer, Trailing}

@@ -1,5 +1,6 @@
 -- A garbled file whose header is there, as far as its bytes have come.
-use Rattle.std.specs.Prelude.{◌≡◌, ℕ, ◌<◌, ◌≤◌, ◌+◌, ◌*◌, ◌==◌, if◌then◌else◌, List, ◌++◌, length, take, drop, slice_index}
+use Rattle.std.specs.Prelude.{◌≡◌, ℕ, ◌<◌, ◌≤◌, ◌+◌, ◌*◌, ◌==◌, if◌then◌else◌, List, ◌++◌, IfSome, Option, length, take, drop, slice_index}
+use Rattle.std.specs.Borrow.{Bor}
 use Rattle.gc_lanes.specs.declared.hasher.LongSha256.{LongSha256}
 use Rattle.gc_lanes.specs.Hasher.{HoldsMessage}
 use Rattle.sha2.specs.Sha256.{sha256}
@@ -38,6 +39,11 @@ pub record IsFilled (row_size decode_size entry_size : ℕ)
 pub record IsHashed (message trailer : List ℕ) (hasher : LongSha256) : Type 0 where
   pub holds : length trailer < 32 → HoldsMessage hasher message
   pub right : length trailer ≡ 32 → trailer ≡ sha256 message
+
+-- A digest that is given is that of the message, where the trailer is whole and nothing of a piece is left.
+abbrev pub IsGiven : Option (Bor (List ℕ)) → List ℕ → List ℕ → List ℕ → Type 0
+IsGiven digest message trailer left =
+    length trailer ≡ 32 → length left ≡ 0 → IfSome digest (λ given. given.now ≡ sha256 message)
 
 -- The parts are in order as far as they go.
 pub record IsBody (header rows decode entries trailer : List ℕ) (hasher : LongSha256) : Type 0 where

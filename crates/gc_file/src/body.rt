@@ -1,13 +1,13 @@
 //! The part of a garbled file after its header.
 
-ghost use Rattle.std.specs.Prelude.{◌≡◌, ◌≢◌, ◌<◌, ◌≤◌, ◌+◌, ◌-◌, ◌*◌, ◌^◌, ◌++◌, ℕ, List, [], length, map, take, drop, slice_index, IfOk, IfErr, OnOk, IsTrue, ◌↔◌};
+ghost use Rattle.std.specs.Prelude.{◌≡◌, ◌≢◌, ◌<◌, ◌≤◌, ◌+◌, ◌-◌, ◌*◌, ◌^◌, ◌++◌, ℕ, List, [], length, map, take, drop, slice_index, IfOk, IfErr, IfSome, OnOk, IsTrue, ◌↔◌};
 ghost use Rattle.std.specs.List.{range_with_len};
 ghost use Rattle.gc_file.specs.declared.parts.Version.{Version};
 ghost use Rattle.gc_file.specs.DecodeBits.{bytes_for, bit_in, IsSpare};
 ghost use Rattle.gc_file.specs.FileFault.{LastingFault, IsHeaderInOrder, IsSound};
-ghost use Rattle.gc_file.specs.Body.{IsHashed, IsCutUp};
+ghost use Rattle.gc_file.specs.Body.{IsCutUp, IsGiven, IsHashed};
 ghost use Rattle.sha2.specs.Sha256.{sha256};
-ghost use Rattle.gc_file.specs.Reading.{IsRead};
+ghost use Rattle.gc_file.specs.Reading.{IsRead, before_trailer};
 
 use crate::fault::FileFault;
 use crate::garbled::Garbled;
@@ -141,6 +141,19 @@ fn add_decode_bytes<A: Allocator>(
     Ok(())
 }
 
+/// Checks a whole trailer.
+fn check_trailer(trailer: &[u8], digest: &[u8; 32]) -> Result<(), FileFault>
+    ensures right { OnOk result (trailer.now ≡ digest.now) }
+    ensures wrong { IfErr result (λ e.
+        (e ≡ FileFault.BadTrailer) × (trailer.now ≢ digest.now)) }
+{
+    if trailer == digest.as_slice() {
+        Ok(())
+    } else {
+        Err(FileFault::BadTrailer)
+    }
+}
+
 /// Adds bytes of the trailer, and checks it once it is whole.
 fn add_trailer(
     hasher: &mut LongSha256,
@@ -164,10 +177,57 @@ fn add_trailer(
         return Ok(());
     }
     let digest = hasher.finalize_reset();
-    if digest.as_slice() == trailer.as_slice() {
-        Ok(())
-    } else {
-        Err(FileFault::BadTrailer)
+    check_trailer(trailer.as_slice(), &digest)
+}
+
+/// Adds the last bytes of a file to the trailer, and checks it against the digest.
+fn add_last(
+    trailer: &mut ArrayVec<u8, TRAILER>,
+    bytes: &[u8],
+    digest: &[u8; 32],
+) -> Result<(), FileFault>
+    requires { length trailer.old.items + length bytes.now ≡ 32 }
+    ensures ok { OnOk result (trailer.new.items ≡ trailer.old.items ++ bytes.now) }
+    ensures right { OnOk result (trailer.old.items ++ bytes.now ≡ digest.now) }
+    ensures err { IfErr result (λ e.
+        (e ≡ FileFault.BadTrailer) × (trailer.old.items ++ bytes.now ≢ digest.now)) }
+{
+    append(trailer, bytes);
+    check_trailer(trailer.as_slice(), digest)
+}
+
+/// Adds a piece to the message before the trailer and to the trailer, which is checked once it is whole. Where the
+/// piece ends the file, a digest that is given takes the hasher's place.
+fn add_hashed(
+    hasher: &mut LongSha256,
+    trailer: &mut ArrayVec<u8, TRAILER>,
+    cuts: &Cuts<'_>,
+    digest: Option<&[u8; 32]>,
+) -> Result<(), FileFault>
+    requires room { length trailer.old.items + length cuts.now.trailer.now ≤ 32 }
+    requires order { 0 < length trailer.old.items
+        → length (cuts.now.rows.now ++ cuts.now.decode_bytes.now ++ cuts.now.entries.now) ≡ 0 }
+    ensures ok { OnOk result (trailer.new.items ≡ trailer.old.items ++ cuts.now.trailer.now) }
+    ensures hashed { OnOk result ((m n : List ℕ) → IsHashed m trailer.old.items hasher.old
+        → n ≡ m ++ cuts.now.rows.now ++ cuts.now.decode_bytes.now ++ cuts.now.entries.now
+        → IsGiven digest.entry n (trailer.old.items ++ cuts.now.trailer.now) cuts.now.rest.now
+        → IsHashed n (trailer.old.items ++ cuts.now.trailer.now) hasher.new) }
+    ensures err { IfErr result (λ e. (e ≡ FileFault.BadTrailer)
+        × (length (trailer.old.items ++ cuts.now.trailer.now) ≡ 32)
+        × ((m n : List ℕ) → IsHashed m trailer.old.items hasher.old
+        → n ≡ m ++ cuts.now.rows.now ++ cuts.now.decode_bytes.now ++ cuts.now.entries.now
+        → IsGiven digest.entry n (trailer.old.items ++ cuts.now.trailer.now) cuts.now.rest.now
+        → trailer.old.items ++ cuts.now.trailer.now ≡ sha256 n → ⊥)) }
+{
+    let ends = cuts.rest.is_empty() && trailer.len() + cuts.trailer.len() == TRAILER;
+    match digest {
+        Some(digest) if ends => add_last(trailer, cuts.trailer, digest),
+        _ => {
+            hasher.update(cuts.rows);
+            hasher.update(cuts.decode_bytes);
+            hasher.update(cuts.entries);
+            add_trailer(hasher, trailer, cuts.trailer)
+        }
     }
 }
 
@@ -190,8 +250,10 @@ impl<A: Allocator + Copy> Body<A> {
         }
     }
 
-    /// With these bytes more, or the fault that comes with them.
-    pub(crate) fn with(self, piece: &[u8]) -> Result<Body<A>, FileFault>
+    /// With these bytes more, or the fault that comes with them. A digest that is given is that of all bytes but the
+    /// last 32: where the bytes are a whole file, it takes the place of the hasher's.
+    pub(crate) fn with(self, piece: &[u8], digest: Option<&[u8; 32]>) -> Result<Body<A>, FileFault>
+        requires { IfSome digest (λ given. given.now ≡ sha256 (before_trailer (self ++ piece.now))) }
         ensures ok { IfOk result (λ b. b ≡ self ++ piece.now) }
         ensures sound { IfOk result IsSound }
         ensures err { IfErr result (λ e.
@@ -213,13 +275,10 @@ impl<A: Allocator + Copy> Body<A> {
             PAIR * counts.entries - entries.len(),
             TRAILER - trailer.len(),
         );
-        hasher.update(cuts.rows);
-        hasher.update(cuts.decode_bytes);
-        hasher.update(cuts.entries);
         rows.add(cuts.rows, counts.rows)?;
         add_decode_bytes(&mut decode_bytes, cuts.decode_bytes, counts)?;
         entries.add(cuts.entries, counts.entries)?;
-        add_trailer(&mut hasher, &mut trailer, cuts.trailer)?;
+        add_hashed(&mut hasher, &mut trailer, &cuts, digest)?;
         if !cuts.rest.is_empty() {
             return Err(FileFault::Trailing);
         }

@@ -1,6 +1,6 @@
 //! Reading garbled files.
 
-ghost use Rattle.std.specs.Prelude.{◌≡◌, ◌≢◌, ◌<◌, ◌++◌, [], length, IfOk, IfErr, Ok};
+ghost use Rattle.std.specs.Prelude.{◌≡◌, ◌≢◌, ◌<◌, ◌++◌, [], length, IfOk, IfErr, IfSome, Ok};
 ghost use Rattle.gc_file.specs.FileFault.{LastingFault};
 ghost use Rattle.gc_file.specs.State.{fed_of, IsState, IsAdvanced};
 ghost use Rattle.gc_file.specs.Reading.{IsRead, IsFed, IsEnded, before_trailer};
@@ -47,13 +47,17 @@ impl<A: Allocator> Model for GarbledReader<A> {
     ghost invariant = { λ r. IsState r.state };
 }
 
-/// A header with these bytes more, and after it what follows, or the fault that comes with them.
+/// A header with these bytes more, and after it what follows, or the fault that comes with them. A digest that is given
+/// is that of all bytes but the last 32: where the bytes are a whole file, they aren't digested.
 fn advance_header<A: Allocator + Copy>(
     alloc: A,
     mut header: ArrayVec<u8, HEADER>,
     piece: &[u8],
+    digest: Option<&[u8; 32]>,
 ) -> Result<State<A>, FileFault>
-    requires { length header.items < 48 }
+    requires short { length header.items < 48 }
+    requires digest { IfSome digest (λ given.
+        given.now ≡ sha256 (before_trailer (header.items ++ piece.now))) }
     ensures ok { IfOk result (λ state.
         (fed_of state ≡ Ok (header.items ++ piece.now)) × IsState state) }
     ensures err { IfErr result (λ e.
@@ -63,7 +67,7 @@ fn advance_header<A: Allocator + Copy>(
     append(&mut header, front);
     check_header(header.as_slice())?;
     if header.is_full() {
-        Ok(State::Body(Body::new(alloc, header).with(rest)?))
+        Ok(State::Body(Body::new(alloc, header).with(rest, digest)?))
     } else {
         Ok(State::Header(header))
     }
@@ -79,8 +83,8 @@ fn advance<A: Allocator + Copy>(
     ensures { IsAdvanced state piece.now result }
 {
     match state {
-        State::Header(header) => advance_header(alloc, header, piece),
-        State::Body(body) => Ok(State::Body(body.with(piece)?)),
+        State::Header(header) => advance_header(alloc, header, piece, None),
+        State::Body(body) => Ok(State::Body(body.with(piece, None)?)),
         State::Failed(fault) => Err(fault),
     }
 }
@@ -156,6 +160,6 @@ pub fn read_garbled_by_digest<A: Allocator + Copy>(
     requires { digest.now ≡ sha256 (before_trailer bytes.now) }
     ensures { IsRead bytes.now result }
 {
-    let _ = digest;
-    read_garbled(alloc, bytes)
+    let state = advance_header(alloc, ArrayVec::new(), bytes, Some(digest))?;
+    GarbledReader { alloc, state }.end()
 }

@@ -295,9 +295,9 @@ pub fn write_garbled2_with_offset<S: Sink, A: Allocator, B: Allocator>(
     file.end_with_digest(sink)
 }
 
-/// Writes the garbled file of a version to the sink but its trailer, the digest of the bytes that are written, and
-/// returns how many these are. It digests nothing. The digest of the circuit is from [`Circuit::digest`], and the offset
-/// is that of the garbling, whose AND gates are numbered from 0 on: this is not checked.
+/// Writes the garbled file of a version to the sink, but for its trailer, and returns how many bytes these are. The
+/// trailer is their digest, which the caller takes. The digest of the circuit is from [`Circuit::digest`], and the
+/// offset is that of the garbling, whose AND gates are numbered from 0 on: this is not checked.
 ///
 /// Where the sink fails, it has taken the first `sent` of these bytes, and no others.
 pub fn write_before_trailer<S: Sink, A: Allocator, B: Allocator>(

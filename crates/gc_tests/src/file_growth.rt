@@ -6,8 +6,8 @@ use crate::pieces::{FORGED_HEADER, same};
 use gc_circuit::Circuit;
 use gc_file::{
     FileFault, Garbled, GarbledReader, MemSink, MemSource, OutSink, Sink, SinkFault, TakeFault,
-    Version, WriteFault, read_garbled, read_garbled_from, read_labels, write_garbled,
-    write_garbled2, write_labels,
+    Version, WriteFault, before_trailer, read_garbled, read_garbled_by_digest, read_garbled_from,
+    read_labels, write_garbled, write_garbled2, write_labels,
 };
 use gc_half::{Garbling, garble_one_thread, output_entry};
 use gc_label::{Label, Seed, offset};
@@ -16,6 +16,7 @@ use gc_worked::circuits::{AND, many_ands};
 use gc_worked::files::{and_file, label_file, write};
 use gc_worked::growths::{Answer, plain_if, runs_refused};
 use gc_worked::worked_files::ONE_LABEL;
+use sha2::{Digest, Sha256};
 use std::alloc::{Allocator, Global};
 use std::test::Fail;
 
@@ -23,6 +24,7 @@ use std::test::Fail;
 #[derive(Clone, Copy, Debug)]
 enum Call {
     ReadGarbled,
+    ReadByDigest,
     TakeGarbled,
     ReadLabels,
 }
@@ -49,14 +51,20 @@ fn files_of(alloc: Global, version: Version) -> Result<Files, Fail> {
 impl Files {
     fn answer(&self, call: Call, heap: &Refusing<Global>) -> Answer {
         match call {
-            Call::ReadGarbled => self.read_garbled(heap),
+            Call::ReadGarbled => self.answer_of(read_garbled(heap, &self.garbled)),
+            Call::ReadByDigest => self.read_by_digest(heap),
             Call::TakeGarbled => self.take_garbled(heap),
             Call::ReadLabels => self.read_labels(heap),
         }
     }
 
-    fn read_garbled(&self, heap: &Refusing<Global>) -> Answer {
-        match read_garbled(heap, &self.garbled) {
+    fn read_by_digest(&self, heap: &Refusing<Global>) -> Answer {
+        let digest = Sha256::digest(before_trailer(&self.garbled));
+        self.answer_of(read_garbled_by_digest(heap, &self.garbled, &digest))
+    }
+
+    fn answer_of<A: Allocator>(&self, read: Result<Garbled<A>, FileFault>) -> Answer {
+        match read {
             Ok(garbled) => plain_if(same(&garbled, &self.whole)),
             Err(FileFault::Memory) => Answer::Memory,
             Err(_) => Answer::Other,
@@ -86,6 +94,8 @@ fn reading_files(rt: HostRuntime) -> Result<(), Fail> {
     for (call, version, growths) in [
         (Call::ReadGarbled, Version::One, 3),
         (Call::ReadGarbled, Version::Two, 4),
+        (Call::ReadByDigest, Version::One, 3),
+        (Call::ReadByDigest, Version::Two, 4),
         (Call::TakeGarbled, Version::Two, 4),
         (Call::ReadLabels, Version::One, 1),
     ] {

@@ -1,12 +1,15 @@
 //! Tests of what is read of a garbled file.
 
 use crate::labels::label;
+use crate::pieces::same;
 use gc_circuit::Circuit;
-use gc_file::{EntryPair, Version, read_garbled};
+use gc_file::{EntryPair, Version, before_trailer, read_garbled, read_garbled_by_digest};
 use gc_half::RowPair;
 use gc_worked::circuits::AND;
 use gc_worked::files::and_file;
 use gc_worked::worked_files::NO_GATES_FILE_2;
+use sha2::{Digest, Sha256};
+use std::alloc::Global;
 use std::test::Fail;
 
 /// The entries of an output.
@@ -40,5 +43,57 @@ fn all_parts_are_read(rt: HostRuntime) -> Result<(), Fail> {
     ];
     assert!(rt; garbled.entries() == pairs.as_slice());
     assert!(rt; garbled.decode_bits() == [true, false].as_slice());
+    Ok(())
+}
+
+/// Whether a reader that is given the digest answers as one that digests the bytes.
+fn agree(alloc: Global, bytes: &[u8]) -> bool {
+    let digest = Sha256::digest(before_trailer(bytes));
+    let by_digest = read_garbled_by_digest(alloc, bytes, &digest);
+    match (by_digest, read_garbled(alloc, bytes)) {
+        (Ok(one), Ok(other)) => same(&one, &other),
+        (Err(one), Err(other)) => one == other,
+        _ => false,
+    }
+}
+
+/// A file, each of its beginnings, what is longer, and each file with another byte.
+#[test]
+fn by_the_digest_of_the_bytes(rt: HostRuntime) -> Result<(), Fail> {
+    let alloc = rt.alloc();
+    for version in [Version::One, Version::Two] {
+        let mut bytes = and_file(alloc, version)?;
+        assert!(rt; agree(alloc, &bytes));
+        for end in 0..bytes.len() {
+            assert!(rt; agree(alloc, &bytes[..end]), "cut at {end}");
+            for mask in [1, 0x80, 0xff] {
+                let mut bad = bytes.clone()?;
+                bad[end] ^= mask;
+                assert!(rt; agree(alloc, &bad), "byte {end}, mask {mask}");
+            }
+        }
+        for more in 0..40 {
+            bytes.push(more)?;
+            assert!(rt; agree(alloc, &bytes), "{more} bytes more");
+        }
+    }
+    Ok(())
+}
+
+/// A file whose trailer was made anew after another byte was changed.
+#[test]
+fn by_the_digest_of_changed_bytes(rt: HostRuntime) -> Result<(), Fail> {
+    let alloc = rt.alloc();
+    for version in [Version::One, Version::Two] {
+        let file = and_file(alloc, version)?;
+        for place in 0..before_trailer(&file).len() {
+            let mut bytes = Vec::new(alloc);
+            bytes.extend_from_slice(before_trailer(&file))?;
+            bytes[place] ^= 1;
+            let trailer = Sha256::digest(&bytes);
+            bytes.extend_from_slice(&trailer)?;
+            assert!(rt; agree(alloc, &bytes), "byte {place}");
+        }
+    }
     Ok(())
 }

@@ -25,4 +25,6 @@ mod pieces;
 #[cfg(test)]
 mod reading;
 #[cfg(test)]
+mod several_digests;
+#[cfg(test)]
 mod values;

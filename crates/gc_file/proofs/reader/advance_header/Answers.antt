@@ -1,3 +1,5 @@
+use Rattle.gc_file.proofs.ReaderNames.{◌≡◌, ℕ, List, ◌++◌, refl, subst, append_assoc, IfSome, sha256, before_trailer}
+use Rattle.std.proofs.lemmas.List.{take-append-drop}
 use Rattle.std.proofs.lemmas.Result.{err_from_is_err_and}
 use Rattle.gc_file.proofs.HeaderLemmas.{lasts_piece}
 use Rattle.gc_file.proofs.reader.advance_header.Goals as goal
@@ -8,3 +10,17 @@ returns-in_err-check_header-clause-err g c =
     let fault = rw (c.as_slice.ensures.value, c.append.ensures.items, c.cut.ensures.front) at
     c.in_err-check_header.ensures in
     rw (p.1, p.2) (λ other. lasts_piece c.args.header.items c.args.piece.now _ _ fault)
+
+pub with-requires : goal.with-requires
+with-requires g c =
+    let same : c.args.header.items ++ c.args.piece.now ≡ c.new.result ++ c.cut.result.1.now =
+    rw (
+      c.new.ensures,
+      c.append.ensures.items,
+      c.cut.ensures.front,
+      c.cut.ensures.rest,
+      append_assoc,
+      take-append-drop,
+    ) refl in
+    subst (λ (x : List ℕ). IfSome c.args.digest (λ given. given.now ≡ sha256 (before_trailer x))) same
+    c.requires.digest
