@@ -3,10 +3,10 @@
 
   side_by_side.py BENCH
 
-BENCH is gc_bench. It prints two tables of docs/SPEED.md, of the fastest of nine runs on one thread:
-a garbling alone, and each of two side by side; a job alone, and each of four side by side. The
-second has what an AND gate takes, beside its hashes alone, eight at once: four to garble it, and two
-to evaluate it.
+BENCH is gc_bench. It prints three tables of docs/SPEED.md, of the fastest of nine runs on one
+thread: a garbling alone, and each of two side by side; a job alone, and each of four side by side.
+The second has what an AND gate takes, beside its hashes alone, eight at once: four to garble it, and
+two to evaluate it. The third has SHA-256 of a garbled file alone, and of each of eight side by side.
 """
 
 import sys
@@ -29,7 +29,7 @@ def main():
     [bench] = sys.argv[1:]
     columns = "Garbling", "Each of two", "Ratio", "Evaluating", "Each of four", "Ratio"
     print_columns("Milliseconds", *columns)
-    rows = {}
+    rows, hashed = {}, {}
     with tempfile.TemporaryDirectory() as folder:
         file = f"{folder}/circuit"
         for name, command in CIRCUITS.items():
@@ -37,11 +37,18 @@ def main():
                 continue
             make(command, file)
             parts = "garble", "garble_two", "job", "job_four", "eight_lanes"
-            rows[name] = print_ratios(name, times(bench, file, 9, *parts))
+            took = times(bench, file, 9, *parts, "file_sha", "eight_sha", "kit_sha")
+            rows[name] = print_ratios(name, took)
+            hashed[name] = took
     columns = "Garbling", "Each of two", "4 hashes", "Evaluating", "Each of four", "2 hashes"
     print_columns("Nanoseconds an AND gate", *columns)
     for name, row in rows.items():
         print_cells(name, *[f"{it:.0f}" for it in row])
+    print_columns("Milliseconds", "SHA-256 of a file", "Each of eight", "Ratio", "By `sha2`")
+    for name, took in hashed.items():
+        alone, beside, kit = took["file_sha"], took["eight_sha"] / 8, took["kit_sha"]
+        cells = [f"{alone / 1e6:.2f}", f"{beside / 1e6:.2f}", f"{beside / alone:.2f}"]
+        print_cells(name, *cells, f"{kit / 1e6:.2f}")
 
 
 def print_ratios(name, took):

@@ -9,7 +9,7 @@ use gc_file::{GarbledReader, MemSink, Sink, SinkFault, read_garbled, write_garbl
 use gc_half::{Garbling, garble_one_thread, garble_two};
 use gc_job::{Job, evaluate};
 use gc_label::Seed;
-use gc_lanes::{LongSha256, hash_eight, hash_four};
+use gc_lanes::{LongSha256, SIDE_BY_SIDE, digest_eight, hash_eight, hash_four};
 use gc_work::garble;
 use gc_workers::Open;
 use sha2::{Digest, Sha256};
@@ -121,6 +121,7 @@ impl Subject {
             Part::ReadFile => self.read_file(alloc),
             Part::Pieces => self.pieces(alloc),
             Part::FileSha => sha(&self.garbled_file),
+            Part::EightSha => self.eight_files(),
             Part::KitSha => not_zeros(Sha256::digest(&self.garbled_file)),
         }
     }
@@ -169,6 +170,11 @@ impl Subject {
 
     fn read_file(&self, alloc: Global) -> Result<()> {
         not_zeros(read_garbled(alloc, &self.garbled_file)?.digest())
+    }
+
+    fn eight_files(&self) -> Result<()> {
+        let [digest, ..] = digest_eight(&[self.garbled_file.as_slice(); SIDE_BY_SIDE]);
+        not_zeros(digest)
     }
 
     fn pieces(&self, alloc: Global) -> Result<()> {

@@ -39,12 +39,14 @@ pub enum Part {
     Pieces,
     /// SHA-256 over the bytes of the garbled file.
     FileSha,
-    /// The same by the kit's `sha2`.
+    /// The same of eight garbled files side by side.
+    EightSha,
+    /// The same of one by the kit's `sha2`.
     KitSha,
 }
 
 /// All parts, each with its name on the command line.
-static PARTS: [(&str, Part); 24] = [
+static PARTS: [(&str, Part); 25] = [
     ("read", Part::Read),
     ("plain", Part::Plain),
     ("lanes", Part::Lanes),
@@ -68,6 +70,7 @@ static PARTS: [(&str, Part); 24] = [
     ("read_file", Part::ReadFile),
     ("pieces", Part::Pieces),
     ("file_sha", Part::FileSha),
+    ("eight_sha", Part::EightSha),
     ("kit_sha", Part::KitSha),
 ];
 
