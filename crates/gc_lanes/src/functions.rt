@@ -1,7 +1,4 @@
 //! The functions of SHA-256 (FIPS 180-4, 4.1.2), in each lane at once.
-//!
-//! Two rotations of one word are nested, ROTR a (x ⊕ ROTR b x) in place of ROTR a x ⊕ ROTR (a + b) x: the
-//! word is read fewer times, and so copied less often.
 
 ghost use Rattle.std.specs.Prelude.{◌≡◌, ◌<◌, ℕ};
 ghost use Rattle.sha2.specs.Sha256.{big_sigma0, big_sigma1, ch, maj, small_sigma0, small_sigma1};
@@ -30,9 +27,9 @@ pub(crate) fn maj<W: Words>(x: W, y: W, z: W) -> W
 pub(crate) fn big_sigma_0<W: Words>(x: W) -> W
     ensures { (j : ℕ) → j < W.lanes → W.lane result j ≡ big_sigma0 (W.lane x j) }
 {
-    let inner = x.xor(x.rotate_right(9));
-    let outer = x.xor(inner.rotate_right(11));
-    outer.rotate_right(2)
+    x.rotate_right(2)
+        .xor(x.rotate_right(13))
+        .xor(x.rotate_right(22))
 }
 
 /// Σ 1: rotations by 6, 11 and 25.
@@ -40,9 +37,9 @@ pub(crate) fn big_sigma_0<W: Words>(x: W) -> W
 pub(crate) fn big_sigma_1<W: Words>(x: W) -> W
     ensures { (j : ℕ) → j < W.lanes → W.lane result j ≡ big_sigma1 (W.lane x j) }
 {
-    let inner = x.xor(x.rotate_right(14));
-    let outer = x.xor(inner.rotate_right(5));
-    outer.rotate_right(6)
+    x.rotate_right(6)
+        .xor(x.rotate_right(11))
+        .xor(x.rotate_right(25))
 }
 
 /// σ 0: rotations by 7 and 18, and a shift by 3.
@@ -50,8 +47,9 @@ pub(crate) fn big_sigma_1<W: Words>(x: W) -> W
 pub(crate) fn small_sigma_0<W: Words>(x: W) -> W
     ensures { (j : ℕ) → j < W.lanes → W.lane result j ≡ small_sigma0 (W.lane x j) }
 {
-    let inner = x.xor(x.rotate_right(11));
-    inner.rotate_right(7).xor(x.shift_right(3))
+    x.rotate_right(7)
+        .xor(x.rotate_right(18))
+        .xor(x.shift_right(3))
 }
 
 /// σ 1: rotations by 17 and 19, and a shift by 10.
@@ -59,6 +57,7 @@ pub(crate) fn small_sigma_0<W: Words>(x: W) -> W
 pub(crate) fn small_sigma_1<W: Words>(x: W) -> W
     ensures { (j : ℕ) → j < W.lanes → W.lane result j ≡ small_sigma1 (W.lane x j) }
 {
-    let inner = x.xor(x.rotate_right(2));
-    inner.rotate_right(17).xor(x.shift_right(10))
+    x.rotate_right(17)
+        .xor(x.rotate_right(19))
+        .xor(x.shift_right(10))
 }
