@@ -117,8 +117,8 @@ module _ {h r d e t : List ℕ} {hasher : LongSha256} (body : IsBody h r d e t h
       → before_trailer (h ++ r ++ d ++ e ++ t ++ piece) ≡ h ++ (r ++ q1) ++ (d ++ q2) ++ (e ++ q3)
   before_step full none =
       let n : List ℕ = h ++ (r ++ q1) ++ (d ++ q2) ++ (e ++ q3) in
-      let long : length n ≡ length (n ++ (t ++ q4)) - 32 = omega (arith, length-append n (t ++ q4)) in
-      rw (← view_step none) (take_at n (t ++ q4) (length (n ++ (t ++ q4)) - 32) long)
+      let all = length-append n (t ++ q4) in
+      rw (← view_step none) (take_at n (t ++ q4) (length (n ++ (t ++ q4)) - 32) (omega arith))
 
   pub given_step : (digest : Option (Bor (List ℕ)))
       → IfSome digest (λ given.

@@ -253,7 +253,8 @@ impl<A: Allocator + Copy> Body<A> {
     /// With these bytes more, or the fault that comes with them. A digest that is given is that of all bytes but the
     /// last 32: where the bytes are a whole file, it takes the place of the hasher's.
     pub(crate) fn with(self, piece: &[u8], digest: Option<&[u8; 32]>) -> Result<Body<A>, FileFault>
-        requires { IfSome digest (λ given. given.now ≡ sha256 (before_trailer (self ++ piece.now))) }
+        requires { IfSome digest (λ given.
+            given.now ≡ sha256 (before_trailer (self ++ piece.now))) }
         ensures ok { IfOk result (λ b. b ≡ self ++ piece.now) }
         ensures sound { IfOk result IsSound }
         ensures err { IfErr result (λ e.

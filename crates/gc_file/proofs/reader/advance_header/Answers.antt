@@ -22,5 +22,5 @@ with-requires g c =
       append_assoc,
       take-append-drop,
     ) refl in
-    subst (λ (x : List ℕ). IfSome c.args.digest (λ given. given.now ≡ sha256 (before_trailer x))) same
-    c.requires.digest
+    subst (λ (x : List ℕ). IfSome c.args.digest (λ given. given.now ≡ sha256 (before_trailer x)))
+    same c.requires.digest
