@@ -6,6 +6,7 @@ use crate::block::{BLOCK, Block, MadeBlock};
 use crate::exchange::{Exchange, MOST_OUT};
 use crate::origin::Origin;
 use crate::pending::Pending;
+use crate::retreat::Retreat;
 use gc_circuit::Memory;
 use gc_workers::{Gatehouse, Open};
 use std::alloc::Allocator;
@@ -17,6 +18,9 @@ const FEW: usize = 8;
 /// and with this many they have enough for a while.
 const MANY: usize = 24;
 
+/// How many gates make a block in a retreat: some that are hashed together, and so few that hardly a gate is postponed.
+const BLOCK_ALONE: usize = 16;
+
 /// The helpers' blocks, as the calling thread, worker 0, counts them: it offers blocks, takes them back, and makes
 /// those that no helper takes.
 #[derive(Drop)]
@@ -26,6 +30,7 @@ pub(crate) struct Helpers<'e, P: Pending, O: Origin<P>, A: Allocator, H: Gatehou
     observer: &'e H,
     // How many blocks were offered and aren't back.
     out: usize,
+    retreat: Retreat,
     // Blocks that are to be filled anew.
     free: Vec<Block<P, O, A>, A>,
 }
@@ -42,6 +47,7 @@ impl<'e, P: Pending, O: Origin<P>, A: Allocator + Copy, H: Gatehouse> Helpers<'e
             exchange,
             observer,
             out: 0,
+            retreat: Retreat::none(),
             free: Vec::with_capacity(alloc, 1)?,
         })
     }
@@ -49,7 +55,9 @@ impl<'e, P: Pending, O: Origin<P>, A: Allocator + Copy, H: Gatehouse> Helpers<'e
     /// How many waiting gates make a block: fewer while the helpers may run out of work.
     #[inline]
     pub(crate) fn gates_of_block(&self) -> usize {
-        if self.out >= MANY {
+        if self.retreat.is_on() {
+            BLOCK_ALONE
+        } else if self.out >= MANY {
             BLOCK
         } else if self.out >= FEW {
             BLOCK / 2
@@ -80,10 +88,14 @@ impl<'e, P: Pending, O: Origin<P>, A: Allocator + Copy, H: Gatehouse> Helpers<'e
         Ok(block)
     }
 
-    /// Offers a block. It comes back at once where the helpers have enough to do.
+    /// Offers a block. It comes back at once where the helpers have enough to do, and in a retreat.
     pub(crate) fn offer<R: Wait>(&mut self, rt: &R, block: Block<P, O, A>) -> Option<Block<P, O, A>>
         ensures { IfSome result (λ b. b ≡ block) }
     {
+        if self.retreat.is_on() {
+            self.retreat.count();
+            return Some(block);
+        }
         if self.out >= MOST_OUT {
             return Some(block);
         }
@@ -101,10 +113,11 @@ impl<'e, P: Pending, O: Origin<P>, A: Allocator + Copy, H: Gatehouse> Helpers<'e
         block.make(self.observer, 0)
     }
 
-    /// A block of gates that helpers hold, which report them, made by the calling thread.
-    pub(crate) fn make_held(&self, block: Block<P, O, A>) -> MadeBlock<P, O, A>
+    /// A block of gates that helpers hold, which report them, made by the calling thread. It goes into retreat.
+    pub(crate) fn make_held(&mut self, block: Block<P, O, A>) -> MadeBlock<P, O, A>
         ensures { result ≡ block }
     {
+        self.retreat.begin();
         block.make(&Open, 0)
     }
 

@@ -25,6 +25,7 @@ mod origin;
 mod pending;
 mod postponed;
 mod rest;
+mod retreat;
 mod sleepers;
 mod threads;
 mod to_evaluate;

@@ -12,6 +12,8 @@ mod pools;
 #[cfg(test)]
 mod reports;
 #[cfg(test)]
+mod retreats;
+#[cfg(test)]
 mod shared_stores;
 #[cfg(test)]
 mod sleepers;
