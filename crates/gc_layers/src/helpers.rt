@@ -19,6 +19,7 @@ const FEW: usize = 8;
 const MANY: usize = 24;
 
 /// How many gates make a block in a retreat: some that are hashed together, and so few that hardly a gate is postponed.
+/// With 8 or 24 it takes as long.
 const BLOCK_ALONE: usize = 16;
 
 /// The helpers' blocks, as the calling thread, worker 0, counts them: it offers blocks, takes them back, and makes

@@ -1,7 +1,7 @@
 //! The calling thread's retreats from its helpers.
 
-/// How many blocks a retreat takes: half a million AND gates. Beside four busy processes helpers hold gates some ten
-/// milliseconds after they are asked again. A quarter as many blocks, and evaluating takes a sixth longer there.
+/// How many blocks a retreat takes: half a million AND gates. Beside four busy processes a helper holds gates within
+/// some ten milliseconds. With a quarter as many blocks, evaluating takes an eighth longer there.
 const RETREAT: u32 = 32768;
 
 /// While it is in retreat the calling thread offers its helpers nothing, and makes all blocks by itself: where the

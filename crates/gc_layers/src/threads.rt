@@ -29,9 +29,10 @@ pub const GATES_FOR_THREAD: u32 = 1024;
 /// goes from gate to gate in file order. AND gates wait to be made in blocks, by all threads; a gate that reads a label
 /// which isn't there yet is postponed until it is. A thread is started for each [`GATES_FOR_THREAD`] AND gates, at
 /// most; where none can be started the calling thread makes all. It never waits for a helper: where it has nothing else
-/// to make, it makes gates that helpers hold. It allocates for the marks and for the gates that wait or are postponed:
-/// up to 66 blocks of 64 gates, and 4,096 gates. Each gate is reported to the observer once, by the worker that takes
-/// it; the calling thread is worker 0, and doesn't report what it makes in a helper's place.
+/// to make, it makes gates that helpers hold, and then all that comes, for a while. It allocates for the marks and for
+/// the gates that wait or are postponed: up to 66 blocks of 64 gates, and 4,096 gates. Each gate is reported to the
+/// observer once, by the worker that takes it; the calling thread is worker 0, and doesn't report what it makes in a
+/// helper's place.
 ///
 /// A wire without a mark has zero or its label. The labels must be those of the input wires, and each other one zero or
 /// right.
