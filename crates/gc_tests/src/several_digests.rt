@@ -13,10 +13,13 @@ static EDGES: [usize; 10] = [0, 55, 56, 63, 64, 4_095, 4_096, 4_097, 8_192, 12_3
 /// Lengths of at least one of the hasher's buffers.
 static LONG: [usize; 5] = [12_300, 4_096, 8_255, 4_097, 8_192];
 
+/// How many bytes the messages are taken from.
+const POOL: usize = 20_000;
+
 /// Bytes of which each message is a part.
 fn pool(alloc: Global) -> Result<Vec<u8>, AllocError> {
     let mut bytes = Vec::new(alloc);
-    for i in 0..20_000 {
+    for i in 0..POOL {
         bytes.push((i % 251) as u8)?;
     }
     Ok(bytes)

@@ -1,5 +1,8 @@
 //! A test of the calling thread's retreat: a helper holds gates that all others wait for, and it goes on alone.
 
+ghost use Rattle.std.specs.Prelude.{◌≤◌};
+ghost use Rattle.gc_work_tests.specs.declared.retreats.TheConstants.{LAST};
+
 use crate::fixtures::{read, seed_of};
 use gc_half::garble_one_thread;
 use gc_layers::garble_by_layers;
