@@ -127,8 +127,8 @@ fn assert_evaluated<R: Threads + Wait + Sync + Abort>(
     Ok(())
 }
 
-/// The fault of a list with these bad lines at their places, how many files were opened, and whether the last of them is
-/// `no_file`.
+/// The fault of a list with these bad lines at their places, how many files were opened, and whether the last of them
+/// is `no_file`.
 fn fault_of<R: Threads + Wait + Sync>(
     rt: &R,
     alloc: Global,
@@ -146,7 +146,8 @@ fn fault_of<R: Threads + Wait + Sync>(
     Ok((fault, opened, name == "no_file"))
 }
 
-/// Each fault at each place of lists of one to nine lines is the list's. No file is opened after one that can't be read.
+/// Each fault at each place of lists of one to nine lines is the list's. No file is opened after one that can't be
+/// read.
 #[test]
 fn each_fault_at_each_place(rt: HostRuntime) -> Result<(), Fail> {
     let alloc = rt.alloc();

@@ -51,7 +51,8 @@ module _ {A : Type 0} (bytes : FileBytes) (old : FailedFiles) where
 
   -- or files with a fault, after which no more are read.
   pub read-last : (new : FailedFiles) (words : List (List ℕ)) (lines : List (List (List ℕ)))
-      (files : LineFiles A) → are_whole files ≡ false → AreNamed bytes (HasFailed old new) words files
+      (files : LineFiles A) → are_whole files ≡ false
+      → AreNamed bytes (HasFailed old new) words files
       → AreReadInTurn bytes old new (words ∷ lines) (files ∷ [])
   read-last new words lines (Whole held parts) part named = absurd (cc)
   read-last new words lines (Unread fault) part named = named
@@ -80,7 +81,8 @@ found_where_known P None held given found = tt
 found_where_known P (Some bytes) held given found = rw (← given) found
 
 module _ (bytes : FileBytes) (Failed : List ℕ → Type 0) (c : Netlist) where
-  -- The fault of reading a garbled file, that of its bytes, and that of binding it are faults of the words that name it.
+  -- The fault of reading a garbled file, that of its bytes, and that of binding it are faults of
+  -- the words that name it.
   garbled_fault : (garbled : List ℕ) (labels : List (List ℕ)) (fault : Fault)
       → HasGarbledFault bytes Failed garbled fault
       → HasNamedFault bytes Failed c (garbled ∷ labels) fault
@@ -178,7 +180,8 @@ module _ {A : Type 0} (bytes : FileBytes) (old new : FailedFiles) (c : Netlist) 
 
   none_made : (all : List (List (List ℕ))) (fault : Fault) (lines : List (List (List ℕ)))
       (read : List (LineFiles A)) → AreReadInTurn bytes old new lines read
-      → (FirstBadJob bytes (HasFailed old new) c lines fault → FirstBadJob bytes (HasFailed old new) c all fault)
+      → (FirstBadJob bytes (HasFailed old new) c lines fault
+      → FirstBadJob bytes (HasFailed old new) c all fault)
       → FirstMakeNoJob c read fault → HasLinesFault bytes (HasFailed old new) c all fault
   none_made all fault [] [] are up none = absurd none
   none_made all fault [] (files ∷ read) are up none = absurd are

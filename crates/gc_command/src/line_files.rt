@@ -16,8 +16,8 @@ use gc_file::{LabelFile, read_garbled_by_digest};
 use gc_job::Job;
 use std::alloc::Allocator;
 
-/// The files that a line names, as they were read. The garbled file's bytes aren't checked yet, so that those of several
-/// lines can be digested side by side.
+/// The files that a line names, as they were read. The garbled file's bytes aren't checked yet, so that those of
+/// several lines can be digested side by side.
 #[derive(Drop)]
 pub enum LineFiles<A: Allocator> {
     /// The garbled file can't be read, or there is no memory for it.

@@ -40,9 +40,9 @@ impl<'a, P: Progress> LineSteps<'a, P> {
 }
 
 /// The jobs that at most eight lines name. The files of the lines are read in turn, up to the first fault of one that
-/// can't be read, or of a label file. Then their garbled files are digested side by side, and checked and bound in turn:
-/// so the fault is that of the first line that names no job. The caller ensures that this is the digest of the circuit's
-/// canonical text, and that each line has a token.
+/// can't be read, or of a label file. Then their garbled files are digested side by side, and checked and bound in
+/// turn: so the fault is that of the first line that names no job. The caller ensures that this is the digest of the
+/// circuit's canonical text, and that each line has a token.
 pub fn read_group<'c, A: Allocator + Copy, F: Files, P: Progress>(
     alloc: A,
     circuit: &'c Circuit<A>,
@@ -111,8 +111,8 @@ fn trailers_due<A: Allocator + Copy>(
 }
 
 /// The jobs that the files of at most eight lines make. The caller ensures that `digest` is that of the circuit's
-/// canonical text, and that `trailers` begin with those that are due. The bytes of each garbled file are dropped once it
-/// is read.
+/// canonical text, and that `trailers` begin with those that are due. The bytes of each garbled file are dropped once
+/// it is read.
 fn jobs_of_files<'c, A: Allocator + Copy>(
     alloc: A,
     circuit: &'c Circuit<A>,

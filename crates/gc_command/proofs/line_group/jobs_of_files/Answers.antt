@@ -10,7 +10,8 @@ job_of_files-requires-clause-trailer g c =
     let count : c.len-in-loop-files.result ≡ length c.loop-files.jobs.items =
     omega (arith, c.len-in-loop-files.ensures) in
     rw count
-    (trailer-at c.args.trailers.now c.args.read.items (length c.loop-files.jobs.items) c.in-Some.files
+    (trailer-at c.args.trailers.now c.args.read.items (length c.loop-files.jobs.items)
+    c.in-Some.files
     c.requires.trailers next.0 next.1)
 
 pub returns-in_err-job_of_files-clause-fault : goal.returns-in_err-job_of_files-clause-fault
@@ -25,15 +26,25 @@ pub loop-files-preserved : goal.loop-files-preserved
 loop-files-preserved g c =
     let job = c.in_ok-job_of_files.field-0 in
     let left = c.loop-files.invariant.left ∙ c.in-Some.ensures.steps.0 in
-    let next = next-left c.args.read.items (length c.loop-files.jobs.items) c.in-Some.files _ left in
+    let next = next-left c.args.read.items (length c.loop-files.jobs.items) c.in-Some.files _ left
+    in
     let count : length c.push.new.self.items ≡ suc (length c.loop-files.jobs.items) =
-    omega (arith, ap length c.in_ok-push.ensures.items, length-append c.loop-files.jobs.items (job ∷ [])) in
+    omega (
+      arith,
+      ap length c.in_ok-push.ensures.items,
+      length-append c.loop-files.jobs.items (job ∷ []),
+    ) in
     let made = c.in_ok-job_of_files.ensures.made in
     record {
       can_next = tt;
       is_finite = tt;
       left = rw count (sym next.2);
-      count = omega (arith, c.loop-files.invariant.count, ap length c.in-Some.ensures.steps.0, c.in-Some.ensures.steps.1);
+      count = omega (
+        arith,
+        c.loop-files.invariant.count,
+        ap length c.in-Some.ensures.steps.0,
+        c.in-Some.ensures.steps.1,
+      );
       made = λ later rest.
           rw (c.in_ok-push.ensures.items, append_assoc c.loop-files.jobs.items (job ∷ []) later)
           (c.loop-files.invariant.made (job ∷ later)

@@ -22,7 +22,8 @@ returns-then-not-are_whole-clause-read g c =
     at c.read_line-line_files.ensures.named in
     rw c.in_ok-push.ensures.items
     (c.loop-line.invariant.read _ (c.read_line-line_files.result ∷ [])
-    (rw next (read-last _ _ _ _ _ _ (sym c.are_whole-are_whole.ensures ∙ c.if-not-are_whole.true) named)))
+    (rw next (read-last _ _ _ _ _ _
+    (sym c.are_whole-are_whole.ensures ∙ c.if-not-are_whole.true) named)))
 
 pub returns-then-not-are_whole-clause-same : goal.returns-then-not-are_whole-clause-same
 returns-then-not-are_whole-clause-same g c = λ n.

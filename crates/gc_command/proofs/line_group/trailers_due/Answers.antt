@@ -9,7 +9,8 @@ use Rattle.gc_command.proofs.line_group.trailers_due.Goals as goal
 pub returns : goal.returns
 returns g c =
     let collected = map_from_collect c.collect.result c.collect.ensures.ran
-    (YieldsList-from_map_by _ (λ message. message.now) (λ files. before_trailer (garbled_bytes files))
+    (YieldsList-from_map_by _ (λ message. message.now)
+    (λ files. before_trailer (garbled_bytes files))
     (YieldsList-at c.map.ensures.source (YieldsList-from_slice c.args.read.now c.iter.ensures.rest))
     c.map.ensures.closure (λ x r q k. search (rules, tests))) in
     let shown = rw c.in_ok-messages.was at collected in

@@ -70,9 +70,11 @@ loop-alloc-preserved g c =
     ∙ c.split_at-in-loop-alloc.ensures.front_len in
     let more : length c.append.new.self.items ≡ length jobs + c.min.result =
     omega (arith, count, ap length c.in_ok-append.ensures.items, length-append jobs made) in
-    let later : drop (length c.append.new.self.items) (map (λ line. tokens line.now) c.args.lines.now)
+    let later : drop (length c.append.new.self.items)
+    (map (λ line. tokens line.now) c.args.lines.now)
     ≡ drop c.min.result rest =
-    rw more (sym (drop-drop c.min.result (length jobs) (map (λ line. tokens line.now) c.args.lines.now))) in
+    rw more (sym (drop-drop c.min.result (length jobs)
+    (map (λ line. tokens line.now) c.args.lines.now))) in
     let named = rw (fun_ext c.loop-alloc.invariant.same, words) at c.in_ok-made.ensures.named in
     record {
       most = omega (
@@ -95,7 +97,8 @@ loop-alloc-preserved g c =
 
 pub returns-clause-named : goal.returns-clause-named
 returns-clause-named g c =
-    let none : drop (length c.loop-alloc.jobs.items) (map (λ line. tokens line.now) c.args.lines.now)
+    let none : drop (length c.loop-alloc.jobs.items)
+    (map (λ line. tokens line.now) c.args.lines.now)
     ≡ [] =
     drop_all (length c.loop-alloc.jobs.items) _
     (omega (
