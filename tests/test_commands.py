@@ -588,7 +588,7 @@ LIST_FAULTS = [
     (b"g a1 d", "1", "42 NoSuchValue"),
     (b"g a1 two", "1", "43 WrongWidth"),
     (b"g a1 a1 two", "1", "44 DoubleValue"),
-    # Each job's files are read and bound before the next job's are opened.
+    # Each fault of a job's files comes before those of the next job's.
     (b"g a1 a0 c1\nnothing", "1", "44 DoubleValue"),
     (b"g a1 b0 c1\nempty nothing", "1", "31 Truncated"),
     (b"g a1 b0 c1\ng a1 b0", "0", "45 MissingValue"),

@@ -11,13 +11,13 @@ use gc_order::Order;
 use gc_refusing::Refusing;
 use gc_work::WorkFault;
 use gc_worked::MemFiles;
-use gc_worked::circuits::{SEED, XOR};
+use gc_worked::circuits::SEED;
 use std::alloc::Global;
 use std::process::Abort;
 use std::test::Fail;
 
 /// Orders over the files of a job and a file that is none, and the lines that explain their faults.
-static ORDERS: [(&[&str], &str); 8] = [
+static ORDERS: [(&[&str], &str); 11] = [
     (
         &["check", "bad"],
         "halfgates: bad:1:3: a number from 0 to 4294967295 belongs here\n",
@@ -44,6 +44,19 @@ static ORDERS: [(&[&str], &str); 8] = [
 (line 2 of bad list)\n",
     ),
     (
+        &["jobs", "c.txt", "bad garbled"],
+        "halfgates: bad: byte 0: a garbled file begins with HGARBLE1 or HGARBLE2 \
+(line 3 of bad garbled)\n",
+    ),
+    (
+        &["jobs", "c.txt", "bad labels"],
+        "halfgates: bad: byte 0: a label file begins with HLABELS1 (line 2 of bad labels)\n",
+    ),
+    (
+        &["jobs", "c.txt", "bad job"],
+        "halfgates: 0: it is a second file for value 0, counted from 0 (line 2 of bad job)\n",
+    ),
+    (
         &["run", "c.txt", "0", "1", "0"],
         "halfgates: the length of the seed is 1, and 64 hexadecimal digits are due\n",
     ),
@@ -52,6 +65,21 @@ static ORDERS: [(&[&str], &str); 8] = [
         "halfgates: c.txt: the file can't be written: it is a name of standard output or of \
 the circuit's file\n",
     ),
+];
+
+/// A chain of XOR gates, with which seven lines of a list are read at a time.
+const CHAIN: &str = concat!(
+    "12 14\n2 1 1\n1 1\n2 1 0 1 2 XOR\n2 1 0 2 3 XOR\n2 1 0 3 4 XOR\n2 1 0 4 5 XOR\n",
+    "2 1 0 5 6 XOR\n2 1 0 6 7 XOR\n2 1 0 7 8 XOR\n2 1 0 8 9 XOR\n2 1 0 9 10 XOR\n",
+    "2 1 0 10 11 XOR\n2 1 0 11 12 XOR\n2 1 0 12 13 XOR\n",
+);
+
+/// Lists of jobs. Where one has several faults, the first is explained.
+static LISTS: [(&str, &str); 4] = [
+    ("bad list", "g 0 1\ng no_file"),
+    ("bad garbled", "g 0 1\n\nbad 0 1\ng 0 1\ng 0 0"),
+    ("bad labels", "g 0 1\ng 0 bad\nbad 0 1"),
+    ("bad job", "g 0 1\ng 0 0\ng 0 1\ng 1 1"),
 ];
 
 /// Asserts that a fault is explained by this line, and by no other or none where a growth is refused.
@@ -84,12 +112,11 @@ fn assert_explained(
 #[test]
 fn each_growth_refused(rt: HostRuntime) -> Result<(), Fail> {
     let alloc = rt.alloc();
-    let mut files = job_files(alloc, XOR, &[false, true])?;
+    let mut files = job_files(alloc, CHAIN, &[false, true])?;
     files.push(("bad", Vec::from_slice(alloc, b"1 x".as_slice())?))?;
-    files.push((
-        "bad list",
-        Vec::from_slice(alloc, b"g 0 1\ng no_file".as_slice())?,
-    ))?;
+    for (name, list) in &LISTS {
+        files.push((*name, Vec::from_slice(alloc, list.as_bytes())?))?;
+    }
     let files = held(alloc, &files)?;
     for (words, line) in &ORDERS {
         let order = order(alloc, words)?;

@@ -54,10 +54,16 @@ const EVALUATION: [Part; 2] = [(46, 4), OUTPUT_LINE];
 /// 121 bytes, in room for 8, 16, 32, 64 and 128.
 const CHECK_LINES: Part = (52, 5);
 
-/// The lines of a list, or the words of a line: where room for several is refused, there is room for fewer.
+/// The lines of a list, the words of a line, or the garbled files of a few lines: where room for several is refused,
+/// there is room for fewer.
 const PARTS: Part = (0, 1);
 
 const LIST_OF_JOBS: Part = (52, 1);
+
+/// The files of a few lines, before the garbled files are checked, and their jobs.
+const LINES: Part = (52, 1);
+
+const JOBS: Part = (52, 1);
 
 const WORDS: Part = (52, 1);
 
@@ -122,8 +128,9 @@ static ORDERS: [(&[&str], &str, &[&[Part]]); 11] = [
         "01\n\n",
         &[
             &FIRST,
-            &[FILE, PARTS, LIST_OF_JOBS, PARTS, WORDS, GARBLED],
+            &[FILE, PARTS, LIST_OF_JOBS, LINES, PARTS, WORDS, FILE],
             &THREE_LABEL_FILES,
+            &[PARTS, JOBS, GARBLED],
             &JOBS_EVALUATION,
             &[OUTPUT_LINE],
         ],

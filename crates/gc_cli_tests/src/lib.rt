@@ -1,6 +1,6 @@
 //! The tests of commands that need what no disk gives: files that fail at each call and in mid-stream, each growth
-//! refused in turn, streams that fail, the lines that explain faults, the steps that commands report, and whole runs
-//! over files in memory.
+//! refused in turn, lists of jobs with faults at each place, streams that fail, the lines that explain faults, the steps
+//! that commands report, and whole runs over files in memory.
 #![tactic(auto)]
 
 #[cfg(test)]
@@ -13,6 +13,8 @@ mod failing_files;
 mod growth;
 #[cfg(test)]
 mod host_files;
+#[cfg(test)]
+mod job_lists;
 #[cfg(test)]
 mod jobs;
 #[cfg(test)]

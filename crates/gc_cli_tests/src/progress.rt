@@ -10,7 +10,7 @@ use std::sync::{Mutex, Wait};
 use std::test::Fail;
 
 /// Orders over the full adder, and the steps of their work.
-static ORDERS: [(&[&str], &str); 6] = [
+static ORDERS: [(&[&str], &str); 7] = [
     (&["check", "c.txt"], "1 of 1: reading the circuit\n"),
     (
         &["run", "c.txt", SEED, "1", "0", "1"],
@@ -28,11 +28,21 @@ static ORDERS: [(&[&str], &str); 6] = [
         &["jobs", "c.txt", "list"],
         "1 of 3: reading the circuit\n2 of 3: reading job 1 of 1\n3 of 3: evaluating 1 jobs\n",
     ),
+    (&["jobs", "c.txt", "three"], THREE_JOBS),
     (
         &["audit", "c.txt", SEED, "g", "0", "1", "2"],
         "1 of 3: reading the circuit\n2 of 3: reading the files\n3 of 3: garbling 5 gates\n",
     ),
 ];
+
+/// The steps of a list of three jobs, of which the files of two are read before they are checked.
+const THREE_JOBS: &str = "\
+1 of 3: reading the circuit
+2 of 3: reading job 1 of 3
+2 of 3: reading job 2 of 3
+2 of 3: reading job 3 of 3
+3 of 3: evaluating 3 jobs
+";
 
 /// An observer that writes each step in a line.
 #[derive(Drop)]
@@ -55,7 +65,9 @@ impl<'r, R: Wait> Progress for Observer<'r, R> {
 #[test]
 fn each_step_in_turn(rt: HostRuntime) -> Result<(), Fail> {
     let alloc = rt.alloc();
-    let files = job_files(alloc, FULL_ADDER, &[true, false, true])?;
+    let mut files = job_files(alloc, FULL_ADDER, &[true, false, true])?;
+    let three = b"g 0 1 2\ng 0 1 2\ng 0 1 2".as_slice();
+    files.push(("three", Vec::from_slice(alloc, three)?))?;
     let files = held(alloc, &files)?;
     for (words, steps) in &ORDERS {
         let order = order(alloc, words)?;

@@ -13,7 +13,7 @@ IsFileFault faults.Memory = Unit {0}
 IsFileFault _ = ⊥
 
 module _ (bytes : FileBytes) (Failed : List ℕ → Type 0) where
-  garbled-kind : (name : List ℕ) (fault : Fault) → HasGarbledFault bytes Failed name fault
+  pub garbled-kind : (name : List ℕ) (fault : Fault) → HasGarbledFault bytes Failed name fault
       → IsFileFault fault
   garbled-kind name fault has = grind arith
 

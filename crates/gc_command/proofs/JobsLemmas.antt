@@ -1,11 +1,10 @@
 -- From what each step of `jobs` returns to what it returns as a whole.
-use Rattle.gc_command.proofs.JobsNames.{◌≡◌, ℕ, ◌+◌, ◌<◌, map, drop, drop-cons, get_or, Bool, List, [], ◌∷◌, IfSome, sum, inl, inr, length, slice_get, Some, sym, ap, ◌∙◌, zero, suc, refl, add-one, arith, fun_ext, slice_get_within, slice_get_cases, JobParts, AreEvaluated, AreOnOneCircuit, FileBytes, GivesFile, Fault, IsJobList, listed, NameFiles, NameJob, HasNamedFault, NameJobs, FirstBadJob, HasLinesFault, HasListFault, HasJobsFault}
+use Rattle.gc_command.proofs.JobsNames.{◌≡◌, ℕ, ◌+◌, ◌<◌, map, drop, drop-cons, get_or, Bool, List, [], ◌∷◌, IfSome, sum, inl, inr, length, slice_get, Some, sym, ap, ◌∙◌, zero, suc, refl, add-one, arith, slice_get_within, slice_get_cases, JobParts, AreEvaluated, AreOnOneCircuit, FileBytes, GivesFile, Fault, IsJobList, listed, NameJob, HasNamedFault, NameJobs, FirstBadJob, HasLinesFault, HasListFault, HasJobsFault}
 use Rattle.gc_netlist.specs.Circuit.{Netlist, IsLawful}
 use Rattle.gc_file.specs.GarbledFile.{GarbledParts, IsGarbledFile}
-use Rattle.gc_file.specs.LabelFile.{LabelFileParts}
 use Rattle.gc_command.specs.declared.fault.Fault.TheVariants as faults
 use Rattle.gc_command.specs.CircuitFile.{IsCircuit, HasReadingFault}
-use Rattle.gc_command.specs.Eval.{AreLabelFiles, HasLabelFilesFault}
+use Rattle.gc_command.specs.Eval.{HasLabelFilesFault}
 use Rattle.gc_command.proofs.AnswerLemmas.{length-decoded}
 use Rattle.gc_command.proofs.EvalLemmas.{labels-kind}
 
@@ -14,20 +13,6 @@ pub parted : {X : Type 0} {words shown others : List X} {first : X} → shown �
     → shown ≡ first ∷ others → (v : X → List ℕ) {line : List (List ℕ)} → map v words ≡ line
     → line ≡ v first ∷ map v others
 parted same parts v are = sym are ∙ ap (map v) (sym same ∙ parts)
-
--- The files that the steps read are those that the words named before: no step changes a file.
-pub name-files : {old new : FileBytes} {words : List (List ℕ)} {garbled : List ℕ}
-    {labels : List (List ℕ)} {g : GarbledParts} {files : List LabelFileParts}
-    → ((n : List ℕ) → new n ≡ old n) → words ≡ garbled ∷ labels
-    → IfSome (old garbled) (λ held. IsGarbledFile held g) → AreLabelFiles new labels files
-    → NameFiles old words g files
-name-files {garbled = garbled} {labels} same names garbled_read labels_read = record {
-  garbled = garbled;
-  labels = labels;
-  names = names;
-  garbled_read = garbled_read;
-  labels_read = rw (fun_ext same) at labels_read;
-}
 
 module _ (bytes : FileBytes) (Failed : List ℕ → Type 0) where
   -- The fault of the label files is that of the words that name them,

@@ -1,5 +1,5 @@
 -- The names that most proofs of this crate cite, passed on from one place. Declares nothing.
-pub use Rattle.std.proofs.Common.{◌≡◌, ℕ, zero, suc, ◌+◌, ◌<◌, ◌≤◌, ◌==◌, ◌++◌, Bool, true, false, cond, not, List, [], ◌∷◌, All, length, map, filter, take, drop, drop-cons, get_or, slice_get, Some, refl, sym, ap, arith, IfSome, sum, inl, inr, ◌∙◌, add-one, rules, tests, lit<, option_map, Err, ap₂, subst, append_assoc}
+pub use Rattle.std.proofs.Common.{◌≡◌, ℕ, zero, suc, ◌+◌, ◌-◌, ◌<◌, ◌≤◌, ◌==◌, ◌++◌, Bool, true, false, cond, not, List, [], ◌∷◌, All, length, map, filter, take, drop, drop-cons, get_or, slice_get, Option, Some, None, refl, sym, ap, arith, IfSome, sum, inl, inr, ◌∙◌, add-one, rules, tests, lit<, option_map, Err, ap₂, subst, append_assoc}
 pub use Rattle.std.proofs.Math.ListN.{get_or-map}
 pub use Rattle.std.proofs.lemmas.Iterator.Consumers.{YieldsList-at, YieldsList-from_filter, map_from_collect}
 pub use Rattle.std.proofs.lemmas.Iterator.Splits.{YieldsList-from_str_split, YieldsList-from_slice_split}

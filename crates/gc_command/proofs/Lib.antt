@@ -12,3 +12,4 @@ pub mod HexTextLemmas
 pub mod JobListLemmas
 pub mod JobsLemmas
 pub mod JobsNames
+pub mod LineLemmas

@@ -14,4 +14,5 @@ pub mod Job
 pub mod Eval
 pub mod OwnFiles
 pub mod JobList
+pub mod LineFiles
 pub mod Jobs

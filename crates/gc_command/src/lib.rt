@@ -14,6 +14,8 @@ mod garbling;
 mod job;
 mod job_list;
 pub mod jobs;
+mod line_files;
+mod line_group;
 mod lines;
 mod listed_job;
 mod own_files;

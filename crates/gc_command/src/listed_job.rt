@@ -1,19 +1,23 @@
 //! The jobs of a list, from their files.
 
-ghost use Rattle.std.specs.Prelude.{◌≡◌, ◌<◌, ℕ, List, length, map, All, IfOk, IfErr, OnOk};
+ghost use Rattle.std.specs.Prelude.{◌≡◌, ◌<◌, ◌≤◌, ℕ, List, length, map, All, IfOk, IfErr, OnOk};
 ghost use Rattle.sha2.specs.Sha256.{sha256};
 ghost use Rattle.gc_netlist.specs.Canon.{canonical_text};
 ghost use Rattle.gc_netlist.specs.Text.{tokens};
 ghost use Rattle.gc_disk.specs.Files.{HasFailed};
-ghost use Rattle.gc_command.specs.Jobs.{AreListed, HasListFault, HasLinesFault, HasNamedFault, NameJob, NameJobs};
+ghost use Rattle.gc_lanes.specs.declared.digests.TheConstants.{SIDE_BY_SIDE};
+ghost use Rattle.gc_command.specs.Jobs.{AreListed, HasListFault, HasLinesFault, NameJobs};
 
-use crate::evaluated_files::{read_garbled_file, read_label_files};
 use crate::fault::Fault;
-use crate::job_list::{listed_lines, words_of_line};
-use crate::progress::{Progress, Stage};
+use crate::job_list::listed_lines;
+use crate::line_group::{LineSteps, read_group};
+use crate::progress::Progress;
 use gc_circuit::Circuit;
 use gc_disk::Files;
+use gc_file::Version;
+use gc_file::sizes::{LABEL, garbled_size};
 use gc_job::Job;
+use gc_lanes::SIDE_BY_SIDE;
 use std::alloc::Allocator;
 
 /// The jobs of the list in the file of this name. The list's bytes are dropped. The caller ensures that this is the
@@ -39,8 +43,8 @@ pub fn read_listed_jobs<'c, A: Allocator + Copy, F: Files, P: Progress>(
     read_jobs(alloc, circuit, digest, &lines, files, progress)
 }
 
-/// The jobs that lines name. Each job's files are read and bound before the next job's are opened. The caller ensures
-/// that this is the digest of the circuit's canonical text, and that each line has a token.
+/// The jobs that lines name, some lines at a time. The caller ensures that this is the digest of the circuit's canonical
+/// text, and that each line has a token.
 fn read_jobs<'c, A: Allocator + Copy, F: Files, P: Progress>(
     alloc: A,
     circuit: &'c Circuit<A>,
@@ -59,40 +63,30 @@ fn read_jobs<'c, A: Allocator + Copy, F: Files, P: Progress>(
     ensures counted { OnOk result (F.failures files.new ≡ F.failures files.old) }
     ensures same { (n : List ℕ) → F.bytes files.new n ≡ F.bytes files.old n }
 {
+    let most = lines_at_a_time(circuit);
     let mut jobs = Vec::with_capacity(alloc, lines.len())?;
-    for line in lines {
-        let stage = Stage::ReadingJob {
-            job: jobs.len().saturating_add(1),
+    while jobs.len() < lines.len() {
+        let (_, left) = lines.split_at(jobs.len());
+        let (group, _) = left.split_at(most.min(left.len()));
+        let steps = LineSteps {
+            progress,
+            before: jobs.len(),
             jobs: lines.len(),
         };
-        progress.begin(2, 3, stage);
-        jobs.push(read_job(alloc, circuit, digest, line, files)?)?;
+        let mut made = read_group(alloc, circuit, digest, group, files, &steps)?;
+        jobs.append(&mut made)?;
     }
     Ok(jobs)
 }
 
-/// The job that a line names, from its garbled file and its label files. The caller ensures that this is the digest of
-/// the circuit's canonical text, and that the line has a token.
-fn read_job<'c, A: Allocator + Copy, F: Files>(
-    alloc: A,
-    circuit: &'c Circuit<A>,
-    digest: &[u8; 32],
-    line: &str,
-    files: &mut F,
-) -> Result<Job<'c, A, A>, Fault>
-    requires digest { digest.now ≡ sha256 (canonical_text circuit.now) }
-    requires words { 0 < length (tokens line.now) }
-    ensures named { IfOk result (NameJob (F.bytes files.old) circuit.now (tokens line.now)) }
-    ensures fault { IfErr result (HasNamedFault (F.bytes files.old)
-        (HasFailed (F.failures files.old) (F.failures files.new)) circuit.now (tokens line.now)) }
-    ensures counted { OnOk result (F.failures files.new ≡ F.failures files.old) }
-    ensures same { (n : List ℕ) → F.bytes files.new n ≡ F.bytes files.old n }
+/// How many lines are read before their garbled files are checked: as many as are digested side by side, or fewer, but
+/// at least one, where so many garbled files of the circuit have more bytes than the labels with which four jobs are
+/// evaluated side by side, one for each wire and job.
+fn lines_at_a_time<A: Allocator>(circuit: &Circuit<A>) -> usize
+    ensures least { 1 ≤ result }
+    ensures most { result ≤ SIDE_BY_SIDE }
 {
-    let words = words_of_line(alloc, line)?;
-    let Some((garbled, labels)) = words.split_first() else {
-        unreachable!()
-    };
-    let garbled = read_garbled_file(alloc, garbled, files)?;
-    let labels = read_label_files(alloc, labels, files)?;
-    Ok(Job::bind_by_digest(alloc, circuit, digest, garbled, &labels)?)
+    let labels = u64::from(circuit.wires()) * (4 * LABEL as u64);
+    let each = garbled_size(circuit, Version::Two).max(1);
+    (labels / each).clamp(1, SIDE_BY_SIDE as u64) as usize
 }

@@ -1,13 +1,13 @@
 //! Faults of binding a job, and of evaluating it.
 
 use crate::explanation::circuit_of;
-use crate::listed::{JobNames, job_names, with_line};
+use crate::listed::{JobNames, job_names, last_jobs, with_line_of};
 use crate::told::{Told, alone, on_file};
 use gc_circuit::Circuit;
 use gc_disk::Reread;
 use gc_file::{Garbled, LabelFile, read_garbled, read_labels};
-use gc_job::BindFault;
-use gc_order::Order;
+use gc_job::{BindFault, Job};
+use gc_order::{JobsOrder, Order};
 use std::alloc::{AllocError, Allocator};
 
 /// Explains why files are no job for the circuit: those of the job whose file was opened last.
@@ -18,9 +18,12 @@ pub(crate) fn told_of_binding<A: Allocator + Copy, F: Reread>(
     opened: u64,
     fault: BindFault,
 ) -> Option<Told<A>> {
-    let names = job_names(alloc, order, files, opened)?;
     let text = files.read_again(alloc, circuit_of(order))?;
     let circuit = Circuit::read(alloc, &text).ok()?;
+    let names = match order {
+        Order::Jobs(jobs) => unbound_names(alloc, &circuit, jobs, files, opened, fault)?,
+        _ => job_names(alloc, order, files, opened)?,
+    };
     let told = match fault {
         BindFault::OtherCircuit | BindFault::OtherCounts => {
             told_of_garbled(alloc, &circuit, &names, files, fault)?
@@ -30,8 +33,44 @@ pub(crate) fn told_of_binding<A: Allocator + Copy, F: Reread>(
     let Told { place, sentence } = told;
     Some(Told {
         place,
-        sentence: with_line(alloc, order, files, opened, sentence).ok()?,
+        sentence: with_line_of(alloc, order, &names, sentence).ok()?,
     })
+}
+
+/// The names of the first of the last jobs of a list whose files have this fault of binding.
+fn unbound_names<A: Allocator + Copy, F: Reread>(
+    alloc: A,
+    circuit: &Circuit<A>,
+    jobs: &JobsOrder,
+    files: &F,
+    opened: u64,
+    fault: BindFault,
+) -> Option<JobNames<A>> {
+    let digest = circuit.digest();
+    for names in last_jobs(alloc, jobs, files, opened)? {
+        if binding_fault(alloc, circuit, &digest, &names, files) == Some(fault) {
+            return Some(names);
+        }
+    }
+    None
+}
+
+/// The fault of binding the files of a job, if they can be reread and have one.
+fn binding_fault<A: Allocator + Copy, F: Reread>(
+    alloc: A,
+    circuit: &Circuit<A>,
+    digest: &[u8; 32],
+    names: &JobNames<A>,
+    files: &F,
+) -> Option<BindFault> {
+    let bytes = files.read_again(alloc, names.garbled.as_str())?;
+    let garbled = read_garbled(alloc, &bytes).ok()?;
+    let mut labels = Vec::with_capacity(alloc, names.labels.len()).ok()?;
+    for name in &names.labels {
+        let bytes = files.read_again(alloc, name.as_str())?;
+        labels.push(read_labels(alloc, &bytes).ok()?).ok()?;
+    }
+    Job::bind_by_digest(alloc, circuit, digest, garbled, &labels).err()
 }
 
 /// Explains that a garbled file is of another circuit.

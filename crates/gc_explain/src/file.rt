@@ -4,16 +4,16 @@ ghost use Rattle.std.specs.Prelude.{◌≡◌, ◌≢◌, ◌<◌, IfSome};
 ghost use Rattle.gc_disk.specs.Files.{GivesFile};
 ghost use Rattle.gc_explain.specs.Explain.{HasFileFault, IsFilePlace};
 
-use crate::listed::{job_names, with_line};
+use crate::listed::{JobNames, last_jobs};
 use crate::told::{Told, byte_place, file_place};
 use gc_disk::Reread;
 use gc_file::{FileFault, number_at, read_garbled, read_labels};
 use gc_netlist::MAX_GATES;
-use gc_order::Order;
+use gc_order::{JobsOrder, Order};
 use std::alloc::Allocator;
 
-/// Explains a fault of the file that was opened last. Where it can't be reread, or has another fault now, the place is
-/// the whole file.
+/// Explains a fault of a file: of the one that was opened last or, where a list names the files, of the first of the last
+/// jobs' that has the fault.
 pub(crate) fn told_of_file<A: Allocator + Copy, F: Reread>(
     alloc: A,
     order: &Order,
@@ -24,33 +24,107 @@ pub(crate) fn told_of_file<A: Allocator + Copy, F: Reread>(
     requires { fault ≢ FileFault.Memory }
     ensures { IfSome result (λ told. IsFilePlace (F.bytes files.now) fault told.place.items) }
 {
+    match order {
+        Order::Jobs(jobs) => told_of_listed_file(alloc, jobs, files, opened, fault),
+        _ => told_of_last_file(alloc, files, opened <= 2, fault),
+    }
+}
+
+/// Explains a fault of the file that was opened last. Where it can't be reread, or has another fault now, the place is
+/// the whole file.
+fn told_of_last_file<A: Allocator + Copy, F: Reread>(
+    alloc: A,
+    files: &F,
+    is_garbled: bool,
+    fault: FileFault,
+) -> Option<Told<A>>
+    requires { fault ≢ FileFault.Memory }
+    ensures { IfSome result (λ told. IsFilePlace (F.bytes files.now) fault told.place.items) }
+{
     let name = files.trail().name();
-    let is_garbled = is_garbled(alloc, order, files, opened);
     let place = match byte_of_fault(alloc, name, files, is_garbled, fault) {
         Some(byte) => byte_place(alloc, name, byte).ok()?,
         None => file_place(alloc, name).ok()?,
     };
-    let sentence = String::from_str(alloc, meaning_of(is_garbled, fault)).ok()?;
     Some(Told {
         place,
-        sentence: with_line(alloc, order, files, opened, sentence).ok()?,
+        sentence: String::from_str(alloc, meaning_of(is_garbled, fault)).ok()?,
     })
 }
 
-/// Whether the file that was opened last is read as a garbled file.
-fn is_garbled<A: Allocator + Copy, F: Reread>(
+/// Explains a fault of a file that a list names, if one of the last jobs' files has it now.
+fn told_of_listed_file<A: Allocator + Copy, F: Reread>(
     alloc: A,
-    order: &Order,
+    jobs: &JobsOrder,
     files: &F,
     opened: u64,
-) -> bool {
-    match order {
-        Order::Jobs(_) => match job_names(alloc, order, files, opened) {
-            Some(names) => names.garbled.as_str() == files.trail().name(),
-            None => true,
-        },
-        _ => opened <= 2,
+    fault: FileFault,
+) -> Option<Told<A>>
+    requires { fault ≢ FileFault.Memory }
+    ensures { IfSome result (λ told. IsFilePlace (F.bytes files.now) fault told.place.items) }
+{
+    let list = jobs.list.as_str();
+    for names in &last_jobs(alloc, jobs, files, opened)? {
+        let told = told_of_job_file(alloc, list, names, files, fault);
+        if told.is_some() {
+            return told;
+        }
     }
+    None
+}
+
+/// Explains the fault of the first file of a job that has it.
+fn told_of_job_file<A: Allocator + Copy, F: Reread>(
+    alloc: A,
+    list: &str,
+    names: &JobNames<A>,
+    files: &F,
+    fault: FileFault,
+) -> Option<Told<A>>
+    requires { fault ≢ FileFault.Memory }
+    ensures { IfSome result (λ told. IsFilePlace (F.bytes files.now) fault told.place.items) }
+{
+    let line = names.line?;
+    let told = told_of_named(
+        alloc,
+        names.garbled.as_str(),
+        files,
+        true,
+        fault,
+        line,
+        list,
+    );
+    if told.is_some() {
+        return told;
+    }
+    for label in &names.labels {
+        let told = told_of_named(alloc, label.as_str(), files, false, fault, line, list);
+        if told.is_some() {
+            return told;
+        }
+    }
+    None
+}
+
+/// Explains the fault of the file of this name, on this line of a list, if it has it.
+fn told_of_named<A: Allocator + Copy, F: Reread>(
+    alloc: A,
+    name: &str,
+    files: &F,
+    is_garbled: bool,
+    fault: FileFault,
+    line: u64,
+    list: &str,
+) -> Option<Told<A>>
+    requires { fault ≢ FileFault.Memory }
+    ensures { IfSome result (λ told. IsFilePlace (F.bytes files.now) fault told.place.items) }
+{
+    let byte = byte_of_fault(alloc, name, files, is_garbled, fault)?;
+    let meaning = meaning_of(is_garbled, fault);
+    Some(Told {
+        place: byte_place(alloc, name, byte).ok()?,
+        sentence: format!(in alloc; "{meaning} (line {line} of {list})").ok()?,
+    })
 }
 
 /// The byte at which the file of this name has this fault, if it has it.

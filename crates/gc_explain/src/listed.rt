@@ -1,7 +1,8 @@
 //! The files of a job, and its line in a list.
 
 use gc_disk::Reread;
-use gc_order::Order;
+use gc_lanes::SIDE_BY_SIDE;
+use gc_order::{JobsOrder, Order};
 use gc_tokens::is_blank;
 use std::alloc::{AllocError, Allocator};
 use std::str;
@@ -28,13 +29,22 @@ pub(crate) fn job_names<A: Allocator + Copy, F: Reread>(
     match order {
         Order::Eval(eval) => own_names(alloc, &eval.garbled, &eval.labels).ok(),
         Order::Audit(audit) => own_names(alloc, &audit.garbled, &audit.labels).ok(),
-        Order::Jobs(jobs) => {
-            let word = opened.checked_sub(BEFORE_JOBS + 1)?;
-            let text = files.read_again(alloc, jobs.list.as_str())?;
-            names_at(alloc, &text, word)
-        }
+        Order::Jobs(jobs) => last_jobs(alloc, jobs, files, opened)?.pop(),
         _ => None,
     }
+}
+
+/// The names of the files of each job that may have been at work last, where this many files were opened: `jobs` opens
+/// those of up to eight lines before it checks their garbled files. There are none where the list can't be reread.
+pub(crate) fn last_jobs<A: Allocator + Copy, F: Reread>(
+    alloc: A,
+    jobs: &JobsOrder,
+    files: &F,
+    opened: u64,
+) -> Option<Vec<JobNames<A>, A>> {
+    let word = opened.checked_sub(BEFORE_JOBS + 1)?;
+    let text = files.read_again(alloc, jobs.list.as_str())?;
+    names_up_to(alloc, &text, word)
 }
 
 /// The names of the files of a job that no list names.
@@ -62,15 +72,27 @@ fn copies_of<A: Allocator + Copy>(
     Ok(copies)
 }
 
-/// The names on the line of a list that has the word of this number, counted from 0 over all lines.
-fn names_at<A: Allocator + Copy>(alloc: A, list: &[u8], word: u64) -> Option<JobNames<A>> {
+/// The names on the line of a list that has the word of this number, counted from 0 over all lines, and on up to seven
+/// lines with names before it.
+fn names_up_to<A: Allocator + Copy>(
+    alloc: A,
+    list: &[u8],
+    word: u64,
+) -> Option<Vec<JobNames<A>, A>> {
     let (mut line, mut left) = (0u64, word);
+    let mut last = Vec::new(alloc);
     for text in list.split(|byte| *byte == b'\n') {
         line = line.saturating_add(1);
         let words = words_of(alloc, text).ok()?;
         let count = words.len() as u64;
+        if count > 0 {
+            if last.len() == SIDE_BY_SIDE {
+                last.remove(0);
+            }
+            last.push(names_of(alloc, &words, line)?).ok()?;
+        }
         if left < count {
-            return names_of(alloc, &words, line);
+            return Some(last);
         }
         left -= count;
     }
@@ -103,7 +125,7 @@ fn name_of<A: Allocator>(alloc: A, word: &[u8]) -> Option<String<A>> {
     String::from_str(alloc, str::from_utf8(word).ok()?).ok()
 }
 
-/// A sentence on a file of a job, with the job's line where a list names it.
+/// A sentence on the file that was opened last, with the job's line where a list names it.
 pub(crate) fn with_line<A: Allocator + Copy, F: Reread>(
     alloc: A,
     order: &Order,
@@ -111,15 +133,24 @@ pub(crate) fn with_line<A: Allocator + Copy, F: Reread>(
     opened: u64,
     sentence: String<A>,
 ) -> Result<String<A>, AllocError> {
-    let Order::Jobs(jobs) = order else {
-        return Ok(sentence);
-    };
-    let Some(names) = job_names(alloc, order, files, opened) else {
-        return Ok(sentence);
-    };
-    let Some(line) = names.line else {
-        return Ok(sentence);
-    };
-    let (sentence, list) = (sentence.as_str(), jobs.list.as_str());
-    format!(in alloc; "{sentence} (line {line} of {list})")
+    match job_names(alloc, order, files, opened) {
+        Some(names) => with_line_of(alloc, order, &names, sentence),
+        None => Ok(sentence),
+    }
+}
+
+/// A sentence on a file of this job, with the job's line where a list names it.
+pub(crate) fn with_line_of<A: Allocator + Copy>(
+    alloc: A,
+    order: &Order,
+    names: &JobNames<A>,
+    sentence: String<A>,
+) -> Result<String<A>, AllocError> {
+    match (order, names.line) {
+        (Order::Jobs(jobs), Some(line)) => {
+            let (sentence, list) = (sentence.as_str(), jobs.list.as_str());
+            format!(in alloc; "{sentence} (line {line} of {list})")
+        }
+        _ => Ok(sentence),
+    }
 }

@@ -1,0 +1,101 @@
+//! The files that a line of a list names, and the job that they make.
+
+ghost use Rattle.std.specs.Prelude.{◌≡◌, ◌<◌, ℕ, true, List, length, IfOk, IfErr};
+ghost use Rattle.sha2.specs.Sha256.{sha256};
+ghost use Rattle.gc_netlist.specs.Canon.{canonical_text};
+ghost use Rattle.gc_netlist.specs.Text.{tokens};
+ghost use Rattle.gc_disk.specs.Files.{HasFailed};
+ghost use Rattle.gc_command.specs.LineFiles.{AreNamed, MakeJob, MakeNoJob, are_whole, garbled_bytes, trailer_due};
+
+use crate::evaluated_files::read_label_files;
+use crate::fault::Fault;
+use crate::job_list::words_of_line;
+use gc_circuit::Circuit;
+use gc_disk::Files;
+use gc_file::{LabelFile, read_garbled_by_digest};
+use gc_job::Job;
+use std::alloc::Allocator;
+
+/// The files that a line names, as they were read. The garbled file's bytes aren't checked yet, so that those of
+/// several lines can be digested side by side.
+#[derive(Drop)]
+pub enum LineFiles<A: Allocator> {
+    /// The garbled file can't be read, or there is no memory for it.
+    Unread(Fault),
+    /// The garbled file's bytes, and the fault of the label files.
+    Unlabelled(Vec<u8, A>, Fault),
+    /// The garbled file's bytes, and the label files.
+    Whole(Vec<u8, A>, Vec<LabelFile<A>, A>),
+}
+
+impl<A: Allocator> LineFiles<A> {
+    /// The bytes of the garbled file. There are none where it was not read.
+    pub fn garbled_bytes(&self) -> &[u8]
+        ensures { result.now ≡ garbled_bytes self.now }
+    {
+        match self {
+            LineFiles::Unread(_) => &[],
+            LineFiles::Unlabelled(garbled, _) => garbled,
+            LineFiles::Whole(garbled, _) => garbled,
+        }
+    }
+
+    /// Whether all were read.
+    pub fn are_whole(&self) -> bool
+        ensures { result ≡ are_whole self.now }
+    {
+        matches!(self, LineFiles::Whole(..))
+    }
+}
+
+/// Reads the files that a line names: first the garbled file, and then the label files, each of which is checked before
+/// the next is opened. The caller ensures that the line has a token.
+pub fn read_line<A: Allocator + Copy, F: Files>(alloc: A, line: &str, files: &mut F) -> LineFiles<A>
+    requires { 0 < length (tokens line.now) }
+    ensures named { AreNamed (F.bytes files.old)
+        (HasFailed (F.failures files.old) (F.failures files.new)) (tokens line.now) result }
+    ensures counted { are_whole result ≡ true → F.failures files.new ≡ F.failures files.old }
+    ensures same { (n : List ℕ) → F.bytes files.new n ≡ F.bytes files.old n }
+{
+    let Ok(words) = words_of_line(alloc, line) else {
+        return LineFiles::Unread(Fault::Memory);
+    };
+    let Some((garbled, labels)) = words.split_first() else {
+        unreachable!()
+    };
+    let garbled = match files.read(alloc, garbled) {
+        Ok(bytes) => bytes,
+        Err(error) => return LineFiles::Unread(Fault::from(error)),
+    };
+    match read_label_files(alloc, labels, files) {
+        Ok(labels) => LineFiles::Whole(garbled, labels),
+        Err(fault) => LineFiles::Unlabelled(garbled, fault),
+    }
+}
+
+/// The job that the files of a line make. The caller ensures that `digest` is that of the circuit's canonical text, and
+/// `trailer` that of the garbled file's bytes before its trailer. The bytes are dropped.
+pub fn job_of_files<'c, A: Allocator + Copy>(
+    alloc: A,
+    circuit: &'c Circuit<A>,
+    digest: &[u8; 32],
+    files: LineFiles<A>,
+    trailer: &[u8; 32],
+) -> Result<Job<'c, A, A>, Fault>
+    requires digest { digest.now ≡ sha256 (canonical_text circuit.now) }
+    requires trailer { trailer.now ≡ trailer_due files }
+    ensures made { IfOk result (MakeJob circuit.now files) }
+    ensures fault { IfErr result (MakeNoJob circuit.now files) }
+{
+    match files {
+        LineFiles::Unread(fault) => Err(fault),
+        LineFiles::Unlabelled(garbled, fault) => {
+            read_garbled_by_digest(alloc, &garbled, trailer)?;
+            Err(fault)
+        }
+        LineFiles::Whole(garbled, labels) => {
+            let garbled = read_garbled_by_digest(alloc, &garbled, trailer)?;
+            Ok(Job::bind_by_digest(alloc, circuit, digest, garbled, &labels)?)
+        }
+    }
+}
