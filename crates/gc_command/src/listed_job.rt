@@ -43,8 +43,8 @@ pub fn read_listed_jobs<'c, A: Allocator + Copy, F: Files, P: Progress>(
     read_jobs(alloc, circuit, digest, &lines, files, progress)
 }
 
-/// The jobs that lines name, some lines at a time. The caller ensures that this is the digest of the circuit's canonical
-/// text, and that each line has a token.
+/// The jobs that lines name, some lines at a time. The caller ensures that this is the digest of the circuit's
+/// canonical text, and that each line has a token.
 fn read_jobs<'c, A: Allocator + Copy, F: Files, P: Progress>(
     alloc: A,
     circuit: &'c Circuit<A>,

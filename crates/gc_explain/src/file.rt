@@ -12,8 +12,8 @@ use gc_netlist::MAX_GATES;
 use gc_order::{JobsOrder, Order};
 use std::alloc::Allocator;
 
-/// Explains a fault of a file: of the one that was opened last or, where a list names the files, of the first one of the
-/// last jobs that has the fault.
+/// Explains a fault of a file: of the one that was opened last or, where a list names the files, of the first file of
+/// the last jobs that has it.
 pub(crate) fn told_of_file<A: Allocator + Copy, F: Reread>(
     alloc: A,
     order: &Order,
