@@ -37,7 +37,8 @@
  * handle, is for another thread once that thread knows that the call has returned.
  *
  * STACK. As measured on x86-64, halfgates_job_bind uses 53 kilobytes of stack, halfgates_garbling_write 43,
- * halfgates_audit 40, halfgates_circuit_read 26, halfgates_deal 20, and every other call less than 5.
+ * halfgates_audit 40, halfgates_circuit_read 26, halfgates_deal 20, halfgates_write_many 19, and every other call less
+ * than 5.
  *
  * BUFFERS. The library reads and writes buffers within a call and keeps no pointer to them. No alignment is asked for
  * where a buffer is of bytes. A buffer that is written overlaps no other argument, and has at least the room that is
@@ -73,7 +74,7 @@
 
 /* The version of this header. That of the library is halfgates_version(). */
 #define HALFGATES_VERSION_MAJOR 0
-#define HALFGATES_VERSION_MINOR 8
+#define HALFGATES_VERSION_MINOR 9
 #define HALFGATES_VERSION_PATCH 0
 
 #ifdef __cplusplus
@@ -85,7 +86,7 @@ extern "C" {
 enum {
     HALFGATES_OK = 0,
 
-    /* Reading a circuit. The text is read from left to right, and its first fault is answered. */
+    /* Reading a circuit. The text is read from left to right, and its first fault is returned. */
     HALFGATES_CIRCUIT_TRUNCATED = 1,    /* the text ends before the circuit does */
     HALFGATES_BAD_NUMBER = 2,           /* a token where a number belongs is none, or is above 4,294,967,295 */
     HALFGATES_TOO_LARGE = 3,            /* more than 16,777,216 gates, 33,554,432 wires or 256 values of a side */
@@ -153,7 +154,7 @@ halfgates_name halfgates_fault_name(int32_t code);
 /* Whether a code says that memory ran out: 1 for 13, 23, 36, 46 and 62, and else 0. */
 int32_t halfgates_is_memory(int32_t code);
 
-/* The version of the library, such as "0.8.0". */
+/* The version of the library, such as "0.9.0". */
 halfgates_name halfgates_version(void);
 
 /* ---------------------------------------------------------------------------------------------------- circuits -- */
@@ -208,7 +209,7 @@ typedef struct halfgates_place {
     int32_t fault;   /* the fault, 1 to 12, or 0 where the text is a circuit; then the rest is 0 or HALFGATES_NONE */
     uint32_t gate;   /* the gate, counted from 0, or HALFGATES_NONE where no gate is being read */
     uint32_t wire;   /* the wire of the faults 7 to 10, else HALFGATES_NONE. For 7, HALFGATES_NO_SUCH_WIRE, it is the
-                        number as it stands in the text, which can be 4,294,967,295, as HALFGATES_NONE is */
+                        number as it is in the text, which can be 4,294,967,295, as HALFGATES_NONE is */
     uint64_t line;   /* the line, counted from 1: byte 10 ends a line */
     uint64_t column; /* the column, counted from 1 in bytes */
 } halfgates_place;
@@ -272,6 +273,18 @@ uint64_t halfgates_garbled_size(const halfgates_circuit *circuit, uint32_t versi
  */
 int32_t halfgates_garbling_write(const halfgates_garbling *garbling, uint32_t version, uint8_t *buffer, size_t size,
                                  size_t *written);
+
+/*
+ * Writes the garbled files of `count` garblings in a version, 1 or 2, to `files`, one after another in the order of the
+ * list: those that halfgates_garbling_write writes for each, of the sizes that halfgates_garbled_size returns for their
+ * circuits. The garblings may be of any circuits. Up to eight files that follow one another are digested side by side,
+ * which takes less time. `size` is at least the sum of their sizes. The files are made in memory first. Codes:
+ * HALFGATES_BAD_ARGUMENT for another version, or where the `first` of a garbling isn't 0; HALFGATES_SMALL_BUFFER;
+ * HALFGATES_MEMORY. Garblings are only read, as in the calls that take a const garbling: the list has no const before
+ * them so that a `halfgates_garbling **` is one.
+ */
+int32_t halfgates_write_many(halfgates_garbling *const *garblings, size_t count, uint32_t version, uint8_t *files,
+                             size_t size);
 
 /*
  * Writes the label file of the input value `index`, counted from 0, which stands for `count` bits under a seed of 32
@@ -437,7 +450,7 @@ int32_t halfgates_audit(const halfgates_garbling *garbling, const uint8_t *garbl
 typedef struct halfgates_labels_report {
     int32_t verdict; /* HALFGATES_OK where the file is the one that halfgates_deal writes for the bits,
                         HALFGATES_NO_SUCH_VALUE, HALFGATES_WRONG_WIDTH, or HALFGATES_WRONG_LABEL */
-    uint32_t index;  /* the index of the input value that stands in the file */
+    uint32_t index;  /* the index of the input value that the file names */
     uint32_t count;  /* how many bits the labels stand for; 0 where the verdict isn't HALFGATES_OK */
     uint32_t wire;   /* the first wire whose label is neither of its two, or HALFGATES_NONE */
 } halfgates_labels_report;

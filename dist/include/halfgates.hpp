@@ -102,7 +102,7 @@ public:
     template <class Container, class Item = detail::item<Container>>
     view(const Container &container) noexcept : view(container.data(), container.size() * sizeof(Item)) {}
 
-    /* Of these nothing would be left at the end of the statement. */
+    /* A temporary is gone at the end of the statement. */
     template <class Container, class Item = detail::item<Container>,
               class = typename std::enable_if<!std::is_same<Container, view>::value>::type>
     view(const Container &&container) = delete;
@@ -151,6 +151,15 @@ using handle = std::unique_ptr<T, freeing<T, Free>>;
 /* The bytes of labels that a call writes. */
 inline std::uint8_t *room(labels &found) noexcept {
     return found.empty() ? nullptr : found.front().data();
+}
+
+/* Fills the pieces, which have their sizes, with bytes that follow one another. */
+inline void cut(const bytes &joined, std::vector<bytes> &pieces) {
+    auto next = joined.cbegin();
+    for (bytes &it : pieces) {
+        std::copy_n(next, it.size(), it.begin());
+        next += static_cast<std::ptrdiff_t>(it.size());
+    }
 }
 
 } // namespace detail
@@ -208,13 +217,18 @@ public:
     garbling(halfgates_garbling *at, const shape &of) : handle_(at), shape_(of) {}
 
     HALFGATES_NODISCARD bytes write(std::uint32_t version = 2) const {
+        bytes file(garbled_size(version));
+        write_into(file.data(), file.size(), version);
+        return file;
+    }
+
+    /* How many bytes the garbled file has. */
+    HALFGATES_NODISCARD std::size_t garbled_size(std::uint32_t version = 2) const {
         std::size_t size = 0;
         const std::int32_t code = halfgates_garbling_write(get(), version, nullptr, 0, &size);
         if (code != HALFGATES_SMALL_BUFFER)
             check(code);
-        bytes file(size);
-        write_into(file.data(), file.size(), version);
-        return file;
+        return size;
     }
 
     /* Writes the garbled file to a buffer with this much room, and returns the number of its bytes. */
@@ -473,6 +487,25 @@ private:
     std::array<std::uint8_t, 32> digest_;
 };
 
+/* The garbled file of each garbling. Up to eight files in a row are digested side by side. */
+HALFGATES_NODISCARD inline std::vector<bytes> write_many(const std::vector<garbling> &garblings,
+                                                         std::uint32_t version = 2) {
+    std::vector<bytes> files;
+    std::vector<halfgates_garbling *> handles;
+    std::size_t size = 0;
+    files.reserve(garblings.size());
+    handles.reserve(garblings.size());
+    for (const garbling &it : garblings) {
+        files.emplace_back(it.garbled_size(version));
+        handles.push_back(it.get());
+        size += files.back().size();
+    }
+    bytes joined(size);
+    check(halfgates_write_many(handles.data(), handles.size(), version, joined.data(), joined.size()));
+    detail::cut(joined, files);
+    return files;
+}
+
 /* The bits of all output wires of each job. Up to four jobs in a row on equal circuits are evaluated side by side. */
 HALFGATES_NODISCARD inline std::vector<bytes> evaluate_many(const std::vector<job> &jobs) {
     std::vector<bytes> outputs;
@@ -487,11 +520,7 @@ HALFGATES_NODISCARD inline std::vector<bytes> evaluate_many(const std::vector<jo
     }
     bytes bits(size);
     check(halfgates_evaluate_many(handles.data(), handles.size(), bits.data(), bits.size()));
-    auto next = bits.cbegin();
-    for (bytes &it : outputs) {
-        std::copy_n(next, it.size(), it.begin());
-        next += static_cast<std::ptrdiff_t>(it.size());
-    }
+    detail::cut(bits, outputs);
     return outputs;
 }
 
