@@ -1,7 +1,7 @@
 //! Tests of lists of jobs, of which the files of some lines are read before their garbled files are checked: the fault
 //! is the first in the order of the list.
 
-use crate::jobs::{NamedFiles, assert_printed, held, order, outcome_of_refusal, result_of};
+use crate::jobs::{NamedFiles, assert_printed, order, outcome_of_refusal, result_of};
 use gc_circuit::Circuit;
 use gc_command::Fault;
 use gc_disk::Reread;
@@ -89,16 +89,39 @@ fn files_of(alloc: Global, text: &str, width: usize) -> Result<NamedFiles, Fail>
     Ok(files)
 }
 
+/// The line of a list at a place: the bad one that belongs there, or that of an honest job.
+fn line_at<'b>(bad: &[(usize, &'b str)], place: usize) -> &'b str {
+    for (at, line) in bad {
+        if *at == place {
+            return line;
+        }
+    }
+    HONEST
+}
+
 /// A list of this many lines of honest jobs, but for these at their places.
 fn list_of(alloc: Global, count: usize, bad: &[(usize, &str)]) -> Result<Vec<u8>, AllocError> {
     let mut list = Vec::new(alloc);
     for place in 0..count {
-        let bad = bad.iter().find(|line| line.0 == place);
-        let line = bad.map_or(HONEST, |line| line.1);
+        let line = line_at(bad, place);
         list.extend_from_slice(line.as_bytes())?;
         list.push(b'\n')?;
     }
     Ok(list)
+}
+
+/// The files and a list, by name.
+fn held_with<'h>(
+    alloc: Global,
+    files: &'h NamedFiles,
+    list: &'h [u8],
+) -> Result<Vec<(&'h str, &'h [u8])>, AllocError> {
+    let mut held = Vec::new(alloc);
+    held.push(("list", list))?;
+    for (name, bytes) in files {
+        held.push((*name, bytes.as_slice()))?;
+    }
+    Ok(held)
 }
 
 /// What this many jobs print.
@@ -118,8 +141,7 @@ fn assert_evaluated<R: Threads + Wait + Sync + Abort>(
     count: usize,
 ) -> Result<(), Fail> {
     let list = list_of(alloc, count, &[])?;
-    let mut held = held(alloc, files)?;
-    held.push(("list", list.as_slice()))?;
+    let held = held_with(alloc, files, &list)?;
     let order = order(alloc, &["jobs", "c.txt", "list"])?;
     let answer = result_of(rt, alloc, &order, &mut MemFiles::new(alloc, &held))?;
     let printed = printed_of(alloc, count)?;
@@ -137,8 +159,7 @@ fn fault_of<R: Threads + Wait + Sync>(
     bad: &[(usize, &str)],
 ) -> Result<(Option<Fault>, u64, bool), Fail> {
     let list = list_of(alloc, count, bad)?;
-    let mut held = held(alloc, files)?;
-    held.push(("list", list.as_slice()))?;
+    let held = held_with(alloc, files, &list)?;
     let order = order(alloc, &["jobs", "c.txt", "list"])?;
     let mut files = MemFiles::new(alloc, &held);
     let fault = result_of(rt, alloc, &order, &mut files).err();
@@ -211,8 +232,7 @@ fn each_growth_refused(rt: HostRuntime) -> Result<(), Fail> {
     let (text, width, _) = CIRCUITS[2];
     let files = files_of(alloc, text, width)?;
     let list = list_of(alloc, 9, &[])?;
-    let mut held = held(alloc, &files)?;
-    held.push(("list", list.as_slice()))?;
+    let held = held_with(alloc, &files, &list)?;
     let order = order(alloc, &["jobs", "c.txt", "list"])?;
     let printed = printed_of(alloc, 9)?;
     for growth in 1..1000 {
@@ -234,8 +254,7 @@ fn each_growth_refused_before_a_fault(rt: HostRuntime) -> Result<(), Fail> {
     let (text, width, _) = CIRCUITS[2];
     let files = files_of(alloc, text, width)?;
     let list = list_of(alloc, 9, &[(2, "trailer 0 1"), (4, "g 0 no_file")])?;
-    let mut held = held(alloc, &files)?;
-    held.push(("list", list.as_slice()))?;
+    let held = held_with(alloc, &files, &list)?;
     let order = order(alloc, &["jobs", "c.txt", "list"])?;
     for growth in 1..1000 {
         let heap = Refusing::nth(alloc, growth);
