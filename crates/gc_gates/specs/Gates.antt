@@ -1,13 +1,13 @@
 -- The words of gates: of each gate a state word, and the low and the high half of what is found out of it. A state word
 -- is the stamp of a state (FREE, IN_HAND or DONE) in a round, and one of an earlier round than its words are in counts
 -- as free. Where the words lie, and which round they are in, is the layout's.
-use Rattle.std.specs.Prelude.{◌≡◌, ℕ, ◌+◌, ◌*◌, ◌%◌, ◌<◌, ◌≤◌, ◌⊎◌, List, [], length, slice_index, Some, None}
+use Rattle.std.specs.Prelude.{◌≡◌, ℕ, ◌+◌, ◌%◌, ◌<◌, ◌≤◌, ◌⊎◌, List, [], length, slice_index, Some, None}
 use mathlib.Core.Option.{some}
 use lib.ListN.{get_elem?}
 use Rattle.gc_workers.specs.declared.states.TheConstants.{DONE, FREE, IN_HAND}
 use Rattle.gc_rounds.specs.declared.words.TheConstants.{ROUND}
 use Rattle.gc_workers.specs.Counts.{total, only}
-use Rattle.gc_rounds.specs.Words.{round_of, bank_of, stamp}
+use Rattle.gc_rounds.specs.Words.{round_of, stamp}
 use Rattle.gc_rounds.specs.declared.view.View.{View}
 use Rattle.gc_rounds.specs.declared.view.Stand.TheVariants.{Inside}
 use Rattle.gc_gates.specs.Layout.{Layout}

@@ -1,5 +1,5 @@
 -- Jobs of files in memory.
-use Rattle.std.specs.Prelude.{◌≡◌, ◌≢◌, ◌<◌, ◌≤◌, ℕ, Bool, List, map, Ok, Err}
+use Rattle.std.specs.Prelude.{◌≢◌, ◌<◌, ◌≤◌, ℕ, Bool, List, map, Ok, Err}
 use Rattle.gc_netlist.specs.Circuit.{Netlist, output_wires}
 use Rattle.gc_netlist.specs.Spelling.{bit_number}
 use Rattle.gc_file.specs.GarbledFile.{GarbledParts, IsGarbledFile}

@@ -93,11 +93,9 @@ impl<'e, P: Pending, O: Origin<P>, A: Allocator + Copy, H: Gatehouse> Helpers<'e
     pub(crate) fn offer<R: Wait>(&mut self, rt: &R, block: Block<P, O, A>) -> Option<Block<P, O, A>>
         ensures { IfSome result (λ b. b ≡ block) }
     {
-        if self.retreat.is_on() {
-            self.retreat.count();
-            return Some(block);
-        }
-        if self.out >= MOST_OUT {
+        let is_alone = self.retreat.is_on();
+        self.retreat.count();
+        if is_alone || self.out >= MOST_OUT {
             return Some(block);
         }
         let refused = self.exchange.offer(rt, block);
