@@ -5,7 +5,7 @@
 //! that it began with.
 
 ghost use Rattle.std.specs.Prelude.{◌≡◌, ◌+◌, ◌%◌, ◌<◌, ◌≤◌, ℕ, List, slice_set};
-ghost use Rattle.sha2.specs.Sha256.{IsRoundsAt, IsWindow, add_state, round, rounds, schedule, window_word};
+ghost use Rattle.sha2.specs.Sha256.{IsRoundsAt, IsWindow, add_state, compress, round, rounds, schedule, window_word};
 ghost use Rattle.gc_lanes.specs.Lanes.{words_of_lane};
 
 use crate::constants::ROUND_CONSTANTS;
@@ -70,11 +70,7 @@ fn round_of_block<W: Words>(window: &Window<W>, variables: State<W>, t: usize) -
 
 /// Four rounds of the first sixteen, from round t on.
 #[inline(always)]
-pub(crate) fn four_rounds_of_block<W: Words>(
-    window: &Window<W>,
-    variables: State<W>,
-    t: usize,
-) -> State<W>
+fn four_rounds_of_block<W: Words>(window: &Window<W>, variables: State<W>, t: usize) -> State<W>
     requires { t + 4 ≤ 16 }
     ensures { (j : ℕ) (b h : List ℕ) → j < W.lanes
         → IsWindow (words_of_lane W.lane j window.now) (schedule b 48) 16
@@ -103,7 +99,7 @@ fn round_of_schedule<W: Words>(window: &mut Window<W>, variables: State<W>, t: u
 
 /// Four rounds after the first sixteen, from round t on.
 #[inline(always)]
-pub(crate) fn four_rounds_of_schedule<W: Words>(
+fn four_rounds_of_schedule<W: Words>(
     window: &mut Window<W>,
     variables: State<W>,
     t: usize,
@@ -123,7 +119,7 @@ pub(crate) fn four_rounds_of_schedule<W: Words>(
 
 /// The next hash value: the sums of the hash value's words and the working variables (step 4).
 #[inline(always)]
-pub(crate) fn add_states<W: Words>(state: State<W>, variables: State<W>) -> State<W>
+fn add_states<W: Words>(state: State<W>, variables: State<W>) -> State<W>
     ensures { (j : ℕ) → j < W.lanes → words_of_lane W.lane j result
         ≡ add_state (words_of_lane W.lane j state) (words_of_lane W.lane j variables) }
 {
@@ -137,4 +133,32 @@ pub(crate) fn add_states<W: Words>(state: State<W>, variables: State<W>) -> Stat
         state[6].add(variables[6]),
         state[7].add(variables[7]),
     ]
+}
+
+/// Compresses the block of each lane, whose words the window holds. The window holds other words afterwards.
+#[inline(always)]
+pub(crate) fn compress<W: Words>(state: State<W>, window: &mut Window<W>) -> State<W>
+    ensures { (j : ℕ) (b : List ℕ) → j < W.lanes
+        → IsWindow (words_of_lane W.lane j window.old) (schedule b 48) 16
+        → words_of_lane W.lane j result ≡ compress (words_of_lane W.lane j state) b }
+{
+    // The 64 rounds are written out, four a call, and inlined into the caller: in code without a loop the compiler
+    // folds what it knows of a block's words and of the hash value.
+    let variables = four_rounds_of_block(window, state, 0);
+    let variables = four_rounds_of_block(window, variables, 4);
+    let variables = four_rounds_of_block(window, variables, 8);
+    let variables = four_rounds_of_block(window, variables, 12);
+    let variables = four_rounds_of_schedule(window, variables, 16);
+    let variables = four_rounds_of_schedule(window, variables, 20);
+    let variables = four_rounds_of_schedule(window, variables, 24);
+    let variables = four_rounds_of_schedule(window, variables, 28);
+    let variables = four_rounds_of_schedule(window, variables, 32);
+    let variables = four_rounds_of_schedule(window, variables, 36);
+    let variables = four_rounds_of_schedule(window, variables, 40);
+    let variables = four_rounds_of_schedule(window, variables, 44);
+    let variables = four_rounds_of_schedule(window, variables, 48);
+    let variables = four_rounds_of_schedule(window, variables, 52);
+    let variables = four_rounds_of_schedule(window, variables, 56);
+    let variables = four_rounds_of_schedule(window, variables, 60);
+    add_states(state, variables)
 }

@@ -14,7 +14,7 @@ pub(crate) fn ch<W: Words>(x: W, y: W, z: W) -> W
 }
 
 /// Maj: the bit that at least two of the three have. The next round reads `x` and `y` as its `y` and `z`, so
-/// that their sum is computed once.
+/// the compiler computes their exclusive or once.
 #[inline(always)]
 pub(crate) fn maj<W: Words>(x: W, y: W, z: W) -> W
     ensures { (j : ℕ) → j < W.lanes → W.lane result j ≡ maj (W.lane x j) (W.lane y j) (W.lane z j) }

@@ -7,7 +7,7 @@ ghost use Rattle.gc_lanes.specs.Hash.{tweaked_hash};
 ghost use Rattle.gc_lanes.specs.Lanes.{first_words, label_of_low_words, low_words, words_of_lane};
 
 use crate::block::{initial_state, padded_block, tweak_words};
-use crate::compression::{add_states, four_rounds_of_block, four_rounds_of_schedule};
+use crate::compression::compress;
 use crate::labels::{labels_of_eight, labels_of_four, words_of_eight, words_of_four};
 use crate::words::Words;
 
@@ -40,26 +40,7 @@ fn hash_each<W: Words>(label: [W; 4], tweak: [W; 2]) -> [W; 4]
         → words_of_lane W.lane j tweak ≡ first_words (to_le_bytes w64 t)
         → label_of_low_words (words_of_lane W.lane j result) ≡ tweaked_hash l t }
 {
-    // The 64 rounds are written out, four a call, and the calls are inlined: in code without a loop the
-    // compiler folds what it knows of the padding's words and of the initial hash value.
     let mut window = padded_block(label, tweak);
-    let start = initial_state();
-    let variables = four_rounds_of_block(&window, start, 0);
-    let variables = four_rounds_of_block(&window, variables, 4);
-    let variables = four_rounds_of_block(&window, variables, 8);
-    let variables = four_rounds_of_block(&window, variables, 12);
-    let variables = four_rounds_of_schedule(&mut window, variables, 16);
-    let variables = four_rounds_of_schedule(&mut window, variables, 20);
-    let variables = four_rounds_of_schedule(&mut window, variables, 24);
-    let variables = four_rounds_of_schedule(&mut window, variables, 28);
-    let variables = four_rounds_of_schedule(&mut window, variables, 32);
-    let variables = four_rounds_of_schedule(&mut window, variables, 36);
-    let variables = four_rounds_of_schedule(&mut window, variables, 40);
-    let variables = four_rounds_of_schedule(&mut window, variables, 44);
-    let variables = four_rounds_of_schedule(&mut window, variables, 48);
-    let variables = four_rounds_of_schedule(&mut window, variables, 52);
-    let variables = four_rounds_of_schedule(&mut window, variables, 56);
-    let variables = four_rounds_of_schedule(&mut window, variables, 60);
-    let [a, b, c, d, ..] = add_states(start, variables);
+    let [a, b, c, d, ..] = compress(initial_state(), &mut window);
     [d, c, b, a]
 }

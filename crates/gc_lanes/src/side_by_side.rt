@@ -6,9 +6,7 @@ ghost use Rattle.gc_lanes.specs.Lanes.{lane, words_of_lane};
 ghost use Rattle.gc_lanes.specs.SideBySide.{AreHashed, AreLonger, AreWindows};
 
 use crate::block::{initial_state, word_of};
-use crate::compression::{
-    State, Window, add_states, four_rounds_of_block, four_rounds_of_schedule,
-};
+use crate::compression::{State, Window, compress};
 use std::simd::{Simd, u32x8};
 
 /// The word of each message that begins at a byte.
@@ -49,23 +47,7 @@ fn compress_lanes(state: &mut State<u32x8>, window: &mut Window<u32x8>)
         → IsWindow (words_of_lane lane j window.old) (schedule b 48) 16
         → words_of_lane lane j state.new ≡ compress (words_of_lane lane j state.old) b }
 {
-    let variables = four_rounds_of_block(window, *state, 0);
-    let variables = four_rounds_of_block(window, variables, 4);
-    let variables = four_rounds_of_block(window, variables, 8);
-    let variables = four_rounds_of_block(window, variables, 12);
-    let variables = four_rounds_of_schedule(window, variables, 16);
-    let variables = four_rounds_of_schedule(window, variables, 20);
-    let variables = four_rounds_of_schedule(window, variables, 24);
-    let variables = four_rounds_of_schedule(window, variables, 28);
-    let variables = four_rounds_of_schedule(window, variables, 32);
-    let variables = four_rounds_of_schedule(window, variables, 36);
-    let variables = four_rounds_of_schedule(window, variables, 40);
-    let variables = four_rounds_of_schedule(window, variables, 44);
-    let variables = four_rounds_of_schedule(window, variables, 48);
-    let variables = four_rounds_of_schedule(window, variables, 52);
-    let variables = four_rounds_of_schedule(window, variables, 56);
-    let variables = four_rounds_of_schedule(window, variables, 60);
-    *state = add_states(*state, variables);
+    *state = compress(*state, window);
 }
 
 /// The hash value of each message after its first `bytes` bytes, which are whole blocks.

@@ -6,15 +6,14 @@ const SHORTEST: u32 = 512;
 /// How many blocks the longest one takes: half a million AND gates.
 const LONGEST: u32 = 32768;
 
-/// After this many offered blocks in a row that no helper holds, the next retreat is a shortest one again. On a quiet
-/// machine, where the system seldom stops a thread, twice as many are offered in between; beside busy processes half as
-/// many.
-const CALM: u32 = 2048;
+/// Where this many blocks were offered before a helper holds gates, the retreat is a shortest one. With a thread more
+/// than a quiet machine has processors, some twice as many are offered in between; beside busy processes half as many.
+const CALM: u32 = 1024;
 
 /// While it is in retreat the calling thread offers its helpers nothing, and makes all blocks by itself: where the
 /// system stops helpers, other processes want the processors, and each helper that runs takes from the calling thread.
-/// Helpers that find nothing sleep. Then it offers them some again. If they soon hold gates again, the next retreat is
-/// four times as long.
+/// Helpers that find nothing sleep. Then it offers them some again. If they soon hold gates, the next retreat is four
+/// times as long.
 #[derive(Drop)]
 pub(crate) struct Retreat {
     // How many blocks are left to be made in it.

@@ -1,12 +1,12 @@
 use Rattle.std.proofs.Common.{refl, ◌∙◌}
 use Rattle.sha2.specs.Sha256.{add_state, compress, rounds}
-use Rattle.gc_lanes.specs.Lanes.{lane, words_of_lane}
-use Rattle.gc_lanes.proofs.side_by_side.compress_lanes.Goals as goal
+use Rattle.gc_lanes.specs.Lanes.{words_of_lane}
+use Rattle.gc_lanes.proofs.compression.compress.Goals as goal
 
 pub returns : goal.returns
 unfolding compress rounds
-returns c = λ j b lt window.
-    let h = words_of_lane lane j c.args.state.now in
+returns g c = λ j b lt window.
+    let h = words_of_lane g.W.Words.lane j c.args.state in
     let r4 = c.four_rounds_of_block-variables.ensures j b h lt window refl in
     let r8 = c.four_rounds_of_block-variables-2.ensures j b h lt window r4 in
     let r12 = c.four_rounds_of_block-variables-3.ensures j b h lt window r8 in
