@@ -40,8 +40,11 @@ impl Retreat {
         self.left > 0
     }
 
-    /// Begins one.
+    /// Begins one, where none is on.
     pub(crate) fn begin(&mut self) {
+        if self.is_on() {
+            return;
+        }
         if self.offered >= CALM {
             self.next = SHORTEST;
         }
