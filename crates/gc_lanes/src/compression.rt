@@ -4,7 +4,8 @@
 //! state the working variables a to h. Contracts speak of any lane, with `b` its block and `h` the hash value
 //! that it began with.
 
-ghost use Rattle.std.specs.Prelude.{◌≡◌, ◌+◌, ◌%◌, ◌<◌, ◌≤◌, ℕ, List, slice_set};
+ghost use Rattle.std.specs.Prelude.{◌≡◌, ◌+◌, ◌*◌, ◌^◌, ◌%◌, ◌<◌, ◌≤◌, ℕ, List, slice_set};
+ghost use Rattle.std.specs.Mem.{type_size};
 ghost use Rattle.sha2.specs.Sha256.{IsRoundsAt, IsWindow, add_state, compress, round, rounds, schedule, window_word};
 ghost use Rattle.gc_lanes.specs.Lanes.{words_of_lane};
 
@@ -135,30 +136,35 @@ fn add_states<W: Words>(state: State<W>, variables: State<W>) -> State<W>
     ]
 }
 
-/// Compresses the block of each lane, whose words the window holds. The window holds other words afterwards.
-#[inline(always)]
-pub(crate) fn compress<W: Words>(state: State<W>, window: &mut Window<W>) -> State<W>
-    ensures { (j : ℕ) (b : List ℕ) → j < W.lanes
-        → IsWindow (words_of_lane W.lane j window.old) (schedule b 48) 16
-        → words_of_lane W.lane j result ≡ compress (words_of_lane W.lane j state) b }
+/// Compresses a block in each lane. A closure returns the hash value and the block's words.
+///
+/// `#[inline(always)]` does nothing on a function of this size. But each closure has a compression of its own, in which
+/// the compiler folds what it knows of that hash value and of those words. So the 64 rounds are written out, four a
+/// call, without a loop.
+pub(crate) fn compress<W: Words, F: FnOnce() -> (State<W>, Window<W>)>(begin: F) -> State<W>
+    requires callable { F.IsAlwaysCallable begin }
+    requires fits { 24 * type_size W.row < 2 ^ 63 }
+    ensures { (j : ℕ) (b h : List ℕ) → j < W.lanes
+        → ((state window : _) → F.post begin (state, window) → (words_of_lane W.lane j state ≡ h)
+        × IsWindow (words_of_lane W.lane j window) (schedule b 48) 16)
+        → words_of_lane W.lane j result ≡ compress h b }
 {
-    // The 64 rounds are written out, four a call, and inlined into the caller: in code without a loop the compiler
-    // folds what it knows of a block's words and of the hash value.
-    let variables = four_rounds_of_block(window, state, 0);
-    let variables = four_rounds_of_block(window, variables, 4);
-    let variables = four_rounds_of_block(window, variables, 8);
-    let variables = four_rounds_of_block(window, variables, 12);
-    let variables = four_rounds_of_schedule(window, variables, 16);
-    let variables = four_rounds_of_schedule(window, variables, 20);
-    let variables = four_rounds_of_schedule(window, variables, 24);
-    let variables = four_rounds_of_schedule(window, variables, 28);
-    let variables = four_rounds_of_schedule(window, variables, 32);
-    let variables = four_rounds_of_schedule(window, variables, 36);
-    let variables = four_rounds_of_schedule(window, variables, 40);
-    let variables = four_rounds_of_schedule(window, variables, 44);
-    let variables = four_rounds_of_schedule(window, variables, 48);
-    let variables = four_rounds_of_schedule(window, variables, 52);
-    let variables = four_rounds_of_schedule(window, variables, 56);
-    let variables = four_rounds_of_schedule(window, variables, 60);
+    let (state, mut window) = begin();
+    let variables = four_rounds_of_block(&window, state, 0);
+    let variables = four_rounds_of_block(&window, variables, 4);
+    let variables = four_rounds_of_block(&window, variables, 8);
+    let variables = four_rounds_of_block(&window, variables, 12);
+    let variables = four_rounds_of_schedule(&mut window, variables, 16);
+    let variables = four_rounds_of_schedule(&mut window, variables, 20);
+    let variables = four_rounds_of_schedule(&mut window, variables, 24);
+    let variables = four_rounds_of_schedule(&mut window, variables, 28);
+    let variables = four_rounds_of_schedule(&mut window, variables, 32);
+    let variables = four_rounds_of_schedule(&mut window, variables, 36);
+    let variables = four_rounds_of_schedule(&mut window, variables, 40);
+    let variables = four_rounds_of_schedule(&mut window, variables, 44);
+    let variables = four_rounds_of_schedule(&mut window, variables, 48);
+    let variables = four_rounds_of_schedule(&mut window, variables, 52);
+    let variables = four_rounds_of_schedule(&mut window, variables, 56);
+    let variables = four_rounds_of_schedule(&mut window, variables, 60);
     add_states(state, variables)
 }

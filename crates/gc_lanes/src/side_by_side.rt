@@ -1,12 +1,14 @@
 //! The compression of SHA-256 (FIPS 180-4, 6.2.2) of eight messages side by side, a message in each lane.
 
 ghost use Rattle.std.specs.Prelude.{◌≡◌, ◌+◌, ◌*◌, ◌<◌, ◌≤◌, ◌/◌, ◌%◌, ◌^◌, [], ℕ, List, get_or, length, map};
+ghost use Rattle.std.specs.Mem.{type_size};
 ghost use Rattle.sha2.specs.Sha256.{IsWindow, compress, schedule, word_at};
 ghost use Rattle.gc_lanes.specs.Lanes.{lane, words_of_lane};
 ghost use Rattle.gc_lanes.specs.SideBySide.{AreHashed, AreLonger, AreWindows};
 
 use crate::block::{initial_state, word_of};
 use crate::compression::{State, Window, compress};
+use crate::words::Words;
 use std::simd::{Simd, u32x8};
 
 /// The word of each message that begins at a byte.
@@ -41,13 +43,18 @@ fn fill_window(window: &mut Window<u32x8>, messages: &[&[u8]; 8], block: usize)
     }
 }
 
-/// Compresses the block of each lane. The window holds other words afterwards.
-fn compress_lanes(state: &mut State<u32x8>, window: &mut Window<u32x8>)
-    ensures { (j : ℕ) (b : List ℕ) → j < 8
-        → IsWindow (words_of_lane lane j window.old) (schedule b 48) 16
-        → words_of_lane lane j state.new ≡ compress (words_of_lane lane j state.old) b }
+/// The next hash value of each lane, whose block's words the window holds.
+fn compress_lanes<W: Words>(state: &State<W>, window: &Window<W>) -> State<W>
+    requires { 24 * type_size W.row < 2 ^ 63 }
+    ensures { (j : ℕ) (b : List ℕ) → j < W.lanes
+        → IsWindow (words_of_lane W.lane j window.now) (schedule b 48) 16
+        → words_of_lane W.lane j result ≡ compress (words_of_lane W.lane j state.now) b }
 {
-    *state = compress(*state, window);
+    compress(
+        || -> (State<W>, Window<W>)
+            ensures { result ≡ (state.entry.now, window.entry.now) }
+        { (*state, *window) },
+    )
 }
 
 /// The hash value of each message after its first `bytes` bytes, which are whole blocks.
@@ -60,7 +67,7 @@ pub(crate) fn hash_lanes(messages: &[&[u8]; 8], bytes: usize) -> State<u32x8>
     let mut window = [Simd::splat(0); 16];
     'chain: for block in 0..bytes / 64 {
         fill_window(&mut window, messages, block);
-        compress_lanes(&mut state, &mut window);
+        state = compress_lanes(&state, &window);
     }
     state
 }

@@ -12,6 +12,6 @@ pub chain-preserved : goal.chain-preserved
 chain-preserved c = λ j lt.
     let m : List ℕ = get_or (map (λ message. message.now) c.args.messages.now) j [] in
     let n = c.chain.block in
-    c.compress_lanes.ensures j (block_at m n) lt (c.fill_window.ensures j lt)
+    c.compress_lanes-state.ensures j (block_at m n) lt (c.fill_window.ensures j lt)
     ∙ ap (λ (h : List ℕ). compress h (block_at m n)) (c.chain.invariant j lt)
     ∙ sym (hash_after-more _ m n)
