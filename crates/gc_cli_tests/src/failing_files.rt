@@ -165,11 +165,12 @@ static STREAMS: [(&[&str], usize, Fault, &str); 4] = [
     ),
 ];
 
-/// Files of which this many bytes of each source and sink go well.
-fn bytes_alone(bytes: usize) -> Limits {
+/// Files of which this many bytes of each source go well, or of each sink where the fault is one of writing.
+fn bytes_alone(bytes: usize, fault: Fault) -> Limits {
+    let is_of_sinks = fault == WRITE;
     Limits {
-        given: Some(bytes),
-        taken: Some(bytes),
+        given: (!is_of_sinks).then_some(bytes),
+        taken: is_of_sinks.then_some(bytes),
         ..Limits::NONE
     }
 }
@@ -184,9 +185,23 @@ fn in_mid_stream(rt: HostRuntime) -> Result<(), Fail> {
     for (words, enough, fault, printed) in &STREAMS {
         let order = order(alloc, words)?;
         for bytes in 0..*enough {
-            assert_fails(&rt, alloc, &files, &order, bytes_alone(bytes), *fault);
+            assert_fails(
+                &rt,
+                alloc,
+                &files,
+                &order,
+                bytes_alone(bytes, *fault),
+                *fault,
+            );
         }
-        assert_prints(&rt, alloc, &files, &order, bytes_alone(*enough), printed)?;
+        assert_prints(
+            &rt,
+            alloc,
+            &files,
+            &order,
+            bytes_alone(*enough, *fault),
+            printed,
+        )?;
     }
     Ok(())
 }

@@ -1,6 +1,6 @@
 //! The tests of commands that need what no disk gives: files that fail at each call and in mid-stream, each growth
-//! refused in turn, lists of jobs with faults at each place, streams that fail, the lines that explain faults, the steps
-//! that commands report, and whole runs over files in memory.
+//! refused in turn, lists of jobs with faults at each place, streams that fail, files that are hashed while they are
+//! read, the lines that explain faults, the steps that commands report, and whole runs over files in memory.
 #![tactic(auto)]
 
 #[cfg(test)]
@@ -11,6 +11,8 @@ mod explain;
 mod failing_files;
 #[cfg(test)]
 mod growth;
+#[cfg(test)]
+mod hashed_files;
 #[cfg(test)]
 mod host_files;
 #[cfg(test)]

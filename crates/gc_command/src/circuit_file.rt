@@ -13,7 +13,7 @@ ghost use Rattle.gc_command.specs.CircuitFile.{IsCircuit, HasReadingFault};
 
 use crate::fault::Fault;
 use gc_circuit::{BegunDigest, Circuit, CommonLines, ReadFault};
-use gc_disk::Files;
+use gc_disk::{Files, HashedFile, read_and_hash};
 use gc_lanes::LongSha256;
 use sha2::Digest;
 use std::alloc::Allocator;
@@ -101,15 +101,20 @@ pub fn read_and_begin_digest<R: Threads, A: Allocator + Copy + Send + Sync, F: F
     ensures counted { OnOk result (F.failures files.new ≡ F.failures files.old) }
     ensures same { (n : List ℕ) → F.bytes files.new n ≡ F.bytes files.old n }
 {
-    let text = files.read(alloc, name)?;
+    let HashedFile {
+        bytes: text,
+        hasher,
+        hashed,
+    } = read_and_hash(rt, alloc, name, files)?;
     let bytes = text.as_slice();
-    let count = part.bytes(bytes.len());
+    let count = part.bytes(bytes.len()).max(hashed);
     let (hasher, read) = thread::join(
         rt,
-        || -> LongSha256
-            requires { count ≤ length bytes.now }
+        move || -> LongSha256
+            requires { (hashed ≤ count) × (count ≤ length bytes.now)
+                × HoldsMessage hasher (take hashed bytes.now) }
             ensures { HoldsMessage result (take count bytes.entry.now) }
-        { LongSha256::new_with_prefix(&bytes[..count]) },
+        { hash_on(hasher, bytes, hashed, count) },
         || -> Result<(Circuit<A>, Option<CommonLines>), ReadFault>
             ensures circuit { IfOk result (λ read. IsCircuit bytes.entry.now read.0) }
             ensures common { IfOk result (λ read.
@@ -121,6 +126,17 @@ pub fn read_and_begin_digest<R: Threads, A: Allocator + Copy + Send + Sync, F: F
     let (circuit, common) = read?;
     let begun = circuit.begin_digest_from(bytes, count, hasher, common);
     Ok((circuit, begun))
+}
+
+/// The hasher of the first `count` bytes of a text, of those of the first `hashed`.
+fn hash_on(mut hasher: LongSha256, text: &[u8], hashed: usize, count: usize) -> LongSha256
+    requires hashed { hashed ≤ count }
+    requires count { count ≤ length text.now }
+    requires holds { HoldsMessage hasher (take hashed text.now) }
+    ensures { HoldsMessage result (take count text.now) }
+{
+    hasher.update(&text[hashed..count]);
+    hasher
 }
 
 /// The circuit of a text, and the lines with which the text and the canonical text both begin, of at least `count`

@@ -2,3 +2,4 @@ pub mod Cause
 pub mod SeenName
 pub mod Files
 pub mod FileFailures
+pub mod HashedFile
