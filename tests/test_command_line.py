@@ -17,8 +17,8 @@ wire order, or x and two hexadecimal digits for each 8 wires, of which the first
 lowest bit
 
 Options:
-      --explain            After the line of a fault print one more, which says where the fault is and \
-what is wrong; where standard error is a terminal this is always done
+      --explain            After the line of a fault, print a second one that says where the fault is \
+and what is wrong; always on where standard error is a terminal
       --workers <WORKERS>  How many threads may garble or evaluate, from 1 to 64; the result is the same \
 [default: 1]
       --hex                Print output values as x and two hexadecimal digits for each 8 wires, of \
@@ -26,7 +26,7 @@ which the first wire is the lowest bit
   -h, --help               Print help
 
 Prints the output values, one per line: a character 0 or 1 for each wire, in wire order, or with \
---hex a text that is read as a value.
+--hex in hexadecimal, as values may be given.
 
 Example, with a full adder in adder.txt that reads three bits:
   halfgates run adder.txt 0000000000000000000000000000000000000000000000000000000000000000 1 0 1

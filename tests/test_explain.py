@@ -36,11 +36,11 @@ TOP_OF_XOR = "1 3\n2 1 1\n1 1\n"
 CIRCUITS = [
     ("1 3\n2", "1 Truncated", "2:2: the text ends before the circuit does"),
     (TOP_OF_XOR + "2 1 0", "1 Truncated", "4:6: gate 0: the text ends before the circuit does"),
-    ("1 x", "2 BadNumber", "1:3: a number from 0 to 4294967295 belongs here"),
+    ("1 x", "2 BadNumber", "1:3: expected a number from 0 to 4294967295"),
     (
         TOP_OF_XOR + "2 1 0 y 2 XOR",
         "2 BadNumber",
-        "4:7: gate 0: a number from 0 to 4294967295 belongs here",
+        "4:7: gate 0: expected a number from 0 to 4294967295",
     ),
     (
         "16777217 3",
@@ -93,14 +93,14 @@ CIRCUITS = [
     (
         "\ufeff" + XOR,
         "2 BadNumber",
-        "1:1: a number from 0 to 4294967295 belongs here; the file begins with a byte order mark, "
+        "1:1: expected a number from 0 to 4294967295; the file begins with a byte order mark, "
         "which no circuit has",
     ),
     *(
         (
             XOR.encode(encoding),
             "2 BadNumber",
-            "1:1: a number from 0 to 4294967295 belongs here; the file is UTF-16, and a circuit is "
+            "1:1: expected a number from 0 to 4294967295; the file is UTF-16, and a circuit is "
             "ASCII",
         )
         for encoding in ("utf-16", "utf-16-le", "utf-16-be")
@@ -138,7 +138,7 @@ GARBLED_FILES = [
     (
         sealed(GARBLED[:48] + b"\2" + GARBLED[49:-32]),
         "34 SpareBits",
-        "byte 48: a bit of the last decode byte is set that stands for no output",
+        "byte 48: a bit of the last decode byte is set that belongs to no output",
     ),
     (
         GARBLED[:-1] + bytes([GARBLED[-1] ^ 1]),
@@ -166,14 +166,14 @@ BINDINGS = [
         "g",
         OTHER_GARBLED,
         "40 OtherCircuit",
-        f"g: its circuit has the digest {bristol.digest(OTHER).hex()}, and this one has "
+        f"g: its circuit has the digest {bristol.digest(OTHER).hex()}, but this one has "
         f"{bristol.digest(CIRCUIT).hex()}",
     ),
     (
         "g",
         MORE_ROWS,
         "41 OtherCounts",
-        "g: it has 1 row pairs and 1 decode bits, and 0 and 1 are due",
+        "g: it has 1 row pairs and 1 decode bits, and 0 and 1 are expected",
     ),
     (
         "b",
@@ -185,7 +185,7 @@ BINDINGS = [
         "b",
         label_file(1, bytes(16), bytes(16)),
         "43 WrongWidth",
-        "b: it has 2 labels, and 1 are due for value 1, counted from 0",
+        "b: it has 2 labels, and 1 are expected for value 1, counted from 0",
     ),
     ("b", LABELS[0], "44 DoubleValue", "b: it is a second file for value 0, counted from 0"),
 ]
@@ -194,12 +194,12 @@ BINDINGS = [
 VALUES = [
     ("2", "15 BadDigit", "has a character that is neither 0 nor 1"),
     ("x0g", "15 BadDigit", "has a character after x that is no hexadecimal digit"),
-    ("01", "16 WrongLength", "has 2 digits, and 1 are due"),
-    ("x0", "16 WrongLength", "has 1 digits after x, and 2 are due for 1 wires"),
+    ("01", "16 WrongLength", "has 2 digits, and 1 are expected"),
+    ("x0", "16 WrongLength", "has 1 digits after x, and 2 are expected for 1 wires"),
     ("x02", "17 SpareBits", "sets a bit beyond its 1 wires"),
 ]
 SEEDS = [
-    ("0", "the length of the seed is 1, and 64 hexadecimal digits are due"),
+    ("0", "the length of the seed is 1, and 64 hexadecimal digits are expected"),
     ("g" + SEED[1:], "a character of the seed is no hexadecimal digit"),
 ]
 
@@ -233,7 +233,7 @@ class Explain(ProgramTest):
         ending = self.run_program("check", "pipe", "--explain")
         writer.join()
         status, out, err = fails("2 BadNumber")
-        line = "halfgates: pipe: a number from 0 to 4294967295 belongs here\n"
+        line = "halfgates: pipe: expected a number from 0 to 4294967295\n"
         self.assertEqual(ending, (status, out, err + line))
 
     def test_garbled_files(self):
@@ -269,7 +269,7 @@ class Explain(ProgramTest):
 
     def test_output_labels(self):
         self.put("b", label_file(1, bytes(16)))
-        line = "recognises no label like that of output wire 0, counted from 0"
+        line = "doesn't recognise the label of output wire 0, counted from 0"
         self.assert_explained(
             "48 UnknownOutputLabel", f"g: the garbled file {line}", "eval", "c.txt", "g", "a", "b")
         self.assert_explained(
@@ -299,7 +299,7 @@ class Explain(ProgramTest):
             for workers in "0", "65":
                 self.assert_explained(
                     "22 BadWorkers",
-                    f"the number of workers is {workers}, and 1 to 64 are possible",
+                    f"the number of workers is {workers}, but must be 1 to 64",
                     command, "c.txt", *COMMANDS[command], "--workers", workers,
                 )
 
@@ -388,7 +388,7 @@ class Explain(ProgramTest):
         os.close(terminal)
         printed = os.read(shown, 4096).decode().replace("\r\n", "\n")
         os.close(shown)
-        line = "halfgates: bad.txt:1:3: a number from 0 to 4294967295 belongs here\n"
+        line = "halfgates: bad.txt:1:3: expected a number from 0 to 4294967295\n"
         self.assertEqual(printed, fails("2 BadNumber")[2] + line)
 
 

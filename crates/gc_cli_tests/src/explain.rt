@@ -20,7 +20,7 @@ use std::test::Fail;
 static ORDERS: [(&[&str], &str); 11] = [
     (
         &["check", "bad"],
-        "halfgates: bad:1:3: a number from 0 to 4294967295 belongs here\n",
+        "halfgates: bad:1:3: expected a number from 0 to 4294967295\n",
     ),
     (
         &["plain", "c.txt", "1", "2"],
@@ -58,7 +58,7 @@ static ORDERS: [(&[&str], &str); 11] = [
     ),
     (
         &["run", "c.txt", "0", "1", "0"],
-        "halfgates: the length of the seed is 1, and 64 hexadecimal digits are due\n",
+        "halfgates: the length of the seed is 1, and 64 hexadecimal digits are expected\n",
     ),
     (
         &["garble", "c.txt", SEED, "c.txt"],

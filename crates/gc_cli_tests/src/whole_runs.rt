@@ -140,7 +140,7 @@ halfgates: no file: the file can't be read: there is no such file or directory\n
         FAULT,
         "",
         "halfgates: fault 2 BadNumber\n\
-halfgates: list:1:1: a number from 0 to 4294967295 belongs here\n",
+halfgates: list:1:1: expected a number from 0 to 4294967295\n",
     ),
     (&["check", "--args-from", "no file"], FAULT, "", CANNOT_READ),
     (&["check", "--args-from=bytes"], FAULT, "", CANNOT_READ),

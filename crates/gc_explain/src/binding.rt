@@ -99,7 +99,7 @@ fn digest_sentence<A: Allocator + Copy>(
 ) -> Result<String<A>, AllocError> {
     let found = hex::encode(alloc, garbled.digest())?;
     let due = hex::encode(alloc, circuit.digest())?;
-    format!(in alloc; "its circuit has the digest {found}, and this one has {due}")
+    format!(in alloc; "its circuit has the digest {found}, but this one has {due}")
 }
 
 /// The sentence on a garbled file with other counts than the circuit's.
@@ -111,7 +111,7 @@ fn counts_sentence<A: Allocator + Copy>(
     let (rows, bits) = (garbled.rows().len(), garbled.decode_bits().len());
     let (gates, outputs) = (circuit.and_count(), circuit.output_wires());
     format!(in alloc;
-        "it has {rows} row pairs and {bits} decode bits, and {gates} and {outputs} are due"
+        "it has {rows} row pairs and {bits} decode bits, and {gates} and {outputs} are expected"
     )
 }
 
@@ -176,7 +176,7 @@ fn label_sentence<A: Allocator + Copy>(
         BindFault::WrongWidth => {
             let width = widths.get(index as usize).copied().unwrap_or(0);
             format!(in alloc;
-                "it has {labels} labels, and {width} are due for value {index}, counted from 0"
+                "it has {labels} labels, and {width} are expected for value {index}, counted from 0"
             )
         }
         _ => format!(in alloc; "it is a second file for value {index}, counted from 0"),

@@ -57,6 +57,6 @@ fn reason_of(cause: Option<Cause>) -> &'static str {
         Some(Cause::IsDirectory) => "it is a directory",
         Some(Cause::ClosedPipe) => "the pipe is closed",
         Some(Cause::FullDisk) => "the disk is full",
-        Some(Cause::NotWritten) | Some(Cause::Other) | None => "the system refuses it",
+        Some(Cause::NotWritten) | Some(Cause::Other) | None => "the system refused it",
     }
 }

@@ -64,7 +64,7 @@ fn sentence_of<A: Allocator + Copy>(alloc: A, located: &Located) -> Result<Strin
 fn meaning_of(fault: ReadFault) -> &'static str {
     match fault {
         ReadFault::Truncated => "the text ends before the circuit does",
-        ReadFault::BadNumber => "a number from 0 to 4294967295 belongs here",
+        ReadFault::BadNumber => "expected a number from 0 to 4294967295",
         ReadFault::TooLarge => {
             "a circuit has at most 16777216 gates, 33554432 wires and 256 values of either side"
         }

@@ -216,7 +216,7 @@ fn meaning_of(is_garbled: bool, fault: FileFault) -> &'static str {
             "a garbled file has at most 16777216 row pairs and 33554432 outputs"
         }
         FileFault::CountTooLarge => "a label file has at most 33554432 labels",
-        FileFault::SpareBits => "a bit of the last decode byte is set that stands for no output",
+        FileFault::SpareBits => "a bit of the last decode byte is set that belongs to no output",
         FileFault::BadTrailer => "the trailer isn't the SHA-256 of the bytes before it",
         FileFault::Memory => "memory ran out",
     }

@@ -42,7 +42,7 @@ pub(crate) fn told_of_output<A: Allocator + Copy, F: Reread>(
 /// The sentence on an output wire.
 fn sentence_of<A: Allocator + Copy>(alloc: A, output: u32) -> Result<String<A>, AllocError> {
     format!(in alloc;
-        "the garbled file recognises no label like that of output wire {output}, counted from 0"
+        "the garbled file doesn't recognise the label of output wire {output}, counted from 0"
     )
 }
 

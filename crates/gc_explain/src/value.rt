@@ -85,11 +85,13 @@ fn value_sentence<A: Allocator + Copy>(
     let what = match (fault, text) {
         (ValueFault::WrongLength, [b'x', digits @ ..]) => {
             let (found, due) = (digits.len(), 2 * width.div_ceil(8));
-            format!(in alloc; "has {found} digits after x, and {due} are due for {width} wires")?
+            format!(in alloc;
+                "has {found} digits after x, and {due} are expected for {width} wires"
+            )?
         }
         (ValueFault::WrongLength, digits) => {
             let found = digits.len();
-            format!(in alloc; "has {found} digits, and {width} are due")?
+            format!(in alloc; "has {found} digits, and {width} are expected")?
         }
         (ValueFault::BadDigit, [b'x', ..]) => {
             String::from_str(
@@ -101,7 +103,7 @@ fn value_sentence<A: Allocator + Copy>(
             String::from_str(alloc, "has a character that is neither 0 nor 1")?
         }
         (ValueFault::SpareBits, _) => { format!(in alloc; "sets a bit beyond its {width} wires")? }
-        (ValueFault::Memory, _) => String::from_str(alloc, "has no room in memory")?,
+        (ValueFault::Memory, _) => String::from_str(alloc, "doesn't fit in memory")?,
     };
     let what = what.as_str();
     format!(in alloc; "value {index}, counted from 0, {what}")
@@ -116,7 +118,9 @@ pub(crate) fn told_of_seed<A: Allocator + Copy>(alloc: A, order: &Order) -> Opti
     }
     alone(
         alloc,
-        format!(in alloc; "the length of the seed is {count}, and 64 hexadecimal digits are due"),
+        format!(in alloc;
+            "the length of the seed is {count}, and 64 hexadecimal digits are expected"
+        ),
     )
 }
 
@@ -125,7 +129,7 @@ pub(crate) fn told_of_workers<A: Allocator + Copy>(alloc: A, order: &Order) -> O
     let workers = workers_of(order)?;
     alone(
         alloc,
-        format!(in alloc; "the number of workers is {workers}, and 1 to 64 are possible"),
+        format!(in alloc; "the number of workers is {workers}, but must be 1 to 64"),
     )
 }
 

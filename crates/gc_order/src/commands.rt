@@ -42,7 +42,7 @@ macro_rules! command_help {
 const RUN_HELP: &str = command_help!(
     "\
 Prints the output values, one per line: a character 0 or 1 for each wire, in wire order, or with \
---hex a text that is read as a value.
+--hex in hexadecimal, as values may be given.
 
 Example, with a full adder in adder.txt that reads three bits:
   halfgates run adder.txt 0000000000000000000000000000000000000000000000000000000000000000 1 0 1"
@@ -61,7 +61,7 @@ Example:
 
 const LOCATE_HELP: &str = command_help!(
     "\
-Prints `no fault` where the text spells a circuit. Otherwise it prints `fault` with the code and \
+Prints `no fault` if the text is a valid circuit. Otherwise it prints `fault` with the code and \
 the name of the first fault, `line` and `column` with its place and, where they apply, `gate` and \
 `wire`. Lines and columns are counted from 1, and gates from 0. A column is a byte.
 
@@ -83,7 +83,7 @@ Example:
 const PLAIN_HELP: &str = command_help!(
     "\
 Prints the output values, one per line: a character 0 or 1 for each wire, in wire order, or with \
---hex a text that is read as a value.
+--hex in hexadecimal, as values may be given.
 
 Example, with a full adder in adder.txt that reads three bits:
   halfgates plain adder.txt 1 0 1"
@@ -113,7 +113,7 @@ first.labels"
 const EVAL_HELP: &str = command_help!(
     "\
 Prints the output values, one per line: a character 0 or 1 for each wire, in wire order, or with \
---hex a text that is read as a value. There must be a label file for each input value of the \
+--hex in hexadecimal, as values may be given. There must be a label file for each input value of the \
 circuit, in any order. Neither the seed nor the values are needed.
 
 Example, with a full adder in adder.txt that reads three bits:
@@ -144,10 +144,10 @@ Example, with a full adder in adder.txt that reads three bits, for the two wires
 
 const AUDIT_HELP: &str = command_help!(
     "\
-Garbles the circuit, and compares the files with what that makes. Prints a line for each part of \
+Garbles the circuit, and compares the files with the result. Prints a line for each part of \
 the garbled file, with `right`, or with `wrong` and where the part first differs: `digest`, \
 `counts`, `rows`, `bits`, which are the decode bits, and `entries`, which a file of version 1 \
-doesn't have. Where the counts are wrong, the parts after them are left out. Then it prints a line \
+doesn't have. If the counts are wrong, the parts after them are left out. Then it prints a line \
 `labels` for each label file, with the index of its input value and the bits that its labels stand \
 for, or what is wrong with it, and finally `honest` if all is right, or else `dishonest`.
 
@@ -186,10 +186,10 @@ Print output values as x and two hexadecimal digits for each 8 wires, of which t
 the lowest bit";
 
 const EXPLAIN_HELP: &str = "\
-After the line of a fault print one more, which says where the fault is and what is wrong; where \
-standard error is a terminal this is always done";
+After the line of a fault, print a second one that says where the fault is and what is wrong; always \
+on where standard error is a terminal";
 
-const COUNT_HELP: &str = "How many lines to print at most, by default all";
+const COUNT_HELP: &str = "The most lines to print; all by default";
 
 /// The program, with its commands.
 pub(crate) fn halfgates<'a>(alloc: Global) -> Result<Command<'a>, AllocError>
