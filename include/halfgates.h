@@ -163,7 +163,7 @@ halfgates_name halfgates_version(void);
 typedef struct halfgates_circuit halfgates_circuit;
 
 /*
- * Reads a circuit from its text in Bristol Fashion, `length` bytes, and computes its digest. A zero byte doesn't end the
+ * Reads a circuit from its Bristol Fashion text, `length` bytes, and computes its digest. A zero byte doesn't end the
  * text. Codes: 1 to 13, the first fault of the text; HALFGATES_MEMORY.
  */
 int32_t halfgates_circuit_read(const uint8_t *text, size_t length, halfgates_circuit **circuit);
