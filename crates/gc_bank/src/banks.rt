@@ -182,8 +182,8 @@ impl<'j, 'c, B: Allocator, A: Allocator, C: Allocator> Banks<'j, 'c, B, A, C> {
         seat.inside = None;
     }
 
-    /// Seals the seat's round: nobody enters it any more, and who is inside goes on until it leaves. The caller ensures
-    /// that the seat is these banks' and inside a round.
+    /// Seals the seat's round: no further seat can enter it, and those inside go on until they leave. The caller
+    /// ensures that the seat is these banks' and inside a round.
     pub fn seal(&self, seat: &mut BankSeat<B, A, C>)
         requires own { IsSeatOf self.now seat.old }
         requires inside { IsInside (view seat.old) }

@@ -216,7 +216,7 @@ impl<B: Allocator + Copy, A: Allocator, C: Allocator> Worker<B, A, C> {
     }
 
     /// Seals the round and keeps the output bits of these labels, where no worker did so yet. The labels are decoded
-    /// outside of the round, which nobody waits for.
+    /// outside of the round, which no seat waits for.
     fn keep(&mut self, alloc: B, banks: &Banks<'_, '_, B, A, C>, round: u32, labels: &[Label])
         requires worker { IsWorkerOf banks.now self.old }
         requires round { round < length (jobs_on banks.now) }

@@ -1,4 +1,4 @@
-//! The arguments that the words of a command line stand for: `--args-from FILE` stands for the lines of FILE.
+//! Expands a command line: `--args-from FILE` stands for the lines of FILE.
 
 ghost use Rattle.std.specs.Prelude.{◌≡◌, ◌++◌, ◌≢◌, ◌∷◌, ℕ, List, map, string_bytes, IfErr, IfOk, IfNone, IfSome, OnOk, true, false, codes, length, ◌<◌, []};
 ghost use Rattle.gc_disk.specs.Files.{GivesFile, HasFailed};
@@ -14,7 +14,7 @@ const OPTION: &str = "--args-from";
 /// The option and what parts it from its value where both are one word.
 const OPTION_WITH_FILE: &str = "--args-from=";
 
-/// Why the words of a command line stand for no arguments.
+/// Why a command line is refused before its arguments are parsed.
 #[derive(Clone, Copy, Debug, PartialEq, Eq)]
 pub enum Refusal {
     /// The option comes last, and has no file.

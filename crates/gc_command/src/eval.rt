@@ -88,7 +88,7 @@ fn digest_and_evaluation<
         (map string_bytes order.now.labels.items)) }
     ensures same { (name : List ℕ) → F.bytes files.new name ≡ F.bytes files.old name }
 {
-    // `join_mut` says what becomes of the files, and `join` doesn't. It asks for closures that could be called again.
+    // `join_mut` says what happens to the files, and `join` doesn't. It asks for closures that could be called again.
     let mut begun = Some(begun);
     thread::join_mut(
         context.rt,

@@ -1,8 +1,8 @@
 //! Evaluating a garbled circuit on many threads.
 //!
 //! An evaluation takes rows, decode bits and one active label for each input wire alone. [`evaluate_many`] returns the
-//! output bits of a [`Job`], as [`evaluate`] does on one thread. Who has threads of their own opens an [`EvalBoard`]
-//! for them. A [`Walk`](gc_steps::Walk) gives them the gates in an order that serves.
+//! output bits of a [`Job`], as [`evaluate`] does on one thread. A caller with threads of its own opens an
+//! [`EvalBoard`] for them. A [`Walk`](gc_steps::Walk) gives them the gates in a suitable order.
 #![tactic(auto)]
 
 mod active;

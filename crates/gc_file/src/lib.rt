@@ -5,8 +5,8 @@
 //! labels are recognised. A label file holds the labels of one input value.
 //!
 //! [`read_garbled`] reads a garbled file, and [`GarbledReader`] reads it from pieces of any size; [`read_labels`] reads
-//! a label file. Of bytes that are no file they return the first fault. [`law_garbled_file`] and [`law_label_file`] say
-//! that all bytes are exactly one file or have exactly one first fault.
+//! a label file. For bytes that aren't a file they return the first fault. [`law_garbled_file`] and [`law_label_file`]
+//! say that all bytes are exactly one file or have exactly one first fault.
 #![tactic(auto)]
 
 mod body;

@@ -17,7 +17,7 @@ use std::sync::{Condvar, Mutex, Wait};
 /// The most blocks that are with the helpers.
 pub(crate) const MOST_OUT: usize = 64;
 
-/// How often a thread looks for a block before it goes about it in another way,
+/// How often a thread looks for a block before it tries something else,
 const TRIES: u32 = 64;
 
 /// and how often a helper does so before it sleeps: waking costs more than making a block.

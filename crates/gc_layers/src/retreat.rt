@@ -6,8 +6,9 @@ const SHORTEST: u32 = 512;
 /// How many blocks the longest one takes: half a million AND gates.
 const LONGEST: u32 = 32768;
 
-/// Where this many blocks were offered before a helper holds gates, the retreat is a shortest one. With a thread more
-/// than a quiet machine has processors, some twice as many are offered in between; beside busy processes half as many.
+/// Where this many blocks were offered before a helper holds gates, the retreat is one of the shortest. With a thread
+/// more than a quiet machine has processors, some twice as many are offered in between; beside busy processes half as
+/// many.
 const CALM: u32 = 1024;
 
 /// While it is in retreat the calling thread offers its helpers nothing, and makes all blocks by itself: where the

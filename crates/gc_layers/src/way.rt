@@ -18,7 +18,7 @@ const GATES_FOR_THREADS: u32 = 64;
 /// A circuit whose layers have more than about this many AND gates goes by layers.
 const WIDE_LAYER: u32 = 256;
 
-/// In another one that all threads go through at least one gate in this many is AND.
+/// Otherwise threads share a circuit only if at least one gate in this many is AND.
 const GATES_FOR_AND: u32 = 2;
 
 /// Any other one goes by layers where these have about this many AND gates or more,
@@ -33,7 +33,7 @@ const LOOKED_AT: u32 = MOST_POSTPONED as u32;
 /// How threads garble or evaluate a circuit in the least time. Whatever the way, the result is the same.
 #[derive(Clone, Copy, PartialEq, Eq, Debug)]
 pub enum Way {
-    /// One thread goes from gate to gate: others would save it less than they cost.
+    /// One thread goes from gate to gate: others would cost more than they save.
     Alone,
     /// One thread goes from gate to gate, and all threads make the AND gates that it passed.
     Layers,

@@ -1,6 +1,6 @@
 //! The C library: what `include/halfgates.h` declares.
 //!
-//! Each export tests its pointers for null, reads what its handle holds, asks `gc_kept`, and returns a code. That a
+//! Each export tests its pointers for null, reads what its handle holds, calls `gc_kept`, and returns a code. That a
 //! pointer may be tested is C's condition, and holds of all that C can pass.
 #![tactic(auto)]
 
