@@ -23,7 +23,7 @@ fn text(alloc: Global, len: usize) -> Result<Vec<u8>, AllocError> {
         round.push(byte)?;
     }
     let mut text = Vec::with_capacity(alloc, len.saturating_add(round.len()))?;
-    for _ in 0..=len / round.len() {
+    for _ in 0..=len / 251 {
         text.extend_from_slice(&round)?;
     }
     Ok(text)
