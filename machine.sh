@@ -22,12 +22,12 @@ find_program() {
     [ "$program" -nt "$top/dist/halfgates.sources" ] || find_released
 }
 
-# From now on programs have memory by large pages, where the system gives them to who asks, and keep what they give back
-# for what they take next, all their threads from one heap: much of the time that opening large tables takes is the
-# handing out of their pages. Where the address space is limited, the room that is taken ahead may not fit.
+# From now on programs use large pages, where the system grants them on request, and keep what they free for what they
+# allocate next, in one heap for all threads: much of the time that opening large tables takes is the handing out of
+# their pages. Where the address space is limited, the room that is reserved may not fit.
 #
 # glibc 2.36 compares the system's mode for large pages with one byte more than it has read, so that a byte left on the
-# stack decides whether a run has them. With LD_BIND_NOW that byte is zero, as it has to be.
+# stack decides whether a run has them. With LD_BIND_NOW that byte is zero, as it must be.
 tune_memory() {
     [ "$(ulimit -v)" = unlimited ] || return 0
     malloc=glibc.malloc

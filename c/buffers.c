@@ -2,7 +2,7 @@
  * The functions of halfgates.h that take handles or buffers. Each calls the proved export of its name, which the build
  * renames to proved_halfgates_..
  *
- * A handle: the proved export takes the address of a pointer that this call alone has, by which it reads what the
+ * A handle: the proved export takes the address of a pointer that is private to this call, by which it reads what the
  * handle holds. So several calls may read one handle at once. A list of handles is copied for the same reason.
  *
  * A buffer: a slice of Rattle is never NULL. Where C passes a NULL, the proved export sees another address, and can't

@@ -2,7 +2,7 @@
  * The library's heap: the three calls of the kit's `libc::heap`, over malloc and free. A block is wiped before it is
  * freed, and one that grows or shrinks is copied to a new block, so that freed memory holds no seed, label or bit.
  *
- * A head before each block keeps its size. Nothing else of the C library is needed than malloc and free.
+ * A head before each block keeps its size. Of the C library it needs only malloc and free.
  */
 #include <stddef.h>
 #include <stdint.h>

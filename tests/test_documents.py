@@ -47,7 +47,7 @@ def sections(document):
 
 
 def code_lines(document):
-    """The number of each line, its code, which is what stands in backticks, or the whole line in a
+    """The number of each line, its code, which is the text in backticks, or the whole line in a
     block, and the crates that paths there may begin at: those that a row of a table names, else
     those that the section names, else all."""
     in_code = False

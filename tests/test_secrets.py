@@ -4,7 +4,7 @@ Seeds, labels and bits of values are marked as undefined: memcheck then reports 
 depends on them. That a text is a seed, that bytes are bits, or that an output's label is recognised is decided once,
 after all of it was read.
 
-These are tests, and no proofs: they speak of the files under test, and of the paths that these circuits take.
+These are tests, not proofs: they cover the files under test, and of the paths that these circuits take.
 """
 import os
 import re

@@ -172,9 +172,9 @@ def digest(circuit):
 
 
 def walk(circuit, inputs, rule):
-    """What stands on each set wire: on input wires what is given, and else what the rule gives.
+    """The value on each set wire: on input wires what is given, and else what the rule gives.
 
-    The rule takes a gate, and what stands on the wires that the gate reads.
+    The rule takes a gate, and the values on the wires that the gate reads.
     """
     on_wires = dict(enumerate(inputs))
     for gate in circuit.gates:

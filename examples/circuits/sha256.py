@@ -42,7 +42,7 @@ def message_schedule(circuit, words):
 
 
 def words_of(value):
-    """The words of a value. Its bytes stand highest first in each word."""
+    """The words of a value. Each word has its highest byte first."""
     return [swapped(value[i : i + 32]) for i in range(0, len(value), 32)]
 
 

@@ -59,7 +59,7 @@ class Circuit(Handle):
         return cls.read(text.encode())
 
     def share(self) -> "Circuit":
-        """One more handle of the same circuit, without a copy, which is closed by itself. Fault: 62."""
+        """One more handle of the same circuit, without a copy, which is closed separately. Fault: 62."""
         it = self._empty()
         check(self._call(library.halfgates_circuit_share, byref(it._at)))
         it._describe(self._shape, self.digest)
@@ -223,7 +223,7 @@ class Garbling(Handle):
 
     @property
     def offset(self) -> bytes:
-        """The offset, 16 bytes: the label of a 1 is the zero label XOR the offset. Give it to nobody who evaluates."""
+        """The offset, 16 bytes: the label of a 1 is the zero label XOR the offset. Never give it to an evaluator."""
         offset = (c_uint8 * LABEL)()
         check(self._call(library.halfgates_offset, offset))
         return bytes(offset)
@@ -287,7 +287,7 @@ class Garbling(Handle):
     def labels(self, bits: Bits, start: int = 0, count: Optional[int] = None) -> List[WireLabels]:
         """The labels of `count` wires from `start` on, or of all from there, for the bits of all input wires.
 
-        Where a bit is 1 both labels of its wire are here, and so the offset: give them to nobody who evaluates.
+        Where a bit is 1 both labels of its wire are here, and so the offset: never give them to an evaluator.
         Faults: 13, 15, 16, 60 where there are no such wires.
         """
         start = _u32(start)

@@ -11,7 +11,7 @@ OK, BAD_ARGUMENT, SMALL_BUFFER = 0, 60, 61
 # NoSuchWire, Unset, SetTwice and OutputUnset.
 FAULTS_OF_WIRES = 7, 8, 9, 10
 
-# What stands for no gate, no wire and no output.
+# The value that means no gate, no wire or no output.
 NONE = 2**32 - 1
 
 # The verdict on a label file that has a label which is none of its wire. It is no code.

@@ -245,8 +245,8 @@ impl Garbling {
 
     /// The labels of these wires, for the bits of all input wires.
     ///
-    /// Where a bit is 1 both labels of the wire are there, and so the offset: give them to nobody
-    /// who evaluates.
+    /// Where a bit is 1 both labels of the wire are there, and so the offset: never give them to
+    /// an evaluator.
     ///
     /// # Errors
     ///
