@@ -32,24 +32,24 @@
  * in any order.
  *
  * THREADS. No function starts a thread, takes a lock or waits. A call with a const handle only reads it, so any number
- * of them may use one handle at once, on any threads, and none is refused because another is at work. The others are
+ * of them may use one handle at once, on any threads, and none fails because another is running. The others are
  * those that free: free a handle when no call uses it, and no call comes after. What a call writes, such as a new
- * handle, is for another thread once that thread knows that the call has returned.
+ * handle, may be used by another thread once that thread knows that the call has returned.
  *
  * STACK. As measured on x86-64, halfgates_job_bind uses 53 kilobytes of stack, halfgates_garbling_write 43,
  * halfgates_audit 40, halfgates_circuit_read 26, halfgates_deal 20, halfgates_write_many 19, and every other call less
  * than 5.
  *
- * BUFFERS. The library reads and writes buffers within a call and keeps no pointer to them. No alignment is asked for
- * where a buffer is of bytes. A buffer that is written overlaps no other argument, and has at least the room that is
- * needed, else the code is HALFGATES_SMALL_BUFFER and nothing is written to it; what it has behind that stays. A buffer
- * that is read has exactly the size that the description names, else the code is HALFGATES_WRONG_SIZE. Where a size is
- * 0, the pointer before it may be NULL. A NULL elsewhere is HALFGATES_NULL_POINTER.
+ * BUFFERS. The library reads and writes buffers within a call and keeps no pointer to them. Buffers of bytes need no
+ * alignment. A buffer that is written overlaps no other argument, and has at least the room that is needed, else the
+ * code is HALFGATES_SMALL_BUFFER and nothing is written to it; what it has behind that stays. A buffer that is read has
+ * exactly the size that the description names, else the code is HALFGATES_WRONG_SIZE. Where a size is 0, the pointer
+ * before it may be NULL. A NULL elsewhere is HALFGATES_NULL_POINTER.
  *
  * BITS are bytes 0 and 1, one for each wire, in wire order: those of input value 0, then those of value 1, and so on.
  * Another byte is HALFGATES_BAD_DIGIT, and a wrong number of them HALFGATES_WRONG_LENGTH.
  *
- * MEMORY comes from malloc and free. Where it runs out, the code is one of those that are named "Memory":
+ * MEMORY comes from malloc and free. If it runs out, the code is one of those that are named "Memory":
  * nothing is leaked, and the call may be made again. Call no function from a signal handler, nor in a child forked from
  * a process with several threads.
  *
@@ -57,7 +57,7 @@
  * xor the offset, which stands for 1. The colour of a label is bit 0 of its first byte, and the offset's colour is 1,
  * so a wire's labels have different colours. AND gates are numbered in file order, from a number `first` on: 0 under a
  * seed. Under one offset use no AND number twice: the next circuit's `first` is at least this one's `first` plus its
- * number of AND gates. Two AND gates of one number that read the same wire first give away the offset: their generator
+ * number of AND gates. Two AND gates of one number that read the same wire first reveal the offset: their generator
  * rows differ by it or by nothing. Garbled files are those of `first` 0. In version 2 their entries use the numbers
  * behind the AND gates, so leave (output wires + 1) / 2 more numbers free where such a file is sent. The library can't
  * check any of this.
@@ -75,7 +75,7 @@
 /* The version of this header. That of the library is halfgates_version(). */
 #define HALFGATES_VERSION_MAJOR 0
 #define HALFGATES_VERSION_MINOR 9
-#define HALFGATES_VERSION_PATCH 0
+#define HALFGATES_VERSION_PATCH 1
 
 #ifdef __cplusplus
 extern "C" {
@@ -88,8 +88,8 @@ enum {
 
     /* Reading a circuit. The text is read from left to right, and its first fault is returned. */
     HALFGATES_CIRCUIT_TRUNCATED = 1,    /* the text ends before the circuit does */
-    HALFGATES_BAD_NUMBER = 2,           /* a token where a number belongs is none, or is above 4,294,967,295 */
-    HALFGATES_TOO_LARGE = 3,            /* more than 16,777,216 gates, 33,554,432 wires or 256 values of a side */
+    HALFGATES_BAD_NUMBER = 2,           /* a token that should be a number isn't, or is above 4,294,967,295 */
+    HALFGATES_TOO_LARGE = 3,            /* more than 16,777,216 gates, 33,554,432 wires or 256 input or output values */
     HALFGATES_BAD_SHAPE = 4,            /* a gate's counts are not those of its operation */
     HALFGATES_UNKNOWN_OPERATION = 5,    /* an operation other than XOR, AND, INV, EQ and EQW */
     HALFGATES_BAD_CONSTANT = 6,         /* the constant of EQ is neither 0 nor 1 */
@@ -108,7 +108,7 @@ enum {
     HALFGATES_GARBLING_MEMORY = 23, /* memory ran out while garbling */
 
     /* Reading a garbled file or a label file. */
-    HALFGATES_BAD_MAGIC = 30,       /* the file doesn't begin as one of its kind does */
+    HALFGATES_BAD_MAGIC = 30,       /* the file doesn't begin with the magic of its kind */
     HALFGATES_FILE_TRUNCATED = 31,  /* the file ends too early */
     HALFGATES_TRAILING = 32,        /* bytes follow the end */
     HALFGATES_COUNT_TOO_LARGE = 33, /* a count is above its limit */
@@ -124,18 +124,18 @@ enum {
     HALFGATES_DOUBLE_VALUE = 44,  /* two label files are for one value */
     HALFGATES_MISSING_VALUE = 45, /* a value has no label file */
     HALFGATES_JOB_MEMORY = 46,    /* memory ran out while binding or evaluating */
-    HALFGATES_UNKNOWN_OUTPUT_LABEL = 48, /* an output's label is none that the garbled file recognises (version 2) */
+    HALFGATES_UNKNOWN_OUTPUT_LABEL = 48, /* an output's label isn't one that the garbled file recognises (version 2) */
 
-    /* Codes of this library alone. */
+    /* Codes of this library only. */
     HALFGATES_BAD_ARGUMENT = 60, /* no such version, wire or output, an offset of colour 0, an AND number that is too
                                     large, a file of a garbling whose `first` isn't 0 */
     HALFGATES_SMALL_BUFFER = 61, /* a buffer has too little room */
     HALFGATES_MEMORY = 62,       /* memory ran out for a handle, a file or a list */
 
-    /* A verdict of halfgates_audit_labels, and no code: a label is neither of the two labels of its wire. */
+    /* A verdict of halfgates_audit_labels, not a code: a label is neither of the two labels of its wire. */
     HALFGATES_WRONG_LABEL = 63,
 
-    HALFGATES_NULL_POINTER = 64, /* a NULL where a handle, a buffer with a size or a place to write to belongs */
+    HALFGATES_NULL_POINTER = 64, /* a NULL for a handle, a buffer with a size or a place to write to */
     HALFGATES_WRONG_HANDLE = 65, /* a handle of another type, such as a garbling in place of a circuit */
     HALFGATES_WRONG_SIZE = 66    /* a buffer that is read has a wrong size */
 };
@@ -154,7 +154,7 @@ halfgates_name halfgates_fault_name(int32_t code);
 /* Whether a code says that memory ran out: 1 for 13, 23, 36, 46 and 62, and else 0. */
 int32_t halfgates_is_memory(int32_t code);
 
-/* The version of the library, such as "0.9.0". */
+/* The version of the library, such as "0.9.1". */
 halfgates_name halfgates_version(void);
 
 /* ---------------------------------------------------------------------------------------------------- circuits -- */
@@ -163,14 +163,14 @@ halfgates_name halfgates_version(void);
 typedef struct halfgates_circuit halfgates_circuit;
 
 /*
- * Reads a circuit from its text in Bristol Fashion, `length` bytes, and takes its digest. A zero byte doesn't end the
+ * Reads a circuit from its Bristol Fashion text, `length` bytes, and computes its digest. A zero byte doesn't end the
  * text. Codes: 1 to 13, the first fault of the text; HALFGATES_MEMORY.
  */
 int32_t halfgates_circuit_read(const uint8_t *text, size_t length, halfgates_circuit **circuit);
 
 /*
  * Writes one more handle of the same circuit, without a copy: for a thread that frees its own. Each handle is freed by
- * halfgates_circuit_free; the circuit goes with the last. Code: HALFGATES_MEMORY.
+ * halfgates_circuit_free; the circuit is freed with the last. Code: HALFGATES_MEMORY.
  */
 int32_t halfgates_circuit_share(const halfgates_circuit *circuit, halfgates_circuit **other);
 
@@ -201,7 +201,7 @@ int32_t halfgates_circuit_output_widths(const halfgates_circuit *circuit, uint32
 /* Writes the digest of a circuit, the SHA-256 of its canonical text, 32 bytes. It was taken when the text was read. */
 int32_t halfgates_circuit_digest(const halfgates_circuit *circuit, uint8_t digest[32]);
 
-/* Stands for a gate, a wire or an output where there is none. */
+/* No gate, no wire or no output. */
 #define HALFGATES_NONE UINT32_MAX
 
 /* Where the first fault of a text is. */
@@ -216,7 +216,7 @@ typedef struct halfgates_place {
 
 /*
  * Where the first fault of a text is, which halfgates_circuit_read gives: the token at fault, or the end of the text.
- * Code: HALFGATES_CIRCUIT_MEMORY. A text with a fault is success.
+ * Code: HALFGATES_CIRCUIT_MEMORY. For a text with a fault too the code is HALFGATES_OK.
  */
 int32_t halfgates_locate(const uint8_t *text, size_t length, halfgates_place *place);
 
@@ -234,7 +234,7 @@ typedef struct halfgates_garbling halfgates_garbling;
 
 /*
  * Garbles a circuit under a seed of 32 bytes, on the calling thread. Take 32 random bytes for each garbling that is
- * sent to anybody. Codes: HALFGATES_GARBLING_MEMORY, HALFGATES_MEMORY.
+ * sent to somebody. Codes: HALFGATES_GARBLING_MEMORY, HALFGATES_MEMORY.
  */
 int32_t halfgates_garble(const halfgates_circuit *circuit, const uint8_t seed[32], halfgates_garbling **garbling);
 
@@ -351,7 +351,7 @@ typedef struct halfgates_wire_labels {
  * Writes the labels of the wires from `from` on, `count` of them, for the bits of all input wires, `size` bytes. Codes:
  * HALFGATES_BAD_ARGUMENT where there is no such wire, HALFGATES_WRONG_LENGTH, HALFGATES_BAD_DIGIT,
  * HALFGATES_CIRCUIT_MEMORY. A wire that no gate sets and that is no input wire has the bit 0 and 16 zero bytes for both
- * labels. Where a bit is 1 both labels of the wire are here, and so the offset: give them to nobody who evaluates.
+ * labels. Where a bit is 1 both labels of the wire are here, and so the offset: never give them to an evaluator.
  */
 int32_t halfgates_labels(const halfgates_garbling *garbling, const uint8_t *bits, size_t size, uint32_t from,
                          halfgates_wire_labels *labels, size_t count);
@@ -422,7 +422,7 @@ int32_t halfgates_decode(const uint8_t *labels, size_t labels_size, const uint8_
 
 /* ------------------------------------------------------------------------------------------------------- audit -- */
 
-/* What an audit finds of a garbled file: of each part the first difference from the garbling. */
+/* What an audit finds in a garbled file: of each part the first difference from the garbling. */
 typedef struct halfgates_audit_report {
     uint8_t honest;  /* 1 where nothing differs: it is the file of its version that halfgates_garbling_write writes */
     uint8_t version; /* the version of the file, 1 or 2 */

@@ -35,7 +35,7 @@
 
 #include <sys/random.h>
 
-/* [[nodiscard]] is of C++17. GCC has it before too; there (void) doesn't hush its own attribute, as Clang's. */
+/* [[nodiscard]] is of C++17. GCC has it earlier; unlike Clang's, its own attribute isn't silenced by (void) there. */
 #if __cplusplus >= 201703L || (defined(__GNUC__) && __GNUC__ >= 7 && !defined(__clang__))
 #define HALFGATES_NODISCARD [[nodiscard]]
 #elif defined(__clang__)
