@@ -21,8 +21,8 @@ use std::thread::Threads;
 /// the circuit has, the more of its garbled files.
 static CIRCUITS: [(&str, usize, u64); 3] = [
     ("1 3\n2 1 1\n1 1\n2 1 0 1 2 XOR", 1, 1),
-    ("1 9\n2 4 4\n1 1\n2 1 0 4 8 XOR", 4, 2),
-    ("1 31\n2 15 15\n1 1\n2 1 0 15 30 XOR", 15, 8),
+    ("1 5\n2 2 2\n1 1\n2 1 0 2 4 XOR", 2, 2),
+    ("1 15\n2 7 7\n1 1\n2 1 0 7 14 XOR", 7, 8),
 ];
 
 /// The line of an honest job.

@@ -59,7 +59,7 @@ pub fn order(alloc: Global, arguments: &[&str]) -> Result<Order, Fail> {
     Ok(order_of(alloc, &command_line(alloc, arguments)?)?)
 }
 
-/// Carries out the order, which nobody observes.
+/// Carries out the order, without an observer.
 pub fn result_of<R: Threads + Wait + Sync, A: Allocator + Copy + Send + Sync, F: Files>(
     rt: &R,
     alloc: A,

@@ -1,22 +1,21 @@
 //! A circuit's digest and its garbling, side by side.
 
-ghost use Rattle.std.specs.Prelude.{◌≡◌, ◌⊎◌, IfOk};
+ghost use Rattle.std.specs.Prelude.{◌≡◌, IfOk};
 ghost use Rattle.sha2.specs.Sha256.{sha256};
 ghost use Rattle.gc_netlist.specs.Canon.{canonical_text};
 ghost use Rattle.gc_circuit.specs.Digest.{IsBegun};
 ghost use Rattle.gc_half.specs.Garbling.{IsGarbled};
 ghost use Rattle.gc_work.specs.WorkFault.{JudgesWorkers};
-ghost use Rattle.gc_workers.specs.Workers.{AreFew};
 
 use gc_circuit::{BegunDigest, Circuit};
 use gc_half::Garbling;
 use gc_label::Seed;
 use gc_work::{WorkFault, garble};
-use gc_workers::{MAX_WORKERS, Open};
+use gc_workers::Open;
 use std::alloc::Allocator;
 use std::sync::Wait;
 use std::thread;
-use std::thread::{Threads, available_parallelism};
+use std::thread::Threads;
 
 /// The digest of the circuit's canonical text and the garbling of the circuit under a seed with this many workers.
 /// Meanwhile another thread finishes the digest, where one can be started. The caller ensures that the digest begun is
@@ -34,7 +33,6 @@ pub(crate) fn digest_and_garbling<R: Threads + Wait + Sync, A: Allocator + Copy 
     ensures garbled { IfOk result (λ made. IsGarbled circuit.now seed.now made.1) }
     ensures workers { JudgesWorkers workers result }
 {
-    let garblers = workers_beside_hashing(rt, workers);
     let (digest, garbling) = thread::join(
         rt,
         || -> [u8; 32]
@@ -43,22 +41,8 @@ pub(crate) fn digest_and_garbling<R: Threads + Wait + Sync, A: Allocator + Copy 
         { circuit.finish_digest(begun) },
         || -> Result<Garbling<A>, WorkFault>
             ensures garbled { IfOk result (IsGarbled circuit.entry.now seed.entry.now) }
-            ensures workers { JudgesWorkers garblers result }
-        { garble(rt, alloc, circuit, seed, garblers, &Open) },
+            ensures workers { JudgesWorkers workers result }
+        { garble(rt, alloc, circuit, seed, workers, &Open) },
     );
     Ok((digest, garbling?))
-}
-
-/// How many workers garble while another thread hashes. Where there are at least as many workers as processors, that
-/// thread takes the place of one: otherwise the system would stop threads that the others wait for.
-fn workers_beside_hashing<R: Threads>(rt: &R, workers: u32) -> u32
-    ensures { (result ≡ workers) ⊎ (AreFew result × AreFew workers) }
-{
-    if workers <= 1 || workers > MAX_WORKERS {
-        return workers;
-    }
-    match available_parallelism(rt) {
-        Ok(processors) if processors.get() <= workers as usize => workers - 1,
-        _ => workers,
-    }
 }

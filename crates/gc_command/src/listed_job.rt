@@ -80,13 +80,13 @@ fn read_jobs<'c, A: Allocator + Copy, F: Files, P: Progress>(
 }
 
 /// How many lines are read before their garbled files are checked: as many as are digested side by side, or fewer, but
-/// at least one, where their garbled files would have more bytes than the labels with which two jobs are evaluated, one
-/// for each wire and job.
+/// at least one, where their garbled files would have more bytes than the labels with which four jobs are evaluated
+/// side by side, one for each wire and job.
 fn lines_at_a_time<A: Allocator>(circuit: &Circuit<A>) -> usize
     ensures least { 1 ≤ result }
     ensures most { result ≤ SIDE_BY_SIDE }
 {
-    let labels = u64::from(circuit.wires()) * (2 * LABEL as u64);
+    let labels = u64::from(circuit.wires()) * (4 * LABEL as u64);
     let each = garbled_size(circuit, Version::Two).max(1);
     (labels / each).clamp(1, SIDE_BY_SIDE as u64) as usize
 }

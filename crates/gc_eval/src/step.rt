@@ -40,7 +40,7 @@ impl<'j, 'c, B: Allocator, A: Allocator, C: Allocator> EvalBoard<'j, 'c, B, A, C
     }
 
     /// Makes a gate, or says why not, in at most 11 atomic steps. A label that is returned is the gate's active label,
-    /// and the seat knows the gate from then on. A gate that the seat knows is returned by Done. It waits for nobody
+    /// and the seat knows the gate from then on. A gate that the seat knows is returned by Done. The call never blocks
     /// and doesn't allocate. The caller ensures that the seat is this board's, and that there is such a gate.
     pub fn step(&self, seat: &mut EvalSeat<A, C>, gate: u32) -> Answer
         requires own { IsSeatOf self.now seat.old }
@@ -102,7 +102,7 @@ impl<'j, 'c, B: Allocator, A: Allocator, C: Allocator> EvalBoard<'j, 'c, B, A, C
     }
 
     /// The active label of a wire, if it is an input wire or the gate that sets it is done; the seat knows that gate
-    /// from then on, and a gate that it knew gives its label. It waits for nobody and doesn't allocate. The caller
+    /// from then on, and a gate that it knew gives its label. The call never blocks and doesn't allocate. The caller
     /// ensures that the seat is this board's, and that there is such a wire.
     pub fn label(&self, seat: &mut EvalSeat<A, C>, wire: u32) -> Option<Label>
         requires own { IsSeatOf self.now seat.old }
@@ -117,7 +117,7 @@ impl<'j, 'c, B: Allocator, A: Allocator, C: Allocator> EvalBoard<'j, 'c, B, A, C
         self.round().label(&mut seat.place, wire)
     }
 
-    /// `to` learns what `from` knows. It waits for nobody and doesn't allocate. The caller ensures that both seats are
+    /// `to` learns what `from` knows. The call never blocks and doesn't allocate. The caller ensures that both seats are
     /// this board's.
     pub fn tell(&self, from: &mut EvalSeat<A, C>, to: &mut EvalSeat<A, C>)
         requires from { IsSeatOf self.now from.old }

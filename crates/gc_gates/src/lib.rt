@@ -1,6 +1,6 @@
-//! The words of gates that many seats work at, and the six kinds of atomic step on them.
+//! The words of gates that many seats work on, and the six kinds of atomic step on them.
 //!
-//! A gate has three words: its state and two halves of what is found out of it. A state word holds the state (bits 0
+//! A gate has three words: its state and two halves of what is learnt about it. A state word holds the state (bits 0
 //! and 1: free, in hand or done) and the round that it is of (bits 32 to 63). A state of an earlier round counts as
 //! free, so words that go to a later round have nothing to clear. What holds of these words between any two atomic
 //! steps is `Sound` in `specs/Gates.antt`.

@@ -1,7 +1,7 @@
-//! Boxes of the heap as pointers, and back: what a handle that C keeps is made of.
+//! Boxes of the heap as pointers, and back: a handle that C keeps is such a pointer.
 //!
 //! A [`Parted`] is a box in its two parts, a pointer and the allocator. A [`Pointer`] is a box of the program's heap,
-//! or null. Both own the value, and own it still where they are moved. A [`Lent`] is a pointer to read the value by.
+//! or null. Both own the value, also after they are moved. A [`Lent`] is a pointer to read the value by.
 #![tactic(auto)]
 
 mod lent;

@@ -43,7 +43,8 @@ fn hash_each<W: Words>(label: [W; 4], tweak: [W; 2]) -> [W; 4]
 {
     let [a, b, c, d, ..] = compress(
         || -> (State<W>, Window<W>)
-            ensures state { (j : ℕ) → j < W.lanes → words_of_lane W.lane j result.0 ≡ initial_hash_256 }
+            ensures state { (j : ℕ) → j < W.lanes
+                → words_of_lane W.lane j result.0 ≡ initial_hash_256 }
             ensures window { (j : ℕ) (l t : List ℕ) → j < W.lanes
                 → words_of_lane W.lane j label ≡ last_words l
                 → words_of_lane W.lane j tweak ≡ first_words t

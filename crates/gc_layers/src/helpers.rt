@@ -48,7 +48,7 @@ impl<'e, P: Pending, O: Origin<P>, A: Allocator + Copy, H: Gatehouse> Helpers<'e
             exchange,
             observer,
             out: 0,
-            retreat: Retreat::none(),
+            retreat: Retreat::Off,
             free: Vec::with_capacity(alloc, 1)?,
         })
     }
@@ -93,9 +93,8 @@ impl<'e, P: Pending, O: Origin<P>, A: Allocator + Copy, H: Gatehouse> Helpers<'e
     pub(crate) fn offer<R: Wait>(&mut self, rt: &R, block: Block<P, O, A>) -> Option<Block<P, O, A>>
         ensures { IfSome result (λ b. b ≡ block) }
     {
-        let is_alone = self.retreat.is_on();
-        self.retreat.count();
-        if is_alone || self.out >= MOST_OUT {
+        self.retreat.count(self.are_idle());
+        if self.retreat.is_on() || self.out >= MOST_OUT {
             return Some(block);
         }
         let refused = self.exchange.offer(rt, block);

@@ -1,65 +1,50 @@
 //! The calling thread's retreats from its helpers.
 
-/// How many blocks the shortest retreat takes.
-const SHORTEST: u32 = 512;
+/// How many blocks the calling thread makes while it waits for a helper's blocks. Where all processors are this
+/// program's, the system runs a helper again long before that.
+const PATIENCE: u32 = 512;
 
-/// How many blocks the longest one takes: half a million AND gates.
-const LONGEST: u32 = 32768;
+/// How many blocks it makes in a long retreat: half a million AND gates.
+const LONG: u32 = 32768;
 
-/// Where this many blocks were offered before a helper holds gates, the retreat is one of the shortest. With a thread
-/// more than a quiet machine has processors, some twice as many are offered in between; beside busy processes half as
-/// many.
-const CALM: u32 = 1024;
-
-/// While it is in retreat the calling thread offers its helpers nothing, and makes all blocks by itself: where the
-/// system stops helpers, other processes want the processors, and each helper that runs takes from the calling thread.
-/// Helpers that find nothing sleep. Then it offers them some again. If they soon hold gates, the next retreat is four
-/// times as long.
+/// In a retreat the calling thread offers its helpers nothing, and makes all blocks by itself: those that find nothing
+/// sleep, so that a helper that the system has stopped gets a processor. The retreat ends when all blocks are back.
+/// Where they aren't for long, other processes want the processors, and each helper that runs takes from the calling
+/// thread: then it is a long retreat.
 #[derive(Drop)]
-pub(crate) struct Retreat {
-    // How many blocks are left to be made in it.
-    left: u32,
-    // How many blocks the next one takes.
-    next: u32,
-    // How many blocks were offered since the last one.
-    offered: u32,
+pub(crate) enum Retreat {
+    /// None is on.
+    Off,
+    /// Until all blocks are back. This many were made in it.
+    Short { made: u32 },
+    /// Until this many blocks were made.
+    Long { left: u32 },
 }
 
 impl Retreat {
-    /// The calling thread is in no retreat.
-    pub(crate) fn none() -> Retreat {
-        Retreat {
-            left: 0,
-            next: SHORTEST,
-            offered: 0,
-        }
-    }
-
-    /// Whether it is in one.
+    /// Whether one is on.
     #[inline]
     pub(crate) fn is_on(&self) -> bool {
-        self.left > 0
+        !matches!(self, Retreat::Off)
     }
 
     /// Begins one, where none is on.
     pub(crate) fn begin(&mut self) {
-        if self.is_on() {
-            return;
+        if !self.is_on() {
+            *self = Retreat::Short { made: 0 };
         }
-        if self.offered >= CALM {
-            self.next = SHORTEST;
-        }
-        self.left = self.next;
-        self.next = self.next.saturating_mul(4).min(LONGEST);
-        self.offered = 0;
     }
 
-    /// Counts a block that is made in it, or else is offered.
-    pub(crate) fn count(&mut self) {
-        if self.is_on() {
-            self.left = self.left.saturating_sub(1);
-        } else {
-            self.offered = self.offered.saturating_add(1);
+    /// Counts a block that the calling thread is about to make in it, or ends it. `are_back` says whether helpers hold
+    /// no blocks.
+    pub(crate) fn count(&mut self, are_back: bool) {
+        match *self {
+            Retreat::Short { .. } if are_back => *self = Retreat::Off,
+            Retreat::Short { made } if made < PATIENCE => *self = Retreat::Short { made: made + 1 },
+            Retreat::Short { .. } => *self = Retreat::Long { left: LONG },
+            Retreat::Long { left } if left > 0 => *self = Retreat::Long { left: left - 1 },
+            Retreat::Long { .. } => *self = Retreat::Off,
+            Retreat::Off => {}
         }
     }
 }

@@ -15,7 +15,7 @@ use clap::{Arg, ArgAction, Command};
 use std::alloc::{AllocError, Global};
 
 /// The version of the program.
-const VERSION: &str = "0.9.1";
+const VERSION: &str = "0.9.2";
 
 /// The greatest number that an argument or an option takes. No circuit has as many wires.
 const MOST: u64 = 4_294_967_295;
@@ -186,8 +186,8 @@ Print output values as x and two hexadecimal digits for each 8 wires, of which t
 the lowest bit";
 
 const EXPLAIN_HELP: &str = "\
-After the line of a fault, print a second one that says where the fault is and what is wrong; always \
-on where standard error is a terminal";
+After the line of a fault, print a second one that says where the fault is and what is wrong; \
+always on where standard error is a terminal";
 
 const COUNT_HELP: &str = "The most lines to print; all by default";
 

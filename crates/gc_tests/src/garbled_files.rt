@@ -46,7 +46,7 @@ fn all_parts_are_read(rt: HostRuntime) -> Result<(), Fail> {
     Ok(())
 }
 
-/// Whether a reader that is given the digest answers as one that digests the bytes.
+/// Whether a reader that is given the digest returns what one that digests the bytes does.
 fn agree(alloc: Global, bytes: &[u8]) -> bool {
     let digest = Sha256::digest(before_trailer(bytes));
     let by_digest = read_garbled_by_digest(alloc, bytes, &digest);
