@@ -1,6 +1,7 @@
 """Installing a release, from a copy of the repository without its sources, and using what is installed."""
 
 import os
+import shlex
 import shutil
 import subprocess
 import tempfile
@@ -134,14 +135,14 @@ class InstallTest(unittest.TestCase):
     def test_pkg_config(self):
         if not which("pkg-config"):
             self.skipTest("there is no pkg-config")
-        prefix = self.folder / "prefix"
+        prefix = self.folder / "a & b|c"
         self.install(prefix)
         for folder in (prefix, self.top / "dist"):
             environment = {**os.environ, "PKG_CONFIG_PATH": str(folder / "lib/pkgconfig")}
-            flags = run("pkg-config", "--cflags", "--libs", "halfgates >= 0.6", env=environment)[1].split()
+            flags = run("pkg-config", "--cflags", "--libs", "halfgates >= 0.6", env=environment)[1]
             program = self.folder / "program"
             rpath = f"-Wl,-rpath,{folder}/lib"
-            self.assertEqual(run(compiler(".c")[0], EXAMPLE, *flags, rpath, "-o", program), (0, "", ""))
+            self.assertEqual(run(compiler(".c")[0], EXAMPLE, *shlex.split(flags), rpath, "-o", program), (0, "", ""))
             self.assertEqual(run(program, *WORDS), (0, "1\n", ""))
 
     def test_cmake(self):

@@ -4,7 +4,7 @@
   two_processes.py garbler SOCKET CIRCUIT NUMBER
   two_processes.py evaluator SOCKET CIRCUIT NUMBER
 
-SOCKET is a name for the socket between them, which the garbler makes. CIRCUIT is a file in Bristol Fashion with two
+SOCKET is a new name for the socket between them, which the garbler makes. CIRCUIT is a file in Bristol Fashion with two
 input values, the garbler's and the evaluator's, and one or two output values, the lowest bit on the first wire. The
 garbler learns the first output value and the evaluator the last one; each prints it.
 
@@ -78,7 +78,7 @@ def connect(name):
             return Client(name, "AF_UNIX")
         except (FileNotFoundError, ConnectionRefusedError):
             if time.monotonic() > end:
-                raise
+                raise TimeoutError(f"no garbler listens at {name}") from None
             time.sleep(0.05)
 
 
