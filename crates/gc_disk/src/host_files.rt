@@ -198,28 +198,19 @@ fn keep_sink<W: Write + Drop, A: Allocator>(
 }
 
 /// All the bytes of the file of this name.
-fn read_file<A: Allocator + Copy>(
-    rt: &impl rt::Files,
-    alloc: A,
-    name: &str,
-) -> io::Result<Vec<u8, A>> {
-    let mut bytes = room_for(rt, alloc, name);
-    fs::open(rt, name)?.read_to_end(&mut bytes)?;
+fn read_file<A: Allocator>(rt: &impl rt::Files, alloc: A, name: &str) -> io::Result<Vec<u8, A>> {
+    let mut file = fs::open(rt, name)?;
+    let mut bytes = Vec::with_capacity(alloc, room_for(rt, name))?;
+    file.read_to_end(&mut bytes)?;
     Ok(bytes)
 }
 
-/// No bytes, with room for those of the file of this name, as far as its length is known and there is memory, and for
+/// How many bytes to make room for before the file of this name is read: its length, as far as the system tells it, and
 /// one more, with which reading finds the end. A vector that grows meanwhile would get up to twice as much.
-fn room_for<A: Allocator + Copy>(rt: &impl rt::Files, alloc: A, name: &str) -> Vec<u8, A>
-    ensures { result.items ≡ [] }
-{
-    let len = match fs::metadata(rt, name) {
-        Ok(found) if found.is_file() => usize::try_from(found.len()).unwrap_or(0),
+fn room_for(rt: &impl rt::Files, name: &str) -> usize {
+    match fs::metadata(rt, name) {
+        Ok(found) if found.is_file() => found.len().saturating_add(1) as usize,
         _ => 0,
-    };
-    match Vec::with_capacity(alloc, len.saturating_add(1)) {
-        Ok(room) => room,
-        Err(_) => Vec::new(alloc),
     }
 }
 

@@ -93,7 +93,8 @@ impl<'e, P: Pending, O: Origin<P>, A: Allocator + Copy, H: Gatehouse> Helpers<'e
     pub(crate) fn offer<R: Wait>(&mut self, rt: &R, block: Block<P, O, A>) -> Option<Block<P, O, A>>
         ensures { IfSome result (λ b. b ≡ block) }
     {
-        self.retreat.count(self.are_idle());
+        let are_back = self.are_idle();
+        self.retreat.count(are_back);
         if self.retreat.is_on() || self.out >= MOST_OUT {
             return Some(block);
         }
