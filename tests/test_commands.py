@@ -1,11 +1,12 @@
 """The program's commands over files on a disk: what each prints and writes, and its first fault."""
+import resource
 import unittest
 from hashlib import sha256
 from pathlib import Path
 
 from program import (
     AND, CONSTANT_AND, EMPTY, FAR_COPY, FULL_ADDER, INV, MANY_WIRES, NO_GATES, ONE, SEED, SQUARE,
-    WIDE, XOR, ZERO, ProgramTest, label_file, sealed,
+    WIDE, XOR, ZERO, ProgramTest, fails, label_file, sealed,
 )
 
 FORMATS = "1", "2"
@@ -316,6 +317,24 @@ DEALING_FAULTS = [
     (SEED, "1", "0", "16 WrongLength"),
     (SEED, "1", "x00", "16 WrongLength"),
 ]
+
+
+def little_memory():
+    """The address space is limited to two gigabytes."""
+    resource.setrlimit(resource.RLIMIT_AS, (2 << 30, 2 << 30))
+
+
+class LongFiles(ProgramTest):
+    """Files that there is no memory for."""
+
+    def test_no_memory_for_a_file(self):
+        self.put("c.txt", XOR)
+        self.put("label", label_file(0, ONE_LABELS[0]))
+        self.put("list", "long label")
+        with open(self.folder / "long", "wb") as file:
+            file.truncate(8 << 30)
+        for words in (("stats", "long"), ("jobs", "c.txt", "long"), ("jobs", "c.txt", "list")):
+            self.assertEqual(self.run_program(*words, preexec_fn=little_memory), fails("52 Memory"), words)
 
 
 class TwoParties(ProgramTest):
