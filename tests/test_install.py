@@ -135,7 +135,7 @@ class InstallTest(unittest.TestCase):
     def test_pkg_config(self):
         if not which("pkg-config"):
             self.skipTest("there is no pkg-config")
-        prefix = self.folder / "a & b|c"
+        prefix = self.folder / r"a & b|c\d"
         self.install(prefix)
         for folder in (prefix, self.top / "dist"):
             environment = {**os.environ, "PKG_CONFIG_PATH": str(folder / "lib/pkgconfig")}
