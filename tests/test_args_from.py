@@ -1,6 +1,7 @@
 """Arguments from files, `--args-from FILE`, and `help COMMAND`."""
 import re
 import subprocess
+import unittest
 
 from program import FULL_ADDER, PROGRAM, SEED, XOR, ProgramTest
 
@@ -84,3 +85,19 @@ class ArgsFrom(ProgramTest):
         self.assert_fault("14 WrongCount", "plain", "c.txt", "--args-from", "blank")
         self.assert_usage("plain", "c.txt", "--args-from", "again")
         self.assert_fault("16 WrongLength", "plain", "c.txt", "1", "0", "--", "--args-from=crlf")
+        self.assert_fault("14 WrongCount", "plain", "c.txt", "--", "--args-from", "crlf")
+
+    def test_options_and_mistakes_in_files(self):
+        """They are those of a command line without files."""
+        self.put("list", "g a b")
+        self.put("explained", "list\n--explain")
+        fault = "halfgates: fault 2 BadNumber\n"
+        line = "halfgates: list:1:1: expected a number from 0 to 4294967295\n"
+        self.assert_ends((1, "", fault + line), "check", "--args-from=explained")
+        self.put("two", "0\n1")
+        self.assert_usage("check", "0", "1")
+        self.assert_ends(self.run_program("check", "0", "1"), "check", "--args-from", "two")
+
+
+if __name__ == "__main__":
+    unittest.main()

@@ -46,8 +46,9 @@ class Hexadecimal(ProgramTest):
         for index, value in enumerate(ADDER_VALUES):
             self.run_program("deal", "c.txt", SEED, index, value, f"l{index}")
         self.put("list", "g l0 l1 l2\n" * 2)
-        self.assert_prints("x02\n", "eval", "c.txt", "g", "--hex", "l0", "l1", "l2")
-        self.assert_prints("x02\n\nx02\n\n", "jobs", "c.txt", "list", "--hex")
+        for workers in "1", "2":
+            self.assert_prints("x02\n", "eval", "c.txt", "g", "--hex", "l0", "l1", "l2", "--workers", workers)
+            self.assert_prints("x02\n\nx02\n\n", "jobs", "c.txt", "list", "--workers", workers, "--hex")
         self.assert_prints("01\n", "eval", "c.txt", "g", "l0", "l1", "l2")
 
     def test_commands_without_output_values(self):

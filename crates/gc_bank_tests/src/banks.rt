@@ -1,6 +1,6 @@
-//! Tests of banks: what the calls of two seats that take turns return, steps of two gates, and closing.
+//! Tests of banks: what the calls of two seats that take turns return, and that none of them allocates.
 
-ghost use Rattle.std.specs.Prelude.{◌≡◌, ◌<◌, length, All, IfOk};
+ghost use Rattle.std.specs.Prelude.{◌≡◌, ◌<◌, length, IfOk};
 ghost use Rattle.gc_bank.specs.Seats.{IsSeatOf, IsInside, view, round_of, jobs_on};
 ghost use Rattle.gc_eval.specs.Seats.{IsSeatOf as IsBoardSeat, job_on};
 
@@ -15,9 +15,8 @@ use gc_refusing::Refusing;
 use gc_rounds::{Entry, MAX_JOBS, Reopening};
 use gc_steps::Answer;
 use gc_worked::circuits::FULL_ADDER;
-use gc_workers::CloseRefused;
+use gc_worked::compare::equal;
 use std::alloc::{Allocator, Global};
-use std::process::Abort;
 use std::test::Fail;
 
 /// One call of a seat.
@@ -107,6 +106,19 @@ pub(crate) fn three_jobs<'c>(alloc: Global, circuit: &'c Circuit) -> Result<Vec<
     jobs.push(job_of(alloc, circuit, FULL_ADDER, Version::One, &["1", "1", "1"])?)?;
     jobs.push(job_of(alloc, circuit, FULL_ADDER, Version::Two, &["0", "0", "1"])?)?;
     Ok(jobs)
+}
+
+/// Calls a test's function with three jobs on the full adder. So no test has a circuit and jobs of its own, which the
+/// proof drops on each path.
+pub(crate) fn on_three_jobs<F: Fn(&[Job]) -> Result<(), Fail>>(
+    alloc: Global,
+    test: F,
+) -> Result<(), Fail>
+    requires { F.IsAlwaysCallable test }
+{
+    let circuit = Circuit::read(alloc, FULL_ADDER.as_bytes())?;
+    let jobs = three_jobs(alloc, &circuit)?;
+    test(&jobs)
 }
 
 /// Banks with two seats for these jobs.
@@ -228,16 +240,18 @@ fn first_other<B: Allocator>(
 }
 
 /// The replies are those of the script.
+fn take_turns(alloc: Global, jobs: &[Job]) -> Result<(), Fail> {
+    if jobs.len() != 3 {
+        return Err(Fail::new("there are three jobs"));
+    }
+    let script = script(alloc, jobs)?;
+    let (banks, mut one, mut two) = two_seats(alloc, jobs)?;
+    equal(first_other(&banks, jobs, &mut one, &mut two, &script), None)
+}
+
 #[test]
 fn two_seats_take_turns(rt: HostRuntime) -> Result<(), Fail> {
-    let alloc = rt.alloc();
-    let circuit = Circuit::read(alloc, FULL_ADDER.as_bytes())?;
-    let jobs = three_jobs(alloc, &circuit)?;
-    let script = script(alloc, &jobs)?;
-    let (banks, mut one, mut two) = two_seats(alloc, &jobs)?;
-    let other = first_other(&banks, &jobs, &mut one, &mut two, &script);
-    assert_eq!(rt; other, None);
-    Ok(())
+    on_three_jobs(rt.alloc(), |jobs| take_turns(rt.alloc(), jobs))
 }
 
 /// Opens banks over this memory, has two seats make the calls of a script, and closes them. It returns how
@@ -268,157 +282,12 @@ fn works_without_memory(
 /// Banks that are open ask for no memory, and neither does the question whether their jobs are on one circuit.
 #[test]
 fn opened_banks_grow_nothing(rt: HostRuntime) -> Result<(), Fail> {
-    let alloc = rt.alloc();
-    let circuit = Circuit::read(alloc, FULL_ADDER.as_bytes())?;
-    let jobs = three_jobs(alloc, &circuit)?;
-    let script = script(alloc, &jobs)?;
-    let made = works_without_memory(&Refusing::never(alloc), &jobs, &script)?;
-    assert_eq!(rt; made, 2);
-    Ok(())
-}
-
-/// The replies to a step of two gates.
-fn two_replies(
-    banks: &Banks,
-    jobs: &[Job],
-    seat: &mut BankSeat,
-    first: u32,
-    second: u32,
-) -> (Reply, Reply)
-    requires own { IsSeatOf banks.now seat.old }
-    requires jobs { jobs_on banks.now ≡ jobs.now }
-    ensures { IsSeatOf banks.now seat.new }
-{
-    match seat.inside() {
-        Some(round) if (round as usize) < jobs.len() => {
-            let gates = jobs[round as usize].circuit().gates();
-            if gates <= first || gates <= second {
-                return (Reply::Barred, Reply::Barred);
-            }
-            let (answer, next_answer) = banks.step_two(seat, first, second);
-            (Reply::Answer(answer), Reply::Answer(next_answer))
+    on_three_jobs(rt.alloc(), |jobs| {
+        if jobs.len() != 3 {
+            return Err(Fail::new("there are three jobs"));
         }
-        _ => (Reply::Barred, Reply::Barred),
-    }
-}
-
-/// Seat one makes the gates of the full adder one by one, and seat two those of an equal job two at a time. Gates 0
-/// and 1 read input wires alone, gates 2 and 3 read wire 3, which gate 0 sets, and gate 4 reads what gate 2 sets.
-fn step_pairs(
-    rt: &impl Abort,
-    banks: &Banks,
-    jobs: &[Job],
-    one: &mut BankSeat,
-    two: &mut BankSeat,
-) -> Result<(), Fail>
-    requires one { IsSeatOf banks.now one.old }
-    requires two { IsSeatOf banks.now two.old }
-    requires jobs { jobs_on banks.now ≡ jobs.now }
-{
-    called(banks, jobs, one, Call::Enter(0));
-    called(banks, jobs, two, Call::Enter(1));
-    let made = [
-        called(banks, jobs, one, Call::Step(0)),
-        called(banks, jobs, one, Call::Step(1)),
-        called(banks, jobs, one, Call::Step(2)),
-        called(banks, jobs, one, Call::Step(3)),
-        called(banks, jobs, one, Call::Step(4)),
-    ];
-    let done = [
-        called(banks, jobs, one, Call::Step(0)),
-        called(banks, jobs, one, Call::Step(1)),
-    ];
-    assert_eq!(rt;
-        two_replies(banks, jobs, two, 2, 1),
-        (Reply::Answer(Answer::NotYet(3)), made[1])
-    );
-    assert_eq!(rt; two_replies(banks, jobs, two, 0, 0), (made[0], done[0]));
-    assert_eq!(rt; two_replies(banks, jobs, two, 2, 3), (made[2], made[3]));
-    assert_eq!(rt; two_replies(banks, jobs, two, 4, 1), (made[4], done[1]));
-    assert_eq!(rt; (one.made(), two.made()), (5, 5));
-    Ok(())
-}
-
-/// Two gates at once are made as one after the other is, and a gate that isn't ready or is known is stepped by
-/// itself.
-#[test]
-fn two_gates_in_a_step(rt: HostRuntime) -> Result<(), Fail> {
-    let alloc = rt.alloc();
-    let circuit = Circuit::read(alloc, FULL_ADDER.as_bytes())?;
-    let mut jobs = Vec::new(alloc);
-    for _twin in 0..2 {
-        jobs.push(job_of(alloc, &circuit, FULL_ADDER, Version::Two, &["1", "0", "1"])?)?;
-    }
-    let (banks, mut one, mut two) = two_seats(alloc, &jobs)?;
-    step_pairs(&rt, &banks, &jobs, &mut one, &mut two)
-}
-
-/// The banks and the seats that a refused close gave back.
-fn given_back<'j, 'c>(
-    banks: Banks<'j, 'c>,
-    seats: Vec<BankSeat>,
-) -> Result<(Banks<'j, 'c>, Vec<BankSeat>), Fail>
-    requires { All (IsSeatOf banks) seats.items }
-    ensures banks { IfOk result (λ b. b.0 ≡ banks.entry) }
-    ensures seats { IfOk result (λ b. b.1 ≡ seats) }
-{
-    let Err(refused) = banks.close(seats) else {
-        return Err(Fail::new("a seat is missing or inside"));
-    };
-    if refused.code() != 47 || refused.name() != "SeatMissing" {
-        return Err(Fail::new("the refusal is 47, SeatMissing"));
-    }
-    let CloseRefused {
-        board: banks,
-        seats,
-    } = refused;
-    Ok((banks, seats))
-}
-
-/// Banks without one of their seats are not closed. With both they are, and no gate is made.
-#[test]
-fn a_seat_is_missing(rt: HostRuntime) -> Result<(), Fail> {
-    let alloc = rt.alloc();
-    let circuit = Circuit::read(alloc, FULL_ADDER.as_bytes())?;
-    let jobs = three_jobs(alloc, &circuit)?;
-    let (banks, one, two) = two_seats(alloc, &jobs)?;
-    let mut seats = Vec::new(alloc);
-    seats.push(one)?;
-    let (banks, mut seats) = given_back(banks, seats)?;
-    assert_eq!(rt; seats.len(), 1);
-    seats.push(two)?;
-    let Ok(made) = banks.close(seats) else {
-        return Err(Fail::new("both seats are there"));
-    };
-    assert_eq!(rt; made, 0);
-    Ok(())
-}
-
-/// Banks with a seat inside a round are not closed. Once it left they are, and its gate is counted.
-#[test]
-fn a_seat_is_inside(rt: HostRuntime) -> Result<(), Fail> {
-    let alloc = rt.alloc();
-    let circuit = Circuit::read(alloc, FULL_ADDER.as_bytes())?;
-    let jobs = three_jobs(alloc, &circuit)?;
-    let (banks, mut one, two) = two_seats(alloc, &jobs)?;
-    called(&banks, &jobs, &mut one, Call::Enter(1));
-    called(&banks, &jobs, &mut one, Call::Step(0));
-    let mut seats = Vec::new(alloc);
-    seats.push(two)?;
-    seats.push(one)?;
-    let (banks, mut seats) = given_back(banks, seats)?;
-    let Some(mut one) = seats.pop() else {
-        return Err(Fail::new("both seats are given back"));
-    };
-    assert_eq!(rt; (seats.len(), one.inside(), one.made()), (1, Some(1), 1));
-    assert_eq!(rt;
-        called(&banks, &jobs, &mut one, Call::Leave),
-        Reply::Nothing
-    );
-    seats.push(one)?;
-    let Ok(made) = banks.close(seats) else {
-        return Err(Fail::new("both seats are outside"));
-    };
-    assert_eq!(rt; made, 1);
-    Ok(())
+        let script = script(rt.alloc(), jobs)?;
+        let made = works_without_memory(&Refusing::never(rt.alloc()), jobs, &script)?;
+        equal(made, 2)
+    })
 }

@@ -1,54 +1,49 @@
 //! Each growth refused in turn of the opening of banks and of the evaluation of a list of jobs.
 
-use crate::banks::three_jobs;
-use crate::jobs::{evaluated, one_after_another, one_of_each_version};
+use crate::banks::on_three_jobs;
+use crate::jobs::{evaluated, on_two_jobs, one_after_another};
 use gc_bank::{Banks, one_circuit};
-use gc_circuit::Circuit;
 use gc_job::{EvalFault, Job};
 use gc_refusing::Refusing;
 use gc_rounds::MAX_JOBS;
-use gc_worked::circuits::{FULL_ADDER, many_ands};
+use gc_worked::circuits::many_ands;
+use gc_worked::compare::equal;
 use gc_worked::growths::refusals_met;
 use gc_workers::{Open, OpenFault};
-use std::alloc::Global;
+use std::alloc::{Allocator, Global};
 use std::sync::Wait;
 use std::sync::atomic::{AtomicBool, AtomicU64, Ordering};
 use std::test::Fail;
 use std::thread::Threads;
 
-/// The fault of opening banks with two seats when the growth n is refused, or how many seats there are.
-fn opened(alloc: Global, jobs: &[Job], n: u64) -> Result<usize, OpenFault> {
-    let heap = Refusing::nth(alloc, n);
+/// How many seats banks over this memory have. None: the jobs can't be evaluated together.
+fn opened<A: Allocator + Copy>(alloc: A, jobs: &[Job]) -> Option<Result<usize, OpenFault>> {
     if jobs.is_empty() || jobs.len() > MAX_JOBS || !one_circuit(jobs) {
-        return Ok(0);
+        return None;
     }
-    let (_, seats) = Banks::open(&heap, jobs, 2)?;
-    Ok(seats.len())
+    Some(Banks::open(alloc, jobs, 2).map(|(_, seats)| seats.len()))
 }
 
 /// The seats, the two tables of the circuit, the list of jobs, the words, and at last the table's own two
 /// blocks.
 #[test]
 fn opening(rt: HostRuntime) -> Result<(), Fail> {
-    let alloc = rt.alloc();
-    let circuit = Circuit::read(alloc, FULL_ADDER.as_bytes())?;
-    let jobs = three_jobs(alloc, &circuit)?;
-    let mut found = Vec::new(alloc);
-    for n in 1..9 {
-        found.push(opened(alloc, &jobs, n))?;
-    }
-    let wanted = [
-        Err(OpenFault::Memory),
-        Err(OpenFault::Memory),
-        Err(OpenFault::Memory),
-        Err(OpenFault::Memory),
-        Err(OpenFault::Memory),
-        Err(OpenFault::NoTable),
-        Err(OpenFault::NoTable),
-        Ok(2),
-    ];
-    assert_eq!(rt; found.as_slice(), wanted.as_slice());
-    Ok(())
+    on_three_jobs(rt.alloc(), |jobs| {
+        for (n, found) in [
+            (1, Err(OpenFault::Memory)),
+            (2, Err(OpenFault::Memory)),
+            (3, Err(OpenFault::Memory)),
+            (4, Err(OpenFault::Memory)),
+            (5, Err(OpenFault::Memory)),
+            (6, Err(OpenFault::NoTable)),
+            (7, Err(OpenFault::NoTable)),
+            (8, Ok(2)),
+        ] {
+            let heap = Refusing::nth(rt.alloc(), n);
+            equal((n, opened(&heap, jobs)), (n, Some(found)))?;
+        }
+        Ok(())
+    })
 }
 
 /// Whether two results have the same bits.
@@ -110,35 +105,29 @@ fn refused_runs<R: Threads + Wait + Sync>(
 fn each_growth_of_shared_jobs_refused(rt: HostRuntime) -> Result<(), Fail> {
     let alloc = rt.alloc();
     let text = many_ands(alloc, 1100)?;
-    let circuit = Circuit::read(alloc, text.as_bytes())?;
     let ones = "1".repeat(alloc, 1100)?;
-    let values = [ones.as_str(), ones.as_str()];
-    let jobs = one_of_each_version(alloc, &circuit, text.as_str(), &values)?;
-    for (workers, runs) in [(3, 16), (16, 29)] {
-        let refused = refused_runs(&rt, alloc, &jobs, workers)?;
-        let opening = 8 + u64::from(workers);
-        assert!(rt;
-            refused.runs >= runs && refused.answered >= opening,
-            "{refused:?}"
-        );
-    }
-    Ok(())
+    on_two_jobs(alloc, text.as_str(), ones.as_str(), |jobs| {
+        for (workers, runs) in [(3, 16), (16, 29)] {
+            let refused = refused_runs(&rt, alloc, jobs, workers)?;
+            let opening = 8 + u64::from(workers);
+            let is_right = refused.runs >= runs && refused.answered >= opening;
+            equal((workers, refused, is_right), (workers, refused, true))?;
+        }
+        Ok(())
+    })
 }
 
 /// Otherwise each worker evaluates jobs of its own: the list allocates twice, and each job at least twice. Only without
 /// memory for the list of the results, which is allocated last, are there none.
 #[test]
 fn each_growth_of_jobs_apart_refused(rt: HostRuntime) -> Result<(), Fail> {
-    let alloc = rt.alloc();
-    let circuit = Circuit::read(alloc, FULL_ADDER.as_bytes())?;
-    let jobs = three_jobs(alloc, &circuit)?;
-    for workers in [1, 2, 64] {
-        let refused = refused_runs(&rt, alloc, &jobs, workers)?;
-        let is_last = refused.answered.checked_add(1) == Some(refused.runs);
-        assert!(rt;
-            refused.runs >= 7 && is_last,
-            "{refused:?} of {workers} workers"
-        );
-    }
-    Ok(())
+    on_three_jobs(rt.alloc(), |jobs| {
+        for workers in [1, 2, 64] {
+            let refused = refused_runs(&rt, rt.alloc(), jobs, workers)?;
+            let is_last = refused.answered.checked_add(1) == Some(refused.runs);
+            let is_right = refused.runs >= 7 && is_last;
+            equal((workers, refused, is_right), (workers, refused, true))?;
+        }
+        Ok(())
+    })
 }

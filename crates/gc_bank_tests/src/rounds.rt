@@ -4,6 +4,7 @@
 use crate::jobs::{evaluated, job_of, one_after_another};
 use gc_circuit::Circuit;
 use gc_file::Version;
+use gc_job::Job;
 use gc_worked::circuits::many_ands;
 use gc_workers::Gatehouse;
 use std::alloc::{AllocError, Global};
@@ -80,6 +81,18 @@ impl Gatehouse for Rounds {
     }
 }
 
+/// Three jobs on values all of whose bits are 0 or all are 1.
+fn three_jobs<'c>(alloc: Global, circuit: &'c Circuit, text: &str) -> Result<Vec<Job<'c>>, Fail> {
+    let zeros = "0".repeat(alloc, GATES as usize)?;
+    let ones = "1".repeat(alloc, GATES as usize)?;
+    let (zeros, ones) = (zeros.as_str(), ones.as_str());
+    let mut jobs = Vec::new(alloc);
+    for values in [[zeros, ones], [ones, zeros], [ones, ones]] {
+        jobs.push(job_of(alloc, circuit, text, Version::Two, &values)?)?;
+    }
+    Ok(jobs)
+}
+
 /// Of three jobs on independent AND gates the third is evaluated in the bank of the first, which was given on: a worker
 /// reports each gate in each round that it goes through, and hardly any gate twice, and one reports all gates three
 /// times.
@@ -88,34 +101,10 @@ fn a_bank_that_is_given_on_is_used(rt: HostRuntime) -> Result<(), Fail> {
     let alloc = rt.alloc();
     let text = many_ands(alloc, GATES)?;
     let circuit = Circuit::read(alloc, text.as_bytes())?;
-    let (zeros, ones) = (
-        "0".repeat(alloc, GATES as usize)?,
-        "1".repeat(alloc, GATES as usize)?,
-    );
-    let mut jobs = Vec::new(alloc);
-    for (first, second) in [(false, true), (true, false), (true, true)] {
-        let first = if first { ones.as_str() } else { zeros.as_str() };
-        let second = if second {
-            ones.as_str()
-        } else {
-            zeros.as_str()
-        };
-        let job = job_of(
-            alloc,
-            &circuit,
-            text.as_str(),
-            Version::Two,
-            &[first, second],
-        )?;
-        jobs.push(job)?;
-    }
+    let jobs = three_jobs(alloc, &circuit, text.as_str())?;
     let observer = Rounds::new(alloc)?;
     let found = evaluated(&rt, alloc, &jobs, WORKERS, &observer);
     assert!(rt; found == Some(one_after_another(alloc, &jobs)));
-    assert!(rt;
-        observer.most() >= 3 * u64::from(GATES),
-        "{} reports",
-        observer.most()
-    );
+    assert!(rt; observer.most() >= 3 * u64::from(GATES));
     Ok(())
 }

@@ -1,6 +1,8 @@
-//! Tests of the line that explains a fault: with each growth refused it is there or not, and never another.
+//! Tests of the line that explains a fault: where a growth is refused it may be missing or name no place, and after
+//! that it is as it should be.
 
-use crate::jobs::{held, job_files, order, result_of};
+use crate::files::XOR_FILES;
+use crate::jobs::{order, result_of};
 use gc_circuit::{ReadFault, ValueFault};
 use gc_command::Fault;
 use gc_disk::Reread;
@@ -12,9 +14,11 @@ use gc_refusing::Refusing;
 use gc_work::WorkFault;
 use gc_worked::MemFiles;
 use gc_worked::circuits::SEED;
-use std::alloc::Global;
-use std::process::Abort;
+use gc_worked::compare::equal;
+use std::alloc::{Allocator, Global};
+use std::sync::Wait;
 use std::test::Fail;
+use std::thread::Threads;
 
 /// Orders over the files of a job and a file that is none, and the lines that explain their faults.
 static ORDERS: [(&[&str], &str); 11] = [
@@ -67,64 +71,71 @@ the circuit's file\n",
     ),
 ];
 
-/// A chain of XOR gates, with which seven lines of a list are read at a time.
-const CHAIN: &str = concat!(
-    "12 14\n2 1 1\n1 1\n2 1 0 1 2 XOR\n2 1 0 2 3 XOR\n2 1 0 3 4 XOR\n2 1 0 4 5 XOR\n",
-    "2 1 0 5 6 XOR\n2 1 0 6 7 XOR\n2 1 0 7 8 XOR\n2 1 0 8 9 XOR\n2 1 0 9 10 XOR\n",
-    "2 1 0 10 11 XOR\n2 1 0 11 12 XOR\n2 1 0 12 13 XOR\n",
-);
-
-/// Lists of jobs. Where one has several faults, the first is explained.
-static LISTS: [(&str, &str); 4] = [
-    ("bad list", "g 0 1\ng no_file"),
-    ("bad garbled", "g 0 1\n\nbad 0 1\ng 0 1\ng 0 0"),
-    ("bad labels", "g 0 1\ng 0 bad\nbad 0 1"),
-    ("bad job", "g 0 1\ng 0 0\ng 0 1\ng 1 1"),
-];
-
-/// Asserts that a fault is explained by this line, and by no other or none where a growth is refused.
-fn assert_explained(
-    rt: &impl Abort,
-    alloc: Global,
+/// Whether a fault of an order is explained by this line.
+fn is_told<A: Allocator + Copy>(
+    memory: A,
     order: &Order,
     files: &MemFiles<'_>,
     fault: Fault,
     line: &str,
+) -> bool {
+    match explain(memory, order, files, files.trail().opened(), fault, None) {
+        Some(told) => told.as_slice() == line.as_bytes(),
+        None => false,
+    }
+}
+
+/// The same of the order of these arguments.
+fn is_explained<A: Allocator + Copy>(
+    alloc: Global,
+    memory: A,
+    arguments: &[&str],
+    files: &MemFiles<'_>,
+    fault: Fault,
+    line: &str,
+) -> Result<bool, Fail> {
+    let order = order(alloc, arguments)?;
+    Ok(is_told(memory, &order, files, fault, line))
+}
+
+/// Asserts that a fault is explained by this line, also after each of its growths was refused.
+fn assert_explained(
+    alloc: Global,
+    arguments: &[&str],
+    files: &MemFiles<'_>,
+    fault: Fault,
+    line: &str,
 ) -> Result<(), Fail> {
-    let opened = files.trail().opened();
     for growth in 1..100 {
         let heap = Refusing::nth(alloc, growth);
-        let told = explain(&heap, order, files, opened, fault, None);
-        let is_right = told.is_some_and(|told| told.as_slice() == line.as_bytes());
+        let is_right = is_explained(alloc, &heap, arguments, files, fault, line)?;
         if heap.refused() == 0 {
-            assert!(rt; is_right, "{line}");
-            return Ok(());
+            return equal((line, is_right), (line, true));
         }
-        let again = explain(alloc, order, files, opened, fault, None);
-        assert!(rt;
-            again.is_some_and(|told| told.as_slice() == line.as_bytes()),
-            "{line}"
-        );
+        let is_right = is_explained(alloc, &heap, arguments, files, fault, line)?;
+        equal((line, is_right), (line, true))?;
     }
     Err(Fail::new("each run met a refusal"))
 }
 
+/// Asserts that the order of these arguments has a fault, which is explained by this line.
+fn assert_ends<R: Threads + Wait + Sync>(
+    rt: &R,
+    alloc: Global,
+    arguments: &[&str],
+    line: &str,
+) -> Result<(), Fail> {
+    let mut files = MemFiles::new(alloc, &XOR_FILES);
+    match result_of(rt, alloc, alloc, arguments, &mut files)? {
+        Ok(_) => Err(Fail::new("there is no fault")),
+        Err(fault) => assert_explained(alloc, arguments, &files, fault, line),
+    }
+}
+
 #[test]
 fn each_growth_refused(rt: HostRuntime) -> Result<(), Fail> {
-    let alloc = rt.alloc();
-    let mut files = job_files(alloc, CHAIN, &[false, true])?;
-    files.push(("bad", Vec::from_slice(alloc, b"1 x".as_slice())?))?;
-    for (name, list) in &LISTS {
-        files.push((*name, Vec::from_slice(alloc, list.as_bytes())?))?;
-    }
-    let files = held(alloc, &files)?;
     for (words, line) in &ORDERS {
-        let order = order(alloc, words)?;
-        let mut files = MemFiles::new(alloc, &files);
-        match result_of(&rt, alloc, &order, &mut files) {
-            Ok(_) => return Err(Fail::new("there is no fault")),
-            Err(fault) => assert_explained(&rt, alloc, &order, &files, fault, line)?,
-        }
+        assert_ends(&rt, rt.alloc(), words, line)?;
     }
     Ok(())
 }
@@ -142,12 +153,10 @@ const MEMORY: [Fault; 7] = [
 
 #[test]
 fn want_of_memory(rt: HostRuntime) -> Result<(), Fail> {
-    let alloc = rt.alloc();
-    let order = order(alloc, &["check", "c.txt"])?;
-    let files = MemFiles::new(alloc, &[]);
+    let files = MemFiles::new(rt.alloc(), &[]);
     for fault in MEMORY {
         let line = "halfgates: memory ran out\n";
-        assert_explained(&rt, alloc, &order, &files, fault, line)?;
+        assert_explained(rt.alloc(), &["check", "c.txt"], &files, fault, line)?;
     }
     Ok(())
 }

@@ -1,12 +1,12 @@
 //! Tests of files that fail: each call of them in turn, and sources and sinks in mid-stream.
 
-use crate::jobs::{assert_printed, held, job_files, order, result_of};
+use crate::files::XOR_FILES;
+use crate::jobs::{assert_printed, result_of};
 use gc_command::Fault;
-use gc_order::Order;
-use gc_worked::circuits::{SEED, XOR};
+use gc_worked::circuits::SEED;
+use gc_worked::compare::equal;
 use gc_worked::{Limits, MemFiles};
 use std::alloc::Global;
-use std::process::Abort;
 use std::sync::Wait;
 use std::test::Fail;
 use std::thread::Threads;
@@ -17,12 +17,11 @@ const WRITE: Fault = Fault::CannotWrite;
 
 /// Orders, what they print where nothing fails, and the fault where each of their calls fails. `no file` isn't there,
 /// so nothing is printed of it. Those of `garble` and `deal` are to read the circuit, to create the file and to keep
-/// it;
-/// those of `eval` to read the circuit, to open the garbled file and to read each label file; those of `jobs` to read
-/// the circuit, the list, the garbled file and each label file; and those of `audit` are those of `eval`.
+/// it; those of `eval` and `audit` to read the circuit, to open the garbled file and to read each label file; and those
+/// of `jobs` to read the circuit, the list, the garbled file and each label file.
 static ORDERS: [(&[&str], &str, &[Fault]); 11] = [
-    (&["run", "c.txt", SEED, "1", "1"], "0\n", &[READ]),
-    (&["plain", "c.txt", "1", "1"], "0\n", &[READ]),
+    (&["run", "c.txt", SEED, "0", "1"], "1\n", &[READ]),
+    (&["plain", "c.txt", "0", "1"], "1\n", &[READ]),
     (
         &["garble", "c.txt", SEED, "out"],
         "wrote 113\n",
@@ -47,7 +46,7 @@ static ORDERS: [(&[&str], &str, &[Fault]); 11] = [
     (&["locate", "c.txt"], "no fault\n", &[READ]),
     (&["stats", "c.txt"], STATS_LINES, &[READ]),
     (
-        &["labels", "c.txt", SEED, "--from", "2", "0", "1"],
+        &["labels", "c.txt", SEED, "--from", "14", "0", "1"],
         LABELS_LINE,
         &[READ],
     ),
@@ -58,7 +57,7 @@ static ORDERS: [(&[&str], &str, &[Fault]); 11] = [
     ),
 ];
 
-/// The statistics of one XOR gate of two input values.
+/// The statistics of one XOR gate.
 const STATS_LINES: &str = "\
 xor 1
 and 0
@@ -73,7 +72,8 @@ garbled2 113
 ";
 
 /// The line of the output wire.
-const LABELS_LINE: &str = "2 679340c4f1daa597df120ff333af47f0 102ba069512b98079f4f65166029fad8 1\n";
+const LABELS_LINE: &str =
+    "14 679340c4f1daa597df120ff333af47f0 102ba069512b98079f4f65166029fad8 1\n";
 
 /// What an audit finds of honest files.
 const AUDIT_LINES: &str = "\
@@ -87,35 +87,30 @@ labels 1 1
 honest
 ";
 
-/// Asserts that the order ends by this fault over files with these limits, and writes no file, unless the limits cut
-/// sinks short.
-fn assert_fails<R: Threads + Wait + Sync + Abort>(
+/// Asserts that the order ends by this fault over files with these limits.
+fn assert_fails<R: Threads + Wait + Sync>(
     rt: &R,
     alloc: Global,
-    files: &[(&str, &[u8])],
-    order: &Order,
+    words: &[&str],
     limits: Limits,
     fault: Fault,
-) {
-    let mut files = MemFiles::limited(alloc, files, limits);
-    let answer = result_of(rt, alloc, order, &mut files);
-    assert_eq!(rt; answer.err(), Some(fault));
-    assert!(rt; limits.taken.is_some() || files.into_written().is_none());
+) -> Result<(), Fail> {
+    let mut files = MemFiles::limited(alloc, &XOR_FILES, limits);
+    let found = result_of(rt, alloc, alloc, words, &mut files)?.err();
+    equal((words, found), (words, Some(fault)))
 }
 
 /// Asserts that the order prints this over files with these limits.
-fn assert_prints<R: Threads + Wait + Sync + Abort>(
+fn assert_prints<R: Threads + Wait + Sync>(
     rt: &R,
     alloc: Global,
-    files: &[(&str, &[u8])],
-    order: &Order,
+    words: &[&str],
     limits: Limits,
     printed: &str,
 ) -> Result<(), Fail> {
-    let mut files = MemFiles::limited(alloc, files, limits);
-    let answer = result_of(rt, alloc, order, &mut files)?;
-    assert_printed(rt, alloc, answer, printed);
-    Ok(())
+    let mut files = MemFiles::limited(alloc, &XOR_FILES, limits);
+    let answer = result_of(rt, alloc, alloc, words, &mut files)??;
+    assert_printed(alloc, answer, printed)
 }
 
 /// Files of which this many calls go well.
@@ -126,22 +121,30 @@ fn calls_alone(calls: u32) -> Limits {
     }
 }
 
-/// Each call fails in turn, and nothing is written. Where all of them go well, none is left that fails.
+/// Asserts that the order has these faults where each of its calls fails in turn. Where all of them go well, none is
+/// left that fails.
+fn assert_calls<R: Threads + Wait + Sync>(
+    rt: &R,
+    alloc: Global,
+    words: &[&str],
+    printed: &str,
+    faults: &[Fault],
+) -> Result<(), Fail> {
+    let mut calls = 0;
+    for fault in faults {
+        assert_fails(rt, alloc, words, calls_alone(calls), *fault)?;
+        calls = calls.saturating_add(1);
+    }
+    if printed.is_empty() {
+        return Ok(());
+    }
+    assert_prints(rt, alloc, words, calls_alone(calls), printed)
+}
+
 #[test]
 fn each_call_in_turn(rt: HostRuntime) -> Result<(), Fail> {
-    let alloc = rt.alloc();
-    let files = job_files(alloc, XOR, &[false, true])?;
-    let files = held(alloc, &files)?;
     for (words, printed, faults) in &ORDERS {
-        let order = order(alloc, words)?;
-        let mut calls = 0;
-        for fault in *faults {
-            assert_fails(&rt, alloc, &files, &order, calls_alone(calls), *fault);
-            calls = calls.saturating_add(1);
-        }
-        if !printed.is_empty() {
-            assert_prints(&rt, alloc, &files, &order, calls_alone(calls), printed)?;
-        }
+        assert_calls(&rt, rt.alloc(), words, printed, faults)?;
     }
     Ok(())
 }
@@ -175,33 +178,24 @@ fn bytes_alone(bytes: usize, fault: Fault) -> Limits {
     }
 }
 
-/// A source or a sink fails after each number of bytes. After a sink did, nothing is known of the file that was to be
-/// written.
+/// Asserts that the order has this fault where a source or a sink fails after each number of bytes that isn't enough.
+fn assert_streams<R: Threads + Wait + Sync>(
+    rt: &R,
+    alloc: Global,
+    words: &[&str],
+    (enough, fault): (usize, Fault),
+    printed: &str,
+) -> Result<(), Fail> {
+    for bytes in 0..enough {
+        assert_fails(rt, alloc, words, bytes_alone(bytes, fault), fault)?;
+    }
+    assert_prints(rt, alloc, words, bytes_alone(enough, fault), printed)
+}
+
 #[test]
 fn in_mid_stream(rt: HostRuntime) -> Result<(), Fail> {
-    let alloc = rt.alloc();
-    let files = job_files(alloc, XOR, &[false, true])?;
-    let files = held(alloc, &files)?;
     for (words, enough, fault, printed) in &STREAMS {
-        let order = order(alloc, words)?;
-        for bytes in 0..*enough {
-            assert_fails(
-                &rt,
-                alloc,
-                &files,
-                &order,
-                bytes_alone(bytes, *fault),
-                *fault,
-            );
-        }
-        assert_prints(
-            &rt,
-            alloc,
-            &files,
-            &order,
-            bytes_alone(*enough, *fault),
-            printed,
-        )?;
+        assert_streams(&rt, rt.alloc(), words, (*enough, *fault), printed)?;
     }
     Ok(())
 }

@@ -1,18 +1,18 @@
 //! Each growth of a command refused in turn: the fault's code says which part of the work lacked memory.
 
-use crate::jobs::{held, job_files, order, outcome_of_refusal};
-use gc_order::Order;
+use crate::files::ADDER_FILES;
+use crate::jobs::{Outcome, outcome_of_refusal};
 use gc_refusing::Refusing;
 use gc_worked::MemFiles;
-use gc_worked::circuits::{ADDER_LINES, FULL_ADDER, SEED};
-use std::alloc::{AllocError, Global};
-use std::process::Abort;
+use gc_worked::circuits::{ADDER_LINES, SEED};
+use gc_worked::compare::equal;
+use std::alloc::Global;
 use std::sync::Wait;
 use std::test::Fail;
 use std::thread::Threads;
 
 /// A part of the work: the code of its Memory fault, and how many growths it has.
-type Part = (u32, usize);
+type Part = (u32, u64);
 
 const FILE: Part = (52, 1);
 
@@ -159,7 +159,7 @@ static ORDERS: [(&[&str], &str, &[&[Part]]); 11] = [
 ];
 
 /// The statistics of the full adder.
-pub(crate) const ADDER_STATS: &str = "\
+const ADDER_STATS: &str = "\
 xor 4
 and 1
 inv 0
@@ -173,11 +173,10 @@ garbled2 177
 ";
 
 /// The line of the full adder's last wire.
-pub(crate) const SUM_LINE: &str =
-    "7 0e9678301e606e503ee2240174330fb2 792e989dbe9153c07ebf4ee427b5b29a 1\n";
+const SUM_LINE: &str = "7 0e9678301e606e503ee2240174330fb2 792e989dbe9153c07ebf4ee427b5b29a 1\n";
 
 /// What an audit finds of honest files of the full adder.
-pub(crate) const ADDER_AUDIT: &str = "\
+const ADDER_AUDIT: &str = "\
 digest right
 counts right
 rows right
@@ -191,68 +190,62 @@ honest
 
 /// Carries out the order with the growth of this number refused. It returns the code of the fault: 0 where the order
 /// did without that growth, and None where no growth was refused.
-fn code_of_refusal<R: Threads + Wait + Sync + Abort>(
+fn code_of_refusal<R: Threads + Wait + Sync>(
     rt: &R,
     alloc: Global,
-    files: &[(&str, &[u8])],
-    order: &Order,
+    words: &[&str],
     printed: &str,
     growth: u64,
-) -> Option<u32> {
+) -> Result<Option<u32>, Fail> {
     let heap = Refusing::nth(alloc, growth);
-    let mut files = MemFiles::new(alloc, files);
-    match outcome_of_refusal(rt, alloc, &heap, order, &mut files, printed)? {
-        Ok(()) => Some(0),
-        Err(fault) => Some(fault.code()),
-    }
+    let mut files = MemFiles::new(alloc, &ADDER_FILES);
+    Ok(
+        match outcome_of_refusal(rt, alloc, &heap, words, &mut files, printed)? {
+            Outcome::Unrefused => None,
+            Outcome::Printed => Some(0),
+            Outcome::Ended(fault) => Some(fault.code()),
+        },
+    )
 }
 
-/// Carries out the order with growth 1, 2, 3, .. refused, until a run meets no refusal and prints its lines. It returns
-/// the codes of the runs before it, one for each growth.
-fn codes_of_refusals<R: Threads + Wait + Sync + Abort>(
+/// The code of the growth of this number, counted from 1, in the parts of these lists: None after the last one.
+fn code_in(lists: &[&[Part]], growth: u64) -> Option<u32> {
+    let mut left = growth;
+    for parts in lists {
+        for (code, growths) in *parts {
+            if left <= *growths {
+                return Some(*code);
+            }
+            left = left.saturating_sub(*growths);
+        }
+    }
+    None
+}
+
+/// Asserts that growth 1, 2, 3, .. of the order has the code of its part, and that there is none after the last part.
+fn assert_codes<R: Threads + Wait + Sync>(
     rt: &R,
     alloc: Global,
-    files: &[(&str, &[u8])],
-    order: &Order,
+    words: &[&str],
     printed: &str,
-) -> Result<Vec<u32>, Fail> {
-    let mut codes = Vec::new(alloc);
+    parts: &[&[Part]],
+) -> Result<(), Fail> {
     for growth in 1..64 {
-        match code_of_refusal(rt, alloc, files, order, printed, growth) {
-            Some(code) => codes.push(code)?,
-            None => return Ok(codes),
+        let wanted = code_in(parts, growth);
+        let found = code_of_refusal(rt, alloc, words, printed, growth)?;
+        equal((words, growth, found), (words, growth, wanted))?;
+        if wanted.is_none() {
+            return Ok(());
         }
     }
     Err(Fail::new("each run met a refusal"))
 }
 
-/// The code of each growth of the parts in these lists.
-fn codes_of(alloc: Global, lists: &[&[Part]]) -> Result<Vec<u32>, AllocError> {
-    let mut codes = Vec::new(alloc);
-    for parts in lists {
-        push_codes(&mut codes, parts)?;
-    }
-    Ok(codes)
-}
-
-/// Adds the code of each growth of these parts.
-fn push_codes(codes: &mut Vec<u32>, parts: &[Part]) -> Result<(), AllocError> {
-    for (code, growths) in parts {
-        codes.resize(codes.len().saturating_add(*growths), *code)?;
-    }
-    Ok(())
-}
-
 /// The memory of each part of the work has its own fault.
 #[test]
 fn each_growth_refused(rt: HostRuntime) -> Result<(), Fail> {
-    let alloc = rt.alloc();
-    let files = job_files(alloc, FULL_ADDER, &[true, false, true])?;
-    let files = held(alloc, &files)?;
     for (words, printed, parts) in &ORDERS {
-        let order = order(alloc, words)?;
-        let codes = codes_of_refusals(&rt, alloc, &files, &order, printed)?;
-        assert_eq!(rt; codes, codes_of(alloc, parts)?, "{words:?}");
+        assert_codes(&rt, rt.alloc(), words, printed, parts)?;
     }
     Ok(())
 }

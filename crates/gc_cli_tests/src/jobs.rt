@@ -1,51 +1,19 @@
-//! The files of a job and the orders over them.
+//! Orders over files in memory, and what comes of them.
 
-use gc_circuit::Circuit;
 use gc_cli::{Answer, Output, carry_out};
 use gc_command::{Context, Fault, Silent};
 use gc_disk::Files;
-use gc_file::Version;
 use gc_order::{Order, order_of};
 use gc_refusing::Refusing;
 use gc_worked::MemFiles;
-use gc_worked::files::{label_file, write};
+use gc_worked::compare::equal;
 use std::alloc::{AllocError, Allocator, Global};
-use std::process::Abort;
 use std::sync::Wait;
 use std::test::Fail;
 use std::thread::Threads;
 
-/// Files, each with its name.
-pub type NamedFiles = Vec<(&'static str, Vec<u8>)>;
-
-/// The files of an honest job under the seed of zeros: the circuit `c.txt`, its garbled file `g`, a label file for each
-/// bit, named by its index, and a list of the job.
-pub fn job_files(alloc: Global, text: &str, bits: &[bool]) -> Result<NamedFiles, Fail> {
-    let circuit = Circuit::read(alloc, text.as_bytes())?;
-    let mut files = Vec::new(alloc);
-    files.push(("c.txt", Vec::from_slice(alloc, text.as_bytes())?))?;
-    files.push(("g", write(alloc, text, Version::Two, None)?.bytes))?;
-    let mut list = Vec::from_slice(alloc, b"g".as_slice())?;
-    for ((index, name), bit) in (0..).zip(["0", "1", "2"]).zip(bits) {
-        files.push((name, label_file(alloc, &circuit, index, &[*bit])?))?;
-        list.extend_from_slice(b" ")?;
-        list.extend_from_slice(name.as_bytes())?;
-    }
-    files.push(("list", list))?;
-    Ok(files)
-}
-
-/// The files as files in memory take them.
-pub fn held(alloc: Global, files: &NamedFiles) -> Result<Vec<(&str, &[u8])>, AllocError> {
-    let mut held = Vec::new(alloc);
-    for (name, bytes) in files {
-        held.push((*name, bytes.as_slice()))?;
-    }
-    Ok(held)
-}
-
 /// The command line of these arguments.
-pub fn command_line(alloc: Global, arguments: &[&str]) -> Result<Vec<String>, AllocError> {
+fn command_line(alloc: Global, arguments: &[&str]) -> Result<Vec<String>, AllocError> {
     let mut words = Vec::new(alloc);
     words.push(String::from_str(alloc, "halfgates")?)?;
     for argument in arguments {
@@ -59,8 +27,8 @@ pub fn order(alloc: Global, arguments: &[&str]) -> Result<Order, Fail> {
     Ok(order_of(alloc, &command_line(alloc, arguments)?)?)
 }
 
-/// Carries out the order, without an observer.
-pub fn result_of<R: Threads + Wait + Sync, A: Allocator + Copy + Send + Sync, F: Files>(
+/// Carries out an order with memory of this allocator, without an observer.
+fn carry_out_alone<R: Threads + Wait + Sync, A: Allocator + Copy + Send + Sync, F: Files>(
     rt: &R,
     alloc: A,
     order: &Order,
@@ -75,36 +43,58 @@ pub fn result_of<R: Threads + Wait + Sync, A: Allocator + Copy + Send + Sync, F:
     carry_out(&context, order, files)
 }
 
+/// The same of the order of these arguments. No caller holds an order, since the proof that it is dropped on each path
+/// takes long.
+pub fn result_of<R: Threads + Wait + Sync, A: Allocator + Copy + Send + Sync, F: Files>(
+    rt: &R,
+    alloc: Global,
+    memory: A,
+    arguments: &[&str],
+    files: &mut F,
+) -> Result<Result<Answer<A>, Fault>, Fail> {
+    let order = order(alloc, arguments)?;
+    Ok(carry_out_alone(rt, memory, &order, files))
+}
+
 /// Asserts that a result prints this.
 pub fn assert_printed<A: Allocator>(
-    rt: &impl Abort,
     alloc: Global,
     answer: Answer<A>,
     printed: &str,
-) {
+) -> Result<(), Fail> {
     let mut out = Output::new(Vec::new(alloc));
-    assert_eq!(rt; answer.lines.print(&mut out), Ok(()));
-    assert_eq!(rt; out.into_inner().as_slice(), printed.as_bytes());
+    answer.lines.print(&mut out)?;
+    equal(out.into_inner().as_slice(), printed.as_bytes())
 }
 
-/// Carries out the order with memory of a heap that refuses one growth. It returns what came of it, where that
-/// growth was refused: the order has printed this, or a fault ended it.
-pub fn outcome_of_refusal<R: Threads + Wait + Sync + Abort, B: Allocator + Copy>(
+/// What came of an order over memory that refuses one growth.
+#[derive(Clone, Copy)]
+pub enum Outcome {
+    /// It printed its lines, and asked for fewer growths.
+    Unrefused,
+    /// It printed its lines without that growth.
+    Printed,
+    /// This fault ended it.
+    Ended(Fault),
+}
+
+/// Carries out the order with memory of a heap that refuses one growth. Where no fault ends it, it prints this.
+pub fn outcome_of_refusal<R: Threads + Wait + Sync, B: Allocator + Copy>(
     rt: &R,
     alloc: Global,
     heap: &Refusing<Global>,
-    order: &Order,
+    words: &[&str],
     files: &mut MemFiles<'_, B>,
     printed: &str,
-) -> Option<Result<(), Fault>> {
-    match result_of(rt, heap, order, files) {
-        Ok(answer) => {
-            assert_printed(rt, alloc, answer, printed);
-            (heap.refused() > 0).then_some(Ok(()))
-        }
-        Err(fault) => {
-            assert_eq!(rt; heap.refused(), 1);
-            Some(Err(fault))
-        }
+) -> Result<Outcome, Fail> {
+    match result_of(rt, alloc, heap, words, files)? {
+        Ok(answer) => assert_printed(alloc, answer, printed)?,
+        Err(fault) if heap.refused() == 1 => return Ok(Outcome::Ended(fault)),
+        Err(_) => return Err(Fail::new("a fault without a refusal")),
+    }
+    if heap.refused() == 0 {
+        Ok(Outcome::Unrefused)
+    } else {
+        Ok(Outcome::Printed)
     }
 }

@@ -1,14 +1,14 @@
 //! The tests of commands that need what no disk gives: files that fail at each call and in mid-stream, each growth
-//! refused in turn, lists of jobs with faults at each place, streams that fail, files that are hashed while they are
-//! read, the lines that explain faults, the steps that commands report, and whole runs over files in memory.
+//! refused in turn, lists of jobs of which it is known which files were opened, streams that fail, files that are
+//! hashed while they are read, and the steps that commands report.
 #![tactic(auto)]
 
-#[cfg(test)]
-mod command_line;
 #[cfg(test)]
 mod explain;
 #[cfg(test)]
 mod failing_files;
+#[cfg(test)]
+mod files;
 #[cfg(test)]
 mod growth;
 #[cfg(test)]
@@ -23,5 +23,3 @@ mod jobs;
 mod progress;
 #[cfg(test)]
 mod refusals;
-#[cfg(test)]
-mod whole_runs;

@@ -1,17 +1,17 @@
-//! Each growth of a command of two workers refused in turn, over files whose sinks use the same memory. After a
-//! refusal the same order over the same files is carried out.
+//! Each growth refused in turn of commands of two workers, and of one over a list, over files whose sinks use the same
+//! memory. After a refusal the same order over the same files is carried out.
 
-use crate::jobs::{assert_printed, order, outcome_of_refusal, result_of};
+use crate::files::XOR_FILES;
+use crate::jobs::{Outcome, assert_printed, outcome_of_refusal, result_of};
 use gc_circuit::Circuit;
 use gc_command::Fault;
 use gc_file::Version;
-use gc_order::Order;
 use gc_refusing::Refusing;
 use gc_worked::MemFiles;
 use gc_worked::circuits::{SEED, and_chains};
+use gc_worked::compare::equal;
 use gc_worked::files::{label_file, write};
 use std::alloc::Global;
-use std::process::Abort;
 use std::sync::Wait;
 use std::test::Fail;
 use std::thread::Threads;
@@ -36,71 +36,92 @@ static ORDERS: [(&[&str], &str, u32); 4] = [
 /// The faults of memory: those of circuits and values, garbling, files that are read, evaluation, and the program.
 const MEMORY: [u32; 5] = [13, 23, 36, 46, 52];
 
-/// What comes of an order where the growth of this number is refused. None: no growth was.
-fn fault_of_refusal<R: Threads + Wait + Sync + Abort>(
+/// What comes of an order where the growth of this number is refused. After a fault the same order prints its lines.
+fn outcome<R: Threads + Wait + Sync>(
     rt: &R,
     alloc: Global,
     files: &[(&str, &[u8])],
-    order: &Order,
+    words: &[&str],
     printed: &str,
     growth: u64,
-) -> Option<Result<(), Fault>> {
+) -> Result<Outcome, Fail> {
     let heap = Refusing::nth(alloc, growth);
-    let outcome = outcome_of_refusal(
-        rt,
-        alloc,
-        &heap,
-        order,
-        &mut MemFiles::new(&heap, files),
-        printed,
-    )?;
-    if outcome.is_err() {
-        match result_of(rt, &heap, order, &mut MemFiles::new(&heap, files)) {
-            Ok(answer) => assert_printed(rt, alloc, answer, printed),
-            Err(fault) => assert!(rt; false, "{fault} after growth {growth} was refused"),
-        }
+    let mut held = MemFiles::new(&heap, files);
+    let outcome = outcome_of_refusal(rt, alloc, &heap, words, &mut held, printed)?;
+    if let Outcome::Ended(_) = outcome {
+        let answer = result_of(rt, alloc, &heap, words, &mut held)??;
+        assert_printed(alloc, answer, printed)?;
     }
-    Some(outcome)
+    Ok(outcome)
+}
+
+/// Fails where a fault isn't one of memory.
+fn of_memory(fault: Fault) -> Result<(), Fail> {
+    equal((fault, MEMORY.contains(&fault.code())), (fault, true))
 }
 
 /// Carries out the order with growth 1, 2, 3, .. refused, until a run meets no refusal. It returns how many runs
 /// couldn't write the file; all others printed their lines, or had a fault of memory.
-fn unwritten_runs<R: Threads + Wait + Sync + Abort>(
+fn unwritten_runs<R: Threads + Wait + Sync>(
     rt: &R,
     alloc: Global,
     files: &[(&str, &[u8])],
-    order: &Order,
+    words: &[&str],
     printed: &str,
 ) -> Result<u32, Fail> {
     let mut unwritten = 0u32;
     for growth in 1..1000 {
-        match fault_of_refusal(rt, alloc, files, order, printed, growth) {
-            None => return Ok(unwritten),
-            Some(Ok(())) => {}
-            Some(Err(Fault::CannotWrite)) => unwritten = unwritten.saturating_add(1),
-            Some(Err(fault)) => assert!(rt; MEMORY.contains(&fault.code()), "{fault}"),
+        match outcome(rt, alloc, files, words, printed, growth)? {
+            Outcome::Unrefused => return Ok(unwritten),
+            Outcome::Printed => {}
+            Outcome::Ended(Fault::CannotWrite) => unwritten = unwritten.saturating_add(1),
+            Outcome::Ended(fault) => of_memory(fault)?,
         }
     }
     Err(Fail::new("each run met a refusal"))
+}
+
+/// Asserts of each order that as many runs couldn't write the file as there are growths of it.
+fn assert_orders<R: Threads + Wait + Sync>(
+    rt: &R,
+    alloc: Global,
+    files: &[(&str, &[u8])],
+) -> Result<(), Fail> {
+    for (words, printed, growths) in &ORDERS {
+        let unwritten = unwritten_runs(rt, alloc, files, words, printed)?;
+        equal((words, unwritten), (words, *growths))?;
+    }
+    Ok(())
+}
+
+/// The label file of a value of 32 bits, all of which are set.
+fn labels(alloc: Global, text: &str) -> Result<Vec<u8>, Fail> {
+    let circuit = Circuit::read(alloc, text.as_bytes())?;
+    label_file(alloc, &circuit, 0, &[true; 32])
 }
 
 #[test]
 fn by_two_workers(rt: HostRuntime) -> Result<(), Fail> {
     let alloc = rt.alloc();
     let text = and_chains(alloc, 32, 32)?;
-    let circuit = Circuit::read(alloc, text.as_bytes())?;
     let garbled = write(alloc, text.as_str(), Version::Two, None)?.bytes;
-    let labels = label_file(alloc, &circuit, 0, &[true; 32])?;
+    let labels = labels(alloc, text.as_str())?;
     let files: [(&str, &[u8]); 4] = [
         ("c.txt", text.as_bytes()),
         ("g", garbled.as_slice()),
         ("l", labels.as_slice()),
         ("list", b"g l"),
     ];
-    for (words, printed, growths) in &ORDERS {
-        let order = order(alloc, words)?;
-        let unwritten = unwritten_runs(&rt, alloc, &files, &order, printed)?;
-        assert_eq!(rt; unwritten, *growths, "{words:?}");
-    }
-    Ok(())
+    assert_orders(&rt, alloc, &files)
+}
+
+/// The files of eight lines are read before their garbled files are checked.
+#[test]
+fn of_a_list(rt: HostRuntime) -> Result<(), Fail> {
+    let words = ["jobs", "c.txt", "nine"];
+    let printed = "1\n\n1\n\n1\n\n1\n\n1\n\n1\n\n1\n\n1\n\n1\n\n";
+    equal(
+        unwritten_runs(&rt, rt.alloc(), &XOR_FILES, &words, printed)?,
+        0,
+    )
 }

@@ -1,20 +1,21 @@
-//! Tests of boards: what the calls of seats that take turns return, closing, and each growth of the opening refused.
+//! Tests of boards: what the calls of seats that take turns return, and each growth of the opening refused.
 
 ghost use Rattle.std.specs.Prelude.{◌≡◌, ◌<◌, ◌≤◌, All, IfOk};
 ghost use Rattle.gc_eval.specs.Seats.{IsSeatOf, job_on};
+ghost use Rattle.gc_job.specs.ActiveLabels.{gates_of};
 
-use crate::jobs::job_of;
-use gc_circuit::{Circuit, show_value};
+use crate::jobs::on_job;
+use gc_circuit::show_value;
 use gc_eval::{Active, EvalBoard, EvalSeat};
 use gc_job::{EvalFault, Job, evaluate};
 use gc_label::Label;
 use gc_refusing::Refusing;
 use gc_steps::Answer;
 use gc_worked::circuits::{AND_INV_AND, CONSTANT_AND, FULL_ADDER};
+use gc_worked::compare::equal;
 use gc_worked::growths::{Answer as Run, Stray, plain_if, runs_refused};
-use gc_workers::{CloseRefused, OpenFault};
+use gc_workers::OpenFault;
 use std::alloc::{Allocator, Global};
-use std::process::Abort;
 use std::test::Fail;
 use std::thread;
 use std::thread::Threads;
@@ -23,10 +24,10 @@ use std::thread::Threads;
 const ADDENDS: [&str; 3] = ["1", "0", "1"];
 
 /// A board with two seats.
-fn two_seats<'j, 'c>(
-    alloc: Global,
+fn two_seats<'j, 'c, B: Allocator + Copy>(
+    alloc: B,
     job: &'j Job<'c>,
-) -> Result<(EvalBoard<'j, 'c>, EvalSeat, EvalSeat), Fail>
+) -> Result<(EvalBoard<'j, 'c, B>, EvalSeat, EvalSeat), Fail>
     ensures job { IfOk result (λ b. job_on b.0 ≡ job.now) }
     ensures seats { IfOk result (λ b. IsSeatOf b.0 b.1 × IsSeatOf b.0 b.2) }
 {
@@ -40,118 +41,127 @@ fn two_seats<'j, 'c>(
     Ok((board, one, two))
 }
 
+/// The answers to five steps of two seats that take turns at the full adder. Gates 0 and 1 read input wires alone, and
+/// gate 2 reads wire 3, which gate 0 sets.
+fn steps(board: &EvalBoard, one: &mut EvalSeat, two: &mut EvalSeat) -> [Answer; 5]
+    requires one { IsSeatOf board.now one.old }
+    requires two { IsSeatOf board.now two.old }
+    requires gates { gates_of (job_on board.now) ≡ 5 }
+    ensures { IsSeatOf board.now one.new × IsSeatOf board.now two.new }
+{
+    [
+        board.step(one, 2),
+        board.step(one, 0),
+        board.step(two, 1),
+        board.step(one, 1),
+        board.step(one, 2),
+    ]
+}
+
 /// Two seats take turns at a job of the full adder.
-fn take_turns(rt: &impl Abort, alloc: Global, job: &Job) -> Result<(), Fail> {
-    assert!(rt; job.circuit().gates() == 5 && job.circuit().wires() == 8);
+fn take_turns(alloc: Global, job: &Job) -> Result<(), Fail> {
+    if job.circuit().gates() != 5 || job.circuit().wires() != 8 {
+        return Err(Fail::new("the job is of the full adder"));
+    }
     let (board, mut one, mut two) = two_seats(alloc, job)?;
-    assert_eq!(rt; board.step(&mut one, 2), Answer::NotYet(3));
-    let Answer::Made(_) = board.step(&mut one, 0) else {
-        return Err(Fail::new("gate 0 is free"));
+    let answers = steps(&board, &mut one, &mut two);
+    let [
+        lacking,
+        Answer::Made(_),
+        Answer::Made(label),
+        known,
+        Answer::Made(_),
+    ] = answers
+    else {
+        return Err(Fail::new("gates 0, 1 and 2 are free in turn"));
     };
-    let Answer::Made(label) = board.step(&mut two, 1) else {
-        return Err(Fail::new("gate 1 is free"));
-    };
-    assert_eq!(rt; board.step(&mut one, 1), Answer::Done(label));
-    let Answer::Made(_) = board.step(&mut one, 2) else {
-        return Err(Fail::new("gate 2 is free"));
-    };
-    assert_eq!(rt;
+    equal((lacking, known), (Answer::NotYet(3), Answer::Done(label)))?;
+    equal(
         (board.label(&mut one, 7), board.label(&mut two, 7)),
-        (None, None)
-    );
-    assert_eq!(rt; (one.made(), two.made()), (2, 1));
-    Ok(())
+        (None, None),
+    )?;
+    equal((one.made(), two.made()), (2, 1))
 }
 
 #[test]
 fn two_seats_take_turns(rt: HostRuntime) -> Result<(), Fail> {
-    let circuit = Circuit::read(rt.alloc(), FULL_ADDER.as_bytes())?;
-    let job = job_of(rt.alloc(), &circuit, FULL_ADDER, &ADDENDS)?;
-    take_turns(&rt, rt.alloc(), &job)
+    on_job(
+        rt.alloc(),
+        FULL_ADDER,
+        &ADDENDS,
+        |job| take_turns(rt.alloc(), job),
+    )
 }
 
-/// Gates 0 and 1 of the full adder read input wires alone, and gate 2 reads wire 3, which gate 0 sets.
-fn take_two(rt: &impl Abort, alloc: Global, job: &Job) -> Result<(), Fail> {
-    assert!(rt; job.circuit().gates() == 5 && job.circuit().wires() == 8);
+/// The answers to three steps of two gates at once.
+fn double_steps(board: &EvalBoard, one: &mut EvalSeat, two: &mut EvalSeat) -> [(Answer, Answer); 3]
+    requires one { IsSeatOf board.now one.old }
+    requires two { IsSeatOf board.now two.old }
+    requires gates { gates_of (job_on board.now) ≡ 5 }
+    ensures { IsSeatOf board.now one.new × IsSeatOf board.now two.new }
+{
+    [
+        board.step_two(one, 2, 1),
+        board.step_two(two, 0, 0),
+        board.step_two(two, 2, 1),
+    ]
+}
+
+/// Two seats take turns at a job of the full adder, two gates at a time.
+fn take_two(alloc: Global, job: &Job) -> Result<(), Fail> {
+    if job.circuit().gates() != 5 {
+        return Err(Fail::new("the job is of the full adder"));
+    }
     let (board, mut one, mut two) = two_seats(alloc, job)?;
-    let (lacking, made) = board.step_two(&mut one, 2, 1);
-    assert_eq!(rt; lacking, Answer::NotYet(3));
-    let Answer::Made(label) = made else {
-        return Err(Fail::new("gate 1 is free"));
+    let answers = double_steps(&board, &mut one, &mut two);
+    let [
+        (lacking, Answer::Made(label)),
+        (Answer::Made(first), again),
+        (Answer::Made(_), found),
+    ] = answers
+    else {
+        return Err(Fail::new("gates 1, 0 and 2 are free in turn"));
     };
-    let (made, again) = board.step_two(&mut two, 0, 0);
-    let Answer::Made(first) = made else {
-        return Err(Fail::new("gate 0 is free"));
-    };
-    assert_eq!(rt; again, Answer::Done(first));
-    let (made, found) = board.step_two(&mut two, 2, 1);
-    let Answer::Made(_) = made else {
-        return Err(Fail::new("gate 2 is free"));
-    };
-    assert_eq!(rt; found, Answer::Done(label));
-    assert_eq!(rt; (one.made(), two.made()), (1, 2));
-    Ok(())
+    let wanted = (Answer::NotYet(3), Answer::Done(first), Answer::Done(label));
+    equal((lacking, again, found), wanted)?;
+    equal((one.made(), two.made()), (1, 2))
 }
 
 #[test]
 fn two_gates_in_a_step(rt: HostRuntime) -> Result<(), Fail> {
-    let circuit = Circuit::read(rt.alloc(), FULL_ADDER.as_bytes())?;
-    let job = job_of(rt.alloc(), &circuit, FULL_ADDER, &ADDENDS)?;
-    take_two(&rt, rt.alloc(), &job)
+    on_job(
+        rt.alloc(),
+        FULL_ADDER,
+        &ADDENDS,
+        |job| take_two(rt.alloc(), job),
+    )
+}
+
+/// How many seats a board over this memory has.
+fn opened<A: Allocator + Copy>(alloc: A, job: &Job) -> Result<usize, OpenFault> {
+    let (_, seats) = EvalBoard::open(alloc, job, 2)?;
+    Ok(seats.len())
 }
 
 /// Each growth of `open` is refused in turn: the words, the two tables of the circuit, the seats, and the table's own
-/// two blocks.
-#[test]
-fn opening(rt: HostRuntime) -> Result<(), Fail> {
-    let circuit = Circuit::read(rt.alloc(), FULL_ADDER.as_bytes())?;
-    let job = job_of(rt.alloc(), &circuit, FULL_ADDER, &ADDENDS)?;
-    let refused = runs_refused(rt.alloc(), |heap: &Refusing<Global>| {
-        match EvalBoard::open(heap, &job, 2).map(|(_, seats)| seats.len()) {
-            Ok(seats) => plain_if(seats == 2),
-            Err(OpenFault::Memory) | Err(OpenFault::NoTable) => Run::Memory,
-        }
-    });
-    assert_eq!(rt; refused, Ok(6));
-    Ok(())
-}
-
-/// The fault of the growth n of `open`.
-fn fault_at(alloc: Global, job: &Job, n: u64) -> Option<OpenFault> {
-    let heap = Refusing::nth(alloc, n);
-    EvalBoard::open(&heap, job, 2).err()
-}
-
+/// two blocks, without which there is no table.
 #[test]
 fn only_the_table_is_no_table(rt: HostRuntime) -> Result<(), Fail> {
-    let circuit = Circuit::read(rt.alloc(), FULL_ADDER.as_bytes())?;
-    let job = job_of(rt.alloc(), &circuit, FULL_ADDER, &ADDENDS)?;
-    for n in [1, 2, 3, 4] {
-        assert_eq!(rt; fault_at(rt.alloc(), &job, n), Some(OpenFault::Memory));
-    }
-    assert_eq!(rt; fault_at(rt.alloc(), &job, 5), Some(OpenFault::NoTable));
-    assert_eq!(rt; fault_at(rt.alloc(), &job, 6), Some(OpenFault::NoTable));
-    assert_eq!(rt; fault_at(rt.alloc(), &job, 7), None);
-    Ok(())
-}
-
-/// The board and the seats that a refused close gave back.
-fn given_back<'j, 'c>(
-    board: EvalBoard<'j, 'c>,
-    seats: Vec<EvalSeat>,
-) -> Result<(EvalBoard<'j, 'c>, Vec<EvalSeat>), Fail>
-    requires { All (IsSeatOf board) seats.items }
-    ensures board { IfOk result (λ b. b.0 ≡ board.entry) }
-    ensures seats { IfOk result (λ b. b.1 ≡ seats) }
-{
-    let Err(refused) = board.close(seats) else {
-        return Err(Fail::new("a seat is missing"));
-    };
-    if refused.code() != 47 || refused.name() != "SeatMissing" {
-        return Err(Fail::new("the refusal is 47, SeatMissing"));
-    }
-    let CloseRefused { board, seats } = refused;
-    Ok((board, seats))
+    on_job(rt.alloc(), FULL_ADDER, &ADDENDS, |job| {
+        for (n, found) in [
+            (1, Err(OpenFault::Memory)),
+            (2, Err(OpenFault::Memory)),
+            (3, Err(OpenFault::Memory)),
+            (4, Err(OpenFault::Memory)),
+            (5, Err(OpenFault::NoTable)),
+            (6, Err(OpenFault::NoTable)),
+            (7, Ok(2)),
+        ] {
+            let heap = Refusing::nth(rt.alloc(), n);
+            equal((n, opened(&heap, job)), (n, found))?;
+        }
+        Ok(())
+    })
 }
 
 /// The board, closed with all its seats.
@@ -162,28 +172,6 @@ fn closed<'j, 'c>(board: EvalBoard<'j, 'c>, seats: Vec<EvalSeat>) -> Result<Acti
         return Err(Fail::new("all seats are there"));
     };
     Ok(active)
-}
-
-/// A board of two seats, closed once it was not closed without one of them.
-fn closed_at_last<'j, 'c>(alloc: Global, job: &'j Job<'c>) -> Result<Active<'j, 'c>, Fail> {
-    let (board, one, two) = two_seats(alloc, job)?;
-    let mut seats = Vec::new(alloc);
-    seats.push(one)?;
-    let (board, mut seats) = given_back(board, seats)?;
-    seats.push(two)?;
-    closed(board, seats)
-}
-
-/// A board without one of its seats is not closed. With both it is, and no gate is done.
-#[test]
-fn closing(rt: HostRuntime) -> Result<(), Fail> {
-    let alloc = rt.alloc();
-    let circuit = Circuit::read(alloc, FULL_ADDER.as_bytes())?;
-    let job = job_of(alloc, &circuit, FULL_ADDER, &ADDENDS)?;
-    let active = closed_at_last(alloc, &job)?;
-    assert_eq!(rt; active.done(), 0);
-    assert!(rt; active.decode(alloc)?.is_none());
-    Ok(())
 }
 
 /// A board with one seat.
@@ -230,56 +218,72 @@ fn made_alone<'j, 'c>(alloc: Global, job: &'j Job<'c>) -> Result<(u64, Active<'j
 
 /// What one seat makes decodes to what the evaluation on one thread returns. Decoding allocates the output labels and
 /// their bits.
-#[test]
-fn one_seat_makes_all(rt: HostRuntime) -> Result<(), Fail> {
-    let alloc = rt.alloc();
-    let circuit = Circuit::read(alloc, FULL_ADDER.as_bytes())?;
-    let job = job_of(alloc, &circuit, FULL_ADDER, &ADDENDS)?;
-    let (made, active) = made_alone(alloc, &job)?;
-    assert_eq!(rt; (made, active.done()), (5, 5));
-    let wanted = evaluate(alloc, &job)?;
-    assert_eq!(rt; decoding_refused(alloc, &active, &wanted), Ok(2));
-    Ok(())
+fn made_by_one(alloc: Global, job: &Job) -> Result<(), Fail> {
+    let (made, active) = made_alone(alloc, job)?;
+    let wanted = evaluate(alloc, job)?;
+    let refused = decoding_refused(alloc, &active, &wanted);
+    equal((made, active.done(), refused), (5, 5, Ok(2)))
 }
 
-/// Opens a board over this memory, has one seat make all gates and share them with the other one, and closes it. It
-/// returns the label of a wire, and how many gates are done, where no memory was asked for after the opening.
-fn works_without_memory(
-    heap: &Refusing<Global>,
-    job: &Job,
+#[test]
+fn one_seat_makes_all(rt: HostRuntime) -> Result<(), Fail> {
+    on_job(
+        rt.alloc(),
+        FULL_ADDER,
+        &ADDENDS,
+        |job| made_by_one(rt.alloc(), job),
+    )
+}
+
+/// Has one seat make all gates and share them with the other one. It returns the label of a wire.
+fn share<'j, 'c, B: Allocator>(
+    board: &EvalBoard<'j, 'c, B>,
+    job: &Job<'c>,
+    one: &mut EvalSeat,
+    two: &mut EvalSeat,
     wire: u32,
-) -> Result<(Option<Label>, u32), Fail>
+) -> Option<Label>
+    requires one { IsSeatOf board.now one.old }
+    requires two { IsSeatOf board.now two.old }
+    requires job { job_on board.now ≡ job.now }
+    requires wire { wire < job.now.circuit.wires }
+    ensures { IsSeatOf board.now one.new × IsSeatOf board.now two.new }
+{
+    step_all(board, job, one);
+    board.tell(one, two);
+    board.label(two, wire)
+}
+
+/// Opens a board over this memory, has its seats work, and closes it. It returns whether a wire has the same label
+/// before and after the closing, and how many gates are done, where no memory was asked for after the opening.
+fn works_without_memory(heap: &Refusing<Global>, job: &Job, wire: u32) -> Result<(bool, u32), Fail>
     requires { wire < job.now.circuit.wires }
 {
-    let (board, mut seats) = EvalBoard::open(heap, job, 2)?;
+    let mut seats = Vec::with_capacity(heap, 2)?;
+    let (board, mut one, mut two) = two_seats(heap, job)?;
     let opened = heap.growths();
-    let (Some(mut two), Some(mut one)) = (seats.pop(), seats.pop()) else {
-        return Err(Fail::new("there are two seats"));
-    };
-    step_all(&board, job, &mut one);
-    board.tell(&mut one, &mut two);
-    let label = board.label(&mut two, wire);
+    let label = share(&board, job, &mut one, &mut two, wire);
     seats.push(one)?;
     seats.push(two)?;
     let Ok(active) = board.close(seats) else {
         return Err(Fail::new("both seats are there"));
     };
-    if active.label(wire) != label || heap.growths() != opened {
-        return Err(Fail::new("another label, or a growth was asked for"));
-    }
-    Ok((label, active.done()))
+    let is_same = label.is_some() && active.label(wire) == label;
+    let done = active.done();
+    equal(heap.growths(), opened)?;
+    Ok((is_same, done))
 }
 
 /// A board that is open asks for no memory, and once it is closed neither do its labels.
 #[test]
 fn an_opened_board_grows_nothing(rt: HostRuntime) -> Result<(), Fail> {
-    let alloc = rt.alloc();
-    let circuit = Circuit::read(alloc, FULL_ADDER.as_bytes())?;
-    let job = job_of(alloc, &circuit, FULL_ADDER, &ADDENDS)?;
-    assert_eq!(rt; job.circuit().wires(), 8);
-    let (label, done) = works_without_memory(&Refusing::never(alloc), &job, 7)?;
-    assert_eq!(rt; (label.is_some(), done), (true, 5));
-    Ok(())
+    on_job(rt.alloc(), FULL_ADDER, &ADDENDS, |job| {
+        if job.circuit().wires() != 8 {
+            return Err(Fail::new("the job is of the full adder"));
+        }
+        let found = works_without_memory(&Refusing::never(rt.alloc()), job, 7)?;
+        equal(found, (true, 5))
+    })
 }
 
 /// Lets each seat step all gates, in at most this many threads.
@@ -344,16 +348,29 @@ static ROWS: [(&str, &[&str], &str); 4] = [
     (AND_INV_AND, &["1", "0"], "11"),
 ];
 
+/// Seats, from one to eight, at boards of a job whose output bits are these.
+fn made_by_each<R: Threads + Sync>(
+    rt: &R,
+    alloc: Global,
+    job: &Job,
+    outputs: &str,
+) -> Result<(), Fail> {
+    for seats in 1..9 {
+        let made = made_by(rt, alloc, job, seats)?.ok_or("each output has a label")?;
+        equal(show_value(alloc, &made)?.as_slice(), outputs.as_bytes())?;
+    }
+    Ok(())
+}
+
 #[test]
 fn many_seats(rt: HostRuntime) -> Result<(), Fail> {
-    let alloc = rt.alloc();
     for (text, values, outputs) in &ROWS {
-        let circuit = Circuit::read(alloc, text.as_bytes())?;
-        let job = job_of(alloc, &circuit, text, values)?;
-        for seats in 1..9 {
-            let made = made_by(&rt, alloc, &job, seats)?.ok_or("each output has a label")?;
-            assert_eq!(rt; show_value(alloc, &made)?.as_slice(), outputs.as_bytes());
-        }
+        on_job(
+            rt.alloc(),
+            text,
+            values,
+            |job| made_by_each(&rt, rt.alloc(), job, outputs),
+        )?;
     }
     Ok(())
 }

@@ -1,14 +1,15 @@
 //! Each growth refused in turn of the calls that bind jobs and evaluate them.
 
-use crate::jobs::{job_files, job_of};
+use crate::jobs::on_job;
 use gc_circuit::Circuit;
 use gc_file::{Version, read_garbled};
 use gc_job::{BindFault, EvalFault, Job, evaluate};
 use gc_refusing::Refusing;
 use gc_worked::circuits::AND;
-use gc_worked::files::and_file;
+use gc_worked::compare::equal;
+use gc_worked::files::{and_file, label_files};
 use gc_worked::growths::{Answer, plain_if, runs_refused};
-use std::alloc::Global;
+use std::alloc::{Allocator, Global};
 use std::test::Fail;
 
 /// The growths of reading the garbled file come first, and then the one of binding.
@@ -17,7 +18,7 @@ fn binding(rt: HostRuntime) -> Result<(), Fail> {
     let alloc = rt.alloc();
     let circuit = Circuit::read(alloc, AND.as_bytes())?;
     let file = and_file(alloc, Version::Two)?;
-    let labels = job_files(alloc, &circuit, &["1", "1"])?;
+    let labels = label_files(alloc, &circuit, &["1", "1"])?;
     let refused = runs_refused(alloc, |heap| {
         let Ok(garbled) = read_garbled(heap, &file) else {
             return Answer::Memory;
@@ -28,8 +29,7 @@ fn binding(rt: HostRuntime) -> Result<(), Fail> {
             Err(_) => Answer::Other,
         }
     });
-    assert_eq!(rt; refused, Ok(5));
-    Ok(())
+    equal(refused, Ok(5))
 }
 
 /// What came of an evaluation whose output bit is 1.
@@ -44,45 +44,56 @@ fn shown(found: Result<Vec<bool, &Refusing<Global>>, EvalFault>) -> Answer {
 /// One growth for the labels, one for those of the output wires, and one for the output bits.
 #[test]
 fn evaluating(rt: HostRuntime) -> Result<(), Fail> {
-    let circuit = Circuit::read(rt.alloc(), AND.as_bytes())?;
-    let job = job_of(rt.alloc(), &circuit, AND, &["1", "1"])?;
-    let refused = runs_refused(rt.alloc(), |heap| shown(evaluate(heap, &job)));
-    assert_eq!(rt; refused, Ok(3));
-    Ok(())
+    on_job(rt.alloc(), AND, &["1", "1"], |job| {
+        let refused = runs_refused(rt.alloc(), |heap| shown(evaluate(heap, job)));
+        equal(refused, Ok(3))
+    })
 }
 
-/// One growth for the output bits.
-#[test]
-fn decoding(rt: HostRuntime) -> Result<(), Fail> {
-    let circuit = Circuit::read(rt.alloc(), AND.as_bytes())?;
-    let job = job_of(rt.alloc(), &circuit, AND, &["1", "1"])?;
-    assert!(rt; job.circuit().gates() == 1 && job.circuit().input_wires() == 2);
+/// The growths of decoding the label of the one output of a job of one gate.
+fn decoded(alloc: Global, job: &Job) -> Result<(), Fail> {
+    if job.circuit().gates() != 1 || job.circuit().input_wires() != 2 {
+        return Err(Fail::new("the job is of an AND gate"));
+    }
     let label = job.active(0, job.input(0), job.input(1));
-    let refused = runs_refused(rt.alloc(), |heap| {
+    let refused = runs_refused(alloc, |heap| {
         if job.circuit().output_wires() != 1 {
             return Answer::Other;
         }
         shown(job.decode(heap, &[label]))
     });
-    assert_eq!(rt; refused, Ok(1));
-    Ok(())
+    equal(refused, Ok(1))
 }
 
-/// No query of a bound job allocates.
+/// One growth for the output bits.
+#[test]
+fn decoding(rt: HostRuntime) -> Result<(), Fail> {
+    on_job(rt.alloc(), AND, &["1", "1"], |job| decoded(rt.alloc(), job))
+}
+
+/// Which gates of a job of an AND gate set wires 1 and 2, and the colour of what the gate gives.
+fn queried<A: Allocator>(job: &Job<'_, A>) -> Option<(Option<u32>, Option<u32>, bool)> {
+    let bound = job.circuit();
+    if bound.gates() != 1 || bound.wires() != 3 || bound.input_wires() != 2 {
+        return None;
+    }
+    let label = job.active(0, job.input(0), job.input(1));
+    Some((job.setter(1), job.setter(2), label.colour()))
+}
+
+/// No query of a bound job allocates. The output is 1, and its decode bit too.
 #[test]
 fn a_bound_job_grows_nothing(rt: HostRuntime) -> Result<(), Fail> {
     let alloc = rt.alloc();
     let heap = Refusing::never(alloc);
     let circuit = Circuit::read(alloc, AND.as_bytes())?;
-    let labels = job_files(alloc, &circuit, &["1", "1"])?;
+    let labels = label_files(alloc, &circuit, &["1", "1"])?;
     let garbled = read_garbled(&heap, &and_file(alloc, Version::Two)?)?;
     let job = Job::bind(&heap, &circuit, garbled, &labels)?;
     let growths = heap.growths();
-    let bound = job.circuit();
-    assert!(rt; bound.gates() == 1 && bound.wires() == 3 && bound.input_wires() == 2);
-    // The output is 1, and its decode bit too.
-    let label = job.active(0, job.input(0), job.input(1));
-    assert_eq!(rt; (job.setter(1), job.setter(2)), (None, Some(0)));
-    assert_eq!(rt; (label.colour(), heap.growths()), (false, growths));
-    Ok(())
+    let found = queried(&job);
+    equal(
+        (found, heap.growths()),
+        (Some((None, Some(0), false)), growths),
+    )
 }

@@ -1,11 +1,11 @@
 //! Tests of evaluation by layers while the threads are held: gates are postponed and helpers sleep, and the helpers
 //! evaluate gates all the same.
 
-use crate::jobs::job_on_zeros;
-use gc_circuit::Circuit;
+use crate::jobs::on_zeros;
 use gc_eval::evaluate_many;
 use gc_job::evaluate;
 use gc_worked::circuits::mixed_layers;
+use gc_worked::compare::equal;
 use gc_worked::holding::Holding;
 use gc_worked::pausing::Pausing;
 use gc_workers::Gatehouse;
@@ -14,18 +14,19 @@ use std::sync::Wait;
 use std::test::Fail;
 use std::thread::Threads;
 
-/// Whether this many workers evaluate a circuit of layers of this many AND gates as one thread does.
-fn is_evaluated<H: Gatehouse + Sync, R: Threads + Wait + Sync>(
+/// This many workers evaluate a circuit of layers of this many AND gates as one thread does.
+fn assert_evaluated<H: Gatehouse + Sync, R: Threads + Wait + Sync>(
     rt: &R,
     alloc: Global,
     ands: u32,
     workers: u32,
     observer: &H,
-) -> Result<bool, Fail> {
+) -> Result<(), Fail> {
     let text = mixed_layers(alloc, ands)?;
-    let circuit = Circuit::read(alloc, text.as_bytes())?;
-    let job = job_on_zeros(alloc, &circuit, text.as_str())?;
-    Ok(evaluate_many(rt, alloc, &job, workers, observer) == evaluate(alloc, &job))
+    on_zeros(alloc, text.as_str(), |job| {
+        let found = evaluate_many(rt, alloc, job, workers, observer);
+        equal(found, evaluate(alloc, job))
+    })
 }
 
 /// A helper that is held, falls asleep and is woken evaluates gates of the second layer, each of which was postponed
@@ -34,7 +35,7 @@ fn is_evaluated<H: Gatehouse + Sync, R: Threads + Wait + Sync>(
 #[test]
 fn postponed_gates_are_helped_with(rt: HostRuntime) -> Result<(), Fail> {
     let observer = Holding::new(640);
-    assert!(rt; is_evaluated(&rt, rt.alloc(), 640, 2, &observer)?);
+    assert_evaluated(&rt, rt.alloc(), 640, 2, &observer)?;
     assert!(rt; observer.has_all_come());
     Ok(())
 }
@@ -43,7 +44,7 @@ fn postponed_gates_are_helped_with(rt: HostRuntime) -> Result<(), Fail> {
 #[test]
 fn sleeping_helpers_end(rt: HostRuntime) -> Result<(), Fail> {
     let observer = Pausing::new(9 * 1100);
-    assert!(rt; is_evaluated(&rt, rt.alloc(), 1100, 3, &observer)?);
+    assert_evaluated(&rt, rt.alloc(), 1100, 3, &observer)?;
     assert!(rt; observer.has_paused());
     Ok(())
 }

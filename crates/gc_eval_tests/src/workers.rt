@@ -1,11 +1,11 @@
 //! Tests of evaluation on many threads: the result is that of one thread, and the threads are really at work.
 
-use crate::jobs::job_on_zeros;
-use gc_circuit::Circuit;
+use crate::jobs::on_zeros;
 use gc_eval::evaluate_many;
 use gc_job::{EvalFault, Job, evaluate};
 use gc_worked::calling::Calling;
 use gc_worked::circuits::{FULL_ADDER, and_chains, many_ands, mixed_layers};
+use gc_worked::compare::equal;
 use gc_worked::counting::Counting;
 use gc_worked::growths::refusals_met;
 use gc_worked::meeting::Meeting;
@@ -16,27 +16,26 @@ use std::sync::atomic::{AtomicU64, Ordering};
 use std::test::Fail;
 use std::thread::Threads;
 
-/// Whether the workers 0 and 1 meet as they evaluate a circuit, and return what one thread does.
-fn meet<R: Threads + Wait + Sync>(rt: &R, alloc: Global, text: &str) -> Result<bool, Fail> {
-    let circuit = Circuit::read(alloc, text.as_bytes())?;
-    let job = job_on_zeros(alloc, &circuit, text)?;
-    let observer = Meeting::new();
-    let found = evaluate_many(rt, alloc, &job, 2, &observer);
-    Ok(observer.has_met() && observer.are_below(2) && found == evaluate(alloc, &job))
+/// The workers 0 and 1 meet as they evaluate a circuit, and return what one thread does.
+fn meet<R: Threads + Wait + Sync>(rt: &R, alloc: Global, text: &str) -> Result<(), Fail> {
+    on_zeros(alloc, text, |job| {
+        let observer = Meeting::new();
+        let found = evaluate_many(rt, alloc, job, 2, &observer);
+        equal(found, evaluate(alloc, job))?;
+        equal((observer.has_met(), observer.are_below(2)), (true, true))
+    })
 }
 
 /// Two workers evaluate 2,000 independent AND gates.
 #[test]
 fn two_evaluators_meet(rt: HostRuntime) -> Result<(), Fail> {
-    assert!(rt; meet(&rt, rt.alloc(), many_ands(rt.alloc(), 2000)?.as_str())?);
-    Ok(())
+    meet(&rt, rt.alloc(), many_ands(rt.alloc(), 2000)?.as_str())
 }
 
 /// Forty chains, whose layers are of one gate, are evaluated at a board.
 #[test]
 fn two_evaluators_meet_at_a_board(rt: HostRuntime) -> Result<(), Fail> {
-    assert!(rt; meet(&rt, rt.alloc(), and_chains(rt.alloc(), 40, 50)?.as_str())?);
-    Ok(())
+    meet(&rt, rt.alloc(), and_chains(rt.alloc(), 40, 50)?.as_str())
 }
 
 /// 64 groups of chains of eight AND gates, four chains in each, of which the gates take turns in the file: four gates
@@ -51,35 +50,33 @@ fn chains_by_fours(alloc: Global) -> Result<String, Fail> {
     Ok(text)
 }
 
-/// Whether this number of workers report each gate of a circuit, none more often than this, each by its own number.
-fn is_reported<R: Threads + Wait + Sync>(
+/// One worker, two and 64 report each gate of a circuit, none more often than this, each by its own number.
+fn are_reported<R: Threads + Wait + Sync>(
     rt: &R,
     alloc: Global,
     text: &str,
-    workers: u32,
     most: u64,
-) -> Result<bool, Fail> {
-    let circuit = Circuit::read(alloc, text.as_bytes())?;
-    let job = job_on_zeros(alloc, &circuit, text)?;
-    let observer = Counting::new(alloc, circuit.gates())?;
-    evaluate_many(rt, alloc, &job, workers, &observer)?;
-    Ok(observer.is_each_reported(most) && observer.are_below(workers))
+) -> Result<(), Fail> {
+    on_zeros(alloc, text, |job| {
+        for workers in [1, 2, 64] {
+            let observer = Counting::new(alloc, job.circuit().gates())?;
+            evaluate_many(rt, alloc, job, workers, &observer)?;
+            let found = (observer.is_each_reported(most), observer.are_below(workers));
+            equal((workers, found), (workers, (true, true)))?;
+        }
+        Ok(())
+    })
 }
 
 /// Once on one thread, and by layers with gates of each operation; at a board, where gates are stepped one, two and
 /// four at once, at least once.
 #[test]
 fn each_gate_is_reported(rt: HostRuntime) -> Result<(), Fail> {
-    let by_layers = mixed_layers(rt.alloc(), 1100)?;
-    let by_twos = and_chains(rt.alloc(), 64, 32)?;
-    let by_fours = chains_by_fours(rt.alloc())?;
-    for workers in [1, 2, 64] {
-        assert!(rt; is_reported(&rt, rt.alloc(), FULL_ADDER, workers, 1)?);
-        assert!(rt; is_reported(&rt, rt.alloc(), by_layers.as_str(), workers, 1)?);
-        assert!(rt; is_reported(&rt, rt.alloc(), by_twos.as_str(), workers, u64::MAX)?);
-        assert!(rt; is_reported(&rt, rt.alloc(), by_fours.as_str(), workers, u64::MAX)?);
-    }
-    Ok(())
+    let alloc = rt.alloc();
+    are_reported(&rt, alloc, FULL_ADDER, 1)?;
+    are_reported(&rt, alloc, mixed_layers(alloc, 1100)?.as_str(), 1)?;
+    are_reported(&rt, alloc, and_chains(alloc, 64, 32)?.as_str(), u64::MAX)?;
+    are_reported(&rt, alloc, chains_by_fours(alloc)?.as_str(), u64::MAX)
 }
 
 /// On one thread, by layers, and at a board.
@@ -89,11 +86,11 @@ fn worker_0_is_the_calling_thread(rt: HostRuntime) -> Result<(), Fail> {
     let by_layers = mixed_layers(rt.alloc(), 600)?;
     let at_a_board = and_chains(rt.alloc(), 64, 32)?;
     for text in [&alone, &by_layers, &at_a_board] {
-        let circuit = Circuit::read(rt.alloc(), text.as_bytes())?;
-        let job = job_on_zeros(rt.alloc(), &circuit, text.as_str())?;
-        let observer = Calling::new(rt)?;
-        evaluate_many(&rt, rt.alloc(), &job, 4, &observer)?;
-        assert!(rt; observer.is_worker_0());
+        on_zeros(rt.alloc(), text.as_str(), |job| {
+            let observer = Calling::new(rt)?;
+            evaluate_many(&rt, rt.alloc(), job, 4, &observer)?;
+            equal(observer.is_worker_0(), true)
+        })?;
     }
     Ok(())
 }
@@ -149,19 +146,19 @@ fn refused_runs<R: Threads + Wait + Sync>(
 /// the bits, and no result without them.
 #[test]
 fn each_growth_refused(rt: HostRuntime) -> Result<(), Fail> {
-    let circuit = Circuit::read(rt.alloc(), FULL_ADDER.as_bytes())?;
-    let job = job_on_zeros(rt.alloc(), &circuit, FULL_ADDER)?;
-    let refused = refused_runs(&rt, rt.alloc(), &job, 1)?;
-    assert_eq!(rt; (refused.runs, refused.answered, refused.needed), (3, 0, 1));
-    let text = and_chains(rt.alloc(), 64, 16)?;
-    let circuit = Circuit::read(rt.alloc(), text.as_bytes())?;
-    let job = job_on_zeros(rt.alloc(), &circuit, text.as_str())?;
-    for (workers, runs, answered) in [(2, 14, 12), (64, 76, 74)] {
-        let refused = refused_runs(&rt, rt.alloc(), &job, workers)?;
-        assert_eq!(rt; (refused.runs, refused.answered), (runs, answered));
-        assert_eq!(rt; refused.needed, answered + 1);
-    }
-    Ok(())
+    let alloc = rt.alloc();
+    on_zeros(alloc, FULL_ADDER, |job| {
+        let refused = refused_runs(&rt, alloc, job, 1)?;
+        equal((refused.runs, refused.answered, refused.needed), (3, 0, 1))
+    })?;
+    on_zeros(alloc, and_chains(alloc, 64, 16)?.as_str(), |job| {
+        for (workers, runs, answered) in [(2, 14, 12), (64, 76, 74)] {
+            let refused = refused_runs(&rt, alloc, job, workers)?;
+            let found = (refused.runs, refused.answered, refused.needed);
+            equal(found, (runs, answered, answered + 1))?;
+        }
+        Ok(())
+    })
 }
 
 /// Two workers that go by layers: there are AND gates enough for a second thread. Choosing the way allocates once,
@@ -172,9 +169,9 @@ fn each_growth_refused(rt: HostRuntime) -> Result<(), Fail> {
 #[test]
 fn each_growth_of_layers_refused(rt: HostRuntime) -> Result<(), Fail> {
     let text = many_ands(rt.alloc(), 1100)?;
-    let circuit = Circuit::read(rt.alloc(), text.as_bytes())?;
-    let job = job_on_zeros(rt.alloc(), &circuit, text.as_str())?;
-    let refused = refused_runs(&rt, rt.alloc(), &job, 2)?;
-    assert!(rt; refused.runs >= 15 && refused.needed >= 15, "{refused:?}");
-    Ok(())
+    on_zeros(rt.alloc(), text.as_str(), |job| {
+        let refused = refused_runs(&rt, rt.alloc(), job, 2)?;
+        let is_right = refused.runs >= 15 && refused.needed >= 15;
+        equal((refused, is_right), (refused, true))
+    })
 }

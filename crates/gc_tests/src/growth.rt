@@ -1,21 +1,35 @@
-//! Each growth refused in turn of the calls of circuits, values and garbling.
+//! Each growth refused in turn of the calls of circuits, values and garbling. What a call returns otherwise is for its
+//! clauses to say.
 
-use crate::labels::{label, zero_seed};
 use gc_circuit::{
-    Circuit, Gate, Memory, Operation, ReadFault, ValueFault, fits, plain_eval, read_value,
-    show_value,
+    Circuit, Memory, ReadFault, ValueFault, fits, plain_eval, read_value, show_value,
 };
 use gc_half::{garble_one_thread, garble_two, input_active_labels, input_zero_labels};
-use gc_label::Label;
+use gc_label::{Label, Seed};
 use gc_refusing::Refusing;
-use gc_worked::circuits::{ADDER_DIGEST, FULL_ADDER, many_ands, one_zero_one};
-use gc_worked::growths::{Answer, plain_if, runs_refused};
+use gc_worked::circuits::{FULL_ADDER, many_ands, one_zero_one};
+use gc_worked::compare::equal;
+use gc_worked::growths::{Answer, runs_refused};
 use linked_list_allocator::LocalHeap;
-use std::alloc::{Allocator, Global};
+use std::alloc::Allocator;
 use std::test::Fail;
 
+/// The seed of 32 zero bytes.
+pub(crate) fn zero_seed() -> Seed {
+    Seed::from_bytes([0; 32])
+}
+
+/// What a call returned that has this Memory fault.
+pub(crate) fn answer_of<T: Drop, E: PartialEq + Copy>(found: Result<T, E>, memory: E) -> Answer {
+    match found.err() {
+        None => Answer::Plain,
+        Some(fault) if fault == memory => Answer::Memory,
+        Some(_) => Answer::Other,
+    }
+}
+
 /// A call that asks for memory.
-#[derive(Clone, Copy, Debug)]
+#[derive(Clone, Copy, PartialEq, Debug)]
 enum Call {
     Read,
     Copy,
@@ -45,129 +59,54 @@ static GROWTHS: [(Call, u64); 11] = [
     (Call::GarbleTwo, 4),
 ];
 
-/// The full adder, input values for it, and what two calls give with ample memory.
-#[derive(Drop)]
-struct Adder {
-    circuit: Circuit,
-    values: Vec<Vec<bool>>,
-    zero_labels: Vec<Label>,
-}
-
-fn full_adder(alloc: Global) -> Result<Adder, Fail> {
-    let circuit = Circuit::read(alloc, FULL_ADDER.as_bytes())?;
-    let zero_labels = input_zero_labels(alloc, &circuit, &zero_seed())?;
-    Ok(Adder {
-        circuit,
-        values: one_zero_one(alloc)?,
-        zero_labels,
-    })
-}
-
-impl Adder {
-    fn answer(&self, call: Call, heap: &Refusing<Global>) -> Answer {
-        match call {
-            Call::Read => read(heap),
-            Call::Copy => self.copy(heap),
-            Call::Canon => self.canon(heap),
-            Call::ReadBits => value(heap, b"100000000001"),
-            Call::ReadHex => value(heap, b"x0108"),
-            Call::ShowValue => shown_value(heap),
-            Call::PlainEval => self.plain_eval(heap),
-            Call::ZeroLabels => self.zero_labels(heap),
-            Call::ActiveLabels => active_labels(heap),
-            Call::Garble => self.garble(heap),
-            Call::GarbleTwo => self.garble_two(heap),
+/// What a call returned over this memory, of the full adder or of values for it.
+fn answer<A: Allocator + Copy>(
+    call: Call,
+    heap: A,
+    circuit: &Circuit,
+    values: &[Vec<bool>],
+) -> Answer {
+    match call {
+        Call::Read => answer_of(
+            Circuit::read(heap, FULL_ADDER.as_bytes()),
+            ReadFault::Memory,
+        ),
+        Call::Copy => answer_of(circuit.try_clone(heap), Memory),
+        Call::Canon => answer_of(circuit.canon(heap), Memory),
+        Call::ReadBits => answer_of(read_value(heap, b"100000000001", 12), ValueFault::Memory),
+        Call::ReadHex => answer_of(read_value(heap, b"x0108", 12), ValueFault::Memory),
+        Call::ShowValue => answer_of(show_value(heap, &[true, false]), Memory),
+        Call::PlainEval => {
+            if !fits(circuit, values) {
+                return Answer::Other;
+            }
+            answer_of(plain_eval(heap, circuit, values), Memory)
         }
-    }
-
-    fn copy(&self, heap: &Refusing<Global>) -> Answer {
-        match self.circuit.try_clone(heap) {
-            Ok(copy) => plain_if(copy.equals(&self.circuit)),
-            Err(Memory) => Answer::Memory,
-        }
-    }
-
-    fn canon(&self, heap: &Refusing<Global>) -> Answer {
-        match self.circuit.canon(heap) {
-            Ok(text) => plain_if(text.as_slice() == FULL_ADDER.as_bytes()),
-            Err(Memory) => Answer::Memory,
-        }
-    }
-
-    fn plain_eval(&self, heap: &Refusing<Global>) -> Answer {
-        if !fits(&self.circuit, &self.values) {
-            return Answer::Other;
-        }
-        match plain_eval(heap, &self.circuit, &self.values) {
-            Ok(bits) => plain_if(bits.as_slice() == [false, true].as_slice()),
-            Err(Memory) => Answer::Memory,
-        }
-    }
-
-    fn zero_labels(&self, heap: &Refusing<Global>) -> Answer {
-        match input_zero_labels(heap, &self.circuit, &zero_seed()) {
-            Ok(table) => plain_if(table.as_slice() == self.zero_labels.as_slice()),
-            Err(Memory) => Answer::Memory,
-        }
-    }
-
-    fn garble(&self, heap: &Refusing<Global>) -> Answer {
-        match garble_one_thread(heap, &self.circuit, &zero_seed()) {
-            Ok(garbling) => plain_if(garbling.fits(&self.circuit)),
-            Err(Memory) => Answer::Memory,
-        }
-    }
-
-    fn garble_two(&self, heap: &Refusing<Global>) -> Answer {
-        match garble_two(heap, &self.circuit, &zero_seed(), &zero_seed()) {
-            Ok((one, other)) => plain_if(one.rows() == other.rows() && one.fits(&self.circuit)),
-            Err(Memory) => Answer::Memory,
-        }
-    }
-}
-
-fn read(heap: &Refusing<Global>) -> Answer {
-    match Circuit::read(heap, FULL_ADDER.as_bytes()) {
-        Ok(circuit) => plain_if(circuit.gates() == 5),
-        Err(ReadFault::Memory) => Answer::Memory,
-        Err(_) => Answer::Other,
-    }
-}
-
-fn value(heap: &Refusing<Global>, text: &[u8]) -> Answer {
-    match read_value(heap, text, 12) {
-        Ok(bits) => plain_if(bits.len() == 12),
-        Err(ValueFault::Memory) => Answer::Memory,
-        Err(_) => Answer::Other,
-    }
-}
-
-fn shown_value(heap: &Refusing<Global>) -> Answer {
-    match show_value(heap, &[true, false]) {
-        Ok(text) => plain_if(text.as_slice() == b"10".as_slice()),
-        Err(Memory) => Answer::Memory,
-    }
-}
-
-/// The table that evaluation begins with has the labels of the input wires, and zeros.
-fn active_labels(heap: &Refusing<Global>) -> Answer {
-    let one = label(0x01010101010101010101010101010101);
-    let other = label(0x02020202020202020202020202020202);
-    let wanted = [one, other, Label::ZERO, Label::ZERO, Label::ZERO];
-    match input_active_labels(heap, 5, &[one, other]) {
-        Ok(table) => plain_if(table.as_slice() == wanted.as_slice()),
-        Err(Memory) => Answer::Memory,
+        Call::ZeroLabels => answer_of(input_zero_labels(heap, circuit, &zero_seed()), Memory),
+        Call::ActiveLabels => answer_of(input_active_labels(heap, 5, &[Label::ZERO; 2]), Memory),
+        Call::Garble => answer_of(garble_one_thread(heap, circuit, &zero_seed()), Memory),
+        Call::GarbleTwo => answer_of(
+            garble_two(heap, circuit, &zero_seed(), &zero_seed()),
+            Memory,
+        ),
     }
 }
 
 #[test]
 fn each_growth_refused(rt: HostRuntime) -> Result<(), Fail> {
-    let adder = full_adder(rt.alloc())?;
-    assert!(rt; adder.zero_labels.len() == 8);
+    let circuit = Circuit::read(rt.alloc(), FULL_ADDER.as_bytes())?;
+    let values = one_zero_one(rt.alloc())?;
     for (call, growths) in GROWTHS {
-        let refused = runs_refused(rt.alloc(), |heap| adder.answer(call, heap));
-        assert_eq!(rt; refused, Ok(growths), "{call:?}");
+        let refused = runs_refused(rt.alloc(), |heap| answer(call, heap, &circuit, &values));
+        equal((call, refused), (call, Ok(growths)))?;
     }
+    Ok(())
+}
+
+/// Reads a circuit and garbles it in this memory.
+fn garbles<A: Allocator + Copy>(heap: A, text: &str) -> Result<(), Fail> {
+    let circuit = Circuit::read(heap, text.as_bytes())?;
+    drop(garble_one_thread(heap, &circuit, &zero_seed())?);
     Ok(())
 }
 
@@ -176,11 +115,8 @@ fn each_growth_refused(rt: HostRuntime) -> Result<(), Fail> {
 fn growths_of_many_gates(rt: HostRuntime) -> Result<(), Fail> {
     let text = many_ands(rt.alloc(), 1100)?;
     let heap = Refusing::never(rt.alloc());
-    let circuit = Circuit::read(&heap, text.as_bytes())?;
-    assert!(rt; heap.growths() == 4);
-    let garbling = garble_one_thread(&heap, &circuit, &zero_seed())?;
-    assert!(rt; heap.growths() == 6 && garbling.rows().len() == 1100);
-    Ok(())
+    garbles(&heap, text.as_str())?;
+    equal(heap.growths(), 6)
 }
 
 /// A number of gates in a header takes no room by itself: 1,024 bytes suffice.
@@ -188,41 +124,32 @@ fn growths_of_many_gates(rt: HostRuntime) -> Result<(), Fail> {
 fn a_claimed_number_of_gates(rt: HostRuntime) -> Result<(), Fail> {
     let heap = LocalHeap::new(rt.alloc(), 1024)?;
     let read = Circuit::read(&heap, b"16777216 1\n0\n0\n1 1 0 0 EQ\n");
-    assert!(rt; read.err() == Some(ReadFault::Truncated));
-    Ok(())
+    equal(read.err(), Some(ReadFault::Truncated))
 }
 
-/// Whether the readers of the full adder return all that it has.
-fn has_all<A: Allocator>(circuit: &Circuit<A>) -> bool {
-    if circuit.gates() != 5 {
-        return false;
-    }
-    let third = Gate {
-        operation: Operation::And(3, 4),
-        set: 5,
-    };
-    circuit.wires() == 8
-        && circuit.and_count() == 1
-        && circuit.input_widths() == [1, 1, 1].as_slice()
-        && circuit.output_widths() == [2].as_slice()
-        && circuit.input_wires() == 3
-        && circuit.output_wires() == 2
-        && circuit.gate(2) == third
-        && circuit.equals(circuit)
+/// Reads the full adder in this memory, and calls each reader of it.
+fn reads<A: Allocator + Copy>(heap: A, values: &[Vec<bool>]) -> Result<bool, Fail> {
+    let circuit = Circuit::read(heap, FULL_ADDER.as_bytes())?;
+    Ok(
+        circuit.gates() == 5
+            && circuit.gate(2).operation.is_and()
+            && circuit.wires() == 8
+            && circuit.and_count() == 1
+            && circuit.input_widths().len() == 3
+            && circuit.output_widths().len() == 1
+            && circuit.input_wires() == 3
+            && circuit.output_wires() == 2
+            && circuit.digest()[0] == 0xc0
+            && circuit.equals(&circuit)
+            && fits(&circuit, values),
+    )
 }
 
-/// The readers of a circuit work over memory that refuses each further growth.
+/// There are the growths of reading, and none of the readers.
 #[test]
 fn a_circuit_that_is_read_grows_nothing(rt: HostRuntime) -> Result<(), Fail> {
-    let digest = hex::decode(rt.alloc(), ADDER_DIGEST)?;
     let values = one_zero_one(rt.alloc())?;
-    let counting = Refusing::never(rt.alloc());
-    drop(Circuit::read(&counting, FULL_ADDER.as_bytes())?);
-    let heap = Refusing::nth(rt.alloc(), counting.growths().saturating_add(1));
-    let circuit = Circuit::read(&heap, FULL_ADDER.as_bytes())?;
-    assert!(rt; circuit.digest().as_slice() == digest.as_slice());
-    assert!(rt; fits(&circuit, &values));
-    assert!(rt; has_all(&circuit));
-    assert!(rt; heap.refused() == 0);
-    Ok(())
+    let heap = Refusing::never(rt.alloc());
+    let is_read = reads(&heap, &values)?;
+    equal((is_read, heap.growths()), (true, 4))
 }

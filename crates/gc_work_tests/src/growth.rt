@@ -1,61 +1,59 @@
-//! Each growth of opening a store and of opening a pool refused in turn, and the work on an opened store, shared or
-//! not, which doesn't allocate.
+//! Each growth of opening a store and of opening a pool refused in turn, and the work on an opened store, which doesn't
+//! allocate.
 
 ghost use Rattle.gc_store.specs.Account.{IsForStore};
 
-use crate::fixtures::{finish_gates, ledger, open, open_with_tally, read, seed_of};
-use gc_circuit::{Circuit, Memory};
+use crate::fixtures::{ledger, open, seed_of};
+use gc_circuit::Circuit;
 use gc_refusing::Refusing;
-use gc_store::{Batch, Sealed, SharedStore, Store, Tally};
+use gc_store::{Batch, Sealed, Store, Tally};
 use gc_work::TaskPool;
 use gc_worked::circuits::FULL_ADDER;
-use gc_worked::growths::{Answer, plain_if, runs_refused};
+use gc_worked::compare::equal;
+use gc_worked::growths::{Answer, runs_refused};
 use std::alloc::{Allocator, Global};
 use std::marker::Brand;
-use std::process::Abort;
-use std::sync::Wait;
 use std::sync::ledger::{Blank, Ledger};
+use std::test::Fail;
 
-/// Whether a store of the circuit opens with no gate finished.
-fn opens<L: Ledger>(heap: &Refusing<Global>, ledger: Blank, circuit: &Circuit) -> Answer
+/// Whether a store of the full adder opens; its circuit is read over the same memory.
+fn opens<L: Ledger, A: Allocator + Copy>(alloc: A, ledger: Blank) -> bool
     requires { IsForStore L.name L.parts ledger }
 {
-    let Ok(copy) = circuit.try_clone(heap) else {
-        return Answer::Memory;
-    };
-    let opened = Store::<L, &Refusing<Global>>::open(heap, ledger, copy, seed_of(0));
-    match opened.map(|store| store.finished()) {
-        Ok(finished) => plain_if(finished == 0),
-        Err(Memory) => Answer::Memory,
-    }
+    open::<L, A>(alloc, ledger).is_some()
 }
 
 /// The same, with a ledger of its own.
-fn opens_anew(heap: &Refusing<Global>, circuit: &Circuit) -> Answer {
-    opens::<Brand>(heap, ledger(), circuit)
+fn opens_anew(heap: &Refusing<Global>) -> Answer {
+    answer_of(opens::<Brand, &Refusing<Global>>(heap, ledger()))
 }
 
 /// Whether a pool with three thieves opens.
-fn opens_pool(heap: &Refusing<Global>) -> Answer {
-    match TaskPool::open(heap, 2, 3).map(|(_, _, thieves)| thieves.len()) {
-        Ok(thieves) => plain_if(thieves == 3),
-        Err(Memory) => Answer::Memory,
-    }
+fn opens_pool<A: Allocator + Copy>(alloc: A) -> bool {
+    TaskPool::open(alloc, 2, 3).is_ok()
+}
+
+/// The answer of a call that opens something, and fails only for want of memory.
+fn answer_of(opens: bool) -> Answer {
+    if opens { Answer::Plain } else { Answer::Memory }
 }
 
 #[test]
-fn opening(rt: HostRuntime) {
-    let circuit = read(rt.alloc(), FULL_ADDER).expect(&rt, "there is memory");
-    let refused = runs_refused(rt.alloc(), |heap| opens_anew(heap, &circuit));
-    assert!(rt; refused == Ok(12), "a store: {refused:?}");
-    let refused = runs_refused(rt.alloc(), opens_pool);
-    assert!(rt; refused == Ok(4), "a pool: {refused:?}");
+fn opening(rt: HostRuntime) -> Result<(), Fail> {
+    equal(runs_refused(rt.alloc(), opens_anew), Ok(13))?;
+    equal(
+        runs_refused(rt.alloc(), |heap| answer_of(opens_pool(heap))),
+        Ok(4),
+    )
 }
 
-/// A list of this tally, with no room for another.
-fn list_of<L: Ledger>(alloc: Global, tally: Tally<L>) -> Option<Vec<Tally<L>>> {
-    let mut tallies = Vec::with_capacity(alloc, 1).ok()?;
-    tallies.push(tally).ok()?;
+/// A list of a tally of the store.
+fn one_tally<L: Ledger, A: Allocator>(
+    alloc: Global,
+    store: &mut Store<L, A>,
+) -> Option<Vec<Tally<L>>> {
+    let mut tallies = Vec::new(alloc);
+    tallies.push(store.tally()?).ok()?;
     Some(tallies)
 }
 
@@ -67,77 +65,48 @@ fn claims_and_settles<L: Ledger, A: Allocator>(
     let mut batch = Batch::new();
     let claimed = store.claim_some(&mut batch) == 2 && batch.len() == 2;
     let reopened = store.reopen() == 2 && batch.pop().is_some();
-    claimed && reopened && matches!(store.settle(tallies), Ok(0))
+    claimed && reopened && store.settle(tallies) == Ok(0)
 }
 
-/// Deals a tally, claims, puts back, settles and then garbles the full adder over an opened store, which asks for no
-/// memory.
-fn grows_nothing<L: Ledger>(
-    rt: &impl Abort,
-    heap: &Refusing<Global>,
-    alloc: Global,
-    ledger: Blank,
-) -> Option<()>
+/// Finishes five gates, one after another. Returns whether the store is complete then.
+fn finishes<L: Ledger, A: Allocator>(store: &mut Store<L, A>, tally: &mut Tally<L>) -> bool {
+    for _gate in 0..5 {
+        let Some(task) = store.claim() else {
+            return false;
+        };
+        if store.finish(Sealed::make(task), tally).is_err() {
+            return false;
+        }
+    }
+    store.is_complete()
+}
+
+/// Deals a tally, claims, puts back, settles and then finishes all gates of the full adder over an opened store.
+/// Returns whether that goes as it should.
+fn works<L: Ledger, A: Allocator>(alloc: Global, store: &mut Store<L, A>) -> Option<bool> {
+    let circuit = Circuit::read(alloc, FULL_ADDER.as_bytes()).ok()?;
+    let mut tallies = one_tally(alloc, store)?;
+    let settles = claims_and_settles(store, &mut tallies) && store.is_for(&circuit, &seed_of(0));
+    let mut tally = tallies.pop()?;
+    Some(settles && finishes(store, &mut tally))
+}
+
+/// The same, and takes the garbling out of the store.
+fn garbles<L: Ledger, A: Allocator>(alloc: Global, mut store: Store<L, A>) -> bool {
+    works(alloc, &mut store) == Some(true) && store.into_garbling().is_ok()
+}
+
+/// Whether an opened store that is worked on asks for no memory.
+fn grows_nothing<L: Ledger>(heap: &Refusing<Global>, alloc: Global, ledger: Blank) -> Option<bool>
     requires { IsForStore L.name L.parts ledger }
 {
-    let circuit = read(alloc, FULL_ADDER)?;
-    let mut store = open::<L, &Refusing<Global>>(heap, ledger, seed_of(0))?;
+    let store = open::<L, &Refusing<Global>>(heap, ledger)?;
     let opened = heap.growths();
-    let mut tallies = list_of(alloc, store.tally()?)?;
-    assert!(rt; claims_and_settles(&mut store, &mut tallies));
-    assert!(rt; store.is_for(&circuit, &seed_of(0)));
-    let mut tally = tallies.pop()?;
-    assert!(rt; finish_gates(&mut store, &mut tally, 5) == 5 && store.is_complete());
-    assert!(rt; store.into_garbling().is_ok() && heap.growths() == opened);
-    Some(())
+    Some(garbles(alloc, store) && heap.growths() == opened)
 }
 
 #[test]
 fn an_opened_store_grows_nothing(rt: HostRuntime) {
     let heap = Refusing::never(rt.alloc());
-    let done = grows_nothing::<Brand>(&rt, &heap, rt.alloc(), ledger());
-    assert!(rt; done.is_some());
-}
-
-/// Hands in gates 0 and 1, one by itself and one in a list, and a gate that is ready then, and stops. None where they
-/// weren't there to take.
-fn hands_in_three<L: Ledger, A: Allocator, R: Abort + Wait>(
-    rt: &R,
-    shared: &SharedStore<L, A>,
-    tally: &mut Tally<L>,
-) -> Option<()> {
-    let mut batch = Batch::new();
-    let zero = Sealed::make(shared.take(rt)?);
-    let one = Sealed::make(shared.take(rt)?);
-    assert!(rt; shared.hand_in(rt, zero, tally, &mut batch) == Ok(false));
-    assert!(rt; shared.hand_in_all(rt, &[one], tally, &mut batch) == Ok(false));
-    let next = Sealed::make(batch.pop()?);
-    assert!(rt; shared.hand_in_all(rt, &[next], tally, &mut batch) == Ok(false));
-    shared.stop(rt);
-    assert!(rt; shared.take(rt).is_none());
-    Some(())
-}
-
-/// Shares an opened store of the full adder, hands in three gates, and stops; none of it allocates.
-fn shares_without_memory<L: Ledger, R: Abort + Wait>(
-    rt: &R,
-    heap: &Refusing<Global>,
-    ledger: Blank,
-) -> Option<()>
-    requires { IsForStore L.name L.parts ledger }
-{
-    let (store, mut tally) = open_with_tally::<L, &Refusing<Global>>(heap, ledger)?;
-    let opened = heap.growths();
-    let shared = SharedStore::new(store);
-    hands_in_three(rt, &shared, &mut tally)?;
-    assert!(rt; shared.into_store().finished() == 3 && tally.count() == 3);
-    assert!(rt; heap.growths() == opened);
-    Some(())
-}
-
-#[test]
-fn a_shared_store_grows_nothing(rt: HostRuntime) {
-    let heap = Refusing::never(rt.alloc());
-    let done = shares_without_memory::<Brand, HostRuntime>(&rt, &heap, ledger());
-    assert!(rt; done.is_some());
+    assert!(rt; grows_nothing::<Brand>(&heap, rt.alloc(), ledger()) == Some(true));
 }

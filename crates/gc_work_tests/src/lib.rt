@@ -1,4 +1,4 @@
-//! The tests of stores, of stores that threads share, of pools of tasks, and of garbling on many threads.
+//! The tests of stores that threads share, of pools of tasks, and of garbling on many threads.
 #![tactic(auto)]
 
 #[cfg(test)]
@@ -17,8 +17,6 @@ mod retreats;
 mod shared_stores;
 #[cfg(test)]
 mod sleepers;
-#[cfg(test)]
-mod stores;
 #[cfg(test)]
 mod ways;
 #[cfg(test)]

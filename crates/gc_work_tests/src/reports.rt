@@ -1,9 +1,9 @@
 //! Tests of reports at a store: when they come, and from which thread.
 
-use crate::fixtures::{read, seed_of};
+use crate::fixtures::{Shape, garbles, read, seed_of};
+use gc_circuit::Circuit;
 use gc_work::garble;
 use gc_worked::calling::Calling;
-use gc_worked::circuits::{FULL_ADDER, and_chains, mixed_layers};
 use gc_worked::waiting::pause;
 use gc_workers::Gatehouse;
 use std::alloc::{AllocError, Global};
@@ -18,7 +18,7 @@ const GROUP: u32 = 50;
 const HEAD: u32 = 9;
 
 /// Groups of AND gates: a chain of ten gates, and forty gates that read what the last of these sets, the head.
-fn fans(alloc: Global) -> Result<String, Fail> {
+fn fans(alloc: Global) -> Result<Circuit, Fail> {
     let mut text = String::from_str(alloc, "2000 2040\n1 40\n1 1\n")?;
     for gate in 0..2000u64 {
         let (group, place) = (gate / 50, gate % 50);
@@ -29,7 +29,7 @@ fn fans(alloc: Global) -> Result<String, Fail> {
         };
         text.push_str(format!(in alloc; "2 1 {read} {group} {} AND\n", gate + 40)?.as_str())?;
     }
-    Ok(text)
+    read(alloc, text.as_str())
 }
 
 /// Pauses before it lets a head pass, and counts the gates that read a head's wire and come before it passed.
@@ -71,8 +71,7 @@ impl Gatehouse for Heads {
 /// While a head is being reported no other worker reports a gate that reads its wire: it isn't handed in yet.
 #[test]
 fn a_gate_is_reported_before_it_is_handed_in(rt: HostRuntime) -> Result<(), Fail> {
-    let text = fans(rt.alloc())?;
-    let circuit = read(rt.alloc(), text.as_str()).ok_or("there is memory")?;
+    let circuit = fans(rt.alloc())?;
     let observer = Heads::new(rt.alloc())?;
     garble(&rt, rt.alloc(), &circuit, &seed_of(0), 4, &observer)?;
     assert!(rt; observer.early.load(Ordering::SeqCst) == 0);
@@ -82,13 +81,9 @@ fn a_gate_is_reported_before_it_is_handed_in(rt: HostRuntime) -> Result<(), Fail
 /// On one thread, by layers, and through a store.
 #[test]
 fn worker_0_is_the_calling_thread(rt: HostRuntime) -> Result<(), Fail> {
-    let alone = String::from_str(rt.alloc(), FULL_ADDER)?;
-    let by_layers = mixed_layers(rt.alloc(), 600)?;
-    let by_store = and_chains(rt.alloc(), 64, 32)?;
-    for text in [&alone, &by_layers, &by_store] {
-        let circuit = read(rt.alloc(), text.as_str()).ok_or("there is memory")?;
+    for shape in [Shape::Adder, Shape::Mixed(600), Shape::Chains(64, 32)] {
         let observer = Calling::new(rt)?;
-        garble(&rt, rt.alloc(), &circuit, &seed_of(0), 4, &observer)?;
+        assert!(rt; garbles(&rt, rt.alloc(), shape, 4, &observer)?);
         assert!(rt; observer.is_worker_0());
     }
     Ok(())

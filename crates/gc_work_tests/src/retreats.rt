@@ -4,8 +4,9 @@ ghost use Rattle.std.specs.Prelude.{◌≤◌};
 ghost use Rattle.gc_work_tests.specs.declared.retreats.TheConstants.{LAST};
 
 use crate::fixtures::{read, seed_of};
-use gc_half::garble_one_thread;
+use gc_circuit::Circuit;
 use gc_layers::garble_by_layers;
+use gc_worked::compare::equal;
 use gc_worked::waiting::{comes, pause};
 use gc_workers::Gatehouse;
 use std::alloc::Global;
@@ -41,13 +42,13 @@ fn line(alloc: Global, gate: u32) -> Result<String, Fail>
     Ok(line)
 }
 
-/// The circuit's text.
-fn text(alloc: Global) -> Result<String, Fail> {
+/// The circuit.
+fn circuit(alloc: Global) -> Result<Circuit, Fail> {
     let mut text = format!(in alloc; "{} {}\n1 2\n1 1\n\n", LAST + 1, LAST + 3)?;
     for gate in 0..LAST + 1 {
         text.push_str(line(alloc, gate)?.as_str())?;
     }
-    Ok(text)
+    read(alloc, text.as_str())
 }
 
 /// Holds the calling thread after the first block until the helper has it, and the helper until the calling thread has
@@ -70,6 +71,16 @@ impl Stalling {
             late: AtomicU64::new(0),
             has_given_up: AtomicBool::new(false),
         }
+    }
+
+    /// Whether the helper came, whether somebody was held for too long, and how many gates after the first block the
+    /// helper reports.
+    fn found(&self) -> (bool, bool, u64) {
+        (
+            self.has_come.load(Ordering::SeqCst),
+            self.has_given_up.load(Ordering::SeqCst),
+            self.late.load(Ordering::SeqCst),
+        )
     }
 
     /// Holds a thread until something is so.
@@ -110,17 +121,11 @@ impl Gatehouse for Stalling {
 }
 
 /// While the helper holds the first block, all places for postponed gates are taken: the calling thread makes that
-/// block too, and offers no other one. The garbling is that of one thread.
+/// block too, and offers no other one.
 #[test]
 fn nothing_is_offered_in_a_retreat(rt: HostRuntime) -> Result<(), Fail> {
-    let alloc = rt.alloc();
-    let circuit = read(alloc, text(alloc)?.as_str()).ok_or("there is memory")?;
+    let circuit = circuit(rt.alloc())?;
     let observer = Stalling::new();
-    let garbling = garble_by_layers(&rt, alloc, &circuit, &seed_of(0), 2, &observer)?;
-    let one_thread = garble_one_thread(alloc, &circuit, &seed_of(0))?;
-    assert!(rt; garbling.rows() == one_thread.rows());
-    assert!(rt; observer.has_come.load(Ordering::SeqCst));
-    assert!(rt; !observer.has_given_up.load(Ordering::SeqCst));
-    assert!(rt; observer.late.load(Ordering::SeqCst) == 0);
-    Ok(())
+    garble_by_layers(&rt, rt.alloc(), &circuit, &seed_of(0), 2, &observer)?;
+    equal(observer.found(), (true, false, 0))
 }

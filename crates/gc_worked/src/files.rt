@@ -1,8 +1,11 @@
 //! The files of circuits under the seed of 32 zero bytes.
 
 use crate::worked_files::{AND_FILE, AND_FILE_2};
-use gc_circuit::Circuit;
-use gc_file::{MemSink, Version, WriteFault, write_garbled, write_garbled2, write_labels};
+use gc_circuit::{Circuit, read_value};
+use gc_file::{
+    LabelFile, MemSink, Version, WriteFault, read_labels, write_garbled, write_garbled2,
+    write_labels,
+};
 use gc_half::garble_one_thread;
 use gc_label::Seed;
 use std::alloc::Global;
@@ -67,4 +70,34 @@ pub fn label_file(
         return Err(Fail::new("the sink does not hold what was sent"));
     }
     Ok(bytes)
+}
+
+/// The label file, read, of an input value of this width.
+fn labels_of(
+    alloc: Global,
+    circuit: &Circuit,
+    index: u32,
+    value: &str,
+    width: u32,
+) -> Result<LabelFile, Fail> {
+    let bits = read_value(alloc, value.as_bytes(), width)?;
+    Ok(read_labels(alloc, &label_file(alloc, circuit, index, &bits)?)?)
+}
+
+/// The label files, read, of a circuit's input values. Values beyond those of the circuit have none.
+pub fn label_files(
+    alloc: Global,
+    circuit: &Circuit,
+    values: &[&str],
+) -> Result<Vec<LabelFile>, Fail> {
+    let mut files = Vec::new(alloc);
+    let mut index = 0u32;
+    for width in circuit.input_widths() {
+        let Some(value) = values.get(index as usize) else {
+            break;
+        };
+        files.push(labels_of(alloc, circuit, index, value, *width)?)?;
+        index = index.saturating_add(1);
+    }
+    Ok(files)
 }

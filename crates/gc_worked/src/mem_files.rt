@@ -1,6 +1,6 @@
 //! Files in memory.
 
-ghost use Rattle.std.specs.Prelude.{◌≡◌, ℕ, List, [], Option, Some, None, false, IfOk, option_map, string_bytes};
+ghost use Rattle.std.specs.Prelude.{◌≡◌, ℕ, List, [], Option, Some, None, false, IfOk, option_map};
 ghost use Rattle.gc_disk.specs.Files.{CountsRead};
 ghost use Rattle.gc_worked.specs.MemFiles.{bytes_at, bytes_of, written_or};
 
@@ -77,14 +77,6 @@ impl<'a, B: Allocator> MemFiles<'a, B> {
             trail: Trail::new(),
             failures: FileFailures::new(),
         }
-    }
-
-    /// The file that was written, moved out.
-    pub fn into_written(self) -> Option<(String<B>, Vec<u8, B>)>
-        ensures { option_map (λ file. (string_bytes file.0, file.1.items)) result
-            ≡ self.entry.written }
-    {
-        self.written
     }
 
     /// Whether one more call goes well.

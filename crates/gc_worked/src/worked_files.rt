@@ -20,17 +20,6 @@ pub const AND_FILE_2: &str = concat!(
     "024c1a0ab387fcd706ba4af5e36a2a8b429f5fa1a5e7a2c2469e843095c9cb5f",
 );
 
-/// The file of two outputs in version 2.
-pub const NO_GATES_FILE_2: &str = concat!(
-    "48474152424c4532",
-    "ebfb25b65880975f4652b0a8709343583318e6d736c161e56fb08550486df972",
-    "0000000002000000",
-    "01",
-    "9ab845915018f670d09e64c0f0150cf047a995366fc0b328c6cbf8e2cb0ec6a2",
-    "d71b17be400449d7d56fe1358f0e99c8105f206b725d0016349d609b3d544b41",
-    "62dbc025b165293306e7d3eb45ee69d2870d22794491fdacb14bebe47208d468",
-);
-
 /// The file of the value 1 of one wire, for input value 0: magic, index, width and label.
 pub const ONE_LABEL: &str = concat!(
     "484c4142454c5331",
