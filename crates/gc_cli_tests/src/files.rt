@@ -43,9 +43,9 @@ const ADDER_GARBLED: &[u8] = b"HGARBLE2\
     \x80\x0e\x31\x2d\xf6\x43\xf7\x67\xd9\xba\x8f\x9a\xe5\xe1\x64\x3f\
     \x6b\xf2\x37\x9b\xb6\xfa\x12\xd2\x79";
 
-/// The same of an XOR gate and the bits 0 and 1. The circuit has so many wires that eight lines of a list are read
-/// before their garbled files are checked. The trailer of `trailer` is wrong, `bad` is no file of any kind, and the
-/// last lists name jobs with faults.
+/// The same of an XOR gate and the bits 0 and 1. With fifteen wires, eight lines of a list are read before their
+/// garbled files are checked. The trailer of `trailer` is wrong, `bad` is no file of any kind, and the last lists name
+/// jobs with faults.
 pub static XOR_FILES: [(&str, &[u8]); 13] = [
     ("c.txt", XOR),
     ("g", XOR_GARBLED),
@@ -89,11 +89,8 @@ const XOR_GARBLED: &[u8] = b"HGARBLE2\
     \xba\x61\xb2\x56\x05\x33\x0f\x55\x46\x9b\x38\x6b\x88\x0a\x13\x22\
     \xd0\xd7\xb8\xd9\xdc\x37\x40\xaa\x36";
 
-const WRONG_TRAILER: &[u8] = b"HGARBLE2\
-    \x74\x80\x91\x3e\xf1\xae\xcc\x81\x5c\x5a\xba\x57\xf9\x81\xff\x8c\
-    \xa3\x7c\x92\x22\x9e\xb2\xb3\xd2\xaf\x21\x87\xe1\x30\x16\xcf\x1c\
-    \x00\x00\x00\x00\x01\x00\x00\x00\x01\xd7\x69\x69\x2e\x5f\x3f\xa9\
-    \x10\x76\x12\xdb\x1a\xd4\x29\xe7\x37\x6a\xde\xe6\x58\xbd\x13\x64\
-    \x51\x52\x2f\xc3\x00\x35\xd0\xf8\x11\x35\x75\x50\x3c\xfc\x4a\xa8\
-    \xba\x61\xb2\x56\x05\x33\x0f\x55\x46\x9b\x38\x6b\x88\x0a\x13\x22\
-    \xd0\xd7\xb8\xd9\xdc\x37\x40\xaa\xb6";
+/// A garbled file of version 1, of no rows and no outputs, whose digest and trailer are zeros.
+const WRONG_TRAILER: &[u8] = b"HGARBLE1\
+    \0\0\0\0\0\0\0\0\0\0\0\0\0\0\0\0\0\0\0\0\0\0\0\0\0\0\0\0\0\0\0\0\
+    \0\0\0\0\0\0\0\0\
+    \0\0\0\0\0\0\0\0\0\0\0\0\0\0\0\0\0\0\0\0\0\0\0\0\0\0\0\0\0\0\0\0";

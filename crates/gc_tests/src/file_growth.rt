@@ -140,7 +140,7 @@ fn writing_to_memory(rt: HostRuntime) -> Result<(), Fail> {
     equal(runs_refused(rt.alloc(), |heap| filled(heap)), Ok(4))
 }
 
-/// A sink that is refused memory for a piece takes the piece the next time. Making it takes no memory.
+/// A sink that is refused memory for a piece accepts the piece the next time. Making a sink doesn't allocate.
 #[test]
 fn a_sink_after_a_refusal(rt: HostRuntime) -> Result<(), Fail> {
     let heap = Refusing::nth(rt.alloc(), 2);
