@@ -43,8 +43,8 @@ fn push_some<A: Allocator>(pool: &TaskPool<A>, owner: &mut Owner<A>, most: u32) 
     most
 }
 
-/// Pushes three tasks, pops one, steals two, and then none is left. Returns how many were pushed, and the gates of those
-/// popped and stolen.
+/// Pushes three tasks, pops one and steals two, and then none is left. Returns how many were pushed, and the gates of
+/// those popped and stolen.
 fn use_pool<A: Allocator>(
     pool: &TaskPool<A>,
     owner: &mut Owner<A>,

@@ -40,7 +40,7 @@ fn refuses<L: Ledger, A: Allocator>(
     )
 }
 
-/// Gate 1 is handed in, by which gate 2 is claimed. The store is stopped: then gate 2 is handed in, by which gate 4 is
+/// Gate 1 is handed in, and gate 2 is claimed. The store is stopped: then gate 2 is handed in, which makes gate 4
 /// ready, and nothing is claimed.
 fn stops<L: Ledger, A: Allocator>(
     rt: &impl Wait,
@@ -57,7 +57,7 @@ fn stops<L: Ledger, A: Allocator>(
     Some(is_accepted && batch.is_empty() && shared.take(rt).is_none())
 }
 
-/// Gates 0 and 1 are taken, and, once gate 0 is finished, gate 3. The others stop the store. Returns the task of gate 3.
+/// Gates 0 and 1 are taken, and, once gate 0 is finished, gate 3. The others stop the store. Returns gate 3's task.
 fn leave<L: Ledger, A: Allocator>(
     rt: &impl Wait,
     shared: &SharedStore<L, A>,

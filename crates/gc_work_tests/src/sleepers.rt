@@ -41,9 +41,9 @@ enum Given {
     NoneBefore,
 }
 
-/// The store of a fan, whose first gate is claimed, and what the threads there tell each other.
+/// The store of a fan, whose first gate is claimed, and what its threads tell each other.
 #[derive(Drop)]
-struct Place<L: Ledger> {
+struct Fixture<L: Ledger> {
     shared: SharedStore<L>,
     first: Task,
     // How many threads are about to ask for a task.
@@ -54,10 +54,10 @@ struct Place<L: Ledger> {
     is_last: AtomicBool,
 }
 
-impl<L: Ledger> Place<L> {
+impl<L: Ledger> Fixture<L> {
     /// Nobody has come yet.
-    fn new(store: Store<L>, first: Task) -> Place<L> {
-        Place {
+    fn new(store: Store<L>, first: Task) -> Fixture<L> {
+        Fixture {
             shared: SharedStore::new(store),
             first,
             asking: AtomicU64::new(0),
@@ -93,15 +93,15 @@ impl<L: Ledger> Place<L> {
             .ok()
     }
 
-    /// Hands in the first gate, by which more gates are ready than the batch holds, each time that somebody hands in
-    /// one. Returns whether each thread that slept is given a task.
+    /// Hands in the first gate, which makes more gates ready than the batch holds. Returns whether each thread that
+    /// slept is given a task.
     fn wakes_each(&self, rt: &impl Wait, tally: &mut Tally<L>) -> bool {
         self.hand_in(rt, self.first, tally, &mut Batch::new()) == Some(false)
             && reaches(&self.given, SLEEPERS as u64)
     }
 
-    /// Hands in the first gate, by which the batch has all others: a thread is woken, and finds no gate that is ready.
-    /// Then the others are handed in. Returns whether the last one completes the store.
+    /// Hands in the first gate, after which the batch has all others: a thread is woken, and finds no gate that is
+    /// ready. Then the others are handed in. Returns whether the last one completes the store.
     fn leaves_none(&self, rt: &impl Wait, tally: &mut Tally<L>) -> bool {
         let mut batch = Batch::new();
         let mut answer = self.hand_in(rt, self.first, tally, &mut batch);
@@ -116,9 +116,8 @@ impl<L: Ledger> Place<L> {
         answer == Some(true)
     }
 
-    /// What the thread that works does once the others sleep, by what they are to be given. It stops the store where
-    /// they are to be given nothing before the last gate, and where that goes otherwise than it should. Returns whether
-    /// it goes as it should.
+    /// What the thread that works does once the others sleep, by what they should be given. It stops the store if they
+    /// should be given nothing before the last gate, or if something goes wrong. Returns whether nothing did.
     fn work(&self, rt: &impl Wait, tally: &mut Tally<L>, given: Given) -> bool {
         let all_ask = reaches(&self.asking, SLEEPERS as u64);
         pause();
@@ -136,38 +135,38 @@ impl<L: Ledger> Place<L> {
 
 /// A thread at a store: its tally, and whether it is given what it should be.
 #[derive(Drop)]
-struct AtPlace<L: Ledger> {
+struct Participant<L: Ledger> {
     tally: Tally<L>,
     is_right: bool,
 }
 
 /// The thread that works and those that sleep, each with a tally of the store.
-fn threads_of<L: Ledger>(alloc: Global, store: &mut Store<L>) -> Option<Vec<AtPlace<L>>> {
+fn threads_of<L: Ledger>(alloc: Global, store: &mut Store<L>) -> Option<Vec<Participant<L>>> {
     let mut threads = Vec::new(alloc);
     for _thread in 0..SLEEPERS + 1 {
         let tally = store.tally()?;
         let is_right = false;
-        threads.push(AtPlace { tally, is_right }).ok()?;
+        threads.push(Participant { tally, is_right }).ok()?;
     }
     Some(threads)
 }
 
-/// A store of this circuit whose first gate is claimed, and the threads there.
+/// A store of this circuit whose first gate is claimed, and its threads.
 fn open<L: Ledger>(
     alloc: Global,
     ledger: Blank,
     circuit: Circuit,
-) -> Option<(Place<L>, Vec<AtPlace<L>>)>
+) -> Option<(Fixture<L>, Vec<Participant<L>>)>
     requires { IsForStore L.name L.parts ledger }
 {
     let mut store = Store::<L, Global>::open(alloc, ledger, circuit, seed_of(0)).ok()?;
     let first = store.claim()?;
     let threads = threads_of(alloc, &mut store)?;
-    Some((Place::new(store, first), threads))
+    Some((Fixture::new(store, first), threads))
 }
 
 /// Three threads sleep at the store of a fan of this many readers, while another thread works there. Returns whether
-/// that goes as it should, and each of the three is given this.
+/// nothing goes wrong, and each of the three is given this.
 fn are_given<L: Ledger + Send + Sync, R: Threads + Wait + Sync>(
     rt: &R,
     alloc: Global,
@@ -178,25 +177,25 @@ fn are_given<L: Ledger + Send + Sync, R: Threads + Wait + Sync>(
     requires { IsForStore L.name L.parts ledger }
 {
     let opened = open::<L>(alloc, ledger, fan(alloc, readers)?);
-    let (place, mut threads) = opened.ok_or("a gate is ready")?;
+    let (fixture, mut threads) = opened.ok_or("a gate is ready")?;
     thread::for_each_mut(
         rt,
         threads.as_mut_slice(),
         SLEEPERS + 1,
-        &|i: usize, thread: &mut AtPlace<L>| {
+        &|i: usize, thread: &mut Participant<L>| {
             thread.is_right = if i == 0 {
-                place.work(rt, &mut thread.tally, given)
+                fixture.work(rt, &mut thread.tally, given)
             } else {
-                place.ask(rt, &mut thread.tally) == given
+                fixture.ask(rt, &mut thread.tally) == given
             };
         },
     );
     Ok(threads.iter().all(|thread| thread.is_right))
 }
 
-/// One hand-in by which more gates are ready than a batch holds wakes one of three threads that sleep, and what that
-/// one hands in wakes the next, until all are woken. A thread that is woken and finds no gate that is ready sleeps on:
-/// it is given none before the last gate, which wakes all. A stop wakes all.
+/// One hand-in that makes more gates ready than a batch holds wakes one of three threads that sleep, and what that one
+/// hands in wakes the next, until all are woken. A thread that is woken and finds no gate that is ready sleeps on: it
+/// is given none before the last gate, which wakes all. A stop wakes all.
 #[test]
 fn each_sleeper_is_woken(rt: HostRuntime) -> Result<(), Fail> {
     for (readers, given) in [
