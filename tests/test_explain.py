@@ -335,12 +335,14 @@ class Explain(ProgramTest):
 
     def test_files_that_cannot_be_written(self):
         own = "it is a name of standard output or of the circuit's file"
+        (self.folder / "loop").symlink_to("loop")
         causes = [
             ("no_folder/out", "there is no such file or directory"),
             (".", "it is a directory"),
             ("/dev/full", "the disk is full"),
             ("c.txt", own),
             ("/dev/stdout", own),
+            ("loop", "the system refused it"),
         ]
         for out, cause in causes:
             line = f"{out}: the file can't be written: {cause}"

@@ -518,7 +518,8 @@ class Conveniences(LibraryTest):
         self.assertRaises(TypeError, to_bits, 1, 4, True)
         for bits in (b"\2", b"01", [1, 0, 3], [-1], [256]):
             self.assertRaises(ValueError, from_bits, bits)
-        self.assertRaises(TypeError, from_bits, "01")
+        for bits in "01", 5, array.array("I", [1, 0]):
+            self.assertRaises(TypeError, from_bits, bits)
 
     def test_reading(self):
         with Circuit.open(EXAMPLES / "full_adder.txt") as circuit:

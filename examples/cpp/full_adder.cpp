@@ -10,11 +10,14 @@
 #include <halfgates.hpp>
 #include <iostream>
 #include <iterator>
+#include <stdexcept>
 #include <string>
 #include <vector>
 
 static int run(char **bits) {
     std::ifstream file("examples/full_adder.txt");
+    if (!file)
+        throw std::runtime_error("there is no examples/full_adder.txt here");
     const std::string text{std::istreambuf_iterator<char>(file), {}};
     halfgates::circuit circuit(text);
     halfgates::garbling garbling = circuit.garble(halfgates::seed::random());

@@ -37,11 +37,10 @@ def bits_of_labels(pairs, labels):
     return [int(it == one) for it, one in zip(given, ones)]
 
 
-def garbler(connection, circuit, number):
+def garbler(connection, circuit, bits):
     """Garbles, sends rows, labels and the evaluator's decode bits, and returns its own output value."""
     connection.send_bytes(circuit.digest)
     with circuit.garble(secrets.token_bytes(32)) as garbling:
-        bits = to_bits(number, circuit.input_widths[GARBLERS])
         connection.send_bytes(garbling.rows())
         connection.send_bytes(garbling.deal(GARBLERS, bits)[HEAD:])
 
@@ -54,13 +53,13 @@ def garbler(connection, circuit, number):
         return from_bits(bits_of_labels(garbling.output_labels(0), connection.recv_bytes()))
 
 
-def evaluator(connection, circuit, number):
+def evaluator(connection, circuit, bits):
     """Receives its labels, evaluates, sends the labels of the garbler's outputs, and returns its own output value."""
     if connection.recv_bytes() != circuit.digest:
         raise ValueError("the garbler has another circuit")
     rows, labels = connection.recv_bytes(), connection.recv_bytes()
 
-    receiver = Receiver(connection.recv_bytes(), to_bits(number, circuit.input_widths[EVALUATORS]))
+    receiver = Receiver(connection.recv_bytes(), bits)
     connection.send_bytes(receiver.replies)
     labels += receiver.open(connection.recv_bytes())
 
@@ -92,12 +91,14 @@ def main():
     with Circuit.open(words.circuit) as circuit:
         if len(circuit.input_widths) != 2 or len(circuit.output_widths) not in (1, 2):
             parser.error("the circuit has two input values, and one or two output values")
-        if words.party == "garbler":
+        is_garbler = words.party == "garbler"
+        bits = to_bits(words.number, circuit.input_widths[GARBLERS if is_garbler else EVALUATORS])
+        if is_garbler:
             with Listener(words.socket, "AF_UNIX") as listener, listener.accept() as connection:
-                print(garbler(connection, circuit, words.number))
+                print(garbler(connection, circuit, bits))
         else:
             with connect(words.socket) as connection:
-                print(evaluator(connection, circuit, words.number))
+                print(evaluator(connection, circuit, bits))
 
 
 if __name__ == "__main__":

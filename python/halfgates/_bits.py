@@ -30,12 +30,19 @@ def to_bits(number: int, width: int, *, highest_first: bool = False) -> bytes:
     return digits.translate(_BITS)[:: 1 if highest_first else -1]
 
 
+def _bytes_of(bits: Buffer) -> bytes:
+    with memoryview(bits) as view:
+        if view.itemsize != 1:
+            raise TypeError(f"bits are bytes, and not items of {view.itemsize} bytes")
+        return bytes(view)
+
+
 def from_bits(bits: Bits, *, highest_first: bool = False) -> int:
     """The number of these bits, the lowest bit on the first wire, or the highest one by name.
 
-    A byte that is neither 0 nor 1 raises ValueError.
+    A byte that is neither 0 nor 1 raises ValueError, and an object without bytes, or with items of several, TypeError.
     """
-    data = bytes(bits)
+    data = bytes(bits) if isinstance(bits, (list, tuple)) else _bytes_of(bits)
     if data.strip(b"\0\1"):
         raise ValueError("a bit is 0 or 1")
     digits = data.translate(_DIGITS)

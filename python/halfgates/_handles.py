@@ -198,7 +198,10 @@ class Garbling(Handle):
     _Owner = owner(library.halfgates_garbling_free)
 
     def write(self, version: int = 2) -> bytearray:
-        """The garbled file of a version, 1 or 2. Faults: 60 where there is no such version, 62."""
+        """The garbled file of a version, 1 or 2.
+
+        Faults: 60 where there is no such version or the first AND number isn't 0, 62.
+        """
         version = _u32(version)
         file = bytearray(self._size(version))
         self.write_into(file, version)
@@ -207,7 +210,8 @@ class Garbling(Handle):
     def write_into(self, buffer: object, version: int = 2) -> int:
         """Writes the garbled file of a version, 1 or 2, to a writable buffer, and returns the number of its bytes.
 
-        Faults: 60 where there is no such version, 61 where the buffer has too little room and stays as it is, 62.
+        Faults: 60 where there is no such version or the first AND number isn't 0, 61 where the buffer has too little
+        room and stays as it is, 62.
         """
         version, written = _u32(version), c_size_t()
         with Lent(buffer, is_written=True) as out:
@@ -301,14 +305,20 @@ class Garbling(Handle):
         return [WireLabels._of(it) for it in found]
 
     def audit(self, garbled: Buffer) -> GarbledReport:
-        """Compares a garbled file of either version with the garbling. Faults: 30 to 36 of the file."""
+        """Compares a garbled file of either version with the garbling.
+
+        Faults: 60 where the garbling's first AND number isn't 0, 30 to 36 of the file.
+        """
         report = _library.AuditReport()
         with Lent(garbled) as lent:
             check(self._call(library.halfgates_audit, lent.at, lent.size, report))
         return GarbledReport._of(report)
 
     def audit_labels(self, labels: Buffer) -> LabelsReport:
-        """Compares a label file with the garbling, and returns the bits that it stands for. Faults: 30 to 36, 46."""
+        """Compares a label file with the garbling, and returns the bits that it stands for.
+
+        Faults: 60 where the garbling's first AND number isn't 0, 30 to 36, 46.
+        """
         report = _library.LabelsReport()
         with Lent(labels) as lent:
             bits = bytearray(max(lent.size // LABEL - 1, 0))

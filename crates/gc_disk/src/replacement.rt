@@ -115,7 +115,7 @@ fn linked_path<R: rt::Files + Alloc>(rt: &R, name: &str) -> io::Result<Option<Pa
         };
         path = folder_of(path.as_path()).join(rt.alloc(), target.as_path())?;
     }
-    Err(ErrorKind::InvalidInput.into())
+    Err(ErrorKind::FilesystemLoop.into())
 }
 
 /// Whether the path is that of standard output among the files that this process has open.

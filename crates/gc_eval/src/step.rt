@@ -117,8 +117,8 @@ impl<'j, 'c, B: Allocator, A: Allocator, C: Allocator> EvalBoard<'j, 'c, B, A, C
         self.round().label(&mut seat.place, wire)
     }
 
-    /// `to` learns what `from` knows. The call never blocks and doesn't allocate. The caller ensures that both seats are
-    /// this board's.
+    /// `to` learns what `from` knows. The call never blocks and doesn't allocate. The caller ensures that both seats
+    /// are this board's.
     pub fn tell(&self, from: &mut EvalSeat<A, C>, to: &mut EvalSeat<A, C>)
         requires from { IsSeatOf self.now from.old }
         requires to { IsSeatOf self.now to.old }
