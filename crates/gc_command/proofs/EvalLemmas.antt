@@ -1,7 +1,5 @@
 -- From what each step of `eval` returns to what it returns as a whole.
-use Rattle.gc_command.proofs.Names.{◌≡◌, ◌≢◌, ℕ, Bool, List, [], ◌∷◌, Result, Err, IfSome, inl, inr, refl, ◌∙◌, arith, fun_ext, Netlist, canonical_text, GarbledParts, IsGarbledFile, LabelFileParts, FileBytes, Fault, IsCircuit, HasReadingFault, HasJobFault, AreLabelFiles, HasGarbledFault, HasLabelFault, HasLabelFilesFault, HasFilesFault, AreEvalFiles, FilesGive, HasEvalFault, other_circuit}
-use Rattle.sha2.specs.Sha256.{sha256}
-use Rattle.gc_job.specs.declared.fault.BindFault.TheVariants.{OtherCircuit}
+use Rattle.gc_command.proofs.Names.{◌≡◌, ℕ, List, [], ◌∷◌, IfSome, inl, inr, refl, arith, fun_ext, Netlist, GarbledParts, IsGarbledFile, LabelFileParts, FileBytes, Fault, IsCircuit, HasReadingFault, HasJobFault, AreLabelFiles, HasGarbledFault, HasLabelFault, HasLabelFilesFault, HasFilesFault, AreEvalFiles, HasEvalFault}
 use Rattle.gc_command.specs.declared.fault.Fault.TheVariants as faults
 
 -- The faults of the files of an evaluation: that one can't be read, that one is not well formed, or
@@ -78,26 +76,3 @@ module _ (bytes : FileBytes) (Failed : List ℕ → Type 0) (circuit garbled : L
   job-fault c g files read (faults.Binding fault) has = (c, (g, (files, (read, has))))
   job-fault c g files read (faults.Evaluation fault) has = (c, (g, (files, (read, has))))
   job-fault c g files read fault has = absurd has
-
-  -- What was evaluated counts where the garbled file names the circuit's digest: its fault is that of the job,
-  pub evaluated-fault : {new : FileBytes} (c : Netlist) {digest : List ℕ} {T : Type 0}
-      {bits : T → List Bool} {outcome : Result T Fault} → ((n : List ℕ) → new n ≡ bytes n)
-      → IfSome (bytes circuit) (λ held. IsCircuit held c)
-      → FilesGive new c garbled workers labels digest bits outcome
-      → digest ≡ sha256 (canonical_text c) → (fault : Fault) → outcome ≡ Err fault → Has fault
-  evaluated-fault c same read is right fault failed =
-      job-fault c is.g is.files
-      (eval-files same (λ n. refl) read is.garbled_read is.labels_read) fault
-      (rw failed at (is.faulty right))
-
-  -- and where it names another, that is the fault.
-  pub other-fault : {new : FileBytes} (c : Netlist) {digest : List ℕ} {T : Type 0}
-      {bits : T → List Bool} {outcome : Result T Fault} → ((n : List ℕ) → new n ≡ bytes n)
-      → IfSome (bytes circuit) (λ held. IsCircuit held c)
-      → FilesGive new c garbled workers labels digest bits outcome
-      → digest ≢ sha256 (canonical_text c) → Has (faults.Binding OtherCircuit)
-  other-fault c same read is other =
-      job-fault c is.g is.files
-      (eval-files same (λ n. refl) read is.garbled_read is.labels_read)
-      (faults.Binding OtherCircuit)
-      (λ _. other_circuit (λ named. other (is.named ∙ named)))

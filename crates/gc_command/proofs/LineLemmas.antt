@@ -75,7 +75,7 @@ module _ {A : Type 0} (bytes : FileBytes) (old : FailedFiles) where
   others_read new c words lines (Unlabelled held fault) more job read made = absurd made
 
 -- What is found of the bytes that were read of a file is so where its bytes are known.
-found_where_known : (P : List ℕ → Type 0) (known : Option (List ℕ)) (held : List ℕ)
+pub found_where_known : (P : List ℕ → Type 0) (known : Option (List ℕ)) (held : List ℕ)
     → GivesFile known held → P held → IfSome known P
 found_where_known P None held given found = tt
 found_where_known P (Some bytes) held given found = rw (← given) found

@@ -8,7 +8,7 @@ pub use Rattle.std.proofs.lemmas.Result.{IfOk-weaker, IfErr-weaker, err_from_is_
 pub use Rattle.gc_circuit.proofs.LineLemmas.{numbers_after, line-widths}
 pub use Rattle.gc_circuit.specs.Meaning.{AreOutputs, Fits}
 pub use Rattle.gc_command.specs.CircuitFile.{IsCircuit, HasReadingFault}
-pub use Rattle.gc_command.specs.Eval.{AreLabelFiles, HasGarbledFault, HasLabelFault, HasLabelFilesFault, HasFilesFault, AreEvalFiles, FilesGive, HasEvalFault}
+pub use Rattle.gc_command.specs.Eval.{AreLabelFiles, HasGarbledFault, HasLabelFault, HasLabelFilesFault, HasFilesFault, AreEvalFiles, HasEvalFault}
 pub use Rattle.gc_command.specs.Job.{DecodeTo, HasJobFault}
 pub use Rattle.gc_command.specs.Lines.{output_lines}
 pub use Rattle.gc_command.specs.OwnFiles.{AreGarbledBytes, AreLabelsOf}

@@ -1,8 +1,6 @@
 -- The command `eval`: what it returns, and which fault it has. What is said of a file is said where its bytes are
 -- known.
-use Rattle.std.specs.Prelude.{◌≡◌, ◌≢◌, ℕ, ◌⊎◌, Bool, List, [], ◌∷◌, Result, IfSome, IfOk, IfErr}
-use Rattle.sha2.specs.Sha256.{sha256}
-use Rattle.gc_netlist.specs.Canon.{canonical_text}
+use Rattle.std.specs.Prelude.{◌≡◌, ◌≢◌, ℕ, ◌⊎◌, Bool, List, [], ◌∷◌, IfSome}
 use Rattle.gc_netlist.specs.Circuit.{Netlist}
 use Rattle.gc_file.specs.declared.fault.FileFault.TheVariants as file
 use Rattle.gc_file.specs.GarbledFile.{GarbledParts, IsGarbledFile}
@@ -62,20 +60,11 @@ pub record AreEvalFiles (bytes : FileBytes) (circuit garbled : List ℕ) (labels
   pub garbled_read : IfSome (bytes garbled) (λ held. IsGarbledFile held g)
   pub labels_read : AreLabelFiles bytes labels files
 
--- The files of these names are a garbled file, which names this digest, and label files. Where it is the digest of the
--- circuit's canonical text, the outcome is the bits that they decode to, or the fault of their job by these workers.
-pub record FilesGive (bytes : FileBytes) (c : Netlist) (garbled : List ℕ) (workers : ℕ)
-    (labels : List (List ℕ)) (digest : List ℕ) {T : Type 0} (bits : T → List Bool)
-    (outcome : Result T Fault) : Type 0 where
-  pub g : GarbledParts
-  pub files : List LabelFileParts
+-- The files of these names are a garbled file and label files.
+pub record AreFilesGiven (bytes : FileBytes) (garbled : List ℕ) (labels : List (List ℕ))
+    (g : GarbledParts) (files : List LabelFileParts) : Type 0 where
   pub garbled_read : IfSome (bytes garbled) (λ held. IsGarbledFile held g)
   pub labels_read : AreLabelFiles bytes labels files
-  pub named : digest ≡ g.digest
-  pub few : IfOk outcome (λ _. AreFew workers)
-  pub decoded : digest ≡ sha256 (canonical_text c)
-      → IfOk outcome (λ made. DecodeTo c g files (bits made))
-  pub faulty : digest ≡ sha256 (canonical_text c) → IfErr outcome (HasJobFault c g files workers)
 
 -- What `eval` returns: the lines of what the files decode to, whatever the number of workers.
 pub record AnswersEval (bytes : FileBytes) (circuit garbled : List ℕ) (workers : ℕ)

@@ -50,7 +50,7 @@ pub enum HashedPart {
 
 impl HashedPart {
     /// How many bytes of a text of this length it is.
-    fn bytes(self, len: usize) -> usize
+    pub(crate) fn bytes(self, len: usize) -> usize
         ensures { result ≤ len }
     {
         match self {
@@ -108,23 +108,44 @@ pub fn read_and_begin_digest<R: Threads, A: Allocator + Copy + Send + Sync, F: F
     } = read_and_hash(rt, alloc, name, files)?;
     let bytes = text.as_slice();
     let count = part.bytes(bytes.len()).max(hashed);
+    Ok(read_and_hash_on(rt, alloc, bytes, hasher, hashed, count)?)
+}
+
+/// The circuit of a text, and its digest, which a thread of its own begins with the first `count` bytes, where one can
+/// be started. The caller ensures that the hasher has taken the first `hashed` of them.
+pub(crate) fn read_and_hash_on<R: Threads, A: Allocator + Copy + Send + Sync>(
+    rt: &R,
+    alloc: A,
+    text: &[u8],
+    hasher: LongSha256,
+    hashed: usize,
+    count: usize,
+) -> Result<(Circuit<A>, BegunDigest), ReadFault>
+    requires hashed { hashed ≤ count }
+    requires count { count ≤ length text.now }
+    requires holds { HoldsMessage hasher (take hashed text.now) }
+    ensures begun { IfOk result (λ made. IsBegun made.0 made.1) }
+    ensures circuit { IfOk result (λ made. IsCircuit text.now made.0) }
+    ensures fault { IfErr result (λ fault. fault ≢ ReadFault.Memory
+        → circuit_of (tokens text.now) ≡ Err fault) }
+{
     let (hasher, read) = thread::join(
         rt,
         move || -> LongSha256
-            requires { (hashed ≤ count) × (count ≤ length bytes.now)
-                × HoldsMessage hasher (take hashed bytes.now) }
-            ensures { HoldsMessage result (take count bytes.entry.now) }
-        { hash_on(hasher, bytes, hashed, count) },
+            requires { (hashed ≤ count) × (count ≤ length text.now)
+                × HoldsMessage hasher (take hashed text.now) }
+            ensures { HoldsMessage result (take count text.entry.now) }
+        { hash_on(hasher, text, hashed, count) },
         || -> Result<(Circuit<A>, Option<CommonLines>), ReadFault>
-            ensures circuit { IfOk result (λ read. IsCircuit bytes.entry.now read.0) }
+            ensures circuit { IfOk result (λ read. IsCircuit text.entry.now read.0) }
             ensures common { IfOk result (λ read.
-                IfSome read.1 (AreCommonLines read.0 bytes.entry.now count)) }
+                IfSome read.1 (AreCommonLines read.0 text.entry.now count)) }
             ensures fault { IfErr result (λ fault. fault ≢ ReadFault.Memory
-                → circuit_of (tokens bytes.entry.now) ≡ Err fault) }
-        { read_and_compare(alloc, bytes, count) },
+                → circuit_of (tokens text.entry.now) ≡ Err fault) }
+        { read_and_compare(alloc, text, count) },
     );
     let (circuit, common) = read?;
-    let begun = circuit.begin_digest_from(bytes, count, hasher, common);
+    let begun = circuit.begin_digest_from(text, count, hasher, common);
     Ok((circuit, begun))
 }
 
