@@ -90,7 +90,8 @@ const AUDIT_LINES: Part = (52, 7);
 const JOBS_EVALUATION: [Part; 3] = [(46, 1), (0, 4), (46, 1)];
 
 /// Orders over the full adder, what each prints, and the parts of its work. What a sink takes is the files' own memory.
-static ORDERS: [(&[&str], &str, &[&[Part]]); 11] = [
+/// Two threads read the files of `eval`, in no order: `refusals` has it.
+static ORDERS: [(&[&str], &str, &[&[Part]]); 10] = [
     (
         &["run", "c.txt", SEED, "1", "0", "1"],
         "01\n",
@@ -117,11 +118,6 @@ static ORDERS: [(&[&str], &str, &[&[Part]]); 11] = [
         &["deal", "c.txt", SEED, "2", "1", "out"],
         "wrote 32\n",
         &[&FIRST, &[ONE_VALUE, OUTPUT_LINE]],
-    ),
-    (
-        &["eval", "c.txt", "g", "0", "1", "2"],
-        "01\n",
-        &[&FIRST, &[GARBLED], &THREE_LABEL_FILES, &EVALUATION],
     ),
     (
         &["jobs", "c.txt", "list"],

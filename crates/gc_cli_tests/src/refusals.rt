@@ -1,5 +1,5 @@
-//! Each growth refused in turn of commands of two workers, and of one over a list, over files whose sinks use the same
-//! memory. After a refusal the same order over the same files is carried out.
+//! Each growth refused in turn of `eval`, of commands of two workers, and of one over a list, over files whose sinks
+//! use the same memory. After a refusal the same order over the same files is carried out.
 
 use crate::files::XOR_FILES;
 use crate::jobs::{Outcome, assert_printed, outcome_of_refusal, result_of};
@@ -16,9 +16,9 @@ use std::sync::Wait;
 use std::test::Fail;
 use std::thread::Threads;
 
-/// Orders over 32 chains of 32 AND gates, which two workers share, what each prints, and how many growths are of the
-/// file that it writes: the sink takes 32,881 bytes in three, or 528 in one, and then the file has a name.
-static ORDERS: [(&[&str], &str, u32); 4] = [
+/// Orders over 32 chains of 32 AND gates, which two workers can share, what each prints, and how many growths are of
+/// the file that it writes: the sink takes 32,881 bytes in three, or 528 in one, and then the file has a name.
+static ORDERS: [(&[&str], &str, u32); 5] = [
     (
         &["garble", "c.txt", SEED, "out", "--workers", "2"],
         "wrote 32881\n",
@@ -29,6 +29,7 @@ static ORDERS: [(&[&str], &str, u32); 4] = [
         "wrote 528\n",
         2,
     ),
+    (&["eval", "c.txt", "g", "l"], "1\n", 0),
     (&["eval", "c.txt", "g", "l", "--workers", "2"], "1\n", 0),
     (&["jobs", "c.txt", "list", "--workers", "2"], "1\n\n", 0),
 ];
