@@ -43,8 +43,8 @@
  * BUFFERS. The library reads and writes buffers within a call and keeps no pointer to them. Buffers of bytes need no
  * alignment. A buffer that is written overlaps no other argument, and has at least the room that is needed, else the
  * code is HALFGATES_SMALL_BUFFER and nothing is written to it; what it has behind that stays. A buffer that is read has
- * exactly the size that the description names, else the code is HALFGATES_WRONG_SIZE. Where a size is 0, the pointer
- * before it may be NULL. A NULL elsewhere is HALFGATES_NULL_POINTER.
+ * exactly the size that the description names, else the code is HALFGATES_WRONG_SIZE. Where a size or a count is 0, the
+ * pointers that it is for may be NULL. A NULL elsewhere is HALFGATES_NULL_POINTER.
  *
  * BITS are bytes 0 and 1, one for each wire, in wire order: those of input value 0, then those of value 1, and so on.
  * Another byte is HALFGATES_BAD_DIGIT, and a wrong number of them HALFGATES_WRONG_LENGTH.
@@ -63,8 +63,8 @@
  * check any of this.
  *
  * SECRETS. Whoever has a seed, an offset or a garbling knows all labels. No branch and no address depends on seeds,
- * offsets, labels or bits, beyond what codes and outputs say, and memory is wiped before it is freed. This is tested, for
- * x86-64, and not proved; the audits are left out. The stack and your buffers aren't wiped. SECURITY.md says more.
+ * offsets, labels or bits, beyond what codes and outputs say, and memory is wiped before it is freed. This is tested,
+ * for x86-64, and not proved; the audits are left out. The stack and your buffers aren't wiped. SECURITY.md says more.
  */
 #ifndef HALFGATES_H
 #define HALFGATES_H
@@ -75,7 +75,7 @@
 /* The version of this header. That of the library is halfgates_version(). */
 #define HALFGATES_VERSION_MAJOR 0
 #define HALFGATES_VERSION_MINOR 9
-#define HALFGATES_VERSION_PATCH 2
+#define HALFGATES_VERSION_PATCH 3
 
 #ifdef __cplusplus
 extern "C" {
@@ -154,7 +154,7 @@ halfgates_name halfgates_fault_name(int32_t code);
 /* Whether a code says that memory ran out: 1 for 13, 23, 36, 46 and 62, and else 0. */
 int32_t halfgates_is_memory(int32_t code);
 
-/* The version of the library, such as "0.9.2". */
+/* The version of the library, such as "0.9.3". */
 halfgates_name halfgates_version(void);
 
 /* ---------------------------------------------------------------------------------------------------- circuits -- */
@@ -268,8 +268,9 @@ uint64_t halfgates_garbled_size(const halfgates_circuit *circuit, uint32_t versi
 
 /*
  * Writes the garbled file of a garbling in a version, 1 or 2, to `buffer`, and the number of its bytes to `written`.
- * Codes: HALFGATES_BAD_ARGUMENT for a garbling whose `first` isn't 0; HALFGATES_SMALL_BUFFER, where `written` is the
- * size that is needed, so that a call with size 0 is a quick way to ask for it; HALFGATES_MEMORY.
+ * Codes: HALFGATES_BAD_ARGUMENT for another version, or for a garbling whose `first` isn't 0; HALFGATES_SMALL_BUFFER,
+ * where `written` is the size that is needed, so that a call with size 0 is a quick way to ask for it;
+ * HALFGATES_MEMORY.
  */
 int32_t halfgates_garbling_write(const halfgates_garbling *garbling, uint32_t version, uint8_t *buffer, size_t size,
                                  size_t *written);
@@ -334,10 +335,16 @@ int32_t halfgates_rows(const halfgates_garbling *garbling, uint8_t *rows, size_t
 /* Writes the decode bits of a garbling, a byte 0 or 1 for each output wire in order. Code: HALFGATES_SMALL_BUFFER. */
 int32_t halfgates_decode_bits(const halfgates_garbling *garbling, uint8_t *bits, size_t size);
 
-/* Writes the zero label of a wire, 16 bytes: 16 zero bytes for a wire that no gate sets and that is no input wire. */
+/*
+ * Writes the zero label of a wire, 16 bytes: 16 zero bytes for a wire that no gate sets and that is no input wire.
+ * Code: HALFGATES_BAD_ARGUMENT where there is no such wire.
+ */
 int32_t halfgates_zero_label(const halfgates_garbling *garbling, uint32_t wire, uint8_t label[16]);
 
-/* Writes the decode bit of an output wire, counted from 0 among the output wires: 0 or 1. */
+/*
+ * Writes the decode bit of an output wire, counted from 0 among the output wires: 0 or 1. Code: HALFGATES_BAD_ARGUMENT
+ * where there is no such output wire.
+ */
 int32_t halfgates_decode_bit(const halfgates_garbling *garbling, uint32_t output, uint8_t *bit);
 
 /* The labels of a wire. */
@@ -382,10 +389,10 @@ void halfgates_job_free(halfgates_job *job);
 int32_t halfgates_evaluate(const halfgates_job *job, uint8_t *bits, size_t size);
 
 /*
- * Evaluates `count` jobs on the calling thread, and writes the bits of all output wires, one job's after another's in the
- * order of the list: those that halfgates_evaluate writes for each. The jobs may be of any circuits. Where several that
- * follow one another have equal circuits, up to four are evaluated side by side, which takes less time. `size` is at
- * least the sum of their numbers of output wires. Codes: HALFGATES_SMALL_BUFFER; HALFGATES_JOB_MEMORY and
+ * Evaluates `count` jobs on the calling thread, and writes the bits of all output wires, one job's after another's in
+ * the order of the list: those that halfgates_evaluate writes for each. The jobs may be of any circuits. Where several
+ * that follow one another have equal circuits, up to four are evaluated side by side, which takes less time. `size` is
+ * at least the sum of their numbers of output wires. Codes: HALFGATES_SMALL_BUFFER; HALFGATES_JOB_MEMORY and
  * HALFGATES_UNKNOWN_OUTPUT_LABEL, the first fault of each job in turn; HALFGATES_MEMORY. Jobs are only read, as in the
  * calls that take a const job: the list has no const before them so that a `halfgates_job **` is one.
  */
