@@ -37,10 +37,11 @@ def bits_of_labels(pairs, labels):
     return [int(it == one) for it, one in zip(given, ones)]
 
 
-def garbler(connection, circuit, bits):
+def garbler(connection, circuit, number):
     """Garbles, sends rows, labels and the evaluator's decode bits, and returns its own output value."""
     connection.send_bytes(circuit.digest)
     with circuit.garble(secrets.token_bytes(32)) as garbling:
+        bits = to_bits(number, circuit.input_widths[GARBLERS])
         connection.send_bytes(garbling.rows())
         connection.send_bytes(garbling.deal(GARBLERS, bits)[HEAD:])
 
@@ -53,13 +54,13 @@ def garbler(connection, circuit, bits):
         return from_bits(bits_of_labels(garbling.output_labels(0), connection.recv_bytes()))
 
 
-def evaluator(connection, circuit, bits):
+def evaluator(connection, circuit, number):
     """Receives its labels, evaluates, sends the labels of the garbler's outputs, and returns its own output value."""
     if connection.recv_bytes() != circuit.digest:
         raise ValueError("the garbler has another circuit")
     rows, labels = connection.recv_bytes(), connection.recv_bytes()
 
-    receiver = Receiver(connection.recv_bytes(), bits)
+    receiver = Receiver(connection.recv_bytes(), to_bits(number, circuit.input_widths[EVALUATORS]))
     connection.send_bytes(receiver.replies)
     labels += receiver.open(connection.recv_bytes())
 
@@ -91,14 +92,12 @@ def main():
     with Circuit.open(words.circuit) as circuit:
         if len(circuit.input_widths) != 2 or len(circuit.output_widths) not in (1, 2):
             parser.error("the circuit has two input values, and one or two output values")
-        is_garbler = words.party == "garbler"
-        bits = to_bits(words.number, circuit.input_widths[GARBLERS if is_garbler else EVALUATORS])
-        if is_garbler:
+        if words.party == "garbler":
             with Listener(words.socket, "AF_UNIX") as listener, listener.accept() as connection:
-                print(garbler(connection, circuit, bits))
+                print(garbler(connection, circuit, words.number))
         else:
             with connect(words.socket) as connection:
-                print(evaluator(connection, circuit, bits))
+                print(evaluator(connection, circuit, words.number))
 
 
 if __name__ == "__main__":
