@@ -1,4 +1,5 @@
 pub mod TokenLemmas
 pub mod NumberLemmas
+pub mod DigitLemmas
 pub mod CutLemmas
 pub mod BackLemmas

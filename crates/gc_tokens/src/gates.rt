@@ -112,10 +112,12 @@ pub fn read_gate(tokens: &mut Tokens<'_>) -> Result<Gate, ReadFault>
     ensures left { IfErr result (λ _. tokens.new.left ≡ gate_left tokens.old.left) }
     ensures kept { tokens.new.text ≡ tokens.old.text }
 {
-    // `Ok(..?)` builds a new result, so that the call's own result, which is laid in memory, doesn't draw the usual
-    // gate there too.
-    match tokens.common_gate() {
-        Some(gate) => Ok(gate),
-        None => Ok(read_any_gate(tokens)?),
+    if let Some(gate) = tokens.common_gate() {
+        return Ok(gate);
     }
+    // `?` and `Ok` build a new result, so that the call's own result, which is laid in memory, doesn't draw the usual
+    // gate there too.
+    let gate = read_any_gate(tokens)?;
+    tokens.pass_feed();
+    Ok(gate)
 }

@@ -6,6 +6,7 @@
 #![tactic(auto)]
 
 mod back;
+mod digits;
 mod gates;
 mod line;
 mod number;

@@ -137,9 +137,19 @@ impl<'a> Tokens<'a> {
             (λ g. gate_at self.old.left ≡ Ok (g, self.new.left)) }
         ensures kept { self.new.text ≡ self.old.text }
     {
-        let (gate, rest) = common_gate(behind_feed(self.rest))?;
+        let (gate, rest) = common_gate(self.rest)?;
         self.rest = rest;
         Some(gate)
+    }
+
+    /// Passes a line feed, where one comes next, as it does after a gate that was read by tokens. `common_gate` passes
+    /// none, so that no test of a byte comes before a usual line is read.
+    #[inline(always)]
+    pub(crate) fn pass_feed(&mut self)
+        ensures left { self.new.left ≡ self.old.left }
+        ensures kept { self.new.text ≡ self.old.text }
+    {
+        self.rest = behind_feed(self.rest);
     }
 
     /// Takes a token that is due. Where none is left, it returns `Truncated`.

@@ -1,7 +1,7 @@
-use Rattle.std.proofs.Common.{◌≡◌, ℕ, List, take, drop, slice_index, true, take-append-drop, codes, refl, sym, ap, ◌∙◌, arith}
+use Rattle.std.proofs.Common.{◌≡◌, ℕ, ◌-◌, List, length, Ok, take, drop, slice_index, true, take-append-drop, codes, refl, sym, ap, ◌∙◌, arith}
 use Rattle.std.proofs.lemmas.List.{get_or-take, take_rest}
 use Rattle.gc_netlist.specs.Text.{is_blank, tokens, value_of}
-use Rattle.gc_netlist.specs.Reading.{gate_at, two_at}
+use Rattle.gc_netlist.specs.Reading.{number_at, gate_at, two_at}
 use Rattle.gc_tokens.proofs.CutLemmas.{keeps_behind}
 use Rattle.gc_tokens.proofs.line.common_gate.Goals as goal
 
@@ -22,9 +22,12 @@ returns c =
     let operation = c.in_ok-operation.ensures in
     let blank : is_blank (slice_index text 3) ≡ true =
     rw (← get_or-take 4 text 3 0 (omega arith), begins.1) refl in
-    let keeps = keeps_behind text 3 (omega (arith, begins.0)) blank in (
+    let keeps = keeps_behind text 3 (omega (arith, begins.0)) blank in
+    let line : List ℕ = take (length text - 4) (drop 4 text) in
+    let first : number_at (tokens line) ≡ Ok (c.in_ok-a.a, tokens (drop c.in_ok-a.start line)) = a.1 in
+    let behind = take_rest line c.in_ok-set.start in (
       two_taken text begins.1
-          ∙ rw (← take_rest text 4, a.0, b.0, set.0, operation.1, operation.2) refl,
+          ∙ rw (← take_rest text 4, first, b.1, set.1, ← behind, operation.1, operation.2) refl,
       λ all cut.
-          operation.3 all (set.1 all (b.1 all (a.1 all (rw (take_rest text 4) (keeps all cut))))),
+          operation.3 all (rw behind (set.2 all (b.2 all (a.2 all (rw (take_rest text 4) (keeps all cut)))))),
     )
