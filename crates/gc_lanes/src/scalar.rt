@@ -10,11 +10,12 @@ fn ch(x: u32, y: u32, z: u32) -> u32
     z ^ (x & (y ^ z))
 }
 
+/// The next round reads `x` and `y` as its `y` and `z`, so the compiler computes their exclusive or once.
 #[inline(always)]
 fn maj(x: u32, y: u32, z: u32) -> u32
     ensures { result ≡ maj x y z }
 {
-    (x & y) ^ (x & z) ^ (y & z)
+    y ^ ((x ^ y) & (y ^ z))
 }
 
 #[inline(always)]
