@@ -67,7 +67,7 @@ length-version_entries : (version : Version) (offset : ℕ) (g : GarblingParts) 
 length-version_entries One offset g = refl
 length-version_entries Two offset g = length-entry_pairs offset g
 
-few-version_entries : (version : Version) (offset : ℕ) (g : GarblingParts) →
+pub few-version_entries : (version : Version) (offset : ℕ) (g : GarblingParts) →
     length (version_entries version offset g) ≤ g.outputs
 few-version_entries One offset g = omega arith
 few-version_entries Two offset g = omega (arith, length-entry_pairs offset g)

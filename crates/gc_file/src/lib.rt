@@ -9,6 +9,7 @@
 //! say that all bytes are exactly one file or have exactly one first fault.
 #![tactic(auto)]
 
+mod begun;
 mod body;
 mod deal;
 mod failures;
@@ -31,6 +32,7 @@ mod write;
 mod writer;
 mod written_law;
 
+pub use begun::{BegunFile, begin_garbled};
 pub use deal::{first_wire, write_labels};
 pub use failures::FailureCount;
 pub use fault::FileFault;

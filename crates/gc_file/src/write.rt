@@ -47,7 +47,11 @@ impl<O: Observer> FileWriter<O> {
     }
 
     /// Writes the row pairs.
-    fn write_rows<S: Sink>(&mut self, sink: &mut S, rows: &[RowPair]) -> Result<(), WriteFault>
+    pub(crate) fn write_rows<S: Sink>(
+        &mut self,
+        sink: &mut S,
+        rows: &[RowPair],
+    ) -> Result<(), WriteFault>
         ensures bytes { Proceeds O.saw self.old self.new
             (S.taken sink.old) (S.taken sink.new) result (flat_map row_bytes rows.now) }
         ensures counted { CountsFailure result (S.failures sink.old) (S.failures sink.new) }
@@ -59,7 +63,7 @@ impl<O: Observer> FileWriter<O> {
     }
 
     /// Writes the decode bits, eight to a byte.
-    fn write_decode_bits<S: Sink, A: Allocator>(
+    pub(crate) fn write_decode_bits<S: Sink, A: Allocator>(
         &mut self,
         sink: &mut S,
         garbling: &Garbling<A>,
@@ -75,7 +79,7 @@ impl<O: Observer> FileWriter<O> {
     }
 
     /// Writes the entry pairs of a version, which are none in version 1.
-    fn write_version_entries<S: Sink, A: Allocator, B: Allocator>(
+    pub(crate) fn write_version_entries<S: Sink, A: Allocator, B: Allocator>(
         &mut self,
         sink: &mut S,
         version: Version,

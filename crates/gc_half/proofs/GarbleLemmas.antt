@@ -1,5 +1,5 @@
 -- Garbling in file order: the table of zero labels and the row pairs, gate after gate.
-use Rattle.gc_half.proofs.Names.{◌≡◌, ℕ, ap, input_label_of, input_zero, add-one, if◌then◌else◌, ◌==◌, ◌+◌, ◌-◌, ◌<◌, ◌≤◌, ◌++◌, inl, ⊎_elim, List, [], length, map, replicate, slice_get, slice_index, Some, take, refl, sym, ◌∙◌, subst, arith, nat_tests, slice_get_within, Gate, Netlist, input_wires, output_wires, IsLawful, IsSet, IsSetBy, IsSetBefore, EachRead, and_number, put, EachRead-map, after-keeps, solution_solves, RowPair, first_read, second_read, gate_rows, zero_of, zero_rule, IsGarbling, rows_after, with_row_pair}
+use Rattle.gc_half.proofs.Names.{◌≡◌, ℕ, ap, input_label_of, input_zero, add-one, if◌then◌else◌, ◌==◌, ◌+◌, ◌-◌, ◌<◌, ◌≤◌, ◌++◌, inl, ⊎_elim, List, [], length, map, replicate, slice_get, slice_index, Some, take, refl, sym, ◌∙◌, subst, arith, nat_tests, slice_get_within, Gate, Netlist, input_wires, output_wires, IsLawful, IsSet, IsSetBy, IsSetBefore, EachRead, and_number, put, EachRead-map, after-keeps, solution_solves, RowPair, first_read, second_read, gate_rows, zero_of, IsGarbling, rows_after, with_row_pair}
 use Rattle.std.specs.List.{range_with_len}
 use Rattle.std.proofs.lemmas.Bool.{cases_lt}
 use Rattle.std.proofs.lemmas.List.{get_or_past, take_all}
@@ -7,6 +7,7 @@ use Rattle.std.proofs.lemmas.List.FromFn.{length-map-range_with_len}
 use Rattle.gc_netlist.specs.Solution.{values_after}
 use Rattle.gc_netlist.proofs.Tables.{read-table, length-table, table_padded, IsSetBefore-below}
 use Rattle.gc_half.specs.Garbling.{IsGarbledFrom}
+use Rattle.gc_half.specs.Begun.{AreGarbled, labels_after, label_of}
 use Rattle.gc_half.specs.Hash.{hash, numbered_from}
 use Rattle.gc_half.specs.SideBySide.{IsOneGateMore}
 use Rattle.gc_half.proofs.AndNumbers.{and_number-le}
@@ -17,39 +18,23 @@ use Rattle.gc_half.proofs.SetWires.{last_or_before, not_set_before}
 
 -- The hash may be any.
 module _ (h : ℕ → ℕ → ℕ) (r : ℕ) (c : Netlist) (given : List ℕ) where
-  -- the zero labels after the first n gates
-  abbrev pub labels_after : ℕ → ℕ → ℕ
-  labels_after n = values_after (zero_rule h r c) c (slice_index given) n
-
-  -- the zero labels after the last gate
-  unfoldable pub label_of : ℕ → ℕ
-  label_of = labels_after (length c.gates)
-
-  -- The first n gates are garbled. The labels of the wires that they leave set are in a table that may end after the
-  -- last of them. Behind it, and where no wire is set, there is 0.
-  pub record AreGarbled (n : ℕ) (labels : List ℕ) (rows : List RowPair) : Type 0 where
-    pub few : length labels ≤ c.wires
-    pub there : (w : ℕ) → IsSetBefore c n w → w < length labels
-    pub right : (w : ℕ) → slice_index labels w ≡ labels_after n w
-    pub row_pairs : rows ≡ rows_after h r c label_of n
-
   -- There are no more row pairs than gates.
-  pub few_rows : (n : ℕ) (labels : List ℕ) (rows : List RowPair) → AreGarbled n labels rows
+  pub few_rows : (n : ℕ) (labels : List ℕ) (rows : List RowPair) → AreGarbled h r c given n labels rows
       → length rows ≤ n
   few_rows n labels rows are =
-      let count = length-rows_after h r c label_of n in
+      let count = length-rows_after h r c (label_of h r c given) n in
       rw are.row_pairs (omega (arith, and_number-le c n))
 
   -- There are as many row pairs as AND gates among the gates.
-  pub count_rows : (n : ℕ) (labels : List ℕ) (rows : List RowPair) → AreGarbled n labels rows
+  pub count_rows : (n : ℕ) (labels : List ℕ) (rows : List RowPair) → AreGarbled h r c given n labels rows
       → length rows ≡ and_number c n
-  count_rows n labels rows are = rw are.row_pairs (length-rows_after h r c label_of n)
+  count_rows n labels rows are = rw are.row_pairs (length-rows_after h r c (label_of h r c given) n)
 
   -- Such a table that is lengthened by zeros has a label for each wire.
   pub labels-padded : (n : ℕ) (labels table : List ℕ) (rows : List RowPair) (count wires : ℕ)
-      → AreGarbled n labels rows → count ≡ length labels → wires ≡ c.wires
+      → AreGarbled h r c given n labels rows → count ≡ length labels → wires ≡ c.wires
       → table ≡ take wires labels ++ replicate (wires - count) 0
-      → table ≡ map (labels_after n) (range_with_len 0 c.wires)
+      → table ≡ map (labels_after h r c given n) (range_with_len 0 c.wires)
   labels-padded n labels table rows count wires are count_is wires_is made =
       rw (made, wires_is, count_is, take_all c.wires labels are.few)
       (simp are.right at (table_padded labels c.wires 0 are.few))
@@ -57,14 +42,14 @@ module _ (h : ℕ → ℕ → ℕ) (r : ℕ) (c : Netlist) (given : List ℕ) wh
   module _ (lawful : IsLawful c) where
     -- One more gate: its label is put where it belongs, and its row pair is pushed.
     pub garbled-next : (i : ℕ) (g : Gate) → slice_get c.gates i ≡ Some g
-        → (labels new : List ℕ) (rows new_rows : List RowPair) → AreGarbled i labels rows
+        → (labels new : List ℕ) (rows new_rows : List RowPair) → AreGarbled h r c given i labels rows
         → ((w : ℕ) → slice_index new w ≡ put (slice_index labels) g.set
         (zero_of h r (slice_index labels) (length rows) g.operation) w)
         → g.set < length new → length labels ≤ length new → length new ≤ c.wires
         → new_rows ≡ with_row_pair rows (gate_rows h r (length rows) g.operation
         (first_read (slice_index labels) g.operation)
         (second_read (slice_index labels) g.operation))
-        → AreGarbled (i + 1) new new_rows
+        → AreGarbled h r c given (i + 1) new new_rows
     unfolding values_after label_of
     garbled-next i g at labels new rows new_rows are puts set kept few pushed =
         record {
@@ -82,14 +67,14 @@ module _ (h : ℕ → ℕ → ℕ) (r : ℕ) (c : Netlist) (given : List ℕ) wh
             first_read-local _ _ g.operation same,
             second_read-local _ _ g.operation same,
             add-one,
-            rows_after-next h r c label_of i g at,
+            rows_after-next h r c (label_of h r c given) i g at,
           ) refl;
         }
       where
         number : length rows ≡ and_number c i
         number = rw are.row_pairs (length-rows_after h _ c _ i)
 
-        same : EachRead (λ w. slice_index labels w ≡ label_of w) g.operation
+        same : EachRead (λ w. slice_index labels w ≡ (label_of h r c given) w) g.operation
         same = EachRead-map (IsSetBefore c i) _ g.operation (λ w set. are.right w
             ∙ sym (after-keeps _ (zero_local h r c) c lawful _ i _ w
             (omega (arith, slice_get_within c.gates i g at)) set)) (lawful.reads i g at)
@@ -97,8 +82,8 @@ module _ (h : ℕ → ℕ → ℕ) (r : ℕ) (c : Netlist) (given : List ℕ) wh
     -- The same, of a step of garblings side by side.
     pub garbled-step : (i : ℕ) (g : Gate) → slice_get c.gates i ≡ Some g
         → (labels new : List ℕ) (rows new_rows : List RowPair) (o wires : ℕ)
-        → AreGarbled i labels rows → o ≡ r → wires ≡ c.wires
-        → IsOneGateMore h o wires g labels rows new new_rows → AreGarbled (i + 1) new new_rows
+        → AreGarbled h r c given i labels rows → o ≡ r → wires ≡ c.wires
+        → IsOneGateMore h o wires g labels rows new new_rows → AreGarbled h r c given (i + 1) new new_rows
     garbled-step i g at labels new rows new_rows o wires are same wires_is more =
         let more = subst (λ (x : ℕ). IsOneGateMore h x wires g labels rows new new_rows) same
         more in
@@ -107,18 +92,18 @@ module _ (h : ℕ → ℕ → ℕ) (r : ℕ) (c : Netlist) (given : List ℕ) wh
 
     module _ (long : length given ≡ input_wires c) where
       -- At the start the labels are those of the input wires.
-      pub garbled-start : AreGarbled 0 given []
+      pub garbled-start : AreGarbled h r c given 0 given []
       unfolding values_after
       garbled-start =
           record {
             few = omega (arith, lawful.inputs_fit, long);
             there = λ w set. grind (arith, long);
             right = λ w. refl;
-            row_pairs = sym (rows_after-start h r c label_of);
+            row_pairs = sym (rows_after-start h r c (label_of h r c given));
           }
 
       -- A wire that is not set has the label 0.
-      label_of-not_set : (w : ℕ) → ¬ IsSet c w → label_of w ≡ 0
+      label_of-not_set : (w : ℕ) → ¬ IsSet c w → (label_of h r c given) w ≡ 0
       unfolding label_of
       label_of-not_set w unset =
           not_set_before _ c (slice_index given) w (length c.gates) unset
@@ -126,27 +111,27 @@ module _ (h : ℕ → ℕ → ℕ) (r : ℕ) (c : Netlist) (given : List ℕ) wh
           (λ past. get_or_past given w 0 past) (cases_lt w (length given))
 
       -- The labels on the wires and their rows are a garbling.
-      labels-garbling : IsGarbling h r c (slice_index given) label_of
-          (rows_after h r c label_of (length c.gates))
+      labels-garbling : IsGarbling h r c (slice_index given) (label_of h r c given)
+          (rows_after h r c (label_of h r c given) (length c.gates))
       unfolding label_of
       labels-garbling =
           rows-garbling h r c lawful (slice_index given) _
           (solution_solves _ (zero_local h r c) c lawful (slice_index given))
 
       -- So is what is in a table of them.
-      pub table-garbling : (table : List ℕ) → table ≡ map label_of (range_with_len 0 c.wires)
+      pub table-garbling : (table : List ℕ) → table ≡ map (label_of h r c given) (range_with_len 0 c.wires)
           → IsGarbling h r c (slice_index given) (slice_index table)
-          (rows_after h r c label_of (length c.gates))
+          (rows_after h r c (label_of h r c given) (length c.gates))
       table-garbling table is =
-          IsGarbling-same h r c lawful (slice_index given) label_of (slice_index table) _
-          (λ w set. rw is (sym (read-table label_of c.wires w 0
+          IsGarbling-same h r c lawful (slice_index given) (label_of h r c given) (slice_index table) _
+          (λ w set. rw is (sym (read-table (label_of h r c given) c.wires w 0
           (IsSetBefore-below c lawful _ w set))))
           labels-garbling
 
-      pub table-not_set : (table : List ℕ) → table ≡ map label_of (range_with_len 0 c.wires)
+      pub table-not_set : (table : List ℕ) → table ≡ map (label_of h r c given) (range_with_len 0 c.wires)
           → (w : ℕ) → w < c.wires → ¬ IsSet c w → slice_index table w ≡ 0
       table-not_set table is w below unset =
-          rw is (read-table label_of c.wires w 0 below ∙ label_of-not_set w unset)
+          rw is (read-table (label_of h r c given) c.wires w 0 below ∙ label_of-not_set w unset)
 
 -- After the last gate the table and the row pairs are the garbling.
 pub garbled-end : (first r : ℕ) (c : Netlist) (given : List ℕ) → IsLawful c

@@ -1,9 +1,9 @@
 //! The garbling of a circuit.
 
-ghost use Rattle.std.specs.Prelude.{◌≡◌, ◌↔◌, ◌<◌, ◌≤◌, IsTrue, length, slice_get, Some};
+ghost use Rattle.std.specs.Prelude.{◌≡◌, ◌↔◌, ◌<◌, ◌≤◌, ◌++◌, IfOk, IsTrue, length, slice_get, Some};
 ghost use Rattle.gc_half.specs.Garbling.{decode_bits_of, FitsCircuit};
 
-use gc_circuit::Circuit;
+use gc_circuit::{Circuit, Memory};
 use gc_label::Label;
 use std::alloc::{Allocator, Global};
 use std::marker::Model;
@@ -81,6 +81,27 @@ impl<A: Allocator> Garbling<A> {
             rows,
             outputs,
         }
+    }
+
+    /// The garbling with these row pairs before its own. It doesn't allocate where there is room for all after them.
+    pub fn after(self, mut first: Vec<RowPair, A>) -> Result<Garbling<A>, Memory>
+        ensures { IfOk result (λ g. g ≡ record {
+          zero_labels = self.zero_labels;
+          rows = first.items ++ self.rows;
+          outputs = self.outputs;
+        }) }
+    {
+        let Garbling {
+            zero_labels,
+            rows,
+            outputs,
+        } = self;
+        first.extend_from_slice(&rows)?;
+        Ok(Garbling {
+            zero_labels,
+            rows: first,
+            outputs,
+        })
     }
 
     /// The zero label of a wire. The caller ensures that there is such a wire.

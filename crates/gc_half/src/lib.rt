@@ -19,6 +19,7 @@
 
 mod active_labels;
 mod active_table;
+mod begun;
 mod bit_label;
 mod entry;
 mod evaluate;
@@ -39,6 +40,7 @@ mod waiting;
 mod zero_labels;
 
 pub use active_labels::input_active_labels;
+pub use begun::{BegunGarbling, begin_garbling};
 pub use bit_label::encode;
 pub use entry::{four_output_entries, output_entry, output_entry_from};
 pub use evaluate::{evaluate_from, evaluate_labels, evaluate_one_thread, output_labels};

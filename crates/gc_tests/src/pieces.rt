@@ -1,9 +1,12 @@
 //! Tests of garbled files that come in pieces, and of sinks and sources that fail.
 
+use gc_circuit::Circuit;
 use gc_file::{
-    FileFault, GarbledReader, InSource, MemSource, OutSink, Sink, Source, TakeFault, Version,
-    WriteFault, read_garbled_from,
+    FileFault, GarbledReader, InSource, MemSink, MemSource, OutSink, Sink, Source, TakeFault,
+    Version, WriteFault, begin_garbled, read_garbled_from,
 };
+use gc_half::garble_one_thread;
+use gc_label::{Seed, offset};
 use gc_refusing::Refusing;
 use gc_worked::circuits::AND;
 use gc_worked::compare::equal;
@@ -83,6 +86,45 @@ fn to_a_sink_that_fails(rt: HostRuntime) -> Result<(), Fail> {
                 Ok(length as u64)
             };
             let answer = write(rt.alloc(), AND, version, Some(limit))?.answer;
+            equal((limit, answer), (limit, wanted))?;
+        }
+    }
+    Ok(())
+}
+
+/// Writes the AND gate's file in two steps to a sink with this limit.
+fn write_in_steps(
+    alloc: Global,
+    version: Version,
+    limit: usize,
+) -> Result<Result<u64, WriteFault>, Fail> {
+    let seed = Seed::from_bytes([0; 32]);
+    let circuit = Circuit::read(alloc, AND.as_bytes())?;
+    let garbling = garble_one_thread(alloc, &circuit, &seed)?;
+    if !garbling.fits(&circuit) {
+        return Err(Fail::new("the garbling does not fit its circuit"));
+    }
+    let mut sink = MemSink::new(alloc, Some(limit));
+    let digest = circuit.digest();
+    Ok(
+        match begin_garbled(&mut sink, version, &circuit, &digest, &[]) {
+            Ok(begun) => begun.finish(&mut sink, version, &circuit, &garbling, offset(&seed)),
+            Err(fault) => Err(fault),
+        },
+    )
+}
+
+/// So is one that is written in two steps.
+#[test]
+fn in_steps_to_a_sink_that_fails(rt: HostRuntime) -> Result<(), Fail> {
+    for (version, length) in [(Version::One, 113), (Version::Two, 145)] {
+        for limit in 0..=length {
+            let wanted = if limit < length {
+                Err(WriteFault { sent: limit as u64 })
+            } else {
+                Ok(length as u64)
+            };
+            let answer = write_in_steps(rt.alloc(), version, limit)?;
             equal((limit, answer), (limit, wanted))?;
         }
     }

@@ -6,3 +6,4 @@ pub mod Places
 pub mod Ready
 pub mod Owners
 pub mod WorkFault
+pub mod Start

@@ -1,9 +1,10 @@
 //! Garbling on many threads.
 
-ghost use Rattle.std.specs.Prelude.{◌≡◌, ◌<◌, ◌≤◌, All, IfOk, IfSome};
+ghost use Rattle.std.specs.Prelude.{◌≡◌, ◌<◌, ◌≤◌, length, All, IfOk, IfSome};
 ghost use Rattle.gc_half.specs.Garbling.{IsGarbled};
 ghost use Rattle.gc_store.specs.Account.{IsForStore};
 ghost use Rattle.gc_work.specs.Ready.{IsReady};
+ghost use Rattle.gc_work.specs.Start.{IsStart};
 ghost use Rattle.gc_work.specs.WorkFault.{JudgesWorkers};
 
 use crate::fault::{WorkFault, check_workers};
@@ -13,7 +14,7 @@ use crate::sweep::sweep;
 use crate::worker::{Worker, work};
 use crate::workers::{Workers, open_workers};
 use gc_circuit::{Circuit, Memory};
-use gc_half::{Garbling, garble_one_thread};
+use gc_half::{BegunGarbling, Garbling, RowPair, begin_garbling, garble_one_thread};
 use gc_label::Seed;
 use gc_layers::{Way, garble_by_layers, way_of};
 use gc_store::{SharedStore, Store, Tally};
@@ -24,6 +25,15 @@ use std::sync::Wait;
 use std::sync::ledger::{Blank, Ledger};
 use std::thread;
 use std::thread::Threads;
+
+/// A garbling, or the beginning of one.
+#[derive(Drop)]
+pub enum Start<A: Allocator> {
+    /// All gates are garbled.
+    Whole(Garbling<A>),
+    /// The first gates are garbled, and these are their row pairs.
+    Begun(BegunGarbling<A>, Vec<RowPair, A>),
+}
 
 /// The room of a worker's pool, in tasks.
 const POOL_CAPACITY: u32 = 1024;
@@ -54,15 +64,68 @@ pub fn garble<
     ensures workers { JudgesWorkers workers result }
 {
     check_workers(workers)?;
+    let way = way_of(alloc, circuit, workers)?;
+    Ok(garble_in(way, rt, alloc, circuit, seed, workers, observer)?)
+}
+
+/// Starts the garbling of a circuit under a seed, as [`garble`] makes the whole. Where the calling thread garbles alone,
+/// it stops after the first `gates` gates: then their row pairs can be used while the others are made. The caller
+/// ensures that there are as many gates.
+pub fn start_garbling<
+    A: Allocator + Copy + Send + Sync,
+    C: Allocator + Sync,
+    H: Gatehouse + Sync,
+    R: Threads + Wait + Sync,
+>(
+    rt: &R,
+    alloc: A,
+    circuit: &Circuit<C>,
+    seed: &Seed,
+    workers: u32,
+    gates: u32,
+    observer: &H,
+) -> Result<Start<A>, WorkFault>
+    requires { gates ≤ length circuit.now.gates }
+    ensures started { IfOk result (IsStart circuit.now seed.now) }
+    ensures workers { JudgesWorkers workers result }
+{
+    check_workers(workers)?;
     match way_of(alloc, circuit, workers)? {
-        Way::Alone => Ok(garble_alone(alloc, circuit, seed, observer)?),
-        Way::Layers => Ok(garble_by_layers(rt, alloc, circuit, seed, workers, observer)?),
+        Way::Alone => {
+            report_all(observer, circuit.gates());
+            let (begun, rows) = begin_garbling(alloc, circuit, seed, gates)?;
+            Ok(Start::Begun(begun, rows))
+        }
+        way => {
+            let garbling = garble_in(way, rt, alloc, circuit, seed, workers, observer)?;
+            Ok(Start::Whole(garbling))
+        }
+    }
+}
+
+/// The garbling, made in this way.
+fn garble_in<
+    A: Allocator + Copy + Send + Sync,
+    C: Allocator + Sync,
+    H: Gatehouse + Sync,
+    R: Threads + Wait + Sync,
+>(
+    way: Way,
+    rt: &R,
+    alloc: A,
+    circuit: &Circuit<C>,
+    seed: &Seed,
+    workers: u32,
+    observer: &H,
+) -> Result<Garbling<A>, Memory>
+    ensures { IfOk result (IsGarbled circuit.now seed.now) }
+{
+    match way {
+        Way::Alone => garble_alone(alloc, circuit, seed, observer),
+        Way::Layers => garble_by_layers(rt, alloc, circuit, seed, workers, observer),
         Way::Together => {
             let ledger = Blank::new(u64::from(MAX_WORKERS));
-            let garbling = garble_by::<Brand, A, C, H, R>(
-                rt, alloc, ledger, circuit, seed, workers, observer,
-            )?;
-            Ok(garbling)
+            garble_by::<Brand, A, C, H, R>(rt, alloc, ledger, circuit, seed, workers, observer)
         }
     }
 }

@@ -1,87 +1,22 @@
-use Rattle.gc_half.proofs.Names.{◌≡◌, ◌+◌, ◌<◌, length, slice_index, refl, sym, ap, ◌∙◌, inr, arith, put, zero_of, gate_rows, with_row_pair, first_read, second_read, IsSetBefore, EachRead-map, IsSetBefore-more}
-use Rattle.gc_half.specs.Hash.{hash, numbered_from}
 use Rattle.gc_half.proofs.ComparingLemmas.{compared-end}
-use Rattle.gc_half.proofs.GarbleLemmas.{few_rows, garbled-start, garbled-next, garbled-end}
+use Rattle.gc_half.proofs.GarbleLemmas.{garbled-end}
 use Rattle.gc_half.proofs.garble.garble_over.Goals as goal
-
-pub loop-i-init : goal.loop-i-init
-loop-i-init g c =
-    rw (c.new-table.ensures, c.new.ensures)
-    (record {
-      numbered = refl;
-      garbled =
-          garbled-start (numbered_from c.args.first hash) c.args.offset c.args.circuit.now
-          c.args.labels.items c.gates-i-end.ensures.lawful c.requires;
-      compared = record { left = refl; first = λ few. refl };
-      waiting = λ w unset. tt;
-    })
-
-pub step-requires : goal.step-requires
-step-requires g c =
-    let netlist = c.args.circuit.now in
-    let lawful = c.gates-i-end.ensures.lawful in
-    let i = c.loop-i.i in
-    let at = c.gate.ensures in
-    let before = c.loop-i.invariant.garbled in
-    record {
-      read =
-          EachRead-map (IsSetBefore netlist i) (λ w. w < length c.loop-i.table.labels)
-          c.gate.result.operation before.there (lawful.reads i c.gate.result at);
-      place = omega (arith, lawful.sets i c.gate.result at);
-      few = omega (arith, before.few);
-      number = omega (arith, few_rows _ _ netlist _ i _ _ before);
-      once = c.loop-i.invariant.waiting c.gate.result.set (lawful.sets_once i c.gate.result at);
-    }
-
-pub loop-i-preserved : goal.loop-i-preserved
-loop-i-preserved g c =
-    let netlist = c.args.circuit.now in
-    let i = c.loop-i.i in
-    let at = c.gate.ensures in
-    let before = c.loop-i.invariant in
-    let step = c.in_ok-step.ensures in
-    let same = before.numbered in
-    record {
-      numbered = step.numbered ∙ same;
-      garbled =
-          garbled-next (numbered_from c.args.first hash) c.args.offset netlist c.args.labels.items
-          c.gates-i-end.ensures.lawful i _ at _ _ _ _ before.garbled
-          (λ w. step.label w ∙ ap (λ n. put (slice_index c.loop-i.table.labels) c.gate.result.set
-          (zero_of (numbered_from n hash) c.args.offset (slice_index c.loop-i.table.labels)
-          (length c.loop-i.table.rows) c.gate.result.operation) w) same)
-          step.there step.kept (omega (arith, step.few))
-          (step.rows ∙ ap (λ n. with_row_pair c.loop-i.table.rows
-          (gate_rows (numbered_from n hash) c.args.offset (length c.loop-i.table.rows)
-          c.gate.result.operation (first_read (slice_index c.loop-i.table.labels)
-          c.gate.result.operation)
-          (second_read (slice_index c.loop-i.table.labels) c.gate.result.operation))) same);
-      compared = step.compared c.args.given.items before.compared;
-      waiting = λ w unset.
-          step.waiting w
-          (λ same. unset (inr (
-            i,
-            omega arith,
-            record { gate = c.gate.result; at = at; wire = sym same },
-          )))
-          (before.waiting w
-          (λ set. unset (IsSetBefore-more netlist i (i + 1) w (omega arith) set)));
-    }
 
 pub returns : goal.returns
 returns g c =
     let made = c.in_ok-zero_labels in
     let finish = c.finish-rows.ensures in
-    let before = c.loop-i.invariant in
-    let ends : c.loop-i.i ≡ length c.args.circuit.now.gates = omega arith in
+    let table = c.in_ok-table.ensures in
     rw c.from_parts-garbling.ensures
     (record {
       garbled =
           garbled-end c.args.first c.args.offset c.args.circuit.now c.args.labels.items
-          c.gates-i-end.ensures.lawful c.requires _ _ _ c.wires-2.result _ _
-          (rw (finish.made, made.ensures.all.0, made.ensures.all.1, ← ends) before.garbled)
-          made.zero_labels.ok.0 c.wires-2.ensures.count c.in_ok-resize.ensures.items
+          c.gates.ensures.lawful c.requires _ _ _ c.wires.result _ _
+          (rw (finish.made, made.ensures.all.0, made.ensures.all.1, ← c.gates.ensures.count)
+          table.garbled)
+          made.zero_labels.ok.0 c.wires.ensures.count c.in_ok-resize.ensures.items
           c.output_wires.ensures;
       compared = λ many. rw (finish.made, finish.first)
           (compared-end c.args.given.items made.rows
-          (made.ensures.compared c.args.given.items before.compared) (rw finish.made at many));
+          (made.ensures.compared c.args.given.items table.compared) (rw finish.made at many));
     })

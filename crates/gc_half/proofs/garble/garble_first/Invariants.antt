@@ -4,8 +4,8 @@ use Rattle.gc_half.specs.Comparing.{AreCompared}
 use Rattle.gc_half.specs.Hash.{hash, numbered_from}
 use Rattle.gc_half.specs.Waiting.{NoneSets}
 use Rattle.gc_half.proofs.Names.{◌≡◌}
-use Rattle.gc_half.proofs.GarbleLemmas.{AreGarbled}
-use Rattle.gc_half.proofs.garble.garble_over.Given as goal
+use Rattle.gc_half.specs.Begun.{AreGarbled}
+use Rattle.gc_half.proofs.garble.garble_first.Given as goal
 
 abbrev pub invariant-loop-i : goal.invariant-loop-i
 invariant-loop-i g l = record {

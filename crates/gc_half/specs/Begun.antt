@@ -1,0 +1,45 @@
+-- A circuit that is garbled gate after gate, of which the first gates are garbled.
+use Rattle.std.specs.Prelude.{◌≡◌, ℕ, ◌<◌, ◌≤◌, List, length, map, slice_index}
+use Rattle.std.specs.List.{range_with_len}
+use Rattle.gc_netlist.specs.Circuit.{Netlist, IsSetBefore, input_wires}
+use Rattle.gc_netlist.specs.Solution.{values_after}
+use Rattle.gc_label.specs.Seed.{offset_of, input_label_of}
+use Rattle.gc_half.specs.declared.garbling.RowPair.{RowPair}
+use Rattle.gc_half.specs.Hash.{hash, numbered_from}
+use Rattle.gc_half.specs.Garbling.{zero_rule}
+use Rattle.gc_half.specs.Canonical.{rows_after}
+
+-- The offset is r, and these zero labels of the input wires are given. The hash may be any.
+module _ (h : ℕ → ℕ → ℕ) (r : ℕ) (c : Netlist) (given : List ℕ) where
+  -- the zero labels after the first n gates
+  abbrev pub labels_after : ℕ → ℕ → ℕ
+  labels_after n = values_after (zero_rule h r c) c (slice_index given) n
+
+  -- the zero labels after the last gate
+  unfoldable pub label_of : ℕ → ℕ
+  label_of = labels_after (length c.gates)
+
+  -- The first n gates are garbled. The labels of the wires that they leave set are in a table that may end after the
+  -- last of them. Behind it, and where no wire is set, there is 0.
+  pub record AreGarbled (n : ℕ) (labels : List ℕ) (rows : List RowPair) : Type 0 where
+    pub few : length labels ≤ c.wires
+    pub there : (w : ℕ) → IsSetBefore c n w → w < length labels
+    pub right : (w : ℕ) → slice_index labels w ≡ labels_after n w
+    pub row_pairs : rows ≡ rows_after h r c label_of n
+
+-- The zero labels of the input wires under a seed.
+abbrev pub input_labels : Netlist → List ℕ → List ℕ
+input_labels c seed = map (input_label_of seed) (range_with_len 0 (input_wires c))
+
+-- The parts of a `BegunGarbling`: the zero labels so far, and how many gates are garbled.
+pub record BegunParts : Type 0 where
+  pub zero_labels : List ℕ
+  pub gates : ℕ
+
+-- The first gates of the circuit are garbled under the seed, and these are their row pairs.
+pub record IsBegunGarbling (c : Netlist) (seed : List ℕ) (begun : BegunParts) (rows : List RowPair)
+    : Type 0 where
+  pub garbled :
+      AreGarbled (numbered_from 0 hash) (offset_of seed) c (input_labels c seed) begun.gates
+      begun.zero_labels rows
+  pub gates : begun.gates ≤ length c.gates
