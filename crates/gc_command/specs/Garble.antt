@@ -19,6 +19,13 @@ pub record IsGarbleInput (bytes seed_text : List ℕ) (c : Netlist) (seed : List
   pub circuit : IsCircuit bytes c
   pub seed_read : IsSeed seed_text seed
 
+-- The garbled file of the version was written, of the circuit's garbling under the seed.
+pub record HasWrittenGarbling (version : Version) (c : Netlist) (seed : List ℕ)
+    (held : Option (List ℕ)) (lines : List ℕ) : Type 0 where
+  pub garbling : GarblingParts
+  pub garbled : IsGarbled c seed garbling
+  pub written : HasWritten (garbled_file (honest_parts version c garbling seed)) held lines
+
 -- What `garble` does, whatever the number of workers: it writes the garbled file of the version, of the circuit's
 -- garbling under the seed, and states its number of bytes.
 pub record AnswersGarble (bytes seed_text : List ℕ) (version : Version) (workers : ℕ)

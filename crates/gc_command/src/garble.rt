@@ -1,32 +1,37 @@
 //! The command `garble`: writing a garbled file.
 
-ghost use Rattle.std.specs.Prelude.{◌≡◌, ◌≢◌, ℕ, List, IfOk, IfErr, OnOk, OnErr, IfSome, string_bytes};
+ghost use Rattle.std.specs.Prelude.{◌≡◌, ◌≢◌, ◌<◌, ◌++◌, ℕ, List, Option, Ok, IfOk, IfErr, OnOk, OnErr, IfSome, string_bytes};
 ghost use Rattle.sha2.specs.Sha256.{sha256};
 ghost use Rattle.gc_netlist.specs.Canon.{canonical_text};
-ghost use Rattle.gc_half.specs.Garbling.{FitsCircuit};
+ghost use Rattle.gc_half.specs.Garbling.{FitsCircuit, IsGarbled};
+ghost use Rattle.gc_file.specs.BegunFile.{Begins, IsBegunFile};
 ghost use Rattle.gc_file.specs.Counted.{CountsFailure};
 ghost use Rattle.gc_file.specs.GarbledFile.{garbled_file};
 ghost use Rattle.gc_file.specs.Honest.{honest_parts};
 ghost use Rattle.gc_file.specs.Written.{IsWritten};
 ghost use Rattle.gc_disk.specs.Files.{HasFailed};
-ghost use Rattle.gc_command.specs.Garble.{AnswersGarble, HasGarbleFault};
-ghost use Rattle.gc_command.specs.Wrote.{HasWritten, IsUnwritten, KeepsFiles};
+ghost use Rattle.gc_work.specs.Start.{IsStart};
+ghost use Rattle.gc_half.specs.Begun.{IsBegunGarbling};
+ghost use Rattle.gc_command.specs.Garble.{AnswersGarble, HasGarbleFault, HasWrittenGarbling};
+ghost use Rattle.gc_command.specs.Wrote.{IsUnwritten, KeepsFiles};
 ghost use Rattle.gc_command.specs.Fault.{HasCause, HasWriteCause};
 
 use crate::circuit_file::{HashedPart, read_and_begin_digest};
 use crate::context::Context;
 use crate::fault::Fault;
-use crate::garbling::digest_and_garbling;
+use crate::garbling::digest_and_start;
 use crate::progress::{Progress, Stage};
 use crate::wrote::{ROOM, keep_written};
-use gc_circuit::Circuit;
+use gc_circuit::{Circuit, Memory};
 use gc_disk::Files;
-use gc_file::{Sink, Version, WriteFault, write_garbled_by_digest, write_garbled2_by_digest};
-use gc_half::Garbling;
-use gc_label::Seed;
+use gc_file::{BegunFile, Sink, Version, WriteFault, begin_garbled};
+use gc_half::{BegunGarbling, Garbling, RowPair};
+use gc_label::{Seed, offset};
 use gc_order::GarbleOrder;
+use gc_work::Start;
 use std::alloc::Allocator;
 use std::sync::Wait;
+use std::thread;
 use std::thread::Threads;
 
 /// Garbles the circuit of a file under a seed with this many workers, writes the garbled file, and returns the line
@@ -58,27 +63,44 @@ pub fn garble<R: Threads + Wait + Sync, A: Allocator + Copy + Send + Sync, F: Fi
     let seed = Seed::from_hex(seed)?;
     let gates = circuit.gates();
     progress.begin(2, 3, Stage::Garbling { gates });
-    let (digest, garbling) = digest_and_garbling(rt, alloc, &circuit, begun, &seed, order.workers)?;
+    let (digest, start) = digest_and_start(rt, alloc, &circuit, begun, &seed, order.workers)?;
     progress.begin(3, 3, Stage::Writing);
-    write_garbling(alloc, order, &circuit, &digest, &garbling, &seed, files)
+    let of = Subject {
+        version: order.version,
+        circuit: &circuit,
+        digest: &digest,
+        seed: &seed,
+    };
+    write_garbling(context, order, of, start, files)
 }
 
-/// Writes the garbled file of a garbling, which is not the circuit's file. The caller ensures that the digest is the
-/// circuit's, and that the garbling fits the circuit.
-fn write_garbling<A: Allocator + Copy, F: Files>(
-    alloc: A,
+/// What a garbled file is written of, beside the garbling: that of the circuit under the seed. The digest is the
+/// circuit's.
+#[derive(Clone, Copy)]
+struct Subject<'a, A: Allocator> {
+    version: Version,
+    circuit: &'a Circuit<A>,
+    digest: &'a [u8; 32],
+    seed: &'a Seed,
+}
+
+/// Writes the garbled file of a garbling that is started, which is not the circuit's file.
+fn write_garbling<
+    R: Threads + Wait + Sync,
+    A: Allocator + Copy + Send + Sync,
+    F: Files,
+    P: Progress,
+>(
+    context: &Context<'_, R, A, P>,
     order: &GarbleOrder,
-    circuit: &Circuit<A>,
-    digest: &[u8; 32],
-    garbling: &Garbling<A>,
-    seed: &Seed,
+    of: Subject<'_, A>,
+    start: Start<A>,
     files: &mut F,
 ) -> Result<Vec<u8, A>, Fault>
-    requires digest { digest.now ≡ sha256 (canonical_text circuit.now) }
-    requires fits { FitsCircuit circuit.now garbling.now }
+    requires digest { of.digest.now ≡ sha256 (canonical_text of.circuit.now) }
+    requires started { IsStart of.circuit.now of.seed.now start }
     ensures written { IfOk result (λ lines. (n : List ℕ) → IfSome (F.bytes files.old n)
-        (λ _. HasWritten
-        (garbled_file (honest_parts order.now.version circuit.now garbling.now seed.now))
+        (λ _. HasWrittenGarbling of.entry.version of.entry.circuit.now of.entry.seed.now
         (F.bytes files.new (string_bytes order.now.out)) lines.items)) }
     ensures fault { IfErr result IsUnwritten }
     ensures cause { IfErr result (HasWriteCause (F.failures files.old) (F.failures files.new)
@@ -88,31 +110,105 @@ fn write_garbling<A: Allocator + Copy, F: Files>(
     ensures unwritten { OnErr result (KeepsFiles (F.bytes files.old) (F.bytes files.new)) }
     ensures apart { OnOk result (string_bytes order.now.out ≢ string_bytes order.now.circuit) }
 {
-    let room = Vec::with_capacity(alloc, ROOM)?;
+    let room = Vec::with_capacity(context.alloc, ROOM)?;
     let (out, source) = (order.out.as_str(), order.circuit.as_str());
     let mut sink = files.create(out, source)?;
-    let written = write_version(&mut sink, order.version, circuit, digest, garbling, seed);
+    let (begun, whole) = begin_and_garble(context.rt, context.alloc, &mut sink, of, start);
+    let Ok(garbling) = whole else {
+        files.discard(out, sink);
+        return Err(Fault::Memory);
+    };
+    let written = write_rest(&mut sink, begun, of, &garbling);
     keep_written(files, out, sink, written, room)
 }
 
-/// Writes the garbled file of this version, under the same conditions.
-fn write_version<S: Sink, A: Allocator>(
+/// Begins the garbled file of a garbling that is started, with the row pairs that there are. Meanwhile another thread
+/// garbles the other gates, where one can be started.
+fn begin_and_garble<R: Threads, A: Allocator + Copy + Send + Sync, S: Sink>(
+    rt: &R,
+    alloc: A,
     sink: &mut S,
-    version: Version,
-    circuit: &Circuit<A>,
-    digest: &[u8; 32],
-    garbling: &Garbling<A>,
-    seed: &Seed,
-) -> Result<u64, WriteFault>
-    requires digest { digest.now ≡ sha256 (canonical_text circuit.now) }
-    requires fits { FitsCircuit circuit.now garbling.now }
-    ensures file { IsWritten
-        (garbled_file (honest_parts version circuit.now garbling.now seed.now)) result
-        (S.taken sink.old) (S.taken sink.new) }
-    ensures counted { CountsFailure result (S.failures sink.old) (S.failures sink.new) }
+    of: Subject<'_, A>,
+    start: Start<A>,
+) -> (Result<BegunFile, WriteFault>, Result<Garbling<A>, Memory>)
+    requires digest { of.digest.now ≡ sha256 (canonical_text of.circuit.now) }
+    requires started { IsStart of.circuit.now of.seed.now start }
+    ensures garbled { IfOk result.1 (IsGarbled of.entry.circuit.now of.entry.seed.now) }
+    ensures begun { IfOk result.0 (λ begun. IfOk result.1 (λ garbling.
+        Begins of.entry.version of.entry.circuit.now garbling begun
+        (S.taken sink.old) (S.taken sink.new))) }
+    ensures counted { CountsFailure result.0 (S.failures sink.old) (S.failures sink.new) }
 {
-    match version {
-        Version::One => write_garbled_by_digest(sink, circuit, digest, garbling),
-        Version::Two => write_garbled2_by_digest(sink, circuit, digest, garbling, seed),
+    match start {
+        Start::Whole(garbling) => (
+            begin_garbled(sink, of.version, of.circuit, of.digest, &[]),
+            Ok(garbling),
+        ),
+        Start::Begun(mut begun, rows) => {
+            let (rest, file) = garble_rest(rt, alloc, sink, of, &mut begun, &rows);
+            match rest {
+                Ok(rest) => (file, rest.after(rows)),
+                Err(memory) => (file, Err(memory)),
+            }
+        }
     }
+}
+
+/// The last gates of a begun garbling, which another thread garbles, where one can be started, and the garbled file that
+/// is begun with the row pairs of the first ones. The caller ensures that these are those of the garbling.
+fn garble_rest<R: Threads, A: Allocator + Copy + Send + Sync, S: Sink>(
+    rt: &R,
+    alloc: A,
+    sink: &mut S,
+    of: Subject<'_, A>,
+    begun: &mut BegunGarbling<A>,
+    rows: &[RowPair],
+) -> (Result<Garbling<A>, Memory>, Result<BegunFile, WriteFault>)
+    requires digest { of.digest.now ≡ sha256 (canonical_text of.circuit.now) }
+    requires begun { IsBegunGarbling of.circuit.now of.seed.now begun.old rows.now }
+    ensures garbled { IfOk result.0 (λ rest. IsGarbled of.entry.circuit.now of.entry.seed.now
+        (record {
+          zero_labels = rest.zero_labels;
+          rows = rows.now ++ rest.rows;
+          outputs = rest.outputs;
+        })) }
+    ensures begun { IfOk result.1 (λ file. IsBegunFile of.entry.version of.entry.circuit.now
+        rows.now file (S.taken sink.old) (S.taken sink.new)) }
+    ensures counted { CountsFailure result.1 (S.failures sink.old) (S.failures sink.new) }
+{
+    let Subject {
+        version,
+        circuit,
+        digest,
+        seed,
+    } = of;
+    thread::join_mut(
+        rt,
+        &mut || begun.finish(alloc, circuit, seed, rows),
+        &mut || begin_garbled(sink, version, circuit, digest, rows),
+    )
+}
+
+/// Writes what is left of a garbled file that is begun. The caller ensures that it begins this garbling's, which fits
+/// the circuit.
+fn write_rest<S: Sink, A: Allocator>(
+    sink: &mut S,
+    begun: Result<BegunFile, WriteFault>,
+    of: Subject<'_, A>,
+    garbling: &Garbling<A>,
+) -> Result<u64, WriteFault>
+    requires fits { FitsCircuit of.circuit.now garbling.now }
+    requires begun { IfOk begun (λ begun. (before : Option (List ℕ))
+        × Begins of.version of.circuit.now garbling.now begun before (S.taken sink.old)) }
+    requires failed { OnErr begun (0 < S.failures sink.old) }
+    ensures file { (before : Option (List ℕ)) → IfOk begun (λ begun.
+        Begins of.entry.version of.entry.circuit.now garbling.now begun before
+        (S.taken sink.old))
+        → IfOk result (λ n. IsWritten
+        (garbled_file (honest_parts of.entry.version of.entry.circuit.now garbling.now
+        of.entry.seed.now))
+        (Ok n) before (S.taken sink.new)) }
+    ensures failed { OnErr result (0 < S.failures sink.new) }
+{
+    begun?.finish(sink, of.version, of.circuit, garbling, offset(of.seed))
 }

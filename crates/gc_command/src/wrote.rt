@@ -1,6 +1,6 @@
 //! Files that a command has written, and the line that it prints of them.
 
-ghost use Rattle.std.specs.Prelude.{◌≡◌, ◌<◌, ◌≤◌, ◌≢◌, ℕ, List, [], Some, IfOk, IfErr, OnErr, vec_capacity};
+ghost use Rattle.std.specs.Prelude.{◌≡◌, ◌<◌, ◌≤◌, ◌≢◌, ℕ, List, [], Some, IfOk, IfErr, IsOk, OnOk, OnErr, vec_capacity};
 ghost use Rattle.gc_file.specs.Written.{IsWritten};
 ghost use Rattle.gc_disk.specs.Files.{HasFailed};
 ghost use Rattle.gc_command.specs.Wrote.{HasWritten, KeepsFiles, wrote_line};
@@ -30,6 +30,7 @@ pub fn keep_written<A: Allocator, F: Files>(
     ensures written { IfOk result (λ line. (file : List ℕ)
         → IsWritten file written (Some []) (F.Sink.taken sink)
         → HasWritten file (F.bytes files.new name.now) line.items) }
+    ensures all { OnOk result (IsOk written) }
     ensures fault { IfErr result (λ fault. fault ≡ Fault.CannotWrite) }
     ensures cause { OnErr result
         (HasFailed (F.failures files.old) (F.failures files.new) name.now) }

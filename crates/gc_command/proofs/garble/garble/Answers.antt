@@ -1,13 +1,8 @@
 use Rattle.gc_command.proofs.Names.{◌∙◌, refl, IfOk-weaker, IfErr-weaker, IsCircuit}
 use Rattle.gc_command.proofs.AnswerLemmas.{IfSome-map}
 use Rattle.gc_command.proofs.CauseLemmas.{cause-writing}
-use Rattle.gc_command.proofs.WroteLemmas.{IfSome-both, garble-unwritten, garbled-fits}
+use Rattle.gc_command.proofs.WroteLemmas.{IfSome-both, garble-unwritten}
 use Rattle.gc_command.proofs.garble.garble.Goals as goal
-
-pub write_garbling-requires-clause-fits : goal.write_garbling-requires-clause-fits
-write_garbling-requires-clause-fits g c =
-    garbled-fits c.in_ok-circuit.circuit c.in_ok-seed.seed c.in_ok-digest.garbling
-    c.in_ok-digest.ensures.garbled
 
 pub returns-clause-answers : goal.returns-clause-answers
 returns-clause-answers g c =
@@ -26,10 +21,10 @@ returns-clause-answers g c =
               c.in_ok-seed.ensures.bytes;
         };
       };
-      garbling = c.in_ok-digest.garbling;
+      garbling = wrote.garbling;
       few = c.in_ok-digest.ensures.workers;
-      garbled = c.in_ok-digest.ensures.garbled;
-      written = wrote;
+      garbled = wrote.garbled;
+      written = wrote.written;
     })
     c.in_ok-circuit.ensures.circuit
     (rw (c.read_and_begin_digest.ensures.same c.as_str-name.result.now)
