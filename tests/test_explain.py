@@ -194,9 +194,9 @@ BINDINGS = [
 VALUES = [
     ("2", "15 BadDigit", "has a character that is neither 0 nor 1"),
     ("x0g", "15 BadDigit", "has a character after x that is no hexadecimal digit"),
-    ("01", "16 WrongLength", "has 2 digits, and 1 are expected"),
-    ("x0", "16 WrongLength", "has 1 digits after x, and 2 are expected for 1 wires"),
-    ("x02", "17 SpareBits", "sets a bit beyond its 1 wires"),
+    ("01", "16 WrongLength", "has length 2, in place of 1"),
+    ("x0", "16 WrongLength", "has length 1 after x, in place of 2; its width is 1"),
+    ("x02", "17 SpareBits", "sets a bit beyond its width of 1"),
 ]
 SEEDS = [
     ("0", "the length of the seed is 1, and 64 hexadecimal digits are expected"),

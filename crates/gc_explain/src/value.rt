@@ -86,12 +86,12 @@ fn value_sentence<A: Allocator + Copy>(
         (ValueFault::WrongLength, [b'x', digits @ ..]) => {
             let (found, due) = (digits.len(), 2 * width.div_ceil(8));
             format!(in alloc;
-                "has {found} digits after x, and {due} are expected for {width} wires"
+                "has length {found} after x, in place of {due}; its width is {width}"
             )?
         }
         (ValueFault::WrongLength, digits) => {
             let found = digits.len();
-            format!(in alloc; "has {found} digits, and {width} are expected")?
+            format!(in alloc; "has length {found}, in place of {width}")?
         }
         (ValueFault::BadDigit, [b'x', ..]) => {
             String::from_str(
@@ -102,7 +102,9 @@ fn value_sentence<A: Allocator + Copy>(
         (ValueFault::BadDigit, _) => {
             String::from_str(alloc, "has a character that is neither 0 nor 1")?
         }
-        (ValueFault::SpareBits, _) => { format!(in alloc; "sets a bit beyond its {width} wires")? }
+        (ValueFault::SpareBits, _) => {
+            format!(in alloc; "sets a bit beyond its width of {width}")?
+        }
         (ValueFault::Memory, _) => String::from_str(alloc, "doesn't fit in memory")?,
     };
     let what = what.as_str();

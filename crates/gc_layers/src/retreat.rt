@@ -9,7 +9,7 @@ const LONG: u32 = 32768;
 
 /// In a retreat the calling thread offers its helpers nothing, and makes all blocks by itself: those that find nothing
 /// sleep, so that a helper that the system has stopped gets a processor. The retreat ends when all blocks are back.
-/// Where they aren't for long, other processes want the processors, and each helper that runs takes from the calling
+/// If that takes long, other processes want the processors, and each helper that runs takes time from the calling
 /// thread: then it is a long retreat.
 #[derive(Drop)]
 pub(crate) enum Retreat {
