@@ -19,14 +19,16 @@ use Rattle.gc_half.proofs.SetWires.{last_or_before, not_set_before}
 -- The hash may be any.
 module _ (h : ℕ → ℕ → ℕ) (r : ℕ) (c : Netlist) (given : List ℕ) where
   -- There are no more row pairs than gates.
-  pub few_rows : (n : ℕ) (labels : List ℕ) (rows : List RowPair) → AreGarbled h r c given n labels rows
+  pub few_rows : (n : ℕ) (labels : List ℕ) (rows : List RowPair)
+      → AreGarbled h r c given n labels rows
       → length rows ≤ n
   few_rows n labels rows are =
       let count = length-rows_after h r c (label_of h r c given) n in
       rw are.row_pairs (omega (arith, and_number-le c n))
 
   -- There are as many row pairs as AND gates among the gates.
-  pub count_rows : (n : ℕ) (labels : List ℕ) (rows : List RowPair) → AreGarbled h r c given n labels rows
+  pub count_rows : (n : ℕ) (labels : List ℕ) (rows : List RowPair)
+      → AreGarbled h r c given n labels rows
       → length rows ≡ and_number c n
   count_rows n labels rows are = rw are.row_pairs (length-rows_after h r c (label_of h r c given) n)
 
@@ -42,7 +44,8 @@ module _ (h : ℕ → ℕ → ℕ) (r : ℕ) (c : Netlist) (given : List ℕ) wh
   module _ (lawful : IsLawful c) where
     -- One more gate: its label is put where it belongs, and its row pair is pushed.
     pub garbled-next : (i : ℕ) (g : Gate) → slice_get c.gates i ≡ Some g
-        → (labels new : List ℕ) (rows new_rows : List RowPair) → AreGarbled h r c given i labels rows
+        → (labels new : List ℕ) (rows new_rows : List RowPair)
+        → AreGarbled h r c given i labels rows
         → ((w : ℕ) → slice_index new w ≡ put (slice_index labels) g.set
         (zero_of h r (slice_index labels) (length rows) g.operation) w)
         → g.set < length new → length labels ≤ length new → length new ≤ c.wires
@@ -83,7 +86,8 @@ module _ (h : ℕ → ℕ → ℕ) (r : ℕ) (c : Netlist) (given : List ℕ) wh
     pub garbled-step : (i : ℕ) (g : Gate) → slice_get c.gates i ≡ Some g
         → (labels new : List ℕ) (rows new_rows : List RowPair) (o wires : ℕ)
         → AreGarbled h r c given i labels rows → o ≡ r → wires ≡ c.wires
-        → IsOneGateMore h o wires g labels rows new new_rows → AreGarbled h r c given (i + 1) new new_rows
+        → IsOneGateMore h o wires g labels rows new new_rows
+        → AreGarbled h r c given (i + 1) new new_rows
     garbled-step i g at labels new rows new_rows o wires are same wires_is more =
         let more = subst (λ (x : ℕ). IsOneGateMore h x wires g labels rows new new_rows) same
         more in
@@ -119,16 +123,19 @@ module _ (h : ℕ → ℕ → ℕ) (r : ℕ) (c : Netlist) (given : List ℕ) wh
           (solution_solves _ (zero_local h r c) c lawful (slice_index given))
 
       -- So is what is in a table of them.
-      pub table-garbling : (table : List ℕ) → table ≡ map (label_of h r c given) (range_with_len 0 c.wires)
+      pub table-garbling : (table : List ℕ)
+          → table ≡ map (label_of h r c given) (range_with_len 0 c.wires)
           → IsGarbling h r c (slice_index given) (slice_index table)
           (rows_after h r c (label_of h r c given) (length c.gates))
       table-garbling table is =
-          IsGarbling-same h r c lawful (slice_index given) (label_of h r c given) (slice_index table) _
+          IsGarbling-same h r c lawful (slice_index given) (label_of h r c given)
+          (slice_index table) _
           (λ w set. rw is (sym (read-table (label_of h r c given) c.wires w 0
           (IsSetBefore-below c lawful _ w set))))
           labels-garbling
 
-      pub table-not_set : (table : List ℕ) → table ≡ map (label_of h r c given) (range_with_len 0 c.wires)
+      pub table-not_set : (table : List ℕ)
+          → table ≡ map (label_of h r c given) (range_with_len 0 c.wires)
           → (w : ℕ) → w < c.wires → ¬ IsSet c w → slice_index table w ≡ 0
       table-not_set table is w below unset =
           rw is (read-table (label_of h r c given) c.wires w 0 below ∙ label_of-not_set w unset)

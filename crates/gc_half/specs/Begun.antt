@@ -1,5 +1,5 @@
 -- A circuit that is garbled gate after gate, of which the first gates are garbled.
-use Rattle.std.specs.Prelude.{◌≡◌, ℕ, ◌<◌, ◌≤◌, List, length, map, slice_index}
+use Rattle.std.specs.Prelude.{◌≡◌, ℕ, ◌+◌, ◌<◌, ◌≤◌, ◌++◌, List, length, map, slice_index}
 use Rattle.std.specs.List.{range_with_len}
 use Rattle.gc_netlist.specs.Circuit.{Netlist, IsSetBefore, input_wires}
 use Rattle.gc_netlist.specs.Solution.{values_after}
@@ -8,6 +8,7 @@ use Rattle.gc_half.specs.declared.garbling.RowPair.{RowPair}
 use Rattle.gc_half.specs.Hash.{hash, numbered_from}
 use Rattle.gc_half.specs.Garbling.{zero_rule}
 use Rattle.gc_half.specs.Canonical.{rows_after}
+use Rattle.gc_half.specs.Waiting.{GarblingTableParts, NoneSets}
 
 -- The offset is r, and these zero labels of the input wires are given. The hash may be any.
 module _ (h : ℕ → ℕ → ℕ) (r : ℕ) (c : Netlist) (given : List ℕ) where
@@ -26,6 +27,25 @@ module _ (h : ℕ → ℕ → ℕ) (r : ℕ) (c : Netlist) (given : List ℕ) wh
     pub there : (w : ℕ) → IsSetBefore c n w → w < length labels
     pub right : (w : ℕ) → slice_index labels w ≡ labels_after n w
     pub row_pairs : rows ≡ rows_after h r c label_of n
+
+-- The table of the first n gates of a circuit whose AND gates are numbered from `first` on. The row pairs of some of
+-- these gates, the first ones, are apart.
+pub record IsTableAfter (first r : ℕ) (c : Netlist) (given : List ℕ) (apart : List RowPair) (n : ℕ)
+    (t : GarblingTableParts) : Type 0 where
+  pub numbered : t.first ≡ first + length apart
+  pub garbled : AreGarbled (numbered_from first hash) r c given n t.labels (apart ++ t.rows)
+  pub waiting : (w : ℕ) → ¬ IsSetBefore c n w → NoneSets w t.waiting
+
+-- There are a first number, labels and row pairs apart of which it is the table.
+abbrev pub IsSomeTable : ℕ → Netlist → ℕ → GarblingTableParts → Type 0
+IsSomeTable r c n t =
+    (first : ℕ) × (given : List ℕ) × (apart : List RowPair) × IsTableAfter first r c given apart n t
+
+-- Whatever these are, the table of the first m gates becomes that of the first n gates.
+abbrev pub GarblesTo : ℕ → Netlist → ℕ → ℕ → GarblingTableParts → GarblingTableParts → Type 0
+GarblesTo r c m n old new =
+    (first : ℕ) (given : List ℕ) (apart : List RowPair)
+    → IsTableAfter first r c given apart m old → IsTableAfter first r c given apart n new
 
 -- The zero labels of the input wires under a seed.
 abbrev pub input_labels : Netlist → List ℕ → List ℕ

@@ -1,13 +1,11 @@
 //! Garbling a circuit in two parts, so that the row pairs of the first can be used while the second is made.
 
 ghost use Rattle.std.specs.Prelude.{◌≡◌, ◌≤◌, ◌++◌, length, IfOk};
-ghost use Rattle.gc_label.specs.Seed.{offset_of};
-ghost use Rattle.gc_half.specs.Begun.{AreGarbled, IsBegunGarbling, input_labels};
+ghost use Rattle.gc_half.specs.Begun.{IsBegunGarbling};
 ghost use Rattle.gc_half.specs.Garbling.{IsGarbled};
-ghost use Rattle.gc_half.specs.Hash.{hash, numbered_from};
 
 use crate::first::FirstAnd;
-use crate::garble::garble_first;
+use crate::garble::garble_gates;
 use crate::garbling::{Garbling, RowPair};
 use crate::garbling_table::GarblingTable;
 use crate::row_table::RowTable;
@@ -46,11 +44,15 @@ pub fn begin_garbling<A: Allocator + Copy, C: Allocator>(
     gates: u32,
 ) -> Result<(BegunGarbling<A>, Vec<RowPair, A>), Memory>
     requires { gates ≤ length circuit.now.gates }
-    ensures { IfOk result (λ made. IsBegunGarbling circuit.now seed.now made.0 made.1.items) }
+    ensures begun { IfOk result (λ made.
+        IsBegunGarbling circuit.now seed.now made.0 made.1.items) }
+    ensures gates { IfOk result (λ made. made.0.gates ≡ gates) }
 {
+    circuit.law_lawful();
     let rows = Vec::with_capacity(alloc, circuit.and_count() as usize)?;
     let labels = labels_of_inputs(alloc, circuit, seed)?;
-    let table = garble_first(circuit, offset(seed), labels, FirstAnd::ZERO, rows, gates)?;
+    let begun = GarblingTable::new(FirstAnd::ZERO, labels, RowTable::new(rows));
+    let table = garble_gates(circuit, offset(seed), begun, 0, gates)?;
     let (zero_labels, rows) = table.finish()?;
     let (rows, _) = rows.finish();
     Ok((BegunGarbling { zero_labels, gates }, rows))
@@ -75,39 +77,16 @@ impl<A: Allocator + Copy> BegunGarbling<A> {
           outputs = rest.outputs;
         })) }
     {
+        circuit.law_lawful();
         let left = (circuit.and_count() as usize).saturating_sub(first.len());
         let rows = Vec::with_capacity(alloc, left)?;
         let labels = mem::replace(&mut self.zero_labels, Vec::new(alloc));
-        let table = garble_last(circuit, seed, labels, self.gates, first, rows)?;
+        let number = FirstAnd::after(first.len() as u32);
+        let begun = GarblingTable::new(number, labels, RowTable::new(rows));
+        let table = garble_gates(circuit, offset(seed), begun, self.gates, circuit.gates())?;
         let (mut zero_labels, rows) = table.finish()?;
         zero_labels.resize(circuit.wires() as usize, Label::ZERO)?;
         let (rows, _) = rows.finish();
         Ok(Garbling::from_parts(zero_labels, rows, circuit.output_wires()))
     }
-}
-
-/// The table after the last gate of a circuit, of which the first `gates` gates are garbled, with these zero labels and
-/// row pairs. It has the row pairs of the other gates. The caller ensures that they are those under the seed.
-fn garble_last<A: Allocator, C: Allocator>(
-    circuit: &Circuit<C>,
-    seed: &Seed,
-    labels: Vec<Label, A>,
-    gates: u32,
-    first: &[RowPair],
-    rows: Vec<RowPair, A>,
-) -> Result<GarblingTable<A>, Memory>
-    requires { IsBegunGarbling circuit.now seed.now
-        (record { zero_labels = labels.items; gates = gates }) first.now }
-    ensures { IfOk result (λ table. AreGarbled (numbered_from 0 hash) (offset_of seed.now)
-        circuit.now (input_labels circuit.now seed.now) (length circuit.now.gates) table.labels
-        (first.now ++ table.rows)) }
-{
-    circuit.law_lawful();
-    let offset = offset(seed);
-    let number = FirstAnd::after(first.len() as u32);
-    let mut table = GarblingTable::new(number, labels, RowTable::new(rows));
-    for i in gates..circuit.gates() {
-        table.step(offset, circuit.wires(), circuit.gate(i))?;
-    }
-    Ok(table)
 }

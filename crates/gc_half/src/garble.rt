@@ -2,10 +2,9 @@
 
 ghost use Rattle.std.specs.Prelude.{◌≡◌, ◌≤◌, length, slice_index, IfOk, MatchOption};
 ghost use Rattle.gc_netlist.specs.Circuit.{and_count, input_wires, output_wires};
-ghost use Rattle.gc_half.specs.Begun.{AreGarbled};
-ghost use Rattle.gc_half.specs.Comparing.{AreCompared, IsFirstMismatch, KeepsCompared};
+ghost use Rattle.gc_half.specs.Begun.{GarblesTo, IsSomeTable};
+ghost use Rattle.gc_half.specs.Comparing.{IsFirstMismatch, KeepsCompared};
 ghost use Rattle.gc_half.specs.Garbling.{IsGarbled, IsGarbledFrom};
-ghost use Rattle.gc_half.specs.Hash.{hash, numbered_from};
 
 use crate::first::FirstAnd;
 use crate::garbling::{Garbling, Mismatch, RowPair};
@@ -87,7 +86,8 @@ fn garble_over<A: Allocator, C: Allocator>(
         → MatchOption made.1 (given.items ≡ made.0.rows)
         (IsFirstMismatch given.items made.0.rows)) }
 {
-    let table = garble_first(circuit, offset, labels, first, given, circuit.gates())?;
+    let begun = GarblingTable::new(first, labels, RowTable::new(given));
+    let table = garble_gates(circuit, offset, begun, 0, circuit.gates())?;
     let (mut zero_labels, rows) = table.finish()?;
     zero_labels.resize(circuit.wires() as usize, Label::ZERO)?;
     let (rows, mismatch) = rows.finish();
@@ -95,25 +95,22 @@ fn garble_over<A: Allocator, C: Allocator>(
     Ok((garbling, mismatch))
 }
 
-/// The table after the first `gates` gates of a circuit. The caller ensures that there are these, and as many zero
-/// labels as input wires.
-pub(crate) fn garble_first<A: Allocator, C: Allocator>(
+/// The table after the gates `from..to` of a circuit. The caller ensures that there are these gates, and that the gates
+/// before them are garbled in the table.
+pub(crate) fn garble_gates<A: Allocator, C: Allocator>(
     circuit: &Circuit<C>,
     offset: Offset,
-    labels: Vec<Label, A>,
-    first: FirstAnd,
-    given: Vec<RowPair, A>,
-    gates: u32,
+    mut table: GarblingTable<A>,
+    from: u32,
+    to: u32,
 ) -> Result<GarblingTable<A>, Memory>
-    requires inputs { length labels.items ≡ input_wires circuit.now }
-    requires gates { gates ≤ length circuit.now.gates }
-    ensures garbled { IfOk result (λ table. AreGarbled (numbered_from first hash) offset circuit.now
-        labels.items gates table.labels table.rows) }
-    ensures compared { IfOk result (λ table. AreCompared given.items table.compared) }
+    requires begun { IsSomeTable offset circuit.now from table }
+    requires gates { (from ≤ to) × (to ≤ length circuit.now.gates) }
+    ensures garbled { IfOk result (λ made. GarblesTo offset circuit.now from to table made) }
+    ensures compared { IfOk result (λ made. KeepsCompared table.compared made.compared) }
 {
     circuit.law_lawful();
-    let mut table = GarblingTable::new(first, labels, RowTable::new(given));
-    for i in 0..gates {
+    for i in from..to {
         table.step(offset, circuit.wires(), circuit.gate(i))?;
     }
     Ok(table)
