@@ -9,7 +9,7 @@ use Rattle.gc_netlist.specs.declared.gate.Gate.{Gate}
 use Rattle.gc_netlist.specs.Circuit.{Netlist}
 use Rattle.gc_netlist.specs.Spelling.{Word, Number, words_of_gate, words_of_widths}
 use Rattle.gc_netlist.specs.Canon.{line, lines_of_circuit, canonical_text}
-use Rattle.gc_circuit.specs.Digest.{first_lines}
+use Rattle.gc_circuit.specs.FirstLines.{first_lines}
 
 -- The lines of gates
 abbrev pub lines_of_gates : List Gate → List ℕ

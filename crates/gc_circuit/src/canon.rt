@@ -3,7 +3,7 @@
 ghost use Rattle.std.specs.Prelude.{◌≡◌, ◌+◌, ◌<◌, ◌≤◌, ℕ, List, [], length, map, flat_map, take, drop, OnOk, IfOk};
 ghost use Rattle.gc_netlist.specs.Spelling.{words_of_gate};
 ghost use Rattle.gc_netlist.specs.Canon.{line, canonical_text};
-ghost use Rattle.gc_circuit.specs.Digest.{first_lines};
+ghost use Rattle.gc_circuit.specs.FirstLines.{first_lines};
 
 use crate::canonical_lines::{
     EMPTY_ROOM, LONGEST, ROOM, Room, sizes_line, write_gate, write_widths,
@@ -34,11 +34,7 @@ impl<A: Allocator> Circuit<A> {
     }
 
     /// Gives the lines before those of the gates to a sink that has taken nothing.
-    pub(crate) fn write_header<S: TextSink>(
-        &self,
-        sink: &mut S,
-        room: &mut Room,
-    ) -> Result<(), S::Fault>
+    fn write_header<S: TextSink>(&self, sink: &mut S, room: &mut Room) -> Result<(), S::Fault>
         ensures { OnOk result ((whole : List ℕ) → S.holds sink.old whole []
             → S.holds sink.new whole (first_lines self.now 0)) }
     {
@@ -49,7 +45,7 @@ impl<A: Allocator> Circuit<A> {
     }
 
     /// Gives the next lines to a sink that has taken those of `done` gates. Returns how many gates' lines it has then.
-    pub(crate) fn write_next<S: TextSink>(
+    fn write_next<S: TextSink>(
         &self,
         sink: &mut S,
         room: &mut Room,
@@ -67,20 +63,16 @@ impl<A: Allocator> Circuit<A> {
         Ok(next)
     }
 
-    /// Gives the lines that are left to a sink that has taken those of `done` gates.
-    pub(crate) fn write_rest<S: TextSink>(
-        &self,
-        sink: &mut S,
-        room: &mut Room,
-        mut done: u32,
-    ) -> Result<(), S::Fault>
-        requires { done ≤ length self.now.gates }
-        ensures { OnOk result ((whole : List ℕ)
-            → S.holds sink.old whole (first_lines self.now done)
+    /// Gives the canonical text of the circuit to a sink that has taken nothing.
+    pub(crate) fn write_canonical<S: TextSink>(&self, sink: &mut S) -> Result<(), S::Fault>
+        ensures { OnOk result ((whole : List ℕ) → S.holds sink.old whole []
             → S.holds sink.new whole (canonical_text self.now)) }
     {
+        let mut room = EMPTY_ROOM;
+        self.write_header(sink, &mut room)?;
+        let mut done = 0;
         while done < self.gates() {
-            done = self.write_next(sink, room, done)?;
+            done = self.write_next(sink, &mut room, done)?;
         }
         Ok(())
     }
@@ -93,9 +85,7 @@ impl<A: Allocator> Circuit<A> {
         ensures { IfOk result (λ text. text.items ≡ canonical_text self.now) }
     {
         let mut text = Vec::new(alloc);
-        let mut room = EMPTY_ROOM;
-        self.write_header(&mut text, &mut room)?;
-        self.write_rest(&mut text, &mut room, 0)?;
+        self.write_canonical(&mut text)?;
         Ok(text)
     }
 }

@@ -18,7 +18,6 @@ mod text_sink;
 mod value;
 
 pub use circuit::Circuit;
-pub use digest::{BegunDigest, CommonLines};
 pub use eval::{fits, law_assignments, plain_eval, wire_bits};
 pub use gc_netlist::{Gate, Operation, ReadFault};
 pub use hexadecimal::byte_of;

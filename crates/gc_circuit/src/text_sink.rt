@@ -1,6 +1,6 @@
 //! What takes a text piece by piece.
 
-ghost use Rattle.std.specs.Prelude.{◌≡◌, ◌++◌, ℕ, List, length, OnOk};
+ghost use Rattle.std.specs.Prelude.{◌≡◌, ◌↔◌, ◌++◌, ℕ, List, [], IsTrue, OnOk};
 ghost use Rattle.gc_lanes.specs.Hasher.{HoldsMessage};
 
 use gc_lanes::LongSha256;
@@ -60,11 +60,11 @@ impl<'t> Comparison<'t> {
         Comparison { left: text }
     }
 
-    /// How many bytes of the text are left.
-    pub fn left(&self) -> usize
-        ensures { result ≡ length self.now.left.now }
+    /// Whether nothing of the text is left.
+    pub fn is_done(&self) -> bool
+        ensures { IsTrue result ↔ (self.now.left.now ≡ []) }
     {
-        self.left.len()
+        self.left.is_empty()
     }
 }
 

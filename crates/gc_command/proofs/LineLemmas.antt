@@ -11,6 +11,7 @@ use Rattle.gc_command.specs.declared.line_files.LineFiles.{LineFiles}
 use Rattle.gc_command.specs.declared.line_files.LineFiles.TheVariants.{Unread, Unlabelled, Whole}
 use Rattle.gc_command.specs.Eval.{AreLabelFiles, HasGarbledFault}
 use Rattle.gc_command.specs.LineFiles.{AreNamed, AreReadInTurn, MakeJob, HasBytesFault, HasBindingFault, MakeNoJob, MakeJobs, FirstMakeNoJob, HasMakingFault, are_whole, trailer_due}
+use Rattle.gc_command.proofs.AnswerLemmas.{found_where_known}
 use Rattle.gc_command.proofs.EvalLemmas.{garbled-kind}
 use Rattle.gc_command.proofs.JobsLemmas.{labels-named, lines-fault}
 
@@ -73,12 +74,6 @@ module _ {A : Type 0} (bytes : FileBytes) (old : FailedFiles) where
   others_read new c words lines (Whole held parts) more job read made = read.1
   others_read new c words lines (Unread fault) more job read made = absurd made
   others_read new c words lines (Unlabelled held fault) more job read made = absurd made
-
--- What is found of the bytes that were read of a file is so where its bytes are known.
-pub found_where_known : (P : List ℕ → Type 0) (known : Option (List ℕ)) (held : List ℕ)
-    → GivesFile known held → P held → IfSome known P
-found_where_known P None held given found = tt
-found_where_known P (Some bytes) held given found = rw (← given) found
 
 module _ (bytes : FileBytes) (Failed : List ℕ → Type 0) (c : Netlist) where
   -- The fault of reading a garbled file, that of its bytes, and that of binding it are faults of

@@ -1,8 +1,9 @@
 -- The command `run`: what it returns, and which fault it has.
-use Rattle.std.specs.Prelude.{◌≡◌, ℕ, Bool, List}
+use Rattle.std.specs.Prelude.{◌≡◌, ℕ, Bool, List, map}
 use Rattle.std.specs.List.{flat_map}
 use Rattle.gc_netlist.specs.Circuit.{Netlist}
 use Rattle.gc_circuit.specs.Meaning.{AreOutputs}
+use Rattle.gc_half.specs.Garbling.{IsGarbled}
 use Rattle.gc_work.specs.declared.fault.WorkFault.TheVariants as work
 use Rattle.gc_workers.specs.Workers.{AreFew}
 use Rattle.gc_work.specs.WorkFault.{HasWorkFault}
@@ -11,7 +12,10 @@ use Rattle.gc_job.specs.declared.fault.BindFault.TheVariants as bind
 use Rattle.gc_job.specs.declared.fault.EvalFault.TheVariants as eval
 use Rattle.gc_command.specs.declared.fault.Fault.{Fault}
 use Rattle.gc_command.specs.declared.fault.Fault.TheVariants.{Garbling, File, Binding, Evaluation, Memory}
+use Rattle.gc_command.specs.declared.run.GarbledInput.{GarbledInput}
 use Rattle.gc_command.specs.declared.value_form.ValueForm.{ValueForm}
+use Rattle.gc_command.specs.Fault.{HasCause}
+use Rattle.gc_command.specs.CircuitFile.{IsOtherDigest}
 use Rattle.gc_command.specs.Input.{IsInput, HasInput, HasInputFault}
 use Rattle.gc_command.specs.Lines.{output_lines}
 
@@ -24,10 +28,13 @@ IsWantOfMemory (Evaluation fault) = fault ≡ eval.Memory
 IsWantOfMemory Memory = Unit {0}
 IsWantOfMemory _ = ⊥
 
--- The faults of garbling by this many workers, and of the garbled file made of it.
-abbrev pub IsOwnFault : ℕ → Fault → Type 0
-IsOwnFault workers (Garbling fault) = HasWorkFault workers fault
-IsOwnFault workers fault = IsWantOfMemory fault
+-- A run has read this input, and has garbled the circuit under the seed.
+pub record IsGarbledInput {A : Type 0} (text seed : List ℕ) (texts : List (List ℕ)) (workers : ℕ)
+    (made : GarbledInput A) : Type 0 where
+  pub input : IsInput text seed texts made.circuit (map (λ value. value.items) made.values.items)
+  pub other : IsOtherDigest made.circuit text made.other
+  pub garbled : IsGarbled made.circuit made.seed made.garbling
+  pub few : AreFew workers
 
 -- What `run` returns: the lines of the circuit's outputs on the values, whatever the number of workers.
 pub record AnswersRun (bytes seed : List ℕ) (workers : ℕ) (form : ValueForm)
@@ -51,3 +58,9 @@ HasRunFault bytes seed workers texts (Binding fault) =
 HasRunFault bytes seed workers texts (Evaluation fault) =
     IsWantOfMemory (Evaluation fault) × HasInput bytes seed texts
 HasRunFault bytes seed workers texts fault = HasInputFault bytes seed texts fault
+
+-- The fault is one that `run` has, and no file is its cause.
+pub record IsInputFault (text seed : List ℕ) (workers : ℕ) (texts : List (List ℕ)) (fault : Fault)
+    : Type 0 where
+  pub first : HasRunFault text seed workers texts fault
+  pub cause : HasCause fault ⊥ ⊥

@@ -1,18 +1,17 @@
-//! The circuit of a file.
+//! The circuit of a file, and its digest.
 
 ghost use Rattle.std.specs.Prelude.{◌≡◌, ◌≢◌, ◌≤◌, ℕ, List, Err, length, take, IfOk, IfErr, IfSome, OnOk};
 ghost use Rattle.gc_lanes.specs.Hasher.{HoldsMessage};
 ghost use Rattle.sha2.specs.Sha256.{sha256};
 ghost use Rattle.gc_netlist.specs.Canon.{canonical_text};
-ghost use Rattle.gc_netlist.specs.Circuit.{IsLawful};
+ghost use Rattle.gc_netlist.specs.Circuit.{Netlist, IsLawful};
 ghost use Rattle.gc_netlist.specs.Reading.{circuit_of};
 ghost use Rattle.gc_netlist.specs.Text.{tokens};
-ghost use Rattle.gc_circuit.specs.Digest.{AreCommonLines, IsBegun};
-ghost use Rattle.gc_disk.specs.Files.{HasFailed};
-ghost use Rattle.gc_command.specs.CircuitFile.{IsCircuit, HasReadingFault};
+ghost use Rattle.gc_disk.specs.Files.{GivesFile, HasFailed};
+ghost use Rattle.gc_command.specs.CircuitFile.{IsCircuit, IsOtherDigest, HasReadingFault};
 
 use crate::fault::Fault;
-use gc_circuit::{BegunDigest, Circuit, CommonLines, ReadFault};
+use gc_circuit::{Circuit, ReadFault};
 use gc_disk::{Files, HashedFile, read_and_hash};
 use gc_lanes::LongSha256;
 use sha2::Digest;
@@ -38,30 +37,48 @@ pub fn read_circuit<A: Allocator + Copy, F: Files>(
     Ok(Circuit::read(alloc, &bytes)?)
 }
 
-/// How much of a circuit's file is hashed while the circuit is read.
-#[derive(Clone, Copy)]
-pub enum HashedPart {
-    /// The first two fifths: hashing them takes as long as reading the whole. What is left can be hashed during other
-    /// work.
-    Beginning,
-    /// The whole file.
-    Whole,
+/// The bytes of a circuit's file, of which the beginning is hashed.
+pub fn read_text<R: Threads, A: Allocator + Copy + Send + Sync, F: Files>(
+    rt: &R,
+    alloc: A,
+    name: &str,
+    files: &mut F,
+) -> Result<HashedFile<A>, Fault>
+    ensures given { IfOk result (λ text. GivesFile (F.bytes files.old name.now) text.bytes.items) }
+    ensures within { IfOk result (λ text. text.hashed ≤ length text.bytes.items) }
+    ensures holds { IfOk result (λ text.
+        HoldsMessage text.hasher (take text.hashed text.bytes.items)) }
+    ensures fault { IfErr result (HasReadingFault (F.bytes files.old name.now)
+        (HasFailed (F.failures files.old) (F.failures files.new) name.now)) }
+    ensures counted { OnOk result (F.failures files.new ≡ F.failures files.old) }
+    ensures same { (n : List ℕ) → F.bytes files.new n ≡ F.bytes files.old n }
+{
+    Ok(read_and_hash(rt, alloc, name, files)?)
 }
 
-impl HashedPart {
-    /// How many bytes of a text of this length it is.
-    pub(crate) fn bytes(self, len: usize) -> usize
-        ensures { result ≤ len }
-    {
-        match self {
-            HashedPart::Beginning => len / 5 * 2,
-            HashedPart::Whole => len,
-        }
+/// Gives a hasher the rest of a text. The caller ensures that it has taken the first `hashed` bytes.
+pub fn hash_rest(hasher: &mut LongSha256, text: &[u8], hashed: usize)
+    requires within { hashed ≤ length text.now }
+    requires holds { HoldsMessage hasher.old (take hashed text.now) }
+    ensures { HoldsMessage hasher.new text.now }
+{
+    hasher.update(&text[hashed..]);
+}
+
+/// The digest of a circuit, given SHA-256 that has taken its text, and its digest, unless the text is its canonical
+/// text: [`Circuit::digest_unless_canonical`] finds that while SHA-256 takes the text.
+pub fn digest_of(hasher: LongSha256, other: Option<[u8; 32]>) -> [u8; 32]
+    ensures { (c : Netlist) (text : List ℕ) → HoldsMessage hasher text
+        → IsOtherDigest c text other → result ≡ sha256 (canonical_text c) }
+{
+    match other {
+        Some(digest) => digest,
+        None => hasher.finalize(),
     }
 }
 
-/// The circuit of a file, and the digest of its canonical text. The file's bytes, which usually are that text, are
-/// dropped. A thread of its own takes their SHA-256 while the circuit is read, where one can be started.
+/// The circuit of a file, and the digest of its canonical text. A thread of its own takes the SHA-256 of the file's
+/// bytes, which usually are that text, while the circuit is read, where one can be started. The bytes are dropped.
 pub fn read_circuit_and_digest<R: Threads, A: Allocator + Copy + Send + Sync, F: Files>(
     rt: &R,
     alloc: A,
@@ -77,103 +94,33 @@ pub fn read_circuit_and_digest<R: Threads, A: Allocator + Copy + Send + Sync, F:
     ensures counted { OnOk result (F.failures files.new ≡ F.failures files.old) }
     ensures same { (n : List ℕ) → F.bytes files.new n ≡ F.bytes files.old n }
 {
-    let (circuit, begun) = read_and_begin_digest(rt, alloc, name, files, HashedPart::Whole)?;
-    let digest = circuit.finish_digest(begun);
+    let HashedFile {
+        bytes,
+        mut hasher,
+        hashed,
+    } = read_text(rt, alloc, name, files)?;
+    let text = bytes.as_slice();
+    let (_, read) = thread::join_mut(
+        rt,
+        &mut || hash_rest(&mut hasher, text, hashed),
+        &mut || read_and_compare(alloc, text),
+    );
+    let (circuit, other) = read?;
+    let digest = digest_of(hasher, other);
     Ok((circuit, digest))
 }
 
-/// The circuit of a file, and its digest, which a thread of its own begins with this part of the file, as
-/// [`read_circuit_and_digest`] does with the whole. What is left of the digest can be taken during other work, without
-/// the file's bytes.
-pub fn read_and_begin_digest<R: Threads, A: Allocator + Copy + Send + Sync, F: Files>(
-    rt: &R,
-    alloc: A,
-    name: &str,
-    files: &mut F,
-    part: HashedPart,
-) -> Result<(Circuit<A>, BegunDigest), Fault>
-    ensures begun { IfOk result (λ made. IsBegun made.0 made.1) }
-    ensures circuit { IfOk result
-        (λ made. IfSome (F.bytes files.old name.now) (λ bytes. IsCircuit bytes made.0)) }
-    ensures lawful { IfOk result (λ made. IsLawful made.0) }
-    ensures fault { IfErr result (HasReadingFault (F.bytes files.old name.now)
-        (HasFailed (F.failures files.old) (F.failures files.new) name.now)) }
-    ensures counted { OnOk result (F.failures files.new ≡ F.failures files.old) }
-    ensures same { (n : List ℕ) → F.bytes files.new n ≡ F.bytes files.old n }
-{
-    let HashedFile {
-        bytes: text,
-        hasher,
-        hashed,
-    } = read_and_hash(rt, alloc, name, files)?;
-    let bytes = text.as_slice();
-    let count = part.bytes(bytes.len()).max(hashed);
-    Ok(read_and_hash_on(rt, alloc, bytes, hasher, hashed, count)?)
-}
-
-/// The circuit of a text, and its digest, which a thread of its own begins with the first `count` bytes, where one can
-/// be started. The caller ensures that the hasher has taken the first `hashed` of them.
-pub(crate) fn read_and_hash_on<R: Threads, A: Allocator + Copy + Send + Sync>(
-    rt: &R,
-    alloc: A,
-    text: &[u8],
-    hasher: LongSha256,
-    hashed: usize,
-    count: usize,
-) -> Result<(Circuit<A>, BegunDigest), ReadFault>
-    requires hashed { hashed ≤ count }
-    requires count { count ≤ length text.now }
-    requires holds { HoldsMessage hasher (take hashed text.now) }
-    ensures begun { IfOk result (λ made. IsBegun made.0 made.1) }
-    ensures circuit { IfOk result (λ made. IsCircuit text.now made.0) }
-    ensures fault { IfErr result (λ fault. fault ≢ ReadFault.Memory
-        → circuit_of (tokens text.now) ≡ Err fault) }
-{
-    let (hasher, read) = thread::join(
-        rt,
-        move || -> LongSha256
-            requires { (hashed ≤ count) × (count ≤ length text.now)
-                × HoldsMessage hasher (take hashed text.now) }
-            ensures { HoldsMessage result (take count text.entry.now) }
-        { hash_on(hasher, text, hashed, count) },
-        || -> Result<(Circuit<A>, Option<CommonLines>), ReadFault>
-            ensures circuit { IfOk result (λ read. IsCircuit text.entry.now read.0) }
-            ensures common { IfOk result (λ read.
-                IfSome read.1 (AreCommonLines read.0 text.entry.now count)) }
-            ensures fault { IfErr result (λ fault. fault ≢ ReadFault.Memory
-                → circuit_of (tokens text.entry.now) ≡ Err fault) }
-        { read_and_compare(alloc, text, count) },
-    );
-    let (circuit, common) = read?;
-    let begun = circuit.begin_digest_from(text, count, hasher, common);
-    Ok((circuit, begun))
-}
-
-/// The hasher of the first `count` bytes of a text, of those of the first `hashed`.
-fn hash_on(mut hasher: LongSha256, text: &[u8], hashed: usize, count: usize) -> LongSha256
-    requires hashed { hashed ≤ count }
-    requires count { count ≤ length text.now }
-    requires holds { HoldsMessage hasher (take hashed text.now) }
-    ensures { HoldsMessage result (take count text.now) }
-{
-    hasher.update(&text[hashed..count]);
-    hasher
-}
-
-/// The circuit of a text, and the lines with which the text and the canonical text both begin, of at least `count`
-/// bytes.
+/// The circuit of a text, and its digest, unless the text is its canonical text.
 fn read_and_compare<A: Allocator + Copy>(
     alloc: A,
     text: &[u8],
-    count: usize,
-) -> Result<(Circuit<A>, Option<CommonLines>), ReadFault>
+) -> Result<(Circuit<A>, Option<[u8; 32]>), ReadFault>
     ensures circuit { IfOk result (λ read. IsCircuit text.now read.0) }
-    ensures common { IfOk result (λ read.
-        IfSome read.1 (AreCommonLines read.0 text.now count)) }
+    ensures other { IfOk result (λ read. IsOtherDigest read.0 text.now read.1) }
     ensures fault { IfErr result (λ fault. fault ≢ ReadFault.Memory
         → circuit_of (tokens text.now) ≡ Err fault) }
 {
     let circuit = Circuit::read(alloc, text)?;
-    let common = circuit.common_lines(text, count);
-    Ok((circuit, common))
+    let other = circuit.digest_unless_canonical(text);
+    Ok((circuit, other))
 }

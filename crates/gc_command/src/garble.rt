@@ -9,21 +9,23 @@ ghost use Rattle.gc_file.specs.Counted.{CountsFailure};
 ghost use Rattle.gc_file.specs.GarbledFile.{garbled_file};
 ghost use Rattle.gc_file.specs.Honest.{honest_parts};
 ghost use Rattle.gc_file.specs.Written.{IsWritten};
+ghost use Rattle.gc_workers.specs.Workers.{AreFew};
 ghost use Rattle.gc_disk.specs.Files.{HasFailed};
 ghost use Rattle.gc_work.specs.Start.{IsStart};
 ghost use Rattle.gc_half.specs.Begun.{IsBegunGarbling};
-ghost use Rattle.gc_command.specs.Garble.{AnswersGarble, HasGarbleFault, HasWrittenGarbling};
+ghost use Rattle.gc_command.specs.CircuitFile.{IsOtherDigest};
+ghost use Rattle.gc_command.specs.Garble.{AnswersGarble, HasGarbleFault, HasWrittenGarbling, IsGarbleInput};
 ghost use Rattle.gc_command.specs.Wrote.{IsUnwritten, KeepsFiles};
 ghost use Rattle.gc_command.specs.Fault.{HasCause, HasWriteCause};
 
-use crate::circuit_file::{HashedPart, read_and_begin_digest};
+use crate::circuit_file::{digest_of, hash_rest, read_text};
 use crate::context::Context;
 use crate::fault::Fault;
 use crate::garbling::digest_and_start;
 use crate::progress::{Progress, Stage};
 use crate::wrote::{ROOM, keep_written};
 use gc_circuit::{Circuit, Memory};
-use gc_disk::Files;
+use gc_disk::{Files, HashedFile};
 use gc_file::{BegunFile, Sink, Version, WriteFault, begin_garbled};
 use gc_half::{BegunGarbling, Garbling, RowPair};
 use gc_label::{Seed, offset};
@@ -57,13 +59,26 @@ pub fn garble<R: Threads + Wait + Sync, A: Allocator + Copy + Send + Sync, F: Fi
     ensures apart { OnOk result (string_bytes order.now.out ≢ string_bytes order.now.circuit) }
 {
     let (rt, alloc, progress) = (context.rt, context.alloc, context.progress);
-    let (name, seed) = (order.circuit.as_str(), order.seed.as_str());
     progress.begin(1, 3, Stage::ReadingCircuit);
-    let (circuit, begun) = read_and_begin_digest(rt, alloc, name, files, HashedPart::Beginning)?;
-    let seed = Seed::from_hex(seed)?;
-    let gates = circuit.gates();
-    progress.begin(2, 3, Stage::Garbling { gates });
-    let (digest, start) = digest_and_start(rt, alloc, &circuit, begun, &seed, order.workers)?;
+    let HashedFile {
+        bytes,
+        mut hasher,
+        hashed,
+    } = read_text(rt, alloc, order.circuit.as_str(), files)?;
+    let text = bytes.as_slice();
+    let (_, started) = thread::join_mut(
+        rt,
+        &mut || hash_rest(&mut hasher, text, hashed),
+        &mut || read_and_start(context, order, text),
+    );
+    let Started {
+        circuit,
+        seed,
+        other,
+        start,
+    } = started?;
+    let digest = digest_of(hasher, other);
+    drop(bytes);
     progress.begin(3, 3, Stage::Writing);
     let of = Subject {
         version: order.version,
@@ -72,6 +87,45 @@ pub fn garble<R: Threads + Wait + Sync, A: Allocator + Copy + Send + Sync, F: Fi
         seed: &seed,
     };
     write_garbling(context, order, of, start, files)
+}
+
+/// A garbling that is started while the circuit's text is hashed.
+#[derive(Drop)]
+struct Started<A: Allocator> {
+    circuit: Circuit<A>,
+    seed: Seed,
+    // The circuit's digest, unless its text is canonical.
+    other: Option<[u8; 32]>,
+    start: Start<A>,
+}
+
+/// Reads the circuit of a text, and starts its garbling under the seed with this many workers.
+fn read_and_start<R: Threads + Wait + Sync, A: Allocator + Copy + Send + Sync, P: Progress>(
+    context: &Context<'_, R, A, P>,
+    order: &GarbleOrder,
+    text: &[u8],
+) -> Result<Started<A>, Fault>
+    ensures input { IfOk result (λ made.
+        IsGarbleInput text.now (string_bytes order.now.seed) made.circuit made.seed) }
+    ensures other { IfOk result (λ made. IsOtherDigest made.circuit text.now made.other) }
+    ensures started { IfOk result (λ made. IsStart made.circuit made.seed made.start) }
+    ensures few { IfOk result (λ _. AreFew order.now.workers) }
+    ensures fault { IfErr result
+        (HasGarbleFault text.now (string_bytes order.now.seed) order.now.workers) }
+    ensures cause { IfErr result (λ fault. HasCause fault ⊥ ⊥) }
+{
+    let (rt, alloc) = (context.rt, context.alloc);
+    let circuit = Circuit::read(alloc, text)?;
+    let seed = Seed::from_hex(order.seed.as_str())?;
+    let gates = circuit.gates();
+    context.progress.begin(2, 3, Stage::Garbling { gates });
+    let (other, start) = digest_and_start(rt, alloc, &circuit, text, &seed, order.workers)?;
+    Ok(Started {
+        circuit,
+        seed,
+        other,
+        start,
+    })
 }
 
 /// What a garbled file is written of, beside the garbling: that of the circuit under the seed. The digest is the

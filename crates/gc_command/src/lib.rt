@@ -26,7 +26,7 @@ mod value_form;
 mod values;
 mod wrote;
 
-pub use circuit_file::{HashedPart, read_and_begin_digest, read_circuit, read_circuit_and_digest};
+pub use circuit_file::{digest_of, hash_rest, read_circuit, read_circuit_and_digest, read_text};
 pub use context::Context;
 pub use evaluated_files::{read_garbled_file, read_label_files};
 pub use fault::Fault;

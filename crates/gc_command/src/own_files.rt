@@ -1,62 +1,58 @@
 //! The files that `run` makes for itself: written to memory, and read back.
 
 ghost use Rattle.std.specs.Prelude.{◌≡◌, Some, length, map, slice_get, IfOk, IfErr};
-ghost use Rattle.gc_circuit.specs.Digest.{IsBegun};
+ghost use Rattle.sha2.specs.Sha256.{sha256};
+ghost use Rattle.gc_netlist.specs.Canon.{canonical_text};
 ghost use Rattle.gc_circuit.specs.Meaning.{Fits};
+ghost use Rattle.gc_half.specs.Garbling.{IsGarbled};
 ghost use Rattle.gc_file.specs.LabelFile.{label_parts_of};
 ghost use Rattle.gc_job.specs.Honest.{IsHonestGarbled};
 ghost use Rattle.gc_command.specs.OwnFiles.{AreGarbledBytes, AreLabelsOf};
-ghost use Rattle.gc_workers.specs.Workers.{AreFew};
-ghost use Rattle.gc_command.specs.Run.{IsOwnFault, IsWantOfMemory};
+ghost use Rattle.gc_command.specs.Run.{IsWantOfMemory};
 
 use crate::fault::Fault;
-use crate::garbling::digest_and_garbling;
-use gc_circuit::{BegunDigest, Circuit};
+use gc_circuit::Circuit;
 use gc_file::{
     Garbled, LabelFile, MemSink, read_garbled, read_labels, write_garbled2_by_digest, write_labels,
 };
+use gc_half::Garbling;
 use gc_label::Seed;
 use std::alloc::Allocator;
-use std::sync::Wait;
-use std::thread::Threads;
 
-/// The garbled file of the circuit's garbling under a seed, with this many workers, in version 2. It refuses 0 workers
-/// and more than 64 (22). The caller ensures that the digest begun is the circuit's.
-pub fn own_garbled<R: Threads + Wait + Sync, A: Allocator + Copy + Send + Sync>(
-    rt: &R,
+/// The garbled file of the circuit's garbling under a seed, in version 2. The caller ensures that the digest is the
+/// circuit's.
+pub fn own_garbled<A: Allocator + Copy>(
     alloc: A,
     circuit: &Circuit<A>,
-    begun: BegunDigest,
+    digest: &[u8; 32],
+    garbling: Garbling<A>,
     seed: &Seed,
-    workers: u32,
 ) -> Result<Garbled<A>, Fault>
-    requires { IsBegun circuit.now begun }
+    requires digest { digest.now ≡ sha256 (canonical_text circuit.now) }
+    requires garbled { IsGarbled circuit.now seed.now garbling }
     ensures honest { IfOk result (IsHonestGarbled circuit.now seed.now) }
-    ensures workers { IfOk result (λ _. AreFew workers) }
-    ensures fault { IfErr result (IsOwnFault workers) }
+    ensures fault { IfErr result IsWantOfMemory }
 {
     circuit.law_lawful();
-    let bytes = garbled_bytes(rt, alloc, circuit, begun, seed, workers)?;
+    let bytes = garbled_bytes(alloc, circuit, digest, garbling, seed)?;
     Ok(read_garbled(alloc, &bytes)?)
 }
 
-/// The bytes of the garbled file, under the same condition. The garbling itself is dropped.
-fn garbled_bytes<R: Threads + Wait + Sync, A: Allocator + Copy + Send + Sync>(
-    rt: &R,
+/// The bytes of the garbled file, under the same conditions. The garbling itself is dropped.
+fn garbled_bytes<A: Allocator + Copy>(
     alloc: A,
     circuit: &Circuit<A>,
-    begun: BegunDigest,
+    digest: &[u8; 32],
+    garbling: Garbling<A>,
     seed: &Seed,
-    workers: u32,
 ) -> Result<Vec<u8, A>, Fault>
-    requires { IsBegun circuit.now begun }
+    requires digest { digest.now ≡ sha256 (canonical_text circuit.now) }
+    requires garbled { IsGarbled circuit.now seed.now garbling }
     ensures file { IfOk result (λ bytes. AreGarbledBytes circuit.now seed.now bytes.items) }
-    ensures workers { IfOk result (λ _. AreFew workers) }
-    ensures fault { IfErr result (IsOwnFault workers) }
+    ensures fault { IfErr result IsWantOfMemory }
 {
-    let (digest, garbling) = digest_and_garbling(rt, alloc, circuit, begun, seed, workers)?;
     let mut sink = MemSink::new(alloc, None);
-    let written = write_garbled2_by_digest(&mut sink, circuit, &digest, &garbling, seed);
+    let written = write_garbled2_by_digest(&mut sink, circuit, digest, &garbling, seed);
     written.map_err(|_| Fault::Memory)?;
     Ok(sink.into_bytes())
 }

@@ -1,11 +1,13 @@
 -- The command `audit`: what it returns, and which fault it has. What is said of a file is said where its bytes are
 -- known.
-use Rattle.std.specs.Prelude.{◌≡◌, ◌≢◌, ℕ, ◌≤◌, ◌↔◌, ◌⊎◌, ◌&&◌, Bool, true, false, IsTrue, List, [], ◌∷◌, ◌++◌, length, map, slice_get, Option, Some, None, IfSome, codes}
+use Rattle.std.specs.Prelude.{◌≡◌, ◌≢◌, ℕ, ◌≤◌, ◌↔◌, ◌⊎◌, ◌&&◌, Bool, true, false, IsTrue, List, [], ◌∷◌, ◌++◌, length, map, slice_get, Option, Some, None, IfSome, MatchOption, codes}
 use Rattle.gc_netlist.specs.Circuit.{Netlist}
 use Rattle.gc_netlist.specs.Spelling.{Word, Number, Name, bit_number}
 use Rattle.gc_netlist.specs.Canon.{line}
 use Rattle.gc_circuit.specs.Value.{binary_digit}
 use Rattle.gc_label.specs.Seed.{IsSeedText, offset_of, input_label_of}
+use Rattle.gc_half.specs.Canonical.{garbling_of}
+use Rattle.gc_half.specs.Comparing.{HasLabels}
 use Rattle.gc_half.specs.Garbling.{GarblingParts, IsGarbled}
 use Rattle.gc_file.specs.declared.parts.Version.{Version}
 use Rattle.gc_file.specs.declared.parts.Version.TheVariants.{One, Two}
@@ -21,14 +23,15 @@ use Rattle.gc_audit.specs.declared.rows.RowDifference.{RowDifference}
 use Rattle.gc_audit.specs.declared.entries.EntryDifference.{EntryDifference}
 use Rattle.gc_audit.specs.declared.labels.LabelsVerdict.{LabelsVerdict}
 use Rattle.gc_audit.specs.declared.labels.LabelsVerdict.TheVariants.{NoValue, WrongWidth, WrongLabel, Bits}
-use Rattle.gc_audit.specs.Garbled.{IsGarbledAudit}
+use Rattle.gc_audit.specs.Garbled.{AreCountsRight, IsGarbledAudit, IsPartsAudit}
 use Rattle.gc_audit.specs.Labels.{IsDealt, IsFirstWrong, first_wire_of}
 use Rattle.gc_disk.specs.Files.{FileBytes}
 use Rattle.gc_command.specs.declared.fault.Fault.{Fault}
 use Rattle.gc_command.specs.declared.fault.Fault.TheVariants.{Circuit, BadSeed, File, Garbling, CannotRead, Memory}
-use Rattle.gc_command.specs.CircuitFile.{IsCircuit, HasCircuitFault}
+use Rattle.gc_command.specs.CircuitFile.{IsCircuit, IsOtherDigest, HasCircuitFault}
 use Rattle.gc_command.specs.SeedText.{IsSeed}
 use Rattle.gc_command.specs.Eval.{AreEvalFiles, HasFilesFault}
+use Rattle.gc_trace.specs.declared.audit.Compared.{Compared}
 
 -- the line that says of a part that it is right
 abbrev pub right_line : List ℕ → List ℕ
@@ -189,3 +192,22 @@ HasAuditFault bytes Failed circuit seed garbled labels (Garbling fault) =
     × (fault ≡ work.Memory))))
 HasAuditFault bytes Failed circuit seed garbled labels Memory = Unit {0}
 HasAuditFault bytes Failed circuit seed garbled labels _ = ⊥
+
+-- The fault is one that `audit` has.
+pub record IsAuditFault (bytes : FileBytes) (Failed : List ℕ → Type 0)
+    (circuit seed garbled : List ℕ) (labels : List (List ℕ)) (fault : Fault) : Type 0 where
+  pub has : HasAuditFault bytes Failed circuit seed garbled labels fault
+
+-- The files of these names are the circuit with this text, a garbled file that names this digest, and label files, and
+-- this is found of the garbled file's parts.
+pub record IsCompared {A : Type 0} (bytes : FileBytes) (circuit seed garbled : List ℕ)
+    (labels : List (List ℕ)) (text : List ℕ) (made : Compared A) : Type 0 where
+  pub other : IsOtherDigest made.circuit text made.other
+  pub seed_read : IsSeed seed made.seed
+  pub zero_labels : HasLabels made.circuit made.seed made.garbling
+  pub g : GarbledParts
+  pub input : AreEvalFiles bytes circuit garbled labels made.circuit g made.labels.items
+  pub version : g.version ≡ made.version
+  pub names : made.named ≡ g.digest
+  pub parts : MatchOption made.parts (¬ AreCountsRight made.circuit g)
+      (IsPartsAudit made.circuit (garbling_of made.circuit made.seed) made.seed g)

@@ -1,16 +1,15 @@
 //! The command `audit`: whether files are those of a circuit and a seed, and where they first differ.
 
-ghost use Rattle.std.specs.Prelude.{◌≡◌, ◌++◌, ◌∷◌, ℕ, List, map, codes, decimal, IfOk, IfErr, OnOk, MatchOption, Some, string_bytes, length};
-ghost use Rattle.sha2.specs.Sha256.{sha256};
-ghost use Rattle.gc_netlist.specs.Canon.{canonical_text};
+ghost use Rattle.std.specs.Prelude.{◌≡◌, ◌↔◌, ◌≤◌, ◌++◌, ◌∷◌, ℕ, List, map, take, codes, decimal, IfOk, IfErr, OnOk, IsTrue, MatchOption, Some, string_bytes, length};
+ghost use Rattle.gc_lanes.specs.Hasher.{HoldsMessage};
 ghost use Rattle.gc_netlist.specs.Circuit.{and_count};
-ghost use Rattle.gc_circuit.specs.Digest.{IsBegun};
 ghost use Rattle.gc_half.specs.Canonical.{garbling_of};
 ghost use Rattle.gc_half.specs.Comparing.{HasLabels, IsComparison};
 ghost use Rattle.gc_file.specs.GarbledFile.{GarbledParts};
 ghost use Rattle.gc_audit.specs.Garbled.{AreCountsRight, IsGarbledAudit, IsPartsAudit};
-ghost use Rattle.gc_disk.specs.Files.{HasFailed};
-ghost use Rattle.gc_trace.specs.Audit.{AnswersAudit, AreAuditLines, AreLabelsFound, HasAuditFault};
+ghost use Rattle.gc_disk.specs.Files.{GivesFile, HasFailed};
+ghost use Rattle.gc_command.specs.CircuitFile.{IsOtherDigest};
+ghost use Rattle.gc_trace.specs.Audit.{AnswersAudit, AreAuditLines, AreLabelsFound, HasAuditFault, IsAuditFault, IsCompared};
 ghost use Rattle.gc_file.specs.declared.parts.Version.TheVariants.{Two};
 ghost use Rattle.gc_trace.specs.Audit.{bits_line, digest_line, end_line, entries_line, garbled_lines};
 ghost use Rattle.gc_trace.specs.Audit.{is_dealt, parts_lines, rows_line, rows_name, value_word, verdict_line};
@@ -20,15 +19,16 @@ use gc_audit::{
     DifferingRows, EntryDifference, GarbledAudit, LabelsVerdict, PartsAudit, RowDifference,
     are_counts_right, audit_compared, audit_labels,
 };
-use gc_circuit::{BegunDigest, Circuit, Memory};
+use gc_circuit::{Circuit, Memory};
 use gc_command::{
-    Context, Fault, HashedPart, Progress, Stage, push_digits, push_number, read_and_begin_digest,
-    read_garbled_file, read_label_files,
+    Context, Fault, Progress, Stage, digest_of, hash_rest, push_digits, push_number,
+    read_garbled_file, read_label_files, read_text,
 };
-use gc_disk::Files;
+use gc_disk::{Files, HashedFile};
 use gc_file::{Garbled, LabelFile, Version};
 use gc_half::{Garbling, Mismatch, RowPair, garble_and_compare, garble_one_thread};
 use gc_label::Seed;
+use gc_lanes::LongSha256;
 use gc_order::AuditOrder;
 use gc_work::WorkFault;
 use std::alloc::{AllocError, Allocator};
@@ -63,60 +63,161 @@ pub fn audit<R: Threads + Wait + Sync, A: Allocator + Copy + Send + Sync, F: Fil
         (map string_bytes order.now.labels.items)) }
     ensures same { (name : List ℕ) → F.bytes files.new name ≡ F.bytes files.old name }
 {
-    let (rt, alloc, progress) = (context.rt, context.alloc, context.progress);
-    let (name, seed, file) = (
-        order.circuit.as_str(),
-        order.seed.as_str(),
-        order.garbled.as_str(),
-    );
-    progress.begin(1, 3, Stage::ReadingCircuit);
-    let (circuit, begun) = read_and_begin_digest(rt, alloc, name, files, HashedPart::Beginning)?;
-    let seed = Seed::from_hex(seed)?;
-    progress.begin(2, 3, Stage::ReadingFiles);
-    let garbled = read_garbled_file(alloc, file, files)?;
-    let version = garbled.version();
-    let label_files = read_label_files(alloc, &order.labels, files)?;
-    let gates = circuit.gates();
-    progress.begin(3, 3, Stage::Garbling { gates });
-    let (garbling, found) = garbling_and_audit(rt, alloc, &circuit, begun, &seed, garbled)?;
-    match audit_lines(
-        alloc,
-        &circuit,
+    let (rt, alloc) = (context.rt, context.alloc);
+    context.progress.begin(1, 3, Stage::ReadingCircuit);
+    let HashedFile {
+        bytes,
+        mut hasher,
+        hashed,
+    } = read_text(rt, alloc, order.circuit.as_str(), files)?;
+    let text = bytes.as_slice();
+    let Compared {
+        circuit,
+        other,
+        seed,
         version,
-        &found,
-        &garbling,
-        &seed,
-        &label_files,
-    ) {
+        named,
+        labels,
+        garbling,
+        parts,
+    } = hash_and_compare(context, order, text, hashed, &mut hasher, files)?;
+    let digest = digest_of(hasher, other);
+    let found = garbled_audit(named, digest, parts);
+    match audit_lines(alloc, &circuit, version, &found, &garbling, &seed, &labels) {
         Ok(found) => Ok(found),
         Err(_) => Err(Fault::Memory),
     }
 }
 
-/// Garbles the circuit under the seed, compares a garbled file with what that makes, and returns the garbling and what
-/// was found. Meanwhile another thread finishes the circuit's digest, where one can be started. The caller ensures that
-/// the digest begun is the circuit's.
-fn garbling_and_audit<R: Threads + Sync, A: Allocator + Copy + Send + Sync>(
+/// What is found of a garbled file that names a digest, where the circuit's digest is this, and this is found of the
+/// file's parts.
+fn garbled_audit(named: [u8; 32], digest: [u8; 32], parts: Option<PartsAudit>) -> GarbledAudit
+    ensures digest { IsTrue result.digest ↔ (named ≡ digest) }
+    ensures parts { result.parts ≡ parts }
+{
+    let digest = named == digest;
+    GarbledAudit { digest, parts }
+}
+
+/// What a garbled file, of this version, and label files are compared with, and what is found of the file's parts,
+/// before it is known whether the file names the circuit's digest.
+#[derive(Drop)]
+struct Compared<A: Allocator> {
+    circuit: Circuit<A>,
+    // The circuit's digest, unless its text is canonical.
+    other: Option<[u8; 32]>,
+    seed: Seed,
+    version: Version,
+    named: [u8; 32],
+    labels: Vec<LabelFile<A>, A>,
+    garbling: Garbling<A>,
+    parts: Option<PartsAudit>,
+}
+
+/// Does as [`compare_text`], while another thread hashes the rest of the text, where one can be started. The caller
+/// ensures that the hasher has taken the first `hashed` bytes.
+fn hash_and_compare<
+    R: Threads + Wait + Sync,
+    A: Allocator + Copy + Send + Sync,
+    F: Files,
+    P: Progress,
+>(
+    context: &Context<'_, R, A, P>,
+    order: &AuditOrder,
+    text: &[u8],
+    hashed: usize,
+    hasher: &mut LongSha256,
+    files: &mut F,
+) -> Result<Compared<A>, Fault>
+    requires given { GivesFile (F.bytes files.old (string_bytes order.now.circuit)) text.now }
+    requires within { hashed ≤ length text.now }
+    requires holds { HoldsMessage hasher.old (take hashed text.now) }
+    ensures hashed { HoldsMessage hasher.new text.now }
+    ensures made { IfOk result (IsCompared (F.bytes files.old) (string_bytes order.now.circuit)
+        (string_bytes order.now.seed) (string_bytes order.now.garbled)
+        (map string_bytes order.now.labels.items) text.now) }
+    ensures fault { IfErr result (IsAuditFault (F.bytes files.old)
+        (HasFailed (F.failures files.old) (F.failures files.new)) (string_bytes order.now.circuit)
+        (string_bytes order.now.seed) (string_bytes order.now.garbled)
+        (map string_bytes order.now.labels.items)) }
+    ensures same { (name : List ℕ) → F.bytes files.new name ≡ F.bytes files.old name }
+{
+    let (_, made) = thread::join_mut(
+        context.rt,
+        &mut || hash_rest(hasher, text, hashed),
+        &mut || -> Result<Compared<A>, Fault>
+            requires { GivesFile (F.bytes files.now (string_bytes order.now.circuit)) text.now }
+        { compare_text(context, order, text, files) },
+    );
+    made
+}
+
+/// Reads the circuit of a text, the seed, the garbled file and the label files, and compares the garbled file with what
+/// garbling makes. The caller ensures that the text is that of the circuit's file.
+fn compare_text<R: Threads + Wait + Sync, A: Allocator + Copy + Send + Sync, F: Files, P: Progress>(
+    context: &Context<'_, R, A, P>,
+    order: &AuditOrder,
+    text: &[u8],
+    files: &mut F,
+) -> Result<Compared<A>, Fault>
+    requires { GivesFile (F.bytes files.old (string_bytes order.now.circuit)) text.now }
+    ensures made { IfOk result (IsCompared (F.bytes files.old) (string_bytes order.now.circuit)
+        (string_bytes order.now.seed) (string_bytes order.now.garbled)
+        (map string_bytes order.now.labels.items) text.now) }
+    ensures fault { IfErr result (IsAuditFault (F.bytes files.old)
+        (HasFailed (F.failures files.old) (F.failures files.new)) (string_bytes order.now.circuit)
+        (string_bytes order.now.seed) (string_bytes order.now.garbled)
+        (map string_bytes order.now.labels.items)) }
+    ensures same { (name : List ℕ) → F.bytes files.new name ≡ F.bytes files.old name }
+{
+    let (rt, alloc, progress) = (context.rt, context.alloc, context.progress);
+    let (seed, file) = (order.seed.as_str(), order.garbled.as_str());
+    let circuit = Circuit::read(alloc, text)?;
+    let seed = Seed::from_hex(seed)?;
+    progress.begin(2, 3, Stage::ReadingFiles);
+    let garbled = read_garbled_file(alloc, file, files)?;
+    let (version, named) = (garbled.version(), garbled.digest());
+    let labels = read_label_files(alloc, &order.labels, files)?;
+    let gates = circuit.gates();
+    progress.begin(3, 3, Stage::Garbling { gates });
+    let (other, made) = digest_and_parts(rt, alloc, &circuit, text, &seed, garbled);
+    let (garbling, parts) = made?;
+    Ok(Compared {
+        circuit,
+        other,
+        seed,
+        version,
+        named,
+        labels,
+        garbling,
+        parts,
+    })
+}
+
+/// The digest of the circuit, unless a text is its canonical text, which another thread finds, where one can be started;
+/// the garbling of the circuit under the seed; and what comparing a garbled file with it finds.
+fn digest_and_parts<R: Threads + Sync, A: Allocator + Copy + Send + Sync>(
     rt: &R,
     alloc: A,
     circuit: &Circuit<A>,
-    begun: BegunDigest,
+    text: &[u8],
     seed: &Seed,
     file: Garbled<A>,
-) -> Result<(Garbling<A>, GarbledAudit), WorkFault>
-    requires { IsBegun circuit.now begun }
-    ensures labels { IfOk result (λ made. HasLabels circuit.now seed.now made.0) }
-    ensures audit { IfOk result (λ made.
-        IsGarbledAudit circuit.now (garbling_of circuit.now seed.now) seed.now file made.1) }
-    ensures fault { IfErr result (λ fault. fault ≡ WorkFault.Memory) }
+) -> (
+    Option<[u8; 32]>,
+    Result<(Garbling<A>, Option<PartsAudit>), WorkFault>,
+)
+    ensures other { IsOtherDigest circuit.now text.now result.0 }
+    ensures labels { IfOk result.1 (λ made. HasLabels circuit.now seed.now made.0) }
+    ensures parts { IfOk result.1 (λ made. MatchOption made.1 (¬ AreCountsRight circuit.now file)
+        (IsPartsAudit circuit.now (garbling_of circuit.now seed.now) seed.now file)) }
+    ensures fault { IfErr result.1 (λ fault. fault ≡ WorkFault.Memory) }
 {
-    let filed = file.digest();
-    let (digest, made) = thread::join(
+    thread::join(
         rt,
-        || -> [u8; 32]
-            requires { IsBegun circuit.now begun }
-            ensures { result ≡ sha256 (canonical_text circuit.entry.now) }
-        { circuit.finish_digest(begun) },
+        || -> Option<[u8; 32]>
+            ensures { IsOtherDigest circuit.entry.now text.entry.now result }
+        { circuit.digest_unless_canonical(text) },
         move || -> Result<(Garbling<A>, Option<PartsAudit>), WorkFault>
             ensures labels { IfOk result
                 (λ made. HasLabels circuit.entry.now seed.entry.now made.0) }
@@ -126,13 +227,11 @@ fn garbling_and_audit<R: Threads + Sync, A: Allocator + Copy + Send + Sync>(
                 seed.entry.now file)) }
             ensures fault { IfErr result (λ fault. fault ≡ WorkFault.Memory) }
         { garbling_and_parts(alloc, circuit, seed, file) },
-    );
-    let (garbling, parts) = made?;
-    let digest = filed == digest;
-    Ok((garbling, GarbledAudit { digest, parts }))
+    )
 }
 
-/// The same without the digest. Where the file's counts are right, its row pairs are compared with the garbling's as
+/// The garbling of the circuit under the seed, and what comparing a garbled file with it finds, but for the digest.
+/// Nothing is found where the file's counts are wrong. Where they are right, its row pairs are compared with the garbling's as
 /// these are made, so that both together take hardly more memory than one of them. Else the file is dropped before.
 fn garbling_and_parts<A: Allocator + Copy>(
     alloc: A,

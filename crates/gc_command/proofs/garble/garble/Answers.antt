@@ -1,64 +1,33 @@
-use Rattle.gc_command.proofs.Names.{◌∙◌, refl, IfOk-weaker, IfErr-weaker, IsCircuit}
-use Rattle.gc_command.proofs.AnswerLemmas.{IfSome-map}
-use Rattle.gc_command.proofs.CauseLemmas.{cause-writing}
-use Rattle.gc_command.proofs.WroteLemmas.{IfSome-both, garble-unwritten}
+use Rattle.std.proofs.Common.{string_bytes, of_calls}
+use Rattle.gc_disk.specs.Files.{GivesFile}
+use Rattle.gc_command.proofs.Names.{IfOk-weaker, AreFew}
+use Rattle.gc_command.specs.Garble.{IsGarbleInput}
+use Rattle.gc_command.proofs.AnswerLemmas.{found_where_known}
+use Rattle.gc_command.proofs.WroteLemmas.{IfSome-both}
 use Rattle.gc_command.proofs.garble.garble.Goals as goal
 
 pub returns-clause-answers : goal.returns-clause-answers
 returns-clause-answers g c =
-    rw (← c.as_str-name.ensures.value, ← c.as_str-seed.ensures.value)
+    let made = c.in_ok-circuit.field-0 in
+    let seed = string_bytes c.args.order.now.seed in
+    let text = c.as_slice-text.result.now in
+    let held = g.F.Files.bytes c.args.files.now c.as_str.result.now in
+    let given : GivesFile held text = rw c.as_slice-text.ensures.value c.in_ok-bytes.ensures.given in
+    let input : IsGarbleInput text seed made.circuit made.seed = search of_calls in
+    let few : AreFew c.args.order.now.workers = search of_calls in
+    rw (← c.as_str.ensures.value)
     (IfOk-weaker c.write_garbling.result _ _
-    (λ lines written. IfSome-both (g.F.Files.bytes c.args.files.now c.as_str-name.result.now)
-    (λ bytes. IsCircuit bytes c.in_ok-circuit.circuit) _ _
-    (λ bytes circuit wrote. record {
-      circuit = c.in_ok-circuit.circuit;
-      seed = c.in_ok-seed.seed;
-      input = record {
-        circuit = circuit;
-        seed_read = record {
-          accepted = c.in_ok-seed.ensures.accepts.0 refl;
-          spelled =
-              c.in_ok-seed.ensures.bytes;
-        };
-      };
+    (λ lines written. IfSome-both held
+    (λ bytes. IsGarbleInput bytes seed made.circuit made.seed) _ _
+    (λ bytes read wrote. record {
+      circuit = made.circuit;
+      seed = made.seed;
+      input = read;
       garbling = wrote.garbling;
-      few = c.in_ok-digest.ensures.workers;
+      few = few;
       garbled = wrote.garbled;
       written = wrote.written;
     })
-    c.in_ok-circuit.ensures.circuit
-    (rw (c.read_and_begin_digest.ensures.same c.as_str-name.result.now)
-    at (written c.as_str-name.result.now)))
+    (found_where_known (λ bytes. IsGarbleInput bytes seed made.circuit made.seed) held text given input)
+    (rw (c.read_text.ensures.same c.as_str.result.now) at (written c.as_str.result.now)))
     c.write_garbling.ensures.written)
-
-pub returns-clause-fault : goal.returns-clause-fault
-returns-clause-fault g c =
-    rw (← c.as_str-name.ensures.value, ← c.as_str-seed.ensures.value)
-    (IfErr-weaker c.write_garbling.result _ _
-    (λ fault unwritten. IfSome-map (g.F.Files.bytes c.args.files.now c.as_str-name.result.now)
-    (λ bytes. IsCircuit bytes c.in_ok-circuit.circuit) _
-    (λ bytes circuit. garble-unwritten bytes c.as_str-seed.result.now c.args.order.now.workers
-    c.in_ok-circuit.circuit
-    c.in_ok-seed.seed
-    (record {
-      circuit = circuit;
-      seed_read = record {
-        accepted = c.in_ok-seed.ensures.accepts.0 refl;
-        spelled =
-            c.in_ok-seed.ensures.bytes;
-      };
-    }) c.in_ok-digest.ensures.workers fault unwritten)
-    c.in_ok-circuit.ensures.circuit)
-    c.write_garbling.ensures.fault)
-
-pub returns-clause-cause : goal.returns-clause-cause
-returns-clause-cause g c =
-    rw (← c.as_str-name.ensures.value)
-    (IfErr-weaker c.write_garbling.result _ _
-    (λ fault cause. cause-writing fault _ _ (rw c.in_ok-circuit.ensures.counted at cause))
-    c.write_garbling.ensures.cause)
-
-pub returns-clause-unwritten : goal.returns-clause-unwritten
-returns-clause-unwritten g c = IfErr-weaker c.write_garbling.result _ _
-    (λ fault same n. same n ∙ c.read_and_begin_digest.ensures.same n)
-    c.write_garbling.ensures.unwritten

@@ -1,6 +1,6 @@
 use Rattle.std.proofs.Common.{◌≤◌, subst, arith}
 use Rattle.gc_circuit.proofs.CanonLines.{next_lines}
-use Rattle.gc_circuit.specs.Digest.{first_lines}
+use Rattle.gc_circuit.specs.FirstLines.{first_lines}
 use Rattle.gc_circuit.proofs.circuit.Circuit.write_next.Goals as goal
 
 pub returns-clause-written : goal.returns-clause-written

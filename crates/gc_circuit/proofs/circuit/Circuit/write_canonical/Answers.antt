@@ -1,6 +1,6 @@
 use Rattle.std.proofs.Common.{subst, arith}
 use Rattle.gc_circuit.proofs.CanonLines.{all_lines}
-use Rattle.gc_circuit.proofs.circuit.Circuit.write_rest.Goals as goal
+use Rattle.gc_circuit.proofs.circuit.Circuit.write_canonical.Goals as goal
 
 pub returns : goal.returns
 returns g c = λ whole held.

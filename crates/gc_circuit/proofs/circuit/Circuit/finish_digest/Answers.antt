@@ -1,5 +1,0 @@
-use Rattle.std.proofs.Common.{[]}
-use Rattle.gc_circuit.proofs.circuit.Circuit.finish_digest.Goals as goal
-
-pub returns : goal.returns
-returns g c = c.finalize.ensures _ (c.in-Ok.ensures [] c.requires.taken)
