@@ -1,6 +1,6 @@
 # SPDX-License-Identifier: MIT OR Apache-2.0
 # A release serves where an earlier one of the same soname is asked for.
-set(PACKAGE_VERSION 0.9.4)
+set(PACKAGE_VERSION 0.9.5)
 if(PACKAGE_FIND_VERSION VERSION_EQUAL PACKAGE_VERSION)
   set(PACKAGE_VERSION_EXACT TRUE)
 endif()
