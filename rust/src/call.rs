@@ -1,6 +1,7 @@
 // SPDX-License-Identifier: MIT OR Apache-2.0
 //! How calls of the library give handles and fill buffers.
 
+use std::borrow::Borrow;
 use std::fmt;
 use std::ptr::{self, NonNull};
 
@@ -89,6 +90,13 @@ pub fn room<T>(count: usize) -> Result<Vec<T>, Fault> {
     let mut items = Vec::new();
     items.try_reserve_exact(count).map_err(|_| Fault::MEMORY)?;
     Ok(items)
+}
+
+/// What each item lends, asked once: safe code may lend something else the next time.
+pub fn borrowed<T: Borrow<U>, U>(items: &[T]) -> Result<Vec<&U>, Fault> {
+    let mut list = room(items.len())?;
+    list.extend(items.iter().map(Borrow::borrow));
+    Ok(list)
 }
 
 /// The `count` items that a call of the library writes.

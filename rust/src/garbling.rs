@@ -7,7 +7,7 @@ use std::ops::Range;
 use std::ptr;
 use std::sync::Arc;
 
-use crate::call::{bits_of, filled, room, Handle};
+use crate::call::{bits_of, borrowed, filled, room, Handle};
 use crate::circuit::{index_of_value, size_of_label_file, Shape};
 use crate::fault::Fault;
 use crate::{sys, GarbledReport, Label, LabelsReport, RowPair, Version, WireLabels};
@@ -338,9 +338,9 @@ pub fn write_many<G: Borrow<Garbling>>(
     garblings: &[G],
     version: Version,
 ) -> Result<Vec<Vec<u8>>, Fault> {
+    let garblings = borrowed(garblings)?;
     let (mut handles, mut sizes) = (room(garblings.len())?, room(garblings.len())?);
-    for garbling in garblings {
-        let garbling = garbling.borrow();
+    for garbling in &garblings {
         handles.push(garbling.handle.get().cast_mut());
         sizes.push(garbling.garbled_size(version)?);
     }

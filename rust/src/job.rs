@@ -4,7 +4,7 @@ use std::borrow::Borrow;
 use std::fmt;
 use std::mem::size_of;
 
-use crate::call::{bits_of, filled, room, Handle};
+use crate::call::{bits_of, borrowed, filled, room, Handle};
 use crate::fault::Fault;
 use crate::{sys, Label};
 
@@ -73,9 +73,10 @@ impl Job {
 /// [`Fault::UNKNOWN_OUTPUT_LABEL`]; [`Fault::MEMORY`].
 #[doc(alias = "halfgates_evaluate_many")]
 pub fn evaluate_many<J: Borrow<Job>>(jobs: &[J]) -> Result<Vec<Vec<bool>>, Fault> {
+    let jobs = borrowed(jobs)?;
     let (mut handles, mut outputs) = (room(jobs.len())?, room(jobs.len())?);
-    handles.extend(jobs.iter().map(|it| it.borrow().handle.get().cast_mut()));
-    let size = jobs.iter().map(|it| it.borrow().output_wires).sum();
+    handles.extend(jobs.iter().map(|it| it.handle.get().cast_mut()));
+    let size = jobs.iter().map(|it| it.output_wires).sum();
     // SAFETY: the call reads the list and the jobs of its handles, and writes `size` bytes.
     let bits = unsafe {
         filled(size, |bits| {
@@ -84,9 +85,8 @@ pub fn evaluate_many<J: Borrow<Job>>(jobs: &[J]) -> Result<Vec<Vec<bool>>, Fault
     };
     let mut bits = bits_of(bits).into_iter();
     for job in jobs {
-        let count = job.borrow().output_wires;
-        let mut of_job = room(count)?;
-        of_job.extend(bits.by_ref().take(count));
+        let mut of_job = room(job.output_wires)?;
+        of_job.extend(bits.by_ref().take(job.output_wires));
         outputs.push(of_job);
     }
     Ok(outputs)

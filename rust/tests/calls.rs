@@ -2,6 +2,8 @@
 //! What each call returns and refuses, on a full adder: three input values of one bit, and one
 //! output value of two.
 
+use std::borrow::Borrow;
+use std::cell::Cell;
 use std::thread;
 
 use halfgates::{
@@ -308,6 +310,36 @@ fn lists_of_jobs() {
     files[1][16..].fill(0xaa);
     jobs[5] = circuit.bind(&garbled, &files).unwrap();
     assert_eq!(evaluate_many(&jobs), Err(Fault::UNKNOWN_OUTPUT_LABEL));
+}
+
+/// Lends its first item once, and then its second.
+struct Changing<T>([T; 2], Cell<bool>);
+
+impl<T> Borrow<T> for Changing<T> {
+    fn borrow(&self) -> &T {
+        &self.0[usize::from(self.1.replace(true))]
+    }
+}
+
+#[test]
+fn a_list_whose_items_change() {
+    let and = Circuit::read("1 3\n2 1 1\n1 1\n\n2 1 0 1 2 AND\n").unwrap();
+    let wide = Circuit::read("0 2000\n1 2000\n1 2000\n").unwrap();
+    let garblings = || [&and, &wide].map(|it| it.garble(&SEED).unwrap());
+    let [narrow, broad] = garblings();
+    let changing = [Changing(garblings(), Cell::new(false))];
+    let file = narrow.write(Version::V2).unwrap();
+    assert_eq!(write_many(&changing, Version::V2), Ok(vec![file.clone()]));
+
+    let ones = [narrow.deal(0, &[true]), narrow.deal(1, &[true])].map(Result::unwrap);
+    let bits = [true; 2000];
+    let job = wide.bind(
+        &broad.write(Version::V2).unwrap(),
+        &[broad.deal(0, &bits).unwrap()],
+    );
+    let jobs = [and.bind(&file, &ones).unwrap(), job.unwrap()];
+    let outputs = evaluate_many(&[Changing(jobs, Cell::new(false))]);
+    assert_eq!(outputs, Ok(vec![vec![true]]));
 }
 
 #[test]
