@@ -4,6 +4,8 @@
 
 use std::borrow::Borrow;
 use std::cell::Cell;
+use std::io::Write;
+use std::process::{Command, Stdio};
 use std::thread;
 
 use halfgates::{
@@ -116,6 +118,16 @@ fn the_place_of_a_fault() {
     );
     assert_eq!((place.gate, place.wire), (None, None));
     assert_eq!(locate(FULL_ADDER), Ok(None));
+}
+
+#[test]
+fn places_and_wires() {
+    let place = |text| locate(text).unwrap().unwrap();
+    let far = place("1 3\n2 1 1\n1 1\n\n2 1 0 9 2 AND");
+    assert_eq!((far.fault, far.wire), (Fault::NO_SUCH_WIRE, Some(9)));
+    assert_eq!((far.line, far.column), (5, 7));
+    let unset = place("0 3\n2 1 1\n1 1\n");
+    assert_eq!((unset.fault, unset.wire), (Fault::OUTPUT_UNSET, Some(2)));
 }
 
 #[test]
@@ -390,6 +402,55 @@ fn audits() {
     );
 }
 
+/// The SHA-256 of these bytes.
+fn digest(bytes: &[u8]) -> Vec<u8> {
+    let mut tool = Command::new("sha256sum")
+        .stdin(Stdio::piped())
+        .stdout(Stdio::piped())
+        .spawn()
+        .unwrap();
+    tool.stdin.take().unwrap().write_all(bytes).unwrap();
+    let printed = String::from_utf8(tool.wait_with_output().unwrap().stdout).unwrap();
+    let byte = |i: usize| u8::from_str_radix(&printed[2 * i..2 * i + 2], 16).unwrap();
+    (0..32).map(byte).collect()
+}
+
+#[test]
+fn audits_of_each_part() {
+    let garbling = garbling();
+    let honest = garbling.write(Version::V2).unwrap();
+    let forged = |place: usize, bits: u8| {
+        let mut body = honest[..honest.len() - 32].to_vec();
+        body[place] ^= bits;
+        let trailer = digest(&body);
+        garbling.audit(&[body, trailer].concat()).unwrap()
+    };
+    let half_gates = |place| {
+        let it = forged(place, 1);
+        let row = it.row.unwrap();
+        assert_eq!((it.decode_bit, it.entry), (None, None));
+        (row.generator, row.evaluator)
+    };
+    assert_eq!(half_gates(48), (true, false));
+    assert_eq!(half_gates(64), (false, true));
+    let outputs = forged(80, 2);
+    assert_eq!(
+        (outputs.row, outputs.decode_bit, outputs.entry),
+        (None, Some(1), None)
+    );
+    for (place, output, colour) in [
+        (81, 0, false),
+        (97, 0, true),
+        (113, 1, false),
+        (129, 1, true),
+    ] {
+        let it = forged(place, 1);
+        let entry = it.entry.unwrap();
+        assert_eq!((it.row, it.decode_bit), (None, None));
+        assert_eq!((entry.output, entry.colour), (output, colour));
+    }
+}
+
 #[test]
 fn audits_of_label_files() {
     let garbling = garbling();
@@ -409,10 +470,12 @@ fn audits_of_label_files() {
         garbling.audit_labels(&wrong).unwrap().verdict,
         Verdict::NoSuchValue
     );
-    assert_eq!(
-        garbling.audit_labels(&wrong[..31]),
-        Err(Fault::FILE_TRUNCATED)
-    );
+    for size in 0..32 {
+        assert_eq!(
+            garbling.audit_labels(&files[0][..size]),
+            Err(Fault::FILE_TRUNCATED)
+        );
+    }
     let wide = Circuit::read("0 3\n2 2 1\n0")
         .unwrap()
         .garble(&SEED)
