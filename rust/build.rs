@@ -4,27 +4,37 @@
 //! `HALFGATES_DYNAMIC` is set, its shared library.
 
 use std::env;
+use std::ffi::OsString;
 use std::path::{Path, PathBuf};
 use std::process::Command;
 
 const FOLDER: &str = "HALFGATES_LIB_DIR";
 const DYNAMIC: &str = "HALFGATES_DYNAMIC";
 const PKG_CONFIG: &str = "PKG_CONFIG";
+const CRATE: &str = "CARGO_MANIFEST_DIR";
 
 fn main() {
-    for variable in [FOLDER, DYNAMIC, PKG_CONFIG] {
+    for variable in [FOLDER, DYNAMIC, PKG_CONFIG, CRATE] {
         println!("cargo:rerun-if-env-changed={variable}");
     }
-    let named = env::var_os(FOLDER).filter(|it| !it.is_empty());
-    match named.map(PathBuf::from).or_else(folder_of_the_repository) {
+    match variable(FOLDER)
+        .map(PathBuf::from)
+        .or_else(folder_of_the_repository)
+    {
         Some(folder) => link_folder(&folder),
         None => link_by_pkg_config(),
     }
 }
 
+/// What a variable names, unless it is empty.
+fn variable(name: &str) -> Option<OsString> {
+    env::var_os(name).filter(|it| !it.is_empty())
+}
+
 /// The folder of the repository that has the library for the target's processor.
 fn folder_of_the_repository() -> Option<PathBuf> {
-    let top = Path::new(env!("CARGO_MANIFEST_DIR")).parent()?;
+    let place = variable(CRATE)?;
+    let top = Path::new(&place).parent()?;
     let folder = match env::var("CARGO_CFG_TARGET_ARCH").ok()?.as_str() {
         "x86_64" => top.join("dist/lib"),
         other => top.join("dist/lib").join(other),
@@ -38,13 +48,14 @@ fn link_folder(folder: &Path) {
         .unwrap_or_else(|error| panic!("{}: {error}", folder.display()));
     println!("cargo:rerun-if-changed={}", folder.display());
     println!("cargo:rustc-link-search=native={}", folder.display());
-    if env::var_os(DYNAMIC).is_some_and(|it| !it.is_empty())
-        || !folder.join("libhalfgates.a").is_file()
-    {
+    if variable(DYNAMIC).is_some() || !folder.join("libhalfgates.a").is_file() {
         println!("cargo:rustc-link-lib=dylib=halfgates");
         // For the tests and examples of this crate. Others name the folder where the library is at
         // run time.
-        println!("cargo:rustc-link-arg=-Wl,-rpath,{}", folder.display());
+        for word in ["-rpath".as_ref(), folder.as_path()] {
+            println!("cargo:rustc-link-arg=-Xlinker");
+            println!("cargo:rustc-link-arg={}", word.display());
+        }
     } else {
         println!("cargo:rustc-link-lib=static=halfgates");
     }
@@ -58,11 +69,27 @@ fn link_by_pkg_config() {
         }
         _ => panic!("no libhalfgates: {FOLDER} or PKG_CONFIG_PATH names the folder"),
     };
-    for flag in flags.split_whitespace() {
+    for flag in words(&flags) {
         if let Some(folder) = flag.strip_prefix("-L") {
             println!("cargo:rustc-link-search=native={folder}");
         } else if let Some(name) = flag.strip_prefix("-l") {
             println!("cargo:rustc-link-lib={name}");
         }
     }
+}
+
+/// The words of a line. A backslash stands before a blank, or another character, that belongs to
+/// its word.
+fn words(line: &str) -> Vec<String> {
+    let (mut words, mut word) = (Vec::new(), String::new());
+    let mut characters = line.chars();
+    while let Some(it) = characters.next() {
+        match it {
+            '\\' => word.extend(characters.next()),
+            _ if it.is_whitespace() => words.push(std::mem::take(&mut word)),
+            _ => word.push(it),
+        }
+    }
+    words.push(word);
+    words
 }

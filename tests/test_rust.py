@@ -7,7 +7,7 @@ import tempfile
 import unittest
 from pathlib import Path
 
-from library import INCLUDE, LIB_DIR, demand_library
+from library import INCLUDE, LIB_DIR, SONAME, demand_library, tool
 from program import EXAMPLES, TOP
 
 CRATE = TOP / "rust"
@@ -84,10 +84,23 @@ class Cargo(unittest.TestCase):
         self.assertEqual(done.returncode, 0, f"{done.stdout}\n{done.stderr}")
         return done.stdout
 
-    def run_example(self, **how):
-        words = "--quiet", "--example", "two_parties", LESS
+    def run_example(self, target="target", **how):
+        """Runs the example, and returns the shared libraries that it needs."""
+        words, how = ("--quiet", "--example", "two_parties", LESS), {"CARGO_TARGET_DIR": str(self.folder / target), **how}
         self.assertEqual(self.cargo("run", *words, "7", "9", **how), "1\n")
         self.assertEqual(self.cargo("run", *words, "9", "7", **how), "0\n")
+        said = subprocess.run(
+            [tool("readelf"), "-d", self.folder / target / "debug/examples/two_parties"],
+            capture_output=True, text=True, check=True,
+        ).stdout
+        return re.findall(r"Shared library: \[(.*)\]", said)
+
+    def odd_folder(self):
+        """A folder with the library, in whose path are a blank and a comma."""
+        odd = self.folder / "a, b"
+        if not odd.is_dir():
+            shutil.copytree(LIB_DIR, odd)
+        return odd
 
     def test_its_tests(self):
         counts = re.findall(r"^test result: ok\. (\d+) passed; 0 failed; 0 ignored", self.cargo("test"), re.M)
@@ -101,18 +114,21 @@ class Cargo(unittest.TestCase):
         self.cargo("clippy", "--all-targets", "--", "-D", "warnings", "-A", "clippy::pedantic")
 
     def test_the_archive_and_the_shared_library(self):
-        self.run_example()
-        self.run_example(HALFGATES_DYNAMIC="1")
+        for folder in (LIB_DIR, self.odd_folder()):
+            how = {"HALFGATES_LIB_DIR": str(folder)}
+            self.assertNotIn(SONAME, self.run_example(**how))
+            self.assertIn(SONAME, self.run_example(HALFGATES_DYNAMIC="1", **how))
 
     @unittest.skipUnless(shutil.which("pkg-config"), "there is no pkg-config")
     def test_what_pkg_config_finds(self):
-        """In a copy of the crate alone."""
-        copy = self.folder / "copy/rust"
+        """In a copy of the crate alone, beside what was built where the crate lies in the repository."""
+        copy, odd = self.folder / "copy/rust", self.odd_folder()
         shutil.copytree(CRATE, copy, ignore=shutil.ignore_patterns("target"))
-        pc_file = f"Name: halfgates\nDescription: under test\nVersion: 0\nLibs: -L{LIB_DIR} -lhalfgates\n"
+        place = re.sub(r"([ ,])", r"\\\1", str(odd))
+        pc_file = f"Name: halfgates\nDescription: under test\nVersion: 0\nLibs: -L{place} -lhalfgates\n"
         (copy.parent / "halfgates.pc").write_text(pc_file)
-        paths = {"PKG_CONFIG_PATH": str(copy.parent), "LD_LIBRARY_PATH": str(LIB_DIR)}
-        self.run_example(folder=copy, HALFGATES_LIB_DIR="", **paths)
+        paths = {"PKG_CONFIG_PATH": str(copy.parent), "LD_LIBRARY_PATH": str(odd)}
+        self.assertIn(SONAME, self.run_example(folder=copy, HALFGATES_LIB_DIR="", **paths))
 
 
 if __name__ == "__main__":

@@ -130,11 +130,14 @@ fn run(circuit: &str, first: &str, second: &str) -> Result<()> {
 
 fn main() -> ExitCode {
     let words: Vec<String> = env::args().skip(1).collect();
-    let [circuit, first, second] = &words[..] else {
-        eprintln!("usage: two_parties CIRCUIT FIRST SECOND");
-        return ExitCode::from(2);
+    let done = match &words[..] {
+        [circuit, first, second] => run(circuit, first, second),
+        _ => {
+            eprintln!("usage: two_parties CIRCUIT FIRST SECOND");
+            return ExitCode::from(2);
+        }
     };
-    match run(circuit, first, second) {
+    match done {
         Ok(()) => ExitCode::SUCCESS,
         Err(error) => {
             eprintln!("two_parties: {error}");

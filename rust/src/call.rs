@@ -50,6 +50,11 @@ impl<T: Free> Handle<T> {
     pub fn get(&self) -> *const T {
         self.0.as_ptr()
     }
+
+    /// The handle as lists have it. Calls that take a list only read its handles.
+    pub fn listed(&self) -> *mut T {
+        self.0.as_ptr()
+    }
 }
 
 impl<T: Free> Drop for Handle<T> {

@@ -341,7 +341,7 @@ pub fn write_many<G: Borrow<Garbling>>(
     let garblings = borrowed(garblings)?;
     let (mut handles, mut sizes) = (room(garblings.len())?, room(garblings.len())?);
     for garbling in &garblings {
-        handles.push(garbling.handle.get().cast_mut());
+        handles.push(garbling.handle.listed());
         sizes.push(garbling.garbled_size(version)?);
     }
     let (count, size) = (handles.len(), sizes.iter().sum());

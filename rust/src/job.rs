@@ -75,7 +75,7 @@ impl Job {
 pub fn evaluate_many<J: Borrow<Job>>(jobs: &[J]) -> Result<Vec<Vec<bool>>, Fault> {
     let jobs = borrowed(jobs)?;
     let (mut handles, mut outputs) = (room(jobs.len())?, room(jobs.len())?);
-    handles.extend(jobs.iter().map(|it| it.handle.get().cast_mut()));
+    handles.extend(jobs.iter().map(|it| it.handle.listed()));
     let size = jobs.iter().map(|it| it.output_wires).sum();
     // SAFETY: the call reads the list and the jobs of its handles, and writes `size` bytes.
     let bits = unsafe {
