@@ -461,6 +461,26 @@ class Buffers(LibraryTest):
             for bits in (*self.kinds(b"\1\0\1"), [1, 0, 1], (True, False, True)):
                 self.assertEqual(circuit.plain(bits), b"\0\1")
 
+    def test_buffers_that_add(self):
+        """Bytes are taken as they are lent, also of an object with an addition of its own, such as NumPy's arrays."""
+
+        class Adding(bytearray):
+            def __add__(self, other):
+                return Adding(a ^ b for a, b in zip(self, other))
+
+            __radd__ = __iadd__ = __mul__ = __rmul__ = __add__
+
+        seeds = [bytes([it]) * 32 for it in range(3)]
+        with Circuit.read(Adding(FULL_ADDER.encode())) as circuit:
+            garblings = circuit.garble_many([Adding(it) for it in seeds])
+            self.assertEqual(len(garblings), 3)
+            for seed, garbling in zip(seeds, garblings):
+                with garbling, circuit.garble(Adding(seed)) as alone:
+                    self.assertEqual(bytes(garbling.write()), bytes(alone.write()))
+                    files = [Adding(garbling.deal(index, Adding([1]))) for index in range(3)]
+                    with circuit.bind(Adding(garbling.write()), files) as job:
+                        self.assertEqual(job.evaluate(), b"\1\1")
+
     def test_written_buffers(self):
         with Circuit.read(FULL_ADDER.encode()) as circuit, circuit.garble(ZEROS) as garbling:
             file = garbling.write()
@@ -643,6 +663,9 @@ class Package(unittest.TestCase):
                     if callable(call) and not method.startswith("_"):
                         self.assertTrue(call.__doc__, f"{name}.{method}")
                         self.assertIn("return", typing.get_type_hints(call), f"{name}.{method}")
+
+    def test_bits_may_be_truth_values(self):
+        self.assertLessEqual({typing.List[int], typing.List[bool]}, {*typing.get_args(halfgates.Bits)})
 
     def test_a_library_that_is_not_there(self):
         for path in ("/nowhere.so", "libc.so.6"):

@@ -4,13 +4,16 @@
 from array import array
 from mmap import mmap
 from operator import index as integer
-from typing import List, Tuple, Union
+from typing import TYPE_CHECKING, List, Tuple, Union
 
-#: What lends its bytes. Other objects that do so serve as well.
-Buffer = Union[bytes, bytearray, memoryview, mmap, array]
+if TYPE_CHECKING:
+    from typing_extensions import Buffer
+else:
+    #: What lends its bytes. Other objects that do so serve as well.
+    Buffer = Union[bytes, bytearray, memoryview, mmap, array]
 
-#: Bits in wire order: a buffer of bytes 0 and 1, or a list or tuple of numbers 0 and 1.
-Bits = Union[Buffer, List[int], Tuple[int, ...]]
+#: Bits in wire order: a buffer of bytes 0 and 1, or a list or tuple of numbers 0 and 1, or of truth values.
+Bits = Union[Buffer, List[int], List[bool], Tuple[int, ...]]
 
 _DIGITS = bytes.maketrans(b"\0\1", b"01")
 _BITS = bytes.maketrans(b"01", b"\0\1")

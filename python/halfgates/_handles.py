@@ -2,7 +2,7 @@
 """Circuits, garblings and jobs: the handles of the library."""
 
 from contextlib import contextmanager
-from ctypes import Array, byref, c_size_t, c_uint8, c_uint32, c_void_p, sizeof
+from ctypes import Array, byref, c_size_t, c_uint8, c_uint32, c_void_p, sizeof, string_at
 from itertools import accumulate
 from operator import index as integer
 from os import PathLike
@@ -102,8 +102,8 @@ class Circuit(Handle):
         """
         keys = bytearray()
         for seed in seeds:
-            with _lent(seed, "a seed", SEED):
-                keys += seed
+            with _lent(seed, "a seed", SEED) as lent:
+                keys += string_at(lent.at, SEED)  # the seed itself may have an addition of its own, as arrays do
         made = [self._garbling() for _ in range(len(keys) // SEED)]
         places = (c_void_p * len(made))()
         for i, it in enumerate(made):  # each owns its place before the call writes it
