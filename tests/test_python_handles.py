@@ -12,6 +12,7 @@ import textwrap
 import threading
 import unittest
 import weakref
+from contextlib import ExitStack
 from unittest import mock
 
 from inputs import many_ands
@@ -56,6 +57,7 @@ class Owners(unittest.TestCase):
         self.makers = {
             "circuit": lambda: Circuit.read(LARGE),
             "garbling": lambda: self.circuit.garble(SEED),
+            "garbling of many": lambda: self.circuit.garble_many([SEED])[0],
             "job": lambda: self.circuit.bind(self.garbled, self.files),
         }
 
@@ -113,7 +115,9 @@ class Owners(unittest.TestCase):
             with self.assertRaises(KeyboardInterrupt):
                 make()
 
-        with patched("circuit_read", interrupted), patched("garble", interrupted), patched("job_bind", interrupted):
+        with ExitStack() as stack:
+            for name in ("circuit_read", "garble", "garble_many", "job_bind"):
+                stack.enter_context(patched(name, interrupted))
             self.assert_keeps_no_memory(use)
 
     def test_copies(self):

@@ -8,6 +8,7 @@ import sys
 import tempfile
 import typing
 import unittest
+from pathlib import Path
 
 from inputs import by_about, damaged_text, draws, load, worked_circuits
 from library import environment_of_python, import_package
@@ -375,7 +376,8 @@ class Refusals(LibraryTest):
         ):
             self.assertEqual(audit(file), expected)
             self.assertFalse(audit(file).honest)
-        self.assert_fault("31 Truncated", audit, wrong[:-1])
+        for size in range(len(wrong)):
+            self.assert_fault("31 Truncated", audit, wrong[:size])
         self.assert_fault("32 Trailing", audit, wrong + b"\0")
 
     def test_closed_handles(self):
@@ -548,6 +550,9 @@ class Conveniences(LibraryTest):
         self.assertRaises(FileNotFoundError, Circuit.open, EXAMPLES / "none.txt")
         self.assertRaises(TypeError, Circuit.from_text, FULL_ADDER.encode())
         self.assert_fault("2 BadNumber", Circuit.from_text, "\u0661 5")
+        with tempfile.NamedTemporaryFile() as file:
+            Path(file.name).write_bytes(b"\xff 3")  # which isn't UTF-8
+            self.assert_fault("2 BadNumber", Circuit.open, file.name)
 
     def test_reports_are_true_where_they_are_honest(self):
         with Circuit.from_text(FULL_ADDER) as circuit:

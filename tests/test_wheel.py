@@ -88,6 +88,7 @@ class Files(WheelTest):
         metadata = message_from_bytes(held[f"{info}/METADATA"])
         self.assertEqual(f"{metadata['Name']}-{metadata['Version']}.dist-info", info)
         self.assertEqual(metadata["License-Expression"], "MIT OR Apache-2.0")
+        self.assertEqual(metadata["Requires-Python"], ">=3.9")
         self.assertEqual(metadata.get_all("License-File"), [*LICENSES])
 
         record = held[f"{info}/RECORD"].decode()

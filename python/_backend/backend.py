@@ -17,7 +17,8 @@ from typing import Dict
 PYTHON = Path(__file__).resolve().parents[1]
 TOP = PYTHON.parent
 
-# The libraries need x86-64-v2 and glibc 2.34.
+# The libraries need glibc 2.17 and x86-64-v2. pip has no tag for such processors; distributions that ask for them begin
+# with glibc 2.34.
 PLATFORM = "manylinux_2_34_x86_64"
 LIBRARIES = "libhalfgates.so.0", "glibc-hwcaps/x86-64-v3/libhalfgates.so.0"
 LICENSES = "LICENSE-APACHE", "LICENSE-MIT", "THIRD-PARTY.md"
