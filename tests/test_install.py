@@ -1,15 +1,19 @@
-"""Installing a release, from a copy of the repository without its sources, and using what is installed."""
+"""Installing a release, from a copy of the repository without its sources, and using what is installed; and what
+./build writes for linkers, pkg-config and CMake."""
 
 import os
 import shlex
 import shutil
+import stat
 import subprocess
 import tempfile
+import threading
+import time
 import unittest
 from pathlib import Path
 from shutil import which
 
-from library import LIB_DIR, SONAME, compiler
+from library import INCLUDE, LIB_DIR, SONAME, compiler
 from program import EXAMPLES, TOP
 
 RELEASE = LIB_DIR.parent
@@ -29,6 +33,24 @@ add_executable(static {EXAMPLE})
 target_link_libraries(static halfgates::static)
 """
 
+# Prints which of these versions find a package.
+CMAKE_VERSIONS = """
+cmake_minimum_required(VERSION 3.13...3.19)
+project(versions NONE)
+foreach(wanted {})
+  set(halfgates_FOUND FALSE)
+  find_package(halfgates ${{wanted}} CONFIG QUIET)
+  if(halfgates_FOUND)
+    message(STATUS "finds ${{wanted}}")
+  endif()
+endforeach()
+"""
+
+
+def append(path, data):
+    with path.open("ab") as file:
+        file.write(data)
+
 
 def run(*words, **how):
     done = subprocess.run(words, capture_output=True, text=True, check=False, timeout=120, **how)
@@ -47,8 +69,8 @@ class InstallTest(unittest.TestCase):
             shutil.copy2(TOP / name, self.top)
         shutil.copytree(RELEASE, self.top / "dist")
 
-    def install(self, prefix=None):
-        self.assertEqual(run(self.top / "install", prefix or self.prefix), (0, "", ""))
+    def install(self, prefix=None, **how):
+        self.assertEqual(run(self.top / "install", prefix or self.prefix, **how), (0, "", ""))
 
     def files(self):
         found = sorted(it for it in self.prefix.rglob("*") if it.is_file())
@@ -69,9 +91,92 @@ class InstallTest(unittest.TestCase):
         """It replaces what stands there, also while it is used."""
         self.install()
         before = self.files()
-        with open(self.prefix / "lib" / SONAME, "rb"):
+        os.mkfifo(self.folder / "fifo")
+        words = [self.prefix / "bin/halfgates", "check", self.folder / "fifo"]
+        with subprocess.Popen(words, stdout=subprocess.DEVNULL, stderr=subprocess.DEVNULL):
+            writer = os.open(self.folder / "fifo", os.O_WRONLY)
             self.install()
+            os.close(writer)
         self.assertEqual(self.files(), before)
+
+    def test_each_file_is_there_meanwhile(self):
+        """A program that starts while files are replaced finds the old ones or the new ones."""
+        self.install()
+        sizes = {self.prefix / name: len(data) for name, data in self.files().items()}
+        is_done, missed = threading.Event(), []
+
+        def watch():
+            while not is_done.is_set():
+                for path, size in sizes.items():
+                    try:
+                        found = path.stat().st_size
+                    except FileNotFoundError:
+                        found = None
+                    if found != size:
+                        missed.append((path.name, found))
+
+        watcher = threading.Thread(target=watch)
+        watcher.start()
+        try:
+            for _ in range(5):
+                self.install()
+        finally:
+            is_done.set()
+            watcher.join()
+        self.assertEqual(missed, [])
+
+    def test_modes(self):
+        """Others can use what is installed, whatever the umask and the modes of the clone."""
+        for path in [self.top, *self.top.rglob("*")]:
+            path.chmod(path.stat().st_mode & 0o700)
+        for umask in (0, 0o077):
+            prefix = self.folder / f"umask{umask}"
+            self.install(prefix, preexec_fn=lambda: os.umask(umask))
+            for path in prefix.rglob("*"):
+                is_run = path.is_dir() or path.name == "halfgates" or path.name.startswith("libhalfgates.so")
+                self.assertEqual(oct(stat.S_IMODE(path.stat().st_mode)), oct(0o755 if is_run else 0o644), path)
+
+    def test_relative(self):
+        """Also where CDPATH names other folders."""
+        for name in ("elsewhere/top", "elsewhere/rel", "rel"):
+            (self.folder / name).mkdir(parents=True)
+        environment = {**os.environ, "CDPATH": str(self.folder / "elsewhere")}
+        self.assertEqual(run("top/install", "rel/./", cwd=self.folder, env=environment), (0, "", ""))
+        self.assertEqual([*(self.folder / "elsewhere/rel").iterdir()], [])
+        self.assertIn(f"prefix={self.folder}/rel\n", (self.folder / "rel/lib/pkgconfig/halfgates.pc").read_text())
+
+    def test_a_package(self):
+        """DESTDIR is where the files are put, and PREFIX where they will be."""
+        environment = {**os.environ, "DESTDIR": str(self.folder / "stage")}
+        self.install("/nowhere/usr/", env=environment)
+        staged, self.prefix = self.folder / "stage/nowhere/usr", self.folder / "same"
+        self.install()
+        packed = {str(it.relative_to(staged)) for it in staged.rglob("*") if it.is_file()}
+        self.assertEqual(packed, {*self.files()})
+        self.assertIn("prefix=/nowhere/usr\n", (staged / "lib/pkgconfig/halfgates.pc").read_text())
+        ending = run(self.top / "install", "usr", env=environment)
+        self.assertEqual(ending, (1, "", "install: where DESTDIR is set, PREFIX begins with a slash\n"))
+        self.assertEqual(run(self.top / "install", "--uninstall", "/nowhere/usr", env=environment), (0, "", ""))
+        self.assertEqual([it for it in staged.rglob("*") if not it.is_dir()], [])
+
+    def test_uninstall(self):
+        """It leaves what others have put there."""
+        others = [self.prefix / name for name in ("bin/other", "lib/pkgconfig/other.pc", "share/doc/halfgates/note")]
+        for path in others:
+            path.parent.mkdir(parents=True, exist_ok=True)
+            path.touch()
+        self.install()
+        for _ in range(2):
+            self.assertEqual(run(self.top / "install", "--uninstall", self.prefix), (0, "", ""))
+            self.assertEqual({it for it in self.prefix.rglob("*") if not it.is_dir()}, {*others})
+        self.assertFalse((self.prefix / "libexec/halfgates").exists())
+
+    def test_prefixes_that_are_refused(self):
+        said = "install: halfgates.pc can't name this PREFIX: it has a quote, a #, a $ or a control character\n"
+        for odd in ("a'b", 'a"b', "a#b", "a$b", "a`b", "a\nb", "a\tb"):
+            for how in ({}, {"env": {**os.environ, "DESTDIR": str(self.folder)}}):
+                self.assertEqual(run(self.top / "install", f"{self.prefix}/{odd}", **how), (1, "", said), odd)
+        self.assertFalse(self.prefix.exists())
 
     def test_the_program(self):
         self.install()
@@ -108,9 +213,9 @@ class InstallTest(unittest.TestCase):
         self.assertEqual((status, error), (1, "install: dist/ has nothing for this processor\n"))
 
     def test_usage(self):
-        for words in ((), ("",), ("--help",), ("a", "b")):
+        for words in ((), ("",), ("--help",), ("a", "b"), ("--uninstall",), ("--uninstall", "a", "b")):
             status, _, error = run(self.top / "install", *words)
-            self.assertEqual((status, error), (2, "usage: ./install PREFIX\n"), words)
+            self.assertEqual((status, error), (2, "usage: ./install [--uninstall] PREFIX\n"), words)
 
     def test_damage(self):
         """A byte of a file that changed is seen, and nothing is installed."""
@@ -131,6 +236,40 @@ class InstallTest(unittest.TestCase):
         status, _, error = run(self.top / "install", self.prefix)
         self.assertEqual(status, 1)
         self.assertIn("install: the sources have changed since out/halfgates was built", error)
+
+    def pretend_to_build(self):
+        """Puts a library that ./build made of these sources, whose C++ header has changed since the release."""
+        for name in ("crates", "c"):
+            (self.top / name).symlink_to(TOP / name)
+        shutil.copy2(TOP / "crates.txt", self.top)
+        shutil.copytree(INCLUDE, self.top / "include")
+        append(self.top / "include/halfgates.hpp", b"/* later */\n")
+        built = self.top / "out/lib"
+        built.mkdir(parents=True)
+        for name in (SONAME, "libhalfgates.a"):
+            shutil.copy(RELEASE / "lib" / name, built)
+        append(built / SONAME, b"built")
+        script = 'top=$1; . "$top/sources.sh"; sum_of_sources halfgates_c'
+        (built / f"{SONAME}.sources").write_text(run("sh", "-c", script, "sh", self.top)[1])
+        later = time.time() + 10
+        os.utime(built / SONAME, (later, later))
+
+    def test_what_was_built_since_the_release(self):
+        """The library of out/lib/ with its headers, in the place of the release's, also of the faster one."""
+        self.install()
+        self.pretend_to_build()
+        self.install()
+        installed = self.files()
+        self.assertTrue(installed[f"lib/{SONAME}"].endswith(b"built"))
+        self.assertTrue(installed["include/halfgates.hpp"].endswith(b"/* later */\n"))
+        self.assertNotIn(f"lib/glibc-hwcaps/x86-64-v3/{SONAME}", installed)
+
+    def test_a_header_that_changed_since_the_build(self):
+        self.pretend_to_build()
+        append(self.top / "include/halfgates.h", b"/* later still */\n")
+        status, _, error = run(self.top / "install", self.prefix)
+        self.assertEqual(status, 1)
+        self.assertIn(f"install: the sources have changed since out/lib/{SONAME} was built", error)
 
     def test_pkg_config(self):
         if not which("pkg-config"):
@@ -157,6 +296,67 @@ class InstallTest(unittest.TestCase):
             self.assertEqual(run("cmake", "--build", made)[::2], (0, ""))
             for program in ("shared", "static"):
                 self.assertEqual(run(made / program, *WORDS), (0, "1\n", ""))
+
+
+class ForLinkers(unittest.TestCase):
+    """What ./build writes beside a library, in each folder that has one. The one for ARM64 gets a stand-in."""
+
+    def setUp(self):
+        folder = tempfile.TemporaryDirectory()
+        self.addCleanup(folder.cleanup)
+        self.folder = Path(folder.name).resolve()
+        self.build = {"__name__": "build", "__file__": str(TOP / "build")}
+        exec(compile((TOP / "build").read_text(), TOP / "build", "exec"), self.build)
+
+    def write(self, version=None):
+        """Writes these files, as those of a version, and returns the folders."""
+        self.build["version"] = lambda of=self.build["version"]: version or of()
+        for at in ("lib", "lib/aarch64"):
+            self.build["write_for_linkers"](str(self.folder), at)
+        return [self.folder / at for at in ("lib", "lib/aarch64")]
+
+    def use(self):
+        """Writes them beside the headers and libraries, and returns the folders."""
+        folders = self.write()
+        shutil.copytree(INCLUDE, self.folder / "include")
+        for folder in folders:
+            for name in (SONAME, "libhalfgates.a"):
+                shutil.copy(LIB_DIR / name, folder)
+        return folders
+
+    @unittest.skipUnless(which("pkg-config"), "there is no pkg-config")
+    def test_pkg_config(self):
+        for folder in self.use():
+            environment = {**os.environ, "PKG_CONFIG_PATH": str(folder / "pkgconfig")}
+            flags = shlex.split(run("pkg-config", "--cflags", "--libs", "halfgates >= 0.6", env=environment)[1])
+            words = [compiler(".c")[0], EXAMPLE, *flags, f"-Wl,-rpath,{folder}", "-o", folder / "program"]
+            self.assertEqual(run(*words), (0, "", ""))
+            self.assertEqual(run(folder / "program", *WORDS), (0, "1\n", ""))
+
+    @unittest.skipUnless(which("cmake"), "there is no cmake")
+    def test_cmake(self):
+        (self.folder / "CMakeLists.txt").write_text(CMAKE_LISTS)
+        for folder in self.use():
+            words = f"-Dhalfgates_DIR={folder}/cmake/halfgates", "-S", self.folder, "-B", folder / "made"
+            self.assertEqual(run("cmake", *words)[::2], (0, ""))
+            self.assertEqual(run("cmake", "--build", folder / "made")[::2], (0, ""))
+            for program in ("shared", "static"):
+                self.assertEqual(run(folder / "made" / program, *WORDS), (0, "1\n", ""))
+
+    @unittest.skipUnless(which("cmake"), "there is no cmake")
+    def test_versions_for_cmake(self):
+        """A release serves for earlier ones of its soname, and for no range that ends before it."""
+        for version, found, others in (
+            ("0.9.5", "0 0.6 0.9 0.9.5 0.6...0.9.5 0.6...<0.9.6 0.6...2", "0.9.6 0.10 1 1.0 99 0.6...0.9.4 0.6...<0.9.5"),
+            ("1.2.0", "1 1.0 1.2 1.0...<2 1...1.2.0", "0.6 0.9.5 0 1.3 2 0.9...2 1...<1.2"),
+        ):
+            self.write(version)
+            (self.folder / "CMakeLists.txt").write_text(CMAKE_VERSIONS.format(f"{found} {others}"))
+            words = f"-DCMAKE_PREFIX_PATH={self.folder}", "-S", self.folder, "-B", self.folder / version
+            status, printed, error = run("cmake", *words)
+            self.assertEqual((status, error), (0, ""))
+            finds = [line.partition("finds ")[2] for line in printed.splitlines() if "finds " in line]
+            self.assertEqual(finds, found.split(), version)
 
 
 if __name__ == "__main__":
