@@ -86,11 +86,10 @@ def compiler(suffix):
     return tool(os.environ.get(variable, name)), standard
 
 
-def build(source, program, *flags):
-    """Compiles a source and links it with the archive. Warnings are errors."""
+def build(source, program, *flags, library=ARCHIVE):
+    """Compiles a source and links it with the archive, or with another library. Warnings are errors."""
     command, standard = compiler(source.suffix)
-    words = [command, standard, *WARNINGS, f"-I{INCLUDE}", *flags, "-o", program, source]
-    words.append(ARCHIVE)
+    words = [command, standard, *WARNINGS, f"-I{INCLUDE}", *flags, "-o", program, source, library]
     done = subprocess.run(words, capture_output=True, text=True, check=False)
     if done.returncode:
         raise AssertionError(f"{source.relative_to(TOP)} doesn't compile:\n{done.stderr}")

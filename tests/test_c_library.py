@@ -1,6 +1,7 @@
 """The library from C and C++: its tests in tests/c/ and its examples, compiled with all warnings and, where
 the compiler has them, with sanitizers."""
 import os
+import platform
 import re
 import subprocess
 import sys
@@ -11,7 +12,7 @@ from shutil import which
 
 from inputs import worked_circuits
 from library import (
-    INCLUDE, LIB_DIR, LIBRARY, SONAME, build, compiler, demand_library, environment_of_python, sanitizers,
+    ARCHIVE, INCLUDE, LIB_DIR, LIBRARY, SONAME, build, compiler, demand_library, environment_of_python, sanitizers,
     shared_library, tool,
 )
 from program import EXAMPLES, TOP, sealed
@@ -53,6 +54,14 @@ def declared_names():
     """The functions that the header declares."""
     header = re.sub(r"/\*.*?\*/", "", (INCLUDE / "halfgates.h").read_text(), flags=re.S)
     return set(re.findall(r"^\w+ (halfgates_\w+)\(", header, re.M))
+
+
+def stack_of_header():
+    """The kilobytes of stack that the header says of each call that it names, and of every other call."""
+    header = re.sub(r"\s[ *]+", " ", (INCLUDE / "halfgates.h").read_text())
+    said = header.partition("STACK. ")[2].partition("BUFFERS. ")[0]
+    figures = re.findall(r"(halfgates_\w+) (?:uses )?(\d+)", said)
+    return {name: int(figure) for name, figure in figures}, int(re.search(r"every other call less than (\d+)", said)[1])
 
 
 def declared_codes():
@@ -114,6 +123,22 @@ class FromC(LibraryTest):
 
     def test_threads(self):
         self.run_built(SOURCES / "threads.c", flags=["-pthread"])
+
+    @unittest.skipUnless(platform.machine() == "x86_64", "the header's figures for the stack are those of x86-64")
+    def test_stack(self):
+        """Each call keeps within the kilobytes that the header names, which aren't twice what it needs."""
+        said, others = stack_of_header()
+        program, most = self.folder / "stack", {}
+        for library in (ARCHIVE, LIBRARY):
+            build(SOURCES / "stack.c", program, f"-Wl,-rpath,{library.parent}", library=library)
+            done = subprocess.run([program, EXAMPLES / "adder64.txt"], capture_output=True, text=True, check=True)
+            for name, size in map(str.split, done.stdout.splitlines()):
+                most[f"halfgates_{name}"] = max(int(size), most.get(f"halfgates_{name}", 0))
+        self.assertEqual({*most}, declared_names())
+        for name, size in most.items():
+            self.assertLessEqual(size, 1000 * said.get(name, others), name)
+        for name, kilobytes in said.items():
+            self.assertLess(1000 * kilobytes, 2 * most[name], name)
 
     def test_a_million_gates(self):
         self.run_built(SOURCES / "million.c")
