@@ -178,6 +178,12 @@ class FromCPlusPlus(LibraryTest):
             forged[-1].write_bytes(file)
         self.run_built(SOURCES / "beside.cpp", circuit, *forged)
 
+    def test_seeds_without_random_bytes(self):
+        source, program = self.folder / "entropy.cpp", self.folder / "entropy"
+        source.write_text(NO_ENTROPY)
+        build(source, program)
+        self.assertEqual(subprocess.run([program], check=False).returncode, 0)
+
     def test_later_standards(self):
         for standard in ("-std=c++17", "-std=c++20"):
             with self.subTest(standard):
@@ -284,6 +290,23 @@ int main(void) {
     snprintf(text, 32, "%d.%d.%d", HALFGATES_VERSION_MAJOR, HALFGATES_VERSION_MINOR, HALFGATES_VERSION_PATCH);
     printf("%d\\n", strcmp(text, version.text) == 0);
     return 0;
+}
+"""
+
+# The system has no random bytes.
+NO_ENTROPY = """
+#include <halfgates.hpp>
+extern "C" int getentropy(void *, size_t) noexcept {
+    errno = ENOSYS;
+    return -1;
+}
+int main() {
+    try {
+        (void)halfgates::seed::random();
+    } catch (const std::system_error &error) {
+        return error.code().value() != ENOSYS;
+    }
+    return 1;
 }
 """
 

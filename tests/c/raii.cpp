@@ -1,6 +1,8 @@
 /* The C++ view: handles move and free themselves, what its calls throw, and what its types refuse. */
 #include "check.h"
+#include <algorithm>
 #include <halfgates.hpp>
+#include <memory>
 #include <string>
 #include <type_traits>
 
@@ -66,13 +68,39 @@ void check_types() {
 }
 
 void check_seeds() {
-    const halfgates::seed first = halfgates::seed::random(), second = halfgates::seed::random();
-    CHECK(memcmp(first.data(), second.data(), 32) != 0);
+    const halfgates::seed first = halfgates::seed::random();
+    std::array<std::uint8_t, 32> differences{};
+    for (int i = 0; i < 16; i++) {
+        const halfgates::seed other = halfgates::seed::random();
+        for (std::size_t byte = 0; byte < differences.size(); byte++)
+            differences[byte] |= std::uint8_t(first.data()[byte] ^ other.data()[byte]);
+    }
+    CHECK(std::count(differences.begin(), differences.end(), 0) == 0);
     const bytes given(32, 7);
     CHECK(memcmp(halfgates::seed::from_bytes(given).data(), given.data(), 32) == 0);
     throws(66, "fault 66 WrongSize", [] { (void)halfgates::seed::from_bytes({}); });
     throws(66, "fault 66 WrongSize", [] { (void)halfgates::seed::from_bytes(bytes(31)); });
     throws(66, "fault 66 WrongSize", [] { (void)halfgates::seed::from_bytes(bytes(33)); });
+}
+
+/* What a call returns is as long as the circuit says: it has 3 inputs, 1 AND gate and 2 outputs. Garblings and jobs
+ * outlive it. */
+void check_sizes() {
+    std::unique_ptr<halfgates::circuit> circuit(new halfgates::circuit(TEXT));
+    const halfgates::garbling garbling = circuit->garble(seed_of(1));
+    halfgates::labels active;
+    std::vector<bytes> files;
+    for (std::uint32_t index = 0; index < 3; index++) {
+        active.push_back(garbling.input_labels(index).one[0]);
+        files.push_back(garbling.deal(index, {1}));
+    }
+    const halfgates::view view(active);
+    CHECK(circuit->evaluate_labels(garbling.rows(), view, 0).size() == 2);
+    const halfgates::job job = circuit->bind(garbling.write(), files);
+    circuit.reset();
+    CHECK(garbling.rows().size() == 32 && garbling.decode_bits().size() == 2);
+    CHECK(garbling.input_labels(2).one[0] == active[2] && garbling.output_labels(0).zero.size() == 2);
+    CHECK(job.output_labels().size() == 2 && job.evaluate() == bytes({1, 1}));
 }
 
 /* What a call reads may be a list, a temporary, a view, or a pointer and a size. */
@@ -99,6 +127,8 @@ void check_faults() {
     throws(45, "fault 45 MissingValue", [&] { (void)circuit.bind(garbling.write(), {}); });
     throws(60, "fault 60 BadArgument", [&] { (void)garbling.write(3); });
     throws(60, "fault 60 BadArgument", [&] { (void)circuit.garbled_size(3); });
+    throws(60, "fault 60 BadArgument", [&] { (void)garbling.garbled_size(3); });
+    throws(64, "fault 64 NullPointer", [] { (void)halfgates::locate({nullptr, 1}); });
     throws(60, "fault 60 BadArgument", [&] { (void)garbling.decode_bit(2); });
     throws(60, "fault 60 BadArgument", [&] { (void)garbling.zero_label(8); });
     throws(31, "fault 31 Truncated", [&] { (void)garbling.audit(bytes{}); });
@@ -137,6 +167,7 @@ void check_moves() {
 int main() {
     check_types();
     check_seeds();
+    check_sizes();
     check_inputs();
     check_faults();
     check_moves();
