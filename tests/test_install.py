@@ -13,7 +13,7 @@ import unittest
 from pathlib import Path
 from shutil import which
 
-from library import INCLUDE, LIB_DIR, SONAME, compiler
+from library import INCLUDE, LIB_DIR, SONAME, compiler, tool
 from program import EXAMPLES, TOP
 
 RELEASE = LIB_DIR.parent
@@ -296,6 +296,24 @@ class InstallTest(unittest.TestCase):
             self.assertEqual(run("cmake", "--build", made)[::2], (0, ""))
             for program in ("shared", "static"):
                 self.assertEqual(run(made / program, *WORDS), (0, "1\n", ""))
+
+
+@unittest.skipUnless(IS_RELEASE, "the library under test is not that of a release")
+class Processors(unittest.TestCase):
+    """Each file of a release is for its own kind of processor. Those for x86-64-v3 use registers of AVX."""
+
+    def test_instructions(self):
+        older = "halfgates", f"lib/{SONAME}", "lib/libhalfgates.a"
+        newer = "v3/halfgates", f"lib/glibc-hwcaps/x86-64-v3/{SONAME}"
+        for name in (*older, *newer):
+            words = [tool("objdump"), "--disassemble", "--no-show-raw-insn", RELEASE / name]
+            printed = subprocess.run(words, capture_output=True, text=True, check=True).stdout
+            self.assertEqual("%ymm" in printed, name in newer, name)
+
+    @unittest.skipUnless(which("qemu-x86_64"), "there is no qemu-x86_64: the program for x86-64-v2 is not run as there")
+    def test_a_processor_without_avx(self):
+        words = "qemu-x86_64", "-cpu", "Nehalem", RELEASE / "halfgates", *ADD
+        self.assertEqual(run(*words), (0, "01\n", ""))
 
 
 class ForLinkers(unittest.TestCase):

@@ -1,4 +1,5 @@
-"""The launcher, in a copy of the repository that has the program in dist/ and nothing in out/."""
+"""The launcher, in a copy of the repository that has the program in dist/ and nothing in out/; and what it asks of the
+machine."""
 
 import os
 import shutil
@@ -13,8 +14,12 @@ from program import EXAMPLES, PROGRAM, TOP
 ADD = f"plain {EXAMPLES}/full_adder.txt 1 0 1"
 SUM = 0, "01\n", ""
 
-# A program that says where it lies.
+# A program that says where it lies, and one that says its arguments and what it tunes.
 STAND_IN = "#!/bin/sh\necho $0\n"
+SHOW = '#!/bin/sh\nprintf "<%s>" "$@"\necho "$GLIBC_TUNABLES $LD_BIND_NOW"\n'
+
+# What /proc/cpuinfo says of a processor of x86-64-v3.
+V3 = "avx avx2 bmi1 bmi2 f16c fma abm movbe".split()
 
 
 class Copy(unittest.TestCase):
@@ -82,6 +87,16 @@ class Choice(Copy):
         self.assertEqual((status, error), (0, ""))
         return printed.strip()
 
+    def test_arguments(self):
+        """They are passed on as they are, and memory is tuned only where the user doesn't do so."""
+        (self.top / "out/halfgates").write_text(SHOW)
+        self.set_time(1)
+        words = """./halfgates 'a  b' '*' '' '$0' '"' "'" """
+        _, printed, _ = self.run_in_shell(f"unset GLIBC_TUNABLES; {words}")
+        self.assertRegex(printed, r"""^<a  b><\*><><\$0><"><'>glibc\.malloc\.hugetlb=1:.* 1\n$""")
+        _, printed, _ = self.run_in_shell(f"GLIBC_TUNABLES=glibc.malloc.check=0 {words}")
+        self.assertEqual(printed, """<a  b><*><><$0><"><'>glibc.malloc.check=0 1\n""")
+
     def set_time(self, seconds):
         """Builds out/halfgates so many seconds after the release."""
         released = (self.top / "dist/halfgates.sources").stat().st_mtime
@@ -99,6 +114,34 @@ class Choice(Copy):
         (self.top / "out/halfgates").unlink()
         script = 'top=. && . ./machine.sh && if is_v3; then echo ./dist/v3/halfgates; else echo ./dist/halfgates; fi'
         self.assertEqual(self.chosen(), self.run_in_shell(script)[1].strip())
+
+
+class Processor(unittest.TestCase):
+    """A processor is of x86-64-v3 where it has each of the flags."""
+
+    def setUp(self):
+        folder = tempfile.TemporaryDirectory()
+        self.addCleanup(folder.cleanup)
+        self.info, self.script = Path(folder.name, "cpuinfo"), Path(folder.name, "machine.sh")
+        self.script.write_text((TOP / "machine.sh").read_text().replace("/proc/cpuinfo", str(self.info)))
+
+    def is_v3(self):
+        done = subprocess.run(["sh", "-c", f". {self.script}; is_v3"], capture_output=True, check=False)
+        self.assertEqual((done.stdout, done.stderr), (b"", b""))
+        return done.returncode == 0
+
+    def test_flags(self):
+        cases = {"": False, "processor\t: 0\n": False, "flags\t\t: fpu\n": False}
+        for missing in (None, *V3):
+            flags = " ".join(it for it in V3 if it != missing)
+            cases[f"processor\t: 0\nflags\t\t: fpu {flags} sse\nflags\t\t: none\n"] = missing is None
+            cases[f"flags\t\t: {flags}\n"] = missing is None
+            cases[f"flags\t\t: x{missing} {flags} {missing}x\n"] = missing is None
+        for text, is_v3 in cases.items():
+            self.info.write_text(text)
+            self.assertEqual(self.is_v3(), is_v3, text)
+        self.info.unlink()
+        self.assertFalse(self.is_v3())
 
 
 if __name__ == "__main__":

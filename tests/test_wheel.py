@@ -215,10 +215,11 @@ class Paths(unittest.TestCase):
 
     def test_flags_of_processors(self):
         flags = "avx avx2 bmi1 bmi2 f16c fma abm movbe".split()
+        without = [(f"flags\t\t: {' '.join({*flags} - {it})}\n", False) for it in flags]
         for text, is_v3 in (
             (f"processor: 0\nflags\t\t: fpu {' '.join(flags)} sse\nflags: none\n", True),
-            (f"flags\t\t: {' '.join(flags[1:])}\n", False),
             ("processor: 0\n", False),
+            *without,
         ):
             with mock.patch("builtins.open", mock.mock_open(read_data=text)):
                 self.assertEqual(self.module._is_v3(), is_v3)
