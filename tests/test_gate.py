@@ -71,6 +71,41 @@ class GateTest(unittest.TestCase):
         self.assertTrue(first.startswith("Nothing is proved here"), first)
         self.assertEqual(others, [first])
 
+    def test_what_fails(self):
+        """Failures of the prover and of the tests are counted, and a command that says no counts fails."""
+        prover, tests = "#!/bin/sh\necho 1 passed, 1 failed\nexit 1\n", "print('3 passed, 2 failed')\nexit(1)\n"
+        for files, has_kit, counts in (
+            ({"tests/__main__.py": tests}, True, "10 passed, 2 failed"),
+            ({"tests/__main__.py": tests}, False, "4 passed, 2 failed"),
+            ({"bin/rt": prover}, True, "9 passed, 1 failed"),
+            ({"bin/rt": prover, "tests/__main__.py": tests}, True, "9 passed, 3 failed"),
+            ({"tests/__main__.py": "exit(1)\n"}, False, "1 passed, 1 failed"),
+            ({"tests/__main__.py": ""}, True, "7 passed, 1 failed"),
+            ({"bin/rt": "#!/bin/sh\n"}, True, "8 passed, 1 failed"),
+        ):
+            write_all(self.top, {**STAND_INS, **files})
+            status, lines = self.run_test(has_kit=has_kit)
+            self.assertEqual((status, lines[-1]), (1, counts), files)
+
+    def test_another_folder_of_that_name(self):
+        """CDPATH names a folder that has one of the same name as the repository's."""
+        (self.top / "else" / self.top.name).mkdir(parents=True)
+        script = f"cd {self.top.parent}; {self.top.name}/test"
+        how = {"CDPATH": str(self.top / "else"), "PATH": f"{self.top}/bin:{self.top}/tools"}
+        words = [shutil.which("sh"), "-c", script]
+        done = subprocess.run(words, env=how, capture_output=True, text=True, check=False)
+        self.assertEqual((done.returncode, done.stdout), (0, "proving\n10 passed, 0 failed\n"))
+
+    def test_sources_without_a_tool(self):
+        """Their checksum isn't that of fewer files, or of none."""
+        for missing in ("awk", "find", "sha256sum", "sort", "xargs"):
+            (self.top / "tools" / missing).rename(self.top / missing)
+            script = f'top={TOP}; . "$top/sources.sh"; sum_of_sources halfgates_c'
+            words, how = [shutil.which("sh"), "-c", script], {"env": {"PATH": f"{self.top}/tools"}}
+            done = subprocess.run(words, capture_output=True, text=True, check=False, **how)
+            self.assertEqual((done.returncode != 0, done.stdout), (True, ""), missing)
+            (self.top / missing).rename(self.top / "tools" / missing)
+
     def test_the_gate_without_the_kit(self):
         for how in ({"CI": "true"}, {"CI": "1"}):
             self.assertEqual(self.run_test(has_kit=False, **how)[0], 1, how)
